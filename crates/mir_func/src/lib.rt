@@ -1,0 +1,11 @@
+//! Functions of machine instructions, and their edits.
+#![tactic(auto)]
+
+pub mod func;
+pub mod short;
+
+pub use func::{
+    Block, Blocks, Classes, Edge, Edges, Frames, Func, Gap, Instr, Instrs, Loc, NoPhi, Op, Operand,
+    Operands, Place, RegOp, Valid,
+};
+pub use short::ShortList;

@@ -1,0 +1,3 @@
+pub mod Tests
+pub mod Picked
+pub mod Sound

@@ -1,0 +1,9 @@
+pub mod Numbers
+pub mod Storage
+pub mod Names
+pub mod Roles
+pub mod Rules
+pub mod Mini
+pub mod Tables
+pub mod Registers
+pub mod Lending

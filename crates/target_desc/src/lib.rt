@@ -1,0 +1,17 @@
+//! Targets of the register allocator: storage units, registers, subregister indexes, register
+//! classes, call masks and opcodes, and the questions that the allocator asks of them.
+#![tactic(auto)]
+
+pub mod builtin;
+pub mod classes;
+pub mod list;
+pub mod registers;
+pub mod types;
+
+pub use builtin::mini;
+pub use list::{Copied, List};
+pub use types::{
+    Bytes, ClassDesc, ClassDescs, ClassId, Effect, Flags, IndexDesc, IndexDescs, IndexId,
+    LaneNumbers, MaskDesc, MaskDescs, MaskId, Numbers, OpId, OpcodeDesc, OpcodeDescs, Reg,
+    RegDesc, RegDescs, Regs, Role, Roles, Target, Unit, UnitDesc, UnitDescs, UnitList,
+};
