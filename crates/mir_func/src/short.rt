@@ -7,7 +7,7 @@ use smallvec::SmallVec;
 use std::alloc::{AllocError, Global};
 use std::default::MadeWith;
 use std::marker::Model;
-use target_desc::Copied;
+use target_base::Copied;
 
 /// Elements in order, the first four in place.
 #[derive(Drop)]

@@ -1,0 +1,6 @@
+use Rattle.std.proofs.Common.{◌≡◌, take, map}
+use Rattle.target_base.specs.Tables.{index_row}
+use Rattle.target_base.proofs.builtin.indexes.Given as goal
+
+abbrev pub invariant-loop-row : goal.invariant-loop-row
+invariant-loop-row l = l.made ≡ map index_row (take l.row-index l.rows)

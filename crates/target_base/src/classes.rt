@@ -1,0 +1,281 @@
+//! Questions about a target's classes and their opcodes. None of them takes memory.
+
+ghost use Rattle.std.specs.Prelude.{◌≡◌, Some, position, IsTrue};
+ghost use Rattle.target_base.specs.Numbers.{op_number};
+ghost use Rattle.target_base.specs.Registers.{IsReg, IsClass, HasIndex, fits, part_of, move_class, home_of, spill_place, reload_place};
+ghost use Rattle.target_base.specs.Roles.{role_class, first_class};
+ghost use Rattle.target_base.specs.Rules.{regs_of_some, spills, reloads, is_spill, is_reload};
+ghost use Rattle.target_base.specs.Storage.{holds_reg, is_within, holds_place, holds_subs, lanes_fit, part_place, same_numbers, widths, class_widths, class_units, unit_width};
+
+use crate::registers::{find_sub, units_at};
+use crate::types::{
+    ClassDesc, ClassId, Effect, IndexId, OpId, OpcodeDesc, Reg, RegDesc, Role, Target, Unit,
+    UnitDesc,
+};
+
+impl Target {
+    /// Whether the index picks the units of a register, of each register of the class. Without an
+    /// index it does.
+    pub fn fits(&self, c: ClassId, i: Option<IndexId>) -> bool
+        requires class { IsClass self.now c }
+        requires index { HasIndex self.now i }
+        ensures { result ≡ fits self.now c i }
+    {
+        match i {
+            None => true,
+            Some(i) => have_subs(self.regs.as_slice(), self.lanes_of(i), self.regs_of(c)),
+        }
+    }
+
+    /// The first class that holds, of each register of the class, the register that the index
+    /// picks; without an index the class itself.
+    pub fn part(&self, c: ClassId, i: Option<IndexId>) -> ClassId
+        requires class { IsClass self.now c }
+        requires index { HasIndex self.now i }
+        requires fits { IsTrue (fits self.now c i) }
+        ensures { part_of self.now c i ≡ Some result }
+    {
+        match i {
+            None => c,
+            Some(i) => match find_part(
+                self.regs.as_slice(),
+                self.classes.as_slice(),
+                self.lanes_of(i),
+                self.regs_of(c),
+            ) {
+                None => c,
+                Some(place) => ClassId(place as u16),
+            },
+        }
+    }
+
+    /// The first class with the lane widths of the class's part for the index: the class of a
+    /// register that such a part is copied through.
+    pub fn move_of(&self, c: ClassId, i: Option<IndexId>) -> ClassId
+        requires class { IsClass self.now c }
+        requires index { HasIndex self.now i }
+        requires fits { IsTrue (fits self.now c i) }
+        ensures { move_class self.now c i ≡ Some result }
+    {
+        let part = self.part(c, i);
+        match self.find_alike(self.regs_of(part)) {
+            None => part,
+            Some(place) => ClassId(place as u16),
+        }
+    }
+
+    /// The place of the first class with the lane widths of these registers' class.
+    fn find_alike(&self, rs: &[Reg]) -> Option<usize>
+        ensures { result ≡ position (λ d. same_numbers (class_widths self.now.units self.now.regs d.regs) (class_widths self.now.units self.now.regs rs.now)) self.now.classes }
+    {
+        let (units, regs) = (self.units.as_slice(), self.regs.as_slice());
+        self.classes
+            .as_slice()
+            .iter()
+            .position(|d| are_alike(units, regs, d.regs.as_slice(), rs))
+    }
+
+    /// The first class that holds the register. None where no class holds it.
+    pub fn home(&self, r: Reg) -> Option<ClassId>
+        requires { IsReg self.now r }
+        ensures { result ≡ home_of self.now r }
+    {
+        match find_home(self.classes.as_slice(), r) {
+            None => None,
+            Some(place) => Some(ClassId(place as u16)),
+        }
+    }
+
+    /// The first spill opcode whose class holds all registers of the class.
+    pub fn spill_op(&self, c: ClassId) -> OpId
+        requires { IsClass self.now c }
+        ensures { spill_place self.now c ≡ Some result.0 }
+    {
+        match find_spill(self.classes.as_slice(), self.regs_of(c), self.opcodes.as_slice()) {
+            None => OpId(0),
+            Some(place) => OpId(place as u16),
+        }
+    }
+
+    /// The first reload opcode whose class holds all registers of the class.
+    pub fn reload_op(&self, c: ClassId) -> OpId
+        requires { IsClass self.now c }
+        ensures { reload_place self.now c ≡ Some result.0 }
+    {
+        match find_reload(self.classes.as_slice(), self.regs_of(c), self.opcodes.as_slice()) {
+            None => OpId(0),
+            Some(place) => OpId(place as u16),
+        }
+    }
+}
+
+/// Whether the lanes pick the units of a register, of each register of the list.
+fn have_subs(regs: &[RegDesc], lanes: &[u8], rs: &[Reg]) -> bool
+    ensures { result ≡ lanes_fit regs.now lanes.now rs.now }
+{
+    rs.iter()
+        .all(|r| find_sub(regs, units_at(regs, *r), lanes).is_some())
+}
+
+/// Whether the list holds a register, or one at a place that was found.
+fn holds(rs: &[Reg], r: Reg) -> bool
+    ensures { result ≡ holds_reg rs.now r }
+{
+    rs.iter().any(|q| q.0 == r.0)
+}
+
+fn holds_found(rs: &[Reg], place: Option<usize>) -> bool
+    ensures { result ≡ holds_place rs.now place }
+{
+    match place {
+        None => false,
+        Some(k) => rs.iter().any(|q| q.0 as usize == k),
+    }
+}
+
+/// Whether `qs` holds what the lanes pick of each register of `rs`.
+fn hold_subs(regs: &[RegDesc], lanes: &[u8], rs: &[Reg], qs: &[Reg]) -> bool
+    ensures { result ≡ holds_subs regs.now lanes.now rs.now qs.now }
+{
+    rs.iter()
+        .all(|r| holds_found(qs, find_sub(regs, units_at(regs, *r), lanes)))
+}
+
+fn find_part(regs: &[RegDesc], classes: &[ClassDesc], lanes: &[u8], rs: &[Reg]) -> Option<usize>
+    ensures { result ≡ part_place regs.now classes.now lanes.now rs.now }
+{
+    classes
+        .iter()
+        .position(|d| hold_subs(regs, lanes, rs, d.regs.as_slice()))
+}
+
+fn find_home(classes: &[ClassDesc], r: Reg) -> Option<usize>
+    ensures { result ≡ position (λ d. holds_reg d.regs r) classes.now }
+{
+    classes.iter().position(|d| holds(d.regs.as_slice(), r))
+}
+
+/// Whether all registers of `rs` lie in `qs`.
+fn are_within(rs: &[Reg], qs: &[Reg]) -> bool
+    ensures { result ≡ is_within rs.now qs.now }
+{
+    rs.iter().all(|r| holds(qs, *r))
+}
+
+fn width_of(units: &[UnitDesc], u: Unit) -> u8
+    ensures { result ≡ unit_width units.now u }
+{
+    match units.get(u.0 as usize) {
+        None => 0,
+        Some(d) => d.width,
+    }
+}
+
+/// Whether two lists of units have the same widths.
+fn have_same_widths(units: &[UnitDesc], a: &[Unit], b: &[Unit]) -> bool
+    ensures { result ≡ same_numbers (widths units.now a.now) (widths units.now b.now) }
+{
+    if a.len() != b.len() {
+        return false;
+    }
+    for k in 0..a.len() {
+        if width_of(units, a[k]) != width_of(units, b[k]) {
+            return false;
+        }
+    }
+    true
+}
+
+/// The units of the first register of a list.
+fn first_units<'a>(regs: &'a [RegDesc], rs: &[Reg]) -> &'a [Unit]
+    ensures { result.now ≡ class_units regs.now rs.now }
+{
+    match rs.first() {
+        None => &[],
+        Some(r) => units_at(regs, *r),
+    }
+}
+
+/// Whether two classes have the same lane widths.
+fn are_alike(units: &[UnitDesc], regs: &[RegDesc], a: &[Reg], b: &[Reg]) -> bool
+    ensures { result ≡ same_numbers (class_widths units.now regs.now a.now) (class_widths units.now regs.now b.now) }
+{
+    have_same_widths(units, first_units(regs, a), first_units(regs, b))
+}
+
+fn class_of(role: Role) -> Option<ClassId>
+    ensures { result ≡ role_class role }
+{
+    match role {
+        Role::Def(k) | Role::Early(k) | Role::Read(k) | Role::Tied(k) => Some(k),
+        _ => None,
+    }
+}
+
+/// The class of the first role that has one.
+fn first_class(roles: &[Role]) -> Option<ClassId>
+    ensures { result ≡ first_class roles.now }
+{
+    for role in roles {
+        if let Some(k) = class_of(*role) {
+            return Some(k);
+        }
+    }
+    None
+}
+
+fn regs_at(classes: &[ClassDesc], k: Option<ClassId>) -> &[Reg]
+    ensures { result.now ≡ regs_of_some classes.now k }
+{
+    match k {
+        None => &[],
+        Some(k) => match classes.get(k.0 as usize) {
+            None => &[],
+            Some(d) => d.regs.as_slice(),
+        },
+    }
+}
+
+fn is_spill(e: Effect) -> bool
+    ensures { result ≡ is_spill e }
+{
+    match e {
+        Effect::Spill => true,
+        _ => false,
+    }
+}
+
+fn is_reload(e: Effect) -> bool
+    ensures { result ≡ is_reload e }
+{
+    match e {
+        Effect::Reload => true,
+        _ => false,
+    }
+}
+
+/// Whether an opcode spills all these registers.
+fn does_spill(classes: &[ClassDesc], rs: &[Reg], o: &OpcodeDesc) -> bool
+    ensures { result ≡ spills classes.now rs.now o.now }
+{
+    is_spill(o.effect) && are_within(rs, regs_at(classes, first_class(o.roles.as_slice())))
+}
+
+/// Whether an opcode reloads all these registers.
+fn does_reload(classes: &[ClassDesc], rs: &[Reg], o: &OpcodeDesc) -> bool
+    ensures { result ≡ reloads classes.now rs.now o.now }
+{
+    is_reload(o.effect) && are_within(rs, regs_at(classes, first_class(o.roles.as_slice())))
+}
+
+fn find_spill(classes: &[ClassDesc], rs: &[Reg], opcodes: &[OpcodeDesc]) -> Option<usize>
+    ensures { result ≡ position (spills classes.now rs.now) opcodes.now }
+{
+    opcodes.iter().position(|o| does_spill(classes, rs, o))
+}
+
+fn find_reload(classes: &[ClassDesc], rs: &[Reg], opcodes: &[OpcodeDesc]) -> Option<usize>
+    ensures { result ≡ position (reloads classes.now rs.now) opcodes.now }
+{
+    opcodes.iter().position(|o| does_reload(classes, rs, o))
+}

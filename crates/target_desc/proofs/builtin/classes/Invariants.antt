@@ -1,6 +1,0 @@
-use Rattle.std.proofs.Common.{◌≡◌, take, map}
-use Rattle.target_desc.specs.Tables.{class_row}
-use Rattle.target_desc.proofs.builtin.classes.Given as goal
-
-abbrev pub invariant-loop-row : goal.invariant-loop-row
-invariant-loop-row l = l.made ≡ map class_row (take l.row-index l.rows)
