@@ -1,3 +1,4 @@
 pub mod Tests
 pub mod Picked
 pub mod Sound
+pub mod Lookups

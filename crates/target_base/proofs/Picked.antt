@@ -1,5 +1,5 @@
 -- Lanes that pick units, one at a time.
-use Rattle.std.proofs.Common.{◌≡◌, ℕ, ◌<◌, ◌≢◌, ◌+◌, List, [], ◌∷◌, length, get_or, drop, Some, Bool, true, false, refl, ap, sym, ◌∙◌, arith, zero, suc}
+use Rattle.std.proofs.Common.{◌≡◌, ℕ, ◌<◌, ◌≢◌, ◌+◌, List, [], ◌∷◌, length, get_or, drop, Bool, true, false, refl, ap, ◌∙◌, arith}
 use Rattle.std.specs.Prelude.{◌&&◌, slice_get}
 use Rattle.std.proofs.lemmas.List.{drop_more}
 use Rattle.target_base.specs.declared.types.Unit.{Unit as UnitNumber}

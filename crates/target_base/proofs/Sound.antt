@@ -1,6 +1,6 @@
 -- What the rules of a target tell.
-use Rattle.std.proofs.Common.{◌≡◌, ℕ, ◌<◌, ◌≤◌, List, length, Some, None, Bool, true, false, refl, arith, absurd, get_or}
-use Rattle.std.specs.Prelude.{◌&&◌, ◌||◌, ◌==◌, IsTrue, Option, slice_get}
+use Rattle.std.proofs.Common.{◌≡◌, ℕ, ◌≤◌, List, length, true}
+use Rattle.std.specs.Prelude.{◌||◌, ◌==◌}
 use Rattle.std.specs.List.{list_all}
 use Rattle.std.proofs.lemmas.Bool.{leb-true}
 use Rattle.target_base.specs.declared.types.Unit.{Unit as UnitNumber}
@@ -12,7 +12,7 @@ use Rattle.target_base.specs.declared.types.MaskDesc.{MaskDesc}
 use Rattle.target_base.specs.declared.types.OpcodeDesc.{OpcodeDesc}
 use Rattle.target_base.specs.Names.{is_name}
 use Rattle.target_base.specs.Rules.{is_sound, are_units, are_regs, are_reserved, are_indexes, are_classes, are_masks, are_opcodes, is_complete}
-use Rattle.target_base.proofs.Tests.{first_of_both, second_of_both, each_passes}
+use Rattle.target_base.proofs.Tests.{first_of_both, second_of_both}
 
 pub name_sound : (name : List ℕ) (version : ℕ) (units : List UnitDesc) (regs : List RegDesc) (reserved : List UnitNumber) (indexes : List IndexDesc) (classes : List ClassDesc) (masks : List MaskDesc) (opcodes : List OpcodeDesc) → is_sound name version units regs reserved indexes classes masks opcodes ≡ true → is_name name ≡ true
 unfolding is_sound
@@ -71,4 +71,3 @@ masks_count name version units regs reserved indexes classes masks opcodes h = l
 
 pub opcodes_count : (name : List ℕ) (version : ℕ) (units : List UnitDesc) (regs : List RegDesc) (reserved : List UnitNumber) (indexes : List IndexDesc) (classes : List ClassDesc) (masks : List MaskDesc) (opcodes : List OpcodeDesc) → is_sound name version units regs reserved indexes classes masks opcodes ≡ true → length opcodes ≤ 1024
 opcodes_count name version units regs reserved indexes classes masks opcodes h = leb-true _ _ (first_of_both _ _ (first_of_both _ _ (first_of_both _ _ (opcodes_sound name version units regs reserved indexes classes masks opcodes h))))
-

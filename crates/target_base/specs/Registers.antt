@@ -1,6 +1,5 @@
 -- What a target says of its registers, classes, indexes and opcodes.
-use Rattle.std.specs.Prelude.{◌≡◌, ◌<◌, ℕ, Bool, true, List, [], ◌∷◌, length, Option, Some, None, slice_get, Contains, IsTrue, map, position, option_map, sum}
-use Rattle.std.specs.List.{list_any}
+use Rattle.std.specs.Prelude.{◌<◌, ℕ, Bool, true, List, [], length, Option, Some, None, slice_get, Contains, position, option_map}
 use Rattle.target_base.specs.declared.types.Unit.{Unit as UnitNumber}
 use Rattle.target_base.specs.declared.types.Reg.{Reg}
 use Rattle.target_base.specs.declared.types.ClassId.{ClassId}

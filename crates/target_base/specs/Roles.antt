@@ -1,5 +1,5 @@
 -- The roles and widths that each effect asks of an opcode.
-use Rattle.std.specs.Prelude.{ℕ, Bool, true, false, List, [], ◌∷◌, Option, Some, None, take, map, sum, filter_map, length, nat_le, nat_lt, nat_eq, ◌&&◌, ◌||◌, ◌==◌, ◌%◌, not, count_by, filter, slice_get}
+use Rattle.std.specs.Prelude.{ℕ, Bool, true, false, List, [], ◌∷◌, Option, Some, None, take, map, sum, filter_map, length, nat_le, nat_lt, nat_eq, ◌&&◌, ◌||◌, ◌==◌, ◌%◌, not, count_by, filter}
 use Rattle.std.specs.List.{list_all}
 use Rattle.target_base.specs.declared.types.Reg.{Reg}
 use Rattle.target_base.specs.declared.types.ClassId.{ClassId}

@@ -1,12 +1,11 @@
 -- The rules that a target keeps, as tests on its lists.
-use Rattle.std.specs.Prelude.{ℕ, Bool, List, length, nat_lt, nat_le, ◌==◌, ◌&&◌, ◌||◌, not, map, sum, true, false, if◌then◌else◌, slice_get, Option, Some, None, [], ◌∷◌, codes, drop}
+use Rattle.std.specs.Prelude.{ℕ, Bool, List, length, nat_lt, nat_le, ◌==◌, ◌&&◌, ◌||◌, not, map, sum, true, false, if◌then◌else◌, Option, Some, None, [], ◌∷◌, codes, drop}
 use Rattle.std.specs.List.{list_all, list_any}
 use Rattle.target_base.specs.declared.types.Unit.{Unit as UnitNumber}
 use Rattle.target_base.specs.declared.types.Reg.{Reg}
 use Rattle.target_base.specs.declared.types.ClassId.{ClassId}
 use Rattle.target_base.specs.declared.types.Effect.{Effect}
 use Rattle.target_base.specs.declared.types.Effect.TheVariants as effects
-use Rattle.target_base.specs.declared.types.Role.{Role}
 use Rattle.target_base.specs.declared.types.UnitDesc.{UnitDesc}
 use Rattle.target_base.specs.declared.types.RegDesc.{RegDesc}
 use Rattle.target_base.specs.declared.types.IndexDesc.{IndexDesc}
@@ -14,7 +13,7 @@ use Rattle.target_base.specs.declared.types.ClassDesc.{ClassDesc}
 use Rattle.target_base.specs.declared.types.MaskDesc.{MaskDesc}
 use Rattle.target_base.specs.declared.types.OpcodeDesc.{OpcodeDesc}
 use Rattle.target_base.specs.Storage.{reg_units, class_regs, class_widths, widths, is_among, is_within, lanes_fit, part_place, is_unreserved, same_numbers}
-use Rattle.target_base.specs.Names.{is_name, is_op_name, is_distinct, are_distinct_names, are_distinct_numbers}
+use Rattle.target_base.specs.Names.{is_name, is_op_name, are_distinct_names, are_distinct_numbers}
 use Rattle.target_base.specs.Roles.{roles_fit, role_known, scale_fits, first_class}
 
 -- the lanes of a register at most, by the version

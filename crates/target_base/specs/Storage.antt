@@ -97,3 +97,7 @@ same_numbers [] [] = true
 same_numbers [] (y ∷ ys) = false
 same_numbers (x ∷ xs) [] = false
 same_numbers (x ∷ xs) (y ∷ ys) = x == y && same_numbers xs ys
+
+-- the place of the first class with the lane widths of these registers
+abbrev pub alike_place : List UnitDesc → List RegDesc → List ClassDesc → List Reg → Option ℕ
+alike_place units regs classes rs = position (λ d. same_numbers (class_widths units regs d.regs) (class_widths units regs rs)) classes

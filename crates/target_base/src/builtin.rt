@@ -1,13 +1,14 @@
 //! The built-in target.
 
-ghost use Rattle.std.specs.Prelude.{◌≡◌, ◌++◌, ◌∷◌, [], map, length, IfOk};
-ghost use Rattle.target_base.specs.Mini.{mini_target};
+ghost use Rattle.std.specs.Prelude.{◌≡◌, ◌++◌, ◌∷◌, [], map, length, IfOk, codes};
+ghost use Rattle.target_base.specs.Mini.{mini_target, mini_units, mini_regs, mini_reserved, mini_indexes, mini_classes, mini_masks, mini_opcodes};
 ghost use Rattle.target_base.specs.Tables.{unit_row, reg_row, index_row, class_row, opcode_row};
 
 use crate::list::List;
 use crate::types::{
-    Bytes, ClassDesc, ClassDescs, ClassId, Effect, IndexDesc, IndexDescs, MaskDesc, OpcodeDesc,
-    OpcodeDescs, Reg, RegDesc, RegDescs, Role, Target, Unit, UnitDesc, UnitDescs,
+    Bytes, ClassDesc, ClassDescs, ClassId, Effect, IndexDesc, IndexDescs, MaskDesc, MaskDescs,
+    OpcodeDesc, OpcodeDescs, Reg, RegDesc, RegDescs, Role, Target, Unit, UnitDesc, UnitDescs,
+    UnitList,
 };
 use std::alloc::{AllocError, Global};
 
@@ -467,25 +468,74 @@ fn opcodes(alloc: Global, rows: &[(&str, Effect, &[Role])]) -> Result<OpcodeDesc
     Ok(made)
 }
 
-/// The built-in target.
-#[tactic(auto, unfolding(crate::specs::Mini::mini_target))]
-pub fn mini(alloc: Global) -> Result<Target, AllocError>
-    ensures { IfOk result (λ t. t ≡ mini_target) }
+fn mini_units(alloc: Global) -> Result<UnitDescs, AllocError>
+    ensures { IfOk result (λ made. made ≡ mini_units) }
+{
+    units(alloc, &UNITS)
+}
+
+fn mini_regs(alloc: Global) -> Result<RegDescs, AllocError>
+    ensures { IfOk result (λ made. made ≡ mini_regs) }
+{
+    regs(alloc, &REGS)
+}
+
+fn mini_indexes(alloc: Global) -> Result<IndexDescs, AllocError>
+    ensures { IfOk result (λ made. made ≡ mini_indexes) }
+{
+    indexes(alloc, &INDEXES)
+}
+
+fn mini_classes(alloc: Global) -> Result<ClassDescs, AllocError>
+    ensures { IfOk result (λ made. made ≡ mini_classes) }
+{
+    classes(alloc, &CLASSES)
+}
+
+fn mini_masks(alloc: Global) -> Result<MaskDescs, AllocError>
+    ensures { IfOk result (λ made. made ≡ mini_masks) }
 {
     let mut masks = List::new(alloc);
     masks.push(MaskDesc {
         name: bytes(alloc, "csr")?,
         regs: List::from_slice(alloc, &[Reg(3)])?,
     })?;
+    Ok(masks)
+}
+
+fn mini_opcodes(alloc: Global) -> Result<OpcodeDescs, AllocError>
+    ensures { IfOk result (λ made. made ≡ mini_opcodes) }
+{
+    opcodes(alloc, &OPCODES)
+}
+
+fn mini_name(alloc: Global) -> Result<Bytes, AllocError>
+    ensures { IfOk result (λ made. made ≡ codes "mini") }
+{
+    bytes(alloc, "mini")
+}
+
+fn mini_reserved(alloc: Global) -> Result<UnitList, AllocError>
+    ensures { IfOk result (λ made. made ≡ mini_reserved) }
+{
+    List::from_slice(alloc, &[Unit(15)])
+}
+
+/// The built-in target `mini`: a small machine of 32 bits with four general registers, whose parts
+/// of 8 and 16 bits and pairs of 64 bits are registers too.
+#[tactic(auto, unfolding(crate::specs::Mini::mini_target))]
+pub fn mini(alloc: Global) -> Result<Target, AllocError>
+    ensures { IfOk result (λ t. t ≡ mini_target) }
+{
     Ok(Target {
-        name: bytes(alloc, "mini")?,
+        name: mini_name(alloc)?,
         version: 1,
-        units: units(alloc, &UNITS)?,
-        regs: regs(alloc, &REGS)?,
-        reserved: List::from_slice(alloc, &[Unit(15)])?,
-        indexes: indexes(alloc, &INDEXES)?,
-        classes: classes(alloc, &CLASSES)?,
-        masks,
-        opcodes: opcodes(alloc, &OPCODES)?,
+        units: mini_units(alloc)?,
+        regs: mini_regs(alloc)?,
+        reserved: mini_reserved(alloc)?,
+        indexes: mini_indexes(alloc)?,
+        classes: mini_classes(alloc)?,
+        masks: mini_masks(alloc)?,
+        opcodes: mini_opcodes(alloc)?,
     })
 }

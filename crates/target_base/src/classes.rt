@@ -1,11 +1,11 @@
 //! Questions about a target's classes and their opcodes. None of them takes memory.
 
-ghost use Rattle.std.specs.Prelude.{◌≡◌, Some, position, IsTrue};
-ghost use Rattle.target_base.specs.Numbers.{op_number};
-ghost use Rattle.target_base.specs.Registers.{IsReg, IsClass, HasIndex, fits, part_of, move_class, home_of, spill_place, reload_place};
+ghost use Rattle.std.specs.Prelude.{◌≡◌, Some, position, IsTrue, IfSome};
+ghost use Rattle.target_base.specs.Numbers.{reg_number};
+ghost use Rattle.target_base.specs.Registers.{IsReg, IsClass, IsOpcode, HasIndex, fits, part_of, move_class, home_of, spill_place, reload_place};
 ghost use Rattle.target_base.specs.Roles.{role_class, first_class};
 ghost use Rattle.target_base.specs.Rules.{regs_of_some, spills, reloads, is_spill, is_reload};
-ghost use Rattle.target_base.specs.Storage.{holds_reg, is_within, holds_place, holds_subs, lanes_fit, part_place, same_numbers, widths, class_widths, class_units, unit_width};
+ghost use Rattle.target_base.specs.Storage.{alike_place, holds_reg, is_within, holds_place, holds_subs, lanes_fit, part_place, same_numbers, widths, class_widths, class_units, unit_width};
 
 use crate::registers::{find_sub, units_at};
 use crate::types::{
@@ -33,7 +33,8 @@ impl Target {
         requires class { IsClass self.now c }
         requires index { HasIndex self.now i }
         requires fits { IsTrue (fits self.now c i) }
-        ensures { part_of self.now c i ≡ Some result }
+        ensures value { part_of self.now c i ≡ Some result }
+        ensures there { IsClass self.now result }
     {
         match i {
             None => c,
@@ -55,7 +56,8 @@ impl Target {
         requires class { IsClass self.now c }
         requires index { HasIndex self.now i }
         requires fits { IsTrue (fits self.now c i) }
-        ensures { move_class self.now c i ≡ Some result }
+        ensures value { move_class self.now c i ≡ Some result }
+        ensures there { IsClass self.now result }
     {
         let part = self.part(c, i);
         match self.find_alike(self.regs_of(part)) {
@@ -66,7 +68,7 @@ impl Target {
 
     /// The place of the first class with the lane widths of these registers' class.
     fn find_alike(&self, rs: &[Reg]) -> Option<usize>
-        ensures { result ≡ position (λ d. same_numbers (class_widths self.now.units self.now.regs d.regs) (class_widths self.now.units self.now.regs rs.now)) self.now.classes }
+        ensures { result ≡ alike_place self.now.units self.now.regs self.now.classes rs.now }
     {
         let (units, regs) = (self.units.as_slice(), self.regs.as_slice());
         self.classes
@@ -78,7 +80,8 @@ impl Target {
     /// The first class that holds the register. None where no class holds it.
     pub fn home(&self, r: Reg) -> Option<ClassId>
         requires { IsReg self.now r }
-        ensures { result ≡ home_of self.now r }
+        ensures value { result ≡ home_of self.now r }
+        ensures there { IfSome result (IsClass self.now) }
     {
         match find_home(self.classes.as_slice(), r) {
             None => None,
@@ -89,9 +92,14 @@ impl Target {
     /// The first spill opcode whose class holds all registers of the class.
     pub fn spill_op(&self, c: ClassId) -> OpId
         requires { IsClass self.now c }
-        ensures { spill_place self.now c ≡ Some result.0 }
+        ensures value { spill_place self.now c ≡ Some result.0 }
+        ensures there { IsOpcode self.now result }
     {
-        match find_spill(self.classes.as_slice(), self.regs_of(c), self.opcodes.as_slice()) {
+        match find_spill(
+            self.classes.as_slice(),
+            self.regs_of(c),
+            self.opcodes.as_slice(),
+        ) {
             None => OpId(0),
             Some(place) => OpId(place as u16),
         }
@@ -100,9 +108,14 @@ impl Target {
     /// The first reload opcode whose class holds all registers of the class.
     pub fn reload_op(&self, c: ClassId) -> OpId
         requires { IsClass self.now c }
-        ensures { reload_place self.now c ≡ Some result.0 }
+        ensures value { reload_place self.now c ≡ Some result.0 }
+        ensures there { IsOpcode self.now result }
     {
-        match find_reload(self.classes.as_slice(), self.regs_of(c), self.opcodes.as_slice()) {
+        match find_reload(
+            self.classes.as_slice(),
+            self.regs_of(c),
+            self.opcodes.as_slice(),
+        ) {
             None => OpId(0),
             Some(place) => OpId(place as u16),
         }
@@ -117,19 +130,27 @@ fn have_subs(regs: &[RegDesc], lanes: &[u8], rs: &[Reg]) -> bool
         .all(|r| find_sub(regs, units_at(regs, *r), lanes).is_some())
 }
 
-/// Whether the list holds a register, or one at a place that was found.
+/// Whether the list holds a register.
 fn holds(rs: &[Reg], r: Reg) -> bool
     ensures { result ≡ holds_reg rs.now r }
 {
     rs.iter().any(|q| q.0 == r.0)
 }
 
+/// Whether the list holds the register of a number.
+fn holds_number(rs: &[Reg], k: usize) -> bool
+    ensures { result ≡ holds_reg rs.now (reg_number k) }
+{
+    rs.iter().any(|q| q.0 as usize == k)
+}
+
+/// Whether the list holds the register at a place, if one was found.
 fn holds_found(rs: &[Reg], place: Option<usize>) -> bool
     ensures { result ≡ holds_place rs.now place }
 {
     match place {
         None => false,
-        Some(k) => rs.iter().any(|q| q.0 as usize == k),
+        Some(k) => holds_number(rs, k),
     }
 }
 
@@ -137,8 +158,7 @@ fn holds_found(rs: &[Reg], place: Option<usize>) -> bool
 fn hold_subs(regs: &[RegDesc], lanes: &[u8], rs: &[Reg], qs: &[Reg]) -> bool
     ensures { result ≡ holds_subs regs.now lanes.now rs.now qs.now }
 {
-    rs.iter()
-        .all(|r| holds_found(qs, find_sub(regs, units_at(regs, *r), lanes)))
+    rs.iter().all(|r| holds_found(qs, find_sub(regs, units_at(regs, *r), lanes)))
 }
 
 fn find_part(regs: &[RegDesc], classes: &[ClassDesc], lanes: &[u8], rs: &[Reg]) -> Option<usize>

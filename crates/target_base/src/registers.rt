@@ -1,6 +1,6 @@
 //! Questions about a target's registers. None of them takes memory.
 
-ghost use Rattle.std.specs.Prelude.{◌≡◌, ◌<◌, ◌↔◌, IsTrue, length, slice_get, Some};
+ghost use Rattle.std.specs.Prelude.{◌≡◌, ◌<◌, ◌↔◌, IsTrue, length, slice_get, Some, IfSome};
 ghost use Rattle.target_base.specs.Registers.{IsReg, IsIndex, IsClass, units_of, lanes_of, regs_of, Alias, sub_of};
 ghost use Rattle.target_base.specs.Storage.{is_picked, is_unit, reg_units, sub_place};
 
@@ -62,7 +62,8 @@ impl Target {
     pub fn sub_of(&self, r: Reg, i: IndexId) -> Option<Reg>
         requires register { IsReg self.now r }
         requires index { IsIndex self.now i }
-        ensures { result ≡ sub_of self.now r i }
+        ensures value { result ≡ sub_of self.now r i }
+        ensures there { IfSome result (IsReg self.now) }
     {
         match find_sub(self.regs.as_slice(), self.units_of(r), self.lanes_of(i)) {
             None => None,

@@ -1,5 +1,5 @@
-use Rattle.std.proofs.Common.{◌≡◌, ◌∙◌, sym, arith, rules, drop, refl, get_or}
-use Rattle.target_base.proofs.Picked.{picked_lengths, picked_more, picked_stop, picked_on}
+use Rattle.std.proofs.Common.{◌∙◌, sym, arith}
+use Rattle.target_base.proofs.Picked.{picked_lengths, picked_stop, picked_on}
 use Rattle.target_base.proofs.registers.is_picked.Goals as goal
 
 pub returns-then-lanes-picked : goal.returns-then-lanes-picked
