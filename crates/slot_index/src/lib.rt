@@ -2,10 +2,8 @@
 //! order of two ids is told by their numbers.
 #![tactic(auto)]
 
-ghost use Rattle.std.specs.Prelude.{eqb, ◌≡◌, ℕ, List, ◌<◌, ◌≤◌, ◌+◌, ◌-◌, ◌*◌, ◌/◌, ◌^◌, ◌↔◌, ◌==◌, [], length, IsTrue, IfSome, IfOk, OnOk, OnErr, Option, None, Some, slice_get, slice_index, vec_len, position};
+ghost use Rattle.std.specs.Prelude.{◌≡◌, ℕ, ◌<◌, ◌+◌, ◌-◌, ◌↔◌, ◌==◌, eqb, [], length, IsTrue, IfSome, IfOk, OnOk, OnErr, slice_get, slice_index, position};
 ghost use Rattle.std.specs.List.{AllByRecursion, IsDistinct, remove};
-ghost use Rattle.std.specs.Ordering.{nat_cmp};
-ghost use Rattle.std.specs.List.Sorted.{IsStrictlySortedBy};
 ghost use Rattle.slot_index.specs.Order.{ids, place, place_after, put_after, number_of, Has, IsNumbered, NumbersTellOrder};
 ghost use Rattle.slot_index.specs.Renewed.{low_end, IsRoom, spaced, written};
 
@@ -18,7 +16,8 @@ use std::ops::Bound;
 /// new last id is above the one before. Of 2^32 ids the last then has the number 2^63.
 const SPACING: u64 = 1 << 31;
 
-/// A list of distinct ids, each with a number above 0 that rises along the list.
+/// A list of distinct ids, each with a number above 0 that rises along the list. The numbers are
+/// kept by id, 8 bytes for each id up to the largest, so ids should be dense.
 #[derive(Drop)]
 pub struct Slots {
     alloc: Global,
@@ -73,7 +72,7 @@ impl Slots {
     pub fn before(&self, a: u32, b: u32) -> bool
         ensures order { Has self.now a
             → Has self.now b
-            → IsTrue result ↔ (place a (ids self.now) < place b (ids self.now)) }
+            → (IsTrue result ↔ (place a (ids self.now) < place b (ids self.now))) }
         ensures numbers { IsTrue result ↔ (number_of self.now a < number_of self.now b) }
     {
         self.number(a) < self.number(b)
@@ -143,7 +142,8 @@ impl Slots {
     }
 
     /// Puts a new id behind one of the list, or first. Where the neighbours' numbers leave no room,
-    /// all ids get new numbers, in the same order. Where memory is refused the list is unchanged.
+    /// all ids get new numbers, in the same order, which takes time in the length of the list.
+    /// Where memory is refused, the list and its numbers are unchanged.
     pub fn insert_after(&mut self, after: Option<u32>, id: u32) -> Result<(), AllocError>
         requires known { IfSome after (Has self.old) }
         requires absent { ¬ Has self.old id }
