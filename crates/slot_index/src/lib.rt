@@ -1,5 +1,5 @@
 //! A list of distinct ids in order, each with a number that rises along the list, so that the
-//! order of two ids is told by their numbers.
+//! order of two ids is told by their numbers. An id with its number is a slot.
 #![tactic(auto)]
 
 ghost use Rattle.std.specs.Prelude.{◌≡◌, ℕ, ◌<◌, ◌+◌, ◌-◌, ◌↔◌, ◌==◌, eqb, [], length, IsTrue, IfSome, IfOk, OnOk, OnErr, slice_get, slice_index, position};
