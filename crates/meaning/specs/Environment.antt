@@ -1,6 +1,8 @@
 -- What a run finds: plain data, in which whatever isn't listed is 0.
 use Rattle.std.specs.Prelude.{ℕ, ◌+◌, ◌-◌, ◌/◌, ◌%◌, ◌^◌, ℤ, pos, negsuc, cond, nat_eq, List, [], ◌∷◌, Option, Some, None, slice_index_or}
 use Rattle.target_base.specs.Storage.{same_numbers}
+use Rattle.meaning.specs.declared.types.Source.{Source}
+use Rattle.meaning.specs.declared.types.Source.TheVariants.{Bits}
 pub use Rattle.meaning.specs.declared.types.Constant.{Constant}
 pub use Rattle.meaning.specs.declared.types.Constant.TheVariants.{Immediate, StackAddress, FixedStackAddress, SymbolAddress}
 
@@ -67,3 +69,9 @@ constant_residue env (SymbolAddress name) w = address_of env.symbols name % 2 ^ 
 -- so many bits of a constant from bit `low` on
 abbrev pub bits_of : Environment → Constant → ℕ → ℕ → ℕ
 bits_of env c low width = constant_residue env c (low + width) / 2 ^ low
+
+-- So many bits of a constant from bit `low` on, as a source. Of a number nothing counts but these bits, so that
+-- equal bits of two numbers are one source.
+abbrev pub constant_source : Constant → ℕ → ℕ → Source
+constant_source (Immediate z) low width = Bits (Immediate (pos (residue z (low + width) / 2 ^ low))) 0 width
+constant_source c low width = Bits c low width

@@ -5,3 +5,13 @@ pub mod Perform
 pub mod Code
 pub mod Refines
 pub mod Live
+pub mod Rows
+pub mod Relations
+pub mod Layout
+pub mod InStep
+pub mod Matched
+pub mod Fold
+pub mod Sameness
+pub mod Facts
+pub mod Pairing
+pub mod Agree
