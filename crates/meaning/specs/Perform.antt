@@ -74,10 +74,10 @@ abbrev pub applied : Value → (ℕ → ℕ) → Value
 applied None f = None
 applied (Some a) f = Some (f a)
 
-abbrev pub both : Value → Value → (ℕ → ℕ → ℕ) → Value
-both None b f = None
-both (Some a) None f = None
-both (Some a) (Some b) f = Some (f a b)
+abbrev pub combined : Value → Value → (ℕ → ℕ → ℕ) → Value
+combined None b f = None
+combined (Some a) None f = None
+combined (Some a) (Some b) f = Some (f a b)
 
 abbrev pub computed : List Value → Outside → Performed
 computed vs o = record { results = vs; outside = o; events = []; control = Next; divisor_defined = true }
@@ -94,17 +94,17 @@ abbrev pub unary : Rest → Outside → List (List Value) → (ℕ → ℕ → �
 unary r o vs f = computed (given r.result (applied (operand r.widths vs 0) (λ a. f (width r) a % 2 ^ width r))) o
 
 abbrev pub binary : Rest → Outside → List (List Value) → (ℕ → ℕ → ℕ → ℕ) → Performed
-binary r o vs f = computed (given r.result (both (operand r.widths vs 0) (operand r.widths vs 1) (λ a b. f (width r) a b % 2 ^ width r))) o
+binary r o vs f = computed (given r.result (combined (operand r.widths vs 0) (operand r.widths vs 1) (λ a b. f (width r) a b % 2 ^ width r))) o
 
 abbrev pub ternary : Rest → Outside → List (List Value) → Performed
 ternary r o vs =
-    let product = both (operand r.widths vs 0) (operand r.widths vs 1) (λ a b. a * b) in
-    computed (given r.result (both product (operand r.widths vs 2) (λ m c. (m + c) % 2 ^ width r))) o
+    let product = combined (operand r.widths vs 0) (operand r.widths vs 1) (λ a b. a * b) in
+    computed (given r.result (combined product (operand r.widths vs 2) (λ m c. (m + c) % 2 ^ width r))) o
 
 -- a divisor of 0 traps, whatever the dividend holds
 abbrev pub divided : Rest → Outside → (ℕ → ℕ → ℕ) → Value → Value → Performed
 divided r o f a None = record { results = []; outside = o; events = []; control = Next; divisor_defined = false }
-divided r o f a (Some b) = cond (nat_eq b 0) (stopped o Trapped) (computed (given r.result (both a (Some b) f)) o)
+divided r o f a (Some b) = cond (nat_eq b 0) (stopped o Trapped) (computed (given r.result (combined a (Some b) f)) o)
 
 abbrev pub division : Rest → Outside → List (List Value) → (ℕ → ℕ → ℕ) → Performed
 division r o vs f = divided r o f (operand r.widths vs 0) (operand r.widths vs 1)
@@ -150,7 +150,7 @@ byte_at env (b ∷ bs) a = cond (nat_eq b.0 a) b.1 (byte_at env bs a)
 -- so many bytes from an address on as one number, the lowest first; addresses count modulo 2 ^ w
 abbrev pub loaded_bytes : Environment → Outside → ℕ → ℕ → ℕ → Value
 loaded_bytes env o w a zero = Some 0
-loaded_bytes env o w a (suc n) = both (byte_at env o.bytes (a % 2 ^ w)) (loaded_bytes env o w (a + 1) n) (λ b m. b + 256 * m)
+loaded_bytes env o w a (suc n) = combined (byte_at env o.bytes (a % 2 ^ w)) (loaded_bytes env o w (a + 1) n) (λ b m. b + 256 * m)
 
 abbrev pub loaded : Environment → Outside → ℕ → ℕ → List ℕ → List Value
 loaded env o w a [] = []

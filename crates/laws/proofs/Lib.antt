@@ -1,0 +1,6 @@
+pub mod Defined
+pub mod Monotone
+pub mod Refines
+pub mod Agreeing
+pub mod Following
+pub mod Core
