@@ -4,3 +4,7 @@ pub mod Refines
 pub mod Agreeing
 pub mod Following
 pub mod Core
+pub mod Flow
+pub mod Places
+pub mod Exact
+pub mod Steps
