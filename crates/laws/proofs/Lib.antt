@@ -8,3 +8,9 @@ pub mod Flow
 pub mod Places
 pub mod Exact
 pub mod Steps
+pub mod Quiet
+pub mod Clash
+pub mod Same
+pub mod Closed
+pub mod Paired
+pub mod Agreement

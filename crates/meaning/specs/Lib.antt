@@ -11,6 +11,7 @@ pub mod Layout
 pub mod InStep
 pub mod Matched
 pub mod Fold
+pub mod Clash
 pub mod Sameness
 pub mod Facts
 pub mod Pairing
