@@ -1,14 +1,16 @@
 -- What is kept after an item is kept before it.
 use Rattle.std.proofs.Common.{◌≡◌, ◌∷◌, ◌⊎◌, ◌∙◌, ℕ, Bool, true, false, cond, List, Option, Some, refl, sym, ap, subst, inl, inr, []}
 use Rattle.meaning.specs.Code.{BlockEnd, BlockStart, Code, Counted, Edge, Item, Silent, found}
+use Rattle.meaning.specs.InStep.{Known}
 use Rattle.meaning.specs.Lanes.{Writes, filled, same_lane}
 use Rattle.meaning.specs.Layout.{FallsTo, LaidOut}
 use Rattle.meaning.specs.Live.{Among, Feeds, Kept, KeptAfter, Live, LiveAfter, after_leap, after_next, after_phi, exits_of, here, in_order, is_slot, kept, leap, next, phi, read, reads_of, store, there}
+use Rattle.meaning.specs.Perform.{width}
 use Rattle.meaning.specs.declared.types.Fill.TheVariants.{Moved}
 use Rattle.meaning.specs.declared.types.Lane.{Lane}
 use Rattle.meaning.specs.declared.types.Lane.TheVariants.{SlotLane}
 use Rattle.meaning.specs.declared.types.Source.{Source}
-use Rattle.meaning.specs.declared.types.Source.TheVariants.{FromLane}
+use Rattle.meaning.specs.declared.types.Source.TheVariants.{Bits, FromLane, Undef}
 use Rattle.meaning.specs.declared.types.Write.{Write}
 
 pub bool_cases : (b : Bool) → (b ≡ true) ⊎ (b ≡ false)
@@ -103,3 +105,8 @@ module _ (reserved : Lane → Bool) (code : Code) where
 
   pub kept_exit : (falls : Option Writes) (exits : List Edge) (p : Code) (e : Edge) (a b : Lane) → Among e exits → Kept reserved code (found e.block code) a → filled e.phis a ≡ Moved (FromLane b) → Kept reserved code (BlockEnd falls exits ∷ p) b
   kept_exit falls exits p e a b x k f = flow (BlockEnd falls exits) p b b (kept_along (BlockEnd falls exits) p e a b x k f) refl
+
+  pub known-source : (p : Code) (s : Source) → ((l : Lane) → s ≡ FromLane l → Kept reserved code p l) → Known reserved code p s
+  known-source p (FromLane l) h = h l refl
+  known-source p Undef h = tt
+  known-source p (Bits c low width) h = tt

@@ -14,3 +14,8 @@ pub mod Same
 pub mod Closed
 pub mod Paired
 pub mod Agreement
+pub mod Surround
+pub mod Tinies
+pub mod Least
+pub mod Steppings
+pub mod Terminators

@@ -22,62 +22,56 @@ use Rattle.meaning.specs.declared.types.Source.TheVariants.{Bits, FromLane, Unde
 use Rattle.meaning.specs.declared.types.Ways.{Ways}
 use Rattle.laws.proofs.Core.{Exits, Plan, Reaches}
 use Rattle.laws.proofs.Exact.{AlikeExact, CoupledExact, after_exact, law_of_exact_rows}
-use Rattle.laws.proofs.Flow.{flow, kept_along, kept_falls, kept_next, kept_start, none_among, read_kept}
+use Rattle.laws.proofs.Flow.{flow, kept_along, kept_falls, kept_next, kept_start, known-source, none_among, read_kept}
 use Rattle.meaning.specs.Matched as matched
 
 pub settled-from : (f : Fill) (l : Lane) → settled f ≡ FromLane l → f ≡ Moved (FromLane l)
 settled-from (Moved s) l e = ap Moved e
 settled-from (Computed i) l e = absurd (cc)
 
-both_ways : List Edge → List Ways
+abbrev pub both_ways : List Edge → List Ways
 both_ways [] = []
 both_ways (e ∷ es) = record { block = e.block; first = e.phis; second = e.phis } ∷ both_ways es
 
-both_into : Option Edge → Option Ways
+abbrev pub both_into : Option Edge → Option Ways
 both_into None = None
 both_into (Some e) = Some (record { block = e.block; first = e.phis; second = e.phis })
 
-both_below : Option Writes → Option (Writes × Writes)
+abbrev pub both_below : Option Writes → Option (Writes × Writes)
 both_below None = None
 both_below (Some phis) = Some (phis, phis)
 
-first-ways : (es : List Edge) → first_edges (both_ways es) ≡ es
-unfolding both_ways
+pub first-ways : (es : List Edge) → first_edges (both_ways es) ≡ es
 first-ways [] = refl
 first-ways (e ∷ es) = ap (λ rest. e ∷ rest) (first-ways es)
 
-second-ways : (es : List Edge) → second_edges (both_ways es) ≡ es
-unfolding both_ways
+pub second-ways : (es : List Edge) → second_edges (both_ways es) ≡ es
 second-ways [] = refl
 second-ways (e ∷ es) = ap (λ rest. e ∷ rest) (second-ways es)
 
-first-into : (e : Option Edge) → first_target (both_into e) ≡ e
-unfolding both_into
+pub first-into : (e : Option Edge) → first_target (both_into e) ≡ e
 first-into None = refl
 first-into (Some e) = refl
 
-second-into : (e : Option Edge) → second_target (both_into e) ≡ e
-unfolding both_into
+pub second-into : (e : Option Edge) → second_target (both_into e) ≡ e
 second-into None = refl
 second-into (Some e) = refl
 
-first-below : (e : Option Writes) → first_falls (both_below e) ≡ e
-unfolding both_below
+pub first-below : (e : Option Writes) → first_falls (both_below e) ≡ e
 first-below None = refl
 first-below (Some e) = refl
 
-second-below : (e : Option Writes) → second_falls (both_below e) ≡ e
-unfolding both_below
+pub second-below : (e : Option Writes) → second_falls (both_below e) ≡ e
 second-below None = refl
 second-below (Some e) = refl
 
 -- without phis each source stands where it stood
-through-none : (phis : Writes) (s : Source) → phis ≡ [] → settled (through phis s) ≡ s
+pub through-none : (phis : Writes) (s : Source) → phis ≡ [] → settled (through phis s) ≡ s
 through-none phis (FromLane a) e = ap (λ ws. settled (filled ws a)) e
 through-none phis Undef e = refl
 through-none phis (Bits c low width) e = refl
 
-filled-none : (phis : Writes) (a : Lane) → phis ≡ [] → filled phis a ≡ Moved (FromLane a)
+pub filled-none : (phis : Writes) (a : Lane) → phis ≡ [] → filled phis a ≡ Moved (FromLane a)
 filled-none phis a e = ap (λ ws. filled ws a) e
 
 module _ (reserved : Lane → Bool) (m : Lane → Lane) (code : Code) where
@@ -95,11 +89,6 @@ module _ (reserved : Lane → Bool) (m : Lane → Lane) (code : Code) where
 
   plan : Plan
   plan n = Graph reserved code (images m) (found n code)
-
-  pub known : (p : Code) (s : Source) → ((l : Lane) → s ≡ FromLane l → Kept reserved code p l) → Known reserved code p s
-  known p (FromLane l) h = h l refl
-  known p Undef h = tt
-  known p (Bits c low width) h = tt
 
   after-next : (i : Item) (p : Code) (R : Rel) → in_order i ≡ true → HoldsAfter i p R → HoldsAt p R
   after-next i p R o h (FromLane a) k = h (FromLane a) (kept_next reserved code i p a o k)
@@ -120,13 +109,11 @@ module _ (reserved : Lane → Bool) (m : Lane → Lane) (code : Code) where
   way-within i p R h e x z s t k = subst (λ u. R (settled (through e.phis s)) (settled (through e.phis u))) (sym k.1) (after-way i p R h e x z s k.0)
 
   exits-within : (i : Item) (p : Code) (R : Rel) → HoldsAfter i p R → (es : List Edge) → ((e : Edge) → Among e es → Among e (exits_of i)) → NoPhisAlong es → Exits plan (both_ways es) R
-  unfolding both_ways
   exits-within i p R h [] w z e x = absurd (none_among e x)
   exits-within i p R h (e ∷ es) w z f here = way-within i p R h e (w e here) z.0
   exits-within i p R h (e ∷ es) w z f (there x) = exits-within i p R h es (λ g y. w g (there y)) z.1 f x
 
   target-within : (r : Rest) (reads : Reads) (ws : Writes) (target : Option Edge) (exits : List Edge) (p : Code) (R : Rel) → HoldsAfter (Counted r reads ws target exits) p R → LaidOut code (Counted r reads ws target exits ∷ p) → NoPhisInto target → Reaches plan (both_into target) R
-  unfolding both_into
   target-within r reads ws None exits p R h l z = tt
   target-within r reads ws (Some e) exits p R h l z = way-within (Counted r reads ws (Some e) exits) p R h e l.0 z
 
@@ -149,7 +136,7 @@ module _ (reserved : Lane → Bool) (m : Lane → Lane) (code : Code) where
 
   reads-hold : (p : Code) (R : Rel) → HoldsAt p R → (ss : List Source) → ((l : Lane) → Among (FromLane l) ss → Kept reserved code p l) → AlikeReads R ss (map (image m) ss)
   reads-hold p R h [] k = tt
-  reads-hold p R h (s ∷ ss) k = (h s (known p s (λ l e. k l (subst (λ x. Among x (s ∷ ss)) e here))), reads-hold p R h ss (λ l g. k l (there g)))
+  reads-hold p R h (s ∷ ss) k = (h s (known-source reserved code p s (λ l e. k l (subst (λ x. Among x (s ∷ ss)) e here))), reads-hold p R h ss (λ l g. k l (there g)))
 
   operands-hold : (p : Code) (R : Rel) → HoldsAt p R → (reads : Reads) → ((ss : List Source) (l : Lane) → Among ss reads → Among (FromLane l) ss → Kept reserved code p l) → AlikeOperands R reads (renamed_reads m reads)
   operands-hold p R h [] k = tt
@@ -157,11 +144,11 @@ module _ (reserved : Lane → Bool) (m : Lane → Lane) (code : Code) where
 
   -- the fills of a lane and of its image
   fill-exact : (p : Code) (R : Rel) → HoldsAt p R → (f g : Fill) → ((l : Lane) → f ≡ Moved (FromLane l) → Kept reserved code p l) → image_fill m f ≡ g → AlikeExact R f g
-  fill-exact p R h (Moved s) g k e = subst (AlikeExact R (Moved s)) e (h s (known p s (λ l x. k l (ap Moved x))))
+  fill-exact p R h (Moved s) g k e = subst (AlikeExact R (Moved s)) e (h s (known-source reserved code p s (λ l x. k l (ap Moved x))))
   fill-exact p R h (Computed i) g k e = subst (AlikeExact R (Computed i)) e refl
 
   moved : (i : Item) (p : Code) (R : Rel) → HoldsAt (i ∷ p) R → (a : Lane) → KeptAfter reserved code i p a → R (settled (filled (writes_of i) a)) (image m (settled (filled (writes_of i) a)))
-  moved i p R h a k = h (settled (filled (writes_of i) a)) (known (i ∷ p) (settled (filled (writes_of i) a)) (λ l e. flow reserved code i p a l k (settled-from (filled (writes_of i) a) l e)))
+  moved i p R h a k = h (settled (filled (writes_of i) a)) (known-source reserved code (i ∷ p) (settled (filled (writes_of i) a)) (λ l e. flow reserved code i p a l k (settled-from (filled (writes_of i) a) l e)))
 
   counted-after : (r : Rest) (reads : Reads) (ws ws' : Writes) (target : Option Edge) (exits : List Edge) (p : Code) (R : Rel) → HoldsAt (Counted r reads ws target exits ∷ p) R → ((a : Lane) → KeptAfter reserved code (Counted r reads ws target exits) p a → image_fill m (filled ws a) ≡ filled ws' (m a)) → HoldsAfter (Counted r reads ws target exits) p (after_exact ws ws' R)
   counted-after r reads ws ws' target exits p R h c (FromLane a) k =
@@ -235,7 +222,7 @@ module _ (reserved : Lane → Bool) (m : Lane → Lane) (code : Code) where
   plan-holds n p e s k = (subst (λ q. Known reserved code q s) (sym e) k, refl)
 
   coupled : {p q : Code} (g : Matched reserved m code p q) (R : Rel) → LaidOut code p → NoPhis p → HoldsAt p R → CoupledExact plan (rows_of g) R
-  unfolding rows_of both_below
+  unfolding rows_of
   coupled matched.done R l z h = tt
   coupled (matched.start {n = n} {p = p} g) R l z h = (start-within n p R l.0 h, coupled g (plan n) l.1 z (plan-holds n p l.0))
   coupled (matched.end {falls = Some phis} {exits = exits} {p = p} g) R l z h = (
