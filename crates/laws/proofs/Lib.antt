@@ -19,3 +19,4 @@ pub mod Tinies
 pub mod Least
 pub mod Steppings
 pub mod Terminators
+pub mod Tables
