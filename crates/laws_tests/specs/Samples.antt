@@ -1,6 +1,6 @@
 -- Small functions, written out by hand. Units are numbered as in the target `mini`: 0 to 2 are $eax, 3 to 5 $ecx,
 -- 12 to 14 the flags, 15 the stack pointer.
-use Rattle.std.specs.Prelude.{◌≡◌, ℕ, ℤ, pos, negsuc, Bool, true, false, List, [], ◌∷◌, Option, Some, None, nat_eq, nat_lt, cond}
+use Rattle.std.specs.Prelude.{◌≡◌, ℕ, zero, suc, ℤ, pos, negsuc, Bool, true, false, List, [], ◌∷◌, Option, Some, None, nat_eq, nat_lt, cond}
 use Rattle.target_base.specs.declared.types.Effect.{Effect}
 use Rattle.target_base.specs.declared.types.Effect.TheVariants as effects
 use Rattle.meaning.specs.declared.types.Lane.{Lane}
@@ -188,5 +188,42 @@ comparing a b condition lane = function given_none (
     ∷ BlockEnd None []
     ∷ BlockStart 1
     ∷ ret ((number 1 ∷ []) ∷ [])
+    ∷ BlockEnd None []
+    ∷ [])
+
+abbrev pub returning : Source → Function
+returning s = function given_none (body (ret ((s ∷ []) ∷ []) ∷ []))
+
+abbrev pub marker : Item
+marker = Counted (op effects.Marker [] [] (pos 0)) [] [] None []
+
+-- a quotient that nothing reads
+abbrev pub dividing : Source → Source → Function
+dividing a b = function given_none (body (divide a b ∷ ret [] ∷ []))
+
+-- so many markers, and a return
+abbrev pub markers : ℕ → Code
+markers zero = ret [] ∷ []
+markers (suc n) = marker ∷ markers n
+
+abbrev pub marking : ℕ → Function
+marking n = function given_none (body (markers n))
+
+-- a store of a byte at an address
+abbrev pub storing : ℕ → Function
+storing a = function given_none (body (Counted (op (effects.Store 1) ((64 ∷ []) ∷ byte ∷ []) [] (pos 0)) ((Bits (Immediate (pos a)) 0 64 ∷ []) ∷ (number 1 ∷ []) ∷ []) [] None [] ∷ ret [] ∷ []))
+
+-- a call of the function of that name
+abbrev pub calling_name : List ℕ → Function
+calling_name name = function given_none (body (Counted (record { effect = effects.Call; widths = []; result = []; immediate = pos 0; symbol = name }) [] [] None [] ∷ ret [] ∷ []))
+
+-- a branch on an Undef register, to the next block
+abbrev pub branching : Function
+branching = function given_none (
+    BlockStart 0
+    ∷ Counted (op effects.Jnz (byte ∷ []) [] (pos 0)) ((Undef ∷ []) ∷ []) [] (Some (plain_edge 1)) (plain_edge 1 ∷ [])
+    ∷ BlockEnd (Some []) (plain_edge 1 ∷ [])
+    ∷ BlockStart 1
+    ∷ ret []
     ∷ BlockEnd None []
     ∷ [])

@@ -16,3 +16,16 @@ pub fn runs()
     ensures conditions_hold { ConditionsHold }
 {
 }
+
+ghost use Rattle.laws_tests.specs.Refuted.{LanesStay, EventsStay, EndsStay, CountsStay, DivisorsStay, UndefinedAsksNothing};
+
+/// What refinement asks, and what it doesn't: pairs that differ in one thing.
+pub fn refinement()
+    ensures lanes_stay { LanesStay }
+    ensures events_stay { EventsStay }
+    ensures ends_stay { EndsStay }
+    ensures counts_stay { CountsStay }
+    ensures divisors_stay { DivisorsStay }
+    ensures undefined_asks_nothing { UndefinedAsksNothing }
+{
+}
