@@ -1,0 +1,4 @@
+pub mod Binding
+pub mod Registers
+pub mod Items
+pub mod Codes
