@@ -9,7 +9,7 @@ use Rattle.target_base.specs.declared.types.Role.TheVariants as roles
 use Rattle.target_base.specs.declared.types.OpcodeDesc.{OpcodeDesc}
 use Rattle.target_base.specs.declared.types.Target.{Target}
 use Rattle.target_base.specs.Registers.{move_class}
-use Rattle.target_base.specs.Roles.{is_implicit, is_tied}
+use Rattle.target_base.specs.Roles.{is_implicit, is_tied, is_any, role_class}
 use Rattle.mir_func.specs.declared.func.Loc.{Loc}
 use Rattle.mir_func.specs.declared.func.Loc.TheVariants.{Virtual, Fixed}
 use Rattle.mir_func.specs.declared.func.RegOp.{RegOp}
@@ -142,16 +142,16 @@ abbrev pub moving_class : Target → Option ClassId → RegOp → Option ClassId
 moving_class t None o = None
 moving_class t (Some c) o = move_class t c o.index
 
+-- the class that a role asks of a register
+abbrev pub asked_class : Role → Option ClassId
+asked_class (roles.Address k) = Some k
+asked_class r = role_class r
+
 abbrev pub any_class : Target → Function → RegOp → Loc → Option ClassId
 any_class t f o (Virtual v) = moving_class t (class_of f v) o
 any_class t f o (Fixed r) = None
 
 -- the operand class: that of the role; for a virtual register in an `any` role the first class with its lane widths
 abbrev pub operand_class : Target → Function → Option Role → RegOp → Option ClassId
-operand_class t f (Some (roles.Def k)) o = Some k
-operand_class t f (Some (roles.Early k)) o = Some k
-operand_class t f (Some (roles.Read k)) o = Some k
-operand_class t f (Some (roles.Tied k)) o = Some k
-operand_class t f (Some (roles.Address k)) o = Some k
-operand_class t f (Some roles.Any) o = any_class t f o o.loc
-operand_class t f _ o = None
+operand_class t f None o = None
+operand_class t f (Some r) o = cond (is_any r) (any_class t f o o.loc) (asked_class r)
