@@ -5,3 +5,4 @@ pub mod Codes
 pub mod Points
 pub mod Rules
 pub mod Valid
+pub mod Places

@@ -1,5 +1,5 @@
 -- Live and occupied points of a function, what clashes there, and what a range touches.
-use Rattle.std.specs.Prelude.{◌≡◌, Decides, ℕ, Bool, true, false, cond, not, ◌&&◌, ◌||◌, nat_eq, nat_lt, List, [], ◌∷◌, ◌++◌, map, flat_map, drop, length, count_by, Some, slice_get}
+use Rattle.std.specs.Prelude.{◌≡◌, Decides, ℕ, Bool, false, cond, not, ◌&&◌, ◌||◌, nat_eq, nat_lt, List, [], ◌∷◌, ◌++◌, map, flat_map, drop, length, count_by, Some, slice_get}
 use Rattle.std.specs.List.{list_any}
 use Rattle.target_base.specs.declared.types.Unit.{Unit as UnitNumber}
 use Rattle.target_base.specs.declared.types.Reg.{Reg}

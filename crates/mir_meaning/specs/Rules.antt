@@ -1,13 +1,12 @@
 -- The validity rules V1 to V12, V15 and V16: each a test of an instruction or of a block. Beside each stands
 -- what LLVM's machine verifier, its MIR parser or its manual says of the same matter.
-use Rattle.std.specs.Prelude.{ℕ, suc, ℤ, pos, negsuc, Bool, true, false, cond, not, ◌&&◌, ◌||◌, nat_eq, nat_lt, ◌==◌, List, [], ◌∷◌, ◌++◌, map, filter, flat_map, filter_map, count_by, length, take, drop, codes, Option, Some, None, is_some, is_none, slice_get}
+use Rattle.std.specs.Prelude.{ℕ, suc, ℤ, pos, negsuc, Bool, true, false, cond, not, ◌&&◌, ◌||◌, nat_eq, nat_lt, ◌==◌, List, [], ◌∷◌, ◌++◌, map, filter, flat_map, count_by, length, take, drop, codes, Option, Some, None, is_some, is_none}
 use Rattle.std.specs.List.{list_all, list_any, starts_with}
 use Rattle.std.specs.Bool.{beq}
 use Rattle.target_base.specs.declared.types.ClassId.{ClassId}
 use Rattle.target_base.specs.declared.types.Effect.{Effect}
 use Rattle.target_base.specs.declared.types.Effect.TheVariants as effects
 use Rattle.target_base.specs.declared.types.IndexId.{IndexId}
-use Rattle.target_base.specs.declared.types.Reg.{Reg}
 use Rattle.target_base.specs.declared.types.Role.{Role}
 use Rattle.target_base.specs.declared.types.Role.TheVariants as roles
 use Rattle.target_base.specs.declared.types.OpcodeDesc.{OpcodeDesc}
@@ -29,7 +28,7 @@ use Rattle.mir_func.specs.declared.func.Block.{Block}
 use Rattle.mir_func.specs.Value.{Function}
 use Rattle.mir_meaning.specs.declared.Form.{Form}
 use Rattle.mir_meaning.specs.declared.Form.TheVariants as forms
-use Rattle.mir_meaning.specs.Binding.{known_opcode, does, passes, is_terminator, is_branch, is_implicit_operand, explicit_operands, registers, implicit_registers, takes_role, takes_many, Bound, explicit_roles, implicit_roles, roles_of, bound, is_early, is_early_clobber, tied_pair, class_of, asked_class}
+use Rattle.mir_meaning.specs.Binding.{known_opcode, does, passes, is_terminator, is_branch, is_implicit_operand, explicit_operands, registers, implicit_registers, takes_role, takes_many, Bound, explicit_roles, implicit_roles, bound, is_early, tied_pair, class_of, asked_class}
 use Rattle.mir_meaning.specs.Registers.{has_number, operand_lanes, operand_widths}
 use Rattle.mir_meaning.specs.Items.{unreserved, immediate_of}
 use Rattle.mir_meaning.specs.Codes.{falls_through, fallen_into}

@@ -1,5 +1,5 @@
 -- The first fault of a function, and validity. V13 and V14 rest on live points and are asked only where all other rules hold.
-use Rattle.std.specs.Prelude.{◌≡◌, Decides, ℕ, zero, suc, Bool, true, false, cond, not, ◌&&◌, ◌||◌, nat_eq, nat_lt, List, [], ◌∷◌, map, filter, find, length, take, flat_map, Option, Some, None, option_map, slice_get}
+use Rattle.std.specs.Prelude.{◌≡◌, ℕ, zero, suc, Bool, true, false, cond, not, ◌&&◌, ◌||◌, nat_eq, nat_lt, List, [], ◌∷◌, map, filter, find, length, take, flat_map, Option, Some, None, option_map, slice_get}
 use Rattle.std.specs.List.{list_all, list_any}
 use Rattle.target_base.specs.declared.types.Reg.{Reg}
 use Rattle.target_base.specs.declared.types.Target.{Target}
@@ -8,7 +8,6 @@ use Rattle.target_base.specs.Registers.{units_of}
 use Rattle.target_base.specs.Storage.{is_among, is_unreserved, same_numbers}
 use Rattle.meaning.specs.declared.types.Lane.TheVariants.{VirtualLane, UnitLane}
 use Rattle.mir_func.specs.declared.func.Place.{Place}
-use Rattle.mir_func.specs.declared.func.RegOp.{RegOp}
 use Rattle.mir_func.specs.declared.func.Instr.{Instr}
 use Rattle.mir_func.specs.declared.func.Block.{Block}
 use Rattle.mir_func.specs.Value.{Function}
