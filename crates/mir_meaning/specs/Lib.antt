@@ -6,3 +6,4 @@ pub mod Points
 pub mod Rules
 pub mod Valid
 pub mod Places
+pub mod Agreement
