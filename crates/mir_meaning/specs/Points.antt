@@ -1,6 +1,6 @@
 -- Live and occupied points of a function, what clashes there, and what a range touches.
-use Rattle.std.specs.Prelude.{◌≡◌, Decides, ℕ, Bool, false, cond, not, ◌&&◌, ◌||◌, nat_eq, nat_lt, List, [], ◌∷◌, ◌++◌, map, flat_map, drop, length, count_by, Some, slice_get}
-use Rattle.std.specs.List.{list_any}
+use Rattle.std.specs.Prelude.{◌≡◌, Decides, ℕ, Bool, true, false, cond, not, ◌&&◌, ◌||◌, nat_eq, nat_lt, List, [], ◌∷◌, ◌++◌, map, flat_map, drop, length, count_by, Some, slice_get}
+use Rattle.std.specs.List.{list_all, list_any}
 use Rattle.target_base.specs.declared.types.Unit.{Unit as UnitNumber}
 use Rattle.target_base.specs.declared.types.Reg.{Reg}
 use Rattle.target_base.specs.declared.types.Target.{Target}
@@ -20,7 +20,7 @@ use Rattle.mir_func.specs.Edits.{instr_place}
 use Rattle.mir_meaning.specs.Binding.{does, registers}
 use Rattle.mir_meaning.specs.Registers.{is_reserved}
 use Rattle.mir_meaning.specs.Items.{defined_undef}
-use Rattle.mir_meaning.specs.Codes.{item_of, block_end, blocks_code}
+use Rattle.mir_meaning.specs.Codes.{item_of, block_end, blocks_code, code_of}
 
 -- the start of the block of a number; the entry and the exit of the instruction of an id
 pub data Point : Type 0 where
@@ -108,3 +108,10 @@ counts o = o.def || not o.undef
 -- the range touches the instruction
 abbrev pub touches : ℕ → Instr → Bool
 touches v i = list_any (λ o. is_range v o.loc && counts o) (registers i.operands)
+
+abbrev pub has_no_phis : Target → List Block → Bool
+has_no_phis t bs = list_all (λ b. list_all (λ i. not (does is_phi t i)) b.instrs) bs
+
+-- without phis the code of live points is the code of runs
+abbrev pub LawOfPoints : Type 0
+LawOfPoints = (t : Target) (f : Function) → has_no_phis t f.blocks ≡ true → points_of t f ≡ code_of t f
