@@ -1,5 +1,5 @@
 -- Agreement of a source with an allocated function, whoever made it: what must be alike, and which facts are needed.
-use Rattle.std.specs.Prelude.{◌≡◌, ℕ, zero, suc, ◌<◌, Bool, true, false, cond, not, ◌&&◌, ◌||◌, nat_eq, nat_lt, List, [], ◌∷◌, ◌++◌, map, filter, flat_map, length, Option, Some, None, option_map, slice_get}
+use Rattle.std.specs.Prelude.{◌≡◌, ℕ, zero, suc, ◌<◌, Bool, true, false, cond, not, ◌&&◌, ◌||◌, nat_eq, nat_lt, List, [], ◌∷◌, map, filter, flat_map, length, Option, Some, None, option_map, slice_get}
 use Rattle.std.specs.List.{list_all}
 use Rattle.std.specs.Ordering.{int_eq}
 use Rattle.std.specs.Bool.{beq}
@@ -7,13 +7,11 @@ use Rattle.target_base.specs.declared.types.Target.{Target}
 use Rattle.target_base.specs.Storage.{same_numbers}
 use Rattle.target_base.specs.Roles.{is_silent}
 use Rattle.meaning.specs.declared.types.Row.{Row}
-use Rattle.meaning.specs.declared.types.Row.TheVariants.{BothStart, BothEnd, FirstSilent, SecondSilent, BothCounted}
+use Rattle.meaning.specs.declared.types.Row.TheVariants.{BothCounted}
 use Rattle.meaning.specs.Code.{Function as Meaning}
 use Rattle.meaning.specs.Facts.{known_at_start}
 use Rattle.meaning.specs.Pairing.{pairing}
 use Rattle.meaning.specs.Agree.{Family, rows_agree, agrees}
-use Rattle.mir_func.specs.declared.func.Loc.{Loc}
-use Rattle.mir_func.specs.declared.func.Loc.TheVariants.{Virtual, Fixed}
 use Rattle.mir_func.specs.declared.func.RegOp.{RegOp}
 use Rattle.mir_func.specs.declared.func.Operand.{Operand}
 use Rattle.mir_func.specs.declared.func.Operand.TheVariants as operands
@@ -168,5 +166,5 @@ pub data FirstDoubt (t : Target) (f g : Function) : Place → Type 0 where
   of_block : {p : Place} → IsValid t forms.Allocated g → block_doubt t f g ≡ Some p → FirstDoubt t f g p
   of_partner : {p : Place} → IsValid t forms.Allocated g → block_doubt t f g ≡ None → partner_doubt t f g ≡ Some p → FirstDoubt t f g p
   of_fact :
-    {n : ℕ} {p : Place} → IsValid t forms.Allocated g → block_doubt t f g ≡ None → partner_doubt t f g ≡ None →
-    slice_get (counted_places t f) n ≡ Some p → ((m : ℕ) → m < n → HasFacts t f g m) → (HasFacts t f g n → ⊥) → FirstDoubt t f g p
+      {n : ℕ} {p : Place} → IsValid t forms.Allocated g → block_doubt t f g ≡ None → partner_doubt t f g ≡ None →
+      slice_get (counted_places t f) n ≡ Some p → ((m : ℕ) → m < n → HasFacts t f g m) → (HasFacts t f g n → ⊥) → FirstDoubt t f g p

@@ -55,8 +55,8 @@ target_of (_ ∷ os) = target_of os
 abbrev pub effect_item : Target → Function → Block → Instr → Effect → Item
 effect_item t f b i e =
     cond (is_silent e)
-      (Silent (silent_reads t f e i.operands) (silent_writes t f e (is_early_clobber (roles_of t i)) i.operands))
-      (Counted (rest_of t f e i) (map (λ v. v.0) (values t f e i)) (counted_writes t f e i) (option_map (way t f b.number) (target_of i.operands)) (cond (is_terminator e) (ways_out t f b) []))
+    (Silent (silent_reads t f e i.operands) (silent_writes t f e (is_early_clobber (roles_of t i)) i.operands))
+    (Counted (rest_of t f e i) (map (λ v. v.0) (values t f e i)) (counted_writes t f e i) (option_map (way t f b.number) (target_of i.operands)) (cond (is_terminator e) (ways_out t f b) []))
 
 -- an instruction of block b as an item; an excluded opcode does nothing
 unfoldable pub item_of : Target → Function → Block → Instr → Item

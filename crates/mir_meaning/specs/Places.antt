@@ -58,8 +58,8 @@ abbrev pub register_variable : Target → Function → Bool → Option Role → 
 register_variable t f has_tie r o (Fixed q) = None
 register_variable t f has_tie r o (Virtual v) =
     cond o.def
-      (Some (variable (Defining has_tie (passes is_early r)) v o.index (operand_class t f r o)))
-      (cond (o.undef || passes is_tied r) None (Some (variable Using v o.index (operand_class t f r o))))
+    (Some (variable (Defining has_tie (passes is_early r)) v o.index (operand_class t f r o)))
+    (cond (o.undef || passes is_tied r) None (Some (variable Using v o.index (operand_class t f r o))))
 
 -- the variable of an operand: each virtual definition, and each virtual use that is neither `undef` nor tied
 abbrev pub operand_variable : Target → Function → Bool → Bound → Option Variable
@@ -158,7 +158,7 @@ input_copies t f p d inputs overwritten = map (copied_at t f p) (readings inputs
 abbrev pub tied_copies : Target → Function → Instr → RegOp → RegOp → List Needs
 tied_copies t f i d u =
     cond (u.undef || not (is_virtual d.loc) || (same_loc d.loc u.loc && same_index d.index u.index)) []
-      (copied_at t f (Entry i.id) d ∷ cond (defines_and_reads d (untied_readings (bound t i))) (copied_at t f (Exit i.id) d ∷ []) [])
+    (copied_at t f (Entry i.id) d ∷ cond (defines_and_reads d (untied_readings (bound t i))) (copied_at t f (Exit i.id) d ∷ []) [])
 
 abbrev pub effect_copies : Target → Function → Instr → List Operand → Effect → List Needs
 effect_copies t f i (operands.Reg d ∷ os) effects.Phi = phi_copies t f os ++ (copied_at t f (Entry i.id) d ∷ [])
@@ -174,8 +174,8 @@ lowering_places t f i = elim (effect_of t i) [ None ↦ [] | Some e ↦ effect_c
 abbrev pub own_places : Target → Function → Block → ℕ → Instr → List Needs
 own_places t f b j i =
     cond (does is_terminator t i)
-      (cond (list_any (does is_terminator t) (take j b.instrs)) [] (place_of t f (drop j b.instrs) ∷ []))
-      (cond (does is_lowered_away t i) [] (instr_place t f i ∷ []))
+    (cond (list_any (does is_terminator t) (take j b.instrs)) [] (place_of t f (drop j b.instrs) ∷ []))
+    (cond (does is_lowered_away t i) [] (instr_place t f i ∷ []))
 
 -- the places that instruction j of a block gives its name to
 unfoldable pub places_at : Target → Function → Block → ℕ → Instr → List Needs

@@ -28,8 +28,8 @@ unfoldable pub instr_fault : Target → Form → Function → ℕ → Block → 
 instr_fault t form f k b j i = elim (known_opcode t i.op) [
   | None ↦ Some 16
   | Some d ↦ cond (V1 t f i) (first_failing (
-        (2, V2 t f i) ∷ (3, V3 f i) ∷ (4, V4 t f i) ∷ (7, V7 t form f k b j i) ∷ (8, V8 t b j i)
-        ∷ (11, V11 t form f i) ∷ (12, V12 t form f i) ∷ (15, V15 t form f i) ∷ [])) (Some 1)
+      (2, V2 t f i) ∷ (3, V3 f i) ∷ (4, V4 t f i) ∷ (7, V7 t form f k b j i) ∷ (8, V8 t b j i)
+      ∷ (11, V11 t form f i) ∷ (12, V12 t form f i) ∷ (15, V15 t form f i) ∷ [])) (Some 1)
 ]
 
 -- the least rule that fails for block k; V15 of the frame counts at the entry block
