@@ -1,5 +1,5 @@
 -- The one printed spelling of documents.
-use Rattle.std.specs.Prelude.{ℕ, zero, suc, Bool, true, false, List, [], ◌∷◌, ◌++◌, Option, Some, None, codes, if◌then◌else◌, slice_get, slice_set, take, drop, not, ◌&&◌, ◌==◌, ◌/◌, ◌%◌, ◌+◌}
+use Rattle.std.specs.Prelude.{ℕ, zero, suc, Bool, true, false, List, [], ◌∷◌, ◌++◌, Option, Some, None, codes, if◌then◌else◌, slice_get, slice_set, take, drop, not, ◌&&◌, ◌==◌, ◌/◌, ◌%◌, ◌+◌, length}
 use Rattle.std.specs.List.{join_by}
 use Rattle.std.specs.Fmt.{decimal, signed_decimal, digit_glyph}
 use Rattle.target_base.specs.declared.types.Target.{Target}
@@ -84,10 +84,6 @@ is_early t (ops.Excluded name) = false
 abbrev pub flag : Bool → List ℕ → List ℕ
 flag on word = if on then word else []
 
-abbrev pub is_empty : {A : Type 0} → List A → Bool
-is_empty [] = true
-is_empty (x ∷ xs) = false
-
 abbrev pub is_explicit_def : Operand → Bool
 is_explicit_def (operands.Reg r) = r.def && not r.implicit
 is_explicit_def o = false
@@ -165,11 +161,11 @@ print_tail (b ∷ bs) = flag (not (b == 44)) (codes " ") ++ b ∷ bs
 unfoldable pub print_parts : Target → List (Option ClassId) → Instr → List Operand → List Operand → List ℕ
 print_parts t left i defs others =
     print_operands t left (is_early t i.op) defs
-    ++ (flag (not (is_empty defs)) (codes " = ")
+    ++ (flag (not (length defs == 0)) (codes " = ")
     ++ (i.flags
-    ++ (flag (not (is_empty i.flags)) (codes " ")
+    ++ (flag (not (length i.flags == 0)) (codes " ")
     ++ (op_name t i.op
-    ++ (flag (not (is_empty others)) (codes " ")
+    ++ (flag (not (length others == 0)) (codes " ")
     ++ (print_operands t (left_behind_all left defs) false others
     ++ print_tail i.tail))))))
 
@@ -221,9 +217,12 @@ abbrev pub print_blocks : Target → List (Option ClassId) → List Block → Li
 print_blocks t left [] = []
 print_blocks t left (b ∷ bs) = print_block t left b ++ print_blocks t (left_behind_instrs left b.instrs) bs
 
--- a function document
-unfoldable pub print_function : Target → Function → List ℕ
-print_function t f = codes "---\n" ++ (f.head ++ (print_blocks t f.classes f.blocks ++ codes "...\n"))
+-- a function document of these key lines and blocks
+unfoldable pub print_lines : Target → List ℕ → List (Option ClassId) → List Block → List ℕ
+print_lines t head classes blocks = codes "---\n" ++ (head ++ (print_blocks t classes blocks ++ codes "...\n"))
+
+abbrev pub print_function : Target → Function → List ℕ
+print_function t f = print_lines t f.head f.classes f.blocks
 
 -- a document: what isn't a function stands as it was read
 unfoldable pub print_doc : Target → Doc → List ℕ

@@ -3,7 +3,7 @@
 ghost use Rattle.std.specs.Prelude.{◌≡◌, ◌<◌, ◌≤◌, ◌++◌, ◌∷◌, [], ◌^◌, OnOk, IfOk, not, codes, take, drop, slice_get, slice_set, None, length, ◌&&◌, false};
 ghost use Rattle.std.specs.List.{join_by, flat_map};
 ghost use Rattle.std.specs.Fmt.{decimal, signed_decimal, digit_glyph};
-ghost use Rattle.mir_text.specs.Print.{reg_name, index_name, class_name, mask_name, op_name, is_early, flag, is_empty, is_explicit_def, def_count, implicit_word, print_index, print_class, print_loc, print_reg, left_behind_loc, left_behind, left_behind_all, print_operand, print_more, print_operands, print_tail, print_parts, print_instr, print_instrs, left_behind_instrs, hex, print_edge, print_successors, print_livein, print_liveins, print_block_name, print_attributes, print_header, print_block, print_blocks, print_function, print_doc};
+ghost use Rattle.mir_text.specs.Print.{reg_name, index_name, class_name, mask_name, op_name, is_early, flag, is_explicit_def, def_count, implicit_word, print_index, print_class, print_loc, print_reg, left_behind_loc, left_behind, left_behind_all, print_operand, print_more, print_operands, print_tail, print_parts, print_instr, print_instrs, left_behind_instrs, hex, print_edge, print_successors, print_livein, print_liveins, print_block_name, print_attributes, print_header, print_block, print_blocks, print_lines, print_function, print_doc};
 
 use crate::doc::Doc;
 use mir_func::{Block, Classes, Edge, Func, Instr, Loc, Op, Operand, RegOp};
@@ -372,7 +372,11 @@ fn hex_digit(n: u32) -> u8
     requires { n < 16 }
     ensures { result ≡ digit_glyph false n }
 {
-    if n < 10 { b'0' + n as u8 } else { b'a' - 10 + n as u8 }
+    if n < 10 {
+        b'0' + n as u8
+    } else {
+        b'a' - 10 + n as u8
+    }
 }
 
 /// Appends the last `count` digits of a number to base 16.
@@ -437,12 +441,7 @@ fn put_more_liveins(out: &mut Bytes, target: &Target, regs: &[Reg]) -> Result<()
     Ok(())
 }
 
-fn put_regs(
-    out: &mut Bytes,
-    target: &Target,
-    first: Reg,
-    rest: &[Reg],
-) -> Result<(), AllocError>
+fn put_regs(out: &mut Bytes, target: &Target, first: Reg, rest: &[Reg]) -> Result<(), AllocError>
     ensures { OnOk result (out.new ≡ out.old ++ print_liveins target.now (first ∷ rest.now)) }
 {
     put(out, "    liveins: ")?;
@@ -521,16 +520,35 @@ fn put_blocks(
     Ok(())
 }
 
+/// Appends a function document of these key lines and blocks.
+fn put_lines(
+    out: &mut Bytes,
+    target: &Target,
+    head: &[u8],
+    left: &mut Classes,
+    blocks: &[Block],
+) -> Result<(), AllocError>
+    ensures { OnOk result (out.new ≡ out.old ++ print_lines target.now head.now left.old blocks.now) }
+{
+    put(out, "---\n")?;
+    out.extend(head)?;
+    put_blocks(out, target, left, blocks)?;
+    put(out, "...\n")?;
+    Ok(())
+}
+
 /// Appends a function document.
 fn put_function(out: &mut Bytes, target: &Target, f: &Func) -> Result<(), AllocError>
     ensures { OnOk result (out.new ≡ out.old ++ print_function target.now f.now) }
 {
     let mut left = f.classes.copied(out.allocator())?;
-    put(out, "---\n")?;
-    out.extend(f.head.as_slice())?;
-    put_blocks(out, target, &mut left, f.blocks.as_slice())?;
-    put(out, "...\n")?;
-    Ok(())
+    put_lines(
+        out,
+        target,
+        f.head.as_slice(),
+        &mut left,
+        f.blocks.as_slice(),
+    )
 }
 
 /// The one printed spelling of a document. An IR document and the rest of a file are printed byte
