@@ -3,8 +3,8 @@
 ghost use Rattle.std.specs.Prelude.{◌≡◌, ◌≤◌, ◌<◌, ◌+◌, length, IfOk, IfSome};
 
 use crate::lexer::{
-    Sort, are_of, continues, decimal, is, is_ascii, is_blank, next_word, number, probability,
-    skip, skip_back, span, take_name, without_zeros,
+    Sort, are_of, continues, decimal, is, is_ascii, is_blank, next_word, number, probability, skip,
+    skip_back, span, take_name, without_zeros,
 };
 use crate::raw::{NameList, RawEdge, RawHeader, RawInstr, RawOperand, RawOperands, RawReg};
 use crate::stop::{ReadStop, token};
@@ -137,17 +137,15 @@ fn virtual_name(text: &[u8]) -> Result<(&[u8], &[u8]), ReadStop>
     }
     let (name, rest) = span(text, Sort::Word);
     match name {
-        [b, ..] if (b.is_ascii_alphabetic() || *b == b'_') && !is_kept_word(name) => Ok((name, rest)),
+        [b, ..] if (b.is_ascii_alphabetic() || *b == b'_') && !is_kept_word(name) => Ok((
+            name, rest,
+        )),
         _ => Err(token()),
     }
 }
 
 /// A name behind a mark byte, where the mark stands first.
-fn marked_name(
-    alloc: Global,
-    text: &[u8],
-    mark: u8,
-) -> Result<(Option<Bytes>, &[u8]), ReadStop>
+fn marked_name(alloc: Global, text: &[u8], mark: u8) -> Result<(Option<Bytes>, &[u8]), ReadStop>
     ensures { IfOk result (λ r. length r.1.now ≤ length text.now) }
 {
     match text {
@@ -335,7 +333,11 @@ fn take_symbol(alloc: Global, text: &[u8]) -> Result<(RawOperand, &[u8]), ReadSt
 
 /// The immediate of a sign and digits: from -2^63 to 2^64 - 1.
 fn immediate(negative: bool, digits: &[u8]) -> Result<i128, ReadStop> {
-    let most = if negative { 0x8000_0000_0000_0000 } else { 0xffff_ffff_ffff_ffff };
+    let most = if negative {
+        0x8000_0000_0000_0000
+    } else {
+        0xffff_ffff_ffff_ffff
+    };
     match decimal(digits, most) {
         None => Err(token()),
         Some(n) => Ok(if negative { -(n as i128) } else { n as i128 }),
@@ -523,7 +525,11 @@ pub(crate) fn instruction(alloc: Global, text: &[u8]) -> Result<RawInstr, ReadSt
     if excluded && !is_ascii(behind) {
         return Err(token());
     }
-    let tail = if excluded { &[] } else { take_operands(alloc, &mut operands, behind)? };
+    let tail = if excluded {
+        &[]
+    } else {
+        take_operands(alloc, &mut operands, behind)?
+    };
     Ok(RawInstr {
         operands,
         flags: joined_words(alloc, words)?,
