@@ -1,0 +1,5 @@
+pub mod Device
+pub mod Stops
+pub mod Calls
+pub mod MemFiles
+pub mod MemSink

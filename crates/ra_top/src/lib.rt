@@ -1,0 +1,9 @@
+//! The top of the program: its words, its files and its output.
+#![tactic(auto)]
+
+pub mod device;
+pub mod memory;
+pub mod moves;
+
+pub use device::{Failed, Files, Sink};
+pub use memory::{MemFiles, MemSink};
