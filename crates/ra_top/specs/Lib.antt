@@ -3,3 +3,5 @@ pub mod Stops
 pub mod Calls
 pub mod MemFiles
 pub mod MemSink
+pub mod Status
+pub mod Words

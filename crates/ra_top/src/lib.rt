@@ -4,6 +4,9 @@
 pub mod device;
 pub mod memory;
 pub mod moves;
+pub mod status;
+pub mod words;
 
 pub use device::{Failed, Files, Sink};
 pub use memory::{MemFiles, MemSink};
+pub use status::Status;
