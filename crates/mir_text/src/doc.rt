@@ -1,0 +1,61 @@
+//! Documents of a file, and why a text spells none.
+
+use mir_func::Func;
+use std::alloc::AllocError;
+use target_base::Bytes;
+use thiserror::Error;
+
+/// The test of a line that failed.
+#[derive(Clone, Copy, Debug, PartialEq, Eq)]
+pub enum TextKind {
+    /// A line of its form can't stand there.
+    Layout,
+    /// A part of the line isn't spelled well.
+    Token,
+    /// A name isn't the target's, or a block's name isn't the one of its header.
+    Name,
+    /// The file ends inside a document.
+    End,
+}
+
+/// The first line that can't stand after those before it, and the test that failed there.
+#[derive(Clone, Copy, Debug, PartialEq, Eq)]
+pub struct TextFault {
+    /// The number of the line; the first line of a file is 1.
+    pub line: u64,
+    /// The first test that failed.
+    pub kind: TextKind,
+}
+
+/// Why no document was read.
+#[derive(Debug, Drop, Error)]
+pub enum TextStop {
+    /// The text spells no document.
+    #[error("line {}: {:?}", .0.line, .0.kind)]
+    Fault(TextFault),
+    /// Memory ran out.
+    #[error("out of memory")]
+    Memory(AllocError),
+}
+
+impl From<AllocError> for TextStop {
+    ghost use Rattle.mir_text.specs.declared.doc.TextStop.TheVariants.{Memory};
+    ghost use Rattle.std.specs.Prelude.{◌≡◌};
+
+    ghost from_gives = { λ x e. e ≡ Memory x };
+
+    fn from(e: AllocError) -> TextStop {
+        TextStop::Memory(e)
+    }
+}
+
+/// A document of a file.
+#[derive(Drop)]
+pub enum Doc {
+    /// An IR document: its lines and those before it, byte for byte.
+    Ir(Bytes),
+    /// The lines before a function document, and its function.
+    Function(Bytes, Func),
+    /// What stands after the last document, byte for byte.
+    Rest(Bytes),
+}
