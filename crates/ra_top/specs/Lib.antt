@@ -5,3 +5,4 @@ pub mod MemFiles
 pub mod MemSink
 pub mod Status
 pub mod Words
+pub mod Printed

@@ -1,13 +1,12 @@
 //! The words that the program is given.
 
-ghost use Rattle.std.specs.Prelude.{◌≡◌, map, option_copied};
-ghost use Rattle.std.specs.String.{string_bytes};
-ghost use Rattle.ra_top.specs.Words.{command_file, is_file_word};
+ghost use Rattle.std.specs.Prelude.{◌≡◌, option_copied};
+ghost use Rattle.ra_top.specs.Words.{file_of, is_file_word};
 
 /// The file of the words `alloc - FILE`, the built-in target standing for `-`. None where the
 /// words aren't these, or FILE is longer than `-` and begins with it.
 pub fn file_word(words: &[String]) -> Option<&str>
-    ensures { option_copied result ≡ command_file (map string_bytes words.now) }
+    ensures { option_copied result ≡ file_of words.now }
 {
     match words {
         [command, target, file] => {
