@@ -2,11 +2,11 @@
 //! until the allocator takes its place.
 #![tactic(auto)]
 
-pub mod emit;
-pub mod head;
-pub mod liveness;
-pub mod operands;
-pub mod slots;
-pub mod spill;
+mod emit;
+mod head;
+mod liveness;
+mod operands;
+mod slots;
+mod spill;
 
 pub use spill::spilled_all;
