@@ -123,7 +123,7 @@ impl Target {
 }
 
 /// Whether the lanes pick the units of a register, of each register of the list.
-fn have_subs(regs: &[RegDesc], lanes: &[u8], rs: &[Reg]) -> bool
+pub fn have_subs(regs: &[RegDesc], lanes: &[u8], rs: &[Reg]) -> bool
     ensures { result ≡ lanes_fit regs.now lanes.now rs.now }
 {
     rs.iter()
@@ -131,21 +131,21 @@ fn have_subs(regs: &[RegDesc], lanes: &[u8], rs: &[Reg]) -> bool
 }
 
 /// Whether the list holds a register.
-fn holds(rs: &[Reg], r: Reg) -> bool
+pub fn holds(rs: &[Reg], r: Reg) -> bool
     ensures { result ≡ holds_reg rs.now r }
 {
     rs.iter().any(|q| q.0 == r.0)
 }
 
 /// Whether the list holds the register of a number.
-fn holds_number(rs: &[Reg], k: usize) -> bool
+pub fn holds_number(rs: &[Reg], k: usize) -> bool
     ensures { result ≡ holds_reg rs.now (reg_number k) }
 {
     rs.iter().any(|q| q.0 as usize == k)
 }
 
 /// Whether the list holds the register at a place, if one was found.
-fn holds_found(rs: &[Reg], place: Option<usize>) -> bool
+pub fn holds_found(rs: &[Reg], place: Option<usize>) -> bool
     ensures { result ≡ holds_place rs.now place }
 {
     match place {
@@ -155,13 +155,14 @@ fn holds_found(rs: &[Reg], place: Option<usize>) -> bool
 }
 
 /// Whether `qs` holds what the lanes pick of each register of `rs`.
-fn hold_subs(regs: &[RegDesc], lanes: &[u8], rs: &[Reg], qs: &[Reg]) -> bool
+pub fn hold_subs(regs: &[RegDesc], lanes: &[u8], rs: &[Reg], qs: &[Reg]) -> bool
     ensures { result ≡ holds_subs regs.now lanes.now rs.now qs.now }
 {
     rs.iter().all(|r| holds_found(qs, find_sub(regs, units_at(regs, *r), lanes)))
 }
 
-fn find_part(regs: &[RegDesc], classes: &[ClassDesc], lanes: &[u8], rs: &[Reg]) -> Option<usize>
+/// The place of the first class that holds what the lanes pick of each register of `rs`.
+pub fn find_part(regs: &[RegDesc], classes: &[ClassDesc], lanes: &[u8], rs: &[Reg]) -> Option<usize>
     ensures { result ≡ part_place regs.now classes.now lanes.now rs.now }
 {
     classes
@@ -169,20 +170,22 @@ fn find_part(regs: &[RegDesc], classes: &[ClassDesc], lanes: &[u8], rs: &[Reg]) 
         .position(|d| hold_subs(regs, lanes, rs, d.regs.as_slice()))
 }
 
-fn find_home(classes: &[ClassDesc], r: Reg) -> Option<usize>
+/// The place of the first class that holds the register.
+pub fn find_home(classes: &[ClassDesc], r: Reg) -> Option<usize>
     ensures { result ≡ position (λ d. holds_reg d.regs r) classes.now }
 {
     classes.iter().position(|d| holds(d.regs.as_slice(), r))
 }
 
 /// Whether all registers of `rs` lie in `qs`.
-fn are_within(rs: &[Reg], qs: &[Reg]) -> bool
+pub fn are_within(rs: &[Reg], qs: &[Reg]) -> bool
     ensures { result ≡ is_within rs.now qs.now }
 {
     rs.iter().all(|r| holds(qs, *r))
 }
 
-fn width_of(units: &[UnitDesc], u: Unit) -> u8
+/// The width of a unit in bits; 0 where the list is too short.
+pub fn width_of(units: &[UnitDesc], u: Unit) -> u8
     ensures { result ≡ unit_width units.now u }
 {
     match units.get(u.0 as usize) {
@@ -192,7 +195,7 @@ fn width_of(units: &[UnitDesc], u: Unit) -> u8
 }
 
 /// Whether two lists of units have the same widths.
-fn have_same_widths(units: &[UnitDesc], a: &[Unit], b: &[Unit]) -> bool
+pub fn have_same_widths(units: &[UnitDesc], a: &[Unit], b: &[Unit]) -> bool
     ensures { result ≡ same_numbers (widths units.now a.now) (widths units.now b.now) }
 {
     if a.len() != b.len() {
@@ -207,7 +210,7 @@ fn have_same_widths(units: &[UnitDesc], a: &[Unit], b: &[Unit]) -> bool
 }
 
 /// The units of the first register of a list.
-fn first_units<'a>(regs: &'a [RegDesc], rs: &[Reg]) -> &'a [Unit]
+pub fn first_units<'a>(regs: &'a [RegDesc], rs: &[Reg]) -> &'a [Unit]
     ensures { result.now ≡ class_units regs.now rs.now }
 {
     match rs.first() {
@@ -217,13 +220,14 @@ fn first_units<'a>(regs: &'a [RegDesc], rs: &[Reg]) -> &'a [Unit]
 }
 
 /// Whether two classes have the same lane widths.
-fn are_alike(units: &[UnitDesc], regs: &[RegDesc], a: &[Reg], b: &[Reg]) -> bool
+pub fn are_alike(units: &[UnitDesc], regs: &[RegDesc], a: &[Reg], b: &[Reg]) -> bool
     ensures { result ≡ same_numbers (class_widths units.now regs.now a.now) (class_widths units.now regs.now b.now) }
 {
     have_same_widths(units, first_units(regs, a), first_units(regs, b))
 }
 
-fn class_of(role: Role) -> Option<ClassId>
+/// The class of a definition or a use; other roles have none.
+pub fn class_of(role: Role) -> Option<ClassId>
     ensures { result ≡ role_class role }
 {
     match role {
@@ -233,7 +237,7 @@ fn class_of(role: Role) -> Option<ClassId>
 }
 
 /// The class of the first role that has one.
-fn first_class(roles: &[Role]) -> Option<ClassId>
+pub fn first_class(roles: &[Role]) -> Option<ClassId>
     ensures { result ≡ first_class roles.now }
 {
     for role in roles {
@@ -244,7 +248,8 @@ fn first_class(roles: &[Role]) -> Option<ClassId>
     None
 }
 
-fn regs_at(classes: &[ClassDesc], k: Option<ClassId>) -> &[Reg]
+/// The registers of a class in allocation order; none without a class.
+pub fn regs_at(classes: &[ClassDesc], k: Option<ClassId>) -> &[Reg]
     ensures { result.now ≡ regs_of_some classes.now k }
 {
     match k {
@@ -256,7 +261,8 @@ fn regs_at(classes: &[ClassDesc], k: Option<ClassId>) -> &[Reg]
     }
 }
 
-fn is_spill(e: Effect) -> bool
+/// Whether the effect stores in a spill slot.
+pub fn is_spill(e: Effect) -> bool
     ensures { result ≡ is_spill e }
 {
     match e {
@@ -265,7 +271,8 @@ fn is_spill(e: Effect) -> bool
     }
 }
 
-fn is_reload(e: Effect) -> bool
+/// Whether the effect reloads from a spill slot.
+pub fn is_reload(e: Effect) -> bool
     ensures { result ≡ is_reload e }
 {
     match e {
@@ -275,14 +282,14 @@ fn is_reload(e: Effect) -> bool
 }
 
 /// Whether an opcode spills all these registers.
-fn does_spill(classes: &[ClassDesc], rs: &[Reg], o: &OpcodeDesc) -> bool
+pub fn does_spill(classes: &[ClassDesc], rs: &[Reg], o: &OpcodeDesc) -> bool
     ensures { result ≡ spills classes.now rs.now o.now }
 {
     is_spill(o.effect) && are_within(rs, regs_at(classes, first_class(o.roles.as_slice())))
 }
 
 /// Whether an opcode reloads all these registers.
-fn does_reload(classes: &[ClassDesc], rs: &[Reg], o: &OpcodeDesc) -> bool
+pub fn does_reload(classes: &[ClassDesc], rs: &[Reg], o: &OpcodeDesc) -> bool
     ensures { result ≡ reloads classes.now rs.now o.now }
 {
     is_reload(o.effect) && are_within(rs, regs_at(classes, first_class(o.roles.as_slice())))

@@ -73,7 +73,7 @@ impl Target {
 }
 
 /// The units of a register of a list, lane by lane; none where the list is too short.
-pub(crate) fn units_at(regs: &[RegDesc], r: Reg) -> &[Unit]
+pub fn units_at(regs: &[RegDesc], r: Reg) -> &[Unit]
     ensures { result.now ≡ reg_units regs.now r }
 {
     match regs.get(r.0 as usize) {
@@ -83,7 +83,7 @@ pub(crate) fn units_at(regs: &[RegDesc], r: Reg) -> &[Unit]
 }
 
 /// The place of the first register with the units that the lanes pick.
-pub(crate) fn find_sub(regs: &[RegDesc], units: &[Unit], lanes: &[u8]) -> Option<usize>
+pub fn find_sub(regs: &[RegDesc], units: &[Unit], lanes: &[u8]) -> Option<usize>
     ensures { result ≡ sub_place regs.now units.now lanes.now }
 {
     regs.iter()
@@ -91,7 +91,7 @@ pub(crate) fn find_sub(regs: &[RegDesc], units: &[Unit], lanes: &[u8]) -> Option
 }
 
 /// Whether the lanes pick exactly these units.
-fn is_picked(units: &[Unit], lanes: &[u8], picked: &[Unit]) -> bool
+pub fn is_picked(units: &[Unit], lanes: &[u8], picked: &[Unit]) -> bool
     ensures { result ≡ is_picked units.now lanes.now picked.now }
 {
     if lanes.len() != picked.len() {
