@@ -1,0 +1,4 @@
+pub mod Written
+pub mod Front
+pub mod Calls
+pub mod Mapped
