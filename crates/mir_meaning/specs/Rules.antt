@@ -45,56 +45,28 @@ is_definition o = o.def && not o.implicit
 abbrev pub is_use : RegOp → Bool
 is_use o = not o.def && not o.implicit
 
-abbrev pub is_immediate : Operand → Bool
-is_immediate (operands.Imm z) = true
-is_immediate _ = false
-
-abbrev pub is_index : Operand → Bool
-is_index (operands.Index x) = true
-is_index _ = false
-
-abbrev pub is_symbol : Operand → Bool
-is_symbol (operands.Symbol name) = true
-is_symbol _ = false
-
-abbrev pub is_block : Operand → Bool
-is_block (operands.Block n) = true
-is_block _ = false
-
-abbrev pub is_mask : Operand → Bool
-is_mask (operands.Mask k) = true
-is_mask _ = false
-
-abbrev pub is_stack : Operand → Bool
-is_stack (operands.Stack n) = true
-is_stack _ = false
-
-abbrev pub is_frame_object : Operand → Bool
-is_frame_object (operands.FixedStack n) = true
-is_frame_object o = is_stack o
-
-abbrev pub is_register : (RegOp → Bool) → Operand → Bool
-is_register test (operands.Reg o) = test o
-is_register test _ = false
-
 -- the operand is of the kind that the role asks for
 abbrev pub fits_role : Role → Operand → Bool
-fits_role (roles.Def k) o = is_register is_definition o
-fits_role (roles.Early k) o = is_register is_definition o
-fits_role (roles.Read k) o = is_register is_use o
-fits_role (roles.Tied k) o = is_register is_use o
-fits_role roles.Imm o = is_immediate o
-fits_role roles.Target o = is_block o
-fits_role roles.Slot o = is_stack o
-fits_role roles.Lanes o = is_immediate o || is_index o
-fits_role roles.Sym o = is_symbol o
-fits_role roles.Frame o = is_frame_object o
-fits_role (roles.Address k) o = is_register is_use o || is_frame_object o || is_symbol o
-fits_role roles.Mask o = is_mask o
-fits_role roles.Any o = is_register is_use o
-fits_role roles.Rest o = is_register (λ r. is_use r && not (is_virtual r.loc)) o
-fits_role (roles.ImpDef r) o = false
-fits_role (roles.ImpRead r) o = false
+fits_role (roles.Def k) (operands.Reg o) = is_definition o
+fits_role (roles.Early k) (operands.Reg o) = is_definition o
+fits_role (roles.Read k) (operands.Reg o) = is_use o
+fits_role (roles.Tied k) (operands.Reg o) = is_use o
+fits_role roles.Imm (operands.Imm z) = true
+fits_role roles.Target (operands.Block n) = true
+fits_role roles.Slot (operands.Stack n) = true
+fits_role roles.Lanes (operands.Imm z) = true
+fits_role roles.Lanes (operands.Index x) = true
+fits_role roles.Sym (operands.Symbol name) = true
+fits_role roles.Frame (operands.Stack n) = true
+fits_role roles.Frame (operands.FixedStack n) = true
+fits_role (roles.Address k) (operands.Reg o) = is_use o
+fits_role (roles.Address k) (operands.Stack n) = true
+fits_role (roles.Address k) (operands.FixedStack n) = true
+fits_role (roles.Address k) (operands.Symbol name) = true
+fits_role roles.Mask (operands.Mask m) = true
+fits_role roles.Any (operands.Reg o) = is_use o
+fits_role roles.Rest (operands.Reg o) = is_use o && not (is_virtual o.loc)
+fits_role _ _ = false
 
 -- explicit operands meet the roles in number and kind
 abbrev pub explicit_fit : List Role → List Operand → Bool
@@ -151,38 +123,50 @@ values_fit t f effects.Spill os = lanes_fit t f os
 values_fit t f effects.Reload os = lanes_fit t f os
 values_fit t f _ os = true
 
--- pairs of an explicit virtual use and an operand that passes the test
-abbrev pub are_pairs : (Operand → Bool) → List Operand → Bool
-are_pairs test [] = true
-are_pairs test (o ∷ []) = false
-are_pairs test (o ∷ p ∷ os) = is_register (λ r. is_use r && is_virtual r.loc) o && test p && are_pairs test os
+abbrev pub is_virtual_use : RegOp → Bool
+is_virtual_use o = is_use o && is_virtual o.loc
 
 -- a virtual definition without an index
-abbrev pub is_whole_definition : Operand → Bool
-is_whole_definition o = is_register (λ r. is_definition r && is_virtual r.loc && is_none r.index) o
+abbrev pub is_whole_definition : RegOp → Bool
+is_whole_definition o = is_definition o && is_virtual o.loc && is_none o.index
 
-abbrev pub is_built_of : (List Operand → Bool) → List Operand → Bool
-is_built_of test [] = false
-is_built_of test (o ∷ os) = is_whole_definition o && test os
+-- a definition and a use
+abbrev pub copy_fits : List Operand → Bool
+copy_fits (operands.Reg d ∷ operands.Reg s ∷ []) = is_definition d && is_use s
+copy_fits _ = false
 
-abbrev pub is_copy_of_two : List Operand → Bool
-is_copy_of_two (d ∷ s ∷ []) = is_register is_definition d && is_register is_use s
-is_copy_of_two os = false
+abbrev pub implicit_def_fits : List Operand → Bool
+implicit_def_fits (operands.Reg d ∷ []) = is_definition d
+implicit_def_fits _ = false
 
-abbrev pub is_definition_alone : List Operand → Bool
-is_definition_alone (d ∷ []) = is_register is_definition d
-is_definition_alone os = false
+-- pairs of a use and a block
+abbrev pub phi_pairs : List Operand → Bool
+phi_pairs [] = true
+phi_pairs (operands.Reg s ∷ operands.Block n ∷ os) = is_virtual_use s && phi_pairs os
+phi_pairs _ = false
 
-abbrev pub is_insertion : List Operand → Bool
-is_insertion (a ∷ b ∷ x ∷ []) = list_all (is_register (λ r. is_use r && is_virtual r.loc)) (a ∷ b ∷ []) && is_index x
-is_insertion os = false
+-- pairs of a use and an index
+abbrev pub index_pairs : List Operand → Bool
+index_pairs [] = true
+index_pairs (operands.Reg s ∷ operands.Index x ∷ os) = is_virtual_use s && index_pairs os
+index_pairs _ = false
+
+-- two uses and an index
+abbrev pub insertion : List Operand → Bool
+insertion (operands.Reg a ∷ operands.Reg b ∷ operands.Index x ∷ []) = is_virtual_use a && is_virtual_use b
+insertion _ = false
+
+-- the result of a phi, REG_SEQUENCE or INSERT_SUBREG, and the test of what follows it
+abbrev pub result_and : (List Operand → Bool) → List Operand → Bool
+result_and test (operands.Reg d ∷ os) = is_whole_definition d && test os
+result_and test _ = false
 
 abbrev pub operands_fit : Target → Function → OpcodeDesc → List Operand → Effect → Bool
-operands_fit t f d os effects.Copy = is_copy_of_two os
-operands_fit t f d os effects.ImplicitDef = is_definition_alone os
-operands_fit t f d os effects.Phi = is_built_of (are_pairs is_block) os
-operands_fit t f d os effects.RegSequence = is_built_of (are_pairs is_index) os
-operands_fit t f d os effects.InsertSubreg = is_built_of is_insertion os
+operands_fit t f d os effects.Copy = copy_fits os
+operands_fit t f d os effects.ImplicitDef = implicit_def_fits os
+operands_fit t f d os effects.Phi = result_and phi_pairs os
+operands_fit t f d os effects.RegSequence = result_and index_pairs os
+operands_fit t f d os effects.InsertSubreg = result_and insertion os
 operands_fit t f d os e = implicit_last os && explicit_fit (explicit_roles d.roles) (explicit_operands os) && implicit_fit d (implicit_registers os) && values_fit t f e os
 
 -- V1: operands fit the opcode's roles in number, kind and value. (Verifier: "Too few operands", "Explicit operand marked as def", "Missing implicit register".)
