@@ -1,9 +1,9 @@
 -- Pairs that don't refine, by one run each.
 use Rattle.std.proofs.Common.{◌≡◌, ℕ, zero, suc, true, false, List, [], ◌∷◌, Some, None, refl}
 use Rattle.meaning.specs.declared.types.Source.TheVariants.{Undef}
-use Rattle.meaning.specs.Perform.{perform, Undefined, Steps, Returned}
-use Rattle.meaning.specs.Code.{Function, run, ended}
-use Rattle.meaning.specs.Refines.{Refines, IsDefined, Does}
+use Rattle.meaning.specs.Perform.{perform, Steps}
+use Rattle.meaning.specs.Code.{ended}
+use Rattle.meaning.specs.Refines.{Refines}
 use Rattle.laws.proofs.Agreement.{agreement_refines}
 use Rattle.laws.proofs.Refines.{does-refl}
 use Rattle.laws_tests.specs.Samples.{nothing, number, returning, dividing, marking, storing, calling_name, branching}

@@ -1,9 +1,9 @@
 -- What refinement asks: each of these pairs differs in one thing, and doesn't refine, or may differ in it.
-use Rattle.std.specs.Prelude.{◌≡◌, ℕ, [], ◌∷◌}
+use Rattle.std.specs.Prelude.{[], ◌∷◌}
 use Rattle.meaning.specs.declared.types.Source.TheVariants.{Undef}
 use Rattle.meaning.specs.Code.{Function}
 use Rattle.meaning.specs.Refines.{Refines}
-use Rattle.laws_tests.specs.Samples.{number, returning, dividing, quotient, marking, storing, calling_name, branching, calling, tied_add, tied_add_allocated}
+use Rattle.laws_tests.specs.Samples.{number, returning, dividing, marking, storing, calling_name, branching}
 
 abbrev pub DoesNotRefine : Function → Function → Type 0
 DoesNotRefine f g = Refines f g → ⊥

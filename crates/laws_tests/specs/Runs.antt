@@ -1,9 +1,9 @@
 -- What the small functions do.
-use Rattle.std.specs.Prelude.{◌≡◌, ℕ, ℤ, pos, true, false, List, [], ◌∷◌, Some, None}
+use Rattle.std.specs.Prelude.{◌≡◌, ℕ, pos, true, false, List, [], ◌∷◌, Some, None}
 use Rattle.meaning.specs.declared.types.Source.TheVariants.{Undef}
 use Rattle.meaning.specs.Environment.{Environment, Value}
 use Rattle.meaning.specs.Perform.{Event, CallEvent, StoreEvent, ReturnEvent, End, Returned, Trapped, Undefined, Steps}
-use Rattle.meaning.specs.Code.{Function, Run, run}
+use Rattle.meaning.specs.Code.{Function, run}
 use Rattle.laws_tests.specs.Samples.{nothing, seeded, number, tied_add, tied_add_allocated, quotient, half_undefined, swapping, overlapping, reloaded_at, calling, comparing}
 
 -- the run is defined all the way

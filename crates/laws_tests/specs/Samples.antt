@@ -1,6 +1,6 @@
 -- Small functions, written out by hand. Units are numbered as in the target `mini`: 0 to 2 are $eax, 3 to 5 $ecx,
 -- 12 to 14 the flags, 15 the stack pointer.
-use Rattle.std.specs.Prelude.{◌≡◌, ℕ, zero, suc, ℤ, pos, negsuc, Bool, true, false, List, [], ◌∷◌, Option, Some, None, nat_eq, nat_lt, cond}
+use Rattle.std.specs.Prelude.{ℕ, zero, suc, ℤ, pos, false, List, [], ◌∷◌, Some, None, nat_eq, nat_lt, cond}
 use Rattle.target_base.specs.declared.types.Effect.{Effect}
 use Rattle.target_base.specs.declared.types.Effect.TheVariants as effects
 use Rattle.meaning.specs.declared.types.Lane.{Lane}

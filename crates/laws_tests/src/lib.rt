@@ -14,8 +14,7 @@ pub fn runs()
     ensures slots_keep_their_width { SlotsKeepTheirWidth }
     ensures calls_answer { CallsAnswer }
     ensures conditions_hold { ConditionsHold }
-{
-}
+{}
 
 ghost use Rattle.laws_tests.specs.Refuted.{LanesStay, EventsStay, EndsStay, CountsStay, DivisorsStay, UndefinedAsksNothing};
 
@@ -27,5 +26,33 @@ pub fn refinement()
     ensures counts_stay { CountsStay }
     ensures divisors_stay { DivisorsStay }
     ensures undefined_asks_nothing { UndefinedAsksNothing }
-{
-}
+{}
+
+ghost use Rattle.laws_tests.specs.Premises.{FoldsACopy, QuietMatters, FixesMatters, OnlyMatters, LayoutMatters, NoPhisMatters, StartsMatter, SpillsInStep, StepsFromAnotherStart, AgreesOverALoop, FineMatters};
+ghost use Rattle.laws_tests.specs.Liveness.{IdleCopies, ReadCopies, StoresAreRead};
+
+/// The law of folds speaks of something, and needs each of its premises.
+pub fn folding()
+    ensures folds_a_copy { FoldsACopy }
+    ensures quiet_matters { QuietMatters }
+    ensures fixes_matters { FixesMatters }
+    ensures only_matters { OnlyMatters }
+    ensures layout_matters { LayoutMatters }
+    ensures no_phis_matters { NoPhisMatters }
+    ensures starts_matter { StartsMatter }
+{}
+
+/// The laws of passes, of the checker and of operations speak of something, and need their premises.
+pub fn laws()
+    ensures spills_in_step { SpillsInStep }
+    ensures steps_from_another_start { StepsFromAnotherStart }
+    ensures agrees_over_a_loop { AgreesOverALoop }
+    ensures fine_matters { FineMatters }
+{}
+
+/// Which lanes of small codes are live.
+pub fn live_lanes()
+    ensures idle_copies { IdleCopies }
+    ensures read_copies { ReadCopies }
+    ensures stores_are_read { StoresAreRead }
+{}
