@@ -1,1 +1,4 @@
 pub mod Computed
+pub mod Search
+pub mod Decided
+pub mod Living

@@ -1,3 +1,4 @@
 pub mod Sample
 pub mod Functions
 pub mod Runs
+pub mod Liveness
