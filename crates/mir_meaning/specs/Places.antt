@@ -213,7 +213,7 @@ all_apart t (p ∷ ps) = list_all (λ q. not (must_be_apart p.0.kind q.0.kind &&
 
 -- the choice gives each variable a register that serves
 abbrev pub serves : Target → (ℕ → Bool) → (ℕ → Bool) → List Variable → List Reg → Bool
-serves t entry exit vs rs = list_all (avoids_units t entry exit) (zip vs rs) && all_apart t (zip vs rs)
+serves t entry exit vs rs = all_apart t (zip vs rs) && list_all (avoids_units t entry exit) (zip vs rs)
 
 -- all choices, one of each list, the first list's choice counting most in their order
 abbrev pub choices : List (List Reg) → List (List Reg)

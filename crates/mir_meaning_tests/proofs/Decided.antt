@@ -1,5 +1,5 @@
 -- What a search finds is live, and what no table lists is not.
-use Rattle.std.proofs.Common.{◌≡◌, ◌∷◌, ◌++◌, ◌&&◌, ◌||◌, ⊎_elim, ◌∙◌, ℕ, zero, suc, Bool, true, false, cond, List, refl, sym, ap, subst, drop, length, is_some, []}
+use Rattle.std.proofs.Common.{◌≡◌, ◌∷◌, ⊎_elim, ℕ, zero, suc, Bool, true, List, subst, drop, length, is_some, []}
 use Rattle.std.specs.Prelude.{Decides}
 use Rattle.std.specs.List.{list_all}
 use Rattle.meaning.specs.Code.{Code}
@@ -39,7 +39,7 @@ module _ (reserved : Lane → Bool) (code : Code) where
 
   -- just these lanes are live at the k-th place, by n passes
   pub decided :
-    (n k : ℕ) (ls : List Lane) → code_listed reserved code (table_of n reserved code) code ≡ true → list_all (lists ls) (table_of n reserved code (length (drop k code))) ≡ true → all_found n k ls ≡ true → (l : Lane) →
-    Decides (lists ls l) (Live reserved code (drop k code) l)
+      (n k : ℕ) (ls : List Lane) → code_listed reserved code (table_of n reserved code) code ≡ true → list_all (lists ls) (table_of n reserved code (length (drop k code))) ≡ true → all_found n k ls ≡ true → (l : Lane) →
+      Decides (lists ls l) (Live reserved code (drop k code) l)
   decided n k ls tested covered found l =
       (found_all n (drop k code) ls l found, (λ h. within (table_of n reserved code (length (drop k code))) ls l covered (live-listed reserved code (table_of n reserved code) tested h (ends_from k code whole))))

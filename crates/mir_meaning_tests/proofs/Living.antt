@@ -1,5 +1,5 @@
 -- Live lanes of the functions.
-use Rattle.std.proofs.Common.{◌≡◌, ◌∷◌, ◌++◌, ℕ, Bool, true, false, List, drop, refl, inr, subst, []}
+use Rattle.std.proofs.Common.{◌≡◌, ◌∷◌, ◌++◌, true, false, drop, refl, inr, subst, []}
 use Rattle.laws.proofs.Flow.{none_among}
 use Rattle.meaning.specs.Code.{BlockStart, Code, Item}
 use Rattle.target_base.specs.Mini.{mini_target}
@@ -26,8 +26,7 @@ idle =
 pub swaps : SwapLives
 unfolding mini_target points_of point_item item_of
 swaps =
-    let at = decided (is_reserved mini_target) (points_of mini_target swap) 5 in
-    (
+    let at = decided (is_reserved mini_target) (points_of mini_target swap) 5 in (
       at 2 (three 0 ++ (UnitLane 3 ∷ UnitLane 4 ∷ UnitLane 5 ∷ [])) refl refl refl,
       at 5 [] refl refl refl,
       at 6 (three 2) refl refl refl,
@@ -38,8 +37,7 @@ swaps =
 pub lanes : TwoLanesLive
 unfolding mini_target points_of point_item item_of
 lanes =
-    let at = decided (is_reserved mini_target) (points_of mini_target two_lanes) 5 in
-    (
+    let at = decided (is_reserved mini_target) (points_of mini_target two_lanes) 5 in (
       at 1 (UnitLane 0 ∷ UnitLane 1 ∷ []) refl refl refl,
       at 2 (VirtualLane 0 0 ∷ UnitLane 1 ∷ []) refl refl refl,
       at 3 (VirtualLane 0 0 ∷ VirtualLane 1 0 ∷ []) refl refl refl,
@@ -49,8 +47,7 @@ lanes =
 pub loop : CallInLoopLives
 unfolding mini_target points_of point_item item_of
 loop =
-    let at = decided (is_reserved mini_target) (points_of mini_target call_in_loop) 5 in
-    (
+    let at = decided (is_reserved mini_target) (points_of mini_target call_in_loop) 5 in (
       at 4 (three 0) refl refl refl,
       at 5 (three 0 ++ eax_units) refl refl refl,
       at 7 (three 0 ++ (UnitLane 12 ∷ [])) refl refl refl,

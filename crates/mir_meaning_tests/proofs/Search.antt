@@ -1,6 +1,6 @@
 -- Finds what makes a lane live at a place, and a table of all that is live.
-use Rattle.std.proofs.Common.{◌≡◌, ◌∷◌, ◌++◌, ◌&&◌, ◌||◌, not, ◌∙◌, ℕ, zero, suc, ◌-◌, Bool, true, false, cond, List, Option, Some, None, refl, sym, ap, subst, drop, length, map, filter, flat_map, is_some, []}
-use Rattle.meaning.specs.Code.{BlockStart, Code, Edge, Item, found}
+use Rattle.std.proofs.Common.{◌≡◌, ◌∷◌, ℕ, zero, suc, ◌-◌, Bool, true, false, cond, List, Option, Some, None, refl, ap, subst, drop, length, map, filter, is_some, []}
+use Rattle.meaning.specs.Code.{Code, Edge, Item, found}
 use Rattle.meaning.specs.Lanes.{Reads, Writes, filled, same_lane}
 use Rattle.meaning.specs.Live.{Among, Feeds, Live, exits_of, here, in_order, kept, leap, next, phi, read, reads_of, there, writes_of}
 use Rattle.meaning.specs.declared.types.Fill.{Fill}
@@ -8,7 +8,6 @@ use Rattle.meaning.specs.declared.types.Fill.TheVariants.{Computed, Moved}
 use Rattle.meaning.specs.declared.types.Lane.{Lane}
 use Rattle.meaning.specs.declared.types.Source.{Source}
 use Rattle.meaning.specs.declared.types.Source.TheVariants.{Bits, FromLane, Undef}
-use Rattle.meaning.specs.declared.types.Write.{Write}
 use Rattle.laws.proofs.Quiet.{same-true}
 use Rattle.laws.specs.Tables.{LiveTable, lists}
 

@@ -1,10 +1,10 @@
 -- The functions of the examples, in the order of their instructions' ids.
-use Rattle.std.specs.Prelude.{ℕ, List, [], ◌∷◌, ◌++◌}
+use Rattle.std.specs.Prelude.{ℕ, List, [], ◌∷◌}
 use Rattle.mir_func.specs.declared.func.Instr.{Instr}
 use Rattle.mir_func.specs.declared.func.Operand.{Operand}
 use Rattle.mir_func.specs.declared.func.RegOp.{RegOp}
 use Rattle.mir_func.specs.Value.{Function}
-use Rattle.mir_meaning_tests.specs.Sample.{virtual, physical, as_def, as_implicit, as_undef, part, op, def, val, fixed_def, fixed, implicit_def, implicit, imm, to_block, subreg, symbol, csr, frame, instr, block, function, gr32, gr8, low, grp, eax, ecx, edx, ax, al, ah, p0, eflags, sp, sub_8, sub_lo32, sub_hi32, COPY, PHI, IMPLICIT_DEF, REG_SEQUENCE, MOV32ri, MOV8ri, ADD32rr, ADD8rr, UDIV32rr, MADD32, MLA32, CMP32rr, CMP32ri, STORE32mr, JMP, JCC, CALL, RET}
+use Rattle.mir_meaning_tests.specs.Sample.{virtual, as_def, as_undef, part, op, def, val, fixed_def, fixed, implicit_def, implicit, imm, to_block, subreg, symbol, csr, frame, instr, block, function, gr32, gr8, grp, eax, ecx, edx, ax, al, ah, p0, eflags, sub_8, sub_lo32, sub_hi32, COPY, PHI, IMPLICIT_DEF, REG_SEQUENCE, MOV32ri, MOV8ri, ADD32rr, ADD8rr, UDIV32rr, MADD32, MLA32, CMP32rr, STORE32mr, JMP, JCC, CALL, RET}
 
 abbrev pub flags_defined : List Operand
 flags_defined = implicit_def eflags ∷ []
@@ -51,10 +51,10 @@ abbrev pub swap : Function
 swap = function (gr32 ∷ gr32 ∷ gr32 ∷ gr32 ∷ []) (
     block 0 (1 ∷ []) (eax ∷ ecx ∷ []) (instr 0 COPY (def 0 ∷ fixed eax ∷ []) ∷ instr 1 COPY (def 1 ∷ fixed ecx ∷ []) ∷ [])
     ∷ block 1 (1 ∷ []) [] (
-        instr 2 PHI (def 2 ∷ val 0 ∷ to_block 0 ∷ val 3 ∷ to_block 1 ∷ [])
-        ∷ instr 3 PHI (def 3 ∷ val 1 ∷ to_block 0 ∷ val 2 ∷ to_block 1 ∷ [])
-        ∷ instr 4 STORE32mr (frame ∷ imm 0 ∷ val 2 ∷ [])
-        ∷ instr 5 JMP (to_block 1 ∷ []) ∷ [])
+    instr 2 PHI (def 2 ∷ val 0 ∷ to_block 0 ∷ val 3 ∷ to_block 1 ∷ [])
+    ∷ instr 3 PHI (def 3 ∷ val 1 ∷ to_block 0 ∷ val 2 ∷ to_block 1 ∷ [])
+    ∷ instr 4 STORE32mr (frame ∷ imm 0 ∷ val 2 ∷ [])
+    ∷ instr 5 JMP (to_block 1 ∷ []) ∷ [])
     ∷ [])
 
 -- the halves of a register, put together the other way round at once
@@ -79,10 +79,10 @@ abbrev pub call_in_loop : Function
 call_in_loop = function (gr32 ∷ gr32 ∷ []) (
     block 0 (1 ∷ []) (eax ∷ []) (instr 0 COPY (def 0 ∷ fixed eax ∷ []) ∷ [])
     ∷ block 1 (1 ∷ 2 ∷ []) [] (
-        instr 1 CALL (symbol ∷ csr ∷ implicit_def eax ∷ [])
-        ∷ instr 2 COPY (def 1 ∷ fixed eax ∷ [])
-        ∷ instr 3 CMP32rr (val 0 ∷ val 1 ∷ flags_defined)
-        ∷ instr 4 JCC (to_block 1 ∷ imm 5 ∷ implicit eflags ∷ []) ∷ [])
+    instr 1 CALL (symbol ∷ csr ∷ implicit_def eax ∷ [])
+    ∷ instr 2 COPY (def 1 ∷ fixed eax ∷ [])
+    ∷ instr 3 CMP32rr (val 0 ∷ val 1 ∷ flags_defined)
+    ∷ instr 4 JCC (to_block 1 ∷ imm 5 ∷ implicit eflags ∷ []) ∷ [])
     ∷ block 2 [] [] (instr 5 COPY (fixed_def eax ∷ val 0 ∷ []) ∷ ret 6 ∷ [])
     ∷ [])
 

@@ -1,5 +1,5 @@
 -- Which lanes of the functions are live, and where.
-use Rattle.std.specs.Prelude.{◌≡◌, Decides, ℕ, false, List, [], ◌∷◌, ◌++◌}
+use Rattle.std.specs.Prelude.{Decides, ℕ, List, [], ◌∷◌, ◌++◌}
 use Rattle.target_base.specs.Mini.{mini_target}
 use Rattle.meaning.specs.declared.types.Lane.{Lane}
 use Rattle.meaning.specs.declared.types.Lane.TheVariants.{VirtualLane, UnitLane}

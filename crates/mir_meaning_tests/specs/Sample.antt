@@ -1,5 +1,5 @@
 -- Functions over the built-in target, written down shortly.
-use Rattle.std.specs.Prelude.{ℕ, Bool, true, false, List, [], ◌∷◌, Option, Some, None, codes, ℤ, pos, map}
+use Rattle.std.specs.Prelude.{ℕ, true, false, List, [], Some, None, codes, pos, map}
 use Rattle.target_base.specs.Numbers.{reg_number, class_number, index_number, op_number}
 use Rattle.mir_func.specs.declared.func.Loc.TheVariants.{Virtual, Fixed}
 use Rattle.mir_func.specs.declared.func.RegOp.{RegOp}

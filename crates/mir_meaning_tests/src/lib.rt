@@ -13,3 +13,41 @@ pub fn runs()
     ensures phis_swap { PhisSwap }
     ensures parts_move_at_once { PartsMoveAtOnce }
 {}
+
+ghost use Rattle.mir_meaning_tests.specs.Liveness.{SwapLives, TwoLanesLive, CallInLoopLives, IdleLoopLives, UndefBegins, DeadFlags};
+
+/// Which lanes are live or occupied, and where.
+pub fn live_lanes()
+    ensures swap_lives { SwapLives }
+    ensures two_lanes_live { TwoLanesLive }
+    ensures call_in_loop_lives { CallInLoopLives }
+    ensures idle_loop_lives { IdleLoopLives }
+    ensures undef_begins { UndefBegins }
+    ensures dead_flags { DeadFlags }
+{}
+
+ghost use Rattle.mir_meaning_tests.specs.Validity.{TiedAddsAreValid, NeverWritten, LiveAcross, Covers, RulesFail};
+
+/// Which functions are valid, and the first fault of others.
+pub fn validity()
+    ensures tied_adds_are_valid { TiedAddsAreValid }
+    ensures never_written { NeverWritten }
+    ensures live_across { LiveAcross }
+    ensures covers { Covers }
+    ensures rules_fail { RulesFail }
+{}
+
+ghost use Rattle.mir_meaning_tests.specs.Choices.{NothingServes, FirstChoices};
+
+/// Which choices of registers places admit.
+pub fn choices()
+    ensures nothing_serves { NothingServes }
+    ensures first_choices { FirstChoices }
+{}
+
+ghost use Rattle.mir_meaning.specs.Points.{LawOfPoints};
+
+/// Without phis the code whose live lanes are those of a function is the code of its runs.
+pub fn points()
+    ensures law_of_points { LawOfPoints }
+{}
