@@ -35,13 +35,16 @@ use Rattle.mir_meaning.specs.Codes.{falls_through, fallen_into}
 
 -- what operands are
 
+-- the location is a virtual register
 abbrev pub is_virtual : Loc → Bool
 is_virtual (Virtual v) = true
 is_virtual (Fixed r) = false
 
+-- an explicit definition
 abbrev pub is_definition : RegOp → Bool
 is_definition o = o.def && not o.implicit
 
+-- an explicit use
 abbrev pub is_use : RegOp → Bool
 is_use o = not o.def && not o.implicit
 
@@ -79,6 +82,7 @@ abbrev pub implicit_last : List Operand → Bool
 implicit_last [] = true
 implicit_last (o ∷ os) = cond (is_implicit_operand o) (list_all is_implicit_operand os) (implicit_last os)
 
+-- the two implicit roles are one
 abbrev pub same_role : Role → Role → Bool
 same_role (roles.ImpDef a) (roles.ImpDef b) = a.0 == b.0
 same_role (roles.ImpRead a) (roles.ImpRead b) = a.0 == b.0
@@ -95,14 +99,17 @@ abbrev pub is_condition : ℤ → Bool
 is_condition (pos n) = has_number (2 ∷ 3 ∷ 4 ∷ 5 ∷ 12 ∷ 13 ∷ []) n
 is_condition (negsuc n) = false
 
+-- the immediate is 0
 abbrev pub is_zero : ℤ → Bool
 is_zero (pos n) = nat_eq n 0
 is_zero (negsuc n) = false
 
+-- there is a class, and the index fits it
 abbrev pub fits_class : Target → Option ClassId → Option IndexId → Bool
 fits_class t None x = false
 fits_class t (Some c) x = fits t c x
 
+-- the register has one class, which the index fits
 abbrev pub has_lanes_at : Target → Function → Loc → Option IndexId → Bool
 has_lanes_at t f (Virtual v) x = fits_class t (class_of f v) x
 has_lanes_at t f (Fixed r) x = true
@@ -117,12 +124,14 @@ lanes_fit t f (operands.Reg o ∷ s ∷ operands.Imm z ∷ os) = is_zero z
 lanes_fit t f (operands.Reg o ∷ s ∷ operands.Index x ∷ os) = not (has_lanes t f o) || length (lanes_of t x) == length (operand_widths t f o)
 lanes_fit t f os = true
 
+-- conditions and lanes of slots are among those that are allowed
 abbrev pub values_fit : Target → Function → Effect → List Operand → Bool
 values_fit t f effects.Jcc os = is_condition (immediate_of os)
 values_fit t f effects.Spill os = lanes_fit t f os
 values_fit t f effects.Reload os = lanes_fit t f os
 values_fit t f _ os = true
 
+-- an explicit use of a virtual register
 abbrev pub is_virtual_use : RegOp → Bool
 is_virtual_use o = is_use o && is_virtual o.loc
 
@@ -135,6 +144,7 @@ abbrev pub copy_fits : List Operand → Bool
 copy_fits (operands.Reg d ∷ operands.Reg s ∷ []) = is_definition d && is_use s
 copy_fits _ = false
 
+-- a definition alone
 abbrev pub implicit_def_fits : List Operand → Bool
 implicit_def_fits (operands.Reg d ∷ []) = is_definition d
 implicit_def_fits _ = false
@@ -161,6 +171,7 @@ abbrev pub result_and : (List Operand → Bool) → List Operand → Bool
 result_and test (operands.Reg d ∷ os) = is_whole_definition d && test os
 result_and test _ = false
 
+-- operands fit the effect: the five opcodes of every target have shapes of their own, all others have roles
 abbrev pub operands_fit : Target → Function → OpcodeDesc → List Operand → Effect → Bool
 operands_fit t f d os effects.Copy = copy_fits os
 operands_fit t f d os effects.ImplicitDef = implicit_def_fits os
@@ -173,6 +184,7 @@ operands_fit t f d os e = implicit_last os && explicit_fit (explicit_roles d.rol
 unfoldable pub V1 : Target → Function → Instr → Bool
 V1 t f i = elim (known_opcode t i.op) [ None ↦ true | Some d ↦ operands_fit t f d i.operands d.effect ]
 
+-- the operands have equal lane widths, where the lanes of both are known
 abbrev pub same_widths : Target → Function → RegOp → RegOp → Bool
 same_widths t f a b = not (has_lanes t f a && has_lanes t f b) || same_numbers (operand_widths t f a) (operand_widths t f b)
 
@@ -181,18 +193,22 @@ abbrev pub lies_in : Target → ClassId → ClassId → Option IndexId → Bool
 lies_in t k c None = is_within (regs_of t c) (regs_of t k)
 lies_in t k c (Some x) = holds_subs t.regs (lanes_of t x) (regs_of t c) (regs_of t k)
 
+-- the same, where the class is known
 abbrev pub some_lies_in : Target → ClassId → Option ClassId → Option IndexId → Bool
 some_lies_in t k None x = true
 some_lies_in t k (Some c) x = lies_in t k c x
 
+-- the register, or each register of its class through the index, lies in class k
 abbrev pub register_lies_in : Target → Function → ClassId → Loc → Option IndexId → Bool
 register_lies_in t f k (Virtual v) x = some_lies_in t k (class_of f v) x
 register_lies_in t f k (Fixed r) x = holds_reg (regs_of t k) r
 
+-- the class that an operand's role asks for
 abbrev pub asked_of : Option Role → Option ClassId
 asked_of None = None
 asked_of (Some r) = asked_class r
 
+-- the register lies in the class that its role asks for, where its lanes are known
 abbrev pub in_operand_class : Target → Function → Bound → Bool
 in_operand_class t f (r, operands.Reg o) = elim (asked_of r) [ None ↦ true | Some k ↦ not (has_lanes t f o) || register_lies_in t f k o.loc o.index ]
 in_operand_class t f (r, o) = true
@@ -211,10 +227,12 @@ abbrev pub parts_fit : Target → Function → RegOp → List Operand → Bool
 parts_fit t f d (operands.Reg s ∷ operands.Index x ∷ os) = same_widths t f s (at_index d x) && parts_fit t f d os
 parts_fit t f d os = true
 
+-- an index operand, as a list
 abbrev pub index_of : Operand → List IndexId
 index_of (operands.Index x) = x ∷ []
 index_of _ = []
 
+-- the indexes share no lane
 abbrev pub are_apart : Target → List Operand → Bool
 are_apart t os = are_distinct_numbers (flat_map (lanes_of t) (flat_map index_of os))
 
@@ -230,6 +248,7 @@ widths_fit t f e os = true
 unfoldable pub V2 : Target → Function → Instr → Bool
 V2 t f i = list_all (in_operand_class t f) (bound t i) && elim (known_opcode t i.op) [ None ↦ true | Some d ↦ widths_fit t f d.effect i.operands ]
 
+-- a virtual register has just one class
 abbrev pub has_class : Function → Loc → Bool
 has_class f (Virtual v) = is_some (class_of f v)
 has_class f (Fixed r) = true
@@ -238,6 +257,7 @@ has_class f (Fixed r) = true
 unfoldable pub V3 : Function → Instr → Bool
 V3 f i = list_all (λ o. has_class f o.loc) (registers i.operands)
 
+-- the index fits the register's class, where that is known; physical registers have none
 abbrev pub index_fits : Target → Function → Loc → Option IndexId → Bool
 index_fits t f (Virtual v) x = elim (class_of f v) [ None ↦ true | Some c ↦ fits t c x ]
 index_fits t f (Fixed r) x = is_none x
@@ -247,6 +267,7 @@ abbrev pub subregs_fit : Target → Function → List Operand → Bool
 subregs_fit t f (operands.Reg d ∷ os) = list_all (λ x. index_fits t f d.loc (Some x)) (flat_map index_of os)
 subregs_fit t f os = true
 
+-- REG_SEQUENCE and INSERT_SUBREG
 abbrev pub puts_together : Effect → Bool
 puts_together e = is_reg_sequence e || is_insert_subreg e
 
@@ -254,12 +275,15 @@ puts_together e = is_reg_sequence e || is_insert_subreg e
 unfoldable pub V4 : Target → Function → Instr → Bool
 V4 t f i = list_all (λ o. index_fits t f o.loc o.index) (registers i.operands) && (not (does puts_together t i) || subregs_fit t f i.operands)
 
+-- the numbers of blocks, in order
 abbrev pub block_numbers : List Block → List ℕ
 block_numbers bs = map (λ b. b.number) bs
 
+-- the numbers of a block's successors
 abbrev pub successors_of : Block → List ℕ
 successors_of b = map (λ e. e.block) b.successors
 
+-- a block operand, as a list
 abbrev pub block_of : Operand → List ℕ
 block_of (operands.Block n) = n ∷ []
 block_of _ = []
@@ -288,6 +312,7 @@ lists_once ms ns = are_distinct_numbers ms && list_all (has_number ns) ms && lis
 abbrev pub phi_stands : Target → Function → ℕ → Block → ℕ → Instr → Bool
 phi_stands t f k b j i = list_all (does is_phi t) (take j b.instrs) && not (nat_eq k 0) && lists_once (named_blocks i) (predecessors f b.number)
 
+-- PHI, REG_SEQUENCE and INSERT_SUBREG
 abbrev pub is_lowered_away : Effect → Bool
 is_lowered_away e = is_phi e || puts_together e
 
@@ -300,9 +325,11 @@ V7 t forms.Allocated f k b j i = not (does is_lowered_away t i)
 unfoldable pub V8 : Target → Block → ℕ → Instr → Bool
 V8 t b j i = does is_terminator t i || not (list_any (does is_terminator t) (take j b.instrs))
 
+-- the blocks that branches name
 abbrev pub branch_targets : Target → List Instr → List ℕ
 branch_targets t is = flat_map named_blocks (filter (does is_branch t) is)
 
+-- the number, if there is one
 abbrev pub as_list : Option ℕ → List ℕ
 as_list None = []
 as_list (Some n) = n ∷ []
@@ -317,6 +344,7 @@ V9 t f k b =
 unfoldable pub V10 : Target → Function → ℕ → Block → Bool
 V10 t f k b = nat_lt (suc k) (length f.blocks) || not (falls_through t b.instrs)
 
+-- the tie, where one is written, is to operand 0
 abbrev pub is_tie : Option ℕ → Bool
 is_tie (Some k) = nat_eq k 0
 is_tie None = true
@@ -326,11 +354,13 @@ abbrev pub flags_fit : Bound → Bool
 flags_fit (r, operands.Reg o) = (not o.early || passes is_early r) && (is_none o.tie || (passes is_tied r && is_tie o.tie))
 flags_fit (r, o) = true
 
+-- the locations are one register
 abbrev pub same_loc : Loc → Loc → Bool
 same_loc (Virtual v) (Virtual w) = nat_eq v w
 same_loc (Fixed r) (Fixed q) = r.0 == q.0
 same_loc a b = false
 
+-- the indexes are one, or both are absent
 abbrev pub same_index : Option IndexId → Option IndexId → Bool
 same_index None None = true
 same_index (Some x) (Some y) = x.0 == y.0
@@ -349,9 +379,11 @@ V11 t form f i = list_all flags_fit (bound t i) && elim (tied_pair t i) [ None �
 abbrev pub clashing_lanes : Target → Function → RegOp → List Lane
 clashing_lanes t f o = cond (has_lanes t f o) (unreserved t (operand_lanes t f o)) []
 
+-- the lists have a lane in common
 abbrev pub share_a_lane : List Lane → List Lane → Bool
 share_a_lane ls ms = list_any (λ l. list_any (same_lane l) ms) ls
 
+-- no two of these lists have a lane in common
 abbrev pub no_two_share : List (List Lane) → Bool
 no_two_share [] = true
 no_two_share (ls ∷ rest) = not (list_any (share_a_lane ls) rest) && no_two_share rest
@@ -381,9 +413,11 @@ V12 t form f i =
     && no_two_share (map (clashing_lanes t f) (filter (λ o. o.def) (registers i.operands)))
     && list_all (early_fits t f (bound t i)) (bound t i)
 
+-- the frame object of that number is declared a spill slot
 abbrev pub is_spill_slot : Function → ℕ → Bool
 is_spill_slot f n = list_any (λ o. nat_eq o.0 n && o.1) f.frames
 
+-- a store to a slot or a reload
 abbrev pub spills_or_reloads : Effect → Bool
 spills_or_reloads e = is_spill e || is_reload e
 
@@ -402,6 +436,7 @@ unfoldable pub V15_frame : Form → Function → Bool
 V15_frame forms.Source f = not (list_any (λ o. o.1) f.frames)
 V15_frame forms.Allocated f = true
 
+-- the word stands somewhere in the text
 abbrev pub contains : List ℕ → List ℕ → Bool
 contains [] word = false
 contains (b ∷ bs) word = starts_with nat_eq (b ∷ bs) word || contains bs word

@@ -46,8 +46,15 @@ pub fn choices()
 {}
 
 ghost use Rattle.mir_meaning.specs.Points.{LawOfPoints};
+ghost use Rattle.mir_meaning.specs.Valid.{LawOfFaults};
+ghost use Rattle.mir_meaning.specs.Agreement.{LawOfDoubts};
 
-/// Without phis the code whose live lanes are those of a function is the code of its runs.
-pub fn points()
+/// Laws that show the definitions to be whole: without phis the code whose live lanes are those of a
+/// function is the code of its runs; a function has at most one first fault, and
+/// none where it is valid; and two functions have at most one first place in doubt, and none where
+/// they agree.
+pub fn laws()
     ensures law_of_points { LawOfPoints }
+    ensures law_of_faults { LawOfFaults }
+    ensures law_of_doubts { LawOfDoubts }
 {}
