@@ -3,6 +3,7 @@ use Rattle.std.specs.Prelude.{◌≡◌, ℕ, zero, suc, ◌<◌, Bool, true, fa
 use Rattle.std.specs.List.{list_all}
 use Rattle.std.specs.Ordering.{int_eq}
 use Rattle.std.specs.Bool.{beq}
+use Rattle.std.specs.Option.{option_or}
 use Rattle.target_base.specs.declared.types.Target.{Target}
 use Rattle.target_base.specs.Storage.{same_numbers}
 use Rattle.target_base.specs.Roles.{is_silent}
@@ -26,7 +27,7 @@ use Rattle.mir_meaning.specs.Binding.{does, explicit_operands, implicit_register
 use Rattle.mir_meaning.specs.Registers.{has_number}
 use Rattle.mir_meaning.specs.Codes.{meaning_of}
 use Rattle.mir_meaning.specs.Rules.{is_virtual, same_loc, successors_of}
-use Rattle.mir_meaning.specs.Valid.{IsValid, FirstFault, listed_units, first_of, Fault}
+use Rattle.mir_meaning.specs.Valid.{IsValid, FirstFault, listed_units, Fault}
 
 -- the opcodes are one
 abbrev pub same_op : Op → Op → Bool
@@ -100,7 +101,7 @@ further_block (b ∷ bs) cs = cond (nat_lt (length (b ∷ bs)) (length cs)) (Som
 
 -- where the blocks differ: the first unlike block, or the entry block where the second function has further ones
 unfoldable pub block_doubt : Target → Function → Function → Option Place
-block_doubt t f g = option_map (λ n. place n 0) (first_of (unlike_block (entries_alike t) f.blocks g.blocks) (further_block f.blocks g.blocks))
+block_doubt t f g = option_map (λ n. place n 0) (option_or (unlike_block (entries_alike t) f.blocks g.blocks) (further_block f.blocks g.blocks))
 
 -- the instruction counts in a run
 abbrev pub is_counted : Target → Instr → Bool
@@ -118,7 +119,7 @@ unpaired t j (i ∷ is) (x ∷ xs) = cond (is_counted t i) (cond (are_partners i
 abbrev pub unpaired_in : Target → List Block → List Block → Option Place
 unpaired_in t [] cs = None
 unpaired_in t (b ∷ bs) [] = None
-unpaired_in t (b ∷ bs) (c ∷ cs) = first_of (option_map (place b.number) (unpaired t 0 b.instrs (filter (is_counted t) c.instrs))) (unpaired_in t bs cs)
+unpaired_in t (b ∷ bs) (c ∷ cs) = option_or (option_map (place b.number) (unpaired t 0 b.instrs (filter (is_counted t) c.instrs))) (unpaired_in t bs cs)
 
 -- where the counted instructions of the blocks don't pair
 unfoldable pub partner_doubt : Target → Function → Function → Option Place

@@ -7,3 +7,4 @@ pub mod Rules
 pub mod Valid
 pub mod Places
 pub mod Agreement
+pub mod Renaming

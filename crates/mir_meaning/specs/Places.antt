@@ -77,19 +77,13 @@ has_tied_pair t i = list_any (λ b. passes is_tied b.0) (bound t i)
 abbrev pub operand_variables : Target → Function → Instr → List Variable
 operand_variables t f i = filter_map (operand_variable t f (has_tied_pair t i)) (bound t i)
 
--- the variable of a copy of lanes of these widths, whose place any register of them serves
-abbrev pub copy_variable : Target → ℕ → List ℕ → Variable
-copy_variable t v ws = variable Copying v None (class_of_widths t ws)
-
--- the number of a virtual register
-abbrev pub range_of : Loc → Option ℕ
-range_of (Virtual v) = Some v
-range_of (Fixed r) = None
+-- the variable of a copy of lanes of these widths, which has no range of its own
+abbrev pub copy_variable : Target → List ℕ → Variable
+copy_variable t ws = variable Copying 0 None (class_of_widths t ws)
 
 -- a copy has a variable where both sides are virtual
 abbrev pub copy_variables : Target → Function → List Operand → List Variable
-copy_variables t f (operands.Reg d ∷ operands.Reg s ∷ os) =
-    elim (range_of d.loc) [ None ↦ [] | Some v ↦ elim (range_of s.loc) [ None ↦ [] | Some w ↦ copy_variable t v (operand_widths t f d) ∷ [] ] ]
+copy_variables t f (operands.Reg d ∷ operands.Reg s ∷ os) = cond (is_virtual d.loc && is_virtual s.loc) (copy_variable t (operand_widths t f d) ∷ []) []
 copy_variables t f os = []
 
 -- IMPLICIT_DEF, stores to slots and reloads, which have no variables
@@ -152,7 +146,7 @@ phi_point t f n = before_terminators t (Start n) (instrs_of f.blocks n)
 
 -- a copy that lowering makes, of the widths of this operand
 abbrev pub copied_at : Target → Function → Point → RegOp → Needs
-copied_at t f p o = copy_place (copy_variable t 0 (operand_widths t f o) ∷ []) p
+copied_at t f p o = copy_place (copy_variable t (operand_widths t f o) ∷ []) p
 
 -- the copies for a phi's operands, each in its block
 abbrev pub phi_copies : Target → Function → List Operand → List Needs

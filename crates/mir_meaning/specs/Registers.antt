@@ -1,5 +1,5 @@
 -- The lanes of operands, and their widths.
-use Rattle.std.specs.Prelude.{ℕ, zero, suc, Bool, false, cond, nat_eq, List, [], ◌∷◌, map, length, Option, Some, None, slice_index}
+use Rattle.std.specs.Prelude.{◌&&◌, ℕ, zero, suc, Bool, false, cond, nat_eq, List, [], ◌∷◌, map, length, Option, Some, None, slice_index}
 use Rattle.std.specs.List.{list_any}
 use Rattle.target_base.specs.declared.types.Unit.{Unit as UnitNumber}
 use Rattle.target_base.specs.declared.types.IndexId.{IndexId}
@@ -71,7 +71,7 @@ whole_lanes t f (Fixed r) = []
 
 -- the lanes that an `undef` definition makes Undef beside those that it gives a value
 abbrev pub undefined_lanes : Target → Function → RegOp → List Lane
-undefined_lanes t f o = cond o.undef (whole_lanes t f o.loc) []
+undefined_lanes t f o = cond (o.def && o.undef) (whole_lanes t f o.loc) []
 
 -- the numbers of the lanes of a slot that are stored or reloaded: all, or those of an index
 abbrev pub slot_lane_numbers : Target → List ℕ → Operand → List ℕ

@@ -1,6 +1,6 @@
 -- The validity rules V1 to V12, V15 and V16: each a test of an instruction or of a block. Beside each stands
 -- what LLVM's machine verifier, its MIR parser or its manual says of the same matter.
-use Rattle.std.specs.Prelude.{ℕ, suc, ℤ, pos, negsuc, Bool, true, false, cond, not, ◌&&◌, ◌||◌, nat_eq, nat_lt, ◌==◌, List, [], ◌∷◌, ◌++◌, map, filter, flat_map, count_by, length, take, drop, codes, Option, Some, None, is_some, is_none}
+use Rattle.std.specs.Prelude.{option_to_list, option_and_then, ℕ, suc, ℤ, pos, negsuc, Bool, true, false, cond, not, ◌&&◌, ◌||◌, nat_eq, nat_lt, ◌==◌, List, [], ◌∷◌, ◌++◌, map, filter, flat_map, count_by, length, take, drop, codes, Option, Some, None, is_some, is_none}
 use Rattle.std.specs.List.{list_all, list_any, starts_with}
 use Rattle.std.specs.Bool.{beq}
 use Rattle.target_base.specs.declared.types.ClassId.{ClassId}
@@ -104,14 +104,9 @@ abbrev pub is_zero : ℤ → Bool
 is_zero (pos n) = nat_eq n 0
 is_zero (negsuc n) = false
 
--- there is a class, and the index fits it
-abbrev pub fits_class : Target → Option ClassId → Option IndexId → Bool
-fits_class t None x = false
-fits_class t (Some c) x = fits t c x
-
 -- the register has one class, which the index fits
 abbrev pub has_lanes_at : Target → Function → Loc → Option IndexId → Bool
-has_lanes_at t f (Virtual v) x = fits_class t (class_of f v) x
+has_lanes_at t f (Virtual v) x = passes (λ c. fits t c x) (class_of f v)
 has_lanes_at t f (Fixed r) x = true
 
 -- the lanes of the operand are known: its register has one class, which its index fits
@@ -193,24 +188,14 @@ abbrev pub lies_in : Target → ClassId → ClassId → Option IndexId → Bool
 lies_in t k c None = is_within (regs_of t c) (regs_of t k)
 lies_in t k c (Some x) = holds_subs t.regs (lanes_of t x) (regs_of t c) (regs_of t k)
 
--- the same, where the class is known
-abbrev pub some_lies_in : Target → ClassId → Option ClassId → Option IndexId → Bool
-some_lies_in t k None x = true
-some_lies_in t k (Some c) x = lies_in t k c x
-
 -- the register, or each register of its class through the index, lies in class k
 abbrev pub register_lies_in : Target → Function → ClassId → Loc → Option IndexId → Bool
-register_lies_in t f k (Virtual v) x = some_lies_in t k (class_of f v) x
+register_lies_in t f k (Virtual v) x = passes (λ c. lies_in t k c x) (class_of f v)
 register_lies_in t f k (Fixed r) x = holds_reg (regs_of t k) r
-
--- the class that an operand's role asks for
-abbrev pub asked_of : Option Role → Option ClassId
-asked_of None = None
-asked_of (Some r) = asked_class r
 
 -- the register lies in the class that its role asks for, where its lanes are known
 abbrev pub in_operand_class : Target → Function → Bound → Bool
-in_operand_class t f (r, operands.Reg o) = elim (asked_of r) [ None ↦ true | Some k ↦ not (has_lanes t f o) || register_lies_in t f k o.loc o.index ]
+in_operand_class t f (r, operands.Reg o) = not (has_lanes t f o) || list_all (λ k. register_lies_in t f k o.loc o.index) (option_to_list (option_and_then asked_class r))
 in_operand_class t f (r, o) = true
 
 -- a fixed side of a copy whose other side is virtual lies in some class
@@ -329,29 +314,19 @@ V8 t b j i = does is_terminator t i || not (list_any (does is_terminator t) (tak
 abbrev pub branch_targets : Target → List Instr → List ℕ
 branch_targets t is = flat_map named_blocks (filter (does is_branch t) is)
 
--- the number, if there is one
-abbrev pub as_list : Option ℕ → List ℕ
-as_list None = []
-as_list (Some n) = n ∷ []
-
 -- V9: the successors are the branch targets and the block that is fallen into, each once; not asked where a branch fails V1. (Verifier: "MBB exits via conditional branch/fall-through but the CFG successors don't match the actual successors!".)
 unfoldable pub V9 : Target → Function → ℕ → Block → Bool
 V9 t f k b =
     list_any (λ i. does is_branch t i && not (V1 t f i)) b.instrs
-    || lists_once (successors_of b) (branch_targets t b.instrs ++ as_list (fallen_into t b (drop (suc k) f.blocks)))
+    || lists_once (successors_of b) (branch_targets t b.instrs ++ option_to_list (fallen_into t b (drop (suc k) f.blocks)))
 
 -- V10: the last block in layout ends with a jump or a return. (Verifier: "MBB falls through out of function!".)
 unfoldable pub V10 : Target → Function → ℕ → Block → Bool
 V10 t f k b = nat_lt (suc k) (length f.blocks) || not (falls_through t b.instrs)
 
--- the tie, where one is written, is to operand 0
-abbrev pub is_tie : Option ℕ → Bool
-is_tie (Some k) = nat_eq k 0
-is_tie None = true
-
 -- ties and `early-clobber` that are written are the opcode's, whose definition is operand 0
 abbrev pub flags_fit : Bound → Bool
-flags_fit (r, operands.Reg o) = (not o.early || passes is_early r) && (is_none o.tie || (passes is_tied r && is_tie o.tie))
+flags_fit (r, operands.Reg o) = (not o.early || passes is_early r) && (is_none o.tie || (passes is_tied r && passes (nat_eq 0) o.tie))
 flags_fit (r, o) = true
 
 -- the locations are one register

@@ -1,6 +1,7 @@
 -- The first fault of a function, and validity. V13 and V14 rest on live points and are asked only where all other rules hold.
 use Rattle.std.specs.Prelude.{◌≡◌, ℕ, zero, suc, Bool, true, false, cond, not, ◌&&◌, ◌||◌, nat_eq, nat_lt, List, [], ◌∷◌, map, filter, find, length, take, flat_map, Option, Some, None, option_map, slice_get}
 use Rattle.std.specs.List.{list_all, list_any}
+use Rattle.std.specs.Option.{option_or}
 use Rattle.target_base.specs.declared.types.Reg.{Reg}
 use Rattle.target_base.specs.declared.types.Target.{Target}
 use Rattle.target_base.specs.Numbers.{reg_number, unit_number}
@@ -13,7 +14,7 @@ use Rattle.mir_func.specs.declared.func.Block.{Block}
 use Rattle.mir_func.specs.Value.{Function}
 use Rattle.mir_meaning.specs.declared.Form.{Form}
 use Rattle.mir_meaning.specs.declared.Form.TheVariants as forms
-use Rattle.mir_meaning.specs.Binding.{known_opcode, registers}
+use Rattle.mir_meaning.specs.Binding.{known_opcode, passes, registers}
 use Rattle.mir_meaning.specs.Registers.{numbers, has_number, is_reserved_unit}
 use Rattle.mir_meaning.specs.Points.{Start, LiveAt, Tests}
 use Rattle.mir_meaning.specs.Rules.{V1, V2, V3, V4, V5, V6, V7, V8, V9, V10, V11, V12, V15, V15_frame, V16, is_virtual}
@@ -51,26 +52,21 @@ Fault = Place × ℕ
 abbrev pub fault_at : Block → ℕ → ℕ → Fault
 fault_at b j rule = (record { block = b.number; at = j }, rule)
 
--- the first, or else the second
-abbrev pub first_of : {X : Type 0} → Option X → Option X → Option X
-first_of None y = y
-first_of (Some x) y = Some x
-
 -- the first fault among instructions of block k, which are its j-th and on
 abbrev pub instrs_fault : Target → Form → Function → ℕ → Block → ℕ → List Instr → Option Fault
 instrs_fault t form f k b j [] = None
-instrs_fault t form f k b j (i ∷ is) = first_of (option_map (fault_at b j) (instr_fault t form f k b j i)) (instrs_fault t form f k b (suc j) is)
+instrs_fault t form f k b j (i ∷ is) = option_or (option_map (fault_at b j) (instr_fault t form f k b j i)) (instrs_fault t form f k b (suc j) is)
 
 -- a block's rules count at its first place
 abbrev pub fault_in : Target → Form → Function → ℕ → Block → List Instr → Option Fault
 fault_in t form f k b [] = option_map (fault_at b 0) (block_fault t form f k b)
 fault_in t form f k b (i ∷ is) =
-    first_of (option_map (fault_at b 0) (least (block_fault t form f k b) (instr_fault t form f k b 0 i))) (instrs_fault t form f k b 1 is)
+    option_or (option_map (fault_at b 0) (least (block_fault t form f k b) (instr_fault t form f k b 0 i))) (instrs_fault t form f k b 1 is)
 
 -- the first fault among blocks, the k-th in layout and on
 abbrev pub blocks_fault : Target → Form → Function → ℕ → List Block → Option Fault
 blocks_fault t form f k [] = None
-blocks_fault t form f k (b ∷ bs) = first_of (fault_in t form f k b b.instrs) (blocks_fault t form f (suc k) bs)
+blocks_fault t form f k (b ∷ bs) = option_or (fault_in t form f k b b.instrs) (blocks_fault t form f (suc k) bs)
 
 -- the first place in layout at which a rule other than V13 and V14 fails, with the least rule there
 unfoldable pub shape_fault : Target → Form → Function → Option Fault
@@ -82,28 +78,19 @@ shape_fault t form f = blocks_fault t form f 0 f.blocks
 abbrev pub holds_unit : Target → ℕ → Reg → Bool
 holds_unit t u r = is_among (units_of t r) (unit_number u)
 
--- the target's registers in order
-abbrev pub all_registers : Target → List Reg
-all_registers t = map reg_number (numbers 0 (length t.regs))
-
--- those without a reserved unit
+-- the target's unreserved registers in order
 abbrev pub unreserved_registers : Target → List Reg
-unreserved_registers t = filter (is_unreserved t.reserved t.regs) (all_registers t)
+unreserved_registers t = filter (is_unreserved t.reserved t.regs) (map reg_number (numbers 0 (length t.regs)))
 
 -- the register that stands for a unit of the set: the first that lies wholly in the set, or else the first that holds the unit
 abbrev pub chosen : Target → (ℕ → Bool) → ℕ → Option Reg
 chosen t live u =
     let holding = filter (holds_unit t u) (unreserved_registers t) in
-    first_of (find (λ r. list_all (λ w. live w.0) (units_of t r)) holding) (find (λ r. true) holding)
-
--- it is that register
-abbrev pub is_reg : Reg → Option Reg → Bool
-is_reg r None = false
-is_reg r (Some q) = nat_eq r.0 q.0
+    option_or (find (λ r. list_all (λ w. live w.0) (units_of t r)) holding) (find (λ r. true) holding)
 
 -- the registers that stand for the units of the set, in target order, each once
 unfoldable pub cover : Target → (ℕ → Bool) → List Reg
-cover t live = filter (λ r. list_any (λ u. live u && is_reg r (chosen t live u)) (numbers 0 (length t.units))) (all_registers t)
+cover t live = filter (λ r. list_any (λ u. live u && passes (λ q. nat_eq r.0 q.0) (chosen t live u)) (numbers 0 (length t.units))) (unreserved_registers t)
 
 -- the units of a block's live-ins
 abbrev pub listed_units : Target → Block → List ℕ

@@ -48,13 +48,15 @@ pub fn choices()
 ghost use Rattle.mir_meaning.specs.Points.{LawOfPoints};
 ghost use Rattle.mir_meaning.specs.Valid.{LawOfFaults};
 ghost use Rattle.mir_meaning.specs.Agreement.{LawOfDoubts};
+ghost use Rattle.mir_meaning.specs.Renaming.{LawOfRenaming};
 
-/// Laws that show the definitions to be whole: without phis the code whose live lanes are those of a
-/// function is the code of its runs; a function has at most one first fault, and
-/// none where it is valid; and two functions have at most one first place in doubt, and none where
-/// they agree.
+/// Laws that show the definitions to be whole. Without phis the code whose live lanes are those of a
+/// function is the code of its runs. A function has at most one first fault, and none where it is
+/// valid; two functions have at most one first place in doubt, and none where they agree. Renaming
+/// the registers of an instruction renames its item.
 pub fn laws()
     ensures law_of_points { LawOfPoints }
     ensures law_of_faults { LawOfFaults }
     ensures law_of_doubts { LawOfDoubts }
+    ensures law_of_renaming { LawOfRenaming }
 {}
