@@ -169,7 +169,8 @@ has_base (effects.Load s) = true
 has_base (effects.Store s) = true
 has_base _ = false
 
--- what an explicit operand gives to read: a use; an immediate, at w bits; a base that is no register, as an address of 64 bits
+-- what an explicit operand gives to read: a use; an immediate, at w bits; a base that is no register, as an
+-- address of 64 bits
 abbrev pub value_of : Target → Function → Effect → ℕ → Operand → Option Value
 value_of t f e w (operands.Reg o) = cond o.def None (Some (use_value t f o))
 value_of t f e w (operands.Imm z) = cond (computes_with_immediates e) (Some (constant_value (Immediate z) w)) None
@@ -258,7 +259,8 @@ clobbered t os = unreserved t (map UnitLane (filter (λ u. not (list_any (preser
 abbrev pub kept : Target → Writes → Writes
 kept t ws = filter (λ w. not (is_reserved t w.lane)) ws
 
--- what implicit definitions write, which never change a reserved unit: a comparison's flags and what a call answers have values, the others are Undef
+-- what implicit definitions write, which never change a reserved unit: a comparison's flags and what a call
+-- answers have values, the others are Undef
 abbrev pub implicit_writes : Target → Function → Effect → List Role → List Operand → Writes
 implicit_writes t f effects.Cmp rs os =
     kept t (computed false 0 (all_lanes t f (filter (is_flags rs) (implicit_definitions os))) ++ undefined false (all_lanes t f (implicit_definitions os)))

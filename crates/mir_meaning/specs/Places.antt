@@ -123,7 +123,8 @@ entries_of [] = []
 entries_of (i ∷ []) = Entry i.id ∷ []
 entries_of (i ∷ j ∷ is) = Entry i.id ∷ Exit i.id ∷ entries_of (j ∷ is)
 
--- the place of an instruction that is no copy, or of the terminators of a block together: what one of them writes counts at the entry of the next
+-- the place of an instruction that is no copy, or of the terminators of a block together: what one of them
+-- writes counts at the entry of the next
 abbrev pub place_of : Target → Function → List Instr → Needs
 place_of t f is = record { variables = each_once [] (flat_map (instr_variables t f) is); entries = entries_of is; exits = map (λ i. Exit i.id) is; copies = [] }
 
@@ -157,11 +158,13 @@ phi_copies t f os = []
 abbrev pub defines_and_reads : RegOp → List RegOp → Bool
 defines_and_reads d os = list_any (λ o. same_loc d.loc o.loc) os
 
--- the copies of inputs that aren't `undef`, and one behind them where the result itself is an input that would be overwritten
+-- the copies of inputs that aren't `undef`, and one behind them where the result itself is an input that would
+-- be overwritten
 abbrev pub input_copies : Target → Function → Point → RegOp → List RegOp → List RegOp → List Needs
 input_copies t f p d inputs overwritten = map (copied_at t f p) (readings inputs) ++ cond (defines_and_reads d overwritten) (copied_at t f p d ∷ []) []
 
--- the copy before a tied use that isn't its definition's register and index already; and one behind, where that register is read besides
+-- the copy before a tied use that isn't its definition's register and index already; and one behind, where that
+-- register is read besides
 abbrev pub tied_copies : Target → Function → Instr → RegOp → RegOp → List Needs
 tied_copies t f i d u =
     cond (u.undef || not (is_virtual d.loc) || (same_loc d.loc u.loc && same_index d.index u.index)) []

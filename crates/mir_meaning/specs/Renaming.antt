@@ -40,7 +40,8 @@ abbrev pub IsFixed : Loc → Type 0
 IsFixed (Virtual v) = ⊥
 IsFixed (Fixed r) = Unit {0}
 
--- in function g the renamed operand stands for the images of the operand's lanes in f; implicit operands are physical and stay
+-- in function g the renamed operand stands for the images of the operand's lanes in f; implicit operands are
+-- physical and stay
 pub record Renames (t : Target) (f g : Function) (m : Lane → Lane) (r : RegOp → RegOp) (o : RegOp) : Type 0 where
   pub def : (r o).def ≡ o.def
   pub implicit : (r o).implicit ≡ o.implicit

@@ -88,7 +88,8 @@ same_role (roles.ImpDef a) (roles.ImpDef b) = a.0 == b.0
 same_role (roles.ImpRead a) (roles.ImpRead b) = a.0 == b.0
 same_role _ _ = false
 
--- implicit operands are fixed registers of a counted opcode, and each implicit role stands as often as the opcode has it
+-- implicit operands are fixed registers of a counted opcode, and each implicit role stands as often as the
+-- opcode has it
 abbrev pub implicit_fit : OpcodeDesc → List RegOp → Bool
 implicit_fit d os =
     list_all (λ o. not (is_virtual o.loc) && not (is_silent d.effect)) os
@@ -175,7 +176,8 @@ operands_fit t f d os effects.RegSequence = result_and index_pairs os
 operands_fit t f d os effects.InsertSubreg = result_and insertion os
 operands_fit t f d os e = implicit_last os && explicit_fit (explicit_roles d.roles) (explicit_operands os) && implicit_fit d (implicit_registers os) && values_fit t f e os
 
--- V1: operands fit the opcode's roles in number, kind and value. (Verifier: "Too few operands", "Explicit operand marked as def", "Missing implicit register".)
+-- V1: operands fit the opcode's roles in number, kind and value. (Verifier: "Too few operands", "Explicit
+-- operand marked as def", "Missing implicit register".)
 unfoldable pub V1 : Target → Function → Instr → Bool
 V1 t f i = elim (known_opcode t i.op) [ None ↦ true | Some d ↦ operands_fit t f d i.operands d.effect ]
 
@@ -229,7 +231,9 @@ widths_fit t f effects.RegSequence (operands.Reg d ∷ os) = are_apart t os && p
 widths_fit t f effects.InsertSubreg (operands.Reg d ∷ operands.Reg a ∷ operands.Reg b ∷ operands.Index x ∷ os) = same_widths t f a d && same_widths t f b (at_index d x)
 widths_fit t f e os = true
 
--- V2: registers lie in their operand's class, and what is copied or put together has equal lane widths. (Verifier: "Illegal virtual register for instruction", "Illegal physical register for instruction", "Copy Instruction is illegal with mismatching sizes".)
+-- V2: registers lie in their operand's class, and what is copied or put together has equal lane widths.
+-- (Verifier: "Illegal virtual register for instruction", "Illegal physical register for instruction", "Copy
+-- Instruction is illegal with mismatching sizes".)
 unfoldable pub V2 : Target → Function → Instr → Bool
 V2 t f i = list_all (in_operand_class t f) (bound t i) && elim (known_opcode t i.op) [ None ↦ true | Some d ↦ widths_fit t f d.effect i.operands ]
 
@@ -238,7 +242,9 @@ abbrev pub has_class : Function → Loc → Bool
 has_class f (Virtual v) = is_some (class_of f v)
 has_class f (Fixed r) = true
 
--- V3: each virtual register that is named has just one class. It is asked wherever a register is named, so the first place in layout is where it is named first. (Parser: "conflicting register classes", "Cannot determine class/bank of virtual register".)
+-- V3: each virtual register that is named has just one class. It is asked wherever a register is named, so the
+-- first place in layout is where it is named first. (Parser: "conflicting register classes", "Cannot determine
+-- class/bank of virtual register".)
 unfoldable pub V3 : Function → Instr → Bool
 V3 f i = list_all (λ o. has_class f o.loc) (registers i.operands)
 
@@ -256,7 +262,8 @@ subregs_fit t f os = true
 abbrev pub puts_together : Effect → Bool
 puts_together e = is_reg_sequence e || is_insert_subreg e
 
--- V4: indexes fit the classes of their registers, and physical registers have none. (Verifier: "Invalid subregister index for virtual register", "Illegal subregister index for physical register".)
+-- V4: indexes fit the classes of their registers, and physical registers have none. (Verifier: "Invalid
+-- subregister index for virtual register", "Illegal subregister index for physical register".)
 unfoldable pub V4 : Target → Function → Instr → Bool
 V4 t f i = list_all (λ o. index_fits t f o.loc o.index) (registers i.operands) && (not (does puts_together t i) || subregs_fit t f i.operands)
 
@@ -277,7 +284,8 @@ block_of _ = []
 abbrev pub named_blocks : Instr → List ℕ
 named_blocks i = flat_map block_of i.operands
 
--- V5: a block's number differs from those before it, and the blocks that it names are there. (Parser: "redefinition of machine basic block with id", "use of undefined machine basic block".)
+-- V5: a block's number differs from those before it, and the blocks that it names are there. (Parser:
+-- "redefinition of machine basic block with id", "use of undefined machine basic block".)
 unfoldable pub V5 : Function → ℕ → Block → Bool
 V5 f k b = not (has_number (block_numbers (take k f.blocks)) b.number) && list_all (has_number (block_numbers f.blocks)) (successors_of b ++ flat_map named_blocks b.instrs)
 
@@ -285,7 +293,8 @@ V5 f k b = not (has_number (block_numbers (take k f.blocks)) b.number) && list_a
 abbrev pub predecessors : Function → ℕ → List ℕ
 predecessors f n = block_numbers (filter (λ b. has_number (successors_of b) n) f.blocks)
 
--- V6: the entry block, the first in layout, has no predecessor. (IR verifier: "Entry block to function must not have predecessors!".)
+-- V6: the entry block, the first in layout, has no predecessor. (IR verifier: "Entry block to function must not
+-- have predecessors!".)
 unfoldable pub V6 : Function → ℕ → Block → Bool
 V6 f k b = not (nat_eq k 0) || nat_eq (length (predecessors f b.number)) 0
 
@@ -301,12 +310,15 @@ phi_stands t f k b j i = list_all (does is_phi t) (take j b.instrs) && not (nat_
 abbrev pub is_lowered_away : Effect → Bool
 is_lowered_away e = is_phi e || puts_together e
 
--- V7, of instruction j of block k. Allocated: no phi, REG_SEQUENCE or INSERT_SUBREG is left. (Verifier: "Found PHI instruction after non-PHI", "PHI operand is not in the CFG", "Missing PHI operand", "Found PHI instruction with NoPHIs property set".)
+-- V7, of instruction j of block k. Allocated: no phi, REG_SEQUENCE or INSERT_SUBREG is left. (Verifier: "Found
+-- PHI instruction after non-PHI", "PHI operand is not in the CFG", "Missing PHI operand", "Found PHI
+-- instruction with NoPHIs property set".)
 unfoldable pub V7 : Target → Form → Function → ℕ → Block → ℕ → Instr → Bool
 V7 t forms.Source f k b j i = not (does is_phi t i) || phi_stands t f k b j i
 V7 t forms.Allocated f k b j i = not (does is_lowered_away t i)
 
--- V8, of instruction j: behind a terminator stand terminators only. (Verifier: "Non-terminator instruction after the first terminator".)
+-- V8, of instruction j: behind a terminator stand terminators only. (Verifier: "Non-terminator instruction
+-- after the first terminator".)
 unfoldable pub V8 : Target → Block → ℕ → Instr → Bool
 V8 t b j i = does is_terminator t i || not (list_any (does is_terminator t) (take j b.instrs))
 
@@ -314,7 +326,9 @@ V8 t b j i = does is_terminator t i || not (list_any (does is_terminator t) (tak
 abbrev pub branch_targets : Target → List Instr → List ℕ
 branch_targets t is = flat_map named_blocks (filter (does is_branch t) is)
 
--- V9: the successors are the branch targets and the block that is fallen into, each once; not asked where a branch fails V1. (Verifier: "MBB exits via conditional branch/fall-through but the CFG successors don't match the actual successors!".)
+-- V9: the successors are the branch targets and the block that is fallen into, each once; not asked where a
+-- branch fails V1. (Verifier: "MBB exits via conditional branch/fall-through but the CFG successors don't match
+-- the actual successors!".)
 unfoldable pub V9 : Target → Function → ℕ → Block → Bool
 V9 t f k b =
     list_any (λ i. does is_branch t i && not (V1 t f i)) b.instrs
@@ -346,7 +360,8 @@ abbrev pub tie_fits : Target → Form → Function → RegOp → RegOp → Bool
 tie_fits t forms.Source f d u = cond (is_virtual d.loc && is_virtual u.loc) (same_widths t f d u) (same_loc d.loc u.loc)
 tie_fits t forms.Allocated f d u = same_loc d.loc u.loc && same_index d.index u.index
 
--- V11: written ties and early-clobber flags are the opcode's, and a tied pair fits. (Verifier: "Tied use must be a register", "Two-address instruction operands must be identical".)
+-- V11: written ties and early-clobber flags are the opcode's, and a tied pair fits. (Verifier: "Tied use must
+-- be a register", "Two-address instruction operands must be identical".)
 unfoldable pub V11 : Target → Form → Function → Instr → Bool
 V11 t form f i = list_all flags_fit (bound t i) && elim (tied_pair t i) [ None ↦ true | Some p ↦ tie_fits t form f p.0 p.1 ]
 
@@ -381,7 +396,8 @@ abbrev pub early_fits : Target → Function → List Bound → Bound → Bool
 early_fits t f bs (r, operands.Reg d) = not (passes is_early r) || not (list_any (λ u. share_a_lane (clashing_lanes t f d) (clashing_lanes t f u)) (untied_readings bs))
 early_fits t f bs (r, o) = true
 
--- V12: definitions are apart from each other and, where they are early, from uses. (Manual: "undef" of a definition marks that the rest of the register isn't read; verifier: "Early clobber def must end at ..".)
+-- V12: definitions are apart from each other and, where they are early, from uses. (Manual: "undef" of a
+-- definition marks that the rest of the register isn't read; verifier: "Early clobber def must end at ..".)
 unfoldable pub V12 : Target → Form → Function → Instr → Bool
 V12 t form f i =
     list_all (undef_fits form (registers i.operands)) (filter (λ o. o.def) (registers i.operands))
@@ -401,7 +417,9 @@ abbrev pub slot_fits : Function → Bound → Bool
 slot_fits f (r, operands.Stack n) = beq (passes is_slot r) (is_spill_slot f n)
 slot_fits f (r, o) = not (passes is_slot r)
 
--- V15 of an instruction: the source has no store to a slot and no reload; allocated: slots and spill slots go together. (Spill slots are frame objects that LLVM's allocator makes, `MachineFrameInfo::CreateSpillStackObject`.)
+-- V15 of an instruction: the source has no store to a slot and no reload; allocated: slots and spill slots go
+-- together. (Spill slots are frame objects that LLVM's allocator makes,
+-- `MachineFrameInfo::CreateSpillStackObject`.)
 unfoldable pub V15 : Target → Form → Function → Instr → Bool
 V15 t forms.Source f i = not (does spills_or_reloads t i)
 V15 t forms.Allocated f i = list_all (slot_fits f) (bound t i)
@@ -416,6 +434,7 @@ abbrev pub contains : List ℕ → List ℕ → Bool
 contains [] word = false
 contains (b ∷ bs) word = starts_with nat_eq (b ∷ bs) word || contains bs word
 
--- V16 of a block: it is no landing pad and no entry of an exception handler. V16 of an instruction: its opcode isn't an excluded one.
+-- V16 of a block: it is no landing pad and no entry of an exception handler. V16 of an instruction: its opcode
+-- isn't an excluded one.
 unfoldable pub V16 : Block → Bool
 V16 b = not (contains b.attributes (codes "landing-pad")) && not (contains b.attributes (codes "ehfunclet-entry"))

@@ -1,4 +1,5 @@
--- The first fault of a function, and validity. V13 and V14 rest on live points and are asked only where all other rules hold.
+-- The first fault of a function, and validity. V13 and V14 rest on live points and are asked only where all
+-- other rules hold.
 use Rattle.std.specs.Prelude.{◌≡◌, ℕ, zero, suc, Bool, true, false, cond, not, ◌&&◌, ◌||◌, nat_eq, nat_lt, List, [], ◌∷◌, map, filter, find, length, take, flat_map, Option, Some, None, option_map, slice_get}
 use Rattle.std.specs.List.{list_all, list_any}
 use Rattle.std.specs.Option.{option_or}
@@ -82,7 +83,8 @@ holds_unit t u r = is_among (units_of t r) (unit_number u)
 abbrev pub unreserved_registers : Target → List Reg
 unreserved_registers t = filter (is_unreserved t.reserved t.regs) (map reg_number (numbers 0 (length t.regs)))
 
--- the register that stands for a unit of the set: the first that lies wholly in the set, or else the first that holds the unit
+-- the register that stands for a unit of the set: the first that lies wholly in the set, or else the first that
+-- holds the unit
 abbrev pub chosen : Target → (ℕ → Bool) → ℕ → Option Reg
 chosen t live u =
     let holding = filter (holds_unit t u) (unreserved_registers t) in
@@ -116,7 +118,9 @@ liveins_fit t forms.Source k b live = listing_fits t k b live
 liveins_fit t forms.Allocated zero b live = listing_fits t zero b live
 liveins_fit t forms.Allocated (suc k) b live = same_numbers (map (λ r. r.0) b.liveins) (map (λ r. r.0) (cover t live))
 
--- V13, of block k: its live-ins are those of its live units. (Verifier: "Using an undefined physical register", "MBB has allocatable live-in, but isn't entry, landing-pad, or inlineasm-br-indirect-target"; recomputeLiveIns makes such lists.)
+-- V13, of block k: its live-ins are those of its live units. (Verifier: "Using an undefined physical register",
+-- "MBB has allocatable live-in, but isn't entry, landing-pad, or inlineasm-br-indirect-target";
+-- recomputeLiveIns makes such lists.)
 abbrev pub V13 : Target → Form → Function → ℕ → Block → Type 0
 V13 t form f k b = (live : ℕ → Bool) × LiveInto t f b.number live × (liveins_fit t form k b live ≡ true)
 
@@ -124,7 +128,9 @@ V13 t form f k b = (live : ℕ → Bool) × LiveInto t f b.number live × (livei
 abbrev pub names_virtual : Block → Bool
 names_virtual b = list_any (λ i. list_any (λ o. is_virtual o.loc) (registers i.operands)) b.instrs
 
--- V14: no lane of a virtual register is live at the function's start; allocated: no virtual register is named. (Verifier: "Virtual register def doesn't dominate all uses", "Reading virtual register without a def"; "Found virtual register with NoVRegs property set".)
+-- V14: no lane of a virtual register is live at the function's start; allocated: no virtual register is named.
+-- (Verifier: "Virtual register def doesn't dominate all uses", "Reading virtual register without a def"; "Found
+-- virtual register with NoVRegs property set".)
 abbrev pub V14 : Target → Form → Function → Type 0
 V14 t forms.Source f = (b : Block) → slice_get f.blocks 0 ≡ Some b → (v k : ℕ) → LiveAt t f (Start b.number) (VirtualLane v k) → ⊥
 V14 t forms.Allocated f = list_any names_virtual f.blocks ≡ false

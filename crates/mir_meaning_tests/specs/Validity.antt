@@ -62,7 +62,8 @@ units_among (v ∷ vs) u = nat_eq v u || units_among vs u
 abbrev pub CoverIs : List ℕ → List Reg → Type 0
 CoverIs us rs = cover mini_target (units_among us) ≡ rs
 
--- whole registers where they are live as a whole, the first in the target; a unit that no such register has stands by the first that holds it
+-- whole registers where they are live as a whole, the first in the target; a unit that no such register has
+-- stands by the first that holds it
 abbrev pub Covers : Type 0
 Covers =
     CoverIs (0 ∷ 1 ∷ 2 ∷ []) (reg_number 0 ∷ [])
