@@ -20,3 +20,5 @@ pub mod Least
 pub mod Steppings
 pub mod Terminators
 pub mod Tables
+pub mod SecondLive
+pub mod Bits
