@@ -1,13 +1,11 @@
 -- Of a number only the bits that are taken count.
-use Rattle.std.proofs.Common.{◌≡◌, ◌+◌, ◌-◌, ◌*◌, ◌/◌, ◌%◌, ◌^◌, ◌<◌, ◌∙◌, ℕ, zero, suc, Some, refl, sym, ap, subst}
+use Rattle.std.proofs.Common.{◌≡◌, ◌+◌, ◌-◌, ◌/◌, ◌%◌, ◌^◌, ◌<◌, ◌∙◌, ℕ, Some, refl, ap, subst}
 use Rattle.std.specs.Prelude.{ℤ, pos, negsuc}
 use Rattle.std.proofs.Math.Nat.{mod-eq_of_lt, mod-lt, div-lt_iff_lt-mul, div-one}
 use Rattle.std.proofs.lemmas.Nat.{pow_pos, pow-add}
 use native.Mathlib.Omega.{arith}
-use Rattle.meaning.specs.declared.types.Constant.{Constant}
 use Rattle.meaning.specs.declared.types.Constant.TheVariants.{Immediate, StackAddress, FixedStackAddress, SymbolAddress}
-use Rattle.meaning.specs.Environment.{Environment, residue, bits_of, constant_source}
-use Rattle.meaning.specs.State.{State, fetch}
+use Rattle.meaning.specs.Environment.{residue}
 use Rattle.laws.specs.Constants.{SourcesHaveTheirBits}
 
 below : (p m : ℕ) → 0 < p → p - 1 - m < p

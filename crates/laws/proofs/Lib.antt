@@ -22,3 +22,4 @@ pub mod Terminators
 pub mod Tables
 pub mod SecondLive
 pub mod Bits
+pub mod BlockEnds

@@ -58,5 +58,4 @@ pub fn monotone_law()
 /// The source of some bits of a constant has these bits.
 pub fn constants_law()
     ensures { SourcesHaveTheirBits }
-{
-}
+{}
