@@ -1,6 +1,6 @@
 //! The top call over files and sinks in memory: what it answers, writes and tells.
 
-use ra_top::{MemFiles, MemSink, Status, top};
+use ra_top::{Files, MemFiles, MemSink, Sink, Status, top};
 use std::alloc::{AllocError, Global};
 use std::process::Abort;
 use std::test::Fail;
@@ -254,5 +254,24 @@ fn a_fault_of_the_error_sink_changes_nothing(rt: HostRuntime) -> Result<(), Fail
         let told: &[u8] = if fails { b"" } else { row.err };
         assert!(rt; err.bytes() == told, "first call fails: {fails}");
     }
+    Ok(())
+}
+
+/// The call after the failed one is to fail too: it does so where the top call hasn't made it.
+#[test]
+fn calls_no_device_after_its_fault(rt: HostRuntime) -> Result<(), Fail> {
+    let alloc = rt.alloc();
+    let words = strings(alloc, WORDS)?;
+    let mut err = MemSink::new(alloc, 100, Vec::new(alloc))?;
+    let mut out = sink_of(alloc, &no_write(&[1, 2], 4096, 4096, b""))?;
+    let mut files = files_of(alloc, &no_read(&[2, 3], 4096))?;
+    let status = top(alloc, words.as_slice(), &mut files, &mut out, &mut err);
+    assert_eq!(rt; status, Status::ReadFault);
+    assert!(rt; files.start("IN").is_err());
+    assert!(rt; files.start("IN").is_ok());
+    let status = top(alloc, words.as_slice(), &mut files, &mut out, &mut err);
+    assert_eq!(rt; status, Status::WriteFault);
+    assert!(rt; out.write(b"x").is_err());
+    assert!(rt; out.write(b"x").is_ok());
     Ok(())
 }
