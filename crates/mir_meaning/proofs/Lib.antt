@@ -1,1 +1,3 @@
 pub mod Points
+pub mod Faults
+pub mod Doubts

@@ -12,7 +12,7 @@ use Rattle.mir_meaning.specs.Items.{defined_undef}
 use Rattle.mir_meaning.specs.Codes.{item_of, block_end, blocks_code, code_of}
 use Rattle.mir_meaning.specs.Points.{point_item, points_of, has_no_phis, LawOfPoints}
 
-both : (a b : Bool) → (a && b) ≡ true → (a ≡ true) × (b ≡ true)
+pub both : (a b : Bool) → (a && b) ≡ true → (a ≡ true) × (b ≡ true)
 both true b e = (refl, e)
 both false b e = absurd (cc)
 

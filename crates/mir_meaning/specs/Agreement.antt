@@ -28,6 +28,7 @@ use Rattle.mir_meaning.specs.Codes.{meaning_of}
 use Rattle.mir_meaning.specs.Rules.{is_virtual, same_loc, successors_of}
 use Rattle.mir_meaning.specs.Valid.{IsValid, FirstFault, listed_units, first_of, Fault}
 
+-- the opcodes are one
 abbrev pub same_op : Op → Op → Bool
 same_op (ops.Known a) (ops.Known b) = nat_eq a.0 b.0
 same_op (ops.Excluded a) (ops.Excluded b) = same_numbers a b
@@ -41,6 +42,7 @@ undef_alike o p = o.undef || not p.undef
 abbrev pub register_alike : RegOp → RegOp → Bool
 register_alike o p = beq o.def p.def && (is_virtual o.loc || same_loc o.loc p.loc) && undef_alike o p
 
+-- the explicit operands may be one operand before and after allocation
 abbrev pub operand_alike : Operand → Operand → Bool
 operand_alike (operands.Reg o) (operands.Reg p) = register_alike o p
 operand_alike (operands.Imm y) (operands.Imm z) = int_eq y z
@@ -52,6 +54,7 @@ operand_alike (operands.Index x) (operands.Index y) = nat_eq x.0 y.0
 operand_alike (operands.Mask j) (operands.Mask k) = nat_eq j.0 k.0
 operand_alike _ _ = false
 
+-- the implicit operands are one
 abbrev pub implicit_alike : RegOp → RegOp → Bool
 implicit_alike o p = beq o.def p.def && same_loc o.loc p.loc && undef_alike o p
 
@@ -68,9 +71,11 @@ are_partners i j =
     && all_alike operand_alike (explicit_operands i.operands) (explicit_operands j.operands)
     && all_alike implicit_alike (implicit_registers i.operands) (implicit_registers j.operands)
 
+-- the lists have the same numbers
 abbrev pub same_set : List ℕ → List ℕ → Bool
 same_set ms ns = list_all (has_number ns) ms && list_all (has_number ms) ns
 
+-- the blocks have one number and the same successors
 abbrev pub blocks_alike : Block → Block → Bool
 blocks_alike b c = nat_eq b.number c.number && same_set (successors_of b) (successors_of c)
 
@@ -84,9 +89,11 @@ unlike_block test (b ∷ bs) (c ∷ cs) = cond (test b c) (unlike_block blocks_a
 abbrev pub entries_alike : Target → Block → Block → Bool
 entries_alike t b c = blocks_alike b c && same_set (listed_units t b) (listed_units t c)
 
+-- instruction j of block n
 abbrev pub place : ℕ → ℕ → Place
 place n j = record { block = n; at = j }
 
+-- the first block, where the second function has more of them
 abbrev pub further_block : List Block → List Block → Option ℕ
 further_block [] cs = None
 further_block (b ∷ bs) cs = cond (nat_lt (length (b ∷ bs)) (length cs)) (Some b.number) None
@@ -95,6 +102,7 @@ further_block (b ∷ bs) cs = cond (nat_lt (length (b ∷ bs)) (length cs)) (Som
 unfoldable pub block_doubt : Target → Function → Function → Option Place
 block_doubt t f g = option_map (λ n. place n 0) (first_of (unlike_block (entries_alike t) f.blocks g.blocks) (further_block f.blocks g.blocks))
 
+-- the instruction counts in a run
 abbrev pub is_counted : Target → Instr → Bool
 is_counted t i = does (λ e. not (is_silent e)) t i
 
@@ -106,6 +114,7 @@ unpaired t j [] (x ∷ xs) = Some 0
 unpaired t j (i ∷ is) [] = cond (is_counted t i) (Some j) (unpaired t (suc j) is [])
 unpaired t j (i ∷ is) (x ∷ xs) = cond (is_counted t i) (cond (are_partners i x) (unpaired t (suc j) is xs) (Some j)) (unpaired t (suc j) is (x ∷ xs))
 
+-- the same over blocks in layout
 abbrev pub unpaired_in : Target → List Block → List Block → Option Place
 unpaired_in t [] cs = None
 unpaired_in t (b ∷ bs) [] = None
@@ -121,6 +130,7 @@ in_order_of [] cs = []
 in_order_of (b ∷ bs) [] = []
 in_order_of (b ∷ bs) (c ∷ cs) = record c { successors = b.successors } ∷ in_order_of bs cs
 
+-- the second function, by its meaning
 abbrev pub second_meaning : Target → Function → Function → Meaning
 second_meaning t f g = meaning_of t (record g { blocks = in_order_of f.blocks g.blocks })
 
@@ -150,6 +160,7 @@ abbrev pub counted_from : Target → ℕ → ℕ → List Instr → List Place
 counted_from t n j [] = []
 counted_from t n j (i ∷ is) = cond (is_counted t i) (place n j ∷ counted_from t n (suc j) is) (counted_from t n (suc j) is)
 
+-- all of a function's
 abbrev pub counted_places : Target → Function → List Place
 counted_places t f = flat_map (λ b. counted_from t b.number 0 b.instrs) f.blocks
 
@@ -168,3 +179,7 @@ pub data FirstDoubt (t : Target) (f g : Function) : Place → Type 0 where
   of_fact :
       {n : ℕ} {p : Place} → IsValid t forms.Allocated g → block_doubt t f g ≡ None → partner_doubt t f g ≡ None →
       slice_get (counted_places t f) n ≡ Some p → ((m : ℕ) → m < n → HasFacts t f g m) → (HasFacts t f g n → ⊥) → FirstDoubt t f g p
+
+-- functions that agree have no first place in doubt, and others have no two
+abbrev pub LawOfDoubts : Type 0
+LawOfDoubts = (t : Target) (f g : Function) (p q : Place) → FirstDoubt t f g p → (Agrees t f g → ⊥) × (FirstDoubt t f g q → p ≡ q)

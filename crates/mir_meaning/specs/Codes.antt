@@ -26,10 +26,12 @@ abbrev pub phi_pair : Target → Function → ℕ → RegOp → List Operand →
 phi_pair t f n d (operands.Reg s ∷ operands.Block m ∷ os) = cond (nat_eq m n) (defined t f false d (use_sources t f s)) (phi_pair t f n d os)
 phi_pair t f n d _ = []
 
+-- a phi's writing, by its operands
 abbrev pub phi_operands : Target → Function → ℕ → List Operand → Writes
 phi_operands t f n (operands.Reg d ∷ os) = phi_pair t f n d os
 phi_operands t f n _ = []
 
+-- what an instruction of a block writes on the way in from block n: phis alone do
 abbrev pub phi_writes : Target → Function → ℕ → Instr → Writes
 phi_writes t f n i = cond (does is_phi t i) (phi_operands t f n i.operands) []
 
@@ -77,6 +79,7 @@ first_number (b ∷ bs) = Some b.number
 abbrev pub fallen_into : Target → Block → List Block → Option ℕ
 fallen_into t b after = cond (falls_through t b.instrs) (first_number after) None
 
+-- the end of a block
 abbrev pub block_end : Target → Function → Block → List Block → Item
 block_end t f b after = BlockEnd (option_map (λ m. (way t f b.number m).phis) (fallen_into t b after)) (ways_out t f b)
 
@@ -85,6 +88,7 @@ abbrev pub blocks_code : (Block → Instr → Item) → Target → Function → 
 blocks_code item t f [] = []
 blocks_code item t f (b ∷ bs) = BlockStart b.number ∷ (map (item b) b.instrs ++ (block_end t f b bs ∷ blocks_code item t f bs))
 
+-- the code of a function
 unfoldable pub code_of : Target → Function → Code
 code_of t f = blocks_code (item_of t f) t f f.blocks
 
@@ -93,6 +97,7 @@ abbrev pub is_given : Target → List Block → ℕ → Bool
 is_given t [] u = is_reserved_unit t u
 is_given t (b ∷ bs) u = is_reserved_unit t u || list_any (λ r. is_among (units_of t r) (unit_number u)) b.liveins
 
+-- a given unit with its width
 abbrev pub given_of : Target → Function → Given
 given_of t f u = cond (is_given t f.blocks u) (Some (unit_width t.units (unit_number u))) None
 

@@ -32,6 +32,7 @@ use Rattle.mir_func.specs.Value.{Function}
 use Rattle.mir_meaning.specs.Binding.{explicit_operands, implicit_registers, registers, takes_role, roles_of, implicit_roles, is_early_clobber}
 use Rattle.mir_meaning.specs.Registers.{numbers, operand_lanes, operand_widths, use_sources, undefined_lanes, located_lanes, slot_lane_numbers, slot_lanes, is_reserved}
 
+-- a write of a lane
 abbrev pub write : Bool → Lane → Fill → Write
 write early l fill = record { lane = l; fill = fill; early = early }
 
@@ -41,6 +42,7 @@ moved early [] ss = []
 moved early (l ∷ ls) [] = []
 moved early (l ∷ ls) (s ∷ ss) = write early l (Moved s) ∷ moved early ls ss
 
+-- each lane becomes Undef
 abbrev pub undefined : Bool → List Lane → Writes
 undefined early ls = map (λ l. write early l (Moved Undef)) ls
 
@@ -68,10 +70,12 @@ constant_of _ = None
 
 -- what the instructions move that count for nothing in a run
 
+-- COPY: the lanes of the source go to those of the definition
 abbrev pub copied : Target → Function → List Operand → Writes
 copied t f (operands.Reg d ∷ operands.Reg s ∷ os) = defined t f false d (use_sources t f s)
 copied t f _ = []
 
+-- IMPLICIT_DEF: the lanes become Undef
 abbrev pub defined_undef : Target → Function → List Operand → Writes
 defined_undef t f (operands.Reg d ∷ os) = undefined false (operand_lanes t f d ++ undefined_lanes t f d)
 defined_undef t f _ = []
@@ -81,19 +85,23 @@ abbrev pub parts : Target → Function → RegOp → List Operand → Writes
 parts t f d (operands.Reg s ∷ operands.Index x ∷ os) = moved false (located_lanes t f d.loc (Some x)) (use_sources t f s) ++ parts t f d os
 parts t f d _ = []
 
+-- REG_SEQUENCE: the parts, and Undef in the lanes that no part fills
 abbrev pub sequenced : Target → Function → List Operand → Writes
 sequenced t f (operands.Reg d ∷ os) = parts t f d os ++ undefined false (operand_lanes t f d)
 sequenced t f _ = []
 
+-- INSERT_SUBREG: the part at its index, and the first input in the other lanes
 abbrev pub inserted : Target → Function → List Operand → Writes
 inserted t f (operands.Reg d ∷ operands.Reg a ∷ operands.Reg b ∷ operands.Index x ∷ os) =
     moved false (located_lanes t f d.loc (Some x)) (use_sources t f b) ++ moved false (operand_lanes t f d) (use_sources t f a)
 inserted t f _ = []
 
+-- a constant's bits at the lanes of a definition
 abbrev pub constant_lanes : Target → Function → RegOp → Option Constant → List Source
 constant_lanes t f d None = []
 constant_lanes t f d (Some c) = constant_bits c 0 (operand_widths t f d)
 
+-- a definition that is given an immediate or an address
 abbrev pub given_constant : Target → Function → Bool → List Operand → Writes
 given_constant t f early (operands.Reg d ∷ o ∷ os) = defined t f early d (constant_lanes t f d (constant_of o))
 given_constant t f early _ = []
@@ -112,6 +120,7 @@ spilled t f (operands.Reg o ∷ operands.Stack s ∷ k ∷ os) =
     moved false (lanes_beside t f o s k) (use_sources t f o) ++ undefined false (at_all_widths t s (slot_lane_numbers t (operand_widths t f o) k))
 spilled t f _ = []
 
+-- a reload: the slot's lanes go to those of the register
 abbrev pub reloaded : Target → Function → Bool → List Operand → Writes
 reloaded t f early (operands.Reg o ∷ operands.Stack s ∷ k ∷ os) = defined t f early o (map FromLane (lanes_beside t f o s k))
 reloaded t f early _ = []
@@ -128,6 +137,7 @@ silent_writes t f effects.Spill early os = spilled t f os
 silent_writes t f effects.Reload early os = reloaded t f early os
 silent_writes t f _ early os = []
 
+-- the register operands that aren't definitions
 abbrev pub uses : List Operand → List RegOp
 uses os = filter (λ o. not o.def) (registers os)
 
@@ -141,9 +151,11 @@ silent_reads t f _ os = []
 abbrev pub Value : Type 0
 Value = List Source × List ℕ
 
+-- a use with its widths
 abbrev pub use_value : Target → Function → RegOp → Value
 use_value t f o = (use_sources t f o, operand_widths t f o)
 
+-- a constant with its width
 abbrev pub constant_value : Constant → ℕ → Value
 constant_value c w = (constant_source c 0 w ∷ [], w ∷ [])
 
@@ -151,6 +163,7 @@ constant_value c w = (constant_source c 0 w ∷ [], w ∷ [])
 abbrev pub computes_with_immediates : Effect → Bool
 computes_with_immediates e = nat_lt 0 (bound_roles e)
 
+-- a load or a store
 abbrev pub has_base : Effect → Bool
 has_base (effects.Load s) = true
 has_base (effects.Store s) = true
@@ -170,11 +183,13 @@ abbrev pub first_width : Target → Function → List RegOp → ℕ
 first_width t f [] = 0
 first_width t f (o ∷ os) = sum (operand_widths t f o)
 
+-- the immediate operand, or 0
 abbrev pub immediate_of : List Operand → ℤ
 immediate_of [] = pos 0
 immediate_of (operands.Imm z ∷ os) = z
 immediate_of (_ ∷ os) = immediate_of os
 
+-- the symbol operand, or nothing
 abbrev pub symbol_of : List Operand → List ℕ
 symbol_of [] = []
 symbol_of (operands.Symbol name ∷ os) = name
@@ -185,6 +200,7 @@ abbrev pub is_flags : List Role → RegOp → Bool
 is_flags [] o = false
 is_flags (r ∷ rs) o = takes_role o r
 
+-- the element at a place alone, as a list
 abbrev pub pick : {X : Type 0} → ℕ → List X → List X
 pick k [] = []
 pick zero (x ∷ xs) = x ∷ []
@@ -205,15 +221,19 @@ values t f e i =
     filter_map (value_of t f e (first_width t f (registers i.operands))) (explicit_operands i.operands)
     ++ implicit_values t f e (immediate_of i.operands) (implicit_roles (roles_of t i)) (filter (λ o. not o.def) (implicit_registers i.operands))
 
+-- the lanes that aren't reserved
 abbrev pub unreserved : Target → List Lane → List Lane
 unreserved t ls = filter (λ l. not (is_reserved t l)) ls
 
+-- the explicit definitions
 abbrev pub explicit_definitions : List Operand → List RegOp
 explicit_definitions os = filter (λ o. o.def && not o.implicit) (registers os)
 
+-- the implicit definitions
 abbrev pub implicit_definitions : List Operand → List RegOp
 implicit_definitions os = filter (λ o. o.def) (implicit_registers os)
 
+-- the lanes of several register operands, in order
 abbrev pub all_lanes : Target → Function → List RegOp → List Lane
 all_lanes t f os = flat_map (operand_lanes t f) os
 
@@ -221,9 +241,11 @@ all_lanes t f os = flat_map (operand_lanes t f) os
 abbrev pub answered : Target → Function → List Operand → List Lane
 answered t f os = unreserved t (all_lanes t f (implicit_definitions os))
 
+-- the units that a mask preserves
 abbrev pub mask_units : Target → MaskId → List UnitNumber
 mask_units t k = elim (slice_get t.masks k.0) [ None ↦ [] | Some d ↦ flat_map (units_of t) d.regs ]
 
+-- the operand is a mask that preserves the unit
 abbrev pub preserves : Target → ℕ → Operand → Bool
 preserves t u (operands.Mask k) = is_among (mask_units t k) (unit_number u)
 preserves t u _ = false
@@ -232,6 +254,7 @@ preserves t u _ = false
 abbrev pub clobbered : Target → List Operand → List Lane
 clobbered t os = unreserved t (map UnitLane (filter (λ u. not (list_any (preserves t u) os)) (numbers 0 (length t.units))))
 
+-- the writes of lanes that aren't reserved
 abbrev pub kept : Target → Writes → Writes
 kept t ws = filter (λ w. not (is_reserved t w.lane)) ws
 
@@ -242,14 +265,17 @@ implicit_writes t f effects.Cmp rs os =
 implicit_writes t f effects.Call rs os = computed false 0 (answered t f os) ++ undefined false (clobbered t os)
 implicit_writes t f _ rs os = undefined false (unreserved t (all_lanes t f (implicit_definitions os)))
 
+-- an explicit definition of a counted instruction: the lanes of the result, and Undef in the others of an `undef` one
 abbrev pub result_writes : Target → Function → Bool → RegOp → Writes
 result_writes t f early d = computed early 0 (operand_lanes t f d) ++ undefined early (undefined_lanes t f d)
 
+-- all that a counted instruction writes
 abbrev pub counted_writes : Target → Function → Effect → Instr → Writes
 counted_writes t f e i =
     flat_map (result_writes t f (is_early_clobber (roles_of t i))) (explicit_definitions i.operands)
     ++ implicit_writes t f e (implicit_roles (roles_of t i)) i.operands
 
+-- the width of a unit's lane
 abbrev pub lane_width : Target → Lane → ℕ
 lane_width t (UnitLane u) = unit_width t.units (unit_number u)
 lane_width t _ = 0
@@ -259,6 +285,7 @@ abbrev pub result_widths : Target → Function → Effect → List Operand → L
 result_widths t f effects.Call os = map (lane_width t) (answered t f os)
 result_widths t f _ os = flat_map (operand_widths t f) (explicit_definitions os)
 
+-- the symbol that a call names
 abbrev pub called_symbol : Effect → List Operand → List ℕ
 called_symbol effects.Call os = symbol_of os
 called_symbol _ os = []

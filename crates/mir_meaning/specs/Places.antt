@@ -42,9 +42,11 @@ pub record Variable : Type 0 where
   pub index : Option IndexId
   pub class : Option ClassId
 
+-- a variable of these parts
 abbrev pub variable : Kind → ℕ → Option IndexId → Option ClassId → Variable
 variable kind v x c = record { kind = kind; range = v; index = x; class = c }
 
+-- a definition
 abbrev pub is_defining : Kind → Bool
 is_defining (Defining tied early) = true
 is_defining _ = false
@@ -54,6 +56,7 @@ abbrev pub reaches_back : Kind → Bool
 reaches_back (Defining tied early) = tied || early
 reaches_back _ = true
 
+-- the variable of a register operand; physical registers have none
 abbrev pub register_variable : Target → Function → Bool → Option Role → RegOp → Loc → Option Variable
 register_variable t f has_tie r o (Fixed q) = None
 register_variable t f has_tie r o (Virtual v) =
@@ -66,9 +69,11 @@ abbrev pub operand_variable : Target → Function → Bool → Bound → Option 
 operand_variable t f has_tie (r, operands.Reg o) = register_variable t f has_tie r o o.loc
 operand_variable t f has_tie (r, o) = None
 
+-- the opcode ties a use to its definition
 abbrev pub has_tied_pair : Target → Instr → Bool
 has_tied_pair t i = list_any (λ b. passes is_tied b.0) (bound t i)
 
+-- the variables of an instruction's operands, in order
 abbrev pub operand_variables : Target → Function → Instr → List Variable
 operand_variables t f i = filter_map (operand_variable t f (has_tied_pair t i)) (bound t i)
 
@@ -76,6 +81,7 @@ operand_variables t f i = filter_map (operand_variable t f (has_tied_pair t i)) 
 abbrev pub copy_variable : Target → ℕ → List ℕ → Variable
 copy_variable t v ws = variable Copying v None (class_of_widths t ws)
 
+-- the number of a virtual register
 abbrev pub range_of : Loc → Option ℕ
 range_of (Virtual v) = Some v
 range_of (Fixed r) = None
@@ -86,12 +92,15 @@ copy_variables t f (operands.Reg d ∷ operands.Reg s ∷ os) =
     elim (range_of d.loc) [ None ↦ [] | Some v ↦ elim (range_of s.loc) [ None ↦ [] | Some w ↦ copy_variable t v (operand_widths t f d) ∷ [] ] ]
 copy_variables t f os = []
 
+-- IMPLICIT_DEF, stores to slots and reloads, which have no variables
 abbrev pub moves_alone : Effect → Bool
 moves_alone e = is_implicit_def e || spills_or_reloads e
 
+-- the variables of an instruction
 abbrev pub instr_variables : Target → Function → Instr → List Variable
 instr_variables t f i = cond (does is_copy t i) (copy_variables t f i.operands) (cond (does moves_alone t i) [] (operand_variables t f i))
 
+-- the classes are one, or both are absent
 abbrev pub same_class : Option ClassId → Option ClassId → Bool
 same_class None None = true
 same_class (Some c) (Some d) = nat_eq c.0 d.0
@@ -114,6 +123,7 @@ pub record Needs : Type 0 where
   pub exits : List Point
   pub copies : List Point
 
+-- the entries of these instructions, and the exits of all but the last
 abbrev pub entries_of : List Instr → List Point
 entries_of [] = []
 entries_of (i ∷ []) = Entry i.id ∷ []
@@ -127,6 +137,7 @@ place_of t f is = record { variables = each_once [] (flat_map (instr_variables t
 abbrev pub copy_place : List Variable → Point → Needs
 copy_place vs p = record { variables = vs; entries = []; exits = []; copies = p ∷ [] }
 
+-- the place of one instruction
 abbrev pub instr_place : Target → Function → Instr → Needs
 instr_place t f i = cond (does is_copy t i) (copy_place (instr_variables t f i) (Entry i.id)) (place_of t f (i ∷ []))
 
@@ -143,10 +154,12 @@ phi_point t f n = before_terminators t (Start n) (instrs_of f.blocks n)
 abbrev pub copied_at : Target → Function → Point → RegOp → Needs
 copied_at t f p o = copy_place (copy_variable t 0 (operand_widths t f o) ∷ []) p
 
+-- the copies for a phi's operands, each in its block
 abbrev pub phi_copies : Target → Function → List Operand → List Needs
 phi_copies t f (operands.Reg s ∷ operands.Block n ∷ os) = cond s.undef (phi_copies t f os) (copied_at t f (phi_point t f n) s ∷ phi_copies t f os)
 phi_copies t f os = []
 
+-- one of the operands is the definition's register
 abbrev pub defines_and_reads : RegOp → List RegOp → Bool
 defines_and_reads d os = list_any (λ o. same_loc d.loc o.loc) os
 
@@ -160,6 +173,7 @@ tied_copies t f i d u =
     cond (u.undef || not (is_virtual d.loc) || (same_loc d.loc u.loc && same_index d.index u.index)) []
     (copied_at t f (Entry i.id) d ∷ cond (defines_and_reads d (untied_readings (bound t i))) (copied_at t f (Exit i.id) d ∷ []) [])
 
+-- the copies that lowering makes of an instruction, by its effect
 abbrev pub effect_copies : Target → Function → Instr → List Operand → Effect → List Needs
 effect_copies t f i (operands.Reg d ∷ os) effects.Phi = phi_copies t f os ++ (copied_at t f (Entry i.id) d ∷ [])
 effect_copies t f i (operands.Reg d ∷ os) effects.RegSequence = input_copies t f (Entry i.id) d (registers os) (registers os)
@@ -185,6 +199,7 @@ places_at t f b j i = own_places t f b j i ++ lowering_places t f i
 abbrev pub AtEntry : Target → Function → Needs → ℕ → Type 0
 AtEntry t f p u = ((q : Point) × Among q p.entries × OccupiedAt t f q (UnitLane u)) ⊎ ((q : Point) × Among q p.copies × LiveAt t f q (UnitLane u))
 
+-- the unit is live or occupied at one of the exits
 abbrev pub AtExit : Target → Function → Needs → ℕ → Type 0
 AtExit t f p u = (q : Point) × Among q p.exits × OccupiedAt t f q (UnitLane u)
 
@@ -193,9 +208,11 @@ abbrev pub domain : Target → Option ClassId → List Reg
 domain t None = []
 domain t (Some c) = filter (is_unreserved t.reserved t.regs) (regs_of t c)
 
+-- the register holds a unit that the test tells
 abbrev pub holds_any : Target → (ℕ → Bool) → Reg → Bool
 holds_any t units r = list_any (λ u. units u.0) (units_of t r)
 
+-- the registers share a unit
 abbrev pub share_a_unit : Target → Reg → Reg → Bool
 share_a_unit t r q = list_any (is_among (units_of t r)) (units_of t q)
 
@@ -207,13 +224,14 @@ avoids_units t entry exit p = (not (reaches_back p.0.kind) || not (holds_any t e
 abbrev pub must_be_apart : Kind → Kind → Bool
 must_be_apart a b = beq (is_defining a) (is_defining b) || (reaches_back a && reaches_back b)
 
+-- those that must be apart share no unit, pair by pair
 abbrev pub all_apart : Target → List (Variable × Reg) → Bool
 all_apart t [] = true
 all_apart t (p ∷ ps) = list_all (λ q. not (must_be_apart p.0.kind q.0.kind && share_a_unit t p.1 q.1)) ps && all_apart t ps
 
 -- the choice gives each variable a register that serves
 abbrev pub serves : Target → (ℕ → Bool) → (ℕ → Bool) → List Variable → List Reg → Bool
-serves t entry exit vs rs = list_all (avoids_units t entry exit) (zip vs rs) && all_apart t (zip vs rs)
+serves t entry exit vs rs = all_apart t (zip vs rs) && list_all (avoids_units t entry exit) (zip vs rs)
 
 -- all choices, one of each list, the first list's choice counting most in their order
 abbrev pub choices : List (List Reg) → List (List Reg)
@@ -240,6 +258,7 @@ pub record StandsAt (t : Target) (f : Function) (k j : ℕ) (p : Needs) : Type 0
   pub is_instr : slice_get block.instrs j ≡ Some instr
   pub is_place : Among p (places_at t f block j instr)
 
+-- instruction j of block k stands before instruction i of block l
 abbrev pub Earlier : ℕ → ℕ → ℕ → ℕ → Type 0
 Earlier k j l i = (k < l) ⊎ ((k ≡ l) × (j < i))
 

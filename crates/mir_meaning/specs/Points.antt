@@ -39,6 +39,7 @@ points_of t f = blocks_code (point_item t f) t f f.blocks
 abbrev pub block_rest : Target → Function → Block → List Block → ℕ → Code
 block_rest t f b after k = map (point_item t f b) (drop k b.instrs) ++ (block_end t f b after ∷ blocks_code (point_item t f) t f after)
 
+-- an instruction of the block has the id
 abbrev pub has_instr : ℕ → Block → Bool
 has_instr id b = nat_lt (instr_place id b.instrs) (length b.instrs)
 
@@ -86,6 +87,7 @@ UnitClash t f v r u = (p : Point) × HeldIn t f v r p u × OccupiedAt t f p (Uni
 abbrev pub block_points : Block → List Point
 block_points b = Start b.number ∷ flat_map (λ i. Entry i.id ∷ Exit i.id ∷ []) b.instrs
 
+-- all points of a function in layout
 abbrev pub all_points : Function → List Point
 all_points f = flat_map block_points f.blocks
 
@@ -97,6 +99,7 @@ Tests {X} P test = (x : X) → Decides (test x) (P x)
 abbrev pub PointCount : Target → Function → ℕ → ℕ → Type 0
 PointCount t f v n = (test : Point → Bool) × Tests (RangePoint t f v) test × (n ≡ count_by test (all_points f))
 
+-- the location is that virtual register
 abbrev pub is_range : ℕ → Loc → Bool
 is_range v (Virtual w) = nat_eq v w
 is_range v (Fixed r) = false
@@ -109,6 +112,7 @@ counts o = o.def || not o.undef
 abbrev pub touches : ℕ → Instr → Bool
 touches v i = list_any (λ o. is_range v o.loc && counts o) (registers i.operands)
 
+-- no instruction of these blocks is a phi
 abbrev pub has_no_phis : Target → List Block → Bool
 has_no_phis t bs = list_all (λ b. list_all (λ i. not (does is_phi t i)) b.instrs) bs
 

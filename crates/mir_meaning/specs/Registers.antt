@@ -24,6 +24,7 @@ abbrev pub numbers : ℕ → ℕ → List ℕ
 numbers n zero = []
 numbers n (suc k) = n ∷ numbers (suc n) k
 
+-- the number is in the list
 abbrev pub has_number : List ℕ → ℕ → Bool
 has_number ns n = list_any (nat_eq n) ns
 
@@ -35,6 +36,7 @@ range_widths t f v = widths_of_some t (class_of f v)
 abbrev pub range_lanes : Target → Function → ℕ → List Lane
 range_lanes t f v = map (VirtualLane v) (numbers 0 (length (range_widths t f v)))
 
+-- units as lanes, in order
 abbrev pub unit_lanes : List UnitNumber → List Lane
 unit_lanes us = map (λ u. UnitLane u.0) us
 
@@ -44,14 +46,17 @@ located_lanes t f (Virtual v) None = range_lanes t f v
 located_lanes t f (Virtual v) (Some x) = map (VirtualLane v) (lanes_of t x)
 located_lanes t f (Fixed r) x = unit_lanes (units_of t r)
 
+-- the widths of those lanes
 abbrev pub located_widths : Target → Function → Loc → Option IndexId → List ℕ
 located_widths t f (Virtual v) None = range_widths t f v
 located_widths t f (Virtual v) (Some x) = map (slice_index (range_widths t f v)) (lanes_of t x)
 located_widths t f (Fixed r) x = widths t.units (units_of t r)
 
+-- the lanes of a register operand
 abbrev pub operand_lanes : Target → Function → RegOp → List Lane
 operand_lanes t f o = located_lanes t f o.loc o.index
 
+-- the lane widths of a register operand
 abbrev pub operand_widths : Target → Function → RegOp → List ℕ
 operand_widths t f o = located_widths t f o.loc o.index
 
@@ -59,6 +64,7 @@ operand_widths t f o = located_widths t f o.loc o.index
 abbrev pub use_sources : Target → Function → RegOp → List Source
 use_sources t f o = map (cond o.undef (λ l. Undef) FromLane) (operand_lanes t f o)
 
+-- all lanes of a virtual register; of a physical one none
 abbrev pub whole_lanes : Target → Function → Loc → List Lane
 whole_lanes t f (Virtual v) = range_lanes t f v
 whole_lanes t f (Fixed r) = []
@@ -78,6 +84,7 @@ slot_lanes s [] ws = []
 slot_lanes s (k ∷ ks) [] = []
 slot_lanes s (k ∷ ks) (w ∷ ws) = SlotLane s k w ∷ slot_lanes s ks ws
 
+-- the unit, by its number, is reserved
 abbrev pub is_reserved_unit : Target → ℕ → Bool
 is_reserved_unit t u = is_among t.reserved (unit_number u)
 

@@ -35,66 +35,41 @@ use Rattle.mir_meaning.specs.Codes.{falls_through, fallen_into}
 
 -- what operands are
 
+-- the location is a virtual register
 abbrev pub is_virtual : Loc → Bool
 is_virtual (Virtual v) = true
 is_virtual (Fixed r) = false
 
+-- an explicit definition
 abbrev pub is_definition : RegOp → Bool
 is_definition o = o.def && not o.implicit
 
+-- an explicit use
 abbrev pub is_use : RegOp → Bool
 is_use o = not o.def && not o.implicit
 
-abbrev pub is_immediate : Operand → Bool
-is_immediate (operands.Imm z) = true
-is_immediate _ = false
-
-abbrev pub is_index : Operand → Bool
-is_index (operands.Index x) = true
-is_index _ = false
-
-abbrev pub is_symbol : Operand → Bool
-is_symbol (operands.Symbol name) = true
-is_symbol _ = false
-
-abbrev pub is_block : Operand → Bool
-is_block (operands.Block n) = true
-is_block _ = false
-
-abbrev pub is_mask : Operand → Bool
-is_mask (operands.Mask k) = true
-is_mask _ = false
-
-abbrev pub is_stack : Operand → Bool
-is_stack (operands.Stack n) = true
-is_stack _ = false
-
-abbrev pub is_frame_object : Operand → Bool
-is_frame_object (operands.FixedStack n) = true
-is_frame_object o = is_stack o
-
-abbrev pub is_register : (RegOp → Bool) → Operand → Bool
-is_register test (operands.Reg o) = test o
-is_register test _ = false
-
 -- the operand is of the kind that the role asks for
 abbrev pub fits_role : Role → Operand → Bool
-fits_role (roles.Def k) o = is_register is_definition o
-fits_role (roles.Early k) o = is_register is_definition o
-fits_role (roles.Read k) o = is_register is_use o
-fits_role (roles.Tied k) o = is_register is_use o
-fits_role roles.Imm o = is_immediate o
-fits_role roles.Target o = is_block o
-fits_role roles.Slot o = is_stack o
-fits_role roles.Lanes o = is_immediate o || is_index o
-fits_role roles.Sym o = is_symbol o
-fits_role roles.Frame o = is_frame_object o
-fits_role (roles.Address k) o = is_register is_use o || is_frame_object o || is_symbol o
-fits_role roles.Mask o = is_mask o
-fits_role roles.Any o = is_register is_use o
-fits_role roles.Rest o = is_register (λ r. is_use r && not (is_virtual r.loc)) o
-fits_role (roles.ImpDef r) o = false
-fits_role (roles.ImpRead r) o = false
+fits_role (roles.Def k) (operands.Reg o) = is_definition o
+fits_role (roles.Early k) (operands.Reg o) = is_definition o
+fits_role (roles.Read k) (operands.Reg o) = is_use o
+fits_role (roles.Tied k) (operands.Reg o) = is_use o
+fits_role roles.Imm (operands.Imm z) = true
+fits_role roles.Target (operands.Block n) = true
+fits_role roles.Slot (operands.Stack n) = true
+fits_role roles.Lanes (operands.Imm z) = true
+fits_role roles.Lanes (operands.Index x) = true
+fits_role roles.Sym (operands.Symbol name) = true
+fits_role roles.Frame (operands.Stack n) = true
+fits_role roles.Frame (operands.FixedStack n) = true
+fits_role (roles.Address k) (operands.Reg o) = is_use o
+fits_role (roles.Address k) (operands.Stack n) = true
+fits_role (roles.Address k) (operands.FixedStack n) = true
+fits_role (roles.Address k) (operands.Symbol name) = true
+fits_role roles.Mask (operands.Mask m) = true
+fits_role roles.Any (operands.Reg o) = is_use o
+fits_role roles.Rest (operands.Reg o) = is_use o && not (is_virtual o.loc)
+fits_role _ _ = false
 
 -- explicit operands meet the roles in number and kind
 abbrev pub explicit_fit : List Role → List Operand → Bool
@@ -107,6 +82,7 @@ abbrev pub implicit_last : List Operand → Bool
 implicit_last [] = true
 implicit_last (o ∷ os) = cond (is_implicit_operand o) (list_all is_implicit_operand os) (implicit_last os)
 
+-- the two implicit roles are one
 abbrev pub same_role : Role → Role → Bool
 same_role (roles.ImpDef a) (roles.ImpDef b) = a.0 == b.0
 same_role (roles.ImpRead a) (roles.ImpRead b) = a.0 == b.0
@@ -123,14 +99,17 @@ abbrev pub is_condition : ℤ → Bool
 is_condition (pos n) = has_number (2 ∷ 3 ∷ 4 ∷ 5 ∷ 12 ∷ 13 ∷ []) n
 is_condition (negsuc n) = false
 
+-- the immediate is 0
 abbrev pub is_zero : ℤ → Bool
 is_zero (pos n) = nat_eq n 0
 is_zero (negsuc n) = false
 
+-- there is a class, and the index fits it
 abbrev pub fits_class : Target → Option ClassId → Option IndexId → Bool
 fits_class t None x = false
 fits_class t (Some c) x = fits t c x
 
+-- the register has one class, which the index fits
 abbrev pub has_lanes_at : Target → Function → Loc → Option IndexId → Bool
 has_lanes_at t f (Virtual v) x = fits_class t (class_of f v) x
 has_lanes_at t f (Fixed r) x = true
@@ -145,50 +124,67 @@ lanes_fit t f (operands.Reg o ∷ s ∷ operands.Imm z ∷ os) = is_zero z
 lanes_fit t f (operands.Reg o ∷ s ∷ operands.Index x ∷ os) = not (has_lanes t f o) || length (lanes_of t x) == length (operand_widths t f o)
 lanes_fit t f os = true
 
+-- conditions and lanes of slots are among those that are allowed
 abbrev pub values_fit : Target → Function → Effect → List Operand → Bool
 values_fit t f effects.Jcc os = is_condition (immediate_of os)
 values_fit t f effects.Spill os = lanes_fit t f os
 values_fit t f effects.Reload os = lanes_fit t f os
 values_fit t f _ os = true
 
--- pairs of an explicit virtual use and an operand that passes the test
-abbrev pub are_pairs : (Operand → Bool) → List Operand → Bool
-are_pairs test [] = true
-are_pairs test (o ∷ []) = false
-are_pairs test (o ∷ p ∷ os) = is_register (λ r. is_use r && is_virtual r.loc) o && test p && are_pairs test os
+-- an explicit use of a virtual register
+abbrev pub is_virtual_use : RegOp → Bool
+is_virtual_use o = is_use o && is_virtual o.loc
 
 -- a virtual definition without an index
-abbrev pub is_whole_definition : Operand → Bool
-is_whole_definition o = is_register (λ r. is_definition r && is_virtual r.loc && is_none r.index) o
+abbrev pub is_whole_definition : RegOp → Bool
+is_whole_definition o = is_definition o && is_virtual o.loc && is_none o.index
 
-abbrev pub is_built_of : (List Operand → Bool) → List Operand → Bool
-is_built_of test [] = false
-is_built_of test (o ∷ os) = is_whole_definition o && test os
+-- a definition and a use
+abbrev pub copy_fits : List Operand → Bool
+copy_fits (operands.Reg d ∷ operands.Reg s ∷ []) = is_definition d && is_use s
+copy_fits _ = false
 
-abbrev pub is_copy_of_two : List Operand → Bool
-is_copy_of_two (d ∷ s ∷ []) = is_register is_definition d && is_register is_use s
-is_copy_of_two os = false
+-- a definition alone
+abbrev pub implicit_def_fits : List Operand → Bool
+implicit_def_fits (operands.Reg d ∷ []) = is_definition d
+implicit_def_fits _ = false
 
-abbrev pub is_definition_alone : List Operand → Bool
-is_definition_alone (d ∷ []) = is_register is_definition d
-is_definition_alone os = false
+-- pairs of a use and a block
+abbrev pub phi_pairs : List Operand → Bool
+phi_pairs [] = true
+phi_pairs (operands.Reg s ∷ operands.Block n ∷ os) = is_virtual_use s && phi_pairs os
+phi_pairs _ = false
 
-abbrev pub is_insertion : List Operand → Bool
-is_insertion (a ∷ b ∷ x ∷ []) = list_all (is_register (λ r. is_use r && is_virtual r.loc)) (a ∷ b ∷ []) && is_index x
-is_insertion os = false
+-- pairs of a use and an index
+abbrev pub index_pairs : List Operand → Bool
+index_pairs [] = true
+index_pairs (operands.Reg s ∷ operands.Index x ∷ os) = is_virtual_use s && index_pairs os
+index_pairs _ = false
 
+-- two uses and an index
+abbrev pub insertion : List Operand → Bool
+insertion (operands.Reg a ∷ operands.Reg b ∷ operands.Index x ∷ []) = is_virtual_use a && is_virtual_use b
+insertion _ = false
+
+-- the result of a phi, REG_SEQUENCE or INSERT_SUBREG, and the test of what follows it
+abbrev pub result_and : (List Operand → Bool) → List Operand → Bool
+result_and test (operands.Reg d ∷ os) = is_whole_definition d && test os
+result_and test _ = false
+
+-- operands fit the effect: the five opcodes of every target have shapes of their own, all others have roles
 abbrev pub operands_fit : Target → Function → OpcodeDesc → List Operand → Effect → Bool
-operands_fit t f d os effects.Copy = is_copy_of_two os
-operands_fit t f d os effects.ImplicitDef = is_definition_alone os
-operands_fit t f d os effects.Phi = is_built_of (are_pairs is_block) os
-operands_fit t f d os effects.RegSequence = is_built_of (are_pairs is_index) os
-operands_fit t f d os effects.InsertSubreg = is_built_of is_insertion os
+operands_fit t f d os effects.Copy = copy_fits os
+operands_fit t f d os effects.ImplicitDef = implicit_def_fits os
+operands_fit t f d os effects.Phi = result_and phi_pairs os
+operands_fit t f d os effects.RegSequence = result_and index_pairs os
+operands_fit t f d os effects.InsertSubreg = result_and insertion os
 operands_fit t f d os e = implicit_last os && explicit_fit (explicit_roles d.roles) (explicit_operands os) && implicit_fit d (implicit_registers os) && values_fit t f e os
 
 -- V1: operands fit the opcode's roles in number, kind and value. (Verifier: "Too few operands", "Explicit operand marked as def", "Missing implicit register".)
 unfoldable pub V1 : Target → Function → Instr → Bool
 V1 t f i = elim (known_opcode t i.op) [ None ↦ true | Some d ↦ operands_fit t f d i.operands d.effect ]
 
+-- the operands have equal lane widths, where the lanes of both are known
 abbrev pub same_widths : Target → Function → RegOp → RegOp → Bool
 same_widths t f a b = not (has_lanes t f a && has_lanes t f b) || same_numbers (operand_widths t f a) (operand_widths t f b)
 
@@ -197,18 +193,22 @@ abbrev pub lies_in : Target → ClassId → ClassId → Option IndexId → Bool
 lies_in t k c None = is_within (regs_of t c) (regs_of t k)
 lies_in t k c (Some x) = holds_subs t.regs (lanes_of t x) (regs_of t c) (regs_of t k)
 
+-- the same, where the class is known
 abbrev pub some_lies_in : Target → ClassId → Option ClassId → Option IndexId → Bool
 some_lies_in t k None x = true
 some_lies_in t k (Some c) x = lies_in t k c x
 
+-- the register, or each register of its class through the index, lies in class k
 abbrev pub register_lies_in : Target → Function → ClassId → Loc → Option IndexId → Bool
 register_lies_in t f k (Virtual v) x = some_lies_in t k (class_of f v) x
 register_lies_in t f k (Fixed r) x = holds_reg (regs_of t k) r
 
+-- the class that an operand's role asks for
 abbrev pub asked_of : Option Role → Option ClassId
 asked_of None = None
 asked_of (Some r) = asked_class r
 
+-- the register lies in the class that its role asks for, where its lanes are known
 abbrev pub in_operand_class : Target → Function → Bound → Bool
 in_operand_class t f (r, operands.Reg o) = elim (asked_of r) [ None ↦ true | Some k ↦ not (has_lanes t f o) || register_lies_in t f k o.loc o.index ]
 in_operand_class t f (r, o) = true
@@ -227,10 +227,12 @@ abbrev pub parts_fit : Target → Function → RegOp → List Operand → Bool
 parts_fit t f d (operands.Reg s ∷ operands.Index x ∷ os) = same_widths t f s (at_index d x) && parts_fit t f d os
 parts_fit t f d os = true
 
+-- an index operand, as a list
 abbrev pub index_of : Operand → List IndexId
 index_of (operands.Index x) = x ∷ []
 index_of _ = []
 
+-- the indexes share no lane
 abbrev pub are_apart : Target → List Operand → Bool
 are_apart t os = are_distinct_numbers (flat_map (lanes_of t) (flat_map index_of os))
 
@@ -246,6 +248,7 @@ widths_fit t f e os = true
 unfoldable pub V2 : Target → Function → Instr → Bool
 V2 t f i = list_all (in_operand_class t f) (bound t i) && elim (known_opcode t i.op) [ None ↦ true | Some d ↦ widths_fit t f d.effect i.operands ]
 
+-- a virtual register has just one class
 abbrev pub has_class : Function → Loc → Bool
 has_class f (Virtual v) = is_some (class_of f v)
 has_class f (Fixed r) = true
@@ -254,6 +257,7 @@ has_class f (Fixed r) = true
 unfoldable pub V3 : Function → Instr → Bool
 V3 f i = list_all (λ o. has_class f o.loc) (registers i.operands)
 
+-- the index fits the register's class, where that is known; physical registers have none
 abbrev pub index_fits : Target → Function → Loc → Option IndexId → Bool
 index_fits t f (Virtual v) x = elim (class_of f v) [ None ↦ true | Some c ↦ fits t c x ]
 index_fits t f (Fixed r) x = is_none x
@@ -263,6 +267,7 @@ abbrev pub subregs_fit : Target → Function → List Operand → Bool
 subregs_fit t f (operands.Reg d ∷ os) = list_all (λ x. index_fits t f d.loc (Some x)) (flat_map index_of os)
 subregs_fit t f os = true
 
+-- REG_SEQUENCE and INSERT_SUBREG
 abbrev pub puts_together : Effect → Bool
 puts_together e = is_reg_sequence e || is_insert_subreg e
 
@@ -270,12 +275,15 @@ puts_together e = is_reg_sequence e || is_insert_subreg e
 unfoldable pub V4 : Target → Function → Instr → Bool
 V4 t f i = list_all (λ o. index_fits t f o.loc o.index) (registers i.operands) && (not (does puts_together t i) || subregs_fit t f i.operands)
 
+-- the numbers of blocks, in order
 abbrev pub block_numbers : List Block → List ℕ
 block_numbers bs = map (λ b. b.number) bs
 
+-- the numbers of a block's successors
 abbrev pub successors_of : Block → List ℕ
 successors_of b = map (λ e. e.block) b.successors
 
+-- a block operand, as a list
 abbrev pub block_of : Operand → List ℕ
 block_of (operands.Block n) = n ∷ []
 block_of _ = []
@@ -304,6 +312,7 @@ lists_once ms ns = are_distinct_numbers ms && list_all (has_number ns) ms && lis
 abbrev pub phi_stands : Target → Function → ℕ → Block → ℕ → Instr → Bool
 phi_stands t f k b j i = list_all (does is_phi t) (take j b.instrs) && not (nat_eq k 0) && lists_once (named_blocks i) (predecessors f b.number)
 
+-- PHI, REG_SEQUENCE and INSERT_SUBREG
 abbrev pub is_lowered_away : Effect → Bool
 is_lowered_away e = is_phi e || puts_together e
 
@@ -316,9 +325,11 @@ V7 t forms.Allocated f k b j i = not (does is_lowered_away t i)
 unfoldable pub V8 : Target → Block → ℕ → Instr → Bool
 V8 t b j i = does is_terminator t i || not (list_any (does is_terminator t) (take j b.instrs))
 
+-- the blocks that branches name
 abbrev pub branch_targets : Target → List Instr → List ℕ
 branch_targets t is = flat_map named_blocks (filter (does is_branch t) is)
 
+-- the number, if there is one
 abbrev pub as_list : Option ℕ → List ℕ
 as_list None = []
 as_list (Some n) = n ∷ []
@@ -333,6 +344,7 @@ V9 t f k b =
 unfoldable pub V10 : Target → Function → ℕ → Block → Bool
 V10 t f k b = nat_lt (suc k) (length f.blocks) || not (falls_through t b.instrs)
 
+-- the tie, where one is written, is to operand 0
 abbrev pub is_tie : Option ℕ → Bool
 is_tie (Some k) = nat_eq k 0
 is_tie None = true
@@ -342,11 +354,13 @@ abbrev pub flags_fit : Bound → Bool
 flags_fit (r, operands.Reg o) = (not o.early || passes is_early r) && (is_none o.tie || (passes is_tied r && is_tie o.tie))
 flags_fit (r, o) = true
 
+-- the locations are one register
 abbrev pub same_loc : Loc → Loc → Bool
 same_loc (Virtual v) (Virtual w) = nat_eq v w
 same_loc (Fixed r) (Fixed q) = r.0 == q.0
 same_loc a b = false
 
+-- the indexes are one, or both are absent
 abbrev pub same_index : Option IndexId → Option IndexId → Bool
 same_index None None = true
 same_index (Some x) (Some y) = x.0 == y.0
@@ -365,9 +379,11 @@ V11 t form f i = list_all flags_fit (bound t i) && elim (tied_pair t i) [ None �
 abbrev pub clashing_lanes : Target → Function → RegOp → List Lane
 clashing_lanes t f o = cond (has_lanes t f o) (unreserved t (operand_lanes t f o)) []
 
+-- the lists have a lane in common
 abbrev pub share_a_lane : List Lane → List Lane → Bool
 share_a_lane ls ms = list_any (λ l. list_any (same_lane l) ms) ls
 
+-- no two of these lists have a lane in common
 abbrev pub no_two_share : List (List Lane) → Bool
 no_two_share [] = true
 no_two_share (ls ∷ rest) = not (list_any (share_a_lane ls) rest) && no_two_share rest
@@ -397,9 +413,11 @@ V12 t form f i =
     && no_two_share (map (clashing_lanes t f) (filter (λ o. o.def) (registers i.operands)))
     && list_all (early_fits t f (bound t i)) (bound t i)
 
+-- the frame object of that number is declared a spill slot
 abbrev pub is_spill_slot : Function → ℕ → Bool
 is_spill_slot f n = list_any (λ o. nat_eq o.0 n && o.1) f.frames
 
+-- a store to a slot or a reload
 abbrev pub spills_or_reloads : Effect → Bool
 spills_or_reloads e = is_spill e || is_reload e
 
@@ -418,6 +436,7 @@ unfoldable pub V15_frame : Form → Function → Bool
 V15_frame forms.Source f = not (list_any (λ o. o.1) f.frames)
 V15_frame forms.Allocated f = true
 
+-- the word stands somewhere in the text
 abbrev pub contains : List ℕ → List ℕ → Bool
 contains [] word = false
 contains (b ∷ bs) word = starts_with nat_eq (b ∷ bs) word || contains bs word

@@ -37,6 +37,7 @@ unfoldable pub block_fault : Target → Form → Function → ℕ → Block → 
 block_fault t form f k b = first_failing (
     (5, V5 f k b) ∷ (6, V6 f k b) ∷ (9, V9 t f k b) ∷ (10, V10 t f k b) ∷ (15, not (nat_eq k 0) || V15_frame form f) ∷ (16, V16 b) ∷ [])
 
+-- the lesser of two rules that fail, if any does
 abbrev pub least : Option ℕ → Option ℕ → Option ℕ
 least None r = r
 least (Some q) None = Some q
@@ -46,9 +47,11 @@ least (Some q) (Some r) = Some (cond (nat_lt r q) r q)
 abbrev pub Fault : Type 0
 Fault = Place × ℕ
 
+-- a fault at place j of a block
 abbrev pub fault_at : Block → ℕ → ℕ → Fault
 fault_at b j rule = (record { block = b.number; at = j }, rule)
 
+-- the first, or else the second
 abbrev pub first_of : {X : Type 0} → Option X → Option X → Option X
 first_of None y = y
 first_of (Some x) y = Some x
@@ -75,12 +78,15 @@ shape_fault t form f = blocks_fault t form f 0 f.blocks
 
 -- the cover of a set of units
 
+-- the register holds the unit
 abbrev pub holds_unit : Target → ℕ → Reg → Bool
 holds_unit t u r = is_among (units_of t r) (unit_number u)
 
+-- the target's registers in order
 abbrev pub all_registers : Target → List Reg
 all_registers t = map reg_number (numbers 0 (length t.regs))
 
+-- those without a reserved unit
 abbrev pub unreserved_registers : Target → List Reg
 unreserved_registers t = filter (is_unreserved t.reserved t.regs) (all_registers t)
 
@@ -90,6 +96,7 @@ chosen t live u =
     let holding = filter (holds_unit t u) (unreserved_registers t) in
     first_of (find (λ r. list_all (λ w. live w.0) (units_of t r)) holding) (find (λ r. true) holding)
 
+-- it is that register
 abbrev pub is_reg : Reg → Option Reg → Bool
 is_reg r None = false
 is_reg r (Some q) = nat_eq r.0 q.0
@@ -126,6 +133,7 @@ liveins_fit t forms.Allocated (suc k) b live = same_numbers (map (λ r. r.0) b.l
 abbrev pub V13 : Target → Form → Function → ℕ → Block → Type 0
 V13 t form f k b = (live : ℕ → Bool) × LiveInto t f b.number live × (liveins_fit t form k b live ≡ true)
 
+-- some instruction of the block names a virtual register
 abbrev pub names_virtual : Block → Bool
 names_virtual b = list_any (λ i. list_any (λ o. is_virtual o.loc) (registers i.operands)) b.instrs
 
@@ -154,3 +162,7 @@ pub data LiveFault (t : Target) (form : Form) (f : Function) : Fault → Type 0 
 pub data FirstFault (t : Target) (form : Form) (f : Function) (fault : Fault) : Type 0 where
   of_shape : shape_fault t form f ≡ Some fault → FirstFault t form f fault
   of_liveness : shape_fault t form f ≡ None → LiveFault t form f fault → FirstFault t form f fault
+
+-- a function that is valid has no fault, and any other has no two first faults
+abbrev pub LawOfFaults : Type 0
+LawOfFaults = (t : Target) (form : Form) (f : Function) (x y : Fault) → FirstFault t form f x → (IsValid t form f → ⊥) × (FirstFault t form f y → x ≡ y)
