@@ -13,7 +13,7 @@ use Rattle.meaning.specs.declared.types.Row.{Row}
 use Rattle.meaning.specs.declared.types.Row.TheVariants.{BothCounted, BothEnd, BothStart, FirstSilent, SecondSilent}
 use Rattle.meaning.specs.declared.types.Ways.{Ways}
 use Rattle.laws.proofs.Agreeing.{Agrees, agrees-both, agrees-first, agrees-second, alike-operands, narrowed}
-use Rattle.laws.proofs.Following.{IfDefined, never, told-onward}
+use Rattle.laws.proofs.Following.{IfDefined, never, extended-does-more}
 use Rattle.laws.proofs.Monotone.{monotone}
 use Rattle.laws.proofs.Refines.{does-refl}
 use Rattle.laws.specs.Monotone.{OutsideAtLeast, PerformedAtLeast}
@@ -118,7 +118,7 @@ module _ (env : Environment) (K : Plan) (all : List Row) (coupled_all : (n : ℕ
       let s = written env d.results ws state in
       let s' = written env d'.results ws' state' in
       let agrees' : PerformedAtLeast d d' → Agrees env R' s s' = λ x. agrees-both env R state state' agrees d.results d'.results x.results ws ws' in
-      told-onward d d' (monotone r env o o' vs us l (alike-operands env R state state' agrees reads reads' c.0))
+      extended-does-more d d' (monotone r env o o' vs us l (alike-operands env R state state' agrees reads reads' c.0))
       (next (first_of_rows rows) s d.outside) (next (target_place (first_of_rows all) (first_target target)) (entered env (first_target target) s) d.outside)
       (next' (second_of_rows rows) s' d'.outside) (next' (target_place (second_of_rows all) (second_target target)) (entered env (second_target target) s') d'.outside)
       (λ x. follows rows R' c.3 s s' d.outside d'.outside x.outside (agrees' x))

@@ -5,7 +5,6 @@ use Rattle.meaning.specs.Code.{BlockEnd, BlockStart, Counted, Function, Silent, 
 use Rattle.meaning.specs.Environment.{Environment}
 use Rattle.meaning.specs.Lanes.{Reads, Writes, settled, through}
 use Rattle.meaning.specs.Live.{here, there}
-use Rattle.meaning.specs.Matched.{first, second}
 use Rattle.meaning.specs.Refines.{Refines}
 use Rattle.meaning.specs.Relations.{AlikeFill, AlikeOperands, AlikeReads, Everything, Rel, Within, after_both, after_first, after_second}
 use Rattle.meaning.specs.Rows.{first_edge, first_edges, first_falls, first_of_rows, first_target, second_edge, second_edges, second_falls, second_of_rows, second_target}

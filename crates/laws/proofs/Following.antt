@@ -23,15 +23,15 @@ events-append [] (f ∷ fs) es' fs' h k = absurd h
 events-append (e ∷ es) [] es' fs' h k = absurd h
 events-append (e ∷ es) (f ∷ fs) es' fs' h k = (h.0, events-append es fs es' fs' h.1 k)
 
--- a deed and what comes after it
+-- what an instruction did, and what comes after it
 module _ (d d' : Performed) (leads : IsFine d → PerformedAtLeast d d') where
-  onward-does : (w : Control) (a b a' b' : Run) → IfDefined a a' → IfDefined b b' → IfDefined (continued w a b) (continued w a' b')
-  onward-does Next a b a' b' h k x = h x
-  onward-does Taken a b a' b' h k x = k x
-  onward-does (Stop e) a b a' b' h k x = does-refl (ended e) x
+  continued-does : (w : Control) (a b a' b' : Run) → IfDefined a a' → IfDefined b b' → IfDefined (continued w a b) (continued w a' b')
+  continued-does Next a b a' b' h k x = h x
+  continued-does Taken a b a' b' h k x = k x
+  continued-does (Stop e) a b a' b' h k x = does-refl (ended e) x
 
-  told-does : (r s : Run) → SameEvents d.events d'.events → d'.divisor_defined ≡ true → IfDefined r s → IfDefined (extended d r) (extended d' s)
-  told-does r s e t h x =
+  extended-does : (r s : Run) → SameEvents d.events d'.events → d'.divisor_defined ≡ true → IfDefined r s → IfDefined (extended d r) (extended d' s)
+  extended-does r s e t h x =
       let y = h (x.0, (both-true d.divisor_defined r.divisors_defined x.1).1) in
       record {
         defined = (y.defined.0, ap (λ b. b && s.divisors_defined) t ∙ y.defined.1);
@@ -42,7 +42,7 @@ module _ (d d' : Performed) (leads : IsFine d → PerformedAtLeast d d') where
   fine : (a b : Run) → IsDefined (extended d (continued d.control a b)) → IsFine d
   fine a b x = ((λ e. x.0 (ap (λ w. (continued w a b).end) e)), (both-true d.divisor_defined (continued d.control a b).divisors_defined x.1).0)
 
-  pub told-onward : (a b a' b' : Run) → (PerformedAtLeast d d' → IfDefined a a') → (PerformedAtLeast d d' → IfDefined b b') → IfDefined (extended d (continued d.control a b)) (extended d' (continued d'.control a' b'))
-  told-onward a b a' b' h k x =
+  pub extended-does-more : (a b a' b' : Run) → (PerformedAtLeast d d' → IfDefined a a') → (PerformedAtLeast d d' → IfDefined b b') → IfDefined (extended d (continued d.control a b)) (extended d' (continued d'.control a' b'))
+  extended-does-more a b a' b' h k x =
       let l = leads (fine a b x) in
-      subst (λ w. Does (extended d (continued d.control a b)) (extended d' (continued w a' b'))) (sym l.control) (told-does (continued d.control a b) (continued d.control a' b') l.events l.divisor_defined (onward-does d.control a b a' b' (h l) (k l)) x)
+      subst (λ w. Does (extended d (continued d.control a b)) (extended d' (continued w a' b'))) (sym l.control) (extended-does (continued d.control a b) (continued d.control a' b') l.events l.divisor_defined (continued-does d.control a b a' b' (h l) (k l)) x)

@@ -20,3 +20,6 @@ pub mod Least
 pub mod Steppings
 pub mod Terminators
 pub mod Tables
+pub mod SecondLive
+pub mod Bits
+pub mod BlockEnds

@@ -3,7 +3,6 @@ use Rattle.std.proofs.Common.{◌≡◌, ◌∷◌, ◌∙◌, Bool, true, false
 use Rattle.std.proofs.lemmas.Bool.{eqb-true}
 use Rattle.meaning.specs.Code.{BlockEnd, BlockStart, Code, Counted, Edge, Item, Silent}
 use Rattle.meaning.specs.Lanes.{Reads, Writes}
-use Rattle.meaning.specs.Matched.{first, second}
 use Rattle.meaning.specs.Pairing.{before, meet, pair_edge, pair_edges, pair_falls, pair_item, pair_target, paired, pairing, rest_rows}
 use Rattle.meaning.specs.Rows.{first_edge, first_edges, first_falls, first_of_rows, first_target, second_edge, second_edges, second_falls, second_of_rows, second_target}
 use Rattle.meaning.specs.Sameness.{same_rest}

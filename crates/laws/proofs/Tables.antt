@@ -2,7 +2,7 @@
 use Rattle.std.proofs.Common.{◌≡◌, ◌∷◌, ◌&&◌, ◌||◌, ◌⊎◌, ⊎_elim, ◌∙◌, ℕ, suc, Bool, true, false, cond, eqb, List, refl, sym, ap, subst, inl, inr, length, []}
 use Rattle.meaning.specs.Code.{Code, Edge, Item, found}
 use Rattle.meaning.specs.Lanes.{Reads, Writes, filled, same_lane}
-use Rattle.meaning.specs.Live.{Among, Live, exits_of, here, in_order, is_slot, kept, leap, next, phi, read, reads_of, store, there, writes_of}
+use Rattle.meaning.specs.Live.{Among, Live, exits_of, here, in_order, is_slot, reads_of, there, writes_of}
 use Rattle.meaning.specs.declared.types.Fill.{Fill}
 use Rattle.meaning.specs.declared.types.Fill.TheVariants.{Moved}
 use Rattle.meaning.specs.declared.types.Lane.{Lane}

@@ -5,7 +5,6 @@ use Rattle.meaning.specs.InStep.{Agree, AtStarts, ExitsHold, Holds, Known, Passe
 use Rattle.meaning.specs.Lanes.{Homes, Reads, Writes, filled, placed, placed_fill, settled, through}
 use Rattle.meaning.specs.Layout.{NoPhisAlong, NoPhisInto}
 use Rattle.meaning.specs.Live.{Among, Kept, KeptAfter, here, there}
-use Rattle.meaning.specs.Matched.{first, second}
 use Rattle.meaning.specs.Perform.{width}
 use Rattle.meaning.specs.Relations.{AlikeFill, AlikeOperands, AlikeReads, Rel, after_both, along}
 use Rattle.meaning.specs.Rows.{first_of_rows, second_of_rows}

@@ -5,7 +5,6 @@ use Rattle.meaning.specs.InStep.{AtStarts, Graph, Passes}
 use Rattle.meaning.specs.Lanes.{Homes, Reads, Writes, filled, placed, placed_fill, same_lane, settled, through}
 use Rattle.meaning.specs.Live.{Among, KeptAfter, here, there}
 use Rattle.meaning.specs.Perform.{width}
-use Rattle.meaning.specs.State.{fill}
 use Rattle.meaning.specs.declared.types.Fill.{Fill}
 use Rattle.meaning.specs.declared.types.Fill.TheVariants.{Computed, Moved}
 use Rattle.meaning.specs.declared.types.Lane.{Lane}

@@ -7,6 +7,7 @@ ghost use Rattle.meaning.specs.Fold.{LawOfFolds};
 ghost use Rattle.meaning.specs.Clash.{LawOfRewriting};
 ghost use Rattle.meaning.specs.Agree.{AgreementRefines, RowsRefine};
 ghost use Rattle.laws.specs.Preorder.{RefinesItself, RefinementComposes};
+ghost use Rattle.laws.specs.Constants.{SourcesHaveTheirBits};
 ghost use Rattle.laws.specs.Monotone.{PerformIsMonotone};
 
 /// Codes in step, place by place, refine.
@@ -52,4 +53,9 @@ pub fn refinement_composes()
 /// An operation does at least as much where more of its values are defined.
 pub fn monotone_law()
     ensures { PerformIsMonotone }
+{}
+
+/// The source of some bits of a constant has these bits.
+pub fn constants_law()
+    ensures { SourcesHaveTheirBits }
 {}

@@ -1,6 +1,7 @@
 -- The runs are computed.
 use Rattle.std.proofs.Common.{refl}
 use Rattle.meaning.specs.Perform.{perform}
+use Rattle.laws_tests.specs.Operations.{OperationsGive}
 use Rattle.laws_tests.specs.Runs.{AddsToItself, ZeroTraps, UndefinedDivisor, HalfUndefined, PhisSwap, CopiesAtOnce, SlotsKeepTheirWidth, CallsAnswer, ConditionsHold}
 
 pub adds : AddsToItself
@@ -38,3 +39,7 @@ answers = refl
 pub conditions : ConditionsHold
 unfolding perform
 conditions = (refl, refl, refl, refl, refl, refl, refl)
+
+pub operations : OperationsGive
+unfolding perform
+operations = refl

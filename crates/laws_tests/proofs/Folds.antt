@@ -21,7 +21,7 @@ use Rattle.laws.specs.Tables.{LiveTable, code_listed, lists}
 use Rattle.laws_tests.specs.Codes.{beside_sp, both_joined, both_read, chain, folded_chain, goes_to_sp, joins, one_to_two, over_sp, phi_read, reads_another, reads_eax, reads_sp, reserves_sp, sp, stays, takes_sp, unreserved}
 use Rattle.laws_tests.specs.Premises.{Fixes, FixesMatters, FoldsACopy, LayoutMatters, NoPhisMatters, NothingElse, OnlyMatters, QuietMatters, StartsEqual, StartsMatter, falls_joined, falls_unlisted, given_eax, not_given}
 use Rattle.laws_tests.specs.Refuted.{DoesNotRefine}
-use Rattle.laws_tests.specs.Samples.{block, from, function, given_none, move, nothing, number, reg, ret, write}
+use Rattle.laws_tests.specs.Samples.{from, function, given_none, move, nothing, number, reg, ret, write}
 use Rattle.meaning.specs.Fold as fold
 
 none-start : (env : Environment) (l : Lane) → start_state env given_none l ≡ None

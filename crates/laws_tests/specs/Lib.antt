@@ -4,3 +4,4 @@ pub mod Refuted
 pub mod Codes
 pub mod Premises
 pub mod Liveness
+pub mod Operations

@@ -2,6 +2,10 @@
 #![tactic(auto)]
 
 ghost use Rattle.laws_tests.specs.Runs.{AddsToItself, ZeroTraps, UndefinedDivisor, HalfUndefined, PhisSwap, CopiesAtOnce, SlotsKeepTheirWidth, CallsAnswer, ConditionsHold};
+ghost use Rattle.laws_tests.specs.Refuted.{LanesStay, EventsStay, EndsStay, CountsStay, DivisorsStay, UndefinedAsksNothing};
+ghost use Rattle.laws_tests.specs.Premises.{FoldsACopy, QuietMatters, FixesMatters, OnlyMatters, LayoutMatters, NoPhisMatters, StartsMatter, SpillsInStep, StepsFromAnotherStart, AgreesOverALoop, FineMatters};
+ghost use Rattle.laws_tests.specs.Liveness.{IdleCopies, ReadCopies, StoresAreRead};
+ghost use Rattle.laws_tests.specs.Operations.{OperationsGive};
 
 /// What small functions do, run by the definitions.
 pub fn runs()
@@ -14,9 +18,8 @@ pub fn runs()
     ensures slots_keep_their_width { SlotsKeepTheirWidth }
     ensures calls_answer { CallsAnswer }
     ensures conditions_hold { ConditionsHold }
+    ensures operations_give { OperationsGive }
 {}
-
-ghost use Rattle.laws_tests.specs.Refuted.{LanesStay, EventsStay, EndsStay, CountsStay, DivisorsStay, UndefinedAsksNothing};
 
 /// What refinement asks, and what it doesn't: pairs that differ in one thing.
 pub fn refinement()
@@ -27,9 +30,6 @@ pub fn refinement()
     ensures divisors_stay { DivisorsStay }
     ensures undefined_asks_nothing { UndefinedAsksNothing }
 {}
-
-ghost use Rattle.laws_tests.specs.Premises.{FoldsACopy, QuietMatters, FixesMatters, OnlyMatters, LayoutMatters, NoPhisMatters, StartsMatter, SpillsInStep, StepsFromAnotherStart, AgreesOverALoop, FineMatters};
-ghost use Rattle.laws_tests.specs.Liveness.{IdleCopies, ReadCopies, StoresAreRead};
 
 /// The law of folds speaks of something, and needs each of its premises.
 pub fn folding()

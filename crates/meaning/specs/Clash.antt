@@ -1,5 +1,5 @@
 -- A choice of registers without clashes, as a map of lanes.
-use Rattle.std.specs.Prelude.{◌≡◌, Bool, true, List, [], ◌∷◌}
+use Rattle.std.specs.Prelude.{◌≡◌, Bool, true, [], ◌∷◌}
 use Rattle.meaning.specs.declared.types.Lane.{Lane}
 use Rattle.meaning.specs.Code.{Item, Code, Function}
 use Rattle.meaning.specs.Refines.{Refines}

@@ -3,6 +3,7 @@
 
 mod body;
 pub mod doc;
+pub mod first;
 mod keys;
 mod lexer;
 mod names;
@@ -11,8 +12,10 @@ pub mod print;
 mod raw;
 pub mod reader;
 mod resolve;
+mod source;
 mod stop;
 
 pub use doc::{Doc, TextFault, TextKind, TextStop};
+pub use first::read_first;
 pub use print::print_doc;
 pub use reader::read_leniently;

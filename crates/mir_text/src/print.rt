@@ -45,7 +45,7 @@ fn put_named(out: &mut Bytes, prefix: &str, name: &[u8]) -> Result<(), AllocErro
 }
 
 /// The name of a register, or nothing where the target doesn't have it.
-fn reg_name(target: &Target, r: Reg) -> &[u8]
+pub(crate) fn reg_name(target: &Target, r: Reg) -> &[u8]
     ensures { result.now ≡ reg_name target.now r }
 {
     match target.regs.as_slice().get(r.0 as usize) {
@@ -63,7 +63,7 @@ fn index_name(target: &Target, i: IndexId) -> &[u8]
     }
 }
 
-fn class_name(target: &Target, c: ClassId) -> &[u8]
+pub(crate) fn class_name(target: &Target, c: ClassId) -> &[u8]
     ensures { result.now ≡ class_name target.now c }
 {
     match target.classes.as_slice().get(c.0 as usize) {
@@ -81,7 +81,7 @@ fn mask_name(target: &Target, m: MaskId) -> &[u8]
     }
 }
 
-fn op_name<'a>(target: &'a Target, op: &'a Op) -> &'a [u8]
+pub(crate) fn op_name<'a>(target: &'a Target, op: &'a Op) -> &'a [u8]
     ensures { result.now ≡ op_name target.now op.now }
 {
     match op {
@@ -549,6 +549,15 @@ fn put_function(out: &mut Bytes, target: &Target, f: &Func) -> Result<(), AllocE
         &mut left,
         f.blocks.as_slice(),
     )
+}
+
+/// The printed spelling of a document of the function alone.
+pub(crate) fn print_func(alloc: Global, target: &Target, f: &Func) -> Result<Bytes, AllocError>
+    ensures { IfOk result (λ text. text ≡ print_function target.now f.now) }
+{
+    let mut out = List::new(alloc);
+    put_function(&mut out, target, f)?;
+    Ok(out)
 }
 
 /// The one printed spelling of a document. An IR document and the rest of a file are printed byte

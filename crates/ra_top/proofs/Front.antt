@@ -1,5 +1,5 @@
 -- What is read, piece by piece.
-use Rattle.std.proofs.Common.{◌≡◌, ℕ, ◌<◌, ◌≤◌, ◌+◌, List, ◌++◌, length, take, drop, Option, Some, None, refl, ap, sym, ◌∙◌, subst, arith, length-drop}
+use Rattle.std.proofs.Common.{◌≡◌, ℕ, ◌<◌, ◌≤◌, ◌+◌, List, ◌++◌, length, take, drop, Option, Some, None, refl, ap, sym, ◌∙◌, subst, arith, length-drop, length-take}
 use Rattle.std.specs.Prelude.{IfSome}
 use Rattle.std.proofs.lemmas.List.{drop-drop, take_all}
 use Rattle.ra_top.specs.Device.{Takes}
@@ -36,3 +36,10 @@ HasFront-end (Some all) cur new bytes piece len most room below f t =
     let taken = front_takes all cur new bytes piece len 0 f t in
     let past : length all ≤ len = omega (arith, ap length (taken.end refl room), length-drop len all) in
     f.0 ∙ take_all len all past ∙ sym (take_all most all (omega arith))
+
+-- a file of which no more than the most was read was read whole
+pub read_whole : (file : Option (List ℕ)) (P : List ℕ → Type 0) (read : List ℕ) (most : ℕ) → IfSome file (λ all. read ≡ take (most + 1) all) → length read ≤ most → P read → IfSome file P
+read_whole None P read most e h p = tt
+read_whole (Some all) P read most e h p =
+    let short : length all ≤ most + 1 = omega (arith, ap length e, length-take (most + 1) all) in
+    subst P (e ∙ take_all (most + 1) all short) p

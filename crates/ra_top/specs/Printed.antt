@@ -1,24 +1,34 @@
 -- What is written of a file.
-use Rattle.std.specs.Prelude.{◌≡◌, ℕ, ◌⊎◌, List, [], Option}
+use Rattle.std.specs.Prelude.{◌≡◌, ℕ, ◌⊎◌, List, Option, IfSome}
 use Rattle.target_base.specs.Mini.{mini_target}
 use Rattle.mir_func.specs.Value.{Function}
-use Rattle.mir_text.specs.declared.doc.Doc.{Doc}
-use Rattle.mir_text.specs.declared.doc.Doc.TheVariants as docs
-use Rattle.mir_text.specs.Print.{print_doc}
+use Rattle.mir_text.specs.First.{IsFirstForm, IsPrinted}
 use Rattle.ra_top.specs.Device.{Rose, WritesPart, WritesAll}
 
--- a text is the printed spelling of some function of the built-in target
-pub record IsPrinted (text : List ℕ) : Type 0 where
+-- a file is the printed spelling of a function of the first form
+pub record IsFirstFile (bytes : List ℕ) : Type 0 where
   pub func : Function
-  pub is : text ≡ print_doc mini_target (docs.Function [] func)
+  pub form : IsFirstForm mini_target func
+  pub printed : IsPrinted mini_target func bytes
 
--- the whole text of a function was written
-abbrev pub WritesPrinted : Option (List ℕ) → Option (List ℕ) → Type 0
-WritesPrinted old new = (text : List ℕ) × IsPrinted text × WritesAll old new text
+-- a text is the printed spelling of some function of the built-in target
+pub record IsFunctionText (text : List ℕ) : Type 0 where
+  pub func : Function
+  pub printed : IsPrinted mini_target func text
 
--- a first part of the text of a function was written
-abbrev pub WritesPartPrinted : Option (List ℕ) → Option (List ℕ) → Type 0
-WritesPartPrinted old new = (text : List ℕ) × IsPrinted text × WritesPart old new text
+-- the file, where its bytes are told, is a first file, and the whole text of a function was written
+pub record Allocates (file old new : Option (List ℕ)) : Type 0 where
+  pub source : IfSome file IsFirstFile
+  pub text : List ℕ
+  pub is : IsFunctionText text
+  pub written : WritesAll old new text
+
+-- the same, and a first part of the text was written
+pub record AllocatesPart (file old new : Option (List ℕ)) : Type 0 where
+  pub source : IfSome file IsFirstFile
+  pub text : List ℕ
+  pub is : IsFunctionText text
+  pub written : WritesPart old new text
 
 -- a line was written, and without a fault all of it
 pub record IsTold (old_faults new_faults : ℕ) (old new : Option (List ℕ)) (line : List ℕ) : Type 0 where

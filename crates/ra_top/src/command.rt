@@ -3,12 +3,12 @@
 ghost use Rattle.std.specs.Prelude.{◌≡◌, ◌++◌, ℕ, List, None, IfOk, IfSome, IfNone, codes};
 ghost use Rattle.target_base.specs.Mini.{mini_target};
 ghost use Rattle.ra_top.specs.Device.{Rose, WritesPart, WritesAll};
-ghost use Rattle.ra_top.specs.Printed.{IsPrinted, WritesPrinted, WritesPartPrinted, IsTold};
+ghost use Rattle.ra_top.specs.Printed.{IsFirstFile, IsFunctionText, Allocates, AllocatesPart, IsTold};
 ghost use Rattle.ra_top.specs.Status.{line_of};
 ghost use Rattle.ra_top.specs.Words.{file_of, name_of};
 
 use crate::device::{Files, Sink};
-use crate::moves::{ReadStop, read_left, write_all};
+use crate::moves::{ReadStop, read_file, write_all};
 use crate::status::{Status, write_line};
 use crate::words::file_word;
 use mir_func::Func;
@@ -17,7 +17,7 @@ use spill_all::spilled_all;
 use std::alloc::{AllocError, Global};
 use target_base::{Bytes, Target, mini};
 
-/// The most bytes of a file.
+/// The most bytes of a first file. One more is read, where there is one.
 const MOST: u32 = 4_194_304;
 
 /// Does all that the program does: reads its words, which are those after its name, the file that
@@ -38,9 +38,9 @@ pub fn top<F: Files, O: Sink, E: Sink>(
     ensures contents { (n : List ℕ) → F.contents files.new n ≡ F.contents files.old n }
 
     // What each status says of the faults and of the output.
-    ensures done { result ≡ Status.Done → (F.faults files.new ≡ F.faults files.old) × (O.faults out.new ≡ O.faults out.old) × WritesPrinted (O.written out.old) (O.written out.new) }
+    ensures done { result ≡ Status.Done → (F.faults files.new ≡ F.faults files.old) × (O.faults out.new ≡ O.faults out.old) × Allocates (F.contents files.old (name_of words.now)) (O.written out.old) (O.written out.new) }
     ensures read_fault { result ≡ Status.ReadFault → Rose (F.faults files.old) (F.faults files.new) × (out.new ≡ out.old) }
-    ensures write_fault { result ≡ Status.WriteFault → (F.faults files.new ≡ F.faults files.old) × Rose (O.faults out.old) (O.faults out.new) × WritesPartPrinted (O.written out.old) (O.written out.new) }
+    ensures write_fault { result ≡ Status.WriteFault → (F.faults files.new ≡ F.faults files.old) × Rose (O.faults out.old) (O.faults out.new) × AllocatesPart (F.contents files.old (name_of words.now)) (O.written out.old) (O.written out.new) }
     ensures memory { result ≡ Status.Memory → (F.faults files.new ≡ F.faults files.old) × (out.new ≡ out.old) }
     ensures not_yet { result ≡ Status.NotYet → (F.faults files.new ≡ F.faults files.old) × (out.new ≡ out.old) }
 
@@ -73,21 +73,20 @@ fn tell<E: Sink>(err: &mut E, status: Status, name: &str)
 /// Reads a file, and writes it with its function allocated.
 fn allocate<F: Files, O: Sink>(alloc: Global, name: &str, files: &mut F, out: &mut O) -> Status
     ensures contents { (n : List ℕ) → F.contents files.new n ≡ F.contents files.old n }
-    ensures done { result ≡ Status.Done → (F.faults files.new ≡ F.faults files.old) × (O.faults out.new ≡ O.faults out.old) × WritesPrinted (O.written out.old) (O.written out.new) }
+    ensures done { result ≡ Status.Done → (F.faults files.new ≡ F.faults files.old) × (O.faults out.new ≡ O.faults out.old) × Allocates (F.contents files.old name.now) (O.written out.old) (O.written out.new) }
     ensures read_fault { result ≡ Status.ReadFault → Rose (F.faults files.old) (F.faults files.new) × (out.new ≡ out.old) }
-    ensures write_fault { result ≡ Status.WriteFault → (F.faults files.new ≡ F.faults files.old) × Rose (O.faults out.old) (O.faults out.new) × WritesPartPrinted (O.written out.old) (O.written out.new) }
+    ensures write_fault { result ≡ Status.WriteFault → (F.faults files.new ≡ F.faults files.old) × Rose (O.faults out.old) (O.faults out.new) × AllocatesPart (F.contents files.old name.now) (O.written out.old) (O.written out.new) }
     ensures memory { result ≡ Status.Memory → (F.faults files.new ≡ F.faults files.old) × (out.new ≡ out.old) }
     ensures not_yet { result ≡ Status.NotYet → (F.faults files.new ≡ F.faults files.old) × (out.new ≡ out.old) }
 {
-    match files.start(name) {
-        Ok(()) => {}
-        Err(_) => return Status::ReadFault,
-    }
-    let bytes = match read_left(alloc, files, MOST) {
+    let bytes = match read_file(alloc, name, files, MOST) {
         Ok(bytes) => bytes,
         Err(ReadStop::Failed) => return Status::ReadFault,
         Err(ReadStop::Memory(_)) => return Status::Memory,
     };
+    if bytes.len() > MOST as usize {
+        return Status::NotYet;
+    }
     let text = match allocated(alloc, bytes.as_slice()) {
         Ok(Some(text)) => text,
         Ok(None) => return Status::NotYet,
@@ -101,11 +100,9 @@ fn allocate<F: Files, O: Sink>(alloc: Global, name: &str, files: &mut F, out: &m
 
 /// The text of a file with its function allocated. None where the file is of another form.
 fn allocated(alloc: Global, bytes: &[u8]) -> Result<Option<Bytes>, AllocError>
-    ensures { IfOk result (λ made. IfSome made IsPrinted) }
+    ensures text { IfOk result (λ made. IfSome made IsFunctionText) }
+    ensures source { IfOk result (λ made. IfSome made (λ _. IsFirstFile bytes.now)) }
 {
-    if bytes.len() > MOST as usize {
-        return Ok(None);
-    }
     let target = mini(alloc)?;
     match read_first(alloc, &target, bytes)? {
         None => Ok(None),
@@ -116,7 +113,7 @@ fn allocated(alloc: Global, bytes: &[u8]) -> Result<Option<Bytes>, AllocError>
 /// The text of a function in which every range is spilled.
 fn printed(alloc: Global, target: &Target, f: Func) -> Result<Bytes, AllocError>
     requires { target.now ≡ mini_target }
-    ensures { IfOk result IsPrinted }
+    ensures { IfOk result IsFunctionText }
 {
     let made = spilled_all(alloc, target, f)?;
     print_doc(alloc, target, &Doc::Function(Bytes::new(alloc), made))

@@ -33,6 +33,25 @@ pub fn write_all<O: Sink>(out: &mut O, bytes: &[u8]) -> Result<(), Failed>
     Ok(())
 }
 
+/// Reads the file of a name, or its first `limit + 1` bytes where it has more than `limit`. After a
+/// fault nothing more is read.
+pub fn read_file<F: Files>(
+    alloc: Global,
+    name: &str,
+    files: &mut F,
+    limit: u32,
+) -> Result<Vec<u8>, ReadStop>
+    ensures contents { (n : List ℕ) → F.contents files.new n ≡ F.contents files.old n }
+    ensures bytes { IfOk result (λ v. IfSome (F.contents files.old name.now) (λ all. v.items ≡ take (limit + 1) all)) }
+    ensures within { IfOk result (λ v. vec_len v ≤ limit + 1) }
+    ensures cause { MatchResult result (λ _. F.faults files.new ≡ F.faults files.old) (λ stop. StopHasCause (F.faults files.old) (F.faults files.new) stop) }
+{
+    match files.start(name) {
+        Ok(()) => read_left(alloc, files, limit),
+        Err(_) => Err(ReadStop::Failed),
+    }
+}
+
 /// Reads what is left of a file, until it ends or there are `limit + 1` bytes. After a fault
 /// nothing more is read.
 pub fn read_left<F: Files>(alloc: Global, files: &mut F, limit: u32) -> Result<Vec<u8>, ReadStop>

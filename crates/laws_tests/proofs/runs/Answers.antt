@@ -1,4 +1,4 @@
-use Rattle.laws_tests.proofs.Computed.{adds, zero_traps, undefined_divisor, half, swaps, at_once, widths, answers, conditions}
+use Rattle.laws_tests.proofs.Computed.{adds, zero_traps, undefined_divisor, half, swaps, at_once, widths, answers, conditions, operations}
 use Rattle.laws_tests.proofs.runs.Goals as goal
 
 pub returns : goal.returns
@@ -12,4 +12,5 @@ returns c = record {
   slots_keep_their_width = widths;
   calls_answer = answers;
   conditions_hold = conditions;
+  operations_give = operations;
 }

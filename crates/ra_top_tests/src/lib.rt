@@ -1,0 +1,7 @@
+//! Tests of the top call and of the files and sinks in memory.
+#![tactic(auto)]
+
+#[cfg(test)]
+mod devices;
+#[cfg(test)]
+mod rows;
