@@ -166,7 +166,7 @@ fn refuses_other_words_and_files(rt: HostRuntime) -> Result<(), Fail> {
             not_yet(WORDS, b"---\nname: f\nbody: |\n  bb.0:\n    RET\n"),
             not_yet(
                 WORDS,
-                b"---\nname: f\nbody: |\n  bb.0:\n    $eax = COPY %0:gr32\n    RET\n...\n",
+                b"---\nname: f\nbody: |\n  bb.0:\n    $eax = COPY %0:gr32\n    RET implicit $eax\n...\n",
             ),
             not_yet(
                 WORDS,
