@@ -30,7 +30,7 @@ use Rattle.mir_func.specs.declared.func.Operand.TheVariants as operands
 use Rattle.mir_func.specs.declared.func.Instr.{Instr}
 use Rattle.mir_func.specs.Value.{Function}
 use Rattle.mir_meaning.specs.Binding.{effect_of, explicit_operands, implicit_registers, implicit_roles, is_early_clobber, is_terminator, passes, registers, roles_of}
-use Rattle.mir_meaning.specs.Items.{Value, all_lanes, answered, called_symbol, computes_with_immediates, constant_value, counted_writes, explicit_definitions, has_base, implicit_definitions, implicit_writes, kept, lane_width, rest_of, result_widths, result_writes, value_of, values, clobbered, flag_value, implicit_values, is_flags, pick, use_value, first_width, immediate_of, preserves, symbol_of, unreserved, computed, constant_bits, constant_lanes, constant_of, copied, defined, defined_undef, given_constant, lanes_beside, moved, reloaded, silent_reads, silent_writes, spilled, undefined, at_all_widths}
+use Rattle.mir_meaning.specs.Items.{read_widths, Value, all_lanes, answered, called_symbol, computes_with_immediates, constant_value, counted_writes, explicit_definitions, has_base, implicit_definitions, implicit_writes, kept, lane_width, rest_of, result_widths, result_writes, value_of, values, clobbered, flag_value, implicit_values, is_flags, pick, use_value, first_width, immediate_of, preserves, symbol_of, unreserved, computed, constant_bits, constant_lanes, constant_of, copied, defined, defined_undef, given_constant, lanes_beside, moved, reloaded, silent_reads, silent_writes, spilled, undefined, at_all_widths}
 use Rattle.mir_meaning.specs.Registers.{is_reserved, numbers, located_lanes, located_widths, operand_lanes, operand_widths, unit_lanes, slot_lane_numbers, slot_lanes, undefined_lanes, use_sources}
 use Rattle.mir_meaning.specs.Codes.{effect_item, item_of, target_of, way, ways_out}
 use Rattle.std.specs.List.{cons_option, list_any}
@@ -581,10 +581,14 @@ module _ (t : Target) (f g : Function) (m : Lane → Lane) (r : RegOp → RegOp)
   symbol-of-call effects.Call os = symbol-stays os
   symbol-of-call _ os = refl
 
+  widths-read : (e : Effect) (vs' vs : List Value) → seconds vs' ≡ seconds vs → read_widths e vs' ≡ read_widths e vs
+  widths-read effects.Marker vs' vs p = refl
+  widths-read _ vs' vs p = p
+
   rest-same : (e : Effect) (i : Instr) → RenamesAll t f g m r i.operands → rest_of t g e (renamed_instr r i) ≡ rest_of t f e i
   rest-same e i h = λ k. record {
     effect = e;
-    widths = values-widths e i h k;
+    widths = widths-read e (values t g e (renamed_instr r i)) (values t f e i) (values-widths e i h) k;
     result = widths-of-result e i.operands h k;
     immediate = cond (computes_with_immediates e) (pos 0) (immediate-stays i.operands k);
     symbol = symbol-of-call e i.operands k;

@@ -292,11 +292,16 @@ abbrev pub called_symbol : Effect → List Operand → List ℕ
 called_symbol effects.Call os = symbol_of os
 called_symbol _ os = []
 
+-- the widths that an operation goes by: those of what it reads, but for a marker, which does nothing with it
+abbrev pub read_widths : Effect → List Value → List (List ℕ)
+read_widths effects.Marker vs = []
+read_widths _ vs = map (λ v. v.1) vs
+
 -- all of a counted instruction that names no register
 abbrev pub rest_of : Target → Function → Effect → Instr → Rest
 rest_of t f e i = record {
   effect = e;
-  widths = map (λ v. v.1) (values t f e i);
+  widths = read_widths e (values t f e i);
   result = result_widths t f e i.operands;
   immediate = cond (computes_with_immediates e) (pos 0) (immediate_of i.operands);
   symbol = called_symbol e i.operands;
