@@ -12,3 +12,5 @@ pub mod Shaped
 pub mod Reserved
 pub mod Ended
 pub mod Lined
+pub mod FirstFault
+pub mod MiniSpelled

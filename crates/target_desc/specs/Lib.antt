@@ -10,3 +10,5 @@ pub mod Keeping
 pub mod Adding
 pub mod Ending
 pub mod Reading
+pub mod MiniText
+pub mod Laws

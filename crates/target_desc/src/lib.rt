@@ -6,6 +6,7 @@ mod complete;
 mod draft;
 pub mod fault;
 mod forms;
+pub mod law;
 mod names;
 mod raw;
 pub mod read;
