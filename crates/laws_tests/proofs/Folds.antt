@@ -30,7 +30,7 @@ none-start env (UnitLane u) = refl
 none-start env (SlotLane s k w) = refl
 
 -- where nothing is given all starts are alike
-starts-none : (reserved : Lane → Bool) (m : Lane → Lane) (c : Code) (d : Code) → StartsEqual reserved m (function given_none c) (function given_none d)
+pub starts-none : (reserved : Lane → Bool) (m : Lane → Lane) (c : Code) (d : Code) → StartsEqual reserved m (function given_none c) (function given_none d)
 starts-none reserved m c d env l k = none-start env l ∙ sym (none-start env (m l))
 
 fixes-none : (m : Lane → Lane) → Fixes unreserved m
@@ -96,7 +96,7 @@ chain_folds = record {
 pub folds_a_copy : FoldsACopy
 folds_a_copy = let r = law_of_folds unreserved joins chain folded_chain chain_folds in (chain_folds, r.0, r.1)
 
-differ : (m n : ℕ) → eqb m n ≡ false → Some m ≡ Some n → ⊥
+pub differ : (m n : ℕ) → eqb m n ≡ false → Some m ≡ Some n → ⊥
 differ m n f e =
     let g : m ≡ n = cc in
     let h : eqb m n ≡ true = eq-eqb m n g in

@@ -39,6 +39,12 @@ goes_to_sp (VirtualLane v k) = UnitLane 15
 goes_to_sp (UnitLane u) = UnitLane u
 goes_to_sp (SlotLane s k w) = SlotLane s k w
 
+-- a choice of registers that gives unit 0 to each virtual one
+abbrev pub goes_to_al : Lane → Lane
+goes_to_al (VirtualLane v k) = UnitLane 0
+goes_to_al (UnitLane u) = UnitLane u
+goes_to_al (SlotLane s k w) = SlotLane s k w
+
 abbrev pub one_to_two : Lane → Lane
 one_to_two (VirtualLane v k) = VirtualLane (cond (nat_eq v 1) 2 v) k
 one_to_two (UnitLane u) = UnitLane u
@@ -57,6 +63,9 @@ both_read = function given_none (body (move (reg 0) (number 1) ∷ move (reg 1) 
 
 abbrev pub both_joined : Function
 both_joined = function given_none (body (move (reg 0) (number 1) ∷ move (reg 0) (number 2) ∷ ret (from (reg 0) ∷ from (reg 0) ∷ []) ∷ []))
+
+abbrev pub both_in_al : Function
+both_in_al = function given_none (body (move (UnitLane 0) (number 1) ∷ move (UnitLane 0) (number 2) ∷ ret (from (UnitLane 0) ∷ from (UnitLane 0) ∷ []) ∷ []))
 
 -- a reserved unit that is written and read, and its name changed to another's
 abbrev pub reads_sp : Function

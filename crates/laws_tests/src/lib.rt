@@ -3,7 +3,7 @@
 
 ghost use Rattle.laws_tests.specs.Runs.{AddsToItself, ZeroTraps, UndefinedDivisor, HalfUndefined, PhisSwap, CopiesAtOnce, SlotsKeepTheirWidth, CallsAnswer, ConditionsHold};
 ghost use Rattle.laws_tests.specs.Refuted.{LanesStay, EventsStay, EndsStay, CountsStay, DivisorsStay, UndefinedAsksNothing};
-ghost use Rattle.laws_tests.specs.Premises.{FoldsACopy, QuietMatters, FixesMatters, OnlyMatters, LayoutMatters, NoPhisMatters, StartsMatter, SpillsInStep, StepsFromAnotherStart, AgreesOverALoop, FineMatters};
+ghost use Rattle.laws_tests.specs.Premises.{FoldsACopy, QuietMatters, ClashMatters, FixesMatters, OnlyMatters, LayoutMatters, NoPhisMatters, StartsMatter, SpillsInStep, StepsFromAnotherStart, AgreesOverALoop, FineMatters};
 ghost use Rattle.laws_tests.specs.Liveness.{IdleCopies, ReadCopies, StoresAreRead};
 ghost use Rattle.laws_tests.specs.Operations.{OperationsGive};
 
@@ -40,6 +40,11 @@ pub fn folding()
     ensures layout_matters { LayoutMatters }
     ensures no_phis_matters { NoPhisMatters }
     ensures starts_matter { StartsMatter }
+{}
+
+/// The law of rewriting asks that no ranges which live at once get one unit.
+pub fn rewriting()
+    ensures clash_matters { ClashMatters }
 {}
 
 /// The laws of passes, of the checker and of operations speak of something, and need their premises.

@@ -1,0 +1,7 @@
+use Rattle.laws_tests.proofs.Clashes as proved
+use Rattle.laws_tests.proofs.rewriting.Goals as goal
+
+pub returns : goal.returns
+returns c = record {
+  clash_matters = proved.clash_matters;
+}
