@@ -31,19 +31,19 @@ pub int-true : (y z : ℤ) → int_eq y z ≡ true → y ≡ z
 int-true y z e = (Decides-int_eq y z).0 e
 
 pub constant-true : (c d : Constant) → same_constant c d ≡ true → c ≡ d
-constant-true (Immediate y) (Immediate z) e = ap Immediate (int-true y z e)
-constant-true (Immediate y) (StackAddress n) e = absurd (cc)
-constant-true (Immediate y) (FixedStackAddress n) e = absurd (cc)
-constant-true (Immediate y) (SymbolAddress x) e = absurd (cc)
-constant-true (StackAddress m) (Immediate z) e = absurd (cc)
+constant-true (Immediate m) (Immediate n) e = ap Immediate (eqb-true m n e)
+constant-true (Immediate m) (StackAddress n) e = absurd (cc)
+constant-true (Immediate m) (FixedStackAddress n) e = absurd (cc)
+constant-true (Immediate m) (SymbolAddress x) e = absurd (cc)
+constant-true (StackAddress m) (Immediate n) e = absurd (cc)
 constant-true (StackAddress m) (StackAddress n) e = ap StackAddress (eqb-true m n e)
 constant-true (StackAddress m) (FixedStackAddress n) e = absurd (cc)
 constant-true (StackAddress m) (SymbolAddress x) e = absurd (cc)
-constant-true (FixedStackAddress m) (Immediate z) e = absurd (cc)
+constant-true (FixedStackAddress m) (Immediate n) e = absurd (cc)
 constant-true (FixedStackAddress m) (StackAddress n) e = absurd (cc)
 constant-true (FixedStackAddress m) (FixedStackAddress n) e = ap FixedStackAddress (eqb-true m n e)
 constant-true (FixedStackAddress m) (SymbolAddress x) e = absurd (cc)
-constant-true (SymbolAddress x) (Immediate z) e = absurd (cc)
+constant-true (SymbolAddress x) (Immediate n) e = absurd (cc)
 constant-true (SymbolAddress x) (StackAddress n) e = absurd (cc)
 constant-true (SymbolAddress x) (FixedStackAddress n) e = absurd (cc)
 constant-true (SymbolAddress x) (SymbolAddress y) e = ap SymbolAddress (numbers-true x y e)
@@ -152,7 +152,7 @@ same-numbers-refl [] = refl
 same-numbers-refl (x ∷ xs) = and_from (eqb x x) (same_numbers xs xs) (eq-eqb x x refl) (same-numbers-refl xs)
 
 pub constant-refl : (c : Constant) → same_constant c c ≡ true
-constant-refl (Immediate z) = (Decides-int_eq z z).1 refl
+constant-refl (Immediate n) = eq-eqb n n refl
 constant-refl (StackAddress n) = eq-eqb n n refl
 constant-refl (FixedStackAddress n) = eq-eqb n n refl
 constant-refl (SymbolAddress x) = same-numbers-refl x

@@ -63,7 +63,7 @@ move l s = Silent [] (write l s ∷ [])
 
 -- a number of 8 bits
 abbrev pub number : ℕ → Source
-number n = Bits (Immediate (pos n)) 0 8
+number n = Bits (Immediate n) 0 8
 
 -- one block of these items
 abbrev pub block : Code → Code
@@ -127,8 +127,8 @@ three_of a b c = a ∷ b ∷ c ∷ []
 -- stores a register whose lane 1 is Undef at address 16, loads it back, and returns it
 abbrev pub half_undefined : Function
 half_undefined = function given_none (body (
-    Counted (op (effects.Store 1) ((64 ∷ []) ∷ three ∷ []) [] (pos 0)) ((Bits (Immediate (pos 16)) 0 64 ∷ []) ∷ three_of (number 1) Undef (number 3) ∷ []) [] None []
-    ∷ Counted (op (effects.Load 4) ((64 ∷ []) ∷ []) (8 ∷ 8 ∷ 8 ∷ 8 ∷ 8 ∷ []) (pos 0)) ((Bits (Immediate (pos 16)) 0 64 ∷ []) ∷ []) (result (VirtualLane 0 0) 0 ∷ result (VirtualLane 0 1) 1 ∷ result (VirtualLane 0 2) 2 ∷ result (VirtualLane 0 3) 3 ∷ result (VirtualLane 0 4) 4 ∷ []) None []
+    Counted (op (effects.Store 1) ((64 ∷ []) ∷ three ∷ []) [] (pos 0)) ((Bits (Immediate 16) 0 64 ∷ []) ∷ three_of (number 1) Undef (number 3) ∷ []) [] None []
+    ∷ Counted (op (effects.Load 4) ((64 ∷ []) ∷ []) (8 ∷ 8 ∷ 8 ∷ 8 ∷ 8 ∷ []) (pos 0)) ((Bits (Immediate 16) 0 64 ∷ []) ∷ []) (result (VirtualLane 0 0) 0 ∷ result (VirtualLane 0 1) 1 ∷ result (VirtualLane 0 2) 2 ∷ result (VirtualLane 0 3) 3 ∷ result (VirtualLane 0 4) 4 ∷ []) None []
     ∷ ret ((FromLane (VirtualLane 0 0) ∷ FromLane (VirtualLane 0 1) ∷ FromLane (VirtualLane 0 2) ∷ FromLane (VirtualLane 0 3) ∷ FromLane (VirtualLane 0 4) ∷ []) ∷ [])
     ∷ []))
 
@@ -211,7 +211,7 @@ marking n = function given_none (body (markers n))
 
 -- a store of a byte at an address
 abbrev pub storing : ℕ → Function
-storing a = function given_none (body (Counted (op (effects.Store 1) ((64 ∷ []) ∷ byte ∷ []) [] (pos 0)) ((Bits (Immediate (pos a)) 0 64 ∷ []) ∷ (number 1 ∷ []) ∷ []) [] None [] ∷ ret [] ∷ []))
+storing a = function given_none (body (Counted (op (effects.Store 1) ((64 ∷ []) ∷ byte ∷ []) [] (pos 0)) ((Bits (Immediate a) 0 64 ∷ []) ∷ (number 1 ∷ []) ∷ []) [] None [] ∷ ret [] ∷ []))
 
 -- a call of the function of that name
 abbrev pub calling_name : List ℕ → Function

@@ -61,7 +61,7 @@ residue (negsuc n) w = 2 ^ w - 1 - n % 2 ^ w
 
 -- a constant modulo 2 ^ w; an address is a number of 64 bits
 abbrev pub constant_residue : Environment → Constant → ℕ → ℕ
-constant_residue env (Immediate z) w = residue z w
+constant_residue env (Immediate n) w = n % 2 ^ w
 constant_residue env (StackAddress n) w = number_at env.stack n % 2 ^ 64 % 2 ^ w
 constant_residue env (FixedStackAddress n) w = number_at env.fixed_stack n % 2 ^ 64 % 2 ^ w
 constant_residue env (SymbolAddress name) w = address_of env.symbols name % 2 ^ 64 % 2 ^ w
@@ -73,5 +73,5 @@ bits_of env c low width = constant_residue env c (low + width) / 2 ^ low
 -- So many bits of a constant from bit `low` on, as a source. Of a number nothing counts but these bits, so that
 -- equal bits of two numbers are one source.
 abbrev pub constant_source : Constant → ℕ → ℕ → Source
-constant_source (Immediate z) low width = Bits (Immediate (pos (residue z (low + width) / 2 ^ low))) 0 width
+constant_source (Immediate n) low width = Bits (Immediate (n % 2 ^ (low + width) / 2 ^ low)) 0 width
 constant_source c low width = Bits c low width

@@ -73,6 +73,7 @@ pub data InStep (reserved : Lane → Bool) (code : Code) (at : AtStarts) : Homes
 abbrev pub StartsAlike : (Lane → Bool) → Homes → Function → Function → Type 0
 StartsAlike reserved h f g = (env : Environment) (l : Lane) → Kept reserved f.code f.code l → start_state env f.given l ≡ fetch env (start_state env g.given) (h l)
 
--- The law of passes: codes in step refine.
+-- The law of passes: codes in step refine. That the first is laid out serves the proof alone, which knows a block
+-- by its number: being in step already compares the codes on every way into a block, fallen into or branched to.
 abbrev pub LawOfPlaces : Type 0
 LawOfPlaces = (reserved : Lane → Bool) (f g : Function) (at : AtStarts) (h : Homes) → LaidOut f.code f.code → StartsAlike reserved h f g → InStep reserved f.code at h f.code g.code → Refines f g

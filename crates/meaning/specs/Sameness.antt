@@ -12,7 +12,7 @@ use Rattle.meaning.specs.declared.types.Rest.{Rest}
 use Rattle.meaning.specs.Lanes.{same_lane}
 
 abbrev pub same_constant : Constant → Constant → Bool
-same_constant (Immediate y) (Immediate z) = int_eq y z
+same_constant (Immediate m) (Immediate n) = nat_eq m n
 same_constant (StackAddress m) (StackAddress n) = nat_eq m n
 same_constant (FixedStackAddress m) (FixedStackAddress n) = nat_eq m n
 same_constant (SymbolAddress x) (SymbolAddress y) = same_numbers x y

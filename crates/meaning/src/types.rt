@@ -18,8 +18,8 @@ pub enum Lane {
 /// A constant that an instruction can give without reading a register.
 #[derive(Drop)]
 pub enum Constant {
-    /// A signed number, from -2^63 to 2^64 - 1.
-    Immediate(i128),
+    /// A number below 2^128, of which some bits are taken.
+    Immediate(u128),
     /// The address of the frame object `%stack.N`.
     StackAddress(u32),
     /// The address of the frame object `%fixed-stack.N`.

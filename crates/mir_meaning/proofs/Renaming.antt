@@ -16,7 +16,7 @@ use Rattle.meaning.specs.declared.types.Source.TheVariants.{FromLane, Undef}
 use Rattle.meaning.specs.declared.types.Constant.{Constant}
 use Rattle.meaning.specs.declared.types.Constant.TheVariants.{FixedStackAddress, Immediate, StackAddress, SymbolAddress}
 use Rattle.meaning.specs.declared.types.Fill.TheVariants.{Computed, Moved}
-use Rattle.meaning.specs.Environment.{constant_source}
+use Rattle.meaning.specs.Environment.{constant_source, residue}
 use Rattle.mir_func.specs.declared.func.Loc.{Loc}
 use Rattle.mir_func.specs.declared.func.Loc.TheVariants.{Fixed, Virtual}
 use Rattle.target_base.specs.declared.types.Unit.{Unit as UnitNumber}
@@ -134,9 +134,12 @@ module _ (t : Target) (f g : Function) (m : Lane → Lane) (r : RegOp → RegOp)
       ∙ sym (renamed-undefined m false (operand_lanes t f d ++ undefined_lanes t f d)))
   undef-renamed _ h = refl
 
-  constant-stays : (o : Operand) → constant_of (renamed_operand r o) ≡ constant_of o
-  constant-stays (operands.Reg o) = refl
-  constant-stays _ = refl
+  constant-stays : (w : ℕ) (o : Operand) → constant_of w (renamed_operand r o) ≡ constant_of w o
+  constant-stays w (operands.Reg o) = refl
+  constant-stays w _ = refl
+
+  constant-renamed : (d : RegOp) (o : Operand) → Renames t f g m r d → constant_of (sum (operand_widths t g (r d))) (renamed_operand r o) ≡ constant_of (sum (operand_widths t f d)) o
+  constant-renamed d o h = ap (λ ws. constant_of (sum ws) (renamed_operand r o)) h.widths ∙ constant-stays (sum (operand_widths t f d)) o
 
   constants-renamed : (d : RegOp) (c : Option Constant) → Renames t f g m r d → constant_lanes t g (r d) c ≡ map (image m) (constant_lanes t f d c)
   constants-renamed d None h = refl
@@ -144,7 +147,8 @@ module _ (t : Target) (f g : Function) (m : Lane → Lane) (r : RegOp → RegOp)
 
   given-renamed : (early : Bool) (os : List Operand) → RenamesAll t f g m r os → given_constant t g early (map (renamed_operand r) os) ≡ renamed m (given_constant t f early os)
   given-renamed early (operands.Reg d ∷ o ∷ os) h =
-      ap (defined t g early (r d)) (ap (constant_lanes t g (r d)) (constant-stays o) ∙ constants-renamed d (constant_of o) h.0) ∙ defined-renamed early d (constant_lanes t f d (constant_of o)) h.0
+      let c = constant_of (sum (operand_widths t f d)) o in
+      ap (defined t g early (r d)) (ap (constant_lanes t g (r d)) (constant-renamed d o h.0) ∙ constants-renamed d c h.0) ∙ defined-renamed early d (constant_lanes t f d c) h.0
   given-renamed early _ h = refl
 
   numbers-stay : (ws : List ℕ) (k : Operand) → slot_lane_numbers t ws (renamed_operand r k) ≡ slot_lane_numbers t ws k
@@ -374,7 +378,7 @@ module _ (t : Target) (f g : Function) (m : Lane → Lane) (r : RegOp → RegOp)
   explicit-reads e w (operands.Reg o ∷ os) h =
       ap (λ b. firsts (cons_option (cond b None (Some (use_value t g (r o)))) (values_in g e w (map (renamed_operand r) os)))) h.0.def
       ∙ use-step o.def (use_sources t g (r o)) (use_sources t f o) (operand_widths t g (r o)) (operand_widths t f o) (values_in g e w (map (renamed_operand r) os)) (values_in f e w os) (use-renamed o h.0) (explicit-reads e w os h.1)
-  explicit-reads e w (operands.Imm z ∷ os) h = constant-step (computes_with_immediates e) (Immediate z) w (values_in g e w (map (renamed_operand r) os)) (values_in f e w os) (explicit-reads e w os h)
+  explicit-reads e w (operands.Imm z ∷ os) h = constant-step (computes_with_immediates e) (Immediate (residue z w)) w (values_in g e w (map (renamed_operand r) os)) (values_in f e w os) (explicit-reads e w os h)
   explicit-reads e w (operands.Stack n ∷ os) h = constant-step (has_base e) (StackAddress n) 64 (values_in g e w (map (renamed_operand r) os)) (values_in f e w os) (explicit-reads e w os h)
   explicit-reads e w (operands.FixedStack n ∷ os) h = constant-step (has_base e) (FixedStackAddress n) 64 (values_in g e w (map (renamed_operand r) os)) (values_in f e w os) (explicit-reads e w os h)
   explicit-reads e w (operands.Symbol s ∷ os) h = constant-step (has_base e) (SymbolAddress s) 64 (values_in g e w (map (renamed_operand r) os)) (values_in f e w os) (explicit-reads e w os h)
@@ -385,7 +389,7 @@ module _ (t : Target) (f g : Function) (m : Lane → Lane) (r : RegOp → RegOp)
   explicit-widths e w (operands.Reg o ∷ os) h =
       ap (λ b. seconds (cons_option (cond b None (Some (use_value t g (r o)))) (values_in g e w (map (renamed_operand r) os)))) h.0.def
       ∙ use-width-step o.def (use_sources t g (r o)) (use_sources t f o) (operand_widths t g (r o)) (operand_widths t f o) (values_in g e w (map (renamed_operand r) os)) (values_in f e w os) h.0.widths (explicit-widths e w os h.1)
-  explicit-widths e w (operands.Imm z ∷ os) h = constant-width-step (computes_with_immediates e) (Immediate z) w (values_in g e w (map (renamed_operand r) os)) (values_in f e w os) (explicit-widths e w os h)
+  explicit-widths e w (operands.Imm z ∷ os) h = constant-width-step (computes_with_immediates e) (Immediate (residue z w)) w (values_in g e w (map (renamed_operand r) os)) (values_in f e w os) (explicit-widths e w os h)
   explicit-widths e w (operands.Stack n ∷ os) h = constant-width-step (has_base e) (StackAddress n) 64 (values_in g e w (map (renamed_operand r) os)) (values_in f e w os) (explicit-widths e w os h)
   explicit-widths e w (operands.FixedStack n ∷ os) h = constant-width-step (has_base e) (FixedStackAddress n) 64 (values_in g e w (map (renamed_operand r) os)) (values_in f e w os) (explicit-widths e w os h)
   explicit-widths e w (operands.Symbol s ∷ os) h = constant-width-step (has_base e) (SymbolAddress s) 64 (values_in g e w (map (renamed_operand r) os)) (values_in f e w os) (explicit-widths e w os h)

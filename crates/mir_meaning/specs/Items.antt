@@ -22,7 +22,7 @@ use Rattle.meaning.specs.declared.types.Fill.TheVariants.{Moved, Computed}
 use Rattle.meaning.specs.declared.types.Write.{Write}
 use Rattle.meaning.specs.declared.types.Rest.{Rest}
 use Rattle.meaning.specs.Lanes.{Writes, Reads}
-use Rattle.meaning.specs.Environment.{constant_source}
+use Rattle.meaning.specs.Environment.{residue, constant_source}
 use Rattle.meaning.specs.Perform.{condition_lane}
 use Rattle.mir_func.specs.declared.func.RegOp.{RegOp}
 use Rattle.mir_func.specs.declared.func.Operand.{Operand}
@@ -60,13 +60,13 @@ abbrev pub constant_bits : Constant → ℕ → List ℕ → List Source
 constant_bits c low [] = []
 constant_bits c low (w ∷ ws) = constant_source c low w ∷ constant_bits c (low + w) ws
 
--- an operand that is a constant
-abbrev pub constant_of : Operand → Option Constant
-constant_of (operands.Imm z) = Some (Immediate z)
-constant_of (operands.Stack n) = Some (StackAddress n)
-constant_of (operands.FixedStack n) = Some (FixedStackAddress n)
-constant_of (operands.Symbol name) = Some (SymbolAddress name)
-constant_of _ = None
+-- an operand that is a constant; an immediate counts modulo 2 ^ w
+abbrev pub constant_of : ℕ → Operand → Option Constant
+constant_of w (operands.Imm z) = Some (Immediate (residue z w))
+constant_of w (operands.Stack n) = Some (StackAddress n)
+constant_of w (operands.FixedStack n) = Some (FixedStackAddress n)
+constant_of w (operands.Symbol name) = Some (SymbolAddress name)
+constant_of w _ = None
 
 -- what the instructions move that count for nothing in a run
 
@@ -103,7 +103,7 @@ constant_lanes t f d (Some c) = constant_bits c 0 (operand_widths t f d)
 
 -- a definition that is given an immediate or an address
 abbrev pub given_constant : Target → Function → Bool → List Operand → Writes
-given_constant t f early (operands.Reg d ∷ o ∷ os) = defined t f early d (constant_lanes t f d (constant_of o))
+given_constant t f early (operands.Reg d ∷ o ∷ os) = defined t f early d (constant_lanes t f d (constant_of (sum (operand_widths t f d)) o))
 given_constant t f early _ = []
 
 -- the slot lanes beside the lanes of a register operand
@@ -173,7 +173,7 @@ has_base _ = false
 -- address of 64 bits
 abbrev pub value_of : Target → Function → Effect → ℕ → Operand → Option Value
 value_of t f e w (operands.Reg o) = cond o.def None (Some (use_value t f o))
-value_of t f e w (operands.Imm z) = cond (computes_with_immediates e) (Some (constant_value (Immediate z) w)) None
+value_of t f e w (operands.Imm z) = cond (computes_with_immediates e) (Some (constant_value (Immediate (residue z w)) w)) None
 value_of t f e w (operands.Stack n) = cond (has_base e) (Some (constant_value (StackAddress n) 64)) None
 value_of t f e w (operands.FixedStack n) = cond (has_base e) (Some (constant_value (FixedStackAddress n) 64)) None
 value_of t f e w (operands.Symbol name) = cond (has_base e) (Some (constant_value (SymbolAddress name) 64)) None
