@@ -69,7 +69,7 @@ listed-one a l h t = go (same_or_not a l)
     go (inl e) = same-false l a t (sym e)
     go (inr e) = let b : same_lane a l || false ≡ true = h in let c : false ≡ true = sym (ap (λ x. x || false) e) ∙ b in absurd (cc)
 
-listed-none : (l : Lane) → lists [] l ≡ true → ⊥
+pub listed-none : (l : Lane) → lists [] l ≡ true → ⊥
 listed-none l h = absurd (cc)
 
 -- a copy folded away

@@ -57,6 +57,9 @@ chain = function given_none (body (move (reg 0) (number 1) ∷ move (reg 1) (Fro
 abbrev pub folded_chain : Function
 folded_chain = function given_none (body (move (reg 0) (number 1) ∷ ret (from (reg 0) ∷ []) ∷ []))
 
+abbrev pub chain_in_al : Function
+chain_in_al = function given_none (body (move (UnitLane 0) (number 1) ∷ ret (from (UnitLane 0) ∷ []) ∷ []))
+
 -- two constants that are both read
 abbrev pub both_read : Function
 both_read = function given_none (body (move (reg 0) (number 1) ∷ move (reg 1) (number 2) ∷ ret (from (reg 0) ∷ from (reg 1) ∷ []) ∷ []))

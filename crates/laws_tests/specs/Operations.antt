@@ -1,5 +1,5 @@
 -- Values that each operation gives, computed apart from these definitions.
-use Rattle.std.specs.Prelude.{◌≡◌, ℕ, pos, List, [], ◌∷◌, map, Some, None}
+use Rattle.std.specs.Prelude.{◌≡◌, pos, List, [], ◌∷◌, map, Some}
 use Rattle.target_base.specs.declared.types.Effect.TheVariants as effects
 use Rattle.meaning.specs.Environment.{Value}
 use Rattle.meaning.specs.declared.types.Rest.{Rest}

@@ -12,13 +12,13 @@ use Rattle.meaning.specs.Live.{Kept}
 use Rattle.meaning.specs.Layout.{LaidOut, NoPhis}
 use Rattle.meaning.specs.InStep.{StartsAlike, InStep}
 use Rattle.meaning.specs.Matched.{Fits}
-use Rattle.meaning.specs.Clash.{NoClash}
+use Rattle.meaning.specs.Clash.{NoClash, Rewrites}
 use Rattle.meaning.specs.Fold.{Folded, Quiet, Folds}
 use Rattle.meaning.specs.Agree.{agrees}
 use Rattle.laws.specs.Monotone.{PerformedAtLeast}
 use Rattle.laws_tests.specs.Samples.{given_all, given_none, function, nothing, op, byte, reg, number}
 use Rattle.laws_tests.specs.Refuted.{DoesNotRefine}
-use Rattle.laws_tests.specs.Codes.{unreserved, reserves_sp, stays, joins, takes_sp, goes_to_sp, one_to_two, chain, folded_chain, both_read, both_joined, goes_to_al, both_in_al, reads_sp, reads_another, beside_sp, over_sp, unlisted, phi_read, reads_eax, over_call, spilled, with_phi, allocated_loop, family}
+use Rattle.laws_tests.specs.Codes.{unreserved, reserves_sp, stays, joins, takes_sp, goes_to_sp, one_to_two, chain, folded_chain, both_read, both_joined, goes_to_al, chain_in_al, both_in_al, reads_sp, reads_another, beside_sp, over_sp, unlisted, phi_read, reads_eax, over_call, spilled, with_phi, allocated_loop, family}
 
 abbrev pub StartsEqual : (Lane → Bool) → (Lane → Lane) → Function → Function → Type 0
 StartsEqual reserved m f g = (env : Environment) (l : Lane) → Kept reserved f.code f.code l → start_state env f.given l ≡ start_state env g.given (m l)
@@ -39,7 +39,11 @@ QuietMatters =
     StartsEqual unreserved joins both_read both_joined × LaidOut both_read.code both_read.code × NoPhis both_read.code × Fixes unreserved joins × NothingElse unreserved joins
     × Folded joins both_read.code both_joined.code × DoesNotRefine both_read both_joined
 
--- a choice of registers: of two ranges that live at once only one can have the unit
+-- a choice of registers: two ranges that never live at once have one unit, and the copy between them goes
+abbrev pub RewritesACopy : Type 0
+RewritesACopy = Rewrites reserves_sp goes_to_al chain chain_in_al × Refines chain chain_in_al × Refines chain_in_al chain
+
+-- of two ranges that live at once only one can have the unit
 abbrev pub ClashMatters : Type 0
 ClashMatters =
     Fits reserves_sp goes_to_al both_read both_in_al × Fixes reserves_sp goes_to_al × NothingElse reserves_sp goes_to_al × Folded goes_to_al both_read.code both_in_al.code

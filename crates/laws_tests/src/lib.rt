@@ -3,7 +3,7 @@
 
 ghost use Rattle.laws_tests.specs.Runs.{AddsToItself, ZeroTraps, UndefinedDivisor, HalfUndefined, PhisSwap, CopiesAtOnce, SlotsKeepTheirWidth, CallsAnswer, ConditionsHold};
 ghost use Rattle.laws_tests.specs.Refuted.{LanesStay, EventsStay, EndsStay, CountsStay, DivisorsStay, UndefinedAsksNothing};
-ghost use Rattle.laws_tests.specs.Premises.{FoldsACopy, QuietMatters, ClashMatters, FixesMatters, OnlyMatters, LayoutMatters, NoPhisMatters, StartsMatter, SpillsInStep, StepsFromAnotherStart, AgreesOverALoop, FineMatters};
+ghost use Rattle.laws_tests.specs.Premises.{FoldsACopy, QuietMatters, RewritesACopy, ClashMatters, FixesMatters, OnlyMatters, LayoutMatters, NoPhisMatters, StartsMatter, SpillsInStep, StepsFromAnotherStart, AgreesOverALoop, FineMatters};
 ghost use Rattle.laws_tests.specs.Liveness.{IdleCopies, ReadCopies, StoresAreRead};
 ghost use Rattle.laws_tests.specs.Operations.{OperationsGive};
 
@@ -42,8 +42,9 @@ pub fn folding()
     ensures starts_matter { StartsMatter }
 {}
 
-/// The law of rewriting asks that no ranges which live at once get one unit.
+/// The law of rewriting speaks of something, and asks that no ranges which live at once get one unit.
 pub fn rewriting()
+    ensures rewrites_a_copy { RewritesACopy }
     ensures clash_matters { ClashMatters }
 {}
 
