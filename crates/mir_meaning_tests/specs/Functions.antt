@@ -1,10 +1,11 @@
 -- The functions of the examples, in the order of their instructions' ids.
-use Rattle.std.specs.Prelude.{ℕ, List, [], ◌∷◌}
+use Rattle.std.specs.Prelude.{ℕ, negsuc, List, [], ◌∷◌}
 use Rattle.mir_func.specs.declared.func.Instr.{Instr}
 use Rattle.mir_func.specs.declared.func.Operand.{Operand}
+use Rattle.mir_func.specs.declared.func.Operand.TheVariants as operands
 use Rattle.mir_func.specs.declared.func.RegOp.{RegOp}
 use Rattle.mir_func.specs.Value.{Function}
-use Rattle.mir_meaning_tests.specs.Sample.{virtual, as_def, as_undef, part, op, def, val, fixed_def, fixed, implicit_def, implicit, imm, to_block, subreg, symbol, csr, frame, instr, block, function, gr32, gr8, grp, eax, ecx, edx, ax, al, ah, p0, eflags, sub_8, sub_lo32, sub_hi32, COPY, PHI, IMPLICIT_DEF, REG_SEQUENCE, MOV32ri, MOV8ri, ADD32rr, ADD8rr, UDIV32rr, MADD32, MLA32, CMP32rr, STORE32mr, JMP, JCC, CALL, RET}
+use Rattle.mir_meaning_tests.specs.Sample.{virtual, as_def, as_undef, part, op, def, val, fixed_def, fixed, implicit_def, implicit, imm, to_block, subreg, symbol, csr, frame, instr, block, function, gr32, gr8, grp, eax, ecx, edx, ax, al, ah, p0, eflags, sub_8, sub_lo32, sub_hi32, COPY, PHI, IMPLICIT_DEF, REG_SEQUENCE, MOV32ri, MOV8ri, ADD32rr, ADD32ri, ADD8rr, UDIV32rr, MADD32, MLA32, CMP32rr, STORE32mr, JMP, JCC, CALL, RET}
 
 abbrev pub flags_defined : List Operand
 flags_defined = implicit_def eflags ∷ []
@@ -38,6 +39,14 @@ zero_divisor = quotient (instr 0 MOV32ri (fixed_def ecx ∷ imm 0 ∷ [])) (fixe
 
 abbrev pub undefined_divisor : Function
 undefined_divisor = quotient (instr 0 IMPLICIT_DEF (def 0 ∷ [])) (val 0)
+
+-- minus 2, as a constant and as what is added to 0
+abbrev pub minus_two : Function
+minus_two = function [] (block 0 [] [] (
+    instr 0 MOV32ri (fixed_def eax ∷ operands.Imm (negsuc 1) ∷ [])
+    ∷ instr 1 MOV32ri (fixed_def ecx ∷ imm 0 ∷ [])
+    ∷ instr 2 ADD32ri (fixed_def ecx ∷ fixed ecx ∷ operands.Imm (negsuc 1) ∷ flags_defined)
+    ∷ instr 3 RET (implicit eax ∷ implicit ecx ∷ []) ∷ []) ∷ [])
 
 -- `undef %0.sub_8 = ..` leaves the other lanes Undef; all of %0 is stored
 abbrev pub half_undefined : Function

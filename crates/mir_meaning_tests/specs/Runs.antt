@@ -6,7 +6,7 @@ use Rattle.meaning.specs.Perform.{Event, StoreEvent, ReturnEvent, End, Returned,
 use Rattle.meaning.specs.Code.{run}
 use Rattle.mir_func.specs.Value.{Function}
 use Rattle.mir_meaning.specs.Codes.{meaning_of}
-use Rattle.mir_meaning_tests.specs.Functions.{tied_add, tied_add_allocated, zero_divisor, undefined_divisor, half_undefined, swap, turned}
+use Rattle.mir_meaning_tests.specs.Functions.{tied_add, tied_add_allocated, zero_divisor, minus_two, undefined_divisor, half_undefined, swap, turned}
 
 -- unit u holds 1 + u at the start, and %fixed-stack.0 lies at 2 ^ 20
 abbrev pub seeded : Environment
@@ -35,6 +35,10 @@ AddsToItself = Makes tied_add 10 (returns (Some 2 ∷ Some 4 ∷ Some 6 ∷ []))
 
 abbrev pub ZeroTraps : Type 0
 ZeroTraps = Makes zero_divisor 10 [] Trapped
+
+-- of a negative number each lane has its bits
+abbrev pub NegativesFillTheirLanes : Type 0
+NegativesFillTheirLanes = Makes minus_two 10 (returns (Some 254 ∷ Some 255 ∷ Some 65535 ∷ Some 254 ∷ Some 255 ∷ Some 65535 ∷ [])) Returned
 
 -- the run goes on with an Undef quotient, and counts as defined no longer
 abbrev pub UndefinedDivisor : Type 0

@@ -154,6 +154,9 @@ MOV8ri = 7
 abbrev pub ADD32rr : ℕ
 ADD32rr = 10
 
+abbrev pub ADD32ri : ℕ
+ADD32ri = 16
+
 abbrev pub ADD8rr : ℕ
 ADD8rr = 24
 

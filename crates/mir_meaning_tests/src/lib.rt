@@ -2,12 +2,13 @@
 //! is the contract of a function.
 #![tactic(auto)]
 
-ghost use Rattle.mir_meaning_tests.specs.Runs.{AddsToItself, ZeroTraps, UndefinedDivisor, HalfUndefined, PhisSwap, PartsMoveAtOnce};
+ghost use Rattle.mir_meaning_tests.specs.Runs.{AddsToItself, ZeroTraps, NegativesFillTheirLanes, UndefinedDivisor, HalfUndefined, PhisSwap, PartsMoveAtOnce};
 
 /// What functions do when they run.
 pub fn runs()
     ensures adds_to_itself { AddsToItself }
     ensures zero_traps { ZeroTraps }
+    ensures negatives_fill_their_lanes { NegativesFillTheirLanes }
     ensures undefined_divisor { UndefinedDivisor }
     ensures half_undefined { HalfUndefined }
     ensures phis_swap { PhisSwap }

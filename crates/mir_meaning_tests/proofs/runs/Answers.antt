@@ -5,6 +5,7 @@ pub returns : goal.returns
 returns c = record {
   adds_to_itself = proved.adds;
   zero_traps = proved.traps;
+  negatives_fill_their_lanes = proved.negatives;
   undefined_divisor = proved.undefined_divisor;
   half_undefined = proved.half;
   phis_swap = proved.swaps;
