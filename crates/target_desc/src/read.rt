@@ -21,8 +21,8 @@ use crate::raw::{Header, RawLine};
 use crate::resolve::{is_new, resolved};
 use crate::rules::stands;
 use crate::text::{is_comment, next_part, next_word};
-use crate::widths::units_at;
 use std::alloc::{AllocError, Global};
+use target_base::registers::units_at;
 use target_base::{ClassDesc, IndexDesc, List, OpcodeDesc, Reg, RegDesc, Target, Unit, UnitList};
 
 /// What the lines so far make: a draft that keeps the rules, and the names that it declares.

@@ -6,7 +6,9 @@ ghost use Rattle.target_base.specs.Roles as roles;
 ghost use Rattle.target_base.specs.Storage.{class_units, class_regs, unit_width, widths};
 ghost use Rattle.target_desc.specs.Shapes.{passes, classes_from};
 
-use crate::widths::{first_units, regs_at, total_width, units_at, width_of};
+use crate::widths::{regs_at, total_width};
+use target_base::classes::{class_of, first_units, width_of};
+use target_base::registers::units_at;
 use target_base::{ClassDesc, ClassId, Effect, Reg, RegDesc, Role, Unit, UnitDesc};
 
 /// What an effect asks of one explicit role.
@@ -286,19 +288,6 @@ fn bound_roles(effect: Effect) -> usize
         | Effect::Madd => 3,
         Effect::Neg | Effect::Not | Effect::Cmp => 2,
         _ => 0,
-    }
-}
-
-/// The class of a role that is a register operand.
-pub(crate) fn class_of(role: Role) -> Option<ClassId>
-    ensures { result ≡ roles.role_class role }
-{
-    match role {
-        Role::Def(k) => Some(k),
-        Role::Early(k) => Some(k),
-        Role::Read(k) => Some(k),
-        Role::Tied(k) => Some(k),
-        _ => None,
     }
 }
 

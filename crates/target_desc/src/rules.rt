@@ -10,7 +10,9 @@ ghost use Rattle.target_desc.specs.Standing.{starts, stands, stands_in};
 use crate::draft::{Draft, Line};
 use crate::roles::{are_known, fit, scale_fits};
 use crate::text::{is_name, is_op_name};
-use crate::widths::{first_units, have_same_widths, total_width, units_at};
+use crate::widths::total_width;
+use target_base::classes::{first_units, have_same_widths};
+use target_base::registers::units_at;
 use target_base::{ClassDesc, IndexDesc, MaskDesc, OpcodeDesc, Reg, RegDesc, Unit, UnitDesc};
 
 /// The lanes of a register at most.
