@@ -44,5 +44,10 @@ fn main(rt: HostRuntime) -> anyhow::Result<()> {
         anyhow::bail!("the words are read or first, and a file");
     };
     let bytes = fs::read(&rt, file.as_str())?;
-    answer(alloc, command.as_str(), bytes.as_slice(), &mut io::writer(&rt))
+    answer(
+        alloc,
+        command.as_str(),
+        bytes.as_slice(),
+        &mut io::writer(&rt),
+    )
 }
