@@ -20,7 +20,6 @@ from generators import Gen, mutated_function, mutated_text, respelled  # noqa: E
 from llra_ref import first  # noqa: E402
 from llra_ref.faults import TextFault  # noqa: E402
 
-FIRST = False
 TARGET = L.mini()
 
 
@@ -127,7 +126,7 @@ def documents(seed):
         yield "read", mutated_text(data, r)
         yield "read", mutated_text(respelled(data, r), r)
         yield "read", mutated_function(data, r)
-    for _ in range(4 if FIRST else 0):
+    for _ in range(4):
         data = first_document(r)
         yield "first", data
         yield "first", mutated_text(data, r) if r.random() < 0.5 else mutated_function(data, r)

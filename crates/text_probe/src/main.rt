@@ -6,7 +6,7 @@
 #![tactic(auto)]
 
 use mir_func::Func;
-use mir_text::{Doc, print_doc, read_leniently};
+use mir_text::{Doc, print_doc, read_first, read_leniently};
 use std::alloc::Global;
 use std::io::Write;
 use std::{env, fs, io};
@@ -18,7 +18,9 @@ fn read(
     command: &str,
     bytes: &[u8],
 ) -> anyhow::Result<Option<Func>> {
-    let _ = command;
+    if command == "first" {
+        return Ok(read_first(alloc, target, bytes)?);
+    }
     Ok(read_leniently(alloc, target, bytes)?)
 }
 

@@ -1,0 +1,4 @@
+pub mod Preorder
+pub mod Monotone
+pub mod Tables
+pub mod Constants

@@ -1,0 +1,12 @@
+use Rattle.laws_tests.proofs.Differing.{lanes, events, ends, counts, divisors, asks_nothing}
+use Rattle.laws_tests.proofs.refinement.Goals as goal
+
+pub returns : goal.returns
+returns c = record {
+  lanes_stay = lanes;
+  events_stay = events;
+  ends_stay = ends;
+  counts_stay = counts;
+  divisors_stay = divisors;
+  undefined_asks_nothing = asks_nothing;
+}

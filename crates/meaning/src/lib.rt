@@ -1,0 +1,8 @@
+//! What code means: lanes and their values, what each operation computes, runs, refinement and
+//! live lanes. The meanings are definitions of `specs/`; the types here are the data that code
+//! shares with them.
+#![tactic(auto)]
+
+pub mod types;
+
+pub use types::{Constant, Fill, Lane, Reads, Rest, Row, Source, Ways, Widths, Write, Writes};

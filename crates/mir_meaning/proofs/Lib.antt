@@ -1,0 +1,4 @@
+pub mod Points
+pub mod Faults
+pub mod Doubts
+pub mod Renaming

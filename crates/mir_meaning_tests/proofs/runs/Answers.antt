@@ -1,0 +1,13 @@
+use Rattle.mir_meaning_tests.proofs.Computed as proved
+use Rattle.mir_meaning_tests.proofs.runs.Goals as goal
+
+pub returns : goal.returns
+returns c = record {
+  adds_to_itself = proved.adds;
+  zero_traps = proved.traps;
+  negatives_fill_their_lanes = proved.negatives;
+  undefined_divisor = proved.undefined_divisor;
+  half_undefined = proved.half;
+  phis_swap = proved.swaps;
+  parts_move_at_once = proved.at_once;
+}

@@ -1,0 +1,16 @@
+pub mod Onto
+pub mod Cut
+pub mod Places
+pub mod Lists
+pub mod Grown
+pub mod SameWidths
+pub mod RolesKept
+pub mod Kept
+pub mod Drafted
+pub mod Fresh
+pub mod Shaped
+pub mod Reserved
+pub mod Ended
+pub mod Lined
+pub mod FirstFault
+pub mod MiniSpelled

@@ -1,0 +1,5 @@
+use Rattle.target_desc.proofs.Ended.{few_units}
+use Rattle.target_desc.proofs.read.Reader.end.Goals as goal
+
+pub reserved_of-requires : goal.reserved_of-requires
+reserved_of-requires c = few_units c.args.self.draft c.args.self.sound

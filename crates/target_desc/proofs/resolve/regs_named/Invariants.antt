@@ -1,0 +1,7 @@
+use Rattle.std.proofs.Common.{◌≡◌, drop}
+use Rattle.target_desc.specs.Resolving.{regs_named}
+use Rattle.target_desc.proofs.Onto.{onto}
+use Rattle.target_desc.proofs.resolve.regs_named.Given as goal
+
+abbrev pub invariant-loop-word : goal.invariant-loop-word
+invariant-loop-word l = regs_named l.names l.words ≡ onto l.made (regs_named l.names (drop l.word-index l.words))

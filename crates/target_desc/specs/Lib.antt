@@ -1,0 +1,14 @@
+pub mod Text
+pub mod Words
+pub mod Shapes
+pub mod Forms
+pub mod Names
+pub mod Drafts
+pub mod Resolving
+pub mod Standing
+pub mod Keeping
+pub mod Adding
+pub mod Ending
+pub mod Reading
+pub mod MiniText
+pub mod Laws

@@ -1,0 +1,128 @@
+//! What a line that stands adds.
+
+ghost use Rattle.std.specs.Prelude.{◌≡◌, ◌<◌, IfOk, IsTrue, length, map, fold, []};
+ghost use Rattle.target_desc.specs.Drafts.{empty_draft, names_of, without_roles, opcode_row, name_in};
+ghost use Rattle.target_desc.specs.Names.{with_name};
+ghost use Rattle.target_desc.specs.Resolving.{is_new};
+ghost use Rattle.target_desc.specs.Keeping.{AreFew};
+ghost use Rattle.target_desc.specs.Adding.{added, noted};
+
+use crate::draft::{Draft, Line};
+use crate::names::{NameTables, Names};
+use crate::text::copy_of;
+use std::alloc::{AllocError, Global};
+use target_base::{Effect, List, OpcodeDesc, OpcodeDescs, Reg};
+
+/// The opcodes that belong to every target.
+static THE_FIVE: [(&str, Effect); 5] = [
+    ("COPY", Effect::Copy),
+    ("PHI", Effect::Phi),
+    ("IMPLICIT_DEF", Effect::ImplicitDef),
+    ("REG_SEQUENCE", Effect::RegSequence),
+    ("INSERT_SUBREG", Effect::InsertSubreg),
+];
+
+fn without_roles(alloc: Global, name: &[u8], effect: Effect) -> Result<OpcodeDesc, AllocError>
+    ensures { IfOk result (λ o. o ≡ without_roles name.now effect) }
+{
+    Ok(OpcodeDesc {
+        name: copy_of(alloc, name)?,
+        effect,
+        roles: List::new(alloc),
+    })
+}
+
+/// Opcodes without roles.
+fn opcodes_of(alloc: Global, rows: &[(&str, Effect)]) -> Result<OpcodeDescs, AllocError>
+    ensures { IfOk result (λ made. made ≡ map opcode_row rows.now) }
+{
+    let mut made = List::new(alloc);
+    for row in rows {
+        made.push(without_roles(alloc, row.0.as_bytes(), row.1)?)?;
+    }
+    Ok(made)
+}
+
+/// The draft before the first line.
+#[tactic(auto, unfolding(crate::specs::Drafts::empty_draft))]
+pub(crate) fn empty_draft(alloc: Global) -> Result<Draft, AllocError>
+    ensures { IfOk result (λ d. d ≡ empty_draft) }
+{
+    Ok(Draft {
+        header: None,
+        units: List::new(alloc),
+        regs: List::new(alloc),
+        reserved: List::new(alloc),
+        indexes: List::new(alloc),
+        classes: List::new(alloc),
+        masks: List::new(alloc),
+        opcodes: opcodes_of(alloc, &THE_FIVE)?,
+    })
+}
+
+/// The distinct names of these opcodes.
+fn names_in(alloc: Global, rows: &[(&str, Effect)]) -> Result<Names, AllocError>
+    requires { length rows.now < 65535 }
+    ensures { IfOk result (λ names. names ≡ fold with_name [] (map name_in rows.now)) }
+{
+    let mut names = Names::new(alloc);
+    for row in rows {
+        names.add(alloc, row.0.as_bytes())?;
+    }
+    Ok(names)
+}
+
+/// The names before the first line.
+#[tactic(auto, unfolding(crate::specs::Drafts::empty_draft))]
+pub(crate) fn first_names(alloc: Global) -> Result<NameTables, AllocError>
+    ensures { IfOk result (λ names. names ≡ names_of empty_draft) }
+{
+    Ok(NameTables {
+        units: Names::new(alloc),
+        regs: Names::new(alloc),
+        indexes: Names::new(alloc),
+        classes: Names::new(alloc),
+        masks: Names::new(alloc),
+        opcodes: names_in(alloc, &THE_FIVE)?,
+    })
+}
+
+/// The draft with what the line adds.
+#[tactic(auto, unfolding(crate::specs::Adding::added))]
+pub(crate) fn added(draft: Draft, line: Line) -> Result<Draft, AllocError>
+    ensures { IfOk result (λ d. d ≡ added draft line) }
+{
+    let mut d = draft;
+    match line {
+        Line::Target(header) => d.header = Some(header),
+        Line::Unit(unit) => d.units.push(unit)?,
+        Line::Reg(reg) => d.regs.push(reg)?,
+        Line::Reserved(regs) => d.reserved.extend(regs.as_slice())?,
+        Line::Index(index) => d.indexes.push(index)?,
+        Line::Class(class) => d.classes.push(class)?,
+        Line::Mask(mask) => d.masks.push(mask)?,
+        Line::Opcode(opcode) => d.opcodes.push(opcode)?,
+    }
+    Ok(d)
+}
+
+/// The names with the one that the line declares.
+#[tactic(auto, unfolding(crate::specs::Adding::noted, crate::specs::Resolving::is_new))]
+pub(crate) fn noted(alloc: Global, names: NameTables, line: &Line) -> Result<NameTables, AllocError>
+    requires new { IsTrue (is_new names line.now) }
+    requires room { AreFew names }
+    ensures { IfOk result (λ made. made ≡ noted names line.now) }
+{
+    let mut n = names;
+    match line {
+        Line::Target(_) => {}
+        Line::Unit(unit) => n.units.add(alloc, unit.name.as_slice())?,
+        Line::Reg(reg) => n.regs.add(alloc, reg.name.as_slice())?,
+        Line::Reserved(_) => {}
+        Line::Index(index) => n.indexes.add(alloc, index.name.as_slice())?,
+        Line::Class(class) => n.classes.add(alloc, class.name.as_slice())?,
+        Line::Mask(mask) => n.masks.add(alloc, mask.name.as_slice())?,
+        Line::Opcode(opcode) => n.opcodes.add(alloc, opcode.name.as_slice())?,
+    }
+    Ok(n)
+}

@@ -1,0 +1,292 @@
+//! The forms that a line may have.
+
+ghost use Rattle.std.specs.Prelude.{◌≡◌, IfOk, option_map, codes};
+ghost use Rattle.target_desc.specs.Text.{words};
+ghost use Rattle.target_desc.specs.Forms.{names_in, name_list, numbers_in, number_list, two_words, header_of, target_line, unit_of, unit_line, index_line, named_list, named_role, role_of, roles_of, role_list, opcode_line, formed, raw_line};
+
+use crate::raw::{Form, Header, NameList, RawLine, RawRole};
+use crate::tables::{effect_of, form_of, named_role_of, plain_role_of, version_of};
+use crate::text::{copy_of, cut, is_name, is_number, is_op_name, next_word, number};
+use std::alloc::{AllocError, Global};
+use target_base::{Bytes, Effect, IndexDesc, LaneNumbers, List, UnitDesc};
+
+/// The names of a text. None where one of its words is no name.
+fn names_in(alloc: Global, text: &[u8]) -> Result<Option<NameList>, AllocError>
+    ensures { IfOk result (λ r. r ≡ names_in (words text.now)) }
+{
+    let mut names = List::new(alloc);
+    let mut rest = text;
+    'words: while let Some((word, after)) = next_word(rest) {
+        if !is_name(word) {
+            return Ok(None);
+        }
+        names.push(copy_of(alloc, word)?)?;
+        rest = after;
+    }
+    Ok(Some(names))
+}
+
+/// One or more names.
+fn name_list(alloc: Global, text: &[u8]) -> Result<Option<NameList>, AllocError>
+    ensures { IfOk result (λ r. r ≡ name_list (words text.now)) }
+{
+    match next_word(text) {
+        None => Ok(None),
+        Some(_) => names_in(alloc, text),
+    }
+}
+
+/// The numbers of a text. None where one of its words is no number.
+fn numbers_in(alloc: Global, text: &[u8]) -> Result<Option<LaneNumbers>, AllocError>
+    ensures { IfOk result (λ r. r ≡ numbers_in (words text.now)) }
+{
+    let mut numbers = List::new(alloc);
+    let mut rest = text;
+    'words: while let Some((word, after)) = next_word(rest) {
+        if !is_number(word) {
+            return Ok(None);
+        }
+        numbers.push(number(word))?;
+        rest = after;
+    }
+    Ok(Some(numbers))
+}
+
+/// One or more numbers.
+fn number_list(alloc: Global, text: &[u8]) -> Result<Option<LaneNumbers>, AllocError>
+    ensures { IfOk result (λ r. r ≡ number_list (words text.now)) }
+{
+    match next_word(text) {
+        None => Ok(None),
+        Some(_) => numbers_in(alloc, text),
+    }
+}
+
+/// The two words of a text. None where it has fewer or more.
+fn two_words(text: &[u8]) -> Option<(&[u8], &[u8])>
+    ensures { option_map (λ p. (p.0.now, p.1.now)) result ≡ two_words (words text.now) }
+{
+    let Some((first, rest)) = next_word(text) else {
+        return None;
+    };
+    let Some((second, rest)) = next_word(rest) else {
+        return None;
+    };
+    match next_word(rest) {
+        None => Some((first, second)),
+        Some(_) => None,
+    }
+}
+
+/// The target's name and version.
+fn header_of(alloc: Global, name: &[u8], version: &[u8]) -> Result<Option<RawLine>, AllocError>
+    ensures { IfOk result (λ r. r ≡ header_of name.now version.now) }
+{
+    if !is_name(name) {
+        return Ok(None);
+    }
+    match version_of(version) {
+        None => Ok(None),
+        Some(version) => Ok(Some(RawLine::Target(Header {
+            name: copy_of(alloc, name)?,
+            version,
+        }))),
+    }
+}
+
+/// `target NAME V`, behind the first word.
+fn target_line(alloc: Global, text: &[u8]) -> Result<Option<RawLine>, AllocError>
+    ensures { IfOk result (λ r. r ≡ target_line (words text.now)) }
+{
+    match two_words(text) {
+        None => Ok(None),
+        Some((name, version)) => header_of(alloc, name, version),
+    }
+}
+
+/// A unit of this name and width.
+fn unit_of(alloc: Global, name: &[u8], width: &[u8]) -> Result<Option<RawLine>, AllocError>
+    ensures { IfOk result (λ r. r ≡ unit_of name.now width.now) }
+{
+    if is_name(name) && is_number(width) {
+        Ok(Some(RawLine::Unit(UnitDesc {
+            name: copy_of(alloc, name)?,
+            width: number(width),
+        })))
+    } else {
+        Ok(None)
+    }
+}
+
+/// `unit NAME WIDTH`, behind the first word.
+fn unit_line(alloc: Global, text: &[u8]) -> Result<Option<RawLine>, AllocError>
+    ensures { IfOk result (λ r. r ≡ unit_line (words text.now)) }
+{
+    match two_words(text) {
+        None => Ok(None),
+        Some((name, width)) => unit_of(alloc, name, width),
+    }
+}
+
+/// `index NAME LANE ..`, behind the first word.
+fn index_line(alloc: Global, text: &[u8]) -> Result<Option<RawLine>, AllocError>
+    ensures { IfOk result (λ r. r ≡ index_line (words text.now)) }
+{
+    let Some((name, rest)) = next_word(text) else {
+        return Ok(None);
+    };
+    if !is_name(name) {
+        return Ok(None);
+    }
+    match number_list(alloc, rest)? {
+        None => Ok(None),
+        Some(lanes) => Ok(Some(RawLine::Index(IndexDesc {
+            name: copy_of(alloc, name)?,
+            lanes,
+        }))),
+    }
+}
+
+/// A name, and then one or more names.
+fn named_list(alloc: Global, text: &[u8]) -> Result<Option<(Bytes, NameList)>, AllocError>
+    ensures { IfOk result (λ r. r ≡ named_list (words text.now)) }
+{
+    let Some((name, rest)) = next_word(text) else {
+        return Ok(None);
+    };
+    if !is_name(name) {
+        return Ok(None);
+    }
+    match name_list(alloc, rest)? {
+        None => Ok(None),
+        Some(names) => Ok(Some((copy_of(alloc, name)?, names))),
+    }
+}
+
+/// A role that is a word, a colon and a name.
+fn named_role(alloc: Global, word: &[u8]) -> Result<Option<RawRole>, AllocError>
+    ensures { IfOk result (λ r. r ≡ named_role word.now) }
+{
+    let (head, name) = cut(word, b':');
+    if !is_name(name) {
+        return Ok(None);
+    }
+    match named_role_of(head) {
+        None => Ok(None),
+        Some(role) => Ok(Some(RawRole::Named(role, copy_of(alloc, name)?))),
+    }
+}
+
+/// The role that a word spells.
+#[tactic(auto, unfolding(crate::specs::Forms::role_of))]
+fn role_of(alloc: Global, word: &[u8]) -> Result<Option<RawRole>, AllocError>
+    ensures { IfOk result (λ r. r ≡ role_of word.now) }
+{
+    match plain_role_of(word) {
+        None => named_role(alloc, word),
+        Some(role) => Ok(Some(RawRole::Plain(role))),
+    }
+}
+
+/// The roles of a text. None where one of its words is no role.
+fn roles_in(alloc: Global, text: &[u8]) -> Result<Option<List<RawRole>>, AllocError>
+    ensures { IfOk result (λ r. r ≡ roles_of (words text.now)) }
+{
+    let mut roles = List::new(alloc);
+    let mut rest = text;
+    'words: while let Some((word, after)) = next_word(rest) {
+        match role_of(alloc, word)? {
+            None => return Ok(None),
+            Some(role) => roles.push(role)?,
+        }
+        rest = after;
+    }
+    Ok(Some(roles))
+}
+
+/// One or more roles.
+fn role_list(alloc: Global, text: &[u8]) -> Result<Option<List<RawRole>>, AllocError>
+    ensures { IfOk result (λ r. r ≡ role_list (words text.now)) }
+{
+    match next_word(text) {
+        None => Ok(None),
+        Some(_) => roles_in(alloc, text),
+    }
+}
+
+/// An opcode of this name and effect with the roles that a text spells.
+fn opcode_of(
+    alloc: Global,
+    name: &[u8],
+    effect: Effect,
+    text: &[u8],
+) -> Result<Option<RawLine>, AllocError>
+    ensures { IfOk result (λ r. r ≡ option_map (λ roles. RawLine.Opcode name.now effect roles) (role_list (words text.now))) }
+{
+    match role_list(alloc, text)? {
+        None => Ok(None),
+        Some(roles) => Ok(Some(RawLine::Opcode(copy_of(alloc, name)?, effect, roles))),
+    }
+}
+
+/// `op NAME EFFECT ROLE ..`, behind the first word.
+fn opcode_line(alloc: Global, text: &[u8]) -> Result<Option<RawLine>, AllocError>
+    ensures { IfOk result (λ r. r ≡ opcode_line (words text.now)) }
+{
+    let Some((name, rest)) = next_word(text) else {
+        return Ok(None);
+    };
+    let Some((word, rest)) = next_word(rest) else {
+        return Ok(None);
+    };
+    if !is_op_name(name) {
+        return Ok(None);
+    }
+    match effect_of(word) {
+        None => Ok(None),
+        Some(effect) => opcode_of(alloc, name, effect, rest),
+    }
+}
+
+/// What a text says behind the first word of its line.
+#[tactic(auto, unfolding(crate::specs::Forms::formed))]
+fn formed(alloc: Global, form: Form, text: &[u8]) -> Result<Option<RawLine>, AllocError>
+    ensures { IfOk result (λ r. r ≡ formed form (words text.now)) }
+{
+    match form {
+        Form::Target => target_line(alloc, text),
+        Form::Unit => unit_line(alloc, text),
+        Form::Index => index_line(alloc, text),
+        Form::Opcode => opcode_line(alloc, text),
+        Form::Reserved => match name_list(alloc, text)? {
+            None => Ok(None),
+            Some(names) => Ok(Some(RawLine::Reserved(names))),
+        },
+        Form::Reg => match named_list(alloc, text)? {
+            None => Ok(None),
+            Some((name, units)) => Ok(Some(RawLine::Reg(name, units))),
+        },
+        Form::Class => match named_list(alloc, text)? {
+            None => Ok(None),
+            Some((name, regs)) => Ok(Some(RawLine::Class(name, regs))),
+        },
+        Form::Mask => match named_list(alloc, text)? {
+            None => Ok(None),
+            Some((name, regs)) => Ok(Some(RawLine::Mask(name, regs))),
+        },
+    }
+}
+
+/// What a line says, by its first word and the text behind it. None where it is of no form.
+pub(crate) fn raw_line(
+    alloc: Global,
+    word: &[u8],
+    text: &[u8],
+) -> Result<Option<RawLine>, AllocError>
+    ensures { IfOk result (λ r. r ≡ raw_line word.now (words text.now)) }
+{
+    match form_of(word) {
+        None => Ok(None),
+        Some(form) => formed(alloc, form, text),
+    }
+}

@@ -1,0 +1,26 @@
+//! Reading target files: the text that describes a machine to the register allocator.
+#![tactic(auto)]
+
+mod add;
+mod complete;
+mod draft;
+pub mod fault;
+mod forms;
+pub mod law;
+mod names;
+mod raw;
+pub mod read;
+mod resolve;
+mod roles;
+mod rules;
+mod tables;
+mod text;
+mod widths;
+
+pub use fault::{TargetFault, TargetKind, TargetStop};
+pub use read::read_target;
+pub use target_base::{
+    Bytes, ClassDesc, ClassDescs, ClassId, Copied, Effect, Flags, IndexDesc, IndexDescs, IndexId,
+    LaneNumbers, List, MaskDesc, MaskDescs, MaskId, Numbers, OpId, OpcodeDesc, OpcodeDescs, Reg,
+    RegDesc, RegDescs, Regs, Role, Roles, Target, Unit, UnitDesc, UnitDescs, UnitList, mini,
+};

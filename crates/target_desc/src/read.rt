@@ -1,0 +1,258 @@
+//! Reading the text of a target.
+
+ghost use Rattle.std.specs.Prelude.{◌≡◌, ◌<◌, IfOk, IsTrue, option_map, length};
+ghost use Rattle.target_desc.specs.Resolving.{is_new};
+ghost use Rattle.std.specs.List.{list_all};
+ghost use Rattle.target_base.specs.Rules.{is_complete};
+ghost use Rattle.target_desc.specs.Text.{words};
+ghost use Rattle.target_desc.specs.Forms.{raw_line};
+ghost use Rattle.target_desc.specs.Drafts.{empty_draft, names_of};
+ghost use Rattle.target_desc.specs.Keeping.{keeps_rules};
+ghost use Rattle.target_desc.specs.Ending.{belongs, reserved_units, reserved_of, is_whole, parts_of, parts_under, ended};
+ghost use Rattle.target_desc.specs.Reading.{ruled, named, laid_out, line_after, spelled, stop_at, GivesLine, Gives};
+
+use crate::add::{added, empty_draft, first_names, noted};
+use crate::complete::{is_among, is_complete};
+use crate::draft::{Draft, Line};
+use crate::fault::{LineStop, TargetFault, TargetKind, TargetStop};
+use crate::forms::raw_line;
+use crate::names::NameTables;
+use crate::raw::{Header, RawLine};
+use crate::resolve::{is_new, resolved};
+use crate::rules::stands;
+use crate::text::{is_comment, next_part, next_word};
+use std::alloc::{AllocError, Global};
+use target_base::registers::units_at;
+use target_base::{ClassDesc, IndexDesc, List, OpcodeDesc, Reg, RegDesc, Target, Unit, UnitList};
+
+/// What the lines so far make: a draft that keeps the rules, and the names that it declares.
+#[derive(Drop)]
+struct Reader {
+    draft: Draft,
+    names: NameTables,
+    ghost named: { names ≡ names_of draft },
+    ghost sound: { IsTrue (keeps_rules draft) },
+}
+
+impl Reader {
+    /// The reader before the first line.
+    fn new(alloc: Global) -> Result<Reader, AllocError>
+        ensures { IfOk result (λ r. r.draft ≡ empty_draft) }
+    {
+        Ok(Reader {
+            draft: empty_draft(alloc)?,
+            names: first_names(alloc)?,
+        })
+    }
+
+    /// The reader behind a line whose names are looked up, where it keeps the rules.
+    fn ruled(self, alloc: Global, line: Line) -> Result<Reader, LineStop>
+        requires { IsTrue (is_new self.names line) }
+        ensures { GivesLine (λ r. r.draft) result (ruled self.draft line) }
+    {
+        let Reader { draft, names } = self;
+        if !stands(&draft, &line) {
+            return Err(LineStop::Fault(TargetKind::Rule));
+        }
+        let names = noted(alloc, names, &line)?;
+        let draft = added(draft, line)?;
+        Ok(Reader { draft, names })
+    }
+
+    /// The reader behind a line, where its names are declared and the one that it declares isn't.
+    fn named(self, alloc: Global, line: Option<Line>) -> Result<Reader, LineStop>
+        ensures { GivesLine (λ r. r.draft) result (named self.draft line) }
+    {
+        match line {
+            None => Err(LineStop::Fault(TargetKind::Name)),
+            Some(line) => {
+                if is_new(&self.names, &line) {
+                    self.ruled(alloc, line)
+                } else {
+                    Err(LineStop::Fault(TargetKind::Name))
+                }
+            }
+        }
+    }
+
+    /// The reader behind a line, where it is of some form.
+    fn laid_out(self, alloc: Global, raw: Option<RawLine>) -> Result<Reader, LineStop>
+        ensures { GivesLine (λ r. r.draft) result (laid_out self.draft raw) }
+    {
+        match raw {
+            None => Err(LineStop::Fault(TargetKind::Layout)),
+            Some(raw) => {
+                let line = resolved(alloc, &self.names, raw)?;
+                self.named(alloc, line)
+            }
+        }
+    }
+
+    /// The reader behind a line, or the first test that the line fails.
+    #[tactic(auto, unfolding(crate::specs::Reading::line_after))]
+    fn line(self, alloc: Global, line: &[u8]) -> Result<Reader, LineStop>
+        ensures { GivesLine (λ r. r.draft) result (line_after self.draft line.now) }
+    {
+        if is_comment(line) {
+            return Ok(self);
+        }
+        match next_word(line) {
+            None => Ok(self),
+            Some((word, rest)) => {
+                let raw = raw_line(alloc, word, rest)?;
+                self.laid_out(alloc, raw)
+            }
+        }
+    }
+
+    /// The target of the lines so far with these reserved units. None where no line came.
+    fn made(self, reserved: UnitList) -> Option<Target>
+        requires reserved { reserved ≡ reserved_of self.draft }
+        requires complete { IsTrue (is_whole self.draft) }
+        ensures { option_map parts_of result ≡ option_map (λ h. parts_under h self.draft) self.draft.header }
+    {
+        let Reader { draft, names: _ } = self;
+        let Draft {
+            header,
+            units,
+            regs,
+            reserved: _,
+            indexes,
+            classes,
+            masks,
+            opcodes,
+        } = draft;
+        match header {
+            None => None,
+            Some(Header { name, version }) => Some(Target {
+                name,
+                version,
+                units,
+                regs,
+                reserved,
+                indexes,
+                classes,
+                masks,
+                opcodes,
+            }),
+        }
+    }
+
+    /// The target of the lines so far. None where something lacks.
+    fn end(self, alloc: Global) -> Result<Option<Target>, AllocError>
+        ensures { IfOk result (λ t. option_map parts_of t ≡ ended self.draft) }
+    {
+        let reserved = reserved_of(alloc, &self.draft)?;
+        if is_whole(&self.draft, reserved.as_slice()) {
+            Ok(self.made(reserved))
+        } else {
+            Ok(None)
+        }
+    }
+}
+
+/// Whether a unit belongs to one of these registers.
+fn belongs(regs: &[RegDesc], rs: &[Reg], u: Unit) -> bool
+    ensures { result ≡ belongs regs.now rs.now u }
+{
+    rs.iter().any(|r| is_among(units_at(regs, *r), u))
+}
+
+/// Those of the first `count` units that belong to these registers, by number.
+fn reserved_units(
+    alloc: Global,
+    count: usize,
+    regs: &[RegDesc],
+    rs: &[Reg],
+) -> Result<UnitList, AllocError>
+    requires { count < 65536 }
+    ensures { IfOk result (λ us. us ≡ reserved_units count regs.now rs.now) }
+{
+    let mut made = List::new(alloc);
+    for u in 0..count {
+        let unit = Unit(u as u16);
+        if belongs(regs, rs, unit) {
+            made.push(unit)?;
+        }
+    }
+    Ok(made)
+}
+
+/// The units of the registers that a draft reserves.
+fn reserved_of(alloc: Global, d: &Draft) -> Result<UnitList, AllocError>
+    requires { length d.now.units < 65536 }
+    ensures { IfOk result (λ us. us ≡ reserved_of d.now) }
+{
+    reserved_units(
+        alloc,
+        d.units.len(),
+        d.regs.as_slice(),
+        d.reserved.as_slice(),
+    )
+}
+
+/// Whether each class of a draft is complete under its reserved units.
+#[tactic(auto, unfolding(crate::specs::Ending::is_whole))]
+fn is_whole(d: &Draft, reserved: &[Unit]) -> bool
+    requires { reserved.now ≡ reserved_of d.now }
+    ensures { result ≡ is_whole d.now }
+{
+    are_complete(
+        d.regs.as_slice(),
+        reserved,
+        d.indexes.as_slice(),
+        d.classes.as_slice(),
+        d.opcodes.as_slice(),
+    )
+}
+
+/// Whether each class can be spilled and reloaded, has an unreserved register, and has a part for
+/// each index that fits.
+fn are_complete(
+    regs: &[RegDesc],
+    reserved: &[Unit],
+    indexes: &[IndexDesc],
+    classes: &[ClassDesc],
+    opcodes: &[OpcodeDesc],
+) -> bool
+    ensures { result ≡ list_all (is_complete regs.now reserved.now indexes.now classes.now opcodes.now) classes.now }
+{
+    classes.iter().all(|c| is_complete(regs, reserved, indexes, classes, opcodes, c))
+}
+
+/// Why no target is read, where a line of this number stops.
+fn at_line(number: u64, stop: LineStop) -> TargetStop
+    ensures { result ≡ stop_at number stop }
+{
+    match stop {
+        LineStop::Fault(kind) => TargetStop::Fault(TargetFault { line: number, kind }),
+        LineStop::Memory(e) => TargetStop::Memory(e),
+    }
+}
+
+/// The bytes of a target file as the target that they spell. Fault comes exactly where they spell
+/// none, with the first line that can't follow those before it and the first test that fails
+/// there, or with End and the line behind the last.
+pub fn read_target(alloc: Global, bytes: &[u8]) -> Result<Target, TargetStop>
+    ensures { Gives parts_of result (spelled bytes.now) }
+{
+    let mut reader = Reader::new(alloc)?;
+    let mut rest = bytes;
+    let mut number = 1u64;
+    'lines: while !rest.is_empty() {
+        let (line, after) = next_part(rest, b'\n');
+        reader = match reader.line(alloc, line) {
+            Ok(reader) => reader,
+            Err(stop) => return Err(at_line(number, stop)),
+        };
+        number += 1;
+        rest = after;
+    }
+    match reader.end(alloc)? {
+        None => Err(TargetStop::Fault(TargetFault {
+            line: number,
+            kind: TargetKind::End,
+        })),
+        Some(target) => Ok(target),
+    }
+}
