@@ -1,7 +1,7 @@
 -- What is read, piece by piece.
 use Rattle.std.proofs.Common.{◌≡◌, ℕ, ◌<◌, ◌≤◌, ◌+◌, List, ◌++◌, length, take, drop, Option, Some, None, refl, ap, sym, ◌∙◌, subst, arith, length-drop, length-take}
 use Rattle.std.specs.Prelude.{IfSome}
-use Rattle.std.proofs.lemmas.List.{drop-drop, take_all}
+use Rattle.std.proofs.lemmas.List.{drop-drop, take_all, drop_all}
 use Rattle.ra_top.specs.Device.{Takes}
 use Rattle.ra_top.proofs.Written.{take_on}
 
@@ -36,6 +36,19 @@ HasFront-end (Some all) cur new bytes piece len most room below f t =
     let taken = front_takes all cur new bytes piece len 0 f t in
     let past : length all ≤ len = omega (arith, ap length (taken.end refl room), length-drop len all) in
     f.0 ∙ take_all len all past ∙ sym (take_all most all (omega arith))
+
+-- what is left then
+pub HasFront-left : (old cur new : Option (List ℕ)) (bytes piece : List ℕ) (len most : ℕ) → 0 < length piece → len ≤ most → HasFront old cur bytes len → IfSome cur (λ left. Takes left new piece 0) → IfSome old (λ all. new ≡ Some (drop most all))
+HasFront-left None cur new bytes piece len most room below f t = tt
+HasFront-left (Some all) cur new bytes piece len most room below f t =
+    let taken = front_takes all cur new bytes piece len 0 f t in
+    let past : length all ≤ len = omega (arith, ap length (taken.end refl room), length-drop len all) in
+    taken.rest ∙ ap Some (taken.end refl room ∙ sym (drop_all most all (omega arith)))
+
+-- as much was read as is wanted
+pub HasFront-most : (old cur : Option (List ℕ)) (bytes : List ℕ) (len most : ℕ) → len ≡ most → HasFront old cur bytes len → IfSome old (λ all. cur ≡ Some (drop most all))
+HasFront-most None cur bytes len most e f = tt
+HasFront-most (Some all) cur bytes len most e f = f.2 ∙ ap (λ n. Some (drop n all)) e
 
 -- a file of which no more than the most was read was read whole
 pub read_whole : (file : Option (List ℕ)) (P : List ℕ → Type 0) (read : List ℕ) (most : ℕ) → IfSome file (λ all. read ≡ take (most + 1) all) → length read ≤ most → P read → IfSome file P

@@ -1,5 +1,5 @@
 -- What is written of a file.
-use Rattle.std.specs.Prelude.{◌≡◌, ℕ, ◌⊎◌, List, Option, IfSome}
+use Rattle.std.specs.Prelude.{◌≡◌, ℕ, ◌+◌, ◌⊎◌, List, Option, Some, IfSome, drop}
 use Rattle.target_base.specs.Mini.{mini_target}
 use Rattle.mir_func.specs.Value.{Function}
 use Rattle.mir_text.specs.First.{IsFirstForm, IsPrinted}
@@ -10,6 +10,10 @@ pub record IsFirstFile (bytes : List ℕ) : Type 0 where
   pub func : Function
   pub form : IsFirstForm mini_target func
   pub printed : IsPrinted mini_target func bytes
+
+-- the file, where its bytes are told, was read, but for what stands behind its first 4,194,305 bytes
+abbrev pub WasRead : Option (List ℕ) → Option (List ℕ) → Type 0
+WasRead file left = IfSome file (λ all. left ≡ Some (drop (4194304 + 1) all))
 
 -- a text is the printed spelling of some function of the built-in target
 pub record IsFunctionText (text : List ℕ) : Type 0 where

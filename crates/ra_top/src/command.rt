@@ -3,7 +3,7 @@
 ghost use Rattle.std.specs.Prelude.{◌≡◌, ◌++◌, ℕ, List, None, IfOk, IfSome, IfNone, codes};
 ghost use Rattle.target_base.specs.Mini.{mini_target};
 ghost use Rattle.ra_top.specs.Device.{Rose, WritesPart, WritesAll};
-ghost use Rattle.ra_top.specs.Printed.{IsFirstFile, IsFunctionText, Allocates, AllocatesPart, IsTold};
+ghost use Rattle.ra_top.specs.Printed.{IsFirstFile, IsFunctionText, WasRead, Allocates, AllocatesPart, IsTold};
 ghost use Rattle.ra_top.specs.Status.{line_of};
 ghost use Rattle.ra_top.specs.Words.{file_of, name_of};
 
@@ -43,6 +43,7 @@ pub fn top<F: Files, O: Sink, E: Sink>(
     ensures write_fault { result ≡ Status.WriteFault → (F.faults files.new ≡ F.faults files.old) × Rose (O.faults out.old) (O.faults out.new) × AllocatesPart (F.contents files.old (name_of words.now)) (O.written out.old) (O.written out.new) }
     ensures memory { result ≡ Status.Memory → (F.faults files.new ≡ F.faults files.old) × (out.new ≡ out.old) }
     ensures not_yet { result ≡ Status.NotYet → (F.faults files.new ≡ F.faults files.old) × (out.new ≡ out.old) }
+    ensures read { result ≡ Status.NotYet → IfSome (file_of words.now) (λ name. WasRead (F.contents files.old name) (F.left files.new)) }
 
     // The line of the status, as far as the error sink takes it.
     ensures line { IsTold (E.faults err.old) (E.faults err.new) (E.written err.old) (E.written err.new) (line_of result (name_of words.now)) }
@@ -78,6 +79,7 @@ fn allocate<F: Files, O: Sink>(alloc: Global, name: &str, files: &mut F, out: &m
     ensures write_fault { result ≡ Status.WriteFault → (F.faults files.new ≡ F.faults files.old) × Rose (O.faults out.old) (O.faults out.new) × AllocatesPart (F.contents files.old name.now) (O.written out.old) (O.written out.new) }
     ensures memory { result ≡ Status.Memory → (F.faults files.new ≡ F.faults files.old) × (out.new ≡ out.old) }
     ensures not_yet { result ≡ Status.NotYet → (F.faults files.new ≡ F.faults files.old) × (out.new ≡ out.old) }
+    ensures read { result ≡ Status.NotYet → WasRead (F.contents files.old name.now) (F.left files.new) }
 {
     let bytes = match read_file(alloc, name, files, MOST) {
         Ok(bytes) => bytes,

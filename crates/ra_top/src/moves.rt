@@ -1,6 +1,6 @@
 //! A file read whole, and a text written whole, piece by piece.
 
-ghost use Rattle.std.specs.Prelude.{◌≡◌, ℕ, ◌<◌, ◌≤◌, ◌+◌, ◌++◌, List, Option, length, vec_len, take, IfOk, OnOk, IfSome, Some, MatchResult};
+ghost use Rattle.std.specs.Prelude.{◌≡◌, ℕ, ◌<◌, ◌≤◌, ◌+◌, ◌++◌, List, Option, length, vec_len, take, drop, IfOk, OnOk, IfSome, Some, MatchResult};
 ghost use Rattle.ra_top.specs.Device.{HasCause, Rose, Takes, WritesPart, WritesAll};
 ghost use Rattle.ra_top.specs.Stops.{StopHasCause};
 
@@ -44,6 +44,7 @@ pub fn read_file<F: Files>(
     ensures contents { (n : List ℕ) → F.contents files.new n ≡ F.contents files.old n }
     ensures bytes { IfOk result (λ v. IfSome (F.contents files.old name.now) (λ all. v.items ≡ take (limit + 1) all)) }
     ensures within { IfOk result (λ v. vec_len v ≤ limit + 1) }
+    ensures left { IfOk result (λ _. IfSome (F.contents files.old name.now) (λ all. F.left files.new ≡ Some (drop (limit + 1) all))) }
     ensures cause { MatchResult result (λ _. F.faults files.new ≡ F.faults files.old) (λ stop. StopHasCause (F.faults files.old) (F.faults files.new) stop) }
 {
     match files.start(name) {
@@ -58,6 +59,7 @@ pub fn read_left<F: Files>(alloc: Global, files: &mut F, limit: u32) -> Result<V
     ensures contents { (n : List ℕ) → F.contents files.new n ≡ F.contents files.old n }
     ensures bytes { IfOk result (λ v. IfSome (F.left files.old) (λ all. v.items ≡ take (limit + 1) all)) }
     ensures within { IfOk result (λ v. vec_len v ≤ limit + 1) }
+    ensures left { IfOk result (λ _. IfSome (F.left files.old) (λ all. F.left files.new ≡ Some (drop (limit + 1) all))) }
     ensures cause { MatchResult result (λ _. F.faults files.new ≡ F.faults files.old) (λ stop. StopHasCause (F.faults files.old) (F.faults files.new) stop) }
 {
     let mut piece = zeros(alloc, PIECE)?;
@@ -75,6 +77,7 @@ fn read_pieces<F: Files>(
     ensures contents { (n : List ℕ) → F.contents files.new n ≡ F.contents files.old n }
     ensures bytes { IfOk result (λ v. IfSome (F.left files.old) (λ all. v.items ≡ take (limit + 1) all)) }
     ensures within { IfOk result (λ v. vec_len v ≤ limit + 1) }
+    ensures left { IfOk result (λ _. IfSome (F.left files.old) (λ all. F.left files.new ≡ Some (drop (limit + 1) all))) }
     ensures cause { MatchResult result (λ _. F.faults files.new ≡ F.faults files.old) (λ stop. StopHasCause (F.faults files.old) (F.faults files.new) stop) }
 {
     let mut bytes = Vec::new(alloc);

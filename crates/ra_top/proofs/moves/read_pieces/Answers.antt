@@ -1,6 +1,6 @@
 use Rattle.std.proofs.Common.{◌≡◌, ◌<◌, ◌≤◌, ◌+◌, length, vec_len, ◌∙◌, arith, length-take, drop, rules, ℕ}
 use Rattle.std.proofs.lemmas.List.{take-append-le}
-use Rattle.ra_top.proofs.Front.{HasFront-more, HasFront-end}
+use Rattle.ra_top.proofs.Front.{HasFront-more, HasFront-end, HasFront-left, HasFront-most}
 use Rattle.ra_top.proofs.moves.read_pieces.Goals as goal
 
 pub returns-in-Ok-eq0-clause-bytes : goal.returns-in-Ok-eq0-clause-bytes
@@ -8,6 +8,17 @@ returns-in-Ok-eq0-clause-bytes g c =
     let room : 0 < length c.read.new.piece = search rules in
     let below : vec_len c.pieces.bytes ≤ c.args.limit + 1 = c.pieces.invariant.within in
     HasFront-end _ _ _ _ _ _ _ room below c.pieces.invariant.front (rw c.in-Ok-eq0.field-0-test at c.in-Ok-eq0.ensures.takes)
+
+pub returns-in-Ok-eq0-clause-left : goal.returns-in-Ok-eq0-clause-left
+returns-in-Ok-eq0-clause-left g c =
+    let room : 0 < length c.read.new.piece = search rules in
+    let below : vec_len c.pieces.bytes ≤ c.args.limit + 1 = c.pieces.invariant.within in
+    HasFront-left _ _ _ _ _ _ _ room below c.pieces.invariant.front (rw c.in-Ok-eq0.field-0-test at c.in-Ok-eq0.ensures.takes)
+
+pub returns-then-room-eq0-clause-left : goal.returns-then-room-eq0-clause-left
+returns-then-room-eq0-clause-left g c =
+    let full : vec_len c.pieces.bytes ≡ c.args.limit + 1 = omega arith in
+    HasFront-most _ _ _ _ _ full c.pieces.invariant.front
 
 pub pieces-preserved : goal.pieces-preserved
 pieces-preserved g c =
