@@ -1,8 +1,8 @@
-//! Reads one function document over the built-in target and prints it, for comparing the reader
-//! and the printer with another implementation.
+//! Reads function documents over the built-in target and prints what was read, for comparing the
+//! reader and the printer with a reference model.
 //!
-//! Words: `read FILE` reads leniently, `first FILE` reads a first function; the document is
-//! printed, or the line `none` where nothing was read.
+//! The words are pairs of a command and a file: `read FILE` reads leniently, `first FILE` reads a
+//! first function. The document is printed, or the line `none` where nothing was read.
 #![tactic(auto)]
 
 use mir_func::Func;
@@ -12,6 +12,7 @@ use std::io::Write;
 use std::{env, fs, io};
 use target_base::{List, Target, mini};
 
+/// Reads a document as the command says.
 fn read(
     alloc: Global,
     target: &Target,
@@ -21,15 +22,24 @@ fn read(
     if command == "first" {
         return Ok(read_first(alloc, target, bytes)?);
     }
+    if command != "read" {
+        anyhow::bail!("a command is read or first");
+    }
     Ok(read_leniently(alloc, target, bytes)?)
 }
 
-fn answer(alloc: Global, command: &str, bytes: &[u8], out: &mut impl Write) -> anyhow::Result<()> {
-    let target = mini(alloc)?;
-    match read(alloc, &target, command, bytes)? {
+/// Reads a document and prints what was read.
+fn answer(
+    alloc: Global,
+    target: &Target,
+    command: &str,
+    bytes: &[u8],
+    out: &mut impl Write,
+) -> anyhow::Result<()> {
+    match read(alloc, target, command, bytes)? {
         None => out.write_all(b"none\n")?,
         Some(f) => {
-            let text = print_doc(alloc, &target, &Doc::Function(List::new(alloc), f))?;
+            let text = print_doc(alloc, target, &Doc::Function(List::new(alloc), f))?;
             out.write_all(text.as_slice())?;
         }
     }
@@ -38,16 +48,18 @@ fn answer(alloc: Global, command: &str, bytes: &[u8], out: &mut impl Write) -> a
 
 fn main(rt: HostRuntime) -> anyhow::Result<()> {
     let alloc = rt.alloc();
-    let mut words = env::args(&rt)?;
-    let _program = words.next();
-    let (Some(command), Some(file)) = (words.next(), words.next()) else {
-        anyhow::bail!("the words are read or first, and a file");
-    };
-    let bytes = fs::read(&rt, file.as_str())?;
-    answer(
-        alloc,
-        command.as_str(),
-        bytes.as_slice(),
-        &mut io::writer(&rt),
-    )
+    let target = mini(alloc)?;
+    let mut out = io::writer(&rt);
+    let mut command = None;
+    for word in env::args(&rt)?.skip(1) {
+        match command {
+            None => command = Some(word),
+            Some(name) => {
+                let bytes = fs::read(&rt, word.as_str())?;
+                answer(alloc, &target, name.as_str(), bytes.as_slice(), &mut out)?;
+                command = None;
+            }
+        }
+    }
+    Ok(())
 }
