@@ -1,0 +1,17 @@
+pub mod Basics
+pub mod Sound
+pub mod Complete
+pub mod Grown
+pub mod Cells
+pub mod Segments
+pub mod Last
+pub mod Raised
+pub mod Numbered
+pub mod Growth
+pub mod Rows
+pub mod Exits
+pub mod Sources
+pub mod Certain
+pub mod Pieces
+pub mod Certainty
+pub mod Whole

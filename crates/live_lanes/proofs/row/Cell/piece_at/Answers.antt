@@ -1,0 +1,19 @@
+use Rattle.std.proofs.Common.{rules, sym, ap, ◌∙◌, subst, Bool}
+use Rattle.live_lanes.specs.declared.row.Segment.{Segment}
+use Rattle.std.specs.List.Sorted.{IsPartitionedBy}
+use Rattle.std.proofs.lemmas.List.Sorted.{IsPartitionPoint-from_clause}
+use Rattle.live_lanes.specs.Table.{is_begun, leading, begun, Begun, seen_cell}
+use Rattle.live_lanes.proofs.Cells.{partition-leading}
+use Rattle.live_lanes.proofs.Segments.{begun-parted, parted-map, leading-map}
+use Rattle.live_lanes.proofs.row.Cell.piece_at.Goals as goal
+
+pub returns-clause-piece : goal.returns-clause-piece
+returns-clause-piece c = λ r.
+    let begins : Begun → Bool = is_begun c.args.slots.now c.args.at in
+    let test : Segment → Bool = λ s. begins (begun s) in
+    let items = c.args.self.now.segments.items in
+    let segments = c.as_slice.result.now in
+    let same = c.as_slice.ensures.value in
+    let part = subst (IsPartitionedBy test) (sym same) (parted-map begun begins items (begun-parted c.args.slots.now c.args.at (seen_cell c.args.self.now).segments r)) in
+    let at = IsPartitionPoint-from_clause test segments c.partition_point.result c.partition_point.ensures.partitioned part (λ a r f h. search rules) in
+    partition-leading test segments c.partition_point.result c.partition_point.ensures.bound at.0 at.1 ∙ ap (leading test) same ∙ sym (leading-map begun begins items)

@@ -1,0 +1,11 @@
+use Rattle.live_lanes.specs.declared.flow.Ways.{Ways}
+use Rattle.std.proofs.Common.{List, []}
+use Rattle.live_lanes.specs.Paths.{Code}
+use Rattle.live_lanes.specs.Table.{Numbers}
+use Rattle.live_lanes.specs.Entered.{IsTableOf}
+use Rattle.live_lanes.proofs.Certainty.{SomeLanes}
+use Rattle.live_lanes.proofs.table.Rows.raise_certain.Given as goal
+
+abbrev pub invariant-lanes : goal.invariant-lanes
+invariant-lanes l =
+    (code : Code) (slots : Numbers) (flow : List Ways) → IsTableOf code slots flow l.fn.self.rows.items → SomeLanes code l.fn.self.rows.items l.self.rows.items l.lane [] l.risen.items

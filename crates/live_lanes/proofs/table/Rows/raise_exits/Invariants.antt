@@ -1,0 +1,12 @@
+use Rattle.std.proofs.Common.{◌≡◌, true, List, take}
+use Rattle.live_lanes.specs.declared.flow.Ways.{Ways}
+use Rattle.live_lanes.specs.Paths.{Among, Code, exits_of}
+use Rattle.live_lanes.specs.Graph.{is_live}
+use Rattle.live_lanes.specs.Entered.{causes, terminators, IsTableOf}
+use Rattle.live_lanes.proofs.Exits.{SomeExits}
+use Rattle.live_lanes.proofs.table.Rows.raise_exits.Given as goal
+
+abbrev pub invariant-terminators : goal.invariant-terminators
+invariant-terminators l =
+    (code : Code) (flow : List Ways) → IsTableOf code l.order.slots flow l.fn.self.rows.items → is_live (causes l.fn.self.rows.items l.lane l.from 0) ≡ true → Among l.from (exits_of code l.block) → l.terminators ≡ terminators flow l.block
+    → SomeExits code l.order.slots l.fn.self.rows.items l.self.rows.items l.lane l.block (take l.id-index l.terminators) l.fn.risen.items l.risen.items

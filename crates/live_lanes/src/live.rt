@@ -1,0 +1,124 @@
+//! A function with what is live in it.
+
+use crate::enter::{entered, lanes_of};
+use crate::flow::flow_of;
+use crate::order::Order;
+use crate::row::{entry_rank, exit_rank};
+use crate::table::Table;
+use mir_func::Func;
+use std::alloc::{AllocError, Global};
+use target_base::{Target, Unit};
+
+/// A function, a copy of its target, and exactly where each lane is live and written.
+#[derive(Drop)]
+pub struct LiveFunc {
+    target: Target,
+    func: Func,
+    pub(crate) table: Table,
+}
+
+impl Table {
+    /// What is known of a function besides its text.
+    fn of(alloc: Global, target: &Target, func: &Func) -> Result<Table, AllocError> {
+        let lanes = lanes_of(alloc, target, func)?;
+        let order = Order::of(alloc, func)?;
+        let flow = flow_of(alloc, target, &order, func)?;
+        let mut rows = entered(alloc, target, &lanes, &order, func)?;
+        rows.grow(&order, flow.as_slice())?;
+        rows.end_all(&order, flow.as_slice());
+        Ok(Table {
+            lanes,
+            order,
+            flow,
+            rows,
+        })
+    }
+}
+
+impl LiveFunc {
+    /// The function with what is live in it under a target, which is copied. It may have phis.
+    pub fn compute(alloc: Global, target: &Target, f: Func) -> Result<LiveFunc, AllocError> {
+        let table = Table::of(alloc, target, &f)?;
+        let target = target.copy(alloc)?;
+        Ok(LiveFunc {
+            target,
+            func: f,
+            table,
+        })
+    }
+
+    /// The function.
+    pub fn func(&self) -> &Func {
+        &self.func
+    }
+
+    /// The target.
+    pub fn target(&self) -> &Target {
+        &self.target
+    }
+
+    /// The function alone.
+    pub fn into_func(self) -> Func {
+        let LiveFunc { func, .. } = self;
+        func
+    }
+
+    /// The number of a lane of a virtual register.
+    fn lane(&self, v: u32, lane: usize) -> Option<u32> {
+        if lane > 0xff {
+            return None;
+        }
+        self.table.lanes.of_range(v).lane(lane as u32)
+    }
+
+    fn is_live_in(&self, lane: u32, id: u32) -> bool {
+        let at = entry_rank(&self.table.order.slots, id);
+        self.table
+            .is_live_at(lane, self.table.order.block_of(id), at)
+    }
+
+    fn is_live_out(&self, lane: u32, id: u32) -> bool {
+        let at = exit_rank(&self.table.order.slots, id);
+        self.table
+            .is_live_at(lane, self.table.order.block_of(id), at)
+    }
+
+    /// Whether a lane of a virtual register is live at the entry of the instruction of that id.
+    pub fn live_in(&self, v: u32, lane: usize, id: u32) -> bool {
+        match self.lane(v, lane) {
+            Some(lane) => self.is_live_in(lane, id),
+            None => false,
+        }
+    }
+
+    /// Whether a lane of a virtual register is live at the exit of the instruction of that id.
+    pub fn live_out(&self, v: u32, lane: usize, id: u32) -> bool {
+        match self.lane(v, lane) {
+            Some(lane) => self.is_live_out(lane, id),
+            None => false,
+        }
+    }
+
+    /// Whether a lane of a virtual register is live at the start of the block of that number.
+    pub fn live_at(&self, v: u32, lane: usize, block: u32) -> bool {
+        match self.lane(v, lane) {
+            Some(lane) => self.table.is_live_in(lane, block),
+            None => false,
+        }
+    }
+
+    /// Whether a unit is live at the entry of the instruction of that id. Reserved units are not.
+    pub fn unit_in(&self, u: Unit, id: u32) -> bool {
+        self.is_live_in(u.0 as u32, id)
+    }
+
+    /// Whether a unit is live at the exit of the instruction of that id. Reserved units are not.
+    pub fn unit_out(&self, u: Unit, id: u32) -> bool {
+        self.is_live_out(u.0 as u32, id)
+    }
+
+    /// Whether a unit is live at the start of the block of that number. Reserved units are not.
+    pub fn unit_at(&self, u: Unit, block: u32) -> bool {
+        self.table.is_live_in(u.0 as u32, block)
+    }
+}

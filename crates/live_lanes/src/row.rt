@@ -1,0 +1,500 @@
+//! The pieces of one lane, block by block.
+//!
+//! A piece of a lane begins at a block's start or with a writing, and lasts until the next writing
+//! or the block's end. In it the lane is live up to the last reading that counts.
+
+ghost use Rattle.std.specs.Prelude.{◌≡◌, ℕ, ◌<◌, ◌≤◌, ◌+◌, ◌*◌, length, IfOk, IsTrue, option_copied, slice_get, find, reverse, [], OnOk, OnErr, cond, is_some, map, nat_eq, not, MatchOption, Some};
+ghost use Rattle.live_lanes.specs.Certain.{blocks_of, KeepsCertain, RaisesCertain};
+ghost use Rattle.live_lanes.specs.Table.{entry_rank, exit_rank, end_rank, descends, leading, is_before, find_cell, seen_in, seen_cell, unseen, rises_from, piece_at, piece_in, cause_in, with_cause, with_end, certain_cause, is_certain, cause_of, read_at_end, IsRaised, with_last, with_reading, with_segment, ends_with, starts_last, begun, with_end_at, begun_move, moved_in};
+ghost use Rattle.live_lanes.specs.Graph.{is_live};
+
+use slot_index::Slots;
+use std::alloc::{AllocError, Global};
+
+/// Up to where a lane is live in a piece.
+#[derive(Clone, Copy, PartialEq, Eq)]
+pub(crate) enum End {
+    /// Nowhere.
+    Never,
+    /// The entry of an instruction, which reads it.
+    Entry(u32),
+    /// The exit of a terminator.
+    Exit(u32),
+    /// The end of the block.
+    Last,
+}
+
+/// Why a lane is live in a piece. Along the causes one comes to a reading that needs no other lane.
+#[derive(Clone, Copy, PartialEq, Eq)]
+pub(crate) enum Cause {
+    /// It isn't live.
+    None,
+    /// An instruction reads the lane, or moves it into one that is live behind the instruction.
+    Reading(u32),
+    /// The lane is live at the start of the block at this position, which follows.
+    Follower(u32),
+    /// A phi of a block that follows reads it.
+    Phi,
+}
+
+impl Cause {
+    /// Whether a piece with this cause isn't live.
+    fn is_none(self) -> bool
+        ensures { result ≡ not (is_live self) }
+    {
+        matches!(self, Cause::None)
+    }
+}
+
+/// An instruction that reads the lane, or that moves it into another one.
+#[derive(Clone, Copy, PartialEq, Eq)]
+pub(crate) struct Reading {
+    /// The instruction.
+    pub id: u32,
+    /// The lane into which it is moved; none where it is read in any case.
+    pub into: Option<u32>,
+}
+
+/// A piece: why the lane is live in it, up to where, and its readings in order.
+#[derive(Drop)]
+pub(crate) struct Piece {
+    pub cause: Cause,
+    pub end: End,
+    pub readings: Vec<Reading>,
+}
+
+/// An instruction that writes the lane, and the piece that begins with this.
+#[derive(Drop)]
+pub(crate) struct Segment {
+    /// The instruction.
+    pub start: u32,
+    /// Whether the lane is occupied at the instruction's entry too.
+    pub early: bool,
+    /// The lane that is moved here.
+    pub from: Option<u32>,
+    pub piece: Piece,
+}
+
+/// A lane in one block.
+#[derive(Drop)]
+pub(crate) struct Cell {
+    /// The block's position in the layout.
+    pub block: u32,
+    /// Whether a phi reads the lane at the block's end.
+    pub is_read_last: bool,
+    /// The piece that begins with the block.
+    pub first: Piece,
+    /// The other pieces, in order.
+    pub segments: Vec<Segment>,
+}
+
+/// A lane's cells, from the last block to the first: as lanes are found live from their readings
+/// backwards, new cells mostly come at the end.
+#[derive(Drop)]
+pub(crate) struct Row {
+    pub cells: Vec<Cell>,
+    ghost sorted: { IsTrue (descends cells.items) },
+}
+
+/// A number of an entry, which rises along the layout.
+pub(crate) fn entry_rank(slots: &Slots, id: u32) -> u128
+    ensures { result ≡ entry_rank slots.now id }
+{
+    slots.number(id) as u128 * 2
+}
+
+/// A number of an exit, which rises along the layout.
+pub(crate) fn exit_rank(slots: &Slots, id: u32) -> u128
+    ensures { result ≡ exit_rank slots.now id }
+{
+    slots.number(id) as u128 * 2 + 1
+}
+
+/// A number of an end, which rises along the block.
+pub(crate) fn rank(slots: &Slots, end: End) -> u128
+    ensures { result ≡ end_rank slots.now end }
+{
+    match end {
+        End::Never => 0,
+        End::Entry(id) => entry_rank(slots, id),
+        End::Exit(id) => exit_rank(slots, id),
+        End::Last => u128::MAX,
+    }
+}
+
+impl Row {
+    /// No cells, which takes no memory.
+    pub fn new(alloc: Global) -> Row {
+        Row {
+            cells: Vec::new(alloc),
+        }
+    }
+
+    /// The place of a block's cell, or where it would stand.
+    fn place(&self, block: u32) -> usize
+        ensures within { result ≤ length self.now.cells.items }
+        ensures place { result ≡ leading (is_before block) self.now.cells.items }
+    {
+        self.cells.as_slice().partition_point(|c| c.block > block)
+    }
+
+    /// The cell of a block.
+    pub fn cell(&self, block: u32) -> Option<&Cell>
+        ensures { option_copied result ≡ find_cell block self.now.cells.items }
+    {
+        let at = self.place(block);
+        if at >= self.cells.len() {
+            return None;
+        }
+        let cell = &self.cells[at];
+        if cell.block != block {
+            return None;
+        }
+        Some(cell)
+    }
+
+    /// Whether there is a cell of a block.
+    fn has(&self, block: u32) -> bool
+        ensures { result ≡ is_some (find_cell block self.now.cells.items) }
+    {
+        self.cell(block).is_some()
+    }
+
+    /// The place of a block's cell, which is made where there is none.
+    pub fn make(&mut self, alloc: Global, block: u32) -> Result<usize, AllocError>
+        ensures within { IfOk result (λ at. at < length self.new.cells.items) }
+        ensures there { IfOk result (λ at. slice_get self.new.cells.items at
+            ≡ find_cell block self.new.cells.items) }
+        ensures same { (b : ℕ) → seen_in self.new.cells.items b ≡ seen_in self.old.cells.items b }
+    {
+        let at = self.place(block);
+        if self.has(block) {
+            return Ok(at);
+        }
+        self.cells.insert(at, Cell::new(alloc, block))?;
+        Ok(at)
+    }
+}
+
+impl Row {
+    /// Notes that a phi reads the lane at the end of a block.
+    pub fn read_last(&mut self, alloc: Global, block: u32) -> Result<(), AllocError>
+        ensures { OnOk result ((b : ℕ) → seen_in self.new.cells.items b
+            ≡ cond (nat_eq block b) (read_at_end (seen_in self.old.cells.items block)) (seen_in self.old.cells.items b)) }
+    {
+        let place = self.make(alloc, block)?;
+        self.cells[place].is_read_last = true;
+        Ok(())
+    }
+
+    /// Adds a reading to the last piece in a block.
+    pub fn add_reading(
+        &mut self,
+        alloc: Global,
+        block: u32,
+        reading: Reading,
+    ) -> Result<(), AllocError>
+        ensures { OnOk result ((b : ℕ) → seen_in self.new.cells.items b
+            ≡ cond (nat_eq block b) (with_reading reading (seen_in self.old.cells.items block)) (seen_in self.old.cells.items b)) }
+    {
+        let place = self.make(alloc, block)?;
+        self.cells[place].add_reading(reading)
+    }
+
+    /// Adds a piece behind the others in a block.
+    pub fn add_segment(
+        &mut self,
+        alloc: Global,
+        block: u32,
+        start: u32,
+        early: bool,
+        from: Option<u32>,
+    ) -> Result<(), AllocError>
+        ensures { OnOk result ((b : ℕ) → seen_in self.new.cells.items b
+            ≡ cond (nat_eq block b) (with_segment start early from (seen_in self.old.cells.items block)) (seen_in self.old.cells.items b)) }
+    {
+        let place = self.make(alloc, block)?;
+        self.cells[place].add_segment(alloc, start, early, from)
+    }
+
+    /// Gives a cause to the piece of a block that the point of this rank lies in. Answers its
+    /// number, or None where the piece was live, which then stays as it is.
+    pub fn raise(
+        &mut self,
+        alloc: Global,
+        slots: &Slots,
+        block: u32,
+        at: u128,
+        cause: Cause,
+    ) -> Result<Option<usize>, AllocError>
+        ensures { IfOk result (λ index. IsTrue (rises_from slots.now 0 (seen_in self.old.cells.items block).segments)
+            → IsRaised slots.now self.old.cells.items self.new.cells.items block at cause index) }
+    {
+        let place = self.make(alloc, block)?;
+        let index = self.cells[place].piece_at(slots, at);
+        if self.cells[place].is_live(index) {
+            return Ok(None);
+        }
+        self.cells[place].set_cause(index, cause);
+        Ok(Some(index))
+    }
+
+    /// Gives a cause to a piece of the cell at a place, where it needs no other lane and isn't live.
+    /// Answers the cell's block then.
+    pub fn raise_certain(&mut self, place: usize, index: usize) -> Option<u32>
+        ensures blocks { blocks_of self.new.cells.items ≡ blocks_of self.old.cells.items }
+        ensures raised { MatchOption result (KeepsCertain self.old.cells.items self.new.cells.items place index) (λ block. (slice_get (blocks_of self.old.cells.items) place ≡ Some block)
+            × RaisesCertain self.old.cells.items self.new.cells.items block index) }
+    {
+        if place >= self.cells.len() {
+            return None;
+        }
+        let block = self.cells[place].block;
+        if self.cells[place].is_live(index) {
+            return None;
+        }
+        let cause = self.cells[place].certain_cause(index);
+        if cause.is_none() {
+            return None;
+        }
+        self.cells[place].set_cause(index, cause);
+        Some(block)
+    }
+
+    /// Gives a piece of the cell at a place an end.
+    pub fn set_end(&mut self, place: usize, index: usize, end: End)
+        ensures { (b : ℕ) → seen_in self.new.cells.items b
+            ≡ with_end_at (slice_get self.old.cells.items place) index end (seen_in self.old.cells.items b) b }
+    {
+        if place < self.cells.len() {
+            self.cells[place].set_end(index, end);
+        }
+    }
+}
+
+/// Whether the last of these readings is that of an instruction.
+fn ends_with(readings: &[Reading], id: u32) -> bool
+    ensures { result ≡ ends_with id readings.now }
+{
+    match readings.last() {
+        Some(last) => last.id == id,
+        None => false,
+    }
+}
+
+/// Whether the last of these segments begins with an instruction.
+fn starts_last(segments: &[Segment], id: u32) -> bool
+    ensures { result ≡ starts_last id (map begun segments.now) }
+{
+    match segments.last() {
+        Some(last) => last.start == id,
+        None => false,
+    }
+}
+
+impl Piece {
+    /// A piece without readings, which isn't live.
+    fn new(alloc: Global) -> Piece
+        ensures cause { result.cause ≡ Cause.None }
+        ensures end { result.end ≡ End.Never }
+        ensures readings { result.readings.items ≡ [] }
+    {
+        Piece {
+            cause: Cause::None,
+            end: End::Never,
+            readings: Vec::new(alloc),
+        }
+    }
+
+    /// Whether the lane is live in it.
+    pub fn is_live(&self) -> bool
+        ensures { result ≡ is_live self.now.cause }
+    {
+        !matches!(self.cause, Cause::None)
+    }
+
+    /// Adds a reading behind the others. An instruction's first reading of the lane counts.
+    fn add_reading(&mut self, reading: Reading) -> Result<(), AllocError>
+        ensures cause { self.new.cause ≡ self.old.cause }
+        ensures end { self.new.end ≡ self.old.end }
+        ensures added { OnOk result (self.new.readings.items ≡ with_last reading self.old.readings.items) }
+    {
+        if ends_with(self.readings.as_slice(), reading.id) {
+            return Ok(());
+        }
+        self.readings.push(reading)?;
+        Ok(())
+    }
+
+    /// Its last reading that needs no other lane.
+    fn certain_reading(&self) -> Option<&Reading>
+        ensures { option_copied result ≡ find is_certain (reverse self.now.readings.items) }
+    {
+        self.readings.iter().rev().find(|r| r.into.is_none())
+    }
+
+    /// Its last reading that needs no other lane, as a cause.
+    fn certain_cause(&self) -> Cause
+        ensures { result ≡ cause_of (find is_certain (reverse self.now.readings.items)) }
+    {
+        match self.certain_reading() {
+            Some(reading) => Cause::Reading(reading.id),
+            None => Cause::None,
+        }
+    }
+}
+
+impl Segment {
+    /// The instruction, and the lane that it moves here, if it moves one.
+    fn moved(&self) -> Option<(u32, u32)>
+        ensures { result ≡ begun_move (begun self.now) }
+    {
+        match self.from {
+            Some(from) => Some((self.start, from)),
+            None => None,
+        }
+    }
+}
+
+impl Cell {
+    /// A cell without readings and writings.
+    fn new(alloc: Global, block: u32) -> Cell
+        ensures block { result.block ≡ block }
+        ensures unseen { seen_cell result ≡ unseen }
+    {
+        Cell {
+            block,
+            is_read_last: false,
+            first: Piece::new(alloc),
+            segments: Vec::new(alloc),
+        }
+    }
+
+    /// Adds a reading to the last piece. An instruction's first reading of the lane counts.
+    pub fn add_reading(&mut self, reading: Reading) -> Result<(), AllocError>
+        ensures block { self.new.block ≡ self.old.block }
+        ensures added { OnOk result (seen_cell self.new ≡ with_reading reading (seen_cell self.old)) }
+    {
+        let count = self.segments.len();
+        if count == 0 {
+            self.first.add_reading(reading)
+        } else {
+            self.segments[count - 1].piece.add_reading(reading)
+        }
+    }
+
+    /// Adds a piece behind the others. An instruction's first writing of the lane counts.
+    pub fn add_segment(
+        &mut self,
+        alloc: Global,
+        start: u32,
+        early: bool,
+        from: Option<u32>,
+    ) -> Result<(), AllocError>
+        ensures block { self.new.block ≡ self.old.block }
+        ensures added { OnOk result (seen_cell self.new ≡ with_segment start early from (seen_cell self.old)) }
+    {
+        if starts_last(self.segments.as_slice(), start) {
+            return Ok(());
+        }
+        self.segments.push(Segment {
+            start,
+            early,
+            from,
+            piece: Piece::new(alloc),
+        })?;
+        Ok(())
+    }
+
+    /// The piece that the point of this rank lies in: 0 is the one that begins with the block.
+    pub fn piece_at(&self, slots: &Slots, at: u128) -> usize
+        ensures within { result ≤ length self.now.segments.items }
+        ensures piece { IsTrue (rises_from slots.now 0 (seen_cell self.now).segments)
+            → result ≡ piece_at slots.now at (seen_cell self.now).segments }
+    {
+        self.segments
+            .as_slice()
+            .partition_point(|s| exit_rank(slots, s.start) <= at)
+    }
+
+    /// A piece by its place: 0 is the one that begins with the block.
+    pub fn piece(&self, index: usize) -> Option<&Piece>
+        ensures { option_copied result ≡ piece_in self.now index }
+    {
+        if index == 0 {
+            return Some(&self.first);
+        }
+        match self.segments.get(index - 1) {
+            Some(segment) => Some(&segment.piece),
+            None => None,
+        }
+    }
+
+    /// The instruction that begins a piece by a move, and the lane that it moves.
+    pub fn moved(&self, index: usize) -> Option<(u32, u32)>
+        ensures { result ≡ moved_in (seen_cell self.now) index }
+    {
+        if index == 0 {
+            return None;
+        }
+        if index > self.segments.len() {
+            return None;
+        }
+        self.segments[index - 1].moved()
+    }
+
+    /// Whether a piece is live.
+    pub fn is_live(&self, index: usize) -> bool
+        ensures { result ≡ is_live (cause_in (seen_cell self.now) index) }
+    {
+        match self.piece(index) {
+            Some(piece) => piece.is_live(),
+            None => false,
+        }
+    }
+
+    /// Gives a piece a cause.
+    pub fn set_cause(&mut self, index: usize, cause: Cause)
+        ensures block { self.new.block ≡ self.old.block }
+        ensures changed { seen_cell self.new ≡ with_cause (seen_cell self.old) index cause }
+    {
+        if index == 0 {
+            self.first.cause = cause;
+        } else if index - 1 < self.segments.len() {
+            self.segments[index - 1].piece.cause = cause;
+        }
+    }
+
+    /// Gives a piece an end.
+    pub fn set_end(&mut self, index: usize, end: End)
+        ensures block { self.new.block ≡ self.old.block }
+        ensures changed { seen_cell self.new ≡ with_end (seen_cell self.old) index end }
+    {
+        if index == 0 {
+            self.first.end = end;
+        } else if index - 1 < self.segments.len() {
+            self.segments[index - 1].piece.end = end;
+        }
+    }
+
+    /// Why a piece is live without any other lane.
+    pub fn certain_cause(&self, index: usize) -> Cause
+        ensures { result ≡ certain_cause (seen_cell self.now) index }
+    {
+        if self.is_read_last && index == self.segments.len() {
+            return Cause::Phi;
+        }
+        match self.piece(index) {
+            Some(piece) => piece.certain_cause(),
+            None => Cause::None,
+        }
+    }
+
+    /// Whether the lane is live at the point of this rank.
+    pub fn is_live_at(&self, slots: &Slots, at: u128) -> bool {
+        match self.piece(self.piece_at(slots, at)) {
+            Some(piece) => rank(slots, piece.end) >= at,
+            None => false,
+        }
+    }
+}
