@@ -3,7 +3,7 @@ use Rattle.std.specs.Prelude.{◌≡◌, ℕ, ◌+◌, ◌⊎◌, List, Option, 
 use Rattle.target_base.specs.Mini.{mini_target}
 use Rattle.mir_func.specs.Value.{Function}
 use Rattle.mir_text.specs.First.{IsFirstForm, IsPrinted}
-use Rattle.ra_top.specs.Device.{Rose, WritesPart, WritesAll}
+use Rattle.devices.specs.Device.{Rose, WritesPart, WritesAll}
 
 -- a file is the printed spelling of a function of the first form
 pub record IsFirstFile (bytes : List ℕ) : Type 0 where

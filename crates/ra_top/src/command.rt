@@ -2,7 +2,7 @@
 
 ghost use Rattle.std.specs.Prelude.{◌≡◌, ◌++◌, ℕ, List, None, IfOk, IfSome, IfNone, codes};
 ghost use Rattle.target_base.specs.Mini.{mini_target};
-ghost use Rattle.ra_top.specs.Device.{Rose, WritesPart, WritesAll};
+ghost use Rattle.devices.specs.Device.{Rose, WritesPart, WritesAll};
 ghost use Rattle.ra_top.specs.Printed.{IsFirstFile, IsFunctionText, WasRead, Allocates, AllocatesPart, IsTold};
 ghost use Rattle.ra_top.specs.Status.{line_of};
 ghost use Rattle.ra_top.specs.Words.{file_of, name_of};

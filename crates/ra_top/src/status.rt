@@ -1,7 +1,7 @@
 //! How the program ends, and the line that says so.
 
 ghost use Rattle.std.specs.Prelude.{◌≡◌, ◌++◌, OnOk, codes};
-ghost use Rattle.ra_top.specs.Device.{HasCause, WritesAll, WritesPart};
+ghost use Rattle.devices.specs.Device.{HasCause, WritesAll, WritesPart};
 
 use crate::device::{Failed, Sink};
 use crate::moves::write_all;

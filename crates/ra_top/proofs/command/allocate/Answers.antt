@@ -1,6 +1,6 @@
 use Rattle.std.proofs.Common.{◌≤◌, length, arith, ap}
 use Rattle.ra_top.specs.Printed.{IsFirstFile}
-use Rattle.ra_top.proofs.Front.{read_whole}
+use Rattle.devices.proofs.Front.{read_whole}
 use Rattle.ra_top.proofs.command.allocate.Goals as goal
 
 pub returns-in-Ok-write_all-clause-done : goal.returns-in-Ok-write_all-clause-done
