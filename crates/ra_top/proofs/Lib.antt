@@ -1,4 +1,4 @@
-pub mod Written
-pub mod Front
-pub mod Calls
-pub mod Mapped
+pub mod Joined
+pub mod Progress
+pub mod Documents
+pub mod Starts

@@ -1,6 +1,6 @@
 //! Files and sinks in memory, call by call.
 
-use ra_top::{Failed, Files, MemFiles, MemSink, Sink, Status};
+use ra_top::{Failed, Files, LimitName, MemFiles, MemSink, Pieces, Sink, Status};
 use std::alloc::{AllocError, Global};
 use std::test::Fail;
 
@@ -59,6 +59,8 @@ fn writes_into_its_room(rt: HostRuntime) -> Result<(), Fail> {
 fn each_status_has_its_code(rt: HostRuntime) {
     let codes = [
         (Status::Done, 0),
+        (Status::Limit(LimitName::Document), 1),
+        (Status::Usage, 2),
         (Status::ReadFault, 3),
         (Status::WriteFault, 4),
         (Status::Memory, 5),
@@ -67,4 +69,22 @@ fn each_status_has_its_code(rt: HostRuntime) {
     for (status, code) in codes {
         assert_eq!(rt; status.code(), code);
     }
+}
+
+/// One call takes the first of two documents of 40 bytes.
+#[test]
+fn feeds_one_piece(rt: HostRuntime) -> Result<(), Fail> {
+    let alloc = rt.alloc();
+    let text = b"---\nname: f\nbody: |\n  bb.0:\n    RET\n...\n---\nname: f\nbody: |\n  bb.0:\n    RET\n...\n";
+    let mut pieces = Pieces::new(alloc);
+    assert_eq!(rt; pieces.feed(text)?, 40);
+    assert!(rt; pieces.whole());
+    assert!(rt; !pieces.over());
+    pieces.clear();
+    assert!(rt; pieces.bytes().is_empty());
+    assert_eq!(rt; pieces.feed(b"...\n--- |\n...")?, 13);
+    assert!(rt; !pieces.whole());
+    assert_eq!(rt; pieces.feed(b"\nx")?, 1);
+    assert!(rt; pieces.whole());
+    Ok(())
 }
