@@ -1,0 +1,5 @@
+//! What each instruction reads, writes and does, as values: the items of its meaning in code.
+#![tactic(auto)]
+
+pub mod counted;
+pub mod lanes;
