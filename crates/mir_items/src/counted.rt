@@ -8,11 +8,16 @@ ghost use Rattle.meaning.specs.declared.types.Constant.TheVariants.{Immediate};
 ghost use Rattle.meaning.specs.Perform.{condition_lane};
 ghost use Rattle.mir_meaning.specs.Binding.{effect_of, roles_of, implicit_roles, takes_role, is_early_clobber, is_implicit_operand, explicit_operands, implicit_registers, registers};
 ghost use Rattle.mir_meaning.specs.Registers.{operand_lanes, operand_widths, use_sources, undefined_lanes, is_reserved};
-ghost use Rattle.mir_meaning.specs.Items.{value_of, use_value, constant_value, computes_with_immediates, has_base, first_width, immediate_of, symbol_of, is_flags, pick, flag_value, implicit_values, values, explicit_definitions, implicit_definitions};
+ghost use Rattle.mir_meaning.specs.Items.{value_of, use_value, constant_value, computes_with_immediates, has_base, first_width, immediate_of, symbol_of, is_flags, pick, flag_value, implicit_values, values, explicit_definitions, implicit_definitions, result_writes, unreserved, all_lanes, answered, preserves, clobbered, kept, implicit_writes, counted_writes, lane_width, result_widths, read_widths, called_symbol, rest_of};
+ghost use Rattle.std.specs.List.{list_any};
+ghost use Rattle.target_base.specs.Storage.{is_among};
+ghost use Rattle.target_base.specs.declared.types.Effect.TheVariants as effects;
+ghost use Rattle.std.specs.Bool.{beq};
 ghost use Rattle.meaning.specs.declared.types.Source.TheVariants.{Bits};
 
 use crate::lanes::{Sources, push_operand_widths, use_sources};
-use meaning::{Constant, Source};
+use crate::results::result_widths;
+use meaning::{Constant, Reads, Rest, Source, Widths};
 use mir_func::{Func, Instr, Loc, Op, Operand, RegOp};
 use std::alloc::{AllocError, Global};
 use target_base::{Bytes, Copied, Effect, List, Numbers, Role, Target};
@@ -131,7 +136,7 @@ fn takes_role(o: &RegOp, r: Role) -> bool
 
 /// Whether an operand is what the first implicit role names: the flags of a comparison or of a
 /// conditional jump.
-fn is_flags(roles: &[Role], o: &RegOp) -> bool
+pub(crate) fn is_flags(roles: &[Role], o: &RegOp) -> bool
     ensures { result ≡ is_flags (implicit_roles roles.now) o.now }
 {
     for r in roles {
@@ -143,14 +148,14 @@ fn is_flags(roles: &[Role], o: &RegOp) -> bool
 }
 
 /// The lower bits of a number, as many as w.
-fn low_bits(n: u128, w: u32) -> u128
+pub fn low_bits(n: u128, w: u32) -> u128
     ensures { result ≡ n % 2 ^ w }
 {
     if w >= 128 { n } else { n % (1 << w) }
 }
 
 /// The greatest number of so many bits.
-fn ones(w: u32) -> u128
+pub fn ones(w: u32) -> u128
     requires { w ≤ 128 }
     ensures { result ≡ 2 ^ w - 1 }
 {
@@ -194,7 +199,7 @@ fn symbol_of(operands: &[Operand]) -> &[u8]
 }
 
 /// The sum of widths that fit 128 bits.
-fn total(widths: &[u32]) -> Option<u32>
+pub fn total(widths: &[u32]) -> Option<u32>
     ensures { IfSome result (λ n. (n ≡ sum widths.now) × (n ≤ 128)) }
 {
     let mut total: u32 = 0;
@@ -243,7 +248,7 @@ fn use_value(
 }
 
 /// A list of one element.
-fn one<T: Drop>(alloc: Global, x: T) -> Result<List<T>, AllocError>
+pub(crate) fn one<T: Drop>(alloc: Global, x: T) -> Result<List<T>, AllocError>
     ensures { IfOk result (λ made. made ≡ x ∷ []) }
 {
     let mut made = List::new(alloc);
@@ -357,4 +362,246 @@ fn push_some(out: &mut Values, v: Option<(Sources, Numbers)>) -> Result<(), Allo
         None => Ok(()),
         Some(v) => out.push(v),
     }
+}
+
+/// A list of the element at a place alone, or an empty list.
+fn picked<T: Copied>(alloc: Global, k: usize, items: &[T]) -> Result<List<T>, AllocError>
+    ensures { IfOk result (λ made. made ≡ pick k items.now) }
+{
+    if k >= items.len() {
+        return Ok(List::new(alloc));
+    }
+    let x = items[k].copied(alloc)?;
+    let made = one(alloc, x)?;
+    Ok(made)
+}
+
+/// The place, among three flags, of the one that a condition reads.
+fn condition_lane(c: u128) -> usize
+    ensures { result ≡ condition_lane c }
+{
+    if c < 4 {
+        2
+    } else if c < 6 {
+        0
+    } else {
+        1
+    }
+}
+
+/// The flag that a conditional jump reads.
+fn flag_value(
+    alloc: Global,
+    t: &Target,
+    f: &Func,
+    c: i128,
+    o: &RegOp,
+) -> Result<(Sources, Numbers), AllocError>
+    ensures { IfOk result (λ v. v ≡ flag_value t.now f.now c o.now) }
+{
+    let k = condition_lane(c.unsigned_abs());
+    let mut widths = List::new(alloc);
+    push_operand_widths(&mut widths, t, f, o)?;
+    let sources = use_sources(alloc, t, f, o)?;
+    Ok((
+        picked(alloc, k, sources.as_slice())?,
+        picked(alloc, k, widths.as_slice())?,
+    ))
+}
+
+/// Appends the flags that a conditional jump reads.
+fn push_flags(
+    out: &mut Values,
+    alloc: Global,
+    t: &Target,
+    f: &Func,
+    c: i128,
+    roles: &[Role],
+    operands: &[RegOp],
+) -> Result<(), AllocError>
+    ensures { OnOk result (out.new ≡ out.old ++ map (flag_value t.now f.now c) (filter (is_flags (implicit_roles roles.now)) operands.now)) }
+{
+    for o in operands {
+        if is_flags(roles, o) {
+            out.push(flag_value(alloc, t, f, c, o)?)?;
+        }
+    }
+    Ok(())
+}
+
+/// Appends what a conditional jump reads besides flags.
+fn push_others(
+    out: &mut Values,
+    alloc: Global,
+    t: &Target,
+    f: &Func,
+    roles: &[Role],
+    operands: &[RegOp],
+) -> Result<(), AllocError>
+    ensures { OnOk result (out.new ≡ out.old ++ map (use_value t.now f.now) (filter (λ o. not (is_flags (implicit_roles roles.now) o)) operands.now)) }
+{
+    for o in operands {
+        if !is_flags(roles, o) {
+            out.push(use_value(alloc, t, f, o)?)?;
+        }
+    }
+    Ok(())
+}
+
+/// Appends uses.
+fn push_uses(
+    out: &mut Values,
+    alloc: Global,
+    t: &Target,
+    f: &Func,
+    operands: &[RegOp],
+) -> Result<(), AllocError>
+    ensures { OnOk result (out.new ≡ out.old ++ map (use_value t.now f.now) operands.now) }
+{
+    for o in operands {
+        out.push(use_value(alloc, t, f, o)?)?;
+    }
+    Ok(())
+}
+
+/// Appends what is read implicitly.
+fn push_implicit(
+    out: &mut Values,
+    alloc: Global,
+    t: &Target,
+    f: &Func,
+    e: Effect,
+    c: i128,
+    roles: &[Role],
+    operands: &[RegOp],
+) -> Result<(), AllocError>
+    ensures { OnOk result (out.new ≡ out.old ++ implicit_values t.now f.now e c (implicit_roles roles.now) operands.now) }
+{
+    match e {
+        Effect::Jcc => {
+            push_flags(out, alloc, t, f, c, roles, operands)?;
+            push_others(out, alloc, t, f, roles, operands)
+        }
+        _ => push_uses(out, alloc, t, f, operands),
+    }
+}
+
+/// The implicit register operands that are definitions, or those that are uses.
+fn implicit_of(alloc: Global, operands: &[Operand], def: bool) -> Result<List<RegOp>, AllocError>
+    ensures { IfOk result (λ made. made ≡ filter (λ o. beq o.def def) (implicit_registers operands.now)) }
+{
+    let mut made = List::new(alloc);
+    for o in operands {
+        if let Operand::Reg(r) = o {
+            if r.implicit && r.def == def {
+                made.push(*r)?;
+            }
+        }
+    }
+    Ok(made)
+}
+
+/// All that a counted instruction reads, operand by operand.
+pub fn values(
+    alloc: Global,
+    t: &Target,
+    f: &Func,
+    e: Effect,
+    i: &Instr,
+) -> Result<Values, AllocError>
+    ensures { IfOk result (λ made. made ≡ values t.now f.now e i.now) }
+{
+    let operands = i.operands.as_slice();
+    let mut made = List::new(alloc);
+    let w = first_width(alloc, t, f, operands)?;
+    push_explicit(&mut made, alloc, t, f, e, w, operands)?;
+    let uses = implicit_of(alloc, operands, false)?;
+    let c = immediate_of(operands);
+    push_implicit(
+        &mut made,
+        alloc,
+        t,
+        f,
+        e,
+        c,
+        roles_of(t, i),
+        uses.as_slice(),
+    )?;
+    Ok(made)
+}
+
+/// The sources of values.
+pub fn reads_of(alloc: Global, values: &[(Sources, Numbers)]) -> Result<Reads, AllocError>
+    ensures { IfOk result (λ made. made ≡ map (λ v. v.0) values.now) }
+{
+    let mut made = List::new(alloc);
+    for v in values {
+        made.push(v.0.copied(alloc)?)?;
+    }
+    Ok(made)
+}
+
+/// The widths that an operation goes by: those of what it reads, but for a marker.
+fn read_widths(
+    alloc: Global,
+    e: Effect,
+    values: &[(Sources, Numbers)],
+) -> Result<Widths, AllocError>
+    ensures { IfOk result (λ made. made ≡ read_widths e values.now) }
+{
+    match e {
+        Effect::Marker => Ok(List::new(alloc)),
+        _ => widths_of(alloc, values),
+    }
+}
+
+/// The widths of values.
+fn widths_of(alloc: Global, values: &[(Sources, Numbers)]) -> Result<Widths, AllocError>
+    ensures { IfOk result (λ made. made ≡ map (λ v. v.1) values.now) }
+{
+    let mut made = List::new(alloc);
+    for v in values {
+        made.push(v.1.copied(alloc)?)?;
+    }
+    Ok(made)
+}
+
+/// The symbol that a call names; nothing for other effects.
+fn called_symbol(alloc: Global, e: Effect, operands: &[Operand]) -> Result<Bytes, AllocError>
+    ensures { IfOk result (λ made. made ≡ called_symbol e operands.now) }
+{
+    match e {
+        Effect::Call => Bytes::from_slice(alloc, symbol_of(operands)),
+        _ => Ok(List::new(alloc)),
+    }
+}
+
+/// All of a counted instruction that names no register. The values are those that it reads.
+pub fn rest_of(
+    alloc: Global,
+    t: &Target,
+    f: &Func,
+    e: Effect,
+    i: &Instr,
+    read: &[(Sources, Numbers)],
+) -> Result<Rest, AllocError>
+    requires { read.now ≡ values t.now f.now e i.now }
+    ensures { IfOk result (λ made. made ≡ rest_of t.now f.now e i.now) }
+{
+    let operands = i.operands.as_slice();
+    let widths = read_widths(alloc, e, read)?;
+    let result = result_widths(alloc, t, f, e, operands)?;
+    let symbol = called_symbol(alloc, e, operands)?;
+    let immediate = if computes_with_immediates(e) {
+        0
+    } else {
+        immediate_of(operands)
+    };
+    Ok(Rest {
+        effect: e,
+        widths,
+        result,
+        immediate,
+        symbol,
+    })
 }

@@ -3,3 +3,5 @@
 
 pub mod counted;
 pub mod lanes;
+pub mod results;
+pub mod writes;
