@@ -1,0 +1,77 @@
+//! The lanes of operands, where they are known.
+
+ghost use Rattle.std.specs.Prelude.{◌≡◌};
+ghost use Rattle.target_base.specs.Registers.{lanes_of, fits};
+ghost use Rattle.mir_meaning.specs.Rules.{has_lanes_at, has_lanes, index_fits, has_class};
+
+use mir_func::{Func, Loc, RegOp};
+use mir_items::lanes::class_of;
+use target_base::classes::{have_subs, regs_at};
+use target_base::{ClassId, IndexId, Target};
+
+/// The lanes that an index picks; none where there is no such index.
+pub(crate) fn lanes_of(target: &Target, x: IndexId) -> &[u8]
+    ensures { result.now ≡ lanes_of target.now x }
+{
+    match target.indexes.as_slice().get(x.0 as usize) {
+        None => &[],
+        Some(d) => d.lanes.as_slice(),
+    }
+}
+
+/// Whether the index picks the units of a register, of each register of the class.
+pub(crate) fn fits(target: &Target, c: ClassId, x: Option<IndexId>) -> bool
+    ensures { result ≡ fits target.now c x }
+{
+    match x {
+        None => true,
+        Some(i) => have_subs(
+            target.regs.as_slice(),
+            lanes_of(target, i),
+            regs_at(target.classes.as_slice(), Some(c)),
+        ),
+    }
+}
+
+/// Whether the register has one class, which the index fits.
+fn has_lanes_at(target: &Target, f: &Func, loc: Loc, x: Option<IndexId>) -> bool
+    ensures { result ≡ has_lanes_at target.now f.now loc x }
+{
+    match loc {
+        Loc::Fixed(_) => true,
+        Loc::Virtual(v) => match class_of(f, v) {
+            None => false,
+            Some(c) => fits(target, c, x),
+        },
+    }
+}
+
+/// Whether the lanes of an operand are known: its register has one class, which its index fits.
+pub(crate) fn has_lanes(target: &Target, f: &Func, o: &RegOp) -> bool
+    ensures { result ≡ has_lanes target.now f.now o.now }
+{
+    has_lanes_at(target, f, o.loc, o.index)
+}
+
+/// Whether the index fits the register's class, where that is known. Physical registers have none.
+pub(crate) fn index_fits(target: &Target, f: &Func, loc: Loc, x: Option<IndexId>) -> bool
+    ensures { result ≡ index_fits target.now f.now loc x }
+{
+    match loc {
+        Loc::Fixed(_) => x.is_none(),
+        Loc::Virtual(v) => match class_of(f, v) {
+            None => true,
+            Some(c) => fits(target, c, x),
+        },
+    }
+}
+
+/// Whether a virtual register has just one class.
+pub(crate) fn has_class(f: &Func, loc: Loc) -> bool
+    ensures { result ≡ has_class f.now loc }
+{
+    match loc {
+        Loc::Fixed(_) => true,
+        Loc::Virtual(v) => class_of(f, v).is_some(),
+    }
+}
