@@ -48,7 +48,7 @@ pub(crate) struct Asked<'a> {
 
 /// Sorts the operands of an instruction.
 #[tactic(auto, using(crate::proofs::Meant::bound_is))]
-fn asked<'a>(
+fn sorted<'a>(
     q: &Question,
     instr: &'a Instr,
     desc: &'a OpcodeDesc,
@@ -294,7 +294,7 @@ fn known_rule(
     if !v1(q, instr, desc)? {
         return Ok(Some(1));
     }
-    let a = asked(q, instr, desc)?;
+    let a = sorted(q, instr, desc)?;
     other_rule(q, slots, &a, is_entry, before, preds)
 }
 

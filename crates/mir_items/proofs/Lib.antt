@@ -1,0 +1,4 @@
+pub mod Targets
+pub mod Numbers
+pub mod Residues
+pub mod Lists
