@@ -7,7 +7,7 @@ use Rattle.mir_func.specs.declared.func.Block.{Block}
 use Rattle.mir_func.specs.declared.func.Instr.{Instr}
 use Rattle.mir_func.specs.Value.{id_count, id_total, IsFunction}
 
-one : Bool → ℕ
+abbrev one : Bool → ℕ
 one b = cond b 1 0
 
 below_one : ℕ → Instr → ℕ
@@ -50,9 +50,13 @@ limit_one : (id n : ℕ) → limit id n ≤ 1
 unfolding limit
 limit_one id n = grind (arith, nat_tests)
 
-limit_below : (id n : ℕ) → 1 ≤ limit id n → cond (ltb id n) 1 0 ≡ 1
+limit_below : (id n : ℕ) → 1 ≤ limit id n → ltb id n ≡ true
 unfolding limit
 limit_below id n h = grind (arith, nat_tests)
+
+own_one : (i : Instr) → equal_one i.id i ≡ 1
+unfolding equal_one
+own_one i = grind (arith, nat_tests)
 
 -- all are below n
 all_below : (n : ℕ) (is : List Instr) → ((id : ℕ) → id_count id is ≤ limit id n) → below n is ≡ length is
@@ -60,8 +64,8 @@ unfolding below
 all_below n [] h = refl
 all_below n (i ∷ is) h =
     let split : (id : ℕ) → id_count id (i ∷ is) ≡ equal_one id i + id_count id is = λ id. unfold equal_one in sum_by-cons (λ x. cond (eqb x.id id) 1 0) i is in
-    let own : equal_one i.id i ≡ 1 = unfold equal_one in grind (arith, nat_tests) in
-    let e : below_one n i ≡ 1 = unfold below_one in limit_below i.id n (omega (arith, h i.id, split i.id, own)) in
+    let own = own_one i in
+    let e : below_one n i ≡ 1 = unfold below_one in ap one (limit_below i.id n (omega (arith, h i.id, split i.id, own))) in
     omega (arith, sum_by-cons (below_one n) i is, all_below n is (λ id. omega (arith, h id, split id)), e)
 
 few : (n : ℕ) (is : List Instr) → ((id : ℕ) → id_count id is ≤ limit id n) → length is ≤ n

@@ -4,3 +4,4 @@ pub mod Meant
 pub mod Searched
 pub mod Few
 pub mod Apart
+pub mod Lived

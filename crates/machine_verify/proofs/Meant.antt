@@ -13,7 +13,7 @@ use Rattle.mir_func.specs.declared.func.RegOp.{RegOp}
 use Rattle.mir_func.specs.Value.{Function}
 use Rattle.mir_meaning.specs.declared.Form.{Form}
 use Rattle.mir_meaning.specs.declared.Form.TheVariants as forms
-use Rattle.mir_meaning.specs.Binding.{Bound, known_opcode, registers, implicit_registers, bound, explicit_bound, explicit_roles, explicit_operands, implicit_bound, implicit_roles, tied_uses, tied_pair, passes}
+use Rattle.mir_meaning.specs.Binding.{Bound, known_opcode, registers, implicit_registers, bound, explicit_bound, explicit_roles, explicit_operands, implicit_bound, implicit_roles, tied_uses, tied_pair, passes, roles_of}
 use Rattle.mir_meaning.specs.Registers.{has_number}
 use Rattle.mir_meaning.specs.Rules.{V1, V2, V3, V4, V5, V11, V12, V15, in_operand_class, widths_fit, has_class, index_fits, puts_together, subregs_fit, flags_fit, operands_fit, block_numbers, successors_of, named_blocks, slot_fits, tie_fits, spills_or_reloads}
 use Rattle.machine_verify.specs.declared.asked.Asked.{Asked}
@@ -26,7 +26,7 @@ use Rattle.machine_verify.proofs.Listed.{list_all_alike}
 
 pub v1_is : (t : Target) (f : Function) (i : Instr) (d : OpcodeDesc) → known_opcode t i.op ≡ Some d → operands_fit t f d i.operands d.effect ≡ V1 t f i
 unfolding V1
-v1_is t f i d h = rw h refl
+v1_is t f i d h = rw (h, V1) refl
 
 pub v2_is : (t : Target) (f : Function) (a : Asked) → IsAsked t a.instr.now a → (list_all (in_operand_class t f) (seen_all a.bound.items) && widths_fit t f a.desc.now.effect a.instr.now.operands) ≡ V2 t f a.instr.now
 unfolding V2
@@ -41,9 +41,9 @@ unfolding V4
 v4_is t f a h = rw (h.opcode, h.named) refl
 
 pub tied_is : (t : Target) (form : Form) (f : Function) (i : Instr) (ds us : List RegOp) → registers i.operands ≡ ds → tied_uses (bound t i) ≡ us → ties.first_tie_fits t form f ds us ≡ elim (tied_pair t i) [ None ↦ true | Some p ↦ tie_fits t form f p.0 p.1 ]
-tied_is t form f i [] us e g = rw (e, g) refl
-tied_is t form f i (d ∷ ds) [] e g = rw (e, g) refl
-tied_is t form f i (d ∷ ds) (u ∷ us) e g = rw (e, g) refl
+tied_is t form f i [] us e g = rw e refl
+tied_is t form f i (d ∷ ds) [] e g = rw (g, e) refl
+tied_is t form f i (d ∷ ds) (u ∷ us) e g = rw (g, e) refl
 
 pub v11_is : (t : Target) (form : Form) (f : Function) (a : Asked) → IsAsked t a.instr.now a → (list_all flags_fit (seen_all a.bound.items) && ties.first_tie_fits t form f a.named.items (tied_uses (seen_all a.bound.items))) ≡ V11 t form f a.instr.now
 unfolding V11
@@ -74,7 +74,9 @@ unfolding V15
 v15_allocated t f s a h g = rw h.bound (list_all_alike (ties.slot_fits s) (slot_fits f) (slot_alike s f g) (bound t a.instr.now))
 
 pub bound_is : (t : Target) (i : Instr) (d : OpcodeDesc) → known_opcode t i.op ≡ Some d → (explicit_bound (explicit_roles d.roles) (explicit_operands i.operands) ++ map (implicit_bound (implicit_roles d.roles)) (implicit_registers i.operands)) ≡ bound t i
-bound_is t i d h = rw h refl
+bound_is t i d h =
+    let roles : d.roles ≡ roles_of t i = sym (ap (λ o. elim o [ None ↦ [] | Some x ↦ x.roles ]) h) in
+    ap (λ rs. explicit_bound (explicit_roles rs) (explicit_operands i.operands) ++ map (implicit_bound (implicit_roles rs)) (implicit_registers i.operands)) roles
 
 pub v5_is : (f : Function) (k : ℕ) (b : Block) (numbers seen : NumberSet) → Holds numbers (block_numbers f.blocks) → Holds seen (block_numbers (take k f.blocks)) → (not (has seen b.number) && list_all (has numbers) (successors_of b ++ flat_map named_blocks b.instrs)) ≡ V5 f k b
 unfolding V5

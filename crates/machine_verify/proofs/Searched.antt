@@ -14,9 +14,9 @@ use Rattle.mir_func.specs.Value.{Function}
 use Rattle.mir_meaning.specs.declared.Form.{Form}
 use Rattle.mir_meaning.specs.declared.Form.TheVariants as forms
 use Rattle.mir_meaning.specs.Binding.{known_opcode, does, is_terminator}
-use Rattle.mir_meaning.specs.Rules.{V7, V8, predecessors}
-use Rattle.mir_meaning.specs.Valid.{Fault, fault_at, instr_fault, instrs_fault, fault_in, block_fault, blocks_fault, least}
-use Rattle.machine_verify.specs.Asked.{instr_rule, before_at, after}
+use Rattle.mir_meaning.specs.Rules.{V1, V2, V3, V4, V7, V8, predecessors}
+use Rattle.mir_meaning.specs.Valid.{first_failing, fault_at, instr_fault, instrs_fault, fault_in, block_fault, blocks_fault, least}
+use Rattle.machine_verify.specs.Asked.{instr_rule, phis_fit, terminators_fit, late_rules, before_at, after}
 
 -- behind no instruction
 pub first_before : (t : Target) (is : List Instr) → record { only_phis = true; terminator = false } ≡ before_at t is 0
@@ -30,12 +30,39 @@ before_step t is j i h e =
 
 -- the rule that fails for an instruction is that of the definitions
 module _ (t : Target) (f : Function) (k : ℕ) (b : Block) (j : ℕ) (i : Instr) where
+  v7_at : (form : Form) (d : OpcodeDesc) → known_opcode t i.op ≡ Some d → phis_fit form (nat_eq k 0) (before_at t b.instrs j).only_phis (predecessors f b.number) d.effect i ≡ V7 t form f k b j i
+  unfolding V7
+  v7_at forms.Source d e = rw (e, V7) refl
+  v7_at forms.Allocated d e = rw (e, V7) refl
+
+  v8_at : (d : OpcodeDesc) → known_opcode t i.op ≡ Some d → terminators_fit (before_at t b.instrs j).terminator d.effect ≡ V8 t b j i
+  unfolding V8
+  v8_at d e = rw (e, V8) refl
+
+  failing : Form → Bool → Bool → Option ℕ
+  failing form x y = cond (V1 t f i) (first_failing ((2, V2 t f i) ∷ (3, V3 f i) ∷ (4, V4 t f i) ∷ (7, x) ∷ (8, y) ∷ late_rules t form f i)) (Some 1)
+
+  known_at : (form : Form) (d : OpcodeDesc) → known_opcode t i.op ≡ Some d → instr_fault t form f k b j i ≡ failing form (V7 t form f k b j i) (V8 t b j i)
+  unfolding instr_fault failing
+  known_at form d e = rw (e, instr_fault) refl
+
+  asked_at : (form : Form) (d : OpcodeDesc) → known_opcode t i.op ≡ Some d → instr_rule t form f (nat_eq k 0) (before_at t b.instrs j) (predecessors f b.number) i ≡ failing form (phis_fit form (nat_eq k 0) (before_at t b.instrs j).only_phis (predecessors f b.number) d.effect i) (terminators_fit (before_at t b.instrs j).terminator d.effect)
+  unfolding failing
+  asked_at form d e = rw (e, instr_rule) refl
+
+  unknown_at : (form : Form) → known_opcode t i.op ≡ None → instr_fault t form f k b j i ≡ Some 16
+  unfolding instr_fault
+  unknown_at form e = rw (e, instr_fault) refl
+
+  unasked_at : (form : Form) → known_opcode t i.op ≡ None → instr_rule t form f (nat_eq k 0) (before_at t b.instrs j) (predecessors f b.number) i ≡ Some 16
+  unasked_at form e = rw (e, instr_rule) refl
+
   rule_at : (form : Form) (o : Option OpcodeDesc) → known_opcode t i.op ≡ o → instr_rule t form f (nat_eq k 0) (before_at t b.instrs j) (predecessors f b.number) i ≡ instr_fault t form f k b j i
-  unfolding instr_fault V7 V8
-  rule_at forms.Source None e = rw e refl
-  rule_at forms.Source (Some d) e = rw e refl
-  rule_at forms.Allocated None e = rw e refl
-  rule_at forms.Allocated (Some d) e = rw e refl
+  rule_at form None e = unasked_at form e ∙ sym (unknown_at form e)
+  rule_at form (Some d) e =
+      asked_at form d e
+      ∙ (ap (λ x. failing form x (terminators_fit (before_at t b.instrs j).terminator d.effect)) (v7_at form d e)
+      ∙ (ap (λ y. failing form (V7 t form f k b j i) y) (v8_at d e) ∙ sym (known_at form d e)))
 
   pub rule_is : (form : Form) → instr_rule t form f (nat_eq k 0) (before_at t b.instrs j) (predecessors f b.number) i ≡ instr_fault t form f k b j i
   rule_is form = rule_at form (known_opcode t i.op) refl

@@ -4,3 +4,5 @@ pub mod Operands
 pub mod Ties
 pub mod Asked
 pub mod Faults
+pub mod Liveins
+pub mod Verdict

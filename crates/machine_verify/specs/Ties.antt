@@ -34,3 +34,8 @@ definitions_fit t form f named bs =
 abbrev pub slot_fits : NumberSet → Bound → Bool
 slot_fits s (r, operands.Stack n) = beq (passes is_slot r) (has s n)
 slot_fits s (r, o) = not (passes is_slot r)
+
+-- the numbers of the spill slots among frame objects
+abbrev pub spill_numbers : List (ℕ × Bool) → List ℕ
+spill_numbers [] = []
+spill_numbers (o ∷ os) = cond o.1 (o.0 ∷ spill_numbers os) (spill_numbers os)

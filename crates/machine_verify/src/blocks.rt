@@ -1,6 +1,6 @@
 //! V5, V6, V9, V10 and V16: rules on a block.
 
-ghost use Rattle.std.specs.Prelude.{◌≡◌, ◌<◌, ◌++◌, ◌&&◌, not, map, flat_map, length, option_to_list, IfOk, OnOk};
+ghost use Rattle.std.specs.Prelude.{◌≡◌, ◌<◌, ◌++◌, ◌&&◌, not, map, flat_map, length, drop, suc, option_to_list, IfOk, OnOk};
 ghost use Rattle.std.specs.List.{list_all, list_any};
 ghost use Rattle.mir_meaning.specs.Binding as binding;
 ghost use Rattle.mir_meaning.specs.Codes as layout;
@@ -42,16 +42,17 @@ fn named_are_there(numbers: &NumberSet, instrs: &[Instr]) -> bool
     true
 }
 
+fn lead_there(numbers: &NumberSet, edges: &[Edge]) -> bool
+    ensures { result ≡ list_all (λ e. has numbers.now e.block) edges.now }
+{
+    edges.iter().all(|e| numbers.has(e.block))
+}
+
 /// Whether the successors are among these numbers.
 fn successors_are_there(numbers: &NumberSet, edges: &[Edge]) -> bool
     ensures { result ≡ list_all (has numbers.now) (map (λ e. e.block) edges.now) }
 {
-    for e in edges {
-        if !numbers.has(e.block) {
-            return false;
-        }
-    }
-    true
+    lead_there(numbers, edges)
 }
 
 /// Whether the blocks that a block names are among these numbers.
@@ -245,6 +246,15 @@ fn successors_fit(
     lists_once(alloc, listed.as_slice(), wanted.as_slice())
 }
 
+/// The blocks behind the k-th.
+fn blocks_after(f: &Func, k: usize) -> &[Block]
+    requires { k < length f.now.blocks }
+    ensures { result.now ≡ drop (suc k) f.now.blocks }
+{
+    let blocks = f.blocks.as_slice();
+    &blocks[k + 1..]
+}
+
 /// V9: the successors are the branch targets and the block that is fallen into, each once; not
 /// asked where a branch fails V1.
 #[tactic(auto, unfolding(mir_meaning::specs::Rules::V9))]
@@ -261,7 +271,7 @@ pub(crate) fn v9(
     if some_branch_is_wrong(alloc, target, f, b.instrs.as_slice())? {
         return Ok(true);
     }
-    successors_fit(alloc, target, b, &f.blocks.as_slice()[k + 1..])
+    successors_fit(alloc, target, b, blocks_after(f, k))
 }
 
 /// V10: the last block in layout ends with a jump or a return.
@@ -270,7 +280,8 @@ pub(crate) fn v10(target: &Target, f: &Func, k: usize, b: &Block) -> bool
     requires { k < length f.now.blocks }
     ensures { result ≡ rules.V10 target.now f.now k b.now }
 {
-    k + 1 < f.blocks.len() || !falls_through(target, b.instrs.as_slice())
+    let count = f.blocks.len();
+    k + 1 < count || !falls_through(target, b.instrs.as_slice())
 }
 
 /// Whether the word stands somewhere in the text.

@@ -2,6 +2,7 @@
 
 ghost use Rattle.std.specs.Prelude.{◌≡◌};
 ghost use Rattle.target_base.specs.Registers.{lanes_of, fits};
+ghost use Rattle.mir_meaning.specs.Registers.{is_reserved_unit};
 ghost use Rattle.mir_meaning.specs.Rules.{has_lanes_at, has_lanes, index_fits, has_class};
 
 use mir_func::{Func, Loc, RegOp};
@@ -17,6 +18,13 @@ pub(crate) fn lanes_of(target: &Target, x: IndexId) -> &[u8]
         None => &[],
         Some(d) => d.lanes.as_slice(),
     }
+}
+
+/// Whether the unit of that number is reserved.
+pub(crate) fn is_reserved_unit(target: &Target, u: u32) -> bool
+    ensures { result ≡ is_reserved_unit target.now u }
+{
+    target.reserved.as_slice().iter().any(|v| v.0 as u32 == u)
 }
 
 /// Whether the index picks the units of a register, of each register of the class.

@@ -6,13 +6,16 @@ mod asked;
 mod blocks;
 mod classes;
 mod lanes;
+mod liveins;
 mod numbers;
 mod operands;
 mod parts;
 mod search;
 pub mod stop;
 mod ties;
+mod verify;
 mod words;
 
 pub use mir_func::{Place, Valid};
 pub use stop::{Invalid, VerifyStop};
+pub use verify::{verify_allocated, verify_source};

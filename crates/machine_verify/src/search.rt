@@ -109,7 +109,7 @@ fn least(a: Option<u8>, b: Option<u8>) -> Option<u8>
 }
 
 /// A fault at a place of a block.
-fn fault_at(b: &Block, at: u32, rule: u8) -> Invalid
+pub(crate) fn fault_at(b: &Block, at: u32, rule: u8) -> Invalid
     ensures { fault_of result ≡ valid.fault_at b.now at rule }
 {
     Invalid {
@@ -196,13 +196,15 @@ fn fault_in(
 pub(crate) fn shape_fault(q: &Question) -> Result<Option<Invalid>, AllocError>
     ensures { IfOk result (λ fault. option_map fault_of fault ≡ valid.shape_fault q.now.target.now q.now.form q.now.f.now) }
 {
-    let blocks = q.f.blocks.as_slice();
+    let f = q.f;
+    let _last = f.next_id;
+    let blocks = f.blocks.as_slice();
     let mut known = Known {
         numbers: numbers_of(q.alloc, blocks)?,
         seen: NumberSet::new(q.alloc),
         slots: spill_slots(q.alloc, q.f)?,
     };
-    'blocks: for k in 0..blocks.len() {
+    'search: for k in 0..blocks.len() {
         let b = &blocks[k];
         if let Some(fault) = fault_in(q, &known, k, b)? {
             return Ok(Some(fault));

@@ -1,6 +1,6 @@
 //! V11, V12 and V15: ties, definitions that are apart, and spill slots.
 
-ghost use Rattle.std.specs.Prelude.{◌≡◌, ◌&&◌, map, filter, nat_eq, IfOk};
+ghost use Rattle.std.specs.Prelude.{◌≡◌, ◌&&◌, map, filter, nat_eq, option_to_list, IfOk};
 ghost use Rattle.std.specs.List.{list_all, list_any};
 ghost use Rattle.meaning.specs.Lanes.{same_lane};
 ghost use Rattle.mir_meaning.specs.Binding as binding;
@@ -9,11 +9,11 @@ ghost use Rattle.mir_meaning.specs.Registers.{is_reserved};
 ghost use Rattle.mir_meaning.specs.Rules as rules;
 ghost use Rattle.machine_verify.specs.Parts.{seen, seen_all};
 ghost use Rattle.machine_verify.specs.Sets.{HoldsSlots};
-ghost use Rattle.machine_verify.specs.Ties.{first_tie_fits, untied_reading, definitions_fit, slot_fits};
+ghost use Rattle.machine_verify.specs.Ties.{spill_numbers, first_tie_fits, untied_reading, definitions_fit, slot_fits};
 
 use crate::classes::same_widths;
-use crate::lanes::has_lanes;
-use crate::numbers::NumberSet;
+use crate::lanes::{has_lanes, is_reserved_unit};
+use crate::numbers::{NumberSet, set_of};
 use crate::parts::BoundOperand;
 use crate::words::{is_early, is_slot, is_tied, is_virtual, same_index, same_loc};
 use meaning::Lane;
@@ -173,7 +173,7 @@ fn is_reserved(target: &Target, l: Lane) -> bool
     ensures { result ≡ is_reserved target.now l }
 {
     match l {
-        Lane::UnitLane(u) => target.reserved.as_slice().iter().any(|v| v.0 as u32 == u),
+        Lane::UnitLane(u) => is_reserved_unit(target, u),
         _ => false,
     }
 }
@@ -286,8 +286,27 @@ fn untied_reading(b: &BoundOperand) -> Option<RegOp>
     }
 }
 
+/// Whether an operand reads one of these lanes, and not in a tied role.
+fn reads_one(
+    alloc: Global,
+    target: &Target,
+    f: &Func,
+    lanes: &[Lane],
+    b: &BoundOperand,
+) -> Result<bool, AllocError>
+    ensures { IfOk result (λ is_read. is_read ≡ list_any (λ u. rules.share_a_lane lanes.now (rules.clashing_lanes target.now f.now u)) (option_to_list (untied_reading (seen b.now)))) }
+{
+    match untied_reading(b) {
+        None => Ok(false),
+        Some(u) => {
+            let read = clashing_lanes(alloc, target, f, &u)?;
+            Ok(share_a_lane(lanes, read.as_slice()))
+        }
+    }
+}
+
 /// Whether these lanes are among those that are read besides the tied use.
-#[tactic(auto, using(crate::proofs::Apart::untied_step))]
+#[tactic(auto, using(crate::proofs::Apart::untied_any))]
 fn are_read(
     alloc: Global,
     target: &Target,
@@ -298,11 +317,8 @@ fn are_read(
     ensures { IfOk result (λ is_read. is_read ≡ list_any (λ u. rules.share_a_lane lanes.now (rules.clashing_lanes target.now f.now u)) (rules.untied_readings (seen_all bound.now))) }
 {
     for b in bound {
-        if let Some(u) = untied_reading(b) {
-            let read = clashing_lanes(alloc, target, f, &u)?;
-            if share_a_lane(lanes, read.as_slice()) {
-                return Ok(true);
-            }
+        if reads_one(alloc, target, f, lanes, b)? {
+            return Ok(true);
         }
     }
     Ok(false)
@@ -369,16 +385,24 @@ pub(crate) fn definitions_fit(
 }
 
 /// The numbers of the frame objects that are declared spill slots.
-#[tactic(auto, using(crate::proofs::Apart::slots_step))]
+fn spill_numbers(alloc: Global, frames: &[(u32, bool)]) -> Result<Vec<u32>, AllocError>
+    ensures { IfOk result (λ made. made.items ≡ spill_numbers frames.now) }
+{
+    let mut made = Vec::new(alloc);
+    for o in frames {
+        if o.1 {
+            made.push(o.0)?;
+        }
+    }
+    Ok(made)
+}
+
+/// The set of the spill slots' numbers.
 pub(crate) fn spill_slots(alloc: Global, f: &Func) -> Result<NumberSet, AllocError>
     ensures { IfOk result (λ set. HoldsSlots set f.now) }
 {
-    let mut set = NumberSet::new(alloc);
-    for o in f.frames.as_slice() {
-        if o.1 {
-            let _is_new = set.add(o.0)?;
-        }
-    }
+    let numbers = spill_numbers(alloc, f.frames.as_slice())?;
+    let set = set_of(alloc, numbers.as_slice())?;
     Ok(set)
 }
 
@@ -404,13 +428,19 @@ pub(crate) fn slots_fit(slots: &NumberSet, bound: &[BoundOperand]) -> bool
     true
 }
 
+fn has_spill_slot(frames: &[(u32, bool)]) -> bool
+    ensures { result ≡ list_any (λ o. o.1) frames.now }
+{
+    frames.iter().any(|o| o.1)
+}
+
 /// V15 of the frame: whether the source has no spill slot.
 #[tactic(auto, unfolding(mir_meaning::specs::Rules::V15_frame))]
 pub(crate) fn v15_frame(form: Form, f: &Func) -> bool
     ensures { result ≡ rules.V15_frame form f.now }
 {
     match form {
-        Form::Source => !f.frames.as_slice().iter().any(|o| o.1),
+        Form::Source => !has_spill_slot(f.frames.as_slice()),
         Form::Allocated => true,
     }
 }
