@@ -97,7 +97,7 @@ pub fn push_range_lanes(out: &mut Lanes, t: &Target, f: &Func, v: u32) -> Result
 }
 
 /// The lanes that an index picks; none where there is no such index.
-fn lanes_at(t: &Target, x: IndexId) -> &[u8]
+pub fn lanes_at(t: &Target, x: IndexId) -> &[u8]
     ensures { result.now ≡ lanes_of t.now x }
 {
     match t.indexes.as_slice().get(x.0 as usize) {

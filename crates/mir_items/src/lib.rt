@@ -4,4 +4,6 @@
 pub mod counted;
 pub mod lanes;
 pub mod results;
+pub mod silent;
+pub mod ways;
 pub mod writes;
