@@ -5,12 +5,8 @@ use Rattle.std.specs.List.{list_any}
 use Rattle.std.proofs.lemmas.List.Folds.{list_any-append}
 use Rattle.std.proofs.lemmas.Bool.Decides.{nat_tests}
 use Rattle.mir_func.specs.declared.func.RegOp.{RegOp}
-use Rattle.mir_func.specs.Value.{Function}
 use Rattle.mir_meaning.specs.Registers.{has_number}
-use Rattle.mir_meaning.specs.Rules.{is_spill_slot}
 use Rattle.machine_verify.specs.Ties.{spill_numbers}
-use Rattle.machine_verify.specs.Sets.{Holds, HoldsSlots}
-use Rattle.machine_verify.specs.declared.numbers.NumberSet.{NumberSet}
 use Rattle.mir_func.specs.declared.func.Operand.{Operand}
 use Rattle.mir_func.specs.declared.func.Operand.TheVariants as operands
 use Rattle.target_base.specs.declared.types.Role.{Role}
@@ -67,9 +63,6 @@ has_cond : (c : Bool) (m : ℕ) (ns : List ℕ) (n : ℕ) → has_number (cond c
 has_cond true m ns n = refl
 has_cond false m ns n = refl
 
-slots_among : (os : List (ℕ × Bool)) (n : ℕ) → has_number (spill_numbers os) n ≡ list_any (λ o. nat_eq o.0 n && o.1) os
+pub slots_among : (os : List (ℕ × Bool)) (n : ℕ) → has_number (spill_numbers os) n ≡ list_any (λ o. nat_eq o.0 n && o.1) os
 slots_among [] n = refl
 slots_among (o ∷ os) n = has_cond o.1 o.0 (spill_numbers os) n ∙ slot_here o.0 n o.1 _ _ (slots_among os n)
-
-pub slots_are : (s : NumberSet) (f : Function) → Holds s (spill_numbers f.frames) → HoldsSlots s f
-slots_are s f h n = h n ∙ slots_among f.frames n

@@ -30,12 +30,16 @@ below_none (i ∷ is) =
     let e : below_one 0 i ≡ 0 = unfold below_one in grind (arith, nat_tests) in
     omega (arith, sum_by-cons (below_one 0) i is, below_none is, e)
 
+split : (id : ℕ) (i : Instr) (is : List Instr) → id_count id (i ∷ is) ≡ equal_one id i + id_count id is
+unfolding equal_one
+split id i is = sum_by-cons (λ x. cond (eqb x.id id) 1 0) i is
+
 below_more : (n : ℕ) (is : List Instr) → below (suc n) is ≡ below n is + id_count n is
 unfolding below
 below_more n [] = refl
 below_more n (i ∷ is) =
     let e : below_one (suc n) i ≡ below_one n i + equal_one n i = unfold below_one in unfold equal_one in step i.id n in
-    let s : id_count n (i ∷ is) ≡ equal_one n i + id_count n is = unfold equal_one in sum_by-cons (λ x. cond (eqb x.id n) 1 0) i is in
+    let s = split n i is in
     omega (arith, sum_by-cons (below_one (suc n)) i is, sum_by-cons (below_one n) i is, below_more n is, e, s)
 
 -- distinct ids: at most n are below n
@@ -58,15 +62,18 @@ own_one : (i : Instr) → equal_one i.id i ≡ 1
 unfolding equal_one
 own_one i = grind (arith, nat_tests)
 
+below_one_is : (n : ℕ) (i : Instr) → ltb i.id n ≡ true → below_one n i ≡ 1
+unfolding below_one
+below_one_is n i h = ap one h
+
 -- all are below n
 all_below : (n : ℕ) (is : List Instr) → ((id : ℕ) → id_count id is ≤ limit id n) → below n is ≡ length is
 unfolding below
 all_below n [] h = refl
 all_below n (i ∷ is) h =
-    let split : (id : ℕ) → id_count id (i ∷ is) ≡ equal_one id i + id_count id is = λ id. unfold equal_one in sum_by-cons (λ x. cond (eqb x.id id) 1 0) i is in
     let own = own_one i in
-    let e : below_one n i ≡ 1 = unfold below_one in ap one (limit_below i.id n (omega (arith, h i.id, split i.id, own))) in
-    omega (arith, sum_by-cons (below_one n) i is, all_below n is (λ id. omega (arith, h id, split id)), e)
+    let e = below_one_is n i (limit_below i.id n (omega (arith, h i.id, split i.id i is, own))) in
+    omega (arith, sum_by-cons (below_one n) i is, all_below n is (λ id. omega (arith, h id, split id i is)), e)
 
 few : (n : ℕ) (is : List Instr) → ((id : ℕ) → id_count id is ≤ limit id n) → length is ≤ n
 few n is h = omega (arith, all_below n is h, within n is (λ id. omega (arith, h id, limit_one id n)))

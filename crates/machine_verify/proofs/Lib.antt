@@ -5,3 +5,4 @@ pub mod Searched
 pub mod Few
 pub mod Apart
 pub mod Lived
+pub mod Told

@@ -1,6 +1,6 @@
 -- Live units as flags, and the registers that stand for them.
-use Rattle.std.specs.Prelude.{ℕ, Bool, true, false, cond, List, [], ◌∷◌, ◌++◌, Option, Some, None, find, filter, option_to_list, slice_get}
-use Rattle.std.specs.List.{list_all}
+use Rattle.std.specs.Prelude.{ℕ, Bool, true, false, cond, List, [], ◌∷◌, ◌++◌, Option, Some, None, find, filter, option_to_list, slice_get, nat_eq, map}
+use Rattle.std.specs.List.{list_all, list_any}
 use Rattle.std.specs.Option.{option_or}
 use Rattle.target_base.specs.declared.types.Reg.{Reg}
 use Rattle.target_base.specs.declared.types.Target.{Target}
@@ -23,3 +23,11 @@ wanted_at t rs live u = cond (live u) (option_to_list (chosen_of t rs live u)) [
 abbrev pub wanted : Target → List Reg → (ℕ → Bool) → List ℕ → List Reg
 wanted t rs live [] = []
 wanted t rs live (u ∷ us) = wanted_at t rs live u ++ wanted t rs live us
+
+-- those of the registers that are among the wanted ones
+abbrev pub standing : List Reg → List Reg → List Reg
+standing ws rs = filter (λ r. list_any (λ q. nat_eq r.0 q.0) ws) rs
+
+-- the numbers of registers
+abbrev pub register_numbers : List Reg → List ℕ
+register_numbers rs = map (λ r. r.0) rs

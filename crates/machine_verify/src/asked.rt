@@ -13,8 +13,10 @@ use crate::numbers::{NumberSet, lists_once};
 use crate::operands::operands_fit;
 use crate::parts::{BoundOperand, bind, registers};
 use crate::ties::{definitions_fit, slots_fit, ties_fit};
-use crate::words::{desc_of, effect_of, is_lowered_away, is_phi, is_terminator, spills_or_reloads};
+use crate::words::{desc_of, is_lowered_away, is_phi, spills_or_reloads};
 use mir_func::{Func, Instr, Operand, RegOp};
+use mir_items::counted::effect_of;
+use mir_items::ways::is_terminator;
 use mir_meaning::Form;
 use std::alloc::{AllocError, Global};
 use target_base::{OpcodeDesc, Target};
@@ -48,11 +50,7 @@ pub(crate) struct Asked<'a> {
 
 /// Sorts the operands of an instruction.
 #[tactic(auto, using(crate::proofs::Meant::bound_is))]
-fn sorted<'a>(
-    q: &Question,
-    instr: &'a Instr,
-    desc: &'a OpcodeDesc,
-) -> Result<Asked<'a>, AllocError>
+fn sorted<'a>(q: &Question, instr: &'a Instr, desc: &'a OpcodeDesc) -> Result<Asked<'a>, AllocError>
     requires { binding.known_opcode q.now.target.now instr.now.op ≡ Some desc.now }
     ensures { IfOk result (λ a. IsAsked q.now.target.now instr.now a) }
 {

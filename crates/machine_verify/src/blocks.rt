@@ -10,8 +10,10 @@ ghost use Rattle.machine_verify.specs.Sets.{has};
 
 use crate::numbers::{NumberSet, lists_once};
 use crate::operands::operands_fit;
-use crate::words::{desc_of, effect_of, ends_control, is_branch};
+use crate::words::{desc_of, is_branch};
 use mir_func::{Block, Edge, Func, Instr, Operand};
+use mir_items::counted::effect_of;
+use mir_items::ways::falls_through;
 use std::alloc::{AllocError, Global};
 use target_base::Target;
 
@@ -122,11 +124,7 @@ fn is_branch_at(target: &Target, i: &Instr) -> bool
 }
 
 /// The blocks that branches name.
-fn branch_targets(
-    alloc: Global,
-    target: &Target,
-    instrs: &[Instr],
-) -> Result<Vec<u32>, AllocError>
+fn branch_targets(alloc: Global, target: &Target, instrs: &[Instr]) -> Result<Vec<u32>, AllocError>
     ensures { IfOk result (λ made. made.items ≡ rules.branch_targets target.now instrs.now) }
 {
     let mut made = Vec::new(alloc);
@@ -136,29 +134,6 @@ fn branch_targets(
         }
     }
     Ok(made)
-}
-
-fn ends_control_at(target: &Target, i: &Instr) -> bool
-    ensures { result ≡ binding.does binding.ends_control target.now i.now }
-{
-    match effect_of(target, i) {
-        None => false,
-        Some(e) => ends_control(e),
-    }
-}
-
-/// Whether control goes on behind the last of these instructions.
-fn falls_through(target: &Target, instrs: &[Instr]) -> bool
-    ensures { result ≡ layout.falls_through target.now instrs.now }
-{
-    let mut rest = instrs;
-    'instrs: while let [i, more @ ..] = rest {
-        if more.is_empty() {
-            return !ends_control_at(target, i);
-        }
-        rest = more;
-    }
-    true
 }
 
 /// The number of the first of these blocks.
@@ -184,12 +159,7 @@ fn fallen_into(target: &Target, b: &Block, after: &[Block]) -> Option<u32>
 
 /// Whether the instruction is a branch whose operands don't fit its roles.
 #[tactic(auto, unfolding(mir_meaning::specs::Rules::V1))]
-fn is_wrong_branch(
-    alloc: Global,
-    target: &Target,
-    f: &Func,
-    i: &Instr,
-) -> Result<bool, AllocError>
+fn is_wrong_branch(alloc: Global, target: &Target, f: &Func, i: &Instr) -> Result<bool, AllocError>
     ensures { IfOk result (λ is_wrong. is_wrong ≡ (binding.does binding.is_branch target.now i.now && not (rules.V1 target.now f.now i.now))) }
 {
     match desc_of(target, &i.op) {

@@ -12,12 +12,12 @@ ghost use Rattle.target_base.specs.declared.types.Effect.TheVariants as effects;
 ghost use Rattle.machine_verify.specs.Operands.{part_fits};
 ghost use Rattle.machine_verify.specs.Parts.{seen, seen_all};
 
-use crate::lanes::{has_class, has_lanes, index_fits, lanes_of};
+use crate::lanes::{has_class, has_lanes, index_fits};
 use crate::numbers::are_distinct;
 use crate::parts::BoundOperand;
 use crate::words::{asked_class, puts_together};
 use mir_func::{Func, Loc, Operand, RegOp};
-use mir_items::lanes::{class_of, push_operand_widths};
+use mir_items::lanes::{class_of, lanes_at, push_operand_widths};
 use std::alloc::{AllocError, Global};
 use target_base::classes::{are_within, find_home, hold_subs, holds, regs_at};
 use target_base::{ClassId, Effect, IndexId, List, Numbers, Reg, Role, Target};
@@ -37,7 +37,7 @@ fn lies_in(target: &Target, k: ClassId, c: ClassId, x: Option<IndexId>) -> bool
         None => are_within(regs_of(target, c), regs_of(target, k)),
         Some(i) => hold_subs(
             target.regs.as_slice(),
-            lanes_of(target, i),
+            lanes_at(target, i),
             regs_of(target, c),
             regs_of(target, k),
         ),
@@ -111,12 +111,7 @@ fn same_numbers(a: &[u32], b: &[u32]) -> bool
 }
 
 /// The lane widths of an operand.
-fn widths_of(
-    alloc: Global,
-    target: &Target,
-    f: &Func,
-    o: &RegOp,
-) -> Result<Numbers, AllocError>
+fn widths_of(alloc: Global, target: &Target, f: &Func, o: &RegOp) -> Result<Numbers, AllocError>
     ensures { IfOk result (λ made. made ≡ registers.operand_widths target.now f.now o.now) }
 {
     let mut widths = List::new(alloc);
@@ -216,7 +211,7 @@ fn picked_lanes(
     let mut made = Vec::new(alloc);
     for o in operands {
         if let Operand::Index(x) = o {
-            push_lanes(&mut made, lanes_of(target, *x))?;
+            push_lanes(&mut made, lanes_at(target, *x))?;
         }
     }
     Ok(made)
@@ -344,7 +339,13 @@ fn insertion_widths_fit(
     ensures { IfOk result (λ is_right. is_right ≡ rules.widths_fit target.now f.now effects.InsertSubreg operands.now) }
 {
     match operands {
-        [Operand::Reg(d), Operand::Reg(a), Operand::Reg(b), Operand::Index(x), ..] => {
+        [
+            Operand::Reg(d),
+            Operand::Reg(a),
+            Operand::Reg(b),
+            Operand::Index(x),
+            ..
+        ] => {
             if !same_widths(alloc, target, f, a, d)? {
                 return Ok(false);
             }

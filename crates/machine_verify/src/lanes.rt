@@ -1,24 +1,14 @@
 //! The lanes of operands, where they are known.
 
 ghost use Rattle.std.specs.Prelude.{◌≡◌};
-ghost use Rattle.target_base.specs.Registers.{lanes_of, fits};
+ghost use Rattle.target_base.specs.Registers.{fits};
 ghost use Rattle.mir_meaning.specs.Registers.{is_reserved_unit};
 ghost use Rattle.mir_meaning.specs.Rules.{has_lanes_at, has_lanes, index_fits, has_class};
 
 use mir_func::{Func, Loc, RegOp};
-use mir_items::lanes::class_of;
+use mir_items::lanes::{class_of, lanes_at};
 use target_base::classes::{have_subs, regs_at};
 use target_base::{ClassId, IndexId, Target};
-
-/// The lanes that an index picks; none where there is no such index.
-pub(crate) fn lanes_of(target: &Target, x: IndexId) -> &[u8]
-    ensures { result.now ≡ lanes_of target.now x }
-{
-    match target.indexes.as_slice().get(x.0 as usize) {
-        None => &[],
-        Some(d) => d.lanes.as_slice(),
-    }
-}
 
 /// Whether the unit of that number is reserved.
 pub(crate) fn is_reserved_unit(target: &Target, u: u32) -> bool
@@ -35,7 +25,7 @@ pub(crate) fn fits(target: &Target, c: ClassId, x: Option<IndexId>) -> bool
         None => true,
         Some(i) => have_subs(
             target.regs.as_slice(),
-            lanes_of(target, i),
+            lanes_at(target, i),
             regs_at(target.classes.as_slice(), Some(c)),
         ),
     }

@@ -1,7 +1,7 @@
 //! V13 and V14: whether a block's live-ins are those of its live units, and whether a virtual
 //! register is live at the start, or named in an allocated function.
 
-ghost use Rattle.std.specs.Prelude.{◌≡◌, ◌||◌, ◌++◌, true, not, map, filter, find, flat_map, length, nat_eq, IfOk, OnOk};
+ghost use Rattle.std.specs.Prelude.{◌≡◌, ◌||◌, ◌++◌, ◌∷◌, [], true, not, map, filter, find, flat_map, length, nat_eq, IfOk, OnOk};
 ghost use Rattle.std.specs.List.{list_all, list_any};
 ghost use Rattle.target_base.specs.Registers.{units_of};
 ghost use Rattle.target_base.specs.Storage.{is_unreserved, is_among, same_numbers};
@@ -9,7 +9,7 @@ ghost use Rattle.mir_meaning.specs.Registers.{has_number, is_reserved_unit, numb
 ghost use Rattle.mir_meaning.specs.Rules.{is_virtual};
 ghost use Rattle.mir_meaning.specs.Binding.{registers};
 ghost use Rattle.mir_meaning.specs.Valid as valid;
-ghost use Rattle.machine_verify.specs.Liveins.{is_set, wanted, chosen_of};
+ghost use Rattle.machine_verify.specs.Liveins.{is_set, wanted, wanted_at, chosen_of, standing, register_numbers};
 
 use crate::lanes::is_reserved_unit;
 use crate::words::is_virtual;
@@ -119,17 +119,24 @@ fn has_unit(us: &[Unit], u: Unit) -> bool
     us.iter().any(|v| v.0 == u.0)
 }
 
+/// Puts a register at the end, unless one of its units is reserved.
+fn push_unreserved(out: &mut Vec<Reg>, target: &Target, r: Reg) -> Result<(), AllocError>
+    ensures { OnOk result (out.new.items ≡ out.old.items ++ filter (is_unreserved target.now.reserved target.now.regs) (r ∷ [])) }
+{
+    if is_unreserved(target, r) {
+        out.push(r)?;
+    }
+    Ok(())
+}
+
 /// The target's unreserved registers in order.
-#[tactic(auto, using(crate::proofs::Lived::numbers_step, crate::proofs::Lived::numbers_end, crate::proofs::Lived::few_regs))]
+#[tactic(auto, using(crate::proofs::Lived::few_regs))]
 pub(crate) fn unreserved_registers(alloc: Global, target: &Target) -> Result<Vec<Reg>, AllocError>
     ensures { IfOk result (λ made. made.items ≡ valid.unreserved_registers target.now) }
 {
     let mut made = Vec::new(alloc);
     'regs: for k in 0..target.regs.len() {
-        let r = Reg(k as u16);
-        if is_unreserved(target, r) {
-            made.push(r)?;
-        }
+        push_unreserved(&mut made, target, Reg(k as u16))?;
     }
     Ok(made)
 }
@@ -186,23 +193,32 @@ fn chosen(target: &Target, live: &[bool], u: usize, rs: &[Reg]) -> Option<Reg>
     }
 }
 
-/// The registers that stand for live units, unit by unit.
-#[tactic(auto, using(crate::proofs::Lived::numbers_step, crate::proofs::Lived::numbers_end))]
-fn wanted(
-    alloc: Global,
+/// Puts the register that stands for a unit at the end, where the unit is live.
+fn push_wanted(
+    out: &mut Vec<Reg>,
     target: &Target,
     live: &[bool],
     rs: &[Reg],
-) -> Result<Vec<Reg>, AllocError>
+    u: usize,
+) -> Result<(), AllocError>
+    ensures { OnOk result (out.new.items ≡ out.old.items ++ wanted_at target.now rs.now (is_set live.now) u) }
+{
+    if !is_set(live, u) {
+        return Ok(());
+    }
+    if let Some(r) = chosen(target, live, u, rs) {
+        out.push(r)?;
+    }
+    Ok(())
+}
+
+/// The registers that stand for live units, unit by unit.
+fn wanted(alloc: Global, target: &Target, live: &[bool], rs: &[Reg]) -> Result<Vec<Reg>, AllocError>
     ensures { IfOk result (λ made. made.items ≡ wanted target.now rs.now (is_set live.now) (numbers 0 (length target.now.units))) }
 {
     let mut made = Vec::new(alloc);
     'units: for u in 0..target.units.len() {
-        if is_set(live, u) {
-            if let Some(r) = chosen(target, live, u, rs) {
-                made.push(r)?;
-            }
-        }
+        push_wanted(&mut made, target, live, rs, u)?;
     }
     Ok(made)
 }
@@ -215,7 +231,7 @@ fn stands_in(rs: &[Reg], r: Reg) -> bool
 
 /// Whether the live-ins are those of these registers that stand for live units, in order.
 fn lists_cover(liveins: &[Reg], rs: &[Reg], wanted: &[Reg]) -> bool
-    ensures { result ≡ same_numbers (map (λ r. r.0) liveins.now) (map (λ r. r.0) (filter (λ r. list_any (λ q. nat_eq r.0 q.0) wanted.now) rs.now)) }
+    ensures { result ≡ same_numbers (register_numbers liveins.now) (register_numbers (standing wanted.now rs.now)) }
 {
     let mut rest = liveins;
     for r in rs {
@@ -231,26 +247,17 @@ fn lists_cover(liveins: &[Reg], rs: &[Reg], wanted: &[Reg]) -> bool
             }
         }
     }
-    rest.is_empty()
+    rest.len() == 0
 }
 
 /// Whether the live-ins of a block are the cover of its live units.
 #[tactic(auto, using(crate::proofs::Lived::cover_is))]
-fn cover_fits(
-    alloc: Global,
-    target: &Target,
-    b: &Block,
-    live: &[bool],
-) -> Result<bool, AllocError>
+fn cover_fits(alloc: Global, target: &Target, b: &Block, live: &[bool]) -> Result<bool, AllocError>
     ensures { IfOk result (λ is_right. is_right ≡ same_numbers (map (λ r. r.0) b.now.liveins) (map (λ r. r.0) (valid.cover target.now (is_set live.now)))) }
 {
     let rs = unreserved_registers(alloc, target)?;
     let stands = wanted(alloc, target, live, rs.as_slice())?;
-    Ok(lists_cover(
-        b.liveins.as_slice(),
-        rs.as_slice(),
-        stands.as_slice(),
-    ))
+    Ok(lists_cover(b.liveins.as_slice(), rs.as_slice(), stands.as_slice()))
 }
 
 /// The test of V13 of block `k`, whose live units are told.

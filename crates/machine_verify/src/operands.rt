@@ -3,20 +3,20 @@
 ghost use Rattle.std.specs.Prelude.{◌≡◌, ◌&&◌, ◌==◌, not, length, filter, count_by, is_none, IfOk};
 ghost use Rattle.std.specs.List.{list_all};
 ghost use Rattle.mir_meaning.specs.Binding as binding;
-ghost use Rattle.mir_meaning.specs.Items.{immediate_of};
 ghost use Rattle.mir_meaning.specs.Rules as rules;
 ghost use Rattle.mir_meaning.specs.Registers as registers;
 ghost use Rattle.target_base.specs.Roles as roles;
 ghost use Rattle.machine_verify.specs.Operands.{fits_next, reads_virtual, is_block, is_index, fits_roles};
 
-use crate::lanes::{has_lanes, lanes_of};
+use crate::lanes::has_lanes;
 use crate::parts::{implicit_registers, next_role};
 use crate::words::{
-    is_definition, is_implicit, is_implicit_operand, is_silent, is_use, is_virtual, same_role,
-    takes_many, takes_role,
+    is_definition, is_implicit, is_implicit_operand, is_use, is_virtual, same_role, takes_many,
+    takes_role,
 };
 use mir_func::{Func, Operand, RegOp};
-use mir_items::lanes::push_operand_widths;
+use mir_items::counted::{immediate_of, is_silent};
+use mir_items::lanes::{lanes_at, push_operand_widths};
 use std::alloc::{AllocError, Global};
 use target_base::{Effect, List, OpcodeDesc, Role, Target};
 
@@ -194,18 +194,6 @@ fn is_zero(z: i128) -> bool
     z == 0
 }
 
-/// The immediate operand, or 0.
-fn immediate_of(operands: &[Operand]) -> i128
-    ensures { result ≡ immediate_of operands.now }
-{
-    for o in operands {
-        if let Operand::Imm(z) = o {
-            return *z;
-        }
-    }
-    0
-}
-
 /// The number of an operand's lanes.
 fn lane_count(alloc: Global, target: &Target, f: &Func, o: &RegOp) -> Result<usize, AllocError>
     ensures { IfOk result (λ n. n ≡ length (registers.operand_widths target.now f.now o.now)) }
@@ -231,7 +219,7 @@ fn lanes_fit(
                 return Ok(true);
             }
             let count = lane_count(alloc, target, f, o)?;
-            Ok(lanes_of(target, *x).len() == count)
+            Ok(lanes_at(target, *x).len() == count)
         }
         _ => Ok(true),
     }

@@ -8,7 +8,7 @@ ghost use Rattle.machine_verify.specs.Asked.{before_at};
 ghost use Rattle.machine_verify.specs.Faults.{fault_of};
 
 use crate::asked::{Before, Question, after, instr_rule};
-use crate::blocks::{names_are_there, predecessors, v10, v16, v9};
+use crate::blocks::{names_are_there, predecessors, v9, v10, v16};
 use crate::numbers::NumberSet;
 use crate::stop::Invalid;
 use crate::ties::{spill_slots, v15_frame};
@@ -97,13 +97,7 @@ fn least(a: Option<u8>, b: Option<u8>) -> Option<u8>
         None => b,
         Some(q) => match b {
             None => Some(q),
-            Some(r) => {
-                if r < q {
-                    Some(r)
-                } else {
-                    Some(q)
-                }
-            }
+            Some(r) => { if r < q { Some(r) } else { Some(q) } }
         },
     }
 }
@@ -161,12 +155,7 @@ fn later_fault(
 
 /// The first fault in block `k`, whose own rules count at its first place.
 #[tactic(auto, using(crate::proofs::Searched::rule_is, crate::proofs::Searched::first_before, crate::proofs::Searched::before_step))]
-fn fault_in(
-    q: &Question,
-    known: &Known,
-    k: usize,
-    b: &Block,
-) -> Result<Option<Invalid>, AllocError>
+fn fault_in(q: &Question, known: &Known, k: usize, b: &Block) -> Result<Option<Invalid>, AllocError>
     requires within { k < length q.now.f.now.blocks }
     requires few { length b.now.instrs < 2 ^ 32 }
     requires numbers { Holds known.now.numbers (rules.block_numbers q.now.f.now.blocks) }
@@ -187,7 +176,8 @@ fn fault_in(
     if let Some(r) = least(own, rule) {
         return Ok(Some(fault_at(b, 0, r)));
     }
-    later_fault(q, known, k, b, preds.as_slice(), after(q.target, start, i))
+    let later = later_fault(q, known, k, b, preds.as_slice(), after(q.target, start, i))?;
+    Ok(later)
 }
 
 /// The first place in layout at which a rule other than V13 and V14 fails, with the least rule

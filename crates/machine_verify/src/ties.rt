@@ -8,7 +8,7 @@ ghost use Rattle.mir_meaning.specs.Items.{unreserved};
 ghost use Rattle.mir_meaning.specs.Registers.{is_reserved};
 ghost use Rattle.mir_meaning.specs.Rules as rules;
 ghost use Rattle.machine_verify.specs.Parts.{seen, seen_all};
-ghost use Rattle.machine_verify.specs.Sets.{HoldsSlots};
+ghost use Rattle.machine_verify.specs.Sets.{HoldsSlots, HoldsSlotsAmong};
 ghost use Rattle.machine_verify.specs.Ties.{spill_numbers, first_tie_fits, untied_reading, definitions_fit, slot_fits};
 
 use crate::classes::same_widths;
@@ -192,12 +192,7 @@ fn unreserved(alloc: Global, target: &Target, lanes: &[Lane]) -> Result<Lanes, A
 }
 
 /// The lanes of an operand that count for clashes: none where they aren't known.
-fn clashing_lanes(
-    alloc: Global,
-    target: &Target,
-    f: &Func,
-    o: &RegOp,
-) -> Result<Lanes, AllocError>
+fn clashing_lanes(alloc: Global, target: &Target, f: &Func, o: &RegOp) -> Result<Lanes, AllocError>
     ensures { IfOk result (λ made. made ≡ rules.clashing_lanes target.now f.now o.now) }
 {
     if !has_lanes(target, f, o) {
@@ -397,13 +392,20 @@ fn spill_numbers(alloc: Global, frames: &[(u32, bool)]) -> Result<Vec<u32>, Allo
     Ok(made)
 }
 
-/// The set of the spill slots' numbers.
+/// The set of the numbers of spill slots.
+fn slots_among(alloc: Global, frames: &[(u32, bool)]) -> Result<NumberSet, AllocError>
+    ensures { IfOk result (λ set. HoldsSlotsAmong set frames.now) }
+{
+    let numbers = spill_numbers(alloc, frames)?;
+    let set = set_of(alloc, numbers.as_slice())?;
+    Ok(set)
+}
+
+/// The set of the numbers of the function's spill slots.
 pub(crate) fn spill_slots(alloc: Global, f: &Func) -> Result<NumberSet, AllocError>
     ensures { IfOk result (λ set. HoldsSlots set f.now) }
 {
-    let numbers = spill_numbers(alloc, f.frames.as_slice())?;
-    let set = set_of(alloc, numbers.as_slice())?;
-    Ok(set)
+    slots_among(alloc, f.frames.as_slice())
 }
 
 /// Whether a `slot` operand names a spill slot, and no other operand does.

@@ -78,6 +78,7 @@ fn v14(q: &Question, live: &LiveFunc, first: &Block) -> bool
 }
 
 /// The first fault of V13 and V14: V13 of the first block, then V14, then V13 of the later blocks.
+#[tactic(auto, using(crate::proofs::Told::late_thirteen, crate::proofs::Told::late_fourteen))]
 fn live_fault(q: &Question, live: &LiveFunc) -> Result<Option<Invalid>, AllocError>
     ensures { IfOk result (IfLate q.now.form q.now.f.now) }
 {
@@ -100,6 +101,7 @@ fn live_fault(q: &Question, live: &LiveFunc) -> Result<Option<Invalid>, AllocErr
 }
 
 /// The verdict on a function in a form.
+#[tactic(auto, using(crate::proofs::Told::told_shape, crate::proofs::Told::told_late, crate::proofs::Told::told_none))]
 fn check(q: &Question) -> Result<(), VerifyStop>
     ensures ok { OnOk result (IsAccepted q.now.target.now q.now.form q.now.f.now) }
     ensures err { IfErr result (IfInvalid (IsFault q.now.target.now q.now.form q.now.f.now)) }

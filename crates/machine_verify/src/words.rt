@@ -1,24 +1,13 @@
 //! Tests of effects, roles and operands.
 
-ghost use Rattle.std.specs.Prelude.{◌≡◌, nat_eq, option_copied, ◌&&◌, not};
+ghost use Rattle.std.specs.Prelude.{◌≡◌, option_copied};
 ghost use Rattle.target_base.specs.Roles as roles;
 ghost use Rattle.target_base.specs.Rules as rules;
 ghost use Rattle.mir_meaning.specs.Binding as binding;
 ghost use Rattle.mir_meaning.specs.Rules as tests;
 
-use mir_func::{Instr, Loc, Op, Operand, RegOp};
+use mir_func::{Loc, Op, Operand, RegOp};
 use target_base::{ClassId, Effect, IndexId, OpcodeDesc, Reg, Role, Target};
-
-/// Whether control doesn't go on behind the effect.
-pub(crate) fn ends_control(e: Effect) -> bool
-    ensures { result ≡ binding.ends_control e }
-{
-    match e {
-        Effect::Jump => true,
-        Effect::Ret => true,
-        _ => false,
-    }
-}
 
 fn is_conditional(e: Effect) -> bool
     ensures { result ≡ binding.is_conditional e }
@@ -28,13 +17,6 @@ fn is_conditional(e: Effect) -> bool
         Effect::Jnz => true,
         _ => false,
     }
-}
-
-/// Whether the effect is a jump, a conditional branch or a return.
-pub(crate) fn is_terminator(e: Effect) -> bool
-    ensures { result ≡ binding.is_terminator e }
-{
-    ends_control(e) || is_conditional(e)
 }
 
 /// Whether the effect is a jump or a conditional branch.
@@ -82,24 +64,6 @@ pub(crate) fn spills_or_reloads(e: Effect) -> bool
     match e {
         Effect::Spill => true,
         Effect::Reload => true,
-        _ => false,
-    }
-}
-
-/// Whether the effect counts for nothing in a run.
-pub(crate) fn is_silent(e: Effect) -> bool
-    ensures { result ≡ roles.is_silent e }
-{
-    match e {
-        Effect::Copy
-        | Effect::Phi
-        | Effect::ImplicitDef
-        | Effect::RegSequence
-        | Effect::InsertSubreg
-        | Effect::Const
-        | Effect::Addr
-        | Effect::Spill
-        | Effect::Reload => true,
         _ => false,
     }
 }
@@ -173,16 +137,6 @@ pub(crate) fn desc_of<'a>(target: &'a Target, op: &Op) -> Option<&'a OpcodeDesc>
     match op {
         Op::Known(o) => target.opcodes.as_slice().get(o.0 as usize),
         Op::Excluded(_) => None,
-    }
-}
-
-/// What an instruction computes; nothing where its opcode is an excluded one.
-pub(crate) fn effect_of(target: &Target, instr: &Instr) -> Option<Effect>
-    ensures { result ≡ binding.effect_of target.now instr.now }
-{
-    match desc_of(target, &instr.op) {
-        None => None,
-        Some(d) => Some(d.effect),
     }
 }
 
