@@ -1,0 +1,157 @@
+//! The first choice of registers that serves.
+
+ghost use Rattle.std.specs.Prelude.{◌≡◌, ◌≤◌, ◌+◌, IfOk, not, true, length};
+ghost use Rattle.target_base.specs.Storage.{is_among};
+ghost use Rattle.mir_meaning.specs.Places.{all_apart, share_a_unit};
+ghost use Rattle.place_solve.specs.Choice.{use_of, need_of, seats, stands_beside, fits, Found};
+
+use crate::around::{Around, is_at_entry, is_at_exit};
+use crate::variables::{Kind, Variable};
+use live_lanes::LiveFunc;
+use std::alloc::{AllocError, Global};
+use target_base::classes::regs_at;
+use target_base::registers::units_at;
+use target_base::{List, Reg, Regs, Target, Unit};
+
+/// Whether the list holds a unit.
+fn holds(units: &[Unit], u: Unit) -> bool
+    ensures { result ≡ is_among units.now u }
+{
+    units.iter().any(|w| w.0 == u.0)
+}
+
+/// Whether two registers share a unit.
+fn share_a_unit(target: &Target, a: Reg, b: Reg) -> bool
+    ensures { result ≡ share_a_unit target.now a b }
+{
+    let regs = target.regs.as_slice();
+    let own = units_at(regs, a);
+    units_at(regs, b).iter().any(|u| holds(own, *u))
+}
+
+/// Whether a variable of this kind may lie in a register: it is unreserved, and none of its units is
+/// in use around the place where the variable needs it.
+fn avoids(live: &LiveFunc, around: Around<'_>, kind: Kind, r: Reg) -> bool {
+    let target = live.target();
+    units_at(target.regs.as_slice(), r).iter().all(|u| {
+        !holds(target.reserved.as_slice(), *u)
+            && !(kind.reaches_back() && is_at_entry(live, around, *u))
+            && !(kind.is_defining() && is_at_exit(live, around, *u))
+    })
+}
+
+/// The registers of a variable's class that it may lie in, in allocation order.
+fn options_of(
+    alloc: Global,
+    live: &LiveFunc,
+    around: Around<'_>,
+    v: Variable,
+) -> Result<Regs, AllocError> {
+    let mut options = List::new(alloc);
+    'each: for r in regs_at(live.target().classes.as_slice(), v.class) {
+        if avoids(live, around, v.kind, *r) {
+            options.push(*r)?;
+        }
+    }
+    Ok(options)
+}
+
+/// Whether a variable of this kind may not lie in `r` beside `w` in `q`.
+fn clashes(target: &Target, w: Variable, q: Reg, kind: Kind, r: Reg) -> bool
+    ensures { result ≡ not (stands_beside target.now (use_of kind) r (need_of w, q)) }
+{
+    w.kind.must_be_apart(kind) && share_a_unit(target, q, r)
+}
+
+/// Whether a variable of this kind may lie in a register beside those that are chosen for the variables
+/// before it.
+
+fn fits(target: &Target, variables: &[Variable], chosen: &[Reg], kind: Kind, r: Reg) -> bool
+    requires { length chosen.now ≤ length variables.now }
+    ensures { result ≡ fits target.now (seats variables.now chosen.now) (use_of kind) r }
+{
+    'each: for k in 0..chosen.len() {
+        if clashes(target, variables[k], chosen[k], kind, r) {
+            return false;
+        }
+    }
+    true
+}
+
+/// How many registers are chosen.
+fn count_of(chosen: &Vec<Reg>) -> usize
+    ensures { result ≡ length chosen.now.items }
+{
+    chosen.as_slice().len()
+}
+
+/// Chooses registers for the variables behind those that are chosen, of their options: the first choice
+/// that keeps apart what must be apart.
+fn choose(
+    target: &Target,
+    variables: &[Variable],
+    options: &[Regs],
+    left: usize,
+    chosen: &mut Vec<Reg>,
+) -> Result<bool, AllocError>
+    requires same { length options.now ≡ length variables.now }
+    requires room { length variables.now ≤ length chosen.old.items + left }
+    requires apart { all_apart target.now (seats variables.now chosen.old.items) ≡ true }
+    ensures { IfOk result (Found target.now variables.now options.now chosen.old.items chosen.new.items) }
+{
+    let k = count_of(chosen);
+    if k >= variables.len() {
+        return Ok(true);
+    }
+    let here = options[k].as_slice();
+    'each: for r in here {
+        if !fits(target, variables, chosen.as_slice(), variables[k].kind, *r) {
+            continue;
+        }
+        chosen.push(*r)?;
+        if choose(target, variables, options, left - 1, chosen)? {
+            return Ok(true);
+        }
+        chosen.truncate(k);
+    }
+    Ok(false)
+}
+
+/// The options of each variable.
+fn all_options(
+    alloc: Global,
+    live: &LiveFunc,
+    around: Around<'_>,
+    variables: &[Variable],
+) -> Result<Vec<Regs>, AllocError>
+    ensures { IfOk result (λ made. length made.items ≡ length variables.now) }
+{
+    let mut options = Vec::new(alloc);
+    'each: for v in variables {
+        options.push(options_of(alloc, live, around, *v)?)?;
+    }
+    Ok(options)
+}
+
+/// The first choice of registers for the variables, in their order and in allocation order, that
+/// serves at the place. None where no choice does.
+pub fn first_choice(
+    alloc: Global,
+    live: &LiveFunc,
+    around: Around<'_>,
+    variables: &[Variable],
+) -> Result<Option<Vec<Reg>>, AllocError> {
+    let options = all_options(alloc, live, around, variables)?;
+    let mut chosen = Vec::new(alloc);
+    if choose(
+        live.target(),
+        variables,
+        options.as_slice(),
+        variables.len(),
+        &mut chosen,
+    )? {
+        Ok(Some(chosen))
+    } else {
+        Ok(None)
+    }
+}
