@@ -89,9 +89,7 @@ pub record Did (env : Environment) (p : List Value × Control) (m : Outside) (ol
   pub outside : Remembers env m d.outside
   pub events : map event_of new ≡ map event_of old ++ d.events
 
--- an instruction of this kind does nothing to the outside
-abbrev pub IsPure : Kind → Type 0
-IsPure (kinds.Storing scale) = ⊥
-IsPure kinds.Calling = ⊥
-IsPure kinds.Returning = ⊥
-IsPure _ = Unit {0}
+-- the test of a number, where there is one
+abbrev pub passes : (ℕ → Bool) → Value → Option Bool
+passes test None = None
+passes test (Some n) = Some (test n)

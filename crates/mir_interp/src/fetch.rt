@@ -27,9 +27,12 @@ pub struct Surroundings<'a, W> {
 }
 
 /// The place of a name. Want of memory stands for a name that isn't there, which no run asks for.
-fn place_of(names: &[Bytes], name: &[u8]) -> Result<usize, AllocError> {
+fn place_of(names: &[Bytes], name: &[u8]) -> Result<usize, AllocError>
+    ensures { IfOk result (λ m. slice_get names.now m ≡ Some name.now) }
+{
     for m in 0..names.len() {
-        if is_same(names[m].as_slice(), name) {
+        let other = names[m].as_slice();
+        if is_same(other, name) {
             return Ok(m);
         }
     }
@@ -38,7 +41,9 @@ fn place_of(names: &[Bytes], name: &[u8]) -> Result<usize, AllocError> {
 
 impl<'a, W: World> Surroundings<'a, W> {
     /// A constant as a number.
-    fn number_of(&self, c: &Constant) -> Result<u128, AllocError> {
+    fn number_of(&self, c: &Constant) -> Result<u128, AllocError>
+        ensures { IfOk result (λ v. (n : ℕ) (env : Environment) → Stands (given_by W.entry W.byte W.frame W.symbol W.answer self.now.world.now) self.now.symbols.now n env → (w : ℕ) → constant_residue env c.now w ≡ v % 2 ^ w) }
+    {
         match c {
             Constant::Immediate(n) => Ok(*n),
             Constant::StackAddress(n) => Ok(low_bits(self.world.frame(false, *n), 64)),
@@ -52,7 +57,9 @@ impl<'a, W: World> Surroundings<'a, W> {
 
     /// So many bits of a constant from a bit on. Want of memory stands for bits from 2^32 on, which
     /// no constant is asked for.
-    fn bits_of(&self, c: &Constant, low: u32, width: u32) -> Result<u128, AllocError> {
+    fn bits_of(&self, c: &Constant, low: u32, width: u32) -> Result<u128, AllocError>
+        ensures { IfOk result (λ v. (n : ℕ) (env : Environment) → Stands (given_by W.entry W.byte W.frame W.symbol W.answer self.now.world.now) self.now.symbols.now n env → v ≡ bits_of env c.now low width) }
+    {
         let Some(end) = low.checked_add(width) else {
             return Err(AllocError);
         };
@@ -61,7 +68,9 @@ impl<'a, W: World> Surroundings<'a, W> {
     }
 
     /// What a source gives.
-    pub fn fetch(&self, store: &Store, s: &Source) -> Result<Option<u128>, AllocError> {
+    pub fn fetch(&self, store: &Store, s: &Source) -> Result<Option<u128>, AllocError>
+        ensures { IfOk result (λ v. (n : ℕ) (env : Environment) → Stands (given_by W.entry W.byte W.frame W.symbol W.answer self.now.world.now) self.now.symbols.now n env → v ≡ fetch env (held_by store.now) s.now) }
+    {
         match s {
             Source::FromLane(l) => Ok(store.get(*l)),
             Source::Undef => Ok(None),
@@ -78,7 +87,9 @@ impl<'a, W: World> Surroundings<'a, W> {
         out: &mut Lanes,
         store: &Store,
         sources: &[Source],
-    ) -> Result<(), AllocError> {
+    ) -> Result<(), AllocError>
+        ensures { OnOk result ((n : ℕ) (env : Environment) → Stands (given_by W.entry W.byte W.frame W.symbol W.answer self.now.world.now) self.now.symbols.now n env → out.new ≡ out.old ++ map (fetch env (held_by store.now)) sources.now) }
+    {
         for s in sources {
             let lane = self.fetch(store, s)?;
             out.push(lane)?;
@@ -94,23 +105,32 @@ impl<'a, W: World> Surroundings<'a, W> {
         widths: &Widths,
         reads: &Reads,
         k: usize,
-    ) -> Result<Option<u128>, AllocError> {
-        if k >= widths.len() || k >= reads.len() {
+    ) -> Result<Option<u128>, AllocError>
+        ensures { IfOk result (λ v. (n : ℕ) (env : Environment) → Stands (given_by W.entry W.byte W.frame W.symbol W.answer self.now.world.now) self.now.symbols.now n env → v ≡ operand widths.now (values env (held_by store.now) reads.now) k) }
+    {
+        let width_count = widths.len();
+        if k >= width_count {
             return Ok(None);
         }
+        let read_count = reads.len();
+        if k >= read_count {
+            return Ok(None);
+        }
+        let picked = reads.get(k);
+        let sources = picked.as_slice();
         let mut lanes = List::new(alloc);
-        self.push_fetched(&mut lanes, store, reads.get(k).as_slice())?;
-        let number = joined(widths.get(k).as_slice(), lanes.as_slice())?;
+        self.push_fetched(&mut lanes, store, sources)?;
+        let own = widths.get(k);
+        let own_widths = own.as_slice();
+        let values = lanes.as_slice();
+        let number = joined(own_widths, values)?;
         Ok(number)
     }
 
     /// Appends all lanes that are read, in order.
-    pub fn push_all(
-        &self,
-        out: &mut Lanes,
-        store: &Store,
-        reads: &Reads,
-    ) -> Result<(), AllocError> {
+    pub fn push_all(&self, out: &mut Lanes, store: &Store, reads: &Reads) -> Result<(), AllocError>
+        ensures { OnOk result ((n : ℕ) (env : Environment) → Stands (given_by W.entry W.byte W.frame W.symbol W.answer self.now.world.now) self.now.symbols.now n env → out.new ≡ out.old ++ all_lanes (values env (held_by store.now) reads.now)) }
+    {
         for sources in reads.as_slice() {
             self.push_fetched(out, store, sources.as_slice())?;
         }

@@ -25,7 +25,9 @@ pub struct Outside {
 
 impl Outside {
     /// Nothing stored, and no call made.
-    pub fn new(alloc: Global) -> Outside {
+    pub fn new(alloc: Global) -> Outside
+        ensures { (env : Environment) → Remembers env result (record { bytes = []; calls = 0 }) }
+    {
         Outside {
             bytes: HashMap::new(alloc),
             calls: 0,
@@ -33,12 +35,17 @@ impl Outside {
     }
 
     /// The number of calls made so far.
-    pub fn calls(&self) -> u64 {
+    pub fn calls(&self) -> u64
+        ensures { result ≡ self.now.calls }
+    {
         self.calls
     }
 
     /// Counts a call. No run makes 2^64 of them: want of memory stands for one more.
-    pub fn count_call(&mut self) -> Result<(), AllocError> {
+    pub fn count_call(&mut self) -> Result<(), AllocError>
+        ensures bytes { self.new.bytes ≡ self.old.bytes }
+        ensures calls { OnOk result (self.new.calls ≡ self.old.calls + 1) }
+    {
         match self.calls.checked_add(1) {
             None => Err(AllocError),
             Some(calls) => {
@@ -49,7 +56,9 @@ impl Outside {
     }
 
     /// The byte at an address.
-    fn byte<W: World>(&self, world: &W, a: u128) -> Option<u8> {
+    fn byte<W: World>(&self, world: &W, a: u128) -> Option<u8>
+        ensures { (symbols : List (List ℕ)) (n : ℕ) (env : Environment) → Stands (given_by W.entry W.byte W.frame W.symbol W.answer world.now) symbols n env → result ≡ remembered env self.now.bytes.entries a }
+    {
         match self.bytes.get(&a) {
             None => Some(world.byte(a)),
             Some(held) => *held,
@@ -66,6 +75,7 @@ impl Outside {
         count: u32,
     ) -> Result<Option<u128>, AllocError>
         requires { w ≤ 128 }
+        ensures { IfOk result (λ v. (symbols : List (List ℕ)) (n : ℕ) (env : Environment) → Stands (given_by W.entry W.byte W.frame W.symbol W.answer world.now) symbols n env → (o : meaning.Outside) → Remembers env self.now o → v ≡ loaded_bytes env o w a count) }
     {
         let mut number: u128 = 0;
         for k in 0..count {
@@ -88,6 +98,7 @@ impl Outside {
         widths: &[u32],
     ) -> Result<(), AllocError>
         requires { w ≤ 128 }
+        ensures { OnOk result ((symbols : List (List ℕ)) (n : ℕ) (env : Environment) → Stands (given_by W.entry W.byte W.frame W.symbol W.answer world.now) symbols n env → (o : meaning.Outside) → Remembers env self.now o → out.new ≡ out.old ++ loaded env o w a widths.now) }
     {
         let mut at = a;
         for l in widths {
@@ -100,7 +111,10 @@ impl Outside {
     }
 
     /// Stores a byte.
-    fn store_byte(&mut self, a: u128, byte: Option<u8>) -> Result<(), AllocError> {
+    fn store_byte(&mut self, a: u128, byte: Option<u8>) -> Result<(), AllocError>
+        ensures calls { self.new.calls ≡ self.old.calls }
+        ensures bytes { OnOk result ((env : Environment) (bs : List (ℕ × Value)) → Matches env self.old.bytes.entries bs → Matches env self.new.bytes.entries ((a, byte) ∷ bs)) }
+    {
         self.bytes.insert(a, byte)?;
         Ok(())
     }
@@ -114,13 +128,18 @@ impl Outside {
         count: u32,
     ) -> Result<(), AllocError>
         requires { w ≤ 128 }
+        ensures calls { self.new.calls ≡ self.old.calls }
+        ensures bytes { OnOk result ((env : Environment) (bs : List (ℕ × Value)) → Matches env self.old.bytes.entries bs → Matches env self.new.bytes.entries (stored_bytes w a value count bs)) }
     {
         let mut at = a;
         let mut rest = value;
         for _k in 0..count {
-            self.store_byte(low_bits(at, w), low_byte(rest))?;
+            let place = low_bits(at, w);
+            let byte = low_byte(rest);
+            let higher = high_bytes(rest);
+            self.store_byte(place, byte)?;
             at = at.wrapping_add(1);
-            rest = high_bytes(rest);
+            rest = higher;
         }
         Ok(())
     }
@@ -134,6 +153,8 @@ impl Outside {
         lanes: &[Option<u128>],
     ) -> Result<(), AllocError>
         requires { w ≤ 128 }
+        ensures calls { self.new.calls ≡ self.old.calls }
+        ensures bytes { OnOk result ((env : Environment) (bs : List (ℕ × Value)) → Matches env self.old.bytes.entries bs → Matches env self.new.bytes.entries (stored w a widths.now lanes.now bs)) }
     {
         let mut at = a;
         for k in 0..widths.len() {
@@ -149,7 +170,9 @@ impl Outside {
 }
 
 /// The lowest byte of a value.
-fn low_byte(value: Option<u128>) -> Option<u8> {
+fn low_byte(value: Option<u128>) -> Option<u8>
+    ensures { result ≡ low_byte value }
+{
     match value {
         None => None,
         Some(n) => Some((n % 256) as u8),
@@ -157,7 +180,9 @@ fn low_byte(value: Option<u128>) -> Option<u8> {
 }
 
 /// The other bytes of a value.
-fn high_bytes(value: Option<u128>) -> Option<u128> {
+fn high_bytes(value: Option<u128>) -> Option<u128>
+    ensures { result ≡ high_bytes value }
+{
     match value {
         None => None,
         Some(n) => Some(n / 256),

@@ -8,7 +8,7 @@ ghost use Rattle.meaning.specs.Perform as meaning;
 ghost use Rattle.mir_interp.specs.Holds.{held_by};
 ghost use Rattle.mir_interp.specs.Stands.{Stands, given_by, event_of};
 ghost use Rattle.mir_interp.specs.Remembers.{Matches, Remembers};
-ghost use Rattle.mir_interp.specs.Kinds.{kind_of, two, one, quotient, if_some, IsPure, Pure, Did};
+ghost use Rattle.mir_interp.specs.Kinds.{kind_of, two, one, quotient, if_some, passes, Pure, Did};
 ghost use Rattle.mir_interp.specs.declared.perform.Kind.TheVariants as kinds;
 ghost use Rattle.mir_interp.specs.declared.outside.Outside.{Outside};
 
@@ -238,6 +238,26 @@ fn quotient(e: Effect, a: Option<u128>, b: u128) -> Option<u128>
     }
 }
 
+/// Whether a flag is what the instruction's condition asks for; None where it is Undef.
+fn is_wanted(r: &Rest, flag: Option<u128>) -> Option<bool>
+    ensures { result ≡ passes (holds r.now.immediate) flag }
+{
+    match flag {
+        None => None,
+        Some(n) => Some(n % 2 == 1u128.saturating_sub(residue(r.immediate, 1))),
+    }
+}
+
+/// Whether a number isn't 0; None where it is Undef.
+fn is_set(number: Option<u128>) -> Option<bool>
+    ensures { result ≡ passes (λ n. not (nat_eq n 0)) number }
+{
+    match number {
+        None => None,
+        Some(n) => Some(n != 0),
+    }
+}
+
 /// Where a branch goes whose test may be Undef.
 fn branched(tested: Option<bool>) -> Control
     ensures { result ≡ if_some tested }
@@ -263,44 +283,61 @@ pub struct Performer<'a, W> {
 
 impl<'a, W: World> Performer<'a, W> {
     /// What an operand gives.
-    fn operand(&self, alloc: Global, k: usize) -> Result<Option<u128>, AllocError> {
+    fn operand(&self, alloc: Global, k: usize) -> Result<Option<u128>, AllocError>
+        ensures { IfOk result (λ v. (n : ℕ) (env : Environment) → Stands (given_by W.entry W.byte W.frame W.symbol W.answer self.now.around.now.world.now) self.now.around.now.symbols.now n env → v ≡ operand self.now.rest.now.widths (values env (held_by self.now.store.now) self.now.reads.now) k) }
+    {
         self.around
             .operand(alloc, self.store, &self.rest.widths, self.reads, k)
     }
 
     /// An effect of two numbers.
-    fn binary(&self, alloc: Global) -> Result<Performed, AllocError> {
-        let w = bits_of(self.rest.result.as_slice())?;
+    fn binary(&self, alloc: Global) -> Result<Performed, AllocError>
+        requires { kind_of self.now.rest.now.effect ≡ kinds.Binary }
+        ensures { IfOk result (λ p. (n : ℕ) (env : Environment) → Stands (given_by W.entry W.byte W.frame W.symbol W.answer self.now.around.now.world.now) self.now.around.now.symbols.now n env → (o : meaning.Outside) → Pure p o (perform self.now.rest.now env o (values env (held_by self.now.store.now) self.now.reads.now))) }
+    {
+        let result = self.rest.result.as_slice();
+        let w = bits_of(result)?;
         let a = self.operand(alloc, 0)?;
         let b = self.operand(alloc, 1)?;
         let n = both(self.rest.effect, w, a, b);
-        let lanes = lanes_of(alloc, self.rest.result.as_slice(), n)?;
+        let lanes = lanes_of(alloc, result, n)?;
         Ok((lanes, Control::Next))
     }
 
     /// An effect of one number.
-    fn unary(&self, alloc: Global) -> Result<Performed, AllocError> {
-        let w = bits_of(self.rest.result.as_slice())?;
+    fn unary(&self, alloc: Global) -> Result<Performed, AllocError>
+        requires { kind_of self.now.rest.now.effect ≡ kinds.Unary }
+        ensures { IfOk result (λ p. (n : ℕ) (env : Environment) → Stands (given_by W.entry W.byte W.frame W.symbol W.answer self.now.around.now.world.now) self.now.around.now.symbols.now n env → (o : meaning.Outside) → Pure p o (perform self.now.rest.now env o (values env (held_by self.now.store.now) self.now.reads.now))) }
+    {
+        let result = self.rest.result.as_slice();
+        let w = bits_of(result)?;
         let from = operand_bits(self.rest, 0)?;
         let a = self.operand(alloc, 0)?;
         let n = alone(self.rest.effect, from, w, a);
-        let lanes = lanes_of(alloc, self.rest.result.as_slice(), n)?;
+        let lanes = lanes_of(alloc, result, n)?;
         Ok((lanes, Control::Next))
     }
 
     /// The product of two numbers, plus a third.
-    fn ternary(&self, alloc: Global) -> Result<Performed, AllocError> {
-        let w = bits_of(self.rest.result.as_slice())?;
+    fn ternary(&self, alloc: Global) -> Result<Performed, AllocError>
+        requires { kind_of self.now.rest.now.effect ≡ kinds.Ternary }
+        ensures { IfOk result (λ p. (n : ℕ) (env : Environment) → Stands (given_by W.entry W.byte W.frame W.symbol W.answer self.now.around.now.world.now) self.now.around.now.symbols.now n env → (o : meaning.Outside) → Pure p o (perform self.now.rest.now env o (values env (held_by self.now.store.now) self.now.reads.now))) }
+    {
+        let result = self.rest.result.as_slice();
+        let w = bits_of(result)?;
         let a = self.operand(alloc, 0)?;
         let b = self.operand(alloc, 1)?;
-        let c = self.operand(alloc, 2)?;
-        let n = three(w, a, b, c);
-        let lanes = lanes_of(alloc, self.rest.result.as_slice(), n)?;
+        let d = self.operand(alloc, 2)?;
+        let n = three(w, a, b, d);
+        let lanes = lanes_of(alloc, result, n)?;
         Ok((lanes, Control::Next))
     }
 
     /// A comparison.
-    fn comparison(&self, alloc: Global) -> Result<Performed, AllocError> {
+    fn comparison(&self, alloc: Global) -> Result<Performed, AllocError>
+        requires { kind_of self.now.rest.now.effect ≡ kinds.Comparison }
+        ensures { IfOk result (λ p. (n : ℕ) (env : Environment) → Stands (given_by W.entry W.byte W.frame W.symbol W.answer self.now.around.now.world.now) self.now.around.now.symbols.now n env → (o : meaning.Outside) → Pure p o (perform self.now.rest.now env o (values env (held_by self.now.store.now) self.now.reads.now))) }
+    {
         let w = operand_bits(self.rest, 0)?;
         let a = self.operand(alloc, 0)?;
         let b = self.operand(alloc, 1)?;
@@ -309,75 +346,82 @@ impl<'a, W: World> Performer<'a, W> {
     }
 
     /// A division: a divisor of 0 traps, whatever the dividend is.
-    fn division(&self, alloc: Global) -> Result<Performed, AllocError> {
+    fn division(&self, alloc: Global) -> Result<Performed, AllocError>
+        requires { kind_of self.now.rest.now.effect ≡ kinds.Division }
+        ensures { IfOk result (λ p. (n : ℕ) (env : Environment) → Stands (given_by W.entry W.byte W.frame W.symbol W.answer self.now.around.now.world.now) self.now.around.now.symbols.now n env → (o : meaning.Outside) → Pure p o (perform self.now.rest.now env o (values env (held_by self.now.store.now) self.now.reads.now))) }
+    {
         let a = self.operand(alloc, 0)?;
         let divisor = self.operand(alloc, 1)?;
         let Some(b) = divisor else {
-            return Ok((List::new(alloc), Control::Next));
+            let undefined = List::new(alloc);
+            return Ok((undefined, Control::Next));
         };
         if b == 0 {
-            return Ok((List::new(alloc), Control::Stop(End::Trapped)));
+            let none = List::new(alloc);
+            return Ok((none, Control::Stop(End::Trapped)));
         }
         let n = quotient(self.rest.effect, a, b);
-        let lanes = lanes_of(alloc, self.rest.result.as_slice(), n)?;
+        let result = self.rest.result.as_slice();
+        let lanes = lanes_of(alloc, result, n)?;
         Ok((lanes, Control::Next))
     }
 
     /// A jump under a condition on flags.
-    fn on_flag(&self, alloc: Global) -> Result<Performed, AllocError> {
+    fn on_flag(&self, alloc: Global) -> Result<Performed, AllocError>
+        requires { kind_of self.now.rest.now.effect ≡ kinds.OnFlag }
+        ensures { IfOk result (λ p. (n : ℕ) (env : Environment) → Stands (given_by W.entry W.byte W.frame W.symbol W.answer self.now.around.now.world.now) self.now.around.now.symbols.now n env → (o : meaning.Outside) → Pure p o (perform self.now.rest.now env o (values env (held_by self.now.store.now) self.now.reads.now))) }
+    {
         let a = self.operand(alloc, 0)?;
-        let wanted = 1 - residue(self.rest.immediate, 1).min(1);
-        let tested = match a {
-            None => None,
-            Some(n) => Some(n % 2 == wanted),
-        };
-        Ok((List::new(alloc), branched(tested)))
+        let tested = is_wanted(self.rest, a);
+        let control = branched(tested);
+        let none = List::new(alloc);
+        Ok((none, control))
     }
 
     /// A jump where a register isn't 0.
-    fn on_number(&self, alloc: Global) -> Result<Performed, AllocError> {
+    fn on_number(&self, alloc: Global) -> Result<Performed, AllocError>
+        requires { kind_of self.now.rest.now.effect ≡ kinds.OnNumber }
+        ensures { IfOk result (λ p. (n : ℕ) (env : Environment) → Stands (given_by W.entry W.byte W.frame W.symbol W.answer self.now.around.now.world.now) self.now.around.now.symbols.now n env → (o : meaning.Outside) → Pure p o (perform self.now.rest.now env o (values env (held_by self.now.store.now) self.now.reads.now))) }
+    {
         let a = self.operand(alloc, 0)?;
-        let tested = match a {
-            None => None,
-            Some(n) => Some(n != 0),
-        };
-        Ok((List::new(alloc), branched(tested)))
+        let tested = is_set(a);
+        let control = branched(tested);
+        let none = List::new(alloc);
+        Ok((none, control))
     }
 
     /// The address of a load or a store at a base of w bits.
     fn address(&self, base: u128, w: u32, scale: u8) -> u128
         requires { w ≤ 128 }
+        ensures { result ≡ (base + residue self.now.rest.now.immediate w * scale) % 2 ^ w }
     {
         let offset = residue(self.rest.immediate, w);
         madd(offset, scale as u128, base, w)
     }
 
     /// A load.
-    fn load(&self, alloc: Global, outside: &Outside, scale: u8) -> Result<Performed, AllocError> {
+    fn load(&self, alloc: Global, outside: &Outside, scale: u8) -> Result<Performed, AllocError>
+        requires { kind_of self.now.rest.now.effect ≡ kinds.Loading scale }
+        ensures { IfOk result (λ p. (n : ℕ) (env : Environment) → Stands (given_by W.entry W.byte W.frame W.symbol W.answer self.now.around.now.world.now) self.now.around.now.symbols.now n env → (o : meaning.Outside) → Remembers env outside.now o → Pure p o (perform self.now.rest.now env o (values env (held_by self.now.store.now) self.now.reads.now))) }
+    {
         let w = operand_bits(self.rest, 0)?;
-        let base = self.operand(alloc, 0)?;
-        let Some(base) = base else {
-            return Ok((List::new(alloc), Control::Stop(End::Undefined)));
+        let operand = self.operand(alloc, 0)?;
+        let Some(base) = operand else {
+            let nowhere = List::new(alloc);
+            return Ok((nowhere, Control::Stop(End::Undefined)));
         };
         let a = self.address(base, w, scale);
+        let result = self.rest.result.as_slice();
         let mut lanes = List::new(alloc);
-        outside.push_loaded(
-            &mut lanes,
-            self.around.world,
-            w,
-            a,
-            self.rest.result.as_slice(),
-        )?;
+        outside.push_loaded(&mut lanes, self.around.world, w, a, result)?;
         Ok((lanes, Control::Next))
     }
 
     /// An instruction that does nothing to the outside.
-    fn compute(
-        &self,
-        alloc: Global,
-        outside: &Outside,
-        kind: Kind,
-    ) -> Result<Performed, AllocError> {
+    fn compute(&self, alloc: Global, outside: &Outside, kind: Kind) -> Result<Performed, AllocError>
+        requires { kind ≡ kind_of self.now.rest.now.effect }
+        ensures { IfOk result (λ p. (n : ℕ) (env : Environment) → Stands (given_by W.entry W.byte W.frame W.symbol W.answer self.now.around.now.world.now) self.now.around.now.symbols.now n env → (o : meaning.Outside) → Remembers env outside.now o → Pure p o (perform self.now.rest.now env o (values env (held_by self.now.store.now) self.now.reads.now))) }
+    {
         match kind {
             Kind::Binary => self.binary(alloc),
             Kind::Unary => self.unary(alloc),
@@ -387,18 +431,32 @@ impl<'a, W: World> Performer<'a, W> {
             Kind::Loading(scale) => self.load(alloc, outside, scale),
             Kind::OnFlag => self.on_flag(alloc),
             Kind::OnNumber => self.on_number(alloc),
-            Kind::Jumping => Ok((List::new(alloc), Control::Taken)),
-            _ => Ok((List::new(alloc), Control::Next)),
+            Kind::Jumping => {
+                let jumped = List::new(alloc);
+                Ok((jumped, Control::Taken))
+            }
+            Kind::Idle => {
+                let idle = List::new(alloc);
+                Ok((idle, Control::Next))
+            }
+            Kind::Storing(_) => Err(AllocError),
+            Kind::Calling => Err(AllocError),
+            Kind::Returning => Err(AllocError),
         }
     }
 
     /// The lanes of an operand, by its number; none where there is none.
-    fn operand_lanes(&self, alloc: Global, k: usize) -> Result<Lanes, AllocError> {
+    fn operand_lanes(&self, alloc: Global, k: usize) -> Result<Lanes, AllocError>
+        ensures { IfOk result (λ v. (n : ℕ) (env : Environment) → Stands (given_by W.entry W.byte W.frame W.symbol W.answer self.now.around.now.world.now) self.now.around.now.symbols.now n env → v ≡ lanes_of (values env (held_by self.now.store.now) self.now.reads.now) k) }
+    {
         let mut lanes = List::new(alloc);
-        if k < self.reads.len() {
-            self.around
-                .push_fetched(&mut lanes, self.store, self.reads.get(k).as_slice())?;
+        let read_count = self.reads.len();
+        if k >= read_count {
+            return Ok(lanes);
         }
+        let picked = self.reads.get(k);
+        let sources = picked.as_slice();
+        self.around.push_fetched(&mut lanes, self.store, sources)?;
         Ok(lanes)
     }
 
@@ -411,10 +469,16 @@ impl<'a, W: World> Performer<'a, W> {
         lanes: &[Option<u128>],
     ) -> Result<(), AllocError>
         requires { w ≤ 128 }
+        ensures calls { outside.new.calls ≡ outside.old.calls }
+        ensures bytes { OnOk result ((env : Environment) (bs : List (ℕ × Value)) → Matches env outside.old.bytes.entries bs → Matches env outside.new.bytes.entries (stored w a (widths_of self.now.rest.now.widths 1) lanes.now bs)) }
     {
-        if self.rest.widths.len() > 1 {
-            outside.store(w, a, self.rest.widths.get(1).as_slice(), lanes)?;
+        let width_count = self.rest.widths.len();
+        if 1 >= width_count {
+            return Ok(());
         }
+        let own = self.rest.widths.get(1);
+        let own_widths = own.as_slice();
+        outside.store(w, a, own_widths, lanes)?;
         Ok(())
     }
 
@@ -425,28 +489,39 @@ impl<'a, W: World> Performer<'a, W> {
         outside: &mut Outside,
         events: &mut Events,
         scale: u8,
-    ) -> Result<Performed, AllocError> {
+    ) -> Result<Performed, AllocError>
+        requires { kind_of self.now.rest.now.effect ≡ kinds.Storing scale }
+        ensures calls { OnOk result (outside.new.calls ≤ outside.old.calls + 1) }
+        ensures did { IfOk result (λ p. (n : ℕ) (env : Environment) → Stands (given_by W.entry W.byte W.frame W.symbol W.answer self.now.around.now.world.now) self.now.around.now.symbols.now n env → (o : meaning.Outside) → Remembers env outside.old o → Did env p outside.new events.old events.new (perform self.now.rest.now env o (values env (held_by self.now.store.now) self.now.reads.now))) }
+    {
         let w = operand_bits(self.rest, 0)?;
-        let base = self.operand(alloc, 0)?;
-        let Some(base) = base else {
-            return Ok((List::new(alloc), Control::Stop(End::Undefined)));
+        let operand = self.operand(alloc, 0)?;
+        let Some(base) = operand else {
+            let nowhere = List::new(alloc);
+            return Ok((nowhere, Control::Stop(End::Undefined)));
         };
         let a = self.address(base, w, scale);
         let lanes = self.operand_lanes(alloc, 1)?;
-        self.put(outside, w, a, lanes.as_slice())?;
+        let values = lanes.as_slice();
+        self.put(outside, w, a, values)?;
         events.push(Event::Store(a, lanes))?;
-        Ok((List::new(alloc), Control::Next))
+        let none = List::new(alloc);
+        Ok((none, Control::Next))
     }
 
     /// All lanes that the instruction reads.
-    fn all_lanes(&self, alloc: Global) -> Result<Lanes, AllocError> {
+    fn all_lanes(&self, alloc: Global) -> Result<Lanes, AllocError>
+        ensures { IfOk result (λ v. (n : ℕ) (env : Environment) → Stands (given_by W.entry W.byte W.frame W.symbol W.answer self.now.around.now.world.now) self.now.around.now.symbols.now n env → v ≡ all_lanes (values env (held_by self.now.store.now) self.now.reads.now)) }
+    {
         let mut lanes = List::new(alloc);
         self.around.push_all(&mut lanes, self.store, self.reads)?;
         Ok(lanes)
     }
 
     /// The answer to a call.
-    fn answer(&self, alloc: Global, call: u64) -> Result<Lanes, AllocError> {
+    fn answer(&self, alloc: Global, call: u64) -> Result<Lanes, AllocError>
+        ensures { IfOk result (λ v. (n : ℕ) (env : Environment) → Stands (given_by W.entry W.byte W.frame W.symbol W.answer self.now.around.now.world.now) self.now.around.now.symbols.now n env → call < n → v ≡ answers env call 0 self.now.rest.now.result) }
+    {
         let mut lanes = List::new(alloc);
         for j in 0..self.rest.result.len() {
             let number = self.around.world.answer(call, j);
@@ -461,20 +536,29 @@ impl<'a, W: World> Performer<'a, W> {
         alloc: Global,
         outside: &mut Outside,
         events: &mut Events,
-    ) -> Result<Performed, AllocError> {
+    ) -> Result<Performed, AllocError>
+        requires { kind_of self.now.rest.now.effect ≡ kinds.Calling }
+        ensures calls { OnOk result (outside.new.calls ≤ outside.old.calls + 1) }
+        ensures did { IfOk result (λ p. (n : ℕ) (env : Environment) → Stands (given_by W.entry W.byte W.frame W.symbol W.answer self.now.around.now.world.now) self.now.around.now.symbols.now n env → (o : meaning.Outside) → Remembers env outside.old o → o.calls < n → Did env p outside.new events.old events.new (perform self.now.rest.now env o (values env (held_by self.now.store.now) self.now.reads.now))) }
+    {
         let lanes = self.all_lanes(alloc)?;
         let symbol = self.rest.symbol.copied(alloc)?;
-        let answer = self.answer(alloc, outside.calls())?;
+        let call = outside.calls();
+        let answer = self.answer(alloc, call)?;
         outside.count_call()?;
         events.push(Event::Call(symbol, lanes))?;
         Ok((answer, Control::Next))
     }
 
     /// A return.
-    fn give_back(&self, alloc: Global, events: &mut Events) -> Result<Performed, AllocError> {
+    fn give_back(&self, alloc: Global, events: &mut Events) -> Result<Performed, AllocError>
+        requires { kind_of self.now.rest.now.effect ≡ kinds.Returning }
+        ensures { IfOk result (λ p. (n : ℕ) (env : Environment) → Stands (given_by W.entry W.byte W.frame W.symbol W.answer self.now.around.now.world.now) self.now.around.now.symbols.now n env → (o : meaning.Outside) (m : Outside) → Remembers env m o → Did env p m events.old events.new (perform self.now.rest.now env o (values env (held_by self.now.store.now) self.now.reads.now))) }
+    {
         let lanes = self.all_lanes(alloc)?;
         events.push(Event::Return(lanes))?;
-        Ok((List::new(alloc), Control::Stop(End::Returned)))
+        let none = List::new(alloc);
+        Ok((none, Control::Stop(End::Returned)))
     }
 
     /// What the instruction does.
@@ -483,13 +567,28 @@ impl<'a, W: World> Performer<'a, W> {
         alloc: Global,
         outside: &mut Outside,
         events: &mut Events,
-    ) -> Result<Performed, AllocError> {
+    ) -> Result<Performed, AllocError>
+        ensures calls { OnOk result (outside.new.calls ≤ outside.old.calls + 1) }
+        ensures did { IfOk result (λ p. (n : ℕ) (env : Environment) → Stands (given_by W.entry W.byte W.frame W.symbol W.answer self.now.around.now.world.now) self.now.around.now.symbols.now n env → (o : meaning.Outside) → Remembers env outside.old o → o.calls < n → Did env p outside.new events.old events.new (perform self.now.rest.now env o (values env (held_by self.now.store.now) self.now.reads.now))) }
+    {
         let kind = kind_of(self.rest.effect);
         match kind {
-            Kind::Storing(scale) => self.store(alloc, outside, events, scale),
-            Kind::Calling => self.call(alloc, outside, events),
-            Kind::Returning => self.give_back(alloc, events),
-            _ => self.compute(alloc, outside, kind),
+            Kind::Storing(scale) => {
+                let stored = self.store(alloc, outside, events, scale)?;
+                Ok(stored)
+            }
+            Kind::Calling => {
+                let called = self.call(alloc, outside, events)?;
+                Ok(called)
+            }
+            Kind::Returning => {
+                let returned = self.give_back(alloc, events)?;
+                Ok(returned)
+            }
+            _ => {
+                let computed = self.compute(alloc, outside, kind)?;
+                Ok(computed)
+            }
         }
     }
 }

@@ -1,0 +1,145 @@
+//! The commands by their words.
+
+ghost use Rattle.std.specs.Prelude.{◌≡◌, ◌==◌, ◌≤◌, ◌++◌, ◌∷◌, [], ℕ, List, IfOk, option_map, map, length, nat_le};
+ghost use Rattle.std.specs.List.{list_all};
+ghost use Rattle.commands.specs.Words.{is_option, is_word, is_digit, is_number, plain_words, asked, asks, command_of, bytes_of, texts_of};
+
+use std::alloc::{AllocError, Global};
+
+/// What the program is asked to do. A target is a file's name, or `-` for the built-in target; a file
+/// is its name, or `-` for standard input.
+#[derive(Clone, Copy)]
+pub enum Command<'a> {
+    /// TARGET and FILE: every document, functions allocated.
+    Alloc(&'a str, &'a str),
+    /// TARGET and FILE: whether each function is valid before allocation.
+    VerifySource(&'a str, &'a str),
+    /// TARGET and FILE: whether each function is valid after allocation.
+    VerifyAllocated(&'a str, &'a str),
+    /// TARGET, FILE, NAME, N and SEED: a run of the function of that name.
+    Run(&'a str, &'a str, &'a str, &'a str, &'a str),
+    /// TARGET and FILE: frequencies and live segments.
+    Intervals(&'a str, &'a str),
+    /// TARGET and FILE: the steps of the allocator.
+    Trace(&'a str, &'a str),
+    /// SEED: a generated function, allocated and run.
+    Gen(&'a str),
+}
+
+/// Whether a word has two or more bytes and begins with `-`.
+fn is_option(word: &str) -> bool
+    ensures { result ≡ is_option word.now }
+{
+    match word.as_bytes() {
+        [] => false,
+        [_] => false,
+        [first, ..] => *first == b'-',
+    }
+}
+
+fn are_digits(word: &[u8]) -> bool
+    ensures { result ≡ list_all is_digit word.now }
+{
+    word.iter().all(|b| b'0' <= *b && *b <= b'9')
+}
+
+/// Whether a word is 1 to 9 decimal digits.
+fn is_number(word: &str) -> bool
+    ensures { result ≡ is_number word.now }
+{
+    let bytes = word.as_bytes();
+    bytes.len() >= 1 && (bytes.len() <= 9 && are_digits(bytes))
+}
+
+/// Appends words.
+fn extend<'a>(plain: &mut Vec<&'a str>, words: &'a [String]) -> Result<(), AllocError>
+    ensures { IfOk result (λ _. texts_of plain.new.items ≡ texts_of plain.old.items ++ bytes_of words.now) }
+{
+    for word in words {
+        plain.push(word.as_str())?;
+    }
+    Ok(())
+}
+
+/// The words without the first `--`; None where a word before it looks like an option.
+fn plain_words<'a>(alloc: Global, words: &'a [String]) -> Result<Option<Vec<&'a str>>, AllocError>
+    ensures { IfOk result (λ r. option_map (λ v. texts_of v.items) r ≡ plain_words (bytes_of words.now)) }
+{
+    let mut plain = Vec::new(alloc);
+    for (k, word) in words.iter().enumerate() {
+        let text = word.as_str();
+        if text == "--" {
+            extend(&mut plain, &words[k + 1..])?;
+            return Ok(Some(plain));
+        }
+        if is_option(text) {
+            return Ok(None);
+        }
+        plain.push(text)?;
+    }
+    Ok(Some(plain))
+}
+
+/// A command of a name, TARGET and FILE.
+fn of_a_file<'a>(name: &str, target: &'a str, file: &'a str) -> Option<Command<'a>>
+    ensures { option_map asks result ≡ asked (name.now ∷ target.now ∷ file.now ∷ []) }
+{
+    if name == "alloc" {
+        Some(Command::Alloc(target, file))
+    } else if name == "intervals" {
+        Some(Command::Intervals(target, file))
+    } else if name == "trace" {
+        Some(Command::Trace(target, file))
+    } else {
+        None
+    }
+}
+
+/// The command `verify` of a form.
+fn verify<'a>(name: &str, form: &str, target: &'a str, file: &'a str) -> Option<Command<'a>>
+    ensures { option_map asks result ≡ asked (name.now ∷ form.now ∷ target.now ∷ file.now ∷ []) }
+{
+    if name == "verify" && form == "source" {
+        Some(Command::VerifySource(target, file))
+    } else if name == "verify" && form == "allocated" {
+        Some(Command::VerifyAllocated(target, file))
+    } else {
+        None
+    }
+}
+
+/// The command that plain words spell.
+fn asked<'a>(words: &[&'a str]) -> Option<Command<'a>>
+    ensures { option_map asks result ≡ asked (texts_of words.now) }
+{
+    match words {
+        [name, seed] => {
+            if *name == "gen" && is_number(seed) {
+                Some(Command::Gen(seed))
+            } else {
+                None
+            }
+        }
+        [name, target, file] => of_a_file(name, target, file),
+        [name, form, target, file] => verify(name, form, target, file),
+        [name, target, file, function, n, seed] => {
+            if *name == "run" && (is_number(n) && is_number(seed)) {
+                Some(Command::Run(target, file, function, n, seed))
+            } else {
+                None
+            }
+        }
+        _ => None,
+    }
+}
+
+/// What the program is asked to do by its words, those after its name. None, a usage fault, comes
+/// exactly where they are none of the program's lists.
+pub fn read_words<'a>(alloc: Global, words: &'a [String]) -> Result<Option<Command<'a>>, AllocError>
+    ensures { IfOk result (λ c. option_map asks c ≡ command_of (bytes_of words.now)) }
+{
+    match plain_words(alloc, words)? {
+        None => Ok(None),
+        Some(plain) => Ok(asked(plain.as_slice())),
+    }
+}

@@ -1,0 +1,6 @@
+pub mod Written
+pub mod Front
+pub mod Calls
+pub mod Mapped
+pub mod Steps
+pub mod Chunks

@@ -1,0 +1,11 @@
+-- The place of the first element that passes a test, in a list and in what it is mapped to.
+use Rattle.std.proofs.Common.{◌≡◌, Bool, List, [], ◌∷◌, map, refl, not}
+use Rattle.std.specs.List.{position, prefix_len}
+use Rattle.std.proofs.lemmas.List.{length-map}
+
+prefix_len-map : {X Y : Type 0} (p : Y → Bool) (f : X → Y) (xs : List X) → prefix_len p (map f xs) ≡ prefix_len (λ x. p (f x)) xs
+prefix_len-map p f [] = refl
+prefix_len-map p f (x ∷ xs) = rw (prefix_len-map p f xs)
+
+pub position-map : {X Y : Type 0} (p : Y → Bool) (f : X → Y) (xs : List X) → position p (map f xs) ≡ position (λ x. p (f x)) xs
+position-map p f xs = rw (prefix_len-map (λ y. not (p y)) f xs, length-map xs f)

@@ -1,0 +1,9 @@
+pub mod Loops
+pub mod Operands
+pub mod Writes
+pub mod Readings
+pub mod Known
+pub mod Masks
+pub mod Members
+pub mod Plain
+pub mod CountedSteps

@@ -1,0 +1,8 @@
+use Rattle.std.proofs.Common.{◌≡◌, ◌++◌, flat_map, take, map, false}
+use Rattle.mir_meaning.specs.Items.{result_writes}
+use Rattle.lane_effects.specs.Owners.{operand_owners}
+use Rattle.lane_effects.specs.Acts.{use_owners, flag_owners, acts_of, plain}
+use Rattle.lane_effects.proofs.registers.LaneReader.fill_registers.Given as goal
+
+abbrev pub invariant-ops : goal.invariant-ops
+invariant-ops l = l.writes.items ≡ l.fn.writes.items ++ flat_map (λ o. map (plain false) (operand_owners l.self.target.now l.self.func.now o)) (take l.op-index l.ops)

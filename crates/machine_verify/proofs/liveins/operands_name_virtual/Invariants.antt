@@ -1,0 +1,8 @@
+use Rattle.std.proofs.Common.{◌≡◌, drop}
+use Rattle.std.specs.List.{list_any}
+use Rattle.mir_meaning.specs.Rules.{is_virtual}
+use Rattle.mir_meaning.specs.Binding.{registers}
+use Rattle.machine_verify.proofs.liveins.operands_name_virtual.Given as goal
+
+abbrev pub invariant-loop-o : goal.invariant-loop-o
+invariant-loop-o l = list_any (λ o. is_virtual o.loc) (registers l.operands) ≡ list_any (λ o. is_virtual o.loc) (registers (drop l.o-index l.operands))

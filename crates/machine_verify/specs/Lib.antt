@@ -1,0 +1,8 @@
+pub mod Sets
+pub mod Parts
+pub mod Operands
+pub mod Ties
+pub mod Asked
+pub mod Faults
+pub mod Liveins
+pub mod Verdict

@@ -1,0 +1,75 @@
+//! The lanes of operands, where they are known.
+
+ghost use Rattle.std.specs.Prelude.{◌≡◌};
+ghost use Rattle.target_base.specs.Registers.{fits};
+ghost use Rattle.mir_meaning.specs.Registers.{is_reserved_unit};
+ghost use Rattle.mir_meaning.specs.Rules.{has_lanes_at, has_lanes, index_fits, has_class};
+
+use mir_func::{Func, Loc, RegOp};
+use mir_items::lanes::{class_of, lanes_at};
+use target_base::classes::{have_subs, regs_at};
+use target_base::{ClassId, IndexId, Target};
+
+/// Whether the unit of that number is reserved.
+pub(crate) fn is_reserved_unit(target: &Target, u: u32) -> bool
+    ensures { result ≡ is_reserved_unit target.now u }
+{
+    target.reserved.as_slice().iter().any(|v| v.0 as u32 == u)
+}
+
+/// Whether the index picks the units of a register, of each register of the class.
+pub(crate) fn fits(target: &Target, c: ClassId, x: Option<IndexId>) -> bool
+    ensures { result ≡ fits target.now c x }
+{
+    match x {
+        None => true,
+        Some(i) => have_subs(
+            target.regs.as_slice(),
+            lanes_at(target, i),
+            regs_at(target.classes.as_slice(), Some(c)),
+        ),
+    }
+}
+
+/// Whether the register has one class, which the index fits.
+fn has_lanes_at(target: &Target, f: &Func, loc: Loc, x: Option<IndexId>) -> bool
+    ensures { result ≡ has_lanes_at target.now f.now loc x }
+{
+    match loc {
+        Loc::Fixed(_) => true,
+        Loc::Virtual(v) => match class_of(f, v) {
+            None => false,
+            Some(c) => fits(target, c, x),
+        },
+    }
+}
+
+/// Whether the lanes of an operand are known: its register has one class, which its index fits.
+pub(crate) fn has_lanes(target: &Target, f: &Func, o: &RegOp) -> bool
+    ensures { result ≡ has_lanes target.now f.now o.now }
+{
+    has_lanes_at(target, f, o.loc, o.index)
+}
+
+/// Whether the index fits the register's class, where that is known. Physical registers have none.
+pub(crate) fn index_fits(target: &Target, f: &Func, loc: Loc, x: Option<IndexId>) -> bool
+    ensures { result ≡ index_fits target.now f.now loc x }
+{
+    match loc {
+        Loc::Fixed(_) => x.is_none(),
+        Loc::Virtual(v) => match class_of(f, v) {
+            None => true,
+            Some(c) => fits(target, c, x),
+        },
+    }
+}
+
+/// Whether a virtual register has just one class.
+pub(crate) fn has_class(f: &Func, loc: Loc) -> bool
+    ensures { result ≡ has_class f.now loc }
+{
+    match loc {
+        Loc::Fixed(_) => true,
+        Loc::Virtual(v) => class_of(f, v).is_some(),
+    }
+}

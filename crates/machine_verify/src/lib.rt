@@ -1,0 +1,21 @@
+//! Both machine verifiers: whether a function is valid as a source or as an allocated function, and
+//! the first place in layout at which a rule fails, with the least rule there.
+#![tactic(auto)]
+
+mod asked;
+mod blocks;
+mod classes;
+mod lanes;
+mod liveins;
+mod numbers;
+mod operands;
+mod parts;
+mod search;
+pub mod stop;
+mod ties;
+mod verify;
+mod words;
+
+pub use mir_func::{Place, Valid};
+pub use stop::{Invalid, VerifyStop};
+pub use verify::{verify_allocated, verify_source};

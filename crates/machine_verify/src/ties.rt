@@ -1,0 +1,448 @@
+//! V11, V12 and V15: ties, definitions that are apart, and spill slots.
+
+ghost use Rattle.std.specs.Prelude.{◌≡◌, ◌&&◌, map, filter, nat_eq, option_to_list, IfOk};
+ghost use Rattle.std.specs.List.{list_all, list_any};
+ghost use Rattle.meaning.specs.Lanes.{same_lane};
+ghost use Rattle.mir_meaning.specs.Binding as binding;
+ghost use Rattle.mir_meaning.specs.Items.{unreserved};
+ghost use Rattle.mir_meaning.specs.Registers.{is_reserved};
+ghost use Rattle.mir_meaning.specs.Rules as rules;
+ghost use Rattle.machine_verify.specs.Parts.{seen, seen_all};
+ghost use Rattle.machine_verify.specs.Sets.{HoldsSlots, HoldsSlotsAmong};
+ghost use Rattle.machine_verify.specs.Ties.{spill_numbers, first_tie_fits, untied_reading, definitions_fit, slot_fits};
+
+use crate::classes::same_widths;
+use crate::lanes::{has_lanes, is_reserved_unit};
+use crate::numbers::{NumberSet, set_of};
+use crate::parts::BoundOperand;
+use crate::words::{is_early, is_slot, is_tied, is_virtual, same_index, same_loc};
+use meaning::Lane;
+use mir_func::{Func, Loc, Operand, RegOp};
+use mir_items::lanes::{Lanes, push_operand_lanes};
+use mir_meaning::Form;
+use std::alloc::{AllocError, Global};
+use target_base::{List, Target};
+
+/// Whether the tie that is written is one to operand 0, or none is.
+fn ties_to_first(tie: Option<u8>) -> bool
+    ensures { result ≡ binding.passes (nat_eq 0) tie }
+{
+    match tie {
+        None => false,
+        Some(k) => 0 == k,
+    }
+}
+
+/// Whether the tie and the `early-clobber` that are written are the opcode's.
+fn flags_fit(b: &BoundOperand) -> bool
+    ensures { result ≡ rules.flags_fit (seen b.now) }
+{
+    match b.operand {
+        Operand::Reg(o) => {
+            (!o.early || is_early(b.role))
+                && (o.tie.is_none() || (is_tied(b.role) && ties_to_first(o.tie)))
+        }
+        _ => true,
+    }
+}
+
+fn all_flags_fit(bound: &[BoundOperand]) -> bool
+    ensures { result ≡ list_all rules.flags_fit (seen_all bound.now) }
+{
+    for b in bound {
+        if !flags_fit(b) {
+            return false;
+        }
+    }
+    true
+}
+
+/// The register operands of the tied role.
+fn tied_uses(alloc: Global, bound: &[BoundOperand]) -> Result<Vec<RegOp>, AllocError>
+    ensures { IfOk result (λ made. made.items ≡ binding.tied_uses (seen_all bound.now)) }
+{
+    let mut made = Vec::new(alloc);
+    for b in bound {
+        if is_tied(b.role) {
+            if let Operand::Reg(o) = b.operand {
+                made.push(*o)?;
+            }
+        }
+    }
+    Ok(made)
+}
+
+/// Whether a tied pair is two virtual operands of equal widths, or one fixed register; of an
+/// allocated function, one register.
+fn tie_fits(
+    alloc: Global,
+    target: &Target,
+    form: Form,
+    f: &Func,
+    d: &RegOp,
+    u: &RegOp,
+) -> Result<bool, AllocError>
+    ensures { IfOk result (λ is_right. is_right ≡ rules.tie_fits target.now form f.now d.now u.now) }
+{
+    match form {
+        Form::Source => {
+            if is_virtual(d.loc) && is_virtual(u.loc) {
+                same_widths(alloc, target, f, d, u)
+            } else {
+                Ok(same_loc(d.loc, u.loc))
+            }
+        }
+        Form::Allocated => Ok(same_loc(d.loc, u.loc) && same_index(d.index, u.index)),
+    }
+}
+
+/// Whether the first definition and the first tied use fit.
+fn first_tie_fits(
+    alloc: Global,
+    target: &Target,
+    form: Form,
+    f: &Func,
+    named: &[RegOp],
+    tied: &[RegOp],
+) -> Result<bool, AllocError>
+    ensures { IfOk result (λ is_right. is_right ≡ first_tie_fits target.now form f.now named.now tied.now) }
+{
+    match named {
+        [] => Ok(true),
+        [d, ..] => match tied {
+            [] => Ok(true),
+            [u, ..] => tie_fits(alloc, target, form, f, d, u),
+        },
+    }
+}
+
+/// V11: whether written ties and early-clobber flags are the opcode's, and a tied pair fits.
+pub(crate) fn ties_fit(
+    alloc: Global,
+    target: &Target,
+    form: Form,
+    f: &Func,
+    named: &[RegOp],
+    bound: &[BoundOperand],
+) -> Result<bool, AllocError>
+    ensures { IfOk result (λ is_right. is_right ≡ (list_all rules.flags_fit (seen_all bound.now) && first_tie_fits target.now form f.now named.now (binding.tied_uses (seen_all bound.now)))) }
+{
+    if !all_flags_fit(bound) {
+        return Ok(false);
+    }
+    let tied = tied_uses(alloc, bound)?;
+    first_tie_fits(alloc, target, form, f, named, tied.as_slice())
+}
+
+/// Whether an operand other than an `undef` one reads the register.
+fn is_read(named: &[RegOp], loc: Loc) -> bool
+    ensures { result ≡ list_any (λ u. rules.same_loc u.loc loc) (rules.readings named.now) }
+{
+    for u in named {
+        if !u.def && !u.undef && same_loc(u.loc, loc) {
+            return true;
+        }
+    }
+    false
+}
+
+/// Whether an `undef` definition is virtual and its register isn't read; of an allocated function,
+/// whether the definition isn't `undef`.
+fn undef_fits(form: Form, named: &[RegOp], d: &RegOp) -> bool
+    ensures { result ≡ rules.undef_fits form named.now d.now }
+{
+    match form {
+        Form::Source => !d.undef || (is_virtual(d.loc) && !is_read(named, d.loc)),
+        Form::Allocated => !d.undef,
+    }
+}
+
+fn undefs_fit(form: Form, named: &[RegOp]) -> bool
+    ensures { result ≡ list_all (rules.undef_fits form named.now) (filter (λ o. o.def) named.now) }
+{
+    for d in named {
+        if d.def && !undef_fits(form, named, d) {
+            return false;
+        }
+    }
+    true
+}
+
+/// Whether a lane is a reserved unit.
+fn is_reserved(target: &Target, l: Lane) -> bool
+    ensures { result ≡ is_reserved target.now l }
+{
+    match l {
+        Lane::UnitLane(u) => is_reserved_unit(target, u),
+        _ => false,
+    }
+}
+
+/// Those of these lanes that aren't reserved.
+fn unreserved(alloc: Global, target: &Target, lanes: &[Lane]) -> Result<Lanes, AllocError>
+    ensures { IfOk result (λ made. made ≡ unreserved target.now lanes.now) }
+{
+    let mut made = List::new(alloc);
+    for l in lanes {
+        if !is_reserved(target, *l) {
+            made.push(*l)?;
+        }
+    }
+    Ok(made)
+}
+
+/// The lanes of an operand that count for clashes: none where they aren't known.
+fn clashing_lanes(alloc: Global, target: &Target, f: &Func, o: &RegOp) -> Result<Lanes, AllocError>
+    ensures { IfOk result (λ made. made ≡ rules.clashing_lanes target.now f.now o.now) }
+{
+    if !has_lanes(target, f, o) {
+        return Ok(List::new(alloc));
+    }
+    let mut lanes = List::new(alloc);
+    push_operand_lanes(&mut lanes, target, f, o)?;
+    unreserved(alloc, target, lanes.as_slice())
+}
+
+fn same_lane(a: Lane, b: Lane) -> bool
+    ensures { result ≡ same_lane a b }
+{
+    match (a, b) {
+        (Lane::VirtualLane(v, k), Lane::VirtualLane(w, l)) => v == w && k == l,
+        (Lane::UnitLane(u), Lane::UnitLane(w)) => u == w,
+        (Lane::SlotLane(s, k, x), Lane::SlotLane(t, l, y)) => s == t && (k == l && x == y),
+        _ => false,
+    }
+}
+
+fn has_lane(ms: &[Lane], l: Lane) -> bool
+    ensures { result ≡ list_any (same_lane l) ms.now }
+{
+    ms.iter().any(|m| same_lane(l, *m))
+}
+
+/// Whether the lists have a lane in common.
+fn share_a_lane(ls: &[Lane], ms: &[Lane]) -> bool
+    ensures { result ≡ rules.share_a_lane ls.now ms.now }
+{
+    ls.iter().any(|l| has_lane(ms, *l))
+}
+
+/// The lanes of each definition.
+fn defined_lanes(
+    alloc: Global,
+    target: &Target,
+    f: &Func,
+    named: &[RegOp],
+) -> Result<Vec<Lanes>, AllocError>
+    ensures { IfOk result (λ made. made.items ≡ map (rules.clashing_lanes target.now f.now) (filter (λ o. o.def) named.now)) }
+{
+    let mut made = Vec::new(alloc);
+    for o in named {
+        if o.def {
+            made.push(clashing_lanes(alloc, target, f, o)?)?;
+        }
+    }
+    Ok(made)
+}
+
+fn shares_with_some(ls: &[Lane], lists: &[Lanes]) -> bool
+    ensures { result ≡ list_any (rules.share_a_lane ls.now) lists.now }
+{
+    lists.iter().any(|ms| share_a_lane(ls, ms.as_slice()))
+}
+
+/// Whether no two of these lists have a lane in common.
+fn no_two_share(lists: &[Lanes]) -> bool
+    ensures { result ≡ rules.no_two_share lists.now }
+{
+    let mut rest = lists;
+    'lists: while let [ls, more @ ..] = rest {
+        if shares_with_some(ls.as_slice(), more) {
+            return false;
+        }
+        rest = more;
+    }
+    true
+}
+
+/// Whether the operand reads something, and not in a tied role.
+fn untied_reading(b: &BoundOperand) -> Option<RegOp>
+    ensures { result ≡ untied_reading (seen b.now) }
+{
+    match b.operand {
+        Operand::Reg(o) => {
+            if !is_tied(b.role) && !o.def && !o.undef {
+                Some(*o)
+            } else {
+                None
+            }
+        }
+        _ => None,
+    }
+}
+
+/// Whether an operand reads one of these lanes, and not in a tied role.
+fn reads_one(
+    alloc: Global,
+    target: &Target,
+    f: &Func,
+    lanes: &[Lane],
+    b: &BoundOperand,
+) -> Result<bool, AllocError>
+    ensures { IfOk result (λ is_read. is_read ≡ list_any (λ u. rules.share_a_lane lanes.now (rules.clashing_lanes target.now f.now u)) (option_to_list (untied_reading (seen b.now)))) }
+{
+    match untied_reading(b) {
+        None => Ok(false),
+        Some(u) => {
+            let read = clashing_lanes(alloc, target, f, &u)?;
+            Ok(share_a_lane(lanes, read.as_slice()))
+        }
+    }
+}
+
+/// Whether these lanes are among those that are read besides the tied use.
+#[tactic(auto, using(crate::proofs::Apart::untied_any))]
+fn are_read(
+    alloc: Global,
+    target: &Target,
+    f: &Func,
+    lanes: &[Lane],
+    bound: &[BoundOperand],
+) -> Result<bool, AllocError>
+    ensures { IfOk result (λ is_read. is_read ≡ list_any (λ u. rules.share_a_lane lanes.now (rules.clashing_lanes target.now f.now u)) (rules.untied_readings (seen_all bound.now))) }
+{
+    for b in bound {
+        if reads_one(alloc, target, f, lanes, b)? {
+            return Ok(true);
+        }
+    }
+    Ok(false)
+}
+
+/// Whether an early-clobber definition shares nothing with what is read besides its tied use.
+fn early_fits(
+    alloc: Global,
+    target: &Target,
+    f: &Func,
+    bound: &[BoundOperand],
+    b: &BoundOperand,
+) -> Result<bool, AllocError>
+    ensures { IfOk result (λ is_right. is_right ≡ rules.early_fits target.now f.now (seen_all bound.now) (seen b.now)) }
+{
+    match b.operand {
+        Operand::Reg(d) => {
+            if !is_early(b.role) {
+                return Ok(true);
+            }
+            let lanes = clashing_lanes(alloc, target, f, d)?;
+            let is_read = are_read(alloc, target, f, lanes.as_slice(), bound)?;
+            Ok(!is_read)
+        }
+        _ => Ok(true),
+    }
+}
+
+fn all_early_fit(
+    alloc: Global,
+    target: &Target,
+    f: &Func,
+    bound: &[BoundOperand],
+) -> Result<bool, AllocError>
+    ensures { IfOk result (λ is_right. is_right ≡ list_all (rules.early_fits target.now f.now (seen_all bound.now)) (seen_all bound.now)) }
+{
+    for b in bound {
+        if !early_fits(alloc, target, f, bound, b)? {
+            return Ok(false);
+        }
+    }
+    Ok(true)
+}
+
+/// V12: whether definitions are apart from each other and, where they are early, from uses.
+pub(crate) fn definitions_fit(
+    alloc: Global,
+    target: &Target,
+    form: Form,
+    f: &Func,
+    named: &[RegOp],
+    bound: &[BoundOperand],
+) -> Result<bool, AllocError>
+    ensures { IfOk result (λ is_right. is_right ≡ definitions_fit target.now form f.now named.now (seen_all bound.now)) }
+{
+    if !undefs_fit(form, named) {
+        return Ok(false);
+    }
+    let lists = defined_lanes(alloc, target, f, named)?;
+    if !no_two_share(lists.as_slice()) {
+        return Ok(false);
+    }
+    all_early_fit(alloc, target, f, bound)
+}
+
+/// The numbers of the frame objects that are declared spill slots.
+fn spill_numbers(alloc: Global, frames: &[(u32, bool)]) -> Result<Vec<u32>, AllocError>
+    ensures { IfOk result (λ made. made.items ≡ spill_numbers frames.now) }
+{
+    let mut made = Vec::new(alloc);
+    for o in frames {
+        if o.1 {
+            made.push(o.0)?;
+        }
+    }
+    Ok(made)
+}
+
+/// The set of the numbers of spill slots.
+fn slots_among(alloc: Global, frames: &[(u32, bool)]) -> Result<NumberSet, AllocError>
+    ensures { IfOk result (λ set. HoldsSlotsAmong set frames.now) }
+{
+    let numbers = spill_numbers(alloc, frames)?;
+    let set = set_of(alloc, numbers.as_slice())?;
+    Ok(set)
+}
+
+/// The set of the numbers of the function's spill slots.
+pub(crate) fn spill_slots(alloc: Global, f: &Func) -> Result<NumberSet, AllocError>
+    ensures { IfOk result (λ set. HoldsSlots set f.now) }
+{
+    slots_among(alloc, f.frames.as_slice())
+}
+
+/// Whether a `slot` operand names a spill slot, and no other operand does.
+fn slot_fits(slots: &NumberSet, b: &BoundOperand) -> bool
+    ensures { result ≡ slot_fits slots.now (seen b.now) }
+{
+    match b.operand {
+        Operand::Stack(n) => is_slot(b.role) == slots.has(*n),
+        _ => !is_slot(b.role),
+    }
+}
+
+/// Whether slots and spill slots go together.
+pub(crate) fn slots_fit(slots: &NumberSet, bound: &[BoundOperand]) -> bool
+    ensures { result ≡ list_all (slot_fits slots.now) (seen_all bound.now) }
+{
+    for b in bound {
+        if !slot_fits(slots, b) {
+            return false;
+        }
+    }
+    true
+}
+
+fn has_spill_slot(frames: &[(u32, bool)]) -> bool
+    ensures { result ≡ list_any (λ o. o.1) frames.now }
+{
+    frames.iter().any(|o| o.1)
+}
+
+/// V15 of the frame: whether the source has no spill slot.
+#[tactic(auto, unfolding(mir_meaning::specs::Rules::V15_frame))]
+pub(crate) fn v15_frame(form: Form, f: &Func) -> bool
+    ensures { result ≡ rules.V15_frame form f.now }
+{
+    match form {
+        Form::Source => !has_spill_slot(f.frames.as_slice()),
+        Form::Allocated => true,
+    }
+}

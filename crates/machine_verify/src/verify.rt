@@ -1,0 +1,150 @@
+//! Both verifiers.
+
+ghost use Rattle.std.specs.Prelude.{◌≡◌, None, not, IfOk, IfErr, OnOk};
+ghost use Rattle.std.specs.List.{list_any};
+ghost use Rattle.mir_meaning.specs.declared.Form.TheVariants as forms;
+ghost use Rattle.mir_meaning.specs.Valid as valid;
+ghost use Rattle.machine_verify.specs.Verdict.{IsAccepted, IsFault, IfInvalid, IfLate, NamesNoneWhere};
+
+use crate::asked::Question;
+use crate::liveins::{liveins_fit, names_virtual};
+use crate::search::{fault_at, shape_fault};
+use crate::stop::{Invalid, VerifyStop};
+use live_lanes::LiveFunc;
+use mir_func::{Block, Func, Valid};
+use mir_items::lanes::{class_of, class_units};
+use mir_meaning::Form;
+use std::alloc::{AllocError, Global};
+use target_base::{Target, Unit};
+
+/// Whether each unit is live at the start of a block, by its number.
+fn live_units(
+    alloc: Global,
+    target: &Target,
+    live: &LiveFunc,
+    block: u32,
+) -> Result<Vec<bool>, AllocError> {
+    let mut flags = Vec::new(alloc);
+    'units: for u in 0..target.units.len() {
+        let is_live = match u16::try_from(u) {
+            Ok(number) => live.unit_at(Unit(number), block),
+            Err(_) => false,
+        };
+        flags.push(is_live)?;
+    }
+    Ok(flags)
+}
+
+/// Whether one of the first lanes of a virtual register is live at the start of a block.
+fn some_lane_lives(live: &LiveFunc, v: u32, lanes: usize, block: u32) -> bool {
+    'lanes: for lane in 0..lanes {
+        if live.live_at(v, lane, block) {
+            return true;
+        }
+    }
+    false
+}
+
+/// Whether a lane of a virtual register is live at the start of a block.
+fn some_register_lives(q: &Question, live: &LiveFunc, block: u32) -> bool {
+    let f = q.f;
+    let mut v = 0u32;
+    'registers: for _ in f.classes.as_slice() {
+        let lanes = class_units(q.target, class_of(f, v)).len();
+        if some_lane_lives(live, v, lanes, block) {
+            return true;
+        }
+        v = v.saturating_add(1);
+    }
+    false
+}
+
+/// V13, of block `k`: its live-ins are those of its live units.
+fn v13(q: &Question, live: &LiveFunc, k: usize, b: &Block) -> Result<bool, AllocError> {
+    let flags = live_units(q.alloc, q.target, live, b.number)?;
+    liveins_fit(q.alloc, q.target, q.form, k, b, flags.as_slice())
+}
+
+/// V14: no lane of a virtual register is live at the function's start. Allocated: no virtual
+/// register is named.
+fn v14(q: &Question, live: &LiveFunc, first: &Block) -> bool
+    ensures { NamesNoneWhere result q.now.form q.now.f.now }
+{
+    let f = q.f;
+    match q.form {
+        Form::Source => !some_register_lives(q, live, first.number),
+        Form::Allocated => !names_virtual(f.blocks.as_slice()),
+    }
+}
+
+/// The first fault of V13 and V14: V13 of the first block, then V14, then V13 of the later blocks.
+#[tactic(auto, using(crate::proofs::Told::late_thirteen, crate::proofs::Told::late_fourteen))]
+fn live_fault(q: &Question, live: &LiveFunc) -> Result<Option<Invalid>, AllocError>
+    ensures { IfOk result (IfLate q.now.form q.now.f.now) }
+{
+    let f = q.f;
+    let blocks = f.blocks.as_slice();
+    let first = &blocks[0];
+    if !v13(q, live, 0, first)? {
+        return Ok(Some(fault_at(first, 0, 13)));
+    }
+    if !v14(q, live, first) {
+        return Ok(Some(fault_at(first, 0, 14)));
+    }
+    'blocks: for k in 1..blocks.len() {
+        let b = &blocks[k];
+        if !v13(q, live, k, b)? {
+            return Ok(Some(fault_at(b, 0, 13)));
+        }
+    }
+    Ok(None)
+}
+
+/// The verdict on a function in a form.
+#[tactic(auto, using(crate::proofs::Told::told_shape, crate::proofs::Told::told_late, crate::proofs::Told::told_none))]
+fn check(q: &Question) -> Result<(), VerifyStop>
+    ensures ok { OnOk result (IsAccepted q.now.target.now q.now.form q.now.f.now) }
+    ensures err { IfErr result (IfInvalid (IsFault q.now.target.now q.now.form q.now.f.now)) }
+{
+    if let Some(fault) = shape_fault(q)? {
+        return Err(VerifyStop::Invalid(fault));
+    }
+    let copy = q.f.copy(q.alloc)?;
+    let live = LiveFunc::compute(q.alloc, q.target, copy)?;
+    match live_fault(q, &live)? {
+        Some(fault) => Err(VerifyStop::Invalid(fault)),
+        None => Ok(()),
+    }
+}
+
+/// Whether a function is valid as a source of the allocator under a target. It is handed back
+/// unchanged where it is; else comes the first place in layout at which a rule fails, with the
+/// least rule there. Memory comes where memory runs out.
+pub fn verify_source(alloc: Global, target: &Target, f: Func) -> Result<Valid, VerifyStop>
+    ensures ok { IfOk result (λ v. (v.func ≡ f) × IsAccepted target.now forms.Source f) }
+    ensures err { IfErr result (IfInvalid (IsFault target.now forms.Source f)) }
+{
+    let q = Question {
+        alloc,
+        target,
+        form: Form::Source,
+        f: &f,
+    };
+    check(&q)?;
+    Ok(Valid { func: f })
+}
+
+/// Whether a function is valid as an allocated function under a target; else comes the first place
+/// in layout at which a rule fails, with the least rule there. Memory comes where memory runs out.
+pub fn verify_allocated(alloc: Global, target: &Target, f: &Func) -> Result<(), VerifyStop>
+    ensures ok { OnOk result (IsAccepted target.now forms.Allocated f.now) }
+    ensures err { IfErr result (IfInvalid (IsFault target.now forms.Allocated f.now)) }
+{
+    let q = Question {
+        alloc,
+        target,
+        form: Form::Allocated,
+        f,
+    };
+    check(&q)
+}
