@@ -2,3 +2,4 @@ pub mod Joined
 pub mod Progress
 pub mod Documents
 pub mod Starts
+pub mod Verdicts

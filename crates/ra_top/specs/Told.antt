@@ -156,6 +156,12 @@ TargetVerdict bytes status.ReadFault detail = Unit {0}
 TargetVerdict bytes status.Memory detail = Unit {0}
 TargetVerdict bytes s detail = ⊥
 
+-- the status says of no device that its call failed
+abbrev pub NamesNoDevice : Status → Type 0
+NamesNoDevice status.ReadFault = ⊥
+NamesNoDevice status.WriteFault = ⊥
+NamesNoDevice s = Unit {0}
+
 -- an ending for the fault of a target file, or for want of memory
 abbrev pub IsFaultOrMemory : TargetFault → Status → List ℕ → Type 0
 IsFaultOrMemory fault (status.Target f) detail = (f ≡ fault) × (detail ≡ decimal fault.line)

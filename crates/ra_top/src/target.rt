@@ -2,7 +2,7 @@
 
 ghost use Rattle.std.specs.Prelude.{◌≡◌, ℕ, List, IfOk, IfSome};
 ghost use Rattle.std.specs.Fmt.{decimal};
-ghost use Rattle.ra_top.specs.Told.{HasStatusCause, IsFaultOrMemory, TargetVerdict};
+ghost use Rattle.ra_top.specs.Told.{HasStatusCause, IsFaultOrMemory, NamesNoDevice, TargetVerdict};
 
 use crate::answer::Ending;
 use crate::status::{LimitName, Status};
@@ -26,7 +26,8 @@ fn digits(alloc: Global, n: u64) -> Result<Bytes, AllocError>
 
 /// Ends with the fault of a target file.
 fn target_fault(alloc: Global, fault: TargetFault) -> Ending
-    ensures { IsFaultOrMemory fault result.status result.detail }
+    ensures told { IsFaultOrMemory fault result.status result.detail }
+    ensures fault { NamesNoDevice result.status }
 {
     match digits(alloc, fault.line) {
         Err(_) => ends(alloc, Status::Memory),
@@ -53,7 +54,8 @@ pub fn read_target_file<F: Files>(alloc: Global, name: &str, files: &mut F) -> E
 
 /// How a run ends with the first bytes of a target file, one more than it may have where it has more.
 fn target_ending(alloc: Global, bytes: &[u8]) -> Ending
-    ensures { TargetVerdict bytes.now result.status result.detail }
+    ensures verdict { TargetVerdict bytes.now result.status result.detail }
+    ensures fault { NamesNoDevice result.status }
 {
     if bytes.len() > TARGET_MOST as usize {
         return ends(alloc, Status::Limit(LimitName::TargetBytes));

@@ -237,7 +237,7 @@ const TWICE: &[u8] =
     b"---\nname: f\nbody: |\n  bb.0:\n    RET\n...\n---\nname: f\nbody: |\n  bb.0:\n    RET\n...\n";
 
 const CUT_TWICE: &[u8] =
-    b"---\nname: f\nbody: |\n  bb.0:\n    RET\n...\n---\nname: f\nbody:";
+    b"---\nname: f\nbody: |\n  bb.0:\n    RET\n...\n---\nname: f\nbody: |";
 
 const THRICE: &[u8] =
     b"---\nname: f\nbody: |\n  bb.0:\n    RET\n...\n---\nname: f\nbody: |\n  bb.0:\n    RET\n...\n---\nname: f\nbody: |\n  bb.0:\n    RET\n...\n";
