@@ -1,0 +1,141 @@
+//! Whether a join loses no value: where a lane is written, no other lane that would be one with it
+//! is live behind the instruction or written by it.
+
+use crate::joins::Join;
+use live_lanes::LiveFunc;
+use mir_func::{Instr, Loc, Op, Operand, RegOp};
+use spiller::kinds::lanes_of;
+use target_base::{IndexId, OpId, Target};
+
+/// The opcode COPY of every target.
+const COPY: OpId = OpId(0);
+
+/// A lane of a range.
+#[derive(Clone, Copy, PartialEq, Eq)]
+struct Lane {
+    range: u32,
+    k: u32,
+}
+
+/// What is looked at.
+#[derive(Clone, Copy)]
+struct View<'a> {
+    target: &'a Target,
+    live: &'a LiveFunc,
+    join: Join,
+}
+
+/// Whether a join is quiet.
+pub(crate) fn is_quiet(target: &Target, live: &LiveFunc, join: Join) -> bool {
+    let view = View { target, live, join };
+    is_quiet_for(view, join.keep) && is_quiet_for(view, join.gone)
+}
+
+fn is_quiet_for(view: View<'_>, v: u32) -> bool {
+    (0..view.live.lane_count(v)).all(|k| is_quiet_along(view, Lane { range: v, k }))
+}
+
+/// Whether the join is quiet at the writings of a lane.
+fn is_quiet_along(view: View<'_>, lane: Lane) -> bool {
+    let Some(number) = view.live.lane_of(lane.range, lane.k as usize) else {
+        return true;
+    };
+    (0..view.live.cell_count(number)).all(|place| is_quiet_in(view, lane, number, place))
+}
+
+/// Whether the join is quiet at the writings of a lane in one of its blocks.
+fn is_quiet_in(view: View<'_>, lane: Lane, number: u32, place: usize) -> bool {
+    (1..view.live.piece_count(number, place)).all(|index| {
+        match view.live.start_of(number, place, index) {
+            Some(id) => is_quiet_lane(view, lane, id),
+            None => true,
+        }
+    })
+}
+
+fn is_quiet_lane(view: View<'_>, lane: Lane, id: u32) -> bool {
+    let live = view.live;
+    let Some(other) = partner(view, lane) else {
+        return true;
+    };
+    if copies(view, lane, other, id) || copies(view, lane, lane, id) {
+        return true;
+    }
+    let (w, j) = (other.range, other.k);
+    !live.live_out(w, j as usize, id)
+        && !live.is_written(w, j, id)
+        && !(live.is_written_early(lane.range, lane.k, id) && live.live_in(w, j as usize, id))
+}
+
+/// The lane of the other range that becomes one with a lane.
+fn partner(view: View<'_>, lane: Lane) -> Option<Lane> {
+    let Join { keep, gone, index } = view.join;
+    if lane.range == keep {
+        let k = inner_of(view, index, lane.k)?;
+        return at(view, gone, k);
+    }
+    at(view, keep, outer_of(view, index, lane.k)?)
+}
+
+fn at(view: View<'_>, v: u32, k: u32) -> Option<Lane> {
+    if k < view.live.lane_count(v) {
+        Some(Lane { range: v, k })
+    } else {
+        None
+    }
+}
+
+/// The lane of `keep` that stands for a lane of `gone`.
+fn outer_of(view: View<'_>, index: Option<IndexId>, k: u32) -> Option<u32> {
+    match index {
+        None => Some(k),
+        Some(index) => {
+            let lane = lanes_of(view.target, index).get(k as usize)?;
+            Some(*lane as u32)
+        }
+    }
+}
+
+/// The lane of `gone` that a lane of `keep` stands for.
+fn inner_of(view: View<'_>, index: Option<IndexId>, k: u32) -> Option<u32> {
+    match index {
+        None => Some(k),
+        Some(index) => {
+            let place = lanes_of(view.target, index)
+                .iter()
+                .position(|lane| *lane as u32 == k)?;
+            u32::try_from(place).ok()
+        }
+    }
+}
+
+/// Whether an instruction copies the one lane from the other.
+fn copies(view: View<'_>, lane: Lane, other: Lane, id: u32) -> bool {
+    let Some(instr) = view.live.instr(id) else {
+        return false;
+    };
+    match copy_sides(instr) {
+        Some((to, from)) => {
+            to.loc == Loc::Virtual(lane.range)
+                && from.loc == Loc::Virtual(other.range)
+                && place_in(view, to.index, lane.k).is_some()
+                && place_in(view, to.index, lane.k) == place_in(view, from.index, other.k)
+        }
+        None => false,
+    }
+}
+
+fn copy_sides(instr: &Instr) -> Option<(RegOp, RegOp)> {
+    let Op::Known(op) = &instr.op else {
+        return None;
+    };
+    match instr.operands.as_slice() {
+        [Operand::Reg(to), Operand::Reg(from)] if *op == COPY => Some((*to, *from)),
+        _ => None,
+    }
+}
+
+/// The place of a lane among those that an index picks.
+fn place_in(view: View<'_>, index: Option<IndexId>, k: u32) -> Option<u32> {
+    inner_of(view, index, k)
+}

@@ -1,0 +1,302 @@
+//! Region splits: a part of the range lives in a register where that is free.
+
+use crate::bundles::{Bundles, end_of, start_of};
+use crate::places::{block_at, places_of};
+use crate::spans::{Span, gap_ids, is_alone, spans_of};
+use block_freq::Freqs;
+use interference::Matrix;
+use live_lanes::{Labels, LiveFunc, Mark, Spot};
+use mir_func::Gap;
+use spiller::kinds::{is_reserved, regs_of};
+use std::alloc::{AllocError, Global};
+use target_base::{ClassId, Reg, Target};
+
+/// Where in a block the part in the register lives.
+#[derive(Clone, Copy, PartialEq, Eq)]
+enum Inside {
+    Nowhere,
+    All,
+    /// Up to the terminators.
+    Start,
+    /// From the block's first gap on.
+    End,
+}
+
+/// The part in a register, block by block, and what it costs.
+#[derive(Drop)]
+struct Offer {
+    register: Reg,
+    insides: Vec<Inside>,
+    cost: u128,
+}
+
+/// What is looked at for each register.
+#[derive(Clone, Copy)]
+struct View<'a> {
+    alloc: Global,
+    m: &'a Matrix,
+    v: u32,
+    spans: &'a [Span],
+    bundles: &'a Bundles,
+}
+
+/// The class of a range; class 0 where it has none.
+pub(crate) fn class_of(live: &LiveFunc, v: u32) -> ClassId {
+    match live.func().classes.as_slice().get(v as usize) {
+        Some(Some(class)) => *class,
+        _ => ClassId(0),
+    }
+}
+
+/// The unreserved registers of the class of a range, in class order.
+pub(crate) fn domain_of(
+    alloc: Global,
+    target: &Target,
+    class: ClassId,
+) -> Result<Vec<Reg>, AllocError> {
+    let mut domain = Vec::new(alloc);
+    'regs: for r in regs_of(target, class) {
+        if !is_reserved(target, *r) {
+            domain.push(*r)?;
+        }
+    }
+    Ok(domain)
+}
+
+/// The region split of least cost that is offered to a range, with its register and its labels:
+/// label 1 where the part in the register lives. None exactly where none is offered.
+pub fn region(
+    alloc: Global,
+    m: &Matrix,
+    v: u32,
+    freqs: &Freqs,
+) -> Result<Option<(Reg, Labels)>, AllocError> {
+    let touched = m.live().touched(alloc, v)?;
+    let places = places_of(alloc, m.live(), touched.as_slice())?;
+    if places.len() < 2 {
+        return Ok(None);
+    }
+    let spans = spans_of(alloc, m.live(), v, freqs, touched.as_slice())?;
+    best_split(alloc, m, v, spans.as_slice())
+}
+
+/// The region split of least cost that is offered to a range over its blocks.
+fn best_split(
+    alloc: Global,
+    m: &Matrix,
+    v: u32,
+    spans: &[Span],
+) -> Result<Option<(Reg, Labels)>, AllocError> {
+    let bundles = Bundles::of(alloc, m.live())?;
+    let view = View {
+        alloc,
+        m,
+        v,
+        spans,
+        bundles: &bundles,
+    };
+    match best_offer(view)? {
+        Some(offer) => labelled(view, &offer),
+        None => Ok(None),
+    }
+}
+
+/// The register of an offer with its labels.
+fn labelled(view: View<'_>, offer: &Offer) -> Result<Option<(Reg, Labels)>, AllocError> {
+    let labels = labels_of(view, offer)?;
+    Ok(Some((offer.register, labels)))
+}
+
+/// What the range costs where it isn't split.
+fn all_uses(spans: &[Span]) -> u128 {
+    let mut sum = 0u128;
+    'spans: for span in spans {
+        sum = sum.saturating_add(span.uses);
+    }
+    sum
+}
+
+/// The offer of least cost, the first in class order at a tie.
+fn best_offer(view: View<'_>) -> Result<Option<Offer>, AllocError> {
+    let live = view.m.live();
+    let domain = domain_of(view.alloc, live.target(), class_of(live, view.v))?;
+    best_of(view, domain.as_slice())
+}
+
+/// The offer of least cost among those of registers, the first at a tie.
+fn best_of(view: View<'_>, registers: &[Reg]) -> Result<Option<Offer>, AllocError> {
+    let mut bound = all_uses(view.spans);
+    let mut best: Option<Offer> = None;
+    'registers: for register in registers {
+        let offer = offer_of(view, *register)?;
+        if offer.cost < bound {
+            bound = offer.cost;
+            best = Some(offer);
+        }
+    }
+    Ok(best)
+}
+
+/// Whether a register is clear for the range in each block.
+fn clear_blocks(view: View<'_>, register: Reg) -> Result<Vec<bool>, AllocError> {
+    let mut clear = Vec::new(view.alloc);
+    'spans: for span in view.spans {
+        clear.push(is_alone(
+            view.m,
+            view.v,
+            register,
+            span.position,
+            span.stretches.as_slice(),
+        ))?;
+    }
+    Ok(clear)
+}
+
+/// Sets the flag of the bundle of a border.
+fn forbid(view: View<'_>, border: u32, outside: &mut Vec<bool>) {
+    if let Some(place) = outside.get_mut(view.bundles.find(border) as usize) {
+        *place = true;
+    }
+}
+
+/// For the border that stands for each bundle, whether the bundle is out: some block that has a
+/// border of it at which the range is live isn't clear.
+fn outside_of(view: View<'_>, clear: &[bool]) -> Result<Vec<bool>, AllocError> {
+    let count = view.m.live().func().blocks.len().saturating_mul(2);
+    let mut outside = Vec::from_elem(view.alloc, false, count)?;
+    'spans: for (span, is_clear) in view.spans.iter().zip(clear) {
+        if !*is_clear {
+            forbid_borders(view, span, &mut outside);
+        }
+    }
+    Ok(outside)
+}
+
+/// Sets the flags of the bundles of the borders of a block at which the range is live.
+fn forbid_borders(view: View<'_>, span: &Span, outside: &mut Vec<bool>) {
+    if span.is_live_in {
+        forbid(view, start_of(span.position), outside);
+    }
+    if span.is_live_out {
+        forbid(view, end_of(span.position), outside);
+    }
+}
+
+fn is_out(view: View<'_>, border: u32, outside: &[bool]) -> bool {
+    outside
+        .get(view.bundles.find(border) as usize)
+        .copied()
+        .unwrap_or(false)
+}
+
+/// Where in a block the part in a register lives.
+fn inside_of(view: View<'_>, span: &Span, is_clear: bool, outside: &[bool]) -> Inside {
+    if !is_clear || span.stretches.is_empty() {
+        return Inside::Nowhere;
+    }
+    let starts_out = span.is_live_in && is_out(view, start_of(span.position), outside);
+    let ends_out = span.is_live_out && is_out(view, end_of(span.position), outside);
+    if !starts_out && !ends_out {
+        Inside::All
+    } else if span.is_live_in && !starts_out {
+        Inside::Start
+    } else if span.is_live_out && !ends_out {
+        Inside::End
+    } else {
+        Inside::Nowhere
+    }
+}
+
+/// What a block costs.
+fn cost_of(span: &Span, inside: Inside) -> u128 {
+    match inside {
+        Inside::Nowhere => span.uses,
+        Inside::All => 0,
+        Inside::Start => span.frequency.saturating_add(span.end_uses),
+        Inside::End => span.frequency,
+    }
+}
+
+/// The part in a register.
+fn offer_of(view: View<'_>, register: Reg) -> Result<Offer, AllocError> {
+    let clear = clear_blocks(view, register)?;
+    let insides = insides_of(view, clear.as_slice())?;
+    let cost = cost_of_all(view.spans, insides.as_slice());
+    Ok(Offer {
+        register,
+        insides,
+        cost,
+    })
+}
+
+/// Where in each block the part in a register lives.
+fn insides_of(view: View<'_>, clear: &[bool]) -> Result<Vec<Inside>, AllocError> {
+    let outside = outside_of(view, clear)?;
+    let mut insides = Vec::new(view.alloc);
+    'spans: for (span, is_clear) in view.spans.iter().zip(clear) {
+        insides.push(inside_of(view, span, *is_clear, outside.as_slice()))?;
+    }
+    Ok(insides)
+}
+
+/// What all blocks cost.
+fn cost_of_all(spans: &[Span], insides: &[Inside]) -> u128 {
+    let mut cost = 0u128;
+    'spans: for (span, inside) in spans.iter().zip(insides) {
+        cost = cost.saturating_add(cost_of(span, *inside));
+    }
+    cost
+}
+
+/// Adds a mark in the block at a position.
+pub(crate) fn add_mark(
+    live: &LiveFunc,
+    position: u32,
+    before: Option<Option<u32>>,
+    label: u16,
+    labels: &mut Labels,
+) -> Result<(), AllocError> {
+    let Some(block) = block_at(live, position) else {
+        return Ok(());
+    };
+    let number = block.number;
+    let spot = match before {
+        None => Spot::Border,
+        Some(before) => Spot::Gap(Gap {
+            block: number,
+            before,
+        }),
+    };
+    labels.push(Mark {
+        block: number,
+        spot,
+        label,
+    })
+}
+
+/// The labels of an offer.
+fn labels_of(view: View<'_>, offer: &Offer) -> Result<Labels, AllocError> {
+    let mut labels = Labels::new(view.alloc);
+    'spans: for (span, inside) in view.spans.iter().zip(offer.insides.as_slice()) {
+        add_labels(view.m.live(), span.position, *inside, &mut labels)?;
+    }
+    Ok(labels)
+}
+
+fn add_labels(
+    live: &LiveFunc,
+    position: u32,
+    inside: Inside,
+    labels: &mut Labels,
+) -> Result<(), AllocError> {
+    let (first, end) = gap_ids(live, position);
+    match inside {
+        Inside::Nowhere => Ok(()),
+        Inside::All => add_mark(live, position, None, 1, labels),
+        Inside::Start => {
+            add_mark(live, position, None, 1, labels)?;
+            add_mark(live, position, Some(end), 0, labels)
+        }
+        Inside::End => add_mark(live, position, Some(first), 1, labels),
+    }
+}

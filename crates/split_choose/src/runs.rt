@@ -1,0 +1,184 @@
+//! Local splits: a run of places for which some register is free.
+
+use crate::blocks::is_live_at_border;
+use crate::places::{TouchedPlace, places_of};
+use crate::regions::{add_mark, class_of, domain_of};
+use crate::spans::{Span, find_span, is_alone, spans_of};
+use block_freq::Freqs;
+use interference::Matrix;
+use live_lanes::{Labels, LiveFunc, Stretch};
+use std::alloc::{AllocError, Global};
+use target_base::Reg;
+
+/// A run of places and a register that is free there.
+#[derive(Clone, Copy, PartialEq, Eq)]
+struct Run {
+    first: usize,
+    /// The number of places.
+    len: usize,
+    register: Reg,
+}
+
+/// What is looked at for each register.
+#[derive(Clone, Copy)]
+struct View<'a> {
+    alloc: Global,
+    m: &'a Matrix,
+    v: u32,
+    places: &'a [TouchedPlace],
+    spans: &'a [Span],
+}
+
+/// The local split that is offered to a range, with its register and its labels: label 1 along the
+/// run. None exactly where none is offered.
+pub fn local(alloc: Global, m: &Matrix, v: u32) -> Result<Option<(Reg, Labels)>, AllocError> {
+    let live = m.live();
+    let touched = live.touched(alloc, v)?;
+    let places = places_of(alloc, live, touched.as_slice())?;
+    if places.len() < 3 || is_live_at_border(live, v) {
+        return Ok(None);
+    }
+    let even = Freqs::new(alloc);
+    let spans = spans_of(alloc, live, v, &even, touched.as_slice())?;
+    best_split(View {
+        alloc,
+        m,
+        v,
+        places: places.as_slice(),
+        spans: spans.as_slice(),
+    })
+}
+
+/// The split along the longest run.
+fn best_split(view: View<'_>) -> Result<Option<(Reg, Labels)>, AllocError> {
+    let Some(run) = best_run(view)? else {
+        return Ok(None);
+    };
+    let labels = labels_of(view, run)?;
+    Ok(Some((run.register, labels)))
+}
+
+/// The longest run, the earliest at a tie, and then the first in class order.
+fn best_run(view: View<'_>) -> Result<Option<Run>, AllocError> {
+    let live = view.m.live();
+    let mut best: Option<Run> = None;
+    let domain = domain_of(view.alloc, live.target(), class_of(live, view.v))?;
+    'registers: for register in domain.as_slice() {
+        if let Some(run) = longest_run(view, *register) {
+            if is_better(run, best) {
+                best = Some(run);
+            }
+        }
+    }
+    Ok(best)
+}
+
+fn is_better(run: Run, best: Option<Run>) -> bool {
+    match best {
+        Some(old) => run.len > old.len || (run.len == old.len && run.first < old.first),
+        None => true,
+    }
+}
+
+/// Whether a run of a length is longer than the best, or the first of two or more places.
+fn is_longer(len: usize, best: Option<Run>) -> bool {
+    match best {
+        Some(old) => len > old.len,
+        None => len >= 2,
+    }
+}
+
+/// The longest run of two or more places, but not all of them, along which a register is free, and
+/// the earliest of these.
+fn longest_run(view: View<'_>, register: Reg) -> Option<Run> {
+    let most = view.places.len().saturating_sub(1);
+    let mut best: Option<Run> = None;
+    let mut len = 1usize;
+    'places: for k in 1..view.places.len() {
+        if is_free_between(view, register, k - 1, k) {
+            len = len.saturating_add(1).min(most);
+        } else {
+            len = 1;
+        }
+        if is_longer(len, best) {
+            best = Some(Run {
+                first: k.saturating_add(1).saturating_sub(len),
+                len,
+                register,
+            });
+        }
+    }
+    best
+}
+
+/// Whether a register is free from the entry of one place to the exit of the next.
+fn is_free_between(view: View<'_>, register: Reg, a: usize, z: usize) -> bool {
+    let (Some(a), Some(z)) = (view.places.get(a), view.places.get(z)) else {
+        return false;
+    };
+    let live = view.m.live();
+    let low = live.entry_of(a.first);
+    let high = live.exit_of(z.last);
+    if a.position == z.position {
+        return is_free_in(view, register, a.position, low, high);
+    }
+    is_free_in(view, register, a.position, low, u128::MAX)
+        && is_free_in(view, register, z.position, 0, high)
+}
+
+/// Whether a register is free at those points of the range in a block that lie between two.
+fn is_free_in(view: View<'_>, register: Reg, position: u32, low: u128, high: u128) -> bool {
+    let Some(at) = find_span(view.spans, position) else {
+        return true;
+    };
+    let Some(span) = view.spans.get(at) else {
+        return true;
+    };
+    span.stretches.iter().all(|stretch| {
+        let part = Stretch {
+            first: stretch.first.max(low),
+            last: stretch.last.min(high),
+        };
+        part.first > part.last || is_alone(view.m, view.v, register, position, &[part])
+    })
+}
+
+/// The labels of a run.
+fn labels_of(view: View<'_>, run: Run) -> Result<Labels, AllocError> {
+    let mut labels = Labels::new(view.alloc);
+    let last = run.first.saturating_add(run.len).saturating_sub(1);
+    let (Some(a), Some(z)) = (view.places.get(run.first), view.places.get(last)) else {
+        return Ok(labels);
+    };
+    let live = view.m.live();
+    add_mark(live, a.position, Some(Some(a.first)), 1, &mut labels)?;
+    add_borders(live, a.position, z.position, &mut labels)?;
+    add_end(live, z, &mut labels)?;
+    Ok(labels)
+}
+
+/// Marks the starts of the blocks behind a position, up to another.
+fn add_borders(live: &LiveFunc, a: u32, z: u32, labels: &mut Labels) -> Result<(), AllocError> {
+    'blocks: for position in a.saturating_add(1)..=z {
+        add_mark(live, position, None, 1, labels)?;
+    }
+    Ok(())
+}
+
+/// Marks the end of a run behind its last place.
+fn add_end(live: &LiveFunc, z: &TouchedPlace, labels: &mut Labels) -> Result<(), AllocError> {
+    if z.is_end {
+        return Ok(());
+    }
+    let behind = id_behind(live, z.last);
+    add_mark(live, z.position, Some(behind), 0, labels)
+}
+
+/// The instruction that stands right behind another in its block.
+fn id_behind(live: &LiveFunc, id: u32) -> Option<u32> {
+    let position = live.position_of(id) as usize;
+    let next = live
+        .func()
+        .instr_at(position, live.place_of(id).saturating_add(1))?;
+    Some(next.id)
+}

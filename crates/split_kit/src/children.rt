@@ -1,0 +1,242 @@
+//! The call that splits a range by labels of its points.
+
+use interference::Matrix;
+use live_lanes::{Edit, Labels, LiveFunc, Mark, Spot};
+use mir_func::{Gap, Instr, Loc, Op, Operand, Operands, RegOp};
+use std::alloc::{AllocError, Global};
+use target_base::{ClassId, Copied, Numbers, OpId};
+
+/// The opcode COPY of every target.
+const COPY: OpId = OpId(0);
+
+/// What is split: the function as it stands before, the range, and its parts, the remainder first.
+#[derive(Clone, Copy)]
+struct View<'a> {
+    alloc: Global,
+    live: &'a LiveFunc,
+    v: u32,
+    children: &'a [u32],
+}
+
+/// Splits a range by labels and answers the numbers of its parts: the remainder first, then the
+/// labels in order. Each operand takes the part of the label that holds there; a copy stands where
+/// the label changes and some lane of the range is live. After a refusal the function is unchanged
+/// but for new range numbers that no operand names.
+pub fn split(
+    alloc: Global,
+    m: &mut Matrix,
+    v: u32,
+    labels: &Labels,
+) -> Result<Numbers, AllocError> {
+    let touched = m.live().touched(alloc, v)?;
+    let class = class_of(m.live(), v);
+    let children = fresh_all(alloc, m, class, greatest(labels.as_slice()))?;
+    let view = View {
+        alloc,
+        live: m.live(),
+        v,
+        children: children.as_slice(),
+    };
+    let edits = edits_of(view, touched.as_slice(), labels.as_slice())?;
+    m.edit_all(edits)?;
+    Ok(children)
+}
+
+/// The class of a range; class 0 where it has none.
+fn class_of(live: &LiveFunc, v: u32) -> ClassId {
+    match live.func().classes.as_slice().get(v as usize) {
+        Some(Some(class)) => *class,
+        _ => ClassId(0),
+    }
+}
+
+/// The greatest label.
+fn greatest(marks: &[Mark]) -> u16 {
+    marks.iter().map(|mark| mark.label).max().unwrap_or(0)
+}
+
+/// New ranges of a class for the labels from 0 to the greatest.
+fn fresh_all(
+    alloc: Global,
+    m: &mut Matrix,
+    class: ClassId,
+    greatest: u16,
+) -> Result<Numbers, AllocError> {
+    let mut children = Numbers::new(alloc);
+    'labels: for _ in 0..=greatest {
+        children.push(m.fresh(class)?)?;
+    }
+    Ok(children)
+}
+
+/// The edits that split a range, block by block.
+fn edits_of(view: View<'_>, touched: &[u32], marks: &[Mark]) -> Result<Vec<Edit>, AllocError> {
+    let mut edits = Vec::new(view.alloc);
+    let mut marks_left = marks;
+    let mut touched_left = touched;
+    'blocks: for position in 0..block_count(view.live) {
+        let (here, rest) = parted(marks_left, marks_in(view.live, marks_left, position));
+        marks_left = rest;
+        let (own, others) = parted(touched_left, touched_in(view.live, touched_left, position));
+        touched_left = others;
+        split_block(view, position, own, here, &mut edits)?;
+    }
+    Ok(edits)
+}
+
+fn block_count(live: &LiveFunc) -> u32 {
+    u32::try_from(live.func().blocks.len()).unwrap_or(u32::MAX)
+}
+
+/// How many of the first marks stand in the block at a position.
+fn marks_in(live: &LiveFunc, marks: &[Mark], position: u32) -> usize {
+    marks
+        .iter()
+        .take_while(|mark| live.block_position(mark.block) == Some(position))
+        .count()
+}
+
+/// How many of the first instructions stand in the block at a position.
+fn touched_in(live: &LiveFunc, touched: &[u32], position: u32) -> usize {
+    touched
+        .iter()
+        .take_while(|id| live.position_of(**id) == position)
+        .count()
+}
+
+/// The label at the start of a block.
+fn label_at_start(marks: &[Mark]) -> u16 {
+    match marks.first() {
+        Some(
+            Mark {
+                spot: Spot::Border,
+                label,
+                ..
+            },
+        ) => *label,
+        _ => 0,
+    }
+}
+
+/// Splits the range in a block.
+fn split_block(
+    view: View<'_>,
+    position: u32,
+    touched: &[u32],
+    marks: &[Mark],
+    edits: &mut Vec<Edit>,
+) -> Result<(), AllocError> {
+    let mut now = label_at_start(marks);
+    let mut left = touched;
+    'marks: for mark in marks {
+        if let Spot::Gap(gap) = mark.spot {
+            let (before, behind) = parted(left, before_gap(view.live, left, gap));
+            left = behind;
+            rename_all(view, before, now, edits)?;
+            change_label(view, position, gap, now, mark.label, edits)?;
+            now = mark.label;
+        }
+    }
+    rename_all(view, left, now, edits)
+}
+
+/// The first of some items, up to a number of them, and those behind.
+fn parted<T>(items: &[T], count: usize) -> (&[T], &[T]) {
+    items.split_at(count.min(items.len()))
+}
+
+/// How many of the first instructions stand before a gap of their block.
+fn before_gap(live: &LiveFunc, touched: &[u32], gap: Gap) -> usize {
+    let Some(next) = gap.before else {
+        return touched.len();
+    };
+    touched
+        .iter()
+        .take_while(|id| live.slots().before(**id, next))
+        .count()
+}
+
+/// Puts a copy from the part of one label to that of another into a gap, where some lane is live.
+fn change_label(
+    view: View<'_>,
+    position: u32,
+    gap: Gap,
+    from: u16,
+    to: u16,
+    edits: &mut Vec<Edit>,
+) -> Result<(), AllocError> {
+    let is_live = match gap.before {
+        Some(id) => view.live.is_live_before(view.v, id),
+        None => view.live.is_live_out_of(view.v, position),
+    };
+    if from == to || !is_live {
+        return Ok(());
+    }
+    let mut operands = Operands::new(view.alloc);
+    operands.push(Operand::Reg(whole(child(view, to), true)))?;
+    operands.push(Operand::Reg(whole(child(view, from), false)))?;
+    edits.push(Edit::Put(gap, COPY, operands))?;
+    Ok(())
+}
+
+/// The part of a label.
+fn child(view: View<'_>, label: u16) -> u32 {
+    view.children.get(label as usize).copied().unwrap_or(view.v)
+}
+
+/// The whole of a range, read or defined.
+fn whole(v: u32, def: bool) -> RegOp {
+    RegOp {
+        loc: Loc::Virtual(v),
+        index: None,
+        def,
+        implicit: false,
+        undef: false,
+        early: false,
+        renamable: false,
+        tie: None,
+    }
+}
+
+/// Puts the part of a label into the operands of instructions.
+fn rename_all(
+    view: View<'_>,
+    ids: &[u32],
+    label: u16,
+    edits: &mut Vec<Edit>,
+) -> Result<(), AllocError> {
+    'ids: for id in ids {
+        if let Some(instr) = view.live.instr(*id) {
+            rename(view, instr, child(view, label), edits)?;
+        }
+    }
+    Ok(())
+}
+
+fn rename(
+    view: View<'_>,
+    instr: &Instr,
+    part: u32,
+    edits: &mut Vec<Edit>,
+) -> Result<(), AllocError> {
+    let Op::Known(op) = &instr.op else {
+        return Ok(());
+    };
+    let mut operands = Operands::new(view.alloc);
+    'operands: for operand in instr.operands.as_slice() {
+        operands.push(renamed(view, operand, part)?)?;
+    }
+    edits.push(Edit::Replace(instr.id, *op, operands))?;
+    Ok(())
+}
+
+/// An operand with a part in the place of the range.
+fn renamed(view: View<'_>, operand: &Operand, part: u32) -> Result<Operand, AllocError> {
+    match operand {
+        Operand::Reg(op) if op.loc == Loc::Virtual(view.v) => Ok(Operand::Reg(RegOp {
+            loc: Loc::Virtual(part),
+            ..*op
+        })),
+        _ => operand.copied(view.alloc),
+    }
+}
