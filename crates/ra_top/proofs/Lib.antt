@@ -3,3 +3,4 @@ pub mod Progress
 pub mod Documents
 pub mod Starts
 pub mod Verdicts
+pub mod Allocations

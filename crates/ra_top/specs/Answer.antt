@@ -3,6 +3,7 @@ use Rattle.std.specs.Prelude.{◌≡◌, ℕ, List, length, Some, None}
 use Rattle.target_base.specs.declared.types.Target.{Target}
 use Rattle.target_base.specs.Mini.{mini_target}
 use Rattle.mir_func.specs.Value.{Function}
+use Rattle.guarded_alloc.specs.Function.{Allocates}
 use Rattle.mir_text.specs.First.{IsFirstForm, IsPrinted}
 use Rattle.ra_top.specs.declared.answer.Job.{Job}
 use Rattle.ra_top.specs.declared.answer.Job.TheVariants as jobs
@@ -19,16 +20,22 @@ pub record IsFirstFile (piece : List ℕ) : Type 0 where
   pub form : IsFirstForm mini_target func
   pub printed : IsPrinted mini_target func piece
 
--- a text is the printed spelling of some function of the built-in target
-pub record IsFunctionText (text : List ℕ) : Type 0 where
+-- a text is the printed spelling of an allocation of f: a function that does all that f does, that the
+-- verifier of allocated functions accepts, and that names no virtual register
+pub record IsTextFor (t : Target) (f : Function) (text : List ℕ) : Type 0 where
   pub func : Function
-  pub printed : IsPrinted mini_target func text
+  pub allocates : Allocates t f func
+  pub printed : IsPrinted t func text
 
--- the text of a function stands for the piece, which passes no limit
+-- a text is that of an allocation of the function that the piece spells
+pub record IsAllocationOf (piece text : List ℕ) : Type 0 where
+  pub source : IsFirstFile piece
+  pub is : IsTextFor mini_target source.func text
+
+-- the text stands for the piece, which passes no limit
 pub record IsAllocated (spot : Spot) (piece text : List ℕ) : Type 0 where
   pub within : length_fault spot.offset (length piece) ≡ None
-  pub source : IsFirstFile piece
-  pub is : IsFunctionText text
+  pub is : IsAllocationOf piece text
 
 -- a text is due for a piece
 abbrev pub IsText : Job → Target → Spot → List ℕ → List ℕ → Type 0

@@ -3,13 +3,13 @@
 ghost use Rattle.std.specs.Prelude.{◌≡◌, ◌≤◌, IfOk, IfSome, length, Some, None};
 ghost use Rattle.target_base.specs.Mini.{mini_target};
 ghost use Rattle.ra_top.specs.Spot.{file_most, length_fault};
-ghost use Rattle.ra_top.specs.Answer.{IsAnswer, IsFirstFile, IsFunctionText};
+ghost use Rattle.ra_top.specs.Answer.{IsAnswer, IsAllocationOf, IsTextFor};
 
 use crate::spot::Spot;
 use crate::status::Status;
+use guarded_alloc::{FunctionStop, allocated};
 use mir_func::Func;
 use mir_text::{Doc, print_doc, read_first};
-use spill_all::spilled_all;
 use std::alloc::{AllocError, Global};
 use target_base::{Bytes, Target};
 
@@ -64,30 +64,40 @@ pub fn answer_at(
         return Ok(Answer::Refused(Status::Limit(limit), Bytes::new(alloc)));
     }
     match job {
-        Job::Alloc => match allocated(alloc, target, piece)? {
+        Job::Alloc => match allocated_text(alloc, target, piece)? {
             None => Ok(Answer::Refused(Status::NotYet, Bytes::new(alloc))),
             Some(text) => Ok(Answer::Text(text)),
         },
     }
 }
 
-/// The text of a piece with its function allocated. None where the piece is of another form.
-fn allocated(alloc: Global, target: &Target, piece: &[u8]) -> Result<Option<Bytes>, AllocError>
+/// The text of a piece with its function allocated. None where the piece is of another form, or its
+/// function is refused.
+#[tactic(auto, using(crate::proofs::Allocations::allocation_of))]
+fn allocated_text(
+    alloc: Global,
+    target: &Target,
+    piece: &[u8],
+) -> Result<Option<Bytes>, AllocError>
     requires { target.now ≡ mini_target }
-    ensures text { IfOk result (λ made. IfSome made IsFunctionText) }
-    ensures source { IfOk result (λ made. IfSome made (λ _. IsFirstFile piece.now)) }
+    ensures { IfOk result (λ made. IfSome made (IsAllocationOf piece.now)) }
 {
     match read_first(alloc, target, piece)? {
         None => Ok(None),
-        Some(f) => Ok(Some(printed(alloc, target, f)?)),
+        Some(f) => printed(alloc, target, f),
     }
 }
 
-/// The text of a function in which every range is spilled.
-fn printed(alloc: Global, target: &Target, f: Func) -> Result<Bytes, AllocError>
-    requires { target.now ≡ mini_target }
-    ensures { IfOk result IsFunctionText }
+/// The text of a function allocated under guard. None where the guard refuses it.
+fn printed(alloc: Global, target: &Target, f: Func) -> Result<Option<Bytes>, AllocError>
+    ensures { IfOk result (λ made. IfSome made (IsTextFor target.now f)) }
 {
-    let made = spilled_all(alloc, target, f)?;
-    print_doc(alloc, target, &Doc::Function(Bytes::new(alloc), made))
+    match allocated(alloc, target, f) {
+        Ok(made) => {
+            let text = print_doc(alloc, target, &Doc::Function(Bytes::new(alloc), made))?;
+            Ok(Some(text))
+        }
+        Err(FunctionStop::Memory(e)) => Err(e),
+        Err(_) => Ok(None),
+    }
 }

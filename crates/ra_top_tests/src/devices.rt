@@ -75,7 +75,8 @@ fn each_status_has_its_code(rt: HostRuntime) {
 #[test]
 fn feeds_one_piece(rt: HostRuntime) -> Result<(), Fail> {
     let alloc = rt.alloc();
-    let text = b"---\nname: f\nbody: |\n  bb.0:\n    RET\n...\n---\nname: f\nbody: |\n  bb.0:\n    RET\n...\n";
+    let text =
+        b"---\nname: f\nbody: |\n  bb.0:\n    RET\n...\n---\nname: f\nbody: |\n  bb.0:\n    RET\n...\n";
     let mut pieces = Pieces::new(alloc);
     assert_eq!(rt; pieces.feed(text)?, 40);
     assert!(rt; pieces.whole());

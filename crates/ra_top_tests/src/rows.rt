@@ -1,10 +1,10 @@
 //! The top call over files and sinks in memory: what it answers, writes and tells.
 
 use ra_top::{Files, MemFiles, MemSink, Sink, Status, top};
-use target_desc::{TargetFault, TargetKind};
 use std::alloc::{AllocError, Global};
 use std::process::Abort;
 use std::test::Fail;
+use target_desc::{TargetFault, TargetKind};
 
 /// One call: the words, the file IN, the calls of the files and of the output that fail, the room of
 /// the output and the most bytes that a call moves; and what is expected.
@@ -236,8 +236,7 @@ fn refuses_other_files(rt: HostRuntime) -> Result<(), Fail> {
 const TWICE: &[u8] =
     b"---\nname: f\nbody: |\n  bb.0:\n    RET\n...\n---\nname: f\nbody: |\n  bb.0:\n    RET\n...\n";
 
-const CUT_TWICE: &[u8] =
-    b"---\nname: f\nbody: |\n  bb.0:\n    RET\n...\n---\nname: f\nbody: |";
+const CUT_TWICE: &[u8] = b"---\nname: f\nbody: |\n  bb.0:\n    RET\n...\n---\nname: f\nbody: |";
 
 const THRICE: &[u8] =
     b"---\nname: f\nbody: |\n  bb.0:\n    RET\n...\n---\nname: f\nbody: |\n  bb.0:\n    RET\n...\n---\nname: f\nbody: |\n  bb.0:\n    RET\n...\n";
@@ -268,17 +267,57 @@ fn writes_document_by_document(rt: HostRuntime) -> Result<(), Fail> {
         rt.alloc(),
         &[
             done(TWICE, TWICE),
-            Row { step: 1, ..done(THRICE, THRICE) },
+            Row {
+                step: 1,
+                ..done(THRICE, THRICE)
+            },
             refused_second,
-            Row { step: 1, file_fails: &[42], ..no_read },
-            Row { step: 1, file_fails: &[41], out: b"", ..no_read },
-            Row { file_fails: &[1], out: b"", ..no_read },
-            Row { file_fails: &[2], out: b"", ..no_read },
-            Row { file_fails: &[3], out: TWICE, ..no_read },
-            Row { out_fails: &[1], out: b"", ..no_write },
-            Row { out_fails: &[2], ..no_write },
-            Row { out_fails: &[3], out: TWICE, ..no_write },
-            Row { step: 1, out_fails: &[60], out: CUT_TWICE, ..no_write },
+            Row {
+                step: 1,
+                file_fails: &[42],
+                ..no_read
+            },
+            Row {
+                step: 1,
+                file_fails: &[41],
+                out: b"",
+                ..no_read
+            },
+            Row {
+                file_fails: &[1],
+                out: b"",
+                ..no_read
+            },
+            Row {
+                file_fails: &[2],
+                out: b"",
+                ..no_read
+            },
+            Row {
+                file_fails: &[3],
+                out: TWICE,
+                ..no_read
+            },
+            Row {
+                out_fails: &[1],
+                out: b"",
+                ..no_write
+            },
+            Row {
+                out_fails: &[2],
+                ..no_write
+            },
+            Row {
+                out_fails: &[3],
+                out: TWICE,
+                ..no_write
+            },
+            Row {
+                step: 1,
+                out_fails: &[60],
+                out: CUT_TWICE,
+                ..no_write
+            },
         ],
     )
 }
