@@ -73,12 +73,7 @@ pub fn answer_at(
 
 /// The text of a piece with its function allocated. None where the piece is of another form, or its
 /// function is refused.
-#[tactic(auto, using(crate::proofs::Allocations::allocation_of))]
-fn allocated_text(
-    alloc: Global,
-    target: &Target,
-    piece: &[u8],
-) -> Result<Option<Bytes>, AllocError>
+fn allocated_text(alloc: Global, target: &Target, piece: &[u8]) -> Result<Option<Bytes>, AllocError>
     requires { target.now ≡ mini_target }
     ensures { IfOk result (λ made. IfSome made (IsAllocationOf piece.now)) }
 {

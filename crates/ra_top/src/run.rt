@@ -77,12 +77,7 @@ fn allocate<F: Files, O: Sink, E: Sink>(
 }
 
 /// Allocates the functions of a file over the built-in target.
-fn allocate_file<F: Files, O: Sink>(
-    alloc: Global,
-    file: &str,
-    files: &mut F,
-    out: &mut O,
-) -> Ending
+fn allocate_file<F: Files, O: Sink>(alloc: Global, file: &str, files: &mut F, out: &mut O) -> Ending
     ensures contents { (n : List ℕ) → F.contents files.new n ≡ F.contents files.old n }
     ensures streamed { IfSome (F.contents files.old file.now) (λ bytes. Streamed jobs.Alloc mini_target bytes (F.left files.new) (O.written out.old) (O.written out.new) result.status result.detail) }
     ensures cause { HasStatusCause result.status (F.faults files.old) (F.faults files.new) (O.faults out.old) (O.faults out.new) }
