@@ -9,8 +9,10 @@ mod doubts;
 mod facts;
 mod family;
 mod needs;
+mod pair;
 mod rests;
 mod rows;
 mod start;
 
 pub use check::{Verdict, agree};
+pub use pair::check_pair;

@@ -1,0 +1,29 @@
+//! The checker of allocations by anybody.
+
+ghost use Rattle.std.specs.Prelude.{IfOk};
+ghost use Rattle.alloc_check.specs.Verdict.{IfYes, IsRight};
+
+use crate::check::{Verdict, agree};
+use machine_verify::{VerifyStop, verify_allocated};
+use mir_func::{Func, Valid};
+use std::alloc::{AllocError, Global};
+use target_base::Target;
+
+/// Whether an allocated function, whoever made it, is right for its source. Yes says that the
+/// verifier of allocated functions accepts it, that it names no virtual register, and that it does
+/// all that the source does, in every environment and through every number of instructions. No comes
+/// with the fault's place in the allocated function, or the first place of the source in doubt.
+pub fn check_pair(
+    alloc: Global,
+    target: &Target,
+    source: &Valid,
+    allocated: &Func,
+) -> Result<Verdict, AllocError>
+    ensures { IfOk result (IfYes (IsRight target.now source.now.func allocated.now)) }
+{
+    match verify_allocated(alloc, target, allocated) {
+        Ok(()) => agree(alloc, target, &source.func, allocated),
+        Err(VerifyStop::Invalid(fault)) => Ok(Verdict::No(fault.place)),
+        Err(VerifyStop::Memory(e)) => Err(e),
+    }
+}

@@ -1,0 +1,12 @@
+//! A function allocated under guard: its limits and its validity are tested, its registers chosen,
+//! and the checker of allocations is asked before it is handed out.
+#![tactic(auto)]
+
+pub mod function;
+mod guard;
+mod limits;
+mod make;
+pub mod stop;
+
+pub use function::allocated;
+pub use stop::{FunctionStop, LimitName};
