@@ -32,6 +32,9 @@ returns-clause-bytes c = λ env bs m.
     subst (λ t. Matches env c.loop-k.self.bytes.entries t) e i.1
 
 pub loop-k-init : goal.loop-k-init
-loop-k-init c = (refl, λ env bs m.
-    let all : c.args.count - 0 ≡ c.args.count = omega arith in
-    (bs, m, ap (λ t. stored_bytes c.args.w c.args.a c.args.value t bs) all))
+loop-k-init c = (
+  refl,
+  λ env bs m.
+      let all : c.args.count - 0 ≡ c.args.count = omega arith in
+      (bs, m, ap (λ t. stored_bytes c.args.w c.args.a c.args.value t bs) all),
+)
