@@ -53,25 +53,20 @@ fn answer(rt: &HostRuntime, form: &str, target: &str, file: &str) -> anyhow::Res
     Ok(())
 }
 
-fn main(rt: HostRuntime) -> anyhow::Result<()> {
-    let mut form = None;
-    let mut target = None;
-    for word in env::args(&rt)?.skip(1) {
-        match (form, target) {
-            (None, _) => {
-                form = Some(word);
-                target = None;
-            }
-            (Some(first), None) => {
-                form = Some(first);
-                target = Some(word);
-            }
-            (Some(first), Some(second)) => {
-                answer(&rt, first.as_str(), second.as_str(), word.as_str())?;
-                form = None;
-                target = None;
-            }
-        }
+/// Answers the words, three at a time.
+fn answer_all(rt: &HostRuntime, words: &[String]) -> anyhow::Result<()> {
+    let mut rest = words;
+    'triples: while let [form, target, file, more @ ..] = rest {
+        answer(rt, form.as_str(), target.as_str(), file.as_str())?;
+        rest = more;
     }
     Ok(())
+}
+
+fn main(rt: HostRuntime) -> anyhow::Result<()> {
+    let mut words = Vec::new(rt.alloc());
+    for word in env::args(&rt)?.skip(1) {
+        words.push(word)?;
+    }
+    answer_all(&rt, words.as_slice())
 }
