@@ -1,0 +1,3 @@
+pub mod EdgeSteps
+pub mod Rounds
+pub mod Sums

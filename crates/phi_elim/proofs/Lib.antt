@@ -1,0 +1,6 @@
+pub mod Walks
+pub mod Arriving
+pub mod Placing
+pub mod Numbering
+pub mod Bulks
+pub mod Sizes

@@ -1,0 +1,4 @@
+pub mod Moves
+pub mod Numbered
+pub mod Bulk
+pub mod Phis

@@ -1,0 +1,4 @@
+use Rattle.place_solve.proofs.search.+choose.Given as goal
+
+abbrev pub decreases-choose : goal.decreases-choose
+decreases-choose l = l.left

@@ -1,0 +1,11 @@
+//! Places: which choices of registers the variables of a place admit.
+#![tactic(auto)]
+
+pub mod around;
+mod check;
+mod copies;
+mod search;
+pub mod variables;
+mod widths;
+
+pub use check::{PlaceStop, check_places};

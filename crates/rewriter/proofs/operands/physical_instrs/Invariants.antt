@@ -1,0 +1,6 @@
+use Rattle.std.proofs.Common.{◌≡◌, ◌≤◌, ◌+◌, ◌++◌, length, take, drop, map}
+use Rattle.rewriter.specs.Physical.{physical, physical_instrs, physical_block, with_liveins}
+use Rattle.rewriter.proofs.operands.physical_instrs.Given as goal
+
+abbrev pub invariant-each : goal.invariant-each
+invariant-each l = l.made.items ++ physical_instrs l.target l.registers (drop l.i-index l.instrs) ≡ physical_instrs l.target l.registers l.instrs

@@ -1,0 +1,6 @@
+use Rattle.std.proofs.Common.{◌≡◌, ◌≤◌, ◌+◌, ◌++◌, length, take, drop, map}
+use Rattle.rewriter.specs.Physical.{physical, physical_instrs, physical_block, with_liveins}
+use Rattle.rewriter.proofs.operands.physical_operands.Given as goal
+
+abbrev pub invariant-each : goal.invariant-each
+invariant-each l = l.made ≡ map (physical l.target l.registers) (take l.o-index l.operands)

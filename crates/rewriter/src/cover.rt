@@ -1,0 +1,149 @@
+//! The live-ins of blocks: the registers that stand for the units which are live at a block's start.
+
+use live_lanes::LiveFunc;
+use mir_func::Block;
+use std::alloc::{AllocError, Global};
+use target_base::registers::units_at;
+use target_base::{Copied, List, Reg, Regs, Target, Unit};
+
+/// Whether the list holds a unit.
+fn holds(units: &[Unit], u: usize) -> bool {
+    units.iter().any(|w| w.0 as usize == u)
+}
+
+/// Whether none of a register's units is reserved.
+fn is_unreserved(target: &Target, r: Reg) -> bool {
+    units_at(target.regs.as_slice(), r)
+        .iter()
+        .all(|u| !holds(target.reserved.as_slice(), u.0 as usize))
+}
+
+/// The unreserved registers that hold a unit, in target order.
+fn holders_of(alloc: Global, target: &Target, u: usize) -> Result<Vec<Reg>, AllocError> {
+    let mut made = Vec::new(alloc);
+    'each: for k in 0..target.regs.len().min(0xffff) {
+        let r = Reg(k as u16);
+        if holds(units_at(target.regs.as_slice(), r), u) && is_unreserved(target, r) {
+            made.push(r)?;
+        }
+    }
+    Ok(made)
+}
+
+/// For each unit the unreserved registers that hold it, in target order.
+pub fn all_holders(alloc: Global, target: &Target) -> Result<Vec<Vec<Reg>>, AllocError> {
+    let mut made = Vec::new(alloc);
+    'units: for u in 0..target.units.len() {
+        made.push(holders_of(alloc, target, u)?)?;
+    }
+    Ok(made)
+}
+
+/// Whether each unit of the register is live.
+fn is_whole(target: &Target, live: &[bool], r: Reg) -> bool {
+    units_at(target.regs.as_slice(), r)
+        .iter()
+        .all(|u| live.get(u.0 as usize).copied().unwrap_or(false))
+}
+
+/// The register that stands for a live unit, of those that hold it: the first that is live as a whole,
+/// or else the first.
+fn chosen(target: &Target, live: &[bool], holders: &[Reg]) -> Option<Reg> {
+    match holders.iter().find(|r| is_whole(target, live, **r)) {
+        Some(r) => Some(*r),
+        None => holders.first().copied(),
+    }
+}
+
+/// Which units are live at the start of the block of that number.
+fn live_units(
+    alloc: Global,
+    live: &LiveFunc,
+    block: u32,
+    units: usize,
+) -> Result<Vec<bool>, AllocError> {
+    let mut made = Vec::new(alloc);
+    'units: for u in 0..units.min(0x10000) {
+        made.push(live.unit_at(Unit(u as u16), block))?;
+    }
+    Ok(made)
+}
+
+/// Sets the flag of a register.
+fn mark(flags: &mut [bool], r: Option<Reg>) {
+    if let Some(r) = r {
+        if (r.0 as usize) < flags.len() {
+            flags[r.0 as usize] = true;
+        }
+    }
+}
+
+/// The registers that stand for the units which are live at the start of the block of that number, in
+/// target order.
+fn cover(
+    alloc: Global,
+    target: &Target,
+    holders: &[Vec<Reg>],
+    live: &LiveFunc,
+    block: u32,
+) -> Result<Regs, AllocError> {
+    let units = live_units(alloc, live, block, holders.len())?;
+    let mut flags = vec![in alloc; false; target.regs.len()]?;
+    'units: for u in 0..units.len() {
+        if units[u] {
+            if let Some(rs) = holders.get(u) {
+                mark(
+                    flags.as_mut_slice(),
+                    chosen(target, units.as_slice(), rs.as_slice()),
+                );
+            }
+        }
+    }
+    flagged(alloc, flags.as_slice())
+}
+
+/// The registers whose flags are set.
+fn flagged(alloc: Global, flags: &[bool]) -> Result<Regs, AllocError> {
+    let mut made = List::new(alloc);
+    'regs: for k in 0..flags.len().min(0x10000) {
+        if flags[k] {
+            made.push(Reg(k as u16))?;
+        }
+    }
+    Ok(made)
+}
+
+/// The live-ins of the block at place `k`: those of the first stay, and another one lists the registers
+/// that stand for the units which are live at its start.
+fn liveins_of(
+    alloc: Global,
+    target: &Target,
+    holders: &[Vec<Reg>],
+    live: &LiveFunc,
+    k: usize,
+    block: &Block,
+) -> Result<Regs, AllocError> {
+    if k == 0 {
+        block.liveins.copied(alloc)
+    } else {
+        cover(alloc, target, holders, live, block.number)
+    }
+}
+
+/// The live-ins of each block, in layout order.
+pub fn all_covers(alloc: Global, target: &Target, live: &LiveFunc) -> Result<Vec<Regs>, AllocError> {
+    let holders = all_holders(alloc, target)?;
+    let blocks = live.func().blocks.as_slice();
+    let mut made = Vec::new(alloc);
+    'layout: for k in 0..blocks.len() {
+        made.push(liveins_of(
+            alloc,
+            target,
+            holders.as_slice(),
+            live,
+            k,
+            &blocks[k],
+        )?)?;
+    }
+    Ok(made)
+}

@@ -1,0 +1,6 @@
+use Rattle.std.proofs.Common.{◌≡◌, ◌≤◌, ◌+◌, ◌*◌, ◌-◌, ◌++◌, length, take, drop, map}
+use Rattle.two_address.specs.Sequences.{parts_of, into_part, filled_lanes}
+use Rattle.two_address.proofs.sequences.parts_of.Given as goal
+
+abbrev pub invariant-pairs : goal.invariant-pairs
+invariant-pairs l = l.parts.items ++ parts_of (drop (2 * l.k) l.operands) ≡ parts_of l.operands

@@ -1,0 +1,4 @@
+pub mod Classes
+pub mod Ties
+pub mod Sequences
+pub mod Lowered

@@ -1,0 +1,114 @@
+//! Which of the rewritings applies to an instruction.
+
+ghost use Rattle.std.specs.Prelude.{◌≡◌, slice_get};
+ghost use Rattle.std.specs.Option.{option_to_list};
+ghost use Rattle.target_base.specs.Rules.{is_copy, is_reg_sequence, is_insert_subreg};
+ghost use Rattle.two_address.specs.Lowered.{register_at, virtual_in, copy_form, sequence_form, insertion_form, part_of_two, form_of};
+
+use crate::sequences::{Part, part_of};
+use mir_func::{Instr, Loc, Operand, RegOp};
+use phi_elim::reading::effect_of;
+use target_base::{Effect, Target};
+
+/// The rewriting that an instruction asks for.
+#[derive(Clone, Copy)]
+pub enum Form {
+    /// COPY to the first operand from the second.
+    Copy(RegOp, RegOp),
+    /// REG_SEQUENCE into a virtual register.
+    Sequence(u32),
+    /// INSERT_SUBREG into a virtual register of a part into the operand.
+    Insertion(u32, RegOp, Part),
+    /// Any other instruction.
+    Other,
+}
+
+/// The k-th operand as a register operand.
+fn register_at(operands: &[Operand], k: usize) -> Option<RegOp>
+    ensures { result ≡ register_at operands.now k }
+{
+    match operands.get(k) {
+        Some(Operand::Reg(o)) => Some(*o),
+        _ => None,
+    }
+}
+
+/// The number of a virtual register.
+fn virtual_in(o: Option<RegOp>) -> Option<u32>
+    ensures { result ≡ virtual_in o }
+{
+    match o {
+        None => None,
+        Some(o) => match o.loc {
+            Loc::Virtual(v) => Some(v),
+            Loc::Fixed(_) => None,
+        },
+    }
+}
+
+fn copy_form(to: Option<RegOp>, from: Option<RegOp>) -> Form
+    ensures { result ≡ copy_form to from }
+{
+    match to {
+        None => Form::Other,
+        Some(d) => match from {
+            None => Form::Other,
+            Some(s) => Form::Copy(d, s),
+        },
+    }
+}
+
+fn sequence_form(v: Option<u32>) -> Form
+    ensures { result ≡ sequence_form v }
+{
+    match v {
+        None => Form::Other,
+        Some(v) => Form::Sequence(v),
+    }
+}
+
+fn insertion_form(v: Option<u32>, a: Option<RegOp>, p: Option<Part>) -> Form
+    ensures { result ≡ insertion_form v a (option_to_list p) }
+{
+    match v {
+        None => Form::Other,
+        Some(v) => match a {
+            None => Form::Other,
+            Some(a) => match p {
+                None => Form::Other,
+                Some(p) => Form::Insertion(v, a, p),
+            },
+        },
+    }
+}
+
+/// The part that the third and the fourth operand make.
+fn inserted_part(operands: &[Operand]) -> Option<Part>
+    ensures { option_to_list result ≡ part_of_two (slice_get operands.now 2) (slice_get operands.now 3) }
+{
+    match operands.get(2) {
+        None => None,
+        Some(a) => match operands.get(3) {
+            None => None,
+            Some(b) => part_of(a, b),
+        },
+    }
+}
+
+/// Which of the rewritings applies.
+pub fn form_of(target: &Target, i: &Instr) -> Form
+    ensures { result ≡ form_of target.now i.now }
+{
+    let operands = i.operands.as_slice();
+    let first = register_at(operands, 0);
+    match effect_of(target, i) {
+        Some(Effect::Copy) => copy_form(first, register_at(operands, 1)),
+        Some(Effect::RegSequence) => sequence_form(virtual_in(first)),
+        Some(Effect::InsertSubreg) => insertion_form(
+            virtual_in(first),
+            register_at(operands, 1),
+            inserted_part(operands),
+        ),
+        _ => Form::Other,
+    }
+}

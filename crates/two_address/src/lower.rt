@@ -1,0 +1,245 @@
+//! The pass over a function.
+
+ghost use Rattle.std.specs.Prelude.{◌≡◌, ◌<◌, ◌≤◌, ◌+◌, ◌*◌, ◌^◌, ◌++◌, ◌∷◌, [], OnOk, IfOk, length, drop};
+ghost use Rattle.mir_func.specs.declared.func.Loc.TheVariants as locs;
+ghost use Rattle.phi_elim.specs.Bulk.{bulk};
+ghost use Rattle.phi_elim.specs.Numbered.{instr_count};
+ghost use Rattle.phi_elim.specs.Phis.{all_instrs, located_class};
+ghost use Rattle.two_address.specs.Sequences.{parts_of, is_input, sequence_lowered};
+ghost use Rattle.two_address.specs.Ties.{copy_lowered};
+ghost use Rattle.two_address.specs.Lowered.{form_lowered, form_class, instr_lowered, instr_class, next_range, instrs_lowered, classes_made, blocks_lowered, ties_lowered, class_aside, class_if};
+
+use crate::classes::roles_of;
+use crate::forms::{Form, form_of};
+use crate::sequences::{insertion_lowered, is_input, parts_of, sequence_lowered};
+use crate::ties::{
+    copy_lowered, definition_of, first_role_class, push_tied, push_undefined, tie_in,
+};
+use mir_func::{Block, Blocks, Func, Instr, Loc, NoPhi, RegOp};
+use phi_elim::amount::bulk_of;
+use phi_elim::ids::number_blocks;
+use phi_elim::phis::located_class;
+use std::alloc::{AllocError, Global};
+use target_base::{ClassId, List, Target};
+
+/// The greatest bulk of a function of which something is promised.
+const MOST: u64 = 1 << 27;
+
+/// The function in lowered form (LLVM's `TwoAddressInstructionPass`). A tied use becomes the register
+/// and index that the instruction defines, behind a copy where it isn't that already; where another
+/// operand reads the defined register, a fresh one stands in for it, with a copy behind. REG_SEQUENCE
+/// and INSERT_SUBREG become copies of parts. Before an `undef` definition all of its register is made
+/// undefined; a copy of an `undef` operand becomes an IMPLICIT_DEF; any other `undef` use of a virtual
+/// register that isn't tied becomes one of the first unreserved register of its class. Ids are given anew.
+///
+/// The answer has at most 8 times the bulk. A function whose bulk is more than 2^27 is answered as it is.
+pub fn lower_tied(alloc: Global, target: &Target, f: NoPhi) -> Result<Func, AllocError>
+    ensures value { bulk f.func ≤ 2 ^ 27 → IfOk result (λ g. g ≡ ties_lowered target.now f.func) }
+    ensures bulk { IfOk result (λ g. bulk g ≤ 8 * bulk f.func) }
+{
+    let f = f.func;
+    if bulk_of(&f) > MOST {
+        return Ok(f);
+    }
+    lowered(alloc, target, f)
+}
+
+/// The function in lowered form, where its bulk is at most 2^27.
+fn lowered(alloc: Global, target: &Target, f: Func) -> Result<Func, AllocError>
+    requires { bulk f ≤ 2 ^ 27 }
+    ensures value { IfOk result (λ g. g ≡ ties_lowered target.now f) }
+    ensures bulk { IfOk result (λ g. bulk g ≤ 8 * bulk f) }
+{
+    let Func {
+        name,
+        head,
+        mut classes,
+        frames,
+        mut blocks,
+        ..
+    } = f;
+    let made = lower_blocks(alloc, target, classes.as_slice(), &mut blocks)?;
+    classes.extend(made.as_slice())?;
+    let next_id = number_blocks(&mut blocks);
+    Ok(Func {
+        name,
+        head,
+        classes,
+        frames,
+        blocks,
+        next_id,
+    })
+}
+
+/// Lowers all blocks, and answers the classes of the registers that were needed.
+fn lower_blocks(
+    alloc: Global,
+    target: &Target,
+    classes: &[Option<ClassId>],
+    blocks: &mut Blocks,
+) -> Result<Vec<Option<ClassId>>, AllocError>
+    requires { length classes.now + instr_count blocks.old < 2 ^ 32 }
+    ensures blocks { OnOk result (blocks.new ≡ blocks_lowered target.now classes.now (length classes.now) blocks.old) }
+    ensures classes { IfOk result (λ made. made.items ≡ classes_made target.now classes.now (length classes.now) (all_instrs blocks.old)) }
+{
+    let mut made = Vec::new(alloc);
+    'layout: for k in 0..blocks.len() {
+        lower_block(alloc, target, classes, &mut made, blocks.get_mut(k))?;
+    }
+    Ok(made)
+}
+
+/// Lowers a block; the classes of the registers that are needed stand behind those `made` before.
+fn lower_block(
+    alloc: Global,
+    target: &Target,
+    classes: &[Option<ClassId>],
+    made: &mut Vec<Option<ClassId>>,
+    block: &mut Block,
+) -> Result<(), AllocError>
+    requires { length classes.now + length made.old.items + length block.old.instrs < 2 ^ 32 }
+    ensures block { OnOk result (block.new ≡ record block.old { instrs = instrs_lowered target.now classes.now (length classes.now + length made.old.items) block.old.instrs }) }
+    ensures classes { OnOk result (made.new.items ≡ made.old.items ++ classes_made target.now classes.now (length classes.now + length made.old.items) block.old.instrs) }
+{
+    let out = lower_instrs(alloc, target, classes, made, block.instrs.as_slice())?;
+    block.instrs = List::from_vec(out);
+    Ok(())
+}
+
+/// What becomes of instructions; the classes of the registers that are needed stand behind those
+/// `made` before.
+fn lower_instrs(
+    alloc: Global,
+    target: &Target,
+    classes: &[Option<ClassId>],
+    made: &mut Vec<Option<ClassId>>,
+    instrs: &[Instr],
+) -> Result<Vec<Instr>, AllocError>
+    requires { length classes.now + length made.old.items + length instrs.now < 2 ^ 32 }
+    ensures instrs { IfOk result (λ out. out.items ≡ instrs_lowered target.now classes.now (length classes.now + length made.old.items) instrs.now) }
+    ensures classes { OnOk result (made.new.items ≡ made.old.items ++ classes_made target.now classes.now (length classes.now + length made.old.items) instrs.now) }
+{
+    let mut out = Vec::new(alloc);
+    'each: for i in instrs {
+        push_instr(alloc, target, classes, made, i, &mut out)?;
+    }
+    Ok(out)
+}
+
+/// Puts what becomes of an instruction behind the others.
+fn push_instr(
+    alloc: Global,
+    target: &Target,
+    classes: &[Option<ClassId>],
+    made: &mut Vec<Option<ClassId>>,
+    i: &Instr,
+    out: &mut Vec<Instr>,
+) -> Result<(), AllocError>
+    requires { length classes.now + length made.old.items + 1 < 2 ^ 32 }
+    ensures out { OnOk result (out.new.items ≡ out.old.items ++ instr_lowered target.now classes.now (length classes.now + length made.old.items) i.now) }
+    ensures classes { OnOk result (made.new.items ≡ made.old.items ++ instr_class target.now classes.now (length classes.now + length made.old.items) i.now) }
+{
+    let c = (classes.len() + made.len()) as u32;
+    push_undefined(alloc, definition_of(i.operands.as_slice()), out)?;
+    push_form(alloc, target, classes, c, form_of(target, i), i, made, out)
+}
+
+/// Puts what becomes of an instruction of a form behind the others; `c` is the next range number.
+fn push_form(
+    alloc: Global,
+    target: &Target,
+    classes: &[Option<ClassId>],
+    c: u32,
+    form: Form,
+    i: &Instr,
+    made: &mut Vec<Option<ClassId>>,
+    out: &mut Vec<Instr>,
+) -> Result<(), AllocError>
+    ensures out { OnOk result (out.new.items ≡ out.old.items ++ form_lowered target.now classes.now c i.now form) }
+    ensures classes { OnOk result (made.new.items ≡ made.old.items ++ form_class target.now classes.now c i.now form) }
+{
+    match form {
+        Form::Copy(d, s) => push_copy(alloc, i, d, s, out),
+        Form::Sequence(v) => push_sequence(alloc, target, classes, c, v, i, made, out),
+        Form::Insertion(v, a, p) => {
+            push_class_if(
+                made,
+                is_input(v, &[p]),
+                located_class(classes, Loc::Virtual(v)),
+            )?;
+            let mut instrs = insertion_lowered(alloc, c, i, v, a, p)?;
+            out.append(&mut instrs)?;
+            Ok(())
+        }
+        Form::Other => {
+            let tie = tie_in(target, c, i);
+            push_class_aside(made, tie.aside, first_role_class(roles_of(target, i)))?;
+            push_tied(alloc, target, classes, tie, i, out)
+        }
+    }
+}
+
+/// Puts what becomes of a copy behind the others.
+fn push_copy(
+    alloc: Global,
+    i: &Instr,
+    d: RegOp,
+    s: RegOp,
+    out: &mut Vec<Instr>,
+) -> Result<(), AllocError>
+    ensures { OnOk result (out.new.items ≡ out.old.items ++ copy_lowered i.now d s ∷ []) }
+{
+    out.push(copy_lowered(alloc, i, d, s)?)?;
+    Ok(())
+}
+
+/// Puts what becomes of a REG_SEQUENCE into register `v` behind the others.
+fn push_sequence(
+    alloc: Global,
+    target: &Target,
+    classes: &[Option<ClassId>],
+    c: u32,
+    v: u32,
+    i: &Instr,
+    made: &mut Vec<Option<ClassId>>,
+    out: &mut Vec<Instr>,
+) -> Result<(), AllocError>
+    ensures out { OnOk result (out.new.items ≡ out.old.items ++ sequence_lowered target.now classes.now c i.now v (parts_of (drop 1 i.now.operands))) }
+    ensures classes { OnOk result (made.new.items ≡ made.old.items ++ class_if (is_input (locs.Virtual v) (parts_of (drop 1 i.now.operands))) (located_class classes.now (locs.Virtual v))) }
+{
+    let operands = i.operands.as_slice();
+    let parts = parts_of(alloc, &operands[operands.len().min(1)..])?;
+    push_class_if(
+        made,
+        is_input(v, parts.as_slice()),
+        located_class(classes, Loc::Virtual(v)),
+    )?;
+    let mut instrs = sequence_lowered(alloc, target, classes, c, i, v, parts.as_slice())?;
+    out.append(&mut instrs)?;
+    Ok(())
+}
+
+/// Puts a class behind the others, where it is asked for.
+fn push_class_if(
+    made: &mut Vec<Option<ClassId>>,
+    asked: bool,
+    class: Option<ClassId>,
+) -> Result<(), AllocError>
+    ensures { OnOk result (made.new.items ≡ made.old.items ++ class_if asked class) }
+{
+    if asked {
+        made.push(class)?;
+    }
+    Ok(())
+}
+
+/// Puts the class of a register that stands in behind the others, where one does.
+fn push_class_aside(
+    made: &mut Vec<Option<ClassId>>,
+    aside: Option<u32>,
+    class: Option<ClassId>,
+) -> Result<(), AllocError>
+    ensures { OnOk result (made.new.items ≡ made.old.items ++ class_aside aside class) }
+{
+    push_class_if(made, aside.is_some(), class)
+}
