@@ -66,7 +66,7 @@ impl Rows {
     }
 
     /// Up to where the lane is live in a live piece.
-    fn end_of(
+    pub fn end_of(
         &self,
         order: &Order,
         flow: &[Ways],

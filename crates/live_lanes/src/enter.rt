@@ -10,7 +10,7 @@ use std::alloc::{AllocError, Global};
 use target_base::{ClassId, Target};
 
 /// The number of lanes of a class.
-fn lane_count(target: &Target, class: ClassId) -> u32 {
+pub(crate) fn lane_count(target: &Target, class: ClassId) -> u32 {
     let Some(desc) = target.classes.as_slice().get(class.0 as usize) else {
         return 0;
     };
@@ -24,7 +24,7 @@ fn lane_count(target: &Target, class: ClassId) -> u32 {
 }
 
 /// The slot that operands name.
-fn slot_of(operands: &[Operand]) -> Option<u32> {
+pub(crate) fn slot_of(operands: &[Operand]) -> Option<u32> {
     'operands: for operand in operands {
         if let Operand::Stack(slot) = operand {
             return Some(*slot);

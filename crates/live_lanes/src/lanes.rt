@@ -66,6 +66,11 @@ impl LaneTable {
         self.owners.len()
     }
 
+    /// Whose lane a number is.
+    pub fn owner(&self, lane: u32) -> Option<Owner> {
+        self.owners.get(lane as usize).copied()
+    }
+
     /// The lanes of a range; none where there is no such range.
     pub fn of_range(&self, v: u32) -> Lanes {
         self.ranges.get(v as usize).copied().unwrap_or(NO_LANES)
@@ -99,6 +104,13 @@ impl LaneTable {
         }
         self.ranges.push(Lanes { first, count })?;
         Ok(())
+    }
+
+    /// Takes the numbers of the last range away.
+    pub fn drop_range(&mut self) {
+        if let Some(own) = self.ranges.pop() {
+            self.owners.truncate(own.first as usize);
+        }
     }
 
     /// Numbers the lanes of a slot where it has no numbers yet.

@@ -2,10 +2,18 @@
 //! of a spill slot, the stretches of points at which it is live or written.
 #![tactic(auto)]
 
+mod acts;
+mod cell_edit;
+mod edit_log;
+mod edit_update;
+pub mod edits;
 mod effects;
 mod ends;
 mod enter;
+pub mod extent;
 mod flow;
+pub mod fold;
+mod fresh;
 mod grow;
 pub mod labels;
 mod lanes;
@@ -14,7 +22,11 @@ pub mod live;
 mod order;
 mod points;
 mod row;
+mod spread;
 mod table;
+mod touch;
 
+pub use edits::{Changes, Edit};
+pub use extent::{Extent, Mended, Stretch};
 pub use labels::{Labels, Mark, Spot};
 pub use live::LiveFunc;

@@ -12,8 +12,8 @@ use target_base::{Target, Unit};
 /// A function, a copy of its target, and exactly where each lane is live and written.
 #[derive(Drop)]
 pub struct LiveFunc {
-    target: Target,
-    func: Func,
+    pub(crate) target: Target,
+    pub(crate) func: Func,
     pub(crate) table: Table,
 }
 

@@ -59,7 +59,12 @@ impl Order {
     }
 
     /// Adds an instruction behind another or first. An id that is there already isn't added.
-    fn add_instr(&mut self, id: u32, position: u32, after: Option<u32>) -> Result<(), AllocError> {
+    pub fn add_instr(
+        &mut self,
+        id: u32,
+        position: u32,
+        after: Option<u32>,
+    ) -> Result<(), AllocError> {
         if self.slots.is_present(id) {
             return Ok(());
         }

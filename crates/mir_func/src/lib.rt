@@ -1,6 +1,7 @@
 //! Functions of machine instructions, and their edits.
 #![tactic(auto)]
 
+mod at;
 pub mod func;
 pub mod short;
 

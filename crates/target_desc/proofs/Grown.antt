@@ -41,20 +41,20 @@ get_kept (x ∷ xs) ys (suc k) h = get_kept xs ys k (omega arith)
 pub below_more : (n m k : ℕ) → n ≤ m → nat_lt k n ≡ true → nat_lt k m ≡ true
 below_more n m k h e = let a = ltb-true k n e in lt-ltb k m (omega arith)
 
-eq_sym : (x y : ℕ) → (x == y) ≡ (y == x)
+pub eq_sym : (x y : ℕ) → (x == y) ≡ (y == x)
 eq_sym x y = by (x == y) refl
   where
     by : (b : Bool) → (x == y) ≡ b → (x == y) ≡ (y == x)
     by true e = e ∙ sym (eq-eqb y x (sym (eqb-true x y e)))
     by false e = e ∙ sym (ne_eqb y x (λ g. eqb-false x y e (sym g)))
 
-same_sym : (xs ys : List ℕ) → same_numbers xs ys ≡ same_numbers ys xs
+pub same_sym : (xs ys : List ℕ) → same_numbers xs ys ≡ same_numbers ys xs
 same_sym [] [] = refl
 same_sym [] (y ∷ ys) = refl
 same_sym (x ∷ xs) [] = refl
 same_sym (x ∷ xs) (y ∷ ys) = λ i. eq_sym x y i && same_sym xs ys i
 
-neither : (a b : Bool) → (a || b) ≡ false → (a ≡ false) × (b ≡ false)
+pub neither : (a b : Bool) → (a || b) ≡ false → (a ≡ false) × (b ≡ false)
 neither true b h = absurd (cc)
 neither false b h = (refl, h)
 

@@ -14,3 +14,10 @@ pub mod Ended
 pub mod Lined
 pub mod FirstFault
 pub mod MiniSpelled
+pub mod Spaced
+pub mod Digits
+pub mod NamedBack
+pub mod RolesBack
+pub mod ReservedBack
+pub mod LinesStand
+pub mod PrintedSpelled

@@ -10,6 +10,8 @@ use Rattle.target_desc.specs.Drafts.{empty_draft}
 use Rattle.target_desc.specs.Ending.{Parts, parts_of, ended}
 use Rattle.target_desc.specs.Reading.{line_after, spelled}
 use Rattle.target_desc.specs.MiniText.{mini_text}
+use Rattle.target_base.specs.declared.types.Target.{Target}
+use Rattle.target_desc.specs.Printed.{target_text}
 
 -- each of these lines stands after those before it, and together they lead from the first draft to the second
 abbrev pub Lead : Draft → List (List ℕ) → Draft → Type 0
@@ -47,3 +49,7 @@ SpellsOrFails =
 
 abbrev pub MiniIsSpelled : Type 0
 MiniIsSpelled = spelled mini_text ≡ Ok (parts_of mini_target)
+
+-- the printed text of a target spells that target
+abbrev pub PrintedIsSpelled : Type 0
+PrintedIsSpelled = (t : Target) → spelled (target_text (parts_of t)) ≡ Ok (parts_of t)

@@ -11,4 +11,5 @@ pub mod Adding
 pub mod Ending
 pub mod Reading
 pub mod MiniText
+pub mod Printed
 pub mod Laws

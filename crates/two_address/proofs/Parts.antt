@@ -1,5 +1,5 @@
 -- Parts of a sequence, one after the other.
-use Rattle.std.proofs.Common.{◌≡◌, ℕ, zero, suc, ◌+◌, ◌-◌, ◌*◌, ◌/◌, ◌<◌, ◌≤◌, Bool, true, false, ◌&&◌, ◌||◌, List, [], ◌∷◌, ◌++◌, length, get_or, set, take, drop, map, Option, Some, None, refl, ap, sym, ◌∙◌, arith, length-drop, append_assoc, nat_eq}
+use Rattle.std.proofs.Common.{◌≡◌, ℕ, zero, suc, ◌+◌, ◌-◌, ◌*◌, ◌/◌, ◌<◌, ◌≤◌, Bool, true, false, ◌&&◌, ◌||◌, not, List, [], ◌∷◌, ◌++◌, length, get_or, set, take, drop, map, Option, Some, None, refl, ap, sym, ◌∙◌, arith, length-drop, append_assoc, nat_eq}
 use Rattle.std.specs.List.{list_any, list_all, flat_map, range_with_len}
 use Rattle.std.proofs.lemmas.List.{drop_more, map_more, length-map}
 use Rattle.target_base.specs.declared.types.ClassId.{ClassId}
@@ -67,6 +67,20 @@ lane_missing t ps k n total h fails was =
 
 pub lanes_all : (t : Target) (ps : List Part) (k n : ℕ) (total : Bool) → n ≤ k → list_all (has_number (filled_lanes t ps)) (range_with_len k (n - k)) ≡ total → true ≡ total
 lanes_all t ps k n total h was = let e : n - k ≡ 0 = omega arith in rw e at was
+
+not_true : (b : Bool) → not b ≡ true → b ≡ false
+not_true true e = sym e
+not_true false e = refl
+
+not_false : (b : Bool) → not b ≡ false → b ≡ true
+not_false true e = refl
+not_false false e = sym e
+
+pub lane_kept : (t : Target) (ps : List Part) (k n : ℕ) (missing total : Bool) → k < n → missing ≡ not (list_any (λ p. has_number (lanes_of t p.index) k) ps) → missing ≡ false → list_all (has_number (filled_lanes t ps)) (range_with_len k (n - k)) ≡ total → list_all (has_number (filled_lanes t ps)) (range_with_len (k + 1) (n - (k + 1))) ≡ total
+lane_kept t ps k n missing total h is fails was = lane_next t ps k n total h (not_false _ (sym is ∙ fails)) was
+
+pub lane_lost : (t : Target) (ps : List Part) (k n : ℕ) (missing total : Bool) → k < n → missing ≡ not (list_any (λ p. has_number (lanes_of t p.index) k) ps) → missing ≡ true → list_all (has_number (filled_lanes t ps)) (range_with_len k (n - k)) ≡ total → false ≡ total
+lane_lost t ps k n missing total h is holds was = lane_missing t ps k n total h (not_true _ (sym is ∙ holds)) was
 
 pub lane_count : (t : Target) (c : Option ClassId) → length (class_units t.regs (regs_of_some t.classes c)) ≡ length (widths_of_some t c)
 lane_count t None = refl

@@ -1,6 +1,6 @@
 //! REG_SEQUENCE and INSERT_SUBREG as copies of parts.
 
-ghost use Rattle.std.specs.Prelude.{◌≡◌, ◌++◌, OnOk, IfOk, map};
+ghost use Rattle.std.specs.Prelude.{◌≡◌, ◌++◌, OnOk, IfOk, map, not};
 ghost use Rattle.std.specs.List.{list_any};
 ghost use Rattle.std.specs.Option.{option_to_list};
 ghost use Rattle.target_base.specs.Registers.{lanes_of};
@@ -87,6 +87,13 @@ fn is_filled(target: &Target, parts: &[Part], lane: usize) -> bool
         .any(|p| has_number(index_lanes(target, p.index), lane))
 }
 
+/// Whether no part fills the lane.
+fn is_missing(target: &Target, parts: &[Part], lane: usize) -> bool
+    ensures { result ≡ not (list_any (λ p. has_number (lanes_of target.now p.index) lane) parts.now) }
+{
+    !is_filled(target, parts, lane)
+}
+
 /// Whether the parts fill all lanes of a class.
 #[tactic(auto, using(crate::proofs::Parts::pieces))]
 fn fill_all(target: &Target, c: Option<ClassId>, parts: &[Part]) -> bool
@@ -98,7 +105,7 @@ fn fill_all(target: &Target, c: Option<ClassId>, parts: &[Part]) -> bool
     )
     .len();
     'lanes: for lane in 0..lanes {
-        if !is_filled(target, parts, lane) {
+        if is_missing(target, parts, lane) {
             return false;
         }
     }

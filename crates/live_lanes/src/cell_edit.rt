@@ -1,0 +1,245 @@
+//! Changes of a lane's cell, each of which answers the change that takes it back.
+
+ghost use Rattle.std.specs.Prelude.{◌≡◌};
+
+use crate::row::{Cause, Cell, End, Piece, Reading, Row, Segment};
+use std::alloc::AllocError;
+use std::mem;
+
+/// A change of a cell. Its pieces are named by their places, 0 the one that begins with the block.
+#[derive(Drop)]
+pub(crate) enum CellEdit {
+    /// Nothing is changed.
+    Nothing,
+    /// A reading is put at a place among those of a piece.
+    PutReading(usize, usize, Reading),
+    /// The reading at a place among those of a piece goes.
+    CutReading(usize, usize),
+    /// The reading at a place among those of a piece is this one.
+    SetReading(usize, usize, Reading),
+    /// A piece begins at this place. Its readings are the last ones of the piece before.
+    Begin(usize, Segment),
+    /// The piece at this place becomes a part of the one before.
+    Join(usize),
+    /// The writing that begins a piece: whether it is early, and the lane that it moves.
+    SetWriting(usize, bool, Option<u32>),
+    /// Why a piece is live.
+    SetCause(usize, Cause),
+    /// Up to where a piece is live.
+    SetEnd(usize, End),
+}
+
+impl Piece {
+    fn put_reading(&mut self, place: usize, reading: Reading) -> Result<(), AllocError> {
+        let at = place.min(self.readings.len());
+        self.readings.insert(at, reading)?;
+        Ok(())
+    }
+
+    fn cut_reading(&mut self, place: usize) -> Option<Reading> {
+        if place >= self.readings.len() {
+            return None;
+        }
+        Some(self.readings.remove(place))
+    }
+
+    fn set_reading(&mut self, place: usize, reading: Reading) -> Option<Reading> {
+        match self.readings.get_mut(place) {
+            Some(there) => Some(mem::replace(there, reading)),
+            None => None,
+        }
+    }
+
+    /// Puts readings behind its own.
+    fn add_readings(&mut self, readings: &[Reading]) -> Result<(), AllocError> {
+        self.readings.extend_from_slice(readings)
+    }
+
+    /// Takes away its last readings, so many.
+    fn cut_last(&mut self, count: usize) {
+        let left = self.readings.len().saturating_sub(count);
+        self.readings.truncate(left);
+    }
+}
+
+impl Cell {
+    fn put_reading(
+        &mut self,
+        index: usize,
+        place: usize,
+        reading: Reading,
+    ) -> Result<CellEdit, AllocError>
+        ensures { self.new.block ≡ self.old.block }
+    {
+        if index == 0 {
+            self.first.put_reading(place, reading)?;
+        } else if index - 1 < self.segments.len() {
+            self.segments[index - 1].piece.put_reading(place, reading)?;
+        } else {
+            return Ok(CellEdit::Nothing);
+        }
+        Ok(CellEdit::CutReading(index, place))
+    }
+
+    fn cut_reading(&mut self, index: usize, place: usize) -> CellEdit
+        ensures { self.new.block ≡ self.old.block }
+    {
+        let cut = if index == 0 {
+            self.first.cut_reading(place)
+        } else if index - 1 < self.segments.len() {
+            self.segments[index - 1].piece.cut_reading(place)
+        } else {
+            None
+        };
+        match cut {
+            Some(reading) => CellEdit::PutReading(index, place, reading),
+            None => CellEdit::Nothing,
+        }
+    }
+
+    fn set_reading(&mut self, index: usize, place: usize, reading: Reading) -> CellEdit
+        ensures { self.new.block ≡ self.old.block }
+    {
+        let old = if index == 0 {
+            self.first.set_reading(place, reading)
+        } else if index - 1 < self.segments.len() {
+            self.segments[index - 1].piece.set_reading(place, reading)
+        } else {
+            None
+        };
+        match old {
+            Some(reading) => CellEdit::SetReading(index, place, reading),
+            None => CellEdit::Nothing,
+        }
+    }
+
+    /// Takes the last readings of a piece away, so many.
+    fn cut_last(&mut self, index: usize, count: usize)
+        ensures { self.new.block ≡ self.old.block }
+    {
+        if index == 0 {
+            self.first.cut_last(count);
+        } else if index - 1 < self.segments.len() {
+            self.segments[index - 1].piece.cut_last(count);
+        }
+    }
+
+    /// Puts readings behind those of a piece.
+    fn add_readings(&mut self, index: usize, readings: &[Reading]) -> Result<(), AllocError>
+        ensures { self.new.block ≡ self.old.block }
+    {
+        if index == 0 {
+            self.first.add_readings(readings)?;
+        } else if index - 1 < self.segments.len() {
+            self.segments[index - 1].piece.add_readings(readings)?;
+        }
+        Ok(())
+    }
+
+    fn begin(&mut self, index: usize, segment: Segment) -> Result<CellEdit, AllocError>
+        ensures { self.new.block ≡ self.old.block }
+    {
+        if index == 0 || index - 1 > self.segments.len() {
+            return Ok(CellEdit::Nothing);
+        }
+        let count = segment.piece.readings.len();
+        self.segments.insert(index - 1, segment)?;
+        self.cut_last(index - 1, count);
+        Ok(CellEdit::Join(index))
+    }
+
+    fn join(&mut self, index: usize) -> Result<CellEdit, AllocError>
+        ensures { self.new.block ≡ self.old.block }
+    {
+        if index == 0 || index > self.segments.len() {
+            return Ok(CellEdit::Nothing);
+        }
+        let segment = self.segments.remove(index - 1);
+        match self.add_readings(index - 1, segment.piece.readings.as_slice()) {
+            Ok(()) => Ok(CellEdit::Begin(index, segment)),
+            Err(e) => {
+                let at = (index - 1).min(self.segments.len());
+                let _ = self.segments.insert(at, segment);
+                Err(e)
+            }
+        }
+    }
+
+    fn set_writing(&mut self, index: usize, early: bool, from: Option<u32>) -> CellEdit
+        ensures { self.new.block ≡ self.old.block }
+    {
+        if index == 0 || index > self.segments.len() {
+            return CellEdit::Nothing;
+        }
+        let old_early = mem::replace(&mut self.segments[index - 1].early, early);
+        let old_from = mem::replace(&mut self.segments[index - 1].from, from);
+        CellEdit::SetWriting(index, old_early, old_from)
+    }
+
+    /// Why a piece is live.
+    pub fn cause_of(&self, index: usize) -> Cause {
+        match self.piece(index) {
+            Some(piece) => piece.cause,
+            None => Cause::None,
+        }
+    }
+
+    /// Up to where a piece is live.
+    pub fn end_of(&self, index: usize) -> End {
+        match self.piece(index) {
+            Some(piece) => piece.end,
+            None => End::Never,
+        }
+    }
+
+    /// The instruction that begins a piece; none for the one that begins with the block.
+    pub fn start_of(&self, index: usize) -> Option<u32> {
+        if index == 0 {
+            return None;
+        }
+        match self.segments.get(index - 1) {
+            Some(segment) => Some(segment.start),
+            None => None,
+        }
+    }
+
+    /// Does a change, and answers the one that takes it back. After a refusal the cell is unchanged.
+    pub fn edit(&mut self, edit: CellEdit) -> Result<CellEdit, AllocError>
+        ensures { self.new.block ≡ self.old.block }
+    {
+        Ok(match edit {
+            CellEdit::Nothing => CellEdit::Nothing,
+            CellEdit::PutReading(index, place, reading) => {
+                self.put_reading(index, place, reading)?
+            }
+            CellEdit::CutReading(index, place) => self.cut_reading(index, place),
+            CellEdit::SetReading(index, place, reading) => {
+                self.set_reading(index, place, reading)
+            }
+            CellEdit::Begin(index, segment) => self.begin(index, segment)?,
+            CellEdit::Join(index) => self.join(index)?,
+            CellEdit::SetWriting(index, early, from) => self.set_writing(index, early, from),
+            CellEdit::SetCause(index, cause) => {
+                let old = self.cause_of(index);
+                self.set_cause(index, cause);
+                CellEdit::SetCause(index, old)
+            }
+            CellEdit::SetEnd(index, end) => {
+                let old = self.end_of(index);
+                self.set_end(index, end);
+                CellEdit::SetEnd(index, old)
+            }
+        })
+    }
+}
+
+impl Row {
+    /// Does a change of the cell at a place, and answers the one that takes it back. After a
+    /// refusal the cell is unchanged.
+    pub fn edit(&mut self, place: usize, edit: CellEdit) -> Result<CellEdit, AllocError> {
+        if place >= self.cells.len() {
+            return Ok(CellEdit::Nothing);
+        }
+        self.cells[place].edit(edit)
+    }
+}

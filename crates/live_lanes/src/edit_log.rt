@@ -1,0 +1,251 @@
+//! What edits changed, and what takes it back.
+
+use crate::cell_edit::CellEdit;
+use crate::row::{Cause, End};
+use crate::table::{Spot, Table};
+use mir_func::{Func, Op, Operands};
+use std::alloc::{AllocError, Global};
+use std::mem;
+
+/// A piece that was changed, or came or went.
+#[derive(Clone, Copy, PartialEq, Eq)]
+pub struct Mended {
+    /// The lane.
+    pub lane: u32,
+    /// The block's position in the layout.
+    pub block: u32,
+    /// The instruction that begins the piece; none for the one that begins with the block.
+    pub start: Option<u32>,
+}
+
+/// What takes a change back.
+#[derive(Drop)]
+enum Undo {
+    /// A piece's cell was changed.
+    Cell(Mended, CellEdit),
+    /// An instruction came to the block at a position.
+    Put(u32, u32),
+    /// An instruction of the block at a position had this opcode and these operands.
+    Replaced(u32, u32, Op, Operands),
+    /// An instruction of the block at a position is to go.
+    Erased(u32, u32),
+    /// It was taken back.
+    Done(Option<Mended>),
+}
+
+/// The changes that edits made, in order.
+#[derive(Drop)]
+pub(crate) struct Log {
+    entries: Vec<Undo>,
+}
+
+impl Log {
+    pub fn new(alloc: Global) -> Log {
+        Log {
+            entries: Vec::new(alloc),
+        }
+    }
+
+    /// Makes room for one more entry.
+    pub fn reserve(&mut self) -> Result<(), AllocError> {
+        self.entries.reserve(1)
+    }
+
+    fn add(&mut self, entry: Undo) -> Result<(), AllocError> {
+        self.entries.push(entry)?;
+        Ok(())
+    }
+
+    pub fn add_cell(&mut self, mended: Mended, back: CellEdit) -> Result<(), AllocError> {
+        self.add(Undo::Cell(mended, back))
+    }
+
+    pub fn add_put(&mut self, block: u32, id: u32) -> Result<(), AllocError> {
+        self.add(Undo::Put(block, id))
+    }
+
+    pub fn add_erased(&mut self, block: u32, id: u32) -> Result<(), AllocError> {
+        self.add(Undo::Erased(block, id))
+    }
+
+    pub fn add_replaced(
+        &mut self,
+        block: u32,
+        id: u32,
+        op: Op,
+        operands: Operands,
+    ) -> Result<(), AllocError> {
+        self.add(Undo::Replaced(block, id, op, operands))
+    }
+
+    /// The number of entries.
+    pub fn len(&self) -> usize {
+        self.entries.len()
+    }
+
+    /// The piece that an entry speaks of.
+    pub fn mended(&self, k: usize) -> Option<Mended> {
+        match self.entries.get(k) {
+            Some(Undo::Cell(mended, _)) => Some(*mended),
+            Some(Undo::Done(mended)) => *mended,
+            _ => None,
+        }
+    }
+
+    /// The instruction that an entry says is to go, and the position of its block.
+    fn erased(&self, k: usize) -> Option<(u32, u32)> {
+        match self.entries.get(k) {
+            Some(Undo::Erased(block, id)) => Some((*block, *id)),
+            _ => None,
+        }
+    }
+
+    /// Takes out what takes the change of an entry back.
+    fn take(&mut self, k: usize) -> Undo {
+        let mended = self.mended(k);
+        match self.entries.get_mut(k) {
+            Some(entry) => mem::replace(entry, Undo::Done(mended)),
+            None => Undo::Done(None),
+        }
+    }
+}
+
+impl Table {
+    /// Does a change of a lane's cell in a block, and notes what takes it back. The piece that it
+    /// speaks of begins with this instruction, or with the block.
+    pub fn edit_cell(
+        &mut self,
+        mended: Mended,
+        edit: CellEdit,
+        log: &mut Log,
+    ) -> Result<(), AllocError> {
+        log.reserve()?;
+        let back = self.change_cell(mended, edit)?;
+        log.add_cell(mended, back)
+    }
+
+    fn change_cell(&mut self, mended: Mended, edit: CellEdit) -> Result<CellEdit, AllocError> {
+        let alloc = self.rows.alloc;
+        let Some(row) = self.rows.rows.get_mut(mended.lane as usize) else {
+            return Ok(CellEdit::Nothing);
+        };
+        let place = row.make(alloc, mended.block)?;
+        row.edit(place, edit)
+    }
+
+    /// The instruction that begins a piece; none for one that begins with its block.
+    pub fn start_of(&self, spot: Spot) -> Option<u32> {
+        match self.rows.cell(spot.lane, spot.block) {
+            Some(cell) => cell.start_of(spot.index),
+            None => None,
+        }
+    }
+
+    fn mended_at(&self, spot: Spot) -> Mended {
+        Mended {
+            lane: spot.lane,
+            block: spot.block,
+            start: self.start_of(spot),
+        }
+    }
+
+    /// Gives a piece a cause, where it has another.
+    pub fn set_cause(&mut self, spot: Spot, cause: Cause, log: &mut Log) -> Result<(), AllocError> {
+        if self.cause_of(spot) == cause {
+            return Ok(());
+        }
+        let mended = self.mended_at(spot);
+        self.edit_cell(mended, CellEdit::SetCause(spot.index, cause), log)
+    }
+
+    /// Gives a piece an end, where it has another.
+    pub fn set_end(&mut self, spot: Spot, end: End, log: &mut Log) -> Result<(), AllocError> {
+        if self.end_of(spot) == end {
+            return Ok(());
+        }
+        let mended = self.mended_at(spot);
+        self.edit_cell(mended, CellEdit::SetEnd(spot.index, end), log)
+    }
+
+    /// Why a piece is live.
+    pub fn cause_of(&self, spot: Spot) -> Cause {
+        match self.rows.cell(spot.lane, spot.block) {
+            Some(cell) => cell.cause_of(spot.index),
+            None => Cause::None,
+        }
+    }
+
+    fn end_of(&self, spot: Spot) -> End {
+        match self.rows.cell(spot.lane, spot.block) {
+            Some(cell) => cell.end_of(spot.index),
+            None => End::Never,
+        }
+    }
+
+    /// The place of an instruction among those of the block at a position.
+    pub fn place_in(&self, func: &Func, block: u32, id: u32) -> usize {
+        match func.blocks.as_slice().get(block as usize) {
+            Some(here) => self.order.place(here.instrs.as_slice(), id),
+            None => 0,
+        }
+    }
+
+    /// Whether the instruction at a place of the block at a position has an id.
+    pub fn stands_at(&self, func: &Func, block: u32, place: usize, id: u32) -> bool {
+        match func.instr_at(block as usize, place) {
+            Some(instr) => instr.id == id,
+            None => false,
+        }
+    }
+
+    /// Takes an id out of the order of instructions.
+    fn forget(&mut self, id: u32) {
+        if self.order.slots.is_present(id) {
+            self.order.slots.remove(id);
+        }
+    }
+
+    /// Takes all changes of a log back, the last one first.
+    pub fn take_back(&mut self, func: &mut Func, log: &mut Log) {
+        'entries: for k in (0..log.len()).rev() {
+            let entry = log.take(k);
+            self.take_back_one(func, entry);
+        }
+    }
+
+    fn take_back_one(&mut self, func: &mut Func, entry: Undo) {
+        match entry {
+            Undo::Cell(mended, back) => {
+                let _ = self.change_cell(mended, back);
+            }
+            Undo::Put(block, id) => {
+                let place = self.place_in(func, block, id);
+                if self.stands_at(func, block, place, id) {
+                    func.retract_at(block as usize, place);
+                }
+                self.forget(id);
+            }
+            Undo::Replaced(block, id, op, operands) => {
+                let place = self.place_in(func, block, id);
+                if self.stands_at(func, block, place, id) {
+                    let _ = func.change_at(block as usize, place, op, operands);
+                }
+            }
+            Undo::Erased(_, _) => {}
+            Undo::Done(_) => {}
+        }
+    }
+
+    /// Lets the instructions go that a log says are to go.
+    pub fn finish(&mut self, func: &mut Func, log: &Log) {
+        'entries: for k in 0..log.len() {
+            if let Some((block, id)) = log.erased(k) {
+                let place = self.place_in(func, block, id);
+                if self.stands_at(func, block, place, id) {
+                    let _ = func.remove_at(block as usize, place);
+                }
+                self.forget(id);
+            }
+        }
+    }
+}

@@ -1,0 +1,451 @@
+//! Edits of a function, after which exactly the lanes that they reach are looked at again.
+
+use crate::acts::{Act, act_on, acts_of, has_act};
+use crate::cell_edit::CellEdit;
+use crate::edit_log::{Log, Mended};
+use crate::edit_update::Touch;
+use crate::effects::{Reader, Tables};
+use crate::enter::slot_of;
+use crate::live::LiveFunc;
+use crate::row::{Cause, Cell, End, Piece, Reading, Row, Segment, entry_rank};
+use crate::table::Table;
+use mir_func::{Func, Gap, Op, Operand, Operands, RegOp};
+use slot_index::Slots;
+use std::alloc::{AllocError, Global};
+use target_base::{OpId, Target};
+
+/// The opcode COPY of every target.
+const COPY: OpId = OpId(0);
+
+/// An edit of a function.
+#[derive(Drop)]
+pub enum Edit {
+    /// A new instruction, without flags and tail, is put into a gap.
+    Put(Gap, OpId, Operands),
+    /// The instruction of an id gets another opcode and other operands, and keeps flags and tail.
+    Replace(u32, OpId, Operands),
+    /// The instruction of an id goes.
+    Erase(u32),
+}
+
+/// What a list of edits changed, until it is kept or taken back.
+#[derive(Drop)]
+pub struct Changes {
+    pub(crate) log: Log,
+}
+
+/// The instructions that a list of edits changed so far, and what takes this back.
+#[derive(Drop)]
+struct Progress {
+    log: Log,
+    touched: Vec<Touch>,
+}
+
+impl LiveFunc {
+    /// Puts a COPY of a register into a gap, and answers its id.
+    pub fn copy_at(&mut self, gap: Gap, to: RegOp, from: RegOp) -> Result<u32, AllocError> {
+        let mut operands = Operands::new(self.table.rows.alloc);
+        operands.push(Operand::Reg(to))?;
+        operands.push(Operand::Reg(from))?;
+        self.put(gap, COPY, operands)
+    }
+
+    /// Puts a new instruction, without flags and tail, into a gap, and answers its id.
+    pub fn put(&mut self, gap: Gap, op: OpId, operands: Operands) -> Result<u32, AllocError> {
+        let id = self.func.next_id;
+        self.edit_one(Edit::Put(gap, op, operands))?;
+        Ok(id)
+    }
+
+    /// Gives the instruction of an id another opcode and other operands.
+    pub fn replace(&mut self, id: u32, op: OpId, operands: Operands) -> Result<(), AllocError> {
+        self.edit_one(Edit::Replace(id, op, operands))
+    }
+
+    /// Takes the instruction of an id out.
+    pub fn erase(&mut self, id: u32) -> Result<(), AllocError> {
+        self.edit_one(Edit::Erase(id))
+    }
+
+    fn edit_one(&mut self, edit: Edit) -> Result<(), AllocError> {
+        let mut edits = Vec::new(self.table.rows.alloc);
+        edits.push(edit)?;
+        self.edit_all(edits)
+    }
+
+    /// Does edits in order. What is live is brought up to date once, after the last of them. After
+    /// a refusal the function is unchanged.
+    pub fn edit_all(&mut self, edits: Vec<Edit>) -> Result<(), AllocError> {
+        let changes = self.begin_edits(edits)?;
+        self.keep(changes);
+        Ok(())
+    }
+
+    /// Does edits in order, which are then to be kept or taken back. Until then an instruction that
+    /// is to go still stands in the function, but does nothing to lanes. After a refusal the
+    /// function is unchanged.
+    pub fn begin_edits(&mut self, edits: Vec<Edit>) -> Result<Changes, AllocError> {
+        let mut progress = Progress {
+            log: Log::new(self.table.rows.alloc),
+            touched: Vec::new(self.table.rows.alloc),
+        };
+        let outcome = self.try_edits(edits, &mut progress);
+        let Progress { mut log, .. } = progress;
+        match outcome {
+            Ok(()) => Ok(Changes { log }),
+            Err(e) => {
+                self.table.take_back(&mut self.func, &mut log);
+                Err(e)
+            }
+        }
+    }
+
+    /// Keeps what edits changed.
+    pub fn keep(&mut self, changes: Changes) {
+        self.table.finish(&mut self.func, &changes.log);
+    }
+
+    /// Takes back what edits changed. The pieces that they changed can still be asked for.
+    pub fn take_back(&mut self, changes: &mut Changes) {
+        self.table.take_back(&mut self.func, &mut changes.log);
+    }
+
+    fn try_edits(&mut self, edits: Vec<Edit>, progress: &mut Progress) -> Result<(), AllocError> {
+        let tables = Tables::new(self.table.rows.alloc, &self.target)?;
+        'edits: for edit in edits {
+            self.try_edit(&tables, edit, progress)?;
+        }
+        self.table
+            .update(progress.touched.as_slice(), &mut progress.log)
+    }
+
+    fn try_edit(
+        &mut self,
+        tables: &Tables,
+        edit: Edit,
+        progress: &mut Progress,
+    ) -> Result<(), AllocError> {
+        match edit {
+            Edit::Put(gap, op, operands) => self.try_put(tables, gap, op, operands, progress),
+            Edit::Replace(id, op, operands) => {
+                self.try_replace(tables, id, op, operands, progress)
+            }
+            Edit::Erase(id) => self.try_erase(tables, id, progress),
+        }
+    }
+
+    /// What the instruction of an id does to lanes.
+    fn acts(&self, tables: &Tables, id: u32) -> Result<Vec<Act>, AllocError> {
+        let alloc = self.table.rows.alloc;
+        let reader = Reader {
+            alloc,
+            target: &self.target,
+            tables,
+            lanes: &self.table.lanes,
+        };
+        match self.instr(id) {
+            Some(instr) => acts_of(alloc, reader, instr),
+            None => Ok(Vec::new(alloc)),
+        }
+    }
+
+    fn try_put(
+        &mut self,
+        tables: &Tables,
+        gap: Gap,
+        op: OpId,
+        operands: Operands,
+        progress: &mut Progress,
+    ) -> Result<(), AllocError> {
+        let Some(block) = self.table.order.position(gap.block) else {
+            return Ok(());
+        };
+        let id = self.func.next_id;
+        self.table.add_slot(operands.as_slice())?;
+        let place = self.gap_place(block, gap.before);
+        progress.log.reserve()?;
+        self.put_into_order(block, place, id)?;
+        progress.log.add_put(block, id)?;
+        let _ = self.func.insert_at(block as usize, place, op, operands)?;
+        let acts = self.acts(tables, id)?;
+        self.table.change(block, id, &[], acts.as_slice(), progress)
+    }
+
+    /// The place of a gap in the block at a position.
+    fn gap_place(&self, block: u32, before: Option<u32>) -> usize {
+        match before {
+            Some(id) => self.table.place_in(&self.func, block, id),
+            None => self.func.instr_count(block as usize),
+        }
+    }
+
+    /// Puts an id into the order of instructions, where it is to stand at a place of the block at a
+    /// position.
+    fn put_into_order(&mut self, block: u32, place: usize, id: u32) -> Result<(), AllocError> {
+        let before = id_before(&self.func, block, place);
+        let order = &mut self.table.order;
+        let count = (id as usize).saturating_add(1);
+        if order.block_of.len() < count {
+            order.block_of.resize(count, 0)?;
+        }
+        order.add_instr(id, block, before)
+    }
+
+    fn try_replace(
+        &mut self,
+        tables: &Tables,
+        id: u32,
+        op: OpId,
+        operands: Operands,
+        progress: &mut Progress,
+    ) -> Result<(), AllocError> {
+        let block = self.table.order.block_of(id);
+        let place = self.table.place_in(&self.func, block, id);
+        if !self.table.stands_at(&self.func, block, place, id) {
+            return Ok(());
+        }
+        self.table.add_slot(operands.as_slice())?;
+        let old = self.acts(tables, id)?;
+        progress.log.reserve()?;
+        let (old_op, old_operands) = self
+            .func
+            .change_at(block as usize, place, Op::Known(op), operands);
+        progress.log.add_replaced(block, id, old_op, old_operands)?;
+        let new = self.acts(tables, id)?;
+        self.table
+            .change(block, id, old.as_slice(), new.as_slice(), progress)
+    }
+
+    fn try_erase(
+        &mut self,
+        tables: &Tables,
+        id: u32,
+        progress: &mut Progress,
+    ) -> Result<(), AllocError> {
+        let block = self.table.order.block_of(id);
+        let old = self.acts(tables, id)?;
+        self.table.change(block, id, old.as_slice(), &[], progress)?;
+        progress.log.add_erased(block, id)
+    }
+}
+
+/// The instruction that stands in layout before a place of the block at a position.
+fn id_before(func: &Func, block: u32, place: usize) -> Option<u32> {
+    if place > 0 {
+        if let Some(instr) = func.instr_at(block as usize, place - 1) {
+            return Some(instr.id);
+        }
+    }
+    last_id_before(func, block)
+}
+
+/// The last instruction of the blocks before a position.
+fn last_id_before(func: &Func, block: u32) -> Option<u32> {
+    'blocks: for before in func.blocks.as_slice().iter().take(block as usize).rev() {
+        if let Some(instr) = before.instrs.as_slice().last() {
+            return Some(instr.id);
+        }
+    }
+    None
+}
+
+impl Table {
+    /// Numbers the lanes of the slot that operands name.
+    fn add_slot(&mut self, operands: &[Operand]) -> Result<(), AllocError> {
+        match slot_of(operands) {
+            Some(slot) => {
+                self.lanes.add_slot(slot)?;
+                self.add_rows()
+            }
+            None => Ok(()),
+        }
+    }
+
+    /// Makes rows for the lanes that have none yet.
+    pub fn add_rows(&mut self) -> Result<(), AllocError> {
+        let alloc = self.rows.alloc;
+        'lanes: for _ in self.rows.rows.len()..self.lanes.len() {
+            self.rows.rows.push(Row::new(alloc))?;
+        }
+        Ok(())
+    }
+
+    /// Enters what an instruction does to lanes now, in place of what it did.
+    fn change(
+        &mut self,
+        block: u32,
+        id: u32,
+        old: &[Act],
+        new: &[Act],
+        progress: &mut Progress,
+    ) -> Result<(), AllocError> {
+        'old: for act in old {
+            let now = act_on(new, act.lane);
+            if now != *act {
+                self.enter(block, id, &now, progress)?;
+            }
+        }
+        'new: for act in new {
+            if !has_act(old, act.lane) {
+                self.enter(block, id, act, progress)?;
+            }
+        }
+        Ok(())
+    }
+
+    /// Enters what an instruction does to a lane now.
+    fn enter(
+        &mut self,
+        block: u32,
+        id: u32,
+        act: &Act,
+        progress: &mut Progress,
+    ) -> Result<(), AllocError> {
+        progress.touched.push(Touch {
+            lane: act.lane,
+            block,
+            id,
+        })?;
+        let edit = self.reading_edit(block, id, act);
+        self.enter_edit(block, id, act.lane, edit, progress)?;
+        let edit = self.writing_edit(block, id, act)?;
+        self.enter_edit(block, id, act.lane, edit, progress)
+    }
+
+    fn enter_edit(
+        &mut self,
+        block: u32,
+        id: u32,
+        lane: u32,
+        edit: CellEdit,
+        progress: &mut Progress,
+    ) -> Result<(), AllocError> {
+        if let CellEdit::Nothing = edit {
+            return Ok(());
+        }
+        let start = Some(id);
+        self.edit_cell(Mended { lane, block, start }, edit, &mut progress.log)
+    }
+
+    /// What enters an instruction's reading of a lane into its cell.
+    fn reading_edit(&self, block: u32, id: u32, act: &Act) -> CellEdit {
+        let slots = &self.order.slots;
+        match self.rows.cell(act.lane, block) {
+            Some(cell) => reading_edit(slots, cell, id, act.reads),
+            None => match act.reads {
+                Some(reading) => CellEdit::PutReading(0, 0, reading),
+                None => CellEdit::Nothing,
+            },
+        }
+    }
+
+    /// What enters an instruction's writing of a lane into its cell.
+    fn writing_edit(&self, block: u32, id: u32, act: &Act) -> Result<CellEdit, AllocError> {
+        let alloc = self.rows.alloc;
+        let slots = &self.order.slots;
+        match self.rows.cell(act.lane, block) {
+            Some(cell) => writing_edit(alloc, slots, cell, id, act),
+            None => match act.writes {
+                Some(written) => Ok(CellEdit::Begin(
+                    1,
+                    Segment {
+                        start: id,
+                        early: written.early,
+                        from: written.from,
+                        piece: no_piece(alloc),
+                    },
+                )),
+                None => Ok(CellEdit::Nothing),
+            },
+        }
+    }
+}
+
+fn no_piece(alloc: Global) -> Piece {
+    Piece {
+        cause: Cause::None,
+        end: End::Never,
+        readings: Vec::new(alloc),
+    }
+}
+
+/// What makes an instruction's reading this one, or none.
+fn reading_edit(slots: &Slots, cell: &Cell, id: u32, reading: Option<Reading>) -> CellEdit {
+    let index = cell.piece_at(slots, entry_rank(slots, id));
+    let Some(piece) = cell.piece(index) else {
+        return CellEdit::Nothing;
+    };
+    let at = slots.number(id);
+    let place = piece
+        .readings
+        .as_slice()
+        .partition_point(|r| slots.number(r.id) < at);
+    let is_there = match piece.readings.get(place) {
+        Some(r) => r.id == id,
+        None => false,
+    };
+    match (reading, is_there) {
+        (Some(reading), false) => CellEdit::PutReading(index, place, reading),
+        (Some(reading), true) => CellEdit::SetReading(index, place, reading),
+        (None, true) => CellEdit::CutReading(index, place),
+        (None, false) => CellEdit::Nothing,
+    }
+}
+
+/// What makes an instruction's writing this one, or none.
+fn writing_edit(
+    alloc: Global,
+    slots: &Slots,
+    cell: &Cell,
+    id: u32,
+    act: &Act,
+) -> Result<CellEdit, AllocError> {
+    let at = slots.number(id);
+    let place = cell
+        .segments
+        .as_slice()
+        .partition_point(|s| slots.number(s.start) < at);
+    let is_there = match cell.segments.get(place) {
+        Some(s) => s.start == id,
+        None => false,
+    };
+    let index = place.saturating_add(1);
+    Ok(match (act.writes, is_there) {
+        (Some(written), false) => CellEdit::Begin(
+            index,
+            Segment {
+                start: id,
+                early: written.early,
+                from: written.from,
+                piece: Piece {
+                    cause: Cause::None,
+                    end: End::Never,
+                    readings: readings_behind(alloc, slots, cell, place, id)?,
+                },
+            },
+        ),
+        (Some(written), true) => CellEdit::SetWriting(index, written.early, written.from),
+        (None, true) => CellEdit::Join(index),
+        (None, false) => CellEdit::Nothing,
+    })
+}
+
+/// The readings of a piece that stand behind an instruction.
+fn readings_behind(
+    alloc: Global,
+    slots: &Slots,
+    cell: &Cell,
+    index: usize,
+    id: u32,
+) -> Result<Vec<Reading>, AllocError> {
+    let Some(piece) = cell.piece(index) else {
+        return Ok(Vec::new(alloc));
+    };
+    let at = slots.number(id);
+    let readings = piece.readings.as_slice();
+    let low = readings.partition_point(|r| slots.number(r.id) <= at);
+    match readings.get(low..) {
+        Some(behind) => Vec::from_slice(alloc, behind),
+        None => Ok(Vec::new(alloc)),
+    }
+}

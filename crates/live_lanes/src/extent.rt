@@ -1,0 +1,202 @@
+//! The points at which a lane is live or occupied, block by block, for the matrix of assigned
+//! ranges.
+
+pub use crate::edit_log::Mended;
+use crate::edits::Changes;
+use crate::lanes::Owner;
+use crate::live::LiveFunc;
+use crate::row::{Cell, End, entry_rank, exit_rank, rank};
+use slot_index::Slots;
+
+/// Points of a block in a row, by numbers that rise along it: the first and the last.
+#[derive(Clone, Copy, PartialEq, Eq)]
+pub struct Stretch {
+    /// The number of the first point.
+    pub first: u128,
+    /// The number of the last point.
+    pub last: u128,
+}
+
+/// Points of a block in a row, by the instructions at their ends, so that they stay right when
+/// instructions come and go in between.
+#[derive(Clone, Copy, PartialEq, Eq)]
+pub struct Extent {
+    /// The instruction that writes the lane; none where the points begin with the block.
+    pub start: Option<u32>,
+    early: bool,
+    end: End,
+}
+
+impl Extent {
+    /// The number of its first point.
+    pub fn first(&self, slots: &Slots) -> u128 {
+        match self.start {
+            None => 0,
+            Some(id) if self.early => entry_rank(slots, id),
+            Some(id) => exit_rank(slots, id),
+        }
+    }
+
+    /// The number of its last point.
+    pub fn last(&self, slots: &Slots) -> u128 {
+        let last = rank(slots, self.end);
+        match self.start {
+            None => last,
+            Some(id) => last.max(exit_rank(slots, id)),
+        }
+    }
+
+    /// Its points.
+    pub fn stretch(&self, slots: &Slots) -> Stretch {
+        Stretch {
+            first: self.first(slots),
+            last: self.last(slots),
+        }
+    }
+}
+
+/// The points of a piece of a cell, if it has any.
+fn extent_of(cell: &Cell, index: usize) -> Option<Extent> {
+    if index == 0 {
+        if cell.first.end == End::Never {
+            return None;
+        }
+        return Some(Extent {
+            start: None,
+            early: false,
+            end: cell.first.end,
+        });
+    }
+    let segment = cell.segments.get(index - 1)?;
+    Some(Extent {
+        start: Some(segment.start),
+        early: segment.early,
+        end: segment.piece.end,
+    })
+}
+
+/// The number of pieces of a cell that begin at or before a point.
+fn begun_by(slots: &Slots, cell: &Cell, at: u128) -> usize {
+    cell.segments.as_slice().partition_point(|s| {
+        let first = if s.early {
+            entry_rank(slots, s.start)
+        } else {
+            exit_rank(slots, s.start)
+        };
+        first <= at
+    })
+}
+
+/// Whether a cell has a point in a stretch.
+fn meets(slots: &Slots, cell: &Cell, at: Stretch) -> bool {
+    match extent_of(cell, begun_by(slots, cell, at.last)) {
+        Some(extent) => extent.last(slots) >= at.first,
+        None => false,
+    }
+}
+
+/// The place of the piece of a cell that an instruction begins, or that begins with the block.
+fn index_from(slots: &Slots, cell: &Cell, start: Option<u32>) -> Option<usize> {
+    let Some(id) = start else {
+        return Some(0);
+    };
+    let at = slots.number(id);
+    let place = cell
+        .segments
+        .as_slice()
+        .partition_point(|s| slots.number(s.start) < at);
+    let segment = cell.segments.get(place)?;
+    if segment.start == id {
+        place.checked_add(1)
+    } else {
+        None
+    }
+}
+
+impl LiveFunc {
+    /// The order of the instructions.
+    pub fn slots(&self) -> &Slots {
+        &self.table.order.slots
+    }
+
+    /// The number of a lane of a range.
+    pub fn lane_of(&self, v: u32, k: usize) -> Option<u32> {
+        match u32::try_from(k) {
+            Ok(k) => self.table.lanes.of_range(v).lane(k),
+            Err(_) => None,
+        }
+    }
+
+    /// The number of lanes of a range.
+    pub fn lane_count(&self, v: u32) -> u32 {
+        self.table.lanes.of_range(v).count
+    }
+
+    /// The range that a lane belongs to, and the number of the lane in it.
+    pub fn range_of(&self, lane: u32) -> Option<(u32, u32)> {
+        match self.table.lanes.owner(lane) {
+            Some(Owner::Range(v, k)) => Some((v, k)),
+            _ => None,
+        }
+    }
+
+    /// The number of blocks in which a lane is named or live.
+    pub fn cell_count(&self, lane: u32) -> usize {
+        self.table.rows.cells(lane).len()
+    }
+
+    /// The position of one of the blocks in which a lane is named or live, the last one first.
+    pub fn cell_block(&self, lane: u32, place: usize) -> Option<u32> {
+        match self.table.rows.cells(lane).get(place) {
+            Some(cell) => Some(cell.block),
+            None => None,
+        }
+    }
+
+    /// The number of pieces of a lane in one of these blocks.
+    pub fn piece_count(&self, lane: u32, place: usize) -> usize {
+        self.table.rows.piece_count(lane, place)
+    }
+
+    /// The points of a piece of a lane in one of these blocks, if it has any.
+    pub fn extent(&self, lane: u32, place: usize, index: usize) -> Option<Extent> {
+        extent_of(self.table.rows.cells(lane).get(place)?, index)
+    }
+
+    /// The points of the piece of a lane that an instruction begins in the block at a position, or
+    /// that begins with the block.
+    pub fn extent_from(&self, lane: u32, block: u32, start: Option<u32>) -> Option<Extent> {
+        let cell = self.table.rows.cell(lane, block)?;
+        extent_of(cell, index_from(self.slots(), cell, start)?)
+    }
+
+    /// Whether a lane is live or occupied at one of these points of the block at a position.
+    pub fn meets(&self, lane: u32, block: u32, at: Stretch) -> bool {
+        match self.table.rows.cell(lane, block) {
+            Some(cell) => meets(self.slots(), cell, at),
+            None => false,
+        }
+    }
+
+    /// The number of the point at the entry of an instruction.
+    pub fn entry_of(&self, id: u32) -> u128 {
+        entry_rank(self.slots(), id)
+    }
+
+    /// The number of the point at the exit of an instruction.
+    pub fn exit_of(&self, id: u32) -> u128 {
+        exit_rank(self.slots(), id)
+    }
+}
+
+impl Changes {
+    /// The number of steps in which the edits changed something.
+    pub fn len(&self) -> usize {
+        self.log.len()
+    }
+
+    /// The piece that a step changed; none where it changed none. A piece may come several times.
+    pub fn mended(&self, k: usize) -> Option<Mended> {
+        self.log.mended(k)
+    }
+}

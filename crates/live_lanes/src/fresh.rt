@@ -1,0 +1,36 @@
+//! New ranges.
+
+use crate::enter::lane_count;
+use crate::live::LiveFunc;
+use std::alloc::AllocError;
+use target_base::ClassId;
+
+/// The number of range numbers that there are.
+const MOST: usize = 1 << 31;
+
+impl LiveFunc {
+    /// The next range number, which no operand names yet, for a class. Where all are given, none is
+    /// made. After a refusal the function is unchanged.
+    pub fn fresh(&mut self, class: ClassId) -> Result<u32, AllocError> {
+        let count = self.func.classes.len();
+        if count >= MOST {
+            return Ok((count & 0xffff_ffff) as u32);
+        }
+        self.table.lanes.add_range(lane_count(&self.target, class))?;
+        match self.make_fresh(class) {
+            Ok(v) => Ok(v),
+            Err(e) => {
+                self.table.lanes.drop_range();
+                Err(e)
+            }
+        }
+    }
+
+    fn make_fresh(&mut self, class: ClassId) -> Result<u32, AllocError> {
+        self.table.add_rows()?;
+        if self.func.classes.len() >= MOST {
+            return Ok(0);
+        }
+        self.func.fresh(class)
+    }
+}

@@ -1,0 +1,191 @@
+//! The instructions of a function by their ids, and those that touch a range.
+
+use crate::flow::successors;
+use crate::lanes::Lanes;
+use crate::live::LiveFunc;
+use crate::row::{Cell, Piece, Reading, Segment, entry_rank};
+use mir_func::Instr;
+use std::alloc::{AllocError, Global};
+
+/// Adds the instructions of a piece's readings.
+fn add_readings(piece: &Piece, ids: &mut Vec<u32>) -> Result<(), AllocError> {
+    'readings: for reading in &piece.readings {
+        ids.push(reading.id)?;
+    }
+    Ok(())
+}
+
+/// Adds the instructions that name a lane in a cell.
+fn add_cell(cell: &Cell, ids: &mut Vec<u32>) -> Result<(), AllocError> {
+    add_readings(&cell.first, ids)?;
+    'segments: for segment in &cell.segments {
+        ids.push(segment.start)?;
+        add_readings(&segment.piece, ids)?;
+    }
+    Ok(())
+}
+
+impl LiveFunc {
+    /// The instructions that touch a range, by their ids, in layout order, each once: those that
+    /// name it in an operand other than an `undef` use.
+    pub fn touched(&self, alloc: Global, v: u32) -> Result<Vec<u32>, AllocError> {
+        let own = self.table.lanes.of_range(v);
+        let mut ids = Vec::new(alloc);
+        'lanes: for k in 0..own.count {
+            self.add_touched(own, k, &mut ids)?;
+        }
+        ids.sort_unstable_by_key(|id| self.table.order.slots.number(*id));
+        ids.dedup();
+        Ok(ids)
+    }
+
+    fn add_touched(&self, own: Lanes, k: u32, ids: &mut Vec<u32>) -> Result<(), AllocError> {
+        let Some(lane) = own.lane(k) else {
+            return Ok(());
+        };
+        'cells: for cell in self.table.rows.cells(lane).iter().rev() {
+            add_cell(cell, ids)?;
+        }
+        Ok(())
+    }
+
+    /// The instruction of an id.
+    pub fn instr(&self, id: u32) -> Option<&Instr> {
+        let block = self.table.order.block_of(id);
+        let place = self.table.place_in(&self.func, block, id);
+        let instr = self.func.instr_at(block as usize, place)?;
+        if instr.id == id { Some(instr) } else { None }
+    }
+
+    /// The position in the layout of the block of an instruction.
+    pub fn position_of(&self, id: u32) -> u32 {
+        self.table.order.block_of(id)
+    }
+
+    /// The place of an instruction among those of its block.
+    pub fn place_of(&self, id: u32) -> usize {
+        self.table
+            .place_in(&self.func, self.table.order.block_of(id), id)
+    }
+
+    /// The position in the layout of the block of that number; of several, that of the first.
+    pub fn block_position(&self, number: u32) -> Option<u32> {
+        self.table.order.position(number)
+    }
+}
+
+impl LiveFunc {
+    /// Whether an instruction reads a lane of a range: whatever is live behind it, or since it moves
+    /// the lane to where it is live.
+    pub fn is_read(&self, v: u32, k: u32, id: u32) -> bool {
+        let Some(lane) = self.table.lanes.of_range(v).lane(k) else {
+            return false;
+        };
+        let block = self.table.order.block_of(id);
+        let Some(cell) = self.table.rows.cell(lane, block) else {
+            return false;
+        };
+        let slots = &self.table.order.slots;
+        match cell.piece(cell.piece_at(slots, entry_rank(slots, id))) {
+            Some(piece) => self.has_reading(piece, block, id),
+            None => false,
+        }
+    }
+
+    fn has_reading(&self, piece: &Piece, block: u32, id: u32) -> bool {
+        let slots = &self.table.order.slots;
+        let at = slots.number(id);
+        let place = piece
+            .readings
+            .as_slice()
+            .partition_point(|r| slots.number(r.id) < at);
+        match piece.readings.get(place) {
+            Some(reading) => reading.id == id && self.counts(block, reading),
+            None => false,
+        }
+    }
+
+    fn counts(&self, block: u32, reading: &Reading) -> bool {
+        match reading.into {
+            None => true,
+            Some(lane) => {
+                self.table
+                    .rows
+                    .is_live_after(&self.table.order, lane, block, reading.id)
+            }
+        }
+    }
+
+    /// The piece of a lane of a range that an instruction begins.
+    fn segment_of(&self, v: u32, k: u32, id: u32) -> Option<&Segment> {
+        let lane = self.table.lanes.of_range(v).lane(k)?;
+        let cell = self.table.rows.cell(lane, self.table.order.block_of(id))?;
+        let slots = &self.table.order.slots;
+        let at = slots.number(id);
+        let place = cell
+            .segments
+            .as_slice()
+            .partition_point(|s| slots.number(s.start) < at);
+        let segment = cell.segments.get(place)?;
+        if segment.start == id {
+            Some(segment)
+        } else {
+            None
+        }
+    }
+
+    /// Whether an instruction writes a lane of a range.
+    pub fn is_written(&self, v: u32, k: u32, id: u32) -> bool {
+        self.segment_of(v, k, id).is_some()
+    }
+
+    /// Whether an instruction writes a lane of a range early, so that it is occupied at the entry.
+    pub fn is_written_early(&self, v: u32, k: u32, id: u32) -> bool {
+        match self.segment_of(v, k, id) {
+            Some(segment) => segment.early,
+            None => false,
+        }
+    }
+
+    /// The positions of the blocks behind the one at a position.
+    pub fn successors(&self, position: u32) -> &[u32] {
+        successors(self.table.flow.as_slice(), position)
+    }
+
+    /// Whether some lane of a range is live at the start of the block at a position.
+    pub fn is_live_into(&self, v: u32, position: u32) -> bool {
+        let own = self.table.lanes.of_range(v);
+        'lanes: for k in 0..own.count {
+            if let Some(lane) = own.lane(k) {
+                if self.table.rows.is_live_in(lane, position) {
+                    return true;
+                }
+            }
+        }
+        false
+    }
+}
+
+impl LiveFunc {
+    /// Whether some lane of a range is live at the end of the block at a position.
+    pub fn is_live_out_of(&self, v: u32, position: u32) -> bool {
+        let last = match self.func.blocks.as_slice().get(position as usize) {
+            Some(block) => block.instrs.as_slice().last(),
+            None => return false,
+        };
+        match last {
+            Some(instr) => self.is_live_behind(v, instr.id),
+            None => self.is_live_into(v, position),
+        }
+    }
+
+    /// Whether some lane of a range is live at the entry of an instruction.
+    pub fn is_live_before(&self, v: u32, id: u32) -> bool {
+        (0..self.table.lanes.of_range(v).count).any(|k| self.live_in(v, k as usize, id))
+    }
+
+    /// Whether some lane of a range is live at the exit of an instruction.
+    pub fn is_live_behind(&self, v: u32, id: u32) -> bool {
+        (0..self.table.lanes.of_range(v).count).any(|k| self.live_out(v, k as usize, id))
+    }
+}

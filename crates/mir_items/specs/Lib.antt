@@ -1,0 +1,1 @@
+-- Definitions stand in mir_meaning.
