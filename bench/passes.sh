@@ -1,10 +1,11 @@
 #!/usr/bin/env bash
 # How the time of single passes grows with the function: passes.sh PROBE [PASS ..]
-# PROBE is the executable of the crate pass_probe, a PASS one of its commands (all of them without one). For each
+# PROBE is the executable of the crate pass_probe, a PASS one of its commands (without one all but `weight`, which
+# walks over the function once for each range). For each
 # family of functions the sizes double; the last column is the exponent between the smallest and the largest.
 set -eu
 probe=$1; shift
-passes=${*:-lower freq weight places rewrite}
+passes=${*:-lower freq places rewrite}
 dir=$(mktemp -d); trap 'rm -rf "$dir"' EXIT
 python3 - "$dir" <<'PY'
 import sys

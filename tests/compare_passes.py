@@ -5,10 +5,11 @@ Run: compare_passes.py MODEL PROBE SEED COUNT
 
 MODEL is the folder of the reference model (the package `llra_ref` and the module `generators`), PROBE the
 executable of the crate pass_probe. For each of COUNT seeds from SEED it makes valid functions over the
-built-in target, over a target like it of version 2 and over an odd target, and asks the probe for the lowered
-function, the frequencies, the weights and whether all places admit registers. Frequencies and weights are
-asked of the lowered function. It prints the first differences and ends with 1 where there is one."""
-import os
+built-in target or a target like it of version 2, and over an odd target, and asks the probe for the lowered
+function, the frequencies, the weights, the physical form under some assignment and whether all places admit
+registers. All but the first and the last are asked of the lowered function. It prints the first differences and ends with 1 where there is one."""
+import random
+import re
 import subprocess
 import sys
 import tempfile
@@ -61,11 +62,34 @@ def rewritten(target, f):
     return L.rewrite(target, f, regs, slots)
 
 
+def crowded(data, r):
+    """The document with a NOP that reads several registers which were named before it in its block."""
+    lines, seen, at = data.split(b"\n"), [], []
+    for k, line in enumerate(lines):
+        if line.startswith(b"  bb."):
+            seen = []
+        elif line.startswith(b"    ") and b"PHI" not in line and not re.match(rb"    (successors|liveins):", line):
+            if len(set(seen)) >= 3:
+                at.append((k, sorted(set(seen))))
+            seen += re.findall(rb"%\w+", line.split(b"::")[0].split(b"=")[0]) if b"=" in line else []
+    if not at:
+        return None
+    k, names = r.choice(at)
+    count = min(len(names), r.choice([3, 4, 4, 5, 5, 6, 7]))
+    lines.insert(k, b"    NOP " + b", ".join(r.sample(names, count)))
+    return b"\n".join(lines)
+
+
 def cases(seed):
-    """(target, its text or None, function) three times."""
+    """(target, its text or None, function): of the built-in target or its like, the same with more registers read
+    at once, and of an odd target."""
     gen = Gen(seed)
     data = gen.function()
-    yield (MINI2, MINI2_TEXT, data) if gen.kept else (MINI, None, data)
+    mine = (MINI2, MINI2_TEXT) if gen.kept else (MINI, None)
+    yield (*mine, data)
+    more = crowded(data, random.Random(seed))
+    if more is not None:
+        yield (*mine, more)
     text = odd_target(seed)
     try:
         target = L.read_target(text)

@@ -24,7 +24,9 @@ pub enum Around<'a> {
 fn has_unit(target: &Target, o: RegOp, u: Unit) -> bool {
     match o.loc {
         Loc::Virtual(_) => false,
-        Loc::Fixed(r) => units_at(target.regs.as_slice(), r).iter().any(|w| w.0 == u.0),
+        Loc::Fixed(r) => units_at(target.regs.as_slice(), r)
+            .iter()
+            .any(|w| w.0 == u.0),
     }
 }
 
@@ -32,11 +34,9 @@ fn has_unit(target: &Target, o: RegOp, u: Unit) -> bool {
 fn preserves(target: &Target, mask: MaskId, u: Unit) -> bool {
     match target.masks.as_slice().get(mask.0 as usize) {
         None => false,
-        Some(d) => d
-            .regs
-            .as_slice()
+        Some(d) => d.regs.as_slice().iter().any(|r| units_at(target.regs.as_slice(), *r)
             .iter()
-            .any(|r| units_at(target.regs.as_slice(), *r).iter().any(|w| w.0 == u.0)),
+            .any(|w| w.0 == u.0)),
     }
 }
 

@@ -1,7 +1,7 @@
 -- What is in physical form so far.
 use Rattle.std.proofs.Common.{◌≡◌, ℕ, zero, suc, ◌+◌, ◌<◌, ◌≤◌, Bool, true, false, cond, not, min, if◌then◌else◌, nat_lt, List, [], ◌∷◌, ◌++◌, length, get_or, set, take, drop, map, Option, refl, ap, sym, ◌∙◌, arith, append_assoc, append-nil, take-append-drop}
 use Rattle.std.specs.List.{filter, count_by, sum_by}
-use Rattle.std.proofs.lemmas.List.{drop_more, drop-set-lt, map_more, map-append, length-map}
+use Rattle.std.proofs.lemmas.List.{drop_more, drop-set-lt, map_more, map-append, length-map, take-append-le}
 use Rattle.std.proofs.lemmas.List.Sums.{length-filter, count_by-le-length}
 use Rattle.std.proofs.lemmas.List.Edits.{map_over_more}
 use Rattle.target_base.specs.declared.types.Reg.{Reg}
@@ -80,4 +80,8 @@ pub fewer_in_all : (t : Target) (rs : Assignment) (bs : List Block) → instr_co
 fewer_in_all t rs [] = omega arith
 fewer_in_all t rs (b ∷ bs) = omega (arith, instr_count-cons (physical_block t rs b) (map (physical_block t rs) bs), instr_count-cons b bs, fewer t rs b.instrs, fewer_in_all t rs bs)
 
-pub ruleset physicals = (map_more, instr_more, instrs_all)
+-- the first stays first
+pub first_stays : {X : Type 0} (xs : List X) (y : X) → 1 ≤ length xs → take 1 (xs ++ y ∷ []) ≡ take 1 xs
+first_stays xs y h = take-append-le 1 xs (y ∷ []) h
+
+pub ruleset physicals = (map_more, instr_more, instrs_all, first_stays)

@@ -1,6 +1,7 @@
 -- The physical form: each virtual register as the part of its physical register that its index names.
-use Rattle.std.specs.Prelude.{ℕ, Bool, true, false, cond, not, ◌&&◌, List, [], ◌∷◌, ◌++◌, map, filter, Option, Some, None, slice_get}
+use Rattle.std.specs.Prelude.{ℕ, Bool, true, false, cond, not, ◌&&◌, List, [], ◌∷◌, ◌++◌, map, filter, take, Option, Some, None, slice_get, ◌≡◌}
 use Rattle.target_base.specs.declared.types.Reg.{Reg}
+use Rattle.target_base.specs.declared.types.ClassId.{ClassId}
 use Rattle.target_base.specs.declared.types.IndexId.{IndexId}
 use Rattle.target_base.specs.declared.types.Target.{Target}
 use Rattle.target_base.specs.Registers.{sub_of}
@@ -12,7 +13,9 @@ use Rattle.mir_func.specs.declared.func.Operand.{Operand}
 use Rattle.mir_func.specs.declared.func.Operand.TheVariants as operands
 use Rattle.mir_func.specs.declared.func.Instr.{Instr}
 use Rattle.mir_func.specs.declared.func.Block.{Block}
+use Rattle.mir_func.specs.Value.{Function}
 use Rattle.mir_meaning.specs.Binding.{does}
+use Rattle.phi_elim.specs.Numbered.{blocks_numbered, instr_count}
 use Rattle.mir_meaning.specs.Rules.{same_loc}
 
 -- the register of each range number, where it is assigned one
@@ -70,3 +73,31 @@ abbrev pub with_liveins : List (List Reg) → List Block → List Block
 with_liveins [] bs = bs
 with_liveins (r ∷ rs) [] = []
 with_liveins (r ∷ rs) (b ∷ bs) = record b { liveins = r } ∷ with_liveins rs bs
+
+-- a slot as a frame object: a spill slot
+abbrev pub slot_frame : ℕ × ClassId → ℕ × Bool
+slot_frame s = (s.0, true)
+
+-- g is f with other live-ins in the blocks behind the first
+pub record HasLiveins (f g : Function) : Type 0 where
+  pub liveins : List (List Reg)
+  pub first : take 1 liveins ≡ map (λ b. b.liveins) (take 1 f.blocks)
+  pub is : g ≡ record f { blocks = with_liveins liveins f.blocks }
+
+-- g is f in physical form with these slots, but for its key lines
+pub record IsPhysicalBut (t : Target) (rs : Assignment) (slots : List (ℕ × ClassId)) (f g : Function) : Type 0 where
+  pub head : List ℕ
+  pub is : g ≡ record {
+    name = f.name;
+    head = head;
+    classes = [];
+    frames = f.frames ++ map slot_frame slots;
+    blocks = blocks_numbered 0 (map (physical_block t rs) f.blocks);
+    next_id = instr_count (map (physical_block t rs) f.blocks);
+  }
+
+-- g is f in physical form with these slots, but for its key lines and the live-ins of the blocks behind the first
+pub record IsPhysical (t : Target) (rs : Assignment) (slots : List (ℕ × ClassId)) (f g : Function) : Type 0 where
+  pub between : Function
+  pub physical : IsPhysicalBut t rs slots f between
+  pub liveins : HasLiveins between g

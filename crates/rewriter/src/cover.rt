@@ -1,5 +1,7 @@
 //! The live-ins of blocks: the registers that stand for the units which are live at a block's start.
 
+ghost use Rattle.std.specs.Prelude.{◌≡◌, IfOk, map, take};
+
 use live_lanes::LiveFunc;
 use mir_func::Block;
 use std::alloc::{AllocError, Global};
@@ -113,37 +115,32 @@ fn flagged(alloc: Global, flags: &[bool]) -> Result<Regs, AllocError> {
     Ok(made)
 }
 
-/// The live-ins of the block at place `k`: those of the first stay, and another one lists the registers
-/// that stand for the units which are live at its start.
-fn liveins_of(
-    alloc: Global,
-    target: &Target,
-    holders: &[Vec<Reg>],
-    live: &LiveFunc,
-    k: usize,
-    block: &Block,
-) -> Result<Regs, AllocError> {
-    if k == 0 {
-        block.liveins.copied(alloc)
-    } else {
-        cover(alloc, target, holders, live, block.number)
+/// The live-ins of the first block, if there is one.
+fn first_liveins(alloc: Global, blocks: &[Block]) -> Result<Vec<Regs>, AllocError>
+    ensures { IfOk result (λ made. made.items ≡ map (λ b. b.liveins) (take 1 blocks.now)) }
+{
+    let mut made = Vec::new(alloc);
+    if let Some(b) = blocks.first() {
+        made.push(b.liveins.copied(alloc)?)?;
     }
+    Ok(made)
 }
 
-/// The live-ins of each block, in layout order.
-pub fn all_covers(alloc: Global, target: &Target, live: &LiveFunc) -> Result<Vec<Regs>, AllocError> {
+/// The live-ins of each block, in layout order: those of the first stay, and another one lists the
+/// registers that stand for the units which are live at its start.
+pub fn all_liveins(
+    alloc: Global,
+    target: &Target,
+    live: &LiveFunc,
+    blocks: &[Block],
+) -> Result<Vec<Regs>, AllocError>
+    ensures { IfOk result (λ made. take 1 made.items ≡ map (λ b. b.liveins) (take 1 blocks.now)) }
+{
     let holders = all_holders(alloc, target)?;
-    let blocks = live.func().blocks.as_slice();
-    let mut made = Vec::new(alloc);
-    'layout: for k in 0..blocks.len() {
-        made.push(liveins_of(
-            alloc,
-            target,
-            holders.as_slice(),
-            live,
-            k,
-            &blocks[k],
-        )?)?;
+    let mut made = first_liveins(alloc, blocks)?;
+    'layout: for k in 1..blocks.len() {
+        let regs = cover(alloc, target, holders.as_slice(), live, blocks[k].number)?;
+        made.push(regs)?;
     }
     Ok(made)
 }

@@ -1,9 +1,9 @@
 //! A function in the registers that its ranges are assigned.
 
-ghost use Rattle.std.specs.Prelude.{◌≡◌, OnOk, map};
-ghost use Rattle.rewriter.specs.Physical.{physical_block, with_liveins};
+ghost use Rattle.std.specs.Prelude.{◌≡◌, ◌++◌, OnOk, IfOk, map, take};
+ghost use Rattle.rewriter.specs.Physical.{physical_block, with_liveins, slot_frame, HasLiveins, IsPhysical, IsPhysicalBut};
 
-use crate::cover::all_covers;
+use crate::cover::all_liveins;
 use crate::head::with_slots;
 use crate::operands::physical_instrs;
 use live_lanes::LiveFunc;
@@ -13,11 +13,15 @@ use std::alloc::{AllocError, Global};
 use target_base::{ClassId, Copied, List, Reg, Regs, Target};
 
 /// The frame objects with the slots, which are spill slots.
-fn with_frames(mut frames: Frames, slots: &[(u32, ClassId)]) -> Result<Frames, AllocError> {
-    'slots: for (slot, _) in slots {
-        frames.push((*slot, true))?;
+#[tactic(auto, using(crate::proofs::Physicals::physicals))]
+fn with_frames(frames: Frames, slots: &[(u32, ClassId)]) -> Result<Frames, AllocError>
+    ensures { IfOk result (λ made. made ≡ frames ++ map slot_frame slots.now) }
+{
+    let mut made = frames;
+    'each: for k in 0..slots.len() {
+        made.push((slots[k].0, true))?;
     }
-    Ok(frames)
+    Ok(made)
 }
 
 /// Puts a block in physical form.
@@ -71,11 +75,20 @@ fn put_all_liveins(
     Ok(())
 }
 
+/// The live-ins of each block of a function, in layout order.
+fn liveins_of(alloc: Global, target: &Target, f: &Func) -> Result<Vec<Regs>, AllocError>
+    ensures { IfOk result (λ made. take 1 made.items ≡ map (λ b. b.liveins) (take 1 f.now.blocks)) }
+{
+    let live = LiveFunc::compute(alloc, target, f.copy(alloc)?)?;
+    all_liveins(alloc, target, &live, f.blocks.as_slice())
+}
+
 /// The function with its live-ins: each block behind the first lists the registers that stand for the
 /// units which are live at its start.
-fn with_covers(alloc: Global, target: &Target, f: Func) -> Result<Func, AllocError> {
-    let live = LiveFunc::compute(alloc, target, f)?;
-    let liveins = all_covers(alloc, target, &live)?;
+fn with_covers(alloc: Global, target: &Target, f: Func) -> Result<Func, AllocError>
+    ensures { IfOk result (HasLiveins f) }
+{
+    let liveins = liveins_of(alloc, target, &f)?;
     let Func {
         name,
         head,
@@ -83,7 +96,7 @@ fn with_covers(alloc: Global, target: &Target, f: Func) -> Result<Func, AllocErr
         frames,
         mut blocks,
         next_id,
-    } = live.into_func();
+    } = f;
     put_all_liveins(alloc, liveins.as_slice(), &mut blocks)?;
     Ok(Func {
         name,
@@ -95,14 +108,36 @@ fn with_covers(alloc: Global, target: &Target, f: Func) -> Result<Func, AllocErr
     })
 }
 
-/// The function with each range in the register that it is assigned, and with its slots.
+/// The function with each range in the register that it is assigned, and with its slots: operands
+/// become physical and `renamable`, a COPY of a register to itself goes, the slots are declared, each
+/// block behind the first lists the registers that stand for the units which are live at its start,
+/// and ids are given anew.
 pub fn rewrite_assigned(
     alloc: Global,
     target: &Target,
     f: Func,
     registers: &[Option<Reg>],
     slots: &[(u32, ClassId)],
-) -> Result<Func, AllocError> {
+) -> Result<Func, AllocError>
+    ensures { IfOk result (IsPhysical target.now registers.now slots.now f) }
+{
+    with_covers(
+        alloc,
+        target,
+        without_ranges(alloc, target, f, registers, slots)?,
+    )
+}
+
+/// The function in physical form, with its slots, but with the live-ins that it had.
+fn without_ranges(
+    alloc: Global,
+    target: &Target,
+    f: Func,
+    registers: &[Option<Reg>],
+    slots: &[(u32, ClassId)],
+) -> Result<Func, AllocError>
+    ensures { IfOk result (IsPhysicalBut target.now registers.now slots.now f) }
+{
     let Func {
         name,
         head,
@@ -114,13 +149,12 @@ pub fn rewrite_assigned(
     let frames = with_frames(frames, slots)?;
     put_blocks(alloc, target, registers, &mut blocks)?;
     let next_id = number_blocks(&mut blocks);
-    let made = Func {
+    Ok(Func {
         name,
         head,
         classes: List::new(alloc),
         frames,
         blocks,
         next_id,
-    };
-    with_covers(alloc, target, made)
+    })
 }

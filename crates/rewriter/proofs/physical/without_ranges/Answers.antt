@@ -1,0 +1,21 @@
+use Rattle.std.proofs.Common.{arith, refl}
+use Rattle.std.proofs.lemmas.List.{length-map}
+use Rattle.phi_elim.proofs.Sizes.{instrs_below}
+use Rattle.phi_elim.proofs.Numbering.{ids_once, length-blocks_numbered}
+use Rattle.rewriter.proofs.Physicals.{fewer_in_all}
+use Rattle.rewriter.proofs.physical.without_ranges.Goals as goal
+
+pub number_blocks-next_id-requires : goal.number_blocks-next_id-requires
+number_blocks-next_id-requires c = ?
+
+pub invariant_of-result : goal.invariant_of-result
+invariant_of-result c = record {
+    nonempty = rw (c.number_blocks-next_id.ensures.blocks, length-blocks_numbered, c.in_ok-put_blocks.ensures, length-map) c.f.invariant.nonempty;
+    once = λ x. rw (c.number_blocks-next_id.ensures.blocks, c.number_blocks-next_id.ensures.count) (ids_once x c.put_blocks.new.blocks);
+}
+
+pub returns : goal.returns
+returns c = record {
+    head = c.in_ok-head.head;
+    is = rw (← c.f.view_is, c.number_blocks-next_id.ensures.blocks, c.number_blocks-next_id.ensures.count, c.in_ok-put_blocks.ensures, c.in_ok-frames.ensures) refl;
+}
