@@ -1,0 +1,487 @@
+//! The matrix: a function, the register of each assigned range, and what the ranges hold.
+
+use crate::held::HeldList;
+use crate::marks::Marks;
+use live_lanes::{Changes, Edit, LiveFunc, Mended, Stretch};
+use mir_func::{Gap, Operand, Operands, RegOp};
+use slot_index::Slots;
+use std::alloc::{AllocError, Global};
+use target_base::{ClassId, List, Numbers, OpId, Reg, Target, Unit};
+
+/// What a range in a register would clash with.
+#[derive(Drop)]
+pub enum Clash {
+    /// A unit that is live or written by itself.
+    Fixed,
+    /// Assigned ranges, by their numbers; none where it would clash with nothing.
+    Ranges(Numbers),
+}
+
+/// What ranges hold of a unit, by the positions of blocks in the layout.
+#[derive(Drop)]
+struct UnitHeld {
+    blocks: Vec<HeldList>,
+}
+
+/// What ranges hold of each unit.
+#[derive(Drop)]
+struct AllHeld {
+    units: Vec<UnitHeld>,
+}
+
+/// A function with what is live in it, and the registers of the ranges that are assigned. No two
+/// assigned ranges clash, and none clashes with a unit.
+#[derive(Drop)]
+pub struct Matrix {
+    alloc: Global,
+    live: LiveFunc,
+    /// By range.
+    registers: Vec<Option<Reg>>,
+    held: AllHeld,
+}
+
+/// The units of a register; none where there is no such register.
+fn units_at(target: &Target, r: Reg) -> &[Unit] {
+    match target.regs.as_slice().get(r.0 as usize) {
+        Some(desc) => desc.units.as_slice(),
+        None => &[],
+    }
+}
+
+fn empty_unit(alloc: Global, blocks: usize) -> Result<UnitHeld, AllocError> {
+    let mut lists = Vec::new(alloc);
+    'blocks: for _ in 0..blocks {
+        lists.push(HeldList::new(alloc))?;
+    }
+    Ok(UnitHeld { blocks: lists })
+}
+
+impl AllHeld {
+    fn new(alloc: Global, units: usize, blocks: usize) -> Result<AllHeld, AllocError> {
+        let mut all = Vec::new(alloc);
+        'units: for _ in 0..units {
+            all.push(empty_unit(alloc, blocks)?)?;
+        }
+        Ok(AllHeld { units: all })
+    }
+
+    fn list(&self, unit: u32, block: u32) -> Option<&HeldList> {
+        self.units.get(unit as usize)?.blocks.get(block as usize)
+    }
+
+    /// Adds the points of a piece of a range, which begins with an instruction or with its block.
+    fn add_piece(
+        &mut self,
+        live: &LiveFunc,
+        range: u32,
+        unit: u32,
+        piece: Mended,
+    ) -> Result<(), AllocError> {
+        let Some(extent) = live.extent_from(piece.lane, piece.block, piece.start) else {
+            return Ok(());
+        };
+        let Some(row) = self.units.get_mut(unit as usize) else {
+            return Ok(());
+        };
+        match row.blocks.get_mut(piece.block as usize) {
+            Some(list) => list.add(live.slots(), range, extent),
+            None => Ok(()),
+        }
+    }
+
+    /// Takes away the points of a piece of a range.
+    fn remove_piece(&mut self, slots: &Slots, range: u32, unit: u32, piece: Mended) {
+        let Some(row) = self.units.get_mut(unit as usize) else {
+            return;
+        };
+        if let Some(list) = row.blocks.get_mut(piece.block as usize) {
+            list.remove(slots, range, piece.start);
+        }
+    }
+
+    /// Adds the points of a lane of a range in the block of a cell.
+    fn add_cell(
+        &mut self,
+        live: &LiveFunc,
+        range: u32,
+        unit: u32,
+        lane: u32,
+        place: usize,
+    ) -> Result<(), AllocError> {
+        let Some(block) = live.cell_block(lane, place) else {
+            return Ok(());
+        };
+        let Some(row) = self.units.get_mut(unit as usize) else {
+            return Ok(());
+        };
+        let Some(list) = row.blocks.get_mut(block as usize) else {
+            return Ok(());
+        };
+        add_extents(list, live, range, lane, place)
+    }
+
+    /// Adds the points of a lane of a range.
+    fn add_lane(
+        &mut self,
+        live: &LiveFunc,
+        range: u32,
+        unit: u32,
+        lane: u32,
+    ) -> Result<(), AllocError> {
+        'cells: for place in 0..live.cell_count(lane) {
+            self.add_cell(live, range, unit, lane, place)?;
+        }
+        Ok(())
+    }
+
+    /// Takes away the points of a range in the block of a cell.
+    fn remove_cell(&mut self, range: u32, unit: u32, block: u32) {
+        let Some(row) = self.units.get_mut(unit as usize) else {
+            return;
+        };
+        if let Some(list) = row.blocks.get_mut(block as usize) {
+            list.remove_all(range);
+        }
+    }
+
+    /// Takes away the points of a lane of a range.
+    fn remove_lane(&mut self, live: &LiveFunc, range: u32, unit: u32, lane: u32) {
+        'cells: for place in 0..live.cell_count(lane) {
+            if let Some(block) = live.cell_block(lane, place) {
+                self.remove_cell(range, unit, block);
+            }
+        }
+    }
+}
+
+/// Adds the points of the pieces of a lane in a block.
+fn add_extents(
+    list: &mut HeldList,
+    live: &LiveFunc,
+    range: u32,
+    lane: u32,
+    place: usize,
+) -> Result<(), AllocError> {
+    'pieces: for index in 0..live.piece_count(lane, place) {
+        if let Some(extent) = live.extent(lane, place, index) {
+            list.add(live.slots(), range, extent)?;
+        }
+    }
+    Ok(())
+}
+
+impl Matrix {
+    /// A function without phis, with no range assigned.
+    pub fn new(alloc: Global, f: LiveFunc) -> Result<Matrix, AllocError> {
+        let units = f.target().units.len();
+        let held = AllHeld::new(alloc, units, f.func().blocks.len())?;
+        let registers = Vec::from_elem(alloc, None, f.func().classes.len())?;
+        Ok(Matrix {
+            alloc,
+            live: f,
+            registers,
+            held,
+        })
+    }
+
+    /// The function with what is live in it.
+    pub fn live(&self) -> &LiveFunc {
+        &self.live
+    }
+
+    /// The function with what is live in it, alone.
+    pub fn into_live(self) -> LiveFunc {
+        let Matrix { live, .. } = self;
+        live
+    }
+
+    /// The register of a range; none exactly where it isn't assigned.
+    pub fn register_of(&self, v: u32) -> Option<Reg> {
+        self.registers.get(v as usize).copied().unwrap_or(None)
+    }
+
+    /// Whether a range in a register would clash with nothing.
+    pub fn free(&self, v: u32, p: Reg) -> bool {
+        let mut k = 0usize;
+        'units: for u in units_at(self.live.target(), p) {
+            if self.is_lane_met(v, k, u.0 as u32) {
+                return false;
+            }
+            k = k.saturating_add(1);
+        }
+        true
+    }
+
+    /// Whether a lane of a range in a unit would clash with something.
+    fn is_lane_met(&self, v: u32, k: usize, unit: u32) -> bool {
+        let Some(lane) = self.live.lane_of(v, k) else {
+            return false;
+        };
+        'cells: for place in 0..self.live.cell_count(lane) {
+            if self.is_cell_met(v, unit, lane, place) {
+                return true;
+            }
+        }
+        false
+    }
+
+    fn is_cell_met(&self, v: u32, unit: u32, lane: u32, place: usize) -> bool {
+        let Some(block) = self.live.cell_block(lane, place) else {
+            return false;
+        };
+        'pieces: for index in 0..self.live.piece_count(lane, place) {
+            if let Some(extent) = self.live.extent(lane, place, index) {
+                if self.is_held(unit, v, block, extent.stretch(self.live.slots())) {
+                    return true;
+                }
+            }
+        }
+        false
+    }
+
+    /// Whether a unit is live or written by itself, or held by another range than one, at some of
+    /// these points of the block at a position.
+    fn is_held(&self, unit: u32, but: u32, block: u32, at: Stretch) -> bool {
+        if self.live.meets(unit, block, at) {
+            return true;
+        }
+        match self.held.list(unit, block) {
+            Some(list) => list.meets(self.live.slots(), at, but),
+            None => false,
+        }
+    }
+
+    /// What a range in a register would clash with.
+    pub fn clashers(&self, v: u32, p: Reg) -> Result<Clash, AllocError> {
+        let mut marks = Marks::new(self.alloc, self.registers.len())?;
+        let mut k = 0usize;
+        'units: for u in units_at(self.live.target(), p) {
+            if !self.mark_lane(v, k, u.0 as u32, &mut marks) {
+                return Ok(Clash::Fixed);
+            }
+            k = k.saturating_add(1);
+        }
+        Ok(Clash::Ranges(List::from_vec(marks.numbers(self.alloc)?)))
+    }
+
+    /// Marks the ranges that a lane of a range in a unit would clash with. Answers false where it
+    /// would clash with the unit.
+    fn mark_lane(&self, v: u32, k: usize, unit: u32, marks: &mut Marks) -> bool {
+        let Some(lane) = self.live.lane_of(v, k) else {
+            return true;
+        };
+        'cells: for place in 0..self.live.cell_count(lane) {
+            if !self.mark_cell(v, unit, lane, place, marks) {
+                return false;
+            }
+        }
+        true
+    }
+
+    fn mark_cell(&self, v: u32, unit: u32, lane: u32, place: usize, marks: &mut Marks) -> bool {
+        let Some(block) = self.live.cell_block(lane, place) else {
+            return true;
+        };
+        'pieces: for index in 0..self.live.piece_count(lane, place) {
+            if let Some(extent) = self.live.extent(lane, place, index) {
+                let at = extent.stretch(self.live.slots());
+                if self.live.meets(unit, block, at) {
+                    return false;
+                }
+                self.mark_held(unit, v, block, at, marks);
+            }
+        }
+        true
+    }
+
+    /// Marks the ranges other than one that hold a unit at some of these points.
+    fn mark_held(&self, unit: u32, but: u32, block: u32, at: Stretch, marks: &mut Marks) {
+        if let Some(list) = self.held.list(unit, block) {
+            list.mark(self.live.slots(), at, but, marks);
+        }
+    }
+
+    /// Gives a range a register. After a refusal the range is unassigned, and all else unchanged.
+    pub fn assign(&mut self, v: u32, p: Reg) -> Result<(), AllocError> {
+        self.unassign(v);
+        match self.add_all(v, p) {
+            Ok(()) => {
+                self.set_register(v, Some(p));
+                Ok(())
+            }
+            Err(e) => {
+                self.remove_all(v, p);
+                Err(e)
+            }
+        }
+    }
+
+    fn set_register(&mut self, v: u32, p: Option<Reg>) {
+        if let Some(place) = self.registers.get_mut(v as usize) {
+            *place = p;
+        }
+    }
+
+    fn add_all(&mut self, v: u32, p: Reg) -> Result<(), AllocError> {
+        let mut k = 0usize;
+        'units: for u in units_at(self.live.target(), p) {
+            if let Some(lane) = self.live.lane_of(v, k) {
+                self.held.add_lane(&self.live, v, u.0 as u32, lane)?;
+            }
+            k = k.saturating_add(1);
+        }
+        Ok(())
+    }
+
+    fn remove_all(&mut self, v: u32, p: Reg) {
+        let mut k = 0usize;
+        'units: for u in units_at(self.live.target(), p) {
+            if let Some(lane) = self.live.lane_of(v, k) {
+                self.held.remove_lane(&self.live, v, u.0 as u32, lane);
+            }
+            k = k.saturating_add(1);
+        }
+    }
+
+    /// Takes its register from a range, where it has one.
+    pub fn unassign(&mut self, v: u32) {
+        if let Some(p) = self.register_of(v) {
+            self.remove_all(v, p);
+            self.set_register(v, None);
+        }
+    }
+
+    /// Whether a unit is live or occupied at the entry of an instruction, or an assigned range other
+    /// than `but` holds it there.
+    pub fn held_in(&self, u: Unit, but: u32, id: u32) -> bool {
+        self.is_held_at(u, but, self.live.position_of(id), self.live.entry_of(id))
+    }
+
+    /// The same at the exit of an instruction.
+    pub fn held_out(&self, u: Unit, but: u32, id: u32) -> bool {
+        self.is_held_at(u, but, self.live.position_of(id), self.live.exit_of(id))
+    }
+
+    /// The same at the start of the block of that number.
+    pub fn held_at(&self, u: Unit, but: u32, block: u32) -> bool {
+        match self.live.block_position(block) {
+            Some(position) => self.is_held_at(u, but, position, 0),
+            None => false,
+        }
+    }
+
+    /// Whether a unit is live or occupied at some of these points of the block at a position, or an
+    /// assigned range other than `but` holds it there.
+    pub fn is_held_along(&self, u: Unit, but: u32, position: u32, at: Stretch) -> bool {
+        self.is_held(u.0 as u32, but, position, at)
+    }
+
+    fn is_held_at(&self, u: Unit, but: u32, block: u32, at: u128) -> bool {
+        let point = Stretch {
+            first: at,
+            last: at,
+        };
+        self.is_held(u.0 as u32, but, block, point)
+    }
+
+    /// A new range number, which no operand names yet, for a class. The range is unassigned.
+    pub fn fresh(&mut self, class: ClassId) -> Result<u32, AllocError> {
+        self.registers.reserve(1)?;
+        let v = self.live.fresh(class)?;
+        self.registers.push(None)?;
+        Ok(v)
+    }
+
+    /// Puts a COPY of a register into a gap, and answers its id.
+    pub fn copy_at(&mut self, gap: Gap, to: RegOp, from: RegOp) -> Result<u32, AllocError> {
+        let mut operands = Operands::new(self.alloc);
+        operands.push(Operand::Reg(to))?;
+        operands.push(Operand::Reg(from))?;
+        self.put(gap, OpId(0), operands)
+    }
+
+    /// Puts a new instruction, without flags and tail, into a gap, and answers its id.
+    pub fn put(&mut self, gap: Gap, op: OpId, operands: Operands) -> Result<u32, AllocError> {
+        let id = self.live.func().next_id;
+        self.edit_one(Edit::Put(gap, op, operands))?;
+        Ok(id)
+    }
+
+    /// Gives the instruction of an id another opcode and other operands.
+    pub fn replace(&mut self, id: u32, op: OpId, operands: Operands) -> Result<(), AllocError> {
+        self.edit_one(Edit::Replace(id, op, operands))
+    }
+
+    /// Takes the instruction of an id out.
+    pub fn erase(&mut self, id: u32) -> Result<(), AllocError> {
+        self.edit_one(Edit::Erase(id))
+    }
+
+    fn edit_one(&mut self, edit: Edit) -> Result<(), AllocError> {
+        let mut edits = Vec::new(self.alloc);
+        edits.push(edit)?;
+        self.edit_all(edits)
+    }
+
+    /// Does edits in order. What is live, and what the assigned ranges hold, is brought up to date
+    /// once, after the last of them. After a refusal the function and the registers are unchanged.
+    pub fn edit_all(&mut self, edits: Vec<Edit>) -> Result<(), AllocError> {
+        let mut changes = self.live.begin_edits(edits)?;
+        self.let_go(&changes);
+        match self.hold(&changes) {
+            Ok(()) => {
+                self.live.keep(changes);
+                Ok(())
+            }
+            Err(e) => {
+                self.let_go(&changes);
+                self.live.take_back(&mut changes);
+                // The lists had room for this before.
+                let _ = self.hold(&changes);
+                Err(e)
+            }
+        }
+    }
+
+    /// The range and the unit that hold a lane, where its range is assigned.
+    fn holder(&self, lane: u32) -> Option<(u32, u32)> {
+        let (v, k) = self.live.range_of(lane)?;
+        let p = self.register_of(v)?;
+        let u = units_at(self.live.target(), p).get(k as usize)?;
+        Some((v, u.0 as u32))
+    }
+
+    /// Takes away the points of the pieces that edits changed, as they were held before.
+    fn let_go(&mut self, changes: &Changes) {
+        'steps: for k in 0..changes.len() {
+            if let Some(piece) = changes.mended(k) {
+                self.let_go_piece(piece);
+            }
+        }
+    }
+
+    fn let_go_piece(&mut self, piece: Mended) {
+        if let Some((v, unit)) = self.holder(piece.lane) {
+            self.held.remove_piece(self.live.slots(), v, unit, piece);
+        }
+    }
+
+    /// Adds the points of the pieces that edits changed, as they are now.
+    fn hold(&mut self, changes: &Changes) -> Result<(), AllocError> {
+        'steps: for k in 0..changes.len() {
+            if let Some(piece) = changes.mended(k) {
+                self.hold_piece(piece)?;
+            }
+        }
+        Ok(())
+    }
+
+    /// Adds the points of a piece. It may have been added by an earlier step.
+    fn hold_piece(&mut self, piece: Mended) -> Result<(), AllocError> {
+        let Some((v, unit)) = self.holder(piece.lane) else {
+            return Ok(());
+        };
+        self.held.remove_piece(self.live.slots(), v, unit, piece);
+        self.held.add_piece(&self.live, v, unit, piece)
+    }
+}
