@@ -5,7 +5,9 @@ pub mod around;
 mod check;
 mod copies;
 mod search;
+mod tinies;
 pub mod variables;
 mod widths;
 
 pub use check::{PlaceStop, check_places};
+pub use tinies::{Choices, solve};
