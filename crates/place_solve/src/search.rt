@@ -1,6 +1,9 @@
 //! The first choice of registers that serves.
 
-ghost use Rattle.std.specs.Prelude.{◌≤◌, vec_len, length};
+ghost use Rattle.std.specs.Prelude.{◌≡◌, ◌≤◌, ◌+◌, IfOk, not, true, length};
+ghost use Rattle.target_base.specs.Storage.{is_among};
+ghost use Rattle.mir_meaning.specs.Places.{all_apart, share_a_unit};
+ghost use Rattle.place_solve.specs.Choice.{use_of, need_of, seats, stands_beside, fits, Found};
 
 use crate::around::{Around, is_at_entry, is_at_exit};
 use crate::variables::{Kind, Variable};
@@ -8,18 +11,22 @@ use live_lanes::LiveFunc;
 use std::alloc::{AllocError, Global};
 use target_base::classes::regs_at;
 use target_base::registers::units_at;
-use target_base::{Reg, Target, Unit};
+use target_base::{List, Reg, Regs, Target, Unit};
 
 /// Whether the list holds a unit.
-fn holds(units: &[Unit], u: Unit) -> bool {
+fn holds(units: &[Unit], u: Unit) -> bool
+    ensures { result ≡ is_among units.now u }
+{
     units.iter().any(|w| w.0 == u.0)
 }
 
 /// Whether two registers share a unit.
-fn share_a_unit(target: &Target, a: Reg, b: Reg) -> bool {
+fn share_a_unit(target: &Target, a: Reg, b: Reg) -> bool
+    ensures { result ≡ share_a_unit target.now a b }
+{
     let regs = target.regs.as_slice();
-    let others = units_at(regs, b);
-    units_at(regs, a).iter().any(|u| holds(others, *u))
+    let own = units_at(regs, a);
+    units_at(regs, b).iter().any(|u| holds(own, *u))
 }
 
 /// Whether a variable of this kind may lie in a register: it is unreserved, and none of its units is
@@ -39,8 +46,8 @@ fn options_of(
     live: &LiveFunc,
     around: Around<'_>,
     v: Variable,
-) -> Result<Vec<Reg>, AllocError> {
-    let mut options = Vec::new(alloc);
+) -> Result<Regs, AllocError> {
+    let mut options = List::new(alloc);
     'each: for r in regs_at(live.target().classes.as_slice(), v.class) {
         if avoids(live, around, v.kind, *r) {
             options.push(*r)?;
@@ -49,38 +56,81 @@ fn options_of(
     Ok(options)
 }
 
-/// Whether a variable may lie in a register besides those that are chosen for the variables before it.
-fn fits(target: &Target, variables: &[Variable], chosen: &[Reg], v: Variable, r: Reg) -> bool {
-    'each: for (w, q) in variables.iter().zip(chosen) {
-        if w.kind.must_be_apart(v.kind) && share_a_unit(target, *q, r) {
+/// Whether a variable of this kind may not lie in `r` beside `w` in `q`.
+fn clashes(target: &Target, w: Variable, q: Reg, kind: Kind, r: Reg) -> bool
+    ensures { result ≡ not (stands_beside target.now (use_of kind) r (need_of w, q)) }
+{
+    w.kind.must_be_apart(kind) && share_a_unit(target, q, r)
+}
+
+/// Whether a variable of this kind may lie in a register beside those that are chosen for the variables
+/// before it.
+
+fn fits(target: &Target, variables: &[Variable], chosen: &[Reg], kind: Kind, r: Reg) -> bool
+    requires { length chosen.now ≤ length variables.now }
+    ensures { result ≡ fits target.now (seats variables.now chosen.now) (use_of kind) r }
+{
+    'each: for k in 0..chosen.len() {
+        if clashes(target, variables[k], chosen[k], kind, r) {
             return false;
         }
     }
     true
 }
 
-/// Chooses registers for the variables behind those that are chosen, the first choice that serves.
+/// How many registers are chosen.
+fn count_of(chosen: &Vec<Reg>) -> usize
+    ensures { result ≡ length chosen.now.items }
+{
+    chosen.as_slice().len()
+}
+
+/// Chooses registers for the variables behind those that are chosen, of their options: the first choice
+/// that keeps apart what must be apart.
 fn choose(
     target: &Target,
     variables: &[Variable],
-    options: &[Vec<Reg>],
-    left: u32,
+    options: &[Regs],
+    left: usize,
     chosen: &mut Vec<Reg>,
-) -> Result<bool, AllocError> {
-    let k = chosen.len();
-    if left == 0 || k >= variables.len() || k >= options.len() {
-        return Ok(k >= variables.len());
+) -> Result<bool, AllocError>
+    requires same { length options.now ≡ length variables.now }
+    requires room { length variables.now ≤ length chosen.old.items + left }
+    requires apart { all_apart target.now (seats variables.now chosen.old.items) ≡ true }
+    ensures { IfOk result (Found target.now variables.now options.now chosen.old.items chosen.new.items) }
+{
+    let k = count_of(chosen);
+    if k >= variables.len() {
+        return Ok(true);
     }
-    'each: for r in options[k].as_slice() {
-        if fits(target, variables, chosen.as_slice(), variables[k], *r) {
-            chosen.push(*r)?;
-            if choose(target, variables, options, left - 1, chosen)? {
-                return Ok(true);
-            }
-            chosen.truncate(k);
+    let here = options[k].as_slice();
+    'each: for r in here {
+        if !fits(target, variables, chosen.as_slice(), variables[k].kind, *r) {
+            continue;
         }
+        chosen.push(*r)?;
+        if choose(target, variables, options, left - 1, chosen)? {
+            return Ok(true);
+        }
+        chosen.truncate(k);
     }
     Ok(false)
+}
+
+/// The options of each variable.
+fn all_options(
+    alloc: Global,
+    live: &LiveFunc,
+    around: Around<'_>,
+    variables: &[Variable],
+) -> Result<Vec<Regs>, AllocError>
+    ensures { IfOk result (λ made. length made.items ≡ length variables.now) }
+{
+    let mut options = Vec::new(alloc);
+    'each: for v in variables {
+        options.push(options_of(alloc, live, around, *v)?)?;
+    }
+    Ok(options)
 }
 
 /// The first choice of registers for the variables, in their order and in allocation order, that
@@ -91,17 +141,13 @@ pub fn first_choice(
     around: Around<'_>,
     variables: &[Variable],
 ) -> Result<Option<Vec<Reg>>, AllocError> {
-    let mut options = Vec::new(alloc);
-    'variables: for v in variables {
-        options.push(options_of(alloc, live, around, *v)?)?;
-    }
+    let options = all_options(alloc, live, around, variables)?;
     let mut chosen = Vec::new(alloc);
-    let left = variables.len().min(0xffff_ffff) as u32;
     if choose(
         live.target(),
         variables,
         options.as_slice(),
-        left,
+        variables.len(),
         &mut chosen,
     )? {
         Ok(Some(chosen))

@@ -24,8 +24,14 @@ pub enum Kind {
 }
 
 impl Kind {
+    ghost use Rattle.std.specs.Prelude.{◌≡◌};
+    ghost use Rattle.mir_meaning.specs.Places.{is_defining, reaches_back, must_be_apart};
+    ghost use Rattle.place_solve.specs.Choice.{use_of};
+
     /// Whether it is a definition.
-    pub fn is_defining(self) -> bool {
+    pub fn is_defining(self) -> bool
+        ensures { result ≡ is_defining (use_of self) }
+    {
         match self {
             Kind::Defining { .. } => true,
             _ => false,
@@ -33,7 +39,9 @@ impl Kind {
     }
 
     /// Whether it holds its register while uses are read.
-    pub fn reaches_back(self) -> bool {
+    pub fn reaches_back(self) -> bool
+        ensures { result ≡ reaches_back (use_of self) }
+    {
         match self {
             Kind::Defining { tied, early } => tied || early,
             _ => true,
@@ -41,7 +49,9 @@ impl Kind {
     }
 
     /// Whether two variables of these kinds may not share a unit.
-    pub fn must_be_apart(self, other: Kind) -> bool {
+    pub fn must_be_apart(self, other: Kind) -> bool
+        ensures { result ≡ must_be_apart (use_of self) (use_of other) }
+    {
         self.is_defining() == other.is_defining() || (self.reaches_back() && other.reaches_back())
     }
 }

@@ -24,7 +24,10 @@ kept_more p made next rest total x e was = by_case (p x) e was
 
 pub instr_more : (t : Target) (rs : Assignment) (k : ℕ) (is made next total : List Instr) (i x : Instr) → k < length is → i ≡ get_or is k i → x ≡ physical_instr t rs i → next ≡ made ++ cond (is_identity t x) [] (x ∷ []) → made ++ physical_instrs t rs (drop k is) ≡ total → next ++ physical_instrs t rs (drop (k + 1) is) ≡ total
 instr_more t rs k is made next total i x h at made_of e was =
-    let m : physical_instrs t rs (drop k is) ≡ filter (λ y. not (is_identity t y)) (x ∷ map (physical_instr t rs) (drop (k + 1) is)) = rw (drop_more is k i h, ← at, ← made_of) refl in
+    let d : drop k is ≡ i ∷ drop (k + 1) is = rw (← at) at (drop_more is k i h) in
+    let rest = map (physical_instr t rs) (drop (k + 1) is) in
+    let m : physical_instrs t rs (drop k is) ≡ filter (λ y. not (is_identity t y)) (x ∷ rest) =
+    ap (physical_instrs t rs) d ∙ ap (λ z. filter (λ y. not (is_identity t y)) (z ∷ rest)) (sym made_of) in
     kept_more (is_identity t) made next (map (physical_instr t rs) (drop (k + 1) is)) total x e (rw m at was)
 
 pub instrs_all : (t : Target) (rs : Assignment) (k : ℕ) (is made total : List Instr) → length is ≤ k → made ++ physical_instrs t rs (drop k is) ≡ total → made ≡ total
@@ -67,8 +70,8 @@ length-with_liveins (r ∷ rs) (b ∷ bs) = ap suc (length-with_liveins rs bs)
 
 pub function_with_liveins : (n : ℕ) (rs : List (List Reg)) (bs : List Block) → IsFunction bs n → IsFunction (with_liveins rs bs) n
 function_with_liveins n rs bs sound = record {
-    nonempty = rw (length-with_liveins rs bs) sound.nonempty;
-    once = λ x. rw (ids_with_liveins x rs bs) (sound.once x);
+  nonempty = rw (length-with_liveins rs bs) sound.nonempty;
+  once = λ x. rw (ids_with_liveins x rs bs) (sound.once x);
 }
 
 -- no more instructions than before

@@ -1,6 +1,7 @@
 //! A function in the registers that its ranges are assigned.
 
-ghost use Rattle.std.specs.Prelude.{◌≡◌, ◌++◌, OnOk, IfOk, map, take};
+ghost use Rattle.std.specs.Prelude.{◌≡◌, ◌≤◌, ◌++◌, OnOk, IfOk, map, take};
+ghost use Rattle.phi_elim.specs.Numbered.{blocks_numbered, instr_count};
 ghost use Rattle.rewriter.specs.Physical.{physical_block, with_liveins, slot_frame, HasLiveins, IsPhysical, IsPhysicalBut};
 
 use crate::cover::all_liveins;
@@ -61,11 +62,7 @@ fn put_liveins(block: &mut Block, liveins: Regs)
 }
 
 /// Gives each block its live-ins.
-fn put_all_liveins(
-    alloc: Global,
-    liveins: &[Regs],
-    blocks: &mut Blocks,
-) -> Result<(), AllocError>
+fn put_all_liveins(alloc: Global, liveins: &[Regs], blocks: &mut Blocks) -> Result<(), AllocError>
     ensures { OnOk result (blocks.new ≡ with_liveins liveins.now blocks.old) }
 {
     'layout: for k in 0..blocks.len().min(liveins.len()) {
@@ -128,6 +125,15 @@ pub fn rewrite_assigned(
     )
 }
 
+/// Gives new ids to instructions, of which there are at most so many, and answers their number.
+fn number_at_most(blocks: &mut Blocks, most: u32) -> u32
+    requires { instr_count blocks.old ≤ most }
+    ensures blocks { blocks.new ≡ blocks_numbered 0 blocks.old }
+    ensures count { result ≡ instr_count blocks.old }
+{
+    number_blocks(blocks)
+}
+
 /// The function in physical form, with its slots, but with the live-ins that it had.
 fn without_ranges(
     alloc: Global,
@@ -143,12 +149,13 @@ fn without_ranges(
         head,
         frames,
         mut blocks,
+        next_id: last,
         ..
     } = f;
     let head = with_slots(alloc, target, head, slots)?;
     let frames = with_frames(frames, slots)?;
     put_blocks(alloc, target, registers, &mut blocks)?;
-    let next_id = number_blocks(&mut blocks);
+    let next_id = number_at_most(&mut blocks, last);
     Ok(Func {
         name,
         head,

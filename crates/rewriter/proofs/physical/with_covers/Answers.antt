@@ -7,7 +7,7 @@ invariant_of-result c = rw c.in_ok-put_all_liveins.ensures (function_with_livein
 
 pub returns : goal.returns
 returns c = record {
-    liveins = c.as_slice.result.now;
-    first = rw c.as_slice.ensures.value c.in_ok-liveins.ensures;
-    is = rw (← c.f.view_is, c.in_ok-put_all_liveins.ensures) refl;
+  liveins = c.as_slice.result.now;
+  first = rw c.as_slice.ensures.value c.in_ok-liveins.ensures;
+  is = rw (← c.f.view_is, c.in_ok-put_all_liveins.ensures) refl;
 }

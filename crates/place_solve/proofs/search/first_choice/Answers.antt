@@ -1,0 +1,5 @@
+use Rattle.place_solve.proofs.Chosen.{nothing_apart}
+use Rattle.place_solve.proofs.search.first_choice.Goals as goal
+
+pub choose-requires-clause-apart : goal.choose-requires-clause-apart
+choose-requires-clause-apart c = nothing_apart c.target.result.now c.args.variables.now c.new-chosen.result.items c.new-chosen.ensures.items

@@ -1,0 +1,46 @@
+-- The first choice of registers, one of each variable's list, that keeps apart what must be apart.
+use Rattle.std.specs.Prelude.{◌≡◌, ℕ, Bool, true, false, cond, not, ◌&&◌, List, [], ◌∷◌, ◌++◌, map, filter, length, drop, Option, Some, None}
+use Rattle.std.specs.List.{zip, list_all}
+use Rattle.target_base.specs.declared.types.Reg.{Reg}
+use Rattle.target_base.specs.declared.types.Target.{Target}
+use Rattle.mir_meaning.specs.Places.{Using, Copying, Defining, Kind as Use, Variable as Need, variable, must_be_apart, share_a_unit, all_apart, choices}
+use Rattle.place_solve.specs.declared.variables.Kind.{Kind}
+use Rattle.place_solve.specs.declared.variables.Kind.TheVariants as kinds
+use Rattle.place_solve.specs.declared.variables.Variable.{Variable}
+
+-- the kind of a variable, as the definitions of places have it
+abbrev pub use_of : Kind → Use
+use_of kinds.Using = Using
+use_of kinds.Copying = Copying
+use_of (kinds.Defining tied early) = Defining tied early
+
+-- a variable, as they have it
+abbrev pub need_of : Variable → Need
+need_of v = variable (use_of v.kind) v.range v.index v.class
+
+-- variables with the registers that are chosen for the first of them
+abbrev pub seats : List Variable → List Reg → List (Need × Reg)
+seats vs rs = zip (map need_of vs) rs
+
+-- a variable of this kind may lie in the register beside one that is chosen
+abbrev pub stands_beside : Target → Use → Reg → Need × Reg → Bool
+stands_beside t k r p = not (must_be_apart p.0.kind k && share_a_unit t p.1 r)
+
+-- beside all that are chosen
+abbrev pub fits : Target → List (Need × Reg) → Use → Reg → Bool
+fits t ps k r = list_all (stands_beside t k r) ps
+
+-- the choices for the variables behind those that are chosen that keep all apart, in order
+abbrev pub completions : Target → List Variable → List Reg → List (List Reg) → List (List Reg)
+completions t vs done options = filter (λ qs. all_apart t (seats vs (done ++ qs))) (choices options)
+
+-- the first of a list
+abbrev pub first : {X : Type 0} → List X → Option X
+first [] = None
+first (x ∷ xs) = Some x
+
+-- the answer to a search: the first completion is chosen; or there is none, and what was chosen stays
+pub record Found (t : Target) (vs : List Variable) (options : List (List Reg)) (done new : List Reg) (answer : Bool) : Type 0 where
+  pub choice : first (completions t vs done (drop (length done) options)) ≡ cond answer (Some (drop (length done) new)) None
+  pub before : answer ≡ true → new ≡ done ++ drop (length done) new
+  pub kept : answer ≡ false → new ≡ done
