@@ -3,7 +3,7 @@
 ghost use Rattle.std.specs.Prelude.{◌≡◌};
 
 use crate::row::{Cause, Cell, End, Piece, Reading, Row, Segment};
-use std::alloc::AllocError;
+use std::alloc::{AllocError, Global};
 use std::mem;
 
 /// A change of a cell. Its pieces are named by their places, 0 the one that begins with the block.
@@ -234,6 +234,23 @@ impl Cell {
 }
 
 impl Row {
+    /// The place of the cell of a block, where there is one.
+    pub fn find(&self, block: u32) -> Option<usize> {
+        let place = self.place(block);
+        match self.cells.get(place) {
+            Some(cell) if cell.block == block => Some(place),
+            _ => None,
+        }
+    }
+
+    /// The place of the cell of a block, which is made where there is none.
+    pub fn find_or_make(&mut self, alloc: Global, block: u32) -> Result<usize, AllocError> {
+        match self.find(block) {
+            Some(place) => Ok(place),
+            None => self.make(alloc, block),
+        }
+    }
+
     /// Does a change of the cell at a place, and answers the one that takes it back. After a
     /// refusal the cell is unchanged.
     pub fn edit(&mut self, place: usize, edit: CellEdit) -> Result<CellEdit, AllocError> {

@@ -110,6 +110,15 @@ impl Log {
     }
 }
 
+/// The piece at a spot, which begins with this instruction or with its block.
+fn mended_from(spot: Spot, start: Option<u32>) -> Mended {
+    Mended {
+        lane: spot.lane,
+        block: spot.block,
+        start,
+    }
+}
+
 impl Table {
     /// Does a change of a lane's cell in a block, and notes what takes it back. The piece that it
     /// speaks of begins with this instruction, or with the block.
@@ -129,42 +138,41 @@ impl Table {
         let Some(row) = self.rows.rows.get_mut(mended.lane as usize) else {
             return Ok(CellEdit::Nothing);
         };
-        let place = row.make(alloc, mended.block)?;
+        let place = row.find_or_make(alloc, mended.block)?;
         row.edit(place, edit)
-    }
-
-    /// The instruction that begins a piece; none for one that begins with its block.
-    pub fn start_of(&self, spot: Spot) -> Option<u32> {
-        match self.rows.cell(spot.lane, spot.block) {
-            Some(cell) => cell.start_of(spot.index),
-            None => None,
-        }
-    }
-
-    fn mended_at(&self, spot: Spot) -> Mended {
-        Mended {
-            lane: spot.lane,
-            block: spot.block,
-            start: self.start_of(spot),
-        }
     }
 
     /// Gives a piece a cause, where it has another.
     pub fn set_cause(&mut self, spot: Spot, cause: Cause, log: &mut Log) -> Result<(), AllocError> {
-        if self.cause_of(spot) == cause {
+        log.reserve()?;
+        let alloc = self.rows.alloc;
+        let Some(row) = self.rows.rows.get_mut(spot.lane as usize) else {
             return Ok(());
-        }
-        let mended = self.mended_at(spot);
-        self.edit_cell(mended, CellEdit::SetCause(spot.index, cause), log)
+        };
+        let place = row.find_or_make(alloc, spot.block)?;
+        let start = match row.cells.get(place) {
+            Some(cell) if cell.cause_of(spot.index) != cause => cell.start_of(spot.index),
+            _ => return Ok(()),
+        };
+        let back = row.edit(place, CellEdit::SetCause(spot.index, cause))?;
+        log.add_cell(mended_from(spot, start), back)
     }
 
     /// Gives a piece an end, where it has another.
     pub fn set_end(&mut self, spot: Spot, end: End, log: &mut Log) -> Result<(), AllocError> {
-        if self.end_of(spot) == end {
+        log.reserve()?;
+        let Some(row) = self.rows.rows.get_mut(spot.lane as usize) else {
             return Ok(());
-        }
-        let mended = self.mended_at(spot);
-        self.edit_cell(mended, CellEdit::SetEnd(spot.index, end), log)
+        };
+        let Some(place) = row.find(spot.block) else {
+            return Ok(());
+        };
+        let start = match row.cells.get(place) {
+            Some(cell) if cell.end_of(spot.index) != end => cell.start_of(spot.index),
+            _ => return Ok(()),
+        };
+        let back = row.edit(place, CellEdit::SetEnd(spot.index, end))?;
+        log.add_cell(mended_from(spot, start), back)
     }
 
     /// Why a piece is live.
@@ -172,13 +180,6 @@ impl Table {
         match self.rows.cell(spot.lane, spot.block) {
             Some(cell) => cell.cause_of(spot.index),
             None => Cause::None,
-        }
-    }
-
-    fn end_of(&self, spot: Spot) -> End {
-        match self.rows.cell(spot.lane, spot.block) {
-            Some(cell) => cell.end_of(spot.index),
-            None => End::Never,
         }
     }
 

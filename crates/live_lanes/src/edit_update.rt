@@ -87,9 +87,12 @@ impl Table {
         self.ask(suspects.as_slice(), &mut reasons)?;
         self.ask(fallen.as_slice(), &mut reasons)?;
         let risen = self.rise(reasons.as_slice(), log)?;
-        self.end_again(suspects.as_slice(), log)?;
-        self.end_around(fallen.as_slice(), log)?;
-        self.end_around(risen.as_slice(), log)
+        let mut concerned = suspects;
+        self.add_around(fallen.as_slice(), &mut concerned)?;
+        self.add_around(risen.as_slice(), &mut concerned)?;
+        concerned.sort_unstable_by_key(|spot| (spot.lane, spot.block, spot.index));
+        concerned.dedup();
+        self.end_again(concerned.as_slice(), log)
     }
 
     /// Looks at the causes of pieces again, and answers those that fell.
@@ -368,24 +371,21 @@ impl Table {
         Ok(())
     }
 
-    /// Gives pieces, and those that they keep live, their ends anew.
-    fn end_around(&mut self, spots: &[Spot], log: &mut Log) -> Result<(), AllocError> {
-        self.end_again(spots, log)?;
+    /// Adds pieces, and those that they keep live.
+    fn add_around(&self, spots: &[Spot], concerned: &mut Vec<Spot>) -> Result<(), AllocError> {
         let mut needs = Vec::new(self.rows.alloc);
         'spots: for spot in spots {
+            concerned.push(*spot)?;
             needs.clear();
             self.add_needs(*spot, &mut needs)?;
-            self.end_all_at(needs.as_slice(), log)?;
+            self.add_spots(needs.as_slice(), concerned)?;
         }
         Ok(())
     }
 
-    fn end_all_at(&mut self, needs: &[Need], log: &mut Log) -> Result<(), AllocError> {
+    fn add_spots(&self, needs: &[Need], concerned: &mut Vec<Spot>) -> Result<(), AllocError> {
         'needs: for need in needs {
-            if let Some(spot) = self.spot_at(need.lane, need.block, need.end) {
-                let end = self.end_now(spot);
-                self.set_end(spot, end, log)?;
-            }
+            self.add_spot(need.lane, need.block, need.end, concerned)?;
         }
         Ok(())
     }

@@ -163,6 +163,12 @@ impl LiveFunc {
         extent_of(self.table.rows.cells(lane).get(place)?, index)
     }
 
+    /// The instruction that begins a piece of a lane in one of these blocks; none for the one that
+    /// begins with the block.
+    pub fn start_of(&self, lane: u32, place: usize, index: usize) -> Option<u32> {
+        self.table.rows.cells(lane).get(place)?.start_of(index)
+    }
+
     /// The points of the piece of a lane that an instruction begins in the block at a position, or
     /// that begins with the block.
     pub fn extent_from(&self, lane: u32, block: u32, start: Option<u32>) -> Option<Extent> {

@@ -131,7 +131,7 @@ impl Row {
     }
 
     /// The place of a block's cell, or where it would stand.
-    fn place(&self, block: u32) -> usize
+    pub fn place(&self, block: u32) -> usize
         ensures within { result ≤ length self.now.cells.items }
         ensures place { result ≡ leading (is_before block) self.now.cells.items }
     {

@@ -7,22 +7,65 @@ use crate::row::{Cell, Piece, Reading, Segment, entry_rank};
 use mir_func::Instr;
 use std::alloc::{AllocError, Global};
 
-/// Adds the instructions of a piece's readings.
-fn add_readings(piece: &Piece, ids: &mut Vec<u32>) -> Result<(), AllocError> {
-    'readings: for reading in &piece.readings {
-        ids.push(reading.id)?;
-    }
-    Ok(())
+/// Instructions in layout order, each once, and how many of them were met again.
+#[derive(Drop)]
+struct Found {
+    ids: Vec<u32>,
+    met: usize,
+    /// Whether one came that isn't the next one of those that were found.
+    is_mixed: bool,
 }
 
-/// Adds the instructions that name a lane in a cell.
-fn add_cell(cell: &Cell, ids: &mut Vec<u32>) -> Result<(), AllocError> {
-    add_readings(&cell.first, ids)?;
-    'segments: for segment in &cell.segments {
-        ids.push(segment.start)?;
-        add_readings(&segment.piece, ids)?;
+impl Found {
+    /// Adds an instruction behind the others, where it isn't the last one.
+    fn add(&mut self, id: u32) -> Result<(), AllocError> {
+        if self.ids.last().copied() != Some(id) {
+            self.ids.push(id)?;
+        }
+        Ok(())
     }
-    Ok(())
+
+    /// Whether an instruction is the one that was met last, or the next one.
+    fn is_next(&mut self, id: u32) -> bool {
+        if self.met > 0 && self.ids.get(self.met - 1).copied() == Some(id) {
+            return true;
+        }
+        if self.ids.get(self.met).copied() == Some(id) {
+            self.met = self.met.saturating_add(1);
+            return true;
+        }
+        false
+    }
+
+    /// Meets an instruction, which is among those found before if the lanes are named together.
+    fn meet(&mut self, id: u32) -> Result<(), AllocError> {
+        if self.is_mixed {
+            return self.add(id);
+        }
+        if !self.is_next(id) {
+            self.is_mixed = true;
+            return self.add(id);
+        }
+        Ok(())
+    }
+
+    /// Adds the instructions of a piece's readings.
+    fn meet_readings(&mut self, piece: &Piece) -> Result<(), AllocError> {
+        'readings: for reading in &piece.readings {
+            self.meet(reading.id)?;
+        }
+        Ok(())
+    }
+
+    /// Adds the instructions that name a lane in a cell.
+    fn meet_cell(&mut self, cell: &Cell) -> Result<(), AllocError> {
+        self.meet_readings(&cell.first)?;
+        'segments: for segment in &cell.segments {
+            self.meet(segment.start)?;
+            self.meet_readings(&segment.piece)?;
+        }
+        Ok(())
+    }
 }
 
 impl LiveFunc {
@@ -30,21 +73,32 @@ impl LiveFunc {
     /// name it in an operand other than an `undef` use.
     pub fn touched(&self, alloc: Global, v: u32) -> Result<Vec<u32>, AllocError> {
         let own = self.table.lanes.of_range(v);
-        let mut ids = Vec::new(alloc);
+        let mut found = Found {
+            ids: Vec::new(alloc),
+            met: 0,
+            is_mixed: true,
+        };
+        let mut is_mixed = false;
         'lanes: for k in 0..own.count {
-            self.add_touched(own, k, &mut ids)?;
+            self.meet_lane(own, k, &mut found)?;
+            is_mixed = is_mixed || (k > 0 && found.is_mixed);
+            found.met = 0;
+            found.is_mixed = is_mixed;
         }
-        ids.sort_unstable_by_key(|id| self.table.order.slots.number(*id));
-        ids.dedup();
+        let Found { mut ids, .. } = found;
+        if is_mixed {
+            ids.sort_unstable_by_key(|id| self.table.order.slots.number(*id));
+            ids.dedup();
+        }
         Ok(ids)
     }
 
-    fn add_touched(&self, own: Lanes, k: u32, ids: &mut Vec<u32>) -> Result<(), AllocError> {
+    fn meet_lane(&self, own: Lanes, k: u32, found: &mut Found) -> Result<(), AllocError> {
         let Some(lane) = own.lane(k) else {
             return Ok(());
         };
         'cells: for cell in self.table.rows.cells(lane).iter().rev() {
-            add_cell(cell, ids)?;
+            found.meet_cell(cell)?;
         }
         Ok(())
     }

@@ -1,0 +1,142 @@
+-- Facts taken back over an instruction.
+use Rattle.std.proofs.Common.{◌≡◌, ◌∷◌, ◌++◌, ◌&&◌, ◌||◌, ℕ, Bool, true, false, cond, List, [], Option, Some, None, map, refl, sym, ap, subst, ◌∙◌}
+use Rattle.std.specs.List.{list_all}
+use Rattle.std.proofs.lemmas.Bool.{and_from}
+use Rattle.meaning.specs.declared.types.Source.{Source}
+use Rattle.meaning.specs.declared.types.Source.TheVariants.{FromLane, Undef, Bits}
+use Rattle.meaning.specs.declared.types.Fill.{Fill}
+use Rattle.meaning.specs.declared.types.Fill.TheVariants.{Moved, Computed}
+use Rattle.meaning.specs.declared.types.Row.{Row}
+use Rattle.meaning.specs.declared.types.Row.TheVariants.{BothStart, BothEnd, FirstSilent, SecondSilent, BothCounted}
+use Rattle.meaning.specs.declared.types.Ways.{Ways}
+use Rattle.meaning.specs.declared.types.Rest.{Rest}
+use Rattle.meaning.specs.Lanes.{Writes, Reads, settled, through}
+use Rattle.meaning.specs.Facts.{Fact, Facts, Knowledge, all_known, everything, known, known_left, known_first, known_second, known_both, one_result, operands_known}
+use Rattle.meaning.specs.Agree.{Family, facts_at, known_along, rows_hold, target_holds, ways_hold}
+use Rattle.laws.proofs.Following.{both-true}
+use Rattle.laws.proofs.Closed.{or-left, or-right}
+use Rattle.alloc_check.specs.Needs.{IsLawful, Lead, Suffice, Adds, Carry, Leave, result_of, one_number, is_moved, before_first, before_second, before_both, fits_first, fits_both, behind_falls}
+use Rattle.alloc_check.proofs.Lawful.{lawful-known}
+
+pub lawful-first : (ws : Writes) (k : Knowledge) → IsLawful k → IsLawful (known_first ws k)
+lawful-first ws k l = record { undef = λ t. l.undef t; constant = λ c low width. l.constant c low width }
+
+pub lawful-second : (ws : Writes) (k : Knowledge) → IsLawful k → IsLawful (known_second ws k)
+lawful-second ws k l = record { undef = λ t. l.undef (settled (through ws t)); constant = λ c low width. l.constant c low width }
+
+pub lawful-both : (ws vs : Writes) (k : Knowledge) → IsLawful k → IsLawful (known_both ws vs k)
+lawful-both ws vs k l =
+    let k' = known_second vs (known_first ws k) in
+    let l' : IsLawful k' = lawful-second vs (known_first ws k) (lawful-first ws k l) in
+    record {
+      undef = λ t. or-right (one_result (Moved Undef) (through vs t)) (k' Undef t) (l'.undef t);
+      constant = λ c low width. l'.constant c low width;
+    }
+
+lawful-everything : IsLawful everything
+lawful-everything = record { undef = λ t. refl; constant = λ c low width. refl }
+
+-- facts that fit hold behind an instruction where their images hold in front of it
+all-back : (after k : Knowledge) (back : Fact → Fact) (fits : Fact → Bool) → ((f : Fact) → fits f ≡ true → k (back f).0 (back f).1 ≡ true → after f.0 f.1 ≡ true) → (facts : Facts) → list_all fits facts ≡ true → all_known k (map back facts) ≡ true → all_known after facts ≡ true
+all-back after k back fits step [] e h = refl
+all-back after k back fits step (f ∷ facts) e h =
+    let p = both-true (fits f) (list_all fits facts) e in
+    let q = both-true (k (back f).0 (back f).1) (all_known k (map back facts)) h in
+    and_from (after f.0 f.1) (all_known after facts) (step f p.0 q.0) (all-back after k back fits step facts p.1 q.1)
+
+pub first-known : (ws : Writes) (k : Knowledge) (f : Fact) → fits_first ws f ≡ true → k (before_first ws f).0 (before_first ws f).1 ≡ true → known_first ws k f.0 f.1 ≡ true
+first-known ws k f = go (through ws f.0)
+  where
+    go : (g : Fill) → is_moved (result_of g) ≡ true → k (settled g) f.1 ≡ true → known_left k g f.1 ≡ true
+    go (Moved s) e h = h
+    go (Computed i) e h = absurd (cc)
+
+same-number : (f g : Fill) → one_number (result_of f) (result_of g) ≡ one_result f g
+same-number (Moved s) (Moved t) = refl
+same-number (Moved s) (Computed j) = refl
+same-number (Computed i) (Moved t) = refl
+same-number (Computed i) (Computed j) = refl
+
+abbrev pub chosen : Bool → Fill → Fill → Fact
+chosen b g h = cond b (Undef, Undef) (settled g, settled h)
+
+both-known : (ws vs : Writes) (k : Knowledge) (f : Fact) → fits_both ws vs f ≡ true → k (before_both ws vs f).0 (before_both ws vs f).1 ≡ true → known_both ws vs k f.0 f.1 ≡ true
+both-known ws vs k f = go (through ws f.0) (through vs f.1)
+  where
+    choose : (b : Bool) (g h : Fill) → b || is_moved (result_of g) ≡ true → k (chosen b g h).0 (chosen b g h).1 ≡ true → b || known_left k g (settled h) ≡ true
+    choose true g h e x = refl
+    choose false (Moved s) h e x = x
+    choose false (Computed i) h e x = absurd (cc)
+
+    go : (g h : Fill) → one_number (result_of g) (result_of h) || is_moved (result_of g) ≡ true → k (chosen (one_number (result_of g) (result_of h)) g h).0 (chosen (one_number (result_of g) (result_of h)) g h).1 ≡ true → one_result g h || known_left k g (settled h) ≡ true
+    go g h e x = subst (λ b. b || known_left k g (settled h) ≡ true) (same-number g h) (choose (one_number (result_of g) (result_of h)) g h e x)
+
+all-yes : (facts : Facts) → list_all (λ f. true) facts ≡ true
+all-yes [] = refl
+all-yes (f ∷ facts) = all-yes facts
+
+pub led-first : (ws : Writes) (old : Facts) → list_all (fits_first ws) old ≡ true → Lead (map (before_first ws) old) (λ k. all_known (known_first ws k) old)
+led-first ws old e k l h = all-back (known_first ws k) k (before_first ws) (fits_first ws) (first-known ws k) old e h
+
+pub led-second : (ws : Writes) (old : Facts) → Lead (map (before_second ws) old) (λ k. all_known (known_second ws k) old)
+led-second ws old k l h = all-back (known_second ws k) k (before_second ws) (λ f. true) (λ f e x. x) old (all-yes old) h
+
+pub led-both : (ws vs : Writes) (old : Facts) → list_all (fits_both ws vs) old ≡ true → Lead (map (before_both ws vs) old) (λ k. all_known (known_both ws vs k) old)
+led-both ws vs old e k l h = all-back (known_both ws vs k) k (before_both ws vs) (fits_both ws vs) (both-known ws vs k) old e h
+
+-- along a way
+pub along-known : (w : Ways) (k : Knowledge) (f : Fact) → fits_first w.first f ≡ true → k (before_second w.second (before_first w.first f)).0 (before_second w.second (before_first w.first f)).1 ≡ true → known_along w k f.0 f.1 ≡ true
+along-known w k f e h = first-known w.first k (f.0, settled (through w.second f.1)) e h
+
+module _ (family : Family) where
+  pub carry-first : (reads : Reads) (ws : Writes) (old new : Facts) → Lead new (λ k. all_known (known_first ws k) old) → Carry family (FirstSilent reads ws) old new
+  carry-first reads ws old new lead rows suffice k l h = suffice (known_first ws k) (lawful-first ws k l) (lead k l h)
+
+  pub carry-second : (reads : Reads) (ws : Writes) (old new : Facts) → Lead new (λ k. all_known (known_second ws k) old) → Carry family (SecondSilent reads ws) old new
+  carry-second reads ws old new lead rows suffice k l h = suffice (known_second ws k) (lawful-second ws k l) (lead k l h)
+
+  pub carry-start : (n : ℕ) (old : Facts) → all_known (known (facts_at family n)) old ≡ true → Carry family (BothStart n) old (facts_at family n)
+  carry-start n old e rows suffice k l h =
+      and_from (all_known k (facts_at family n)) (rows_hold family rows (known (facts_at family n))) h (suffice (known (facts_at family n)) (lawful-known (facts_at family n)) e)
+
+  pub carry-end : (falls : Option (Writes × Writes)) (exits : List Ways) (old middle new : Facts) → ((rows : List Row) → Suffice family rows old → Lead middle (λ k. rows_hold family rows (behind_falls falls k))) → Adds middle (λ k. ways_hold family k exits) new → Carry family (BothEnd falls exits) old new
+  carry-end falls exits old middle new lead adds rows suffice k l h =
+      let p = both-true (ways_hold family k exits) (all_known k middle) (adds k l h) in
+      go falls p.0 (lead rows suffice k l p.1)
+    where
+      go : (falls : Option (Writes × Writes)) → ways_hold family k exits ≡ true → rows_hold family rows (behind_falls falls k) ≡ true → rows_hold family (BothEnd falls exits ∷ rows) k ≡ true
+      go None a b = and_from (ways_hold family k exits) (rows_hold family rows everything) a b
+      go (Some e) a b = and_from (ways_hold family k exits) (rows_hold family rows (known_second e.1 (known_first e.0 k))) a b
+
+  pub leave : (ws vs : Writes) (target : Option Ways) (exits : List Ways) (old one two new : Facts) → Adds old (λ k. target_holds family k target) one → Adds one (λ k. ways_hold family k exits) two → Lead new (λ k. all_known (known_both ws vs k) two) → Leave family ws vs target exits old new
+  leave ws vs target exits old one two new a b c k l h =
+      let k' = known_both ws vs k in
+      let l' = lawful-both ws vs k l in
+      let p = both-true (ways_hold family k' exits) (all_known k' one) (b k' l' (c k l h)) in
+      let q = both-true (target_holds family k' target) (all_known k' old) (a k' l' p.1) in
+      and_from (target_holds family k' target) (ways_hold family k' exits && all_known k' old) q.0 (and_from (ways_hold family k' exits) (all_known k' old) p.0 q.1)
+
+  pub carry-counted : (r : Rest) (reads reads' : Reads) (ws vs : Writes) (target : Option Ways) (exits : List Ways) (old middle new : Facts) → Leave family ws vs target exits old middle → Adds middle (λ k. operands_known k reads reads') new → Carry family (BothCounted r reads reads' ws vs target exits) old new
+  carry-counted r reads reads' ws vs target exits old middle new leaves adds rows suffice k l h =
+      let k' = known_both ws vs k in
+      let l' = lawful-both ws vs k l in
+      let p = both-true (operands_known k reads reads') (all_known k middle) (adds k l h) in
+      let q = both-true (target_holds family k' target) (ways_hold family k' exits && all_known k' old) (leaves k l p.1) in
+      let r = both-true (ways_hold family k' exits) (all_known k' old) q.1 in
+      and_from (operands_known k reads reads') (target_holds family k' target && (ways_hold family k' exits && rows_hold family rows k')) p.0
+      (and_from (target_holds family k' target) (ways_hold family k' exits && rows_hold family rows k') q.0
+      (and_from (ways_hold family k' exits) (rows_hold family rows k') r.0 (suffice k' l' r.1)))
+
+all-everything : (facts : Facts) → all_known everything facts ≡ true
+all-everything [] = refl
+all-everything (f ∷ facts) = all-everything facts
+
+-- where control doesn't fall out of a block, nothing is asked
+pub falls-nowhere : (family : Family) (rows : List Row) (old new : Facts) → Suffice family rows old → Lead new (λ k. rows_hold family rows everything)
+falls-nowhere family rows old new suffice k l h = suffice everything lawful-everything (all-everything old)
+
+pub falls-on : (e : Writes × Writes) (old middle new : Facts) → Lead middle (λ k. all_known (known_second e.1 k) old) → Lead new (λ k. all_known (known_first e.0 k) middle) → (family : Family) (rows : List Row) → Suffice family rows old → Lead new (λ k. rows_hold family rows (known_second e.1 (known_first e.0 k)))
+falls-on e old middle new a b family rows suffice k l h =
+    let k' = known_first e.0 k in
+    let l' = lawful-first e.0 k l in
+    suffice (known_second e.1 k') (lawful-second e.1 k' l') (a k' l' (b k l h))

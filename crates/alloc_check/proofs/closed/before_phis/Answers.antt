@@ -1,0 +1,10 @@
+use Rattle.std.proofs.Common.{Ok, Err, IfOk, IsTrue}
+use Rattle.alloc_check.proofs.Lawful.{if-more}
+use Rattle.alloc_check.proofs.Steps.{falls-on}
+use Rattle.alloc_check.proofs.closed.before_phis.Goals as goal
+
+pub returns : goal.returns
+returns c =
+    if-more _ _ c.step_first.result
+    (λ yes h x family rows s. falls-on (c.args.first.now, c.args.second.now) c.args.needs.now.facts c.step_second.new.needs.facts c.step_first.new.needs.facts c.in_ok-step_second.ensures (h x) family rows s)
+    c.step_first.ensures

@@ -1,0 +1,25 @@
+use Rattle.std.proofs.Common.{◌≡◌, [], false, map, option_map, sym, ap, ◌∙◌}
+use Rattle.target_base.specs.Roles.{is_silent}
+use Rattle.meaning.specs.Code.{Counted}
+use Rattle.meaning.specs.Lanes.{Reads, Writes}
+use Rattle.meaning.specs.declared.types.Rest.{Rest}
+use Rattle.mir_meaning.specs.Items.{values, rest_of, counted_writes}
+use Rattle.mir_meaning.specs.Codes.{way, target_of}
+use Rattle.alloc_check.proofs.Rowed.{item-counted}
+use Rattle.alloc_check.proofs.rows.counted_item.Goals as goal
+
+pub returns-in_ok-writes-in-Some : goal.returns-in_ok-writes-in-Some
+returns-in_ok-writes-in-Some c =
+    let t = c.args.t.now in
+    let f = c.args.f.now in
+    let b = c.args.b.now in
+    let i = c.args.i.now in
+    let e = c.in-Some.e in
+    let s : is_silent e ≡ false = sym c.is_silent.ensures ∙ c.if-is_silent.false in
+    let to = option_map (way t f b.number) (target_of i.operands) in
+    let reads : c.in_ok-reads-in-Some.reads ≡ map (λ v. v.0) (values t f e i) =
+    c.in_ok-reads-in-Some.ensures ∙ ap (map (λ v. v.0)) (c.as_slice-in-Some.ensures ∙ c.in_ok-read-in-Some.ensures) in
+    item-counted t f b i e (sym c.in-Some.ensures) s
+    ∙ (ap (λ r. Counted r (map (λ v. v.0) (values t f e i)) (counted_writes t f e i) to []) (sym c.in_ok-rest-in-Some.ensures)
+    ∙ (ap (λ rs. Counted c.in_ok-rest-in-Some.rest rs (counted_writes t f e i) to []) (sym reads)
+    ∙ ap (λ ws. Counted c.in_ok-rest-in-Some.rest c.in_ok-reads-in-Some.reads ws to []) (sym c.in_ok-writes-in-Some.ensures)))

@@ -1,0 +1,6 @@
+use Rattle.std.proofs.Common.{◌≡◌, ◌++◌, ◌+◌, ◌≤◌, ◌∷◌, [], take, drop, map, length, true}
+use Rattle.alloc_check.specs.Bare.{first_bare, second_bare, items, blocks_bare, bare}
+use Rattle.alloc_check.proofs.rows.push_instrs.Given as goal
+
+abbrev pub invariant-loop-i : goal.invariant-loop-i
+invariant-loop-i l = (l.j ≤ length l.c.instrs) × (first_bare l.rows ++ items l.t l.f l.b (drop l.i-index l.b.instrs) ≡ first_bare l.initial.rows ++ items l.t l.f l.b l.b.instrs) × (second_bare l.rows ++ items l.t l.g l.c (drop l.j l.c.instrs) ≡ second_bare l.initial.rows ++ items l.t l.g l.c l.c.instrs)

@@ -1,0 +1,22 @@
+-- What a verdict says.
+use Rattle.std.specs.Prelude.{◌≡◌, false}
+use Rattle.std.specs.List.{list_any}
+use Rattle.target_base.specs.declared.types.Target.{Target}
+use Rattle.mir_func.specs.Value.{Function}
+use Rattle.mir_meaning.specs.declared.Form.TheVariants as forms
+use Rattle.mir_meaning.specs.Valid.{IsValid, names_virtual}
+use Rattle.mir_meaning.specs.Codes.{refines}
+use Rattle.alloc_check.specs.declared.check.Verdict.{Verdict}
+use Rattle.alloc_check.specs.declared.check.Verdict.TheVariants.{Yes, No}
+
+-- a Yes says this, a No nothing
+abbrev pub IfYes : Type 0 → Verdict → Type 0
+IfYes P Yes = P
+IfYes P (No place) = Unit {0}
+
+-- the allocated function is right for its source
+pub record IsRight (t : Target) (f g : Function) : Type 0 where
+  pub valid : IsValid t forms.Allocated g
+  -- no virtual register is named
+  pub chosen : list_any names_virtual g.blocks ≡ false
+  pub refines : refines t f g

@@ -1,0 +1,267 @@
+//! The test that a family of facts holds on every way into a block, and gives what each pair of
+//! counted instructions needs. It goes backward: what rows need behind an instruction is taken to
+//! the place before it, until it meets the facts of a block's start.
+
+ghost use Rattle.std.specs.Prelude.{◌≡◌, ◌∷◌, [], IsTrue, IfOk, IfSome, OnOk, true, List, Option, Some, None};
+ghost use Rattle.meaning.specs.declared.types.Row.{Row as ARow};
+ghost use Rattle.meaning.specs.declared.types.Row.TheVariants.{BothStart, BothEnd, FirstSilent, SecondSilent, BothCounted};
+ghost use Rattle.meaning.specs.Facts.{Facts as SomeFacts, Knowledge, all_known, known_first, known_second, known_both};
+ghost use Rattle.meaning.specs.Agree.{Family as SomeFamily, facts_at, ways_hold, target_holds, rows_hold};
+ghost use Rattle.meaning.specs.declared.types.Rest.{Rest as ARest};
+ghost use Rattle.meaning.specs.declared.types.Ways.{Ways as SomeWays};
+ghost use Rattle.meaning.specs.Lanes.{Reads, Writes as SomeWrites};
+ghost use Rattle.alloc_check.specs.Needs.{Lead, Adds, Carry, Suffice, behind_falls, Leave};
+
+use crate::facts::{
+    Fact, Facts, all_back_both, all_back_first, all_back_second, all_fit_both, all_fit_first,
+};
+use crate::needs::{Needs, add_along, add_operands, needs_of};
+use meaning::{Row, Source, Ways, Write, Writes};
+use std::alloc::{AllocError, Global};
+use target_base::List;
+
+/// For each block, by its number, the facts at its start.
+pub type Family = List<(u32, Facts)>;
+
+/// The facts at the start of a block.
+pub fn facts_at(family: &Family, n: u32) -> &[Fact]
+    ensures { result.now ≡ facts_at family.now n }
+{
+    for b in family.as_slice() {
+        if b.0 == n {
+            return b.1.as_slice();
+        }
+    }
+    &[]
+}
+
+/// Asks for what the facts of blocks need on the ways into them.
+fn add_ways(
+    alloc: Global,
+    family: &Family,
+    exits: &[Ways],
+    needs: &mut Needs,
+) -> Result<bool, AllocError>
+    ensures { IfOk result (λ yes. IsTrue yes → Adds needs.old.facts (λ k. ways_hold family.now k exits.now) needs.new.facts) }
+{
+    for e in exits {
+        if !add_along(alloc, needs, e, facts_at(family, e.block))? {
+            return Ok(false);
+        }
+    }
+    Ok(true)
+}
+
+fn add_target(
+    alloc: Global,
+    family: &Family,
+    target: &Option<Ways>,
+    needs: &mut Needs,
+) -> Result<bool, AllocError>
+    ensures { IfOk result (λ yes. IsTrue yes → Adds needs.old.facts (λ k. target_holds family.now k target.now) needs.new.facts) }
+{
+    match target {
+        None => Ok(true),
+        Some(e) => add_along(alloc, needs, e, facts_at(family, e.block)),
+    }
+}
+
+/// Takes needs to the place before writes of the first function.
+fn step_first(alloc: Global, writes: &[Write], needs: &mut Needs) -> Result<bool, AllocError>
+    ensures { IfOk result (λ yes. IsTrue yes → Lead needs.new.facts (λ k. all_known (known_first writes.now k) needs.old.facts)) }
+{
+    if !all_fit_first(writes, needs.facts.as_slice()) {
+        return Ok(false);
+    }
+    all_back_first(alloc, writes, &mut needs.facts)?;
+    Ok(true)
+}
+
+/// The same of the second function.
+fn step_second(alloc: Global, writes: &[Write], needs: &mut Needs) -> Result<(), AllocError>
+    ensures { OnOk result (Lead needs.new.facts (λ k. all_known (known_second writes.now k) needs.old.facts)) }
+{
+    all_back_second(alloc, writes, &mut needs.facts)
+}
+
+/// Takes needs to the place before a counted instruction of both.
+fn step_both(
+    alloc: Global,
+    first: &[Write],
+    second: &[Write],
+    needs: &mut Needs,
+) -> Result<bool, AllocError>
+    ensures { IfOk result (λ yes. IsTrue yes → Lead needs.new.facts (λ k. all_known (known_both first.now second.now k) needs.old.facts)) }
+{
+    if !all_fit_both(first, second, needs.facts.as_slice()) {
+        return Ok(false);
+    }
+    all_back_both(alloc, first, second, &mut needs.facts)?;
+    Ok(true)
+}
+
+/// Takes needs to a block's start, where the block's facts are to give them.
+fn before_start(
+    alloc: Global,
+    family: &Family,
+    n: u32,
+    needs: &mut Needs,
+) -> Result<bool, AllocError>
+    ensures { IfOk result (λ yes. IsTrue yes → Carry family.now (BothStart n) needs.old.facts needs.new.facts) }
+{
+    let start = needs_of(alloc, facts_at(family, n))?;
+    if !start.covers(needs.facts.as_slice()) {
+        return Ok(false);
+    }
+    *needs = start;
+    Ok(true)
+}
+
+/// Where control doesn't fall out of a block, nothing is asked.
+fn before_nothing(alloc: Global, needs: &mut Needs) -> Result<bool, AllocError>
+    ensures { IfOk result (λ yes. IsTrue yes → (family : SomeFamily) (rows : List ARow) → Suffice family rows needs.old.facts → Lead needs.new.facts (λ k. rows_hold family rows (behind_falls None k))) }
+{
+    let nothing = Needs::new(alloc)?;
+    *needs = nothing;
+    Ok(true)
+}
+
+/// Takes needs from the start of the next block to the end of this one.
+fn before_phis(
+    alloc: Global,
+    first: &[Write],
+    second: &[Write],
+    needs: &mut Needs,
+) -> Result<bool, AllocError>
+    ensures { IfOk result (λ yes. IsTrue yes → (family : SomeFamily) (rows : List ARow) → Suffice family rows needs.old.facts → Lead needs.new.facts (λ k. rows_hold family rows (behind_falls (Some (first.now, second.now)) k))) }
+{
+    step_second(alloc, second, needs)?;
+    step_first(alloc, first, needs)
+}
+
+/// Takes needs from the start of the next block to the end of this one.
+fn before_falls(
+    alloc: Global,
+    falls: &Option<(Writes, Writes)>,
+    needs: &mut Needs,
+) -> Result<bool, AllocError>
+    ensures { IfOk result (λ yes. IsTrue yes → (family : SomeFamily) (rows : List ARow) → Suffice family rows needs.old.facts → Lead needs.new.facts (λ k. rows_hold family rows (behind_falls falls.now k))) }
+{
+    match falls {
+        None => before_nothing(alloc, needs),
+        Some(e) => before_phis(alloc, e.0.as_slice(), e.1.as_slice(), needs),
+    }
+}
+
+fn before_end(
+    alloc: Global,
+    family: &Family,
+    falls: &Option<(Writes, Writes)>,
+    exits: &List<Ways>,
+    needs: &mut Needs,
+) -> Result<bool, AllocError>
+    ensures { IfOk result (λ yes. IsTrue yes → Carry family.now (BothEnd falls.now exits.now) needs.old.facts needs.new.facts) }
+{
+    if !before_falls(alloc, falls, needs)? {
+        return Ok(false);
+    }
+    add_ways(alloc, family, exits.as_slice(), needs)
+}
+
+/// What a counted instruction leaves behind.
+pub fn before_writes(
+    alloc: Global,
+    family: &Family,
+    first: &[Write],
+    second: &[Write],
+    target: &Option<Ways>,
+    exits: &List<Ways>,
+    needs: &mut Needs,
+) -> Result<bool, AllocError>
+    ensures { IfOk result (λ yes. IsTrue yes → Leave family.now first.now second.now target.now exits.now needs.old.facts needs.new.facts) }
+{
+    if !add_target(alloc, family, target, needs)? {
+        return Ok(false);
+    }
+    if !add_ways(alloc, family, exits.as_slice(), needs)? {
+        return Ok(false);
+    }
+    step_both(alloc, first, second, needs)
+}
+
+fn before_first_silent(
+    alloc: Global,
+    writes: &List<Write>,
+    needs: &mut Needs,
+) -> Result<bool, AllocError>
+    ensures { IfOk result (λ yes. IsTrue yes → (family : SomeFamily) (reads : Reads) → Carry family (FirstSilent reads writes.now) needs.old.facts needs.new.facts) }
+{
+    step_first(alloc, writes.as_slice(), needs)
+}
+
+fn before_second_silent(
+    alloc: Global,
+    writes: &List<Write>,
+    needs: &mut Needs,
+) -> Result<bool, AllocError>
+    ensures { IfOk result (λ yes. IsTrue yes → (family : SomeFamily) (reads : Reads) → Carry family (SecondSilent reads writes.now) needs.old.facts needs.new.facts) }
+{
+    step_second(alloc, writes.as_slice(), needs)?;
+    Ok(true)
+}
+
+/// What a counted pair reads.
+fn before_reads(
+    alloc: Global,
+    left: &List<List<Source>>,
+    right: &List<List<Source>>,
+    needs: &mut Needs,
+) -> Result<bool, AllocError>
+    ensures { IfOk result (λ yes. IsTrue yes → (family : SomeFamily) (r : ARest) (ws vs : SomeWrites) (target : Option SomeWays) (exits : List SomeWays) (old : SomeFacts) → Leave family ws vs target exits old needs.old.facts → Carry family (BothCounted r left.now right.now ws vs target exits) old needs.new.facts) }
+{
+    needs.tidy(alloc)?;
+    add_operands(alloc, needs, left.as_slice(), right.as_slice())
+}
+
+/// Takes needs to the place before a row. False where the row can't hold.
+pub fn before_row(
+    alloc: Global,
+    family: &Family,
+    row: &Row,
+    needs: &mut Needs,
+) -> Result<bool, AllocError>
+    ensures { IfOk result (λ yes. IsTrue yes → Carry family.now row.now needs.old.facts needs.new.facts) }
+{
+    match row {
+        Row::BothStart(n) => before_start(alloc, family, *n, needs),
+        Row::BothEnd(falls, exits) => before_end(alloc, family, falls, exits, needs),
+        Row::FirstSilent(_, writes) => before_first_silent(alloc, writes, needs),
+        Row::SecondSilent(_, writes) => before_second_silent(alloc, writes, needs),
+        Row::BothCounted(_, left, right, first, second, target, exits) => {
+            let (first, second) = (first.as_slice(), second.as_slice());
+            if !before_writes(alloc, family, first, second, target, exits, needs)? {
+                return Ok(false);
+            }
+            before_reads(alloc, left, right, needs)
+        }
+    }
+}
+
+/// What must be known before the rows, so that they hold with this family. None where they can't.
+pub fn needs_before(
+    alloc: Global,
+    family: &Family,
+    rows: &[Row],
+) -> Result<Option<Needs>, AllocError>
+    ensures { IfOk result (λ made. IfSome made (λ needs. Suffice family.now rows.now needs.facts)) }
+{
+    let mut needs = Needs::new(alloc)?;
+    let mut k = rows.len();
+    while k > 0 {
+        k -= 1;
+        if !before_row(alloc, family, &rows[k], &mut needs)? {
+            return Ok(None);
+        }
+    }
+    Ok(Some(needs))
+}

@@ -1,0 +1,16 @@
+//! The checker of allocations: whether an allocated function agrees with its source, whoever made
+//! it. What it says Yes to is right.
+#![tactic(auto)]
+
+pub mod check;
+mod chosen;
+mod closed;
+mod doubts;
+mod facts;
+mod family;
+mod needs;
+mod rests;
+mod rows;
+mod start;
+
+pub use check::{Verdict, agree};

@@ -1,0 +1,425 @@
+//! Two functions side by side, as rows.
+
+ghost use Rattle.std.specs.Prelude.{◌≡◌, ◌<◌, ◌≤◌, ◌+◌, ◌++◌, ◌∷◌, [], IsTrue, IfOk, IfSome, OnOk, true, length, option_map, drop, slice_index_or};
+ghost use Rattle.meaning.specs.Rows.{first_edge, second_edge, first_target, second_target, first_falls, second_falls};
+ghost use Rattle.mir_meaning.specs.Codes.{item_of, way, target_of, fallen_into};
+ghost use Rattle.alloc_check.specs.Bare.{bare_item, first_bare, second_bare, items, block_bare, Grown, SilentItem, CountedItem, InFirst, InSecond, AreSides, Passed, Stepped};
+
+use crate::rests::same_rest;
+use meaning::{Reads, Rest, Row, Ways, Writes};
+use mir_func::{Block, Func, Instr};
+use mir_items::counted::{
+    effect_of, is_early_clobber, is_silent, reads_of, rest_of, roles_of, values,
+};
+use mir_items::results::counted_writes;
+use mir_items::silent::push_silent_writes;
+use mir_items::ways::{falls_through, is_terminator, push_phis, target_of};
+use std::alloc::{AllocError, Global};
+use target_base::{List, Target};
+
+/// Rows in layout order.
+pub type Rows = List<Row>;
+
+/// What a counted instruction does.
+#[derive(Drop)]
+struct Counted {
+    rest: Rest,
+    reads: Reads,
+    writes: Writes,
+}
+
+/// What a silent instruction writes; None for a counted one.
+fn silent_writes(
+    alloc: Global,
+    t: &Target,
+    f: &Func,
+    b: &Block,
+    i: &Instr,
+) -> Result<Option<Writes>, AllocError>
+    ensures { IfOk result (λ ws. SilentItem t.now f.now b.now i.now ws) }
+{
+    match effect_of(t, i) {
+        None => Ok(Some(List::new(alloc))),
+        Some(e) => {
+            if !is_silent(e) {
+                return Ok(None);
+            }
+            let mut writes = List::new(alloc);
+            let early = is_early_clobber(roles_of(t, i));
+            push_silent_writes(&mut writes, alloc, t, f, e, early, i.operands.as_slice())?;
+            Ok(Some(writes))
+        }
+    }
+}
+
+/// What a counted instruction does; None for a silent one.
+fn counted_item(
+    alloc: Global,
+    t: &Target,
+    f: &Func,
+    b: &Block,
+    i: &Instr,
+) -> Result<Option<Counted>, AllocError>
+    ensures { IfOk result (λ made. IfSome made (λ c. CountedItem t.now f.now b.now i.now c.rest c.reads c.writes)) }
+{
+    match effect_of(t, i) {
+        None => Ok(None),
+        Some(e) => {
+            if is_silent(e) {
+                return Ok(None);
+            }
+            let read = values(alloc, t, f, e, i)?;
+            let rest = rest_of(alloc, t, f, e, i, read.as_slice())?;
+            let reads = reads_of(alloc, read.as_slice())?;
+            let writes = counted_writes(alloc, t, f, e, i)?;
+            Ok(Some(Counted {
+                rest,
+                reads,
+                writes,
+            }))
+        }
+    }
+}
+
+/// Puts a silent instruction of the first function among the rows. False for a counted one.
+fn push_first(
+    rows: &mut Rows,
+    alloc: Global,
+    t: &Target,
+    f: &Func,
+    b: &Block,
+    i: &Instr,
+) -> Result<bool, AllocError>
+    ensures { IfOk result (λ yes. InFirst t.now f.now b.now i.now rows.old rows.new yes) }
+{
+    match silent_writes(alloc, t, f, b, i)? {
+        None => Ok(false),
+        Some(writes) => {
+            rows.push(Row::FirstSilent(List::new(alloc), writes))?;
+            Ok(true)
+        }
+    }
+}
+
+/// The same of the second function.
+fn push_second(
+    rows: &mut Rows,
+    alloc: Global,
+    t: &Target,
+    g: &Func,
+    c: &Block,
+    i: &Instr,
+) -> Result<bool, AllocError>
+    ensures { IfOk result (λ yes. InSecond t.now g.now c.now i.now rows.old rows.new yes) }
+{
+    match silent_writes(alloc, t, g, c, i)? {
+        None => Ok(false),
+        Some(writes) => {
+            rows.push(Row::SecondSilent(List::new(alloc), writes))?;
+            Ok(true)
+        }
+    }
+}
+
+/// Puts the silent instructions of the second function's block, from the j-th up to the next
+/// counted one, among the rows; answers the place of that one, or the block's length.
+fn push_seconds(
+    rows: &mut Rows,
+    alloc: Global,
+    t: &Target,
+    g: &Func,
+    c: &Block,
+    from: usize,
+) -> Result<usize, AllocError>
+    requires { from ≤ length c.now.instrs }
+    ensures { IfOk result (λ j. Passed t.now g.now c.now from j rows.old rows.new) }
+{
+    let mut j = from;
+    while j < c.instrs.len() {
+        if !push_second(rows, alloc, t, g, c, c.instrs.get(j))? {
+            return Ok(j);
+        }
+        j += 1;
+    }
+    Ok(j)
+}
+
+/// A way into block m from block n, in both functions.
+fn way_to(alloc: Global, t: &Target, f: &Func, g: &Func, n: u32, m: u32) -> Result<Ways, AllocError>
+    ensures { IfOk result (λ w. (first_edge w ≡ way t.now f.now n m) × (second_edge w ≡ way t.now g.now n m)) }
+{
+    let mut first = List::new(alloc);
+    push_phis(&mut first, alloc, t, f, n, m)?;
+    let mut second = List::new(alloc);
+    push_phis(&mut second, alloc, t, g, n, m)?;
+    Ok(Ways {
+        block: m,
+        first,
+        second,
+    })
+}
+
+/// The way to a target, if there is one.
+fn target_way(
+    alloc: Global,
+    t: &Target,
+    f: &Func,
+    g: &Func,
+    n: u32,
+    target: Option<u32>,
+) -> Result<Option<Ways>, AllocError>
+    ensures { IfOk result (λ w. (first_target w ≡ option_map (way t.now f.now n) target) × (second_target w ≡ option_map (way t.now g.now n) target)) }
+{
+    match target {
+        None => Ok(None),
+        Some(m) => Ok(Some(way_to(alloc, t, f, g, n, m)?)),
+    }
+}
+
+/// What the phis of the block that control falls into write, if it does.
+fn falls_of(
+    alloc: Global,
+    t: &Target,
+    f: &Func,
+    g: &Func,
+    n: u32,
+    into: Option<u32>,
+) -> Result<Option<(Writes, Writes)>, AllocError>
+    ensures { IfOk result (λ w. (first_falls w ≡ option_map (λ m. (way t.now f.now n m).phis) into) × (second_falls w ≡ option_map (λ m. (way t.now g.now n m).phis) into)) }
+{
+    match into {
+        None => Ok(None),
+        Some(m) => {
+            let ways = way_to(alloc, t, f, g, n, m)?;
+            Ok(Some((ways.first, ways.second)))
+        }
+    }
+}
+
+/// The ways out of a block to all its successors.
+fn exits_of(
+    alloc: Global,
+    t: &Target,
+    f: &Func,
+    g: &Func,
+    b: &Block,
+) -> Result<List<Ways>, AllocError> {
+    let mut made = List::new(alloc);
+    for e in b.successors.as_slice() {
+        made.push(way_to(alloc, t, f, g, b.number, e.block)?)?;
+    }
+    Ok(made)
+}
+
+/// The ways that paths take from the exit of an instruction, beside the next one.
+fn exits_at(
+    alloc: Global,
+    t: &Target,
+    f: &Func,
+    g: &Func,
+    b: &Block,
+    i: &Instr,
+) -> Result<List<Ways>, AllocError> {
+    match effect_of(t, i) {
+        None => Ok(List::new(alloc)),
+        Some(e) => {
+            if is_terminator(e) {
+                exits_of(alloc, t, f, g, b)
+            } else {
+                Ok(List::new(alloc))
+            }
+        }
+    }
+}
+
+fn same_number(a: Option<u32>, b: Option<u32>) -> bool
+    ensures { IsTrue result → a ≡ b }
+{
+    match (a, b) {
+        (None, None) => true,
+        (Some(m), Some(n)) => m == n,
+        _ => false,
+    }
+}
+
+/// Puts a pair of counted instructions of two blocks among the rows. False where they aren't one.
+fn push_pair(
+    rows: &mut Rows,
+    alloc: Global,
+    t: &Target,
+    f: &Func,
+    g: &Func,
+    b: &Block,
+    c: &Block,
+    i: &Instr,
+    x: &Instr,
+) -> Result<bool, AllocError>
+    requires { b.now.number ≡ c.now.number }
+    ensures { IfOk result (λ yes. IsTrue yes → Grown rows.old (bare_item (item_of t.now f.now b.now i.now) ∷ []) (bare_item (item_of t.now g.now c.now x.now) ∷ []) rows.new) }
+{
+    let target = target_of(i.operands.as_slice());
+    if !same_number(target, target_of(x.operands.as_slice())) {
+        return Ok(false);
+    }
+    let (left, right) = match (
+        counted_item(alloc, t, f, b, i)?,
+        counted_item(alloc, t, g, c, x)?,
+    ) {
+        (Some(left), Some(right)) => (left, right),
+        _ => return Ok(false),
+    };
+    if !same_rest(&left.rest, &right.rest) {
+        return Ok(false);
+    }
+    let way = target_way(alloc, t, f, g, b.number, target)?;
+    let exits = exits_at(alloc, t, f, g, b, i)?;
+    rows.push(Row::BothCounted(
+        left.rest,
+        left.reads,
+        right.reads,
+        left.writes,
+        right.writes,
+        way,
+        exits,
+    ))?;
+    Ok(true)
+}
+
+/// Puts an instruction of the first function's block among the rows; before a counted one the silent
+/// ones of the second function's block from the j-th on, and with it its partner. Answers the place
+/// behind those of the second block; None where there is no partner.
+fn push_next(
+    rows: &mut Rows,
+    alloc: Global,
+    t: &Target,
+    f: &Func,
+    g: &Func,
+    b: &Block,
+    c: &Block,
+    i: &Instr,
+    j: usize,
+) -> Result<Option<usize>, AllocError>
+    requires number { b.now.number ≡ c.now.number }
+    requires within { j ≤ length c.now.instrs }
+    ensures { IfOk result (λ next. IfSome next (λ to. Stepped t.now f.now g.now b.now c.now i.now j to rows.old rows.new)) }
+{
+    if push_first(rows, alloc, t, f, b, i)? {
+        return Ok(Some(j));
+    }
+    let at = push_seconds(rows, alloc, t, g, c, j)?;
+    if at >= c.instrs.len() {
+        return Ok(None);
+    }
+    if !push_pair(rows, alloc, t, f, g, b, c, i, c.instrs.get(at))? {
+        return Ok(None);
+    }
+    Ok(Some(at + 1))
+}
+
+/// Puts the instructions of two blocks among the rows. False where they don't pair.
+fn push_instrs(
+    rows: &mut Rows,
+    alloc: Global,
+    t: &Target,
+    f: &Func,
+    g: &Func,
+    b: &Block,
+    c: &Block,
+) -> Result<bool, AllocError>
+    requires { b.now.number ≡ c.now.number }
+    ensures { IfOk result (λ yes. IsTrue yes → Grown rows.old (items t.now f.now b.now b.now.instrs) (items t.now g.now c.now c.now.instrs) rows.new) }
+{
+    let mut j = 0;
+    for i in b.instrs.as_slice() {
+        match push_next(rows, alloc, t, f, g, b, c, i, j)? {
+            None => return Ok(false),
+            Some(next) => j = next,
+        }
+    }
+    let end = push_seconds(rows, alloc, t, g, c, j)?;
+    if end < c.instrs.len() {
+        return Ok(false);
+    }
+    Ok(true)
+}
+
+/// The block that the k-th block falls into, where it falls into one: the next in layout.
+fn fallen_among(t: &Target, blocks: &[Block], k: usize, b: &Block) -> Option<u32>
+    requires { k < length blocks.now }
+    ensures { result ≡ fallen_into t.now b.now (drop (k + 1) blocks.now) }
+{
+    if !falls_through(t, b.instrs.as_slice()) {
+        return None;
+    }
+    match blocks.get(k + 1) {
+        None => None,
+        Some(next) => Some(next.number),
+    }
+}
+
+/// The same in a function.
+fn fallen_into(t: &Target, f: &Func, k: usize, b: &Block) -> Option<u32>
+    requires { k < length f.now.blocks }
+    ensures { result ≡ fallen_into t.now b.now (drop (k + 1) f.now.blocks) }
+{
+    fallen_among(t, f.blocks.as_slice(), k, b)
+}
+
+/// The k-th block.
+fn block_at(f: &Func, k: usize) -> &Block
+    requires { k < length f.now.blocks }
+    ensures { result.now ≡ slice_index_or f.now.blocks k result.now }
+{
+    f.blocks.get(k)
+}
+
+/// Puts the k-th blocks of two functions among the rows. False where they don't pair.
+fn push_block(
+    rows: &mut Rows,
+    alloc: Global,
+    t: &Target,
+    f: &Func,
+    g: &Func,
+    k: usize,
+    b: &Block,
+    c: &Block,
+) -> Result<bool, AllocError>
+    requires first { k < length f.now.blocks }
+    requires second { k < length g.now.blocks }
+    ensures { IfOk result (λ yes. IsTrue yes → Grown rows.old (block_bare t.now f.now b.now (drop (k + 1) f.now.blocks)) (block_bare t.now g.now c.now (drop (k + 1) g.now.blocks)) rows.new) }
+{
+    if b.number != c.number {
+        return Ok(false);
+    }
+    let into = fallen_into(t, f, k, b);
+    let other = fallen_into(t, g, k, c);
+    if !same_number(into, other) {
+        return Ok(false);
+    }
+    rows.push(Row::BothStart(b.number))?;
+    if !push_instrs(rows, alloc, t, f, g, b, c)? {
+        return Ok(false);
+    }
+    let falls = falls_of(alloc, t, f, g, b.number, into)?;
+    let exits = exits_of(alloc, t, f, g, b)?;
+    rows.push(Row::BothEnd(falls, exits))?;
+    Ok(true)
+}
+
+/// The functions side by side, up to what only liveness looks at. None where they don't pair.
+pub fn rows_of(alloc: Global, t: &Target, f: &Func, g: &Func) -> Result<Option<Rows>, AllocError>
+    ensures { IfOk result (λ made. IfSome made (λ rows. AreSides t.now f.now g.now rows)) }
+{
+    if f.block_count() != g.block_count() {
+        return Ok(None);
+    }
+    let mut rows = List::new(alloc);
+    for k in 0..f.block_count() {
+        let b = block_at(f, k);
+        let c = block_at(g, k);
+        if !push_block(&mut rows, alloc, t, f, g, k, b, c)? {
+            return Ok(None);
+        }
+    }
+    Ok(Some(rows))
+}

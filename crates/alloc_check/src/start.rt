@@ -1,0 +1,92 @@
+//! What is known where a function starts.
+
+ghost use Rattle.std.specs.Prelude.{◌≡◌, IsTrue, true};
+ghost use Rattle.target_base.specs.Storage.{is_among};
+ghost use Rattle.target_base.specs.Numbers.{unit_number};
+ghost use Rattle.target_base.specs.Registers.{units_of};
+ghost use Rattle.std.specs.List.{list_any};
+ghost use Rattle.meaning.specs.Facts.{all_known, known_at_start};
+ghost use Rattle.meaning.specs.declared.types.Lane.TheVariants.{UnitLane};
+ghost use Rattle.meaning.specs.declared.types.Source.TheVariants.{FromLane};
+ghost use Rattle.mir_meaning.specs.Registers.{is_reserved_unit};
+ghost use Rattle.mir_meaning.specs.Codes.{is_given, given_of};
+
+use crate::facts::{Fact, same_source};
+use meaning::{Lane, Source};
+use mir_func::Func;
+use target_base::registers::units_at;
+use target_base::{Reg, Target, Unit};
+
+/// Whether a list has the unit of a number.
+fn has_unit(units: &[Unit], u: u32) -> bool
+    ensures { result ≡ is_among units.now (unit_number u) }
+{
+    for v in units {
+        if v.0 as u32 == u {
+            return true;
+        }
+    }
+    false
+}
+
+/// Whether one of the registers has the unit of a number.
+fn have_unit(t: &Target, regs: &[Reg], u: u32) -> bool
+    ensures { result ≡ list_any (λ r. is_among (units_of t.now r) (unit_number u)) regs.now }
+{
+    for r in regs {
+        if has_unit(units_at(t.regs.as_slice(), *r), u) {
+            return true;
+        }
+    }
+    false
+}
+
+/// Whether the unit has a value at the function's start: it is reserved, or the entry block lists it.
+fn is_given(t: &Target, f: &Func, u: u32) -> bool
+    ensures { result ≡ is_given t.now f.now.blocks u }
+{
+    match f.blocks.as_slice() {
+        [] => has_unit(t.reserved.as_slice(), u),
+        [b, ..] => { has_unit(t.reserved.as_slice(), u) || have_unit(t, b.liveins.as_slice(), u) }
+    }
+}
+
+/// Whether a unit, where it is given, has its value in a source of the second function.
+#[tactic(auto, using(crate::proofs::Rested::unit_free, crate::proofs::Rested::unit_given))]
+fn unit_starts(t: &Target, f: &Func, g: &Func, u: u32, source: &Source) -> bool
+    ensures { IsTrue result → known_at_start (given_of t.now f.now) (given_of t.now g.now) (FromLane (UnitLane u)) source.now ≡ true }
+{
+    if !is_given(t, f, u) {
+        return true;
+    }
+    if !is_given(t, g, u) {
+        return false;
+    }
+    same_source(&Source::FromLane(Lane::UnitLane(u)), source)
+}
+
+/// Whether a fact holds at the start of both functions: units that are given have their own
+/// values, all else of the first function is Undef.
+fn starts(t: &Target, f: &Func, g: &Func, fact: &Fact) -> bool
+    ensures { IsTrue result → known_at_start (given_of t.now f.now) (given_of t.now g.now) fact.now.0 fact.now.1 ≡ true }
+{
+    match &fact.0 {
+        Source::Undef => true,
+        Source::FromLane(Lane::VirtualLane(_, _)) => true,
+        Source::FromLane(Lane::SlotLane(_, _, _)) => true,
+        Source::FromLane(Lane::UnitLane(u)) => unit_starts(t, f, g, *u, &fact.1),
+        Source::Bits(_, _, _) => same_source(&fact.0, &fact.1),
+    }
+}
+
+/// Whether facts hold at the start of both functions.
+pub fn all_start(t: &Target, f: &Func, g: &Func, facts: &[Fact]) -> bool
+    ensures { IsTrue result → all_known (known_at_start (given_of t.now f.now) (given_of t.now g.now)) facts.now ≡ true }
+{
+    for fact in facts {
+        if !starts(t, f, g, fact) {
+            return false;
+        }
+    }
+    true
+}

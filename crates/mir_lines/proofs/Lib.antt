@@ -1,0 +1,5 @@
+pub mod Values
+pub mod Listed
+pub mod Parts
+pub mod Comments
+pub mod Few

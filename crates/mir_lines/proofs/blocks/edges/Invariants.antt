@@ -1,0 +1,10 @@
+use Rattle.std.proofs.Common.{◌≡◌, length}
+use Rattle.mir_lines.specs.Blocks.{comma_parts, each, edge_of}
+use Rattle.mir_lines.proofs.Parts.{all_onto}
+use Rattle.mir_lines.proofs.blocks.edges.Given as goal
+
+abbrev pub invariant-parts : goal.invariant-parts
+invariant-parts l = each edge_of (comma_parts l.text) ≡ all_onto l.made (each edge_of (comma_parts l.rest))
+
+abbrev pub decreases-parts : goal.decreases-parts
+decreases-parts l = length l.rest

@@ -1,0 +1,17 @@
+//! Spilling: a live range is kept in a spill slot, and each place that touches it gets registers
+//! of its own for the moment (LLVM's InlineSpiller, with rematerialisation).
+#![tactic(auto)]
+
+pub mod kinds;
+mod places;
+mod plan;
+mod reaching;
+mod remat;
+pub mod roles;
+pub mod slot_map;
+mod spilled;
+pub mod stop;
+
+pub use slot_map::SlotMap;
+pub use spilled::spill;
+pub use stop::{Allocated, RunStop};

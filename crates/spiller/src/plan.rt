@@ -1,0 +1,238 @@
+//! The edits that spill a range, gathered before any of them is done.
+
+use interference::{Tinies, Tiny};
+use live_lanes::{Edit, LiveFunc};
+use mir_func::{Gap, Instr, Loc, Operand, Operands, RegOp};
+use std::alloc::{AllocError, Global};
+use target_base::{ClassId, Copied, IndexId, OpId, Reg, Target};
+
+/// What spilling looks at: the function as it stands before.
+#[derive(Clone, Copy)]
+pub(crate) struct View<'a> {
+    pub alloc: Global,
+    pub target: &'a Target,
+    pub live: &'a LiveFunc,
+    /// The range that is spilled.
+    pub v: u32,
+    /// Its class.
+    pub class: ClassId,
+}
+
+/// Edits in order, and the new ranges that they name.
+#[derive(Drop)]
+pub(crate) struct Plan {
+    alloc: Global,
+    pub edits: Vec<Edit>,
+    pub tinies: Tinies,
+    /// The classes of the tinies.
+    pub classes: Vec<ClassId>,
+    next_range: u32,
+    next_id: u32,
+}
+
+impl Plan {
+    /// No edits of a function.
+    pub fn new(view: View<'_>) -> Plan {
+        let f = view.live.func();
+        Plan {
+            alloc: view.alloc,
+            edits: Vec::new(view.alloc),
+            tinies: Tinies::new(view.alloc),
+            classes: Vec::new(view.alloc),
+            next_range: u32::try_from(f.classes.len()).unwrap_or(u32::MAX),
+            next_id: f.next_id,
+        }
+    }
+
+    /// The id of the instruction that is put next.
+    pub fn next_id(&self) -> u32 {
+        self.next_id
+    }
+
+    /// Notes that an instruction is put into a gap.
+    pub fn put(&mut self, gap: Gap, op: OpId, operands: Operands) -> Result<(), AllocError> {
+        self.edits.push(Edit::Put(gap, op, operands))?;
+        self.next_id = self.next_id.saturating_add(1);
+        Ok(())
+    }
+
+    /// Notes that an instruction becomes another one in its place.
+    pub fn replace(&mut self, id: u32, op: OpId, operands: Operands) -> Result<(), AllocError> {
+        self.edits.push(Edit::Replace(id, op, operands))?;
+        Ok(())
+    }
+
+    /// Notes that an instruction goes.
+    pub fn erase(&mut self, id: u32) -> Result<(), AllocError> {
+        self.edits.push(Edit::Erase(id))?;
+        Ok(())
+    }
+
+    /// Notes a new range of a class for a place, and answers its number.
+    pub fn tiny(&mut self, class: ClassId, at: u32) -> Result<u32, AllocError> {
+        let range = self.next_range;
+        self.classes.push(class)?;
+        self.tinies.push(Tiny { range, at })?;
+        self.next_range = range.saturating_add(1);
+        Ok(range)
+    }
+
+    /// The allocator of its lists.
+    pub fn alloc(&self) -> Global {
+        self.alloc
+    }
+}
+
+/// A register operand without flags.
+pub(crate) fn plain(loc: Loc, index: Option<IndexId>, def: bool, undef: bool) -> RegOp {
+    RegOp {
+        loc,
+        index,
+        def,
+        implicit: false,
+        undef,
+        early: false,
+        renamable: false,
+        tie: None,
+    }
+}
+
+/// The whole of a range, read or defined.
+pub(crate) fn whole(v: u32, def: bool) -> RegOp {
+    plain(Loc::Virtual(v), None, def, false)
+}
+
+/// A fixed register read as undefined.
+pub(crate) fn undefined(r: Reg) -> RegOp {
+    plain(Loc::Fixed(r), None, false, true)
+}
+
+/// Lanes of a spill slot.
+#[derive(Clone, Copy, PartialEq, Eq)]
+pub(crate) struct SlotPart {
+    /// The slot.
+    pub slot: u32,
+    /// The index that picks the lanes; none for all.
+    pub index: Option<IndexId>,
+}
+
+/// The operands of a store or a reload.
+pub(crate) fn slot_operands(
+    alloc: Global,
+    register: RegOp,
+    part: SlotPart,
+) -> Result<Operands, AllocError> {
+    let mut operands = Operands::new(alloc);
+    operands.push(Operand::Reg(register))?;
+    operands.push(Operand::Stack(part.slot))?;
+    operands.push(match part.index {
+        Some(index) => Operand::Index(index),
+        None => Operand::Imm(0),
+    })?;
+    Ok(operands)
+}
+
+/// The operands of an instruction with another register in the place of its definition.
+pub(crate) fn repeated(
+    alloc: Global,
+    instr: &Instr,
+    register: RegOp,
+) -> Result<Operands, AllocError> {
+    let mut operands = Operands::new(alloc);
+    operands.push(Operand::Reg(register))?;
+    'operands: for operand in instr.operands.as_slice().iter().skip(1) {
+        operands.push(operand.copied(alloc)?)?;
+    }
+    Ok(operands)
+}
+
+impl<'a> View<'a> {
+    /// The number of the block of an instruction.
+    pub fn block_number(&self, id: u32) -> u32 {
+        let position = self.live.position_of(id) as usize;
+        match self.live.func().blocks.as_slice().get(position) {
+            Some(block) => block.number,
+            None => 0,
+        }
+    }
+
+    /// The gap right before an instruction.
+    pub fn gap_before(&self, id: u32) -> Gap {
+        Gap {
+            block: self.block_number(id),
+            before: Some(id),
+        }
+    }
+
+    /// The gap right behind an instruction.
+    pub fn gap_behind(&self, id: u32) -> Gap {
+        let position = self.live.position_of(id) as usize;
+        let place = self.live.place_of(id).saturating_add(1);
+        Gap {
+            block: self.block_number(id),
+            before: match self.live.func().instr_at(position, place) {
+                Some(next) => Some(next.id),
+                None => None,
+            },
+        }
+    }
+
+    /// Whether an operand is the range that is spilled.
+    pub fn is_own(&self, op: &RegOp) -> bool {
+        op.loc == Loc::Virtual(self.v)
+    }
+
+    /// Whether some lane of the range that an operand names is live at the exit of an instruction.
+    pub fn is_live_behind(&self, index: Option<IndexId>, id: u32) -> bool {
+        match index {
+            None => (0..self.live.lane_count(self.v)).any(|k| self
+                .live
+                .live_out(self.v, k as usize, id)),
+            Some(index) => crate::kinds::lanes_of(self.target, index)
+                .iter()
+                .any(|k| self.live.live_out(self.v, *k as usize, id)),
+        }
+    }
+
+    /// The lanes of the range that an instruction reads, a bit for each.
+    pub fn lanes_read(&self, id: u32) -> u32 {
+        let mut lanes = 0u32;
+        'lanes: for k in 0..self.live.lane_count(self.v).min(32) {
+            if self.live.is_read(self.v, k, id) {
+                lanes |= 1u32 << k;
+            }
+        }
+        lanes
+    }
+
+    /// The lanes of the range that an instruction writes, a bit for each.
+    pub fn lanes_written(&self, id: u32) -> u32 {
+        let mut lanes = 0u32;
+        'lanes: for k in 0..self.live.lane_count(self.v).min(32) {
+            if self.live.is_written(self.v, k, id) {
+                lanes |= 1u32 << k;
+            }
+        }
+        lanes
+    }
+
+    /// The lanes of the range that an index picks, a bit for each.
+    pub fn lanes_named(&self, index: Option<IndexId>) -> u32 {
+        let mut lanes = 0u32;
+        match index {
+            None => {
+                'own: for k in 0..self.live.lane_count(self.v).min(32) {
+                    lanes |= 1u32 << k;
+                }
+            }
+            Some(index) => {
+                'picked: for k in crate::kinds::lanes_of(self.target, index) {
+                    if *k < 32 {
+                        lanes |= 1u32 << *k;
+                    }
+                }
+            }
+        }
+        lanes
+    }
+}

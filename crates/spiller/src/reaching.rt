@@ -1,0 +1,138 @@
+//! Which definitions of a range reach which of its readings.
+
+use crate::plan::View;
+use std::alloc::{AllocError, Global};
+
+/// What reads the range.
+#[derive(Clone, Copy, PartialEq, Eq)]
+pub(crate) struct ReadLanes {
+    /// The reading, by its place in the list of all.
+    pub reading: usize,
+    /// Its lanes, a bit for each.
+    pub lanes: u32,
+}
+
+/// An instruction that touches the range.
+#[derive(Drop)]
+pub(crate) struct Event {
+    pub id: u32,
+    /// The lanes that it defines, a bit for each.
+    pub defined: u32,
+    pub reads: Vec<ReadLanes>,
+}
+
+/// The instructions of a block that touch the range, in order.
+#[derive(Drop)]
+pub(crate) struct Events {
+    pub list: Vec<Event>,
+}
+
+/// Lanes that a definition reaches at the start of a block.
+#[derive(Clone, Copy, PartialEq, Eq)]
+struct Reached {
+    position: u32,
+    lanes: u32,
+}
+
+/// The walk from one definition.
+#[derive(Drop)]
+struct Walk {
+    /// The lanes reached at the start of each block.
+    starts: Vec<u32>,
+    work: Vec<Reached>,
+    /// The readings reached.
+    readings: Vec<usize>,
+}
+
+impl Walk {
+    /// Goes over events with lanes that the definition reaches, and answers those that are left.
+    fn pass(&mut self, events: &[Event], lanes: u32) -> Result<u32, AllocError> {
+        let mut left = lanes;
+        'events: for event in events {
+            self.read(event.reads.as_slice(), left)?;
+            left &= !event.defined;
+            if left == 0 {
+                break;
+            }
+        }
+        Ok(left)
+    }
+
+    fn read(&mut self, reads: &[ReadLanes], lanes: u32) -> Result<(), AllocError> {
+        'reads: for read in reads {
+            if read.lanes & lanes != 0 {
+                self.readings.push(read.reading)?;
+            }
+        }
+        Ok(())
+    }
+
+    /// Lets lanes reach the starts of blocks.
+    fn leave(&mut self, view: View<'_>, position: u32, lanes: u32) -> Result<(), AllocError> {
+        if lanes == 0 {
+            return Ok(());
+        }
+        'successors: for next in view.live.successors(position) {
+            if view.live.is_live_into(view.v, *next) {
+                self.enter(*next, lanes)?;
+            }
+        }
+        Ok(())
+    }
+
+    fn enter(&mut self, position: u32, lanes: u32) -> Result<(), AllocError> {
+        let Some(there) = self.starts.get_mut(position as usize) else {
+            return Ok(());
+        };
+        let new = lanes & !*there;
+        if new != 0 {
+            *there |= new;
+            self.work.push(Reached {
+                position,
+                lanes: new,
+            })?;
+        }
+        Ok(())
+    }
+}
+
+/// The events of the block at a position.
+fn events_at(blocks: &[Events], position: u32) -> &[Event] {
+    match blocks.get(position as usize) {
+        Some(events) => events.list.as_slice(),
+        None => &[],
+    }
+}
+
+/// The readings that the definition of lanes by an event reaches, in order, each once.
+pub(crate) fn readings_reached(
+    alloc: Global,
+    view: View<'_>,
+    blocks: &[Events],
+    position: u32,
+    place: usize,
+    lanes: u32,
+) -> Result<Vec<usize>, AllocError> {
+    let mut walk = Walk {
+        starts: Vec::from_elem(alloc, 0u32, blocks.len())?,
+        work: Vec::new(alloc),
+        readings: Vec::new(alloc),
+    };
+    let behind = match events_at(blocks, position).get(place.saturating_add(1)..) {
+        Some(behind) => behind,
+        None => &[],
+    };
+    let left = walk.pass(behind, lanes)?;
+    walk.leave(view, position, left)?;
+    'work: for k in 0..usize::MAX {
+        let Some(at) = walk.work.get(k).copied() else {
+            break;
+        };
+        let left = walk.pass(events_at(blocks, at.position), at.lanes)?;
+        walk.leave(view, at.position, left)?;
+    }
+    let Walk { mut readings, .. } = walk;
+    readings.sort_unstable();
+    readings.dedup();
+    Ok(readings)
+}

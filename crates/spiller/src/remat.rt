@@ -1,0 +1,428 @@
+//! Which readings of a range are rematerialised: the instruction that defines it is repeated in
+//! place of a reload.
+
+use crate::kinds::{effect_of, is_terminator, is_within, regs_of};
+use crate::plan::View;
+use crate::reaching::{Event, Events, ReadLanes, readings_reached};
+use crate::roles::{Tie, operand_class, register_at, role_of, tie_of};
+use mir_func::{Instr, Loc, Operand, RegOp};
+use std::alloc::{AllocError, Global};
+use target_base::{ClassId, Effect, IndexId, Reg, Role};
+
+/// What a reading asks of the instruction that is repeated for it.
+#[derive(Clone, Copy, PartialEq, Eq)]
+enum Wish {
+    /// It can't be rematerialised.
+    Never,
+    /// Its class lies within this one's.
+    Class(ClassId),
+    /// This register lies in its class.
+    Fixed(Reg),
+}
+
+/// The readings of an operand at a place.
+#[derive(Clone, Copy, PartialEq, Eq)]
+pub(crate) struct Key {
+    /// The instruction, or the first terminator.
+    pub at: u32,
+    /// The index and the operand class; none for the source of a copy or a store and for a tied use.
+    pub triple: Option<(Option<IndexId>, ClassId)>,
+}
+
+/// A reading of the range.
+#[derive(Clone, Copy, PartialEq, Eq)]
+struct Reading {
+    key: Key,
+    wish: Wish,
+    /// The definition that reaches it, if some does.
+    def: Option<u32>,
+    /// Whether several do.
+    has_several: bool,
+    /// Whether the definition's instruction is repeated for it.
+    is_good: bool,
+}
+
+/// What is rematerialised.
+#[derive(Drop)]
+pub(crate) struct Remat {
+    readings: Vec<Reading>,
+    /// The definitions that go, by their ids.
+    deleted: Vec<u32>,
+}
+
+impl Remat {
+    /// The definition whose instruction is repeated for a reading.
+    pub fn source(&self, key: Key) -> Option<u32> {
+        let first = self
+            .readings
+            .as_slice()
+            .partition_point(|r| r.key.at < key.at);
+        'readings: for reading in self.readings.iter().skip(first) {
+            if reading.key.at != key.at {
+                return None;
+            }
+            if reading.key == key && reading.is_good {
+                return reading.def;
+            }
+        }
+        None
+    }
+
+    /// Whether a definition goes.
+    pub fn is_deleted(&self, id: u32) -> bool {
+        self.deleted.contains(&id)
+    }
+}
+
+/// A definition and the readings that it reaches.
+#[derive(Drop)]
+struct Reach {
+    id: u32,
+    readings: Vec<usize>,
+}
+
+/// Whether an instruction can be repeated.
+fn is_repeatable(view: View<'_>, instr: &Instr) -> bool {
+    matches!(
+        effect_of(view.target, instr),
+        Some(Effect::Const | Effect::Addr)
+    )
+}
+
+/// Plans what is rematerialised of the range.
+pub(crate) fn plan_remat(view: View<'_>, touched: &[u32]) -> Result<Remat, AllocError> {
+    let mut remat = Remat {
+        readings: Vec::new(view.alloc),
+        deleted: Vec::new(view.alloc),
+    };
+    if !has_repeatable(view, touched) {
+        return Ok(remat);
+    }
+    let blocks = events_of(view, touched, &mut remat.readings)?;
+    let reaches = reaches_of(view, blocks.as_slice())?;
+    note_definitions(&mut remat.readings, reaches.as_slice());
+    judge(view, &mut remat.readings);
+    delete_unread(view, reaches.as_slice(), &mut remat)?;
+    remat.readings.sort_unstable_by_key(|r| r.key.at);
+    Ok(remat)
+}
+
+fn has_repeatable(view: View<'_>, touched: &[u32]) -> bool {
+    touched.iter().any(|id| match view.live.instr(*id) {
+        Some(instr) => is_repeatable(view, instr),
+        None => false,
+    })
+}
+
+/// The events of each block, with the readings listed.
+fn events_of(
+    view: View<'_>,
+    touched: &[u32],
+    readings: &mut Vec<Reading>,
+) -> Result<Vec<Events>, AllocError> {
+    let mut blocks = Vec::new(view.alloc);
+    'blocks: for _ in 0..view.live.func().blocks.len() {
+        blocks.push(Events {
+            list: Vec::new(view.alloc),
+        })?;
+    }
+    'touched: for id in touched {
+        if let Some(instr) = view.live.instr(*id) {
+            let event = event_of(view, instr, readings)?;
+            if let Some(events) = blocks.get_mut(view.live.position_of(*id) as usize) {
+                events.list.push(event)?;
+            }
+        }
+    }
+    Ok(blocks)
+}
+
+/// What an instruction does to the range, with its readings listed.
+fn event_of(
+    view: View<'_>,
+    instr: &Instr,
+    readings: &mut Vec<Reading>,
+) -> Result<Event, AllocError> {
+    let mut event = Event {
+        id: instr.id,
+        defined: view.lanes_written(instr.id),
+        reads: Vec::new(view.alloc),
+    };
+    match effect_of(view.target, instr) {
+        Some(Effect::Copy) => add_move(view, instr, 1, &mut event, readings)?,
+        Some(Effect::Spill) => add_move(view, instr, 0, &mut event, readings)?,
+        _ => add_operands(view, instr, &mut event, readings)?,
+    }
+    Ok(event)
+}
+
+/// Adds a reading to an event. Readings of one key are one.
+fn add_reading(
+    key: Key,
+    wish: Wish,
+    lanes: u32,
+    event: &mut Event,
+    readings: &mut Vec<Reading>,
+) -> Result<(), AllocError> {
+    let known = readings.iter().rev().take(64).position(|r| r.key == key);
+    let reading = match known {
+        Some(back) => readings.len().saturating_sub(back).saturating_sub(1),
+        None => {
+            readings.push(Reading {
+                key,
+                wish,
+                def: None,
+                has_several: false,
+                is_good: false,
+            })?;
+            readings.len().saturating_sub(1)
+        }
+    };
+    event.reads.push(ReadLanes { reading, lanes })?;
+    Ok(())
+}
+
+/// Adds the reading of a copy or a store, whose source is the operand at a place.
+fn add_move(
+    view: View<'_>,
+    instr: &Instr,
+    source: usize,
+    event: &mut Event,
+    readings: &mut Vec<Reading>,
+) -> Result<(), AllocError> {
+    let Some(op) = register_at(instr, source) else {
+        return Ok(());
+    };
+    let lanes = view.lanes_read(instr.id);
+    if !view.is_own(&op) || op.undef || lanes == 0 {
+        return Ok(());
+    }
+    let wish = match (source, op.index, register_at(instr, 0)) {
+        (
+            1,
+            None,
+            Some(
+                RegOp {
+                    loc: Loc::Fixed(r),
+                    ..
+                },
+            ),
+        ) => Wish::Fixed(r),
+        _ => Wish::Never,
+    };
+    let key = Key {
+        at: instr.id,
+        triple: None,
+    };
+    add_reading(key, wish, lanes, event, readings)
+}
+
+/// The instruction that names the place of another: itself, or the first terminator of its block.
+pub(crate) fn place_id(view: View<'_>, instr: &Instr) -> u32 {
+    if !is_terminator(view.target, instr) {
+        return instr.id;
+    }
+    let position = view.live.position_of(instr.id) as usize;
+    let Some(block) = view.live.func().blocks.as_slice().get(position) else {
+        return instr.id;
+    };
+    let instrs = block.instrs.as_slice();
+    match instrs.get(first_terminator(view, instrs)) {
+        Some(first) => first.id,
+        None => instr.id,
+    }
+}
+
+/// The place of the first of the terminators at the end of a block, or the block's end.
+pub(crate) fn first_terminator(view: View<'_>, instrs: &[Instr]) -> usize {
+    let count = instrs
+        .iter()
+        .rev()
+        .take_while(|instr| is_terminator(view.target, *instr))
+        .count();
+    instrs.len().saturating_sub(count)
+}
+
+fn is_tied_read(tie: Option<Tie>, place: usize) -> bool {
+    match tie {
+        Some(tie) => tie.read == place,
+        None => false,
+    }
+}
+
+/// Adds the readings of the operands of another instruction.
+fn add_operands(
+    view: View<'_>,
+    instr: &Instr,
+    event: &mut Event,
+    readings: &mut Vec<Reading>,
+) -> Result<(), AllocError> {
+    let tie = tie_of(view.target, instr);
+    let at = place_id(view, instr);
+    let mut place = 0usize;
+    'operands: for operand in instr.operands.as_slice() {
+        if let Operand::Reg(op) = operand {
+            if view.is_own(op) && !op.def && !op.undef {
+                let (key, wish) = key_of(view, instr, op, place, at, tie);
+                add_reading(key, wish, view.lanes_named(op.index), event, readings)?;
+            }
+        }
+        place = place.saturating_add(1);
+    }
+    Ok(())
+}
+
+fn key_of(
+    view: View<'_>,
+    instr: &Instr,
+    op: &RegOp,
+    place: usize,
+    at: u32,
+    tie: Option<Tie>,
+) -> (Key, Wish) {
+    if is_tied_read(tie, place) {
+        let key = Key {
+            at: instr.id,
+            triple: None,
+        };
+        return (key, Wish::Never);
+    }
+    let class = operand_class(view.target, view.live.func(), instr, place);
+    let class = class.unwrap_or(view.class);
+    let wish = match op.index {
+        None => Wish::Class(class),
+        Some(_) => Wish::Never,
+    };
+    let triple = Some((op.index, class));
+    (Key { at, triple }, wish)
+}
+
+/// The readings that each definition reaches.
+fn reaches_of(view: View<'_>, blocks: &[Events]) -> Result<Vec<Reach>, AllocError> {
+    let mut reaches = Vec::new(view.alloc);
+    let mut position = 0u32;
+    'blocks: for events in blocks {
+        add_reaches(view, blocks, events, position, &mut reaches)?;
+        position = position.saturating_add(1);
+    }
+    Ok(reaches)
+}
+
+fn add_reaches(
+    view: View<'_>,
+    blocks: &[Events],
+    events: &Events,
+    position: u32,
+    reaches: &mut Vec<Reach>,
+) -> Result<(), AllocError> {
+    let mut place = 0usize;
+    'events: for event in &events.list {
+        if event.defined != 0 {
+            let readings = readings_reached(
+                view.alloc,
+                view,
+                blocks,
+                position,
+                place,
+                event.defined,
+            )?;
+            reaches.push(Reach {
+                id: event.id,
+                readings,
+            })?;
+        }
+        place = place.saturating_add(1);
+    }
+    Ok(())
+}
+
+/// Notes at each reading which definition reaches it.
+fn note_definitions(readings: &mut Vec<Reading>, reaches: &[Reach]) {
+    'reaches: for reach in reaches {
+        note_definition(readings, reach);
+    }
+}
+
+fn note_definition(readings: &mut Vec<Reading>, reach: &Reach) {
+    'readings: for k in &reach.readings {
+        if let Some(reading) = readings.get_mut(*k) {
+            if reading.def.is_some() {
+                reading.has_several = true;
+            } else {
+                reading.def = Some(reach.id);
+            }
+        }
+    }
+}
+
+/// Decides which readings are rematerialised.
+fn judge(view: View<'_>, readings: &mut Vec<Reading>) {
+    'readings: for k in 0..readings.len() {
+        if let Some(reading) = readings.get_mut(k) {
+            reading.is_good = is_good(view, reading);
+        }
+    }
+}
+
+fn is_good(view: View<'_>, reading: &Reading) -> bool {
+    if reading.has_several {
+        return false;
+    }
+    let Some(id) = reading.def else {
+        return false;
+    };
+    let Some(instr) = view.live.instr(id) else {
+        return false;
+    };
+    is_repeatable(view, instr) && suits(view, instr, reading.wish)
+}
+
+/// Whether the instruction of a definition, repeated, gives what a reading asks for.
+fn suits(view: View<'_>, instr: &Instr, wish: Wish) -> bool {
+    let Some(class) = repeated_class(view, instr) else {
+        return false;
+    };
+    match wish {
+        Wish::Never => false,
+        Wish::Class(own) => is_within(view.target, own, class),
+        Wish::Fixed(r) => regs_of(view.target, class).contains(&r),
+    }
+}
+
+/// The class of the definition of an instruction that defines a whole range.
+fn repeated_class(view: View<'_>, instr: &Instr) -> Option<ClassId> {
+    if register_at(instr, 0)?.index.is_some() {
+        return None;
+    }
+    match role_of(crate::kinds::desc_of(view.target, instr)?, 0)? {
+        Role::Def(class) | Role::Early(class) => Some(class),
+        _ => None,
+    }
+}
+
+/// Lists the definitions that go: those that reach a reading, each of which is rematerialised.
+fn delete_unread(view: View<'_>, reaches: &[Reach], remat: &mut Remat) -> Result<(), AllocError> {
+    'reaches: for reach in reaches {
+        let is_read = !reach.readings.is_empty();
+        if is_read && are_good(remat.readings.as_slice(), reach.readings.as_slice()) {
+            if is_repeatable_id(view, reach.id) {
+                remat.deleted.push(reach.id)?;
+            }
+        }
+    }
+    Ok(())
+}
+
+fn is_repeatable_id(view: View<'_>, id: u32) -> bool {
+    match view.live.instr(id) {
+        Some(instr) => is_repeatable(view, instr),
+        None => false,
+    }
+}
+
+fn are_good(readings: &[Reading], places: &[usize]) -> bool {
+    places.iter().all(|k| match readings.get(*k) {
+        Some(reading) => reading.is_good,
+        None => false,
+    })
+}

@@ -1,0 +1,150 @@
+//! The spill slots of ranges. The ranges that come from one range of the prepared function, its
+//! original, share one slot.
+
+use mir_func::{Func, Instr, Operand};
+use std::alloc::{AllocError, Global};
+use std::collections::{BTreeMap, BTreeSet};
+use target_base::ClassId;
+
+/// A spill slot that was given.
+#[derive(Clone, Copy, Debug, PartialEq, Eq)]
+pub struct Slot {
+    /// The number of the frame object.
+    pub number: u32,
+    /// The class of the original, whose lanes the slot holds.
+    pub class: ClassId,
+}
+
+/// The slot of each original, and the original of each range.
+#[derive(Drop)]
+pub struct SlotMap {
+    /// By range.
+    originals: Vec<u32>,
+    /// By original: the number of its slot.
+    slots: BTreeMap<u32, u32>,
+    /// The slots that were given, in order.
+    given: Vec<Slot>,
+    /// The numbers that the prepared function declares or names.
+    taken: BTreeSet<u32>,
+    /// All numbers below it are taken or given.
+    next: u32,
+}
+
+impl SlotMap {
+    /// Each range of a prepared function is its own original, and none has a slot.
+    pub fn new(alloc: Global, f: &Func) -> Result<SlotMap, AllocError> {
+        let mut map = SlotMap {
+            originals: Vec::new(alloc),
+            slots: BTreeMap::new(alloc),
+            given: Vec::new(alloc),
+            taken: BTreeSet::new(alloc),
+            next: 0,
+        };
+        let mut v = 0u32;
+        'ranges: for _ in 0..f.classes.len() {
+            map.originals.push(v)?;
+            v = v.saturating_add(1);
+        }
+        map.take_declared(f)?;
+        'blocks: for block in f.blocks.as_slice() {
+            map.take_named(block.instrs.as_slice())?;
+        }
+        Ok(map)
+    }
+
+    fn take_declared(&mut self, f: &Func) -> Result<(), AllocError> {
+        'frames: for frame in f.frames.as_slice() {
+            self.taken.insert(frame.0)?;
+        }
+        Ok(())
+    }
+
+    fn take_named(&mut self, instrs: &[Instr]) -> Result<(), AllocError> {
+        'instrs: for instr in instrs {
+            self.take_operands(instr.operands.as_slice())?;
+        }
+        Ok(())
+    }
+
+    fn take_operands(&mut self, operands: &[Operand]) -> Result<(), AllocError> {
+        'operands: for operand in operands {
+            if let Operand::Stack(number) = operand {
+                self.taken.insert(*number)?;
+            }
+        }
+        Ok(())
+    }
+
+    /// The number of ranges.
+    pub fn len(&self) -> usize {
+        self.originals.len()
+    }
+
+    /// The original of a range.
+    pub fn original(&self, v: u32) -> u32 {
+        self.originals.get(v as usize).copied().unwrap_or(v)
+    }
+
+    /// Gives a range, which has the next number, the original of another.
+    pub fn adopt(&mut self, child: u32, parent: u32) -> Result<(), AllocError> {
+        let original = self.original(parent);
+        self.add(child, original)
+    }
+
+    /// Makes a range, which has the next number, its own original.
+    pub fn own(&mut self, v: u32) -> Result<(), AllocError> {
+        self.add(v, v)
+    }
+
+    fn add(&mut self, v: u32, original: u32) -> Result<(), AllocError> {
+        if self.originals.len() == v as usize {
+            self.originals.push(original)?;
+        }
+        Ok(())
+    }
+
+    /// The number of the slot of a range's original, if it has one.
+    pub fn slot_of(&self, v: u32) -> Option<u32> {
+        self.slots.get(&self.original(v)).copied()
+    }
+
+    /// The slots that were given, in order.
+    pub fn made(&self) -> &[Slot] {
+        self.given.as_slice()
+    }
+
+    /// The number of the slot of a range's original. Where it has none it is given the least number
+    /// that is free.
+    pub fn give(&mut self, f: &Func, v: u32) -> Result<u32, AllocError> {
+        if let Some(number) = self.slot_of(v) {
+            return Ok(number);
+        }
+        let original = self.original(v);
+        let number = self.free_number();
+        self.given.push(Slot {
+            number,
+            class: class_of(f, original),
+        })?;
+        self.slots.insert(original, number)?;
+        self.next = number.saturating_add(1);
+        Ok(number)
+    }
+
+    /// The least number from `next` on that the function neither declares nor names.
+    fn free_number(&self) -> u32 {
+        'numbers: for number in self.next..u32::MAX {
+            if !self.taken.contains(&number) {
+                return number;
+            }
+        }
+        u32::MAX
+    }
+}
+
+/// The class of a range; class 0 where it has none.
+fn class_of(f: &Func, v: u32) -> ClassId {
+    match f.classes.as_slice().get(v as usize) {
+        Some(Some(class)) => *class,
+        _ => ClassId(0),
+    }
+}

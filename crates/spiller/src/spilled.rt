@@ -1,0 +1,105 @@
+//! The call that spills a range.
+
+use crate::places::{change_single, change_terminators, is_at_end};
+use crate::plan::{Plan, View};
+use crate::remat::{Remat, first_terminator, place_id, plan_remat};
+use crate::roles::class_of;
+use crate::slot_map::SlotMap;
+use crate::stop::RunStop;
+use interference::{Matrix, Tinies};
+use std::alloc::{AllocError, Global};
+use target_base::ClassId;
+
+/// The most range numbers that are given for one function.
+pub const MOST_RANGES: usize = 1_048_576;
+
+/// Spills a range: each place that touches it gets ranges of its own, which are answered in order,
+/// uses before definitions. Ranges comes exactly where these would make more range numbers than the
+/// limit. After a refusal slots given earlier stay.
+pub fn spill(
+    alloc: Global,
+    m: &mut Matrix,
+    slots: &mut SlotMap,
+    v: u32,
+) -> Result<Tinies, RunStop> {
+    let touched = m.live().touched(alloc, v)?;
+    let plan = planned(alloc, m, slots, v, touched.as_slice())?;
+    let Plan {
+        edits,
+        tinies,
+        classes,
+        ..
+    } = plan;
+    let count = m.live().func().classes.len();
+    if count.saturating_add(classes.len()) > MOST_RANGES {
+        return Err(RunStop::Ranges);
+    }
+    make_ranges(m, slots, classes.as_slice())?;
+    m.edit_all(edits)?;
+    Ok(tinies)
+}
+
+/// Makes ranges of these classes, each its own original.
+fn make_ranges(m: &mut Matrix, slots: &mut SlotMap, classes: &[ClassId]) -> Result<(), AllocError> {
+    'classes: for class in classes {
+        let tiny = m.fresh(*class)?;
+        slots.own(tiny)?;
+    }
+    Ok(())
+}
+
+/// The edits that spill a range.
+fn planned(
+    alloc: Global,
+    m: &Matrix,
+    slots: &mut SlotMap,
+    v: u32,
+    touched: &[u32],
+) -> Result<Plan, AllocError> {
+    let live = m.live();
+    let view = View {
+        alloc,
+        target: live.target(),
+        live,
+        v,
+        class: class_of(live.func(), v).unwrap_or(ClassId(0)),
+    };
+    let remat = plan_remat(view, touched)?;
+    let mut plan = Plan::new(view);
+    let mut last = None;
+    'touched: for id in touched {
+        last = change_touched(view, *id, last, &remat, slots, &mut plan)?;
+    }
+    Ok(plan)
+}
+
+/// Changes the place of an instruction, unless it is that of terminators that were changed last.
+/// Answers the terminators' place, if it was one.
+fn change_touched(
+    view: View<'_>,
+    id: u32,
+    last: Option<u32>,
+    remat: &Remat,
+    slots: &mut SlotMap,
+    plan: &mut Plan,
+) -> Result<Option<u32>, AllocError> {
+    let Some(instr) = view.live.instr(id) else {
+        return Ok(last);
+    };
+    if !is_at_end(view, instr) {
+        change_single(view, instr, remat, slots, plan)?;
+        return Ok(last);
+    }
+    let at = place_id(view, instr);
+    if last == Some(at) {
+        return Ok(last);
+    }
+    let position = view.live.position_of(id) as usize;
+    if let Some(block) = view.live.func().blocks.as_slice().get(position) {
+        let instrs = block.instrs.as_slice();
+        if let Some(end) = instrs.get(first_terminator(view, instrs)..) {
+            change_terminators(view, end, remat, slots, plan)?;
+        }
+    }
+    Ok(Some(at))
+}

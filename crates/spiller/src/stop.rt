@@ -1,0 +1,31 @@
+//! How a run of the allocator ends.
+
+use crate::slot_map::SlotMap;
+use interference::Matrix;
+use std::alloc::AllocError;
+
+/// Why a run of the allocator doesn't come to its end.
+#[derive(Debug, Drop)]
+pub enum RunStop {
+    /// More range numbers were given than the limit allows.
+    Ranges,
+    /// A loop came to the end of its count, or a place has no solution.
+    Unfinished,
+    /// There was no memory.
+    Memory(AllocError),
+}
+
+impl From<AllocError> for RunStop {
+    fn from(e: AllocError) -> RunStop {
+        RunStop::Memory(e)
+    }
+}
+
+/// The end of a run: the function, the register of each range, and the spill slots.
+#[derive(Drop)]
+pub struct Allocated {
+    /// The function with the registers of its ranges.
+    pub matrix: Matrix,
+    /// The spill slots.
+    pub slots: SlotMap,
+}
