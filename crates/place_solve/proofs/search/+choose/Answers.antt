@@ -5,9 +5,10 @@ use Rattle.place_solve.proofs.search.+choose.Goals as goal
 
 pub each-preserved-then-not-fits : goal.each-preserved-then-not-fits
 each-preserved-then-not-fits t c =
-    let broken = rw c.as_slice.ensures.value at (sym c.if-not-fits.ensures) in
-    (c.each.invariant.0,
-     broken_more c.args.target.now c.args.variables.now (drop (c.count_of-k.result + 1) c.args.options.now) c.args.chosen.now.items c.each.chosen.items c.as_slice-here.result.now c.count_of-k.result c.each.r-index _ _ c.count_of-k.ensures (omega arith) (omega arith) c.each.invariant.0 broken c.each.invariant.1)
+    let broken = rw c.as_slice.ensures.value at (sym c.if-not-fits.ensures) in (
+      c.each.invariant.0,
+      broken_more c.args.target.now c.args.variables.now (drop (c.count_of-k.result + 1) c.args.options.now) c.args.chosen.now.items c.each.chosen.items c.as_slice-here.result.now c.count_of-k.result c.each.r-index _ _ c.count_of-k.ensures (omega arith) (omega arith) c.each.invariant.0 broken c.each.invariant.1,
+    )
 
 pub choose-requires : goal.choose-requires
 choose-requires t c =

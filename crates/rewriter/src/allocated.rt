@@ -1,0 +1,39 @@
+//! The end of a run in physical form.
+
+use crate::physical::rewrite_assigned;
+use interference::Matrix;
+use mir_func::Func;
+use spiller::Allocated;
+use spiller::slot_map::Slot;
+use std::alloc::{AllocError, Global};
+use target_base::{ClassId, Reg, Target};
+
+/// The register of each range of the function.
+fn registers_of(alloc: Global, m: &Matrix) -> Result<Vec<Option<Reg>>, AllocError> {
+    let mut made = Vec::new(alloc);
+    'ranges: for v in 0..m.live().func().classes.len() {
+        made.push(m.register_of(v.min(0xffff_ffff) as u32))?;
+    }
+    Ok(made)
+}
+
+/// The number of each slot with the class of its original.
+fn numbers_of(alloc: Global, slots: &[Slot]) -> Result<Vec<(u32, ClassId)>, AllocError> {
+    let mut made = Vec::new(alloc);
+    'slots: for s in slots {
+        made.push((s.number, s.class))?;
+    }
+    Ok(made)
+}
+
+/// The end of a run in physical form (LLVM's `VirtRegRewriter`): each operand in the register that its
+/// range is assigned, without copies of a register to itself, with the live-ins of its blocks and with
+/// the slots declared. It is meant for an end at which every range that the function names is assigned;
+/// an operand of another one stays as it is.
+pub fn rewrite(alloc: Global, target: &Target, a: Allocated) -> Result<Func, AllocError> {
+    let Allocated { matrix, slots } = a;
+    let registers = registers_of(alloc, &matrix)?;
+    let given = numbers_of(alloc, slots.made())?;
+    let f = matrix.into_live().into_func();
+    rewrite_assigned(alloc, target, f, registers.as_slice(), given.as_slice())
+}
