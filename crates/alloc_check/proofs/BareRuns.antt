@@ -1,13 +1,12 @@
 -- A bare code runs as the code does.
-use Rattle.std.proofs.Common.{◌≡◌, ◌∷◌, ◌++◌, ◌∙◌, ℕ, zero, suc, Bool, true, false, cond, List, [], Option, Some, None, refl, sym, ap, subst}
+use Rattle.std.proofs.Common.{◌≡◌, ◌∷◌, ◌∙◌, ℕ, zero, suc, Bool, true, false, cond, [], Option, Some, None, refl, sym, ap, subst}
 use Rattle.std.specs.Prelude.{nat_eq}
-use Rattle.meaning.specs.Code.{Item, BlockStart, BlockEnd, Silent, Counted, Code, Edge, Function, Goes, Run, Given, found, target_place, walk, runs, run, extended, continued, entered, start_state}
+use Rattle.meaning.specs.Code.{BlockStart, BlockEnd, Silent, Counted, Code, Edge, Function, Goes, found, target_place, walk, runs, run, extended, continued, entered, start_state}
 use Rattle.meaning.specs.Environment.{Environment}
 use Rattle.meaning.specs.State.{State, values, written}
-use Rattle.meaning.specs.Perform.{Outside, Performed, perform}
-use Rattle.meaning.specs.Lanes.{Writes, Reads}
+use Rattle.meaning.specs.Perform.{Outside, perform}
 use Rattle.meaning.specs.Refines.{Refines, IsDefined, Does}
-use Rattle.alloc_check.specs.Bare.{bare, bare_item}
+use Rattle.alloc_check.specs.Bare.{bare}
 
 bare-choice : (b : Bool) (p q : Code) → bare (cond b p q) ≡ cond b (bare p) (bare q)
 bare-choice true p q = refl

@@ -1,5 +1,5 @@
 -- Rows that hold imply refinement of the functions that are their sides.
-use Rattle.std.proofs.Common.{◌≡◌, true, refl, sym, ap, Result, Ok, Err, IfOk}
+use Rattle.std.proofs.Common.{◌≡◌, true, refl, Result, Ok, Err, IfOk}
 use Rattle.alloc_check.specs.declared.check.Verdict.{Verdict}
 use Rattle.alloc_check.specs.declared.check.Verdict.TheVariants.{Yes, No}
 use Rattle.alloc_check.specs.Verdict.{IfYes}

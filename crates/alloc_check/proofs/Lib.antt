@@ -1,4 +1,5 @@
 pub mod Lawful
+pub mod Marked
 pub mod Rested
 pub mod Pairs
 pub mod Judged

@@ -1,5 +1,5 @@
 -- Instructions put among the rows.
-use Rattle.std.proofs.Common.{◌≡◌, ◌∷◌, ◌++◌, ◌∙◌, ◌<◌, ◌≤◌, ◌+◌, ℕ, zero, suc, Bool, true, false, cond, List, [], Option, Some, None, option_map, refl, sym, ap, subst, append_assoc, drop, get_or, length, drop_of_length-le, arith}
+use Rattle.std.proofs.Common.{◌≡◌, ◌∷◌, ◌++◌, ◌∙◌, ◌<◌, ◌≤◌, ◌+◌, ℕ, true, cond, List, [], Option, Some, None, option_map, refl, sym, ap, append_assoc, drop, get_or, length, drop_of_length-le}
 use Rattle.std.proofs.lemmas.List.{at_drop_more, append-nil}
 use Rattle.target_base.specs.declared.types.Target.{Target}
 use Rattle.meaning.specs.declared.types.Rest.{Rest}
@@ -7,14 +7,14 @@ use Rattle.meaning.specs.declared.types.Row.{Row}
 use Rattle.meaning.specs.declared.types.Row.TheVariants.{BothStart, BothEnd, FirstSilent, SecondSilent, BothCounted}
 use Rattle.meaning.specs.declared.types.Ways.{Ways}
 use Rattle.meaning.specs.Lanes.{Writes, Reads}
-use Rattle.meaning.specs.Code.{Item, BlockStart, BlockEnd, Silent, Counted, Code}
+use Rattle.meaning.specs.Code.{Item, BlockStart, BlockEnd, Counted, Code}
 use Rattle.meaning.specs.Rows.{first_target, second_target, first_falls, second_falls}
 use Rattle.mir_func.specs.declared.func.Instr.{Instr}
 use Rattle.mir_func.specs.declared.func.Block.{Block}
 use Rattle.mir_func.specs.Value.{Function}
 use Rattle.mir_meaning.specs.Codes.{code_of, item_of, way, target_of, fallen_into, falls_through, first_number, block_end}
 use Rattle.alloc_check.specs.Bare.{bare, bare_item, first_bare, second_bare, items, blocks_bare, block_bare, Grown, SilentItem, CountedItem}
-use Rattle.alloc_check.proofs.Rowed.{grown-row, first-append, second-append, blocks-more, code-bare}
+use Rattle.alloc_check.proofs.Rowed.{grown-row, blocks-more, code-bare}
 
 pub in-first : (t : Target) (f : Function) (b : Block) (i : Instr) (old new : List Row) (ws : Writes) → SilentItem t f b i (Some ws) → new ≡ old ++ FirstSilent [] ws ∷ [] → Grown old (bare_item (item_of t f b i) ∷ []) [] new
 in-first t f b i old new ws s e =

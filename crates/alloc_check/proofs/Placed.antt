@@ -1,15 +1,10 @@
 -- Facts at places of a list.
-use Rattle.std.proofs.Common.{◌≡◌, ◌∷◌, ◌&&◌, ◌||◌, ◌<◌, ◌+◌, ℕ, zero, suc, Bool, true, false, List, [], Option, Some, None, refl, sym, ap, subst, ◌∙◌, drop, get_or, length, arith}
-use Rattle.std.proofs.lemmas.Bool.{and_from, eq-eqb}
+use Rattle.std.proofs.Common.{◌≡◌, ◌∷◌, ◌&&◌, ◌<◌, ◌+◌, ℕ, zero, suc, true, [], sym, ap, subst, ◌∙◌, drop, get_or, length, arith}
 use Rattle.std.proofs.lemmas.List.{at_drop_more}
-use Rattle.std.specs.Prelude.{slice_get}
-use Rattle.meaning.specs.declared.types.Source.{Source}
 use Rattle.meaning.specs.Sameness.{same_source}
-use Rattle.meaning.specs.Facts.{Fact, Facts, Knowledge, all_known, known, among, gives, always, reads_known, operands_known}
-use Rattle.meaning.specs.Lanes.{Reads}
+use Rattle.meaning.specs.Facts.{Fact, Facts, Knowledge, all_known}
 use Rattle.laws.proofs.Following.{both-true}
 use Rattle.laws.proofs.Same.{source-true}
-use Rattle.laws.proofs.Closed.{or-left, or-right}
 use Rattle.alloc_check.specs.Needs.{Has}
 
 -- a fact of a list of known ones is known

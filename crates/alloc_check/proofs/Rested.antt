@@ -1,5 +1,5 @@
 -- Tests that are put together.
-use Rattle.std.proofs.Common.{◌≡◌, ◌&&◌, ◌∙◌, ℕ, Bool, true, false, cond, Some, None, refl, sym, ap, subst}
+use Rattle.std.proofs.Common.{◌≡◌, ◌∙◌, ℕ, Bool, true, false, cond, Some, None, refl, ap}
 use Rattle.std.proofs.lemmas.Bool.{and_from, eq-eqb}
 use Rattle.std.specs.Ordering.{int_eq}
 use Rattle.target_base.specs.Storage.{same_numbers, unit_width}
@@ -10,7 +10,7 @@ use Rattle.meaning.specs.declared.types.Source.{Source}
 use Rattle.meaning.specs.declared.types.Source.TheVariants.{FromLane}
 use Rattle.meaning.specs.declared.types.Lane.TheVariants.{UnitLane}
 use Rattle.meaning.specs.Facts.{known_at_start, known_unit}
-use Rattle.meaning.specs.Sameness.{same_effect, same_list, same_rest, same_source, same_option}
+use Rattle.meaning.specs.Sameness.{same_effect, same_list, same_source, same_option}
 use Rattle.mir_func.specs.Value.{Function}
 use Rattle.mir_meaning.specs.Codes.{is_given, given_of}
 use Rattle.laws.proofs.Same.{rest-true}

@@ -1,18 +1,18 @@
 -- Rows that grow, and the items of instructions.
-use Rattle.std.proofs.Common.{◌≡◌, ◌∷◌, ◌++◌, ◌∙◌, ◌<◌, ◌+◌, ℕ, zero, suc, Bool, true, false, cond, List, [], Option, Some, None, map, option_map, refl, sym, ap, subst, append_assoc, drop, get_or, length, arith}
+use Rattle.std.proofs.Common.{◌≡◌, ◌∷◌, ◌++◌, ◌∙◌, true, false, cond, List, [], Some, None, map, option_map, refl, sym, ap, append_assoc}
 use Rattle.target_base.specs.declared.types.Effect.{Effect}
 use Rattle.target_base.specs.declared.types.Target.{Target}
 use Rattle.target_base.specs.Roles.{is_silent}
 use Rattle.meaning.specs.declared.types.Row.{Row}
 use Rattle.meaning.specs.declared.types.Row.TheVariants.{BothStart, BothEnd, FirstSilent, SecondSilent, BothCounted}
 use Rattle.meaning.specs.Rows.{first_target, second_target}
-use Rattle.meaning.specs.Code.{Item, BlockStart, BlockEnd, Silent, Counted, Code}
+use Rattle.meaning.specs.Code.{BlockStart, BlockEnd, Silent, Counted, Code}
 use Rattle.mir_func.specs.declared.func.Instr.{Instr}
 use Rattle.mir_func.specs.declared.func.Block.{Block}
 use Rattle.mir_func.specs.Value.{Function}
 use Rattle.mir_meaning.specs.Binding.{effect_of, roles_of, is_early_clobber, is_terminator}
 use Rattle.mir_meaning.specs.Items.{silent_reads, silent_writes, rest_of, values, counted_writes}
-use Rattle.mir_meaning.specs.Codes.{item_of, effect_item, blocks_code, code_of, block_end, way, ways_out, target_of, first_number}
+use Rattle.mir_meaning.specs.Codes.{item_of, effect_item, blocks_code, code_of, block_end, way, ways_out, target_of}
 use Rattle.alloc_check.specs.Bare.{bare, bare_item, first_bare, second_bare, items, blocks_bare, block_bare, Grown}
 
 pub bare-append : (p q : Code) → bare (p ++ q) ≡ bare p ++ bare q

@@ -1,9 +1,8 @@
 -- Facts taken back over an instruction.
-use Rattle.std.proofs.Common.{◌≡◌, ◌∷◌, ◌++◌, ◌&&◌, ◌||◌, ℕ, Bool, true, false, cond, List, [], Option, Some, None, map, refl, sym, ap, subst, ◌∙◌}
+use Rattle.std.proofs.Common.{◌≡◌, ◌∷◌, ◌&&◌, ◌||◌, ℕ, Bool, true, false, cond, List, [], Option, Some, None, map, refl, subst}
 use Rattle.std.specs.List.{list_all}
 use Rattle.std.proofs.lemmas.Bool.{and_from}
-use Rattle.meaning.specs.declared.types.Source.{Source}
-use Rattle.meaning.specs.declared.types.Source.TheVariants.{FromLane, Undef, Bits}
+use Rattle.meaning.specs.declared.types.Source.TheVariants.{Undef}
 use Rattle.meaning.specs.declared.types.Fill.{Fill}
 use Rattle.meaning.specs.declared.types.Fill.TheVariants.{Moved, Computed}
 use Rattle.meaning.specs.declared.types.Row.{Row}
@@ -14,7 +13,7 @@ use Rattle.meaning.specs.Lanes.{Writes, Reads, settled, through}
 use Rattle.meaning.specs.Facts.{Fact, Facts, Knowledge, all_known, everything, known, known_left, known_first, known_second, known_both, one_result, operands_known}
 use Rattle.meaning.specs.Agree.{Family, facts_at, known_along, rows_hold, target_holds, ways_hold}
 use Rattle.laws.proofs.Following.{both-true}
-use Rattle.laws.proofs.Closed.{or-left, or-right}
+use Rattle.laws.proofs.Closed.{or-right}
 use Rattle.alloc_check.specs.Needs.{IsLawful, Lead, Suffice, Adds, Carry, Leave, result_of, one_number, is_moved, before_first, before_second, before_both, fits_first, fits_both, behind_falls}
 use Rattle.alloc_check.proofs.Lawful.{lawful-known}
 

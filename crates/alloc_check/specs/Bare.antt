@@ -1,5 +1,5 @@
 -- A code without what only liveness looks at: the ways out, and what silent instructions read.
-use Rattle.std.specs.Prelude.{◌≡◌, ℕ, Bool, true, List, [], ◌∷◌, ◌++◌, false, map, Option, Some, None, option_map, ◌≤◌, ◌+◌, length, drop}
+use Rattle.std.specs.Prelude.{◌≡◌, ℕ, Bool, true, List, [], ◌∷◌, ◌++◌, false, Option, Some, None, option_map, ◌≤◌, length, drop}
 use Rattle.target_base.specs.declared.types.Target.{Target}
 use Rattle.meaning.specs.declared.types.Row.{Row}
 use Rattle.meaning.specs.declared.types.Rest.{Rest}

@@ -1,3 +1,4 @@
 pub mod Needs
+pub mod Marks
 pub mod Verdict
 pub mod Bare

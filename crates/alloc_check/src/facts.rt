@@ -1,6 +1,7 @@
 //! Facts, and what they ask before the instructions that they stand behind.
 
-ghost use Rattle.std.specs.Prelude.{◌≡◌, map, IfOk, OnOk, ◌&&◌, ◌||◌};
+ghost use Rattle.alloc_check.specs.Marks.{lane_slot, Marks, is_marked};
+ghost use Rattle.std.specs.Prelude.{◌≡◌, slice_set, true, map, IfOk, OnOk, ◌&&◌, ◌||◌};
 ghost use Rattle.std.specs.List.{list_all};
 ghost use Rattle.target_base.specs.Storage.{same_numbers};
 ghost use Rattle.meaning.specs.Lanes.{same_lane, filled, settled, through};
@@ -198,12 +199,72 @@ pub fn all_back_first(alloc: Global, writes: &[Write], facts: &mut Facts) -> Res
     Ok(())
 }
 
-/// The same of the second function.
+/// The slot of a lane.
+fn lane_slot(lane: Lane) -> usize
+    ensures { result ≡ lane_slot lane }
+{
+    match lane {
+        Lane::VirtualLane(v, _) => (v % 64) as usize,
+        Lane::UnitLane(u) => (u % 64) as usize,
+        Lane::SlotLane(s, _, _) => (s % 64) as usize,
+    }
+}
+
+/// Sets a mark, where there is one.
+fn set_mark(marks: &mut Vec<bool>, at: usize)
+    ensures { marks.new.items ≡ slice_set marks.old.items at true }
+{
+    if at < marks.len() {
+        marks[at] = true;
+    }
+}
+
+/// Marks the slots of the lanes that are written.
+fn marks_of(alloc: Global, writes: &[Write]) -> Result<Vec<bool>, AllocError>
+    ensures { IfOk result (λ made. Marks made.items writes.now) }
+{
+    let mut marks = Vec::from_elem(alloc, false, 64)?;
+    for w in writes {
+        set_mark(&mut marks, lane_slot(w.lane));
+    }
+    Ok(marks)
+}
+
+/// Whether the source is a lane whose slot is marked.
+fn is_marked(marks: &[bool], source: &Source) -> bool
+    ensures { result ≡ is_marked marks.now source.now }
+{
+    match source {
+        Source::FromLane(l) => marks.get(lane_slot(*l)).copied().unwrap_or(true),
+        Source::Undef => false,
+        Source::Bits(_, _, _) => false,
+    }
+}
+
+/// Takes a fact to the place before writes of the second function; of a lane whose slot isn't marked
+/// nothing is looked up.
+fn back_marked(
+    alloc: Global,
+    marks: &[bool],
+    writes: &[Write],
+    fact: &mut Fact,
+) -> Result<(), AllocError>
+    requires { Marks marks.now writes.now }
+    ensures { OnOk result (fact.new ≡ before_second writes.now fact.old) }
+{
+    if !is_marked(marks, &fact.1) {
+        return Ok(());
+    }
+    back_second(alloc, writes, fact)
+}
+
+/// Takes facts to the place before a silent instruction of the second function.
 pub fn all_back_second(alloc: Global, writes: &[Write], facts: &mut Facts) -> Result<(), AllocError>
     ensures { OnOk result (facts.new ≡ map (before_second writes.now) facts.old) }
 {
+    let marks = marks_of(alloc, writes)?;
     for k in 0..facts.len() {
-        back_second(alloc, writes, facts.get_mut(k))?;
+        back_marked(alloc, marks.as_slice(), writes, facts.get_mut(k))?;
     }
     Ok(())
 }

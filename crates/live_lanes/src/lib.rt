@@ -22,6 +22,7 @@ pub mod live;
 mod order;
 mod points;
 mod row;
+mod size;
 mod spread;
 mod table;
 mod touch;

@@ -1,6 +1,6 @@
 //! The header, the successors and the live-in registers that a line spells.
 
-ghost use Rattle.std.specs.Prelude.{◌≡◌, ◌≤◌, ◌<◌, ◌==◌, ◌++◌, ◌∷◌, [], Some, length, IfOk, IfSome, option_map, is_some, is_none, position, ◌||◌, not};
+ghost use Rattle.std.specs.Prelude.{◌≡◌, ◌≤◌, ◌<◌, ◌==◌, ◌++◌, ◌∷◌, ◌+◌, [], Some, length, IfOk, IfSome, option_map, is_some, is_none, position, ◌||◌, not};
 ghost use Rattle.std.specs.List.{list_all};
 ghost use Rattle.mir_lines.specs.Reads.{Reads, it, part_and_rest, now_of};
 ghost use Rattle.mir_lines.specs.Blocks.{in_parentheses, attributes_of, or_none, header_in, header_of, comma_parts, parts_from, each, share_of, share_behind, edge_in, edge_of, are_alike, alike, successors_of, livein_of, liveins_of};
@@ -152,7 +152,8 @@ fn edge(text: &[u8]) -> Result<RawEdge, LineStop>
 
 /// The successors of a list that isn't empty.
 fn edges(alloc: Global, text: &[u8]) -> Result<List<RawEdge>, LineStop>
-    ensures { Reads it result (each edge_of (comma_parts text.now)) }
+    ensures value { Reads it result (each edge_of (comma_parts text.now)) }
+    ensures few { IfOk result (λ es. length es ≤ length text.now + 1) }
 {
     let mut made = List::new(alloc);
     let mut rest = text;
@@ -189,7 +190,8 @@ fn are_alike(edges: &[RawEdge]) -> bool
 /// The successors that stand behind `successors:`, all with a probability or all without.
 #[tactic(auto, unfolding(crate::specs::Blocks::successors_of, crate::specs::Blocks::are_alike))]
 pub fn successors(alloc: Global, text: &[u8]) -> Result<List<RawEdge>, LineStop>
-    ensures { Reads it result (successors_of text.now) }
+    ensures value { Reads it result (successors_of text.now) }
+    ensures few { IfOk result (λ es. length es ≤ length text.now + 1) }
 {
     if is_blank(text) {
         return Ok(List::new(alloc));

@@ -1,7 +1,5 @@
 use Rattle.std.proofs.Common.{◌≡◌, drop}
 use Rattle.std.specs.List.{list_any}
-use Rattle.mir_meaning.specs.Binding.{registers}
-use Rattle.mir_meaning.specs.Rules.{is_virtual}
 use Rattle.mir_meaning.specs.Valid.{names_virtual}
 use Rattle.alloc_check.proofs.chosen.any_names_virtual.Given as goal
 

@@ -1,4 +1,3 @@
-use Rattle.std.proofs.Common.{Ok, Err, IfOk, IsTrue}
 use Rattle.alloc_check.proofs.Lawful.{if-more}
 use Rattle.alloc_check.proofs.Steps.{falls-on}
 use Rattle.alloc_check.proofs.closed.before_phis.Goals as goal

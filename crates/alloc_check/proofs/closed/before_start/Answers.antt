@@ -1,4 +1,4 @@
-use Rattle.std.proofs.Common.{◌≡◌, true, sym, subst, ap, ◌∙◌}
+use Rattle.std.proofs.Common.{◌≡◌, true, sym, subst, ◌∙◌}
 use Rattle.meaning.specs.Facts.{all_known, known}
 use Rattle.meaning.specs.Agree.{facts_at}
 use Rattle.meaning.specs.declared.types.Row.TheVariants.{BothStart}

@@ -1,4 +1,3 @@
-use Rattle.std.proofs.Common.{◌≡◌, ◌++◌, ◌+◌, ◌≤◌, ◌∷◌, [], take, drop, map, length, true}
 use Rattle.alloc_check.proofs.family.round.Given as goal
 
 abbrev pub decreases-loop-k : goal.decreases-loop-k

@@ -1,6 +1,5 @@
-use Rattle.std.proofs.Common.{◌≡◌, ◌++◌, ◌∷◌, [], take, drop, true}
-use Rattle.meaning.specs.Facts.{Knowledge, all_known, known, reads_known, operands_known}
-use Rattle.meaning.specs.Agree.{known_along}
+use Rattle.std.proofs.Common.{◌≡◌, drop, true}
+use Rattle.meaning.specs.Facts.{Knowledge, all_known, reads_known}
 use Rattle.alloc_check.specs.Needs.{IsLawful}
 use Rattle.alloc_check.proofs.needs.add_reads.Given as goal
 

@@ -1,4 +1,4 @@
-use Rattle.std.proofs.Common.{◌≡◌, ◌++◌, ◌+◌, ◌≤◌, ◌∷◌, [], take, drop, map, length, true}
+use Rattle.std.proofs.Common.{◌≡◌, drop}
 use Rattle.target_base.specs.Storage.{same_numbers}
 use Rattle.meaning.specs.Sameness.{same_list}
 use Rattle.alloc_check.proofs.rests.same_widths.Given as goal

@@ -1,9 +1,7 @@
 use Rattle.std.proofs.Common.{◌≡◌, [], false, map, option_map, sym, ap, ◌∙◌}
 use Rattle.target_base.specs.Roles.{is_silent}
 use Rattle.meaning.specs.Code.{Counted}
-use Rattle.meaning.specs.Lanes.{Reads, Writes}
-use Rattle.meaning.specs.declared.types.Rest.{Rest}
-use Rattle.mir_meaning.specs.Items.{values, rest_of, counted_writes}
+use Rattle.mir_meaning.specs.Items.{values, counted_writes}
 use Rattle.mir_meaning.specs.Codes.{way, target_of}
 use Rattle.alloc_check.proofs.Rowed.{item-counted}
 use Rattle.alloc_check.proofs.rows.counted_item.Goals as goal

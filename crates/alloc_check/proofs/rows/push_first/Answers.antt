@@ -1,4 +1,4 @@
-use Rattle.std.proofs.Common.{◌≡◌, ◌++◌, ◌∷◌, [], Some, subst, ap, ◌∙◌}
+use Rattle.std.proofs.Common.{◌++◌, ◌∷◌, [], Some, subst, ap, ◌∙◌}
 use Rattle.meaning.specs.declared.types.Row.TheVariants.{FirstSilent}
 use Rattle.alloc_check.specs.Bare.{SilentItem}
 use Rattle.alloc_check.proofs.Pairs.{in-first}

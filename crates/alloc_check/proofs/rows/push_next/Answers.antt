@@ -1,5 +1,5 @@
-use Rattle.std.proofs.Common.{◌≡◌, ◌++◌, ◌∷◌, [], ◌+◌, drop, true, false, sym, ap, subst, ◌∙◌, arith}
-use Rattle.alloc_check.specs.Bare.{first_bare, second_bare, items, bare_item, InFirst, Grown}
+use Rattle.std.proofs.Common.{◌≡◌, ◌++◌, ◌∷◌, [], ◌+◌, drop, true, ap, subst, ◌∙◌, arith}
+use Rattle.alloc_check.specs.Bare.{first_bare, second_bare, items, bare_item, InFirst}
 use Rattle.mir_meaning.specs.Codes.{item_of}
 use Rattle.alloc_check.proofs.Pairs.{grown-more, grown-none, items-at}
 use Rattle.alloc_check.proofs.rows.push_next.Goals as goal

@@ -1,6 +1,6 @@
-use Rattle.std.proofs.Common.{◌≡◌, ◌++◌, ◌∷◌, [], ◌+◌, drop, true, false, sym, ap, subst, ◌∙◌, arith}
+use Rattle.std.proofs.Common.{◌≡◌, ◌++◌, ◌∷◌, [], ◌+◌, drop, true, ap, subst, ◌∙◌, arith}
 use Rattle.std.proofs.lemmas.List.{append-nil}
-use Rattle.alloc_check.specs.Bare.{first_bare, second_bare, items, bare_item, InSecond, Grown}
+use Rattle.alloc_check.specs.Bare.{first_bare, second_bare, items, bare_item, InSecond}
 use Rattle.mir_meaning.specs.Codes.{item_of}
 use Rattle.alloc_check.proofs.Pairs.{grown-more, items-at}
 use Rattle.alloc_check.proofs.rows.push_seconds.Goals as goal

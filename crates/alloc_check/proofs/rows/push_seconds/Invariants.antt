@@ -1,5 +1,5 @@
-use Rattle.std.proofs.Common.{◌≡◌, ◌++◌, ◌-◌, ◌+◌, ◌≤◌, ◌∷◌, [], take, drop, map, length, true}
-use Rattle.alloc_check.specs.Bare.{first_bare, second_bare, items, blocks_bare, bare}
+use Rattle.std.proofs.Common.{◌≡◌, ◌++◌, ◌-◌, ◌≤◌, drop, length}
+use Rattle.alloc_check.specs.Bare.{first_bare, second_bare, items}
 use Rattle.alloc_check.proofs.rows.push_seconds.Given as goal
 
 abbrev pub invariant-loop-j : goal.invariant-loop-j

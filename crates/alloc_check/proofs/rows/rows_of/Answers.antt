@@ -1,4 +1,4 @@
-use Rattle.std.proofs.Common.{◌≡◌, ◌+◌, drop, arith, ◌∙◌}
+use Rattle.std.proofs.Common.{◌+◌, drop, arith, ◌∙◌}
 use Rattle.alloc_check.specs.Bare.{first_bare, second_bare, blocks_bare, block_bare}
 use Rattle.alloc_check.proofs.Pairs.{grown-more, blocks-at, sides-whole}
 use Rattle.alloc_check.proofs.rows.rows_of.Goals as goal

@@ -1,5 +1,5 @@
-use Rattle.std.proofs.Common.{◌≡◌, ◌++◌, ◌+◌, ◌≤◌, ◌∷◌, [], take, drop, map, length, true}
-use Rattle.alloc_check.specs.Bare.{first_bare, second_bare, items, blocks_bare, bare}
+use Rattle.std.proofs.Common.{◌≡◌, ◌++◌, drop}
+use Rattle.alloc_check.specs.Bare.{first_bare, second_bare, blocks_bare}
 use Rattle.alloc_check.proofs.rows.rows_of.Given as goal
 
 abbrev pub invariant-loop-k : goal.invariant-loop-k

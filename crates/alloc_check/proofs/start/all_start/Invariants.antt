@@ -1,4 +1,4 @@
-use Rattle.std.proofs.Common.{◌≡◌, ◌++◌, ◌+◌, ◌≤◌, ◌∷◌, [], take, drop, map, length, true}
+use Rattle.std.proofs.Common.{◌≡◌, drop}
 use Rattle.meaning.specs.Facts.{all_known, known_at_start}
 use Rattle.mir_meaning.specs.Codes.{given_of}
 use Rattle.alloc_check.proofs.start.all_start.Given as goal

@@ -1,8 +1,6 @@
-use Rattle.std.proofs.Common.{◌≡◌, ◌++◌, ◌+◌, ◌≤◌, ◌∷◌, [], take, drop, map, length, true}
+use Rattle.std.proofs.Common.{◌≡◌, drop}
 use Rattle.target_base.specs.Storage.{is_among}
 use Rattle.target_base.specs.Numbers.{unit_number}
-use Rattle.target_base.specs.Registers.{units_of}
-use Rattle.std.specs.List.{list_any}
 use Rattle.alloc_check.proofs.start.has_unit.Given as goal
 
 abbrev pub invariant-loop-v : goal.invariant-loop-v

@@ -1,4 +1,4 @@
-use Rattle.std.proofs.Common.{◌≡◌, ◌++◌, ◌+◌, ◌≤◌, ◌∷◌, [], take, drop, map, length, true}
+use Rattle.std.proofs.Common.{◌≡◌, drop}
 use Rattle.target_base.specs.Storage.{is_among}
 use Rattle.target_base.specs.Numbers.{unit_number}
 use Rattle.target_base.specs.Registers.{units_of}

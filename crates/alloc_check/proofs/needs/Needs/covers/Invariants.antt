@@ -1,7 +1,5 @@
-use Rattle.std.proofs.Common.{◌≡◌, ◌++◌, ◌∷◌, [], take, drop, true}
-use Rattle.meaning.specs.Facts.{Knowledge, all_known, known, reads_known, operands_known}
-use Rattle.meaning.specs.Agree.{known_along}
-use Rattle.alloc_check.specs.Needs.{IsLawful}
+use Rattle.std.proofs.Common.{◌≡◌, drop}
+use Rattle.meaning.specs.Facts.{all_known, known}
 use Rattle.alloc_check.proofs.needs.Needs.covers.Given as goal
 
 abbrev pub invariant-loop-f : goal.invariant-loop-f

@@ -1,4 +1,4 @@
-use Rattle.std.proofs.Common.{subst, ◌∙◌, sym, ap}
+use Rattle.std.proofs.Common.{subst}
 use Rattle.meaning.specs.Facts.{all_known}
 use Rattle.alloc_check.specs.Needs.{Adds}
 use Rattle.alloc_check.proofs.Lawful.{added-leads}

@@ -1,0 +1,76 @@
+-- Marks at the slots of written lanes.
+use Rattle.std.proofs.Common.{◌≡◌, ◌∷◌, ◌++◌, ◌&&◌, ◌<◌, ◌+◌, ℕ, zero, suc, Bool, true, false, cond, not, List, [], refl, sym, ap, subst, ◌∙◌, get_or, set, take, length}
+use Rattle.std.proofs.lemmas.Bool.{and_from}
+use Rattle.std.proofs.lemmas.List.{take_more}
+use Rattle.meaning.specs.declared.types.Lane.{Lane}
+use Rattle.meaning.specs.declared.types.Source.{Source}
+use Rattle.meaning.specs.declared.types.Source.TheVariants.{FromLane, Undef, Bits}
+use Rattle.meaning.specs.declared.types.Fill.{Fill}
+use Rattle.meaning.specs.declared.types.Fill.TheVariants.{Moved}
+use Rattle.meaning.specs.declared.types.Write.{Write}
+use Rattle.meaning.specs.Lanes.{Writes, same_lane, filled, settled, through}
+use Rattle.meaning.specs.Facts.{Fact}
+use Rattle.laws.proofs.Following.{both-true}
+use Rattle.laws.proofs.Quiet.{same-true}
+use Rattle.alloc_check.specs.Marks.{lane_slot, unwritten, Marks, is_marked}
+use Rattle.alloc_check.specs.Needs.{before_second}
+
+set-true : (xs : List Bool) (a : ℕ) → get_or (set xs a true) a true ≡ true
+set-true [] a = refl
+set-true (x ∷ xs) zero = refl
+set-true (x ∷ xs) (suc a) = set-true xs a
+
+set-false : (xs : List Bool) (a b : ℕ) → get_or (set xs a true) b true ≡ false → get_or xs b true ≡ false
+set-false [] a b e = e
+set-false (x ∷ xs) zero zero e = absurd (cc)
+set-false (x ∷ xs) zero (suc b) e = e
+set-false (x ∷ xs) (suc a) zero e = e
+set-false (x ∷ xs) (suc a) (suc b) e = set-false xs a b e
+
+unwritten-append : (ws vs : Writes) (l : Lane) → unwritten (ws ++ vs) l ≡ unwritten ws l && unwritten vs l
+unwritten-append [] vs l = refl
+unwritten-append (w ∷ ws) vs l = ap (λ b. not (same_lane w.lane l) && b) (unwritten-append ws vs l) ∙ and-assoc (not (same_lane w.lane l)) (unwritten ws l) (unwritten vs l)
+  where
+    and-assoc : (a b c : Bool) → a && (b && c) ≡ (a && b) && c
+    and-assoc true b c = refl
+    and-assoc false b c = refl
+
+-- a lane whose slot isn't marked isn't this one
+apart : (marks : List Bool) (a l : Lane) → get_or (set marks (lane_slot a) true) (lane_slot l) true ≡ false → not (same_lane a l) ≡ true
+apart marks a l e = go (same_lane a l) refl
+  where
+    go : (b : Bool) → same_lane a l ≡ b → not b ≡ true
+    go false h = refl
+    go true h =
+        let f : get_or (set marks (lane_slot a) true) (lane_slot a) true ≡ false = subst (λ x. get_or (set marks (lane_slot a) true) (lane_slot x) true ≡ false) (sym (same-true a l h)) e in
+        let g = set-true marks (lane_slot a) in
+        absurd (cc)
+
+pub marks-none : (marks : List Bool) → Marks marks []
+marks-none marks l e = refl
+
+pub marks-more : (marks : List Bool) (ws : Writes) (i : ℕ) (w : Write) → i < length ws → w ≡ get_or ws i w → Marks marks (take i ws) → Marks (set marks (lane_slot w.lane) true) (take (i + 1) ws)
+marks-more marks ws i w h at m l e =
+    let before : unwritten (take i ws) l ≡ true = m l (set-false marks (lane_slot w.lane) (lane_slot l) e) in
+    let here : not (same_lane w.lane l) && true ≡ true = and_from (not (same_lane w.lane l)) true (apart marks w.lane l e) refl in
+    let both : unwritten (take i ws ++ w ∷ []) l ≡ true = unwritten-append (take i ws) (w ∷ []) l ∙ and_from (unwritten (take i ws) l) (not (same_lane w.lane l) && true) before here in
+    subst (λ vs. unwritten vs l ≡ true) (sym (take_more ws i w h ∙ ap (λ x. take i ws ++ x ∷ []) (sym at))) both
+
+past : (b : Bool) (f g h : Fill) → not b ≡ true → g ≡ h → cond b f g ≡ h
+past true f g h e k = absurd (cc)
+past false f g h e k = k
+
+filled-unwritten : (ws : Writes) (l : Lane) → unwritten ws l ≡ true → filled ws l ≡ Moved (FromLane l)
+filled-unwritten [] l e = refl
+filled-unwritten (w ∷ ws) l e =
+    let p = both-true (not (same_lane w.lane l)) (unwritten ws l) e in
+    past (same_lane w.lane l) w.fill (filled ws l) (Moved (FromLane l)) p.0 (filled-unwritten ws l p.1)
+
+settled-unmarked : (marks : List Bool) (ws : Writes) (s : Source) → Marks marks ws → is_marked marks s ≡ false → settled (through ws s) ≡ s
+settled-unmarked marks ws (FromLane l) m e = ap settled (filled-unwritten ws l (m l e))
+settled-unmarked marks ws Undef m e = refl
+settled-unmarked marks ws (Bits c low width) m e = refl
+
+-- a fact whose second source isn't marked stays
+pub second-unmarked : (marks : List Bool) (ws : Writes) (f : Fact) → Marks marks ws → is_marked marks f.1 ≡ false → f ≡ before_second ws f
+second-unmarked marks ws f m e = λ i. (f.0, sym (settled-unmarked marks ws f.1 m e) i)

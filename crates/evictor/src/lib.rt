@@ -1,0 +1,12 @@
+//! Which registers a live range may take, and from which other ranges (LLVM's eviction advisor).
+#![tactic(auto)]
+
+mod choice;
+mod hints;
+pub mod ranks;
+pub mod weights;
+
+pub use choice::cheapest;
+pub use hints::candidates;
+pub use ranks::{Ranks, Stage, Stages};
+pub use weights::weight;

@@ -1,0 +1,25 @@
+-- Steps as the items that they are made from.
+use Rattle.std.specs.Prelude.{List, [], map, option_map}
+use Rattle.meaning.specs.Code.{Edge, Item, BlockStart, BlockEnd, Silent, Counted, Code}
+use Rattle.mir_interp.specs.declared.steps.Way.{Way}
+use Rattle.mir_interp.specs.declared.steps.Step.{Step}
+use Rattle.mir_interp.specs.declared.steps.Step.TheVariants as steps
+
+abbrev pub edge_of : Way → Edge
+edge_of w = record { block = w.block; phis = w.phis }
+
+abbrev pub item_of_step : Step → Item
+item_of_step (steps.Start n) = BlockStart n
+item_of_step (steps.End falls) = BlockEnd falls []
+item_of_step (steps.Silent ws) = Silent [] ws
+item_of_step (steps.Counted r reads ws target) = Counted r reads ws (option_map edge_of target) []
+
+abbrev pub code_of_steps : List Step → Code
+code_of_steps ss = map item_of_step ss
+
+-- an item without what liveness alone asks for
+abbrev pub bare : Item → Item
+bare (BlockStart n) = BlockStart n
+bare (BlockEnd falls exits) = BlockEnd falls []
+bare (Silent reads ws) = Silent [] ws
+bare (Counted r reads ws target exits) = Counted r reads ws target []

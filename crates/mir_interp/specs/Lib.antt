@@ -1,0 +1,6 @@
+pub mod Decoded
+pub mod Holds
+pub mod Kinds
+pub mod Remembers
+pub mod Running
+pub mod Stands

@@ -1,0 +1,20 @@
+//! The interpreter: what a function of machine instructions does, in either form, through a number
+//! of counted instructions.
+#![tactic(auto)]
+
+pub mod env;
+pub mod fetch;
+pub mod machine;
+pub mod names;
+pub mod numbers;
+pub mod outside;
+pub mod perform;
+pub mod steps;
+pub mod store;
+pub mod types;
+pub mod world;
+
+pub use env::Env;
+pub use machine::run;
+pub use types::{End, Event, Events, Lanes, Outcome};
+pub use world::World;

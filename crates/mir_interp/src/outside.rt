@@ -1,0 +1,165 @@
+//! The bytes that a run has stored, and the number of calls that it has made.
+
+ghost use Rattle.std.specs.Prelude.{◌≡◌, ◌+◌, ◌≤◌, ◌/◌, ◌++◌, ◌∷◌, [], ℕ, List, OnOk, IfOk};
+ghost use Rattle.meaning.specs.Environment.{Environment, Value};
+ghost use Rattle.meaning.specs.Perform.{loaded_bytes, loaded, stored_bytes, stored, low_byte, high_bytes};
+ghost use Rattle.meaning.specs.Perform as meaning;
+ghost use Rattle.mir_interp.specs.Stands.{Stands, given_by};
+ghost use Rattle.mir_interp.specs.Remembers.{remembered, Matches, Remembers};
+
+use crate::numbers::put_above;
+use crate::types::Lanes;
+use crate::world::World;
+use mir_items::counted::low_bits;
+use std::alloc::{AllocError, Global};
+use std::collections::HashMap;
+
+/// What lies outside the lanes.
+#[derive(Drop)]
+pub struct Outside {
+    /// The bytes stored so far, by their addresses; None is Undef.
+    bytes: HashMap<u128, Option<u8>>,
+    /// The number of calls made so far.
+    calls: u64,
+}
+
+impl Outside {
+    /// Nothing stored, and no call made.
+    pub fn new(alloc: Global) -> Outside {
+        Outside {
+            bytes: HashMap::new(alloc),
+            calls: 0,
+        }
+    }
+
+    /// The number of calls made so far.
+    pub fn calls(&self) -> u64 {
+        self.calls
+    }
+
+    /// Counts a call. No run makes 2^64 of them: want of memory stands for one more.
+    pub fn count_call(&mut self) -> Result<(), AllocError> {
+        match self.calls.checked_add(1) {
+            None => Err(AllocError),
+            Some(calls) => {
+                self.calls = calls;
+                Ok(())
+            }
+        }
+    }
+
+    /// The byte at an address.
+    fn byte<W: World>(&self, world: &W, a: u128) -> Option<u8> {
+        match self.bytes.get(&a) {
+            None => Some(world.byte(a)),
+            Some(held) => *held,
+        }
+    }
+
+    /// So many bytes from an address on as one number, the lowest first; addresses count modulo
+    /// 2^w. Want of memory stands for a number of more than 128 bits, which no lane has.
+    fn load_lane<W: World>(
+        &self,
+        world: &W,
+        w: u32,
+        a: u128,
+        count: u32,
+    ) -> Result<Option<u128>, AllocError>
+        requires { w ≤ 128 }
+    {
+        let mut number: u128 = 0;
+        for k in 0..count {
+            let at = low_bits(a.wrapping_add((count - 1 - k) as u128), w);
+            match self.byte(world, at) {
+                None => return Ok(None),
+                Some(byte) => number = put_above(byte as u128, 8, number)?,
+            }
+        }
+        Ok(Some(number))
+    }
+
+    /// Appends the lanes of these widths that lie from an address on.
+    pub fn push_loaded<W: World>(
+        &self,
+        out: &mut Lanes,
+        world: &W,
+        w: u32,
+        a: u128,
+        widths: &[u32],
+    ) -> Result<(), AllocError>
+        requires { w ≤ 128 }
+    {
+        let mut at = a;
+        for l in widths {
+            let count = *l / 8;
+            let lane = self.load_lane(world, w, at, count)?;
+            out.push(lane)?;
+            at = at.wrapping_add(count as u128);
+        }
+        Ok(())
+    }
+
+    /// Stores a byte.
+    fn store_byte(&mut self, a: u128, byte: Option<u8>) -> Result<(), AllocError> {
+        self.bytes.insert(a, byte)?;
+        Ok(())
+    }
+
+    /// Stores so many bytes of a value, the lowest first.
+    fn store_lane(
+        &mut self,
+        w: u32,
+        a: u128,
+        value: Option<u128>,
+        count: u32,
+    ) -> Result<(), AllocError>
+        requires { w ≤ 128 }
+    {
+        let mut at = a;
+        let mut rest = value;
+        for _k in 0..count {
+            self.store_byte(low_bits(at, w), low_byte(rest))?;
+            at = at.wrapping_add(1);
+            rest = high_bytes(rest);
+        }
+        Ok(())
+    }
+
+    /// Stores lanes of these widths from an address on.
+    pub fn store(
+        &mut self,
+        w: u32,
+        a: u128,
+        widths: &[u32],
+        lanes: &[Option<u128>],
+    ) -> Result<(), AllocError>
+        requires { w ≤ 128 }
+    {
+        let mut at = a;
+        for k in 0..widths.len() {
+            if k >= lanes.len() {
+                return Ok(());
+            }
+            let count = widths[k] / 8;
+            self.store_lane(w, at, lanes[k], count)?;
+            at = at.wrapping_add(count as u128);
+        }
+        Ok(())
+    }
+}
+
+/// The lowest byte of a value.
+fn low_byte(value: Option<u128>) -> Option<u8> {
+    match value {
+        None => None,
+        Some(n) => Some((n % 256) as u8),
+    }
+}
+
+/// The other bytes of a value.
+fn high_bytes(value: Option<u128>) -> Option<u128> {
+    match value {
+        None => None,
+        Some(n) => Some(n / 256),
+    }
+}

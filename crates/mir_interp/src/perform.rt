@@ -1,0 +1,495 @@
+//! What a counted instruction does with the values that it reads.
+
+ghost use Rattle.std.specs.Prelude.{◌≡◌, ◌≤◌, ◌<◌, ◌%◌, ◌^◌, ◌+◌, ◌-◌, ◌*◌, ◌==◌, ◌++◌, ◌∷◌, [], ℕ, List, sum, map, not, nat_eq, cond, IfOk, OnOk, None, Some};
+ghost use Rattle.meaning.specs.Environment.{Environment, Value, residue};
+ghost use Rattle.meaning.specs.State.{values};
+ghost use Rattle.meaning.specs.Perform.{operand, widths_of, lanes_of, given, combined, applied, compared, flag, address, base_width, holds, loaded, answers, all_lanes, stored, perform};
+ghost use Rattle.meaning.specs.Perform as meaning;
+ghost use Rattle.mir_interp.specs.Holds.{held_by};
+ghost use Rattle.mir_interp.specs.Stands.{Stands, given_by, event_of};
+ghost use Rattle.mir_interp.specs.Remembers.{Matches, Remembers};
+ghost use Rattle.mir_interp.specs.Kinds.{kind_of, two, one, quotient, if_some, IsPure, Pure, Did};
+ghost use Rattle.mir_interp.specs.declared.perform.Kind.TheVariants as kinds;
+ghost use Rattle.mir_interp.specs.declared.outside.Outside.{Outside};
+
+use crate::fetch::Surroundings;
+use crate::numbers::{add, biased, madd, mul, neg, not, push_cut, sar, sext, shl, shr, sub};
+use crate::outside::Outside;
+use crate::store::Store;
+use crate::types::{End, Event, Events, Lanes};
+use crate::world::World;
+use meaning::{Reads, Rest};
+use mir_items::counted::{low_bits, residue, total};
+use std::alloc::{AllocError, Global};
+use target_base::{Copied, Effect, List};
+
+/// Where a run goes on.
+#[derive(Clone, Copy)]
+pub enum Control {
+    /// In order.
+    Next,
+    /// At the branch target.
+    Taken,
+    /// Nowhere.
+    Stop(End),
+}
+
+/// Effects by what they ask.
+#[derive(Clone, Copy)]
+pub enum Kind {
+    /// A number of two numbers.
+    Binary,
+    /// A number of one number.
+    Unary,
+    /// Product and sum.
+    Ternary,
+    /// A quotient or a remainder.
+    Division,
+    /// A comparison.
+    Comparison,
+    /// A load, with its scale.
+    Loading(u8),
+    /// A store, with its scale.
+    Storing(u8),
+    /// A jump.
+    Jumping,
+    /// A jump under a condition on flags.
+    OnFlag,
+    /// A jump where a register isn't 0.
+    OnNumber,
+    /// A call.
+    Calling,
+    /// A return.
+    Returning,
+    /// Nothing.
+    Idle,
+}
+
+/// What an instruction gave: the lanes that it computed, and where the run goes on.
+pub type Performed = (Lanes, Control);
+
+/// What an effect asks.
+fn kind_of(e: Effect) -> Kind
+    ensures { result ≡ kind_of e }
+{
+    match e {
+        Effect::Add => Kind::Binary,
+        Effect::Sub => Kind::Binary,
+        Effect::Mul => Kind::Binary,
+        Effect::And => Kind::Binary,
+        Effect::Or => Kind::Binary,
+        Effect::Xor => Kind::Binary,
+        Effect::Shl => Kind::Binary,
+        Effect::Shr => Kind::Binary,
+        Effect::Sar => Kind::Binary,
+        Effect::Neg => Kind::Unary,
+        Effect::Not => Kind::Unary,
+        Effect::Zext => Kind::Unary,
+        Effect::Sext => Kind::Unary,
+        Effect::Udiv => Kind::Division,
+        Effect::Urem => Kind::Division,
+        Effect::Madd => Kind::Ternary,
+        Effect::Cmp => Kind::Comparison,
+        Effect::Load(scale) => Kind::Loading(scale),
+        Effect::Store(scale) => Kind::Storing(scale),
+        Effect::Jump => Kind::Jumping,
+        Effect::Jcc => Kind::OnFlag,
+        Effect::Jnz => Kind::OnNumber,
+        Effect::Call => Kind::Calling,
+        Effect::Ret => Kind::Returning,
+        _ => Kind::Idle,
+    }
+}
+
+/// The bits of lanes of these widths. Want of memory stands for more than 128, which no operand has.
+fn bits_of(widths: &[u32]) -> Result<u32, AllocError>
+    ensures { IfOk result (λ w. (w ≡ sum widths.now) × (w ≤ 128)) }
+{
+    match total(widths) {
+        None => Err(AllocError),
+        Some(w) => Ok(w),
+    }
+}
+
+/// The bits of an operand, by its number; 0 where there is none.
+fn operand_bits(r: &Rest, k: usize) -> Result<u32, AllocError>
+    ensures { IfOk result (λ w. (w ≡ sum (widths_of r.now.widths k)) × (w ≤ 128)) }
+{
+    if k >= r.widths.len() {
+        return Ok(0);
+    }
+    let w = bits_of(r.widths.get(k).as_slice())?;
+    Ok(w)
+}
+
+/// A number as the lanes of the result; no lanes where it is Undef.
+fn lanes_of(alloc: Global, widths: &[u32], n: Option<u128>) -> Result<Lanes, AllocError>
+    ensures { IfOk result (λ made. made ≡ given widths.now n) }
+{
+    let mut lanes = List::new(alloc);
+    if let Some(n) = n {
+        push_cut(&mut lanes, widths, n)?;
+    }
+    Ok(lanes)
+}
+
+/// A number of two numbers, by the effect, modulo 2^w.
+fn two(e: Effect, a: u128, b: u128, w: u32) -> u128
+    requires { w ≤ 128 }
+    ensures { result ≡ two e w a b }
+{
+    match e {
+        Effect::Add => add(a, b, w),
+        Effect::Sub => sub(a, b, w),
+        Effect::Mul => mul(a, b, w),
+        Effect::And => low_bits(a & b, w),
+        Effect::Or => low_bits(a | b, w),
+        Effect::Xor => low_bits(a ^ b, w),
+        Effect::Shl => shl(a, b, w),
+        Effect::Shr => shr(a, b, w),
+        _ => sar(a, b, w),
+    }
+}
+
+/// A number of one number of so many bits, by the effect, modulo 2^w.
+fn changed(e: Effect, from: u32, w: u32, a: u128) -> u128
+    requires from { from ≤ 128 }
+    requires w { w ≤ 128 }
+    ensures { result ≡ one e from w a }
+{
+    match e {
+        Effect::Neg => neg(a, w),
+        Effect::Not => not(a, w),
+        Effect::Sext => sext(a, from, w),
+        _ => low_bits(a, w),
+    }
+}
+
+/// The two numbers combined, if both are defined.
+fn both(e: Effect, w: u32, a: Option<u128>, b: Option<u128>) -> Option<u128>
+    requires { w ≤ 128 }
+    ensures { result ≡ combined a b (two e w) }
+{
+    match a {
+        None => None,
+        Some(a) => match b {
+            None => None,
+            Some(b) => Some(two(e, a, b, w)),
+        },
+    }
+}
+
+/// The number changed, if it is defined.
+fn alone(e: Effect, from: u32, w: u32, a: Option<u128>) -> Option<u128>
+    requires from { from ≤ 128 }
+    requires w { w ≤ 128 }
+    ensures { result ≡ applied a (one e from w) }
+{
+    match a {
+        None => None,
+        Some(a) => Some(changed(e, from, w, a)),
+    }
+}
+
+/// Product and sum of three numbers, if all are defined.
+fn three(w: u32, a: Option<u128>, b: Option<u128>, c: Option<u128>) -> Option<u128>
+    requires { w ≤ 128 }
+    ensures { result ≡ combined (combined a b (λ x y. x * y)) c (λ m z. (m + z) % 2 ^ w) }
+{
+    let Some(a) = a else { return None };
+    let Some(b) = b else { return None };
+    let Some(c) = c else { return None };
+    Some(madd(a, b, c, w))
+}
+
+/// A flag as a lane.
+fn flag(holds: bool) -> Option<u128>
+    ensures { result ≡ flag holds }
+{
+    if holds { Some(1) } else { Some(0) }
+}
+
+/// The flags of a comparison at w bits: equal, signed less, unsigned less; none where a number is
+/// Undef.
+fn compared(alloc: Global, w: u32, a: Option<u128>, b: Option<u128>) -> Result<Lanes, AllocError>
+    requires { w ≤ 128 }
+    ensures { IfOk result (λ made. made ≡ compared w a b) }
+{
+    let mut lanes = List::new(alloc);
+    let Some(a) = a else { return Ok(lanes) };
+    let Some(b) = b else { return Ok(lanes) };
+    lanes.push(flag(a == b))?;
+    lanes.push(flag(biased(w, a) < biased(w, b)))?;
+    lanes.push(flag(a < b))?;
+    Ok(lanes)
+}
+
+/// The quotient or the remainder; None where the dividend is Undef.
+fn quotient(e: Effect, a: Option<u128>, b: u128) -> Option<u128>
+    requires { 0 < b }
+    ensures { result ≡ combined a (Some b) (quotient e) }
+{
+    match a {
+        None => None,
+        Some(a) => match e {
+            Effect::Udiv => Some(a / b),
+            _ => Some(a % b),
+        },
+    }
+}
+
+/// Where a branch goes whose test may be Undef.
+fn branched(tested: Option<bool>) -> Control
+    ensures { result ≡ if_some tested }
+{
+    match tested {
+        None => Control::Stop(End::Undefined),
+        Some(taken) => { if taken { Control::Taken } else { Control::Next } }
+    }
+}
+
+/// A step of a run: what it may ask.
+#[derive(Drop)]
+pub struct Performer<'a, W> {
+    /// What the run finds.
+    pub around: &'a Surroundings<'a, W>,
+    /// What the lanes hold.
+    pub store: &'a Store,
+    /// The instruction.
+    pub rest: &'a Rest,
+    /// What it reads.
+    pub reads: &'a Reads,
+}
+
+impl<'a, W: World> Performer<'a, W> {
+    /// What an operand gives.
+    fn operand(&self, alloc: Global, k: usize) -> Result<Option<u128>, AllocError> {
+        self.around
+            .operand(alloc, self.store, &self.rest.widths, self.reads, k)
+    }
+
+    /// An effect of two numbers.
+    fn binary(&self, alloc: Global) -> Result<Performed, AllocError> {
+        let w = bits_of(self.rest.result.as_slice())?;
+        let a = self.operand(alloc, 0)?;
+        let b = self.operand(alloc, 1)?;
+        let n = both(self.rest.effect, w, a, b);
+        let lanes = lanes_of(alloc, self.rest.result.as_slice(), n)?;
+        Ok((lanes, Control::Next))
+    }
+
+    /// An effect of one number.
+    fn unary(&self, alloc: Global) -> Result<Performed, AllocError> {
+        let w = bits_of(self.rest.result.as_slice())?;
+        let from = operand_bits(self.rest, 0)?;
+        let a = self.operand(alloc, 0)?;
+        let n = alone(self.rest.effect, from, w, a);
+        let lanes = lanes_of(alloc, self.rest.result.as_slice(), n)?;
+        Ok((lanes, Control::Next))
+    }
+
+    /// The product of two numbers, plus a third.
+    fn ternary(&self, alloc: Global) -> Result<Performed, AllocError> {
+        let w = bits_of(self.rest.result.as_slice())?;
+        let a = self.operand(alloc, 0)?;
+        let b = self.operand(alloc, 1)?;
+        let c = self.operand(alloc, 2)?;
+        let n = three(w, a, b, c);
+        let lanes = lanes_of(alloc, self.rest.result.as_slice(), n)?;
+        Ok((lanes, Control::Next))
+    }
+
+    /// A comparison.
+    fn comparison(&self, alloc: Global) -> Result<Performed, AllocError> {
+        let w = operand_bits(self.rest, 0)?;
+        let a = self.operand(alloc, 0)?;
+        let b = self.operand(alloc, 1)?;
+        let lanes = compared(alloc, w, a, b)?;
+        Ok((lanes, Control::Next))
+    }
+
+    /// A division: a divisor of 0 traps, whatever the dividend is.
+    fn division(&self, alloc: Global) -> Result<Performed, AllocError> {
+        let a = self.operand(alloc, 0)?;
+        let divisor = self.operand(alloc, 1)?;
+        let Some(b) = divisor else {
+            return Ok((List::new(alloc), Control::Next));
+        };
+        if b == 0 {
+            return Ok((List::new(alloc), Control::Stop(End::Trapped)));
+        }
+        let n = quotient(self.rest.effect, a, b);
+        let lanes = lanes_of(alloc, self.rest.result.as_slice(), n)?;
+        Ok((lanes, Control::Next))
+    }
+
+    /// A jump under a condition on flags.
+    fn on_flag(&self, alloc: Global) -> Result<Performed, AllocError> {
+        let a = self.operand(alloc, 0)?;
+        let wanted = 1 - residue(self.rest.immediate, 1).min(1);
+        let tested = match a {
+            None => None,
+            Some(n) => Some(n % 2 == wanted),
+        };
+        Ok((List::new(alloc), branched(tested)))
+    }
+
+    /// A jump where a register isn't 0.
+    fn on_number(&self, alloc: Global) -> Result<Performed, AllocError> {
+        let a = self.operand(alloc, 0)?;
+        let tested = match a {
+            None => None,
+            Some(n) => Some(n != 0),
+        };
+        Ok((List::new(alloc), branched(tested)))
+    }
+
+    /// The address of a load or a store at a base of w bits.
+    fn address(&self, base: u128, w: u32, scale: u8) -> u128
+        requires { w ≤ 128 }
+    {
+        let offset = residue(self.rest.immediate, w);
+        madd(offset, scale as u128, base, w)
+    }
+
+    /// A load.
+    fn load(&self, alloc: Global, outside: &Outside, scale: u8) -> Result<Performed, AllocError> {
+        let w = operand_bits(self.rest, 0)?;
+        let base = self.operand(alloc, 0)?;
+        let Some(base) = base else {
+            return Ok((List::new(alloc), Control::Stop(End::Undefined)));
+        };
+        let a = self.address(base, w, scale);
+        let mut lanes = List::new(alloc);
+        outside.push_loaded(
+            &mut lanes,
+            self.around.world,
+            w,
+            a,
+            self.rest.result.as_slice(),
+        )?;
+        Ok((lanes, Control::Next))
+    }
+
+    /// An instruction that does nothing to the outside.
+    fn compute(
+        &self,
+        alloc: Global,
+        outside: &Outside,
+        kind: Kind,
+    ) -> Result<Performed, AllocError> {
+        match kind {
+            Kind::Binary => self.binary(alloc),
+            Kind::Unary => self.unary(alloc),
+            Kind::Ternary => self.ternary(alloc),
+            Kind::Division => self.division(alloc),
+            Kind::Comparison => self.comparison(alloc),
+            Kind::Loading(scale) => self.load(alloc, outside, scale),
+            Kind::OnFlag => self.on_flag(alloc),
+            Kind::OnNumber => self.on_number(alloc),
+            Kind::Jumping => Ok((List::new(alloc), Control::Taken)),
+            _ => Ok((List::new(alloc), Control::Next)),
+        }
+    }
+
+    /// The lanes of an operand, by its number; none where there is none.
+    fn operand_lanes(&self, alloc: Global, k: usize) -> Result<Lanes, AllocError> {
+        let mut lanes = List::new(alloc);
+        if k < self.reads.len() {
+            self.around
+                .push_fetched(&mut lanes, self.store, self.reads.get(k).as_slice())?;
+        }
+        Ok(lanes)
+    }
+
+    /// Stores lanes at an address.
+    fn put(
+        &self,
+        outside: &mut Outside,
+        w: u32,
+        a: u128,
+        lanes: &[Option<u128>],
+    ) -> Result<(), AllocError>
+        requires { w ≤ 128 }
+    {
+        if self.rest.widths.len() > 1 {
+            outside.store(w, a, self.rest.widths.get(1).as_slice(), lanes)?;
+        }
+        Ok(())
+    }
+
+    /// A store.
+    fn store(
+        &self,
+        alloc: Global,
+        outside: &mut Outside,
+        events: &mut Events,
+        scale: u8,
+    ) -> Result<Performed, AllocError> {
+        let w = operand_bits(self.rest, 0)?;
+        let base = self.operand(alloc, 0)?;
+        let Some(base) = base else {
+            return Ok((List::new(alloc), Control::Stop(End::Undefined)));
+        };
+        let a = self.address(base, w, scale);
+        let lanes = self.operand_lanes(alloc, 1)?;
+        self.put(outside, w, a, lanes.as_slice())?;
+        events.push(Event::Store(a, lanes))?;
+        Ok((List::new(alloc), Control::Next))
+    }
+
+    /// All lanes that the instruction reads.
+    fn all_lanes(&self, alloc: Global) -> Result<Lanes, AllocError> {
+        let mut lanes = List::new(alloc);
+        self.around.push_all(&mut lanes, self.store, self.reads)?;
+        Ok(lanes)
+    }
+
+    /// The answer to a call.
+    fn answer(&self, alloc: Global, call: u64) -> Result<Lanes, AllocError> {
+        let mut lanes = List::new(alloc);
+        for j in 0..self.rest.result.len() {
+            let number = self.around.world.answer(call, j);
+            lanes.push(Some(low_bits(number, *self.rest.result.get(j))))?;
+        }
+        Ok(lanes)
+    }
+
+    /// A call.
+    fn call(
+        &self,
+        alloc: Global,
+        outside: &mut Outside,
+        events: &mut Events,
+    ) -> Result<Performed, AllocError> {
+        let lanes = self.all_lanes(alloc)?;
+        let symbol = self.rest.symbol.copied(alloc)?;
+        let answer = self.answer(alloc, outside.calls())?;
+        outside.count_call()?;
+        events.push(Event::Call(symbol, lanes))?;
+        Ok((answer, Control::Next))
+    }
+
+    /// A return.
+    fn give_back(&self, alloc: Global, events: &mut Events) -> Result<Performed, AllocError> {
+        let lanes = self.all_lanes(alloc)?;
+        events.push(Event::Return(lanes))?;
+        Ok((List::new(alloc), Control::Stop(End::Returned)))
+    }
+
+    /// What the instruction does.
+    pub fn perform(
+        &self,
+        alloc: Global,
+        outside: &mut Outside,
+        events: &mut Events,
+    ) -> Result<Performed, AllocError> {
+        let kind = kind_of(self.rest.effect);
+        match kind {
+            Kind::Storing(scale) => self.store(alloc, outside, events, scale),
+            Kind::Calling => self.call(alloc, outside, events),
+            Kind::Returning => self.give_back(alloc, events),
+            _ => self.compute(alloc, outside, kind),
+        }
+    }
+}

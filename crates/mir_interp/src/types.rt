@@ -1,0 +1,42 @@
+//! What a run gives.
+
+use target_base::{Bytes, List};
+
+/// Lanes in order, the lowest first; None is the undefined value.
+pub type Lanes = List<Option<u128>>;
+
+/// What a run shows to the outside.
+#[derive(Drop)]
+pub enum Event {
+    /// A call: the symbol's spelling, and the lanes of all register uses.
+    Call(Bytes, Lanes),
+    /// A store: the address, and the lanes that are stored.
+    Store(u128, Lanes),
+    /// A return: the lanes of all register uses.
+    Return(Lanes),
+}
+
+/// Events in order.
+pub type Events = List<Event>;
+
+/// How a run ends.
+#[derive(Clone, Copy, Debug, PartialEq, Eq)]
+pub enum End {
+    /// By a return.
+    Returned,
+    /// By a division by 0.
+    Trapped,
+    /// At a branch that reads an undefined lane, or an address with one.
+    Undefined,
+    /// All counted instructions that were asked for are done.
+    Steps,
+}
+
+/// The events of a run, and its end.
+#[derive(Drop)]
+pub struct Outcome {
+    /// What it showed, in order.
+    pub events: Events,
+    /// How it ended.
+    pub end: End,
+}

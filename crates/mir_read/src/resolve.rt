@@ -1,0 +1,369 @@
+//! Looking up the names of a line.
+
+ghost use Rattle.std.specs.Prelude.{◌≡◌, ◌<◌, ◌≤◌, ◌+◌, ◌==◌, ◌++◌, ◌∷◌, [], length, map, IfOk, IfSome, OnOk, option_map, position};
+ghost use Rattle.target_base.specs.Storage.{same_numbers};
+ghost use Rattle.mir_lines.specs.Reads.{now_of};
+ghost use Rattle.mir_read.specs.Names.{NameLists};
+ghost use Rattle.mir_read.specs.Ranges.{range_number};
+ghost use Rattle.mir_read.specs.Resolving.{no_headers, noted, differs, header_at, index_if, class_if, placed, reg_op, operand_named, operands_named, opcode_named, instr_of, instr_named, regs_named, share, edge, equal_shares, with_share, shared, successors_named, HasMore};
+
+use crate::names::{Names, NumberSet};
+use crate::ranges::{Given, Ranges};
+use mir_func::{Edge, Edges, Instr, Loc, Op, Operand, Operands, RegOp, ShortList};
+use mir_lines::{RawEdge, RawInstr, RawOperand, RawPlace, RawReg, Words};
+use std::alloc::{AllocError, Global};
+use target_base::{Bytes, Copied, IndexId, List, Regs};
+
+/// The first header of each block number on the lines so far: the number and the name.
+#[derive(Drop)]
+pub struct Headers {
+    pub numbers: NumberSet,
+    pub names: List<Bytes>,
+}
+
+impl Headers {
+    /// No headers.
+    pub fn new(alloc: Global) -> Headers
+        ensures { result ≡ no_headers }
+    {
+        Headers {
+            numbers: NumberSet::new(alloc),
+            names: List::new(alloc),
+        }
+    }
+
+    /// The headers with this one.
+    #[tactic(auto, using(crate::proofs::Sets::sets), unfolding(crate::specs::Resolving::noted))]
+    pub fn noted(self, alloc: Global, number: u32, name: &[u8]) -> Result<Headers, AllocError>
+        requires { length self.numbers < 4294967295 }
+        ensures value { IfOk result (λ h. h ≡ noted self number name.now) }
+        ensures more { IfOk result (λ h. length h.numbers ≤ length self.numbers + 1) }
+    {
+        let Headers { numbers, names } = self;
+        let mut numbers = numbers;
+        let mut names = names;
+        if numbers.place(number).is_none() {
+            numbers.add(number)?;
+            names.push(List::from_slice(alloc, name)?)?;
+        }
+        Ok(Headers { numbers, names })
+    }
+
+    /// The name of the first header of this number.
+    fn name_of(&self, number: u32) -> Option<&[u8]>
+        ensures { option_map now_of result ≡ header_at self.now (position (λ m. m == number) self.now.numbers) }
+    {
+        match self.numbers.place(number) {
+            None => None,
+            Some(k) => match self.names.as_slice().get(k) {
+                None => None,
+                Some(name) => Some(name.as_slice()),
+            },
+        }
+    }
+
+    /// Whether a name that is written behind a block's number isn't the one of its header.
+    #[tactic(auto, unfolding(crate::specs::Resolving::differs))]
+    fn differs(&self, number: u32, name: &Option<Bytes>) -> bool
+        ensures { result ≡ differs self.now number name.now }
+    {
+        match name {
+            None => false,
+            Some(name) => match self.name_of(number) {
+                None => false,
+                Some(header) => !are_same(header, name.as_slice()),
+            },
+        }
+    }
+}
+
+/// Whether two texts are the same.
+fn are_same(a: &[u8], b: &[u8]) -> bool
+    ensures { result ≡ same_numbers a.now b.now }
+{
+    a == b
+}
+
+/// A written index. None where the target lacks it.
+fn index_if(names: &Names, index: &Option<Bytes>) -> Option<Option<IndexId>>
+    ensures { result ≡ index_if names.now index.now }
+{
+    match index {
+        None => Some(None),
+        Some(name) => match names.index(name.as_slice()) {
+            None => None,
+            Some(i) => Some(Some(i)),
+        },
+    }
+}
+
+/// What a written class gives. None where the target lacks it.
+fn class_if(names: &Names, class: &Option<Bytes>) -> Option<Given>
+    ensures { result ≡ class_if names.now class.now }
+{
+    match class {
+        None => Some(Given::Nothing),
+        Some(name) => match names.class(name.as_slice()) {
+            None => None,
+            Some(c) => Some(Given::One(c)),
+        },
+    }
+}
+
+/// The registers so far, and where an operand lies and its index. None where a name isn't known.
+#[tactic(auto, unfolding(crate::specs::Resolving::placed))]
+fn placed(
+    alloc: Global,
+    names: &Names,
+    keyed: &Ranges,
+    ranges: Ranges,
+    place: &RawPlace,
+) -> Result<Option<(Ranges, Loc, Option<IndexId>)>, AllocError>
+    requires { length ranges.names < 4294967295 }
+    ensures value { IfOk result (λ p. p ≡ placed names.now keyed.now ranges place.now) }
+    ensures more { IfOk result (λ o. IfSome o (λ p. length p.0.names ≤ length ranges.names + 1)) }
+{
+    match place {
+        RawPlace::Fixed(name) => match names.reg(name.as_slice()) {
+            None => Ok(None),
+            Some(r) => Ok(Some((ranges, Loc::Fixed(r), None))),
+        },
+        RawPlace::Virtual(name, index, class) => {
+            let Some(index) = index_if(names, index) else {
+                return Ok(None);
+            };
+            let Some(given) = class_if(names, class) else {
+                return Ok(None);
+            };
+            let number = ranges.number(name.as_slice());
+            let first = keyed.given_to(name.as_slice());
+            let ranges = ranges.mentioned(alloc, name.as_slice(), first, given)?;
+            Ok(Some((ranges, Loc::Virtual(number), index)))
+        }
+    }
+}
+
+#[tactic(auto, unfolding(crate::specs::Resolving::reg_op))]
+fn reg_op(loc: Loc, index: Option<IndexId>, o: &RawReg) -> RegOp
+    ensures { result ≡ reg_op loc index o.now }
+{
+    RegOp {
+        loc,
+        index,
+        def: o.def,
+        implicit: o.implicit,
+        undef: o.undef,
+        early: o.early,
+        renamable: false,
+        tie: o.tie,
+    }
+}
+
+/// The registers so far, and an operand with its names looked up. None where a name isn't known.
+#[tactic(auto, unfolding(crate::specs::Resolving::operand_named))]
+fn operand(
+    alloc: Global,
+    names: &Names,
+    headers: &Headers,
+    keyed: &Ranges,
+    ranges: Ranges,
+    raw: &RawOperand,
+) -> Result<Option<(Ranges, Operand)>, AllocError>
+    requires { length ranges.names < 4294967295 }
+    ensures value { IfOk result (λ p. p ≡ operand_named names.now headers.now keyed.now ranges raw.now) }
+    ensures more { IfOk result (λ o. IfSome o (λ p. length p.0.names ≤ length ranges.names + 1)) }
+{
+    match raw {
+        RawOperand::Reg(o) => match placed(alloc, names, keyed, ranges, &o.place)? {
+            None => Ok(None),
+            Some((ranges, loc, index)) => {
+                Ok(Some((ranges, Operand::Reg(reg_op(loc, index, o)))))
+            }
+        },
+        RawOperand::Imm(n) => Ok(Some((ranges, Operand::Imm(*n)))),
+        RawOperand::Block(n, name) => {
+            if headers.differs(*n, name) {
+                return Ok(None);
+            }
+            Ok(Some((ranges, Operand::Block(*n))))
+        }
+        RawOperand::Stack(n) => Ok(Some((ranges, Operand::Stack(*n)))),
+        RawOperand::FixedStack(n) => Ok(Some((ranges, Operand::FixedStack(*n)))),
+        RawOperand::Symbol(text) => Ok(Some((ranges, Operand::Symbol(text.copied(alloc)?)))),
+        RawOperand::Index(name) => match names.index(name.as_slice()) {
+            None => Ok(None),
+            Some(i) => Ok(Some((ranges, Operand::Index(i)))),
+        },
+        RawOperand::Mask(name) => match names.mask(name.as_slice()) {
+            None => Ok(None),
+            Some(m) => Ok(Some((ranges, Operand::Mask(m)))),
+        },
+    }
+}
+
+/// The registers so far, and operands with their names looked up. None where a name isn't known.
+fn operands(
+    alloc: Global,
+    names: &Names,
+    headers: &Headers,
+    keyed: &Ranges,
+    ranges: Ranges,
+    raw: &[RawOperand],
+) -> Result<Option<(Ranges, Operands)>, AllocError>
+    requires { length ranges.names + length raw.now < 4294967295 }
+    ensures value { IfOk result (λ p. p ≡ operands_named names.now headers.now keyed.now ranges raw.now) }
+    ensures more { IfOk result (λ o. IfSome o (λ p. HasMore ranges (length raw.now) p)) }
+{
+    let mut made: Operands = ShortList::new(alloc);
+    let mut so_far = ranges;
+    for o in raw {
+        match operand(alloc, names, headers, keyed, so_far, o)? {
+            None => return Ok(None),
+            Some((ranges, operand)) => {
+                made.push(operand)?;
+                so_far = ranges;
+            }
+        }
+    }
+    Ok(Some((so_far, made)))
+}
+
+/// The opcode of an instruction. None where the target lacks it.
+fn opcode(alloc: Global, names: &Names, raw: &RawInstr) -> Result<Option<Op>, AllocError>
+    ensures { IfOk result (λ o. o ≡ opcode_named names.now raw.now) }
+{
+    if raw.excluded {
+        return Ok(Some(Op::Excluded(raw.opcode.copied(alloc)?)));
+    }
+    match names.opcode(raw.opcode.as_slice()) {
+        None => Ok(None),
+        Some(op) => Ok(Some(Op::Known(op))),
+    }
+}
+
+/// The registers so far, and the instruction of this id with its names looked up. None where a
+/// name isn't known.
+#[tactic(auto, unfolding(crate::specs::Resolving::instr_named, crate::specs::Resolving::instr_of))]
+pub fn instruction(
+    alloc: Global,
+    names: &Names,
+    headers: &Headers,
+    keyed: &Ranges,
+    ranges: Ranges,
+    id: u32,
+    raw: RawInstr,
+) -> Result<Option<(Ranges, Instr)>, AllocError>
+    requires { length ranges.names + length raw.operands < 4294967295 }
+    ensures value { IfOk result (λ p. p ≡ instr_named names.now headers.now keyed.now ranges id raw) }
+    ensures more { IfOk result (λ o. IfSome o (λ p. HasMore ranges (length raw.operands) (p.0, p.1.operands))) }
+{
+    let Some(op) = opcode(alloc, names, &raw)? else {
+        return Ok(None);
+    };
+    match operands(
+        alloc,
+        names,
+        headers,
+        keyed,
+        ranges,
+        raw.operands.as_slice(),
+    )? {
+        None => Ok(None),
+        Some((ranges, operands)) => Ok(Some((
+            ranges,
+            Instr {
+                id,
+                op,
+                flags: raw.flags,
+                operands,
+                tail: raw.tail,
+            },
+        ))),
+    }
+}
+
+/// The registers of a `liveins:` line. None where the target lacks one.
+pub fn liveins(alloc: Global, names: &Names, raw: &[Bytes]) -> Result<Option<Regs>, AllocError>
+    ensures { IfOk result (λ rs. rs ≡ regs_named names.now raw.now) }
+{
+    let mut made = List::new(alloc);
+    for name in raw {
+        match names.reg(name.as_slice()) {
+            None => return Ok(None),
+            Some(r) => made.push(r)?,
+        }
+    }
+    Ok(Some(made))
+}
+
+fn put_edges(edges: &mut Edges, blocks: &[u32], prob: u32) -> Result<(), AllocError>
+    ensures { OnOk result (edges.new ≡ edges.old ++ map (edge prob) blocks.now) }
+{
+    for block in blocks {
+        edges.push(Edge {
+            block: *block,
+            prob,
+        })?;
+    }
+    Ok(())
+}
+
+/// Equal shares of 2^31 for these blocks; what is left of it goes to the first.
+#[tactic(auto, unfolding(crate::specs::Resolving::equal_shares))]
+pub fn equal_shares(alloc: Global, blocks: &[u32]) -> Result<Edges, AllocError>
+    requires { length blocks.now < 4294967296 }
+    ensures { IfOk result (λ es. es ≡ equal_shares blocks.now) }
+{
+    let mut made = List::new(alloc);
+    match blocks {
+        [] => {}
+        [first, rest @ ..] => {
+            let count = blocks.len() as u32;
+            made.push(Edge {
+                block: *first,
+                prob: 0x8000_0000 / count + 0x8000_0000 % count,
+            })?;
+            put_edges(&mut made, rest, 0x8000_0000 / count)?;
+        }
+    }
+    Ok(made)
+}
+
+fn blocks_of(alloc: Global, raw: &[RawEdge]) -> Result<List<u32>, AllocError>
+    ensures { IfOk result (λ ns. ns ≡ map (λ e. e.block) raw.now) }
+{
+    let mut blocks = List::new(alloc);
+    for e in raw {
+        blocks.push(e.block)?;
+    }
+    Ok(blocks)
+}
+
+/// The successors with their probabilities. None where one has none.
+fn shared(alloc: Global, raw: &[RawEdge]) -> Result<Option<Edges>, AllocError>
+    ensures { IfOk result (λ es. es ≡ shared raw.now) }
+{
+    let mut made = List::new(alloc);
+    for e in raw {
+        match e.prob {
+            None => return Ok(None),
+            Some(prob) => made.push(Edge {
+                block: e.block,
+                prob,
+            })?,
+        }
+    }
+    Ok(Some(made))
+}
+
+/// The successors of a `successors:` line; without probabilities they have equal shares.
+#[tactic(auto, unfolding(crate::specs::Resolving::successors_named))]
+pub fn successors(alloc: Global, raw: &[RawEdge]) -> Result<Edges, AllocError>
+    requires { length raw.now < 4294967296 }
+    ensures { IfOk result (λ es. es ≡ successors_named raw.now) }
+{
+    match shared(alloc, raw)? {
+        None => equal_shares(alloc, blocks_of(alloc, raw)?.as_slice()),
+        Some(made) => Ok(made),
+    }
+}
