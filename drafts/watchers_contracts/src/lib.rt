@@ -1,0 +1,16 @@
+//! The steps of a run of the allocator, and watchers, which are told them and have lines of text to
+//! show for it.
+#![tactic(auto)]
+
+pub mod count;
+pub mod pressure;
+pub mod steps;
+pub mod telling;
+mod text;
+pub mod trace;
+
+pub use count::CountWatcher;
+pub use pressure::PressureWatcher;
+pub use steps::{Choices, Kind, Step};
+pub use telling::{Watcher, tell_all};
+pub use trace::TraceWatcher;
