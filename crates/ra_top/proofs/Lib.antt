@@ -1,4 +1,6 @@
-pub mod Written
-pub mod Front
-pub mod Calls
-pub mod Mapped
+pub mod Joined
+pub mod Progress
+pub mod Documents
+pub mod Starts
+pub mod Verdicts
+pub mod Allocations

@@ -1,8 +1,5 @@
-pub mod Device
-pub mod Stops
-pub mod Calls
-pub mod MemFiles
-pub mod MemSink
 pub mod Status
-pub mod Words
-pub mod Printed
+pub mod Spot
+pub mod Answer
+pub mod Due
+pub mod Told

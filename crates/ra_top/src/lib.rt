@@ -1,14 +1,14 @@
 //! The top of the program: its words, its files and its output.
 #![tactic(auto)]
 
-pub mod command;
-pub mod device;
-pub mod memory;
-pub mod moves;
+pub mod answer;
+pub mod run;
+pub mod spot;
 pub mod status;
-pub mod words;
+pub mod stream;
+pub mod target;
 
-pub use command::top;
-pub use device::{Failed, Files, Sink};
-pub use memory::{MemFiles, MemSink};
-pub use status::Status;
+pub use commands::Command;
+pub use devices::{Failed, Files, MemFiles, MemSink, Pieces, Sink};
+pub use run::top;
+pub use status::{LimitName, Status};

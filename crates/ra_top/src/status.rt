@@ -1,23 +1,56 @@
 //! How the program ends, and the line that says so.
 
 ghost use Rattle.std.specs.Prelude.{◌≡◌, ◌++◌, OnOk, codes};
-ghost use Rattle.ra_top.specs.Device.{HasCause, WritesAll, WritesPart};
+ghost use Rattle.std.specs.List.{flat_map};
+ghost use Rattle.devices.specs.Device.{HasCause, WritesAll, WritesPart};
+ghost use Rattle.ra_top.specs.Status.{line_of, fault_line, limit_line, joined, limit_word, target_kind_word, text_kind_word};
 
-use crate::device::{Failed, Sink};
-use crate::moves::write_all;
+use devices::moves::write_all;
+use devices::{Failed, Sink};
+use mir_text::{TextFault, TextKind};
+use target_desc::{TargetFault, TargetKind};
+
+/// A number that is passed.
+#[derive(Clone, Copy, Debug, PartialEq, Eq)]
+pub enum LimitName {
+    /// 1,048,576 bytes of a target file.
+    TargetBytes,
+    /// 268,435,456 bytes of a file.
+    File,
+    /// 4,194,304 bytes of a document, with the lines before it.
+    Document,
+    /// 1,024 blocks of a function.
+    Blocks,
+    /// 16,384 instructions of a function.
+    Instructions,
+    /// 16,384 virtual registers of a function.
+    Registers,
+    /// 6 variables of a place.
+    Variables,
+    /// 1,048,576 range numbers given for a function.
+    Ranges,
+}
 
 /// How the program ends.
 #[derive(Clone, Copy, Debug, PartialEq, Eq)]
 pub enum Status {
     /// All output was written.
     Done,
+    /// The words ask for nothing that the program does.
+    Usage,
+    /// The target file spells no target.
+    Target(TargetFault),
+    /// A document of the file spells none.
+    Text(TextFault),
+    /// A count passes its number.
+    Limit(LimitName),
     /// A call of the files failed.
     ReadFault,
     /// A call of the output failed.
     WriteFault,
     /// Memory ran out.
     Memory,
-    /// The words or the file are of a form that isn't built yet.
+    /// What is asked for isn't built yet.
     NotYet,
 }
 
@@ -30,6 +63,10 @@ impl Status {
     {
         match self {
             Status::Done => 0,
+            Status::Target(_) => 1,
+            Status::Text(_) => 1,
+            Status::Limit(_) => 1,
+            Status::Usage => 2,
             Status::ReadFault => 3,
             Status::WriteFault => 4,
             Status::Memory => 5,
@@ -38,21 +75,108 @@ impl Status {
     }
 }
 
-ghost use Rattle.ra_top.specs.Status.{line_of};
+fn limit_word(limit: LimitName) -> &'static str
+    ensures { result.now ≡ limit_word limit }
+{
+    match limit {
+        LimitName::TargetBytes => "targetbytes",
+        LimitName::File => "file",
+        LimitName::Document => "document",
+        LimitName::Blocks => "blocks",
+        LimitName::Instructions => "instructions",
+        LimitName::Registers => "registers",
+        LimitName::Variables => "variables",
+        LimitName::Ranges => "ranges",
+    }
+}
 
-/// Writes the line of a status, for a file of a name. It takes no memory.
-pub fn write_line<E: Sink>(err: &mut E, status: Status, name: &str) -> Result<(), Failed>
-    ensures all { OnOk result (WritesAll (E.written err.old) (E.written err.new) (line_of status name.now)) }
-    ensures part { WritesPart (E.written err.old) (E.written err.new) (line_of status name.now) }
+fn target_kind_word(kind: TargetKind) -> &'static str
+    ensures { result.now ≡ target_kind_word kind }
+{
+    match kind {
+        TargetKind::Layout => "layout",
+        TargetKind::Name => "name",
+        TargetKind::Rule => "rule",
+        TargetKind::End => "end",
+    }
+}
+
+fn text_kind_word(kind: TextKind) -> &'static str
+    ensures { result.now ≡ text_kind_word kind }
+{
+    match kind {
+        TextKind::Layout => "layout",
+        TextKind::Token => "token",
+        TextKind::Name => "name",
+        TextKind::End => "end",
+    }
+}
+
+/// Writes the line of a status, for a file of a name and with a detail: the number of the line of a
+/// file. It takes no memory.
+pub fn write_line<E: Sink>(
+    err: &mut E,
+    status: Status,
+    file: &str,
+    detail: &[u8],
+) -> Result<(), Failed>
+    ensures all { OnOk result (WritesAll (E.written err.old) (E.written err.new) (line_of status file.now detail.now)) }
+    ensures part { WritesPart (E.written err.old) (E.written err.new) (line_of status file.now detail.now) }
     ensures cause { HasCause (E.faults err.old) (E.faults err.new) result }
 {
     match status {
         Status::Done => Ok(()),
-        Status::ReadFault => write_named(err, "llra: cannot read ", name),
+        Status::Usage => write_text(err, "llra: usage\n"),
+        Status::Target(fault) => {
+            write_fault(err, file, detail, ": target ", target_kind_word(fault.kind))
+        }
+        Status::Text(fault) => write_fault(err, file, detail, ": ", text_kind_word(fault.kind)),
+        Status::Limit(limit) => write_limit(err, file, limit_word(limit)),
+        Status::ReadFault => write_named(err, "llra: cannot read ", file),
         Status::WriteFault => write_text(err, "llra: cannot write\n"),
         Status::Memory => write_text(err, "llra: out of memory\n"),
         Status::NotYet => write_text(err, "llra: not yet\n"),
     }
+}
+
+/// Writes the line of a fault of a text.
+fn write_fault<E: Sink>(
+    err: &mut E,
+    file: &str,
+    detail: &[u8],
+    before: &str,
+    kind: &str,
+) -> Result<(), Failed>
+    ensures all { OnOk result (WritesAll (E.written err.old) (E.written err.new) (fault_line file.now detail.now before.now kind.now)) }
+    ensures part { WritesPart (E.written err.old) (E.written err.new) (fault_line file.now detail.now before.now kind.now) }
+    ensures cause { HasCause (E.faults err.old) (E.faults err.new) result }
+{
+    let parts: [&[u8]; 7] = [
+        b"llra: ",
+        file.as_bytes(),
+        b":",
+        detail,
+        before.as_bytes(),
+        kind.as_bytes(),
+        b"\n",
+    ];
+    write_parts(err, &parts)
+}
+
+/// Writes the line of a limit.
+fn write_limit<E: Sink>(err: &mut E, file: &str, limit: &str) -> Result<(), Failed>
+    ensures all { OnOk result (WritesAll (E.written err.old) (E.written err.new) (limit_line file.now limit.now)) }
+    ensures part { WritesPart (E.written err.old) (E.written err.new) (limit_line file.now limit.now) }
+    ensures cause { HasCause (E.faults err.old) (E.faults err.new) result }
+{
+    let parts: [&[u8]; 5] = [
+        b"llra: ",
+        file.as_bytes(),
+        b": limit ",
+        limit.as_bytes(),
+        b"\n",
+    ];
+    write_parts(err, &parts)
 }
 
 /// Writes a line that ends with a name.
@@ -72,4 +196,16 @@ fn write_text<E: Sink>(err: &mut E, text: &str) -> Result<(), Failed>
     ensures cause { HasCause (E.faults err.old) (E.faults err.new) result }
 {
     write_all(err, text.as_bytes())
+}
+
+/// Writes parts one after the other. After a fault nothing more is written.
+fn write_parts<E: Sink>(err: &mut E, parts: &[&[u8]]) -> Result<(), Failed>
+    ensures all { OnOk result (WritesAll (E.written err.old) (E.written err.new) (joined parts.now)) }
+    ensures part { WritesPart (E.written err.old) (E.written err.new) (joined parts.now) }
+    ensures cause { HasCause (E.faults err.old) (E.faults err.new) result }
+{
+    for part in parts {
+        write_all(err, part)?;
+    }
+    Ok(())
 }

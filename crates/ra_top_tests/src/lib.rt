@@ -2,6 +2,6 @@
 #![tactic(auto)]
 
 #[cfg(test)]
-mod devices;
+mod failing;
 #[cfg(test)]
 mod rows;

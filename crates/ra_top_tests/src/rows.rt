@@ -4,6 +4,7 @@ use ra_top::{Files, MemFiles, MemSink, Sink, Status, top};
 use std::alloc::{AllocError, Global};
 use std::process::Abort;
 use std::test::Fail;
+use target_desc::{TargetFault, TargetKind};
 
 /// One call: the words, the file IN, the calls of the files and of the output that fail, the room of
 /// the output and the most bytes that a call moves; and what is expected.
@@ -149,19 +150,75 @@ fn not_yet(words: &'static [&'static str], file: &'static [u8]) -> Row {
     refused(words, file, Status::NotYet, b"llra: not yet\n")
 }
 
+fn usage(words: &'static [&'static str]) -> Row {
+    refused(words, RET, Status::Usage, b"llra: usage\n")
+}
+
 #[test]
-fn refuses_other_words_and_files(rt: HostRuntime) -> Result<(), Fail> {
+fn refuses_other_words(rt: HostRuntime) -> Result<(), Fail> {
     check_rows(
         &rt,
         rt.alloc(),
         &[
+            usage(&[]),
+            usage(&["alloc", "-"]),
+            usage(&["alloc", "-", "-x"]),
+            usage(&["alloc", "-", "IN", "IN"]),
+            usage(&["alloc", "-", "IN", "-x"]),
+            usage(&["-h"]),
+            usage(&["--", "--", "alloc", "-", "IN"]),
+            usage(&["verify", "-", "IN"]),
+            usage(&["run", "-", "IN", "f", "1", "1234567890"]),
+            usage(&["gen", ""]),
             not_yet(&["verify", "source", "-", "IN"], RET),
-            not_yet(&["alloc", "-"], RET),
-            not_yet(&["alloc", "T", "IN"], RET),
-            not_yet(&["alloc", "-", "-x"], RET),
-            not_yet(&["alloc", "-", "IN", "IN"], RET),
-            not_yet(&[], RET),
-            not_yet(WORDS, b""),
+            not_yet(&["run", "-", "IN", "f", "1", "123456789"], RET),
+            not_yet(&["gen", "007"], RET),
+            Row {
+                words: &["alloc", "--", "-", "IN"],
+                ..done(RET, RET)
+            },
+            Row {
+                words: &["--", "alloc", "-", "IN"],
+                ..done(RET, RET)
+            },
+        ],
+    )
+}
+
+#[test]
+fn refuses_targets(rt: HostRuntime) -> Result<(), Fail> {
+    const TARGET: &[&str] = &["alloc", "IN", "OTHER"];
+    check_rows(
+        &rt,
+        rt.alloc(),
+        &[
+            refused(
+                TARGET,
+                b"target t 1\nreg r0 u0\n",
+                Status::Target(TargetFault {
+                    line: 2,
+                    kind: TargetKind::Name,
+                }),
+                b"llra: IN:2: target name\n",
+            ),
+            refused(
+                &["alloc", "GONE", "IN"],
+                RET,
+                Status::ReadFault,
+                b"llra: cannot read GONE\n",
+            ),
+            not_yet(TARGET, b"target t 1\n"),
+        ],
+    )
+}
+
+#[test]
+fn refuses_other_files(rt: HostRuntime) -> Result<(), Fail> {
+    check_rows(
+        &rt,
+        rt.alloc(),
+        &[
+            done(b"", b""),
             not_yet(WORDS, b"\xff\x00\xfe"),
             not_yet(WORDS, b"---\nname: f\nbody: |\n  bb.0:\n    RET\n"),
             not_yet(
@@ -172,10 +229,95 @@ fn refuses_other_words_and_files(rt: HostRuntime) -> Result<(), Fail> {
                 WORDS,
                 b"---\nname: f\nbody: |\n  bb.0:\n    CALL @g, csr\n    RET\n...\n",
             ),
-            not_yet(
-                WORDS,
-                b"# text\n---\nname: f\nbody: |\n  bb.0:\n    RET\n...\n",
-            ),
+        ],
+    )
+}
+
+const TWICE: &[u8] =
+    b"---\nname: f\nbody: |\n  bb.0:\n    RET\n...\n---\nname: f\nbody: |\n  bb.0:\n    RET\n...\n";
+
+const CUT_TWICE: &[u8] = b"---\nname: f\nbody: |\n  bb.0:\n    RET\n...\n---\nname: f\nbody: |";
+
+const THRICE: &[u8] =
+    b"---\nname: f\nbody: |\n  bb.0:\n    RET\n...\n---\nname: f\nbody: |\n  bb.0:\n    RET\n...\n---\nname: f\nbody: |\n  bb.0:\n    RET\n...\n";
+
+/// Documents of 40 bytes: those before a refused one, or before a fault, are written.
+#[test]
+fn writes_document_by_document(rt: HostRuntime) -> Result<(), Fail> {
+    let refused_second = Row {
+        status: Status::NotYet,
+        err: b"llra: not yet\n",
+        ..done(
+            b"---\nname: f\nbody: |\n  bb.0:\n    RET\n...\n---\nname: f\nbody: |\n  bb.0:\n    CALL @g, csr\n    RET\n...\n",
+            RET,
+        )
+    };
+    let no_read = Row {
+        status: Status::ReadFault,
+        err: b"llra: cannot read IN\n",
+        ..done(TWICE, RET)
+    };
+    let no_write = Row {
+        status: Status::WriteFault,
+        err: b"llra: cannot write\n",
+        ..done(THRICE, RET)
+    };
+    check_rows(
+        &rt,
+        rt.alloc(),
+        &[
+            done(TWICE, TWICE),
+            Row {
+                step: 1,
+                ..done(THRICE, THRICE)
+            },
+            refused_second,
+            Row {
+                step: 1,
+                file_fails: &[42],
+                ..no_read
+            },
+            Row {
+                step: 1,
+                file_fails: &[41],
+                out: b"",
+                ..no_read
+            },
+            Row {
+                file_fails: &[1],
+                out: b"",
+                ..no_read
+            },
+            Row {
+                file_fails: &[2],
+                out: b"",
+                ..no_read
+            },
+            Row {
+                file_fails: &[3],
+                out: TWICE,
+                ..no_read
+            },
+            Row {
+                out_fails: &[1],
+                out: b"",
+                ..no_write
+            },
+            Row {
+                out_fails: &[2],
+                ..no_write
+            },
+            Row {
+                out_fails: &[3],
+                out: TWICE,
+                ..no_write
+            },
+            Row {
+                step: 1,
+                out_fails: &[60],
+                out: CUT_TWICE,
+                ..no_write
+            },
         ],
     )
 }
@@ -220,7 +362,6 @@ fn stops_at_the_first_fault(rt: HostRuntime) -> Result<(), Fail> {
             ),
             no_read(&[1], 4096),
             no_read(&[2], 4096),
-            no_read(&[3], 4096),
             no_read(&[9], 2),
             no_write(&[1], 4096, 4096, b""),
             no_write(&[], 0, 4096, b""),

@@ -1,4 +1,4 @@
-use Rattle.ra_top.proofs.Written.{part_after, part_before}
+use Rattle.devices.proofs.Written.{part_after, part_before}
 use Rattle.ra_top.proofs.status.write_named.Goals as goal
 
 pub returns-in_err-write_text-2-clause-part : goal.returns-in_err-write_text-2-clause-part

@@ -1,0 +1,72 @@
+-- A run before its first document.
+use Rattle.std.proofs.Common.{◌≡◌, ℕ, ◌<◌, Bool, List, [], ◌++◌, Option, Some, None, true, false, refl, sym, ◌∙◌, subst, inr, arith, length}
+use Rattle.std.specs.Prelude.{IfSome, codes}
+use Rattle.target_base.specs.declared.types.Target.{Target}
+use Rattle.target_base.specs.Mini.{mini_target}
+use Rattle.devices.specs.Device.{WritesAll}
+use Rattle.devices.specs.Pieces.{is_whole, NoneWhole, lines_of}
+use Rattle.commands.specs.Words.{Asked, Alloc, VerifySource, VerifyAllocated, Run, Intervals, Trace, Gen, is_word}
+use Rattle.ra_top.specs.declared.answer.Job.{Job}
+use Rattle.ra_top.specs.declared.answer.Job.TheVariants as jobs
+use Rattle.ra_top.specs.declared.status.Status.{Status}
+use Rattle.ra_top.specs.declared.status.Status.TheVariants as status
+use Rattle.ra_top.specs.Status.{line_of}
+use Rattle.ra_top.specs.Told.{Begun, CutOff, Streamed, IsUnfinished, IsTold, TargetVerdict, DoesAlloc, DoesAll}
+use Rattle.ra_top.proofs.Progress.{writes_none}
+
+nothing_begun : (job : Job) (t : Target) (file : Option (List ℕ)) (old : Option (List ℕ)) → IfSome file (λ f. Begun job t f old old)
+nothing_begun job t None old = tt
+nothing_begun job t (Some f) old = record { pieces = []; treated = tt; written = writes_none old }
+
+none_of_nothing : NoneWhole []
+none_of_nothing j below = absurd (omega arith)
+
+nothing_whole : is_whole [] ≡ false
+unfolding lines_of
+nothing_whole = refl
+
+cut : (job : Job) (t : Target) (f : List ℕ) (left old : Option (List ℕ)) → left ≡ Some f → CutOff job t f left old old
+cut job t f left old is = record {
+  pieces = [];
+  treated = record { piece = []; rest = f; cut = refl; left_is = is; none = none_of_nothing; open_yet = nothing_whole };
+  written = writes_none old;
+}
+
+cut_at_start : (job : Job) (t : Target) (file left old : Option (List ℕ)) → IfSome file (λ f. left ≡ Some f) → IfSome file (λ f. CutOff job t f left old old)
+cut_at_start job t None left old is = tt
+cut_at_start job t (Some f) left old is = cut job t f left old is
+
+no_verdict : (file : Option (List ℕ)) → IfSome file (λ bytes. TargetVerdict bytes status.Memory [])
+no_verdict None = tt
+no_verdict (Some bytes) = tt
+
+-- the file that is read first
+abbrev pub first_file : Bool → List ℕ → List ℕ → List ℕ
+first_file true t f = f
+first_file false t f = t
+
+out_of_memory : (b : Bool) (t f : List ℕ) (contents : List ℕ → Option (List ℕ)) (left old : Option (List ℕ)) → DoesAlloc b t f contents left old old status.Memory (first_file b t f) []
+out_of_memory true t f contents left old = (refl, nothing_begun jobs.Alloc mini_target (contents f) old)
+out_of_memory false t f contents left old = (refl, no_verdict (contents t), refl)
+
+-- memory ran out before anything was done, whatever was asked
+pub memory_does : (a : Option Asked) (contents : List ℕ → Option (List ℕ)) (left old : Option (List ℕ)) (f0 f1 : ℕ) (e0 e1 : Option (List ℕ)) → IsTold f0 f1 e0 e1 (line_of status.Memory [] []) → DoesAll a contents left old old f0 f1 e0 e1 status.Memory
+memory_does None contents left old f0 f1 e0 e1 told = record { file = []; detail = []; does = (inr refl, refl); told = told }
+memory_does (Some (Alloc t f)) contents left old f0 f1 e0 e1 told = record { file = first_file (is_word t (codes "-")) t f; detail = []; does = out_of_memory (is_word t (codes "-")) t f contents left old; told = told }
+memory_does (Some (VerifySource t f)) contents left old f0 f1 e0 e1 told = record { file = []; detail = []; does = (inr refl, refl); told = told }
+memory_does (Some (VerifyAllocated t f)) contents left old f0 f1 e0 e1 told = record { file = []; detail = []; does = (inr refl, refl); told = told }
+memory_does (Some (Run t f g n s)) contents left old f0 f1 e0 e1 told = record { file = []; detail = []; does = (inr refl, refl); told = told }
+memory_does (Some (Intervals t f)) contents left old f0 f1 e0 e1 told = record { file = []; detail = []; does = (inr refl, refl); told = told }
+memory_does (Some (Trace t f)) contents left old f0 f1 e0 e1 told = record { file = []; detail = []; does = (inr refl, refl); told = told }
+memory_does (Some (Gen s)) contents left old f0 f1 e0 e1 told = record { file = []; detail = []; does = (inr refl, refl); told = told }
+
+-- the same of a line that was told
+pub memory_told : (a : Option Asked) (contents : List ℕ → Option (List ℕ)) (left old : Option (List ℕ)) (f0 f1 : ℕ) (e0 e1 : Option (List ℕ)) (s result : Status) (file detail : List ℕ) → s ≡ status.Memory → result ≡ s → IsTold f0 f1 e0 e1 (line_of s file detail) → DoesAll a contents left old old f0 f1 e0 e1 result
+memory_told a contents left old f0 f1 e0 e1 s result file detail is same told =
+    subst (λ x. DoesAll a contents left old old f0 f1 e0 e1 x) (sym (same ∙ is))
+    (memory_does a contents left old f0 f1 e0 e1 (subst (λ x. IsTold f0 f1 e0 e1 (line_of x file detail)) is told))
+
+-- the file couldn't be begun
+pub fails_at_start : (job : Job) (t : Target) (file left old : Option (List ℕ)) (s : Status) (detail : List ℕ) → s ≡ status.ReadFault → IfSome file (λ f. left ≡ Some f) → IfSome file (λ f. Streamed job t f left old old s detail)
+fails_at_start job t file left old s detail is at =
+    subst (λ x. IfSome file (λ f. Streamed job t f left old old x detail)) (sym is) (cut_at_start job t file left old at)

@@ -1,0 +1,52 @@
+-- What a command writes of a file, and how it ends, devices and memory left aside.
+use Rattle.std.specs.Prelude.{◌≡◌, ◌⊎◌, ℕ, ◌<◌, true, List, [], ◌∷◌, ◌++◌, length}
+use Rattle.std.specs.List.{flat_map}
+use Rattle.target_base.specs.declared.types.Target.{Target}
+use Rattle.devices.specs.Pieces.{is_whole, NoneWhole, held_most}
+use Rattle.ra_top.specs.declared.answer.Job.{Job}
+use Rattle.ra_top.specs.declared.spot.Spot.{Spot}
+use Rattle.ra_top.specs.declared.status.Status.{Status}
+use Rattle.ra_top.specs.declared.status.Status.TheVariants as status
+use Rattle.ra_top.specs.Spot.{first_spot, after}
+use Rattle.ra_top.specs.Answer.{IsText, Refuses}
+
+-- a text is the first piece, or its first 4,194,305 bytes, of a file of which the rest follows on it
+pub record IsHeld (text rest : List ℕ) : Type 0 where
+  pub filled : 0 < length text
+  pub none : NoneWhole text
+  pub end : (is_whole text ≡ true) ⊎ ((length text ≡ held_most) ⊎ (rest ≡ []))
+
+-- a piece, and the text that is written for it
+pub record Treatment : Type 0 where
+  pub piece : List ℕ
+  pub text : List ℕ
+
+-- the texts of pieces, one after the other
+abbrev pub output : List Treatment → List ℕ
+output pieces = flat_map (λ p. p.text) pieces
+
+-- from a place in a file on, of which this is left, these pieces are treated in turn, and then the rest
+-- meets a fact
+abbrev pub Treated : Job → Target → Spot → List ℕ → List Treatment → (Spot → List ℕ → Type 0) → Type 0
+Treated job t spot text [] Then = Then spot text
+Treated job t spot text (p ∷ ps) Then =
+    (rest : List ℕ) × (text ≡ p.piece ++ rest) × IsHeld p.piece rest × IsText job t spot p.piece p.text × Treated job t (after spot p.piece) rest ps Then
+
+-- the next piece is refused
+pub record Stops (job : Job) (t : Target) (spot : Spot) (text : List ℕ) (s : Status) (detail : List ℕ) : Type 0 where
+  pub piece : List ℕ
+  pub rest : List ℕ
+  pub cut : text ≡ piece ++ rest
+  pub held : IsHeld piece rest
+  pub refused : Refuses job t spot piece s detail
+
+-- nothing is left, or the next piece is refused
+abbrev pub AtEnd : Job → Target → Status → List ℕ → Spot → List ℕ → Type 0
+AtEnd job t status.Done detail spot text = text ≡ []
+AtEnd job t s detail spot text = Stops job t spot text s detail
+
+-- the status, the detail of its line, and the output that are due for a file
+pub record Due (job : Job) (t : Target) (file out : List ℕ) (s : Status) (detail : List ℕ) : Type 0 where
+  pub pieces : List Treatment
+  pub treated : Treated job t first_spot file pieces (AtEnd job t s detail)
+  pub written : out ≡ output pieces
