@@ -1,5 +1,5 @@
 -- The words that the program is given.
-use Rattle.std.specs.Prelude.{ℕ, ◌==◌, Bool, false, ◌&&◌, if◌then◌else◌, List, [], ◌∷◌, Option, Some, None, nat_eq, nat_le, codes, map, length, option_map, option_and_then, String}
+use Rattle.std.specs.Prelude.{ℕ, ◌+◌, ◌*◌, ◌-◌, ◌==◌, Bool, false, ◌&&◌, if◌then◌else◌, List, [], ◌∷◌, Option, Some, None, nat_eq, nat_le, codes, map, length, option_map, option_and_then, String}
 use Rattle.std.specs.Borrow.{Bor}
 use Rattle.std.specs.Global.{Global}
 use Rattle.std.specs.List.{list_all}
@@ -33,19 +33,28 @@ is_digit b = nat_le 48 b && nat_le b 57
 abbrev pub is_number : List ℕ → Bool
 is_number word = nat_le 1 (length word) && (nat_le (length word) 9 && list_all is_digit word)
 
+-- the number that digits write behind those of n
+unfoldable pub number_behind : ℕ → List ℕ → ℕ
+number_behind n [] = n
+number_behind n (b ∷ bs) = number_behind (n * 10 + (b - 48)) bs
+
+-- the number that digits write
+abbrev pub number_of : List ℕ → ℕ
+number_of word = number_behind 0 word
+
 -- what the words ask for
 pub data Asked : Type 0 where
   Alloc : List ℕ → List ℕ → Asked
   VerifySource : List ℕ → List ℕ → Asked
   VerifyAllocated : List ℕ → List ℕ → Asked
-  Run : List ℕ → List ℕ → List ℕ → List ℕ → List ℕ → Asked
+  Run : List ℕ → List ℕ → List ℕ → ℕ → ℕ → Asked
   Intervals : List ℕ → List ℕ → Asked
   Trace : List ℕ → List ℕ → Asked
-  Gen : List ℕ → Asked
+  Gen : ℕ → Asked
 
 -- the commands by their words: TARGET and FILE; NAME, N and SEED of `run`; SEED of `gen`
 abbrev pub asked : List (List ℕ) → Option Asked
-asked (a ∷ s ∷ []) = if is_word a (codes "gen") && is_number s then Some (Gen s) else None
+asked (a ∷ s ∷ []) = if is_word a (codes "gen") && is_number s then Some (Gen (number_of s)) else None
 asked (a ∷ t ∷ f ∷ []) =
     if is_word a (codes "alloc") then Some (Alloc t f)
     else (if is_word a (codes "intervals") then Some (Intervals t f)
@@ -54,7 +63,7 @@ asked (a ∷ b ∷ t ∷ f ∷ []) =
     if is_word a (codes "verify") && is_word b (codes "source") then Some (VerifySource t f)
     else (if is_word a (codes "verify") && is_word b (codes "allocated") then Some (VerifyAllocated t f) else None)
 asked (a ∷ t ∷ f ∷ g ∷ n ∷ s ∷ []) =
-    if is_word a (codes "run") && (is_number n && is_number s) then Some (Run t f g n s) else None
+    if is_word a (codes "run") && (is_number n && is_number s) then Some (Run t f g (number_of n) (number_of s)) else None
 asked _ = None
 
 -- what a program's words ask for; None is a usage fault
@@ -66,10 +75,10 @@ abbrev pub asks : Command → Asked
 asks (commands.Alloc t f) = Alloc t.now f.now
 asks (commands.VerifySource t f) = VerifySource t.now f.now
 asks (commands.VerifyAllocated t f) = VerifyAllocated t.now f.now
-asks (commands.Run t f g n s) = Run t.now f.now g.now n.now s.now
+asks (commands.Run t f g n s) = Run t.now f.now g.now n s
 asks (commands.Intervals t f) = Intervals t.now f.now
 asks (commands.Trace t f) = Trace t.now f.now
-asks (commands.Gen s) = Gen s.now
+asks (commands.Gen s) = Gen s
 
 -- the words that a program was given, by their bytes
 abbrev pub bytes_of : List (String Global) → List (List ℕ)

@@ -1,8 +1,8 @@
 //! The commands by their words.
 
-ghost use Rattle.std.specs.Prelude.{◌≡◌, ◌==◌, ◌≤◌, ◌++◌, ◌∷◌, [], ℕ, List, IfOk, option_map, map, length, nat_le};
+ghost use Rattle.std.specs.Prelude.{◌≡◌, ◌==◌, ◌≤◌, ◌++◌, ◌∷◌, [], ℕ, List, IfOk, option_map, map, length, nat_le, IsTrue, ◌<◌, ◌^◌};
 ghost use Rattle.std.specs.List.{list_all};
-ghost use Rattle.commands.specs.Words.{is_option, is_word, is_digit, is_number, plain_words, asked, asks, command_of, bytes_of, texts_of};
+ghost use Rattle.commands.specs.Words.{is_option, is_word, is_digit, is_number, number_of, plain_words, asked, asks, command_of, bytes_of, texts_of};
 
 use std::alloc::{AllocError, Global};
 
@@ -16,14 +16,15 @@ pub enum Command<'a> {
     VerifySource(&'a str, &'a str),
     /// TARGET and FILE: whether each function is valid after allocation.
     VerifyAllocated(&'a str, &'a str),
-    /// TARGET, FILE, NAME, N and SEED: a run of the function of that name.
-    Run(&'a str, &'a str, &'a str, &'a str, &'a str),
+    /// TARGET, FILE, NAME, N and SEED: a run of the function of that name, through N counted
+    /// instructions, in the environment of SEED. Both numbers are below 1,000,000,000.
+    Run(&'a str, &'a str, &'a str, u64, u64),
     /// TARGET and FILE: frequencies and live segments.
     Intervals(&'a str, &'a str),
     /// TARGET and FILE: the steps of the allocator.
     Trace(&'a str, &'a str),
-    /// SEED: a generated function, allocated and run.
-    Gen(&'a str),
+    /// SEED, below 1,000,000,000: a generated function, allocated and run.
+    Gen(u64),
 }
 
 /// Whether a word has two or more bytes and begins with `-`.
@@ -49,6 +50,19 @@ fn is_number(word: &str) -> bool
 {
     let bytes = word.as_bytes();
     bytes.len() >= 1 && (bytes.len() <= 9 && are_digits(bytes))
+}
+
+/// The number that 1 to 9 digits write.
+fn number(digits: &[u8]) -> u64
+    requires { IsTrue (is_number digits.now) }
+    ensures value { result ≡ number_of digits.now }
+    ensures within { result < 10 ^ 9 }
+{
+    let mut n = 0u64;
+    for b in digits {
+        n = n * 10 + (*b - b'0') as u64;
+    }
+    n
 }
 
 /// Appends words.
@@ -115,7 +129,7 @@ fn asked<'a>(words: &[&'a str]) -> Option<Command<'a>>
     match words {
         [name, seed] => {
             if *name == "gen" && is_number(seed) {
-                Some(Command::Gen(seed))
+                Some(Command::Gen(number(seed.as_bytes())))
             } else {
                 None
             }
@@ -124,7 +138,13 @@ fn asked<'a>(words: &[&'a str]) -> Option<Command<'a>>
         [name, form, target, file] => verify(name, form, target, file),
         [name, target, file, function, n, seed] => {
             if *name == "run" && (is_number(n) && is_number(seed)) {
-                Some(Command::Run(target, file, function, n, seed))
+                Some(Command::Run(
+                    target,
+                    file,
+                    function,
+                    number(n.as_bytes()),
+                    number(seed.as_bytes()),
+                ))
             } else {
                 None
             }

@@ -4,9 +4,10 @@
 
 pub mod function;
 mod guard;
-mod limits;
+pub mod limits;
 mod make;
 pub mod stop;
 
 pub use function::allocated;
+pub use limits::passed_limit;
 pub use stop::{FunctionStop, LimitName};

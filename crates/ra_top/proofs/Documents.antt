@@ -4,16 +4,18 @@ use Rattle.std.specs.Prelude.{IfSome}
 use Rattle.target_base.specs.declared.types.Target.{Target}
 use Rattle.devices.specs.Pieces.{is_whole, NoneWhole, held_most, lines_of}
 use Rattle.devices.specs.Unread.{Taken, IsRest}
-use Rattle.ra_top.specs.declared.answer.Job.{Job}
-use Rattle.ra_top.specs.declared.answer.Job.TheVariants as jobs
-use Rattle.ra_top.specs.declared.answer.Step.{Step}
-use Rattle.ra_top.specs.declared.answer.Step.TheVariants as steps
-use Rattle.ra_top.specs.declared.spot.Spot.{Spot}
-use Rattle.ra_top.specs.declared.status.Status.{Status}
-use Rattle.ra_top.specs.declared.status.Status.TheVariants as status
-use Rattle.ra_top.specs.Answer.{Refuses}
+use Rattle.answers.specs.declared.answer.Job.{Job}
+use Rattle.ra_top.specs.declared.ending.Step.{Step}
+use Rattle.ra_top.specs.declared.ending.Step.TheVariants as steps
+use Rattle.answers.specs.declared.spot.Spot.{Spot}
+use Rattle.answers.specs.declared.status.Status.{Status}
+use Rattle.answers.specs.declared.status.Status.TheVariants as status
+use Rattle.answers.specs.declared.answer.Job.TheVariants as jobs
+use Rattle.answers.specs.Documents.{end_status}
+use Rattle.devices.specs.Device.{WritesAll}
+use Rattle.ra_top.proofs.Nothing.{writes_none}
 use Rattle.ra_top.specs.Due.{IsHeld}
-use Rattle.ra_top.specs.Told.{AfterPiece, EndsAtPiece, EndsHere, AfterDocument, Moves}
+use Rattle.ra_top.specs.Told.{AfterPiece, EndsAtPiece, EndsHere, AfterDocument, Moves, IsEnded, Finishes, IsFinished}
 
 -- the piece that was cut off a text
 pub record Cut (text : List ℕ) (left : Option (List ℕ)) (chunk piece : List ℕ) : Type 0 where
@@ -51,19 +53,21 @@ pub mapped : (P Q : List ℕ → Type 0) → ((l : List ℕ) → P l → Q l) �
 mapped P Q h None p = tt
 mapped P Q h (Some l) p = h l p
 
-never_done : (job : Job) (t : Target) (spot : Spot) (piece detail : List ℕ) → Refuses job t spot piece status.Done detail → ⊥
-never_done jobs.Alloc t spot piece detail r = r
+writes_nothing : (old new : Option (List ℕ)) → new ≡ old → WritesAll old new []
+writes_nothing old new e = subst (λ n. WritesAll old n []) (sym e) (writes_none old)
 
 ends_of : (job : Job) (t : Target) (spot : Spot) (text : List ℕ) (left : Option (List ℕ)) (chunk piece : List ℕ) (old new : Option (List ℕ)) (s : Status) (detail : List ℕ) → Cut text left chunk piece → EndsAtPiece job t spot piece old new s detail → EndsHere job t spot text left old new s detail
-ends_of job t spot text left chunk piece old new status.Done detail c e = absurd (never_done job t spot piece detail e.0)
-ends_of job t spot text left chunk piece old new status.Usage detail c e = (record { piece = piece; rest = chunk ++ c.rest; cut = c.whole; held = c.held; refused = e.0 }, e.1)
-ends_of job t spot text left chunk piece old new (status.Target f) detail c e = (record { piece = piece; rest = chunk ++ c.rest; cut = c.whole; held = c.held; refused = e.0 }, e.1)
-ends_of job t spot text left chunk piece old new (status.Text f) detail c e = (record { piece = piece; rest = chunk ++ c.rest; cut = c.whole; held = c.held; refused = e.0 }, e.1)
-ends_of job t spot text left chunk piece old new (status.Limit l) detail c e = (record { piece = piece; rest = chunk ++ c.rest; cut = c.whole; held = c.held; refused = e.0 }, e.1)
+ends_of job t spot text left chunk piece old new status.Done detail c e = (e.text, inr (record { piece = piece; rest = chunk ++ c.rest; cut = c.whole; held = c.held; last = e.is }), e.written)
+ends_of job t spot text left chunk piece old new status.Usage detail c e = absurd e.0
+ends_of job t spot text left chunk piece old new (status.Target f) detail c e = ([], (record { piece = piece; rest = chunk ++ c.rest; cut = c.whole; held = c.held; refused = e.0 }, refl), writes_nothing old new e.1)
+ends_of job t spot text left chunk piece old new (status.Text f) detail c e = ([], (record { piece = piece; rest = chunk ++ c.rest; cut = c.whole; held = c.held; refused = e.0 }, refl), writes_nothing old new e.1)
+ends_of job t spot text left chunk piece old new (status.Limit l) detail c e = ([], (record { piece = piece; rest = chunk ++ c.rest; cut = c.whole; held = c.held; refused = e.0 }, refl), writes_nothing old new e.1)
+ends_of job t spot text left chunk piece old new (status.Invalid x) detail c e = ([], (record { piece = piece; rest = chunk ++ c.rest; cut = c.whole; held = c.held; refused = e.0 }, refl), writes_nothing old new e.1)
+ends_of job t spot text left chunk piece old new (status.Unassignable p) detail c e = ([], (record { piece = piece; rest = chunk ++ c.rest; cut = c.whole; held = c.held; refused = e.0 }, refl), writes_nothing old new e.1)
 ends_of job t spot text left chunk piece old new status.ReadFault detail c e = absurd e
-ends_of job t spot text left chunk piece old new status.WriteFault detail c e = (e.text, record { piece = piece; rest = chunk ++ c.rest; cut = c.whole; held = c.held; answer = e.is }, e.written)
+ends_of job t spot text left chunk piece old new status.WriteFault detail c e = (e.text, inl (record { piece = piece; rest = chunk ++ c.rest; cut = c.whole; held = c.held; answer = e.is }), e.written)
 ends_of job t spot text left chunk piece old new status.Memory detail c e = e
-ends_of job t spot text left chunk piece old new status.NotYet detail c e = (record { piece = piece; rest = chunk ++ c.rest; cut = c.whole; held = c.held; refused = e.0 }, e.1)
+ends_of job t spot text left chunk piece old new status.NotYet detail c e = ([], (record { piece = piece; rest = chunk ++ c.rest; cut = c.whole; held = c.held; refused = e.0 }, refl), writes_nothing old new e.1)
 
 step_of : (job : Job) (t : Target) (spot next : Spot) (text : List ℕ) (left : Option (List ℕ)) (chunk piece : List ℕ) (old new : Option (List ℕ)) (step : Step) → Cut text left chunk piece → AfterPiece job t spot piece old new step → Moves spot piece next step → AfterDocument job t spot next text left chunk old new step
 step_of job t spot next text left chunk piece old new steps.More c a m = record { piece = piece; rest = c.rest; left_is = c.left_is; cut = c.whole; held = c.held; next_is = m.0; out = a }
@@ -83,8 +87,37 @@ all_read first chunk0 (inl w) = absurd (not_whole w)
 all_read first chunk0 (inr (inl m)) = absurd (omega (arith, m))
 all_read first chunk0 (inr (inr is)) = is
 
--- nothing was read: the run is done
-pub document_done : (job : Job) (t : Target) (spot : Spot) (first : Option (List ℕ)) (chunk0 piece : List ℕ) (left old : Option (List ℕ)) (s : Status) (detail : List ℕ) → length piece ≡ 0 → Ended first chunk0 piece → s ≡ status.Done → IfSome first (λ l. EndsHere job t spot (chunk0 ++ l) left old old s detail)
-document_done job t spot first chunk0 piece left old s detail none end is =
-    subst (λ x. IfSome first (λ l. EndsHere job t spot (chunk0 ++ l) left old old x detail)) (sym is)
-    (mapped (λ l. chunk0 ++ l ≡ []) (λ l. EndsHere job t spot (chunk0 ++ l) left old old status.Done detail) (λ l e. (e, refl)) first (all_read first chunk0 (subst (λ p. Ended first chunk0 p) (nothing piece none) end)))
+-- the status is that of the job at its file's end
+pub finished_as : (job : Job) (old new : Option (List ℕ)) (s : Status) → s ≡ end_status job → IsEnded job old new → Finishes job old new s
+finished_as jobs.Alloc old new s e is = subst (λ x. Finishes jobs.Alloc old new x) (sym e) (refl, is)
+finished_as (jobs.Verify form) old new s e is = subst (λ x. Finishes (jobs.Verify form) old new x) (sym e) (refl, is)
+finished_as (jobs.Run name n seed) old new s e is = subst (λ x. Finishes (jobs.Run name n seed) old new x) (sym e) (refl, is)
+finished_as jobs.Trace old new s e is = subst (λ x. Finishes jobs.Trace old new x) (sym e) (refl, is)
+
+over_done : (job : Job) (t : Target) (spot : Spot) (text : List ℕ) (left old new : Option (List ℕ)) (detail : List ℕ) → text ≡ [] → status.Done ≡ end_status job → IsEnded job old new → EndsHere job t spot text left old new status.Done detail
+over_done job t spot text left old new detail e ends (out, last, w) = (out, inl (record { nothing = e; ends = ends; last = last }), w)
+
+over_usage : (job : Job) (t : Target) (spot : Spot) (text : List ℕ) (left old new : Option (List ℕ)) (detail : List ℕ) → text ≡ [] → status.Usage ≡ end_status job → IsEnded job old new → EndsHere job t spot text left old new status.Usage detail
+over_usage job t spot text left old new detail e ends (out, last, w) = (out, record { nothing = e; ends = ends; last = last }, w)
+
+over : (job : Job) (t : Target) (spot : Spot) (text : List ℕ) (left old new : Option (List ℕ)) (s : Status) (detail : List ℕ) → text ≡ [] → Finishes job old new s → EndsHere job t spot text left old new s detail
+over job t spot text left old new status.Done detail e is = over_done job t spot text left old new detail e is.0 is.1
+over job t spot text left old new status.Usage detail e is = over_usage job t spot text left old new detail e is.0 is.1
+over job t spot text left old new (status.Target f) detail e is = absurd is
+over job t spot text left old new (status.Text f) detail e is = absurd is
+over job t spot text left old new (status.Limit l) detail e is = absurd is
+over job t spot text left old new (status.Invalid x) detail e is = absurd is
+over job t spot text left old new (status.Unassignable p) detail e is = absurd is
+over job t spot text left old new status.ReadFault detail e is = absurd is
+over job t spot text left old new status.WriteFault detail e (out, last, w) = (out, inr (e, last), w)
+over job t spot text left old new status.Memory detail e is = is
+over job t spot text left old new status.NotYet detail e is = absurd is
+
+over_step : (job : Job) (t : Target) (spot next : Spot) (text : List ℕ) (left : Option (List ℕ)) (chunk : List ℕ) (old new : Option (List ℕ)) (step : Step) → text ≡ [] → IsFinished job old new step → AfterDocument job t spot next text left chunk old new step
+over_step job t spot next text left chunk old new steps.More e is = absurd is
+over_step job t spot next text left chunk old new (steps.End x) e is = over job t spot text left old new x.status x.detail e is
+
+-- nothing was read: the run is over
+pub document_done : (job : Job) (t : Target) (spot next : Spot) (first : Option (List ℕ)) (chunk0 piece : List ℕ) (left : Option (List ℕ)) (chunk : List ℕ) (old new : Option (List ℕ)) (step : Step) → length piece ≡ 0 → Ended first chunk0 piece → IsFinished job old new step → IfSome first (λ l. AfterDocument job t spot next (chunk0 ++ l) left chunk old new step)
+document_done job t spot next first chunk0 piece left chunk old new step none end is =
+    mapped (λ l. chunk0 ++ l ≡ []) (λ l. AfterDocument job t spot next (chunk0 ++ l) left chunk old new step) (λ l e. over_step job t spot next (chunk0 ++ l) left chunk old new step e is) first (all_read first chunk0 (subst (λ p. Ended first chunk0 p) (nothing piece none) end))

@@ -1,6 +1,6 @@
-pub mod Joined
+pub mod Nothing
 pub mod Progress
 pub mod Documents
 pub mod Starts
 pub mod Verdicts
-pub mod Allocations
+pub mod Jobs

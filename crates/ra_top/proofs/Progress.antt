@@ -6,13 +6,14 @@ use Rattle.std.proofs.lemmas.Grind.{flat_map-append}
 use Rattle.target_base.specs.declared.types.Target.{Target}
 use Rattle.devices.specs.Device.{WritesPart, WritesAll}
 use Rattle.devices.proofs.Written.{part_after, all_after}
-use Rattle.ra_top.specs.declared.answer.Job.{Job}
-use Rattle.ra_top.specs.declared.spot.Spot.{Spot}
-use Rattle.ra_top.specs.declared.status.Status.{Status}
-use Rattle.ra_top.specs.declared.status.Status.TheVariants as status
-use Rattle.ra_top.specs.Spot.{first_spot, after}
+use Rattle.answers.specs.declared.answer.Job.{Job}
+use Rattle.answers.specs.declared.spot.Spot.{Spot}
+use Rattle.answers.specs.declared.status.Status.{Status}
+use Rattle.answers.specs.declared.status.Status.TheVariants as status
+use Rattle.answers.specs.Spot.{first_spot, after}
 use Rattle.ra_top.specs.Due.{Treatment, output, Treated}
 use Rattle.ra_top.specs.Told.{Streamed, EndsHere, GoesOn}
+use Rattle.ra_top.proofs.Nothing.{writes_none}
 
 -- the rest meets another fact
 pub treated_then : (job : Job) (t : Target) (P Q : Spot → List ℕ → Type 0) → ((s : Spot) (x : List ℕ) → P s x → Q s x) → (spot : Spot) (text : List ℕ) (ps : List Treatment) → Treated job t spot text ps P → Treated job t spot text ps Q
@@ -31,10 +32,6 @@ pub record Progress (job : Job) (t : Target) (file : List ℕ) (spot : Spot) (ch
   pub left_is : left ≡ Some rest
   pub treated : Treated job t first_spot file pieces (λ s x. (s ≡ spot) × (x ≡ chunk ++ rest))
   pub written : WritesAll old new (output pieces)
-
-pub writes_none : (old : Option (List ℕ)) → WritesAll old old []
-writes_none None = tt
-writes_none (Some w) = ap Some (sym (append-nil w))
 
 -- the same, where the file is told
 abbrev pub Progresses : Job → Target → Option (List ℕ) → Spot → List ℕ → Option (List ℕ) → Option (List ℕ) → Option (List ℕ) → Type 0
@@ -77,15 +74,17 @@ stays : (old mid new : Option (List ℕ)) (out : List ℕ) → WritesAll old mid
 stays old mid new out w e = subst (λ n. WritesAll old n out) (sym e) w
 
 stops : (job : Job) (t : Target) (file : List ℕ) (spot : Spot) (chunk : List ℕ) (left now_left old mid new : Option (List ℕ)) (s : Status) (detail : List ℕ) → (p : Progress job t file spot chunk left old mid) → EndsHere job t spot (chunk ++ p.rest) now_left mid new s detail → Streamed job t file now_left old new s detail
-stops job t file spot chunk left now_left old mid new status.Done detail p e = record { out = output p.pieces; due = record { pieces = p.pieces; treated = ended job t file spot chunk left old mid _ p e.0; written = refl }; written = stays old mid new _ p.written e.1 }
-stops job t file spot chunk left now_left old mid new status.Usage detail p e = record { out = output p.pieces; due = record { pieces = p.pieces; treated = ended job t file spot chunk left old mid _ p e.0; written = refl }; written = stays old mid new _ p.written e.1 }
-stops job t file spot chunk left now_left old mid new (status.Target f) detail p e = record { out = output p.pieces; due = record { pieces = p.pieces; treated = ended job t file spot chunk left old mid _ p e.0; written = refl }; written = stays old mid new _ p.written e.1 }
-stops job t file spot chunk left now_left old mid new (status.Text f) detail p e = record { out = output p.pieces; due = record { pieces = p.pieces; treated = ended job t file spot chunk left old mid _ p e.0; written = refl }; written = stays old mid new _ p.written e.1 }
-stops job t file spot chunk left now_left old mid new (status.Limit l) detail p e = record { out = output p.pieces; due = record { pieces = p.pieces; treated = ended job t file spot chunk left old mid _ p e.0; written = refl }; written = stays old mid new _ p.written e.1 }
+stops job t file spot chunk left now_left old mid new status.Done detail p (last, at, w) = record { out = output p.pieces ++ last; due = record { pieces = p.pieces; last = last; treated = ended job t file spot chunk left old mid _ p at; written = refl }; written = all_after old mid new (output p.pieces) last p.written w }
+stops job t file spot chunk left now_left old mid new status.Usage detail p (last, at, w) = record { out = output p.pieces ++ last; due = record { pieces = p.pieces; last = last; treated = ended job t file spot chunk left old mid _ p at; written = refl }; written = all_after old mid new (output p.pieces) last p.written w }
+stops job t file spot chunk left now_left old mid new (status.Target f) detail p (last, at, w) = record { out = output p.pieces ++ last; due = record { pieces = p.pieces; last = last; treated = ended job t file spot chunk left old mid _ p at; written = refl }; written = all_after old mid new (output p.pieces) last p.written w }
+stops job t file spot chunk left now_left old mid new (status.Text f) detail p (last, at, w) = record { out = output p.pieces ++ last; due = record { pieces = p.pieces; last = last; treated = ended job t file spot chunk left old mid _ p at; written = refl }; written = all_after old mid new (output p.pieces) last p.written w }
+stops job t file spot chunk left now_left old mid new (status.Limit l) detail p (last, at, w) = record { out = output p.pieces ++ last; due = record { pieces = p.pieces; last = last; treated = ended job t file spot chunk left old mid _ p at; written = refl }; written = all_after old mid new (output p.pieces) last p.written w }
+stops job t file spot chunk left now_left old mid new (status.Invalid x) detail p (last, at, w) = record { out = output p.pieces ++ last; due = record { pieces = p.pieces; last = last; treated = ended job t file spot chunk left old mid _ p at; written = refl }; written = all_after old mid new (output p.pieces) last p.written w }
+stops job t file spot chunk left now_left old mid new (status.Unassignable q) detail p (last, at, w) = record { out = output p.pieces ++ last; due = record { pieces = p.pieces; last = last; treated = ended job t file spot chunk left old mid _ p at; written = refl }; written = all_after old mid new (output p.pieces) last p.written w }
+stops job t file spot chunk left now_left old mid new status.NotYet detail p (last, at, w) = record { out = output p.pieces ++ last; due = record { pieces = p.pieces; last = last; treated = ended job t file spot chunk left old mid _ p at; written = refl }; written = all_after old mid new (output p.pieces) last p.written w }
 stops job t file spot chunk left now_left old mid new status.ReadFault detail p e = record { pieces = p.pieces; treated = ended job t file spot chunk left old mid _ p e.0; written = stays old mid new _ p.written e.1 }
 stops job t file spot chunk left now_left old mid new status.WriteFault detail p (out, next, part) = record { pieces = p.pieces; next = out; treated = ended job t file spot chunk left old mid _ p next; written = part_after old mid new (output p.pieces) out p.written part }
 stops job t file spot chunk left now_left old mid new status.Memory detail p e = record { pieces = p.pieces; treated = ended job t file spot chunk left old mid _ p tt; written = stays old mid new _ p.written e }
-stops job t file spot chunk left now_left old mid new status.NotYet detail p e = record { out = output p.pieces; due = record { pieces = p.pieces; treated = ended job t file spot chunk left old mid _ p e.0; written = refl }; written = stays old mid new _ p.written e.1 }
 
 -- a run ends
 pub run_stops : (job : Job) (t : Target) (first : Option (List ℕ)) (spot : Spot) (chunk : List ℕ) (left now_left old mid new : Option (List ℕ)) (s : Status) (detail : List ℕ) → Progresses job t first spot chunk left old mid → IfSome left (λ l. EndsHere job t spot (chunk ++ l) now_left mid new s detail) → IfSome first (λ file. Streamed job t file now_left old new s detail)

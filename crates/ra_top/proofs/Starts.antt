@@ -1,18 +1,19 @@
 -- A run before its first document.
-use Rattle.std.proofs.Common.{◌≡◌, ℕ, ◌<◌, Bool, List, [], ◌++◌, Option, Some, None, true, false, refl, sym, ◌∙◌, subst, inr, arith, length}
+use Rattle.std.proofs.Common.{◌≡◌, ℕ, ◌<◌, Bool, List, [], ◌++◌, Option, Some, None, true, false, refl, sym, ◌∙◌, subst, inl, inr, arith, length}
 use Rattle.std.specs.Prelude.{IfSome, codes}
 use Rattle.target_base.specs.declared.types.Target.{Target}
 use Rattle.target_base.specs.Mini.{mini_target}
 use Rattle.devices.specs.Device.{WritesAll}
 use Rattle.devices.specs.Pieces.{is_whole, NoneWhole, lines_of}
 use Rattle.commands.specs.Words.{Asked, Alloc, VerifySource, VerifyAllocated, Run, Intervals, Trace, Gen, is_word}
-use Rattle.ra_top.specs.declared.answer.Job.{Job}
-use Rattle.ra_top.specs.declared.answer.Job.TheVariants as jobs
-use Rattle.ra_top.specs.declared.status.Status.{Status}
-use Rattle.ra_top.specs.declared.status.Status.TheVariants as status
-use Rattle.ra_top.specs.Status.{line_of}
-use Rattle.ra_top.specs.Told.{Begun, CutOff, Streamed, IsUnfinished, IsTold, TargetVerdict, DoesAlloc, DoesAll}
-use Rattle.ra_top.proofs.Progress.{writes_none}
+use Rattle.answers.specs.declared.answer.Job.{Job}
+use Rattle.answers.specs.declared.answer.Job.TheVariants as jobs
+use Rattle.answers.specs.declared.status.Status.{Status}
+use Rattle.answers.specs.declared.status.Status.TheVariants as status
+use Rattle.answers.specs.Status.{line_of}
+use Rattle.ra_top.specs.Told.{Begun, CutOff, Streamed, IsUnfinished, IsTold, TargetVerdict, DoesJob, DoesAll}
+use Rattle.mir_meaning.specs.declared.Form.TheVariants as forms
+use Rattle.ra_top.proofs.Nothing.{writes_none}
 
 nothing_begun : (job : Job) (t : Target) (file : Option (List ℕ)) (old : Option (List ℕ)) → IfSome file (λ f. Begun job t f old old)
 nothing_begun job t None old = tt
@@ -40,24 +41,19 @@ no_verdict : (file : Option (List ℕ)) → IfSome file (λ bytes. TargetVerdict
 no_verdict None = tt
 no_verdict (Some bytes) = tt
 
--- the file that is read first
-abbrev pub first_file : Bool → List ℕ → List ℕ → List ℕ
-first_file true t f = f
-first_file false t f = t
-
-out_of_memory : (b : Bool) (t f : List ℕ) (contents : List ℕ → Option (List ℕ)) (left old : Option (List ℕ)) → DoesAlloc b t f contents left old old status.Memory (first_file b t f) []
-out_of_memory true t f contents left old = (refl, nothing_begun jobs.Alloc mini_target (contents f) old)
-out_of_memory false t f contents left old = (refl, no_verdict (contents t), refl)
+-- memory ran out before a job
+out_of_memory : (job : Job) (t f : List ℕ) (contents : List ℕ → Option (List ℕ)) (left old : Option (List ℕ)) → DoesJob job t f contents left old old status.Memory t []
+out_of_memory job t f contents left old = inl (record { file_is = refl; verdict = no_verdict (contents t); unwritten = refl })
 
 -- memory ran out before anything was done, whatever was asked
 pub memory_does : (a : Option Asked) (contents : List ℕ → Option (List ℕ)) (left old : Option (List ℕ)) (f0 f1 : ℕ) (e0 e1 : Option (List ℕ)) → IsTold f0 f1 e0 e1 (line_of status.Memory [] []) → DoesAll a contents left old old f0 f1 e0 e1 status.Memory
 memory_does None contents left old f0 f1 e0 e1 told = record { file = []; detail = []; does = (inr refl, refl); told = told }
-memory_does (Some (Alloc t f)) contents left old f0 f1 e0 e1 told = record { file = first_file (is_word t (codes "-")) t f; detail = []; does = out_of_memory (is_word t (codes "-")) t f contents left old; told = told }
-memory_does (Some (VerifySource t f)) contents left old f0 f1 e0 e1 told = record { file = []; detail = []; does = (inr refl, refl); told = told }
-memory_does (Some (VerifyAllocated t f)) contents left old f0 f1 e0 e1 told = record { file = []; detail = []; does = (inr refl, refl); told = told }
-memory_does (Some (Run t f g n s)) contents left old f0 f1 e0 e1 told = record { file = []; detail = []; does = (inr refl, refl); told = told }
+memory_does (Some (Alloc t f)) contents left old f0 f1 e0 e1 told = record { file = t; detail = []; does = out_of_memory jobs.Alloc t f contents left old; told = told }
+memory_does (Some (VerifySource t f)) contents left old f0 f1 e0 e1 told = record { file = t; detail = []; does = out_of_memory (jobs.Verify forms.Source) t f contents left old; told = told }
+memory_does (Some (VerifyAllocated t f)) contents left old f0 f1 e0 e1 told = record { file = t; detail = []; does = out_of_memory (jobs.Verify forms.Allocated) t f contents left old; told = told }
+memory_does (Some (Run t f g n s)) contents left old f0 f1 e0 e1 told = record { file = []; detail = []; does = inl (refl, refl); told = told }
 memory_does (Some (Intervals t f)) contents left old f0 f1 e0 e1 told = record { file = []; detail = []; does = (inr refl, refl); told = told }
-memory_does (Some (Trace t f)) contents left old f0 f1 e0 e1 told = record { file = []; detail = []; does = (inr refl, refl); told = told }
+memory_does (Some (Trace t f)) contents left old f0 f1 e0 e1 told = record { file = t; detail = []; does = out_of_memory jobs.Trace t f contents left old; told = told }
 memory_does (Some (Gen s)) contents left old f0 f1 e0 e1 told = record { file = []; detail = []; does = (inr refl, refl); told = told }
 
 -- the same of a line that was told
@@ -70,3 +66,8 @@ memory_told a contents left old f0 f1 e0 e1 s result file detail is same told =
 pub fails_at_start : (job : Job) (t : Target) (file left old : Option (List ℕ)) (s : Status) (detail : List ℕ) → s ≡ status.ReadFault → IfSome file (λ f. left ≡ Some f) → IfSome file (λ f. Streamed job t f left old old s detail)
 fails_at_start job t file left old s detail is at =
     subst (λ x. IfSome file (λ f. Streamed job t f left old old x detail)) (sym is) (cut_at_start job t file left old at)
+
+-- memory ran out before the file was begun
+pub memory_at_start : (job : Job) (t : Target) (file left old : Option (List ℕ)) (s : Status) (detail : List ℕ) → s ≡ status.Memory → IfSome file (λ f. Streamed job t f left old old s detail)
+memory_at_start job t file left old s detail is =
+    subst (λ x. IfSome file (λ f. Streamed job t f left old old x detail)) (sym is) (nothing_begun job t file old)

@@ -1,12 +1,14 @@
 -- What the first bytes of a target file tell of it.
 use Rattle.std.proofs.Common.{◌≡◌, ℕ, ◌<◌, ◌≤◌, ◌+◌, List, length, take, Option, Some, None, refl, ap, sym, ◌∙◌, subst, arith, length-take}
-use Rattle.std.specs.Prelude.{IfSome}
+use Rattle.std.specs.Prelude.{IfSome, IfOk, IfErr, Result, Ok, Err}
+use Rattle.target_base.specs.declared.types.Target.{Target}
+use Rattle.ra_top.specs.declared.ending.Ending.{Ending}
 use Rattle.std.proofs.lemmas.List.{take_all}
 use Rattle.target_desc.specs.Reading.{spelled}
-use Rattle.ra_top.specs.declared.status.LimitName.TheVariants as limits
-use Rattle.ra_top.specs.declared.status.Status.{Status}
-use Rattle.ra_top.specs.declared.status.Status.TheVariants as status
-use Rattle.ra_top.specs.Told.{target_most, TargetVerdict, HasStatusCause, NamesNoDevice}
+use Rattle.guarded_alloc.specs.declared.stop.LimitName.TheVariants as limits
+use Rattle.answers.specs.declared.status.Status.{Status}
+use Rattle.answers.specs.declared.status.Status.TheVariants as status
+use Rattle.ra_top.specs.Told.{target_most, IsTargetOf, TargetVerdict, HasStatusCause, HasTargetCause, NamesNoDevice, NamesNone}
 
 whole : (all bytes : List ℕ) → bytes ≡ take (1048576 + 1) all → length bytes ≤ target_most → bytes ≡ all
 whole all bytes e h =
@@ -29,7 +31,9 @@ of_first all bytes (status.Limit limits.Ranges) detail e v = absurd v
 of_first all bytes status.ReadFault detail e v = tt
 of_first all bytes status.WriteFault detail e v = absurd v
 of_first all bytes status.Memory detail e v = tt
-of_first all bytes status.NotYet detail e v = subst (λ b. TargetVerdict b status.NotYet detail) (whole all bytes e v.0) v
+of_first all bytes status.NotYet detail e v = absurd v
+of_first all bytes (status.Invalid x) detail e v = absurd v
+of_first all bytes (status.Unassignable p) detail e v = absurd v
 
 -- the verdict on the first bytes, one more than a target file may have, is that on the file
 pub verdict_of_first : (file : Option (List ℕ)) (bytes read : List ℕ) (s : Status) (detail : List ℕ) → IfSome file (λ all. bytes ≡ take (1048576 + 1) all) → read ≡ bytes → TargetVerdict read s detail → IfSome file (λ all. TargetVerdict all s detail)
@@ -43,7 +47,28 @@ no_fault status.Usage old new is e = (e, refl)
 no_fault (status.Target fault) old new is e = (e, refl)
 no_fault (status.Text fault) old new is e = (e, refl)
 no_fault (status.Limit limit) old new is e = (e, refl)
+no_fault (status.Invalid x) old new is e = (e, refl)
+no_fault (status.Unassignable p) old new is e = (e, refl)
 no_fault status.ReadFault old new is e = absurd is
 no_fault status.WriteFault old new is e = absurd is
 no_fault status.Memory old new is e = (e, refl)
 no_fault status.NotYet old new is e = (e, refl)
+
+target_of_first : (all bytes : List ℕ) (t : Target) → bytes ≡ take (1048576 + 1) all → IsTargetOf bytes t → IsTargetOf all t
+target_of_first all bytes t e is = subst (λ b. IsTargetOf b t) (whole all bytes e is.0) is
+
+-- the target that the first bytes spell is that of the file
+pub is_target_of_first : (file : Option (List ℕ)) (bytes read : List ℕ) (result : Result Target Ending) → IfSome file (λ all. bytes ≡ take (1048576 + 1) all) → read ≡ bytes → IfOk result (IsTargetOf read) → IfOk result (λ t. IfSome file (λ all. IsTargetOf all t))
+is_target_of_first None bytes read (Ok t) e same is = tt
+is_target_of_first (Some all) bytes read (Ok t) e same is = target_of_first all read t (same ∙ e) is
+is_target_of_first file bytes read (Err x) e same is = tt
+
+-- why the first bytes are refused is why the file is
+pub is_refused_of_first : (file : Option (List ℕ)) (bytes read : List ℕ) (result : Result Target Ending) → IfSome file (λ all. bytes ≡ take (1048576 + 1) all) → read ≡ bytes → IfErr result (λ e. TargetVerdict read e.status e.detail) → IfErr result (λ x. IfSome file (λ all. TargetVerdict all x.status x.detail))
+is_refused_of_first file bytes read (Ok t) e same is = tt
+is_refused_of_first file bytes read (Err x) e same v = verdict_of_first file bytes read x.status x.detail e same v
+
+-- no fault rose where the bytes were read
+pub no_device : (result : Result Target Ending) (old new : ℕ) → NamesNone result → new ≡ old → HasTargetCause result old new
+no_device (Ok t) old new is e = e
+no_device (Err x) old new is e = no_fault x.status old new is e

@@ -3,12 +3,13 @@ use Rattle.std.specs.Prelude.{◌≡◌, ◌⊎◌, ℕ, ◌<◌, true, List, []
 use Rattle.std.specs.List.{flat_map}
 use Rattle.target_base.specs.declared.types.Target.{Target}
 use Rattle.devices.specs.Pieces.{is_whole, NoneWhole, held_most}
-use Rattle.ra_top.specs.declared.answer.Job.{Job}
-use Rattle.ra_top.specs.declared.spot.Spot.{Spot}
-use Rattle.ra_top.specs.declared.status.Status.{Status}
-use Rattle.ra_top.specs.declared.status.Status.TheVariants as status
-use Rattle.ra_top.specs.Spot.{first_spot, after}
-use Rattle.ra_top.specs.Answer.{IsText, Refuses}
+use Rattle.answers.specs.declared.answer.Job.{Job}
+use Rattle.answers.specs.declared.spot.Spot.{Spot}
+use Rattle.answers.specs.declared.status.Status.{Status}
+use Rattle.answers.specs.declared.status.Status.TheVariants as status
+use Rattle.answers.specs.Spot.{first_spot, after}
+use Rattle.answers.specs.Answer.{IsText, IsLast, Refuses}
+use Rattle.answers.specs.Documents.{end_status, IsEndText}
 
 -- a text is the first piece, or its first 4,194,305 bytes, of a file of which the rest follows on it
 pub record IsHeld (text rest : List ℕ) : Type 0 where
@@ -40,13 +41,29 @@ pub record Stops (job : Job) (t : Target) (spot : Spot) (text : List ℕ) (s : S
   pub held : IsHeld piece rest
   pub refused : Refuses job t spot piece s detail
 
--- nothing is left, or the next piece is refused
-abbrev pub AtEnd : Job → Target → Status → List ℕ → Spot → List ℕ → Type 0
-AtEnd job t status.Done detail spot text = text ≡ []
-AtEnd job t s detail spot text = Stops job t spot text s detail
+-- a text is due for the next piece, and the run ends with it
+pub record EndsWith (job : Job) (t : Target) (out : List ℕ) (spot : Spot) (text : List ℕ) : Type 0 where
+  pub piece : List ℕ
+  pub rest : List ℕ
+  pub cut : text ≡ piece ++ rest
+  pub held : IsHeld piece rest
+  pub last : IsLast job t spot piece out
+
+-- nothing is left, and a text is due at the end
+pub record IsOver (job : Job) (out : List ℕ) (s : Status) (text : List ℕ) : Type 0 where
+  pub nothing : text ≡ []
+  pub ends : s ≡ end_status job
+  pub last : IsEndText job out
+
+-- A run ends with a last text: nothing is left, the job ends with a document, or the next piece is refused.
+abbrev pub AtEnd : Job → Target → List ℕ → Status → List ℕ → Spot → List ℕ → Type 0
+AtEnd job t out status.Done detail spot text = IsOver job out status.Done text ⊎ EndsWith job t out spot text
+AtEnd job t out status.Usage detail spot text = IsOver job out status.Usage text
+AtEnd job t out s detail spot text = Stops job t spot text s detail × (out ≡ [])
 
 -- the status, the detail of its line, and the output that are due for a file
 pub record Due (job : Job) (t : Target) (file out : List ℕ) (s : Status) (detail : List ℕ) : Type 0 where
   pub pieces : List Treatment
-  pub treated : Treated job t first_spot file pieces (AtEnd job t s detail)
-  pub written : out ≡ output pieces
+  pub last : List ℕ
+  pub treated : Treated job t first_spot file pieces (AtEnd job t last s detail)
+  pub written : out ≡ output pieces ++ last

@@ -1,5 +1,2 @@
-pub mod Status
-pub mod Spot
-pub mod Answer
 pub mod Due
 pub mod Told

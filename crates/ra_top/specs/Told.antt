@@ -1,26 +1,29 @@
 -- What is told of a call: the bytes that were written, and the faults of its devices.
-use Rattle.std.specs.Prelude.{◌≡◌, ◌⊎◌, ◌<◌, ◌≤◌, ◌+◌, ℕ, false, true, Bool, List, [], ◌++◌, Option, Some, None, IfSome, Ok, Err, length, codes}
+use Rattle.std.specs.Prelude.{◌≡◌, ◌⊎◌, ◌<◌, ◌≤◌, ◌+◌, ℕ, false, true, Bool, List, [], ◌++◌, Option, Some, None, IfSome, Result, Ok, Err, length, codes}
+use Rattle.std.specs.Borrow.{Bor}
 use Rattle.std.specs.Fmt.{decimal}
 use Rattle.target_base.specs.declared.types.Target.{Target}
 use Rattle.target_base.specs.Mini.{mini_target}
 use Rattle.target_desc.specs.Reading.{spelled}
-use Rattle.target_desc.specs.Ending.{Parts}
+use Rattle.target_desc.specs.Ending.{parts_of}
+use Rattle.mir_meaning.specs.declared.Form.TheVariants as forms
 use Rattle.target_desc.specs.declared.fault.TargetFault.{TargetFault}
 use Rattle.devices.specs.Device.{Rose, WritesPart, WritesAll}
 use Rattle.devices.specs.Pieces.{is_whole, NoneWhole}
-use Rattle.commands.specs.Words.{Asked, Alloc, is_word}
-use Rattle.ra_top.specs.declared.answer.Job.{Job}
-use Rattle.ra_top.specs.declared.answer.Job.TheVariants as jobs
-use Rattle.ra_top.specs.declared.answer.Ending.{Ending}
-use Rattle.ra_top.specs.declared.answer.Step.{Step}
-use Rattle.ra_top.specs.declared.answer.Step.TheVariants as steps
-use Rattle.ra_top.specs.declared.spot.Spot.{Spot}
-use Rattle.ra_top.specs.declared.status.LimitName.TheVariants as limits
-use Rattle.ra_top.specs.declared.status.Status.{Status}
-use Rattle.ra_top.specs.declared.status.Status.TheVariants as status
-use Rattle.ra_top.specs.Spot.{first_spot, after, file_most}
-use Rattle.ra_top.specs.Status.{line_of}
-use Rattle.ra_top.specs.Answer.{IsText, Refuses}
+use Rattle.commands.specs.Words.{Asked, Alloc, VerifySource, VerifyAllocated, Run, Trace, is_word}
+use Rattle.answers.specs.declared.answer.Job.{Job}
+use Rattle.answers.specs.declared.answer.Job.TheVariants as jobs
+use Rattle.ra_top.specs.declared.ending.Ending.{Ending}
+use Rattle.ra_top.specs.declared.ending.Step.{Step}
+use Rattle.ra_top.specs.declared.ending.Step.TheVariants as steps
+use Rattle.answers.specs.declared.spot.Spot.{Spot}
+use Rattle.guarded_alloc.specs.declared.stop.LimitName.TheVariants as limits
+use Rattle.answers.specs.declared.status.Status.{Status}
+use Rattle.answers.specs.declared.status.Status.TheVariants as status
+use Rattle.answers.specs.Spot.{first_spot, after, file_most}
+use Rattle.answers.specs.Status.{line_of}
+use Rattle.answers.specs.Answer.{IsText, IsLast, Refuses}
+use Rattle.answers.specs.Documents.{IsEndText, end_status, tells}
 use Rattle.ra_top.specs.Due.{IsHeld, Treatment, output, Treated, AtEnd, Due}
 
 -- which faults rose for a status
@@ -38,13 +41,21 @@ pub record IsUnfinished (text : List ℕ) (left : Option (List ℕ)) : Type 0 wh
   pub none : NoneWhole piece
   pub open_yet : is_whole piece ≡ false
 
+-- a text is due for a piece, whether the run goes on or ends with it
+abbrev pub IsDueText : Job → Target → Spot → List ℕ → List ℕ → Type 0
+IsDueText job t spot piece text = IsText job t spot piece text ⊎ IsLast job t spot piece text
+
 -- a text is due for the next piece
 pub record IsNext (job : Job) (t : Target) (out : List ℕ) (spot : Spot) (text : List ℕ) : Type 0 where
   pub piece : List ℕ
   pub rest : List ℕ
   pub cut : text ≡ piece ++ rest
   pub held : IsHeld piece rest
-  pub answer : IsText job t spot piece out
+  pub answer : IsDueText job t spot piece out
+
+-- a text is due for what is left: for the next piece, or at the end
+abbrev pub IsNextText : Job → Target → List ℕ → Spot → List ℕ → Type 0
+IsNextText job t out spot text = IsNext job t out spot text ⊎ ((text ≡ []) × IsEndText job out)
 
 -- a read failed: each whole piece of what was read is written
 pub record CutOff (job : Job) (t : Target) (file : List ℕ) (left old new : Option (List ℕ)) : Type 0 where
@@ -56,7 +67,7 @@ pub record CutOff (job : Job) (t : Target) (file : List ℕ) (left old new : Opt
 pub record PartWritten (job : Job) (t : Target) (file : List ℕ) (old new : Option (List ℕ)) : Type 0 where
   pub pieces : List Treatment
   pub next : List ℕ
-  pub treated : Treated job t first_spot file pieces (IsNext job t next)
+  pub treated : Treated job t first_spot file pieces (IsNextText job t next)
   pub written : WritesPart old new (output pieces ++ next)
 
 -- memory ran out: the texts of some first pieces are written
@@ -84,14 +95,21 @@ pub record IsWritten (job : Job) (t : Target) (spot : Spot) (piece : List ℕ) (
   pub is : IsText job t spot piece text
   pub written : WritesAll old new text
 
+-- of the document that ends the run: its text is written
+pub record IsLastWritten (job : Job) (t : Target) (spot : Spot) (piece : List ℕ) (old new : Option (List ℕ)) : Type 0 where
+  pub text : List ℕ
+  pub is : IsLast job t spot piece text
+  pub written : WritesAll old new text
+
 -- of a document: a first part of its text is written
 pub record IsPartWritten (job : Job) (t : Target) (spot : Spot) (piece : List ℕ) (old new : Option (List ℕ)) : Type 0 where
   pub text : List ℕ
-  pub is : IsText job t spot piece text
+  pub is : IsDueText job t spot piece text
   pub written : WritesPart old new text
 
 -- how a run ends at a piece that was read
 abbrev pub EndsAtPiece : Job → Target → Spot → List ℕ → Option (List ℕ) → Option (List ℕ) → Status → List ℕ → Type 0
+EndsAtPiece job t spot piece old new status.Done detail = IsLastWritten job t spot piece old new
 EndsAtPiece job t spot piece old new status.ReadFault detail = ⊥
 EndsAtPiece job t spot piece old new status.WriteFault detail = IsPartWritten job t spot piece old new
 EndsAtPiece job t spot piece old new status.Memory detail = new ≡ old
@@ -105,9 +123,25 @@ AfterPiece job t spot piece old new (steps.End e) = EndsAtPiece job t spot piece
 -- how a run ends from a place in a file on
 abbrev pub EndsHere : Job → Target → Spot → List ℕ → Option (List ℕ) → Option (List ℕ) → Option (List ℕ) → Status → List ℕ → Type 0
 EndsHere job t spot text left old new status.ReadFault detail = IsUnfinished text left × (new ≡ old)
-EndsHere job t spot text left old new status.WriteFault detail = (out : List ℕ) × IsNext job t out spot text × WritesPart old new out
+EndsHere job t spot text left old new status.WriteFault detail = (out : List ℕ) × IsNextText job t out spot text × WritesPart old new out
 EndsHere job t spot text left old new status.Memory detail = new ≡ old
-EndsHere job t spot text left old new s detail = AtEnd job t s detail spot text × (new ≡ old)
+EndsHere job t spot text left old new s detail = (out : List ℕ) × AtEnd job t out s detail spot text × WritesAll old new out
+
+-- the text that is due at the end of a file is written
+abbrev pub IsEnded : Job → Option (List ℕ) → Option (List ℕ) → Type 0
+IsEnded job old new = (out : List ℕ) × IsEndText job out × WritesAll old new out
+
+-- how a run ends where its file does
+abbrev pub Finishes : Job → Option (List ℕ) → Option (List ℕ) → Status → Type 0
+Finishes job old new status.Done = (status.Done ≡ end_status job) × IsEnded job old new
+Finishes job old new status.Usage = (status.Usage ≡ end_status job) × IsEnded job old new
+Finishes job old new status.WriteFault = (out : List ℕ) × IsEndText job out × WritesPart old new out
+Finishes job old new status.Memory = new ≡ old
+Finishes job old new s = ⊥
+
+abbrev pub IsFinished : Job → Option (List ℕ) → Option (List ℕ) → Step → Type 0
+IsFinished job old new steps.More = ⊥
+IsFinished job old new (steps.End e) = Finishes job old new e.status
 
 -- the run goes on behind a piece
 pub record GoesOn (job : Job) (t : Target) (spot next : Spot) (text : List ℕ) (left : Option (List ℕ)) (chunk : List ℕ) (old new : Option (List ℕ)) : Type 0 where
@@ -147,11 +181,14 @@ Advances spot next (steps.End e) = Unit {0}
 abbrev pub target_most : ℕ
 target_most = 1048576
 
--- what is answered to a target file
+-- the bytes of a target file spell this target
+abbrev pub IsTargetOf : List ℕ → Target → Type 0
+IsTargetOf bytes t = (length bytes ≤ target_most) × (spelled bytes ≡ Ok (parts_of t))
+
+-- why a target file is refused
 abbrev pub TargetVerdict : List ℕ → Status → List ℕ → Type 0
 TargetVerdict bytes (status.Limit limits.TargetBytes) detail = target_most < length bytes
 TargetVerdict bytes (status.Target fault) detail = (length bytes ≤ target_most) × (spelled bytes ≡ Err fault) × (detail ≡ decimal fault.line)
-TargetVerdict bytes status.NotYet detail = (length bytes ≤ target_most) × (parts : Parts) × (spelled bytes ≡ Ok parts)
 TargetVerdict bytes status.ReadFault detail = Unit {0}
 TargetVerdict bytes status.Memory detail = Unit {0}
 TargetVerdict bytes s detail = ⊥
@@ -168,19 +205,65 @@ IsFaultOrMemory fault (status.Target f) detail = (f ≡ fault) × (detail ≡ de
 IsFaultOrMemory fault status.Memory detail = Unit {0}
 IsFaultOrMemory fault s detail = ⊥
 
--- what is done for words, with files of these contents
-abbrev pub DoesAlloc : Bool → List ℕ → List ℕ → (List ℕ → Option (List ℕ)) → Option (List ℕ) → Option (List ℕ) → Option (List ℕ) → Status → List ℕ → List ℕ → Type 0
-DoesAlloc true t f contents left old new s file detail = (file ≡ f) × IfSome (contents f) (λ bytes. Streamed jobs.Alloc mini_target bytes left old new s detail)
-DoesAlloc false t f contents left old new s file detail = (file ≡ t) × IfSome (contents t) (λ bytes. TargetVerdict bytes s detail) × (new ≡ old)
+-- the faults that rose where a target file was read
+abbrev pub HasTargetCause : Result Target Ending → ℕ → ℕ → Type 0
+HasTargetCause (Ok t) old new = new ≡ old
+HasTargetCause (Err e) old new = HasStatusCause e.status old new 0 0
+
+-- an ending names no device
+abbrev pub NamesNone : Result Target Ending → Type 0
+NamesNone (Ok t) = Unit {0}
+NamesNone (Err e) = NamesNoDevice e.status
+
+-- A word names a target, where its file holds these bytes; `-` is the built-in target.
+abbrev pub NamesTarget : Bool → Option (List ℕ) → Target → Type 0
+NamesTarget true text t = t ≡ mini_target
+NamesTarget false text t = IfSome text (λ bytes. IsTargetOf bytes t)
+
+-- the target of a word is refused, and nothing is written
+pub record IsTargetRefused (word : List ℕ) (text old new : Option (List ℕ)) (s : Status) (file detail : List ℕ) : Type 0 where
+  pub file_is : file ≡ word
+  pub verdict : IfSome text (λ bytes. TargetVerdict bytes s detail)
+  pub unwritten : new ≡ old
+
+-- the documents of a file are treated over the target of a word
+pub record IsOverTarget (job : Job) (word f : List ℕ) (contents : List ℕ → Option (List ℕ)) (left old new : Option (List ℕ)) (s : Status) (file detail : List ℕ) : Type 0 where
+  pub target : Target
+  pub named : NamesTarget (is_word word (codes "-")) (contents word) target
+  pub file_is : file ≡ f
+  pub streamed : IfSome (contents f) (λ bytes. Streamed job target bytes left old new s detail)
+
+-- what is done for the words of a target and of a file, with files of these contents
+abbrev pub DoesJob : Job → List ℕ → List ℕ → (List ℕ → Option (List ℕ)) → Option (List ℕ) → Option (List ℕ) → Option (List ℕ) → Status → List ℕ → List ℕ → Type 0
+DoesJob job word f contents left old new s file detail = IsTargetRefused word (contents word) old new s file detail ⊎ IsOverTarget job word f contents left old new s file detail
 
 -- what is built of the commands
 abbrev pub is_built : Option Asked → Bool
 is_built (Some (Alloc t f)) = true
+is_built (Some (VerifySource t f)) = true
+is_built (Some (VerifyAllocated t f)) = true
+is_built (Some (Run t f g n seed)) = true
+is_built (Some (Trace t f)) = true
 is_built _ = false
+
+-- whether a command tells the watchers
+abbrev pub tells_words : Option Asked → Bool
+tells_words (Some (Alloc t f)) = true
+tells_words (Some (Trace t f)) = true
+tells_words _ = false
+
+-- what is done for the words of `run`, with the function's name behind some pointer
+abbrev pub DoesRun : List ℕ → List ℕ → List ℕ → ℕ → ℕ → (List ℕ → Option (List ℕ)) → Option (List ℕ) → Option (List ℕ) → Option (List ℕ) → Status → List ℕ → List ℕ → Type 0
+DoesRun t f g n seed contents left old new s file detail =
+    ((s ≡ status.Memory) × (new ≡ old)) ⊎ ((name : Bor (List ℕ)) × (name.now ≡ g) × DoesJob (jobs.Run name n seed) t f contents left old new s file detail)
 
 abbrev pub Does : Option Asked → (List ℕ → Option (List ℕ)) → Option (List ℕ) → Option (List ℕ) → Option (List ℕ) → Status → List ℕ → List ℕ → Type 0
 Does None contents left old new s file detail = ((s ≡ status.Usage) ⊎ (s ≡ status.Memory)) × (new ≡ old)
-Does (Some (Alloc t f)) contents left old new s file detail = DoesAlloc (is_word t (codes "-")) t f contents left old new s file detail
+Does (Some (Alloc t f)) contents left old new s file detail = DoesJob jobs.Alloc t f contents left old new s file detail
+Does (Some (VerifySource t f)) contents left old new s file detail = DoesJob (jobs.Verify forms.Source) t f contents left old new s file detail
+Does (Some (VerifyAllocated t f)) contents left old new s file detail = DoesJob (jobs.Verify forms.Allocated) t f contents left old new s file detail
+Does (Some (Run t f g n seed)) contents left old new s file detail = DoesRun t f g n seed contents left old new s file detail
+Does (Some (Trace t f)) contents left old new s file detail = DoesJob jobs.Trace t f contents left old new s file detail
 Does (Some _) contents left old new s file detail = ((s ≡ status.NotYet) ⊎ (s ≡ status.Memory)) × (new ≡ old)
 
 -- it is done, and the line is told of it
@@ -188,4 +271,11 @@ pub record DoesAll (asked : Option Asked) (contents : List ℕ → Option (List 
   pub file : List ℕ
   pub detail : List ℕ
   pub does : Does asked contents left old new s file detail
+  pub told : IsTold old_faults new_faults err_old err_new (line_of s file detail)
+
+-- the same of a job over a file
+pub record DoesJobAll (job : Job) (word f : List ℕ) (contents : List ℕ → Option (List ℕ)) (left old new : Option (List ℕ)) (old_faults new_faults : ℕ) (err_old err_new : Option (List ℕ)) (s : Status) : Type 0 where
+  pub file : List ℕ
+  pub detail : List ℕ
+  pub does : DoesJob job word f contents left old new s file detail
   pub told : IsTold old_faults new_faults err_old err_new (line_of s file detail)

@@ -1,43 +1,64 @@
 //! The top call.
 
-ghost use Rattle.std.specs.Prelude.{◌≡◌, ℕ, List, Some, IfSome, false};
-ghost use Rattle.commands.specs.Words.{Alloc, bytes_of, command_of};
-ghost use Rattle.ra_top.specs.Told.{HasStatusCause, DoesAll, is_built, IsTold, Streamed};
-ghost use Rattle.ra_top.specs.Status.{line_of};
+ghost use Rattle.std.specs.Prelude.{◌≡◌, ℕ, List, IfSome, false};
+ghost use Rattle.commands.specs.Words.{bytes_of, command_of};
+ghost use Rattle.answers.specs.Status.{line_of};
+ghost use Rattle.answers.specs.Documents.{tells};
 ghost use Rattle.target_base.specs.Mini.{mini_target};
-ghost use Rattle.ra_top.specs.declared.answer.Job.TheVariants as jobs;
+ghost use Rattle.ra_top.specs.Told.{HasStatusCause, DoesAll, DoesJobAll, is_built, tells_words, IsTold, Streamed};
 
-use crate::answer::{Ending, Job};
-use crate::status::{Status, write_line};
+use crate::ending::Ending;
 use crate::stream::{ends, stream};
 use crate::target::read_target_file;
+use answers::status::write_line;
+use answers::{Job, Status};
 use commands::{Command, read_words};
 use devices::{Files, Sink};
+use mir_meaning::Form;
 use std::alloc::Global;
-use target_base::mini;
+use target_base::{Target, mini};
+use watchers::Watcher;
 
 /// Does all that the program does: reads its words, which are those after its name, treats the
 /// documents of the file that they name one at a time, each before the next is read, and writes a
 /// line that tells the status to `err`, where there is one. The words are refused first, then the
 /// target, then each document in turn. The output of a document is made whole before any of it is
 /// written. After the first fault of `files` or `out` it calls neither again; a fault of `err`
-/// changes nothing.
-pub fn top<F: Files, O: Sink, E: Sink>(
+/// changes nothing. `alloc` and `trace` tell the watchers each step of each run, in order; the other
+/// commands leave them as they were.
+pub fn top<F: Files, O: Sink, E: Sink, W: Watcher>(
     alloc: Global,
     words: &[String],
     files: &mut F,
     out: &mut O,
     err: &mut E,
+    watchers: &mut Vec<W>,
 ) -> Status
     ensures contents { (n : List ℕ) → F.contents files.new n ≡ F.contents files.old n }
     ensures does { DoesAll (command_of (bytes_of words.now)) (F.contents files.old) (F.left files.new) (O.written out.old) (O.written out.new) (E.faults err.old) (E.faults err.new) (E.written err.old) (E.written err.new) result }
     ensures cause { HasStatusCause result (F.faults files.old) (F.faults files.new) (O.faults out.old) (O.faults out.new) }
+    ensures leaves { tells_words (command_of (bytes_of words.now)) ≡ false → watchers.new ≡ watchers.old }
     ensures words { is_built (command_of (bytes_of words.now)) ≡ false → (files.new ≡ files.old) × (out.new ≡ out.old) }
 {
     match read_words(alloc, words) {
         Err(_) => tell(err, ends(alloc, Status::Memory), ""),
         Ok(None) => tell(err, ends(alloc, Status::Usage), ""),
-        Ok(Some(Command::Alloc(target, file))) => allocate(alloc, target, file, files, out, err),
+        Ok(Some(Command::Alloc(target, file))) => {
+            over_file(alloc, Job::Alloc, target, file, files, out, err, watchers)
+        }
+        Ok(Some(Command::VerifySource(target, file))) => {
+            over_file(alloc, Job::Verify(Form::Source), target, file, files, out, err, watchers)
+        }
+        Ok(Some(Command::VerifyAllocated(target, file))) => {
+            over_file(alloc, Job::Verify(Form::Allocated), target, file, files, out, err, watchers)
+        }
+        Ok(Some(Command::Run(target, file, name, n, seed))) => {
+            let job = Job::Run(name, n, seed);
+            over_file(alloc, job, target, file, files, out, err, watchers)
+        }
+        Ok(Some(Command::Trace(target, file))) => {
+            over_file(alloc, Job::Trace, target, file, files, out, err, watchers)
+        }
         Ok(Some(_)) => tell(err, ends(alloc, Status::NotYet), ""),
     }
 }
@@ -54,40 +75,72 @@ fn tell<E: Sink>(err: &mut E, ending: Ending, file: &str) -> Status
     }
 }
 
-/// The command `alloc`.
-fn allocate<F: Files, O: Sink, E: Sink>(
+/// A command that treats the documents of a file in turn, over the target of a word.
+fn over_file<F: Files, O: Sink, E: Sink, W: Watcher>(
     alloc: Global,
+    job: Job,
     target: &str,
     file: &str,
     files: &mut F,
     out: &mut O,
     err: &mut E,
+    watchers: &mut Vec<W>,
 ) -> Status
     ensures contents { (n : List ℕ) → F.contents files.new n ≡ F.contents files.old n }
-    ensures does { DoesAll (Some (Alloc target.now file.now)) (F.contents files.old) (F.left files.new) (O.written out.old) (O.written out.new) (E.faults err.old) (E.faults err.new) (E.written err.old) (E.written err.new) result }
+    ensures does { DoesJobAll job.entry target.now file.now (F.contents files.old) (F.left files.new) (O.written out.old) (O.written out.new) (E.faults err.old) (E.faults err.new) (E.written err.old) (E.written err.new) result }
     ensures cause { HasStatusCause result (F.faults files.old) (F.faults files.new) (O.faults out.old) (O.faults out.new) }
+    ensures leaves { tells job.entry ≡ false → watchers.new ≡ watchers.old }
 {
     if target == "-" {
-        let ending = allocate_file(alloc, file, files, out);
-        tell(err, ending, file)
-    } else {
-        let ending = read_target_file(alloc, target, files);
-        tell(err, ending, target)
+        let ending = over_mini(alloc, job, file, files, out, watchers);
+        return tell(err, ending, file);
+    }
+    match read_target_file(alloc, target, files) {
+        Err(ending) => tell(err, ending, target),
+        Ok(read) => {
+            let ending = over_target(alloc, job, &read, file, files, out, watchers);
+            tell(err, ending, file)
+        }
     }
 }
 
-/// Allocates the functions of a file over the built-in target.
-fn allocate_file<F: Files, O: Sink>(alloc: Global, file: &str, files: &mut F, out: &mut O) -> Ending
+/// Treats the documents of a file over the built-in target.
+fn over_mini<F: Files, O: Sink, W: Watcher>(
+    alloc: Global,
+    job: Job,
+    file: &str,
+    files: &mut F,
+    out: &mut O,
+    watchers: &mut Vec<W>,
+) -> Ending
     ensures contents { (n : List ℕ) → F.contents files.new n ≡ F.contents files.old n }
-    ensures streamed { IfSome (F.contents files.old file.now) (λ bytes. Streamed jobs.Alloc mini_target bytes (F.left files.new) (O.written out.old) (O.written out.new) result.status result.detail) }
+    ensures streamed { IfSome (F.contents files.old file.now) (λ bytes. Streamed job.entry mini_target bytes (F.left files.new) (O.written out.old) (O.written out.new) result.status result.detail) }
     ensures cause { HasStatusCause result.status (F.faults files.old) (F.faults files.new) (O.faults out.old) (O.faults out.new) }
+    ensures leaves { tells job.entry ≡ false → watchers.new ≡ watchers.old }
 {
-    let target = match mini(alloc) {
-        Ok(target) => target,
-        Err(_) => return ends(alloc, Status::Memory),
-    };
+    match mini(alloc) {
+        Ok(target) => over_target(alloc, job, &target, file, files, out, watchers),
+        Err(_) => ends(alloc, Status::Memory),
+    }
+}
+
+/// Treats the documents of a file over a target.
+fn over_target<F: Files, O: Sink, W: Watcher>(
+    alloc: Global,
+    job: Job,
+    target: &Target,
+    file: &str,
+    files: &mut F,
+    out: &mut O,
+    watchers: &mut Vec<W>,
+) -> Ending
+    ensures contents { (n : List ℕ) → F.contents files.new n ≡ F.contents files.old n }
+    ensures streamed { IfSome (F.contents files.old file.now) (λ bytes. Streamed job.entry target.now bytes (F.left files.new) (O.written out.old) (O.written out.new) result.status result.detail) }
+    ensures cause { HasStatusCause result.status (F.faults files.old) (F.faults files.new) (O.faults out.old) (O.faults out.new) }
+    ensures leaves { tells job.entry ≡ false → watchers.new ≡ watchers.old }
+{
     match files.start(file) {
         Err(_) => ends(alloc, Status::ReadFault),
-        Ok(()) => stream(alloc, Job::Alloc, &target, files, out),
+        Ok(()) => stream(alloc, job, target, files, out, watchers),
     }
 }

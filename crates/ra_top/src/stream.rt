@@ -1,18 +1,18 @@
 //! Documents of a file in turn, one at a time.
 
-ghost use Rattle.std.specs.Prelude.{◌≡◌, ◌≤◌, ◌<◌, ◌+◌, ◌++◌, ℕ, List, length, IfSome, [], Some};
-ghost use Rattle.target_base.specs.Mini.{mini_target};
+ghost use Rattle.std.specs.Prelude.{◌≡◌, ◌≤◌, ◌<◌, ◌+◌, ◌++◌, ℕ, List, length, IfSome, [], Some, false};
 ghost use Rattle.devices.specs.Pieces.{held_most};
-ghost use Rattle.ra_top.specs.Spot.{file_most, after};
-ghost use Rattle.ra_top.specs.Told.{HasStatusCause, HasStepCause, Streamed, AfterPiece, AfterDocument, Moves, Advances};
+ghost use Rattle.answers.specs.Spot.{file_most, after};
+ghost use Rattle.ra_top.specs.Told.{HasStatusCause, HasStepCause, Streamed, AfterPiece, AfterDocument, Moves, Advances, IsFinished};
+ghost use Rattle.answers.specs.Documents.{tells, end_status};
 
-use crate::answer::{Answer, Ending, Job, Step, answer_at};
-use crate::spot::Spot;
-use crate::status::Status;
+use crate::ending::{Ending, Step};
+use answers::{Answer, Job, Spot, Status, answer_at, end_status, end_text};
 use devices::moves::{ReadStop, write_all};
 use devices::{Chunk, Files, Pieces, Sink, read_piece};
 use std::alloc::Global;
 use target_base::{Bytes, Target};
+use watchers::Watcher;
 
 /// Ends with a status whose line has no detail. It takes no memory.
 pub fn ends(alloc: Global, status: Status) -> Ending
@@ -26,25 +26,31 @@ pub fn ends(alloc: Global, status: Status) -> Ending
 
 /// Treats a piece that was read: its text is made whole, and then written. The spot moves behind the
 /// piece where the run goes on.
-fn treat<O: Sink>(
+fn treat<O: Sink, W: Watcher>(
     alloc: Global,
     job: Job,
     target: &Target,
     spot: &mut Spot,
     piece: &[u8],
     out: &mut O,
+    number: &mut u32,
+    watchers: &mut Vec<W>,
 ) -> Step
-    requires target { target.now ≡ mini_target }
     requires line { spot.old.line ≤ spot.old.offset + 1 }
     requires within { spot.old.offset ≤ file_most }
     requires filled { 0 < length piece.now }
-    ensures step { AfterPiece job target.now spot.old piece.now (O.written out.old) (O.written out.new) result }
+    ensures step { AfterPiece job.entry target.now spot.old piece.now (O.written out.old) (O.written out.new) result }
     ensures moves { Moves spot.old piece.now spot.new result }
     ensures cause { HasStepCause result 0 0 (O.faults out.old) (O.faults out.new) }
+    ensures leaves { tells job.entry ≡ false → watchers.new ≡ watchers.old }
 {
-    match answer_at(alloc, job, target, *spot, piece) {
+    match answer_at(alloc, job, target, *spot, piece, number, watchers) {
         Err(_) => Step::End(ends(alloc, Status::Memory)),
         Ok(Answer::Refused(status, detail)) => Step::End(Ending { status, detail }),
+        Ok(Answer::Last(text)) => match write_all(out, text.as_slice()) {
+            Err(_) => Step::End(ends(alloc, Status::WriteFault)),
+            Ok(()) => Step::End(ends(alloc, Status::Done)),
+        },
         Ok(Answer::Text(text)) => match write_all(out, text.as_slice()) {
             Err(_) => Step::End(ends(alloc, Status::WriteFault)),
             Ok(()) => {
@@ -55,8 +61,22 @@ fn treat<O: Sink>(
     }
 }
 
+/// Ends a run where its file ends.
+fn finish<O: Sink, W: Watcher>(alloc: Global, job: Job, out: &mut O, watchers: &[W]) -> Step
+    ensures finished { IsFinished job.entry (O.written out.old) (O.written out.new) result }
+    ensures cause { HasStepCause result 0 0 (O.faults out.old) (O.faults out.new) }
+{
+    match end_text(alloc, job, watchers) {
+        Err(_) => Step::End(ends(alloc, Status::Memory)),
+        Ok(text) => match write_all(out, text.as_slice()) {
+            Err(_) => Step::End(ends(alloc, Status::WriteFault)),
+            Ok(()) => Step::End(ends(alloc, end_status(job))),
+        },
+    }
+}
+
 /// Reads the next document and treats it. No read is made before it is treated.
-fn document<F: Files, O: Sink>(
+fn document<F: Files, O: Sink, W: Watcher>(
     alloc: Global,
     job: Job,
     target: &Target,
@@ -65,14 +85,16 @@ fn document<F: Files, O: Sink>(
     chunk: &mut Chunk,
     out: &mut O,
     piece: &mut Pieces,
+    number: &mut u32,
+    watchers: &mut Vec<W>,
 ) -> Step
-    requires target { target.now ≡ mini_target }
     requires line { spot.old.line ≤ spot.old.offset + 1 }
     requires within { spot.old.offset ≤ file_most }
     ensures contents { (n : List ℕ) → F.contents files.new n ≡ F.contents files.old n }
-    ensures step { IfSome (F.left files.old) (λ l. AfterDocument job target.now spot.old spot.new (chunk.old ++ l) (F.left files.new) chunk.new (O.written out.old) (O.written out.new) result) }
+    ensures step { IfSome (F.left files.old) (λ l. AfterDocument job.entry target.now spot.old spot.new (chunk.old ++ l) (F.left files.new) chunk.new (O.written out.old) (O.written out.new) result) }
     ensures moves { Advances spot.old spot.new result }
     ensures cause { HasStepCause result (F.faults files.old) (F.faults files.new) (O.faults out.old) (O.faults out.new) }
+    ensures leaves { tells job.entry ≡ false → watchers.new ≡ watchers.old }
 {
     piece.clear();
     match read_piece(files, chunk, piece) {
@@ -80,54 +102,75 @@ fn document<F: Files, O: Sink>(
         Err(ReadStop::Memory(_)) => Step::End(ends(alloc, Status::Memory)),
         Ok(()) => {
             if piece.bytes().is_empty() {
-                Step::End(ends(alloc, Status::Done))
+                finish(alloc, job, out, watchers.as_slice())
             } else {
-                treat(alloc, job, target, spot, piece.bytes(), out)
+                treat(
+                    alloc,
+                    job,
+                    target,
+                    spot,
+                    piece.bytes(),
+                    out,
+                    number,
+                    watchers,
+                )
             }
         }
     }
 }
 
 /// Treats the documents of a file that was begun, each before the next is read.
-pub fn stream<F: Files, O: Sink>(
+pub fn stream<F: Files, O: Sink, W: Watcher>(
     alloc: Global,
     job: Job,
     target: &Target,
     files: &mut F,
     out: &mut O,
+    watchers: &mut Vec<W>,
 ) -> Ending
-    requires { target.now ≡ mini_target }
     ensures contents { (n : List ℕ) → F.contents files.new n ≡ F.contents files.old n }
-    ensures streamed { IfSome (F.left files.old) (λ file. Streamed job target.now file (F.left files.new) (O.written out.old) (O.written out.new) result.status result.detail) }
+    ensures streamed { IfSome (F.left files.old) (λ file. Streamed job.entry target.now file (F.left files.new) (O.written out.old) (O.written out.new) result.status result.detail) }
     ensures cause { HasStatusCause result.status (F.faults files.old) (F.faults files.new) (O.faults out.old) (O.faults out.new) }
+    ensures leaves { tells job.entry ≡ false → watchers.new ≡ watchers.old }
 {
     match Chunk::new(alloc) {
         Err(_) => ends(alloc, Status::Memory),
-        Ok(chunk) => stream_chunks(alloc, job, target, files, out, chunk),
+        Ok(chunk) => stream_chunks(alloc, job, target, files, out, chunk, watchers),
     }
 }
 
 /// The same, each read going into a chunk.
-fn stream_chunks<F: Files, O: Sink>(
+fn stream_chunks<F: Files, O: Sink, W: Watcher>(
     alloc: Global,
     job: Job,
     target: &Target,
     files: &mut F,
     out: &mut O,
     empty: Chunk,
+    watchers: &mut Vec<W>,
 ) -> Ending
-    requires target { target.now ≡ mini_target }
     requires empty { empty ≡ [] }
     ensures contents { (n : List ℕ) → F.contents files.new n ≡ F.contents files.old n }
-    ensures streamed { IfSome (F.left files.old) (λ file. Streamed job target.now file (F.left files.new) (O.written out.old) (O.written out.new) result.status result.detail) }
+    ensures streamed { IfSome (F.left files.old) (λ file. Streamed job.entry target.now file (F.left files.new) (O.written out.old) (O.written out.new) result.status result.detail) }
     ensures cause { HasStatusCause result.status (F.faults files.old) (F.faults files.new) (O.faults out.old) (O.faults out.new) }
+    ensures leaves { tells job.entry ≡ false → watchers.new ≡ watchers.old }
 {
     let mut chunk = empty;
     let mut piece = Pieces::new(alloc);
     let mut spot = Spot::first();
+    let mut number = 0u32;
     'documents: loop {
         match document(
-            alloc, job, target, &mut spot, files, &mut chunk, out, &mut piece,
+            alloc,
+            job,
+            target,
+            &mut spot,
+            files,
+            &mut chunk,
+            out,
+            &mut piece,
+            &mut number,
+            watchers,
         ) {
             Step::More => {}
             Step::End(ending) => return ending,

@@ -1,16 +1,16 @@
 //! Reading a target file.
 
-ghost use Rattle.std.specs.Prelude.{◌≡◌, ℕ, List, IfOk, IfSome};
+ghost use Rattle.std.specs.Prelude.{◌≡◌, ℕ, List, IfOk, IfErr, IfSome};
 ghost use Rattle.std.specs.Fmt.{decimal};
-ghost use Rattle.ra_top.specs.Told.{HasStatusCause, IsFaultOrMemory, NamesNoDevice, TargetVerdict};
+ghost use Rattle.ra_top.specs.Told.{IsFaultOrMemory, NamesNoDevice, TargetVerdict, IsTargetOf, HasTargetCause, NamesNone};
 
-use crate::answer::Ending;
-use crate::status::{LimitName, Status};
+use crate::ending::Ending;
 use crate::stream::ends;
+use answers::{LimitName, Status};
 use devices::Files;
 use devices::moves::{ReadStop, read_file};
 use std::alloc::{AllocError, Global};
-use target_base::Bytes;
+use target_base::{Bytes, Target};
 use target_desc::{TargetFault, TargetStop, read_target};
 
 /// The most bytes of a target file.
@@ -38,31 +38,37 @@ fn target_fault(alloc: Global, fault: TargetFault) -> Ending
     }
 }
 
-/// Reads the target file of a name. What it spells isn't used yet, so that a target that reads ends
-/// with NotYet.
-pub fn read_target_file<F: Files>(alloc: Global, name: &str, files: &mut F) -> Ending
+/// Reads the target file of a name, or ends.
+pub fn read_target_file<F: Files>(
+    alloc: Global,
+    name: &str,
+    files: &mut F,
+) -> Result<Target, Ending>
     ensures contents { (n : List ℕ) → F.contents files.new n ≡ F.contents files.old n }
-    ensures verdict { IfSome (F.contents files.old name.now) (λ bytes. TargetVerdict bytes result.status result.detail) }
-    ensures cause { HasStatusCause result.status (F.faults files.old) (F.faults files.new) 0 0 }
+    ensures ok { IfOk result (λ t. IfSome (F.contents files.old name.now) (λ bytes. IsTargetOf bytes t)) }
+    ensures err { IfErr result (λ e. IfSome (F.contents files.old name.now) (λ bytes. TargetVerdict bytes e.status e.detail)) }
+    ensures cause { HasTargetCause result (F.faults files.old) (F.faults files.new) }
 {
     match read_file(alloc, name, files, TARGET_MOST) {
-        Err(ReadStop::Failed) => ends(alloc, Status::ReadFault),
-        Err(ReadStop::Memory(_)) => ends(alloc, Status::Memory),
-        Ok(bytes) => target_ending(alloc, bytes.as_slice()),
+        Err(ReadStop::Failed) => Err(ends(alloc, Status::ReadFault)),
+        Err(ReadStop::Memory(_)) => Err(ends(alloc, Status::Memory)),
+        Ok(bytes) => target_of(alloc, bytes.as_slice()),
     }
 }
 
-/// How a run ends with the first bytes of a target file, one more than it may have where it has more.
-fn target_ending(alloc: Global, bytes: &[u8]) -> Ending
-    ensures verdict { TargetVerdict bytes.now result.status result.detail }
-    ensures fault { NamesNoDevice result.status }
+/// The target that the first bytes of a target file spell, one more than it may have where it has
+/// more; or how a run ends with them.
+fn target_of(alloc: Global, bytes: &[u8]) -> Result<Target, Ending>
+    ensures ok { IfOk result (IsTargetOf bytes.now) }
+    ensures err { IfErr result (λ e. TargetVerdict bytes.now e.status e.detail) }
+    ensures fault { NamesNone result }
 {
     if bytes.len() > TARGET_MOST as usize {
-        return ends(alloc, Status::Limit(LimitName::TargetBytes));
+        return Err(ends(alloc, Status::Limit(LimitName::TargetBytes)));
     }
     match read_target(alloc, bytes) {
-        Err(TargetStop::Memory(_)) => ends(alloc, Status::Memory),
-        Err(TargetStop::Fault(fault)) => target_fault(alloc, fault),
-        Ok(_) => ends(alloc, Status::NotYet),
+        Err(TargetStop::Memory(_)) => Err(ends(alloc, Status::Memory)),
+        Err(TargetStop::Fault(fault)) => Err(target_fault(alloc, fault)),
+        Ok(target) => Ok(target),
     }
 }

@@ -5,7 +5,7 @@ use Rattle.ra_top.proofs.stream.document.Goals as goal
 pub returns-then-is_empty-clause-step : goal.returns-then-is_empty-clause-step
 returns-then-is_empty-clause-step g c =
     let none : length c.read_piece.new.piece ≡ 0 = search rules in
-    document_done _ _ _ _ _ c.read_piece.new.piece _ _ c.ends-then-is_empty.result.status c.ends-then-is_empty.result.detail none c.in-Ok.ensures.end c.ends-then-is_empty.ensures.0
+    document_done c.args.job _ _ _ _ _ c.read_piece.new.piece _ _ _ _ c.finish.result none c.in-Ok.ensures.end c.finish.ensures.finished
 
 pub returns-else-is_empty-clause-step : goal.returns-else-is_empty-clause-step
 returns-else-is_empty-clause-step g c =

@@ -1,5 +1,5 @@
 use Rattle.std.proofs.Common.{◌≡◌, ◌≤◌, ◌+◌, refl, sym, subst, ◌∙◌, arith}
-use Rattle.ra_top.specs.Spot.{file_most}
+use Rattle.answers.specs.Spot.{file_most}
 use Rattle.ra_top.proofs.Progress.{begins, goes_on, run_stops}
 use Rattle.ra_top.proofs.stream.stream_chunks.Goals as goal
 
@@ -10,6 +10,7 @@ documents-init g c = record {
   out_faults = refl;
   line = subst (λ s. s.line ≤ s.offset + 1) (sym c.first-spot.ensures) (omega arith);
   within = subst (λ s. s.offset ≤ file_most) (sym c.first-spot.ensures) (omega arith);
+  leaves = λ e. refl;
   progress = begins _ _ _ c.first-spot.result c.args.empty _ c.first-spot.ensures c.requires.empty;
 }
 
@@ -20,6 +21,7 @@ documents-preserved g c = record {
   out_faults = c.in-More.ensures.cause.1 ∙ c.documents.invariant.out_faults;
   line = c.in-More.ensures.moves.1;
   within = c.in-More.ensures.moves.2;
+  leaves = λ e. c.in-More.ensures.leaves e ∙ c.documents.invariant.leaves e;
   progress = goes_on _ _ _ c.documents.spot c.document.new.spot c.documents.chunk c.document.new.chunk _ _ _ _ _ c.documents.invariant.progress c.in-More.ensures.step;
 }
 

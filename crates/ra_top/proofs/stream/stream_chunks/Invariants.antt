@@ -1,5 +1,6 @@
-use Rattle.std.proofs.Common.{◌≡◌, ℕ, ◌≤◌, ◌+◌, ◌-◌, List}
-use Rattle.ra_top.specs.Spot.{file_most}
+use Rattle.std.proofs.Common.{◌≡◌, ℕ, ◌≤◌, ◌+◌, ◌-◌, List, false}
+use Rattle.answers.specs.Documents.{tells}
+use Rattle.answers.specs.Spot.{file_most}
 use Rattle.ra_top.proofs.Progress.{Progresses}
 use Rattle.ra_top.proofs.stream.stream_chunks.Given as goal
 
@@ -10,6 +11,7 @@ invariant-documents g l = record {
   out_faults : g.O.Sink.faults l.out ≡ g.O.Sink.faults l.fn.out;
   line : l.spot.line ≤ l.spot.offset + 1;
   within : l.spot.offset ≤ file_most;
+  leaves : tells l.job ≡ false → l.watchers ≡ l.fn.watchers;
   progress : Progresses l.job l.target (g.F.Files.left l.fn.files) l.spot l.chunk (g.F.Files.left l.files) (g.O.Sink.written l.fn.out) (g.O.Sink.written l.out);
 }
 

@@ -1,8 +1,8 @@
 -- Where a document stands in its file, and what it may be long.
 use Rattle.std.specs.Prelude.{ℕ, ◌==◌, ◌+◌, List, length, count_by, min, nat_lt, if◌then◌else◌, Option, Some, None}
-use Rattle.ra_top.specs.declared.spot.Spot.{Spot}
-use Rattle.ra_top.specs.declared.status.LimitName.{LimitName}
-use Rattle.ra_top.specs.declared.status.LimitName.TheVariants as limits
+use Rattle.answers.specs.declared.spot.Spot.{Spot}
+use Rattle.guarded_alloc.specs.declared.stop.LimitName.{LimitName}
+use Rattle.guarded_alloc.specs.declared.stop.LimitName.TheVariants as limits
 
 abbrev pub first_spot : Spot
 first_spot = record { line = 1; offset = 0 }

@@ -3,33 +3,16 @@
 ghost use Rattle.std.specs.Prelude.{◌≡◌, ◌++◌, OnOk, codes};
 ghost use Rattle.std.specs.List.{flat_map};
 ghost use Rattle.devices.specs.Device.{HasCause, WritesAll, WritesPart};
-ghost use Rattle.ra_top.specs.Status.{line_of, fault_line, limit_line, joined, limit_word, target_kind_word, text_kind_word};
+ghost use Rattle.answers.specs.Status.{line_of, fault_line, limit_line, refusal_line, joined, limit_word, target_kind_word, text_kind_word};
 
 use devices::moves::write_all;
 use devices::{Failed, Sink};
+use machine_verify::Invalid;
+use mir_func::Place;
 use mir_text::{TextFault, TextKind};
 use target_desc::{TargetFault, TargetKind};
 
-/// A number that is passed.
-#[derive(Clone, Copy, Debug, PartialEq, Eq)]
-pub enum LimitName {
-    /// 1,048,576 bytes of a target file.
-    TargetBytes,
-    /// 268,435,456 bytes of a file.
-    File,
-    /// 4,194,304 bytes of a document, with the lines before it.
-    Document,
-    /// 1,024 blocks of a function.
-    Blocks,
-    /// 16,384 instructions of a function.
-    Instructions,
-    /// 16,384 virtual registers of a function.
-    Registers,
-    /// 6 variables of a place.
-    Variables,
-    /// 1,048,576 range numbers given for a function.
-    Ranges,
-}
+pub use guarded_alloc::LimitName;
 
 /// How the program ends.
 #[derive(Clone, Copy, Debug, PartialEq, Eq)]
@@ -44,18 +27,22 @@ pub enum Status {
     Text(TextFault),
     /// A count passes its number.
     Limit(LimitName),
+    /// A function breaks a rule of its form.
+    Invalid(Invalid),
     /// A call of the files failed.
     ReadFault,
     /// A call of the output failed.
     WriteFault,
     /// Memory ran out.
     Memory,
+    /// Operands of an instruction have no registers that differ as they must.
+    Unassignable(Place),
     /// What is asked for isn't built yet.
     NotYet,
 }
 
 impl Status {
-    ghost use Rattle.ra_top.specs.Status.{code_of};
+    ghost use Rattle.answers.specs.Status.{code_of};
 
     /// The number that the process ends with. It takes no memory.
     pub fn code(&self) -> u8
@@ -66,10 +53,12 @@ impl Status {
             Status::Target(_) => 1,
             Status::Text(_) => 1,
             Status::Limit(_) => 1,
+            Status::Invalid(_) => 1,
             Status::Usage => 2,
             Status::ReadFault => 3,
             Status::WriteFault => 4,
             Status::Memory => 5,
+            Status::Unassignable(_) => 6,
             Status::NotYet => 7,
         }
     }
@@ -112,8 +101,8 @@ fn text_kind_word(kind: TextKind) -> &'static str
     }
 }
 
-/// Writes the line of a status, for a file of a name and with a detail: the number of the line of a
-/// file. It takes no memory.
+/// Writes the line of a status, for a file of a name and with a detail: the number of a line of that
+/// file, or what is said of a function. It takes no memory.
 pub fn write_line<E: Sink>(
     err: &mut E,
     status: Status,
@@ -132,6 +121,8 @@ pub fn write_line<E: Sink>(
         }
         Status::Text(fault) => write_fault(err, file, detail, ": ", text_kind_word(fault.kind)),
         Status::Limit(limit) => write_limit(err, file, limit_word(limit)),
+        Status::Invalid(_) => write_refusal(err, detail),
+        Status::Unassignable(_) => write_refusal(err, detail),
         Status::ReadFault => write_named(err, "llra: cannot read ", file),
         Status::WriteFault => write_text(err, "llra: cannot write\n"),
         Status::Memory => write_text(err, "llra: out of memory\n"),
@@ -176,6 +167,16 @@ fn write_limit<E: Sink>(err: &mut E, file: &str, limit: &str) -> Result<(), Fail
         limit.as_bytes(),
         b"\n",
     ];
+    write_parts(err, &parts)
+}
+
+/// Writes the line of a function that is refused.
+fn write_refusal<E: Sink>(err: &mut E, detail: &[u8]) -> Result<(), Failed>
+    ensures all { OnOk result (WritesAll (E.written err.old) (E.written err.new) (refusal_line detail.now)) }
+    ensures part { WritesPart (E.written err.old) (E.written err.new) (refusal_line detail.now) }
+    ensures cause { HasCause (E.faults err.old) (E.faults err.new) result }
+{
+    let parts: [&[u8]; 3] = [b"llra: ", detail, b"\n"];
     write_parts(err, &parts)
 }
 

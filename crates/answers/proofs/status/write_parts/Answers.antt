@@ -1,8 +1,8 @@
 use Rattle.std.proofs.Common.{sym, subst}
 use Rattle.devices.specs.Device.{WritesPart}
 use Rattle.devices.proofs.Written.{part_after, part_before}
-use Rattle.ra_top.proofs.Joined.{joined_cut}
-use Rattle.ra_top.proofs.status.write_parts.Goals as goal
+use Rattle.answers.proofs.Joined.{joined_cut}
+use Rattle.answers.proofs.status.write_parts.Goals as goal
 
 pub returns-in_err-write_all-clause-part : goal.returns-in_err-write_all-clause-part
 returns-in_err-write_all-clause-part g c =

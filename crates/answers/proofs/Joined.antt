@@ -3,7 +3,7 @@ use Rattle.std.proofs.Common.{◌≡◌, ℕ, ◌<◌, ◌+◌, List, ◌++◌, 
 use Rattle.std.specs.Borrow.{Bor}
 use Rattle.std.proofs.lemmas.Grind.{flat_map-append}
 use Rattle.std.proofs.lemmas.List.{take-append-drop, at_drop_more}
-use Rattle.ra_top.specs.Status.{joined}
+use Rattle.answers.specs.Status.{joined}
 
 pub joined_cut : (parts : List (Bor (List ℕ))) (k : ℕ) (d : Bor (List ℕ)) → k < length parts → joined parts ≡ joined (take k parts) ++ ((get_or parts k d).now ++ joined (drop (k + 1) parts))
 joined_cut parts k d h =

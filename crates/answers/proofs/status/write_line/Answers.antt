@@ -1,4 +1,4 @@
-use Rattle.ra_top.proofs.status.write_line.Goals as goal
+use Rattle.answers.proofs.status.write_line.Goals as goal
 
 pub returns-in-Usage-clause-all : goal.returns-in-Usage-clause-all
 returns-in-Usage-clause-all g c = rw c.in-Usage.is c.write_text.ensures.all

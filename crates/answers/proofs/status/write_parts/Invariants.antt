@@ -1,7 +1,7 @@
 use Rattle.std.proofs.Common.{◌≡◌, take}
 use Rattle.devices.specs.Device.{WritesAll}
-use Rattle.ra_top.specs.Status.{joined}
-use Rattle.ra_top.proofs.status.write_parts.Given as goal
+use Rattle.answers.specs.Status.{joined}
+use Rattle.answers.proofs.status.write_parts.Given as goal
 
 abbrev pub invariant-loop-part : goal.invariant-loop-part
 invariant-loop-part g l = record {

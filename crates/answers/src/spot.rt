@@ -1,9 +1,9 @@
 //! Where a document stands in its file.
 
 ghost use Rattle.std.specs.Prelude.{◌≡◌, ◌==◌, ◌≤◌, ◌+◌, length, count_by, min, None, Some};
-ghost use Rattle.ra_top.specs.Spot.{first_spot, after, newlines, length_fault, file_most};
+ghost use Rattle.answers.specs.Spot.{first_spot, after, newlines, length_fault, file_most};
 
-use crate::status::LimitName;
+use guarded_alloc::LimitName;
 
 /// The most bytes of a file.
 const FILE_MOST: usize = 268_435_456;

@@ -1,0 +1,4 @@
+pub mod Status
+pub mod Spot
+pub mod Documents
+pub mod Answer

@@ -1,0 +1,24 @@
+//! The lines of watchers.
+
+use std::alloc::{AllocError, Global};
+use target_base::Bytes;
+use watchers::Watcher;
+
+/// Appends the lines of a watcher.
+fn put_lines<W: Watcher>(alloc: Global, watcher: &W, out: &mut Bytes) -> Result<(), AllocError> {
+    'lines: for k in 0..watcher.lines() {
+        let line = watcher.line(alloc, k)?;
+        out.extend(line.as_slice())?;
+        out.extend(b"\n")?;
+    }
+    Ok(())
+}
+
+/// The lines of watchers, one after the other, each with its newline.
+pub(crate) fn lines_of<W: Watcher>(alloc: Global, watchers: &[W]) -> Result<Bytes, AllocError> {
+    let mut out = Bytes::new(alloc);
+    'watchers: for watcher in watchers {
+        put_lines(alloc, watcher, &mut out)?;
+    }
+    Ok(out)
+}

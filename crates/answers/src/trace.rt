@@ -1,0 +1,79 @@
+//! The command `trace` at a function.
+
+ghost use Rattle.std.specs.Prelude.{◌≡◌, IfOk};
+ghost use Rattle.answers.specs.Documents.{IsTraceAnswer, IsTakenAnswer, IsTakenRefusal};
+
+use crate::answer::Answer;
+use crate::status::Status;
+use crate::words::{invalid_words, unassignable_words};
+use function_alloc::{RegisterStop, with_registers};
+use guarded_alloc::{LimitName, passed_limit};
+use machine_verify::{VerifyStop, verify_source};
+use mir_func::{Func, Valid};
+use std::alloc::{AllocError, Global};
+use target_base::{Bytes, Copied, Target};
+use watchers::Watcher;
+
+/// Refuses a valid function of a name, for the cause that its ranges get no registers.
+fn refused(alloc: Global, name: &[u8], stop: RegisterStop) -> Result<Answer, AllocError>
+    ensures { IfOk result (IsTakenRefusal name.now) }
+{
+    match stop {
+        RegisterStop::Variables(_) => Ok(Answer::Refused(
+            Status::Limit(LimitName::Variables),
+            Bytes::new(alloc),
+        )),
+        RegisterStop::Unassignable(place) => {
+            let detail = unassignable_words(alloc, name, place)?;
+            Ok(Answer::Refused(Status::Unassignable(place), detail))
+        }
+        RegisterStop::Ranges => Ok(Answer::Refused(
+            Status::Limit(LimitName::Ranges),
+            Bytes::new(alloc),
+        )),
+        RegisterStop::Unfinished => Ok(Answer::Refused(Status::NotYet, Bytes::new(alloc))),
+        RegisterStop::Memory(e) => Err(e),
+    }
+}
+
+/// Allocates a valid function for the watchers. Nothing is written of it, so that the checker of
+/// allocations isn't asked.
+fn traced_valid<W: Watcher>(
+    alloc: Global,
+    target: &Target,
+    name: &[u8],
+    source: &Valid,
+    number: u32,
+    watchers: &mut Vec<W>,
+) -> Result<Answer, AllocError>
+    ensures { IfOk result (IsTakenAnswer name.now) }
+{
+    match with_registers(alloc, target, source, number, watchers) {
+        Ok(_) => Ok(Answer::Text(Bytes::new(alloc))),
+        Err(stop) => refused(alloc, name, stop),
+    }
+}
+
+/// Allocates a function of a number for the watchers.
+pub(crate) fn traced<W: Watcher>(
+    alloc: Global,
+    target: &Target,
+    f: Func,
+    number: u32,
+    watchers: &mut Vec<W>,
+) -> Result<Answer, AllocError>
+    ensures { IfOk result (IsTraceAnswer target.now f) }
+{
+    if let Some(limit) = passed_limit(&f) {
+        return Ok(Answer::Refused(Status::Limit(limit), Bytes::new(alloc)));
+    }
+    let name = f.name.copied(alloc)?;
+    match verify_source(alloc, target, f) {
+        Ok(source) => traced_valid(alloc, target, name.as_slice(), &source, number, watchers),
+        Err(VerifyStop::Invalid(invalid)) => {
+            let detail = invalid_words(alloc, name.as_slice(), invalid)?;
+            Ok(Answer::Refused(Status::Invalid(invalid), detail))
+        }
+        Err(VerifyStop::Memory(e)) => Err(e),
+    }
+}

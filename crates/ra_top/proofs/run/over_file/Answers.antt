@@ -1,0 +1,13 @@
+use Rattle.std.proofs.Common.{refl, rules}
+use Rattle.std.specs.Prelude.{true, false}
+use Rattle.target_base.specs.Mini.{mini_target}
+use Rattle.ra_top.proofs.Jobs.{does_over_target}
+use Rattle.ra_top.proofs.run.over_file.Goals as goal
+
+pub returns-then-eq-clause-does : goal.returns-then-eq-clause-does
+returns-then-eq-clause-does g c =
+    does_over_target c.args.job true mini_target c.args.target.now c.args.file.now (g.F.Files.contents c.args.files.now) (g.F.Files.contents c.args.files.now) _ _ _ _ _ _ _ c.over_mini-ending.result.status _ c.over_mini-ending.result.detail (search rules) refl refl c.over_mini-ending.ensures.streamed c.tell.ensures.status c.tell.ensures.line
+
+pub returns-in-Ok-clause-does : goal.returns-in-Ok-clause-does
+returns-in-Ok-clause-does g c =
+    does_over_target c.args.job false c.in-Ok.read c.args.target.now c.args.file.now (g.F.Files.contents c.args.files.now) (g.F.Files.contents c.read_target_file.new.files) _ _ _ _ _ _ _ c.over_target-ending.result.status _ c.over_target-ending.result.detail (search rules) c.in-Ok.ensures.ok (c.in-Ok.ensures.contents c.args.file.now) c.over_target-ending.ensures.streamed c.tell-in-Ok.ensures.status c.tell-in-Ok.ensures.line

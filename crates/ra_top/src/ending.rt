@@ -1,0 +1,22 @@
+//! How a run over a file ends.
+
+use answers::Status;
+use target_base::Bytes;
+
+/// How a run ends: its status, and the detail of its line.
+#[derive(Drop)]
+pub struct Ending {
+    /// The status.
+    pub status: Status,
+    /// The number of the line at fault, or what is said of the function that is refused.
+    pub detail: Bytes,
+}
+
+/// Whether a run goes on.
+#[derive(Drop)]
+pub enum Step {
+    /// It goes on.
+    More,
+    /// It ends.
+    End(Ending),
+}
