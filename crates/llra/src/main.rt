@@ -5,10 +5,11 @@ mod adapters;
 
 use adapters::{HostFiles, HostSink};
 use ra_top::{Status, top};
-use std::alloc::Global;
+use std::alloc::{AllocError, Global};
 use std::env;
 use std::io::ErrorKind;
 use std::process::ExitCode;
+use watchers::{CountWatcher, PressureWatcher, TraceWatcher, Watcher};
 
 fn main(rt: HostRuntime) -> ExitCode {
     let status = match words(&rt) {
@@ -21,10 +22,38 @@ fn main(rt: HostRuntime) -> ExitCode {
 }
 
 fn run(rt: &HostRuntime, words: &[String]) -> Status {
+    match watchers(rt.alloc()) {
+        Ok(watchers) => run_watched(rt, words, watchers),
+        Err(_) => Status::Memory,
+    }
+}
+
+fn run_watched(
+    rt: &HostRuntime,
+    words: &[String],
+    told: Vec<Box<dyn Watcher>>,
+) -> Status {
     let mut files = HostFiles::new(rt);
     let mut out = HostSink::new(rt.stdout());
     let mut err = HostSink::new(rt.stderr());
-    top(rt.alloc(), words, &mut files, &mut out, &mut err)
+    let mut watchers = told;
+    top(
+        rt.alloc(),
+        words,
+        &mut files,
+        &mut out,
+        &mut err,
+        &mut watchers,
+    )
+}
+
+/// The watchers whose lines `trace` writes: of the steps, of their counts, and of the pressure.
+fn watchers(alloc: Global) -> Result<Vec<Box<dyn Watcher>>, AllocError> {
+    let mut watchers: Vec<Box<dyn Watcher>> = Vec::new(alloc);
+    watchers.push(Box::new(alloc, TraceWatcher::new(alloc))?)?;
+    watchers.push(Box::new(alloc, CountWatcher::new())?)?;
+    watchers.push(Box::new(alloc, PressureWatcher::new(alloc))?)?;
+    Ok(watchers)
 }
 
 /// The words after the program's name.
