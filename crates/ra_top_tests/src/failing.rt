@@ -1,5 +1,6 @@
 //! Files and sinks in memory, call by call.
 
+use machine_verify::Place;
 use ra_top::{Failed, Files, LimitName, MemFiles, MemSink, Pieces, Sink, Status};
 use std::alloc::{AllocError, Global};
 use std::test::Fail;
@@ -64,6 +65,7 @@ fn each_status_has_its_code(rt: HostRuntime) {
         (Status::ReadFault, 3),
         (Status::WriteFault, 4),
         (Status::Memory, 5),
+        (Status::Unassignable(Place { block: 0, at: 0 }), 6),
         (Status::NotYet, 7),
     ];
     for (status, code) in codes {

@@ -1,10 +1,13 @@
 //! The top call over files and sinks in memory: what it answers, writes and tells.
 
+use machine_verify::{Invalid, Place};
+use mir_text::{TextFault, TextKind};
 use ra_top::{Files, MemFiles, MemSink, Sink, Status, top};
 use std::alloc::{AllocError, Global};
 use std::process::Abort;
 use std::test::Fail;
 use target_desc::{TargetFault, TargetKind};
+use watchers::{CountWatcher, TraceWatcher, Watcher};
 
 /// One call: the words, the file IN, the calls of the files and of the output that fail, the room of
 /// the output and the most bytes that a call moves; and what is expected.
@@ -28,22 +31,22 @@ const RET: &[u8] = b"---\nname: f\nbody: |\n  bb.0:\n    RET\n...\n";
 const COPIES: &[u8] =
     b"---\nname: f\nbody: |\n  bb.0:\n    liveins: $ecx\n    %0:gr32 = COPY $ecx\n    $eax = COPY %0\n    RET implicit $eax\n...\n";
 
-const SPILLED_COPIES: &[u8] =
-    b"---\nname: f\nstack:\n  - { id: 0, type: spill-slot, size: 4, alignment: 4 }\nbody: |\n  bb.0:\n    liveins: $ecx\n    SPILL32 $ecx, %stack.0, 0\n    $eax = RELOAD32 %stack.0, 0\n    RET implicit $eax\n...\n";
+const ALLOCATED_COPIES: &[u8] =
+    b"---\nname: f\nbody: |\n  bb.0:\n    liveins: $ecx\n    $eax = COPY renamable $ecx\n    RET implicit $eax\n...\n";
 
 const MEMORY: &[u8] =
     b"---\nname: f\nbody: |\n  bb.0:\n    %0:gr32 = MOV32ri 5\n    %1:gr32 = LOAD32rm %0, 4\n    STORE32mr %0, 8, %1\n    RET\n...\n";
 
-const SPILLED_MEMORY: &[u8] =
-    b"---\nname: f\nstack:\n  - { id: 0, type: spill-slot, size: 4, alignment: 4 }\n  - { id: 1, type: spill-slot, size: 4, alignment: 4 }\nbody: |\n  bb.0:\n    renamable $eax = MOV32ri 5\n    SPILL32 renamable $eax, %stack.0, 0\n    renamable $eax = RELOAD32 %stack.0, 0\n    renamable $eax = LOAD32rm renamable $eax, 4\n    SPILL32 renamable $eax, %stack.1, 0\n    renamable $eax = RELOAD32 %stack.0, 0\n    renamable $ecx = RELOAD32 %stack.1, 0\n    STORE32mr renamable $eax, 8, renamable $ecx\n    RET\n...\n";
+const ALLOCATED_MEMORY: &[u8] =
+    b"---\nname: f\nbody: |\n  bb.0:\n    renamable $eax = MOV32ri 5\n    renamable $ecx = LOAD32rm renamable $eax, 4\n    STORE32mr renamable $eax, 8, renamable $ecx\n    RET\n...\n";
 
 /// A function whose ranges 1 and 2 are copies, the second of them never read, and whose store has
 /// its ranges in falling order.
 const COPIES_OF_RANGES: &[u8] =
     b"---\nname: g\nbody: |\n  bb.0:\n    liveins: $eax\n    %0:gr32 = MOV32ri -1\n    %1:gr32 = COPY %0\n    %2:gr32 = COPY %0\n    STORE32mr %1, 0, %0\n    RET implicit $eax\n...\n";
 
-const SPILLED_COPIES_OF_RANGES: &[u8] =
-    b"---\nname: g\nstack:\n  - { id: 0, type: spill-slot, size: 4, alignment: 4 }\n  - { id: 1, type: spill-slot, size: 4, alignment: 4 }\n  - { id: 2, type: spill-slot, size: 4, alignment: 4 }\nbody: |\n  bb.0:\n    liveins: $eax\n    renamable $ecx = MOV32ri -1\n    SPILL32 renamable $ecx, %stack.0, 0\n    renamable $ecx = RELOAD32 %stack.0, 0\n    SPILL32 renamable $ecx, %stack.1, 0\n    renamable $ecx = RELOAD32 %stack.0, 0\n    SPILL32 renamable $ecx, %stack.2, 0\n    renamable $edx = RELOAD32 %stack.0, 0\n    renamable $ecx = RELOAD32 %stack.1, 0\n    STORE32mr renamable $ecx, 0, renamable $edx\n    RET implicit $eax\n...\n";
+const ALLOCATED_COPIES_OF_RANGES: &[u8] =
+    b"---\nname: g\nbody: |\n  bb.0:\n    liveins: $eax\n    renamable $ecx = MOV32ri -1\n    STORE32mr renamable $ecx, 0, renamable $ecx\n    RET implicit $eax\n...\n";
 
 /// A call that succeeds and writes `out`.
 fn done(file: &'static [u8], out: &'static [u8]) -> Row {
@@ -108,13 +111,29 @@ fn sink_of(alloc: Global, row: &Row) -> Result<MemSink, AllocError> {
     Ok(made)
 }
 
+/// A watcher of the steps and one of their counts.
+fn watchers_of(alloc: Global) -> Result<Vec<Box<dyn Watcher>>, AllocError> {
+    let mut watchers: Vec<Box<dyn Watcher>> = Vec::new(alloc);
+    watchers.push(Box::new(alloc, TraceWatcher::new(alloc))?)?;
+    watchers.push(Box::new(alloc, CountWatcher::new())?)?;
+    Ok(watchers)
+}
+
 fn check_rows(rt: &impl Abort, alloc: Global, rows: &[Row]) -> Result<(), Fail> {
     for (k, row) in rows.iter().enumerate() {
         let words = strings(alloc, row.words)?;
         let mut files = files_of(alloc, row)?;
         let mut out = sink_of(alloc, row)?;
         let mut err = MemSink::new(alloc, 100, Vec::new(alloc))?;
-        let status = top(alloc, words.as_slice(), &mut files, &mut out, &mut err);
+        let mut watchers = watchers_of(alloc)?;
+        let status = top(
+            alloc,
+            words.as_slice(),
+            &mut files,
+            &mut out,
+            &mut err,
+            &mut watchers,
+        );
         assert_eq!(rt; status, row.status, "row {k}");
         assert!(rt; out.bytes() == row.out, "output of row {k}");
         assert!(rt; err.bytes() == row.err, "line of row {k}");
@@ -126,7 +145,7 @@ fn check_rows(rt: &impl Abort, alloc: Global, rows: &[Row]) -> Result<(), Fail> 
 fn allocates(rt: HostRuntime) -> Result<(), Fail> {
     let one_by_one = Row {
         step: 1,
-        ..done(MEMORY, SPILLED_MEMORY)
+        ..done(MEMORY, ALLOCATED_MEMORY)
     };
     let just_room = Row {
         room: RET.len(),
@@ -137,9 +156,9 @@ fn allocates(rt: HostRuntime) -> Result<(), Fail> {
         rt.alloc(),
         &[
             done(RET, RET),
-            done(COPIES, SPILLED_COPIES),
-            done(MEMORY, SPILLED_MEMORY),
-            done(COPIES_OF_RANGES, SPILLED_COPIES_OF_RANGES),
+            done(COPIES, ALLOCATED_COPIES),
+            done(MEMORY, ALLOCATED_MEMORY),
+            done(COPIES_OF_RANGES, ALLOCATED_COPIES_OF_RANGES),
             one_by_one,
             just_room,
         ],
@@ -148,6 +167,58 @@ fn allocates(rt: HostRuntime) -> Result<(), Fail> {
 
 fn not_yet(words: &'static [&'static str], file: &'static [u8]) -> Row {
     refused(words, file, Status::NotYet, b"llra: not yet\n")
+}
+
+/// A call of other words that succeeds.
+fn done_by(words: &'static [&'static str], file: &'static [u8], out: &'static [u8]) -> Row {
+    Row {
+        words,
+        ..done(file, out)
+    }
+}
+
+const TRACE_OF_MEMORY: &[u8] =
+    b"function 0\nassign %0 $eax\nassign %1 $ecx\nassign 2 evict 0 defer 0 split 0 spill 0 place 0\n";
+
+#[test]
+fn does_what_other_words_ask(rt: HostRuntime) -> Result<(), Fail> {
+    check_rows(
+        &rt,
+        rt.alloc(),
+        &[
+            done_by(
+                &["verify", "source", "-", "IN"],
+                TWICE,
+                b"valid f\nvalid f\n",
+            ),
+            done_by(
+                &["verify", "allocated", "-", "IN"],
+                ALLOCATED_MEMORY,
+                b"valid f\n",
+            ),
+            refused(
+                &["verify", "allocated", "-", "IN"],
+                MEMORY,
+                Status::Invalid(no_virtual()),
+                b"llra: f: bb.0:0: V14\n",
+            ),
+            done_by(&["trace", "-", "IN"], MEMORY, TRACE_OF_MEMORY),
+            done_by(
+                &["run", "-", "IN", "f", "10", "7"],
+                COPIES,
+                b"ret 10 11 12\nend returned\n",
+            ),
+            done_by(&["run", "-", "IN", "f", "0", "7"], TWICE, b"end steps\n"),
+        ],
+    )
+}
+
+/// V14 at the first block.
+fn no_virtual() -> Invalid {
+    Invalid {
+        place: Place { block: 0, at: 0 },
+        rule: 14,
+    }
 }
 
 fn usage(words: &'static [&'static str]) -> Row {
@@ -170,8 +241,8 @@ fn refuses_other_words(rt: HostRuntime) -> Result<(), Fail> {
             usage(&["verify", "-", "IN"]),
             usage(&["run", "-", "IN", "f", "1", "1234567890"]),
             usage(&["gen", ""]),
-            not_yet(&["verify", "source", "-", "IN"], RET),
-            not_yet(&["run", "-", "IN", "f", "1", "123456789"], RET),
+            usage(&["run", "-", "IN", "h", "1", "1"]),
+            not_yet(&["intervals", "-", "IN"], RET),
             not_yet(&["gen", "007"], RET),
             Row {
                 words: &["alloc", "--", "-", "IN"],
@@ -207,10 +278,29 @@ fn refuses_targets(rt: HostRuntime) -> Result<(), Fail> {
                 Status::ReadFault,
                 b"llra: cannot read GONE\n",
             ),
-            not_yet(TARGET, b"target t 1\n"),
+            refused(
+                TARGET,
+                b"target t 1\n",
+                text_fault(1, TextKind::Layout),
+                b"llra: OTHER:1: layout\n",
+            ),
         ],
     )
 }
+
+fn text_fault(line: u64, kind: TextKind) -> Status {
+    Status::Text(TextFault { line, kind })
+}
+
+const CALL: &[u8] = b"---\nname: f\nbody: |\n  bb.0:\n    CALL @g, csr\n    RET\n...\n";
+
+/// It reads a register that has no value.
+const UNDEFINED: &[u8] =
+    b"---\nname: f\nbody: |\n  bb.0:\n    $eax = COPY %0:gr32\n    RET implicit $eax\n...\n";
+
+/// Three ranges of a class of two registers live where one instruction reads them.
+const NO_CHOICE: &[u8] =
+    b"---\nname: f\nbody: |\n  bb.0:\n    liveins: $eax, $ecx, $edx\n    %0:low = COPY $eax\n    %1:low = COPY $ecx\n    %2:low = COPY $edx\n    %3:gr32 = MADD32 %0, %1, %2, implicit-def $eflags\n    RET\n...\n";
 
 #[test]
 fn refuses_other_files(rt: HostRuntime) -> Result<(), Fail> {
@@ -219,15 +309,30 @@ fn refuses_other_files(rt: HostRuntime) -> Result<(), Fail> {
         rt.alloc(),
         &[
             done(b"", b""),
-            not_yet(WORDS, b"\xff\x00\xfe"),
-            not_yet(WORDS, b"---\nname: f\nbody: |\n  bb.0:\n    RET\n"),
-            not_yet(
+            done(CALL, CALL),
+            refused(
                 WORDS,
-                b"---\nname: f\nbody: |\n  bb.0:\n    $eax = COPY %0:gr32\n    RET implicit $eax\n...\n",
+                b"\xff\x00\xfe",
+                text_fault(1, TextKind::Layout),
+                b"llra: IN:1: layout\n",
             ),
-            not_yet(
+            refused(
                 WORDS,
-                b"---\nname: f\nbody: |\n  bb.0:\n    CALL @g, csr\n    RET\n...\n",
+                b"---\nname: f\nbody: |\n  bb.0:\n    RET\n",
+                text_fault(6, TextKind::End),
+                b"llra: IN:6: end\n",
+            ),
+            refused(
+                WORDS,
+                UNDEFINED,
+                Status::Invalid(no_virtual()),
+                b"llra: f: bb.0:0: V14\n",
+            ),
+            refused(
+                WORDS,
+                NO_CHOICE,
+                Status::Unassignable(Place { block: 0, at: 3 }),
+                b"llra: f: bb.0:3: no assignment\n",
             ),
         ],
     )
@@ -245,10 +350,10 @@ const THRICE: &[u8] =
 #[test]
 fn writes_document_by_document(rt: HostRuntime) -> Result<(), Fail> {
     let refused_second = Row {
-        status: Status::NotYet,
-        err: b"llra: not yet\n",
+        status: Status::Invalid(no_virtual()),
+        err: b"llra: f: bb.0:0: V14\n",
         ..done(
-            b"---\nname: f\nbody: |\n  bb.0:\n    RET\n...\n---\nname: f\nbody: |\n  bb.0:\n    CALL @g, csr\n    RET\n...\n",
+            b"---\nname: f\nbody: |\n  bb.0:\n    RET\n...\n---\nname: f\nbody: |\n  bb.0:\n    $eax = COPY %0:gr32\n    RET implicit $eax\n...\n",
             RET,
         )
     };
@@ -389,7 +494,15 @@ fn a_fault_of_the_error_sink_changes_nothing(rt: HostRuntime) -> Result<(), Fail
             failing.push(1)?;
         }
         let mut err = MemSink::new(alloc, 20, failing)?;
-        let status = top(alloc, words.as_slice(), &mut files, &mut out, &mut err);
+        let mut watchers = watchers_of(alloc)?;
+        let status = top(
+            alloc,
+            words.as_slice(),
+            &mut files,
+            &mut out,
+            &mut err,
+            &mut watchers,
+        );
         assert_eq!(rt; status, Status::ReadFault);
         assert_eq!(rt; out.bytes(), b"".as_slice());
         let told: &[u8] = if fails { b"" } else { row.err };
@@ -406,11 +519,26 @@ fn calls_no_device_after_its_fault(rt: HostRuntime) -> Result<(), Fail> {
     let mut err = MemSink::new(alloc, 100, Vec::new(alloc))?;
     let mut out = sink_of(alloc, &no_write(&[1, 2], 4096, 4096, b""))?;
     let mut files = files_of(alloc, &no_read(&[2, 3], 4096))?;
-    let status = top(alloc, words.as_slice(), &mut files, &mut out, &mut err);
+    let mut watchers = watchers_of(alloc)?;
+    let status = top(
+        alloc,
+        words.as_slice(),
+        &mut files,
+        &mut out,
+        &mut err,
+        &mut watchers,
+    );
     assert_eq!(rt; status, Status::ReadFault);
     assert!(rt; files.start("IN").is_err());
     assert!(rt; files.start("IN").is_ok());
-    let status = top(alloc, words.as_slice(), &mut files, &mut out, &mut err);
+    let status = top(
+        alloc,
+        words.as_slice(),
+        &mut files,
+        &mut out,
+        &mut err,
+        &mut watchers,
+    );
     assert_eq!(rt; status, Status::WriteFault);
     assert!(rt; out.write(b"x").is_err());
     assert!(rt; out.write(b"x").is_ok());
