@@ -6,10 +6,7 @@ use std::io::Write;
 use watchers::{CountWatcher, PressureWatcher, TraceWatcher};
 
 /// Adds the three watchers.
-pub fn add_watchers(
-    alloc: Global,
-    watchers: &mut Vec<Box<dyn Watcher>>,
-) -> Result<(), AllocError> {
+pub fn add_watchers(alloc: Global, watchers: &mut Vec<Box<dyn Watcher>>) -> Result<(), AllocError> {
     watchers.push(Box::new(alloc, TraceWatcher::new(alloc))?)?;
     watchers.push(Box::new(alloc, CountWatcher::new())?)?;
     watchers.push(Box::new(alloc, PressureWatcher::new(alloc))?)?;
