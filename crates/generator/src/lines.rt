@@ -1,7 +1,7 @@
 //! The text of the generated function, line by line, and the function that it spells.
 
 use mir_func::Func;
-use mir_text::read_leniently;
+use mir_text::{Doc, TextStop, read_doc};
 use std::alloc::{AllocError, Global};
 use target_base::{Bytes, Target};
 
@@ -128,9 +128,20 @@ pub fn generated(alloc: Global, seed: u64) -> Result<Bytes, AllocError> {
     Ok(out)
 }
 
+/// The most bytes of a document.
+const MOST_BYTES: usize = 4_194_304;
+
 /// The function that is generated for a seed over the built-in target. None for another target
 /// that can't read its text.
 pub fn generate(alloc: Global, target: &Target, seed: u64) -> Result<Option<Func>, AllocError> {
     let text = generated(alloc, seed)?;
-    read_leniently(alloc, target, text.as_slice())
+    if text.len() > MOST_BYTES {
+        return Ok(None);
+    }
+    match read_doc(alloc, target, true, 1, text.as_slice()) {
+        Ok(Doc::Function(_, f)) => Ok(Some(f)),
+        Ok(_) => Ok(None),
+        Err(TextStop::Fault(_)) => Ok(None),
+        Err(TextStop::Memory(e)) => Err(e),
+    }
 }
