@@ -1,5 +1,6 @@
 -- How large a document grows.
-use Rattle.std.proofs.Common.{◌≡◌, ℕ, ◌≤◌, ◌+◌, length, arith}
+use Rattle.std.proofs.Common.{◌≡◌, ℕ, ◌≤◌, ◌+◌, length, Ok, Err, arith}
+use Rattle.std.specs.Prelude.{Result, IfOk}
 use Rattle.mir_read.specs.declared.keys.Keys.{Keys}
 use Rattle.mir_text.specs.declared.reading.Reading.{Reading}
 use Rattle.mir_text.specs.declared.document.State.{State}
@@ -58,3 +59,8 @@ reading_begins n k h = record {
   ids = omega arith;
   operands = omega arith;
 }
+
+-- what holds of an answer, where something stronger does
+pub if_ok : {T E : Type 0} (r : Result T E) (P Q : T → Type 0) → ((x : T) → P x → Q x) → IfOk r P → IfOk r Q
+if_ok (Ok x) P Q f h = f x h
+if_ok (Err e) P Q f h = tt
