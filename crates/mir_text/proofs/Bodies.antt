@@ -1,11 +1,10 @@
 -- The lines of a body, and the function of what is read.
-use Rattle.std.proofs.Common.{◌≡◌, ℕ, List, Some, None, Ok, Err, Bool, true, false, cond, refl, ap, sym, ◌∙◌}
+use Rattle.std.proofs.Common.{◌≡◌, ℕ, List, Some, None, Ok, true, false, refl, ap, sym}
 use Rattle.std.specs.Prelude.{Option, is_some, option_map, codes}
 use Rattle.target_base.specs.declared.types.Target.{Target}
 use Rattle.target_base.specs.declared.types.ClassId.{ClassId}
 use Rattle.mir_func.specs.Value.{Function}
 use Rattle.mir_func.specs.declared.func.Op.{Op}
-use Rattle.mir_func.specs.declared.func.Block.{Block}
 use Rattle.mir_func.specs.declared.func.Operand.{Operand}
 use Rattle.mir_func.specs.declared.func.Instr.{Instr}
 use Rattle.mir_lines.specs.Bytes.{is_word, behind_word}

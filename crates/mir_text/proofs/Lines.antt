@@ -1,11 +1,10 @@
 -- The lines of a text, read one after another.
-use Rattle.std.proofs.Common.{◌≡◌, ℕ, suc, ◌<◌, ◌≤◌, ◌+◌, ◌-◌, List, [], ◌∷◌, length, take, drop, Some, None, Ok, Err, Bool, true, false, cond, ltb, refl, ap, sym, subst, ◌∙◌, arith, take_all, length-drop}
+use Rattle.std.proofs.Common.{◌≡◌, ℕ, suc, ◌<◌, ◌≤◌, ◌+◌, ◌-◌, List, [], ◌∷◌, length, take, drop, Some, None, Ok, Bool, true, false, cond, ltb, refl, ap, sym, subst, ◌∙◌, arith, take_all, length-drop}
 use Rattle.std.specs.Prelude.{Option, ◌==◌, position}
 use Rattle.std.specs.List.{onto_first, position_or_len}
 use Rattle.std.proofs.lemmas.Grind.{common_steps}
 use Rattle.target_base.specs.declared.types.Target.{Target}
 use Rattle.mir_text.specs.declared.doc.Doc.{Doc}
-use Rattle.mir_read.specs.declared.stop.TextKind.TheVariants as kinds
 use Rattle.mir_read.specs.declared.stop.ReadStop.{ReadStop}
 use Rattle.mir_read.specs.declared.stop.ReadStop.TheVariants as stops
 use Rattle.mir_text.specs.declared.document.State.{State}
@@ -95,3 +94,7 @@ module _ (t : Target) (first : Bool) (bytes : List ℕ) where
 
   pub ends_so : (n : ℕ) (s : State) (rest : List ℕ) (d : Option Doc) → length rest ≡ 0 → d ≡ ended bytes s → lines_after t first bytes n s (lines rest) ≡ at_end n d
   ends_so n s rest d h e = lines_end n s rest h ∙ ap (at_end n) (sym e)
+
+-- a text that is tested to be empty
+pub nothing : (n : ℕ) (b : Bool) → b ≡ (n == 0) → b ≡ true → n ≡ 0
+nothing n b e h = grind (arith, common_steps)

@@ -1,5 +1,5 @@
 -- How large a document grows.
-use Rattle.std.proofs.Common.{◌≡◌, ℕ, ◌≤◌, ◌+◌, length, Ok, Err, arith}
+use Rattle.std.proofs.Common.{ℕ, ◌≤◌, ◌+◌, Ok, Err, arith}
 use Rattle.std.specs.Prelude.{Result, IfOk}
 use Rattle.mir_read.specs.declared.keys.Keys.{Keys}
 use Rattle.mir_text.specs.declared.reading.Reading.{Reading}

@@ -1,4 +1,4 @@
-use Rattle.std.proofs.Common.{◌≡◌, ◌+◌, length, true, false, ◌∙◌, sym, arith}
+use Rattle.std.proofs.Common.{◌≡◌, ◌+◌, length, true, false, arith}
 use Rattle.std.specs.Prelude.{codes}
 use Rattle.mir_lines.specs.Bytes.{is_word}
 use Rattle.mir_read.specs.Body.{is_begun}

@@ -1,4 +1,4 @@
-use Rattle.std.proofs.Common.{◌≡◌, ◌+◌, length}
+use Rattle.std.proofs.Common.{◌+◌, length}
 use Rattle.mir_text.proofs.Within.{keys_add, reading_begins}
 use Rattle.mir_text.proofs.document.key_line.Goals as goal
 

@@ -1,7 +1,7 @@
-use Rattle.std.proofs.Common.{◌≡◌, ◌∙◌, ◌∷◌, ◌≤◌, ◌+◌, ◌-◌, length, ap, arith}
-use Rattle.std.proofs.lemmas.Grind.{common_steps}
-use Rattle.mir_text.specs.Document.{lines, document_of, lines_after, at_end, IsStateWithin}
-use Rattle.mir_text.proofs.Lines.{line_goes, line_stops_at, ends_so}
+use Rattle.std.proofs.Common.{◌≡◌, ◌∙◌, ◌∷◌, ◌+◌, ◌-◌, length, ap, arith}
+use Rattle.std.proofs.lemmas.Result.{err_from_is_err_and}
+use Rattle.mir_text.specs.Document.{lines, document_of, lines_after, at_end}
+use Rattle.mir_text.proofs.Lines.{line_goes, line_stops_at, ends_so, nothing}
 use Rattle.mir_text.proofs.Within.{state_grows}
 use Rattle.mir_text.proofs.document.read_doc.Goals as goal
 
@@ -26,14 +26,19 @@ lines-preserved c = record {
 
 pub returns-in-None-clause-exact : goal.returns-in-None-clause-exact
 returns-in-None-clause-exact c =
-    let none : length c.lines.rest.now ≡ 0 = grind (arith, common_steps, c.is_empty.ensures) in
+    let none : length c.lines.rest.now ≡ 0 = nothing (length c.lines.rest.now) c.is_empty.result c.is_empty.ensures c.lines-test.false in
     c.lines.invariant.same
     ∙ ends_so c.args.target.now c.args.first c.args.bytes.now c.lines.number c.lines.state c.lines.rest.now c.in_ok-end.field-0 none c.in_ok-end.ensures.value
     ∙ ap (at_end c.lines.number) c.in-None.is
 
+pub returns-in_err-end-clause-exact : goal.returns-in_err-end-clause-exact
+returns-in_err-end-clause-exact c =
+    let p = err_from_is_err_and c.from_residual-in_err-end.result c.from_residual-in_err-end.ensures.1 in
+    rw (p.1, p.2) tt
+
 pub returns-clause-exact : goal.returns-clause-exact
 returns-clause-exact c =
-    let none : length c.lines.rest.now ≡ 0 = grind (arith, common_steps, c.is_empty.ensures) in
+    let none : length c.lines.rest.now ≡ 0 = nothing (length c.lines.rest.now) c.is_empty.result c.is_empty.ensures c.lines-test.false in
     c.lines.invariant.same
     ∙ ends_so c.args.target.now c.args.first c.args.bytes.now c.lines.number c.lines.state c.lines.rest.now c.in_ok-end.field-0 none c.in_ok-end.ensures.value
     ∙ ap (at_end c.lines.number) c.in-Some.is

@@ -1,4 +1,3 @@
-use Rattle.std.proofs.Common.{◌≡◌}
 use Rattle.mir_text.proofs.document.State.end.Goals as goal
 
 pub returns-in-Outside-clause-within : goal.returns-in-Outside-clause-within

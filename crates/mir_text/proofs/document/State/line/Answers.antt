@@ -1,4 +1,4 @@
-use Rattle.std.proofs.Common.{◌≡◌, ℕ, ◌+◌, length, arith}
+use Rattle.std.proofs.Common.{ℕ, ◌+◌, length, arith}
 use Rattle.mir_text.specs.Document.{line_after, IsStateWithin}
 use Rattle.mir_text.specs.declared.document.State.{State}
 use Rattle.mir_text.proofs.Within.{state_grows, if_ok}

@@ -1,4 +1,4 @@
-use Rattle.std.proofs.Common.{◌≡◌, None, ◌∙◌}
+use Rattle.std.proofs.Common.{None, ◌∙◌}
 use Rattle.mir_read.specs.Body.{BodyValue, closed}
 use Rattle.mir_text.proofs.Bodies.{function_is}
 use Rattle.mir_text.proofs.reading.Reading.into_func.Goals as goal
