@@ -1,11 +1,10 @@
 //! Documents of a file, and why a text spells none.
 
 use mir_func::Func;
+pub use mir_read::TextKind;
 use std::alloc::AllocError;
 use target_base::Bytes;
 use thiserror::Error;
-
-pub use mir_read::TextKind;
 
 /// The first line that can't stand after those before it, and the test that failed there.
 #[derive(Clone, Copy, Debug, PartialEq, Eq)]
