@@ -1,5 +1,4 @@
 pub mod Shown
-pub mod Printed
 pub mod Lines
 pub mod Within
 pub mod Bodies

@@ -1,4 +1,3 @@
 pub mod Print
-pub mod First
 pub mod BodyLines
 pub mod Document
