@@ -7,54 +7,15 @@
 //! number of events and the end. Where nothing was read the line is `none`.
 #![tactic(auto)]
 
-use mir_interp::{End, Env, Event, Lanes, Outcome, run};
+use mir_func::Func;
+use mir_interp::{End, Env, run};
 use mir_text::read_leniently;
+use run_text::text_of_run;
 use std::alloc::Global;
 use std::io::Write;
 use std::{env, fs, io};
 use target_base::{Target, mini};
 use target_desc::read_target;
-
-/// The word of an end.
-fn end_word(end: End) -> &'static str {
-    match end {
-        End::Returned => "returned",
-        End::Trapped => "trapped",
-        End::Undefined => "undefined",
-        End::Steps => "steps",
-    }
-}
-
-/// Writes lanes and ends the line.
-fn write_lanes(lanes: &Lanes, out: &mut impl Write) -> anyhow::Result<()> {
-    for lane in lanes.as_slice() {
-        match lane {
-            None => write!(out, " undef")?,
-            Some(n) => write!(out, " {n}")?,
-        }
-    }
-    writeln!(out)?;
-    Ok(())
-}
-
-/// Writes an event as a line.
-fn write_event(event: &Event, out: &mut impl Write) -> anyhow::Result<()> {
-    match event {
-        Event::Call(name, lanes) => {
-            write!(out, "call ")?;
-            out.write_all(name.as_slice())?;
-            write_lanes(lanes, out)
-        }
-        Event::Store(a, lanes) => {
-            write!(out, "store {a}")?;
-            write_lanes(lanes, out)
-        }
-        Event::Return(lanes) => {
-            write!(out, "ret")?;
-            write_lanes(lanes, out)
-        }
-    }
-}
 
 /// How a function is run, and what is written of it.
 #[derive(Drop)]
@@ -67,16 +28,33 @@ struct Asked {
     seed: u64,
 }
 
-/// Writes what a run gave.
-fn write_outcome(outcome: &Outcome, each: bool, out: &mut impl Write) -> anyhow::Result<()> {
-    if each {
-        for event in outcome.events.as_slice() {
-            write_event(event, out)?;
-        }
-    } else {
-        write!(out, "events {} ", outcome.events.len())?;
+/// The word of an end.
+fn end_word(end: End) -> &'static str {
+    match end {
+        End::Returned => "returned",
+        End::Trapped => "trapped",
+        End::Undefined => "undefined",
+        End::Steps => "steps",
     }
-    writeln!(out, "end {}", end_word(outcome.end))?;
+}
+
+/// Runs a function and writes what it does.
+fn show(
+    alloc: Global,
+    target: &Target,
+    f: &Func,
+    asked: &Asked,
+    out: &mut impl Write,
+) -> anyhow::Result<()> {
+    if asked.each {
+        let text = text_of_run(alloc, target, f, asked.steps, asked.seed)?;
+        out.write_all(text.as_slice())?;
+        return Ok(());
+    }
+    let world = Env { seed: asked.seed };
+    let outcome = run(alloc, target, f, &world, asked.steps)?;
+    let word = end_word(outcome.end);
+    writeln!(out, "events {} end {}", outcome.events.len(), word)?;
     Ok(())
 }
 
@@ -93,11 +71,7 @@ fn answer(
             writeln!(out, "none")?;
             Ok(())
         }
-        Some(f) => {
-            let world = Env { seed: asked.seed };
-            let outcome = run(alloc, target, &f, &world, asked.steps)?;
-            write_outcome(&outcome, asked.each, out)
-        }
+        Some(f) => show(alloc, target, &f, asked, out),
     }
 }
 
