@@ -121,11 +121,7 @@ pub fn at_document<W: Watcher>(
 
 /// What is written where the file ends: the lines of the watchers for `trace`, and nothing for the
 /// other commands.
-pub fn end_text<W: Watcher>(
-    alloc: Global,
-    job: Job,
-    watchers: &[W],
-) -> Result<Bytes, AllocError>
+pub fn end_text<W: Watcher>(alloc: Global, job: Job, watchers: &[W]) -> Result<Bytes, AllocError>
     ensures { IfOk result (IsEndText job.entry) }
 {
     match job {

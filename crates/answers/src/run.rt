@@ -44,13 +44,7 @@ fn ran(alloc: Global, target: &Target, n: u64, seed: u64, f: Func) -> Result<Ans
     }
     let copy = f.copy(alloc)?;
     match verify_source(alloc, target, copy) {
-        Ok(valid) => Ok(Answer::Last(text_of_run(
-            alloc,
-            target,
-            &valid.func,
-            n,
-            seed,
-        )?)),
+        Ok(valid) => Ok(Answer::Last(text_of_run(alloc, target, &valid.func, n, seed)?)),
         Err(VerifyStop::Invalid(invalid)) => ran_allocated(alloc, target, n, seed, &f, invalid),
         Err(VerifyStop::Memory(e)) => Err(e),
     }

@@ -7,12 +7,11 @@ ghost use Rattle.answers.specs.Status.{line_of, fault_line, limit_line, refusal_
 
 use devices::moves::write_all;
 use devices::{Failed, Sink};
+pub use guarded_alloc::LimitName;
 use machine_verify::Invalid;
 use mir_func::Place;
 use mir_text::{TextFault, TextKind};
 use target_desc::{TargetFault, TargetKind};
-
-pub use guarded_alloc::LimitName;
 
 /// How the program ends.
 #[derive(Clone, Copy, Debug, PartialEq, Eq)]

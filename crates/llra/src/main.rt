@@ -28,11 +28,7 @@ fn run(rt: &HostRuntime, words: &[String]) -> Status {
     }
 }
 
-fn run_watched(
-    rt: &HostRuntime,
-    words: &[String],
-    told: Vec<Box<dyn Watcher>>,
-) -> Status {
+fn run_watched(rt: &HostRuntime, words: &[String], told: Vec<Box<dyn Watcher>>) -> Status {
     let mut files = HostFiles::new(rt);
     let mut out = HostSink::new(rt.stdout());
     let mut err = HostSink::new(rt.stderr());

@@ -47,10 +47,28 @@ pub fn top<F: Files, O: Sink, E: Sink, W: Watcher>(
             over_file(alloc, Job::Alloc, target, file, files, out, err, watchers)
         }
         Ok(Some(Command::VerifySource(target, file))) => {
-            over_file(alloc, Job::Verify(Form::Source), target, file, files, out, err, watchers)
+            over_file(
+                alloc,
+                Job::Verify(Form::Source),
+                target,
+                file,
+                files,
+                out,
+                err,
+                watchers,
+            )
         }
         Ok(Some(Command::VerifyAllocated(target, file))) => {
-            over_file(alloc, Job::Verify(Form::Allocated), target, file, files, out, err, watchers)
+            over_file(
+                alloc,
+                Job::Verify(Form::Allocated),
+                target,
+                file,
+                files,
+                out,
+                err,
+                watchers,
+            )
         }
         Ok(Some(Command::Run(target, file, name, n, seed))) => {
             let job = Job::Run(name, n, seed);
