@@ -1,11 +1,16 @@
 pub mod Moving
 pub mod Moved
+pub mod Matched
 pub mod Lists
 pub mod Shapes
 pub mod Silent
 pub mod Together
+pub mod Flags
+pub mod FlagsOf
 pub mod Instrs
 pub mod Blocks
 pub mod Phis
 pub mod Whole
 pub mod Numbered
+pub mod Tabled
+pub mod Valid

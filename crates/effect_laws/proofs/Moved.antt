@@ -103,7 +103,7 @@ module _ (early : Bool) where
       go (inr z) = inl (moved-same l a (sym f ∙ z.0))
 
   -- of sources that are apart each goes to one lane
-  move-once : (l m a c : Lane) (ds : List Lane) (ss : List Source) → Apart (owners_read ss) → Moves (moved early ds ss) l a → Moves (moved early ds ss) m c → owner_of l ≡ owner_of m → owner_of a ≡ owner_of c
+  pub move-once : (l m a c : Lane) (ds : List Lane) (ss : List Source) → Apart (owners_read ss) → Moves (moved early ds ss) l a → Moves (moved early ds ss) m c → owner_of l ≡ owner_of m → owner_of a ≡ owner_of c
   move-once l m a c [] ss p z y e = absurd (member-none z.0 z.1)
   move-once l m a c (d ∷ ds) [] p z y e = absurd (member-none z.0 z.1)
   move-once l m a c (d ∷ ds) (s ∷ ss) p z y e =

@@ -4,26 +4,30 @@ use Rattle.std.specs.Prelude.{◌↔◌, slice_get, option_map}
 use Rattle.target_base.specs.declared.types.Target.{Target}
 use Rattle.meaning.specs.declared.types.Lane.{Lane}
 use Rattle.meaning.specs.Code.{Edge, Item, Code as Places, found}
-use Rattle.meaning.specs.Live.{Among as Member, here as first, there as later, is_slot, Live as LivePlace, LiveAfter, after_next, after_leap, after_phi}
+use Rattle.meaning.specs.Live.{Among as Member, here as first, there as later, writes_of, is_slot, OccupiedBefore, OccupiedAfter, Writing as Wrote-in, WritingEarly, Live as LivePlace, LiveAfter, after_next, after_leap, after_phi}
 use Rattle.mir_func.specs.declared.func.Instr.{Instr}
 use Rattle.mir_func.specs.declared.func.Block.{Block}
 use Rattle.mir_func.specs.Value.{Function}
 use Rattle.mir_func.specs.Edits.{instr_place}
+use Rattle.mir_meaning.specs.Binding.{does, is_terminator}
 use Rattle.mir_meaning.specs.Registers.{is_reserved}
 use Rattle.mir_meaning.specs.Codes.{ways_out, block_end, blocks_code}
 use Rattle.mir_meaning.specs.Points.{point_item, points_of, has_instr, block_rest, from_instr, AtFirst}
-use Rattle.live_law.specs.Paths.{Among, Step, Code, steps_of, last_of, Entry as Before, Exit as Behind, Live, next, leaps, leaps_phi}
+use Rattle.live_law.specs.Paths.{Among, Step, Code, is_written, steps_of, last_of, Entry as Before, Exit as Behind, Live, next, leaps, leaps_phi}
 use Rattle.live_law.specs.Stands.{Tags, IsStep, IsOut, At, IsCodeOf}
 use Rattle.live_law.proofs.Stands.{meets, meets-back}
+use Rattle.lane_effects.specs.Acts.{entered_reads, entered_writes}
 use Rattle.lane_effects.specs.Steps.{Numbering}
 use Rattle.lane_effects.specs.Stepping.{tag_of}
 use Rattle.lane_effects.proofs.Members.{member-none}
 use Rattle.lane_effects.proofs.Plain.{moved-same}
 use Rattle.effect_laws.specs.Shaped.{is_proper}
-use Rattle.effect_laws.specs.Coded.{instr_step, numbered_code, number_at, one_on, spot_in, KeepsRules, IsNumbered}
-use Rattle.effect_laws.specs.Laws.{LiveByNumber, NumberLaw}
+use Rattle.effect_laws.specs.Coded.{instr_step, is_early, numbered_code, number_at, one_on, spot_in, KeepsRules, IsNumbered}
+use Rattle.effect_laws.specs.Laws.{LiveByNumber, NumberLaw, OccupiedByNumber, OccupiedLaw}
 use Rattle.effect_laws.proofs.Moving.{some-same}
-use Rattle.effect_laws.proofs.Blocks.{numbers-apart, block_code, found-block}
+use Rattle.effect_laws.proofs.Flags.{IsSame, writes-same, early-same}
+use Rattle.effect_laws.proofs.Instrs.{same-law}
+use Rattle.effect_laws.proofs.Blocks.{slice-member, numbers-apart, block_code, found-block}
 use Rattle.effect_laws.proofs.Whole.{steps-at, standing, starts, is-out, step-at, code-of, points-are}
 
 drop-map : {X Y : Type 0} (g : X → Y) (k : ℕ) (xs : List X) → drop k (map g xs) ≡ map g (drop k xs)
@@ -151,6 +155,73 @@ module _ (t : Target) (f : Function) (num : Numbering) (rules : KeepsRules t f) 
           (subst (λ v. LiveAfter R C (point_item t f b i) p l ↔ Live code x (Behind (instr_step t f num i) v) n) (sym two)
           (by-exit x (ways_out t f b) (point_item t f b i) p (instr_step t f num i) (map (instr_step t f num) is) (step-at t f num rules numbered x b h i (inside i first)) (is-out t f num rules numbered x b h) (standing t f num rules numbered x b h after is (λ j m. inside j (later m)))))
 
+  -- what is occupied
+
+  either : {A B X Y : Type 0} → A ↔ X → B ↔ Y → (A ⊎ B) ↔ (X ⊎ Y)
+  either {A} {B} {X} {Y} f g = (there, back)
+    where
+      there : A ⊎ B → X ⊎ Y
+      there (inl a) = inl (f.0 a)
+      there (inr b) = inr (g.0 b)
+
+      back : X ⊎ Y → A ⊎ B
+      back (inl x) = inl (f.1 x)
+      back (inr y) = inr (g.1 y)
+
+  with-fact : {A X P : Type 0} → P → A ↔ X → (A × P) ↔ X
+  with-fact p f = ((λ z. f.0 z.0), (λ x. (f.1 x, p)))
+
+  free : is_reserved t l ≡ false
+  free = (code-of t f num rules numbered).tagging.free l n tagged
+
+  module _ (b : Block) (x : ℕ) (place : slice_get f.blocks x ≡ Some b) (i : Instr) (inside : Member i b.instrs) where
+    same : IsSame T (writes_of (point_item t f b i)) (entered_writes t f i)
+    same = same-law t f num rules numbered b i (slice-member f.blocks x b place) inside
+
+    writes : Wrote-in (point_item t f b i) l ↔ (is_written n (instr_step t f num i) ≡ true)
+    writes = writes-same R num (is_proper t) numbered.numbering (point_item t f b i) i.id (does is_terminator t i) (entered_reads t f i) (entered_writes t f i) same l n tagged still
+
+    early : WritingEarly (point_item t f b i) l ↔ (is_early n (instr_step t f num i) ≡ true)
+    early = early-same R num (is_proper t) numbered.numbering (point_item t f b i) i.id (does is_terminator t i) (entered_reads t f i) (entered_writes t f i) same l n tagged still
+
+  occupied-before : (id x k : ℕ) (s : Step) (rest : List Step) → spot_in id f.blocks ≡ Some (x, k) → drop k (steps_of code x) ≡ s ∷ rest → AtFirst (λ i p. OccupiedBefore R C i p l) (from_instr t f id f.blocks) ↔ (Live code x (Before (s ∷ rest)) n ⊎ (is_early n s ≡ true))
+  occupied-before id x k s rest e g =
+      let z = from-spot t f id f.blocks x k e in
+      subst (λ p. AtFirst (λ i q. OccupiedBefore R C i q l) p ↔ (Live code x (Before (s ∷ rest)) n ⊎ (is_early n s ≡ true))) (sym z.3) (at z.0 z.1 z.2 (drop k z.0.instrs) (λ i m. drop-of i k z.0.instrs m) (sym g ∙ rest-at x k z.0 z.2))
+    where
+      at : (b : Block) (after : List Block) → slice_get f.blocks x ≡ Some b → (is : List Instr) → ((i : Instr) → Member i is → Member i b.instrs) → s ∷ rest ≡ map (instr_step t f num) is → AtFirst (λ i q. OccupiedBefore R C i q l) (map (point_item t f b) is ++ (block_end t f b after ∷ blocks_code (point_item t f) t f after)) ↔ (Live code x (Before (s ∷ rest)) n ⊎ (is_early n s ≡ true))
+      at b after h [] inside q = absurd (cc)
+      at b after h (i ∷ is) inside q =
+          let one = same-first s (instr_step t f num i) rest (map (instr_step t f num) is) q in
+          let p = map (point_item t f b) is ++ (block_end t f b after ∷ blocks_code (point_item t f) t f after) in
+          subst (λ v. ((LivePlace R C (point_item t f b i ∷ p) l ⊎ WritingEarly (point_item t f b i) l) × (is_reserved t l ≡ false)) ↔ (Live code x (Before v) n ⊎ (is_early n s ≡ true))) (sym q)
+          (subst (λ v. ((LivePlace R C (point_item t f b i ∷ p) l ⊎ WritingEarly (point_item t f b i) l) × (is_reserved t l ≡ false)) ↔ (Live code x (Before (map (instr_step t f num) (i ∷ is))) n ⊎ (is_early n v ≡ true))) (sym one)
+          (with-fact free (either (by-entry x (point_item t f b i ∷ p) (map (instr_step t f num) (i ∷ is)) (standing t f num rules numbered x b h after (i ∷ is) inside)) (early b x h i (inside i first)))))
+
+  occupied-behind : (id x k : ℕ) (s : Step) (rest : List Step) → spot_in id f.blocks ≡ Some (x, k) → drop k (steps_of code x) ≡ s ∷ rest → AtFirst (λ i p. OccupiedAfter R C i p l) (from_instr t f id f.blocks) ↔ (Live code x (Behind s rest) n ⊎ (is_written n s ≡ true))
+  occupied-behind id x k s rest e g =
+      let z = from-spot t f id f.blocks x k e in
+      subst (λ p. AtFirst (λ i q. OccupiedAfter R C i q l) p ↔ (Live code x (Behind s rest) n ⊎ (is_written n s ≡ true))) (sym z.3) (at z.0 z.1 z.2 (drop k z.0.instrs) (λ i m. drop-of i k z.0.instrs m) (sym g ∙ rest-at x k z.0 z.2))
+    where
+      at : (b : Block) (after : List Block) → slice_get f.blocks x ≡ Some b → (is : List Instr) → ((i : Instr) → Member i is → Member i b.instrs) → s ∷ rest ≡ map (instr_step t f num) is → AtFirst (λ i q. OccupiedAfter R C i q l) (map (point_item t f b) is ++ (block_end t f b after ∷ blocks_code (point_item t f) t f after)) ↔ (Live code x (Behind s rest) n ⊎ (is_written n s ≡ true))
+      at b after h [] inside q = absurd (cc)
+      at b after h (i ∷ is) inside q =
+          let one = same-first s (instr_step t f num i) rest (map (instr_step t f num) is) q in
+          let two = same-rest s (instr_step t f num i) rest (map (instr_step t f num) is) q in
+          let p = map (point_item t f b) is ++ (block_end t f b after ∷ blocks_code (point_item t f) t f after) in
+          subst (λ v. ((LiveAfter R C (point_item t f b i) p l ⊎ Wrote-in (point_item t f b i) l) × (is_reserved t l ≡ false)) ↔ (Live code x (Behind v rest) n ⊎ (is_written n v ≡ true))) (sym one)
+          (subst (λ v. ((LiveAfter R C (point_item t f b i) p l ⊎ Wrote-in (point_item t f b i) l) × (is_reserved t l ≡ false)) ↔ (Live code x (Behind (instr_step t f num i) v) n ⊎ (is_written n (instr_step t f num i) ≡ true))) (sym two)
+          (with-fact free (either (by-exit x (ways_out t f b) (point_item t f b i) p (instr_step t f num i) (map (instr_step t f num) is) (step-at t f num rules numbered x b h i (inside i first)) (is-out t f num rules numbered x b h) (standing t f num rules numbered x b h after is (λ j m. inside j (later m)))) (writes b x h i (inside i first)))))
+
+  pub occupied-by-number : OccupiedByNumber t f num l n
+  occupied-by-number = record {
+    entry = λ id x k s rest e g. subst (λ P. AtFirst (λ i p. OccupiedBefore R P i p l) (from_instr t f id f.blocks) ↔ (Live code x (Before (s ∷ rest)) n ⊎ (is_early n s ≡ true))) (sym points) (occupied-before id x k s rest e g);
+    exit = λ id x k s rest e g. subst (λ P. AtFirst (λ i p. OccupiedAfter R P i p l) (from_instr t f id f.blocks) ↔ (Live code x (Behind s rest) n ⊎ (is_written n s ≡ true))) (sym points) (occupied-behind id x k s rest e g);
+  }
+    where
+      points : points_of t f ≡ C
+      points = points-are t f num rules numbered
+
   pub by-number : LiveByNumber t f num l n
   by-number = record {
     start = λ x b e. subst (λ P. LivePlace R P (found b.number P) l ↔ Live code x (Before (steps_of code x)) n) (sym points) (start x b e);
@@ -163,3 +234,6 @@ module _ (t : Target) (f : Function) (num : Numbering) (rules : KeepsRules t f) 
 
 pub number-law : NumberLaw
 number-law t f num rules numbered l n still tagged = by-number t f num rules numbered l n still tagged
+
+pub occupied-law : OccupiedLaw
+occupied-law t f num rules numbered l n still tagged = occupied-by-number t f num rules numbered l n still tagged

@@ -28,7 +28,7 @@ use Rattle.mir_meaning.specs.Points.{point_item}
 use Rattle.mir_meaning.specs.Rules.{block_numbers, block_of}
 use Rattle.lane_effects.proofs.Members.{member-none, member-elim, left-in, right-in, in-either, flat-of, map-in}
 use Rattle.lane_effects.proofs.Plain.{filled-cases, moved-same}
-use Rattle.effect_laws.specs.Coded.{pairs_of, pairs_behind}
+use Rattle.lane_effects.specs.Ends.{pairs_of, pairs_behind}
 use Rattle.effect_laws.proofs.Moved.{Apart, moved-of, undefined-lane, undefined-fill, undefined-in}
 use Rattle.effect_laws.proofs.Moving.{some-same}
 use Rattle.effect_laws.proofs.Blocks.{slice-member, member-slice}

@@ -120,7 +120,7 @@ placed-within [] us ks k (Some n) e h m = absurd (cc)
 placed-within (d ∷ regs) us ks k (Some n) e h m = let z = position-Some (λ x. is_picked us ks x.units) (d ∷ regs) n d e in picked-within us ks _ k z.1 m
 
 module _ (t : Target) where
-  class-registers : (q : Option ClassDesc) (k : ℕ) → slice_get t.classes k ≡ q → k < length t.classes → 0 < length (regs_in q)
+  pub class-registers : (q : Option ClassDesc) (k : ℕ) → slice_get t.classes k ≡ q → k < length t.classes → 0 < length (regs_in q)
   class-registers None k e h = absurd (go (slice_get_cases t.classes k).1)
     where
       go : ((x : ClassDesc) × (k < length t.classes) × (slice_get t.classes k ≡ Some x) × (get_or t.classes k x ≡ x)) ⊎ ((length t.classes ≤ k) × (slice_get t.classes k ≡ None)) → ⊥

@@ -38,7 +38,8 @@ use Rattle.lane_effects.proofs.Members.{member-none, member-elim, flat-of, flat-
 use Rattle.lane_effects.proofs.Plain.{filled-cases, plain-law}
 use Rattle.lane_effects.proofs.Writes.{located-long}
 use Rattle.effect_laws.specs.Shaped.{is_proper}
-use Rattle.effect_laws.specs.Coded.{pairs_behind, end_uses, all_end_uses, read_at, last_reads, place_of, number_at, exits_from, instr_step, body_of, numbered_code, KeepsRules, IsNumbered}
+use Rattle.lane_effects.specs.Ends.{pairs_behind, end_uses}
+use Rattle.effect_laws.specs.Coded.{all_end_uses, read_at, last_reads, place_of, number_at, exits_from, instr_step, body_of, numbered_code, KeepsRules, IsNumbered}
 use Rattle.effect_laws.specs.Laws.{FunctionLaw}
 use Rattle.effect_laws.proofs.Moved.{Apart, source-in}
 use Rattle.effect_laws.proofs.Lists.{all-of, distinct-apart}
@@ -149,7 +150,7 @@ module _ (t : Target) (f : Function) (num : Numbering) (rules : KeepsRules t f) 
         (tag.0, tag.1, subst (Among tag.0) (sym (last-at x b place)) (among-of tag.0 (last_reads t f num b.number) at))
 
     -- a use of a phi that reads at the end of the block
-    abbrev EndUse : ℕ → Type 0
+    abbrev pub EndUse : ℕ → Type 0
     EndUse n = (y : ℕ) × (c : Block) × (j : ℕ) × (i : Instr) × (s : RegOp) × (l : Lane) × (slice_get f.blocks y ≡ Some c) × (slice_get c.instrs j ≡ Some i) × (does is_phi t i ≡ true) × Member (s, b.number) (pairs_behind i.operands) × Member (FromLane l) (use_sources t f s) × (num (owner_of l) ≡ Some n)
 
     read-here : (n : ℕ) (p : RegOp × ℕ) → Member n (read_at t f num b.number p) → (p.1 ≡ b.number) × Member n (filter_map num (use_owners t f p.0))
@@ -166,7 +167,7 @@ module _ (t : Target) (f : Function) (num : Numbering) (rules : KeepsRules t f) 
         go true k = (refl, k)
         go false k = absurd (member-none p k)
 
-    end-use : (n : ℕ) → Among n (last_of code x) → EndUse n
+    pub end-use : (n : ℕ) → Among n (last_of code x) → EndUse n
     end-use n m =
         let z = flat-of (read_at t f num b.number) n (all_end_uses t f.blocks) (of-among n (last_reads t f num b.number) (subst (Among n) (last-at x b place) m)) in
         let r = read-here n z.0 z.2 in

@@ -1,11 +1,8 @@
 -- The blocks of a function over numbered lanes, and what liveness asks of a whole function.
-use Rattle.std.specs.Prelude.{◌≡◌, ℕ, suc, true, cond, nat_eq, List, [], ◌∷◌, map, flat_map, filter_map, Option, None, Some, option_map, slice_get}
+use Rattle.std.specs.Prelude.{◌≡◌, ℕ, suc, Bool, true, false, cond, nat_eq, List, [], ◌∷◌, map, flat_map, filter_map, Option, None, Some, option_map, slice_get}
 use Rattle.target_base.specs.declared.types.Target.{Target}
-use Rattle.target_base.specs.Rules.{is_phi}
 use Rattle.meaning.specs.Live.{Among as Member}
 use Rattle.mir_func.specs.declared.func.RegOp.{RegOp}
-use Rattle.mir_func.specs.declared.func.Operand.{Operand}
-use Rattle.mir_func.specs.declared.func.Operand.TheVariants as operands
 use Rattle.mir_func.specs.declared.func.Instr.{Instr}
 use Rattle.mir_func.specs.declared.func.Block.{Block}
 use Rattle.mir_func.specs.Value.{Function}
@@ -15,25 +12,14 @@ use Rattle.mir_meaning.specs.Binding.{does, is_terminator}
 use Rattle.mir_meaning.specs.Registers.{is_reserved}
 use Rattle.mir_meaning.specs.Points.{has_instr}
 use Rattle.mir_meaning.specs.Rules.{V5, V7}
-use Rattle.live_law.specs.Paths.{Step, Body, Code}
+use Rattle.live_law.specs.Paths.{Step, Body, Code, writing_of}
 use Rattle.lane_effects.specs.Acts.{entered_reads, entered_writes, use_owners}
+use Rattle.lane_effects.specs.Ends.{end_uses}
 use Rattle.lane_effects.specs.Steps.{Numbering}
 use Rattle.lane_effects.specs.Stepping.{step_of, tag_of, IsNumbering, NamesTagged}
 use Rattle.effect_laws.specs.Shaped.{is_proper, AreClasses, IsShaped, SlotsTagged}
 
--- the uses of a phi, each with the block at whose end it reads
-abbrev pub pairs_of : List Operand → List (RegOp × ℕ)
-pairs_of (operands.Reg s ∷ operands.Block n ∷ os) = (s, n) ∷ pairs_of os
-pairs_of _ = []
-
-abbrev pub pairs_behind : List Operand → List (RegOp × ℕ)
-pairs_behind (operands.Reg d ∷ os) = pairs_of os
-pairs_behind _ = []
-
--- what an instruction reads at the ends of other blocks: a phi its uses
-abbrev pub end_uses : Target → Instr → List (RegOp × ℕ)
-end_uses t i = cond (does is_phi t i) (pairs_behind i.operands) []
-
+-- what is read at the ends of blocks
 abbrev pub all_end_uses : Target → List Block → List (RegOp × ℕ)
 all_end_uses t bs = flat_map (λ b. flat_map (end_uses t) b.instrs) bs
 
@@ -58,6 +44,11 @@ number_at bs x = elim (slice_get bs x) [ None ↦ 0 | Some b ↦ b.number ]
 abbrev pub exits_from : List Block → Block → List ℕ
 exits_from bs b = filter_map (λ e. place_of e.block bs) b.successors
 
+-- the lane is occupied at the entry of the step too
+abbrev pub is_early : ℕ → Step → Bool
+is_early n s = elim (writing_of n s.writes) [ None ↦ false | Some w ↦ w.early ]
+
+-- an instruction over numbered lanes
 abbrev pub instr_step : Target → Function → Numbering → Instr → Step
 instr_step t f num i = step_of num i.id (does is_terminator t i) (entered_reads t f i) (entered_writes t f i)
 

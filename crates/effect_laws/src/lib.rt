@@ -1,7 +1,7 @@
 //! Laws of what instructions do to lanes: each does to numbered lanes what its item does to lanes.
 #![tactic(auto)]
 
-ghost use Rattle.effect_laws.specs.Laws.{FunctionLaw, InstrLaw, MovingLaw, NumberLaw};
+ghost use Rattle.effect_laws.specs.Laws.{FunctionLaw, InstrLaw, MatchedLaw, MovingLaw, NumberLaw, OccupiedLaw, TableLaw, ValidLaw};
 
 /// An item that only moves lanes is the step that moves their numbers.
 pub fn moving_law()
@@ -21,4 +21,24 @@ pub fn function_law()
 /// A lane with a number is live at a point exactly where its number is.
 pub fn number_law()
     ensures { NumberLaw }
+{}
+
+/// A table that numbers all lanes of a function gives each a number of its own.
+pub fn table_law()
+    ensures { TableLaw }
+{}
+
+/// A valid function keeps the rules that liveness rests on.
+pub fn valid_law()
+    ensures { ValidLaw }
+{}
+
+/// Each step of a function moves a lane into the one lane whose writing says so.
+pub fn matched_law()
+    ensures { MatchedLaw }
+{}
+
+/// A lane with a number is occupied at a point exactly where its number is.
+pub fn occupied_law()
+    ensures { OccupiedLaw }
 {}

@@ -11,15 +11,14 @@ use Rattle.target_base.specs.Registers.{units_of, lanes_of}
 use Rattle.target_base.specs.Roles.{is_silent}
 use Rattle.target_base.specs.Rules.{is_phi}
 use Rattle.meaning.specs.declared.types.Lane.{Lane}
-use Rattle.meaning.specs.declared.types.Lane.TheVariants.{VirtualLane, UnitLane, SlotLane}
+use Rattle.meaning.specs.declared.types.Lane.TheVariants.{VirtualLane, UnitLane}
 use Rattle.meaning.specs.declared.types.Constant.{Constant}
 use Rattle.meaning.specs.declared.types.Constant.TheVariants.{Immediate, StackAddress, FixedStackAddress, SymbolAddress}
 use Rattle.meaning.specs.declared.types.Source.{Source}
-use Rattle.meaning.specs.declared.types.Source.TheVariants.{FromLane, Undef, Bits}
-use Rattle.meaning.specs.declared.types.Fill.{Fill}
+use Rattle.meaning.specs.declared.types.Source.TheVariants.{FromLane, Undef}
 use Rattle.meaning.specs.declared.types.Fill.TheVariants.{Moved, Computed}
 use Rattle.meaning.specs.declared.types.Write.{Write}
-use Rattle.meaning.specs.Lanes.{Writes, Reads}
+use Rattle.meaning.specs.Lanes.{Writes}
 use Rattle.meaning.specs.Environment.{constant_source, residue}
 use Rattle.meaning.specs.Perform.{condition_lane}
 use Rattle.meaning.specs.Code.{Item, Counted, Silent}
@@ -32,8 +31,8 @@ use Rattle.mir_func.specs.declared.func.Operand.TheVariants as operands
 use Rattle.mir_func.specs.declared.func.Instr.{Instr}
 use Rattle.mir_func.specs.declared.func.Block.{Block}
 use Rattle.mir_func.specs.Value.{Function}
-use Rattle.mir_meaning.specs.Binding.{registers, explicit_operands, implicit_registers, implicit_roles, roles_of, is_early_clobber, effect_of, does, passes, is_terminator}
-use Rattle.mir_meaning.specs.Registers.{numbers, operand_lanes, located_lanes, whole_lanes, undefined_lanes, use_sources, range_lanes, range_widths, unit_lanes, is_reserved}
+use Rattle.mir_meaning.specs.Binding.{registers, explicit_operands, implicit_registers, implicit_roles, roles_of, is_early_clobber, effect_of, passes, is_terminator}
+use Rattle.mir_meaning.specs.Registers.{numbers, operand_lanes, located_lanes, whole_lanes, undefined_lanes, use_sources, range_widths, is_reserved}
 use Rattle.mir_meaning.specs.Items.{write, undefined, computed, Value, value_of, values, use_value, flag_value, constant_value, computes_with_immediates, has_base, implicit_values, is_flags, pick, first_width, immediate_of, result_writes, counted_writes, implicit_writes, explicit_definitions, implicit_definitions, all_lanes, answered, unreserved, clobbered, kept, preserves, rest_of, defined_undef, silent_reads, silent_writes}
 use Rattle.mir_meaning.specs.Codes.{item_of, effect_item, way, ways_out, target_of}
 use Rattle.mir_meaning.specs.Points.{point_item}
@@ -42,7 +41,7 @@ use Rattle.lane_effects.specs.Owners.{fill_owner}
 use Rattle.lane_effects.specs.Acts.{counted_acts, call_writes, unpreserved, entered_writes, effect_acts, silent_acts}
 use Rattle.lane_effects.specs.Laws.{CountedLaw}
 use Rattle.lane_effects.specs.Stepping.{IsPlain, NamesTagged}
-use Rattle.lane_effects.proofs.Members.{member-none, member-cases, member-elim, left-in, right-in, in-either, either-elim, flat-of, flat-in, filter-of, filter-in, map-of, map-in}
+use Rattle.lane_effects.proofs.Members.{member-none, member-cases, member-elim, left-in, right-in, in-either, flat-of, flat-in, filter-of, filter-in, map-of, map-in}
 
 -- the lane is written
 abbrev LaneIn : Lane → Writes → Type 0

@@ -1,17 +1,15 @@
 -- What is entered of an instruction with a known opcode, and of one with an excluded one.
-use Rattle.std.proofs.Common.{◌≡◌, Bool, true, false, cond, List, [], Option, Some, None, map, refl, sym, ap, ◌∙◌}
+use Rattle.std.proofs.Common.{◌≡◌, Bool, true, false, cond, List, [], Option, Some, None, map, refl, ap, ◌∙◌}
 use Rattle.std.specs.Prelude.{option_map}
 use Rattle.target_base.specs.declared.types.OpcodeDesc.{OpcodeDesc}
 use Rattle.target_base.specs.declared.types.Role.{Role}
 use Rattle.target_base.specs.declared.types.Effect.{Effect}
 use Rattle.target_base.specs.declared.types.Target.{Target}
 use Rattle.target_base.specs.Roles.{is_silent}
-use Rattle.meaning.specs.Lanes.{Writes, Reads}
 use Rattle.mir_func.specs.declared.func.Instr.{Instr}
 use Rattle.mir_func.specs.Value.{Function}
-use Rattle.mir_meaning.specs.Binding.{known_opcode, effect_of, roles_of}
+use Rattle.mir_meaning.specs.Binding.{known_opcode, roles_of}
 use Rattle.mir_meaning.specs.Items.{silent_reads, values}
-use Rattle.lane_effects.specs.declared.owner.Owner.{Owner}
 use Rattle.lane_effects.specs.Acts.{acts_of, read_owners, effect_owners, effect_acts, effect_reads, counted_owners, entered_reads, entered_writes}
 use Rattle.lane_effects.proofs.Readings.{counted-read}
 

@@ -1,4 +1,6 @@
 pub mod Loops
+pub mod Tables
+pub mod Pairs
 pub mod Operands
 pub mod Writes
 pub mod Readings

@@ -1,5 +1,5 @@
 -- Steps and ends of loops that add to a list.
-use Rattle.std.proofs.Common.{◌≡◌, ◌<◌, ◌≤◌, ℕ, zero, suc, ◌+◌, List, [], ◌∷◌, ◌++◌, length, get_or, take, drop, map, flat_map, refl, sym, ap, ◌∙◌, append_assoc, append-nil, arith, ap₂, Option, Some, None, ℤ, pos, Bool, drop_of_length-le}
+use Rattle.std.proofs.Common.{◌≡◌, ◌<◌, ◌≤◌, ℕ, zero, suc, ◌+◌, List, [], ◌∷◌, ◌++◌, length, get_or, take, drop, map, flat_map, refl, sym, ap, ◌∙◌, append_assoc, arith, ap₂, Option, Some, None, ℤ, pos, Bool, drop_of_length-le}
 use Rattle.std.proofs.lemmas.List.{map_more, flat_map_more, take_more, take_all, at_drop_more}
 use Rattle.mir_meaning.specs.Registers.{numbers}
 use Rattle.mir_meaning.specs.Items.{immediate_of}

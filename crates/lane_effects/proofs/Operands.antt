@@ -1,19 +1,16 @@
 -- The lanes of operands.
-use Rattle.std.proofs.Common.{◌≡◌, ◌<◌, ◌≤◌, ℕ, zero, suc, get_or, arith, Bool, true, false, cond, ◌&&◌, List, [], ◌∷◌, ◌++◌, Option, Some, None, map, filter_map, length, refl, sym, ap, ◌∙◌}
+use Rattle.std.proofs.Common.{◌≡◌, ◌<◌, ◌≤◌, ℕ, zero, suc, get_or, arith, Bool, true, false, cond, ◌&&◌, List, [], ◌∷◌, Some, None, map, filter_map, length, refl, sym, ap, ◌∙◌}
 use Rattle.target_base.specs.declared.types.Unit.{Unit as UnitNumber}
 use Rattle.target_base.specs.declared.types.Target.{Target}
 use Rattle.meaning.specs.declared.types.Lane.{Lane}
-use Rattle.meaning.specs.declared.types.Lane.TheVariants.{VirtualLane, UnitLane}
-use Rattle.meaning.specs.declared.types.Source.{Source}
+use Rattle.meaning.specs.declared.types.Lane.TheVariants.{VirtualLane}
 use Rattle.meaning.specs.declared.types.Source.TheVariants.{FromLane, Undef}
 use Rattle.mir_func.specs.declared.func.RegOp.{RegOp}
-use Rattle.mir_func.specs.declared.func.Loc.{Loc}
-use Rattle.mir_func.specs.declared.func.Loc.TheVariants.{Virtual, Fixed}
 use Rattle.mir_func.specs.Value.{Function}
 use Rattle.mir_meaning.specs.Registers.{unit_lanes, use_sources, undefined_lanes, whole_lanes, operand_lanes}
 use Rattle.lane_effects.specs.declared.owner.Owner.{Owner}
 use Rattle.lane_effects.specs.declared.owner.Owner.TheVariants as owners
-use Rattle.lane_effects.specs.Owners.{owner_of, source_owner, operand_owners, located_owners}
+use Rattle.lane_effects.specs.Owners.{owner_of, source_owner, operand_owners}
 use Rattle.mir_meaning.specs.Items.{pick}
 use Rattle.lane_effects.specs.Acts.{use_owners, flag_owners}
 

@@ -1,5 +1,5 @@
 -- An item whose moves are all of lanes that it reads in any case is a step that writes lanes and moves none.
-use Rattle.std.proofs.Common.{◌≡◌, ◌⊎◌, ℕ, zero, suc, Bool, true, false, cond, ◌&&◌, List, [], ◌∷◌, ◌++◌, Option, Some, None, map, filter_map, flat_map, refl, sym, ap, ◌∙◌, subst, inl, inr, eqb-true, eq-eqb, append-nil}
+use Rattle.std.proofs.Common.{◌≡◌, ◌⊎◌, ℕ, Bool, true, false, cond, ◌&&◌, List, [], ◌∷◌, ◌++◌, Option, Some, None, filter_map, refl, sym, ap, ◌∙◌, subst, inl, inr, eqb-true, eq-eqb, append-nil}
 use Rattle.std.specs.Prelude.{nat_eq, option_and_then}
 use Rattle.std.specs.List.{cons_option}
 use Rattle.meaning.specs.declared.types.Lane.{Lane}
@@ -11,15 +11,14 @@ use Rattle.meaning.specs.declared.types.Fill.TheVariants.{Moved}
 use Rattle.meaning.specs.declared.types.Write.{Write}
 use Rattle.meaning.specs.Lanes.{Writes, Reads, same_lane, filled}
 use Rattle.meaning.specs.Code.{Edge, Item}
-use Rattle.meaning.specs.Live.{Among as Member, here as first, there as later, reads_of, writes_of, exits_of as edges_of, in_order, Feeds, is_slot}
+use Rattle.meaning.specs.Live.{Among as Member, here as first, there as later, reads_of, writes_of, exits_of as edges_of, Feeds, is_slot}
 use Rattle.live_law.specs.declared.writing.Writing.{Writing}
-use Rattle.live_law.specs.Paths.{Step, has, writing_of, is_some_number, Use, Unused, Certain, Into, move_of, use_of, is_written, is_present}
-use Rattle.live_law.specs.Stands.{Tags, IsTagging, ReadBy, Reaches, IsStep}
-use Rattle.lane_effects.specs.declared.acts.Act.{Act}
+use Rattle.live_law.specs.Paths.{Step, has, writing_of, is_some_number, Unused, Certain, Into, move_of, use_of, is_written, is_present}
+use Rattle.live_law.specs.Stands.{Tags, IsTagging, ReadBy, IsStep}
 use Rattle.lane_effects.specs.declared.owner.Owner.{Owner}
 use Rattle.lane_effects.specs.Owners.{owner_of, source_owner, fill_owner, owners_read}
 use Rattle.lane_effects.specs.Acts.{read_owners, act_of, acts_of}
-use Rattle.lane_effects.specs.Steps.{Numbering, is_unnumbered, writing, act_writing, act_writings, act_reading, act_readings}
+use Rattle.lane_effects.specs.Steps.{Numbering, is_unnumbered, writing, act_writing, act_writings, act_readings}
 use Rattle.lane_effects.specs.Laws.{PlainLaw}
 use Rattle.lane_effects.proofs.Members.{member-none, member-cases, member-elim, left-in, right-in, either-elim}
 use Rattle.lane_effects.specs.Stepping.{tag_of, step_of, IsNumbering, IsPlain}

@@ -1,6 +1,6 @@
 -- What is read, lane by lane.
-use Rattle.std.proofs.Common.{◌≡◌, ℕ, zero, suc, ◌+◌, Bool, true, false, cond, not, ◌&&◌, ◌||◌, List, [], ◌∷◌, ◌++◌, Option, Some, None, map, flat_map, filter, filter_map, find, length, refl, sym, ap, ap₂, ◌∙◌, append_assoc, append-nil, nat_abs, ℤ}
-use Rattle.std.specs.List.{cons_option, list_any}
+use Rattle.std.proofs.Common.{◌≡◌, ℕ, Bool, true, false, cond, not, ◌&&◌, List, [], ◌∷◌, ◌++◌, Option, Some, None, map, flat_map, filter, filter_map, find, refl, sym, ap, ap₂, ◌∙◌, append_assoc, nat_abs, ℤ}
+use Rattle.std.specs.List.{cons_option}
 use Rattle.target_base.specs.declared.types.Effect.{Effect}
 use Rattle.target_base.specs.declared.types.Effect.TheVariants as effects
 use Rattle.target_base.specs.declared.types.Role.{Role}
@@ -8,22 +8,20 @@ use Rattle.target_base.specs.declared.types.Target.{Target}
 use Rattle.target_base.specs.Roles.{is_implicit}
 use Rattle.meaning.specs.declared.types.Constant.{Constant}
 use Rattle.meaning.specs.declared.types.Constant.TheVariants.{Immediate, StackAddress, FixedStackAddress, SymbolAddress}
-use Rattle.meaning.specs.declared.types.Source.{Source}
 use Rattle.meaning.specs.Lanes.{Reads}
-use Rattle.meaning.specs.Environment.{constant_source, residue}
+use Rattle.meaning.specs.Environment.{residue}
 use Rattle.meaning.specs.Perform.{condition_lane}
 use Rattle.mir_func.specs.declared.func.RegOp.{RegOp}
 use Rattle.mir_func.specs.declared.func.Operand.{Operand}
 use Rattle.mir_func.specs.declared.func.Operand.TheVariants as operands
 use Rattle.mir_func.specs.declared.func.Instr.{Instr}
 use Rattle.mir_func.specs.Value.{Function}
-use Rattle.mir_meaning.specs.Binding.{registers, explicit_operands, implicit_registers, implicit_roles, roles_of}
+use Rattle.mir_meaning.specs.Binding.{registers, explicit_operands, implicit_roles, roles_of}
 use Rattle.mir_meaning.specs.Registers.{use_sources}
 use Rattle.mir_meaning.specs.Items.{Value, value_of, values, use_value, flag_value, constant_value, computes_with_immediates, has_base, implicit_values, is_flags, first_width, immediate_of, silent_reads, uses}
 use Rattle.mir_meaning.specs.Rules.{puts_together}
-use Rattle.lane_effects.specs.declared.owner.Owner.{Owner}
 use Rattle.lane_effects.specs.Owners.{owners_read}
-use Rattle.lane_effects.specs.Acts.{use_owners, read_owners, explicit_uses, implicit_uses, takes_some, is_jcc, flag_owners, tested_role, implicit_owners, counted_owners}
+use Rattle.lane_effects.specs.Acts.{use_owners, read_owners, explicit_uses, implicit_uses, takes_some, flag_owners, tested_role, implicit_owners, counted_owners}
 
 -- the sources of values
 abbrev value_reads : List Value → Reads

@@ -1,5 +1,5 @@
 -- What is written, without values.
-use Rattle.std.proofs.Common.{◌≡◌, ◌≤◌, ℕ, zero, suc, ◌+◌, Bool, true, false, cond, not, List, [], ◌∷◌, ◌++◌, Option, Some, None, map, flat_map, filter, length, refl, sym, ap, ◌∙◌, append_assoc, arith, ap₂, slice_index, slice_get, sum}
+use Rattle.std.proofs.Common.{◌≡◌, ℕ, zero, suc, ◌+◌, Bool, true, false, cond, List, [], ◌∷◌, ◌++◌, Option, Some, None, map, flat_map, length, refl, sym, ap, ◌∙◌, append_assoc, arith, ap₂, slice_index, slice_get, sum}
 use Rattle.target_base.specs.declared.types.Effect.{Effect}
 use Rattle.target_base.specs.declared.types.Effect.TheVariants as effects
 use Rattle.target_base.specs.declared.types.Role.{Role}
@@ -24,7 +24,7 @@ use Rattle.target_base.specs.Registers.{units_of, lanes_of}
 use Rattle.target_base.specs.Storage.{unit_width}
 use Rattle.target_base.specs.Roles.{is_silent}
 use Rattle.mir_meaning.specs.Binding.{is_early_clobber, as_register}
-use Rattle.mir_meaning.specs.Registers.{numbers, operand_lanes, operand_widths, located_lanes, located_widths, range_widths, unit_lanes, undefined_lanes, use_sources, slot_lane_numbers, slot_lanes}
+use Rattle.mir_meaning.specs.Registers.{numbers, operand_lanes, operand_widths, located_lanes, located_widths, range_widths, undefined_lanes, use_sources, slot_lane_numbers, slot_lanes}
 use Rattle.mir_meaning.specs.Items.{write, moved, undefined, computed, defined, result_writes, all_lanes, constant_bits, constant_lanes, constant_of, lanes_beside, explicit_definitions, implicit_definitions, copied, defined_undef, given_constant, reloaded}
 use Rattle.lane_effects.specs.declared.acts.Act.{Act}
 use Rattle.lane_effects.specs.declared.owner.Owner.{Owner}

@@ -1,5 +1,5 @@
 -- What an instruction reads and writes as code enters it into the table of live lanes.
-use Rattle.std.specs.Prelude.{ℕ, suc, ℤ, Bool, true, false, cond, not, ◌&&◌, nat_eq, List, [], ◌∷◌, ◌++◌, map, filter, flat_map, find, length, nat_abs, Option, Some, None, slice_get, option_and_then}
+use Rattle.std.specs.Prelude.{ℕ, ℤ, Bool, true, false, cond, not, ◌&&◌, List, [], ◌∷◌, ◌++◌, map, filter, flat_map, find, length, nat_abs, Option, Some, None, slice_get, option_and_then}
 use Rattle.std.specs.List.{list_any}
 use Rattle.target_base.specs.declared.types.Effect.{Effect}
 use Rattle.target_base.specs.declared.types.Effect.TheVariants as effects

@@ -6,3 +6,4 @@ pub mod Acts
 pub mod Steps
 pub mod Stepping
 pub mod Laws
+pub mod Ends

@@ -1,5 +1,5 @@
 -- Numbers for lanes: units first, then the lanes of ranges and of slots, each register's and each slot's in a row.
-use Rattle.std.specs.Prelude.{◌≡◌, ◌≤◌, ◌<◌, ℕ, ◌+◌, Bool, true, false, cond, nat_lt, List, length, Option, Some, None, slice_get}
+use Rattle.std.specs.Prelude.{ℕ, Bool, cond, List, Option, Some, None, slice_get}
 use Rattle.std.specs.Ordering.{nat_cmp}
 use Rattle.std.specs.BTreeMap.{BTreeMap, get}
 use Rattle.lane_effects.specs.declared.row.Lanes.{Lanes}

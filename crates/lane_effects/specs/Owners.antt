@@ -1,5 +1,5 @@
 -- Whose lane it is: a lane of a spill slot is one lane at all its widths.
-use Rattle.std.specs.Prelude.{ℕ, Bool, true, false, List, map, filter_map, flat_map, Option, Some, None, option_map}
+use Rattle.std.specs.Prelude.{List, map, filter_map, Option, Some, None}
 use Rattle.target_base.specs.declared.types.Target.{Target}
 use Rattle.meaning.specs.declared.types.Lane.{Lane}
 use Rattle.meaning.specs.declared.types.Lane.TheVariants.{VirtualLane, UnitLane, SlotLane}

@@ -1,5 +1,5 @@
 -- Instructions as steps over numbered lanes, and when they do the same as items.
-use Rattle.std.specs.Prelude.{◌≡◌, ◌⊎◌, ◌<◌, length, ℕ, Bool, true, false, cond, List, ◌++◌, filter_map, Option, Some, None}
+use Rattle.std.specs.Prelude.{◌≡◌, ◌⊎◌, ◌<◌, length, ℕ, Bool, true, false, cond, List, ◌++◌, filter_map, Some, None}
 use Rattle.target_base.specs.declared.types.Target.{Target}
 use Rattle.mir_func.specs.declared.func.RegOp.{RegOp}
 use Rattle.mir_func.specs.declared.func.Instr.{Instr}
@@ -13,8 +13,8 @@ use Rattle.meaning.specs.declared.types.Source.TheVariants.{FromLane}
 use Rattle.meaning.specs.declared.types.Fill.TheVariants.{Moved}
 use Rattle.meaning.specs.declared.types.Write.{Write}
 use Rattle.meaning.specs.Lanes.{Writes, Reads}
-use Rattle.meaning.specs.Code.{Edge, Item}
-use Rattle.meaning.specs.Live.{Among as Member, reads_of, writes_of, exits_of, in_order, is_slot}
+use Rattle.meaning.specs.Code.{Item}
+use Rattle.meaning.specs.Live.{Among as Member, reads_of, writes_of, in_order, is_slot}
 use Rattle.live_law.specs.Paths.{Step}
 use Rattle.live_law.specs.Stands.{Tags}
 use Rattle.lane_effects.specs.declared.owner.Owner.{Owner}

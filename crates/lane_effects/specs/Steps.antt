@@ -1,7 +1,6 @@
 -- Instructions over lanes that go by numbers.
-use Rattle.std.specs.Prelude.{ℕ, Bool, true, false, cond, List, [], ◌∷◌, ◌++◌, map, filter_map, flat_map, Option, Some, None, slice_get, option_and_then, option_to_list}
+use Rattle.std.specs.Prelude.{ℕ, Bool, true, false, cond, List, filter_map, Option, Some, None, option_and_then}
 use Rattle.lane_effects.specs.declared.owner.Owner.{Owner}
-use Rattle.lane_effects.specs.declared.owner.Owner.TheVariants as owners
 use Rattle.lane_effects.specs.declared.acts.Act.{Act}
 use Rattle.live_law.specs.declared.writing.Writing.{Writing}
 use Rattle.lane_effects.specs.declared.effects.PhiRead.{PhiRead}

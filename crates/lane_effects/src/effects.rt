@@ -1,14 +1,16 @@
 //! What an instruction reads and writes, by the numbers of lanes.
 
-ghost use Rattle.std.specs.Prelude.{◌≡◌, ◌++◌, IfOk, filter_map, option_and_then};
+ghost use Rattle.std.specs.Prelude.{◌≡◌, ◌++◌, IfOk, map, filter_map, option_and_then};
+ghost use Rattle.target_base.specs.Rules.{is_phi};
 ghost use Rattle.lane_effects.specs.Acts.{acts_of, read_owners, entered_reads, entered_writes};
+ghost use Rattle.lane_effects.specs.Ends.{pairs_of, pairs_behind, end_uses, as_block, block_at, first_pair};
 ghost use Rattle.lane_effects.specs.Numbered.{number_in};
 ghost use Rattle.lane_effects.specs.Steps.{act_writing, act_writings, act_reading, act_readings, phi_read_of, seen_read};
 
 use crate::acts::Act;
 use crate::lanes::LaneTable;
 use crate::owner::Owner;
-use crate::registers::{LaneReader, desc_of};
+use crate::registers::{LaneReader, desc_of, register_at};
 use live_law::Writing;
 use mir_func::{Func, Instr, Operand, RegOp};
 use std::alloc::{AllocError, Global};
@@ -136,30 +138,83 @@ impl<'a> Reader<'a> {
         Ok(PhiRead { block, lanes })
     }
 
-    /// What the uses of a phi read at the ends of the blocks before the phi's.
-    fn pair_reads(self, operands: &[Operand]) -> Result<Vec<PhiRead>, AllocError> {
+    /// What pairs of a use and a block read at the ends of these blocks.
+    #[tactic(auto, using(crate::proofs::Pairs::pairs_step, crate::proofs::Pairs::pairs_none, crate::proofs::Pairs::pairs_long))]
+    fn pair_reads(self, operands: &[Operand]) -> Result<Vec<PhiRead>, AllocError>
+        ensures { IfOk result (λ rs. map seen_read rs.items ≡ map (phi_read_of self.entry.target.now self.entry.func.now (number_in self.entry.lanes.now)) (pairs_of operands.now)) }
+    {
         let mut reads = Vec::new(self.alloc);
-        let [Operand::Reg(_), ..] = operands else {
-            return Ok(reads);
-        };
-        let mut rest = &operands[1..];
-        'pairs: for _ in 0..usize::MAX {
-            let [Operand::Reg(op), Operand::Block(block), ..] = rest else {
-                break;
-            };
-            reads.push(self.phi_read(op, *block)?)?;
+        let mut rest = operands;
+        'pairs: while let Some((op, block)) = first_pair(rest) {
+            reads.push(self.phi_read(&op, block)?)?;
             rest = &rest[2..];
         }
         Ok(reads)
     }
 
-    /// What a phi reads at the ends of the blocks before its own; nothing for other instructions.
-    pub fn phi_reads(self, instr: &Instr) -> Result<Vec<PhiRead>, AllocError> {
-        match desc_of(self.target, instr) {
-            Some(desc) if matches!(desc.effect, Effect::Phi) => {
-                self.pair_reads(instr.operands.as_slice())
-            }
-            _ => Ok(Vec::new(self.alloc)),
+    /// What the uses of a phi read at the ends of the blocks before the phi's.
+    #[tactic(auto, using(crate::proofs::Pairs::behind_some, crate::proofs::Pairs::behind_long, crate::proofs::Pairs::behind_none))]
+    fn uses_at_ends(self, operands: &[Operand]) -> Result<Vec<PhiRead>, AllocError>
+        ensures { IfOk result (λ rs. map seen_read rs.items ≡ map (phi_read_of self.entry.target.now self.entry.func.now (number_in self.entry.lanes.now)) (pairs_behind operands.now)) }
+    {
+        match register_at(operands, 0) {
+            Some(_) => Ok(self.pair_reads(&operands[1..])?),
+            None => Ok(Vec::new(self.alloc)),
         }
+    }
+
+    /// What a phi reads at the ends of the blocks before its own; nothing for other instructions.
+    #[tactic(auto, using(crate::proofs::Pairs::no_uses, crate::proofs::Pairs::phi_uses, crate::proofs::Pairs::other_uses))]
+    pub fn phi_reads(self, instr: &Instr) -> Result<Vec<PhiRead>, AllocError>
+        ensures { IfOk result (λ rs. map seen_read rs.items ≡ map (phi_read_of self.entry.target.now self.entry.func.now (number_in self.entry.lanes.now)) (end_uses self.entry.target.now instr.now)) }
+    {
+        let Some(desc) = desc_of(self.target, instr) else {
+            return Ok(Vec::new(self.alloc));
+        };
+        if is_phi(desc.effect) {
+            Ok(self.uses_at_ends(instr.operands.as_slice())?)
+        } else {
+            Ok(Vec::new(self.alloc))
+        }
+    }
+}
+
+/// Whether an effect is that of a phi.
+fn is_phi(effect: Effect) -> bool
+    ensures { result ≡ is_phi effect }
+{
+    matches!(effect, Effect::Phi)
+}
+
+/// The block that an operand names, where it names one.
+fn as_block(operand: &Operand) -> Option<u32>
+    ensures { result ≡ as_block operand.now }
+{
+    match operand {
+        Operand::Block(number) => Some(*number),
+        _ => None,
+    }
+}
+
+/// The block at a place, if one is.
+fn block_at(operands: &[Operand], place: usize) -> Option<u32>
+    ensures { result ≡ block_at operands.now place }
+{
+    match operands.get(place) {
+        Some(operand) => as_block(operand),
+        None => None,
+    }
+}
+
+/// The use and the block that stand first, if they do.
+fn first_pair(operands: &[Operand]) -> Option<(RegOp, u32)>
+    ensures { result ≡ first_pair operands.now }
+{
+    match register_at(operands, 0) {
+        Some(op) => match block_at(operands, 1) {
+            Some(block) => Some((op, block)),
+            None => None,
+        },
+        None => None,
     }
 }

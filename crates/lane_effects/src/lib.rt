@@ -11,6 +11,7 @@ pub mod owner;
 pub mod registers;
 pub mod row;
 pub mod silent;
+pub mod whole;
 
 pub use acts::{Act, Acts};
 pub use effects::{Effects, PhiRead, Reader};
@@ -19,3 +20,4 @@ pub use live_law::Writing;
 pub use owner::Owner;
 pub use registers::LaneReader;
 pub use row::Lanes;
+pub use whole::lanes_of;

@@ -1,14 +1,17 @@
 //! The numbers of lanes in a table.
 
-ghost use Rattle.std.specs.Prelude.{◌≡◌, ℕ, [], length, slice_get};
+ghost use Rattle.std.specs.Prelude.{◌≡◌, ℕ, [], ◌∷◌, ◌++◌, length, map, slice_get, None, IfOk, OnOk};
 ghost use Rattle.std.specs.Ordering.{nat_cmp};
 ghost use Rattle.std.specs.BTreeMap.{get};
+ghost use Rattle.mir_meaning.specs.Registers.{numbers, is_reserved_unit};
 ghost use Rattle.lane_effects.specs.Row.{lane_in};
 ghost use Rattle.lane_effects.specs.Numbers.{unit_number_in, row_number_in};
-ghost use Rattle.lane_effects.specs.Numbered.{number_in};
+ghost use Rattle.lane_effects.specs.Numbered.{number_in, IsTable, HasSlot, reserved_units, counts};
+ghost use Rattle.lane_effects.specs.declared.owner.Owner.TheVariants as owners;
 
 use crate::lanes::LaneTable;
 use crate::owner::Owner;
+use crate::registers::{first_owners, first_slots};
 use crate::row::{Lanes, no_lanes};
 use std::alloc::{AllocError, Global};
 use std::collections::BTreeMap;
@@ -18,18 +21,6 @@ use target_base::Target;
 pub const LANES_OF_A_SLOT: usize = 32;
 
 impl LaneTable {
-    /// No lanes, which takes no memory.
-    pub fn new(alloc: Global) -> LaneTable
-        ensures owners { result.owners.items ≡ [] }
-    {
-        LaneTable {
-            owners: Vec::new(alloc),
-            reserved: Vec::new(alloc),
-            ranges: Vec::new(alloc),
-            slots: BTreeMap::new(alloc),
-        }
-    }
-
     /// The number of lanes.
     pub fn len(&self) -> usize
         ensures { result ≡ length self.now.owners.items }
@@ -84,61 +75,20 @@ impl LaneTable {
             Owner::Slot(s, k) => self.slot(s, k),
         }
     }
-
-    /// Numbers the units, which come before all other lanes.
-    pub fn add_units(&mut self, target: &Target) -> Result<(), AllocError> {
-        let Ok(count) = u32::try_from(target.units.len()) else {
-            return Err(AllocError);
-        };
-        'units: for u in 0..count {
-            self.owners.push(Owner::Unit(u))?;
-            self.reserved.push(is_reserved(target, u))?;
-        }
-        Ok(())
-    }
-
-    /// Numbers so many lanes of a range, which then are its lanes. Ranges come one after the other.
-    pub fn put_range(&mut self, v: usize, count: usize) -> Result<(), AllocError> {
-        let lanes = lanes_at(self.owners.len(), count)?;
-        let number = u32::try_from(v).unwrap_or(u32::MAX);
-        'lanes: for k in 0..lanes.count {
-            self.owners.push(Owner::Range(number, k))?;
-        }
-        if v < self.ranges.len() {
-            self.ranges[v] = lanes;
-            return Ok(());
-        }
-        self.ranges.push(lanes)?;
-        Ok(())
-    }
-
-    /// Numbers the lanes of the next range.
-    pub fn add_range(&mut self, count: usize) -> Result<(), AllocError> {
-        let v = self.ranges.len();
-        self.put_range(v, count)
-    }
-
-    /// Numbers the lanes of a slot where it has no numbers yet.
-    pub fn add_slot(&mut self, slot: u32) -> Result<(), AllocError> {
-        if self.slots.contains_key(&slot) {
-            return Ok(());
-        }
-        let lanes = lanes_at(self.owners.len(), LANES_OF_A_SLOT)?;
-        'lanes: for k in 0..lanes.count {
-            self.owners.push(Owner::Slot(slot, k))?;
-        }
-        self.slots.insert(slot, lanes)?;
-        Ok(())
-    }
 }
 
 /// Whether a unit is reserved.
-fn is_reserved(target: &Target, u: u32) -> bool {
+fn is_reserved(target: &Target, u: u32) -> bool
+    ensures { result ≡ is_reserved_unit target.now u }
+{
     target.reserved.as_slice().iter().any(|r| r.0 as u32 == u)
 }
 
 /// So many lanes from a number on.
-fn lanes_at(first: usize, count: usize) -> Result<Lanes, AllocError> {
+fn lanes_at(first: usize, count: usize) -> Result<Lanes, AllocError>
+    ensures first { IfOk result (λ x. x.first ≡ first) }
+    ensures count { IfOk result (λ x. x.count ≡ count) }
+{
     let (Ok(first), Ok(count)) = (u32::try_from(first), u32::try_from(count)) else {
         return Err(AllocError);
     };
@@ -146,4 +96,98 @@ fn lanes_at(first: usize, count: usize) -> Result<Lanes, AllocError> {
         return Err(AllocError);
     }
     Ok(Lanes { first, count })
+}
+
+/// The first units as lanes.
+#[tactic(auto, using(crate::proofs::Loops::numbered_more))]
+fn first_units(alloc: Global, count: usize) -> Result<Vec<Owner>, AllocError>
+    ensures { IfOk result (λ x. x.items ≡ map owners.Unit (numbers 0 count)) }
+{
+    let Ok(limit) = u32::try_from(count) else {
+        return Err(AllocError);
+    };
+    let mut lanes = Vec::new(alloc);
+    'lanes: for u in 0..limit {
+        lanes.push(Owner::Unit(u))?;
+    }
+    Ok(lanes)
+}
+
+/// Which units are reserved.
+#[tactic(auto, using(crate::proofs::Loops::numbered_more))]
+fn reserved_units(alloc: Global, target: &Target) -> Result<Vec<bool>, AllocError>
+    ensures { IfOk result (λ x. x.items ≡ reserved_units target.now) }
+{
+    let Ok(limit) = u32::try_from(target.units.len()) else {
+        return Err(AllocError);
+    };
+    let mut units = Vec::new(alloc);
+    'units: for u in 0..limit {
+        units.push(is_reserved(target, u))?;
+    }
+    Ok(units)
+}
+
+impl LaneTable {
+    /// Numbers for the units, which come before all other lanes.
+    pub fn of_units(alloc: Global, target: &Target) -> Result<LaneTable, AllocError>
+        ensures table { IfOk result (λ t. IsTable t) }
+        ensures reserved { IfOk result (λ t. t.reserved.items ≡ reserved_units target.now) }
+        ensures ranges { IfOk result (λ t. t.ranges.items ≡ []) }
+    {
+        let owners = first_units(alloc, target.units.len())?;
+        let reserved = reserved_units(alloc, target)?;
+        Ok(LaneTable {
+            owners,
+            reserved,
+            ranges: Vec::new(alloc),
+            slots: BTreeMap::new(alloc),
+        })
+    }
+
+    /// Numbers the lanes of the next range.
+    pub fn add_range(&mut self, alloc: Global, count: usize) -> Result<(), AllocError>
+        ensures table { OnOk result (IsTable self.old → IsTable self.new) }
+        ensures reserved { self.new.reserved ≡ self.old.reserved }
+        ensures ranges { OnOk result (counts self.new.ranges.items ≡ counts self.old.ranges.items ++ count ∷ []) }
+        ensures slots { self.new.slots ≡ self.old.slots }
+    {
+        let Ok(v) = u32::try_from(self.ranges.len()) else {
+            return Err(AllocError);
+        };
+        let own = first_owners(alloc, v, count)?;
+        let lanes = lanes_at(self.owners.len(), count)?;
+        self.owners.extend_from_slice(own.as_slice())?;
+        self.ranges.push(lanes)?;
+        Ok(())
+    }
+
+    /// Numbers the lanes of a slot that has no numbers yet.
+    fn new_slot(&mut self, alloc: Global, slot: u32) -> Result<(), AllocError>
+        ensures table { OnOk result (get nat_cmp self.old.slots slot ≡ None → IsTable self.old → IsTable self.new) }
+        ensures reserved { self.new.reserved ≡ self.old.reserved }
+        ensures ranges { self.new.ranges ≡ self.old.ranges }
+        ensures numbered { OnOk result (HasSlot self.new slot) }
+        ensures kept { OnOk result ((s : ℕ) → HasSlot self.old s → HasSlot self.new s) }
+    {
+        let own = first_slots(alloc, slot, LANES_OF_A_SLOT)?;
+        let lanes = lanes_at(self.owners.len(), LANES_OF_A_SLOT)?;
+        self.owners.extend_from_slice(own.as_slice())?;
+        self.slots.insert(slot, lanes)?;
+        Ok(())
+    }
+
+    /// Numbers the lanes of a slot where it has no numbers yet.
+    pub fn add_slot(&mut self, alloc: Global, slot: u32) -> Result<(), AllocError>
+        ensures table { OnOk result (IsTable self.old → IsTable self.new) }
+        ensures reserved { self.new.reserved ≡ self.old.reserved }
+        ensures ranges { self.new.ranges ≡ self.old.ranges }
+        ensures numbered { OnOk result (HasSlot self.new slot) }
+        ensures kept { OnOk result ((s : ℕ) → HasSlot self.old s → HasSlot self.new s) }
+    {
+        if self.slots.contains_key(&slot) {
+            return Ok(());
+        }
+        self.new_slot(alloc, slot)
+    }
 }

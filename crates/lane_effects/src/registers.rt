@@ -212,7 +212,7 @@ pub fn picked_slots(alloc: Global, s: u32, picked: &[u8]) -> Result<Vec<Owner>, 
 
 /// The first lanes of a virtual register.
 #[tactic(auto, using(crate::proofs::Loops::numbered_more))]
-fn first_owners(alloc: Global, v: u32, count: usize) -> Result<Vec<Owner>, AllocError>
+pub(crate) fn first_owners(alloc: Global, v: u32, count: usize) -> Result<Vec<Owner>, AllocError>
     ensures { IfOk result (λ x. x.items ≡ map (owners.Range v) (numbers 0 count)) }
 {
     let Ok(limit) = u32::try_from(count) else {

@@ -1,4 +1,4 @@
-use Rattle.std.proofs.Common.{arith, ◌<◌, ◌≤◌, length, ◌∙◌}
+use Rattle.std.proofs.Common.{arith, ◌∙◌}
 use Rattle.lane_effects.proofs.Loops.{given_at, given_past}
 use Rattle.lane_effects.proofs.acts.give.Goals as goal
 use Rattle.lane_effects.proofs.acts.give.Goals.{then-k-sources+in_ok-push, else-k-sources}

@@ -1,7 +1,6 @@
 use Rattle.std.proofs.Common.{◌≡◌, ◌++◌, flat_map, take, map, false}
-use Rattle.mir_meaning.specs.Items.{result_writes}
 use Rattle.lane_effects.specs.Owners.{operand_owners}
-use Rattle.lane_effects.specs.Acts.{use_owners, flag_owners, acts_of, plain}
+use Rattle.lane_effects.specs.Acts.{plain}
 use Rattle.lane_effects.proofs.registers.LaneReader.fill_registers.Given as goal
 
 abbrev pub invariant-ops : goal.invariant-ops

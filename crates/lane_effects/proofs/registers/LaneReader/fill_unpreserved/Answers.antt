@@ -1,4 +1,4 @@
-use Rattle.std.proofs.Common.{◌≡◌, Bool, true, false, not, arith, ◌∙◌, ap, sym}
+use Rattle.std.proofs.Common.{◌≡◌, true, false, not, arith, ◌∙◌, ap, sym}
 use Rattle.std.specs.List.{list_any}
 use Rattle.mir_meaning.specs.Items.{preserves}
 use Rattle.lane_effects.specs.declared.owner.Owner.TheVariants as owners

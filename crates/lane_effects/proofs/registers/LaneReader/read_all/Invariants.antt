@@ -1,7 +1,5 @@
-use Rattle.std.proofs.Common.{◌≡◌, ◌++◌, flat_map, take, map, false}
-use Rattle.mir_meaning.specs.Items.{result_writes}
-use Rattle.lane_effects.specs.Owners.{operand_owners}
-use Rattle.lane_effects.specs.Acts.{use_owners, flag_owners, acts_of, plain}
+use Rattle.std.proofs.Common.{◌≡◌, ◌++◌, flat_map, take}
+use Rattle.lane_effects.specs.Acts.{use_owners}
 use Rattle.lane_effects.proofs.registers.LaneReader.read_all.Given as goal
 
 abbrev pub invariant-ops : goal.invariant-ops

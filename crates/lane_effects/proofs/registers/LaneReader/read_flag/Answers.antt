@@ -1,4 +1,4 @@
-use Rattle.std.proofs.Common.{◌≡◌, ◌<◌, ◌≤◌, length, get_or, arith, sym, ap, ◌∙◌, ◌++◌, append-nil}
+use Rattle.std.proofs.Common.{◌≡◌, length, get_or, arith, sym, ap, ◌∙◌, ◌++◌, append-nil}
 use Rattle.lane_effects.specs.Owners.{operand_owners}
 use Rattle.lane_effects.proofs.Operands.{flag_none, flag_some, flag_past}
 use Rattle.lane_effects.proofs.registers.LaneReader.read_flag.Goals as goal

@@ -1,4 +1,4 @@
-use Rattle.std.proofs.Common.{sym, ap, ◌∙◌, filter, not, ◌&&◌}
+use Rattle.std.proofs.Common.{ap, ◌∙◌, filter, not, ◌&&◌}
 use Rattle.mir_func.specs.declared.func.RegOp.{RegOp}
 use Rattle.mir_meaning.specs.Binding.{is_early_clobber}
 use Rattle.lane_effects.proofs.Writes.{counted_joined}
