@@ -1,5 +1,5 @@
 -- What comes of a function, and why one is refused.
-use Rattle.std.specs.Prelude.{◌≡◌, Option, Some, None}
+use Rattle.std.specs.Prelude.{◌≡◌, ℕ, Bool, true, false, List, Option, Some, None}
 use Rattle.target_base.specs.declared.types.Target.{Target}
 use Rattle.mir_func.specs.Value.{Function}
 use Rattle.mir_meaning.specs.declared.Form.TheVariants as forms
@@ -8,6 +8,8 @@ use Rattle.machine_verify.specs.Verdict.{IsAccepted, IsFault}
 use Rattle.alloc_check.specs.Verdict.{IsRight}
 use Rattle.guarded_alloc.specs.declared.stop.FunctionStop.{FunctionStop}
 use Rattle.guarded_alloc.specs.declared.stop.FunctionStop.TheVariants as stops
+use Rattle.guarded_alloc.specs.declared.stop.LimitName.{LimitName}
+use Rattle.guarded_alloc.specs.declared.stop.LimitName.TheVariants as limits
 use Rattle.guarded_alloc.specs.Limits.{passed_limit}
 
 -- the function lies within the limits, and the verifier accepts it as a source
@@ -25,10 +27,39 @@ abbrev pub IfGuarded : Target → Function → Option Function → Type 0
 IfGuarded t f None = Unit {0}
 IfGuarded t f (Some g) = IsRight t f g
 
--- Why a function is refused: a limit that it passes; within the limits, its first fault; and as not yet allocated only
--- where neither of these is due.
+-- the limit l is that of the variables of a place or that of range numbers, which are asked once a function is taken
+abbrev pub IsLateLimit : LimitName → Type 0
+IsLateLimit limits.Variables = Unit {0}
+IsLateLimit limits.Ranges = Unit {0}
+IsLateLimit l = ⊥
+
+-- a refusal, of a function of this name, that comes once it is taken
+abbrev pub IsOnceTaken : List ℕ → FunctionStop → Type 0
+IsOnceTaken name (stops.Limit l) = IsLateLimit l
+IsOnceTaken name (stops.Unassignable n x) = n ≡ name
+IsOnceTaken name (stops.Invalid n x) = ⊥
+IsOnceTaken name stop = Unit {0}
+
+-- The limit l is the reason: of blocks, instructions and virtual registers the first one that the function passes; a later
+-- limit only where the function is taken.
+abbrev pub IfLimited : Target → Function → LimitName → Type 0
+IfLimited t f limits.Variables = IsTaken t f
+IfLimited t f limits.Ranges = IsTaken t f
+IfLimited t f l = passed_limit f ≡ Some l
+
+-- Why a function is refused: a limit that it passes; within the limits, its first fault; and for its places, or as not yet
+-- allocated, only where neither of these is due.
 abbrev pub IfRefused : Target → Function → FunctionStop → Type 0
-IfRefused t f (stops.Limit l) = passed_limit f ≡ Some l
+IfRefused t f (stops.Limit l) = IfLimited t f l
 IfRefused t f (stops.Invalid name x) = (passed_limit f ≡ None) × (name ≡ f.name) × IsFault t forms.Source f (fault_of x)
+IfRefused t f (stops.Unassignable name x) = IsTaken t f × (name ≡ f.name)
 IfRefused t f stops.NotYet = IsTaken t f
 IfRefused t f (stops.Memory e) = Unit {0}
+
+-- the refusal comes before the run of the allocator, of which watchers are told
+abbrev pub comes_before_run : FunctionStop → Bool
+comes_before_run (stops.Limit limits.Ranges) = false
+comes_before_run (stops.Limit l) = true
+comes_before_run (stops.Invalid name x) = true
+comes_before_run (stops.Unassignable name x) = true
+comes_before_run stop = false

@@ -1,46 +1,81 @@
 //! One function.
 
-ghost use Rattle.std.specs.Prelude.{◌≡◌, IfOk, IfErr};
+ghost use Rattle.std.specs.Prelude.{◌≡◌, true, IfOk, IfErr};
+ghost use Rattle.alloc_check.specs.Verdict.{IsRight};
+ghost use Rattle.function_alloc.specs.Stops.{comes_of_a_place};
 ghost use Rattle.guarded_alloc.specs.Limits.{passed_limit};
-ghost use Rattle.guarded_alloc.specs.Function.{Allocates, IfGuarded, IfRefused};
+ghost use Rattle.guarded_alloc.specs.Function.{Allocates, IsOnceTaken, IfRefused, comes_before_run};
 
 use crate::guard::guarded;
 use crate::limits::passed_limit;
-use crate::make::made;
-use crate::stop::FunctionStop;
+use crate::stop::{FunctionStop, LimitName};
+use function_alloc::{RegisterStop, Watcher, with_registers};
 use machine_verify::{VerifyStop, verify_source};
 use mir_func::{Func, Valid};
-use std::alloc::{AllocError, Global};
-use target_base::{Copied, Target};
+use std::alloc::Global;
+use target_base::{Bytes, Copied, Target};
 
-/// A valid function with its registers chosen. None where the guard says No.
-fn allocated_valid(
-    alloc: Global,
-    target: &Target,
-    source: Valid,
-) -> Result<Option<Func>, AllocError>
-    ensures { IfOk result (IfGuarded target.now source.func) }
+/// The refusal of a valid function of this name for want of registers.
+fn refused(name: Bytes, stop: RegisterStop) -> FunctionStop
+    ensures late { IsOnceTaken name result }
+    ensures run { comes_before_run result ≡ comes_of_a_place stop }
 {
-    let function = made(alloc, target, &source)?;
-    guarded(alloc, target, &source, function)
+    match stop {
+        RegisterStop::Variables(_) => FunctionStop::Limit(LimitName::Variables),
+        RegisterStop::Unassignable(place) => FunctionStop::Unassignable(name, place),
+        RegisterStop::Ranges => FunctionStop::Limit(LimitName::Ranges),
+        RegisterStop::Unfinished => FunctionStop::NotYet,
+        RegisterStop::Memory(e) => FunctionStop::Memory(e),
+    }
 }
 
-/// The function with its registers chosen, once the checker of allocations has said Yes to it.
-/// Refused are, in this order, a function that passes a limit, one that isn't valid as a source, and
-/// one that isn't allocated yet. The function is dropped at a refusal.
-pub fn allocated(alloc: Global, target: &Target, f: Func) -> Result<Func, FunctionStop>
+/// A valid function of this name with its registers chosen, where the guard says Yes to it.
+fn allocated_valid<W: Watcher>(
+    alloc: Global,
+    target: &Target,
+    name: Bytes,
+    source: Valid,
+    number: u32,
+    watchers: &mut Vec<W>,
+) -> Result<Func, FunctionStop>
+    ensures ok { IfOk result (IsRight target.now source.func) }
+    ensures err { IfErr result (IsOnceTaken name) }
+    ensures untold { IfErr result (λ stop. comes_before_run stop ≡ true → watchers.new ≡ watchers.old) }
+{
+    let made = match with_registers(alloc, target, &source, number, watchers) {
+        Ok(made) => made,
+        Err(stop) => return Err(refused(name, stop)),
+    };
+    match guarded(alloc, target, &source, made)? {
+        Some(function) => Ok(function),
+        None => Err(FunctionStop::NotYet),
+    }
+}
+
+/// The function with its registers chosen, once the checker of allocations has said Yes to it. Its
+/// number is that in its file, with which the run begins; each watcher is told every step of the run.
+/// Refused are, in this order, a function that passes a limit of its blocks, instructions or virtual
+/// registers, one that isn't valid as a source, one a place of which has too many variables, one a
+/// place of which admits no choice of registers, and one whose run passes the limit of range numbers.
+/// The function is dropped at a refusal. The watchers are told nothing of a function that is refused
+/// before its run, and a first part of the run at another refusal.
+pub fn allocated<W: Watcher>(
+    alloc: Global,
+    target: &Target,
+    f: Func,
+    number: u32,
+    watchers: &mut Vec<W>,
+) -> Result<Func, FunctionStop>
     ensures ok { IfOk result (Allocates target.now f) }
     ensures err { IfErr result (IfRefused target.now f) }
+    ensures untold { IfErr result (λ stop. comes_before_run stop ≡ true → watchers.new ≡ watchers.old) }
 {
     if let Some(limit) = passed_limit(&f) {
         return Err(FunctionStop::Limit(limit));
     }
     let name = f.name.copied(alloc)?;
     match verify_source(alloc, target, f) {
-        Ok(source) => match allocated_valid(alloc, target, source)? {
-            Some(function) => Ok(function),
-            None => Err(FunctionStop::NotYet),
-        },
+        Ok(source) => allocated_valid(alloc, target, name, source, number, watchers),
         Err(VerifyStop::Invalid(invalid)) => Err(FunctionStop::Invalid(name, invalid)),
         Err(VerifyStop::Memory(e)) => Err(FunctionStop::Memory(e)),
     }

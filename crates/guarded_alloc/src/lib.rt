@@ -1,12 +1,13 @@
-//! A function allocated under guard: its limits and its validity are tested, its registers chosen,
-//! and the checker of allocations is asked before it is handed out.
+//! A function allocated under guard: its limits, its validity and its places are tested, its registers
+//! chosen, and the checker of allocations is asked before it is handed out.
 #![tactic(auto)]
 
 pub mod function;
 mod guard;
-mod limits;
-mod make;
+pub mod limits;
 pub mod stop;
 
 pub use function::allocated;
+pub use function_alloc::Watcher;
+pub use limits::passed_limit;
 pub use stop::{FunctionStop, LimitName};

@@ -28,8 +28,8 @@ fn passes_instrs(blocks: &[Block]) -> bool
     false
 }
 
-/// The first limit that a function passes.
-pub(crate) fn passed_limit(f: &Func) -> Option<LimitName>
+/// The first limit that a function passes: Blocks, Instructions, then Registers.
+pub fn passed_limit(f: &Func) -> Option<LimitName>
     ensures { result ≡ passed_limit f.now }
 {
     if f.blocks.len() > MOST_BLOCKS {

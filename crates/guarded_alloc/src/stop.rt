@@ -1,6 +1,6 @@
 //! Why a function isn't allocated.
 
-use machine_verify::Invalid;
+use machine_verify::{Invalid, Place};
 use std::alloc::AllocError;
 use target_base::Bytes;
 
@@ -32,8 +32,10 @@ pub enum FunctionStop {
     Limit(LimitName),
     /// The function of this name isn't valid as a source.
     Invalid(Bytes, Invalid),
-    /// The function is of a form that isn't allocated yet, or the checker of allocations didn't say
-    /// Yes to its allocation.
+    /// A place of the function of this name admits no choice of registers.
+    Unassignable(Bytes, Place),
+    /// The run of the allocator came to no end, or the checker of allocations didn't say Yes to what
+    /// it made.
     NotYet,
     /// Memory ran out.
     Memory(AllocError),

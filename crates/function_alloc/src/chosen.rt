@@ -1,0 +1,57 @@
+//! The registers of a function.
+
+ghost use Rattle.std.specs.Prelude.{◌≡◌, true, false, IfErr};
+ghost use Rattle.function_alloc.specs.Stops.{comes_of_a_place};
+
+use crate::ready::{Prepared, prepare};
+use crate::stop::RegisterStop;
+use greedy_core::{Policy, Watcher, allocate};
+use mir_func::{Func, Valid};
+use place_solve::check_places;
+use rewriter::rewrite;
+use std::alloc::Global;
+use target_base::Target;
+
+/// The function in physical form, with the registers that the run of the greedy allocator chooses. Its
+/// number is that in its file, with which the run begins; each watcher is told every step of the run.
+/// Refused are, in this order, a function one of whose places has too many variables, one of whose
+/// places admits no choice, and one whose run passes the limit of range numbers. The watchers are told
+/// nothing where a place is refused, and a first part of the run after any other refusal.
+pub fn with_registers<W: Watcher>(
+    alloc: Global,
+    target: &Target,
+    source: &Valid,
+    number: u32,
+    watchers: &mut Vec<W>,
+) -> Result<Func, RegisterStop>
+    ensures untold { IfErr result (λ stop. comes_of_a_place stop ≡ true → watchers.new ≡ watchers.old) }
+{
+    check_places(alloc, target, source)?;
+    let copy = Valid {
+        func: source.func.copy(alloc)?,
+    };
+    run(alloc, target, copy, number, watchers)
+}
+
+/// The same without a look at the places.
+fn run<W: Watcher>(
+    alloc: Global,
+    target: &Target,
+    source: Valid,
+    number: u32,
+    watchers: &mut Vec<W>,
+) -> Result<Func, RegisterStop>
+    ensures { IfErr result (λ stop. comes_of_a_place stop ≡ false) }
+{
+    let Prepared { live, freqs } = prepare(alloc, target, source)?;
+    let done = allocate(
+        alloc,
+        target,
+        live,
+        &freqs,
+        Policy::Greedy,
+        number,
+        watchers,
+    )?;
+    Ok(rewrite(alloc, target, done)?)
+}

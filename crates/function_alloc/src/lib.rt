@@ -1,0 +1,12 @@
+//! The allocator over one valid function: its places are tested, it is lowered and joined, its ranges
+//! get registers and slots, and it is put in physical form.
+#![tactic(auto)]
+
+mod chosen;
+mod ready;
+mod stop;
+
+pub use chosen::with_registers;
+pub use greedy_core::Watcher;
+pub use ready::{Prepared, lowered, prepare};
+pub use stop::RegisterStop;
