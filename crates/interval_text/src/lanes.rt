@@ -1,7 +1,7 @@
 //! The lines of a range's lanes.
 
 use crate::parts::put_lane_head;
-use crate::segments::{here, put_segments};
+use crate::segments::{block_at, put_segments};
 use live_lanes::LiveFunc;
 use std::alloc::AllocError;
 use target_base::Bytes;
@@ -17,7 +17,7 @@ fn put_cell(
     let Some(position) = live.cell_block(lane, place) else {
         return Ok(());
     };
-    match here(
+    match block_at(
         live,
         live.func().blocks.as_slice(),
         starts,

@@ -5,8 +5,9 @@
 mod lanes;
 mod numbers;
 mod parts;
+mod prepared;
 mod segments;
 mod text;
 mod uses;
 
-pub use text::text_of_intervals;
+pub use prepared::text_of_intervals;

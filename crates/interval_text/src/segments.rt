@@ -70,7 +70,7 @@ impl Here<'_> {
 }
 
 /// The block at a position; none where there is no such block.
-pub(crate) fn here<'a>(
+pub(crate) fn block_at<'a>(
     live: &'a LiveFunc,
     blocks: &'a [Block],
     starts: &[u64],

@@ -1,21 +1,23 @@
 //! The whole text of a function.
 
-ghost use Rattle.std.specs.Prelude.{◌≡◌, ◌++◌, List, ℕ, IfOk};
-ghost use Rattle.interval_text.specs.Lines.{function_line};
+ghost use Rattle.std.specs.Prelude.{◌≡◌, ◌++◌, IfOk, OnOk};
+ghost use Rattle.interval_text.specs.Lines.{block_lines, head_lines, BeginsWith};
 
 use crate::lanes::put_lanes;
 use crate::numbers::starts_of;
 use crate::parts::{put_block, put_function, put_range};
 use crate::uses::{Use, uses_of, weight_of};
-use function_alloc::Prepared;
+use block_freq::Freqs;
 use live_lanes::LiveFunc;
 use mir_func::{Block, Func};
 use std::alloc::{AllocError, Global};
 use target_base::{Bytes, ClassId, Target};
 
 /// Adds the lines of blocks with these frequencies.
-fn put_blocks(out: &mut Bytes, blocks: &[Block], freqs: &[u64]) -> Result<(), AllocError> {
-    'blocks: for k in 0..blocks.len().min(freqs.len()) {
+fn put_blocks(out: &mut Bytes, blocks: &[Block], freqs: &[u64]) -> Result<(), AllocError>
+    ensures { OnOk result (out.new ≡ out.old ++ block_lines freqs.now blocks.now) }
+{
+    'layout: for k in 0..blocks.len().min(freqs.len()) {
         put_block(out, blocks[k].number, freqs[k])?;
     }
     Ok(())
@@ -70,36 +72,35 @@ fn put_ranges(
     Ok(())
 }
 
-/// What is live where in a function of a name that was made ready for the run. It has the line
-/// `function NAME`; for each block, in layout, the line `bb.N freq F`; and for each range that an
-/// operand names, by its number, the line `%V CLASS weight W` and for each of its lanes a line of two
-/// spaces, `lane K` and its segments, each behind one space. A segment stays in one block and is
-/// written `[FROM,TO)`. The list of each block's start and its instructions, in layout, counts 0, 16,
-/// 32 and on. A segment begins with `B` at the block's start, with `r` at a writing and with `e` at an
-/// early-clobber one. It ends with `r` at its last reading, with `d` where only the writing's exit is
-/// occupied, and with `B` at the block's end, with the number of the next start or, behind the last
-/// block, 16 times the list's length.
-pub fn text_of_intervals(
+/// The lines of the ranges that operands name.
+fn text_of_ranges(
+    alloc: Global,
+    target: &Target,
+    live: &LiveFunc,
+    freqs: &Freqs,
+) -> Result<Bytes, AllocError> {
+    let f = live.func();
+    let starts = starts_of(alloc, f.blocks.as_slice())?;
+    let uses = uses_of(alloc, f, freqs.as_slice())?;
+    let mut out = Bytes::new(alloc);
+    put_ranges(&mut out, target, live, starts.as_slice(), uses.as_slice())?;
+    Ok(out)
+}
+
+/// What is live where in a function of a name, whose blocks run so often.
+pub(crate) fn text_of(
     alloc: Global,
     target: &Target,
     name: &[u8],
-    prepared: &Prepared,
+    live: &LiveFunc,
+    freqs: &Freqs,
 ) -> Result<Bytes, AllocError>
-    ensures { IfOk result (λ text. (rest : List ℕ) × (text ≡ function_line name.now ++ rest)) }
+    ensures { IfOk result (BeginsWith (head_lines name.now freqs.now live.now.func.blocks)) }
 {
-    let f = prepared.live.func();
-    let freqs = prepared.freqs.as_slice();
-    let starts = starts_of(alloc, f.blocks.as_slice())?;
-    let uses = uses_of(alloc, f, freqs)?;
+    let ranges = text_of_ranges(alloc, target, live, freqs)?;
     let mut out = Bytes::new(alloc);
     put_function(&mut out, name)?;
-    put_blocks(&mut out, f.blocks.as_slice(), freqs)?;
-    put_ranges(
-        &mut out,
-        target,
-        &prepared.live,
-        starts.as_slice(),
-        uses.as_slice(),
-    )?;
+    put_blocks(&mut out, live.func().blocks.as_slice(), freqs.as_slice())?;
+    out.extend(ranges.as_slice())?;
     Ok(out)
 }
