@@ -1,17 +1,18 @@
 -- The summary of a generated function.
 use Rattle.std.specs.Prelude.{◌≡◌, ℕ, List, ◌++◌, codes, length, count_by}
+use Rattle.std.specs.List.{sum_by}
 use Rattle.std.specs.Fmt.{decimal}
-use Rattle.target_base.specs.Mini.{mini_target}
+use Rattle.mir_func.specs.declared.func.Block.{Block}
 use Rattle.mir_func.specs.Value.{Function}
 use Rattle.mir_interp.specs.declared.types.End.{End}
 use Rattle.mir_interp.specs.declared.types.End.TheVariants as ends
 use Rattle.mir_interp.specs.declared.types.Outcome.{Outcome}
-use Rattle.guarded_alloc.specs.Limits.{instr_count}
-use Rattle.guarded_alloc.specs.Function.{Allocates, IfRefused}
-use Rattle.guarded_alloc.specs.declared.stop.FunctionStop.{FunctionStop}
-use Rattle.guarded_alloc.specs.declared.stop.FunctionStop.TheVariants as stops
 use Rattle.gen_text.specs.declared.counts.Size.{Size}
 use Rattle.gen_text.specs.declared.counts.Ran.{Ran}
+
+-- the number of instructions of blocks
+abbrev pub instr_count : List Block → ℕ
+instr_count bs = sum_by (λ b. length b.instrs) bs
 
 -- how much there is of a function
 abbrev pub size_of : Function → Size
@@ -43,7 +44,8 @@ source_line x =
 
 -- `allocated instructions I slots S`
 abbrev pub allocated_line : Size → List ℕ
-allocated_line x = codes "allocated instructions " ++ (decimal x.instrs ++ (codes " slots " ++ (decimal x.slots ++ codes "\n")))
+allocated_line x =
+    codes "allocated" ++ (codes " instructions " ++ (decimal x.instrs ++ (codes " slots " ++ (decimal x.slots ++ codes "\n"))))
 
 -- `source events E end X`, and likewise for the allocated function
 abbrev pub run_line : List ℕ → Ran → List ℕ
@@ -59,16 +61,3 @@ pub record IsSummary (seed : ℕ) (f g : Function) (text : List ℕ) : Type 0 wh
   pub before : Ran
   pub after : Ran
   pub lines : text ≡ summary seed (size_of f) (size_of g) before after
-
--- a text is the summary of some function and of what is right for it
-pub record IsGenText (seed : ℕ) (text : List ℕ) : Type 0 where
-  pub source : Function
-  pub made : Function
-  pub allocates : Allocates mini_target source made
-  pub summary : IsSummary seed source made text
-
--- Why nothing is said of a seed: its function is refused as each function is that isn't allocated.
-abbrev pub IfGenRefused : FunctionStop → Type 0
-IfGenRefused (stops.Memory e) = Unit {0}
-IfGenRefused stops.NotYet = Unit {0}
-IfGenRefused stop = (f : Function) × IfRefused mini_target f stop

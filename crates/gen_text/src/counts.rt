@@ -1,8 +1,7 @@
 //! What is counted of a source and of its allocation, and of their runs.
 
 ghost use Rattle.std.specs.Prelude.{◌≡◌, length, count_by};
-ghost use Rattle.guarded_alloc.specs.Limits.{instr_count};
-ghost use Rattle.gen_text.specs.Summary.{size_of, ran_of};
+ghost use Rattle.gen_text.specs.Summary.{instr_count, size_of, ran_of};
 
 use mir_func::{Block, Func};
 use mir_interp::{End, Outcome};
@@ -30,11 +29,12 @@ pub struct Ran {
 }
 
 /// The number of instructions of blocks.
+#[tactic(auto, using(std::proofs::lemmas::List::Sums::sum_by_more))]
 fn instr_count(blocks: &[Block]) -> u128
     ensures { result ≡ instr_count blocks.now }
 {
     let mut count = 0u128;
-    'blocks: for block in blocks {
+    'layout: for block in blocks {
         count = count.saturating_add(block.instrs.len() as u128);
     }
     count

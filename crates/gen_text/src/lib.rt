@@ -4,6 +4,7 @@
 
 pub mod counts;
 mod lines;
+mod ran;
 mod text;
 
 pub use text::text_of_gen;

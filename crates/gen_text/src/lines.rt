@@ -59,7 +59,8 @@ pub(crate) fn put_source(out: &mut Bytes, source: Size) -> Result<(), AllocError
 pub(crate) fn put_allocated(out: &mut Bytes, made: Size) -> Result<(), AllocError>
     ensures { OnOk result (out.new ≡ out.old ++ allocated_line made) }
 {
-    put_numbered(out, "allocated instructions ", made.instrs)?;
+    out.extend(b"allocated")?;
+    put_numbered(out, " instructions ", made.instrs)?;
     put_numbered(out, " slots ", made.slots as u128)?;
     out.extend(b"\n")
 }
