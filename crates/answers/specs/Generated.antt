@@ -1,7 +1,7 @@
 -- What the command `gen` answers.
 use Rattle.std.specs.Prelude.{◌≡◌, ℕ, List}
 use Rattle.guarded_alloc.specs.declared.stop.FunctionStop.TheVariants as stops
-use Rattle.gen_text.specs.Summary.{IsGenText, IfGenRefused}
+use Rattle.gen_text.specs.Generated.{IsGenText, IfGenRefused}
 use Rattle.answers.specs.declared.answer.Answer.{Answer}
 use Rattle.answers.specs.declared.answer.Answer.TheVariants as answers
 use Rattle.answers.specs.declared.status.Status.{Status}

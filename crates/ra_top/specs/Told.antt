@@ -25,7 +25,7 @@ use Rattle.answers.specs.Status.{line_of}
 use Rattle.answers.specs.Answer.{IsText, IsLast, Refuses}
 use Rattle.answers.specs.Documents.{IsEndText, end_status, tells}
 use Rattle.answers.specs.Generated.{GenRefuses}
-use Rattle.gen_text.specs.Summary.{IsGenText}
+use Rattle.gen_text.specs.Generated.{IsGenText}
 use Rattle.ra_top.specs.Due.{IsHeld, Treatment, output, Treated, AtEnd, Due}
 
 -- which faults rose for a status
