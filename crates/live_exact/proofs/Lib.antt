@@ -1,0 +1,4 @@
+pub mod Same
+pub mod Starts
+pub mod Quiet
+pub mod Quieter

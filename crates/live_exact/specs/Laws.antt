@@ -1,0 +1,30 @@
+-- What a grown table of live lanes tells of a function.
+use Rattle.std.specs.Prelude.{◌≡◌, ◌↔◌, ℕ, false, true, Some, slice_get}
+use Rattle.target_base.specs.declared.types.Target.{Target}
+use Rattle.meaning.specs.declared.types.Lane.{Lane}
+use Rattle.meaning.specs.Live.{Among as Member, is_slot}
+use Rattle.mir_func.specs.declared.func.Block.{Block}
+use Rattle.mir_func.specs.declared.func.Instr.{Instr}
+use Rattle.mir_func.specs.Value.{Function}
+use Rattle.mir_meaning.specs.Points.{Start, LiveAt}
+use Rattle.mir_meaning.specs.Rules.{V8}
+use Rattle.lane_effects.specs.Steps.{Numbering}
+use Rattle.lane_effects.specs.Stepping.{tag_of}
+use Rattle.effect_laws.specs.Shaped.{is_proper}
+use Rattle.effect_laws.specs.Coded.{numbered_code, KeepsRules, IsNumbered}
+use Rattle.live_lanes.specs.Graph.{Causes, is_live, IsGrown}
+use Rattle.live_exact.specs.Same.{code_as, IsQuiet}
+
+-- the first piece of a lane in a block is marked live exactly where the lane is live at the block's start
+abbrev pub StartsLaw : Type 0
+StartsLaw =
+    (t : Target) (f : Function) (num : Numbering) → KeepsRules t f → IsNumbered t f num → IsQuiet (numbered_code t f num)
+    → (why : Causes) → IsGrown (code_as (numbered_code t f num)) why
+    → (l : Lane) (n : ℕ) → is_slot l ≡ false → tag_of num (is_proper t) l ≡ Some n
+    → (x : ℕ) (b : Block) → slice_get f.blocks x ≡ Some b → (is_live (why n x 0) ≡ true) ↔ LiveAt t f (Start b.number) l
+
+-- where terminators stand last in their blocks, nothing is written behind them that phis read
+abbrev pub QuietLaw : Type 0
+QuietLaw =
+    (t : Target) (f : Function) (num : Numbering) → KeepsRules t f → IsNumbered t f num
+    → ((b : Block) (j : ℕ) (i : Instr) → Member b f.blocks → slice_get b.instrs j ≡ Some i → V8 t b j i ≡ true) → IsQuiet (numbered_code t f num)

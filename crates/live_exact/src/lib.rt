@@ -1,0 +1,14 @@
+//! Laws of the table of live lanes: what it marks is what the meaning of the function says.
+#![tactic(auto)]
+
+ghost use Rattle.live_exact.specs.Laws.{QuietLaw, StartsLaw};
+
+/// A grown table marks a lane at a block's start exactly where the lane is live there.
+pub fn starts_law()
+    ensures { StartsLaw }
+{}
+
+/// Where terminators stand last in their blocks, nothing is written behind them that phis read.
+pub fn quiet_law()
+    ensures { QuietLaw }
+{}
