@@ -12,7 +12,7 @@ pub record IsGenText (seed : ℕ) (text : List ℕ) : Type 0 where
   pub source : Function
   pub made : Function
   pub allocates : Allocates mini_target source made
-  pub summary : IsSummary seed source made text
+  pub summary : IsSummary mini_target seed source made text
 
 -- Why nothing is said of a seed: its function is refused as each function is that isn't allocated.
 abbrev pub IfGenRefused : FunctionStop → Type 0

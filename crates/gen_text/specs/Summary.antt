@@ -3,7 +3,13 @@ use Rattle.std.specs.Prelude.{◌≡◌, ℕ, List, ◌++◌, codes, length, cou
 use Rattle.std.specs.List.{sum_by}
 use Rattle.std.specs.Fmt.{decimal}
 use Rattle.mir_func.specs.declared.func.Block.{Block}
+use Rattle.target_base.specs.declared.types.Target.{Target}
 use Rattle.mir_func.specs.Value.{Function}
+use Rattle.meaning.specs.Environment.{Environment}
+use Rattle.meaning.specs.Code.{run}
+use Rattle.mir_meaning.specs.Codes.{meaning_of}
+use Rattle.mir_interp.specs.Seeds.{of_seed}
+use Rattle.mir_interp.specs.Stands.{StandsFor, Answers}
 use Rattle.mir_interp.specs.declared.types.End.{End}
 use Rattle.mir_interp.specs.declared.types.End.TheVariants as ends
 use Rattle.mir_interp.specs.declared.types.Outcome.{Outcome}
@@ -56,8 +62,15 @@ abbrev pub summary : ℕ → Size → Size → Ran → Ran → List ℕ
 summary seed source made before after =
     seed_line seed ++ (source_line source ++ (allocated_line made ++ (run_line (codes "source") before ++ run_line (codes "allocated") after)))
 
--- A text is the summary of f and g, with some runs.
-pub record IsSummary (seed : ℕ) (f g : Function) (text : List ℕ) : Type 0 where
-  pub before : Ran
-  pub after : Ran
-  pub lines : text ≡ summary seed (size_of f) (size_of g) before after
+-- an outcome has the events and the end of the run of f through n counted instructions, in every environment that
+-- stands for the one of a number
+abbrev pub IsOutcomeOf : Target → Function → ℕ → ℕ → Outcome → Type 0
+IsOutcomeOf t f n seed o = (env : Environment) → StandsFor (of_seed seed) f n env → Answers o (run (meaning_of t f) env n)
+
+-- A text is the summary of f and g, each run through 10,000 counted instructions.
+pub record IsSummary (t : Target) (seed : ℕ) (f g : Function) (text : List ℕ) : Type 0 where
+  pub before : Outcome
+  pub after : Outcome
+  pub before_is : IsOutcomeOf t f 10000 seed before
+  pub after_is : IsOutcomeOf t g 10000 seed after
+  pub lines : text ≡ summary seed (size_of f) (size_of g) (ran_of before) (ran_of after)

@@ -24,7 +24,7 @@ pub(crate) fn summary(
     source: &Func,
     made: &Func,
 ) -> Result<Bytes, AllocError>
-    ensures { IfOk result (IsSummary seed source.now made.now) }
+    ensures { IfOk result (IsSummary target.now seed source.now made.now) }
 {
     let env = Env { seed };
     let before = run(alloc, target, source, &env, STEPS)?;
