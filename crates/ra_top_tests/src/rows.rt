@@ -7,7 +7,7 @@ use std::alloc::{AllocError, Global};
 use std::process::Abort;
 use std::test::Fail;
 use target_desc::{TargetFault, TargetKind};
-use watchers::{CountWatcher, TraceWatcher, Watcher};
+use watchers::TraceWatcher;
 
 /// One call: the words, the file IN, the calls of the files and of the output that fail, the room of
 /// the output and the most bytes that a call moves; and what is expected.
@@ -111,11 +111,10 @@ fn sink_of(alloc: Global, row: &Row) -> Result<MemSink, AllocError> {
     Ok(made)
 }
 
-/// A watcher of the steps and one of their counts.
-fn watchers_of(alloc: Global) -> Result<Vec<Box<dyn Watcher>>, AllocError> {
-    let mut watchers: Vec<Box<dyn Watcher>> = Vec::new(alloc);
-    watchers.push(Box::new(alloc, TraceWatcher::new(alloc))?)?;
-    watchers.push(Box::new(alloc, CountWatcher::new())?)?;
+/// A watcher of the steps.
+fn watchers_of(alloc: Global) -> Result<Vec<TraceWatcher>, AllocError> {
+    let mut watchers = Vec::new(alloc);
+    watchers.push(TraceWatcher::new(alloc))?;
     Ok(watchers)
 }
 
@@ -176,8 +175,7 @@ fn done_by(words: &'static [&'static str], file: &'static [u8], out: &'static [u
 const INTERVALS_OF_MEMORY: &[u8] =
     b"function f\nbb.0 freq 16384\n%0 gr32 weight 4194304\n  lane 0 [16r,48r)\n  lane 1 [16r,48r)\n  lane 2 [16r,48r)\n%1 gr32 weight 3355443\n  lane 0 [32r,48r)\n  lane 1 [32r,48r)\n  lane 2 [32r,48r)\n";
 
-const TRACE_OF_MEMORY: &[u8] =
-    b"function 0\nassign %0 $eax\nassign %1 $ecx\nassign 2 evict 0 defer 0 split 0 spill 0 place 0\n";
+const TRACE_OF_MEMORY: &[u8] = b"function 0\nassign %0 $eax\nassign %1 $ecx\n";
 
 #[test]
 fn does_what_other_words_ask(rt: HostRuntime) -> Result<(), Fail> {
