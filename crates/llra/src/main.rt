@@ -22,34 +22,24 @@ fn main(rt: HostRuntime) -> ExitCode {
 }
 
 fn run(rt: &HostRuntime, words: &[String]) -> Status {
-    match watchers(rt.alloc()) {
-        Ok(watchers) => run_watched(rt, words, watchers),
+    match run_watched(rt, words) {
+        Ok(status) => status,
         Err(_) => Status::Memory,
     }
 }
 
-fn run_watched(rt: &HostRuntime, words: &[String], told: Vec<Box<dyn Watcher>>) -> Status {
-    let mut files = HostFiles::new(rt);
-    let mut out = HostSink::new(rt.stdout());
-    let mut err = HostSink::new(rt.stderr());
-    let mut watchers = told;
-    top(
-        rt.alloc(),
-        words,
-        &mut files,
-        &mut out,
-        &mut err,
-        &mut watchers,
-    )
-}
-
-/// The watchers whose lines `trace` writes: of the steps, of their counts, and of the pressure.
-fn watchers(alloc: Global) -> Result<Vec<Box<dyn Watcher>>, AllocError> {
+/// Runs with the watchers whose lines `trace` writes: of the steps, of their counts, and of the
+/// registers that were given. Err where no memory is found for these.
+fn run_watched(rt: &HostRuntime, words: &[String]) -> Result<Status, AllocError> {
+    let alloc: Global = rt.alloc();
     let mut watchers: Vec<Box<dyn Watcher>> = Vec::new(alloc);
     watchers.push(Box::new(alloc, TraceWatcher::new(alloc))?)?;
     watchers.push(Box::new(alloc, CountWatcher::new())?)?;
     watchers.push(Box::new(alloc, PressureWatcher::new(alloc))?)?;
-    Ok(watchers)
+    let mut files = HostFiles::new(rt);
+    let mut out = HostSink::new(rt.stdout());
+    let mut err = HostSink::new(rt.stderr());
+    Ok(top(alloc, words, &mut files, &mut out, &mut err, &mut watchers))
 }
 
 /// The words after the program's name.
