@@ -1,5 +1,4 @@
 pub mod Status
 pub mod Spot
 pub mod Documents
-pub mod Generated
 pub mod Answer

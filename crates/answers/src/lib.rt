@@ -4,7 +4,6 @@
 
 pub mod answer;
 pub mod documents;
-pub mod generated;
 mod intervals;
 mod run;
 pub mod spot;
@@ -16,6 +15,5 @@ mod words;
 
 pub use answer::{Answer, Job, answer_at, end_status};
 pub use documents::end_text;
-pub use generated::gen_answer;
 pub use spot::Spot;
 pub use status::{LimitName, Status};

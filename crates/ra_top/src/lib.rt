@@ -2,7 +2,6 @@
 #![tactic(auto)]
 
 pub mod ending;
-pub mod generated;
 pub mod run;
 pub mod stream;
 pub mod target;

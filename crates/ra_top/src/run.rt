@@ -8,7 +8,6 @@ ghost use Rattle.target_base.specs.Mini.{mini_target};
 ghost use Rattle.ra_top.specs.Told.{HasStatusCause, DoesAll, DoesJobAll, is_built, tells_words, IsTold, Streamed};
 
 use crate::ending::Ending;
-use crate::generated::generate;
 use crate::stream::{ends, stream};
 use crate::target::read_target_file;
 use answers::status::write_line;
@@ -25,8 +24,8 @@ use watchers::Watcher;
 /// line that tells the status to `err`, where there is one. The words are refused first, then the
 /// target, then each document in turn. The output of a document is made whole before any of it is
 /// written. After the first fault of `files` or `out` it calls neither again; a fault of `err`
-/// changes nothing. `alloc`, `trace` and `gen` tell the watchers each step of each run, in order; the
-/// other commands leave them as they were.
+/// changes nothing. `alloc` and `trace` tell the watchers each step of each run, in order; the other
+/// commands leave them as they were.
 pub fn top<F: Files, O: Sink, E: Sink, W: Watcher>(
     alloc: Global,
     words: &[String],
@@ -90,10 +89,7 @@ pub fn top<F: Files, O: Sink, E: Sink, W: Watcher>(
         Ok(Some(Command::Trace(target, file))) => {
             over_file(alloc, Job::Trace, target, file, files, out, err, watchers)
         }
-        Ok(Some(Command::Gen(seed))) => {
-            let ending = generate(alloc, seed, out, watchers);
-            tell(err, ending, "g")
-        }
+        Ok(Some(Command::Gen(_))) => tell(err, ends(alloc, Status::NotYet), ""),
     }
 }
 
