@@ -39,6 +39,7 @@ fn faulty(piece: &'static [u8], line: u64, kind: TextKind) -> Row {
 fn check_rows(rt: &impl Abort, alloc: Global, rows: &[Row]) -> Result<(), Fail> {
     let target = mini(alloc)?;
     for (k, row) in rows.iter().enumerate() {
+        assert!(rt; row.piece.len() <= 4_194_304, "length of row {k}");
         match read_doc(alloc, &target, row.first, 7, row.piece) {
             Ok(doc) => {
                 assert!(rt; row.fault.is_none(), "row {k}");

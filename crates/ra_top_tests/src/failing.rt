@@ -80,13 +80,18 @@ fn feeds_one_piece(rt: HostRuntime) -> Result<(), Fail> {
     let text =
         b"---\nname: f\nbody: |\n  bb.0:\n    RET\n...\n---\nname: f\nbody: |\n  bb.0:\n    RET\n...\n";
     let mut pieces = Pieces::new(alloc);
+    assert!(rt; !pieces.whole());
+    assert!(rt; !pieces.over());
     assert_eq!(rt; pieces.feed(text)?, 40);
     assert!(rt; pieces.whole());
     assert!(rt; !pieces.over());
     pieces.clear();
     assert!(rt; pieces.bytes().is_empty());
+    assert!(rt; !pieces.whole());
+    assert!(rt; !pieces.over());
     assert_eq!(rt; pieces.feed(b"...\n--- |\n...")?, 13);
     assert!(rt; !pieces.whole());
+    assert!(rt; !pieces.over());
     assert_eq!(rt; pieces.feed(b"\nx")?, 1);
     assert!(rt; pieces.whole());
     Ok(())
