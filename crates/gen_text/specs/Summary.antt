@@ -67,10 +67,16 @@ summary seed source made before after =
 abbrev pub IsOutcomeOf : Target → Function → ℕ → ℕ → Outcome → Type 0
 IsOutcomeOf t f n seed o = (env : Environment) → StandsFor (of_seed seed) f n env → Answers o (run (meaning_of t f) env n)
 
+-- what the run of f through n counted instructions in the environment of a number came to
+pub record IsRanOf (t : Target) (f : Function) (n seed : ℕ) (r : Ran) : Type 0 where
+  pub outcome : Outcome
+  pub runs : IsOutcomeOf t f n seed outcome
+  pub is : r ≡ ran_of outcome
+
 -- A text is the summary of f and g, each run through 10,000 counted instructions.
 pub record IsSummary (t : Target) (seed : ℕ) (f g : Function) (text : List ℕ) : Type 0 where
-  pub before : Outcome
-  pub after : Outcome
-  pub before_is : IsOutcomeOf t f 10000 seed before
-  pub after_is : IsOutcomeOf t g 10000 seed after
-  pub lines : text ≡ summary seed (size_of f) (size_of g) (ran_of before) (ran_of after)
+  pub before : Ran
+  pub after : Ran
+  pub before_is : IsRanOf t f 10000 seed before
+  pub after_is : IsRanOf t g 10000 seed after
+  pub lines : text ≡ summary seed (size_of f) (size_of g) before after

@@ -62,7 +62,8 @@ pub(crate) fn put_allocated(out: &mut Bytes, made: Size) -> Result<(), AllocErro
     out.extend(b"allocated")?;
     put_numbered(out, " instructions ", made.instrs)?;
     put_numbered(out, " slots ", made.slots as u128)?;
-    out.extend(b"\n")
+    out.extend(b"\n")?;
+    Ok(())
 }
 
 /// Adds the line of the run of a function, which this word stands for.
