@@ -16,9 +16,24 @@ pub trait Watcher: Drop {
     fn line(&self, alloc: Global, k: u64) -> Result<Bytes, AllocError>;
 }
 
+/// A watcher behind a box, so that watchers of several kinds stand in one list.
+impl Watcher for Box<dyn Watcher> {
+    fn tell(&mut self, target: &Target, step: &Step) -> Result<(), AllocError> {
+        (**self).tell(target, step)
+    }
+
+    fn lines(&self) -> u64 {
+        (**self).lines()
+    }
+
+    fn line(&self, alloc: Global, k: u64) -> Result<Bytes, AllocError> {
+        (**self).line(alloc, k)
+    }
+}
+
 /// Tells a step to all watchers, in order. After a refusal some of the first were told.
-pub fn tell_all(
-    watchers: &mut Vec<Box<dyn Watcher>>,
+pub fn tell_all<W: Watcher>(
+    watchers: &mut Vec<W>,
     target: &Target,
     step: &Step,
 ) -> Result<(), AllocError> {

@@ -1,0 +1,202 @@
+//! The run: its state, and its steps until no range waits.
+
+use crate::queue::Queue;
+use block_freq::Freqs;
+use evictor::{Ranks, Stage, Stages};
+use interference::Matrix;
+use live_lanes::LiveFunc;
+use mir_func::{Block, Func, Loc, Operand};
+use spiller::{Allocated, RunStop, SlotMap};
+use std::alloc::{AllocError, Global};
+use std::collections::BTreeMap;
+use target_base::{Numbers, Target};
+use watchers::{Step, Watcher, tell_all};
+
+/// Which allocator runs.
+#[derive(Clone, Copy, Debug, PartialEq, Eq)]
+pub enum Policy {
+    /// The greedy one.
+    Greedy,
+}
+
+/// The state of a run.
+#[derive(Drop)]
+pub(crate) struct Run {
+    pub alloc: Global,
+    pub matrix: Matrix,
+    pub slots: SlotMap,
+    pub ranks: Ranks,
+    /// How often a range comes from a split, by range.
+    pub depths: Vec<u32>,
+    /// The place of each tiny, by range.
+    pub places: Vec<Option<u32>>,
+    /// The tinies of each place.
+    pub tinies: BTreeMap<u32, Vec<u32>>,
+    pub queue: Queue,
+}
+
+/// Runs the allocator over a function from its first state to the one in which no range waits.
+/// Each watcher is told every step, in order. Ranges comes where a step gives more range numbers
+/// than the limit allows. After a refusal each watcher was told a first part of the steps.
+pub fn allocate<W: Watcher>(
+    alloc: Global,
+    target: &Target,
+    f: LiveFunc,
+    freqs: &Freqs,
+    policy: Policy,
+    number: u32,
+    watchers: &mut Vec<W>,
+) -> Result<Allocated, RunStop> {
+    match policy {
+        Policy::Greedy => run_greedy(alloc, target, f, freqs, number, watchers),
+    }
+}
+
+fn run_greedy<W: Watcher>(
+    alloc: Global,
+    target: &Target,
+    f: LiveFunc,
+    freqs: &Freqs,
+    number: u32,
+    watchers: &mut Vec<W>,
+) -> Result<Allocated, RunStop> {
+    let mut run = Run::new(alloc, f)?;
+    tell_all(watchers, target, &Step::Begin(number))?;
+    'steps: for _ in 0..u64::MAX {
+        let Some(v) = run.queue.pop() else {
+            return Ok(run.finished());
+        };
+        run.step(target, freqs, v, watchers)?;
+    }
+    Err(RunStop::Unfinished)
+}
+
+/// Sets the flags of the ranges that operands name.
+fn mark_named(operands: &[Operand], named: &mut Vec<bool>) {
+    'operands: for operand in operands {
+        if let Operand::Reg(op) = operand {
+            if let Loc::Virtual(v) = op.loc {
+                if let Some(place) = named.get_mut(v as usize) {
+                    *place = true;
+                }
+            }
+        }
+    }
+}
+
+/// Sets the flags of the ranges that operands of a block name.
+fn mark_block(block: &Block, named: &mut Vec<bool>) {
+    'instrs: for instr in block.instrs.as_slice() {
+        mark_named(instr.operands.as_slice(), named);
+    }
+}
+
+/// Whether each range is named by an operand.
+fn named(alloc: Global, f: &Func) -> Result<Vec<bool>, AllocError> {
+    let mut named = Vec::from_elem(alloc, false, f.classes.len())?;
+    'blocks: for block in f.blocks.as_slice() {
+        mark_block(block, &mut named);
+    }
+    Ok(named)
+}
+
+impl Run {
+    fn new(alloc: Global, f: LiveFunc) -> Result<Run, AllocError> {
+        let named = named(alloc, f.func())?;
+        let mut run = Run::empty(alloc, f)?;
+        run.add_ranges()?;
+        run.enqueue_named(named.as_slice())?;
+        Ok(run)
+    }
+
+    /// A run that knows of no range.
+    fn empty(alloc: Global, f: LiveFunc) -> Result<Run, AllocError> {
+        let slots = SlotMap::new(alloc, f.func())?;
+        Ok(Run {
+            alloc,
+            matrix: Matrix::new(alloc, f)?,
+            slots,
+            ranks: Ranks {
+                stages: Stages::new(alloc),
+                cascades: Numbers::new(alloc),
+                greatest: 0,
+            },
+            depths: Vec::new(alloc),
+            places: Vec::new(alloc),
+            tinies: BTreeMap::new(alloc),
+            queue: Queue::new(alloc),
+        })
+    }
+
+    /// Lets the ranges wait that operands name.
+    fn enqueue_named(&mut self, named: &[bool]) -> Result<(), AllocError> {
+        let mut v = 0u32;
+        'named: for is_named in named {
+            if *is_named {
+                self.enqueue(v)?;
+            }
+            v = v.saturating_add(1);
+        }
+        Ok(())
+    }
+
+    fn finished(self) -> Allocated {
+        let Run { matrix, slots, .. } = self;
+        Allocated { matrix, slots }
+    }
+
+    /// Gives each new range a stage, a cascade number and a depth.
+    pub fn add_ranges(&mut self) -> Result<(), AllocError> {
+        'ranges: for _ in self.depths.len()..self.matrix.live().func().classes.len() {
+            self.add_range()?;
+        }
+        Ok(())
+    }
+
+    fn add_range(&mut self) -> Result<(), AllocError> {
+        self.ranks.stages.push(Stage::New)?;
+        self.ranks.cascades.push(0)?;
+        self.places.push(None)?;
+        self.depths.push(0)?;
+        Ok(())
+    }
+
+    /// The stage of a range.
+    pub fn stage(&self, v: u32) -> Stage {
+        self.ranks.stage(v)
+    }
+
+    pub fn set_stage(&mut self, v: u32, stage: Stage) {
+        let at = v as usize;
+        if at < self.ranks.stages.len() {
+            *self.ranks.stages.get_mut(at) = stage;
+        }
+    }
+
+    pub fn set_cascade(&mut self, v: u32, cascade: u32) {
+        let at = v as usize;
+        if at < self.ranks.cascades.len() {
+            *self.ranks.cascades.get_mut(at) = cascade;
+        }
+    }
+
+    /// Lets a range wait, with the priority that it has now.
+    pub fn enqueue(&mut self, v: u32) -> Result<(), AllocError> {
+        let priority = self.priority(v)?;
+        self.queue.add(v, priority)
+    }
+
+    /// The priority of a range: tinies come first, then ranges of several blocks, the largest first,
+    /// then ranges of one block in layout order, then those that are to be split or spilled.
+    fn priority(&self, v: u32) -> Result<u64, AllocError> {
+        let live = self.matrix.live();
+        Ok(match self.stage(v) {
+            Stage::Tiny => 1 << 31,
+            Stage::Split => live.size(v).min(1 << 28),
+            Stage::New if live.is_in_two_blocks(v) => {
+                (1 << 30) + live.size(v).min((1 << 30) - 1)
+            }
+            Stage::New => (1 << 29) - 1 - live.first_number(self.alloc, v)?.min((1 << 29) - 1),
+        })
+    }
+}

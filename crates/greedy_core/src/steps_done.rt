@@ -1,0 +1,229 @@
+//! The steps of a run: for the range that comes first, the first of them that applies is done.
+
+use crate::run::Run;
+use block_freq::Freqs;
+use evictor::{Stage, candidates, cheapest};
+use interference::{Clash, Tinies, Tiny};
+use place_solve::solve;
+use spiller::{RunStop, spill};
+use std::alloc::AllocError;
+use std::collections::BTreeSet;
+use target_base::{Numbers, Reg, Target};
+use watchers::{Choices, Step, Watcher, tell_all};
+
+impl Run {
+    /// Does a step for a range.
+    pub fn step<W: Watcher>(
+        &mut self,
+        target: &Target,
+        freqs: &Freqs,
+        v: u32,
+        watchers: &mut Vec<W>,
+    ) -> Result<(), RunStop> {
+        let done = self.first_step(freqs, v)?;
+        tell_all(watchers, target, &done)?;
+        Ok(())
+    }
+
+    /// Does the first step that applies, and answers it.
+    fn first_step(&mut self, freqs: &Freqs, v: u32) -> Result<Step, RunStop> {
+        if let Some(done) = self.step_in_registers(freqs, v)? {
+            return Ok(done);
+        }
+        match self.stage(v) {
+            Stage::New => Ok(self.defer(v)?),
+            Stage::Split => self.divide_or_spill(freqs, v),
+            Stage::Tiny => self.place(v),
+        }
+    }
+
+    /// Gives a range a free register, or that of cheaper ranges.
+    fn step_in_registers(&mut self, freqs: &Freqs, v: u32) -> Result<Option<Step>, AllocError> {
+        if let Some(r) = self.free_register(freqs, v)? {
+            self.matrix.assign(v, r)?;
+            return Ok(Some(Step::Assign(v, r)));
+        }
+        if self.stage(v) == Stage::Split {
+            return Ok(None);
+        }
+        self.step_by_eviction(freqs, v)
+    }
+
+    /// Gives a range the register of cheaper ranges.
+    fn step_by_eviction(&mut self, freqs: &Freqs, v: u32) -> Result<Option<Step>, AllocError> {
+        match cheapest(self.alloc, &self.matrix, v, freqs, &self.ranks)? {
+            Some((r, victims)) => Ok(Some(self.evict(v, r, victims)?)),
+            None => Ok(None),
+        }
+    }
+
+    /// The first candidate that is free.
+    fn free_register(&self, freqs: &Freqs, v: u32) -> Result<Option<Reg>, AllocError> {
+        let found = candidates(self.alloc, &self.matrix, v, freqs)?;
+        Ok(
+            found
+                .as_slice()
+                .iter()
+                .find(|r| self.matrix.free(v, **r))
+                .copied(),
+        )
+    }
+
+    /// Gives a range the register of others, which wait again.
+    fn evict(&mut self, v: u32, r: Reg, victims: Numbers) -> Result<Step, AllocError> {
+        self.push_out(v, victims.as_slice());
+        self.matrix.assign(v, r)?;
+        self.enqueue_all(victims.as_slice())?;
+        Ok(Step::Evict(v, r, victims))
+    }
+
+    /// Takes ranges out of their register, and gives them the cascade number of the one that evicts.
+    fn push_out(&mut self, v: u32, victims: &[u32]) {
+        let number = self.ranks.number(v);
+        self.ranks.greatest = self.ranks.greatest.max(number);
+        self.set_cascade(v, number);
+        'unassigned: for w in victims {
+            self.matrix.unassign(*w);
+            self.set_cascade(*w, number);
+        }
+    }
+
+    fn enqueue_all(&mut self, ranges: &[u32]) -> Result<(), AllocError> {
+        'ranges: for w in ranges {
+            self.enqueue(*w)?;
+        }
+        Ok(())
+    }
+
+    /// Lets a range wait for a split or a spill.
+    fn defer(&mut self, v: u32) -> Result<Step, AllocError> {
+        self.set_stage(v, Stage::Split);
+        self.enqueue(v)?;
+        Ok(Step::Defer(v))
+    }
+
+    fn divide_or_spill(&mut self, freqs: &Freqs, v: u32) -> Result<Step, RunStop> {
+        match self.divide(freqs, v)? {
+            Some(done) => Ok(done),
+            None => self.spill(v),
+        }
+    }
+
+    /// Spills a range. The ranges of its places wait.
+    fn spill(&mut self, v: u32) -> Result<Step, RunStop> {
+        let tinies = spill(self.alloc, &mut self.matrix, &mut self.slots, v)?;
+        let numbers = self.add_tinies(&tinies)?;
+        Ok(Step::Spill(v, numbers))
+    }
+
+    /// The ranges of places wait. Answers their numbers.
+    fn add_tinies(&mut self, tinies: &Tinies) -> Result<Numbers, AllocError> {
+        self.add_ranges()?;
+        let mut numbers = Numbers::new(self.alloc);
+        'tinies: for tiny in tinies.as_slice() {
+            self.add_tiny(*tiny)?;
+            numbers.push(tiny.range)?;
+        }
+        Ok(numbers)
+    }
+
+    fn add_tiny(&mut self, tiny: Tiny) -> Result<(), AllocError> {
+        self.set_stage(tiny.range, Stage::Tiny);
+        if let Some(place) = self.places.get_mut(tiny.range as usize) {
+            *place = Some(tiny.at);
+        }
+        self.add_to_place(tiny)?;
+        self.enqueue(tiny.range)
+    }
+
+    fn add_to_place(&mut self, tiny: Tiny) -> Result<(), AllocError> {
+        match self.tinies.get_mut(&tiny.at) {
+            Some(there) => there.push(tiny.range)?,
+            None => {
+                let mut there = Vec::new(self.alloc);
+                there.push(tiny.range)?;
+                self.tinies.insert(tiny.at, there)?;
+            }
+        }
+        Ok(())
+    }
+
+    /// The tinies of the place of one, by their numbers.
+    fn tinies_beside(&self, v: u32) -> Result<Tinies, AllocError> {
+        let mut found = Tinies::new(self.alloc);
+        let Some(at) = self.places.get(v as usize).copied().unwrap_or(None) else {
+            return Ok(found);
+        };
+        if let Some(there) = self.tinies.get(&at) {
+            'there: for range in there {
+                found.push(Tiny { range: *range, at })?;
+            }
+        }
+        Ok(found)
+    }
+
+    /// Gives the tinies of a place their registers together. The ranges in their way wait again.
+    fn place(&mut self, v: u32) -> Result<Step, RunStop> {
+        let tinies = self.tinies_beside(v)?;
+        let Some(choices) = solve(self.alloc, &self.matrix, &tinies)? else {
+            return Err(RunStop::Unfinished);
+        };
+        self.place_as(&choices)?;
+        Ok(Step::Place(choices))
+    }
+
+    fn place_as(&mut self, choices: &Choices) -> Result<(), AllocError> {
+        self.release(choices);
+        let clashers = self.clashers_of(choices)?;
+        self.unassign_all(clashers.as_slice());
+        self.assign_all(choices)?;
+        self.enqueue_all(clashers.as_slice())
+    }
+
+    fn unassign_all(&mut self, ranges: &[u32]) {
+        'ranges: for w in ranges {
+            self.matrix.unassign(*w);
+        }
+    }
+
+    /// Takes the ranges of a place out of their registers and out of the queue.
+    fn release(&mut self, choices: &Choices) {
+        'choices: for (v, _) in choices.as_slice() {
+            self.matrix.unassign(*v);
+            self.queue.remove(*v);
+        }
+    }
+
+    /// The ranges in the way of these choices, by their numbers.
+    fn clashers_of(&self, choices: &Choices) -> Result<Vec<u32>, AllocError> {
+        let mut found = BTreeSet::new(self.alloc);
+        'choices: for (v, r) in choices.as_slice() {
+            self.add_clashers(*v, *r, &mut found)?;
+        }
+        self.numbers_of(&found)
+    }
+
+    fn numbers_of(&self, found: &BTreeSet<u32>) -> Result<Vec<u32>, AllocError> {
+        let mut numbers = Vec::new(self.alloc);
+        'found: for w in found {
+            numbers.push(*w)?;
+        }
+        Ok(numbers)
+    }
+
+    fn add_clashers(&self, v: u32, r: Reg, found: &mut BTreeSet<u32>) -> Result<(), AllocError> {
+        if let Clash::Ranges(ranges) = self.matrix.clashers(v, r)? {
+            'ranges: for w in ranges.as_slice() {
+                found.insert(*w)?;
+            }
+        }
+        Ok(())
+    }
+
+    fn assign_all(&mut self, choices: &Choices) -> Result<(), AllocError> {
+        'choices: for (v, r) in choices.as_slice() {
+            self.matrix.assign(*v, *r)?;
+        }
+        Ok(())
+    }
+}
