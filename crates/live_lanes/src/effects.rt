@@ -280,7 +280,7 @@ impl<'a> Reader<'a> {
         match desc.effect {
             Effect::Copy => self.copy(operands, &mut effects)?,
             Effect::Spill => self.spill(operands, &mut effects)?,
-            Effect::Reload => self.reload(operands, &mut effects)?,
+            Effect::Reload => self.reload(desc, operands, &mut effects)?,
             Effect::Phi => self.phi(operands, &mut effects)?,
             Effect::Call => {
                 self.operation(desc, operands, &mut effects)?;
@@ -360,21 +360,33 @@ impl<'a> Reader<'a> {
     }
 
     /// Adds the moves of lanes to others. What goes to a reserved unit is read in any case.
-    fn moves(&self, to: &[u32], from: &[u32], effects: &mut Effects) -> Result<(), AllocError> {
+    fn moves(
+        &self,
+        to: &[u32],
+        from: &[u32],
+        early: bool,
+        effects: &mut Effects,
+    ) -> Result<(), AllocError> {
         'lanes: for (x, y) in to.iter().zip(from) {
-            self.move_lane(*x, *y, effects)?;
+            self.move_lane(*x, *y, early, effects)?;
         }
         Ok(())
     }
 
-    fn move_lane(&self, to: u32, from: u32, effects: &mut Effects) -> Result<(), AllocError> {
+    fn move_lane(
+        &self,
+        to: u32,
+        from: u32,
+        early: bool,
+        effects: &mut Effects,
+    ) -> Result<(), AllocError> {
         let is_from_reserved = self.tables.is_reserved(from);
         if !self.tables.is_reserved(to) {
             let from = if is_from_reserved { None } else { Some(from) };
             effects.writes.push(Writing {
                 lane: to,
                 from,
-                early: false,
+                early,
             })?;
         } else if !is_from_reserved {
             effects.reads.push(from)?;
@@ -389,7 +401,7 @@ impl<'a> Reader<'a> {
         if !from.undef {
             let filled = self.register_lanes(to)?;
             let read = self.register_lanes(from)?;
-            self.moves(filled.as_slice(), read.as_slice(), effects)?;
+            self.moves(filled.as_slice(), read.as_slice(), false, effects)?;
         }
         self.define(to, false, effects)
     }
@@ -401,19 +413,25 @@ impl<'a> Reader<'a> {
         let own = self.register_lanes(&parts.register)?;
         let there = self.slot_lanes(&parts, own.len())?;
         if !parts.register.undef {
-            self.moves(there.as_slice(), own.as_slice(), effects)?;
+            self.moves(there.as_slice(), own.as_slice(), false, effects)?;
         }
         self.write(there.as_slice(), false, effects)
     }
 
-    fn reload(&self, operands: &[Operand], effects: &mut Effects) -> Result<(), AllocError> {
+    fn reload(
+        &self,
+        desc: &OpcodeDesc,
+        operands: &[Operand],
+        effects: &mut Effects,
+    ) -> Result<(), AllocError> {
         let Some(parts) = slot_operands(operands) else {
             return Ok(());
         };
         let own = self.register_lanes(&parts.register)?;
         let there = self.slot_lanes(&parts, own.len())?;
-        self.moves(own.as_slice(), there.as_slice(), effects)?;
-        self.define(&parts.register, false, effects)
+        let early = matches!(desc.roles.as_slice().first(), Some(Role::Early(_)));
+        self.moves(own.as_slice(), there.as_slice(), early, effects)?;
+        self.define(&parts.register, early, effects)
     }
 
     /// A phi writes its result; it reads at the ends of other blocks.

@@ -1,5 +1,7 @@
 //! A function with what is live in it.
 
+ghost use Rattle.std.specs.Prelude.{◌≡◌, IfOk};
+
 use crate::enter::{entered, lanes_of};
 use crate::flow::flow_of;
 use crate::order::Order;
@@ -37,7 +39,9 @@ impl Table {
 
 impl LiveFunc {
     /// The function with what is live in it under a target, which is copied. It may have phis.
-    pub fn compute(alloc: Global, target: &Target, f: Func) -> Result<LiveFunc, AllocError> {
+    pub fn compute(alloc: Global, target: &Target, f: Func) -> Result<LiveFunc, AllocError>
+        ensures { IfOk result (λ x. (x.target ≡ target.now) × (x.func ≡ f)) }
+    {
         let table = Table::of(alloc, target, &f)?;
         let target = target.copy(alloc)?;
         Ok(LiveFunc {
@@ -48,17 +52,23 @@ impl LiveFunc {
     }
 
     /// The function.
-    pub fn func(&self) -> &Func {
+    pub fn func(&self) -> &Func
+        ensures { result.now ≡ self.now.func }
+    {
         &self.func
     }
 
     /// The target.
-    pub fn target(&self) -> &Target {
+    pub fn target(&self) -> &Target
+        ensures { result.now ≡ self.now.target }
+    {
         &self.target
     }
 
     /// The function alone.
-    pub fn into_func(self) -> Func {
+    pub fn into_func(self) -> Func
+        ensures { result ≡ self.func }
+    {
         let LiveFunc { func, .. } = self;
         func
     }

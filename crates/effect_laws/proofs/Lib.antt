@@ -1,0 +1,11 @@
+pub mod Moving
+pub mod Moved
+pub mod Lists
+pub mod Shapes
+pub mod Silent
+pub mod Together
+pub mod Instrs
+pub mod Blocks
+pub mod Phis
+pub mod Whole
+pub mod Numbered

@@ -1,0 +1,4 @@
+pub mod Moving
+pub mod Shaped
+pub mod Coded
+pub mod Laws
