@@ -6,10 +6,10 @@ Run: compare_greedy.py MODEL PROBE SEED COUNT [spill]
 MODEL is the folder of the reference model (the package `llra_ref` and the module `generators`), PROBE the
 executable of the crate alloc_probe. For each of COUNT seeds from SEED it makes a valid function over the built-in
 target, over its second version or over odd targets. The probe lowers, joins and allocates it, and must print the
-lines of the three watchers that the model prints. With `spill` the lowered function's ranges are spilled one after
-the other instead (some of them, or all), and the function must be the model's; the probe then also looks after
-each spill whether what is live is as computed anew. It prints the first differences, leaves these cases in files,
-and ends with 1 where there is one."""
+lines of the three watchers that the model prints; at the end what is live must be as computed anew. With `spill`
+the lowered function's ranges are spilled one after the other instead (some of them, or all), and the function must
+be the model's; the probe then also looks after each spill whether what is live is as computed anew. It prints the
+first differences, leaves these cases in files, and ends with 1 where there is one."""
 import collections
 import os
 import random
@@ -78,7 +78,7 @@ def main():
                 steps["spill"] += n
             else:
                 want = traced(target, f)
-                words = ["trace", folder + "/T", folder + "/F"]
+                words = ["check", folder + "/T", folder + "/F"]
                 steps.update(line.split()[0].decode() for line in want.splitlines()[:-1])
             for name, content in (("T", text if isinstance(text, bytes) else text.encode()), ("F", data)):
                 with open(os.path.join(folder, name), "wb") as out:

@@ -40,8 +40,14 @@ fn write_units(live: &LiveFunc, instr: &Instr, out: &mut String) -> anyhow::Resu
     Ok(())
 }
 
+/// Whether what is live in a function is as computed anew.
+pub fn is_as_new(alloc: Global, live: &LiveFunc) -> anyhow::Result<bool> {
+    let anew = LiveFunc::compute(alloc, live.target(), live.func().copy(alloc)?)?;
+    Ok(lanes_of(alloc, live)? == lanes_of(alloc, &anew)?)
+}
+
 /// What is live at each instruction, and how many points each range has.
-pub fn lanes_of(alloc: Global, live: &LiveFunc) -> anyhow::Result<String> {
+fn lanes_of(alloc: Global, live: &LiveFunc) -> anyhow::Result<String> {
     let mut out = String::new(alloc);
     'blocks: for block in live.func().blocks.as_slice() {
         'instrs: for instr in block.instrs.as_slice() {

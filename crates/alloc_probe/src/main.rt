@@ -4,8 +4,9 @@
 //! The words are a command, a target file (`-` is the built-in target) and the file of a function
 //! in lowered form. `spill` spills its ranges one after the other, so many as a fourth word says,
 //! looks after each whether what is live is as computed anew, and prints the function. `trace`
-//! lowers and allocates a function and prints what the watchers saw. `gen` with a seed prints the
-//! generated function.
+//! lowers and allocates a function and prints what the watchers saw; `check` does so too, and looks
+//! at the end whether what is live is as computed anew. `gen` with a seed prints the generated
+//! function.
 #![tactic(auto)]
 
 mod lanes;
@@ -14,7 +15,7 @@ mod whole;
 use anyhow::{Context, Result, bail};
 use generator::generate;
 use interference::Matrix;
-use lanes::lanes_of;
+use lanes::is_as_new;
 use live_lanes::LiveFunc;
 use mir_func::Func;
 use mir_text::{Doc, print_doc, read_leniently};
@@ -52,12 +53,6 @@ fn print(rt: &HostRuntime, target: &Target, f: Func) -> Result<()> {
     let text = print_doc(alloc, target, &Doc::Function(List::new(alloc), f))?;
     io::writer(rt).write_all(text.as_slice())?;
     Ok(())
-}
-
-/// Whether what is live in a function is as computed anew.
-fn is_as_new(alloc: Global, live: &LiveFunc) -> Result<bool> {
-    let anew = LiveFunc::compute(alloc, live.target(), live.func().copy(alloc)?)?;
-    Ok(lanes_of(alloc, live)? == lanes_of(alloc, &anew)?)
 }
 
 fn spill_one(alloc: Global, m: &mut Matrix, slots: &mut SlotMap, v: u32) -> Result<()> {
@@ -110,8 +105,9 @@ fn run(rt: &HostRuntime, words: &[String]) -> Result<()> {
     };
     match command.as_str() {
         "spill" => spill_all(rt, &target, f, count),
-        "trace" => trace(rt, &target, f),
-        _ => bail!("a command is spill or trace"),
+        "trace" => trace(rt, &target, f, false),
+        "check" => trace(rt, &target, f, true),
+        _ => bail!("a command is spill, trace or check"),
     }
 }
 

@@ -1,10 +1,11 @@
 //! The allocator over a function.
 
+use crate::lanes::is_as_new;
 use anyhow::{Result, bail};
 use block_freq::frequencies;
 use coalescer::coalesce;
 use greedy_core::{
-    CountWatcher, Policy, PressureWatcher, RunStop, TraceWatcher, Watcher, allocate,
+    Allocated, CountWatcher, Policy, PressureWatcher, RunStop, TraceWatcher, Watcher, allocate,
 };
 use live_lanes::LiveFunc;
 use mir_func::{Func, Valid};
@@ -39,8 +40,16 @@ fn print_watchers<W: Watcher>(rt: &HostRuntime, watchers: &Vec<W>) -> Result<()>
     Ok(())
 }
 
+/// Looks at the end of a run whether what is live is as computed anew.
+fn check(alloc: Global, done: &Allocated) -> Result<()> {
+    if !is_as_new(alloc, done.matrix.live())? {
+        bail!("what is live differs at the end");
+    }
+    Ok(())
+}
+
 /// Allocates a function and prints what watchers saw.
-pub fn trace(rt: &HostRuntime, target: &Target, f: Func) -> Result<()> {
+pub fn trace(rt: &HostRuntime, target: &Target, f: Func, is_checked: bool) -> Result<()> {
     let alloc = rt.alloc();
     let f = lowered(alloc, target, f)?;
     let freqs = frequencies(alloc, &f)?;
@@ -59,6 +68,7 @@ pub fn trace(rt: &HostRuntime, target: &Target, f: Func) -> Result<()> {
         0,
         &mut watchers,
     ) {
+        Ok(done) if is_checked => check(alloc, &done)?,
         Ok(_) => {}
         Err(RunStop::Memory(_)) => bail!("out of memory"),
         Err(RunStop::Ranges) => bail!("too many ranges"),
