@@ -1,8 +1,14 @@
 pub mod Bare
 pub mod Bits
+pub mod Decoding
+pub mod Going
 pub mod Joining
 pub mod Keys
 pub mod Loading
 pub mod Naming
 pub mod Performing
+pub mod Placing
 pub mod Reading
+pub mod Stepping
+pub mod Walking
+pub mod Writing

@@ -1,5 +1,5 @@
 -- Operands by their numbers.
-use Rattle.std.proofs.Common.{◌≡◌, ℕ, suc, zero, ◌<◌, ◌≤◌, List, [], ◌∷◌, length, get_or, map, None, refl, arith}
+use Rattle.std.proofs.Common.{◌≡◌, ℕ, suc, zero, ◌<◌, ◌≤◌, List, [], ◌∷◌, length, get_or, map, None, refl, sym, ap, ◌∙◌, arith}
 use Rattle.meaning.specs.declared.types.Source.{Source}
 use Rattle.meaning.specs.Environment.{Environment, Value}
 use Rattle.meaning.specs.State.{State, fetch, values}
@@ -42,3 +42,10 @@ pub widths_there : (ws : List (List ℕ)) (k : ℕ) (d : List ℕ) → k < lengt
 widths_there [] k d h = absurd (omega arith)
 widths_there (w ∷ ws) zero d h = refl
 widths_there (w ∷ ws) (suc k) d h = widths_there ws k d (omega arith)
+
+pub operand_by : (env : Environment) (st : State) (ws : List (List ℕ)) (rs : List (List Source)) (k : ℕ) (own : List ℕ) (picked : List Source) (ls : List ℕ) (ss : List Source) (v : Value) → k < length ws → k < length rs → own ≡ get_or ws k own → picked ≡ get_or rs k picked → ls ≡ own → ss ≡ picked → v ≡ joined ls (map (fetch env st) ss) → v ≡ operand ws (values env st rs) k
+operand_by env st ws rs k own picked ls ss v h g eo ep el es ev =
+    ev
+    ∙ (ap (λ t. joined t (map (fetch env st) ss)) (el ∙ eo)
+    ∙ (ap (λ t. joined (get_or ws k own) (map (fetch env st) t)) (es ∙ ep)
+    ∙ sym (operand_there env st ws rs k own picked h g)))

@@ -1,5 +1,5 @@
 -- Steps as the items that they are made from.
-use Rattle.std.specs.Prelude.{List, [], map, option_map}
+use Rattle.std.specs.Prelude.{ℕ, List, [], map, option_map, Option, Some, cond, nat_eq}
 use Rattle.meaning.specs.Code.{Edge, Item, BlockStart, BlockEnd, Silent, Counted, Code}
 use Rattle.mir_interp.specs.declared.steps.Way.{Way}
 use Rattle.mir_interp.specs.declared.steps.Step.{Step}
@@ -23,3 +23,10 @@ bare (BlockStart n) = BlockStart n
 bare (BlockEnd falls exits) = BlockEnd falls []
 bare (Silent reads ws) = Silent [] ws
 bare (Counted r reads ws target exits) = Counted r reads ws target []
+
+-- where the start of block n is found, given where it is found behind this item, which ends at this place
+abbrev pub noted : Item → ℕ → ℕ → Option ℕ → Option ℕ
+noted (BlockStart m) behind n later = cond (nat_eq m n) (Some behind) later
+noted (BlockEnd falls exits) behind n later = later
+noted (Silent reads ws) behind n later = later
+noted (Counted r reads ws target exits) behind n later = later

@@ -3,4 +3,5 @@ pub mod Holds
 pub mod Kinds
 pub mod Remembers
 pub mod Running
+pub mod Seeds
 pub mod Stands

@@ -3,19 +3,19 @@
 ghost use Rattle.std.specs.Prelude.{◌≡◌, ◌∷◌, ◌<◌, ◌+◌, ◌^◌, ◌%◌, ◌++◌, ℕ, map, OnOk, IfOk, Some, slice_get};
 ghost use Rattle.meaning.specs.Environment.{Environment, constant_residue, bits_of};
 ghost use Rattle.meaning.specs.State.{fetch, values};
-ghost use Rattle.meaning.specs.Perform.{operand, all_lanes};
+ghost use Rattle.meaning.specs.Perform.{joined, operand, all_lanes};
 ghost use Rattle.mir_interp.specs.Holds.{held_by};
 ghost use Rattle.mir_interp.specs.Stands.{Stands, given_by};
 
 use crate::names::is_same;
-use crate::numbers::{joined, shifted};
+use crate::numbers::{put_above, shifted};
 use crate::store::Store;
 use crate::types::Lanes;
 use crate::world::World;
 use meaning::{Constant, Reads, Source, Widths};
 use mir_items::counted::low_bits;
-use std::alloc::{AllocError, Global};
-use target_base::{Bytes, List};
+use std::alloc::AllocError;
+use target_base::Bytes;
 
 /// What a run finds: the world, and the symbols of the function by first appearance.
 #[derive(Drop)]
@@ -57,7 +57,7 @@ impl<'a, W: World> Surroundings<'a, W> {
 
     /// So many bits of a constant from a bit on. Want of memory stands for bits from 2^32 on, which
     /// no constant is asked for.
-    fn bits_of(&self, c: &Constant, low: u32, width: u32) -> Result<u128, AllocError>
+    pub fn bits_of(&self, c: &Constant, low: u32, width: u32) -> Result<u128, AllocError>
         ensures { IfOk result (λ v. (n : ℕ) (env : Environment) → Stands (given_by W.entry W.byte W.frame W.symbol W.answer self.now.world.now) self.now.symbols.now n env → v ≡ bits_of env c.now low width) }
     {
         let Some(end) = low.checked_add(width) else {
@@ -72,7 +72,7 @@ impl<'a, W: World> Surroundings<'a, W> {
         ensures { IfOk result (λ v. (n : ℕ) (env : Environment) → Stands (given_by W.entry W.byte W.frame W.symbol W.answer self.now.world.now) self.now.symbols.now n env → v ≡ fetch env (held_by store.now) s.now) }
     {
         match s {
-            Source::FromLane(l) => Ok(store.get(*l)),
+            Source::FromLane(l) => Ok(store.get(l)),
             Source::Undef => Ok(None),
             Source::Bits(c, low, width) => {
                 let bits = self.bits_of(c, *low, *width)?;
@@ -100,7 +100,6 @@ impl<'a, W: World> Surroundings<'a, W> {
     /// What an operand gives, by its number, as one number.
     pub fn operand(
         &self,
-        alloc: Global,
         store: &Store,
         widths: &Widths,
         reads: &Reads,
@@ -118,13 +117,35 @@ impl<'a, W: World> Surroundings<'a, W> {
         }
         let picked = reads.get(k);
         let sources = picked.as_slice();
-        let mut lanes = List::new(alloc);
-        self.push_fetched(&mut lanes, store, sources)?;
         let own = widths.get(k);
         let own_widths = own.as_slice();
-        let values = lanes.as_slice();
-        let number = joined(own_widths, values)?;
+        let number = self.joined(store, own_widths, sources)?;
         Ok(number)
+    }
+
+    /// What sources of these widths give as one number, the lowest first; None where one is Undef or
+    /// missing.
+    fn joined(
+        &self,
+        store: &Store,
+        widths: &[u32],
+        sources: &[Source],
+    ) -> Result<Option<u128>, AllocError>
+        ensures { IfOk result (λ v. (n : ℕ) (env : Environment) → Stands (given_by W.entry W.byte W.frame W.symbol W.answer self.now.world.now) self.now.symbols.now n env → v ≡ joined widths.now (map (fetch env (held_by store.now)) sources.now)) }
+    {
+        let mut number: u128 = 0;
+        for k in 0..widths.len() {
+            let i = widths.len() - 1 - k;
+            if i >= sources.len() {
+                return Ok(None);
+            }
+            let fetched = self.fetch(store, &sources[i])?;
+            let Some(lane) = fetched else {
+                return Ok(None);
+            };
+            number = put_above(lane, widths[i], number)?;
+        }
+        Ok(Some(number))
     }
 
     /// Appends all lanes that are read, in order.

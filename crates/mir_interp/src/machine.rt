@@ -1,30 +1,31 @@
 //! Runs.
 
-ghost use Rattle.std.specs.Prelude.{◌≡◌, ◌++◌, ◌∷◌, [], ◌+◌, ◌<◌, ◌≤◌, ℕ, List, Bool, OnOk, IfOk, MatchOption, MatchResult, cond, map, drop, length, None, Some, unwrap_or, nat_eq, option_map, flat_map};
+ghost use Rattle.std.specs.Prelude.{◌≡◌, ◌++◌, ◌∷◌, [], ◌+◌, ◌<◌, ◌≤◌, ℕ, suc, List, Bool, OnOk, IfOk, MatchOption, MatchResult, cond, map, drop, length, None, Some, unwrap_or, nat_eq, option_map, flat_map};
 ghost use Rattle.target_base.specs.Storage.{unit_width};
 ghost use Rattle.target_base.specs.Registers.{units_of};
 ghost use Rattle.std.specs.HashMap.{get};
 ghost use Rattle.meaning.specs.Environment.{Environment, Value, entry_value};
-ghost use Rattle.meaning.specs.State.{State, fill, written, nth};
+ghost use Rattle.meaning.specs.State.{State, fill, values, written, nth};
 ghost use Rattle.meaning.specs.Perform as meaning;
-ghost use Rattle.meaning.specs.Code.{Code, Goes, Edge, walk, runs, run, ended, entered, start_state, found, target_place};
+ghost use Rattle.meaning.specs.Code.{Code, Goes, Edge, walk, runs, run, ended, continued, entered, start_state, found, target_place};
 ghost use Rattle.mir_meaning.specs.Codes.{meaning_of, given_of};
 ghost use Rattle.meaning.specs.declared.types.Lane.{Lane};
 ghost use Rattle.mir_interp.specs.Holds.{held_by};
 ghost use Rattle.mir_interp.specs.Stands.{Stands, StandsFor, Answers, given_by, end_of};
 ghost use Rattle.mir_interp.specs.Remembers.{Remembers};
-ghost use Rattle.mir_interp.specs.Decoded.{edge_of, code_of_steps};
-ghost use Rattle.mir_interp.specs.Running.{Continues, put_in, given_units, gone_on};
+ghost use Rattle.mir_interp.specs.Decoded.{edge_of, item_of_step, code_of_steps};
+ghost use Rattle.mir_interp.specs.Kinds.{control_of, Did};
+ghost use Rattle.mir_interp.specs.Running.{Continues, Stepped, put_in, put_in_turn, reads_no_lane, read_no_lane, given_units, passed_on, gone_on, onward};
 
 use crate::fetch::Surroundings;
 use crate::names::symbols_of;
 use crate::outside::Outside;
-use crate::perform::{Control, Performer};
+use crate::perform::{Control, Performed, Performer};
 use crate::steps::{Step, Way, places_of, steps_of};
 use crate::store::Store;
 use crate::types::{End, Events, Lanes, Outcome};
 use crate::world::World;
-use meaning::{Fill, Lane, Write};
+use meaning::{Fill, Lane, Reads, Rest, Source, Write};
 use mir_func::Func;
 use mir_items::counted::low_bits;
 use std::alloc::{AllocError, Global};
@@ -38,20 +39,28 @@ fn filled<W: World>(
     around: &Surroundings<W>,
     store: &Store,
     results: &[Option<u128>],
-    fill: &Fill,
-) -> Result<Option<u128>, AllocError> {
-    match fill {
-        Fill::Moved(s) => around.fetch(store, s),
+    given: &Fill,
+) -> Result<Option<u128>, AllocError>
+    ensures { IfOk result (λ v. (m : ℕ) (env : Environment) → Stands (given_by W.entry W.byte W.frame W.symbol W.answer around.now.world.now) around.now.symbols.now m env → v ≡ fill env results.now (held_by store.now) given.now) }
+{
+    match given {
+        Fill::Moved(s) => {
+            let value = around.fetch(store, s)?;
+            Ok(value)
+        }
         Fill::Computed(n) => Ok(nth(results, *n)),
     }
 }
 
 /// The value of a number; None where there is none.
-fn nth(values: &[Option<u128>], n: u32) -> Option<u128> {
-    match values.get(n as usize) {
-        None => None,
-        Some(value) => *value,
+fn nth(values: &[Option<u128>], n: u32) -> Option<u128>
+    ensures { result ≡ nth values.now n }
+{
+    let k = n as usize;
+    if k >= values.len() {
+        return None;
     }
+    values[k]
 }
 
 /// What each write gives to its lane, before any of them is made.
@@ -61,7 +70,9 @@ fn fills<W: World>(
     store: &Store,
     results: &[Option<u128>],
     writes: &[Write],
-) -> Result<Lanes, AllocError> {
+) -> Result<Lanes, AllocError>
+    ensures { IfOk result (λ vs. (m : ℕ) (env : Environment) → Stands (given_by W.entry W.byte W.frame W.symbol W.answer around.now.world.now) around.now.symbols.now m env → vs ≡ map (λ w. fill env results.now (held_by store.now) w.fill) writes.now) }
+{
     let mut values = List::new(alloc);
     for w in writes {
         let value = filled(around, store, results, &w.fill)?;
@@ -73,10 +84,53 @@ fn fills<W: World>(
 /// Makes the writes with these values; of two writes of one lane the first counts.
 fn put_all(store: &mut Store, writes: &[Write], values: &[Option<u128>]) -> Result<(), AllocError>
     requires { length values.now ≡ length writes.now }
+    ensures { OnOk result ((l : Lane) → held_by store.new l ≡ put_in writes.now values.now (held_by store.old) l) }
 {
     for k in 0..writes.len() {
         let i = writes.len() - 1 - k;
-        store.set(writes[i].lane, values[i])?;
+        store.set(&writes[i].lane, values[i])?;
+    }
+    Ok(())
+}
+
+/// Whether a fill reads no lane.
+fn reads_no_lane(given: &Fill) -> bool
+    ensures { result ≡ reads_no_lane given.now }
+{
+    match given {
+        Fill::Moved(Source::FromLane(_)) => false,
+        Fill::Moved(Source::Undef) => true,
+        Fill::Moved(Source::Bits(_, _, _)) => true,
+        Fill::Computed(_) => true,
+    }
+}
+
+/// Whether no write reads a lane.
+fn read_no_lane(writes: &[Write]) -> bool
+    ensures { result ≡ read_no_lane writes.now }
+{
+    for w in writes {
+        if !reads_no_lane(&w.fill) {
+            return false;
+        }
+    }
+    true
+}
+
+/// Makes writes one after another, from the last on.
+fn put_in_turn<W: World>(
+    around: &Surroundings<W>,
+    store: &mut Store,
+    results: &[Option<u128>],
+    writes: &[Write],
+) -> Result<(), AllocError>
+    ensures { OnOk result ((m : ℕ) (env : Environment) → Stands (given_by W.entry W.byte W.frame W.symbol W.answer around.now.world.now) around.now.symbols.now m env → held_by store.new ≡ put_in_turn env results.now writes.now (held_by store.old)) }
+{
+    for k in 0..writes.len() {
+        let i = writes.len() - 1 - k;
+        let w = &writes[i];
+        let value = filled(around, store, results, &w.fill)?;
+        store.set(&w.lane, value)?;
     }
     Ok(())
 }
@@ -88,12 +142,20 @@ fn write<W: World>(
     store: &mut Store,
     results: &[Option<u128>],
     writes: &[Write],
-) -> Result<(), AllocError> {
+) -> Result<(), AllocError>
+    ensures { OnOk result ((m : ℕ) (env : Environment) → Stands (given_by W.entry W.byte W.frame W.symbol W.answer around.now.world.now) around.now.symbols.now m env → held_by store.new ≡ written env results.now writes.now (held_by store.old)) }
+{
+    if writes.len() < 2 || read_no_lane(writes) {
+        put_in_turn(around, store, results, writes)?;
+        return Ok(());
+    }
     let values = fills(alloc, around, store, results, writes)?;
     if values.len() != writes.len() {
         return Err(AllocError);
     }
-    put_all(store, writes, values.as_slice())
+    let given = values.as_slice();
+    put_all(store, writes, given)?;
+    Ok(())
 }
 
 /// Gives units what they hold at the start.
@@ -102,16 +164,20 @@ fn give<W: World>(
     world: &W,
     t: &Target,
     units: &[Unit],
-) -> Result<(), AllocError> {
+) -> Result<(), AllocError>
+    ensures { OnOk result ((symbols : List (List ℕ)) (m : ℕ) (env : Environment) → Stands (given_by W.entry W.byte W.frame W.symbol W.answer world.now) symbols m env → (l : Lane) → held_by store.new l ≡ given_units env t.now.units units.now (held_by store.old) l) }
+{
     for u in units {
         let held = held_at_start(world, t, *u);
-        store.set(Lane::UnitLane(u.0 as u32), held)?;
+        store.set(&Lane::UnitLane(u.0 as u32), held)?;
     }
     Ok(())
 }
 
 /// What a unit holds at the start.
-fn held_at_start<W: World>(world: &W, t: &Target, u: Unit) -> Option<u128> {
+fn held_at_start<W: World>(world: &W, t: &Target, u: Unit) -> Option<u128>
+    ensures { (symbols : List (List ℕ)) (m : ℕ) (env : Environment) → Stands (given_by W.entry W.byte W.frame W.symbol W.answer world.now) symbols m env → result ≡ entry_value env (unit_width t.now.units u) u.0 }
+{
     match world.entry(u) {
         None => None,
         Some(n) => Some(low_bits(n, width_of(t.units.as_slice(), u) as u32)),
@@ -119,11 +185,16 @@ fn held_at_start<W: World>(world: &W, t: &Target, u: Unit) -> Option<u128> {
 }
 
 /// Lets the lanes hold what they hold at the start of a function.
-fn begin<W: World>(store: &mut Store, world: &W, t: &Target, f: &Func) -> Result<(), AllocError> {
+fn begin<W: World>(store: &mut Store, world: &W, t: &Target, f: &Func) -> Result<(), AllocError>
+    ensures { OnOk result ((symbols : List (List ℕ)) (m : ℕ) (env : Environment) → Stands (given_by W.entry W.byte W.frame W.symbol W.answer world.now) symbols m env → ((l : Lane) → held_by store.old l ≡ None) → held_by store.new ≡ start_state env (given_of t.now f.now)) }
+{
     give(store, world, t, t.reserved.as_slice())?;
     match f.blocks.as_slice().first() {
         None => Ok(()),
-        Some(b) => give_all(store, world, t, b.liveins.as_slice()),
+        Some(b) => {
+            give_all(store, world, t, b.liveins.as_slice())?;
+            Ok(())
+        }
     }
 }
 
@@ -133,11 +204,50 @@ fn give_all<W: World>(
     world: &W,
     t: &Target,
     regs: &[Reg],
-) -> Result<(), AllocError> {
+) -> Result<(), AllocError>
+    ensures { OnOk result ((symbols : List (List ℕ)) (m : ℕ) (env : Environment) → Stands (given_by W.entry W.byte W.frame W.symbol W.answer world.now) symbols m env → (l : Lane) → held_by store.new l ≡ given_units env t.now.units (flat_map (units_of t.now) regs.now) (held_by store.old) l) }
+{
     for r in regs {
         give(store, world, t, units_at(t.regs.as_slice(), *r))?;
     }
     Ok(())
+}
+
+/// How a step went that may count for nothing.
+#[derive(Clone, Copy)]
+enum Passed {
+    /// It is done, and the run goes on behind it.
+    On,
+    /// The run goes no further.
+    Stuck,
+    /// It counts, and isn't done.
+    Counted,
+}
+
+/// Does a step that counts for nothing.
+fn pass<W: World>(
+    alloc: Global,
+    around: &Surroundings<W>,
+    store: &mut Store,
+    step: &Step,
+) -> Result<Passed, AllocError>
+    ensures { IfOk result (λ r. (m : ℕ) (env : Environment) → Stands (given_by W.entry W.byte W.frame W.symbol W.answer around.now.world.now) around.now.symbols.now m env → (code : Code) (next : Goes) (p : Code) (o : meaning.Outside) → walk env code next (item_of_step step.now ∷ p) (held_by store.old) o ≡ passed_on env code next (item_of_step step.now) p r (held_by store.new) o) }
+{
+    match step {
+        Step::Start(_) => Ok(Passed::On),
+        Step::End(falls) => match falls {
+            None => Ok(Passed::Stuck),
+            Some(phis) => {
+                write(alloc, around, store, &[], phis.as_slice())?;
+                Ok(Passed::On)
+            }
+        },
+        Step::Silent(writes) => {
+            write(alloc, around, store, &[], writes.as_slice())?;
+            Ok(Passed::On)
+        }
+        Step::Counted(_, _, _, _) => Ok(Passed::Counted),
+    }
 }
 
 /// Goes on over what counts for nothing; the place of the next counted instruction, or None where
@@ -148,17 +258,28 @@ fn advance<W: World>(
     store: &mut Store,
     steps: &[Step],
     at: usize,
-) -> Result<Option<usize>, AllocError> {
+) -> Result<Option<usize>, AllocError>
+    ensures { IfOk result (λ r. (m : ℕ) (env : Environment) → Stands (given_by W.entry W.byte W.frame W.symbol W.answer around.now.world.now) around.now.symbols.now m env → (code : Code) (next : Goes) (o : meaning.Outside) → walk env code next (drop at (code_of_steps steps.now)) (held_by store.old) o ≡ gone_on env code next (code_of_steps steps.now) r (held_by store.new) o) }
+{
     for k in at..steps.len() {
-        match &steps[k] {
-            Step::Start(_) => {}
-            Step::End(None) => return Ok(None),
-            Step::End(Some(phis)) => write(alloc, around, store, &[], phis.as_slice())?,
-            Step::Silent(writes) => write(alloc, around, store, &[], writes.as_slice())?,
-            Step::Counted(_, _, _, _) => return Ok(Some(k)),
+        let passed = pass(alloc, around, store, &steps[k])?;
+        match passed {
+            Passed::On => {}
+            Passed::Stuck => return Ok(None),
+            Passed::Counted => return Ok(Some(k)),
         }
     }
     Ok(None)
+}
+
+/// The place behind the start of a block; the end of the steps where there is no such block.
+fn place_of(places: &HashMap<u32, usize>, count: usize, n: u32) -> usize
+    ensures { result ≡ unwrap_or (get nat_eq places.now n) count }
+{
+    match places.get(&n) {
+        None => count,
+        Some(at) => *at,
+    }
 }
 
 /// Enters the target of a branch; the place to go on at.
@@ -169,15 +290,16 @@ fn enter<W: World>(
     steps: &[Step],
     places: &HashMap<u32, usize>,
     target: &Option<Way>,
-) -> Result<usize, AllocError> {
+) -> Result<usize, AllocError>
+    requires { (n : ℕ) → found n (code_of_steps steps.now) ≡ drop (unwrap_or (get nat_eq places.now n) (length steps.now)) (code_of_steps steps.now) }
+    ensures place { IfOk result (λ at. drop at (code_of_steps steps.now) ≡ target_place (code_of_steps steps.now) (option_map edge_of target.now)) }
+    ensures state { OnOk result ((m : ℕ) (env : Environment) → Stands (given_by W.entry W.byte W.frame W.symbol W.answer around.now.world.now) around.now.symbols.now m env → held_by store.new ≡ entered env (option_map edge_of target.now) (held_by store.old)) }
+{
     match target {
         None => Ok(steps.len()),
         Some(way) => {
             write(alloc, around, store, &[], way.phis.as_slice())?;
-            Ok(match places.get(&way.block) {
-                None => steps.len(),
-                Some(at) => *at,
-            })
+            Ok(place_of(places, steps.len(), way.block))
         }
     }
 }
@@ -190,6 +312,54 @@ struct Machine {
     events: Events,
 }
 
+/// Where a run goes on behind an instruction that was done.
+fn go_on<W: World>(
+    alloc: Global,
+    around: &Surroundings<W>,
+    store: &mut Store,
+    steps: &[Step],
+    places: &HashMap<u32, usize>,
+    at: usize,
+    target: &Option<Way>,
+    control: Control,
+) -> Result<Result<usize, End>, AllocError>
+    requires room { at < length steps.now }
+    requires places { (n : ℕ) → found n (code_of_steps steps.now) ≡ drop (unwrap_or (get nat_eq places.now n) (length steps.now)) (code_of_steps steps.now) }
+    ensures { IfOk result (λ r. (m : ℕ) (env : Environment) → Stands (given_by W.entry W.byte W.frame W.symbol W.answer around.now.world.now) around.now.symbols.now m env → (next : Goes) (o : meaning.Outside) → continued (control_of control) (next (drop (suc at) (code_of_steps steps.now)) (held_by store.old) o) (next (target_place (code_of_steps steps.now) (option_map edge_of target.now)) (entered env (option_map edge_of target.now) (held_by store.old)) o) ≡ onward (code_of_steps steps.now) next r (held_by store.new) o) }
+{
+    match control {
+        Control::Next => Ok(Ok(at + 1)),
+        Control::Taken => {
+            let place = enter(alloc, around, store, steps, places, target)?;
+            Ok(Ok(place))
+        }
+        Control::Stop(end) => Ok(Err(end)),
+    }
+}
+
+/// Performs a counted instruction on what lies outside the lanes.
+fn perform<'a, W: World>(
+    alloc: Global,
+    around: &'a Surroundings<'a, W>,
+    store: &'a Store,
+    rest: &'a Rest,
+    reads: &'a Reads,
+    outside: &mut Outside,
+    events: &mut Events,
+) -> Result<Performed, AllocError>
+    ensures calls { OnOk result (outside.new.calls ≤ outside.old.calls + 1) }
+    ensures did { IfOk result (λ p. (m : ℕ) (env : Environment) → Stands (given_by W.entry W.byte W.frame W.symbol W.answer around.now.world.now) around.now.symbols.now m env → (o : meaning.Outside) → Remembers env outside.old o → o.calls < m → Did env p outside.new events.old events.new (meaning.perform rest.now env o (values env (held_by store.now) reads.now))) }
+{
+    let performer = Performer {
+        around,
+        store,
+        rest,
+        reads,
+    };
+    let performed = performer.perform(alloc, outside, events)?;
+    Ok(performed)
+}
+
 /// Does the counted instruction at a place; the place to go on at, or the end.
 fn step<W: World>(
     alloc: Global,
@@ -198,44 +368,47 @@ fn step<W: World>(
     steps: &[Step],
     places: &HashMap<u32, usize>,
     at: usize,
-) -> Result<Result<usize, End>, AllocError> {
+) -> Result<Result<usize, End>, AllocError>
+    requires { (n : ℕ) → found n (code_of_steps steps.now) ≡ drop (unwrap_or (get nat_eq places.now n) (length steps.now)) (code_of_steps steps.now) }
+    ensures calls { OnOk result (machine.new.outside.calls ≤ machine.old.outside.calls + 1) }
+    ensures did { IfOk result (λ r. (m : ℕ) (env : Environment) → Stands (given_by W.entry W.byte W.frame W.symbol W.answer around.now.world.now) around.now.symbols.now m env → (o : meaning.Outside) → Remembers env machine.old.outside o → o.calls < m → (next : Goes) → Stepped env (code_of_steps steps.now) next at machine.old r machine.new o) }
+{
     if at >= steps.len() {
         return Ok(Err(End::Undefined));
     }
     match &steps[at] {
         Step::Counted(rest, reads, writes, target) => {
-            let performer = Performer {
-                around,
-                store: &machine.store,
+            let (results, control) = perform(
+                alloc,
+                &*around,
+                &machine.store,
                 rest,
                 reads,
-            };
-            let (results, control) = performer.perform(
-                alloc,
                 &mut machine.outside,
                 &mut machine.events,
             )?;
+            let computed = results.as_slice();
             write(
                 alloc,
                 around,
                 &mut machine.store,
-                results.as_slice(),
+                computed,
                 writes.as_slice(),
             )?;
-            match control {
-                Control::Next => Ok(Ok(at + 1)),
-                Control::Taken => Ok(Ok(enter(
-                    alloc,
-                    around,
-                    &mut machine.store,
-                    steps,
-                    places,
-                    target,
-                )?)),
-                Control::Stop(end) => Ok(Err(end)),
-            }
+            let onward = go_on(
+                alloc,
+                around,
+                &mut machine.store,
+                steps,
+                places,
+                at,
+                target,
+                control,
+            )?;
+            Ok(onward)
         }
-        _ => Ok(Err(End::Undefined)),
+        // (`advance` stops at none of these)
+        _ => Err(AllocError),
     }
 }
 
@@ -247,15 +420,20 @@ fn go<W: World>(
     steps: &[Step],
     places: &HashMap<u32, usize>,
     n: u64,
-) -> Result<End, AllocError> {
+) -> Result<End, AllocError>
+    requires { (n : ℕ) → found n (code_of_steps steps.now) ≡ drop (unwrap_or (get nat_eq places.now n) (length steps.now)) (code_of_steps steps.now) }
+    ensures { IfOk result (λ e. (m : ℕ) (env : Environment) → Stands (given_by W.entry W.byte W.frame W.symbol W.answer around.now.world.now) around.now.symbols.now m env → (o : meaning.Outside) → Remembers env machine.old.outside o → o.calls + n ≤ m → Continues machine.old.events (runs env (code_of_steps steps.now) n (code_of_steps steps.now) (held_by machine.old.store) o) machine.new.events (ended (end_of e))) }
+{
     let mut at: usize = 0;
-    for _i in 0..n {
-        match advance(alloc, around, &mut machine.store, steps, at)? {
-            None => return Ok(End::Undefined),
-            Some(here) => match step(alloc, around, machine, steps, places, here)? {
-                Ok(next) => at = next,
-                Err(end) => return Ok(end),
-            },
+    for i in 0..n {
+        let advanced = advance(alloc, around, &mut machine.store, steps, at)?;
+        let Some(here) = advanced else {
+            return Ok(End::Undefined);
+        };
+        let stepped = step(alloc, around, machine, steps, places, here)?;
+        match stepped {
+            Ok(next) => at = next,
+            Err(end) => return Ok(end),
         }
     }
     Ok(End::Steps)
@@ -268,22 +446,26 @@ pub fn run<W: World>(
     f: &Func,
     world: &W,
     n: u64,
-) -> Result<Outcome, AllocError> {
+) -> Result<Outcome, AllocError>
+    ensures { IfOk result (λ made. (env : Environment) → StandsFor (given_by W.entry W.byte W.frame W.symbol W.answer world.now) f.now n env → Answers made (run (meaning_of target.now f.now) env n)) }
+{
     let steps = steps_of(alloc, target, f)?;
-    let places = places_of(alloc, steps.as_slice())?;
+    let decoded = steps.as_slice();
+    let places = places_of(alloc, decoded)?;
     let symbols = symbols_of(alloc, f)?;
     let mut store = Store::new(alloc, target.units.len(), f.classes.len())?;
     begin(&mut store, world, target, f)?;
+    let names = symbols.as_slice();
     let around = Surroundings {
         world,
-        symbols: symbols.as_slice(),
+        symbols: names,
     };
     let mut machine = Machine {
         store,
         outside: Outside::new(alloc),
         events: List::new(alloc),
     };
-    let end = go(alloc, &around, &mut machine, steps.as_slice(), &places, n)?;
+    let end = go(alloc, &around, &mut machine, decoded, &places, n)?;
     Ok(Outcome {
         events: machine.events,
         end,

@@ -1,7 +1,7 @@
 //! Numbers of so many bits.
 
 ghost use Rattle.std.specs.Prelude.{◌≡◌, ◌+◌, ◌-◌, ◌*◌, ◌/◌, ◌%◌, ◌^◌, ◌≤◌, ◌++◌, ◌<◌, bit_and, bit_or, bit_xor, OnOk, IfOk};
-ghost use Rattle.meaning.specs.Perform.{joined, cut, shifted_signed, widened, biased};
+ghost use Rattle.meaning.specs.Perform.{cut, shifted_signed, widened, biased};
 
 use crate::types::Lanes;
 use mir_items::counted::{low_bits, ones};
@@ -147,24 +147,6 @@ pub fn put_above(low: u128, w: u32, high: u128) -> Result<u128, AllocError>
     }
     let raised = high << w;
     raised.checked_add(low).ok_or(AllocError)
-}
-
-/// Lanes of these widths as one number, the lowest first; None where one is Undef or missing.
-pub fn joined(widths: &[u32], lanes: &[Option<u128>]) -> Result<Option<u128>, AllocError>
-    ensures { IfOk result (λ n. n ≡ joined widths.now lanes.now) }
-{
-    let mut n: u128 = 0;
-    for k in 0..widths.len() {
-        let i = widths.len() - 1 - k;
-        if i >= lanes.len() {
-            return Ok(None);
-        }
-        let Some(lane) = lanes[i] else {
-            return Ok(None);
-        };
-        n = put_above(lane, widths[i], n)?;
-    }
-    Ok(Some(n))
 }
 
 /// Appends a number as lanes of these widths.

@@ -283,11 +283,11 @@ pub struct Performer<'a, W> {
 
 impl<'a, W: World> Performer<'a, W> {
     /// What an operand gives.
-    fn operand(&self, alloc: Global, k: usize) -> Result<Option<u128>, AllocError>
+    fn operand(&self, k: usize) -> Result<Option<u128>, AllocError>
         ensures { IfOk result (λ v. (n : ℕ) (env : Environment) → Stands (given_by W.entry W.byte W.frame W.symbol W.answer self.now.around.now.world.now) self.now.around.now.symbols.now n env → v ≡ operand self.now.rest.now.widths (values env (held_by self.now.store.now) self.now.reads.now) k) }
     {
         self.around
-            .operand(alloc, self.store, &self.rest.widths, self.reads, k)
+            .operand(self.store, &self.rest.widths, self.reads, k)
     }
 
     /// An effect of two numbers.
@@ -297,8 +297,8 @@ impl<'a, W: World> Performer<'a, W> {
     {
         let result = self.rest.result.as_slice();
         let w = bits_of(result)?;
-        let a = self.operand(alloc, 0)?;
-        let b = self.operand(alloc, 1)?;
+        let a = self.operand(0)?;
+        let b = self.operand(1)?;
         let n = both(self.rest.effect, w, a, b);
         let lanes = lanes_of(alloc, result, n)?;
         Ok((lanes, Control::Next))
@@ -312,7 +312,7 @@ impl<'a, W: World> Performer<'a, W> {
         let result = self.rest.result.as_slice();
         let w = bits_of(result)?;
         let from = operand_bits(self.rest, 0)?;
-        let a = self.operand(alloc, 0)?;
+        let a = self.operand(0)?;
         let n = alone(self.rest.effect, from, w, a);
         let lanes = lanes_of(alloc, result, n)?;
         Ok((lanes, Control::Next))
@@ -325,9 +325,9 @@ impl<'a, W: World> Performer<'a, W> {
     {
         let result = self.rest.result.as_slice();
         let w = bits_of(result)?;
-        let a = self.operand(alloc, 0)?;
-        let b = self.operand(alloc, 1)?;
-        let d = self.operand(alloc, 2)?;
+        let a = self.operand(0)?;
+        let b = self.operand(1)?;
+        let d = self.operand(2)?;
         let n = three(w, a, b, d);
         let lanes = lanes_of(alloc, result, n)?;
         Ok((lanes, Control::Next))
@@ -339,8 +339,8 @@ impl<'a, W: World> Performer<'a, W> {
         ensures { IfOk result (λ p. (n : ℕ) (env : Environment) → Stands (given_by W.entry W.byte W.frame W.symbol W.answer self.now.around.now.world.now) self.now.around.now.symbols.now n env → (o : meaning.Outside) → Pure p o (perform self.now.rest.now env o (values env (held_by self.now.store.now) self.now.reads.now))) }
     {
         let w = operand_bits(self.rest, 0)?;
-        let a = self.operand(alloc, 0)?;
-        let b = self.operand(alloc, 1)?;
+        let a = self.operand(0)?;
+        let b = self.operand(1)?;
         let lanes = compared(alloc, w, a, b)?;
         Ok((lanes, Control::Next))
     }
@@ -350,8 +350,8 @@ impl<'a, W: World> Performer<'a, W> {
         requires { kind_of self.now.rest.now.effect ≡ kinds.Division }
         ensures { IfOk result (λ p. (n : ℕ) (env : Environment) → Stands (given_by W.entry W.byte W.frame W.symbol W.answer self.now.around.now.world.now) self.now.around.now.symbols.now n env → (o : meaning.Outside) → Pure p o (perform self.now.rest.now env o (values env (held_by self.now.store.now) self.now.reads.now))) }
     {
-        let a = self.operand(alloc, 0)?;
-        let divisor = self.operand(alloc, 1)?;
+        let a = self.operand(0)?;
+        let divisor = self.operand(1)?;
         let Some(b) = divisor else {
             let undefined = List::new(alloc);
             return Ok((undefined, Control::Next));
@@ -371,7 +371,7 @@ impl<'a, W: World> Performer<'a, W> {
         requires { kind_of self.now.rest.now.effect ≡ kinds.OnFlag }
         ensures { IfOk result (λ p. (n : ℕ) (env : Environment) → Stands (given_by W.entry W.byte W.frame W.symbol W.answer self.now.around.now.world.now) self.now.around.now.symbols.now n env → (o : meaning.Outside) → Pure p o (perform self.now.rest.now env o (values env (held_by self.now.store.now) self.now.reads.now))) }
     {
-        let a = self.operand(alloc, 0)?;
+        let a = self.operand(0)?;
         let tested = is_wanted(self.rest, a);
         let control = branched(tested);
         let none = List::new(alloc);
@@ -383,7 +383,7 @@ impl<'a, W: World> Performer<'a, W> {
         requires { kind_of self.now.rest.now.effect ≡ kinds.OnNumber }
         ensures { IfOk result (λ p. (n : ℕ) (env : Environment) → Stands (given_by W.entry W.byte W.frame W.symbol W.answer self.now.around.now.world.now) self.now.around.now.symbols.now n env → (o : meaning.Outside) → Pure p o (perform self.now.rest.now env o (values env (held_by self.now.store.now) self.now.reads.now))) }
     {
-        let a = self.operand(alloc, 0)?;
+        let a = self.operand(0)?;
         let tested = is_set(a);
         let control = branched(tested);
         let none = List::new(alloc);
@@ -405,7 +405,7 @@ impl<'a, W: World> Performer<'a, W> {
         ensures { IfOk result (λ p. (n : ℕ) (env : Environment) → Stands (given_by W.entry W.byte W.frame W.symbol W.answer self.now.around.now.world.now) self.now.around.now.symbols.now n env → (o : meaning.Outside) → Remembers env outside.now o → Pure p o (perform self.now.rest.now env o (values env (held_by self.now.store.now) self.now.reads.now))) }
     {
         let w = operand_bits(self.rest, 0)?;
-        let operand = self.operand(alloc, 0)?;
+        let operand = self.operand(0)?;
         let Some(base) = operand else {
             let nowhere = List::new(alloc);
             return Ok((nowhere, Control::Stop(End::Undefined)));
@@ -495,7 +495,7 @@ impl<'a, W: World> Performer<'a, W> {
         ensures did { IfOk result (λ p. (n : ℕ) (env : Environment) → Stands (given_by W.entry W.byte W.frame W.symbol W.answer self.now.around.now.world.now) self.now.around.now.symbols.now n env → (o : meaning.Outside) → Remembers env outside.old o → Did env p outside.new events.old events.new (perform self.now.rest.now env o (values env (held_by self.now.store.now) self.now.reads.now))) }
     {
         let w = operand_bits(self.rest, 0)?;
-        let operand = self.operand(alloc, 0)?;
+        let operand = self.operand(0)?;
         let Some(base) = operand else {
             let nowhere = List::new(alloc);
             return Ok((nowhere, Control::Stop(End::Undefined)));

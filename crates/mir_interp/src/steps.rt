@@ -6,7 +6,7 @@ ghost use Rattle.meaning.specs.Code.{found, BlockStart};
 ghost use Rattle.mir_func.specs.declared.func.Block.{Block};
 ghost use Rattle.target_base.specs.Roles.{is_silent};
 ghost use Rattle.mir_meaning.specs.Codes.{way, item_of, effect_item, block_end, blocks_code, code_of, target_of};
-ghost use Rattle.mir_interp.specs.Decoded.{edge_of, item_of_step, code_of_steps, bare};
+ghost use Rattle.mir_interp.specs.Decoded.{edge_of, item_of_step, code_of_steps, bare, noted};
 
 use meaning::{Reads, Rest, Writes};
 use mir_func::{Block, Func, Instr};
@@ -109,14 +109,21 @@ fn counted_step(
 }
 
 /// An instruction of block n; an excluded opcode does nothing.
-fn step_of(alloc: Global, t: &Target, f: &Func, n: u32, i: &Instr) -> Result<Step, AllocError> {
+fn step_of(alloc: Global, t: &Target, f: &Func, n: u32, i: &Instr) -> Result<Step, AllocError>
+    ensures { IfOk result (λ made. (b : Block) → b.number ≡ n → item_of_step made ≡ bare (item_of t.now f.now b i.now)) }
+{
     match effect_of(t, i) {
-        None => Ok(Step::Silent(List::new(alloc))),
+        None => {
+            let nothing = List::new(alloc);
+            Ok(Step::Silent(nothing))
+        }
         Some(e) => {
             if is_silent(e) {
-                silent_step(alloc, t, f, i, e)
+                let step = silent_step(alloc, t, f, i, e)?;
+                Ok(step)
             } else {
-                counted_step(alloc, t, f, n, i, e)
+                let step = counted_step(alloc, t, f, n, i, e)?;
+                Ok(step)
             }
         }
     }
@@ -152,9 +159,12 @@ fn push_instrs(
     f: &Func,
     n: u32,
     instrs: &[Instr],
-) -> Result<(), AllocError> {
+) -> Result<(), AllocError>
+    ensures { OnOk result ((b : Block) → b.number ≡ n → code_of_steps out.new ≡ code_of_steps out.old ++ map bare (map (item_of t.now f.now b) instrs.now)) }
+{
     for i in instrs {
-        out.push(step_of(alloc, t, f, n, i)?)?;
+        let step = step_of(alloc, t, f, n, i)?;
+        out.push(step)?;
     }
     Ok(())
 }
@@ -167,31 +177,57 @@ fn push_block(
     f: &Func,
     b: &Block,
     after: &[Block],
-) -> Result<(), AllocError> {
+) -> Result<(), AllocError>
+    ensures { OnOk result (code_of_steps out.new ≡ code_of_steps out.old ++ map bare (BlockStart b.now.number ∷ (map (item_of t.now f.now b.now) b.now.instrs ++ (block_end t.now f.now b.now after.now ∷ [])))) }
+{
     out.push(Step::Start(b.number))?;
     push_instrs(out, alloc, t, f, b.number, b.instrs.as_slice())?;
-    out.push(block_end(alloc, t, f, b, after)?)
+    let end = block_end(alloc, t, f, b, after)?;
+    out.push(end)?;
+    Ok(())
 }
 
 /// The steps of a function.
-pub fn steps_of(alloc: Global, t: &Target, f: &Func) -> Result<Steps, AllocError> {
+pub fn steps_of(alloc: Global, t: &Target, f: &Func) -> Result<Steps, AllocError>
+    ensures { IfOk result (λ made. code_of_steps made ≡ map bare (code_of t.now f.now)) }
+{
     let mut out = List::new(alloc);
     let blocks = f.blocks.as_slice();
     for k in 0..blocks.len() {
-        push_block(&mut out, alloc, t, f, &blocks[k], &blocks[k + 1..])?;
+        let after = &blocks[k + 1..];
+        push_block(&mut out, alloc, t, f, &blocks[k], after)?;
     }
     Ok(out)
 }
 
+/// Notes the place behind a step where it is the start of a block.
+fn note_place(
+    places: &mut HashMap<u32, usize>,
+    step: &Step,
+    behind: usize,
+) -> Result<(), AllocError>
+    ensures { OnOk result ((n : ℕ) → get nat_eq places.new n ≡ noted (item_of_step step.now) behind n (get nat_eq places.old n)) }
+{
+    match step {
+        Step::Start(n) => {
+            places.insert(*n, behind)?;
+            Ok(())
+        }
+        Step::End(_) => Ok(()),
+        Step::Silent(_) => Ok(()),
+        Step::Counted(_, _, _, _) => Ok(()),
+    }
+}
+
 /// The place behind the start of each block, by its number; of two blocks of one number the first
 /// counts.
-pub fn places_of(alloc: Global, steps: &[Step]) -> Result<HashMap<u32, usize>, AllocError> {
+pub fn places_of(alloc: Global, steps: &[Step]) -> Result<HashMap<u32, usize>, AllocError>
+    ensures { IfOk result (λ made. (n : ℕ) → found n (code_of_steps steps.now) ≡ drop (unwrap_or (get nat_eq made n) (length steps.now)) (code_of_steps steps.now)) }
+{
     let mut places = HashMap::new(alloc);
     for k in 0..steps.len() {
         let at = steps.len() - 1 - k;
-        if let Step::Start(n) = &steps[at] {
-            places.insert(*n, at + 1)?;
-        }
+        note_place(&mut places, &steps[at], at + 1)?;
     }
     Ok(places)
 }

@@ -61,27 +61,27 @@ impl Store {
     }
 
     /// What a lane holds.
-    pub fn get(&self, l: Lane) -> Option<u128>
-        ensures { result ≡ held_by self.now l }
+    pub fn get(&self, l: &Lane) -> Option<u128>
+        ensures { result ≡ held_by self.now l.now }
     {
         match l {
             Lane::UnitLane(u) => {
-                let at = u as usize;
+                let at = *u as usize;
                 if at < self.units.len() {
                     self.units[at]
                 } else {
-                    self.get_apart(l)
+                    self.get_apart(*l)
                 }
             }
             Lane::VirtualLane(v, k) => {
-                let at = DENSE * v as usize + k as usize;
-                if (k as usize) < DENSE && at < self.ranges.len() {
+                let at = DENSE * *v as usize + *k as usize;
+                if (*k as usize) < DENSE && at < self.ranges.len() {
                     self.ranges[at]
                 } else {
-                    self.get_apart(l)
+                    self.get_apart(*l)
                 }
             }
-            Lane::SlotLane(_, _, _) => self.get_apart(l),
+            Lane::SlotLane(_, _, _) => self.get_apart(*l),
         }
     }
 
@@ -96,29 +96,29 @@ impl Store {
     }
 
     /// Lets a lane hold a value.
-    pub fn set(&mut self, l: Lane, held: Option<u128>) -> Result<(), AllocError>
-        ensures { OnOk result ((m : Lane) → held_by self.new m ≡ updated (held_by self.old) l held m) }
+    pub fn set(&mut self, l: &Lane, held: Option<u128>) -> Result<(), AllocError>
+        ensures { OnOk result ((m : Lane) → held_by self.new m ≡ updated (held_by self.old) l.now held m) }
     {
         match l {
             Lane::UnitLane(u) => {
-                let at = u as usize;
+                let at = *u as usize;
                 if at < self.units.len() {
                     self.units[at] = held;
                     Ok(())
                 } else {
-                    self.set_apart(l, held)
+                    self.set_apart(*l, held)
                 }
             }
             Lane::VirtualLane(v, k) => {
-                let at = DENSE * v as usize + k as usize;
-                if (k as usize) < DENSE && at < self.ranges.len() {
+                let at = DENSE * *v as usize + *k as usize;
+                if (*k as usize) < DENSE && at < self.ranges.len() {
                     self.ranges[at] = held;
                     Ok(())
                 } else {
-                    self.set_apart(l, held)
+                    self.set_apart(*l, held)
                 }
             }
-            Lane::SlotLane(_, _, _) => self.set_apart(l, held),
+            Lane::SlotLane(_, _, _) => self.set_apart(*l, held),
         }
     }
 }
