@@ -146,4 +146,5 @@ successors_named es = or_equal (shared es) es
 -- as many operands as before the look-up, and as many more registers at most
 pub record HasMore (before : Ranges) (n : ℕ) (p : Ranges × List Operand) : Type 0 where
   pub ranges : length p.0.names ≤ length before.names + n
+  pub given : length p.0.given ≤ length before.given + n
   pub operands : length p.1 ≤ n

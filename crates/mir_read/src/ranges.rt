@@ -106,6 +106,7 @@ impl Ranges {
         requires new { position (same_numbers name.now) self.names ≡ None }
         ensures value { IfOk result (λ r. r ≡ appended self name.now given) }
         ensures more { IfOk result (λ r. length r.names ≤ length self.names + 1) }
+        ensures given { IfOk result (λ r. length r.given ≤ length self.given + 1) }
     {
         let Ranges {
             names,
@@ -120,7 +121,8 @@ impl Ranges {
 
     /// The registers where the one of this place is given something more.
     fn regiven(self, k: usize, given: Given) -> Ranges
-        ensures { result ≡ regiven self k given }
+        ensures value { result ≡ regiven self k given }
+        ensures given { length result.given ≡ length self.given }
     {
         let Ranges {
             names,
@@ -145,6 +147,7 @@ impl Ranges {
         requires { length self.names < 4294967295 }
         ensures value { IfOk result (λ r. r ≡ mentioned self name.now first given) }
         ensures more { IfOk result (λ r. length r.names ≤ length self.names + 1) }
+        ensures given { IfOk result (λ r. length r.given ≤ length self.given + 1) }
     {
         match self.names.place(name) {
             None => self.appended(alloc, name, joined(first, given)),

@@ -122,6 +122,7 @@ fn placed(
     requires { length ranges.names < 4294967295 }
     ensures value { IfOk result (λ p. p ≡ placed names.now keyed.now ranges place.now) }
     ensures more { IfOk result (λ o. IfSome o (λ p. length p.0.names ≤ length ranges.names + 1)) }
+    ensures given { IfOk result (λ o. IfSome o (λ p. length p.0.given ≤ length ranges.given + 1)) }
 {
     match place {
         RawPlace::Fixed(name) => match names.reg(name.as_slice()) {
@@ -172,6 +173,7 @@ fn operand(
     requires { length ranges.names < 4294967295 }
     ensures value { IfOk result (λ p. p ≡ operand_named names.now headers.now keyed.now ranges raw.now) }
     ensures more { IfOk result (λ o. IfSome o (λ p. length p.0.names ≤ length ranges.names + 1)) }
+    ensures given { IfOk result (λ o. IfSome o (λ p. length p.0.given ≤ length ranges.given + 1)) }
 {
     match raw {
         RawOperand::Reg(o) => match placed(alloc, names, keyed, ranges, &o.place)? {

@@ -1,2 +1,4 @@
 pub mod Print
 pub mod First
+pub mod BodyLines
+pub mod Document

@@ -1,22 +1,10 @@
 //! Documents of a file, and why a text spells none.
 
 use mir_func::Func;
+pub use mir_read::TextKind;
 use std::alloc::AllocError;
 use target_base::Bytes;
 use thiserror::Error;
-
-/// The test of a line that failed.
-#[derive(Clone, Copy, Debug, PartialEq, Eq)]
-pub enum TextKind {
-    /// A line of its form can't stand there.
-    Layout,
-    /// A part of the line isn't spelled well.
-    Token,
-    /// A name isn't the target's, or a block's name isn't the one of its header.
-    Name,
-    /// The file ends inside a document.
-    End,
-}
 
 /// The first line that can't stand after those before it, and the test that failed there.
 #[derive(Clone, Copy, Debug, PartialEq, Eq)]

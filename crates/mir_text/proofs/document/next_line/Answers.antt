@@ -1,0 +1,14 @@
+use Rattle.std.proofs.Common.{◌≡◌, Some, None}
+use Rattle.std.specs.Prelude.{◌==◌, position}
+use Rattle.mir_text.proofs.Lines.{lines_cut, lines_whole, behind_is}
+use Rattle.mir_text.proofs.document.next_line.Goals as goal
+
+pub returns-in-None-clause-whole : goal.returns-in-None-clause-whole
+returns-in-None-clause-whole c =
+    let none : position (λ b. b == 10) c.args.text.now ≡ None = cc (c.find_newline.ensures, c.in-None.is) in
+    lines_whole c.args.text.now c.requires none
+
+pub returns-in-Some-clause-whole : goal.returns-in-Some-clause-whole
+returns-in-Some-clause-whole c =
+    let found : position (λ b. b == 10) c.args.text.now ≡ Some c.in-Some.k = cc (c.find_newline.ensures, c.in-Some.is) in
+    rw (behind_is c.args.text.now c.in-Some.k) (lines_cut c.args.text.now c.in-Some.k found)

@@ -1,0 +1,233 @@
+//! Reading documents line by line.
+
+ghost use Rattle.std.specs.Prelude.{◌≡◌, ◌<◌, ◌≤◌, ◌+◌, ◌^◌, ◌∷◌, ◌==◌, length, position, IfOk, IfSome, ℕ};
+ghost use Rattle.mir_read.specs.Reading.{GivesLine};
+ghost use Rattle.mir_text.specs.BodyLines.{IsReadingWithin};
+ghost use Rattle.mir_text.specs.Document.{lines, end_line, body_or_end, with_key_line, begins_comment, outside_line, ir_line, line_after, ended, document_of, stop_at, Gives, IsBulkWithin, AreKeysWithin, IsStateWithin};
+
+use crate::doc::{Doc, TextFault, TextStop};
+use crate::reading::Reading;
+use mir_func::Func;
+use mir_lines::lexer::{behind_word, is, is_blank, skip_back};
+use mir_read::keys::{Keys, is_body};
+use mir_read::names::Names;
+use mir_read::{ReadStop, TextKind};
+use std::alloc::{AllocError, Global};
+use target_base::{Bytes, List, Target};
+
+/// What the lines so far make.
+#[derive(Drop)]
+pub(crate) enum State {
+    /// Lines before a document, which are kept.
+    Outside(Bytes),
+    /// An IR document that has begun.
+    Ir,
+    /// Lines before a function document, and the key lines of it.
+    Keys(Bytes, Keys),
+    /// Lines before a function document, and what is read of it.
+    Body(Bytes, Reading),
+    /// A whole IR document.
+    EndOfIr,
+    /// Lines before a function document, and its function.
+    Function(Bytes, Func),
+}
+
+fn find_newline(text: &[u8]) -> Option<usize>
+    ensures { result ≡ position (λ b. b == 10) text.now }
+{
+    text.iter().position(|b| *b == b'\n')
+}
+
+/// The first line of a text that isn't empty, and what stands behind its newline.
+fn next_line(text: &[u8]) -> (&[u8], &[u8])
+    requires { 0 < length text.now }
+    ensures whole { lines text.now ≡ result.0.now ∷ lines result.1.now }
+    ensures len { length result.0.now + length result.1.now ≤ length text.now }
+    ensures shorter { length result.1.now < length text.now }
+{
+    match find_newline(text) {
+        None => (text, &[]),
+        Some(k) => (&text[..k], &text[k + 1..]),
+    }
+}
+
+/// Whether a line is a comment.
+fn begins_comment(line: &[u8]) -> bool
+    ensures { result ≡ begins_comment line.now }
+{
+    behind_word(line, b"#").is_some()
+}
+
+/// The state behind a line before a document, or behind its first line; `first` says whether IR may
+/// stand here.
+#[tactic(auto, unfolding(crate::specs::Document::outside_line))]
+fn outside_line(alloc: Global, first: bool, before: Bytes, line: &[u8]) -> Result<State, ReadStop>
+    ensures value { GivesLine result (outside_line first before line.now) }
+    ensures within { IfOk result (λ s. IsStateWithin 0 s) }
+{
+    if is_blank(line) || begins_comment(line) {
+        let mut kept = before;
+        kept.extend(line)?;
+        kept.extend(b"\n")?;
+        return Ok(State::Outside(kept));
+    }
+    let word = skip_back(line);
+    if is(word, b"---") {
+        return Ok(State::Keys(before, Keys::new(alloc)));
+    }
+    if first && is(word, b"--- |") {
+        return Ok(State::Ir);
+    }
+    Err(ReadStop::Fault(TextKind::Layout))
+}
+
+/// The state behind a line of an IR document.
+#[tactic(auto, unfolding(crate::specs::Document::ir_line))]
+fn ir_line(line: &[u8]) -> Result<State, ReadStop>
+    ensures value { GivesLine result (ir_line line.now) }
+    ensures within { IfOk result (λ s. IsStateWithin 0 s) }
+{
+    if is(line, b"...") {
+        return Ok(State::EndOfIr);
+    }
+    if is_blank(line) || behind_word(line, b" ").is_some() {
+        return Ok(State::Ir);
+    }
+    Err(ReadStop::Fault(TextKind::Layout))
+}
+
+/// The state behind a line before the body.
+fn key_line(
+    alloc: Global,
+    names: &Names,
+    before: Bytes,
+    keys: Keys,
+    line: &[u8],
+) -> Result<State, ReadStop>
+    requires { AreKeysWithin 8388608 keys }
+    ensures value { GivesLine result (with_key_line names.now before keys line.now) }
+    ensures within { IfOk result (λ s. (n : ℕ) → AreKeysWithin n keys → IsStateWithin (n + length line.now) s) }
+{
+    let keys = keys.line(alloc, names, line)?;
+    if is_body(keys.key) {
+        Ok(State::Body(before, Reading::new(alloc, keys)))
+    } else {
+        Ok(State::Keys(before, keys))
+    }
+}
+
+/// The state behind a line of the body, or behind the end of the document.
+#[tactic(auto, unfolding(crate::specs::Document::body_or_end, crate::specs::Document::end_line))]
+fn body_or_end(
+    alloc: Global,
+    target: &Target,
+    names: &Names,
+    before: Bytes,
+    reading: Reading,
+    line: &[u8],
+) -> Result<State, ReadStop>
+    requires small { IsReadingWithin 8388608 reading }
+    requires short { length line.now ≤ 4194304 }
+    ensures value { GivesLine result (body_or_end target.now names.now before reading line.now) }
+    ensures within { IfOk result (λ s. (n : ℕ) → IsReadingWithin n reading → IsStateWithin (n + length line.now) s) }
+{
+    if is(line, b"...") {
+        if !reading.body.is_begun() {
+            return Err(ReadStop::Fault(TextKind::Layout));
+        }
+        return Ok(State::Function(before, reading.into_func(alloc, target)?));
+    }
+    Ok(State::Body(before, reading.line(alloc, target, names, line)?))
+}
+
+impl State {
+    /// The state behind one more line.
+    #[tactic(auto, unfolding(crate::specs::Document::line_after))]
+    fn line(
+        self,
+        alloc: Global,
+        target: &Target,
+        names: &Names,
+        first: bool,
+        line: &[u8],
+    ) -> Result<State, ReadStop>
+        requires small { IsStateWithin 8388608 self }
+        requires short { length line.now ≤ 4194304 }
+        ensures value { GivesLine result (line_after target.now names.now first self line.now) }
+        ensures within { IfOk result (λ s. (n : ℕ) → IsStateWithin n self → IsStateWithin (n + length line.now) s) }
+    {
+        match self {
+            State::Outside(before) => outside_line(alloc, first, before, line),
+            State::Ir => ir_line(line),
+            State::Keys(before, keys) => key_line(alloc, names, before, keys, line),
+            State::Body(before, reading) => {
+                body_or_end(alloc, target, names, before, reading, line)
+            }
+            State::EndOfIr => Err(ReadStop::Fault(TextKind::Layout)),
+            State::Function(_, _) => Err(ReadStop::Fault(TextKind::Layout)),
+        }
+    }
+
+    /// The document where no line is left. None inside a document.
+    #[tactic(auto, unfolding(crate::specs::Document::ended))]
+    fn end(self, alloc: Global, bytes: &[u8]) -> Result<Option<Doc>, AllocError>
+        ensures value { IfOk result (λ d. d ≡ ended bytes.now self) }
+        ensures within { IfOk result (λ o. IfSome o (λ d. (n : ℕ) → IsStateWithin n self → IsBulkWithin n d)) }
+    {
+        match self {
+            State::Outside(_) => Ok(Some(Doc::Rest(List::from_slice(alloc, bytes)?))),
+            State::EndOfIr => Ok(Some(Doc::Ir(List::from_slice(alloc, bytes)?))),
+            State::Function(before, f) => Ok(Some(Doc::Function(before, f))),
+            _ => Ok(None),
+        }
+    }
+}
+
+/// Why no document is read, where a line of this number stops.
+fn at_line(number: u64, stop: ReadStop) -> TextStop
+    ensures { result ≡ stop_at number stop }
+{
+    match stop {
+        ReadStop::Fault(kind) => TextStop::Fault(TextFault { line: number, kind }),
+        ReadStop::Memory(e) => TextStop::Memory(e),
+    }
+}
+
+/// Reads one document, whose first line has the number `line`; `first` says whether IR may stand
+/// here. Fault comes exactly where the bytes spell no document, with the first line that can't
+/// stand behind those before it and the first of Layout, Token and Name that fails there, or with
+/// End and the line behind the last. Each of the numbers of ids, virtual registers, operands and
+/// frame objects of the function is at most the number of bytes.
+pub fn read_doc(
+    alloc: Global,
+    target: &Target,
+    first: bool,
+    line: u64,
+    bytes: &[u8],
+) -> Result<Doc, TextStop>
+    requires small { length bytes.now ≤ 4194304 }
+    requires early { line ≤ 2 ^ 63 }
+    ensures exact { Gives result (document_of target.now first line bytes.now) }
+    ensures bulk { IfOk result (λ d. IsBulkWithin (length bytes.now) d) }
+{
+    let names = Names::new(alloc, target)?;
+    let mut state = State::Outside(List::new(alloc));
+    let mut rest = bytes;
+    let mut number = line;
+    'lines: while !rest.is_empty() {
+        let (text, after) = next_line(rest);
+        state = match state.line(alloc, target, &names, first, text) {
+            Ok(state) => state,
+            Err(stop) => return Err(at_line(number, stop)),
+        };
+        number += 1;
+        rest = after;
+    }
+    match state.end(alloc, bytes)? {
+        None => Err(TextStop::Fault(TextFault {
+            line: number,
+            kind: TextKind::End,
+        })),
+        Some(doc) => Ok(doc),
+    }
+}
