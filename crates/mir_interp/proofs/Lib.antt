@@ -10,5 +10,6 @@ pub mod Performing
 pub mod Placing
 pub mod Reading
 pub mod Stepping
+pub mod Storing
 pub mod Walking
 pub mod Writing

@@ -470,7 +470,7 @@ impl<'a, W: World> Performer<'a, W> {
     ) -> Result<(), AllocError>
         requires { w ≤ 128 }
         ensures calls { outside.new.calls ≡ outside.old.calls }
-        ensures bytes { OnOk result ((env : Environment) (bs : List (ℕ × Value)) → Matches env outside.old.bytes.entries bs → Matches env outside.new.bytes.entries (stored w a (widths_of self.now.rest.now.widths 1) lanes.now bs)) }
+        ensures bytes { OnOk result ((env : Environment) (bs : List (ℕ × Value)) → Matches env outside.old.bytes bs → Matches env outside.new.bytes (stored w a (widths_of self.now.rest.now.widths 1) lanes.now bs)) }
     {
         let width_count = self.rest.widths.len();
         if 1 >= width_count {

@@ -8,7 +8,7 @@ pub returns-in-None : goal.returns-in-None
 returns-in-None g c = λ symbols n env h o r.
     let i = c.args.count - 1 - c.loop-k.k in
     let at = c.low_bits-at.ensures ∙ wrap (c.args.a + (c.args.count - 1 - c.loop-k.k)) c.args.w c.requires in
-    let b = r.bytes c.low_bits-at.result ∙ sym (c.in-None.ensures symbols n env h) in
+    let b = r.bytes.bytes c.low_bits-at.result ∙ sym (c.in-None.ensures symbols n env h r.bytes.valid) in
     let lt : c.args.count - 1 - c.loop-k.k < c.args.count = omega arith in
     sym (load_undef env o c.args.w c.args.a (c.args.count - 1 - c.loop-k.k) c.args.count lt (subst (λ t. byte_at env o.bytes t ≡ None) at b))
 
@@ -16,7 +16,7 @@ pub loop-k-preserved : goal.loop-k-preserved
 loop-k-preserved g c = λ symbols n env h o r.
     let x = c.args.a + (c.args.count - 1 - c.loop-k.k) in
     let at = c.low_bits-at.ensures ∙ wrap (c.args.a + (c.args.count - 1 - c.loop-k.k)) c.args.w c.requires in
-    let b = r.bytes c.low_bits-at.result ∙ sym (c.in-Some.ensures symbols n env h) in
+    let b = r.bytes.bytes c.low_bits-at.result ∙ sym (c.in-Some.ensures symbols n env h r.bytes.valid) in
     let next : c.args.a + (c.args.count - c.loop-k.k) ≡ c.args.a + (c.args.count - 1 - c.loop-k.k) + 1 = omega arith in
     let here : c.args.a + (c.args.count - (c.loop-k.k + 1)) ≡ c.args.a + (c.args.count - 1 - c.loop-k.k) = omega arith in
     let more : c.loop-k.k + 1 ≡ suc c.loop-k.k = omega arith in
