@@ -91,7 +91,7 @@ impl Memory {
         ensures count { OnOk result (length self.new.cells.items ≡ length self.old.cells.items + 16) }
         ensures same { OnOk result ((x : ℕ) → slice_index_or self.new.cells.items x None ≡ slice_index_or self.old.cells.items x None) }
     {
-        for _k in 0..16 {
+        for _k in 0..16usize {
             self.cells.push(None)?;
         }
         Ok(())
