@@ -24,6 +24,7 @@ use Rattle.guarded_alloc.specs.declared.stop.FunctionStop.TheVariants as stops
 use Rattle.mir_text.specs.declared.doc.Doc.{Doc}
 use Rattle.mir_text.specs.declared.doc.Doc.TheVariants as docs
 use Rattle.mir_text.specs.Print.{print_doc}
+use Rattle.interval_text.specs.Lines.{function_line}
 use Rattle.answers.specs.declared.answer.Job.{Job}
 use Rattle.answers.specs.declared.answer.Job.TheVariants as jobs
 use Rattle.answers.specs.declared.answer.Answer.{Answer}
@@ -68,12 +69,17 @@ pub record IsRunOf (t : Target) (f : Function) (n seed : ℕ) (text : List ℕ) 
   pub valid : IsRunnable t f
   pub run : IsTextOfRun t f n seed text
 
+-- the text that says what is live where in a function of a name: the line `function NAME` and others
+abbrev pub IsLiveText : List ℕ → List ℕ → Type 0
+IsLiveText name text = (rest : List ℕ) × (text ≡ function_line name ++ rest)
+
 -- what is written for a function document where the run of the program goes on: the printed allocation, that the
--- function is valid, or nothing where `run` passes over it or `trace` only tells the watchers
+-- function is valid, what is live where in it, or nothing where `run` passes over it or `trace` only tells the watchers
 abbrev pub IsFunctionText : Job → Target → List ℕ → Function → List ℕ → Type 0
 IsFunctionText jobs.Alloc t before f text = IsAllocation t before f text
 IsFunctionText (jobs.Verify form) t before f text = IsValidLine t form f text
 IsFunctionText (jobs.Run name n seed) t before f text = (is_named name.now f ≡ false) × (text ≡ [])
+IsFunctionText jobs.Intervals t before f text = IsTaken t f × IsLiveText f.name text
 IsFunctionText jobs.Trace t before f text = IsTaken t f × (text ≡ [])
 
 -- what is written for a document that is no function: `alloc` writes its bytes, and the other commands nothing
@@ -120,6 +126,12 @@ AllocRefuses t f (status.Unassignable p) detail = IfRefused t f (stops.Unassigna
 AllocRefuses t f status.NotYet detail = IfRefused t f stops.NotYet
 AllocRefuses t f _ detail = ⊥
 
+-- why `intervals` refuses a function: as `alloc` does up to its places
+abbrev pub IntervalsRefuses : Target → Function → Status → List ℕ → Type 0
+IntervalsRefuses t f (status.Limit limits.Ranges) detail = ⊥
+IntervalsRefuses t f status.NotYet detail = ⊥
+IntervalsRefuses t f s detail = AllocRefuses t f s detail
+
 -- why `verify` refuses a function: a limit that it passes; within the limits, its first fault
 abbrev pub VerifyRefuses : Target → Form → Function → Status → List ℕ → Type 0
 VerifyRefuses t form f (status.Limit l) detail = passed_limit f ≡ Some l
@@ -139,6 +151,7 @@ abbrev pub FunctionRefuses : Job → Target → Function → Status → List ℕ
 FunctionRefuses jobs.Alloc t f s detail = AllocRefuses t f s detail
 FunctionRefuses (jobs.Verify form) t f s detail = VerifyRefuses t form f s detail
 FunctionRefuses (jobs.Run name n seed) t f s detail = (is_named name.now f ≡ true) × RunRefuses t f s detail
+FunctionRefuses jobs.Intervals t f s detail = IntervalsRefuses t f s detail
 FunctionRefuses jobs.Trace t f s detail = AllocRefuses t f s detail
 
 -- why a document is refused; only functions are
@@ -170,6 +183,11 @@ abbrev pub IsTraceAnswer : Target → Function → Answer → Type 0
 IsTraceAnswer t f (answers.Text text) = IsTaken t f × (text ≡ [])
 IsTraceAnswer t f (answers.Last text) = ⊥
 IsTraceAnswer t f (answers.Refused s detail) = AllocRefuses t f s detail
+
+abbrev pub IsIntervalsAnswer : Target → Function → Answer → Type 0
+IsIntervalsAnswer t f (answers.Text text) = IsTaken t f × IsLiveText f.name text
+IsIntervalsAnswer t f (answers.Last text) = ⊥
+IsIntervalsAnswer t f (answers.Refused s detail) = IntervalsRefuses t f s detail
 
 abbrev pub IsRunAnswer : Target → ℕ → ℕ → Function → Answer → Type 0
 IsRunAnswer t n seed f (answers.Text text) = ⊥
@@ -212,3 +230,18 @@ abbrev pub IsTakenAnswer : List ℕ → Answer → Type 0
 IsTakenAnswer name (answers.Text text) = text ≡ []
 IsTakenAnswer name (answers.Last text) = ⊥
 IsTakenAnswer name (answers.Refused s detail) = LateRefuses name s detail
+
+-- a refusal of a valid function of a name within the limits for one of its places
+abbrev pub PlaceRefuses : List ℕ → Status → List ℕ → Type 0
+PlaceRefuses name (status.Limit limits.Variables) detail = Unit {0}
+PlaceRefuses name (status.Unassignable p) detail = detail ≡ unassignable_words name p
+PlaceRefuses name s detail = ⊥
+
+abbrev pub IsPlaceRefusal : List ℕ → Answer → Type 0
+IsPlaceRefusal name (answers.Refused s detail) = PlaceRefuses name s detail
+IsPlaceRefusal name a = ⊥
+
+abbrev pub IsLiveAnswer : List ℕ → Answer → Type 0
+IsLiveAnswer name (answers.Text text) = IsLiveText name text
+IsLiveAnswer name (answers.Last text) = ⊥
+IsLiveAnswer name (answers.Refused s detail) = PlaceRefuses name s detail

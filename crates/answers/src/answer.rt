@@ -24,6 +24,8 @@ pub enum Job<'a> {
     Verify(Form),
     /// The first function of a name is run through N counted instructions in the environment of SEED.
     Run(&'a str, u64, u64),
+    /// Of each function it is written what is live where once it is made ready for the allocator's run.
+    Intervals,
     /// Each function is allocated for the watchers, whose lines are written at the end.
     Trace,
 }
@@ -47,6 +49,7 @@ pub fn end_status(job: Job) -> Status
         Job::Alloc => Status::Done,
         Job::Verify(_) => Status::Done,
         Job::Run(_, _, _) => Status::Usage,
+        Job::Intervals => Status::Done,
         Job::Trace => Status::Done,
     }
 }

@@ -5,6 +5,7 @@ ghost use Rattle.guarded_alloc.specs.Function.{IfRefused};
 ghost use Rattle.answers.specs.Documents.{IsDocAnswer, IsFunctionAnswer, IsAllocAnswer, IsAllocRefusal, IsEndText, tells, text_of_lines};
 
 use crate::answer::{Answer, Job};
+use crate::intervals::intervals_of;
 use crate::run::at_named;
 use crate::status::Status;
 use crate::told::lines_of;
@@ -83,6 +84,7 @@ fn at_function<W: Watcher>(
         Job::Alloc => allocated_function(alloc, target, before, f, next(number), watchers),
         Job::Verify(form) => verified_function(alloc, target, form, f),
         Job::Run(name, n, seed) => at_named(alloc, target, name, n, seed, f),
+        Job::Intervals => intervals_of(alloc, target, f),
         Job::Trace => traced(alloc, target, f, next(number), watchers),
     }
 }
@@ -96,6 +98,7 @@ fn at_lines(alloc: Global, job: Job, lines: Bytes) -> Bytes
         Job::Alloc => lines,
         Job::Verify(_) => Bytes::new(alloc),
         Job::Run(_, _, _) => Bytes::new(alloc),
+        Job::Intervals => Bytes::new(alloc),
         Job::Trace => Bytes::new(alloc),
     }
 }

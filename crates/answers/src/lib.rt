@@ -4,6 +4,7 @@
 
 pub mod answer;
 pub mod documents;
+mod intervals;
 mod run;
 pub mod spot;
 pub mod status;

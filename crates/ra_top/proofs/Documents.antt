@@ -92,6 +92,7 @@ pub finished_as : (job : Job) (old new : Option (List ℕ)) (s : Status) → s �
 finished_as jobs.Alloc old new s e is = subst (λ x. Finishes jobs.Alloc old new x) (sym e) (refl, is)
 finished_as (jobs.Verify form) old new s e is = subst (λ x. Finishes (jobs.Verify form) old new x) (sym e) (refl, is)
 finished_as (jobs.Run name n seed) old new s e is = subst (λ x. Finishes (jobs.Run name n seed) old new x) (sym e) (refl, is)
+finished_as jobs.Intervals old new s e is = subst (λ x. Finishes jobs.Intervals old new x) (sym e) (refl, is)
 finished_as jobs.Trace old new s e is = subst (λ x. Finishes jobs.Trace old new x) (sym e) (refl, is)
 
 over_done : (job : Job) (t : Target) (spot : Spot) (text : List ℕ) (left old new : Option (List ℕ)) (detail : List ℕ) → text ≡ [] → status.Done ≡ end_status job → IsEnded job old new → EndsHere job t spot text left old new status.Done detail

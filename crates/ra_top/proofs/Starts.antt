@@ -52,7 +52,7 @@ memory_does (Some (Alloc t f)) contents left old f0 f1 e0 e1 told = record { fil
 memory_does (Some (VerifySource t f)) contents left old f0 f1 e0 e1 told = record { file = t; detail = []; does = out_of_memory (jobs.Verify forms.Source) t f contents left old; told = told }
 memory_does (Some (VerifyAllocated t f)) contents left old f0 f1 e0 e1 told = record { file = t; detail = []; does = out_of_memory (jobs.Verify forms.Allocated) t f contents left old; told = told }
 memory_does (Some (Run t f g n s)) contents left old f0 f1 e0 e1 told = record { file = []; detail = []; does = inl (refl, refl); told = told }
-memory_does (Some (Intervals t f)) contents left old f0 f1 e0 e1 told = record { file = []; detail = []; does = (inr refl, refl); told = told }
+memory_does (Some (Intervals t f)) contents left old f0 f1 e0 e1 told = record { file = t; detail = []; does = out_of_memory jobs.Intervals t f contents left old; told = told }
 memory_does (Some (Trace t f)) contents left old f0 f1 e0 e1 told = record { file = t; detail = []; does = out_of_memory jobs.Trace t f contents left old; told = told }
 memory_does (Some (Gen s)) contents left old f0 f1 e0 e1 told = record { file = []; detail = []; does = (inr refl, refl); told = told }
 

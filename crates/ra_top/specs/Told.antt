@@ -10,7 +10,7 @@ use Rattle.mir_meaning.specs.declared.Form.TheVariants as forms
 use Rattle.target_desc.specs.declared.fault.TargetFault.{TargetFault}
 use Rattle.devices.specs.Device.{Rose, WritesPart, WritesAll}
 use Rattle.devices.specs.Pieces.{is_whole, NoneWhole}
-use Rattle.commands.specs.Words.{Asked, Alloc, VerifySource, VerifyAllocated, Run, Trace, is_word}
+use Rattle.commands.specs.Words.{Asked, Alloc, VerifySource, VerifyAllocated, Run, Intervals, Trace, Gen, is_word}
 use Rattle.answers.specs.declared.answer.Job.{Job}
 use Rattle.answers.specs.declared.answer.Job.TheVariants as jobs
 use Rattle.ra_top.specs.declared.ending.Ending.{Ending}
@@ -243,6 +243,7 @@ is_built (Some (Alloc t f)) = true
 is_built (Some (VerifySource t f)) = true
 is_built (Some (VerifyAllocated t f)) = true
 is_built (Some (Run t f g n seed)) = true
+is_built (Some (Intervals t f)) = true
 is_built (Some (Trace t f)) = true
 is_built _ = false
 
@@ -263,8 +264,9 @@ Does (Some (Alloc t f)) contents left old new s file detail = DoesJob jobs.Alloc
 Does (Some (VerifySource t f)) contents left old new s file detail = DoesJob (jobs.Verify forms.Source) t f contents left old new s file detail
 Does (Some (VerifyAllocated t f)) contents left old new s file detail = DoesJob (jobs.Verify forms.Allocated) t f contents left old new s file detail
 Does (Some (Run t f g n seed)) contents left old new s file detail = DoesRun t f g n seed contents left old new s file detail
+Does (Some (Intervals t f)) contents left old new s file detail = DoesJob jobs.Intervals t f contents left old new s file detail
 Does (Some (Trace t f)) contents left old new s file detail = DoesJob jobs.Trace t f contents left old new s file detail
-Does (Some _) contents left old new s file detail = ((s ≡ status.NotYet) ⊎ (s ≡ status.Memory)) × (new ≡ old)
+Does (Some (Gen seed)) contents left old new s file detail = ((s ≡ status.NotYet) ⊎ (s ≡ status.Memory)) × (new ≡ old)
 
 -- it is done, and the line is told of it
 pub record DoesAll (asked : Option Asked) (contents : List ℕ → Option (List ℕ)) (left old new : Option (List ℕ)) (old_faults new_faults : ℕ) (err_old err_new : Option (List ℕ)) (s : Status) : Type 0 where

@@ -74,10 +74,22 @@ pub fn top<F: Files, O: Sink, E: Sink, W: Watcher>(
             let job = Job::Run(name, n, seed);
             over_file(alloc, job, target, file, files, out, err, watchers)
         }
+        Ok(Some(Command::Intervals(target, file))) => {
+            over_file(
+                alloc,
+                Job::Intervals,
+                target,
+                file,
+                files,
+                out,
+                err,
+                watchers,
+            )
+        }
         Ok(Some(Command::Trace(target, file))) => {
             over_file(alloc, Job::Trace, target, file, files, out, err, watchers)
         }
-        Ok(Some(_)) => tell(err, ends(alloc, Status::NotYet), ""),
+        Ok(Some(Command::Gen(_))) => tell(err, ends(alloc, Status::NotYet), ""),
     }
 }
 

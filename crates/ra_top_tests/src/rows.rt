@@ -164,10 +164,6 @@ fn allocates(rt: HostRuntime) -> Result<(), Fail> {
     )
 }
 
-fn not_yet(words: &'static [&'static str], file: &'static [u8]) -> Row {
-    refused(words, file, Status::NotYet, b"llra: not yet\n")
-}
-
 /// A call of other words that succeeds.
 fn done_by(words: &'static [&'static str], file: &'static [u8], out: &'static [u8]) -> Row {
     Row {
@@ -175,6 +171,9 @@ fn done_by(words: &'static [&'static str], file: &'static [u8], out: &'static [u
         ..done(file, out)
     }
 }
+
+const INTERVALS_OF_MEMORY: &[u8] =
+    b"function f\nbb.0 freq 16384\n%0 gr32 weight 4194304\n  lane 0 [16r,48r)\n  lane 1 [16r,48r)\n  lane 2 [16r,48r)\n%1 gr32 weight 3355443\n  lane 0 [32r,48r)\n  lane 1 [32r,48r)\n  lane 2 [32r,48r)\n";
 
 const TRACE_OF_MEMORY: &[u8] = b"function 0\nassign %0 $eax\nassign %1 $ecx\n";
 
@@ -201,6 +200,7 @@ fn does_what_other_words_ask(rt: HostRuntime) -> Result<(), Fail> {
                 b"llra: f: bb.0:0: V14\n",
             ),
             done_by(&["trace", "-", "IN"], MEMORY, TRACE_OF_MEMORY),
+            done_by(&["intervals", "-", "IN"], MEMORY, INTERVALS_OF_MEMORY),
             done_by(
                 &["run", "-", "IN", "f", "10", "7"],
                 COPIES,
@@ -240,8 +240,6 @@ fn refuses_other_words(rt: HostRuntime) -> Result<(), Fail> {
             usage(&["run", "-", "IN", "f", "1", "1234567890"]),
             usage(&["gen", ""]),
             usage(&["run", "-", "IN", "h", "1", "1"]),
-            not_yet(&["intervals", "-", "IN"], RET),
-            not_yet(&["gen", "007"], RET),
             Row {
                 words: &["alloc", "--", "-", "IN"],
                 ..done(RET, RET)
