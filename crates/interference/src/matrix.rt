@@ -426,7 +426,23 @@ impl Matrix {
     /// Does edits in order. What is live, and what the assigned ranges hold, is brought up to date
     /// once, after the last of them. After a refusal the function and the registers are unchanged.
     pub fn edit_all(&mut self, edits: Vec<Edit>) -> Result<(), AllocError> {
-        let mut changes = self.live.begin_edits(edits)?;
+        let changes = self.live.begin_edits(edits)?;
+        self.settle(changes)
+    }
+
+    /// Does edits as `edit_all` does, which is done sooner where these edit each instruction that
+    /// touches an unassigned range.
+    pub fn edit_all_of(&mut self, edits: Vec<Edit>, v: u32) -> Result<(), AllocError> {
+        if self.register_of(v).is_some() {
+            return self.edit_all(edits);
+        }
+        let changes = self.live.begin_edits_of(edits, v)?;
+        self.settle(changes)
+    }
+
+    /// Brings what the assigned ranges hold up to date after edits, and keeps these.
+    fn settle(&mut self, changes: Changes) -> Result<(), AllocError> {
+        let mut changes = changes;
         self.let_go(&changes);
         match self.hold(&changes) {
             Ok(()) => {

@@ -125,7 +125,7 @@ pub(crate) fn acts_of(
     instr: &Instr,
 ) -> Result<Vec<Act>, AllocError> {
     let effects = reader.effects(instr)?;
-    let mut acts = Vec::new(alloc);
+    let mut acts = Vec::with_capacity(alloc, 8)?;
     note_reads(&mut acts, instr.id, &effects)?;
     note_moves(&mut acts, instr.id, &effects)?;
     note_writes(&mut acts, &effects)?;

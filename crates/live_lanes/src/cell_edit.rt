@@ -243,12 +243,16 @@ impl Row {
         }
     }
 
-    /// The place of the cell of a block, which is made where there is none.
-    pub fn find_or_make(&mut self, alloc: Global, block: u32) -> Result<usize, AllocError> {
-        match self.find(block) {
-            Some(place) => Ok(place),
-            None => self.make(alloc, block),
+    /// Makes the cell of a block, where it is to stand behind all others.
+    pub fn make_last(&mut self, alloc: Global, block: u32) -> Result<(), AllocError> {
+        let is_last = match self.cells.last() {
+            Some(cell) => cell.block > block,
+            None => true,
+        };
+        if is_last {
+            let _ = self.make(alloc, block)?;
         }
+        Ok(())
     }
 
     /// Does a change of the cell at a place, and answers the one that takes it back. After a

@@ -1,7 +1,8 @@
 //! What edits changed, and what takes it back.
 
 use crate::cell_edit::CellEdit;
-use crate::row::{Cause, End};
+use crate::lanes::Lanes;
+use crate::row::{Cause, End, Row};
 use crate::table::{Spot, Table};
 use mir_func::{Func, Op, Operands};
 use std::alloc::{AllocError, Global};
@@ -23,6 +24,8 @@ pub struct Mended {
 enum Undo {
     /// A piece's cell was changed.
     Cell(Mended, CellEdit),
+    /// A lane had these cells.
+    Row(u32, Row),
     /// An instruction came to the block at a position.
     Put(u32, u32),
     /// An instruction of the block at a position had this opcode and these operands.
@@ -40,10 +43,11 @@ pub(crate) struct Log {
 }
 
 impl Log {
-    pub fn new(alloc: Global) -> Log {
-        Log {
-            entries: Vec::new(alloc),
-        }
+    /// No changes, with room for so many.
+    pub fn new(alloc: Global, room: usize) -> Result<Log, AllocError> {
+        Ok(Log {
+            entries: Vec::with_capacity(alloc, room)?,
+        })
     }
 
     /// Makes room for one more entry.
@@ -58,6 +62,10 @@ impl Log {
 
     pub fn add_cell(&mut self, mended: Mended, back: CellEdit) -> Result<(), AllocError> {
         self.add(Undo::Cell(mended, back))
+    }
+
+    fn add_row(&mut self, lane: u32, row: Row) -> Result<(), AllocError> {
+        self.add(Undo::Row(lane, row))
     }
 
     pub fn add_put(&mut self, block: u32, id: u32) -> Result<(), AllocError> {
@@ -120,16 +128,23 @@ fn mended_from(spot: Spot, start: Option<u32>) -> Mended {
 }
 
 impl Table {
-    /// Does a change of a lane's cell in a block, and notes what takes it back. The piece that it
+    /// Does a change of a lane's cell at a place, and notes what takes it back. The piece that it
     /// speaks of begins with this instruction, or with the block.
     pub fn edit_cell(
         &mut self,
         mended: Mended,
+        place: usize,
         edit: CellEdit,
         log: &mut Log,
     ) -> Result<(), AllocError> {
+        if let CellEdit::Nothing = edit {
+            return Ok(());
+        }
         log.reserve()?;
-        let back = self.change_cell(mended, edit)?;
+        let Some(row) = self.rows.rows.get_mut(mended.lane as usize) else {
+            return Ok(());
+        };
+        let back = row.edit(place, edit)?;
         log.add_cell(mended, back)
     }
 
@@ -138,38 +153,95 @@ impl Table {
         let Some(row) = self.rows.rows.get_mut(mended.lane as usize) else {
             return Ok(CellEdit::Nothing);
         };
-        let place = row.find_or_make(alloc, mended.block)?;
+        let place = row.make(alloc, mended.block)?;
         row.edit(place, edit)
     }
 
-    /// Gives a piece a cause, where it has another.
-    pub fn set_cause(&mut self, spot: Spot, cause: Cause, log: &mut Log) -> Result<(), AllocError> {
+    /// Takes all cells of some lanes away.
+    pub fn take_rows(&mut self, own: Lanes, log: &mut Log) -> Result<(), AllocError> {
+        'lanes: for k in 0..own.count {
+            if let Some(lane) = own.lane(k) {
+                self.take_row(lane, log)?;
+            }
+        }
+        Ok(())
+    }
+
+    fn take_row(&mut self, lane: u32, log: &mut Log) -> Result<(), AllocError> {
+        log.reserve()?;
+        let none = Row::new(self.rows.alloc);
+        match self.rows.rows.get_mut(lane as usize) {
+            Some(row) => log.add_row(lane, mem::replace(row, none)),
+            None => Ok(()),
+        }
+    }
+
+    fn put_row(&mut self, lane: u32, old: Row) {
+        if let Some(row) = self.rows.rows.get_mut(lane as usize) {
+            *row = old;
+        }
+    }
+
+    /// Gives a piece a cause, where it isn't live. Answers whether it does.
+    pub fn give_cause(
+        &mut self,
+        spot: Spot,
+        cause: Cause,
+        log: &mut Log,
+    ) -> Result<bool, AllocError> {
         log.reserve()?;
         let alloc = self.rows.alloc;
         let Some(row) = self.rows.rows.get_mut(spot.lane as usize) else {
-            return Ok(());
+            return Ok(false);
         };
-        let place = row.find_or_make(alloc, spot.block)?;
+        let place = row.make(alloc, spot.block)?;
         let start = match row.cells.get(place) {
-            Some(cell) if cell.cause_of(spot.index) != cause => cell.start_of(spot.index),
-            _ => return Ok(()),
+            Some(cell) if cell.cause_of(spot.index) == Cause::None => cell.start_of(spot.index),
+            _ => return Ok(false),
         };
         let back = row.edit(place, CellEdit::SetCause(spot.index, cause))?;
-        log.add_cell(mended_from(spot, start), back)
+        log.add_cell(mended_from(spot, start), back)?;
+        Ok(true)
     }
 
-    /// Gives a piece an end, where it has another.
-    pub fn set_end(&mut self, spot: Spot, end: End, log: &mut Log) -> Result<(), AllocError> {
+    /// Gives a live piece a reading that needs no other lane as its cause, or none. Answers whether
+    /// it has none then.
+    pub fn take_cause(&mut self, spot: Spot, log: &mut Log) -> Result<bool, AllocError> {
+        log.reserve()?;
+        let Some(row) = self.rows.rows.get_mut(spot.lane as usize) else {
+            return Ok(false);
+        };
+        let Some(place) = row.find(spot.block) else {
+            return Ok(false);
+        };
+        let Some(cell) = row.cells.get(place) else {
+            return Ok(false);
+        };
+        let cause = cell.certain_cause(spot.index);
+        if cell.cause_of(spot.index) == cause {
+            return Ok(false);
+        }
+        let start = cell.start_of(spot.index);
+        let back = row.edit(place, CellEdit::SetCause(spot.index, cause))?;
+        log.add_cell(mended_from(spot, start), back)?;
+        Ok(cause == Cause::None)
+    }
+
+    /// Gives a piece of the cell at a place an end.
+    pub fn set_end(
+        &mut self,
+        spot: Spot,
+        place: usize,
+        end: End,
+        log: &mut Log,
+    ) -> Result<(), AllocError> {
         log.reserve()?;
         let Some(row) = self.rows.rows.get_mut(spot.lane as usize) else {
             return Ok(());
         };
-        let Some(place) = row.find(spot.block) else {
-            return Ok(());
-        };
         let start = match row.cells.get(place) {
-            Some(cell) if cell.end_of(spot.index) != end => cell.start_of(spot.index),
-            _ => return Ok(()),
+            Some(cell) => cell.start_of(spot.index),
+            None => return Ok(()),
         };
         let back = row.edit(place, CellEdit::SetEnd(spot.index, end))?;
         log.add_cell(mended_from(spot, start), back)
@@ -219,6 +291,7 @@ impl Table {
             Undo::Cell(mended, back) => {
                 let _ = self.change_cell(mended, back);
             }
+            Undo::Row(lane, row) => self.put_row(lane, row),
             Undo::Put(block, id) => {
                 let place = self.place_in(func, block, id);
                 if self.stands_at(func, block, place, id) {

@@ -6,7 +6,7 @@
 
 use crate::edit_log::Log;
 use crate::flow::{predecessors, successors, terminators};
-use crate::row::{Cause, Cell, End, Reading, rank};
+use crate::row::{Cause, Cell, End, Reading, entry_rank, exit_rank, rank};
 use crate::table::{Spot, Table};
 use std::alloc::AllocError;
 
@@ -19,12 +19,10 @@ pub(crate) struct Touch {
     pub id: u32,
 }
 
-/// A lane is live up to an end in a block, for a cause.
+/// A piece is live for a cause.
 #[derive(Clone, Copy, PartialEq, Eq)]
 pub(crate) struct Need {
-    lane: u32,
-    block: u32,
-    end: End,
+    spot: Spot,
     cause: Cause,
 }
 
@@ -33,44 +31,62 @@ fn lies_in(order: &slot_index::Slots, cell: &Cell, index: usize, end: End) -> bo
     cell.piece_at(order, rank(order, end)) == index
 }
 
+/// Adds a piece, unless it is among those that were added last.
+fn add_new(spots: &mut Vec<Spot>, spot: Spot) -> Result<(), AllocError> {
+    let is_there = spots.iter().rev().take(4).any(|near| {
+        near.block == spot.block && near.lane == spot.lane && near.index == spot.index
+    });
+    if !is_there {
+        spots.push(spot)?;
+    }
+    Ok(())
+}
+
 impl Table {
-    /// Adds the piece of a lane that an end lies in.
-    fn add_spot(
-        &self,
-        lane: u32,
-        block: u32,
-        end: End,
-        spots: &mut Vec<Spot>,
-    ) -> Result<(), AllocError> {
-        if let Some(spot) = self.spot_at(lane, block, end) {
-            spots.push(spot)?;
-        }
-        Ok(())
+    /// The piece of a lane that an end lies in. Where the lane has none in the block, it is the one
+    /// that would begin with the block.
+    fn spot_at(&self, lane: u32, block: u32, end: End) -> Spot {
+        let index = match self.rows.cell(lane, block) {
+            Some(cell) => cell.piece_at(&self.order.slots, rank(&self.order.slots, end)),
+            None => 0,
+        };
+        Spot { lane, block, index }
     }
 
-    /// The piece of a lane that an end lies in.
-    fn spot_at(&self, lane: u32, block: u32, end: End) -> Option<Spot> {
-        let cell = self.rows.cell(lane, block)?;
-        let index = cell.piece_at(&self.order.slots, rank(&self.order.slots, end));
-        Some(Spot { lane, block, index })
+    /// Adds the pieces of a lane on both sides of an instruction that was changed.
+    fn add_sides(&self, touch: &Touch, spots: &mut Vec<Spot>) -> Result<(), AllocError> {
+        let Touch { lane, block, id } = *touch;
+        let Some(cell) = self.rows.cell(lane, block) else {
+            return Ok(());
+        };
+        let slots = &self.order.slots;
+        let before = cell.piece_at(slots, entry_rank(slots, id));
+        let behind = cell.piece_at(slots, exit_rank(slots, id));
+        let index = before;
+        add_new(spots, Spot { lane, block, index })?;
+        if behind == before {
+            return Ok(());
+        }
+        let index = behind;
+        add_new(spots, Spot { lane, block, index })
     }
 
     /// The pieces on both sides of the instructions that were changed.
     fn suspects(&self, touched: &[Touch]) -> Result<Vec<Spot>, AllocError> {
         let mut spots = Vec::new(self.rows.alloc);
         'touched: for touch in touched {
-            self.add_spot(touch.lane, touch.block, End::Entry(touch.id), &mut spots)?;
-            self.add_spot(touch.lane, touch.block, End::Exit(touch.id), &mut spots)?;
+            self.add_sides(touch, &mut spots)?;
         }
-        spots.dedup();
         Ok(spots)
     }
 
     /// The ids of the instructions that were changed, in order.
     fn touched_ids(&self, touched: &[Touch]) -> Result<Vec<u32>, AllocError> {
-        let mut ids = Vec::with_capacity(self.rows.alloc, touched.len())?;
+        let mut ids = Vec::new(self.rows.alloc);
         'touched: for touch in touched {
-            ids.push(touch.id)?;
+            if ids.last() != Some(&touch.id) {
+                ids.push(touch.id)?;
+            }
         }
         ids.sort_unstable();
         Ok(ids)
@@ -81,18 +97,17 @@ impl Table {
         let suspects = self.suspects(touched)?;
         let ids = self.touched_ids(touched)?;
         let mut fallen = self.look_again(suspects.as_slice(), ids.as_slice(), log)?;
-        self.fall(&mut fallen, log)?;
+        let mut around = Vec::new(self.rows.alloc);
+        self.fall(&mut fallen, &mut around, log)?;
         // What has a reason is found before anything comes alive again.
         let mut reasons = Vec::new(self.rows.alloc);
         self.ask(suspects.as_slice(), &mut reasons)?;
         self.ask(fallen.as_slice(), &mut reasons)?;
-        let risen = self.rise(reasons.as_slice(), log)?;
-        let mut concerned = suspects;
-        self.add_around(fallen.as_slice(), &mut concerned)?;
-        self.add_around(risen.as_slice(), &mut concerned)?;
-        concerned.sort_unstable_by_key(|spot| (spot.lane, spot.block, spot.index));
-        concerned.dedup();
-        self.end_again(concerned.as_slice(), log)
+        let risen = self.rise(reasons.as_slice(), &mut around, log)?;
+        self.end_again(suspects.as_slice(), log)?;
+        self.end_again(fallen.as_slice(), log)?;
+        self.end_again(risen.as_slice(), log)?;
+        self.end_again(around.as_slice(), log)
     }
 
     /// Looks at the causes of pieces again, and answers those that fell.
@@ -144,23 +159,20 @@ impl Table {
         fallen: &mut Vec<Spot>,
         log: &mut Log,
     ) -> Result<(), AllocError> {
-        let cause = self.certain_cause(spot);
-        self.set_cause(spot, cause, log)?;
-        if cause == Cause::None {
+        if self.take_cause(spot, log)? {
             fallen.push(spot)?;
         }
         Ok(())
     }
 
-    fn certain_cause(&self, spot: Spot) -> Cause {
-        match self.rows.cell(spot.lane, spot.block) {
-            Some(cell) => cell.certain_cause(spot.index),
-            None => Cause::None,
-        }
-    }
-
-    /// Lets all fall that is live for the sake of fallen pieces, and adds it to them.
-    fn fall(&mut self, fallen: &mut Vec<Spot>, log: &mut Log) -> Result<(), AllocError> {
+    /// Lets all fall that is live for the sake of fallen pieces, and adds it to them. The other pieces
+    /// that they kept live are added to those around.
+    fn fall(
+        &mut self,
+        fallen: &mut Vec<Spot>,
+        around: &mut Vec<Spot>,
+        log: &mut Log,
+    ) -> Result<(), AllocError> {
         let mut needs = Vec::new(self.rows.alloc);
         'fallen: for k in 0..usize::MAX {
             let Some(spot) = fallen.get(k).copied() else {
@@ -168,7 +180,7 @@ impl Table {
             };
             needs.clear();
             self.add_needs(spot, &mut needs)?;
-            self.lose_all(needs.as_slice(), fallen, log)?;
+            self.lose_all(needs.as_slice(), fallen, around, log)?;
         }
         Ok(())
     }
@@ -177,14 +189,14 @@ impl Table {
         &mut self,
         needs: &[Need],
         fallen: &mut Vec<Spot>,
+        around: &mut Vec<Spot>,
         log: &mut Log,
     ) -> Result<(), AllocError> {
         'needs: for need in needs {
-            if let Some(spot) = self.spot_at(need.lane, need.block, need.end) {
-                if self.cause_of(spot) == need.cause {
-                    self.lose_cause(spot, fallen, log)?;
-                }
+            if self.cause_of(need.spot) == need.cause {
+                self.lose_cause(need.spot, fallen, log)?;
             }
+            add_new(around, need.spot)?;
         }
         Ok(())
     }
@@ -199,9 +211,7 @@ impl Table {
         };
         if let Some((id, lane)) = cell.moved(spot.index) {
             needs.push(Need {
-                lane,
-                block: spot.block,
-                end: End::Entry(id),
+                spot: self.spot_at(lane, spot.block, End::Entry(id)),
                 cause: Cause::Reading(id),
             })?;
         }
@@ -217,21 +227,41 @@ impl Table {
     }
 
     fn add_exits(&self, spot: Spot, block: u32, needs: &mut Vec<Need>) -> Result<(), AllocError> {
-        let cause = Cause::Follower(spot.block);
         let lane = spot.lane;
+        let cause = Cause::Follower(spot.block);
+        let cell = self.rows.cell(lane, block);
+        let index = match cell {
+            Some(cell) => cell.segments.len(),
+            None => 0,
+        };
         needs.push(Need {
-            lane,
-            block,
-            end: End::Last,
+            spot: Spot { lane, block, index },
             cause,
         })?;
+        match cell {
+            Some(cell) if index > 0 => self.add_inner_exits(lane, cell, cause, needs),
+            _ => Ok(()),
+        }
+    }
+
+    /// Adds the pieces before the last one in which the exits of terminators lie.
+    fn add_inner_exits(
+        &self,
+        lane: u32,
+        cell: &Cell,
+        cause: Cause,
+        needs: &mut Vec<Need>,
+    ) -> Result<(), AllocError> {
+        let slots = &self.order.slots;
+        let block = cell.block;
         'terminators: for id in terminators(self.flow.as_slice(), block) {
-            needs.push(Need {
-                lane,
-                block,
-                end: End::Exit(*id),
-                cause,
-            })?;
+            let index = cell.piece_at(slots, exit_rank(slots, *id));
+            if index < cell.segments.len() {
+                needs.push(Need {
+                    spot: Spot { lane, block, index },
+                    cause,
+                })?;
+            }
         }
         Ok(())
     }
@@ -302,11 +332,16 @@ impl Table {
     }
 
     /// Lets pieces come alive for their reasons, and all that leads to them, the nearest first.
-    /// Answers them.
-    fn rise(&mut self, reasons: &[(Spot, Cause)], log: &mut Log) -> Result<Vec<Spot>, AllocError> {
+    /// Answers them. The pieces that lead to them and are live already are added to those around.
+    fn rise(
+        &mut self,
+        reasons: &[(Spot, Cause)],
+        around: &mut Vec<Spot>,
+        log: &mut Log,
+    ) -> Result<Vec<Spot>, AllocError> {
         let mut risen = Vec::new(self.rows.alloc);
         'reasons: for (spot, cause) in reasons {
-            self.rise_at(*spot, *cause, &mut risen, log)?;
+            self.rise_at(*spot, *cause, &mut risen, around, log)?;
         }
         let mut needs = Vec::new(self.rows.alloc);
         'risen: for k in 0..usize::MAX {
@@ -315,7 +350,7 @@ impl Table {
             };
             needs.clear();
             self.add_needs(spot, &mut needs)?;
-            self.meet_all(needs.as_slice(), &mut risen, log)?;
+            self.meet_all(needs.as_slice(), &mut risen, around, log)?;
         }
         Ok(risen)
     }
@@ -326,75 +361,55 @@ impl Table {
         spot: Spot,
         cause: Cause,
         risen: &mut Vec<Spot>,
+        around: &mut Vec<Spot>,
         log: &mut Log,
     ) -> Result<(), AllocError> {
-        if self.cause_of(spot) != Cause::None {
+        if self.give_cause(spot, cause, log)? {
+            risen.push(spot)?;
             return Ok(());
         }
-        self.set_cause(spot, cause, log)?;
-        risen.push(spot)?;
-        Ok(())
+        add_new(around, spot)
     }
 
     fn meet_all(
         &mut self,
         needs: &[Need],
         risen: &mut Vec<Spot>,
+        around: &mut Vec<Spot>,
         log: &mut Log,
     ) -> Result<(), AllocError> {
         'needs: for need in needs {
-            let spot = self.spot_for(need);
-            self.rise_at(spot, need.cause, risen, log)?;
+            self.rise_at(need.spot, need.cause, risen, around, log)?;
         }
         Ok(())
-    }
-
-    /// The piece in which a lane is to be live. Where the lane has none in the block yet, it is the
-    /// one that begins with the block.
-    fn spot_for(&self, need: &Need) -> Spot {
-        match self.spot_at(need.lane, need.block, need.end) {
-            Some(spot) => spot,
-            None => Spot {
-                lane: need.lane,
-                block: need.block,
-                index: 0,
-            },
-        }
     }
 
     /// Gives pieces their ends anew.
     fn end_again(&mut self, spots: &[Spot], log: &mut Log) -> Result<(), AllocError> {
         'spots: for spot in spots {
-            let end = self.end_now(*spot);
-            self.set_end(*spot, end, log)?;
+            if let Some((place, end)) = self.new_end(*spot) {
+                self.set_end(*spot, place, end, log)?;
+            }
         }
         Ok(())
     }
 
-    /// Adds pieces, and those that they keep live.
-    fn add_around(&self, spots: &[Spot], concerned: &mut Vec<Spot>) -> Result<(), AllocError> {
-        let mut needs = Vec::new(self.rows.alloc);
-        'spots: for spot in spots {
-            concerned.push(*spot)?;
-            needs.clear();
-            self.add_needs(*spot, &mut needs)?;
-            self.add_spots(needs.as_slice(), concerned)?;
+    /// Up to where a piece is live now, where this is another end than it has, and the place of its
+    /// cell.
+    fn new_end(&self, spot: Spot) -> Option<(usize, End)> {
+        let row = self.rows.rows.get(spot.lane as usize)?;
+        let place = row.find(spot.block)?;
+        let cell = row.cells.get(place)?;
+        let end = self.end_now(spot, cell);
+        if end == cell.end_of(spot.index) {
+            None
+        } else {
+            Some((place, end))
         }
-        Ok(())
-    }
-
-    fn add_spots(&self, needs: &[Need], concerned: &mut Vec<Spot>) -> Result<(), AllocError> {
-        'needs: for need in needs {
-            self.add_spot(need.lane, need.block, need.end, concerned)?;
-        }
-        Ok(())
     }
 
     /// Up to where a piece is live, by the readings and exits that count.
-    fn end_now(&self, spot: Spot) -> End {
-        let Some(cell) = self.rows.cell(spot.lane, spot.block) else {
-            return End::Never;
-        };
+    fn end_now(&self, spot: Spot, cell: &Cell) -> End {
         let Some(piece) = cell.piece(spot.index) else {
             return End::Never;
         };

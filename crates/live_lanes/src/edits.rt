@@ -6,10 +6,11 @@ use crate::edit_log::{Log, Mended};
 use crate::edit_update::Touch;
 use crate::effects::{Reader, Tables};
 use crate::enter::slot_of;
+use crate::lanes::{Lanes, NO_LANES};
 use crate::live::LiveFunc;
 use crate::row::{Cause, Cell, End, Piece, Reading, Row, Segment, entry_rank};
 use crate::table::Table;
-use mir_func::{Func, Gap, Op, Operand, Operands, RegOp};
+use mir_func::{Func, Gap, Loc, Op, Operand, Operands, RegOp};
 use slot_index::Slots;
 use std::alloc::{AllocError, Global};
 use target_base::{OpId, Target};
@@ -39,6 +40,8 @@ pub struct Changes {
 struct Progress {
     log: Log,
     touched: Vec<Touch>,
+    /// Lanes whose cells were taken away before, as all that names them is edited.
+    gone: Lanes,
 }
 
 impl LiveFunc {
@@ -85,9 +88,39 @@ impl LiveFunc {
     /// is to go still stands in the function, but does nothing to lanes. After a refusal the
     /// function is unchanged.
     pub fn begin_edits(&mut self, edits: Vec<Edit>) -> Result<Changes, AllocError> {
+        self.begin(edits, NO_LANES)
+    }
+
+    /// Does edits as `begin_edits` does, which is done sooner where these edit each instruction that
+    /// touches a range. The pieces of that range aren't among those that are said to be changed.
+    pub fn begin_edits_of(&mut self, edits: Vec<Edit>, v: u32) -> Result<Changes, AllocError> {
+        let own = self.table.lanes.of_range(v);
+        if self.table.is_read_last(own) || !self.is_edited_whole(edits.as_slice(), v)? {
+            return self.begin(edits, NO_LANES);
+        }
+        self.begin(edits, own)
+    }
+
+    /// Whether each instruction that touches a range is replaced or erased.
+    fn is_edited_whole(&self, edits: &[Edit], v: u32) -> Result<bool, AllocError> {
+        let alloc = self.table.rows.alloc;
+        let ids = changed_ids(alloc, edits)?;
+        let touched = self.touched(alloc, v)?;
+        Ok(
+            touched
+                .as_slice()
+                .iter()
+                .all(|id| ids.binary_search(id).is_ok()),
+        )
+    }
+
+    fn begin(&mut self, edits: Vec<Edit>, gone: Lanes) -> Result<Changes, AllocError> {
+        let alloc = self.table.rows.alloc;
+        let room = edits.len().saturating_mul(8).min(1 << 20);
         let mut progress = Progress {
-            log: Log::new(self.table.rows.alloc),
-            touched: Vec::new(self.table.rows.alloc),
+            log: Log::new(alloc, room)?,
+            touched: Vec::new(alloc),
+            gone,
         };
         let outcome = self.try_edits(edits, &mut progress);
         let Progress { mut log, .. } = progress;
@@ -112,6 +145,8 @@ impl LiveFunc {
 
     fn try_edits(&mut self, edits: Vec<Edit>, progress: &mut Progress) -> Result<(), AllocError> {
         let tables = Tables::new(self.table.rows.alloc, &self.target)?;
+        self.table.take_rows(progress.gone, &mut progress.log)?;
+        self.table.make_cells(edits.as_slice())?;
         'edits: for edit in edits {
             self.try_edit(&tables, edit, progress)?;
         }
@@ -147,6 +182,13 @@ impl LiveFunc {
             Some(instr) => acts_of(alloc, reader, instr),
             None => Ok(Vec::new(alloc)),
         }
+    }
+
+    /// What the instruction of an id does to lanes whose cells weren't taken away.
+    fn standing_acts(&self, tables: &Tables, id: u32, gone: Lanes) -> Result<Vec<Act>, AllocError> {
+        let mut acts = self.acts(tables, id)?;
+        acts.retain(|act| !gone.has(act.lane));
+        Ok(acts)
     }
 
     fn try_put(
@@ -205,7 +247,7 @@ impl LiveFunc {
             return Ok(());
         }
         self.table.add_slot(operands.as_slice())?;
-        let old = self.acts(tables, id)?;
+        let old = self.standing_acts(tables, id, progress.gone)?;
         progress.log.reserve()?;
         let (old_op, old_operands) = self
             .func
@@ -223,10 +265,31 @@ impl LiveFunc {
         progress: &mut Progress,
     ) -> Result<(), AllocError> {
         let block = self.table.order.block_of(id);
-        let old = self.acts(tables, id)?;
+        let old = self.standing_acts(tables, id, progress.gone)?;
         self.table.change(block, id, old.as_slice(), &[], progress)?;
         progress.log.add_erased(block, id)
     }
+}
+
+/// The instruction that an edit replaces or erases.
+fn changed_id(edit: &Edit) -> Option<u32> {
+    match edit {
+        Edit::Put(_, _, _) => None,
+        Edit::Replace(id, _, _) => Some(*id),
+        Edit::Erase(id) => Some(*id),
+    }
+}
+
+/// The instructions that edits replace or erase, in order of their ids.
+fn changed_ids(alloc: Global, edits: &[Edit]) -> Result<Vec<u32>, AllocError> {
+    let mut ids = Vec::new(alloc);
+    'edits: for edit in edits {
+        if let Some(id) = changed_id(edit) {
+            ids.push(id)?;
+        }
+    }
+    ids.sort_unstable();
+    Ok(ids)
 }
 
 /// The instruction that stands in layout before a place of the block at a position.
@@ -250,6 +313,67 @@ fn last_id_before(func: &Func, block: u32) -> Option<u32> {
 }
 
 impl Table {
+    /// Makes the cells that edits in layout order come to need, from the last block to the first, as
+    /// a row holds them: so no cell is moved for the sake of another.
+    fn make_cells(&mut self, edits: &[Edit]) -> Result<(), AllocError> {
+        'edits: for edit in edits.iter().rev() {
+            if let Some((block, operands)) = self.place_of_edit(edit) {
+                self.make_cells_for(block, operands)?;
+            }
+        }
+        Ok(())
+    }
+
+    /// The position of the block that an edit gives operands to, and these.
+    fn place_of_edit<'a>(&self, edit: &'a Edit) -> Option<(u32, &'a [Operand])> {
+        match edit {
+            Edit::Put(gap, _, operands) => {
+                Some((self.order.position(gap.block)?, operands.as_slice()))
+            }
+            Edit::Replace(id, _, operands) => {
+                Some((self.order.block_of(*id), operands.as_slice()))
+            }
+            Edit::Erase(_) => None,
+        }
+    }
+
+    /// The lanes of a range.
+    fn own_lanes(&self, v: u32) -> Lanes {
+        self.lanes.of_range(v)
+    }
+
+    fn make_cells_for(&mut self, block: u32, operands: &[Operand]) -> Result<(), AllocError> {
+        'operands: for operand in operands {
+            if let Operand::Reg(op) = operand {
+                if let Loc::Virtual(v) = op.loc {
+                    let own = self.own_lanes(v);
+                    self.make_last_cells(own, block)?;
+                }
+            }
+        }
+        Ok(())
+    }
+
+    fn make_last_cells(&mut self, own: Lanes, block: u32) -> Result<(), AllocError> {
+        let alloc = self.rows.alloc;
+        'lanes: for k in 0..own.count {
+            if let Some(lane) = own.lane(k) {
+                if let Some(row) = self.rows.rows.get_mut(lane as usize) {
+                    row.make_last(alloc, block)?;
+                }
+            }
+        }
+        Ok(())
+    }
+
+    /// Whether a phi reads one of these lanes at the end of a block.
+    fn is_read_last(&self, own: Lanes) -> bool {
+        (0..own.count).any(|k| match own.lane(k) {
+            Some(lane) => self.rows.cells(lane).iter().any(|cell| cell.is_read_last),
+            None => false,
+        })
+    }
+
     /// Numbers the lanes of the slot that operands name.
     fn add_slot(&mut self, operands: &[Operand]) -> Result<(), AllocError> {
         match slot_of(operands) {
@@ -306,66 +430,41 @@ impl Table {
             block,
             id,
         })?;
-        let edit = self.reading_edit(block, id, act);
-        self.enter_edit(block, id, act.lane, edit, progress)?;
-        let edit = self.writing_edit(block, id, act)?;
-        self.enter_edit(block, id, act.lane, edit, progress)
+        let mended = Mended {
+            lane: act.lane,
+            block,
+            start: Some(id),
+        };
+        let place = self.make_cell(act.lane, block)?;
+        let edit = self.reading_edit(place, id, act);
+        self.edit_cell(mended, place, edit, &mut progress.log)?;
+        let edit = self.writing_edit(place, id, act)?;
+        self.edit_cell(mended, place, edit, &mut progress.log)
     }
 
-    fn enter_edit(
-        &mut self,
-        block: u32,
-        id: u32,
-        lane: u32,
-        edit: CellEdit,
-        progress: &mut Progress,
-    ) -> Result<(), AllocError> {
-        if let CellEdit::Nothing = edit {
-            return Ok(());
-        }
-        let start = Some(id);
-        self.edit_cell(Mended { lane, block, start }, edit, &mut progress.log)
-    }
-
-    /// What enters an instruction's reading of a lane into its cell.
-    fn reading_edit(&self, block: u32, id: u32, act: &Act) -> CellEdit {
-        let slots = &self.order.slots;
-        match self.rows.cell(act.lane, block) {
-            Some(cell) => reading_edit(slots, cell, id, act.reads),
-            None => match act.reads {
-                Some(reading) => CellEdit::PutReading(0, 0, reading),
-                None => CellEdit::Nothing,
-            },
-        }
-    }
-
-    /// What enters an instruction's writing of a lane into its cell.
-    fn writing_edit(&self, block: u32, id: u32, act: &Act) -> Result<CellEdit, AllocError> {
+    /// The place of a lane's cell of a block, which is made where there is none.
+    fn make_cell(&mut self, lane: u32, block: u32) -> Result<usize, AllocError> {
         let alloc = self.rows.alloc;
-        let slots = &self.order.slots;
-        match self.rows.cell(act.lane, block) {
-            Some(cell) => writing_edit(alloc, slots, cell, id, act),
-            None => match act.writes {
-                Some(written) => Ok(CellEdit::Begin(
-                    1,
-                    Segment {
-                        start: id,
-                        early: written.early,
-                        from: written.from,
-                        piece: no_piece(alloc),
-                    },
-                )),
-                None => Ok(CellEdit::Nothing),
-            },
+        match self.rows.rows.get_mut(lane as usize) {
+            Some(row) => row.make(alloc, block),
+            None => Ok(0),
         }
     }
-}
 
-fn no_piece(alloc: Global) -> Piece {
-    Piece {
-        cause: Cause::None,
-        end: End::Never,
-        readings: Vec::new(alloc),
+    /// What enters an instruction's reading of a lane into the cell at a place.
+    fn reading_edit(&self, place: usize, id: u32, act: &Act) -> CellEdit {
+        match self.rows.cells(act.lane).get(place) {
+            Some(cell) => reading_edit(&self.order.slots, cell, id, act.reads),
+            None => CellEdit::Nothing,
+        }
+    }
+
+    /// What enters an instruction's writing of a lane into the cell at a place.
+    fn writing_edit(&self, place: usize, id: u32, act: &Act) -> Result<CellEdit, AllocError> {
+        match self.rows.cells(act.lane).get(place) {
+            Some(cell) => writing_edit(self.rows.alloc, &self.order.slots, cell, id, act),
+            None => Ok(CellEdit::Nothing),
+        }
     }
 }
 

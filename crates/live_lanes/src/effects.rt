@@ -139,7 +139,7 @@ fn index_lanes(target: &Target, index: IndexId) -> &[u8] {
 
 /// The numbers of units.
 fn unit_lanes(alloc: Global, units: &[Unit]) -> Result<Vec<u32>, AllocError> {
-    let mut lanes = Vec::new(alloc);
+    let mut lanes = Vec::with_capacity(alloc, units.len())?;
     'units: for u in units {
         lanes.push(u.0 as u32)?;
     }
@@ -148,7 +148,7 @@ fn unit_lanes(alloc: Global, units: &[Unit]) -> Result<Vec<u32>, AllocError> {
 
 /// The numbers of the first lanes.
 fn first_lanes(alloc: Global, own: Lanes, count: u32) -> Result<Vec<u32>, AllocError> {
-    let mut lanes = Vec::new(alloc);
+    let mut lanes = Vec::with_capacity(alloc, own.count.min(count) as usize)?;
     'lanes: for k in 0..count {
         if let Some(lane) = own.lane(k) {
             lanes.push(lane)?;

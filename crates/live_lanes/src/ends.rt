@@ -2,7 +2,7 @@
 
 use crate::flow::{Ways, successors, terminators};
 use crate::order::Order;
-use crate::row::{Cell, End, Piece, Reading, exit_rank, rank};
+use crate::row::{Cause, Cell, End, Piece, Reading, exit_rank, rank};
 use crate::table::Rows;
 use slot_index::Slots;
 
@@ -49,14 +49,31 @@ impl Rows {
         End::Never
     }
 
+    /// Whether a piece is live because the lane is at the start of a block that follows, or a lane is
+    /// live at the start of one anyway.
+    fn leads_on(&self, flow: &[Ways], lane: u32, cell: &Cell, piece: &Piece) -> bool {
+        match piece.cause {
+            Cause::Follower(_) => true,
+            _ => self.has_live_follower(lane, successors(flow, cell.block)),
+        }
+    }
+
     /// The last exit of a piece from which a path leads to a block where the lane is live.
-    fn exit_of(&self, order: &Order, flow: &[Ways], lane: u32, cell: &Cell, index: usize) -> End {
+    fn exit_of(
+        &self,
+        order: &Order,
+        flow: &[Ways],
+        lane: u32,
+        cell: &Cell,
+        index: usize,
+        piece: &Piece,
+    ) -> End {
         let ids = terminators(flow, cell.block);
         let is_last = index == cell.segments.len();
         if !is_last && ids.is_empty() {
             return End::Never;
         }
-        if !self.has_live_follower(lane, successors(flow, cell.block)) {
+        if !self.leads_on(flow, lane, cell, piece) {
             return End::Never;
         }
         if is_last {
@@ -78,7 +95,7 @@ impl Rows {
         if cell.is_read_last && index == cell.segments.len() {
             return End::Last;
         }
-        let exit = self.exit_of(order, flow, lane, cell, index);
+        let exit = self.exit_of(order, flow, lane, cell, index, piece);
         let entry = self.last_entry(order, cell.block, piece.readings.as_slice());
         later(&order.slots, exit, entry)
     }

@@ -27,7 +27,7 @@ pub(crate) struct Lanes {
 }
 
 /// No lanes.
-const NO_LANES: Lanes = Lanes { first: 0, count: 0 };
+pub(crate) const NO_LANES: Lanes = Lanes { first: 0, count: 0 };
 
 impl Lanes {
     /// The number of lane `k`, where there is one.
@@ -37,6 +37,11 @@ impl Lanes {
         } else {
             None
         }
+    }
+
+    /// Whether a lane is one of these.
+    pub fn has(self, lane: u32) -> bool {
+        lane >= self.first && lane - self.first < self.count
     }
 }
 

@@ -142,7 +142,14 @@ impl Row {
     pub fn cell(&self, block: u32) -> Option<&Cell>
         ensures { option_copied result ≡ find_cell block self.now.cells.items }
     {
-        let at = self.place(block);
+        self.cell_at(self.place(block), block)
+    }
+
+    /// The cell of a block, where this is its place or where it would stand.
+    fn cell_at(&self, at: usize, block: u32) -> Option<&Cell>
+        requires { at ≡ leading (is_before block) self.now.cells.items }
+        ensures { option_copied result ≡ find_cell block self.now.cells.items }
+    {
         if at >= self.cells.len() {
             return None;
         }
@@ -153,11 +160,12 @@ impl Row {
         Some(cell)
     }
 
-    /// Whether there is a cell of a block.
-    fn has(&self, block: u32) -> bool
+    /// Whether there is a cell of a block, where this is its place or where it would stand.
+    fn has_at(&self, at: usize, block: u32) -> bool
+        requires { at ≡ leading (is_before block) self.now.cells.items }
         ensures { result ≡ is_some (find_cell block self.now.cells.items) }
     {
-        self.cell(block).is_some()
+        self.cell_at(at, block).is_some()
     }
 
     /// The place of a block's cell, which is made where there is none.
@@ -168,7 +176,7 @@ impl Row {
         ensures same { (b : ℕ) → seen_in self.new.cells.items b ≡ seen_in self.old.cells.items b }
     {
         let at = self.place(block);
-        if self.has(block) {
+        if self.has_at(at, block) {
             return Ok(at);
         }
         self.cells.insert(at, Cell::new(alloc, block))?;

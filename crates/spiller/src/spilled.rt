@@ -35,7 +35,7 @@ pub fn spill(
         return Err(RunStop::Ranges);
     }
     make_ranges(m, slots, classes.as_slice())?;
-    m.edit_all(edits)?;
+    m.edit_all_of(edits, v)?;
     Ok(tinies)
 }
 

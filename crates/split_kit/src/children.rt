@@ -38,7 +38,7 @@ pub fn split(
         children: children.as_slice(),
     };
     let edits = edits_of(view, touched.as_slice(), labels.as_slice())?;
-    m.edit_all(edits)?;
+    m.edit_all_of(edits, v)?;
     Ok(children)
 }
 
