@@ -3,7 +3,7 @@
 
 mod lines;
 mod reading;
-pub mod source;
+mod source;
 mod text;
 
 pub use reading::generate;

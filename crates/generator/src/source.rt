@@ -13,38 +13,38 @@ pub(crate) const BLOCKS: u64 = 400;
 const KINDS: u64 = 6;
 
 /// The numbers of an instruction.
-#[derive(Clone, Copy, Debug, PartialEq, Eq)]
-pub struct Numbers {
+#[derive(Clone, Copy)]
+pub(crate) struct Numbers {
     /// The first register that it reads, or its number.
-    pub a: u64,
+    pub(crate) a: u64,
     /// The second register that it reads.
-    pub c: u64,
+    pub(crate) c: u64,
     /// The register that it writes.
-    pub d: u64,
+    pub(crate) d: u64,
     /// Which instruction it is.
-    pub kind: u64,
+    pub(crate) kind: u64,
 }
 
 /// The numbers of a comparison and of the jump that it decides.
-#[derive(Clone, Copy, Debug, PartialEq, Eq)]
-pub struct Jump {
+#[derive(Clone, Copy)]
+pub(crate) struct Jump {
     /// The first register that is compared.
-    pub a: u64,
+    pub(crate) a: u64,
     /// The second one.
-    pub c: u64,
+    pub(crate) c: u64,
     /// The block that the jump leads to.
-    pub to: u64,
+    pub(crate) to: u64,
 }
 
 /// A source of numbers: x becomes (x * 1103515245 + 12345) mod 2^31, and x / 65536 is drawn from.
-#[derive(Clone, Copy, Debug, PartialEq, Eq)]
-pub struct Source {
+#[derive(Clone, Copy)]
+pub(crate) struct Source {
     /// The number that it has come to.
-    pub x: u64,
+    pub(crate) x: u64,
 }
 
 impl Source {
-    /// Moves on.
+    /// Moves on. The remainder is taken first, so that the product is small.
     fn advance(&mut self)
         ensures { self.new.x ≡ next self.old.x }
     {
