@@ -110,7 +110,7 @@ text_is_short seed =
     let rs = register_lines 24 seed in
     let bs = blocks_lines 400 (behind_registers 24 seed) in
     let all : length (generated_text seed) ≤ 28 + (24 * 28 + (400 * 728 + 55)) =
-        both head_lines (rs ++ (bs ++ last_lines)) (itself head_lines) (both rs (bs ++ last_lines) (registers-short 24 seed (omega arith)) (both bs last_lines (blocks-short 400 (behind_registers 24 seed) (omega arith)) (itself last_lines))) in
+    both head_lines (rs ++ (bs ++ last_lines)) (itself head_lines) (both rs (bs ++ last_lines) (registers-short 24 seed (omega arith)) (both bs last_lines (blocks-short 400 (behind_registers 24 seed) (omega arith)) (itself last_lines))) in
     omega (arith, all)
 
 -- the same of a text that is that one
