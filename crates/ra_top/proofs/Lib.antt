@@ -4,4 +4,3 @@ pub mod Documents
 pub mod Starts
 pub mod Verdicts
 pub mod Jobs
-pub mod Generated
