@@ -1,4 +1,5 @@
 pub mod Status
 pub mod Spot
 pub mod Documents
+pub mod Generated
 pub mod Answer

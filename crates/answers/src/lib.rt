@@ -4,6 +4,7 @@
 
 pub mod answer;
 pub mod documents;
+pub mod generated;
 mod intervals;
 mod run;
 pub mod spot;
@@ -15,5 +16,6 @@ mod words;
 
 pub use answer::{Answer, Job, answer_at, end_status};
 pub use documents::end_text;
+pub use generated::gen_answer;
 pub use spot::Spot;
 pub use status::{LimitName, Status};

@@ -36,7 +36,7 @@ pub enum Status {
     Memory,
     /// Operands of an instruction have no registers that differ as they must.
     Unassignable(Place),
-    /// What is asked for isn't built yet.
+    /// The run of the allocator came to no end, or the checker of allocations didn't say yes.
     NotYet,
 }
 

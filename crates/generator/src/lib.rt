@@ -2,5 +2,9 @@
 #![tactic(auto)]
 
 mod lines;
+mod reading;
+mod source;
+mod text;
 
-pub use lines::{generate, generated};
+pub use reading::generate;
+pub use text::generated;

@@ -54,7 +54,7 @@ memory_does (Some (VerifyAllocated t f)) contents left old f0 f1 e0 e1 told = re
 memory_does (Some (Run t f g n s)) contents left old f0 f1 e0 e1 told = record { file = []; detail = []; does = inl (refl, refl); told = told }
 memory_does (Some (Intervals t f)) contents left old f0 f1 e0 e1 told = record { file = t; detail = []; does = out_of_memory jobs.Intervals t f contents left old; told = told }
 memory_does (Some (Trace t f)) contents left old f0 f1 e0 e1 told = record { file = t; detail = []; does = out_of_memory jobs.Trace t f contents left old; told = told }
-memory_does (Some (Gen s)) contents left old f0 f1 e0 e1 told = record { file = []; detail = []; does = (inr refl, refl); told = told }
+memory_does (Some (Gen s)) contents left old f0 f1 e0 e1 told = record { file = codes "g"; detail = []; does = (refl, refl); told = told }
 
 -- the same of a line that was told
 pub memory_told : (a : Option Asked) (contents : List ℕ → Option (List ℕ)) (left old : Option (List ℕ)) (f0 f1 : ℕ) (e0 e1 : Option (List ℕ)) (s result : Status) (file detail : List ℕ) → s ≡ status.Memory → result ≡ s → IsTold f0 f1 e0 e1 (line_of s file detail) → DoesAll a contents left old old f0 f1 e0 e1 result

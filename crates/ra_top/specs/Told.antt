@@ -24,6 +24,8 @@ use Rattle.answers.specs.Spot.{first_spot, after, file_most}
 use Rattle.answers.specs.Status.{line_of}
 use Rattle.answers.specs.Answer.{IsText, IsLast, Refuses}
 use Rattle.answers.specs.Documents.{IsEndText, end_status, tells}
+use Rattle.answers.specs.Generated.{GenRefuses}
+use Rattle.gen_text.specs.Generated.{IsGenText}
 use Rattle.ra_top.specs.Due.{IsHeld, Treatment, output, Treated, AtEnd, Due}
 
 -- which faults rose for a status
@@ -237,26 +239,35 @@ pub record IsOverTarget (job : Job) (word f : List ℕ) (contents : List ℕ →
 abbrev pub DoesJob : Job → List ℕ → List ℕ → (List ℕ → Option (List ℕ)) → Option (List ℕ) → Option (List ℕ) → Option (List ℕ) → Status → List ℕ → List ℕ → Type 0
 DoesJob job word f contents left old new s file detail = IsTargetRefused word (contents word) old new s file detail ⊎ IsOverTarget job word f contents left old new s file detail
 
--- what is built of the commands
-abbrev pub is_built : Option Asked → Bool
-is_built (Some (Alloc t f)) = true
-is_built (Some (VerifySource t f)) = true
-is_built (Some (VerifyAllocated t f)) = true
-is_built (Some (Run t f g n seed)) = true
-is_built (Some (Intervals t f)) = true
-is_built (Some (Trace t f)) = true
-is_built _ = false
+-- whether words ask for anything
+abbrev pub asks_anything : Option Asked → Bool
+asks_anything None = false
+asks_anything (Some asked) = true
 
 -- whether a command tells the watchers
 abbrev pub tells_words : Option Asked → Bool
 tells_words (Some (Alloc t f)) = true
 tells_words (Some (Trace t f)) = true
+tells_words (Some (Gen seed)) = true
 tells_words _ = false
 
 -- what is done for the words of `run`, with the function's name behind some pointer
 abbrev pub DoesRun : List ℕ → List ℕ → List ℕ → ℕ → ℕ → (List ℕ → Option (List ℕ)) → Option (List ℕ) → Option (List ℕ) → Option (List ℕ) → Status → List ℕ → List ℕ → Type 0
 DoesRun t f g n seed contents left old new s file detail =
     ((s ≡ status.Memory) × (new ≡ old)) ⊎ ((name : Bor (List ℕ)) × (name.now ≡ g) × DoesJob (jobs.Run name n seed) t f contents left old new s file detail)
+
+-- a text was written, or a write failed
+abbrev pub IsWrittenEnd : List ℕ → Option (List ℕ) → Option (List ℕ) → Status → Type 0
+IsWrittenEnd text old new status.Done = WritesAll old new text
+IsWrittenEnd text old new status.WriteFault = WritesPart old new text
+IsWrittenEnd text old new s = ⊥
+
+-- what is done for the words of `gen`
+abbrev pub DoesGen : ℕ → Option (List ℕ) → Option (List ℕ) → Status → List ℕ → Type 0
+DoesGen seed old new status.Done detail = (text : List ℕ) × IsGenText seed text × WritesAll old new text
+DoesGen seed old new status.WriteFault detail = (text : List ℕ) × IsGenText seed text × WritesPart old new text
+DoesGen seed old new status.Memory detail = new ≡ old
+DoesGen seed old new s detail = GenRefuses seed s detail × (new ≡ old)
 
 abbrev pub Does : Option Asked → (List ℕ → Option (List ℕ)) → Option (List ℕ) → Option (List ℕ) → Option (List ℕ) → Status → List ℕ → List ℕ → Type 0
 Does None contents left old new s file detail = ((s ≡ status.Usage) ⊎ (s ≡ status.Memory)) × (new ≡ old)
@@ -266,7 +277,7 @@ Does (Some (VerifyAllocated t f)) contents left old new s file detail = DoesJob 
 Does (Some (Run t f g n seed)) contents left old new s file detail = DoesRun t f g n seed contents left old new s file detail
 Does (Some (Intervals t f)) contents left old new s file detail = DoesJob jobs.Intervals t f contents left old new s file detail
 Does (Some (Trace t f)) contents left old new s file detail = DoesJob jobs.Trace t f contents left old new s file detail
-Does (Some (Gen seed)) contents left old new s file detail = ((s ≡ status.NotYet) ⊎ (s ≡ status.Memory)) × (new ≡ old)
+Does (Some (Gen seed)) contents left old new s file detail = DoesGen seed old new s detail × (file ≡ codes "g")
 
 -- it is done, and the line is told of it
 pub record DoesAll (asked : Option Asked) (contents : List ℕ → Option (List ℕ)) (left old new : Option (List ℕ)) (old_faults new_faults : ℕ) (err_old err_new : Option (List ℕ)) (s : Status) : Type 0 where

@@ -2,6 +2,7 @@
 #![tactic(auto)]
 
 pub mod ending;
+pub mod generated;
 pub mod run;
 pub mod stream;
 pub mod target;

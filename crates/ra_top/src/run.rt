@@ -5,9 +5,10 @@ ghost use Rattle.commands.specs.Words.{bytes_of, command_of};
 ghost use Rattle.answers.specs.Status.{line_of};
 ghost use Rattle.answers.specs.Documents.{tells};
 ghost use Rattle.target_base.specs.Mini.{mini_target};
-ghost use Rattle.ra_top.specs.Told.{HasStatusCause, DoesAll, DoesJobAll, is_built, tells_words, IsTold, Streamed};
+ghost use Rattle.ra_top.specs.Told.{HasStatusCause, DoesAll, DoesJobAll, asks_anything, tells_words, IsTold, Streamed};
 
 use crate::ending::Ending;
+use crate::generated::generate;
 use crate::stream::{ends, stream};
 use crate::target::read_target_file;
 use answers::status::write_line;
@@ -24,8 +25,8 @@ use watchers::Watcher;
 /// line that tells the status to `err`, where there is one. The words are refused first, then the
 /// target, then each document in turn. The output of a document is made whole before any of it is
 /// written. After the first fault of `files` or `out` it calls neither again; a fault of `err`
-/// changes nothing. `alloc` and `trace` tell the watchers each step of each run, in order; the other
-/// commands leave them as they were.
+/// changes nothing. `alloc`, `trace` and `gen` tell the watchers each step of each run, in order; the
+/// other commands leave them as they were.
 pub fn top<F: Files, O: Sink, E: Sink, W: Watcher>(
     alloc: Global,
     words: &[String],
@@ -38,7 +39,7 @@ pub fn top<F: Files, O: Sink, E: Sink, W: Watcher>(
     ensures does { DoesAll (command_of (bytes_of words.now)) (F.contents files.old) (F.left files.new) (O.written out.old) (O.written out.new) (E.faults err.old) (E.faults err.new) (E.written err.old) (E.written err.new) result }
     ensures cause { HasStatusCause result (F.faults files.old) (F.faults files.new) (O.faults out.old) (O.faults out.new) }
     ensures leaves { tells_words (command_of (bytes_of words.now)) ≡ false → watchers.new ≡ watchers.old }
-    ensures words { is_built (command_of (bytes_of words.now)) ≡ false → (files.new ≡ files.old) × (out.new ≡ out.old) }
+    ensures words { asks_anything (command_of (bytes_of words.now)) ≡ false → (files.new ≡ files.old) × (out.new ≡ out.old) }
 {
     match read_words(alloc, words) {
         Err(_) => tell(err, ends(alloc, Status::Memory), ""),
@@ -89,7 +90,10 @@ pub fn top<F: Files, O: Sink, E: Sink, W: Watcher>(
         Ok(Some(Command::Trace(target, file))) => {
             over_file(alloc, Job::Trace, target, file, files, out, err, watchers)
         }
-        Ok(Some(Command::Gen(_))) => tell(err, ends(alloc, Status::NotYet), ""),
+        Ok(Some(Command::Gen(seed))) => {
+            let ending = generate(alloc, seed, out, watchers);
+            tell(err, ending, "g")
+        }
     }
 }
 

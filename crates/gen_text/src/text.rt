@@ -1,0 +1,49 @@
+//! The summary of a generated function.
+
+ghost use Rattle.std.specs.Prelude.{IfOk, IfErr};
+ghost use Rattle.gen_text.specs.Generated.{IsTextOf, IsGenText, IfGenRefused};
+ghost use Rattle.guarded_alloc.specs.Function.{IfRefused};
+
+use crate::ran::summary;
+use generator::generate;
+use guarded_alloc::{FunctionStop, Watcher, allocated};
+use mir_func::Func;
+use std::alloc::Global;
+use target_base::{Bytes, Target, mini};
+
+/// The summary of a function, once it is allocated under guard with the number 0.
+fn text_of<W: Watcher>(
+    alloc: Global,
+    target: &Target,
+    seed: u64,
+    source: &Func,
+    watchers: &mut Vec<W>,
+) -> Result<Bytes, FunctionStop>
+    ensures ok { IfOk result (IsTextOf target.now seed source.now) }
+    ensures err { IfErr result (IfRefused target.now source.now) }
+{
+    let copy = source.copy(alloc)?;
+    match allocated(alloc, target, copy, 0, watchers) {
+        Ok(made) => Ok(summary(alloc, target, seed, source, &made)?),
+        Err(stop) => Err(stop),
+    }
+}
+
+/// The summary of the function that is generated for a seed over the built-in target, once it is
+/// allocated under guard with the number 0: the five lines that begin with `gen`, `source`,
+/// `allocated`, `source` and `allocated`. The watchers are told every step of the allocator's run. It is
+/// refused as each function is that isn't allocated.
+pub fn text_of_gen<W: Watcher>(
+    alloc: Global,
+    seed: u64,
+    watchers: &mut Vec<W>,
+) -> Result<Bytes, FunctionStop>
+    ensures ok { IfOk result (IsGenText seed) }
+    ensures err { IfErr result (IfGenRefused seed) }
+{
+    let target = mini(alloc)?;
+    match generate(alloc, &target, seed)? {
+        Some(source) => text_of(alloc, &target, seed, &source, watchers),
+        None => Err(FunctionStop::NotYet),
+    }
+}

@@ -1,0 +1,5 @@
+pub mod Joined
+pub mod Numbers
+pub mod Rows
+pub mod Short
+pub mod Read

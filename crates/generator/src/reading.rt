@@ -1,0 +1,34 @@
+//! The function that the text for a seed spells.
+
+ghost use Rattle.std.specs.Prelude.{◌≡◌, IfOk};
+ghost use Rattle.generator.specs.Generated.{function_of, generated_for};
+
+use crate::text::generated;
+use mir_func::Func;
+use mir_text::{Doc, TextStop, read_doc};
+use std::alloc::{AllocError, Global};
+use target_base::Target;
+
+/// The function of a document. None where it is no function document.
+fn function_of(doc: Doc) -> Option<Func>
+    ensures { result ≡ function_of doc }
+{
+    match doc {
+        Doc::Function(_, f) => Some(f),
+        Doc::Ir(_) => None,
+        Doc::Rest(_) => None,
+    }
+}
+
+/// The function that is generated for a seed: its text as it is read over a target, which is meant to
+/// be the built-in one. None where the text spells no function over the target.
+pub fn generate(alloc: Global, target: &Target, seed: u64) -> Result<Option<Func>, AllocError>
+    ensures { IfOk result (λ f. f ≡ generated_for target.now seed) }
+{
+    let text = generated(alloc, seed)?;
+    match read_doc(alloc, target, true, 1, text.as_slice()) {
+        Ok(doc) => Ok(function_of(doc)),
+        Err(TextStop::Fault(_)) => Ok(None),
+        Err(TextStop::Memory(e)) => Err(e),
+    }
+}

@@ -1,0 +1,42 @@
+//! The command `gen`.
+
+ghost use Rattle.std.specs.Prelude.{◌≡◌};
+ghost use Rattle.ra_top.specs.Told.{HasStatusCause, IsWrittenEnd, DoesGen};
+
+use crate::ending::Ending;
+use crate::stream::ends;
+use answers::{Answer, Status, gen_answer};
+use devices::Sink;
+use devices::moves::write_all;
+use std::alloc::Global;
+use target_base::Bytes;
+use watchers::Watcher;
+
+/// Writes a text.
+fn written<O: Sink>(alloc: Global, text: Bytes, out: &mut O) -> Ending
+    ensures does { IsWrittenEnd text (O.written out.old) (O.written out.new) result.status }
+    ensures cause { HasStatusCause result.status 0 0 (O.faults out.old) (O.faults out.new) }
+{
+    match write_all(out, text.as_slice()) {
+        Err(_) => ends(alloc, Status::WriteFault),
+        Ok(()) => ends(alloc, Status::Done),
+    }
+}
+
+/// Writes the summary of the function that is generated for a seed.
+pub fn generate<O: Sink, W: Watcher>(
+    alloc: Global,
+    seed: u64,
+    out: &mut O,
+    watchers: &mut Vec<W>,
+) -> Ending
+    ensures does { DoesGen seed (O.written out.old) (O.written out.new) result.status result.detail }
+    ensures cause { HasStatusCause result.status 0 0 (O.faults out.old) (O.faults out.new) }
+{
+    match gen_answer(alloc, seed, watchers) {
+        Err(_) => ends(alloc, Status::Memory),
+        Ok(Answer::Refused(status, detail)) => Ending { status, detail },
+        Ok(Answer::Text(text)) => written(alloc, text, out),
+        Ok(Answer::Last(text)) => written(alloc, text, out),
+    }
+}
