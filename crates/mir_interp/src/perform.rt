@@ -13,7 +13,9 @@ ghost use Rattle.mir_interp.specs.declared.perform.Kind.TheVariants as kinds;
 ghost use Rattle.mir_interp.specs.declared.outside.Outside.{Outside};
 
 use crate::fetch::Surroundings;
-use crate::numbers::{add, biased, madd, mul, neg, not, push_cut, sar, sext, shl, shr, sub, with_room};
+use crate::numbers::{
+    add, biased, madd, mul, neg, not, push_cut, sar, sext, shl, shr, sub, with_room,
+};
 use crate::outside::Outside;
 use crate::store::Store;
 use crate::types::{End, Event, Events, Lanes};
