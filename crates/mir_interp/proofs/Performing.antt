@@ -242,7 +242,7 @@ pub calling_did : (r : Rest) (env : Environment) (o : Outside) (vs : List (List 
 calling_did r env o vs m m' es fs lanes answered name k h eb ec el en ea ef = did_by env _ m' es fs _ _ (perform_calling r r.effect env o vs refl k) record {
   results = ea ∙ ap (λ t. answers env t 0 r.result) h.calls;
   control = refl;
-  outside = record { bytes = λ a. h.bytes a ∙ ap (λ t. remembered env t.entries a) (sym eb); calls = ec ∙ ap (λ t. t + 1) h.calls };
+  outside = record { bytes = subst (λ t. Matches env t o.bytes) (sym eb) h.bytes; calls = ec ∙ ap (λ t. t + 1) h.calls };
   events = ap (map event_of) ef ∙ one_more es (events.Call name lanes) (CallEvent r.symbol (all_lanes vs)) (ap (λ t. CallEvent t lanes) en ∙ ap (CallEvent r.symbol) el);
 }
 
@@ -253,23 +253,23 @@ store_nowhere r env o scale ls m es (Some b) h e = absurd (cc)
 pub no_base_did : (r : Rest) (scale : ℕ) (env : Environment) (o : Outside) (vs : List (List Value)) (m : code.Outside) (es : List Event) → kind_of r.effect ≡ kinds.Storing scale → Remembers env m o → operand r.widths vs 0 ≡ None → Did env ([], controls.Stop ends.Undefined) m es es (perform r env o vs)
 no_base_did r scale env o vs m es k h e = did_by env _ m es es _ _ (perform_storing r r.effect scale env o vs refl k) (store_nowhere r env o scale (lanes_of vs 1) m es (operand r.widths vs 0) h e)
 
-store_somewhere : (r : Rest) (env : Environment) (o : Outside) (scale : ℕ) (ls : List Value) (m' : code.Outside) (es fs : List Event) (v : Value) (b : ℕ) (lanes : List Value) → v ≡ Some b → Matches env m'.bytes.entries (stored (base_width r) (address r scale b) (widths_of r.widths 1) lanes o.bytes) → m'.calls ≡ o.calls → lanes ≡ ls → fs ≡ es ++ events.Store (address r scale b) lanes ∷ [] → Did env ([], controls.Next) m' es fs (store_at r o scale ls v)
+store_somewhere : (r : Rest) (env : Environment) (o : Outside) (scale : ℕ) (ls : List Value) (m' : code.Outside) (es fs : List Event) (v : Value) (b : ℕ) (lanes : List Value) → v ≡ Some b → Matches env m'.bytes (stored (base_width r) (address r scale b) (widths_of r.widths 1) lanes o.bytes) → m'.calls ≡ o.calls → lanes ≡ ls → fs ≡ es ++ events.Store (address r scale b) lanes ∷ [] → Did env ([], controls.Next) m' es fs (store_at r o scale ls v)
 store_somewhere r env o scale ls m' es fs None b lanes e h c el ef = absurd (cc)
 store_somewhere r env o scale ls m' es fs (Some d) b lanes e h c el ef =
     let same : b ≡ d = cc in
     record {
       results = refl;
       control = refl;
-      outside = record { bytes = subst (λ t. Matches env m'.bytes.entries (stored (base_width r) (address r scale d) (widths_of r.widths 1) t o.bytes)) el (subst (λ t. Matches env m'.bytes.entries (stored (base_width r) (address r scale t) (widths_of r.widths 1) lanes o.bytes)) same h); calls = c };
+      outside = record { bytes = subst (λ t. Matches env m'.bytes (stored (base_width r) (address r scale d) (widths_of r.widths 1) t o.bytes)) el (subst (λ t. Matches env m'.bytes (stored (base_width r) (address r scale t) (widths_of r.widths 1) lanes o.bytes)) same h); calls = c };
       events = ap (map event_of) ef ∙ one_more es (events.Store (address r scale b) lanes) (StoreEvent (address r scale d) ls) (ap (λ t. StoreEvent (address r scale t) lanes) same ∙ ap (StoreEvent (address r scale d)) el);
     }
 
-pub storing_did : (r : Rest) (scale : ℕ) (env : Environment) (o : Outside) (vs : List (List Value)) (m' : code.Outside) (es fs : List Event) (b a w : ℕ) (lanes : List Value) → kind_of r.effect ≡ kinds.Storing scale → operand r.widths vs 0 ≡ Some b → w ≡ sum (widths_of r.widths 0) → a ≡ (b + residue r.immediate w * scale) % 2 ^ w → Matches env m'.bytes.entries (stored w a (widths_of r.widths 1) lanes o.bytes) → m'.calls ≡ o.calls → lanes ≡ lanes_of vs 1 → fs ≡ es ++ events.Store a lanes ∷ [] → Did env ([], controls.Next) m' es fs (perform r env o vs)
+pub storing_did : (r : Rest) (scale : ℕ) (env : Environment) (o : Outside) (vs : List (List Value)) (m' : code.Outside) (es fs : List Event) (b a w : ℕ) (lanes : List Value) → kind_of r.effect ≡ kinds.Storing scale → operand r.widths vs 0 ≡ Some b → w ≡ sum (widths_of r.widths 0) → a ≡ (b + residue r.immediate w * scale) % 2 ^ w → Matches env m'.bytes (stored w a (widths_of r.widths 1) lanes o.bytes) → m'.calls ≡ o.calls → lanes ≡ lanes_of vs 1 → fs ≡ es ++ events.Store a lanes ∷ [] → Did env ([], controls.Next) m' es fs (perform r env o vs)
 storing_did r scale env o vs m' es fs b a w lanes k e ew ea h c el ef =
     let at = ea ∙ ap (λ t. (b + residue r.immediate t * scale) % 2 ^ t) ew in
     did_by env _ m' es fs _ _ (perform_storing r r.effect scale env o vs refl k)
     (store_somewhere r env o scale (lanes_of vs 1) m' es fs (operand r.widths vs 0) b lanes e
-    (subst (λ t. Matches env m'.bytes.entries (stored (base_width r) t (widths_of r.widths 1) lanes o.bytes)) at (subst (λ t. Matches env m'.bytes.entries (stored t a (widths_of r.widths 1) lanes o.bytes)) ew h))
+    (subst (λ t. Matches env m'.bytes (stored (base_width r) t (widths_of r.widths 1) lanes o.bytes)) at (subst (λ t. Matches env m'.bytes (stored t a (widths_of r.widths 1) lanes o.bytes)) ew h))
     c el (ef ∙ ap (λ t. es ++ events.Store t lanes ∷ []) at))
 
 pub pure_empty : (ls : List Value) (c : Control) (o : Outside) (d : Performed) → ls ≡ [] → Pure ([], c) o d → Pure (ls, c) o d

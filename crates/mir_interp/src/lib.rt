@@ -5,6 +5,7 @@
 pub mod env;
 pub mod fetch;
 pub mod machine;
+pub mod memory;
 pub mod names;
 pub mod numbers;
 pub mod outside;

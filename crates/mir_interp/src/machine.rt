@@ -19,6 +19,7 @@ ghost use Rattle.mir_interp.specs.Running.{Continues, Stepped, put_in, put_in_tu
 
 use crate::fetch::Surroundings;
 use crate::names::symbols_of;
+use crate::numbers::with_room;
 use crate::outside::Outside;
 use crate::perform::{Control, Performed, Performer};
 use crate::steps::{Step, Way, places_of, steps_of};
@@ -44,6 +45,7 @@ fn filled<W: World>(
     ensures { IfOk result (λ v. (m : ℕ) (env : Environment) → Stands (given_by W.entry W.byte W.frame W.symbol W.answer around.now.world.now) around.now.symbols.now m env → v ≡ fill env results.now (held_by store.now) given.now) }
 {
     match given {
+        Fill::Moved(Source::Undef) => Ok(None),
         Fill::Moved(s) => {
             let value = around.fetch(store, s)?;
             Ok(value)
@@ -73,7 +75,7 @@ fn fills<W: World>(
 ) -> Result<Lanes, AllocError>
     ensures { IfOk result (λ vs. (m : ℕ) (env : Environment) → Stands (given_by W.entry W.byte W.frame W.symbol W.answer around.now.world.now) around.now.symbols.now m env → vs ≡ map (λ w. fill env results.now (held_by store.now) w.fill) writes.now) }
 {
-    let mut values = List::new(alloc);
+    let mut values = with_room(alloc, writes.len())?;
     for w in writes {
         let value = filled(around, store, results, &w.fill)?;
         values.push(value)?;

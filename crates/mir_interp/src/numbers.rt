@@ -1,11 +1,12 @@
 //! Numbers of so many bits.
 
-ghost use Rattle.std.specs.Prelude.{◌≡◌, ◌+◌, ◌-◌, ◌*◌, ◌/◌, ◌%◌, ◌^◌, ◌≤◌, ◌++◌, ◌<◌, bit_and, bit_or, bit_xor, OnOk, IfOk};
+ghost use Rattle.std.specs.Prelude.{◌≡◌, ◌+◌, ◌-◌, ◌*◌, ◌/◌, ◌%◌, ◌^◌, ◌≤◌, ◌++◌, ◌<◌, [], bit_and, bit_or, bit_xor, OnOk, IfOk};
 ghost use Rattle.meaning.specs.Perform.{cut, shifted_signed, widened, biased};
 
 use crate::types::Lanes;
 use mir_items::counted::{low_bits, ones};
-use std::alloc::AllocError;
+use std::alloc::{AllocError, Global};
+use target_base::List;
 
 /// The sum modulo 2^w.
 pub fn add(a: u128, b: u128, w: u32) -> u128
@@ -147,6 +148,14 @@ pub fn put_above(low: u128, w: u32, high: u128) -> Result<u128, AllocError>
     }
     let raised = high << w;
     raised.checked_add(low).ok_or(AllocError)
+}
+
+/// No lanes, with room for so many.
+pub fn with_room(alloc: Global, count: usize) -> Result<Lanes, AllocError>
+    ensures { IfOk result (λ made. made ≡ []) }
+{
+    let cells = Vec::with_capacity(alloc, count)?;
+    Ok(List::from_vec(cells))
 }
 
 /// Appends a number as lanes of these widths.

@@ -7,18 +7,18 @@ ghost use Rattle.meaning.specs.Perform as meaning;
 ghost use Rattle.mir_interp.specs.Stands.{Stands, given_by};
 ghost use Rattle.mir_interp.specs.Remembers.{remembered, Matches, Remembers};
 
+use crate::memory::Memory;
 use crate::numbers::put_above;
 use crate::types::Lanes;
 use crate::world::World;
 use mir_items::counted::low_bits;
 use std::alloc::{AllocError, Global};
-use std::collections::HashMap;
 
 /// What lies outside the lanes.
 #[derive(Drop)]
 pub struct Outside {
-    /// The bytes stored so far, by their addresses; None is Undef.
-    bytes: HashMap<u128, Option<u8>>,
+    /// The bytes stored so far.
+    bytes: Memory,
     /// The number of calls made so far.
     calls: u64,
 }
@@ -29,7 +29,7 @@ impl Outside {
         ensures { (env : Environment) → Remembers env result (record { bytes = []; calls = 0 }) }
     {
         Outside {
-            bytes: HashMap::new(alloc),
+            bytes: Memory::new(alloc),
             calls: 0,
         }
     }
@@ -57,11 +57,11 @@ impl Outside {
 
     /// The byte at an address.
     fn byte<W: World>(&self, world: &W, a: u128) -> Option<u8>
-        ensures { (symbols : List (List ℕ)) (n : ℕ) (env : Environment) → Stands (given_by W.entry W.byte W.frame W.symbol W.answer world.now) symbols n env → result ≡ remembered env self.now.bytes.entries a }
+        ensures { (symbols : List (List ℕ)) (n : ℕ) (env : Environment) → Stands (given_by W.entry W.byte W.frame W.symbol W.answer world.now) symbols n env → result ≡ remembered env self.now.bytes a }
     {
-        match self.bytes.get(&a) {
+        match self.bytes.stored(a) {
             None => Some(world.byte(a)),
-            Some(held) => *held,
+            Some(held) => held,
         }
     }
 
@@ -113,9 +113,9 @@ impl Outside {
     /// Stores a byte.
     fn store_byte(&mut self, a: u128, byte: Option<u8>) -> Result<(), AllocError>
         ensures calls { self.new.calls ≡ self.old.calls }
-        ensures bytes { OnOk result ((env : Environment) (bs : List (ℕ × Value)) → Matches env self.old.bytes.entries bs → Matches env self.new.bytes.entries ((a, byte) ∷ bs)) }
+        ensures bytes { OnOk result ((env : Environment) (bs : List (ℕ × Value)) → Matches env self.old.bytes bs → Matches env self.new.bytes ((a, byte) ∷ bs)) }
     {
-        self.bytes.insert(a, byte)?;
+        self.bytes.store(a, byte)?;
         Ok(())
     }
 
@@ -129,7 +129,7 @@ impl Outside {
     ) -> Result<(), AllocError>
         requires { w ≤ 128 }
         ensures calls { self.new.calls ≡ self.old.calls }
-        ensures bytes { OnOk result ((env : Environment) (bs : List (ℕ × Value)) → Matches env self.old.bytes.entries bs → Matches env self.new.bytes.entries (stored_bytes w a value count bs)) }
+        ensures bytes { OnOk result ((env : Environment) (bs : List (ℕ × Value)) → Matches env self.old.bytes bs → Matches env self.new.bytes (stored_bytes w a value count bs)) }
     {
         let mut at = a;
         let mut rest = value;
@@ -154,7 +154,7 @@ impl Outside {
     ) -> Result<(), AllocError>
         requires { w ≤ 128 }
         ensures calls { self.new.calls ≡ self.old.calls }
-        ensures bytes { OnOk result ((env : Environment) (bs : List (ℕ × Value)) → Matches env self.old.bytes.entries bs → Matches env self.new.bytes.entries (stored w a widths.now lanes.now bs)) }
+        ensures bytes { OnOk result ((env : Environment) (bs : List (ℕ × Value)) → Matches env self.old.bytes bs → Matches env self.new.bytes (stored w a widths.now lanes.now bs)) }
     {
         let mut at = a;
         for k in 0..widths.len() {

@@ -13,7 +13,9 @@ ghost use Rattle.mir_interp.specs.declared.perform.Kind.TheVariants as kinds;
 ghost use Rattle.mir_interp.specs.declared.outside.Outside.{Outside};
 
 use crate::fetch::Surroundings;
-use crate::numbers::{add, biased, madd, mul, neg, not, push_cut, sar, sext, shl, shr, sub};
+use crate::numbers::{
+    add, biased, madd, mul, neg, not, push_cut, sar, sext, shl, shr, sub, with_room,
+};
 use crate::outside::Outside;
 use crate::store::Store;
 use crate::types::{End, Event, Events, Lanes};
@@ -126,11 +128,14 @@ fn operand_bits(r: &Rest, k: usize) -> Result<u32, AllocError>
 fn lanes_of(alloc: Global, widths: &[u32], n: Option<u128>) -> Result<Lanes, AllocError>
     ensures { IfOk result (λ made. made ≡ given widths.now n) }
 {
-    let mut lanes = List::new(alloc);
-    if let Some(n) = n {
-        push_cut(&mut lanes, widths, n)?;
+    match n {
+        None => Ok(List::new(alloc)),
+        Some(n) => {
+            let mut lanes = with_room(alloc, widths.len())?;
+            push_cut(&mut lanes, widths, n)?;
+            Ok(lanes)
+        }
     }
-    Ok(lanes)
 }
 
 /// A number of two numbers, by the effect, modulo 2^w.
@@ -215,7 +220,7 @@ fn compared(alloc: Global, w: u32, a: Option<u128>, b: Option<u128>) -> Result<L
     requires { w ≤ 128 }
     ensures { IfOk result (λ made. made ≡ compared w a b) }
 {
-    let mut lanes = List::new(alloc);
+    let mut lanes = with_room(alloc, 3)?;
     let Some(a) = a else { return Ok(lanes) };
     let Some(b) = b else { return Ok(lanes) };
     lanes.push(flag(a == b))?;
@@ -449,13 +454,13 @@ impl<'a, W: World> Performer<'a, W> {
     fn operand_lanes(&self, alloc: Global, k: usize) -> Result<Lanes, AllocError>
         ensures { IfOk result (λ v. (n : ℕ) (env : Environment) → Stands (given_by W.entry W.byte W.frame W.symbol W.answer self.now.around.now.world.now) self.now.around.now.symbols.now n env → v ≡ lanes_of (values env (held_by self.now.store.now) self.now.reads.now) k) }
     {
-        let mut lanes = List::new(alloc);
         let read_count = self.reads.len();
         if k >= read_count {
-            return Ok(lanes);
+            return Ok(List::new(alloc));
         }
         let picked = self.reads.get(k);
         let sources = picked.as_slice();
+        let mut lanes = with_room(alloc, sources.len())?;
         self.around.push_fetched(&mut lanes, self.store, sources)?;
         Ok(lanes)
     }
@@ -470,7 +475,7 @@ impl<'a, W: World> Performer<'a, W> {
     ) -> Result<(), AllocError>
         requires { w ≤ 128 }
         ensures calls { outside.new.calls ≡ outside.old.calls }
-        ensures bytes { OnOk result ((env : Environment) (bs : List (ℕ × Value)) → Matches env outside.old.bytes.entries bs → Matches env outside.new.bytes.entries (stored w a (widths_of self.now.rest.now.widths 1) lanes.now bs)) }
+        ensures bytes { OnOk result ((env : Environment) (bs : List (ℕ × Value)) → Matches env outside.old.bytes bs → Matches env outside.new.bytes (stored w a (widths_of self.now.rest.now.widths 1) lanes.now bs)) }
     {
         let width_count = self.rest.widths.len();
         if 1 >= width_count {

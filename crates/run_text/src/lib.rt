@@ -11,6 +11,7 @@ ghost use Rattle.mir_interp.specs.Stands.{StandsFor, event_of, end_of};
 ghost use Rattle.mir_interp.specs.Seeds.{of_seed};
 ghost use Rattle.run_text.specs.Printed.{lane_word, lane_words, event_line, event_lines, end_word, end_line, lines_of_run};
 
+use itoa::Buffer;
 use mir_func::Func;
 use mir_interp::{End, Env, Event, Outcome, run};
 use std::alloc::{AllocError, Global};
@@ -26,8 +27,8 @@ fn put(out: &mut Bytes, text: &str) -> Result<(), AllocError>
 fn put_number(out: &mut Bytes, n: u128) -> Result<(), AllocError>
     ensures { OnOk result (out.new ≡ out.old ++ decimal n) }
 {
-    let text = n.to_string(out.allocator())?;
-    put(out, text.as_str())
+    let mut digits = Buffer::new();
+    put(out, digits.format(n))
 }
 
 /// Appends a lane behind a space.

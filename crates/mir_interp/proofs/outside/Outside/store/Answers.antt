@@ -21,11 +21,11 @@ returns-then-k-lanes-clause-bytes c = λ env bs m.
     let i = c.loop-k.invariant.1 env bs m in
     let none : drop c.loop-k.k c.args.lanes.now ≡ [] = drop_of_length-le c.args.lanes.now c.if-k-lanes.true in
     let e = sym (stored_none c.args.w c.loop-k.at (drop c.loop-k.k c.args.widths.now) i.0) ∙ (ap (λ t. stored c.args.w c.loop-k.at (drop c.loop-k.k c.args.widths.now) t i.0) (sym none) ∙ i.2) in
-    subst (λ t. Matches env c.loop-k.self.bytes.entries t) e i.1
+    subst (λ t. Matches env c.loop-k.self.bytes t) e i.1
 
 pub returns-clause-bytes : goal.returns-clause-bytes
 returns-clause-bytes c = λ env bs m.
     let i = c.loop-k.invariant.1 env bs m in
     let none : drop c.loop-k.k c.args.widths.now ≡ [] = drop_of_length-le c.args.widths.now (omega arith) in
     let e = ap (λ t. stored c.args.w c.loop-k.at t (drop c.loop-k.k c.args.lanes.now) i.0) (sym none) ∙ i.2 in
-    subst (λ t. Matches env c.loop-k.self.bytes.entries t) e i.1
+    subst (λ t. Matches env c.loop-k.self.bytes t) e i.1

@@ -29,7 +29,7 @@ returns-clause-bytes c = λ env bs m.
     let i = c.loop-k.invariant.1 env bs m in
     let none : c.args.count - c.loop-k._k ≡ 0 = omega arith in
     let e = sym (ap (λ t. stored_bytes c.args.w c.loop-k.at c.loop-k.rest t i.0) none) ∙ i.2 in
-    subst (λ t. Matches env c.loop-k.self.bytes.entries t) e i.1
+    subst (λ t. Matches env c.loop-k.self.bytes t) e i.1
 
 pub loop-k-init : goal.loop-k-init
 loop-k-init c = (

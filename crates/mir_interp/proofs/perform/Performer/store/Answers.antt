@@ -11,5 +11,5 @@ pub returns-clause-did : goal.returns-clause-did
 returns-clause-did g c = λ n env h o r.
     did_empty env _ _ _ _ _ _ c.new-none.ensures (storing_did c.args.self.now.rest.now c.args.scale env o _ c.put.new.outside c.args.events.now _ c.in-Some.base c.address-a.result c.in_ok-w.w c.in_ok-lanes.lanes c.requires
     (sym (c.in_ok-operand.ensures n env h) ∙ c.in-Some.is) c.in_ok-w.ensures.0 c.address-a.ensures
-    (subst (λ t. Matches env c.put.new.outside.bytes.entries (stored c.in_ok-w.w c.address-a.result (widths_of c.args.self.now.rest.now.widths 1) t o.bytes)) c.as_slice-values.ensures (c.in_ok-put.ensures.bytes env o.bytes r.bytes))
+    (subst (λ t. Matches env c.put.new.outside.bytes (stored c.in_ok-w.w c.address-a.result (widths_of c.args.self.now.rest.now.widths 1) t o.bytes)) c.as_slice-values.ensures (c.in_ok-put.ensures.bytes env o.bytes r.bytes))
     (c.in_ok-put.ensures.calls ∙ r.calls) (c.in_ok-lanes.ensures n env h) c.in_ok-push.ensures.ok)
