@@ -3,7 +3,7 @@ use Rattle.std.proofs.Common.{◌≡◌, ◌∷◌, ◌++◌, ◌&&◌, ◌||◌
 use Rattle.std.specs.List.{filter, list_all, list_any}
 use Rattle.std.proofs.lemmas.Bool.{and_from, eq-eqb, eqb-true}
 use Rattle.std.proofs.lemmas.List.{append-nil, take_more, take_more_set, length-set, get_or-set_other, take_all}
-use Rattle.std.proofs.lemmas.List.Elements.{filter-append}
+use Rattle.std.proofs.lemmas.List.Elements.{filter-append, filter_more}
 use Rattle.meaning.specs.declared.types.Source.{Source}
 use Rattle.meaning.specs.Sameness.{same_source}
 use Rattle.meaning.specs.Lanes.{Writes}
@@ -62,6 +62,37 @@ split-takes ws vs facts before kept taken i f lt at s k counts h t =
           (append-known after (filter counts (take i facts)) (filter counts (f ∷ [])) q.0 (counted-one after (counts f) f (both-true (after f.0 f.1) true p.1).0))),
       q.1,
     )
+
+pub split-kept :
+    (ws vs : Writes) (facts before kept taken kept' taken' : Facts) (i : ℕ) (f : Fact) → i < length facts → f ≡ get_or facts i f → stays_both ws vs f ≡ true →
+    kept' ≡ kept ++ f ∷ [] → taken' ≡ taken → Splits ws vs (take i facts) before kept taken → Splits ws vs (take (i + 1) facts) before kept' taken'
+split-kept ws vs facts before kept taken kept' taken' i f lt at stay e e' s =
+    subst (λ x. Splits ws vs (take (i + 1) facts) before x taken') (sym e) (subst (λ x. Splits ws vs (take (i + 1) facts) before (kept ++ f ∷ []) x) (sym e') (split-keeps ws vs facts before kept taken i f lt at stay s))
+
+pub split-taken :
+    (ws vs : Writes) (facts before kept taken kept' taken' : Facts) (i : ℕ) (f : Fact) → i < length facts → f ≡ get_or facts i f →
+    kept' ≡ kept → taken' ≡ taken ++ f ∷ [] → Splits ws vs (take i facts) before kept taken → Splits ws vs (take (i + 1) facts) before kept' taken'
+split-taken ws vs facts before kept taken kept' taken' i f lt at e e' s =
+    subst (λ x. Splits ws vs (take (i + 1) facts) before x taken') (sym e) (subst (λ x. Splits ws vs (take (i + 1) facts) before kept x) (sym e') (split-takes ws vs facts before kept taken i f lt at s))
+
+-- the facts of a cell that count, one after the other
+counted-more : (p : Fact → Bool) (facts : Facts) (i : ℕ) (f : Fact) (b : Bool) → i < length facts → f ≡ get_or facts i f → p f ≡ b → filter p (take (i + 1) facts) ≡ filter p (take i facts) ++ cond b (f ∷ []) []
+counted-more p facts i f b lt at e =
+    filter_more p facts i f lt
+    ∙ (ap (λ x. filter p (take i facts) ++ cond (p x) (x ∷ []) []) (sym at)
+    ∙ ap (λ y. filter p (take i facts) ++ cond y (f ∷ []) []) e)
+
+pub list-counts :
+    (p : Fact → Bool) (facts old listed new : Facts) (i : ℕ) (f : Fact) → i < length facts → f ≡ get_or facts i f → p f ≡ true →
+    listed ≡ old ++ filter p (take i facts) → new ≡ listed ++ f ∷ [] → new ≡ old ++ filter p (take (i + 1) facts)
+list-counts p facts old listed new i f lt at e h n =
+    n ∙ (ap (λ x. x ++ f ∷ []) h ∙ (append_assoc old (filter p (take i facts)) (f ∷ []) ∙ ap (λ x. old ++ x) (sym (counted-more p facts i f true lt at e))))
+
+pub list-passes :
+    (p : Fact → Bool) (facts old listed new : Facts) (i : ℕ) (f : Fact) → i < length facts → f ≡ get_or facts i f → p f ≡ false →
+    listed ≡ old ++ filter p (take i facts) → new ≡ listed → new ≡ old ++ filter p (take (i + 1) facts)
+list-passes p facts old listed new i f lt at e h n =
+    n ∙ (h ∙ ap (λ x. old ++ x) (sym (counted-more p facts i f false lt at e ∙ append-nil (filter p (take i facts)))))
 
 pub split-none : (ws vs : Writes) (taken : Facts) → Splits ws vs [] taken [] taken
 split-none ws vs taken k counts h t = (refl, t)
@@ -146,8 +177,8 @@ taken-more slots ws vs i old now taken c c' taken' lt at to takes =
 pub taken-all : (slots : ℕ) (ws vs : Writes) (i : ℕ) (old now : List Cell) (taken : Facts) → length now ≤ i → TakenTo slots ws vs i old now taken → Takes ws vs (asked_in slots old) taken (asked_in slots now)
 taken-all slots ws vs i old now taken le to k h t =
     let after = known_both ws vs k in
-    ap (λ cs. all_known after (asked_in slots cs)) (sym (take_all old i (subst (λ n. n ≤ i) to.same le)))
-    ∙ to.done k (ap (λ cs. all_known k (asked_in slots cs)) (take_all now i le) ∙ h) t
+    ap (λ cs. all_known after (asked_in slots cs)) (sym (take_all i old (subst (λ n. n ≤ i) to.same le)))
+    ∙ to.done k (ap (λ cs. all_known k (asked_in slots cs)) (take_all i now le) ∙ h) t
 
 -- facts that are put
 behind : (a b : Bool) → a && (b && true) ≡ b && a
