@@ -6,5 +6,5 @@ use Rattle.alloc_check.proofs.closed.before_phis.Goals as goal
 pub returns : goal.returns
 returns c =
     if-more _ _ c.step_first.result
-    (λ yes h x family rows s. falls-on (c.args.first.now, c.args.second.now) (asked c.args.needs.now) (asked c.step_second.new.needs) (asked c.step_first.new.needs) c.in_ok-step_second.ensures (h x) family rows s)
+    (λ yes h x family rows s. falls-on (c.args.first.now, c.args.second.now) (asked c.args.needs.now) (asked c.step_second.new.needs) (asked c.step_first.new.needs) (c.in_ok-step_second.ensures c.if-not-branch.false) (h x) family rows s)
     c.step_first.ensures

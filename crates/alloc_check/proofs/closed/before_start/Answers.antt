@@ -11,5 +11,5 @@ returns c =
     let start = c.in_ok-start.start in
     let at = facts_at c.args.family.now c.args.n in
     let same : (k : Knowledge) → all_known k (asked start) ≡ all_known k at = λ k. c.in_ok-start.ensures k ∙ ap (all_known k) c.facts_at.ensures in
-    let covered : Lead (asked start) (λ k. all_known k (asked c.args.needs.now)) = subst (λ fs. Lead (asked start) (λ k. all_known k fs)) (c.as_slice.ensures ∙ c.in_ok-list.ensures) (c.covers.ensures c.if-not-covers.false) in
+    let covered : Lead (asked start) (λ k. all_known k (asked c.args.needs.now)) = subst (λ fs. Lead (asked start) (λ k. all_known k fs)) (c.as_slice-2.ensures ∙ c.in_ok-list.ensures) (c.covers.ensures c.if-not-covers.false) in
     λ x. carry-start c.args.family.now c.args.n (asked c.args.needs.now) (asked start) same covered
