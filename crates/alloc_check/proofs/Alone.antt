@@ -1,5 +1,5 @@
 -- Writes of one function alone are writes of both, of which the other writes nothing.
-use Rattle.std.proofs.Common.{◌≡◌, ◌∷◌, ◌&&◌, ◌||◌, true, [], refl}
+use Rattle.std.proofs.Common.{◌≡◌, ◌∷◌, ◌||◌, true, [], refl}
 use Rattle.std.proofs.lemmas.Bool.{and_from}
 use Rattle.meaning.specs.declared.types.Source.{Source}
 use Rattle.meaning.specs.declared.types.Source.TheVariants.{FromLane, Undef, Bits}

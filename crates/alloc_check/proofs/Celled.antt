@@ -1,10 +1,9 @@
 -- Facts in cells.
-use Rattle.std.proofs.Common.{◌≡◌, ◌∷◌, ◌++◌, ◌&&◌, ◌||◌, ◌<◌, ◌≤◌, ◌+◌, ℕ, zero, suc, Bool, true, false, cond, not, eqb, List, [], refl, sym, ap, subst, ◌∙◌, get_or, set, take, drop, length, arith, append_assoc, inl, inr}
+use Rattle.std.proofs.Common.{◌≡◌, ◌∷◌, ◌++◌, ◌&&◌, ◌<◌, ◌≤◌, ◌+◌, ℕ, zero, suc, Bool, true, false, cond, eqb, List, [], refl, sym, ap, subst, ◌∙◌, get_or, set, take, length, arith, append_assoc, inl, inr}
 use Rattle.std.specs.List.{filter, list_all, list_any}
 use Rattle.std.proofs.lemmas.Bool.{and_from, eq-eqb, eqb-true}
 use Rattle.std.proofs.lemmas.List.{append-nil, take_more, take_more_set, length-set, get_or-set_other, take_all}
 use Rattle.std.proofs.lemmas.List.Elements.{filter-append, filter_more}
-use Rattle.meaning.specs.declared.types.Source.{Source}
 use Rattle.meaning.specs.Sameness.{same_source}
 use Rattle.meaning.specs.Lanes.{Writes}
 use Rattle.meaning.specs.Facts.{Fact, Facts, Knowledge, all_known, known_both}

@@ -1,4 +1,4 @@
-use Rattle.std.proofs.Common.{◌≡◌, true, sym, subst, ap, ◌∙◌}
+use Rattle.std.proofs.Common.{◌≡◌, subst, ap, ◌∙◌}
 use Rattle.meaning.specs.Facts.{Knowledge, all_known}
 use Rattle.meaning.specs.Agree.{facts_at}
 use Rattle.alloc_check.specs.Needs.{Lead}
