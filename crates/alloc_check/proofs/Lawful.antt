@@ -65,7 +65,7 @@ facts-known (x ∷ facts) =
 pub known-has : (facts : Facts) (f : Fact) → Has facts f → known facts f.0 f.1 ≡ true
 known-has facts f h = h (known facts) (facts-known facts)
 
-all-append : (k : Knowledge) (xs ys : Facts) → all_known k (xs ++ ys) ≡ all_known k xs && all_known k ys
+pub all-append : (k : Knowledge) (xs ys : Facts) → all_known k (xs ++ ys) ≡ all_known k xs && all_known k ys
 all-append k [] ys = refl
 all-append k (f ∷ xs) ys = ap (λ b. k f.0 f.1 && b) (all-append k xs ys) ∙ and-assoc (k f.0 f.1) (all_known k xs) (all_known k ys)
   where

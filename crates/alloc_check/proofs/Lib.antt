@@ -7,3 +7,5 @@ pub mod Rowed
 pub mod BareRuns
 pub mod Steps
 pub mod Placed
+pub mod Celled
+pub mod Alone

@@ -1,5 +1,5 @@
 -- Marks at the slots of written lanes.
-use Rattle.std.proofs.Common.{◌≡◌, ◌∷◌, ◌++◌, ◌&&◌, ◌<◌, ◌+◌, ℕ, zero, suc, Bool, true, false, cond, not, List, [], refl, sym, ap, subst, ◌∙◌, get_or, set, take, length}
+use Rattle.std.proofs.Common.{◌≡◌, ◌∷◌, ◌++◌, ◌&&◌, ◌||◌, ◌<◌, ◌+◌, ℕ, zero, suc, Bool, true, false, cond, not, List, [], refl, sym, ap, subst, ◌∙◌, get_or, set, take, length}
 use Rattle.std.proofs.lemmas.Bool.{and_from}
 use Rattle.std.proofs.lemmas.List.{take_more}
 use Rattle.meaning.specs.declared.types.Lane.{Lane}
@@ -9,11 +9,11 @@ use Rattle.meaning.specs.declared.types.Fill.{Fill}
 use Rattle.meaning.specs.declared.types.Fill.TheVariants.{Moved}
 use Rattle.meaning.specs.declared.types.Write.{Write}
 use Rattle.meaning.specs.Lanes.{Writes, same_lane, filled, settled, through}
-use Rattle.meaning.specs.Facts.{Fact}
+use Rattle.meaning.specs.Facts.{Fact, Knowledge, known_left, known_both, one_result}
 use Rattle.laws.proofs.Following.{both-true}
 use Rattle.laws.proofs.Quiet.{same-true}
-use Rattle.alloc_check.specs.Marks.{lane_slot, unwritten, Marks, is_marked}
-use Rattle.alloc_check.specs.Needs.{before_second}
+use Rattle.alloc_check.specs.Marks.{lane_slot, source_slot, unwritten, stays, Marks}
+use Rattle.alloc_check.specs.Cells.{stays_both}
 
 set-true : (xs : List Bool) (a : ℕ) → get_or (set xs a true) a true ≡ true
 set-true [] a = refl
@@ -36,23 +36,23 @@ unwritten-append (w ∷ ws) vs l = ap (λ b. not (same_lane w.lane l) && b) (unw
     and-assoc false b c = refl
 
 -- a lane whose slot isn't marked isn't this one
-apart : (marks : List Bool) (a l : Lane) → get_or (set marks (lane_slot a) true) (lane_slot l) true ≡ false → not (same_lane a l) ≡ true
-apart marks a l e = go (same_lane a l) refl
+apart : (slots : ℕ) (marks : List Bool) (a l : Lane) → get_or (set marks (lane_slot slots a) true) (lane_slot slots l) true ≡ false → not (same_lane a l) ≡ true
+apart slots marks a l e = go (same_lane a l) refl
   where
     go : (b : Bool) → same_lane a l ≡ b → not b ≡ true
     go false h = refl
     go true h =
-        let f : get_or (set marks (lane_slot a) true) (lane_slot a) true ≡ false = subst (λ x. get_or (set marks (lane_slot a) true) (lane_slot x) true ≡ false) (sym (same-true a l h)) e in
-        let g = set-true marks (lane_slot a) in
+        let f : get_or (set marks (lane_slot slots a) true) (lane_slot slots a) true ≡ false = subst (λ x. get_or (set marks (lane_slot slots a) true) (lane_slot slots x) true ≡ false) (sym (same-true a l h)) e in
+        let g = set-true marks (lane_slot slots a) in
         absurd (cc)
 
-pub marks-none : (marks : List Bool) → Marks marks []
-marks-none marks l e = refl
+pub marks-none : (slots : ℕ) (marks : List Bool) → Marks slots marks []
+marks-none slots marks l e = refl
 
-pub marks-more : (marks : List Bool) (ws : Writes) (i : ℕ) (w : Write) → i < length ws → w ≡ get_or ws i w → Marks marks (take i ws) → Marks (set marks (lane_slot w.lane) true) (take (i + 1) ws)
-marks-more marks ws i w h at m l e =
-    let before : unwritten (take i ws) l ≡ true = m l (set-false marks (lane_slot w.lane) (lane_slot l) e) in
-    let here : not (same_lane w.lane l) && true ≡ true = and_from (not (same_lane w.lane l)) true (apart marks w.lane l e) refl in
+pub marks-more : (slots : ℕ) (marks : List Bool) (ws : Writes) (i : ℕ) (w : Write) → i < length ws → w ≡ get_or ws i w → Marks slots marks (take i ws) → Marks slots (set marks (lane_slot slots w.lane) true) (take (i + 1) ws)
+marks-more slots marks ws i w h at m l e =
+    let before : unwritten (take i ws) l ≡ true = m l (set-false marks (lane_slot slots w.lane) (lane_slot slots l) e) in
+    let here : not (same_lane w.lane l) && true ≡ true = and_from (not (same_lane w.lane l)) true (apart slots marks w.lane l e) refl in
     let both : unwritten (take i ws ++ w ∷ []) l ≡ true = unwritten-append (take i ws) (w ∷ []) l ∙ and_from (unwritten (take i ws) l) (not (same_lane w.lane l) && true) before here in
     subst (λ vs. unwritten vs l ≡ true) (sym (take_more ws i w h ∙ ap (λ x. take i ws ++ x ∷ []) (sym at))) both
 
@@ -66,11 +66,20 @@ filled-unwritten (w ∷ ws) l e =
     let p = both-true (not (same_lane w.lane l)) (unwritten ws l) e in
     past (same_lane w.lane l) w.fill (filled ws l) (Moved (FromLane l)) p.0 (filled-unwritten ws l p.1)
 
-settled-unmarked : (marks : List Bool) (ws : Writes) (s : Source) → Marks marks ws → is_marked marks s ≡ false → settled (through ws s) ≡ s
-settled-unmarked marks ws (FromLane l) m e = ap settled (filled-unwritten ws l (m l e))
-settled-unmarked marks ws Undef m e = refl
-settled-unmarked marks ws (Bits c low width) m e = refl
+through-stays : (ws : Writes) (s : Source) → stays ws s ≡ true → through ws s ≡ Moved s
+through-stays ws (FromLane l) e = filled-unwritten ws l e
+through-stays ws Undef e = refl
+through-stays ws (Bits c low width) e = refl
 
--- a fact whose second source isn't marked stays
-pub second-unmarked : (marks : List Bool) (ws : Writes) (f : Fact) → Marks marks ws → is_marked marks f.1 ≡ false → f ≡ before_second ws f
-second-unmarked marks ws f m e = λ i. (f.0, sym (settled-unmarked marks ws f.1 m e) i)
+-- a source whose slot isn't marked stays
+pub stays-unmarked : (slots : ℕ) (marks : List Bool) (ws : Writes) (s : Source) → Marks slots marks ws → get_or marks (source_slot slots s) true ≡ false → stays ws s ≡ true
+stays-unmarked slots marks ws (FromLane l) m e = m l e
+stays-unmarked slots marks ws Undef m e = refl
+stays-unmarked slots marks ws (Bits c low width) m e = refl
+
+-- a fact that stays is known behind the writes where it is known in front of them
+pub known-stays : (ws vs : Writes) (k : Knowledge) (f : Fact) → stays_both ws vs f ≡ true → k f.0 f.1 ≡ true → known_both ws vs k f.0 f.1 ≡ true
+known-stays ws vs k f e h =
+    let p = both-true (stays ws f.0) (stays vs f.1) e in
+    subst (λ g. one_result g (through vs f.1) || known_left k g (settled (through vs f.1)) ≡ true) (sym (through-stays ws f.0 p.0))
+    (subst (λ g. one_result (Moved f.0) g || known_left k (Moved f.0) (settled g) ≡ true) (sym (through-stays vs f.1 p.1)) h)

@@ -1,6 +1,5 @@
 -- Facts taken back over an instruction.
-use Rattle.std.proofs.Common.{◌≡◌, ◌∷◌, ◌&&◌, ◌||◌, ℕ, Bool, true, false, cond, List, [], Option, Some, None, map, refl, subst}
-use Rattle.std.specs.List.{list_all}
+use Rattle.std.proofs.Common.{◌≡◌, ◌∷◌, ◌&&◌, ◌||◌, ℕ, Bool, true, false, cond, List, [], Option, Some, None, refl, sym, subst, ◌∙◌}
 use Rattle.std.proofs.lemmas.Bool.{and_from}
 use Rattle.meaning.specs.declared.types.Source.TheVariants.{Undef}
 use Rattle.meaning.specs.declared.types.Fill.{Fill}
@@ -15,7 +14,8 @@ use Rattle.meaning.specs.Agree.{Family, facts_at, known_along, rows_hold, target
 use Rattle.laws.proofs.Following.{both-true}
 use Rattle.laws.proofs.Closed.{or-right}
 use Rattle.alloc_check.specs.Needs.{IsLawful, Lead, Suffice, Adds, Carry, Leave, result_of, one_number, is_moved, before_first, before_second, before_both, fits_first, fits_both, behind_falls}
-use Rattle.alloc_check.proofs.Lawful.{lawful-known}
+use Rattle.alloc_check.specs.Cells.{Takes}
+use Rattle.alloc_check.proofs.Lawful.{lawful-known, facts-known}
 
 pub lawful-first : (ws : Writes) (k : Knowledge) → IsLawful k → IsLawful (known_first ws k)
 lawful-first ws k l = record { undef = λ t. l.undef t; constant = λ c low width. l.constant c low width }
@@ -34,14 +34,6 @@ lawful-both ws vs k l =
 
 lawful-everything : IsLawful everything
 lawful-everything = record { undef = λ t. refl; constant = λ c low width. refl }
-
--- facts that fit hold behind an instruction where their images hold in front of it
-all-back : (after k : Knowledge) (back : Fact → Fact) (fits : Fact → Bool) → ((f : Fact) → fits f ≡ true → k (back f).0 (back f).1 ≡ true → after f.0 f.1 ≡ true) → (facts : Facts) → list_all fits facts ≡ true → all_known k (map back facts) ≡ true → all_known after facts ≡ true
-all-back after k back fits step [] e h = refl
-all-back after k back fits step (f ∷ facts) e h =
-    let p = both-true (fits f) (list_all fits facts) e in
-    let q = both-true (k (back f).0 (back f).1) (all_known k (map back facts)) h in
-    and_from (after f.0 f.1) (all_known after facts) (step f p.0 q.0) (all-back after k back fits step facts p.1 q.1)
 
 pub first-known : (ws : Writes) (k : Knowledge) (f : Fact) → fits_first ws f ≡ true → k (before_first ws f).0 (before_first ws f).1 ≡ true → known_first ws k f.0 f.1 ≡ true
 first-known ws k f = go (through ws f.0)
@@ -70,18 +62,12 @@ both-known ws vs k f = go (through ws f.0) (through vs f.1)
     go : (g h : Fill) → one_number (result_of g) (result_of h) || is_moved (result_of g) ≡ true → k (chosen (one_number (result_of g) (result_of h)) g h).0 (chosen (one_number (result_of g) (result_of h)) g h).1 ≡ true → one_result g h || known_left k g (settled h) ≡ true
     go g h e x = subst (λ b. b || known_left k g (settled h) ≡ true) (same-number g h) (choose (one_number (result_of g) (result_of h)) g h e x)
 
-all-yes : (facts : Facts) → list_all (λ f. true) facts ≡ true
-all-yes [] = refl
-all-yes (f ∷ facts) = all-yes facts
-
-pub led-first : (ws : Writes) (old : Facts) → list_all (fits_first ws) old ≡ true → Lead (map (before_first ws) old) (λ k. all_known (known_first ws k) old)
-led-first ws old e k l h = all-back (known_first ws k) k (before_first ws) (fits_first ws) (first-known ws k) old e h
-
-pub led-second : (ws : Writes) (old : Facts) → Lead (map (before_second ws) old) (λ k. all_known (known_second ws k) old)
-led-second ws old k l h = all-back (known_second ws k) k (before_second ws) (λ f. true) (λ f e x. x) old (all-yes old) h
-
-pub led-both : (ws vs : Writes) (old : Facts) → list_all (fits_both ws vs) old ≡ true → Lead (map (before_both ws vs) old) (λ k. all_known (known_both ws vs k) old)
-led-both ws vs old e k l h = all-back (known_both ws vs k) k (before_both ws vs) (fits_both ws vs) (both-known ws vs k) old e h
+-- facts taken from behind writes, and asked for in front of them
+pub taken-leads :
+    (ws vs : Writes) (old taken middle new : Facts) → Takes ws vs old taken middle → Adds middle (λ k. all_known (known_both ws vs k) taken) new → Lead new (λ k. all_known (known_both ws vs k) old)
+taken-leads ws vs old taken middle new takes adds k l h =
+    let p = both-true (all_known (known_both ws vs k) taken) (all_known k middle) (adds k l h) in
+    takes k p.1 p.0
 
 -- along a way
 pub along-known : (w : Ways) (k : Knowledge) (f : Fact) → fits_first w.first f ≡ true → k (before_second w.second (before_first w.first f)).0 (before_second w.second (before_first w.first f)).1 ≡ true → known_along w k f.0 f.1 ≡ true
@@ -94,9 +80,12 @@ module _ (family : Family) where
   pub carry-second : (reads : Reads) (ws : Writes) (old new : Facts) → Lead new (λ k. all_known (known_second ws k) old) → Carry family (SecondSilent reads ws) old new
   carry-second reads ws old new lead rows suffice k l h = suffice (known_second ws k) (lawful-second ws k l) (lead k l h)
 
-  pub carry-start : (n : ℕ) (old : Facts) → all_known (known (facts_at family n)) old ≡ true → Carry family (BothStart n) old (facts_at family n)
-  carry-start n old e rows suffice k l h =
-      and_from (all_known k (facts_at family n)) (rows_hold family rows (known (facts_at family n))) h (suffice (known (facts_at family n)) (lawful-known (facts_at family n)) e)
+  pub carry-start :
+      (n : ℕ) (old start : Facts) → ((k : Knowledge) → all_known k start ≡ all_known k (facts_at family n)) → Lead start (λ k. all_known k old) → Carry family (BothStart n) old start
+  carry-start n old start same covers rows suffice k l h =
+      let at = facts_at family n in
+      let e : all_known (known at) old ≡ true = covers (known at) (lawful-known at) (same (known at) ∙ facts-known at) in
+      and_from (all_known k at) (rows_hold family rows (known at)) (sym (same k) ∙ h) (suffice (known at) (lawful-known at) e)
 
   pub carry-end : (falls : Option (Writes × Writes)) (exits : List Ways) (old middle new : Facts) → ((rows : List Row) → Suffice family rows old → Lead middle (λ k. rows_hold family rows (behind_falls falls k))) → Adds middle (λ k. ways_hold family k exits) new → Carry family (BothEnd falls exits) old new
   carry-end falls exits old middle new lead adds rows suffice k l h =

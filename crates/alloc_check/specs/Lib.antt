@@ -1,4 +1,5 @@
 pub mod Needs
 pub mod Marks
+pub mod Cells
 pub mod Verdict
 pub mod Bare

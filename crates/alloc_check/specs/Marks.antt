@@ -1,28 +1,37 @@
 -- Which lanes may be among those written, by marks at their slots.
-use Rattle.std.specs.Prelude.{◌≡◌, ℕ, ◌%◌, Bool, true, false, not, ◌&&◌, List, [], ◌∷◌, slice_index_or}
+use Rattle.std.specs.Prelude.{◌≡◌, ℕ, ◌%◌, Bool, true, false, cond, nat_eq, not, ◌&&◌, List, [], ◌∷◌, slice_index_or}
 use Rattle.meaning.specs.declared.types.Lane.{Lane}
 use Rattle.meaning.specs.declared.types.Lane.TheVariants.{VirtualLane, UnitLane, SlotLane}
 use Rattle.meaning.specs.declared.types.Source.{Source}
 use Rattle.meaning.specs.declared.types.Source.TheVariants.{FromLane, Undef, Bits}
 use Rattle.meaning.specs.Lanes.{Writes, same_lane}
 
+-- a slot for a number, one of so many
+abbrev pub spread : ℕ → ℕ → ℕ
+spread slots n = cond (nat_eq slots 0) 0 (n % slots)
+
 -- many lanes have one slot
-abbrev pub lane_slot : Lane → ℕ
-lane_slot (VirtualLane v k) = v % 64
-lane_slot (UnitLane u) = u % 64
-lane_slot (SlotLane s k width) = s % 64
+abbrev pub lane_slot : ℕ → Lane → ℕ
+lane_slot slots (VirtualLane v k) = spread slots v
+lane_slot slots (UnitLane u) = spread slots u
+lane_slot slots (SlotLane s k width) = spread slots s
+
+abbrev pub source_slot : ℕ → Source → ℕ
+source_slot slots (FromLane l) = lane_slot slots l
+source_slot slots Undef = 0
+source_slot slots (Bits c low width) = 0
 
 -- the lane is none of those written
 abbrev pub unwritten : Writes → Lane → Bool
 unwritten [] l = true
 unwritten (w ∷ ws) l = not (same_lane w.lane l) && unwritten ws l
 
--- each lane that is written has its slot marked
-abbrev pub Marks : List Bool → Writes → Type 0
-Marks marks ws = (l : Lane) → slice_index_or marks (lane_slot l) true ≡ false → unwritten ws l ≡ true
+-- the writes leave the source as it is
+abbrev pub stays : Writes → Source → Bool
+stays ws (FromLane l) = unwritten ws l
+stays ws Undef = true
+stays ws (Bits c low width) = true
 
--- the source is a lane whose slot is marked
-abbrev pub is_marked : List Bool → Source → Bool
-is_marked marks (FromLane l) = slice_index_or marks (lane_slot l) true
-is_marked marks Undef = false
-is_marked marks (Bits c low width) = false
+-- each lane that is written has its slot marked
+abbrev pub Marks : ℕ → List Bool → Writes → Type 0
+Marks slots marks ws = (l : Lane) → slice_index_or marks (lane_slot slots l) true ≡ false → unwritten ws l ≡ true

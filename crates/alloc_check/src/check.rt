@@ -43,7 +43,7 @@ fn holds(
 {
     match needs_before(alloc, family, rows)? {
         None => Ok(false),
-        Some(needs) => Ok(all_start(t, f, g, needs.facts.as_slice())),
+        Some(needs) => Ok(all_start(t, f, g, needs.list(alloc)?.as_slice())),
     }
 }
 

@@ -2,7 +2,7 @@
 //! counted instructions needs. It goes backward: what rows need behind an instruction is taken to
 //! the place before it, until it meets the facts of a block's start.
 
-ghost use Rattle.std.specs.Prelude.{◌≡◌, ◌∷◌, [], IsTrue, IfOk, IfSome, OnOk, true, List, Option, Some, None};
+ghost use Rattle.std.specs.Prelude.{◌≡◌, ◌∷◌, [], IsTrue, IfOk, IfSome, true, List, Option, Some, None};
 ghost use Rattle.meaning.specs.declared.types.Row.{Row as ARow};
 ghost use Rattle.meaning.specs.declared.types.Row.TheVariants.{BothStart, BothEnd, FirstSilent, SecondSilent, BothCounted};
 ghost use Rattle.meaning.specs.Facts.{Facts as SomeFacts, Knowledge, all_known, known_first, known_second, known_both};
@@ -11,11 +11,10 @@ ghost use Rattle.meaning.specs.declared.types.Rest.{Rest as ARest};
 ghost use Rattle.meaning.specs.declared.types.Ways.{Ways as SomeWays};
 ghost use Rattle.meaning.specs.Lanes.{Reads, Writes as SomeWrites};
 ghost use Rattle.alloc_check.specs.Needs.{Lead, Adds, Carry, Suffice, behind_falls, Leave};
+ghost use Rattle.alloc_check.specs.Cells.{asked};
 
-use crate::facts::{
-    Fact, Facts, all_back_both, all_back_first, all_back_second, all_fit_both, all_fit_first,
-};
-use crate::needs::{Needs, add_along, add_operands, needs_of};
+use crate::facts::{Fact, Facts};
+use crate::needs::{Needs, add_along, add_before, add_operands, needs_of};
 use meaning::{Row, Source, Ways, Write, Writes};
 use std::alloc::{AllocError, Global};
 use target_base::List;
@@ -42,7 +41,7 @@ fn add_ways(
     exits: &[Ways],
     needs: &mut Needs,
 ) -> Result<bool, AllocError>
-    ensures { IfOk result (λ yes. IsTrue yes → Adds needs.old.facts (λ k. ways_hold family.now k exits.now) needs.new.facts) }
+    ensures { IfOk result (λ yes. IsTrue yes → Adds (asked needs.old) (λ k. ways_hold family.now k exits.now) (asked needs.new)) }
 {
     for e in exits {
         if !add_along(alloc, needs, e, facts_at(family, e.block))? {
@@ -58,7 +57,7 @@ fn add_target(
     target: &Option<Ways>,
     needs: &mut Needs,
 ) -> Result<bool, AllocError>
-    ensures { IfOk result (λ yes. IsTrue yes → Adds needs.old.facts (λ k. target_holds family.now k target.now) needs.new.facts) }
+    ensures { IfOk result (λ yes. IsTrue yes → Adds (asked needs.old) (λ k. target_holds family.now k target.now) (asked needs.new)) }
 {
     match target {
         None => Ok(true),
@@ -66,38 +65,31 @@ fn add_target(
     }
 }
 
-/// Takes needs to the place before writes of the first function.
-fn step_first(alloc: Global, writes: &[Write], needs: &mut Needs) -> Result<bool, AllocError>
-    ensures { IfOk result (λ yes. IsTrue yes → Lead needs.new.facts (λ k. all_known (known_first writes.now k) needs.old.facts)) }
-{
-    if !all_fit_first(writes, needs.facts.as_slice()) {
-        return Ok(false);
-    }
-    all_back_first(alloc, writes, &mut needs.facts)?;
-    Ok(true)
-}
-
-/// The same of the second function.
-fn step_second(alloc: Global, writes: &[Write], needs: &mut Needs) -> Result<(), AllocError>
-    ensures { OnOk result (Lead needs.new.facts (λ k. all_known (known_second writes.now k) needs.old.facts)) }
-{
-    all_back_second(alloc, writes, &mut needs.facts)
-}
-
-/// Takes needs to the place before a counted instruction of both.
+/// Takes needs to the place before a counted instruction of both. Only what it writes is looked at.
 fn step_both(
     alloc: Global,
     first: &[Write],
     second: &[Write],
     needs: &mut Needs,
 ) -> Result<bool, AllocError>
-    ensures { IfOk result (λ yes. IsTrue yes → Lead needs.new.facts (λ k. all_known (known_both first.now second.now k) needs.old.facts)) }
+    ensures { IfOk result (λ yes. IsTrue yes → Lead (asked needs.new) (λ k. all_known (known_both first.now second.now k) (asked needs.old))) }
 {
-    if !all_fit_both(first, second, needs.facts.as_slice()) {
-        return Ok(false);
-    }
-    all_back_both(alloc, first, second, &mut needs.facts)?;
-    Ok(true)
+    let taken = needs.take_written(alloc, first, second)?;
+    add_before(alloc, needs, first, second, taken.as_slice())
+}
+
+/// Takes needs to the place before writes of the first function.
+fn step_first(alloc: Global, writes: &[Write], needs: &mut Needs) -> Result<bool, AllocError>
+    ensures { IfOk result (λ yes. IsTrue yes → Lead (asked needs.new) (λ k. all_known (known_first writes.now k) (asked needs.old))) }
+{
+    step_both(alloc, writes, &[], needs)
+}
+
+/// The same of the second function.
+fn step_second(alloc: Global, writes: &[Write], needs: &mut Needs) -> Result<bool, AllocError>
+    ensures { IfOk result (λ yes. IsTrue yes → Lead (asked needs.new) (λ k. all_known (known_second writes.now k) (asked needs.old))) }
+{
+    step_both(alloc, &[], writes, needs)
 }
 
 /// Takes needs to a block's start, where the block's facts are to give them.
@@ -107,10 +99,10 @@ fn before_start(
     n: u32,
     needs: &mut Needs,
 ) -> Result<bool, AllocError>
-    ensures { IfOk result (λ yes. IsTrue yes → Carry family.now (BothStart n) needs.old.facts needs.new.facts) }
+    ensures { IfOk result (λ yes. IsTrue yes → Carry family.now (BothStart n) (asked needs.old) (asked needs.new)) }
 {
     let start = needs_of(alloc, facts_at(family, n))?;
-    if !start.covers(needs.facts.as_slice()) {
+    if !start.covers(needs.list(alloc)?.as_slice()) {
         return Ok(false);
     }
     *needs = start;
@@ -119,7 +111,7 @@ fn before_start(
 
 /// Where control doesn't fall out of a block, nothing is asked.
 fn before_nothing(alloc: Global, needs: &mut Needs) -> Result<bool, AllocError>
-    ensures { IfOk result (λ yes. IsTrue yes → (family : SomeFamily) (rows : List ARow) → Suffice family rows needs.old.facts → Lead needs.new.facts (λ k. rows_hold family rows (behind_falls None k))) }
+    ensures { IfOk result (λ yes. IsTrue yes → (family : SomeFamily) (rows : List ARow) → Suffice family rows (asked needs.old) → Lead (asked needs.new) (λ k. rows_hold family rows (behind_falls None k))) }
 {
     let nothing = Needs::new(alloc)?;
     *needs = nothing;
@@ -133,9 +125,11 @@ fn before_phis(
     second: &[Write],
     needs: &mut Needs,
 ) -> Result<bool, AllocError>
-    ensures { IfOk result (λ yes. IsTrue yes → (family : SomeFamily) (rows : List ARow) → Suffice family rows needs.old.facts → Lead needs.new.facts (λ k. rows_hold family rows (behind_falls (Some (first.now, second.now)) k))) }
+    ensures { IfOk result (λ yes. IsTrue yes → (family : SomeFamily) (rows : List ARow) → Suffice family rows (asked needs.old) → Lead (asked needs.new) (λ k. rows_hold family rows (behind_falls (Some (first.now, second.now)) k))) }
 {
-    step_second(alloc, second, needs)?;
+    if !step_second(alloc, second, needs)? {
+        return Ok(false);
+    }
     step_first(alloc, first, needs)
 }
 
@@ -145,7 +139,7 @@ fn before_falls(
     falls: &Option<(Writes, Writes)>,
     needs: &mut Needs,
 ) -> Result<bool, AllocError>
-    ensures { IfOk result (λ yes. IsTrue yes → (family : SomeFamily) (rows : List ARow) → Suffice family rows needs.old.facts → Lead needs.new.facts (λ k. rows_hold family rows (behind_falls falls.now k))) }
+    ensures { IfOk result (λ yes. IsTrue yes → (family : SomeFamily) (rows : List ARow) → Suffice family rows (asked needs.old) → Lead (asked needs.new) (λ k. rows_hold family rows (behind_falls falls.now k))) }
 {
     match falls {
         None => before_nothing(alloc, needs),
@@ -160,7 +154,7 @@ fn before_end(
     exits: &List<Ways>,
     needs: &mut Needs,
 ) -> Result<bool, AllocError>
-    ensures { IfOk result (λ yes. IsTrue yes → Carry family.now (BothEnd falls.now exits.now) needs.old.facts needs.new.facts) }
+    ensures { IfOk result (λ yes. IsTrue yes → Carry family.now (BothEnd falls.now exits.now) (asked needs.old) (asked needs.new)) }
 {
     if !before_falls(alloc, falls, needs)? {
         return Ok(false);
@@ -178,7 +172,7 @@ pub fn before_writes(
     exits: &List<Ways>,
     needs: &mut Needs,
 ) -> Result<bool, AllocError>
-    ensures { IfOk result (λ yes. IsTrue yes → Leave family.now first.now second.now target.now exits.now needs.old.facts needs.new.facts) }
+    ensures { IfOk result (λ yes. IsTrue yes → Leave family.now first.now second.now target.now exits.now (asked needs.old) (asked needs.new)) }
 {
     if !add_target(alloc, family, target, needs)? {
         return Ok(false);
@@ -194,7 +188,7 @@ fn before_first_silent(
     writes: &List<Write>,
     needs: &mut Needs,
 ) -> Result<bool, AllocError>
-    ensures { IfOk result (λ yes. IsTrue yes → (family : SomeFamily) (reads : Reads) → Carry family (FirstSilent reads writes.now) needs.old.facts needs.new.facts) }
+    ensures { IfOk result (λ yes. IsTrue yes → (family : SomeFamily) (reads : Reads) → Carry family (FirstSilent reads writes.now) (asked needs.old) (asked needs.new)) }
 {
     step_first(alloc, writes.as_slice(), needs)
 }
@@ -204,10 +198,9 @@ fn before_second_silent(
     writes: &List<Write>,
     needs: &mut Needs,
 ) -> Result<bool, AllocError>
-    ensures { IfOk result (λ yes. IsTrue yes → (family : SomeFamily) (reads : Reads) → Carry family (SecondSilent reads writes.now) needs.old.facts needs.new.facts) }
+    ensures { IfOk result (λ yes. IsTrue yes → (family : SomeFamily) (reads : Reads) → Carry family (SecondSilent reads writes.now) (asked needs.old) (asked needs.new)) }
 {
-    step_second(alloc, writes.as_slice(), needs)?;
-    Ok(true)
+    step_second(alloc, writes.as_slice(), needs)
 }
 
 /// What a counted pair reads.
@@ -217,9 +210,8 @@ fn before_reads(
     right: &List<List<Source>>,
     needs: &mut Needs,
 ) -> Result<bool, AllocError>
-    ensures { IfOk result (λ yes. IsTrue yes → (family : SomeFamily) (r : ARest) (ws vs : SomeWrites) (target : Option SomeWays) (exits : List SomeWays) (old : SomeFacts) → Leave family ws vs target exits old needs.old.facts → Carry family (BothCounted r left.now right.now ws vs target exits) old needs.new.facts) }
+    ensures { IfOk result (λ yes. IsTrue yes → (family : SomeFamily) (r : ARest) (ws vs : SomeWrites) (target : Option SomeWays) (exits : List SomeWays) (old : SomeFacts) → Leave family ws vs target exits old (asked needs.old) → Carry family (BothCounted r left.now right.now ws vs target exits) old (asked needs.new)) }
 {
-    needs.tidy(alloc)?;
     add_operands(alloc, needs, left.as_slice(), right.as_slice())
 }
 
@@ -230,7 +222,7 @@ pub fn before_row(
     row: &Row,
     needs: &mut Needs,
 ) -> Result<bool, AllocError>
-    ensures { IfOk result (λ yes. IsTrue yes → Carry family.now row.now needs.old.facts needs.new.facts) }
+    ensures { IfOk result (λ yes. IsTrue yes → Carry family.now row.now (asked needs.old) (asked needs.new)) }
 {
     match row {
         Row::BothStart(n) => before_start(alloc, family, *n, needs),
@@ -253,7 +245,7 @@ pub fn needs_before(
     family: &Family,
     rows: &[Row],
 ) -> Result<Option<Needs>, AllocError>
-    ensures { IfOk result (λ made. IfSome made (λ needs. Suffice family.now rows.now needs.facts)) }
+    ensures { IfOk result (λ made. IfSome made (λ needs. Suffice family.now rows.now (asked needs))) }
 {
     let mut needs = Needs::new(alloc)?;
     let mut k = rows.len();

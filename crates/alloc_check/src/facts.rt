@@ -1,8 +1,6 @@
 //! Facts, and what they ask before the instructions that they stand behind.
 
-ghost use Rattle.alloc_check.specs.Marks.{lane_slot, Marks, is_marked};
-ghost use Rattle.std.specs.Prelude.{◌≡◌, slice_set, true, map, IfOk, OnOk, ◌&&◌, ◌||◌};
-ghost use Rattle.std.specs.List.{list_all};
+ghost use Rattle.std.specs.Prelude.{◌≡◌, IfOk, OnOk};
 ghost use Rattle.target_base.specs.Storage.{same_numbers};
 ghost use Rattle.meaning.specs.Lanes.{same_lane, filled, settled, through};
 ghost use Rattle.meaning.specs.declared.types.Lane.{Lane};
@@ -138,13 +136,8 @@ pub fn fits_first(writes: &[Write], fact: &Fact) -> bool
     result_number(writes, &fact.0).is_none()
 }
 
-pub fn all_fit_first(writes: &[Write], facts: &[Fact]) -> bool
-    ensures { result ≡ list_all (fits_first writes.now) facts.now }
-{
-    facts.iter().all(|f| fits_first(writes, f))
-}
-
-fn fits_both(first: &[Write], second: &[Write], fact: &Fact) -> bool
+/// Whether no result of the first function alone is asked for, behind writes of both.
+pub fn fits_both(first: &[Write], second: &[Write], fact: &Fact) -> bool
     ensures { result ≡ fits_both first.now second.now fact.now }
 {
     match result_number(first, &fact.0) {
@@ -153,25 +146,22 @@ fn fits_both(first: &[Write], second: &[Write], fact: &Fact) -> bool
     }
 }
 
-pub fn all_fit_both(first: &[Write], second: &[Write], facts: &[Fact]) -> bool
-    ensures { result ≡ list_all (fits_both first.now second.now) facts.now }
-{
-    facts.iter().all(|f| fits_both(first, second, f))
-}
-
+/// Takes a fact to the place before writes of the first function.
 pub fn back_first(alloc: Global, writes: &[Write], fact: &mut Fact) -> Result<(), AllocError>
     ensures { OnOk result (fact.new ≡ before_first writes.now fact.old) }
 {
     settle(alloc, &mut fact.0, writes)
 }
 
+/// Takes a fact to the place before writes of the second function.
 pub fn back_second(alloc: Global, writes: &[Write], fact: &mut Fact) -> Result<(), AllocError>
     ensures { OnOk result (fact.new ≡ before_second writes.now fact.old) }
 {
     settle(alloc, &mut fact.1, writes)
 }
 
-fn back_both(
+/// Takes a fact to the place before writes of both. Of lanes that get one result nothing is asked.
+pub fn back_both(
     alloc: Global,
     first: &[Write],
     second: &[Write],
@@ -187,99 +177,4 @@ fn back_both(
     }
     settle(alloc, &mut fact.0, first)?;
     settle(alloc, &mut fact.1, second)
-}
-
-/// Takes facts to the place before a silent instruction of the first function.
-pub fn all_back_first(alloc: Global, writes: &[Write], facts: &mut Facts) -> Result<(), AllocError>
-    ensures { OnOk result (facts.new ≡ map (before_first writes.now) facts.old) }
-{
-    for k in 0..facts.len() {
-        back_first(alloc, writes, facts.get_mut(k))?;
-    }
-    Ok(())
-}
-
-/// The slot of a lane.
-fn lane_slot(lane: Lane) -> usize
-    ensures { result ≡ lane_slot lane }
-{
-    match lane {
-        Lane::VirtualLane(v, _) => (v % 64) as usize,
-        Lane::UnitLane(u) => (u % 64) as usize,
-        Lane::SlotLane(s, _, _) => (s % 64) as usize,
-    }
-}
-
-/// Sets a mark, where there is one.
-fn set_mark(marks: &mut Vec<bool>, at: usize)
-    ensures { marks.new.items ≡ slice_set marks.old.items at true }
-{
-    if at < marks.len() {
-        marks[at] = true;
-    }
-}
-
-/// Marks the slots of the lanes that are written.
-fn marks_of(alloc: Global, writes: &[Write]) -> Result<Vec<bool>, AllocError>
-    ensures { IfOk result (λ made. Marks made.items writes.now) }
-{
-    let mut marks = Vec::from_elem(alloc, false, 64)?;
-    for w in writes {
-        set_mark(&mut marks, lane_slot(w.lane));
-    }
-    Ok(marks)
-}
-
-/// Whether the source is a lane whose slot is marked.
-fn is_marked(marks: &[bool], source: &Source) -> bool
-    ensures { result ≡ is_marked marks.now source.now }
-{
-    match source {
-        Source::FromLane(l) => marks.get(lane_slot(*l)).copied().unwrap_or(true),
-        Source::Undef => false,
-        Source::Bits(_, _, _) => false,
-    }
-}
-
-/// Takes a fact to the place before writes of the second function; of a lane whose slot isn't marked
-/// nothing is looked up.
-fn back_marked(
-    alloc: Global,
-    marks: &[bool],
-    writes: &[Write],
-    fact: &mut Fact,
-) -> Result<(), AllocError>
-    requires { Marks marks.now writes.now }
-    ensures { OnOk result (fact.new ≡ before_second writes.now fact.old) }
-{
-    if !is_marked(marks, &fact.1) {
-        return Ok(());
-    }
-    back_second(alloc, writes, fact)
-}
-
-/// Takes facts to the place before a silent instruction of the second function.
-pub fn all_back_second(alloc: Global, writes: &[Write], facts: &mut Facts) -> Result<(), AllocError>
-    ensures { OnOk result (facts.new ≡ map (before_second writes.now) facts.old) }
-{
-    let marks = marks_of(alloc, writes)?;
-    for k in 0..facts.len() {
-        back_marked(alloc, marks.as_slice(), writes, facts.get_mut(k))?;
-    }
-    Ok(())
-}
-
-/// Takes facts to the place before a counted instruction of both.
-pub fn all_back_both(
-    alloc: Global,
-    first: &[Write],
-    second: &[Write],
-    facts: &mut Facts,
-) -> Result<(), AllocError>
-    ensures { OnOk result (facts.new ≡ map (before_both first.now second.now) facts.old) }
-{
-    for k in 0..facts.len() {
-        back_both(alloc, first, second, facts.get_mut(k))?;
-    }
-    Ok(())
 }

@@ -191,12 +191,12 @@ fn block_needs(
 /// Adds what isn't there yet; answers whether there was any.
 fn grow(alloc: Global, facts: &mut Facts, asked: &[Fact]) -> Result<bool, AllocError> {
     let mut all = needs_of(alloc, facts.as_slice())?;
-    let before = all.facts.len();
+    let before = all.count();
     all.add_all(alloc, asked)?;
-    if all.facts.len() == before {
+    if all.count() == before {
         return Ok(false);
     }
-    *facts = all.facts;
+    *facts = all.list(alloc)?;
     Ok(true)
 }
 
@@ -246,7 +246,7 @@ fn update(
             if grow(
                 alloc,
                 &mut rounds.family.get_mut(k).1,
-                needs.facts.as_slice(),
+                needs.list(alloc)?.as_slice(),
             )? {
                 mark_predecessors(shape, k, &mut rounds.waiting);
                 rounds.changed = true;

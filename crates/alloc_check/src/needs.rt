@@ -1,33 +1,28 @@
 //! What is asked at a place, whoever asks.
 
-ghost use Rattle.std.specs.Prelude.{◌≡◌, ◌<◌, ◌++◌, length, ◌∷◌, [], IsTrue, IfOk, IfSome, OnOk, ◌&&◌, true};
-ghost use Rattle.meaning.specs.Facts.{Knowledge, Fact as AFact, Facts as SomeFacts, all_known, always, known, reads_known, operands_known};
+ghost use Rattle.std.specs.Prelude.{◌≡◌, ◌++◌, [], IsTrue, IfOk, IfSome, OnOk, ◌&&◌, true};
+ghost use Rattle.meaning.specs.Facts.{Knowledge, all_known, always, known_both, reads_known, operands_known};
 ghost use Rattle.meaning.specs.Agree.{known_along};
 ghost use Rattle.alloc_check.specs.Needs.{Has, Lead, Adds};
+ghost use Rattle.alloc_check.specs.Cells.{asked, asked_in, counting, IsCellOf, IsMarked, Puts, Takes};
 
-use crate::facts::{Fact, Facts, back_first, back_second, fits_first, same_source};
-use meaning::{Constant, Lane, Source, Ways};
+use crate::cells::{Cell, Marked, belongs, is_among, marks_for, source_slot, take_from};
+use crate::facts::{
+    Fact, Facts, back_both, back_first, back_second, fits_both, fits_first, same_source,
+};
+use meaning::{Source, Ways, Write};
 use std::alloc::{AllocError, Global};
 use target_base::{Copied, List};
 
-/// How many places a new table remembers.
-const ROOM: usize = 256;
-
-/// No place.
-const FREE: u32 = 4294967295;
-
-/// Facts that must be known at a place.
+/// Facts that must be known at a place, each mostly once.
 #[derive(Drop)]
 pub struct Needs {
-    /// The facts, each mostly once.
-    pub facts: Facts,
-    /// Places of facts, each at its fact's hash or at the next free slot behind. Facts change, so that
-    /// a place only says where to look.
-    hints: Vec<u32>,
-    /// How many places are remembered.
-    used: usize,
-    /// How many facts may stand before those that always hold are taken out.
-    limit: usize,
+    /// How many slots a source can have.
+    slots: u32,
+    /// For each two slots a cell of the facts that have them.
+    cells: List<Cell>,
+    /// How many facts there are.
+    count: usize,
 }
 
 /// Whether a fact always holds.
@@ -41,185 +36,190 @@ fn always(s: &Source, t: &Source) -> bool
     }
 }
 
-fn mixed(a: u32, b: u32) -> u32 {
-    (a ^ b.wrapping_mul(0x9E37_79B1))
-        .wrapping_mul(0x85EB_CA6B)
-        .rotate_left(13)
-}
-
-fn hash_of_lane(lane: Lane) -> u32 {
-    match lane {
-        Lane::VirtualLane(v, k) => mixed(v, k),
-        Lane::UnitLane(u) => mixed(u, 77),
-        Lane::SlotLane(s, k, w) => mixed(mixed(s, k), w.wrapping_add(99)),
+/// With how many slots so many facts are soonest gone through: few cells, and few facts in the cells
+/// of one slot.
+fn slots_for(count: usize) -> u32 {
+    if count < 128 {
+        4
+    } else if count < 1024 {
+        8
+    } else if count < 8192 {
+        16
+    } else if count < 65536 {
+        32
+    } else {
+        64
     }
 }
 
-fn hash_of_constant(c: &Constant) -> u32 {
-    match c {
-        Constant::Immediate(n) => (*n % 4294967296) as u32,
-        Constant::StackAddress(n) => mixed(*n, 5),
-        Constant::FixedStackAddress(n) => mixed(*n, 6),
-        Constant::SymbolAddress(name) => mixed((name.len() % 65536) as u32, 7),
-    }
-}
-
-fn hash_of(s: &Source) -> u32 {
-    match s {
-        Source::FromLane(l) => hash_of_lane(*l),
-        Source::Undef => 3,
-        Source::Bits(c, low, width) => mixed(mixed(hash_of_constant(c), *low), *width),
-    }
-}
-
-/// Where to look for a fact first, in a table of any length.
-fn slot_of(fact: &Fact) -> usize {
-    mixed(hash_of(&fact.0), hash_of(&fact.1)) as usize
-}
-
-/// The first free slot from one on.
-fn free_slot(hints: &[u32], slot: usize) -> Option<usize>
-    ensures { IfSome result (λ at. at < length hints.now) }
+/// Empty cells for the slots.
+fn empty_cells(alloc: Global, slots: u32) -> Result<List<Cell>, AllocError>
+    ensures { IfOk result (λ made. asked_in slots made ≡ []) }
 {
-    for step in 0..hints.len() {
-        let at = slot.wrapping_add(step) % hints.len();
-        if hints[at] == FREE {
-            return Some(at);
+    let mut cells = List::new(alloc);
+    let mut left: usize = 0;
+    let mut right: usize = 0;
+    for _ in 0..slots.saturating_mul(slots) {
+        let facts = List::new(alloc);
+        cells.push(Cell { left, right, facts })?;
+        right = right.wrapping_add(1);
+        if right >= slots as usize {
+            right = 0;
+            left = left.wrapping_add(1);
         }
     }
-    None
+    Ok(cells)
 }
 
-/// Remembers a place.
-fn remember(hints: &mut Vec<u32>, slot: usize, place: usize) {
-    if let Some(at) = free_slot(hints.as_slice(), slot) {
-        if place < 4294967295 {
-            hints[at] = place as u32;
+/// Puts the facts of a cell at the end.
+fn list_cell(alloc: Global, slots: u32, cell: &Cell, facts: &mut Facts) -> Result<(), AllocError>
+    ensures { OnOk result (facts.new ≡ facts.old ++ counting slots cell.now) }
+{
+    for f in cell.facts.as_slice() {
+        if belongs(slots, cell, f) {
+            facts.push(f.copied(alloc)?)?;
         }
     }
-}
-
-/// Whether this fact stands at that place.
-fn stands_at(facts: &[Fact], place: usize, fact: &Fact) -> bool
-    ensures { IsTrue result → Has facts.now fact.now }
-{
-    match facts.get(place) {
-        None => false,
-        Some(f) => same_source(&f.0, &fact.0) && same_source(&f.1, &fact.1),
-    }
+    Ok(())
 }
 
 impl Needs {
-    ghost use Rattle.std.specs.Prelude.{◌≡◌, [], IsTrue, IfOk, OnOk, ◌++◌, ◌∷◌};
+    ghost use Rattle.std.specs.Prelude.{◌≡◌, [], IsTrue, IfOk, IfSome, OnOk};
 
-    /// Nothing is asked.
-    pub fn new(alloc: Global) -> Result<Needs, AllocError>
-        ensures { IfOk result (λ made. made.facts ≡ []) }
+    fn of_slots(alloc: Global, slots: u32) -> Result<Needs, AllocError>
+        ensures { IfOk result (λ made. asked made ≡ []) }
     {
         Ok(Needs {
-            facts: List::new(alloc),
-            hints: Vec::from_elem(alloc, FREE, ROOM)?,
-            used: 0,
-            limit: ROOM,
+            slots,
+            cells: empty_cells(alloc, slots)?,
+            count: 0,
         })
     }
 
-    /// Makes a table with room for more, of the facts as they stand.
-    fn widen(&mut self) -> Result<(), AllocError>
-        ensures { OnOk result (self.new.facts ≡ self.old.facts) }
+    /// Nothing is asked.
+    pub fn new(alloc: Global) -> Result<Needs, AllocError>
+        ensures { IfOk result (λ made. asked made ≡ []) }
     {
-        let room = self.facts.len().saturating_mul(4).max(ROOM);
-        let mut hints = Vec::from_elem(self.facts.allocator(), FREE, room)?;
-        for k in 0..self.facts.len() {
-            remember(&mut hints, slot_of(self.facts.get(k)), k);
+        Needs::of_slots(alloc, slots_for(0))
+    }
+
+    /// How many facts there are.
+    pub fn count(&self) -> usize {
+        self.count
+    }
+
+    /// All that is asked.
+    pub fn list(&self, alloc: Global) -> Result<Facts, AllocError>
+        ensures { IfOk result (λ all. all ≡ asked self.now) }
+    {
+        let mut all = List::new(alloc);
+        for cell in self.cells.as_slice() {
+            list_cell(alloc, self.slots, cell, &mut all)?;
         }
-        self.hints = hints;
-        self.used = self.facts.len();
+        Ok(all)
+    }
+
+    /// The place of the cell of two slots.
+    fn cell_at(&self, left: usize, right: usize) -> Option<usize>
+        ensures { IfSome result (IsCellOf self.now.cells left right) }
+    {
+        let at = left.wrapping_mul(self.slots as usize).wrapping_add(right);
+        match self.cells.as_slice().get(at) {
+            None => None,
+            Some(cell) => {
+                if cell.left == left && cell.right == right {
+                    Some(at)
+                } else {
+                    None
+                }
+            }
+        }
+    }
+
+    /// Puts a fact into its cell.
+    fn place(&mut self, alloc: Global, fact: Fact) -> Result<(), AllocError>
+        ensures { OnOk result (Puts (asked self.old) fact (asked self.new)) }
+    {
+        let left = source_slot(&fact.0, self.slots);
+        let right = source_slot(&fact.1, self.slots);
+        self.count = self.count.saturating_add(1);
+        match self.cell_at(left, right) {
+            Some(at) => self.cells.get_mut(at).facts.push(fact),
+            None => {
+                let mut facts = List::new(alloc);
+                facts.push(fact)?;
+                self.cells.push(Cell { left, right, facts })
+            }
+        }
+    }
+
+    /// Puts facts into their cells.
+    fn place_all(&mut self, alloc: Global, facts: &[Fact]) -> Result<(), AllocError>
+        ensures { OnOk result ((k : Knowledge) → all_known k (asked self.new) ≡ all_known k facts.now && all_known k (asked self.old)) }
+    {
+        for f in facts {
+            self.place(alloc, f.copied(alloc)?)?;
+        }
         Ok(())
     }
 
-    /// Sees that half of the table is free.
-    fn make_room(&mut self) -> Result<(), AllocError>
-        ensures { OnOk result (self.new.facts ≡ self.old.facts) }
+    /// Has more cells, where the facts are too many for those that there are.
+    fn widen(&mut self, alloc: Global) -> Result<(), AllocError>
+        ensures { OnOk result ((k : Knowledge) → all_known k (asked self.new) ≡ all_known k (asked self.old)) }
     {
-        if self.used >= self.hints.len() / 2 {
-            return self.widen();
+        let slots = slots_for(self.count);
+        if slots <= self.slots {
+            return Ok(());
         }
+        let mut wide = Needs::of_slots(alloc, slots)?;
+        wide.place_all(alloc, self.list(alloc)?.as_slice())?;
+        *self = wide;
         Ok(())
-    }
-
-    /// Puts a fact at the end.
-    fn put(&mut self, fact: Fact) -> Result<(), AllocError>
-        ensures { OnOk result (self.new.facts ≡ self.old.facts ++ fact ∷ []) }
-    {
-        self.make_room()?;
-        remember(&mut self.hints, slot_of(&fact), self.facts.len());
-        self.used = self.used.saturating_add(1);
-        self.facts.push(fact)
     }
 
     /// Whether a fact is found among the needs. False says nothing.
-    pub fn has(&self, fact: &Fact) -> bool
-        ensures { IsTrue result → Has self.now.facts fact.now }
+    fn has(&self, fact: &Fact) -> bool
+        ensures { IsTrue result → Has (asked self.now) fact.now }
     {
-        let slot = slot_of(fact);
-        for step in 0..self.hints.len() {
-            let place = self.hints[slot.wrapping_add(step) % self.hints.len()];
-            if place == FREE {
-                return false;
-            }
-            if stands_at(self.facts.as_slice(), place as usize, fact) {
-                return true;
-            }
+        let left = source_slot(&fact.0, self.slots);
+        let right = source_slot(&fact.1, self.slots);
+        match self.cell_at(left, right) {
+            None => false,
+            Some(at) => is_among(self.cells.get(at).facts.as_slice(), fact),
         }
-        false
     }
 
     /// Whether a fact is found among the needs or always holds. False says nothing.
     fn is_asked(&self, fact: &Fact) -> bool
-        ensures asked { IsTrue result → Adds self.now.facts (λ k. k fact.now.0 fact.now.1) self.now.facts }
-        ensures known { IsTrue result → known self.now.facts fact.now.0 fact.now.1 ≡ true }
+        ensures { IsTrue result → Adds (asked self.now) (λ k. k fact.now.0 fact.now.1) (asked self.now) }
     {
         always(&fact.0, &fact.1) || self.has(fact)
     }
 
     /// Asks for a fact too. What always holds needn't be asked.
-    pub fn add(&mut self, fact: Fact) -> Result<(), AllocError>
-        ensures { OnOk result (Adds self.old.facts (λ k. k fact.0 fact.1) self.new.facts) }
+    pub fn add(&mut self, alloc: Global, fact: Fact) -> Result<(), AllocError>
+        ensures { OnOk result (Adds (asked self.old) (λ k. k fact.0 fact.1) (asked self.new)) }
     {
         if self.is_asked(&fact) {
             return Ok(());
         }
-        self.put(fact)
+        self.place(alloc, fact)?;
+        self.widen(alloc)
     }
 
     /// Asks for facts too.
     pub fn add_all(&mut self, alloc: Global, facts: &[Fact]) -> Result<(), AllocError>
-        ensures { OnOk result (Adds self.old.facts (λ k. all_known k facts.now) self.new.facts) }
+        ensures { OnOk result (Adds (asked self.old) (λ k. all_known k facts.now) (asked self.new)) }
     {
         for f in facts {
-            self.add(f.copied(alloc)?)?;
+            self.add(alloc, f.copied(alloc)?)?;
         }
-        Ok(())
-    }
-
-    /// Takes out what always holds, and what stands twice, where much may have gathered.
-    pub fn tidy(&mut self, alloc: Global) -> Result<(), AllocError>
-        ensures { OnOk result (Lead self.new.facts (λ k. all_known k self.old.facts)) }
-    {
-        if self.facts.len() < self.limit {
-            return Ok(());
-        }
-        let mut kept = Needs::new(alloc)?;
-        kept.add_all(alloc, self.facts.as_slice())?;
-        kept.limit = kept.facts.len().saturating_mul(2).max(ROOM);
-        *self = kept;
         Ok(())
     }
 
     /// Whether each of the facts is among the needs or always holds. False says nothing.
     pub fn covers(&self, facts: &[Fact]) -> bool
-        ensures { IsTrue result → all_known (known self.now.facts) facts.now ≡ true }
+        ensures { IsTrue result → Lead (asked self.now) (λ k. all_known k facts.now) }
     {
         for f in facts {
             if !self.is_asked(f) {
@@ -228,17 +228,107 @@ impl Needs {
         }
         true
     }
+
+    /// Takes out the facts on lanes that are written.
+    pub fn take_written(
+        &mut self,
+        alloc: Global,
+        first: &[Write],
+        second: &[Write],
+    ) -> Result<Facts, AllocError>
+        ensures { IfOk result (λ taken. Takes first.now second.now (asked self.old) taken (asked self.new)) }
+    {
+        let first_marks = marks_for(alloc, self.slots, first)?;
+        let second_marks = marks_for(alloc, self.slots, second)?;
+        let taken = take_from_all(
+            alloc,
+            self.slots,
+            &first_marks,
+            &second_marks,
+            first,
+            second,
+            &mut self.cells,
+        )?;
+        self.count = self.count.saturating_sub(taken.len());
+        Ok(taken)
+    }
 }
 
-/// The needs of these facts, with their places.
-pub fn needs_of(alloc: Global, facts: &[Fact]) -> Result<Needs, AllocError>
-    ensures { IfOk result (λ made. made.facts ≡ facts.now) }
+/// Takes out of cells the facts on lanes that are written.
+fn take_from_all(
+    alloc: Global,
+    slots: u32,
+    first_marks: &Marked,
+    second_marks: &Marked,
+    first: &[Write],
+    second: &[Write],
+    cells: &mut List<Cell>,
+) -> Result<Facts, AllocError>
+    requires first { IsMarked slots first_marks.now first.now }
+    requires second { IsMarked slots second_marks.now second.now }
+    ensures { IfOk result (λ taken. Takes first.now second.now (asked_in slots cells.old) taken (asked_in slots cells.new)) }
 {
-    let mut made = Needs::new(alloc)?;
-    for f in facts {
-        made.put(f.copied(alloc)?)?;
+    let mut taken = List::new(alloc);
+    for i in 0..cells.len() {
+        let cell = cells.get_mut(i);
+        take_from(
+            alloc,
+            slots,
+            first_marks,
+            second_marks,
+            first,
+            second,
+            cell,
+            &mut taken,
+        )?;
     }
+    Ok(taken)
+}
+
+/// The needs of these facts.
+pub fn needs_of(alloc: Global, facts: &[Fact]) -> Result<Needs, AllocError>
+    ensures { IfOk result (λ made. (k : Knowledge) → all_known k (asked made) ≡ all_known k facts.now) }
+{
+    let mut made = Needs::of_slots(alloc, slots_for(facts.len()))?;
+    made.place_all(alloc, facts)?;
     Ok(made)
+}
+
+/// What a fact behind writes asks in front of them. None where it asks for a result of the first
+/// function alone.
+fn before_fact(
+    alloc: Global,
+    first: &[Write],
+    second: &[Write],
+    fact: &Fact,
+) -> Result<Option<Fact>, AllocError>
+    ensures { IfOk result (λ asked. IfSome asked (λ f. (k : Knowledge) → k f.0 f.1 ≡ true → known_both first.now second.now k fact.now.0 fact.now.1 ≡ true)) }
+{
+    if !fits_both(first, second, fact) {
+        return Ok(None);
+    }
+    let mut asked = fact.copied(alloc)?;
+    back_both(alloc, first, second, &mut asked)?;
+    Ok(Some(asked))
+}
+
+/// Asks for what facts behind writes need in front of them. False where they can't hold there.
+pub fn add_before(
+    alloc: Global,
+    needs: &mut Needs,
+    first: &[Write],
+    second: &[Write],
+    facts: &[Fact],
+) -> Result<bool, AllocError>
+    ensures { IfOk result (λ yes. IsTrue yes → Adds (asked needs.old) (λ k. all_known (known_both first.now second.now k) facts.now) (asked needs.new)) }
+{
+    for f in facts {
+        match before_fact(alloc, first, second, f)? {
+            None => return Ok(false),
+            Some(fact) => needs.add(alloc, fact)?,
+        }
+    }
+    Ok(true)
 }
 
 /// Asks for what one operand of a counted pair needs. False where the lanes differ in number.
@@ -248,13 +338,13 @@ fn add_reads(
     left: &[Source],
     right: &[Source],
 ) -> Result<bool, AllocError>
-    ensures { IfOk result (λ yes. IsTrue yes → Adds needs.old.facts (λ k. reads_known k left.now right.now) needs.new.facts) }
+    ensures { IfOk result (λ yes. IsTrue yes → Adds (asked needs.old) (λ k. reads_known k left.now right.now) (asked needs.new)) }
 {
     if left.len() != right.len() {
         return Ok(false);
     }
     for k in 0..left.len() {
-        needs.add((left[k].copied(alloc)?, right[k].copied(alloc)?))?;
+        needs.add(alloc, (left[k].copied(alloc)?, right[k].copied(alloc)?))?;
     }
     Ok(true)
 }
@@ -266,7 +356,7 @@ pub fn add_operands(
     left: &[List<Source>],
     right: &[List<Source>],
 ) -> Result<bool, AllocError>
-    ensures { IfOk result (λ yes. IsTrue yes → Adds needs.old.facts (λ k. operands_known k left.now right.now) needs.new.facts) }
+    ensures { IfOk result (λ yes. IsTrue yes → Adds (asked needs.old) (λ k. operands_known k left.now right.now) (asked needs.new)) }
 {
     if left.len() != right.len() {
         return Ok(false);
@@ -299,12 +389,12 @@ pub fn add_along(
     way: &Ways,
     facts: &[Fact],
 ) -> Result<bool, AllocError>
-    ensures { IfOk result (λ yes. IsTrue yes → Adds needs.old.facts (λ k. all_known (known_along way.now k) facts.now) needs.new.facts) }
+    ensures { IfOk result (λ yes. IsTrue yes → Adds (asked needs.old) (λ k. all_known (known_along way.now k) facts.now) (asked needs.new)) }
 {
     for f in facts {
         match before_way(alloc, way, f)? {
             None => return Ok(false),
-            Some(asked) => needs.add(asked)?,
+            Some(asked) => needs.add(alloc, asked)?,
         }
     }
     Ok(true)

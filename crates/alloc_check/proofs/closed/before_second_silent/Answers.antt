@@ -1,9 +1,13 @@
 use Rattle.std.proofs.Common.{subst}
 use Rattle.meaning.specs.Facts.{all_known, known_second}
 use Rattle.alloc_check.specs.Needs.{Lead}
+use Rattle.alloc_check.specs.Cells.{asked}
+use Rattle.alloc_check.proofs.Lawful.{if-more}
 use Rattle.alloc_check.proofs.Steps.{carry-second}
 use Rattle.alloc_check.proofs.closed.before_second_silent.Goals as goal
 
 pub returns : goal.returns
 returns c =
-    λ x family reads. carry-second family reads c.args.writes.now c.args.needs.now.facts c.step_second.new.needs.facts (subst (λ ws. Lead c.step_second.new.needs.facts (λ k. all_known (known_second ws k) c.args.needs.now.facts)) c.as_slice.ensures c.in_ok-step_second.ensures)
+    if-more _ _ c.step_second.result
+    (λ yes h x family reads. carry-second family reads c.args.writes.now (asked c.args.needs.now) (asked c.step_second.new.needs) (subst (λ ws. Lead (asked c.step_second.new.needs) (λ k. all_known (known_second ws k) (asked c.args.needs.now))) c.as_slice.ensures (h x)))
+    c.step_second.ensures

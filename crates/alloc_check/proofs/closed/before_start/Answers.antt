@@ -1,13 +1,15 @@
-use Rattle.std.proofs.Common.{◌≡◌, true, sym, subst, ◌∙◌}
-use Rattle.meaning.specs.Facts.{all_known, known}
+use Rattle.std.proofs.Common.{◌≡◌, subst, ap, ◌∙◌}
+use Rattle.meaning.specs.Facts.{Knowledge, all_known}
 use Rattle.meaning.specs.Agree.{facts_at}
-use Rattle.meaning.specs.declared.types.Row.TheVariants.{BothStart}
-use Rattle.alloc_check.specs.Needs.{Carry}
+use Rattle.alloc_check.specs.Needs.{Lead}
+use Rattle.alloc_check.specs.Cells.{asked}
 use Rattle.alloc_check.proofs.Steps.{carry-start}
 use Rattle.alloc_check.proofs.closed.before_start.Goals as goal
 
 pub returns : goal.returns
 returns c =
-    let e : c.in_ok-start.start.facts ≡ facts_at c.args.family.now c.args.n = c.in_ok-start.ensures ∙ c.facts_at.ensures in
-    let covered : all_known (known c.in_ok-start.start.facts) c.args.needs.now.facts ≡ true = subst (λ fs. all_known (known c.in_ok-start.start.facts) fs ≡ true) c.as_slice.ensures (c.covers.ensures c.if-not-covers.false) in
-    λ x. subst (λ fs. Carry c.args.family.now (BothStart c.args.n) c.args.needs.now.facts fs) (sym e) (carry-start c.args.family.now c.args.n c.args.needs.now.facts (subst (λ fs. all_known (known fs) c.args.needs.now.facts ≡ true) e covered))
+    let start = c.in_ok-start.start in
+    let at = facts_at c.args.family.now c.args.n in
+    let same : (k : Knowledge) → all_known k (asked start) ≡ all_known k at = λ k. c.in_ok-start.ensures k ∙ ap (all_known k) c.facts_at.ensures in
+    let covered : Lead (asked start) (λ k. all_known k (asked c.args.needs.now)) = subst (λ fs. Lead (asked start) (λ k. all_known k fs)) (c.as_slice-2.ensures ∙ c.in_ok-list.ensures) (c.covers.ensures c.if-not-covers.false) in
+    λ x. carry-start c.args.family.now c.args.n (asked c.args.needs.now) (asked start) same covered

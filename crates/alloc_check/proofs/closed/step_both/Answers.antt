@@ -1,11 +1,16 @@
-use Rattle.std.proofs.Common.{◌≡◌, true, sym, subst, ap, ◌∙◌}
-use Rattle.std.specs.List.{list_all}
+use Rattle.std.proofs.Common.{subst}
 use Rattle.meaning.specs.Facts.{all_known, known_both}
-use Rattle.alloc_check.specs.Needs.{Lead, fits_both}
-use Rattle.alloc_check.proofs.Steps.{led-both}
+use Rattle.alloc_check.specs.Needs.{Adds}
+use Rattle.alloc_check.specs.Cells.{asked}
+use Rattle.alloc_check.proofs.Lawful.{if-more}
+use Rattle.alloc_check.proofs.Steps.{taken-leads}
 use Rattle.alloc_check.proofs.closed.step_both.Goals as goal
 
 pub returns : goal.returns
 returns c =
-    let fit : list_all (fits_both c.args.first.now c.args.second.now) c.args.needs.now.facts ≡ true = sym (ap (list_all (fits_both c.args.first.now c.args.second.now)) c.as_slice.ensures) ∙ (sym c.all_fit_both.ensures ∙ c.if-not-all_fit_both.false) in
-    λ x. subst (λ fs. Lead fs (λ k. all_known (known_both c.args.first.now c.args.second.now k) c.args.needs.now.facts)) (sym c.in_ok-all_back_both.ensures) (led-both c.args.first.now c.args.second.now c.args.needs.now.facts fit)
+    let middle = asked c.take_written.new.self in
+    let end = asked c.add_before.new.needs in
+    if-more _ _ c.add_before.result
+    (λ yes h x. taken-leads c.args.first.now c.args.second.now (asked c.args.needs.now) c.in_ok-taken.taken middle end c.in_ok-taken.ensures
+    (subst (λ fs. Adds middle (λ k. all_known (known_both c.args.first.now c.args.second.now k) fs) end) c.as_slice.ensures (h x)))
+    c.add_before.ensures

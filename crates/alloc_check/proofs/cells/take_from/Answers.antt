@@ -1,0 +1,19 @@
+use Rattle.std.proofs.Common.{◌≡◌, true, false, get_or, sym, ap, ◌∙◌}
+use Rattle.std.specs.List.{list_all}
+use Rattle.alloc_check.specs.Cells.{stays_both}
+use Rattle.alloc_check.proofs.Celled.{takes-unmarked, takes-nothing}
+use Rattle.alloc_check.proofs.cells.take_from.Goals as goal
+
+pub returns-then-not-right : goal.returns-then-not-right
+returns-then-not-right c =
+    let cell = c.args.cell.now in
+    let marks = c.args.first_marks.now.coarse.items in
+    let marks' = c.args.second_marks.now.coarse.items in
+    let left : get_or marks cell.left true ≡ false = ap (λ m. get_or m cell.left true) (sym c.as_slice.ensures.value) ∙ (sym c.is_marked-left.ensures ∙ c.if-not-left.true) in
+    let right : get_or marks' cell.right true ≡ false = ap (λ m. get_or m cell.right true) (sym c.as_slice-2.ensures.value) ∙ (sym c.is_marked-right.ensures ∙ c.if-not-right.true) in
+    takes-unmarked c.args.slots c.args.first.now c.args.second.now marks marks' cell c.args.taken.now c.requires.first.coarse c.requires.second.coarse left right
+
+pub returns-then-all_stay : goal.returns-then-all_stay
+returns-then-all_stay c =
+    takes-nothing c.args.slots c.args.first.now c.args.second.now c.args.cell.now c.args.taken.now
+    (ap (list_all (stays_both c.args.first.now c.args.second.now)) (sym c.as_slice-3.ensures) ∙ (sym c.all_stay.ensures ∙ c.if-all_stay.true))

@@ -1,6 +1,0 @@
-use Rattle.std.proofs.Common.{take}
-use Rattle.alloc_check.specs.Marks.{Marks}
-use Rattle.alloc_check.proofs.facts.marks_of.Given as goal
-
-abbrev pub invariant-loop-w : goal.invariant-loop-w
-invariant-loop-w l = Marks l.marks.items (take l.w-index l.writes)
