@@ -1,0 +1,38 @@
+use Rattle.std.proofs.Common.{arith, refl, sym, ap, ◌∙◌, ◌≤◌, ◌<◌, length, subst}
+use Rattle.std.specs.Ordering.{nat_cmp}
+use Rattle.std.specs.BTreeMap.{get}
+use Rattle.slot_index.specs.Order.{ids, IsNumbered}
+use Rattle.live_lanes.specs.Ordered.{all_ids, last_id, placed, AreSingle}
+use Rattle.live_lanes.proofs.Ordered.{place-next, place-whole, blocks-more, blocks-all, once-single}
+use Rattle.live_lanes.proofs.order.Order.of.Goals as goal
+
+pub blocks-2-init : goal.blocks-2-init
+blocks-2-init c = record {
+  positions = c.in_ok-order.ensures.positions;
+  ids = λ single. (c.in_ok-order.ensures.ids, sym (ap last_id c.in_ok-order.ensures.ids));
+  numbered = c.in_ok-order.ensures.numbered;
+}
+
+pub blocks-2-preserved : goal.blocks-2-preserved
+blocks-2-preserved c =
+    let bs = c.args.func.now.blocks in
+    let b = c.index-blocks-position.result in
+    let within : c.blocks-2.position < length bs = omega (arith, c.in-Ok.ensures, c.blocks-2-test.true) in
+    record {
+      positions = λ n. ap (λ m. get nat_cmp m n) c.in_ok-last.ensures.positions ∙ c.in_ok-add_block.ensures.positions n ∙ ap (λ q. placed q b.number n c.blocks-2.position) (c.blocks-2.invariant.positions n) ∙ place-next n bs c.blocks-2.position b within c.index-blocks-position.is;
+      ids = λ single.
+        let so = c.blocks-2.invariant.ids single in
+        blocks-more bs c.blocks-2.position b (ids c.blocks-2.order.slots) (ids c.add_block.new.self.slots) (ids c.add_instrs.new.self.slots) c.blocks-2.last c.in_ok-last.last within c.index-blocks-position.is single (ap ids c.in_ok-add_block.ensures.slots) so.0 so.1 c.in_ok-last.ensures.ids;
+      numbered = c.in_ok-last.ensures.numbered (subst IsNumbered (sym c.in_ok-add_block.ensures.slots) c.blocks-2.invariant.numbered);
+    }
+
+pub returns : goal.returns
+returns c =
+    let single : AreSingle (all_ids c.args.func.now.blocks) = rw (← c.func.view_is) (once-single c.func.inside.blocks c.func.inside.next_id c.func.invariant) in
+    let whole : length c.args.func.now.blocks ≤ c.blocks-2.position = omega (arith, c.in-Ok.ensures, c.blocks-2-test.false) in
+    record {
+      positions = λ n. c.blocks-2.invariant.positions n ∙ place-whole n c.args.func.now.blocks c.blocks-2.position whole;
+      ids = (c.blocks-2.invariant.ids single).0 ∙ blocks-all c.args.func.now.blocks c.blocks-2.position whole;
+      single = single;
+      numbered = c.blocks-2.invariant.numbered;
+    }
