@@ -1,7 +1,7 @@
 -- What is entered of a function's blocks is a table of its code.
 use Rattle.std.proofs.Common.{◌≡◌, ◌⊎◌, inl, inr, ◌<◌, ◌≤◌, ◌+◌, ℕ, zero, suc, Bool, true, false, cond, ◌&&◌, ◌||◌, length, List, [], ◌∷◌, ◌++◌, map, Option, None, Some, refl, sym, ap, ◌∙◌, subst, arith, eqb-true, eq-eqb, ⊎_elim}
 use Rattle.std.specs.Prelude.{slice_get, nat_eq, flat_map, filter, option_map}
-use Rattle.std.specs.List.{list_any}
+use Rattle.std.specs.List.{cons_option, list_any}
 use Rattle.std.proofs.lemmas.Bool.{cases_lt, ne_eqb}
 use Rattle.std.proofs.lemmas.Option.{slice_get_past}
 use Rattle.target_base.specs.declared.types.Target.{Target}
@@ -85,20 +85,32 @@ module _ (t : Target) (doing : Doing) (place : ℕ → Option ℕ) (bs : List Bl
   body-is : (k : ℕ) → slice_get code k ≡ option_map (body_at doing place bs k) (slice_get bs k)
   body-is k = let e : 0 + k ≡ k = omega arith in bodies-at 0 bs k ∙ ap (λ m. option_map (body_at doing place bs m) (slice_get bs k)) e
 
+  abbrev steps_in_body : Option Body → List Step
+  steps_in_body q = elim q [ None ↦ [] | Some x ↦ x.steps ]
+
+  abbrev last_in : Option Body → List ℕ
+  last_in q = elim q [ None ↦ [] | Some x ↦ x.last ]
+
   abbrev steps_some : Option Block → List Step
   steps_some q = elim q [ None ↦ [] | Some b ↦ map (λ i. (doing i).0) b.instrs ]
 
   steps-is : (k : ℕ) → steps_of code k ≡ steps_some (slice_get bs k)
-  steps-is k = ap (λ q. elim q [ None ↦ [] | Some x ↦ x.steps ]) (body-is k) ∙ go (slice_get bs k)
+  steps-is k = ap steps_in_body (body-is k) ∙ go (slice_get bs k)
     where
-      go : (q : Option Block) → elim (option_map (body_at doing place bs k) q) [ None ↦ [] | Some x ↦ x.steps ] ≡ steps_some q
+      go : (q : Option Block) → steps_in_body (option_map (body_at doing place bs k) q) ≡ steps_some q
       go None = refl
       go (Some b) = refl
 
+  abbrev exits_in : Option Body → List ℕ
+  exits_in q = elim q [ None ↦ [] | Some x ↦ x.exits ]
+
+  abbrev exits_some : Option Block → List ℕ
+  exits_some q = elim q [ None ↦ [] | Some c ↦ edge_places place c.successors ]
+
   exits-is : (k : ℕ) → exits_of code k ≡ exits_at place bs k
-  exits-is k = ap (λ q. elim q [ None ↦ [] | Some x ↦ x.exits ]) (body-is k) ∙ go (slice_get bs k)
+  exits-is k = ap exits_in (body-is k) ∙ go (slice_get bs k)
     where
-      go : (q : Option Block) → elim (option_map (body_at doing place bs k) q) [ None ↦ [] | Some x ↦ x.exits ] ≡ elim q [ None ↦ [] | Some c ↦ edge_places place c.successors ]
+      go : (q : Option Block) → exits_in (option_map (body_at doing place bs k) q) ≡ exits_some q
       go None = refl
       go (Some b) = refl
 
@@ -147,13 +159,13 @@ module _ (t : Target) (doing : Doing) (place : ℕ → Option ℕ) (bs : List Bl
   last-is l b = go (slice_get bs b) refl
     where
       go : (q : Option Block) → slice_get bs b ≡ q → is_read_last place l b ess ≡ has l (last_of code b)
-      go None f = last-past l b (⊎_elim (λ lt. absurd (none-within bs b lt f)) (λ ge. ge) (cases_lt b (length bs))) ∙ sym (ap (λ q. has l (elim q [ None ↦ [] | Some x ↦ x.last ])) (body-is b ∙ ap (option_map (body_at doing place bs b)) f))
+      go None f = last-past l b (⊎_elim (λ lt. absurd (none-within bs b lt f)) (λ ge. ge) (cases_lt b (length bs))) ∙ sym (ap (λ q. has l (last_in q)) (body-is b ∙ ap (option_map (body_at doing place bs b)) f))
         where
           none-within : (cs : List Block) (k : ℕ) → k < length cs → slice_get cs k ≡ None → ⊥
           none-within [] k h e = absurd (omega arith)
           none-within (c ∷ cs) zero h e = absurd (cc)
           none-within (c ∷ cs) (suc k) h e = none-within cs k (omega arith) e
-      go (Some c) f = sym (last-has l b) ∙ sym (ap (λ q. has l (elim q [ None ↦ [] | Some x ↦ x.last ])) (body-is b ∙ ap (option_map (body_at doing place bs b)) f))
+      go (Some c) f = sym (last-has l b) ∙ sym (ap (λ q. has l (last_in q)) (body-is b ∙ ap (option_map (body_at doing place bs b)) f))
 
   -- no two instructions of a block have one id
 
@@ -195,14 +207,14 @@ module _ (t : Target) (doing : Doing) (place : ℕ → Option ℕ) (bs : List Bl
       by y true g f e ih = let same : y ≡ x = eqb-true y x g in subst (λ k. k < length bs) same (made.within d.block y f)
       by y false g f e ih = ih e
 
-      go : (q : Option ℕ) → place d.block ≡ q → has x (elim q [ None ↦ edge_places place es | Some y ↦ y ∷ edge_places place es ]) ≡ true → (has x (edge_places place es) ≡ true → x < length bs) → x < length bs
+      go : (q : Option ℕ) → place d.block ≡ q → has x (cons_option q (edge_places place es)) ≡ true → (has x (edge_places place es) ≡ true → x < length bs) → x < length bs
       go None f e ih = ih e
       go (Some y) f e ih = by y (nat_eq y x) refl f e ih
 
   exit-within : (x b : ℕ) → has x (exits_at place bs b) ≡ true → x < length bs
   exit-within x b e = go (slice_get bs b) e
     where
-      go : (q : Option Block) → has x (elim q [ None ↦ [] | Some c ↦ edge_places place c.successors ]) ≡ true → x < length bs
+      go : (q : Option Block) → has x (exits_some q) ≡ true → x < length bs
       go None e = absurd (cc)
       go (Some c) e = edge-within x c.successors e
 

@@ -1,10 +1,10 @@
 -- Entering things into rows one after the other.
-use Rattle.std.proofs.Common.{◌≡◌, ◌<◌, ◌≤◌, ◌+◌, add-one, ℕ, zero, suc, Bool, true, false, cond, ◌&&◌, length, List, [], ◌∷◌, take, map, Option, None, Some, refl, sym, ap, ◌∙◌, subst, arith, get_or, set, eqb-true, length-set}
+use Rattle.std.proofs.Common.{◌≡◌, ◌<◌, ◌≤◌, ◌+◌, add-one, ℕ, zero, suc, Bool, true, false, cond, ◌&&◌, length, List, [], ◌∷◌, ◌++◌, take, map, Option, None, Some, refl, sym, ap, ◌∙◌, subst, arith, get_or, set, eqb-true, length-set}
 use Rattle.std.specs.Prelude.{slice_get, nat_eq}
 use Rattle.live_lanes.specs.declared.row.Row.{Row}
-use Rattle.live_lanes.specs.Table.{Seen, seen_in}
+use Rattle.live_lanes.specs.Table.{Seen, unseen, seen_in}
 use Rattle.live_lanes.specs.Entered.{rows_seen}
-use Rattle.live_lanes.specs.Entering.{enter_all, at_spot, Entering, Enters}
+use Rattle.live_lanes.specs.Entering.{enter_all, at_spot, lasts_entered, end_entered, Entering, Enters}
 use Rattle.live_lanes.proofs.Rows.{rows-set, row-of}
 
 -- nothing is entered
@@ -73,3 +73,21 @@ all-mapped f g (x ∷ xs) v = all-mapped f g xs (g (f x) v)
 
 pub enters-mapped : {X Y : Type 0} (f : X → Y) (g : ℕ → ℕ → Y → Seen → Seen) (old new : List Row) (xs : List X) (k : ℕ) → length xs ≤ k → Enters old new (λ l b v. enter_all (λ x. g l b (f x)) (take k xs) v) → Enters old new (λ l b v. enter_all (g l b) (map f xs) v)
 enters-mapped f g old new xs k h x = enters-as old new (λ l b v. enter_all (λ y. g l b (f y)) xs v) (λ l b v. enter_all (g l b) (map f xs) v) (λ l b v. all-mapped f (g l b) xs v) (enters-all (λ l b y. g l b (f y)) old new xs k h x)
+
+-- what a phi reads at the end of a block
+pub end-some : (place : ℕ → Option ℕ) (old new : List Row) (r : ℕ × List ℕ) (p : ℕ) (lanes : List ℕ) → place r.0 ≡ Some p → lanes ≡ r.1 → Enters old new (lasts_entered p lanes) → Enters old new (λ l b v. end_entered place l b r v)
+end-some place old new r p lanes at same x =
+    enters-as old new (lasts_entered p lanes) (λ l b v. end_entered place l b r v) (λ l b v. ap (λ xs. lasts_entered p xs l b v) same ∙ sym (ap (λ (q : Option ℕ). elim q [ None ↦ v | Some k ↦ lasts_entered k r.1 l b v ]) at)) x
+
+pub end-none : (place : ℕ → Option ℕ) (rows : List Row) (r : ℕ × List ℕ) → place r.0 ≡ None → Enters rows rows (λ l b v. end_entered place l b r v)
+end-none place rows r at = enters-none rows (λ l b v. end_entered place l b r v) (λ l b v. ap (λ (q : Option ℕ). elim q [ None ↦ v | Some k ↦ lasts_entered k r.1 l b v ]) at)
+
+push-seen : (rows : List Row) (x : Row) (k b : ℕ) → x.cells.items ≡ [] → ((l : ℕ) → rows_seen rows l b ≡ unseen) → rows_seen (rows ++ x ∷ []) k b ≡ unseen
+push-seen [] x zero b e none = ap (λ cs. seen_in cs b) e
+push-seen [] x (suc k) b e none = refl
+push-seen (y ∷ rows) x zero b e none = none 0
+push-seen (y ∷ rows) x (suc k) b e none = push-seen rows x k b e (λ l. none (suc l))
+
+-- one more row without cells
+pub new-row : (old new : List Row) (x : Row) → new ≡ old ++ x ∷ [] → x.cells.items ≡ [] → ((l b : ℕ) → rows_seen old l b ≡ unseen) → (l b : ℕ) → rows_seen new l b ≡ unseen
+new-row old new x e empty none l b = ap (λ rows. rows_seen rows l b) e ∙ push-seen old x l b empty (λ k. none k b)

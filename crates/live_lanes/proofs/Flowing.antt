@@ -1,7 +1,7 @@
 -- Blocks are noted at those that follow them.
 use Rattle.std.proofs.Common.{add-one, ◌+◌, ◌≡◌, ◌<◌, ◌≤◌, ℕ, zero, suc, Bool, true, false, cond, ◌&&◌, ◌||◌, length, List, [], ◌∷◌, ◌++◌, take, Option, None, Some, refl, sym, ap, ◌∙◌, subst, arith, get_or, set, eqb-true, length-set, ⊎_elim}
 use Rattle.std.specs.Prelude.{slice_get, nat_eq, nat_lt, filter_map}
-use Rattle.std.specs.List.{list_any}
+use Rattle.std.specs.List.{cons_option, list_any}
 use Rattle.std.proofs.lemmas.Bool.{cases_lt, lt-ltb, le-ltb, eqb-false}
 use Rattle.std.proofs.Math.Dec.{eqb-zero-suc, eqb-suc-zero, eqb-suc-suc}
 use Rattle.std.proofs.lemmas.Option.{slice_get-get_or, slice_get_past}
@@ -155,17 +155,13 @@ notes-all old new nexts k at h so = subst (λ xs. NotesAll old new xs at) (take-
 
 -- edges
 
-abbrev with_first : Option ℕ → List ℕ → List ℕ
-with_first None ys = ys
-with_first (Some y) ys = y ∷ ys
-
 edges-split : (place : ℕ → Option ℕ) (es : List Edge) (k : ℕ) (d : Edge) (x : ℕ) → k < length es → has x (edge_places place (take (suc k) es)) ≡ has x (edge_places place (take k es)) || has x (edge_places place (get_or es k d ∷ []))
 edges-split place [] k d x h = absurd (omega arith)
 edges-split place (e ∷ es) zero d x h = refl
 edges-split place (e ∷ es) (suc k) d x h = go (place e.block) (edges-split place es k d x (omega arith))
   where
     go : (q : Option ℕ) → has x (edge_places place (take (suc k) es)) ≡ has x (edge_places place (take k es)) || has x (edge_places place (get_or es k d ∷ []))
-        → has x (with_first q (edge_places place (take (suc k) es))) ≡ has x (with_first q (edge_places place (take k es))) || has x (edge_places place (get_or es k d ∷ []))
+        → has x (cons_option q (edge_places place (take (suc k) es))) ≡ has x (cons_option q (edge_places place (take k es))) || has x (edge_places place (get_or es k d ∷ []))
     go None ih = ih
     go (Some y) ih = has-or x y (edge_places place (take (suc k) es)) ∙ ap (λ t. nat_eq y x || t) ih ∙ sym (or-assoc (nat_eq y x) (has x (edge_places place (take k es))) (has x (edge_places place (get_or es k d ∷ [])))) ∙ ap (λ t. t || has x (edge_places place (get_or es k d ∷ []))) (sym (has-or x y (edge_places place (take k es))))
 

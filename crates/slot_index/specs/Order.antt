@@ -40,7 +40,3 @@ pub record IsNumbered (slots : List (ℕ × ℕ)) : Type 0 where
 -- of two ids in the list, the one with the smaller number stands before the other
 abbrev pub NumbersTellOrder : List (ℕ × ℕ) → Type 0
 NumbersTellOrder slots = (a b : ℕ) → Has slots a → Has slots b → (number_of slots a < number_of slots b) ↔ (place a (ids slots) < place b (ids slots))
-
--- the numbers fit 64 bits
-abbrev pub AreSmall : List (ℕ × ℕ) → Type 0
-AreSmall slots = (id : ℕ) → number_of slots id < 18446744073709551616

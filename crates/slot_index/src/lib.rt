@@ -4,7 +4,7 @@
 
 ghost use Rattle.std.specs.Prelude.{◌≡◌, ℕ, ◌<◌, ◌+◌, ◌-◌, ◌↔◌, ◌==◌, eqb, [], length, IsTrue, IfSome, IfOk, OnOk, OnErr, slice_get, slice_index, position};
 ghost use Rattle.std.specs.List.{AllByRecursion, IsDistinct, remove};
-ghost use Rattle.slot_index.specs.Order.{ids, place, place_after, put_after, number_of, Has, IsNumbered, AreSmall, NumbersTellOrder};
+ghost use Rattle.slot_index.specs.Order.{ids, place, place_after, put_after, number_of, Has, IsNumbered, NumbersTellOrder};
 ghost use Rattle.slot_index.specs.Renewed.{low_end, IsRoom, spaced, written};
 
 use std::alloc::{AllocError, Global};
@@ -42,7 +42,6 @@ impl Slots {
     pub fn new(alloc: Global) -> Slots
         ensures empty { result ≡ [] }
         ensures numbered { IsNumbered result }
-        ensures small { AreSmall result }
     {
         Slots {
             alloc,
@@ -56,7 +55,6 @@ impl Slots {
     pub fn number(&self, id: u32) -> u64
         ensures value { result ≡ number_of self.now id }
         ensures numbered { IsNumbered self.now }
-        ensures small { AreSmall self.now }
         ensures tells { NumbersTellOrder self.now }
     {
         self.number_by_id.get(id as usize).copied().unwrap_or(0)
@@ -152,7 +150,6 @@ impl Slots {
         ensures ok { OnOk result (ids self.new ≡ put_after after id (ids self.old)) }
         ensures err { OnErr result (self.new ≡ self.old) }
         ensures numbered { IsNumbered self.new }
-        ensures small { AreSmall self.new }
     {
         let Some(number) = self.room_after(after) else {
             return self.insert_and_renew(after, id);
@@ -170,7 +167,6 @@ impl Slots {
         ensures ok { OnOk result (ids self.new ≡ put_after after id (ids self.old)) }
         ensures err { OnErr result (self.new ≡ self.old) }
         ensures numbered { IsNumbered self.new }
-        ensures small { AreSmall self.new }
     {
         let order = self.order_with(after, id)?;
         let id_by_number = number_all(self.alloc, order.as_slice())?;

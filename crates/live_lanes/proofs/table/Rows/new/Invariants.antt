@@ -5,6 +5,6 @@ use Rattle.live_lanes.proofs.table.Rows.new.Given as goal
 
 abbrev pub invariant-lanes : goal.invariant-lanes
 invariant-lanes l = record {
-  lanes : length l.rows.items ≡ l.lanes-index;
+  lanes : length l.rows.items ≡ l.counter;
   seen : (k b : ℕ) → rows_seen l.rows.items k b ≡ unseen;
 }
