@@ -98,11 +98,7 @@ fn does_leave(target: &Target, instr: &Instr) -> bool
 }
 
 /// The ids of a block's terminators.
-fn terminators_of(
-    alloc: Global,
-    target: &Target,
-    instrs: &[Instr],
-) -> Result<Vec<u32>, AllocError>
+fn terminators_of(alloc: Global, target: &Target, instrs: &[Instr]) -> Result<Vec<u32>, AllocError>
     ensures { IfOk result (λ v. v.items ≡ terminator_ids target.now instrs.now) }
 {
     instrs
@@ -152,12 +148,7 @@ fn is_in(list: &[u32], x: u32) -> bool
 }
 
 /// The ways out of a block.
-fn ways_of(
-    alloc: Global,
-    target: &Target,
-    order: &Order,
-    block: &Block,
-) -> Result<Ways, AllocError>
+fn ways_of(alloc: Global, target: &Target, order: &Order, block: &Block) -> Result<Ways, AllocError>
     ensures predecessors { IfOk result (λ w. w.predecessors.items ≡ []) }
     ensures successors { IfOk result (λ w. (x : ℕ) → has x w.successors.items ≡ has x (edge_places (get nat_cmp order.now.positions) block.now.successors)) }
     ensures terminators { IfOk result (λ w. w.terminators.items ≡ terminator_ids target.now block.now.instrs) }

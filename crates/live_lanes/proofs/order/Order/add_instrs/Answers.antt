@@ -10,8 +10,8 @@ pub instrs-preserved : goal.instrs-preserved
 instrs-preserved c = record {
   positions = c.add_instr.ensures.positions ∙ c.instrs.invariant.positions;
   ids = λ single last.
-    let so = c.instrs.invariant.ids single last in
-    put-more c.instrs.self.slots c.add_instr.new.self.slots (ids c.args.self.now.slots) c.args.instrs.now c.instrs.instr-index c.instr-item.result c.instrs.after (omega arith) c.instr-item.is single so.0 so.1 c.in_ok-add_instr.ensures.ids;
+      let so = c.instrs.invariant.ids single last in
+      put-more c.instrs.self.slots c.add_instr.new.self.slots (ids c.args.self.now.slots) c.args.instrs.now c.instrs.instr-index c.instr-item.result c.instrs.after (omega arith) c.instr-item.is single so.0 so.1 c.in_ok-add_instr.ensures.ids;
   numbered = λ n. c.add_instr.ensures.numbered (c.instrs.invariant.numbered n);
 }
 

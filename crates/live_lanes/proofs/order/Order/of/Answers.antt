@@ -1,8 +1,8 @@
-use Rattle.std.proofs.Common.{◌≡◌, get_or, arith, refl, sym, ap, ◌∙◌, ◌≤◌, ◌<◌, length, subst}
+use Rattle.std.proofs.Common.{◌≡◌, ◌++◌, get_or, arith, refl, sym, ap, ◌∙◌, ◌≤◌, ◌<◌, length, subst}
 use Rattle.std.specs.Ordering.{nat_cmp}
 use Rattle.std.specs.BTreeMap.{get}
 use Rattle.slot_index.specs.Order.{ids, IsNumbered}
-use Rattle.live_lanes.specs.Ordered.{all_ids, last_id, placed, AreSingle}
+use Rattle.live_lanes.specs.Ordered.{ids_of, all_ids, last_id, placed, AreSingle}
 use Rattle.live_lanes.proofs.Ordered.{place-next, place-whole, blocks-more, blocks-all, once-single}
 use Rattle.live_lanes.proofs.order.Order.of.Goals as goal
 
@@ -26,8 +26,8 @@ blocks-2-preserved c =
     record {
       positions = λ n. ap (λ m. get nat_cmp m n) c.in_ok-last.ensures.positions ∙ c.in_ok-add_block.ensures.positions n ∙ ap (λ q. placed q b.number n c.blocks-2.position) (c.blocks-2.invariant.positions n) ∙ place-next n bs c.blocks-2.position b within own;
       ids = λ single.
-        let so = c.blocks-2.invariant.ids single in
-        blocks-more bs c.blocks-2.position b (ids c.blocks-2.order.slots) (ids c.add_block.new.self.slots) (ids c.add_instrs.new.self.slots) c.blocks-2.last c.in_ok-last.last within own single (ap ids c.in_ok-add_block.ensures.slots) so.0 so.1 c.in_ok-last.ensures.ids;
+          let so = c.blocks-2.invariant.ids single in
+          blocks-more bs c.blocks-2.position b (ids c.blocks-2.order.slots) (ids c.add_block.new.self.slots) (ids c.add_instrs.new.self.slots) c.blocks-2.last c.in_ok-last.last within own single (ap ids c.in_ok-add_block.ensures.slots) so.0 so.1 (subst (λ is. AreSingle (ids c.add_block.new.self.slots ++ ids_of is) → c.blocks-2.last ≡ last_id (ids c.add_block.new.self.slots) → (ids c.add_instrs.new.self.slots ≡ ids c.add_block.new.self.slots ++ ids_of is) × (c.in_ok-last.last ≡ last_id (ids c.add_instrs.new.self.slots))) c.as_slice.ensures c.in_ok-last.ensures.ids);
       numbered = c.in_ok-last.ensures.numbered (subst IsNumbered (sym c.in_ok-add_block.ensures.slots) c.blocks-2.invariant.numbered);
     }
 

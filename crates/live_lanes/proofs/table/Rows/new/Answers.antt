@@ -12,5 +12,5 @@ lanes-init c = record {
 pub lanes-preserved : goal.lanes-preserved
 lanes-preserved c = record {
   lanes = grind (arith, length-append, c.in_ok-push.ensures.items, c.lanes.invariant.lanes);
-  seen = new-row c.lanes.rows.items c.push.new.self.items c.new-2.result c.in_ok-push.ensures.items c.new-2.ensures c.lanes.invariant.seen;
+  seen = new-row c.lanes.rows.items c.push.new.self.items c.new.result c.in_ok-push.ensures.items c.new.ensures c.lanes.invariant.seen;
 }
