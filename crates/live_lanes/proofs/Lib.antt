@@ -15,3 +15,11 @@ pub mod Certain
 pub mod Pieces
 pub mod Certainty
 pub mod Whole
+pub mod Entering
+pub mod Ordered
+pub mod Stepped
+pub mod Gathered
+pub mod Filled
+pub mod Flowing
+pub mod Marks
+pub mod Coded

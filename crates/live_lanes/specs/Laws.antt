@@ -1,7 +1,15 @@
 -- What follows from a table of causes that is grown.
-use Rattle.std.specs.Prelude.{◌≡◌, ℕ, true, List, ◌∷◌, [], ◌++◌, ◌↔◌}
+use Rattle.std.specs.Prelude.{◌≡◌, ◌<◌, length, ℕ, true, Option, List, ◌∷◌, [], ◌++◌, ◌↔◌}
 use Rattle.live_lanes.specs.Paths.{Step, Code, steps_of, is_written, Entry, Exit, Live, IsMatched, Among}
 use Rattle.live_lanes.specs.Graph.{Causes, is_live, writes_in, IsGrown}
+use Rattle.live_lanes.specs.declared.flow.Ways.{Ways}
+use Rattle.live_lanes.specs.declared.row.Row.{Row}
+use Rattle.target_base.specs.declared.types.Target.{Target}
+use Rattle.mir_func.specs.declared.func.Block.{Block}
+use Rattle.live_lanes.specs.Table.{Numbers, unseen}
+use Rattle.live_lanes.specs.Entered.{shape, readings_until, starts, IsTableOf}
+use Rattle.live_lanes.specs.Coded.{Doing, code_of, IsMade}
+use Rattle.live_lanes.specs.Entering.{EnteredStep, blocks_entered, steps_from, is_read_last, AllApart}
 
 -- each instruction of the code is matched
 abbrev pub AllMatched : Code → Type 0
@@ -14,3 +22,13 @@ StartLaw = (code : Code) (why : Causes) → AllMatched code → IsGrown code why
 -- a piece that begins with a writing is marked live exactly where the lane is live behind it
 abbrev pub WritingLaw : Type 0
 WritingLaw = (code : Code) (why : Causes) → AllMatched code → IsGrown code why → (l b : ℕ) (before : List Step) (s : Step) (rest : List Step) → steps_of code b ≡ before ++ s ∷ rest → is_written l s ≡ true → (is_live (why l b (writes_in l (before ++ s ∷ []))) ≡ true) ↔ Live code b (Exit s rest) l
+
+-- entering the instructions of all blocks one after the other gives each lane its pieces in each block
+abbrev pub EnteringLaw : Type 0
+EnteringLaw = (place : ℕ → Option ℕ) (ess : List (List EnteredStep)) → AllApart ess → (l b : ℕ) → shape (blocks_entered place 0 ess l b unseen) ≡ record { is_read_last = is_read_last place l b ess; readings = readings_until l (steps_from 0 ess b); segments = starts l (steps_from 0 ess b) }
+
+-- rows, order and ways that are made of a function's blocks are a table of its code
+abbrev pub MadeLaw : Type 0
+MadeLaw =
+    (t : Target) (doing : Doing) (place : ℕ → Option ℕ) (bs : List Block) (slots : Numbers) (flow : List Ways) (rows : List Row) → IsMade t doing place bs slots flow rows
+    → AllMatched (code_of doing place bs) → length rows < 4294967296 → IsTableOf (code_of doing place bs) slots flow rows

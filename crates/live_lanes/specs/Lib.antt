@@ -5,4 +5,9 @@ pub mod Ways
 pub mod Entered
 pub mod Certain
 pub mod Growth
+pub mod Entering
+pub mod Ordered
+pub mod Flowing
+pub mod Coded
+pub mod Marks
 pub mod Laws

@@ -1,5 +1,7 @@
 //! Up to where a lane is live in each live piece: the last reading or exit that counts.
 
+ghost use Rattle.live_lanes.specs.Marks.{KeepsCauses};
+
 use crate::flow::{Ways, successors, terminators};
 use crate::order::Order;
 use crate::row::{Cause, Cell, End, Piece, Reading, exit_rank, rank};
@@ -114,28 +116,36 @@ impl Rows {
         self.end_of(order, flow, lane, cell, index, piece)
     }
 
-    fn set_end(&mut self, lane: u32, place: usize, index: usize, end: End) {
+    fn set_end(&mut self, lane: u32, place: usize, index: usize, end: End)
+        ensures { KeepsCauses self.old.rows.items self.new.rows.items }
+    {
         let at = lane as usize;
         if at < self.rows.len() {
             self.rows[at].set_end(place, index, end);
         }
     }
 
-    fn end_cell(&mut self, order: &Order, flow: &[Ways], lane: u32, place: usize) {
+    fn end_cell(&mut self, order: &Order, flow: &[Ways], lane: u32, place: usize)
+        ensures { KeepsCauses self.old.rows.items self.new.rows.items }
+    {
         'pieces: for index in 0..self.piece_count(lane, place) {
             let end = self.end_at(order, flow, lane, place, index);
             self.set_end(lane, place, index, end);
         }
     }
 
-    fn end_row(&mut self, order: &Order, flow: &[Ways], lane: u32) {
+    fn end_row(&mut self, order: &Order, flow: &[Ways], lane: u32)
+        ensures { KeepsCauses self.old.rows.items self.new.rows.items }
+    {
         'cells: for place in 0..self.cells(lane).len() {
             self.end_cell(order, flow, lane, place);
         }
     }
 
     /// Gives each piece its end.
-    pub fn end_all(&mut self, order: &Order, flow: &[Ways]) {
+    pub fn end_all(&mut self, order: &Order, flow: &[Ways])
+        ensures { KeepsCauses self.old.rows.items self.new.rows.items }
+    {
         let mut lane = 0u32;
         'rows: for _ in 0..self.rows.len() {
             self.end_row(order, flow, lane);

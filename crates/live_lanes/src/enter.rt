@@ -1,5 +1,11 @@
 //! What the instructions of a function do, entered into the pieces of its lanes.
 
+ghost use Rattle.std.specs.Prelude.{OnOk, map};
+ghost use Rattle.std.specs.Ordering.{nat_cmp};
+ghost use Rattle.std.specs.BTreeMap.{get};
+ghost use Rattle.live_lanes.specs.Table.{with_reading, with_segment, read_at_end};
+ghost use Rattle.live_lanes.specs.Entering.{Enters, at_spot, reads_entered, move_entered, moves_entered, writes_entered, lasts_entered, end_entered, ends_entered, end_read};
+
 use crate::effects::{PhiRead, Reader, Tables, Writing};
 use crate::lanes::LaneTable;
 use crate::order::Order;
@@ -65,7 +71,9 @@ fn add_slots(lanes: &mut LaneTable, instrs: &[Instr]) -> Result<(), AllocError> 
 
 impl Rows {
     /// Enters a reading of a lane.
-    fn add_reading(&mut self, lane: u32, block: u32, reading: Reading) -> Result<(), AllocError> {
+    fn add_reading(&mut self, lane: u32, block: u32, reading: Reading) -> Result<(), AllocError>
+        ensures { OnOk result (Enters self.old.rows.items self.new.rows.items (at_spot lane block (with_reading reading))) }
+    {
         let alloc = self.alloc;
         let at = lane as usize;
         if at >= self.rows.len() {
@@ -75,7 +83,9 @@ impl Rows {
     }
 
     /// Enters a writing of a lane.
-    fn add_segment(&mut self, block: u32, id: u32, w: &Writing) -> Result<(), AllocError> {
+    fn add_segment(&mut self, block: u32, id: u32, w: &Writing) -> Result<(), AllocError>
+        ensures { OnOk result (Enters self.old.rows.items self.new.rows.items (at_spot w.now.lane block (with_segment id w.now.early w.now.from))) }
+    {
         let alloc = self.alloc;
         let at = w.lane as usize;
         if at >= self.rows.len() {
@@ -85,7 +95,9 @@ impl Rows {
     }
 
     /// Enters that a phi reads a lane at the end of a block.
-    fn read_last(&mut self, lane: u32, block: u32) -> Result<(), AllocError> {
+    fn read_last(&mut self, lane: u32, block: u32) -> Result<(), AllocError>
+        ensures { OnOk result (Enters self.old.rows.items self.new.rows.items (at_spot lane block read_at_end)) }
+    {
         let alloc = self.alloc;
         let at = lane as usize;
         if at >= self.rows.len() {
@@ -95,43 +107,72 @@ impl Rows {
     }
 
     /// Enters what an instruction reads.
-    fn add_reads(&mut self, block: u32, id: u32, lanes: &[u32]) -> Result<(), AllocError> {
+    fn add_reads(&mut self, block: u32, id: u32, lanes: &[u32]) -> Result<(), AllocError>
+        ensures { OnOk result (Enters self.old.rows.items self.new.rows.items (reads_entered block id lanes.now)) }
+    {
         'lanes: for lane in lanes {
             self.add_reading(*lane, block, Reading { id, into: None })?;
         }
         Ok(())
     }
 
-    /// Enters the readings of lanes that an instruction moves.
-    fn add_moves(&mut self, block: u32, id: u32, writes: &[Writing]) -> Result<(), AllocError> {
-        'writes: for w in writes {
-            if let Some(from) = w.from {
+    /// Enters the reading of a lane that is moved, if one is.
+    fn add_move(&mut self, block: u32, id: u32, w: &Writing) -> Result<(), AllocError>
+        ensures { OnOk result (Enters self.old.rows.items self.new.rows.items (λ l b v. move_entered block id l b w.now v)) }
+    {
+        match w.from {
+            Some(from) => {
                 let into = Some(w.lane);
-                self.add_reading(from, block, Reading { id, into })?;
+                self.add_reading(from, block, Reading { id, into })
             }
+            None => Ok(()),
+        }
+    }
+
+    /// Enters the readings of lanes that an instruction moves.
+    fn add_moves(&mut self, block: u32, id: u32, writes: &[Writing]) -> Result<(), AllocError>
+        ensures { OnOk result (Enters self.old.rows.items self.new.rows.items (moves_entered block id writes.now)) }
+    {
+        'writes: for w in writes {
+            self.add_move(block, id, w)?;
         }
         Ok(())
     }
 
     /// Enters what an instruction writes.
-    fn add_writes(&mut self, block: u32, id: u32, writes: &[Writing]) -> Result<(), AllocError> {
+    fn add_writes(&mut self, block: u32, id: u32, writes: &[Writing]) -> Result<(), AllocError>
+        ensures { OnOk result (Enters self.old.rows.items self.new.rows.items (writes_entered block id writes.now)) }
+    {
         'writes: for w in writes {
             self.add_segment(block, id, w)?;
         }
         Ok(())
     }
 
+    /// Enters what a phi reads at the end of a block before its own.
+    fn add_phi_read(&mut self, order: &Order, read: &PhiRead) -> Result<(), AllocError>
+        ensures { OnOk result (Enters self.old.rows.items self.new.rows.items (λ l b v. end_entered (get nat_cmp order.now.positions) l b (end_read read.now) v)) }
+    {
+        match order.position(read.block) {
+            Some(position) => self.read_all_last(position, read.lanes.as_slice()),
+            None => Ok(()),
+        }
+    }
+
     /// Enters what a phi reads at the ends of the blocks before its own.
-    fn add_phi_reads(&mut self, order: &Order, reads: &[PhiRead]) -> Result<(), AllocError> {
+    fn add_phi_reads(&mut self, order: &Order, reads: &[PhiRead]) -> Result<(), AllocError>
+        ensures { OnOk result (Enters self.old.rows.items self.new.rows.items (ends_entered (get nat_cmp order.now.positions) (map end_read reads.now))) }
+    {
         'reads: for read in reads {
-            if let Some(position) = order.position(read.block) {
-                self.read_all_last(position, read.lanes.as_slice())?;
-            }
+            self.add_phi_read(order, read)?;
         }
         Ok(())
     }
 
-    fn read_all_last(&mut self, block: u32, lanes: &[u32]) -> Result<(), AllocError> {
+    /// Enters that phis read lanes at the end of a block.
+    fn read_all_last(&mut self, block: u32, lanes: &[u32]) -> Result<(), AllocError>
+        ensures { OnOk result (Enters self.old.rows.items self.new.rows.items (lasts_entered block lanes.now)) }
+    {
         'lanes: for lane in lanes {
             self.read_last(*lane, block)?;
         }

@@ -1,7 +1,13 @@
 //! The ways into and out of each block.
 
-ghost use Rattle.std.specs.Prelude.{◌≡◌};
+ghost use Rattle.std.specs.Prelude.{◌≡◌, ℕ, [], ◌∷◌, ◌++◌, ◌||◌, nat_eq, length, option_copied, slice_get, IfOk, OnOk, Some};
+ghost use Rattle.std.specs.List.{list_any};
+ghost use Rattle.std.specs.Ordering.{nat_cmp};
+ghost use Rattle.std.specs.BTreeMap.{get};
+ghost use Rattle.mir_meaning.specs.Binding.{does, is_terminator, known_opcode};
+ghost use Rattle.live_lanes.specs.Paths.{has};
 ghost use Rattle.live_lanes.specs.Ways.{predecessors, successors, terminators};
+ghost use Rattle.live_lanes.specs.Flowing.{terminator_ids, edge_places, Notes, NotesAll, AreOut, AreWays};
 
 use crate::order::Order;
 use mir_func::{Block, Edge, Func, Instr, Op};
@@ -49,70 +55,127 @@ pub(crate) fn terminators(flow: &[Ways], block: u32) -> &[u32]
     }
 }
 
+impl Ways {
+    /// Notes a block before this one.
+    fn add_predecessor(&mut self, at: u32) -> Result<(), AllocError>
+        ensures predecessors { OnOk result (self.new.predecessors.items ≡ self.old.predecessors.items ++ at ∷ []) }
+        ensures successors { self.new.successors ≡ self.old.successors }
+        ensures terminators { self.new.terminators ≡ self.old.terminators }
+    {
+        self.predecessors.push(at)?;
+        Ok(())
+    }
+}
+
 /// The description of an instruction's opcode; none for an excluded one.
-pub(crate) fn desc_of<'a>(target: &'a Target, instr: &Instr) -> Option<&'a OpcodeDesc> {
+pub(crate) fn desc_of<'a>(target: &'a Target, instr: &Instr) -> Option<&'a OpcodeDesc>
+    ensures { option_copied result ≡ known_opcode target.now instr.now.op }
+{
     match &instr.op {
         Op::Known(op) => target.opcodes.as_slice().get(op.0 as usize),
         Op::Excluded(_) => None,
     }
 }
 
+/// Whether paths lead from the exit of an instruction with this effect to the blocks that follow.
+fn is_terminator(effect: Effect) -> bool
+    ensures { result ≡ is_terminator effect }
+{
+    matches!(
+        effect,
+        Effect::Jump | Effect::Jcc | Effect::Jnz | Effect::Ret
+    )
+}
+
 /// Whether paths lead from the exit of an instruction to the successors of its block.
-fn is_terminator(target: &Target, instr: &Instr) -> bool {
+fn does_leave(target: &Target, instr: &Instr) -> bool
+    ensures { result ≡ does is_terminator target.now instr.now }
+{
     match desc_of(target, instr) {
-        Some(desc) => matches!(
-            desc.effect,
-            Effect::Jump | Effect::Jcc | Effect::Jnz | Effect::Ret
-        ),
+        Some(desc) => is_terminator(desc.effect),
         None => false,
     }
 }
 
 /// The ids of a block's terminators.
-fn terminators_of(
-    alloc: Global,
-    target: &Target,
-    instrs: &[Instr],
-) -> Result<Vec<u32>, AllocError> {
-    let mut ids = Vec::new(alloc);
-    'instrs: for instr in instrs {
-        if is_terminator(target, instr) {
-            ids.push(instr.id)?;
-        }
-    }
-    Ok(ids)
+fn terminators_of(alloc: Global, target: &Target, instrs: &[Instr]) -> Result<Vec<u32>, AllocError>
+    ensures { IfOk result (λ v. v.items ≡ terminator_ids target.now instrs.now) }
+{
+    instrs
+        .iter()
+        .filter(|i| does_leave(target, *i))
+        .map(|i| i.id)
+        .collect(alloc)
 }
 
 /// The positions of the blocks that edges lead to, each once.
-fn successors_of(alloc: Global, order: &Order, edges: &[Edge]) -> Result<Vec<u32>, AllocError> {
+fn successors_of(alloc: Global, order: &Order, edges: &[Edge]) -> Result<Vec<u32>, AllocError>
+    ensures { IfOk result (λ v. (x : ℕ) → has x v.items ≡ has x (edge_places (get nat_cmp order.now.positions) edges.now)) }
+{
     let mut found = Vec::new(alloc);
     'edges: for edge in edges {
-        if let Some(at) = order.position(edge.block) {
-            add_once(&mut found, at)?;
-        }
+        add_exit(order, *edge, &mut found)?;
     }
     Ok(found)
 }
 
-/// Adds a number to a list that doesn't hold it yet.
-fn add_once(list: &mut Vec<u32>, x: u32) -> Result<(), AllocError> {
-    if !list.as_slice().contains(&x) {
-        list.push(x)?;
+/// Adds the position of the block that an edge leads to.
+fn add_exit(order: &Order, edge: Edge, found: &mut Vec<u32>) -> Result<(), AllocError>
+    ensures { OnOk result ((x : ℕ) → has x found.new.items ≡ has x found.old.items || has x (edge_places (get nat_cmp order.now.positions) (edge ∷ []))) }
+{
+    match order.position(edge.block) {
+        Some(at) => add_once(found, at),
+        None => Ok(()),
     }
+}
+
+/// Adds a number to a list that doesn't hold it yet.
+fn add_once(list: &mut Vec<u32>, x: u32) -> Result<(), AllocError>
+    ensures { OnOk result ((y : ℕ) → has y list.new.items ≡ has y list.old.items || nat_eq x y) }
+{
+    if is_in(list.as_slice(), x) {
+        return Ok(());
+    }
+    list.push(x)?;
     Ok(())
 }
 
-fn ways_of(
+/// Whether a number is in a list.
+fn is_in(list: &[u32], x: u32) -> bool
+    ensures { result ≡ list_any (λ y. nat_eq y x) list.now }
+{
+    list.iter().any(|y| *y == x)
+}
+
+/// The ways out of a block.
+fn ways_of(alloc: Global, target: &Target, order: &Order, block: &Block) -> Result<Ways, AllocError>
+    ensures predecessors { IfOk result (λ w. w.predecessors.items ≡ []) }
+    ensures successors { IfOk result (λ w. (x : ℕ) → has x w.successors.items ≡ has x (edge_places (get nat_cmp order.now.positions) block.now.successors)) }
+    ensures terminators { IfOk result (λ w. w.terminators.items ≡ terminator_ids target.now block.now.instrs) }
+{
+    let successors = successors_of(alloc, order, block.successors.as_slice())?;
+    let terminators = terminators_of(alloc, target, block.instrs.as_slice())?;
+    Ok(Ways {
+        predecessors: Vec::new(alloc),
+        successors,
+        terminators,
+    })
+}
+
+/// The ways out of the blocks of a function, in layout order.
+fn ways_out(
     alloc: Global,
     target: &Target,
     order: &Order,
-    block: &Block,
-) -> Result<Ways, AllocError> {
-    Ok(Ways {
-        predecessors: Vec::new(alloc),
-        successors: successors_of(alloc, order, block.successors.as_slice())?,
-        terminators: terminators_of(alloc, target, block.instrs.as_slice())?,
-    })
+    blocks: &[Block],
+) -> Result<Vec<Ways>, AllocError>
+    ensures { IfOk result (λ v. AreOut target.now (get nat_cmp order.now.positions) blocks.now v.items) }
+{
+    let mut flow = Vec::new(alloc);
+    'blocks: for block in blocks {
+        flow.push(ways_of(alloc, target, order, block)?)?;
+    }
+    Ok(flow)
 }
 
 /// The ways into and out of the blocks of a function, in layout order.
@@ -121,27 +184,44 @@ pub(crate) fn flow_of(
     target: &Target,
     order: &Order,
     func: &Func,
-) -> Result<Vec<Ways>, AllocError> {
-    let mut flow = Vec::new(alloc);
-    'blocks: for block in func.blocks.as_slice() {
-        flow.push(ways_of(alloc, target, order, block)?)?;
-    }
-    'positions: for at in 0..flow.len() {
-        add_predecessor(alloc, &mut flow, at)?;
+) -> Result<Vec<Ways>, AllocError>
+    ensures { IfOk result (λ v. AreWays target.now (get nat_cmp order.now.positions) func.now.blocks v.items) }
+{
+    let mut flow = ways_out(alloc, target, order, func.blocks.as_slice())?;
+    let Ok(count) = u32::try_from(flow.len()) else {
+        return Err(AllocError);
+    };
+    'positions: for at in 0..count {
+        note_block(alloc, &mut flow, at)?;
     }
     Ok(flow)
 }
 
 /// Notes a block at each of its successors.
-fn add_predecessor(alloc: Global, flow: &mut Vec<Ways>, at: usize) -> Result<(), AllocError> {
-    let successors = match flow.get(at) {
-        Some(here) => Vec::from_slice(alloc, here.successors.as_slice())?,
-        None => Vec::new(alloc),
-    };
-    'successors: for next in successors.as_slice() {
-        if let Some(there) = flow.get_mut(*next as usize) {
-            there.predecessors.push((at & 0xffff_ffff) as u32)?;
-        }
+fn note_block(alloc: Global, flow: &mut Vec<Ways>, at: u32) -> Result<(), AllocError>
+    ensures { OnOk result (NotesAll flow.old.items flow.new.items (successors flow.old.items at) at) }
+{
+    let nexts = Vec::from_slice(alloc, successors(flow.as_slice(), at))?;
+    note_at(flow, nexts.as_slice(), at)
+}
+
+/// Notes a block at each of these.
+fn note_at(flow: &mut Vec<Ways>, nexts: &[u32], at: u32) -> Result<(), AllocError>
+    ensures { OnOk result (NotesAll flow.old.items flow.new.items nexts.now at) }
+{
+    'nexts: for next in nexts {
+        note(flow, *next, at)?;
     }
     Ok(())
+}
+
+/// Notes a block at one that follows.
+fn note(flow: &mut Vec<Ways>, next: u32, at: u32) -> Result<(), AllocError>
+    ensures { OnOk result (Notes flow.old.items flow.new.items next at) }
+{
+    let place = next as usize;
+    if place >= flow.len() {
+        return Ok(());
+    }
+    flow[place].add_predecessor(at)
 }

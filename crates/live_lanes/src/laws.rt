@@ -1,6 +1,6 @@
 //! What is true of the pieces that are marked live.
 
-ghost use Rattle.live_lanes.specs.Laws.{StartLaw, WritingLaw};
+ghost use Rattle.live_lanes.specs.Laws.{StartLaw, WritingLaw, EnteringLaw, MadeLaw};
 ghost use Rattle.live_lanes.specs.Growth.{PieceLaw};
 
 /// Exactly the pieces at whose start their lane is live are marked so.
@@ -8,4 +8,14 @@ pub(crate) fn marks_are_exact()
     ensures start { StartLaw }
     ensures writing { WritingLaw }
     ensures piece { PieceLaw }
+{}
+
+/// Entering the instructions of all blocks one after the other gives each lane its pieces.
+pub(crate) fn entering_gives_pieces()
+    ensures { EnteringLaw }
+{}
+
+/// Rows, order and ways that are made of a function's blocks are a table of its code.
+pub(crate) fn made_is_a_table()
+    ensures { MadeLaw }
 {}

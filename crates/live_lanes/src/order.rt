@@ -1,5 +1,11 @@
 //! The order of a function's instructions, and where each of them and each block stands.
 
+ghost use Rattle.std.specs.Prelude.{◌≡◌, ℕ, [], ◌++◌, IfOk, OnOk, IfSome};
+ghost use Rattle.std.specs.Ordering.{nat_cmp};
+ghost use Rattle.std.specs.BTreeMap.{get};
+ghost use Rattle.slot_index.specs.Order.{ids, Has, IsNumbered, put_after};
+ghost use Rattle.live_lanes.specs.Ordered.{ids_of, all_ids, last_id, place_of, placed, AreSingle};
+
 use mir_func::{Block, Func, Instr};
 use slot_index::Slots;
 use std::alloc::{AllocError, Global};
@@ -17,26 +23,47 @@ pub(crate) struct Order {
 }
 
 impl Order {
-    /// The order of a function's instructions.
-    pub fn of(alloc: Global, func: &Func) -> Result<Order, AllocError> {
-        let mut order = Order {
+    /// No instructions and no blocks, with room for ids below a number.
+    fn new(alloc: Global, next_id: u32) -> Result<Order, AllocError>
+        ensures positions { IfOk result (λ o. (n : ℕ) → get nat_cmp o.positions n ≡ place_of n []) }
+        ensures ids { IfOk result (λ o. ids o.slots ≡ []) }
+        ensures numbered { IfOk result (λ o. IsNumbered o.slots) }
+    {
+        let mut block_of = Vec::new(alloc);
+        block_of.resize(next_id as usize, 0)?;
+        Ok(Order {
             slots: Slots::new(alloc),
-            block_of: Vec::new(alloc),
+            block_of,
             positions: BTreeMap::new(alloc),
+        })
+    }
+
+    /// The order of a function's instructions, where its blocks are as few as their positions allow.
+    pub fn of(alloc: Global, func: &Func) -> Result<Order, AllocError>
+        ensures positions { IfOk result (λ o. (n : ℕ) → get nat_cmp o.positions n ≡ place_of n func.now.blocks) }
+        ensures ids { IfOk result (λ o. ids o.slots ≡ all_ids func.now.blocks) }
+        ensures single { IfOk result (λ o. AreSingle (all_ids func.now.blocks)) }
+        ensures numbered { IfOk result (λ o. IsNumbered o.slots) }
+    {
+        let blocks = func.blocks.as_slice();
+        let Ok(count) = u32::try_from(blocks.len()) else {
+            return Err(AllocError);
         };
-        order.block_of.resize(func.next_id as usize, 0)?;
+        let mut order = Order::new(alloc, func.next_id)?;
         let mut last = None;
-        let mut position = 0u32;
-        'blocks: for block in func.blocks.as_slice() {
+        'blocks: for position in 0..count {
+            let block = &blocks[position as usize];
             order.add_block(block, position)?;
             last = order.add_instrs(block.instrs.as_slice(), position, last)?;
-            position = position.saturating_add(1);
         }
         Ok(order)
     }
 
     /// Notes the position of a block, where no block before it has its number.
-    fn add_block(&mut self, block: &Block, position: u32) -> Result<(), AllocError> {
+    fn add_block(&mut self, block: &Block, position: u32) -> Result<(), AllocError>
+        ensures positions { OnOk result ((n : ℕ) → get nat_cmp self.new.positions n ≡ placed (get nat_cmp self.old.positions n) block.now.number n position) }
+        ensures slots { self.new.slots ≡ self.old.slots }
+    {
         if !self.positions.contains_key(&block.number) {
             self.positions.insert(block.number, position)?;
         }
@@ -49,7 +76,12 @@ impl Order {
         instrs: &[Instr],
         position: u32,
         last: Option<u32>,
-    ) -> Result<Option<u32>, AllocError> {
+    ) -> Result<Option<u32>, AllocError>
+        ensures positions { self.new.positions ≡ self.old.positions }
+        ensures ids { IfOk result (λ after. AreSingle (ids self.old.slots ++ ids_of instrs.now) → last ≡ last_id (ids self.old.slots)
+            → (ids self.new.slots ≡ ids self.old.slots ++ ids_of instrs.now) × (after ≡ last_id (ids self.new.slots))) }
+        ensures numbered { IsNumbered self.old.slots → IsNumbered self.new.slots }
+    {
         let mut after = last;
         'instrs: for instr in instrs {
             self.add_instr(instr.id, position, after)?;
@@ -64,7 +96,11 @@ impl Order {
         id: u32,
         position: u32,
         after: Option<u32>,
-    ) -> Result<(), AllocError> {
+    ) -> Result<(), AllocError>
+        ensures positions { self.new.positions ≡ self.old.positions }
+        ensures ids { OnOk result ((Has self.old.slots id → ⊥) → IfSome after (Has self.old.slots) → ids self.new.slots ≡ put_after after id (ids self.old.slots)) }
+        ensures numbered { IsNumbered self.old.slots → IsNumbered self.new.slots }
+    {
         if self.slots.is_present(id) {
             return Ok(());
         }
@@ -83,7 +119,9 @@ impl Order {
     }
 
     /// The position of the block of that number; of several blocks, that of the first.
-    pub fn position(&self, number: u32) -> Option<u32> {
+    pub fn position(&self, number: u32) -> Option<u32>
+        ensures { result ≡ get nat_cmp self.now.positions number }
+    {
         self.positions.get(&number).copied()
     }
 

@@ -124,7 +124,9 @@ pub(crate) fn rank(slots: &Slots, end: End) -> u128
 
 impl Row {
     /// No cells, which takes no memory.
-    pub fn new(alloc: Global) -> Row {
+    pub fn new(alloc: Global) -> Row
+        ensures { result.cells.items ≡ [] }
+    {
         Row {
             cells: Vec::new(alloc),
         }

@@ -27,11 +27,16 @@ pub(crate) struct Rows {
 }
 
 impl Rows {
-    ghost use Rattle.live_lanes.specs.Table.{seen};
-    ghost use Rattle.live_lanes.specs.Entered.{rows_seen, cells_of, piece_count};
+    ghost use Rattle.std.specs.Prelude.{ℕ, IfOk};
+    ghost use Rattle.live_lanes.specs.Graph.{is_live};
+    ghost use Rattle.live_lanes.specs.Table.{seen, unseen};
+    ghost use Rattle.live_lanes.specs.Entered.{rows_seen, cells_of, piece_count, causes};
 
     /// So many lanes without pieces.
-    pub fn new(alloc: Global, count: usize) -> Result<Rows, AllocError> {
+    pub fn new(alloc: Global, count: usize) -> Result<Rows, AllocError>
+        ensures lanes { IfOk result (λ x. length x.rows.items ≡ count) }
+        ensures seen { IfOk result (λ x. (l b : ℕ) → rows_seen x.rows.items l b ≡ unseen) }
+    {
         let mut rows = Vec::new(alloc);
         'lanes: for _ in 0..count {
             rows.push(Row::new(alloc))?;
@@ -77,7 +82,9 @@ impl Rows {
     }
 
     /// Whether a lane is live at the start of a block.
-    pub fn is_live_in(&self, lane: u32, block: u32) -> bool {
+    pub fn is_live_in(&self, lane: u32, block: u32) -> bool
+        ensures { result ≡ is_live (causes self.now.rows.items lane block 0) }
+    {
         match self.cell(lane, block) {
             Some(cell) => cell.is_live(0),
             None => false,
@@ -104,6 +111,11 @@ pub(crate) struct Table {
 }
 
 impl Table {
+    ghost use Rattle.std.specs.Prelude.{Some};
+    ghost use Rattle.std.specs.Ordering.{nat_cmp};
+    ghost use Rattle.std.specs.BTreeMap.{get};
+    ghost use Rattle.live_lanes.specs.Marks.{marked_at};
+
     /// Whether a lane is live at the point of this rank in a block.
     pub fn is_live_at(&self, lane: u32, block: u32, at: u128) -> bool {
         match self.rows.cell(lane, block) {
@@ -113,7 +125,9 @@ impl Table {
     }
 
     /// Whether a lane is live at the start of the block of that number.
-    pub fn is_live_in(&self, lane: u32, number: u32) -> bool {
+    pub fn is_live_in(&self, lane: u32, number: u32) -> bool
+        ensures { result ≡ marked_at self.now.rows.rows.items (Some lane) (get nat_cmp self.now.order.positions number) }
+    {
         match self.order.position(number) {
             Some(position) => self.rows.is_live_in(lane, position),
             None => false,

@@ -1,0 +1,47 @@
+use Rattle.std.proofs.Common.{◌≡◌, ◌++◌, get_or, arith, refl, sym, ap, ◌∙◌, ◌≤◌, ◌<◌, length, subst}
+use Rattle.std.specs.Ordering.{nat_cmp}
+use Rattle.std.specs.BTreeMap.{get}
+use Rattle.slot_index.specs.Order.{ids, IsNumbered}
+use Rattle.live_lanes.specs.Ordered.{ids_of, all_ids, last_id, placed, AreSingle}
+use Rattle.live_lanes.proofs.Ordered.{place-next, place-whole, blocks-more, blocks-all, once-single}
+use Rattle.live_lanes.proofs.order.Order.of.Goals as goal
+
+pub blocks-2-init : goal.blocks-2-init
+blocks-2-init c = record {
+  positions = c.in_ok-order.ensures.positions;
+  ids = λ single. (c.in_ok-order.ensures.ids, sym (ap last_id c.in_ok-order.ensures.ids));
+  numbered = c.in_ok-order.ensures.numbered;
+}
+
+pub blocks-2-preserved : goal.blocks-2-preserved
+blocks-2-preserved c =
+    let bs = c.args.func.now.blocks in
+    let b = c.index-blocks-position.result in
+    let viewed = ap (λ f. f.blocks) c.func.view_is in
+    let sliced = c.as_slice-blocks.ensures in
+    let same : c.as_slice-blocks.result.now ≡ c.args.func.now.blocks = cc in
+    let long : length c.as_slice-blocks.result.now ≡ length c.args.func.now.blocks = ap length same in
+    let within : c.blocks-2.position < length bs = omega (arith, c.in-Ok.ensures, c.blocks-2-test.true, long) in
+    let own : b ≡ get_or bs c.blocks-2.position b = c.index-blocks-position.is ∙ ap (λ cs. get_or cs c.blocks-2.position b) same in
+    record {
+      positions = λ n. ap (λ m. get nat_cmp m n) c.in_ok-last.ensures.positions ∙ c.in_ok-add_block.ensures.positions n ∙ ap (λ q. placed q b.number n c.blocks-2.position) (c.blocks-2.invariant.positions n) ∙ place-next n bs c.blocks-2.position b within own;
+      ids = λ single.
+          let so = c.blocks-2.invariant.ids single in
+          blocks-more bs c.blocks-2.position b (ids c.blocks-2.order.slots) (ids c.add_block.new.self.slots) (ids c.add_instrs.new.self.slots) c.blocks-2.last c.in_ok-last.last within own single (ap ids c.in_ok-add_block.ensures.slots) so.0 so.1 (subst (λ is. AreSingle (ids c.add_block.new.self.slots ++ ids_of is) → c.blocks-2.last ≡ last_id (ids c.add_block.new.self.slots) → (ids c.add_instrs.new.self.slots ≡ ids c.add_block.new.self.slots ++ ids_of is) × (c.in_ok-last.last ≡ last_id (ids c.add_instrs.new.self.slots))) c.as_slice.ensures c.in_ok-last.ensures.ids);
+      numbered = c.in_ok-last.ensures.numbered (subst IsNumbered (sym c.in_ok-add_block.ensures.slots) c.blocks-2.invariant.numbered);
+    }
+
+pub returns : goal.returns
+returns c =
+    let single : AreSingle (all_ids c.args.func.now.blocks) = rw (← c.func.view_is) (once-single c.func.inside.blocks c.func.inside.next_id c.func.invariant) in
+    let viewed = ap (λ f. f.blocks) c.func.view_is in
+    let sliced = c.as_slice-blocks.ensures in
+    let same : c.as_slice-blocks.result.now ≡ c.args.func.now.blocks = cc in
+    let long : length c.as_slice-blocks.result.now ≡ length c.args.func.now.blocks = ap length same in
+    let whole : length c.args.func.now.blocks ≤ c.blocks-2.position = omega (arith, c.in-Ok.ensures, c.blocks-2-test.false, long) in
+    record {
+      positions = λ n. c.blocks-2.invariant.positions n ∙ place-whole n c.args.func.now.blocks c.blocks-2.position whole;
+      ids = (c.blocks-2.invariant.ids single).0 ∙ blocks-all c.args.func.now.blocks c.blocks-2.position whole;
+      single = single;
+      numbered = c.blocks-2.invariant.numbered;
+    }
