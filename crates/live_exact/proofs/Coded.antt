@@ -1,15 +1,14 @@
 -- The code of a computed table is the function over numbered lanes.
-use Rattle.std.proofs.Common.{◌≡◌, ◌<◌, ◌+◌, ℕ, zero, suc, Bool, true, false, cond, List, [], ◌∷◌, ◌++◌, Option, Some, None, map, refl, sym, ap, ◌∙◌, subst, arith, append_assoc, eqb-true, eq-eqb}
+use Rattle.std.proofs.Common.{◌≡◌, ◌+◌, ℕ, zero, suc, Bool, true, false, cond, List, [], ◌∷◌, ◌++◌, Option, Some, None, map, refl, sym, ap, ◌∙◌, subst, arith, append_assoc, eqb-true, eq-eqb}
 use mathlib.Core.Path.{fun_ext}
 use Rattle.std.specs.Prelude.{nat_eq, slice_get, option_map, flat_map, filter_map}
 use Rattle.target_base.specs.declared.types.Target.{Target}
-use Rattle.meaning.specs.Live.{Among as Member, here as first, there as later}
+use Rattle.meaning.specs.Live.{Among as Member}
 use Rattle.mir_func.specs.declared.func.RegOp.{RegOp}
 use Rattle.mir_func.specs.declared.func.Instr.{Instr}
 use Rattle.mir_func.specs.declared.func.Block.{Block}
 use Rattle.mir_func.specs.Value.{Function}
 use Rattle.live_law.specs.declared.writing.Writing.{Writing}
-use Rattle.live_law.specs.Paths.{Body}
 use Rattle.lane_effects.specs.Acts.{acts_of, use_owners, entered_writes}
 use Rattle.lane_effects.specs.Ends.{end_uses}
 use Rattle.lane_effects.specs.Steps.{Numbering, act_writings, phi_read_of}
@@ -19,10 +18,9 @@ use Rattle.effect_laws.specs.Coded.{all_end_uses, read_at, last_reads, exits_fro
 use Rattle.mir_meaning.specs.Rules.{block_numbers}
 use Rattle.effect_laws.proofs.Moved.{Apart}
 use Rattle.effect_laws.proofs.Blocks.{numbers-apart, place-block, slice-member}
-use Rattle.live_lanes.specs.Paths as table
 use Rattle.live_lanes.specs.Ordered.{place_of}
 use Rattle.live_lanes.specs.Flowing.{edge_places}
-use Rattle.live_lanes.specs.Coded.{entries, lanes_at, last_at, body_at, bodies_from, code_of}
+use Rattle.live_lanes.specs.Coded.{entries, lanes_at, last_at, body_at, bodies_from}
 use Rattle.live_lanes.specs.Doing.{doing_of, lane_code}
 use Rattle.live_exact.specs.Same.{step_as, body_as, code_as}
 

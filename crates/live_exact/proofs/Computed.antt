@@ -6,30 +6,26 @@ use Rattle.std.specs.BTreeMap.{get}
 use Rattle.target_base.specs.declared.types.Target.{Target}
 use Rattle.meaning.specs.declared.types.Lane.{Lane}
 use Rattle.meaning.specs.Code.{found}
-use Rattle.meaning.specs.Live.{Among as Member, is_slot, Live as LivePlace}
-use Rattle.mir_func.specs.declared.func.Instr.{Instr}
+use Rattle.meaning.specs.Live.{Live as LivePlace}
 use Rattle.mir_func.specs.declared.func.Block.{Block}
 use Rattle.mir_func.specs.Value.{Function}
 use Rattle.mir_meaning.specs.Registers.{is_reserved}
 use Rattle.mir_meaning.specs.Codes.{blocks_code}
 use Rattle.mir_meaning.specs.Points.{point_item, Start, LiveAt}
-use Rattle.mir_meaning.specs.Rules.{V8}
-use Rattle.live_law.specs.Stands.{At}
 use Rattle.live_law.proofs.Stands.{meets}
 use Rattle.lane_effects.specs.Numbered.{number_in}
 use Rattle.lane_effects.specs.Steps.{Numbering}
 use Rattle.lane_effects.specs.Stepping.{tag_of}
 use Rattle.effect_laws.specs.Shaped.{is_proper}
-use Rattle.effect_laws.specs.Coded.{instr_step, numbered_code, number_at, KeepsRules, IsNumbered}
-use Rattle.effect_laws.proofs.Blocks.{numbers-apart, block_code, found-block}
+use Rattle.effect_laws.specs.Coded.{numbered_code, number_at, KeepsRules, IsNumbered}
+use Rattle.effect_laws.proofs.Blocks.{numbers-apart, found-block}
 use Rattle.effect_laws.proofs.Whole.{standing, code-of, points-are}
 use Rattle.effect_laws.proofs.Tabled.{table-law}
-use Rattle.live_lanes.specs.declared.table.Table.{Table}
 use Rattle.live_lanes.specs.Graph.{IsGrown, is_live}
 use Rattle.live_lanes.specs.Entered.{causes}
 use Rattle.live_lanes.specs.Laws.{AllMatched}
 use Rattle.live_lanes.specs.Marks.{marked_at}
-use Rattle.live_lanes.specs.Doing.{lane_code, IsComputed}
+use Rattle.live_lanes.specs.Doing.{lane_code}
 use Rattle.live_exact.specs.Same.{code_as, IsQuiet}
 use Rattle.live_exact.specs.Laws.{ComputedLaw}
 use Rattle.live_exact.proofs.Starts.{matched, starts}

@@ -1,10 +1,9 @@
 -- A lane that no owner has as its number is entered nowhere.
-use Rattle.std.proofs.Common.{◌≡◌, ◌<◌, ◌≤◌, ℕ, suc, Bool, true, false, cond, ◌&&◌, ◌||◌, length, List, [], ◌∷◌, ◌++◌, map, Option, None, Some, refl, sym, ap, ◌∙◌, subst, arith, eqb-true, ⊎_elim}
+use Rattle.std.proofs.Common.{◌≡◌, ◌<◌, ◌≤◌, ℕ, suc, Bool, true, false, cond, ◌&&◌, ◌||◌, length, List, [], ◌∷◌, ◌++◌, map, Option, None, Some, refl, sym, ap, ◌∙◌, arith, eqb-true, ⊎_elim}
 use Rattle.std.specs.Prelude.{nat_eq, slice_get, filter_map, option_and_then}
 use Rattle.std.specs.List.{cons_option, list_any}
 use Rattle.std.proofs.lemmas.Bool.{cases_lt}
 use Rattle.std.proofs.lemmas.Option.{slice_get_within, slice_get_past}
-use Rattle.live_law.specs.declared.writing.Writing.{Writing}
 use Rattle.target_base.specs.declared.types.Target.{Target}
 use Rattle.mir_func.specs.declared.func.RegOp.{RegOp}
 use Rattle.mir_func.specs.declared.func.Block.{Block}
@@ -16,12 +15,12 @@ use Rattle.lane_effects.specs.declared.owner.Owner.{Owner}
 use Rattle.lane_effects.specs.Acts.{acts_of, read_owners, use_owners, entered_reads, entered_writes}
 use Rattle.lane_effects.specs.Ends.{end_uses}
 use Rattle.lane_effects.specs.Numbered.{number_in, IsTable}
-use Rattle.lane_effects.specs.Steps.{Numbering, writing, act_writing, act_writings, is_unnumbered, act_reading, act_readings, phi_read_of}
+use Rattle.lane_effects.specs.Steps.{Numbering, writing, act_writings, is_unnumbered, act_readings, phi_read_of}
 use Rattle.live_lanes.specs.declared.row.Row.{Row}
-use Rattle.live_lanes.specs.Paths.{has, Use, Unused, Into, move_of, writing_of, is_some_number}
+use Rattle.live_lanes.specs.Paths.{has, is_some_number}
 use Rattle.live_lanes.specs.Table.{Seen, unseen, seen_in, with_reading, with_segment, read_at_end}
 use Rattle.live_lanes.specs.Entered.{reading, rows_seen}
-use Rattle.live_lanes.specs.Entering.{at_spot, reads_entered, moves_entered, writes_entered, source_entered, ends_entered, is_end_read, EnteredStep, step_entered, block_entered, blocks_entered, Enters}
+use Rattle.live_lanes.specs.Entering.{at_spot, reads_entered, moves_entered, writes_entered, source_entered, ends_entered, is_end_read, step_entered, block_entered, blocks_entered, Enters}
 use Rattle.live_lanes.specs.Coded.{entries}
 use Rattle.live_lanes.specs.Doing.{doing_of}
 use Rattle.live_lanes.proofs.Filled.{ends}

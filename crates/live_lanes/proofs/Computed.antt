@@ -1,9 +1,7 @@
 -- A table that is entered, grown and ended tells where lanes are live.
-use Rattle.std.proofs.Common.{◌≡◌, ◌<◌, ℕ, zero, suc, cond, Bool, true, false, List, [], ◌∷◌, Option, Some, None, length, refl, sym, ap, ◌∙◌, subst, arith}
+use Rattle.std.proofs.Common.{◌≡◌, ◌<◌, ℕ, suc, cond, Bool, true, false, List, [], ◌∷◌, Option, Some, None, length, refl, sym, ap, ◌∙◌, subst, arith}
 use mathlib.Core.Path.{fun_ext}
-use Rattle.std.specs.Prelude.{slice_get, nat_eq, option_map}
-use Rattle.std.specs.Ordering.{nat_cmp}
-use Rattle.std.specs.BTreeMap.{get}
+use Rattle.std.specs.Prelude.{nat_eq, option_map}
 use Rattle.target_base.specs.declared.types.Target.{Target}
 use Rattle.slot_index.specs.Order.{ids, IsNumbered}
 use Rattle.slot_index.specs.Renewed.{low_end}
@@ -12,7 +10,7 @@ use Rattle.mir_func.specs.Value.{Function}
 use Rattle.lane_effects.specs.Steps.{Numbering}
 use Rattle.live_lanes.specs.declared.flow.Ways.{Ways}
 use Rattle.live_lanes.specs.declared.row.Row.{Row}
-use Rattle.live_lanes.specs.Graph.{Causes, is_live, IsGrown}
+use Rattle.live_lanes.specs.Graph.{is_live, IsGrown}
 use Rattle.live_lanes.specs.Table.{Numbers, unseen, cause_in}
 use Rattle.live_lanes.specs.Entered.{rows_seen, causes}
 use Rattle.live_lanes.specs.Entering.{blocks_entered}
@@ -20,7 +18,7 @@ use Rattle.live_lanes.specs.Ordered.{last_id, all_ids, place_of, AreSingle}
 use Rattle.live_lanes.specs.Flowing.{AreWays}
 use Rattle.live_lanes.specs.Growth.{GrowsAll}
 use Rattle.live_lanes.specs.Marks.{KeepsCauses}
-use Rattle.live_lanes.specs.Coded.{entries, code_of, IsMade}
+use Rattle.live_lanes.specs.Coded.{entries, IsMade}
 use Rattle.live_lanes.specs.Doing.{doing_of, lane_code}
 use Rattle.live_lanes.specs.Laws.{AllMatched}
 use Rattle.live_lanes.proofs.Coded.{made-law}

@@ -1,6 +1,6 @@
 -- The numbers of instructions rise along each block.
-use Rattle.std.proofs.Common.{drop, ◌≡◌, ◌<◌, ◌≤◌, ◌+◌, ℕ, zero, suc, Bool, true, false, cond, eqb, length, List, [], ◌∷◌, ◌++◌, take, Option, None, Some, refl, sym, ap, ◌∙◌, subst, arith, get_or, eqb-true, eq-eqb, append_assoc}
-use Rattle.std.specs.Prelude.{nat_eq, slice_get}
+use Rattle.std.proofs.Common.{drop, ◌≡◌, ◌<◌, ◌≤◌, ◌+◌, ℕ, zero, suc, Bool, true, false, cond, eqb, length, List, [], ◌∷◌, ◌++◌, take, Some, refl, sym, ap, ◌∙◌, subst, arith, eq-eqb, append_assoc}
+use Rattle.std.specs.Prelude.{slice_get}
 use Rattle.slot_index.specs.Order.{ids, place, number_of, Has, IsNumbered}
 use Rattle.slot_index.proofs.Present.{number_of-above}
 use Rattle.slot_index.proofs.Ordered.{numbers_tell_order}

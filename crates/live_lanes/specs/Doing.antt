@@ -1,5 +1,5 @@
 -- What the instructions of a function do to its lanes, which go by numbers.
-use Rattle.std.specs.Prelude.{◌≡◌, ℕ, List, ◌++◌, map, filter_map}
+use Rattle.std.specs.Prelude.{◌≡◌, ℕ, ◌++◌, map, filter_map}
 use Rattle.std.specs.Ordering.{nat_cmp}
 use Rattle.std.specs.BTreeMap.{get}
 use Rattle.target_base.specs.declared.types.Target.{Target}

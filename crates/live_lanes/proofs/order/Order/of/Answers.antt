@@ -1,4 +1,4 @@
-use Rattle.std.proofs.Common.{◌≡◌, ◌++◌, get_or, arith, refl, sym, ap, ◌∙◌, ◌≤◌, ◌<◌, length, subst}
+use Rattle.std.proofs.Common.{◌≡◌, ◌++◌, get_or, arith, sym, ap, ◌∙◌, ◌≤◌, ◌<◌, length, subst}
 use Rattle.std.specs.Ordering.{nat_cmp}
 use Rattle.std.specs.BTreeMap.{get}
 use Rattle.slot_index.specs.Order.{ids, IsNumbered}

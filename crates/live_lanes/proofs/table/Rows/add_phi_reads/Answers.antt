@@ -1,4 +1,4 @@
-use Rattle.std.proofs.Common.{arith, refl, map}
+use Rattle.std.proofs.Common.{arith, refl}
 use Rattle.std.specs.Ordering.{nat_cmp}
 use Rattle.std.specs.BTreeMap.{get}
 use Rattle.live_lanes.specs.Entering.{end_entered}

@@ -1,4 +1,4 @@
-use Rattle.std.proofs.Common.{take, map}
+use Rattle.std.proofs.Common.{take}
 use Rattle.std.specs.Ordering.{nat_cmp}
 use Rattle.std.specs.BTreeMap.{get}
 use Rattle.live_lanes.specs.Entering.{Enters, enter_all, end_entered}
