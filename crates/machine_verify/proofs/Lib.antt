@@ -5,4 +5,5 @@ pub mod Searched
 pub mod Few
 pub mod Apart
 pub mod Lived
+pub mod Marked
 pub mod Told
