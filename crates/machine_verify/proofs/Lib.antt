@@ -6,4 +6,5 @@ pub mod Few
 pub mod Apart
 pub mod Lived
 pub mod Marked
+pub mod Late
 pub mod Told

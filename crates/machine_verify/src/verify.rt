@@ -67,7 +67,8 @@ fn register_lives(q: &Question, live: &LiveFunc, v: usize, block: u32) -> bool
 fn some_register_lives(q: &Question, live: &LiveFunc, block: u32) -> bool
     ensures { result ≡ some_register_lives q.now.target.now q.now.f.now live.now.table block }
 {
-    'registers: for v in 0..q.f.classes.len() {
+    let f = q.f;
+    'registers: for v in 0..f.classes.len() {
         if register_lives(q, live, v, block) {
             return true;
         }
