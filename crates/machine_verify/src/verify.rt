@@ -1,11 +1,11 @@
 //! Both verifiers.
 
-ghost use Rattle.std.specs.Prelude.{◌≡◌, option_map, IfOk, IfErr, OnOk};
+ghost use Rattle.std.specs.Prelude.{◌≡◌, ◌<◌, ◌++◌, ◌∷◌, [], option_map, IfOk, IfErr, OnOk};
 ghost use Rattle.std.specs.List.{list_any};
 ghost use Rattle.mir_meaning.specs.declared.Form.TheVariants as forms;
 ghost use Rattle.mir_meaning.specs.Registers.{numbers};
 ghost use Rattle.machine_verify.specs.Faults.{fault_of};
-ghost use Rattle.machine_verify.specs.Lives.{flags_of, lane_lives, register_lives, some_register_lives, block_fits, starts_fit, first_late};
+ghost use Rattle.machine_verify.specs.Lives.{unit_lives, flags_of, lane_lives, register_lives, some_register_lives, block_fits, starts_fit, first_late};
 ghost use Rattle.machine_verify.specs.Verdict.{IsAccepted, IsFault, IfInvalid};
 
 use crate::asked::Question;
@@ -19,6 +19,20 @@ use mir_meaning::Form;
 use std::alloc::{AllocError, Global};
 use target_base::{Target, Unit};
 
+/// Puts at the end whether the unit of that number is live at the start of a block.
+fn push_unit(
+    flags: &mut Vec<bool>,
+    live: &LiveFunc,
+    u: usize,
+    block: u32,
+) -> Result<(), AllocError>
+    requires { u < 65536 }
+    ensures { OnOk result (flags.new.items ≡ flags.old.items ++ (unit_lives live.now.table block u ∷ [])) }
+{
+    flags.push(live.unit_at(Unit(u as u16), block))?;
+    Ok(())
+}
+
 /// Whether each unit is live at the start of a block, by its number.
 #[tactic(auto, using(crate::proofs::Marked::few_units))]
 fn live_units(
@@ -31,7 +45,7 @@ fn live_units(
 {
     let mut flags = Vec::new(alloc);
     'units: for u in 0..target.units.len() {
-        flags.push(live.unit_at(Unit(u as u16), block))?;
+        push_unit(&mut flags, live, u, block)?;
     }
     Ok(flags)
 }
