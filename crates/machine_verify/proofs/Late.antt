@@ -85,11 +85,11 @@ of_taken (suc n) (y ∷ xs) (suc k) x e = let z = of_taken n xs k x e in (let h 
 
 of_any : {X : Type 0} (p : X → Bool) (xs : List X) → list_any p xs ≡ true → (x : X) × (p x ≡ true)
 of_any p [] e = absurd (cc)
-of_any {X = X} p (x ∷ xs) e = go (p x) refl e
+of_any {X = X} p (x ∷ xs) e = go (p x) refl e (λ h. of_any p xs h)
   where
-    go : (b : Bool) → p x ≡ b → (b || list_any p xs) ≡ true → (y : X) × (p y ≡ true)
-    go true g h = (x, g)
-    go false g h = of_any p xs h
+    go : (b : Bool) → p x ≡ b → (b || list_any p xs) ≡ true → (list_any p xs ≡ true → (y : X) × (p y ≡ true)) → (y : X) × (p y ≡ true)
+    go true g h ih = (x, g)
+    go false g h ih = ih h
 
 as_long : {X Y : Type 0} (g : X → Y) (xs : List X) → length (map g xs) ≡ length xs
 as_long g [] = refl
@@ -115,7 +115,7 @@ module _ (t : Target) (form : Form) (f : Function) (x : Table) (computed : IsCom
   flag_is n u = go (cases_lt u (length t.units))
     where
       flag : Option Bool → Bool
-      flag q = elim q [ None ↦ false | Some yes ↦ yes ]
+      flag q = elim q [ None ↦ false | Some set ↦ set ]
 
       go : (u < length t.units) ⊎ (length t.units ≤ u) → is_set (flags_of t x n) u ≡ unit_lives x n u
       go (inl h) = let e : 0 + u ≡ u = omega arith in ap flag (slice-numbers (unit_lives x n) 0 (length t.units) u h) ∙ ap (unit_lives x n) e
@@ -227,25 +227,25 @@ module _ (t : Target) (form : Form) (f : Function) (x : Table) (computed : IsCom
 
   later_none : (k : ℕ) (bs : List Block) → From k bs → Passed k → later_fault t form x k bs ≡ None → Passed (k + length bs)
   later_none k [] from passed h j c l g = passed j c (omega (arith, l)) g
-  later_none k (b ∷ bs) from passed h = by (block_fits t form x k b) refl h
+  later_none k (b ∷ bs) from passed h = by (block_fits t form x k b) refl h (λ more g. later_none (suc k) bs (tail_from k b bs from) more g)
     where
       at : slice_get f.blocks k ≡ Some b
       at = head_at k b bs from
 
-      by : (v : Bool) → block_fits t form x k b ≡ v → cond v (later_fault t form x (suc k) bs) (Some (fault_at b 0 13)) ≡ None → Passed (k + length (b ∷ bs))
-      by true e g j c l i = later_none (suc k) bs (tail_from k b bs from) (one_more k b at passed ((fits_decide k b at).0 e)) g j c (omega (arith, l)) i
-      by false e g = not_some (fault_at b 0 13) (sym g)
+      by : (v : Bool) → block_fits t form x k b ≡ v → cond v (later_fault t form x (suc k) bs) (Some (fault_at b 0 13)) ≡ None → (Passed (suc k) → later_fault t form x (suc k) bs ≡ None → Passed (suc k + length bs)) → Passed (k + length (b ∷ bs))
+      by true e g ih = λ j c l i. ih (one_more k b at passed ((fits_decide k b at).0 e)) g j c (omega (arith, l)) i
+      by false e g ih = not_some (fault_at b 0 13) (sym g)
 
   later_some : (k : ℕ) (bs : List Block) (y : Fault) → From (suc k) bs → Passed (suc k) → V14 t form f → later_fault t form x (suc k) bs ≡ Some y → LiveFault t form f y
   later_some k [] y from passed w h = not_some y h
-  later_some k (b ∷ bs) y from passed w h = by (block_fits t form x (suc k) b) refl h
+  later_some k (b ∷ bs) y from passed w h = by (block_fits t form x (suc k) b) refl h (λ more g. later_some (suc k) bs y (tail_from (suc k) b bs from) more w g)
     where
       at : slice_get f.blocks (suc k) ≡ Some b
       at = head_at (suc k) b bs from
 
-      by : (v : Bool) → block_fits t form x (suc k) b ≡ v → cond v (later_fault t form x (suc (suc k)) bs) (Some (fault_at b 0 13)) ≡ Some y → LiveFault t form f y
-      by true e g = later_some (suc k) bs y (tail_from (suc k) b bs from) (one_more (suc k) b at passed ((fits_decide (suc k) b at).0 e)) w g
-      by false e g = subst (LiveFault t form f) (same_some (fault_at b 0 13) y g) (later k b at (before (suc k) passed) w (λ v. both_ways (block_fits t form x (suc k) b) ((fits_decide (suc k) b at).1 v) e))
+      by : (v : Bool) → block_fits t form x (suc k) b ≡ v → cond v (later_fault t form x (suc (suc k)) bs) (Some (fault_at b 0 13)) ≡ Some y → (Passed (suc (suc k)) → later_fault t form x (suc (suc k)) bs ≡ Some y → LiveFault t form f y) → LiveFault t form f y
+      by true e g ih = ih (one_more (suc k) b at passed ((fits_decide (suc k) b at).0 e)) g
+      by false e g ih = subst (LiveFault t form f) (same_some (fault_at b 0 13) y g) (later k b at (before (suc k) passed) w (λ v. both_ways (block_fits t form x (suc k) b) ((fits_decide (suc k) b at).1 v) e))
 
   -- the first block, V14, and the later blocks
 
@@ -259,7 +259,7 @@ module _ (t : Target) (form : Form) (f : Function) (x : Table) (computed : IsCom
   late_none [] e h = ((λ j b g. not_some b (sym (ap (λ bs. slice_get bs j) e) ∙ (of_taken (length f.blocks) f.blocks j b g).1)), no_start form)
     where
       no_start : (g : Form) → V14 t g f
-      no_start forms.Source b g v k m = not_some b (sym (ap (λ bs. slice_get bs 0) e) ∙ g)
+      no_start forms.Source = λ b g v k m. not_some b (sym (ap (λ bs. slice_get bs 0) e) ∙ g)
       no_start forms.Allocated = ap (list_any names_virtual) e
   late_none (b ∷ bs) e h = by (block_fits t form x 0 b) (starts_fit t form f x b.number) refl refl h
     where

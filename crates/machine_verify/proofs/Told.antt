@@ -25,11 +25,11 @@ late_fourteen b y e = let g : fault_at b 0 14 ≡ y = cc in subst IsLate g (reco
 module _ (t : Target) (form : Form) (f : Function) where
   later_late : (x : Table) (k : ℕ) (bs : List Block) (y : Fault) → later_fault t form x k bs ≡ Some y → IsLate y
   later_late x k [] y h = absurd (cc)
-  later_late x k (b ∷ bs) y h = by (block_fits t form x k b) h
+  later_late x k (b ∷ bs) y h = by (block_fits t form x k b) h (λ g. later_late x (suc k) bs y g)
     where
-      by : (v : Bool) → cond v (later_fault t form x (suc k) bs) (Some (fault_at b 0 13)) ≡ Some y → IsLate y
-      by true g = later_late x (suc k) bs y g
-      by false g = late_thirteen b y g
+      by : (v : Bool) → cond v (later_fault t form x (suc k) bs) (Some (fault_at b 0 13)) ≡ Some y → (later_fault t form x (suc k) bs ≡ Some y → IsLate y) → IsLate y
+      by true g ih = ih g
+      by false g ih = late_thirteen b y g
 
   first_is_late : (x : Table) (bs : List Block) (y : Fault) → first_late t form f x bs ≡ Some y → IsLate y
   first_is_late x [] y h = absurd (cc)

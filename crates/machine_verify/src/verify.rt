@@ -124,7 +124,7 @@ fn live_fault(q: &Question, live: &LiveFunc) -> Result<Option<Invalid>, AllocErr
     if !v14(q, live, first) {
         return Ok(Some(fault_at(first, 0, 14)));
     }
-    'blocks: for k in 1..blocks.len() {
+    'rest: for k in 1..blocks.len() {
         let b = &blocks[k];
         if !v13(q, live, k, b)? {
             return Ok(Some(fault_at(b, 0, 13)));
