@@ -226,7 +226,7 @@ module _ (t : Target) (form : Form) (f : Function) (x : Table) (computed : IsCom
   -- V13 of later blocks
 
   later_none : (k : ℕ) (bs : List Block) → From k bs → Passed k → later_fault t form x k bs ≡ None → Passed (k + length bs)
-  later_none k [] from passed h j c l g = passed j c (omega (arith, l)) g
+  later_none k [] from passed h = λ j c l g. passed j c (omega (arith, l)) g
   later_none k (b ∷ bs) from passed h = by (block_fits t form x k b) refl h (λ more g. later_none (suc k) bs (tail_from k b bs from) more g)
     where
       at : slice_get f.blocks k ≡ Some b

@@ -134,7 +134,7 @@ fn live_fault(q: &Question, live: &LiveFunc) -> Result<Option<Invalid>, AllocErr
 }
 
 /// The verdict on a function in a form.
-#[tactic(auto, using(crate::proofs::Told::told_shape, crate::proofs::Told::told_late, crate::proofs::Told::told_none))]
+#[tactic(auto, using(crate::proofs::Told::told_shape, crate::proofs::Told::told_none))]
 fn check(q: &Question) -> Result<(), VerifyStop>
     ensures ok { OnOk result (IsAccepted q.now.target.now q.now.form q.now.f.now) }
     ensures err { IfErr result (IfInvalid (IsFault q.now.target.now q.now.form q.now.f.now)) }
