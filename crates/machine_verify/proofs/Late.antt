@@ -1,5 +1,5 @@
 -- What the marks of a computed table decide where no other rule fails: V13 of each block, V14, and the first fault.
-use Rattle.std.proofs.Common.{◌≡◌, ◌⊎◌, ◌∙◌, ◌+◌, ◌<◌, ◌≤◌, ◌^◌, ℕ, zero, suc, Bool, true, false, cond, List, [], ◌∷◌, Option, Some, None, refl, sym, ap, subst, arith, length, map, take, inl, inr}
+use Rattle.std.proofs.Common.{◌≡◌, ◌⊎◌, ◌∙◌, ◌+◌, ◌<◌, ◌≤◌, ℕ, zero, suc, Bool, true, false, cond, List, [], ◌∷◌, Option, Some, None, refl, sym, ap, subst, arith, length, map, take, inl, inr}
 use mathlib.Core.Path.{fun_ext}
 use Rattle.std.specs.Prelude.{◌↔◌, ◌&&◌, ◌||◌, Decides, not, nat_lt, slice_get}
 use Rattle.std.specs.List.{list_any}
@@ -21,12 +21,11 @@ use Rattle.mir_func.specs.Value.{Function}
 use Rattle.mir_meaning.specs.declared.Form.{Form}
 use Rattle.mir_meaning.specs.declared.Form.TheVariants as forms
 use Rattle.mir_meaning.specs.Binding.{class_of}
-use Rattle.mir_meaning.specs.Points.{Start, LiveAt, Tests}
+use Rattle.mir_meaning.specs.Points.{Start, LiveAt}
 use Rattle.mir_meaning.specs.Registers.{numbers, is_reserved_unit}
 use Rattle.mir_meaning.specs.Valid.{Fault, IsValid, LiveFault, LiveInto, V13, V13_before, V14, fault_at, first, later, liveins_fit, names_virtual, shape_fault, start}
-use Rattle.lane_effects.specs.declared.owner.Owner.TheVariants as owners
 use Rattle.lane_effects.specs.declared.row.Lanes.{Lanes}
-use Rattle.lane_effects.specs.Numbered.{number_in, counts, class_counts}
+use Rattle.lane_effects.specs.Numbered.{number_in, counts}
 use Rattle.lane_effects.specs.Numbers.{row_number_in}
 use Rattle.lane_effects.specs.Stepping.{tag_of}
 use Rattle.lane_effects.proofs.Tables.{slice-numbers}

@@ -1,5 +1,5 @@
 -- What the verifiers say.
-use Rattle.std.specs.Prelude.{◌≡◌, ◌⊎◌, ℕ, Bool, true, false, Option, Some, None}
+use Rattle.std.specs.Prelude.{◌≡◌, ◌⊎◌, false, Some, None}
 use Rattle.std.specs.List.{list_any}
 use Rattle.target_base.specs.declared.types.Target.{Target}
 use Rattle.mir_func.specs.Value.{Function}
@@ -8,7 +8,6 @@ use Rattle.mir_meaning.specs.declared.Form.TheVariants as forms
 use Rattle.mir_meaning.specs.Valid.{Fault, IsValid, LiveFault, shape_fault, names_virtual}
 use Rattle.machine_verify.specs.Faults.{fault_of}
 use Rattle.machine_verify.specs.Lives.{FitsTarget}
-use Rattle.machine_verify.specs.declared.stop.Invalid.{Invalid}
 use Rattle.machine_verify.specs.declared.stop.VerifyStop.{VerifyStop}
 use Rattle.machine_verify.specs.declared.stop.VerifyStop.TheVariants as stops
 

@@ -20,12 +20,7 @@ use std::alloc::{AllocError, Global};
 use target_base::{Target, Unit};
 
 /// Puts at the end whether the unit of that number is live at the start of a block.
-fn push_unit(
-    flags: &mut Vec<bool>,
-    live: &LiveFunc,
-    u: usize,
-    block: u32,
-) -> Result<(), AllocError>
+fn push_unit(flags: &mut Vec<bool>, live: &LiveFunc, u: usize, block: u32) -> Result<(), AllocError>
     requires { u < 65536 }
     ensures { OnOk result (flags.new.items ≡ flags.old.items ++ (unit_lives live.now.table block u ∷ [])) }
 {
