@@ -2,7 +2,6 @@
 #![tactic(auto)]
 
 mod held;
-mod marks;
 pub mod matrix;
 pub mod tiny;
 

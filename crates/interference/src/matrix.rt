@@ -1,7 +1,6 @@
 //! The matrix: a function, the register of each assigned range, and what the ranges hold.
 
 use crate::held::HeldList;
-use crate::marks::Marks;
 use live_lanes::{Changes, Edit, LiveFunc, Mended, Stretch};
 use mir_func::{Gap, Operand, Operands, RegOp};
 use slot_index::Slots;
@@ -134,22 +133,32 @@ impl AllHeld {
         Ok(())
     }
 
-    /// Takes away the points of a range in the block of a cell.
-    fn remove_cell(&mut self, range: u32, unit: u32, block: u32) {
+    /// Takes away the points of a lane of a range in the block of a cell.
+    fn remove_cell(&mut self, live: &LiveFunc, range: u32, unit: u32, lane: u32, place: usize) {
+        let Some(block) = live.cell_block(lane, place) else {
+            return;
+        };
         let Some(row) = self.units.get_mut(unit as usize) else {
             return;
         };
         if let Some(list) = row.blocks.get_mut(block as usize) {
-            list.remove_all(range);
+            remove_extents(list, live, range, lane, place);
         }
     }
 
     /// Takes away the points of a lane of a range.
     fn remove_lane(&mut self, live: &LiveFunc, range: u32, unit: u32, lane: u32) {
         'cells: for place in 0..live.cell_count(lane) {
-            if let Some(block) = live.cell_block(lane, place) {
-                self.remove_cell(range, unit, block);
-            }
+            self.remove_cell(live, range, unit, lane, place);
+        }
+    }
+}
+
+/// Takes away the points of the pieces of a lane in a block.
+fn remove_extents(list: &mut HeldList, live: &LiveFunc, range: u32, lane: u32, place: usize) {
+    'pieces: for index in 0..live.piece_count(lane, place) {
+        if let Some(extent) = live.extent(lane, place, index) {
+            list.remove(live.slots(), range, extent.start);
         }
     }
 }
@@ -253,51 +262,74 @@ impl Matrix {
 
     /// What a range in a register would clash with.
     pub fn clashers(&self, v: u32, p: Reg) -> Result<Clash, AllocError> {
-        let mut marks = Marks::new(self.alloc, self.registers.len())?;
+        let mut found = Vec::new(self.alloc);
         let mut k = 0usize;
         'units: for u in units_at(self.live.target(), p) {
-            if !self.mark_lane(v, k, u.0 as u32, &mut marks) {
+            if !self.add_clashers(v, k, u.0 as u32, &mut found)? {
                 return Ok(Clash::Fixed);
             }
             k = k.saturating_add(1);
         }
-        Ok(Clash::Ranges(List::from_vec(marks.numbers(self.alloc)?)))
+        found.sort_unstable();
+        found.dedup();
+        Ok(Clash::Ranges(List::from_vec(found)))
     }
 
-    /// Marks the ranges that a lane of a range in a unit would clash with. Answers false where it
-    /// would clash with the unit.
-    fn mark_lane(&self, v: u32, k: usize, unit: u32, marks: &mut Marks) -> bool {
+    /// Adds the ranges that a lane of a range in a unit would clash with. Answers false where it would
+    /// clash with the unit.
+    fn add_clashers(
+        &self,
+        v: u32,
+        k: usize,
+        unit: u32,
+        found: &mut Vec<u32>,
+    ) -> Result<bool, AllocError> {
         let Some(lane) = self.live.lane_of(v, k) else {
-            return true;
+            return Ok(true);
         };
         'cells: for place in 0..self.live.cell_count(lane) {
-            if !self.mark_cell(v, unit, lane, place, marks) {
-                return false;
+            if !self.add_clashers_in(v, unit, lane, place, found)? {
+                return Ok(false);
             }
         }
-        true
+        Ok(true)
     }
 
-    fn mark_cell(&self, v: u32, unit: u32, lane: u32, place: usize, marks: &mut Marks) -> bool {
+    fn add_clashers_in(
+        &self,
+        v: u32,
+        unit: u32,
+        lane: u32,
+        place: usize,
+        found: &mut Vec<u32>,
+    ) -> Result<bool, AllocError> {
         let Some(block) = self.live.cell_block(lane, place) else {
-            return true;
+            return Ok(true);
         };
         'pieces: for index in 0..self.live.piece_count(lane, place) {
             if let Some(extent) = self.live.extent(lane, place, index) {
                 let at = extent.stretch(self.live.slots());
                 if self.live.meets(unit, block, at) {
-                    return false;
+                    return Ok(false);
                 }
-                self.mark_held(unit, v, block, at, marks);
+                self.add_holders(unit, v, block, at, found)?;
             }
         }
-        true
+        Ok(true)
     }
 
-    /// Marks the ranges other than one that hold a unit at some of these points.
-    fn mark_held(&self, unit: u32, but: u32, block: u32, at: Stretch, marks: &mut Marks) {
-        if let Some(list) = self.held.list(unit, block) {
-            list.mark(self.live.slots(), at, but, marks);
+    /// Adds the ranges other than one that hold a unit at some of these points.
+    fn add_holders(
+        &self,
+        unit: u32,
+        but: u32,
+        block: u32,
+        at: Stretch,
+        found: &mut Vec<u32>,
+    ) -> Result<(), AllocError> {
+        match self.held.list(unit, block) {
+            Some(list) => list.add_others(self.live.slots(), at, but, found),
+            None => Ok(()),
         }
     }
 
@@ -452,7 +484,7 @@ impl Matrix {
             Err(e) => {
                 self.let_go(&changes);
                 self.live.take_back(&mut changes);
-                // The lists had room for this before.
+                // Where this is refused too, ranges hold less than they should, and the run is given up.
                 let _ = self.hold(&changes);
                 Err(e)
             }
