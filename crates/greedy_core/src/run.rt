@@ -64,7 +64,7 @@ fn run_greedy<W: Watcher>(
     tell_all(watchers, target, &Step::Begin(number))?;
     'steps: for _ in 0..u64::MAX {
         let Some(v) = run.queue.pop() else {
-            return Ok(run.finished());
+            return Ok(run.finished()?);
         };
         run.step(target, freqs, v, watchers)?;
     }
@@ -140,9 +140,14 @@ impl Run {
         Ok(())
     }
 
-    fn finished(self) -> Allocated {
-        let Run { matrix, slots, .. } = self;
-        Allocated { matrix, slots }
+    fn finished(self) -> Result<Allocated, AllocError> {
+        let Run {
+            mut matrix,
+            slots,
+            ..
+        } = self;
+        matrix.settle_all()?;
+        Ok(Allocated { matrix, slots })
     }
 
     /// Gives each new range a stage, a cascade number and a depth.

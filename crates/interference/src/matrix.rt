@@ -472,6 +472,21 @@ impl Matrix {
         self.settle(changes)
     }
 
+    /// Does edits as `edit_all_of` does, which is done sooner where most of them put one range in the
+    /// place of the other, and no operand named that one before.
+    pub fn edit_all_for(&mut self, edits: Vec<Edit>, v: u32, heir: u32) -> Result<(), AllocError> {
+        if self.register_of(v).is_some() || self.register_of(heir).is_some() {
+            return self.edit_all(edits);
+        }
+        let changes = self.live.begin_edits_for(edits, v, heir)?;
+        self.settle(changes)
+    }
+
+    /// Lets all instructions get to their places in the function's lists.
+    pub fn settle_all(&mut self) -> Result<(), AllocError> {
+        self.live.settle_all()
+    }
+
     /// Brings what the assigned ranges hold up to date after edits, and keeps these.
     fn settle(&mut self, changes: Changes) -> Result<(), AllocError> {
         let mut changes = changes;

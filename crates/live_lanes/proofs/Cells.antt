@@ -157,6 +157,19 @@ member-below n [] at c b s e = absurd (cc)
 member-below n (x ∷ cs) zero c b s e = let y : x ≡ c = cc in let z = ap (λ t. t.block) y in let h = ltb-true x.block n b in omega arith
 member-below n (x ∷ cs) (suc at) c b s e = let h = ltb-true x.block n b in let ih = member-below x.block cs at c (both-left (is_below x.block cs) (descends cs) s) (both-right (is_below x.block cs) (descends cs) s) e in omega arith
 
+-- the place of a block's cell is behind those of later blocks
+pub leads-to : (b : ℕ) (cs : List Cell) (at : ℕ) (c : Cell) → descends cs ≡ true → slice_get cs at ≡ Some c → c.block ≡ b → at ≡ leading (is_before b) cs
+leads-to b [] at c s e f = absurd (cc)
+leads-to b (x ∷ cs) zero c s e f = let y : x ≡ c = cc in let z = ap (λ t. t.block) y in go (ltb b x.block) refl (z ∙ f)
+  where
+    go : (t : Bool) → ltb b x.block ≡ t → x.block ≡ b → zero ≡ cond (ltb b x.block) (suc (leading (is_before b) cs)) 0
+    go true g h = absurd (let k = ltb-true b x.block g in omega arith)
+    go false g h = sym (ap (λ u. cond u (suc (leading (is_before b) cs)) 0) g)
+leads-to b (x ∷ cs) (suc at) c s e f =
+    let low = member-below x.block cs at c (both-left (is_below x.block cs) (descends cs) s) (both-right (is_below x.block cs) (descends cs) s) e in
+    let ih = leads-to b cs at c (both-right (is_below x.block cs) (descends cs) s) e f in
+    ap suc ih ∙ sym (ap (λ u. cond u (suc (leading (is_before b) cs)) 0) (lt-ltb b x.block (omega (arith, low, f))))
+
 below-set : (n : ℕ) (cs : List Cell) (at : ℕ) (c x : Cell) → is_below n cs ≡ true → slice_get cs at ≡ Some c → x.block ≡ c.block → is_below n (set cs at x) ≡ true
 below-set n [] at c x b e f = b
 below-set n (y ∷ cs) zero c x b e f = let z : y ≡ c = cc in lt-ltb x.block n (let h = ltb-true y.block n b in let w = ap (λ t. t.block) z in omega arith)
@@ -239,6 +252,10 @@ insert-seen b q cs x e f u = ap seen (insert-find b q cs x e f) ∙ go (nat_eq b
 
 pub cell-here : (b : ℕ) (cs : List Cell) (at : ℕ) (x : Cell) → descends cs ≡ true → at ≡ leading (is_before b) cs → at < length cs → x ≡ get_or cs at x → x.block ≡ b → Some x ≡ find_cell b cs
 cell-here b cs at x s e h f g = ap Some f ∙ sym (slice_get-get_or cs at x h) ∙ here-there b cs at x s e h (ap (λ c. c.block) (sym f) ∙ g)
+
+-- a cell of a block stands at the block's place
+pub leads-here : (b : ℕ) (cs : List Cell) (at : ℕ) (x : Cell) → descends cs ≡ true → at < length cs → x ≡ get_or cs at x → x.block ≡ b → at ≡ leading (is_before b) cs
+leads-here b cs at x s h f g = leads-to b cs at x s (slice_get-get_or cs at x h ∙ ap Some (sym f)) g
 
 pub cell-elsewhere : (b : ℕ) (cs : List Cell) (at : ℕ) (x : Cell) → descends cs ≡ true → at ≡ leading (is_before b) cs → at < length cs → x ≡ get_or cs at x → (x.block ≡ b → ⊥) → None ≡ find_cell b cs
 cell-elsewhere b cs at x s e h f g = sym (not-here b cs at s e (λ d h' k. g (ap (λ c. c.block) (f ∙ default cs at x d h') ∙ k)))

@@ -26,6 +26,8 @@ enum Undo {
     Cell(Mended, CellEdit),
     /// A lane had these cells.
     Row(u32, Row),
+    /// A lane had the cells that another one has.
+    Heir(u32, u32),
     /// An instruction came to the block at a position.
     Put(u32, u32),
     /// An instruction of the block at a position had this opcode and these operands.
@@ -66,6 +68,10 @@ impl Log {
 
     fn add_row(&mut self, lane: u32, row: Row) -> Result<(), AllocError> {
         self.add(Undo::Row(lane, row))
+    }
+
+    fn add_heir(&mut self, lane: u32, heir: u32) -> Result<(), AllocError> {
+        self.add(Undo::Heir(lane, heir))
     }
 
     pub fn add_put(&mut self, block: u32, id: u32) -> Result<(), AllocError> {
@@ -157,14 +163,31 @@ impl Table {
         row.edit(place, edit)
     }
 
-    /// Takes all cells of some lanes away.
-    pub fn take_rows(&mut self, own: Lanes, log: &mut Log) -> Result<(), AllocError> {
+    /// Takes all cells of some lanes away, and gives them to others where there are some.
+    pub fn take_rows(&mut self, own: Lanes, heir: Lanes, log: &mut Log) -> Result<(), AllocError> {
         'lanes: for k in 0..own.count {
-            if let Some(lane) = own.lane(k) {
-                self.take_row(lane, log)?;
+            match (own.lane(k), heir.lane(k)) {
+                (Some(lane), Some(heir)) => self.give_row(lane, heir, log)?,
+                (Some(lane), None) => self.take_row(lane, log)?,
+                (None, _) => {}
             }
         }
         Ok(())
+    }
+
+    fn give_row(&mut self, lane: u32, heir: u32, log: &mut Log) -> Result<(), AllocError> {
+        log.add_heir(lane, heir)?;
+        self.move_row(lane, heir);
+        Ok(())
+    }
+
+    /// Gives the cells of a lane to another one.
+    fn move_row(&mut self, from: u32, to: u32) {
+        let none = Row::new(self.rows.alloc);
+        if let Some(row) = self.rows.rows.get_mut(from as usize) {
+            let cells = mem::replace(row, none);
+            self.put_row(to, cells);
+        }
     }
 
     fn take_row(&mut self, lane: u32, log: &mut Log) -> Result<(), AllocError> {
@@ -255,14 +278,6 @@ impl Table {
         }
     }
 
-    /// The place of an instruction among those of the block at a position.
-    pub fn place_in(&self, func: &Func, block: u32, id: u32) -> usize {
-        match func.blocks.as_slice().get(block as usize) {
-            Some(here) => self.order.place(here.instrs.as_slice(), id),
-            None => 0,
-        }
-    }
-
     /// Whether the instruction at a place of the block at a position has an id.
     pub fn stands_at(&self, func: &Func, block: u32, place: usize, id: u32) -> bool {
         match func.instr_at(block as usize, place) {
@@ -292,13 +307,8 @@ impl Table {
                 let _ = self.change_cell(mended, back);
             }
             Undo::Row(lane, row) => self.put_row(lane, row),
-            Undo::Put(block, id) => {
-                let place = self.place_in(func, block, id);
-                if self.stands_at(func, block, place, id) {
-                    func.retract_at(block as usize, place);
-                }
-                self.forget(id);
-            }
+            Undo::Heir(lane, heir) => self.move_row(heir, lane),
+            Undo::Put(block, id) => self.take_put_back(func, block, id),
             Undo::Replaced(block, id, op, operands) => {
                 let place = self.place_in(func, block, id);
                 if self.stands_at(func, block, place, id) {
@@ -310,15 +320,31 @@ impl Table {
         }
     }
 
+    /// Takes an instruction back that was put into the block at a position.
+    fn take_put_back(&mut self, func: &mut Func, block: u32, id: u32) {
+        let place = self.place_in(func, block, id);
+        if self.stands_at(func, block, place, id) {
+            self.note_cut(func, block, place);
+            func.retract_at(block as usize, place);
+        }
+        self.forget(id);
+    }
+
+    /// Lets an instruction of the block at a position go.
+    fn let_go(&mut self, func: &mut Func, block: u32, id: u32) {
+        let place = self.place_in(func, block, id);
+        if self.stands_at(func, block, place, id) {
+            self.note_cut(func, block, place);
+            let _ = func.remove_at(block as usize, place);
+        }
+        self.forget(id);
+    }
+
     /// Lets the instructions go that a log says are to go.
     pub fn finish(&mut self, func: &mut Func, log: &Log) {
         'entries: for k in 0..log.len() {
             if let Some((block, id)) = log.erased(k) {
-                let place = self.place_in(func, block, id);
-                if self.stands_at(func, block, place, id) {
-                    let _ = func.remove_at(block as usize, place);
-                }
-                self.forget(id);
+                self.let_go(func, block, id);
             }
         }
     }

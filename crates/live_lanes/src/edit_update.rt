@@ -104,10 +104,10 @@ impl Table {
         self.ask(suspects.as_slice(), &mut reasons)?;
         self.ask(fallen.as_slice(), &mut reasons)?;
         let risen = self.rise(reasons.as_slice(), &mut around, log)?;
-        self.end_again(suspects.as_slice(), log)?;
-        self.end_again(fallen.as_slice(), log)?;
-        self.end_again(risen.as_slice(), log)?;
-        self.end_again(around.as_slice(), log)
+        around.extend_from_slice(suspects.as_slice())?;
+        around.extend_from_slice(fallen.as_slice())?;
+        around.extend_from_slice(risen.as_slice())?;
+        self.end_again(around, log)
     }
 
     /// Looks at the causes of pieces again, and answers those that fell.
@@ -384,9 +384,12 @@ impl Table {
         Ok(())
     }
 
-    /// Gives pieces their ends anew.
-    fn end_again(&mut self, spots: &[Spot], log: &mut Log) -> Result<(), AllocError> {
-        'spots: for spot in spots {
+    /// Gives pieces their ends anew, each of them once.
+    fn end_again(&mut self, spots: Vec<Spot>, log: &mut Log) -> Result<(), AllocError> {
+        let mut each = spots;
+        each.sort_unstable_by_key(|spot| (spot.lane, spot.block, spot.index));
+        each.dedup();
+        'spots: for spot in each.as_slice() {
             if let Some((place, end)) = self.new_end(*spot) {
                 self.set_end(*spot, place, end, log)?;
             }

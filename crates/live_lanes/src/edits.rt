@@ -7,6 +7,7 @@ use crate::edit_update::Touch;
 use crate::effects::{Reader, Tables};
 use crate::enter::slot_of;
 use crate::lanes::{Lanes, NO_LANES};
+use crate::late::Seat;
 use crate::live::LiveFunc;
 use crate::row::{Cause, Cell, End, Piece, Reading, Row, Segment, entry_rank};
 use crate::table::Table;
@@ -42,6 +43,10 @@ struct Progress {
     touched: Vec<Touch>,
     /// Lanes whose cells were taken away before, as all that names them is edited.
     gone: Lanes,
+    /// The lanes that got these cells; none where no lanes did.
+    heir: Lanes,
+    /// How many edits are done.
+    count: usize,
 }
 
 impl LiveFunc {
@@ -88,7 +93,7 @@ impl LiveFunc {
     /// is to go still stands in the function, but does nothing to lanes. After a refusal the
     /// function is unchanged.
     pub fn begin_edits(&mut self, edits: Vec<Edit>) -> Result<Changes, AllocError> {
-        self.begin(edits, NO_LANES)
+        self.begin(edits, NO_LANES, NO_LANES)
     }
 
     /// Does edits as `begin_edits` does, which is done sooner where these edit each instruction that
@@ -96,9 +101,28 @@ impl LiveFunc {
     pub fn begin_edits_of(&mut self, edits: Vec<Edit>, v: u32) -> Result<Changes, AllocError> {
         let own = self.table.lanes.of_range(v);
         if self.table.is_read_last(own) || !self.is_edited_whole(edits.as_slice(), v)? {
-            return self.begin(edits, NO_LANES);
+            return self.begin(edits, NO_LANES, NO_LANES);
         }
-        self.begin(edits, own)
+        self.begin(edits, own, NO_LANES)
+    }
+
+    /// Does edits as `begin_edits_of` does, which is done sooner where most of them put one range in
+    /// the place of the other, and no operand named that one before.
+    pub fn begin_edits_for(
+        &mut self,
+        edits: Vec<Edit>,
+        v: u32,
+        heir: u32,
+    ) -> Result<Changes, AllocError> {
+        let own = self.table.lanes.of_range(v);
+        if self.table.is_read_last(own) || !self.is_edited_whole(edits.as_slice(), v)? {
+            return self.begin(edits, NO_LANES, NO_LANES);
+        }
+        let heir = self.table.lanes.of_range(heir);
+        if heir.count != own.count || !self.table.is_unseen(heir) {
+            return self.begin(edits, own, NO_LANES);
+        }
+        self.begin(edits, own, heir)
     }
 
     /// Whether each instruction that touches a range is replaced or erased.
@@ -114,13 +138,15 @@ impl LiveFunc {
         )
     }
 
-    fn begin(&mut self, edits: Vec<Edit>, gone: Lanes) -> Result<Changes, AllocError> {
+    fn begin(&mut self, edits: Vec<Edit>, gone: Lanes, heir: Lanes) -> Result<Changes, AllocError> {
         let alloc = self.table.rows.alloc;
         let room = edits.len().saturating_mul(8).min(1 << 20);
         let mut progress = Progress {
             log: Log::new(alloc, room)?,
             touched: Vec::new(alloc),
             gone,
+            heir,
+            count: edits.len(),
         };
         let outcome = self.try_edits(edits, &mut progress);
         let Progress { mut log, .. } = progress;
@@ -145,7 +171,8 @@ impl LiveFunc {
 
     fn try_edits(&mut self, edits: Vec<Edit>, progress: &mut Progress) -> Result<(), AllocError> {
         let tables = Tables::new(self.table.rows.alloc, &self.target)?;
-        self.table.take_rows(progress.gone, &mut progress.log)?;
+        self.table
+            .take_rows(progress.gone, progress.heir, &mut progress.log)?;
         self.table.make_cells(edits.as_slice())?;
         'edits: for edit in edits {
             self.try_edit(&tables, edit, progress)?;
@@ -184,10 +211,21 @@ impl LiveFunc {
         }
     }
 
-    /// What the instruction of an id does to lanes whose cells weren't taken away.
-    fn standing_acts(&self, tables: &Tables, id: u32, gone: Lanes) -> Result<Vec<Act>, AllocError> {
+    /// What the instruction of an id does to lanes, as their cells say: those that were taken away
+    /// say nothing, or the lanes that got them do.
+    fn standing_acts(
+        &self,
+        tables: &Tables,
+        id: u32,
+        progress: &Progress,
+    ) -> Result<Vec<Act>, AllocError> {
         let mut acts = self.acts(tables, id)?;
-        acts.retain(|act| !gone.has(act.lane));
+        let (gone, heir) = (progress.gone, progress.heir);
+        if heir.count == 0 {
+            acts.retain(|act| !gone.has(act.lane));
+        } else {
+            hand_over(&mut acts, gone, heir);
+        }
         Ok(acts)
     }
 
@@ -204,27 +242,58 @@ impl LiveFunc {
         };
         let id = self.func.next_id;
         self.table.add_slot(operands.as_slice())?;
-        let place = self.gap_place(block, gap.before);
+        self.make_late_room(block)?;
+        let seat = self.seat(block, gap.before, progress.count);
         progress.log.reserve()?;
-        self.put_into_order(block, place, id)?;
+        self.put_into_order(block, seat.after, id)?;
         progress.log.add_put(block, id)?;
-        let _ = self.func.insert_at(block as usize, place, op, operands)?;
+        let _ = self
+            .func
+            .insert_at(block as usize, seat.place, op, operands)?;
+        if self.func.next_id != id {
+            self.table.note_put(block, seat);
+        }
         let acts = self.acts(tables, id)?;
         self.table.change(block, id, &[], acts.as_slice(), progress)
     }
 
-    /// The place of a gap in the block at a position.
-    fn gap_place(&self, block: u32, before: Option<u32>) -> usize {
-        match before {
-            Some(id) => self.table.place_in(&self.func, block, id),
-            None => self.func.instr_count(block as usize),
+    /// Where an instruction is put into a gap of the block at a position, where so many edits are
+    /// done at once.
+    fn seat(&self, block: u32, before: Option<u32>, edits: usize) -> Seat {
+        if let Some(next) = before {
+            if self.table.is_long(&self.func, block) && self.stands_in(block, next) {
+                return self.table.seat_before(&self.func, block, next, edits);
+            }
+        }
+        let place = self.gap_place(block, before);
+        Seat {
+            place,
+            after: self.table.id_before(&self.func, block, place),
+            is_late: false,
         }
     }
 
-    /// Puts an id into the order of instructions, where it is to stand at a place of the block at a
-    /// position.
-    fn put_into_order(&mut self, block: u32, place: usize, id: u32) -> Result<(), AllocError> {
-        let before = id_before(&self.func, block, place);
+    /// Whether an instruction is one of the block at a position.
+    fn stands_in(&self, block: u32, id: u32) -> bool {
+        self.table.order.slots.is_present(id) && self.table.order.block_of(id) == block
+    }
+
+    /// The place of a gap in the block at a position.
+    fn gap_place(&self, block: u32, before: Option<u32>) -> usize {
+        let here = self.table.listed(&self.func, block);
+        match before {
+            Some(id) => self.table.order.place(here.settled, id),
+            None => here.settled.len(),
+        }
+    }
+
+    /// Puts an id of the block at a position into the order of instructions behind another, or first.
+    fn put_into_order(
+        &mut self,
+        block: u32,
+        before: Option<u32>,
+        id: u32,
+    ) -> Result<(), AllocError> {
         let order = &mut self.table.order;
         let count = (id as usize).saturating_add(1);
         if order.block_of.len() < count {
@@ -247,7 +316,7 @@ impl LiveFunc {
             return Ok(());
         }
         self.table.add_slot(operands.as_slice())?;
-        let old = self.standing_acts(tables, id, progress.gone)?;
+        let old = self.standing_acts(tables, id, progress)?;
         progress.log.reserve()?;
         let (old_op, old_operands) = self
             .func
@@ -265,7 +334,8 @@ impl LiveFunc {
         progress: &mut Progress,
     ) -> Result<(), AllocError> {
         let block = self.table.order.block_of(id);
-        let old = self.standing_acts(tables, id, progress.gone)?;
+        self.settle_for(block, id)?;
+        let old = self.standing_acts(tables, id, progress)?;
         self.table.change(block, id, old.as_slice(), &[], progress)?;
         progress.log.add_erased(block, id)
     }
@@ -292,24 +362,21 @@ fn changed_ids(alloc: Global, edits: &[Edit]) -> Result<Vec<u32>, AllocError> {
     Ok(ids)
 }
 
-/// The instruction that stands in layout before a place of the block at a position.
-fn id_before(func: &Func, block: u32, place: usize) -> Option<u32> {
-    if place > 0 {
-        if let Some(instr) = func.instr_at(block as usize, place - 1) {
-            return Some(instr.id);
+/// Lets acts on some lanes be acts on others.
+fn hand_over(acts: &mut Vec<Act>, from: Lanes, to: Lanes) {
+    'acts: for k in 0..acts.len() {
+        if let Some(act) = acts.get_mut(k) {
+            hand_over_one(act, from, to);
         }
     }
-    last_id_before(func, block)
 }
 
-/// The last instruction of the blocks before a position.
-fn last_id_before(func: &Func, block: u32) -> Option<u32> {
-    'blocks: for before in func.blocks.as_slice().iter().take(block as usize).rev() {
-        if let Some(instr) = before.instrs.as_slice().last() {
-            return Some(instr.id);
+fn hand_over_one(act: &mut Act, from: Lanes, to: Lanes) {
+    if from.has(act.lane) {
+        if let Some(lane) = to.lane(act.lane - from.first) {
+            act.lane = lane;
         }
     }
-    None
 }
 
 impl Table {
@@ -370,6 +437,34 @@ impl Table {
     fn is_read_last(&self, own: Lanes) -> bool {
         (0..own.count).any(|k| match own.lane(k) {
             Some(lane) => self.rows.cells(lane).iter().any(|cell| cell.is_read_last),
+            None => false,
+        })
+    }
+
+    /// The instruction that stands in layout before a place of the block at a position.
+    fn id_before(&self, func: &Func, block: u32, place: usize) -> Option<u32> {
+        if place > 0 {
+            if let Some(instr) = func.instr_at(block as usize, place - 1) {
+                return Some(instr.id);
+            }
+        }
+        self.last_id_before(func, block)
+    }
+
+    /// The last instruction of the blocks before a position.
+    fn last_id_before(&self, func: &Func, block: u32) -> Option<u32> {
+        'blocks: for before in (0..block).rev() {
+            if let Some(instr) = self.listed(func, before).settled.last() {
+                return Some(instr.id);
+            }
+        }
+        None
+    }
+
+    /// Whether lanes have no cells.
+    fn is_unseen(&self, own: Lanes) -> bool {
+        (0..own.count).all(|k| match own.lane(k) {
+            Some(lane) => self.rows.cells(lane).is_empty(),
             None => false,
         })
     }

@@ -17,6 +17,7 @@ mod fresh;
 mod grow;
 pub mod labels;
 mod lanes;
+pub mod late;
 mod laws;
 pub mod live;
 mod order;

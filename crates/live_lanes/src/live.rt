@@ -4,6 +4,7 @@ ghost use Rattle.std.specs.Prelude.{◌≡◌, IfOk};
 
 use crate::enter::{entered, lanes_of};
 use crate::flow::flow_of;
+use crate::late::Late;
 use crate::order::Order;
 use crate::row::{entry_rank, exit_rank};
 use crate::table::Table;
@@ -31,6 +32,7 @@ impl Table {
         Ok(Table {
             lanes,
             order,
+            late: Late::new(alloc),
             flow,
             rows,
         })
@@ -51,7 +53,8 @@ impl LiveFunc {
         })
     }
 
-    /// The function.
+    /// The function. In long blocks some of the instructions that were put there stand out of order
+    /// at the list's end until `settle_all` is called; `settled` gives the others.
     pub fn func(&self) -> &Func
         ensures { result.now ≡ self.now.func }
     {
@@ -65,7 +68,7 @@ impl LiveFunc {
         &self.target
     }
 
-    /// The function alone.
+    /// The function alone. Its long blocks are in order where `settle_all` was called last.
     pub fn into_func(self) -> Func
         ensures { result ≡ self.func }
     {

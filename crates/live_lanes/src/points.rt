@@ -1,10 +1,10 @@
 //! The points of a range: those at which some lane of it is live or occupied.
 
 use crate::lanes::Lanes;
+use crate::late::Listed;
 use crate::live::LiveFunc;
 use crate::row::{Cell, End};
 use crate::table::Table;
-use mir_func::Instr;
 
 /// Points in a row, counted from the block's start: the first and the last.
 #[derive(Clone, Copy)]
@@ -38,48 +38,44 @@ impl Tally {
 
 impl Table {
     /// The number of a point of a block, counted from its start.
-    fn point(&self, instrs: &[Instr], end: End) -> u64 {
+    fn point(&self, here: Listed<'_>, end: End) -> u64 {
         match end {
             End::Never => 0,
-            End::Entry(id) => (self.order.place(instrs, id) as u64)
-                .saturating_mul(2)
-                .saturating_add(1),
-            End::Exit(id) => (self.order.place(instrs, id) as u64)
-                .saturating_mul(2)
-                .saturating_add(2),
-            End::Last => (instrs.len() as u64).saturating_mul(2),
+            End::Entry(id) => (here.rank(id) as u64).saturating_mul(2).saturating_add(1),
+            End::Exit(id) => (here.rank(id) as u64).saturating_mul(2).saturating_add(2),
+            End::Last => (here.len() as u64).saturating_mul(2),
         }
     }
 
     /// The points at which the lane is live or occupied in a piece, if there are any.
-    fn stretch(&self, instrs: &[Instr], cell: &Cell, index: usize) -> Option<Stretch> {
+    fn stretch(&self, here: Listed<'_>, cell: &Cell, index: usize) -> Option<Stretch> {
         if index == 0 {
-            return self.first_stretch_of(instrs, cell.first.end);
+            return self.first_stretch_of(here, cell.first.end);
         }
         let segment = cell.segments.get(index - 1)?;
-        let exit = self.point(instrs, End::Exit(segment.start));
+        let exit = self.point(here, End::Exit(segment.start));
         let first = if segment.early {
             exit.saturating_sub(1)
         } else {
             exit
         };
-        let last = exit.max(self.point(instrs, segment.piece.end));
+        let last = exit.max(self.point(here, segment.piece.end));
         Some(Stretch { first, last })
     }
 
     /// The points of a piece that begins with its block, if it is live.
-    fn first_stretch_of(&self, instrs: &[Instr], end: End) -> Option<Stretch> {
+    fn first_stretch_of(&self, here: Listed<'_>, end: End) -> Option<Stretch> {
         if end == End::Never {
             return None;
         }
-        let last = self.point(instrs, end);
+        let last = self.point(here, end);
         Some(Stretch { first: 0, last })
     }
 
     /// The first piece from a place on that has points, and these.
     fn next_stretch(
         &self,
-        instrs: &[Instr],
+        here: Listed<'_>,
         lane: u32,
         block: u32,
         from: usize,
@@ -88,11 +84,11 @@ impl Table {
         if from > cell.segments.len() {
             return None;
         }
-        match self.stretch(instrs, cell, from) {
+        match self.stretch(here, cell, from) {
             Some(stretch) => Some((from, stretch)),
             None => {
                 let next = from.saturating_add(1);
-                let stretch = self.stretch(instrs, cell, next)?;
+                let stretch = self.stretch(here, cell, next)?;
                 Some((next, stretch))
             }
         }
@@ -101,7 +97,7 @@ impl Table {
     /// Of the stretches that come next in each lane, one that begins first.
     fn first_stretch(
         &self,
-        instrs: &[Instr],
+        here: Listed<'_>,
         own: Lanes,
         block: u32,
         cursors: &[usize; 32],
@@ -110,7 +106,7 @@ impl Table {
         let mut k = 0u32;
         'lanes: for cursor in cursors {
             if let Some(lane) = own.lane(k) {
-                if let Some((index, stretch)) = self.next_stretch(instrs, lane, block, *cursor) {
+                if let Some((index, stretch)) = self.next_stretch(here, lane, block, *cursor) {
                     let is_better = match best {
                         Some((_, _, old)) => stretch.first < old.first,
                         None => true,
@@ -126,11 +122,11 @@ impl Table {
     }
 
     /// The number of points in a block at which some of the lanes is live or occupied.
-    fn points_in(&self, instrs: &[Instr], own: Lanes, block: u32) -> u64 {
+    fn points_in(&self, here: Listed<'_>, own: Lanes, block: u32) -> u64 {
         let mut cursors = [0usize; 32];
         let mut tally = Tally { count: 0, next: 0 };
         'stretches: for _ in 0..u64::MAX {
-            let Some((k, index, stretch)) = self.first_stretch(instrs, own, block, &cursors) else {
+            let Some((k, index, stretch)) = self.first_stretch(here, own, block, &cursors) else {
                 break;
             };
             tally = tally.with(stretch);
@@ -180,9 +176,7 @@ impl LiveFunc {
     }
 
     fn points_in(&self, own: Lanes, block: u32) -> u64 {
-        match self.func().blocks.as_slice().get(block as usize) {
-            Some(here) => self.table.points_in(here.instrs.as_slice(), own, block),
-            None => 0,
-        }
+        let here = self.table.listed(&self.func, block);
+        self.table.points_in(here, own, block)
     }
 }

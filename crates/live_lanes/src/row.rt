@@ -135,7 +135,31 @@ impl Row {
         ensures within { result ≤ length self.now.cells.items }
         ensures place { result ≡ leading (is_before block) self.now.cells.items }
     {
+        let near = self.near(block);
+        if self.stands_at(near, block) {
+            return near;
+        }
         self.cells.as_slice().partition_point(|c| c.block > block)
+    }
+
+    /// The place of a block's cell where each block up to the last one has a cell.
+    fn near(&self, block: u32) -> usize {
+        match self.cells.first() {
+            Some(first) => first.block.saturating_sub(block) as usize,
+            None => 0,
+        }
+    }
+
+    /// Whether the cell at a place is that of a block.
+    fn stands_at(&self, place: usize, block: u32) -> bool
+        ensures place { IsTrue result → place ≡ leading (is_before block) self.now.cells.items }
+        ensures within { IsTrue result → place ≤ length self.now.cells.items }
+    {
+        if place >= self.cells.len() {
+            return false;
+        }
+        let cell = &self.cells[place];
+        cell.block == block
     }
 
     /// The cell of a block.

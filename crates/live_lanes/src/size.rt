@@ -1,10 +1,9 @@
 //! The number of points of a range, counted in one lane where all its lanes have the same points.
 
 use crate::lanes::Lanes;
+use crate::late::Listed;
 use crate::live::LiveFunc;
-use crate::order::Order;
 use crate::row::{Cell, End, Segment};
-use mir_func::Instr;
 
 /// Points counted so far in a block: how many, and the first one behind them.
 #[derive(Clone, Copy)]
@@ -29,16 +28,12 @@ impl Count {
 }
 
 /// The number of a point of a block, counted from its start.
-fn point(order: &Order, instrs: &[Instr], end: End) -> u64 {
+fn point(here: Listed<'_>, end: End) -> u64 {
     match end {
         End::Never => 0,
-        End::Entry(id) => (order.place(instrs, id) as u64)
-            .saturating_mul(2)
-            .saturating_add(1),
-        End::Exit(id) => (order.place(instrs, id) as u64)
-            .saturating_mul(2)
-            .saturating_add(2),
-        End::Last => (instrs.len() as u64).saturating_mul(2),
+        End::Entry(id) => (here.rank(id) as u64).saturating_mul(2).saturating_add(1),
+        End::Exit(id) => (here.rank(id) as u64).saturating_mul(2).saturating_add(2),
+        End::Last => (here.len() as u64).saturating_mul(2),
     }
 }
 
@@ -59,8 +54,8 @@ fn have_same_points(a: &Cell, b: &Cell) -> bool {
 }
 
 /// Counts the points of a segment.
-fn counted(order: &Order, instrs: &[Instr], segment: &Segment, count: Count) -> Count {
-    let exit = point(order, instrs, End::Exit(segment.start));
+fn counted(here: Listed<'_>, segment: &Segment, count: Count) -> Count {
+    let exit = point(here, End::Exit(segment.start));
     let first = if segment.early {
         exit.saturating_sub(1)
     } else {
@@ -68,19 +63,19 @@ fn counted(order: &Order, instrs: &[Instr], segment: &Segment, count: Count) -> 
     };
     let last = match segment.piece.end {
         End::Never => exit,
-        end => exit.max(point(order, instrs, end)),
+        end => exit.max(point(here, end)),
     };
     count.with(first, last)
 }
 
 /// The number of points of a cell.
-fn cell_size(order: &Order, instrs: &[Instr], cell: &Cell) -> u64 {
+fn cell_size(here: Listed<'_>, cell: &Cell) -> u64 {
     let mut count = Count { points: 0, next: 0 };
     if cell.first.end != End::Never {
-        count = count.with(0, point(order, instrs, cell.first.end));
+        count = count.with(0, point(here, cell.first.end));
     }
     'segments: for segment in &cell.segments {
-        count = counted(order, instrs, segment, count);
+        count = counted(here, segment, count);
     }
     count.points
 }
@@ -104,10 +99,7 @@ impl LiveFunc {
     }
 
     fn size_in(&self, cell: &Cell) -> u64 {
-        match self.func.blocks.as_slice().get(cell.block as usize) {
-            Some(block) => cell_size(&self.table.order, block.instrs.as_slice(), cell),
-            None => 0,
-        }
+        cell_size(self.table.listed(&self.func, cell.block), cell)
     }
 
     /// Whether all lanes of a range have the same points as one of them.

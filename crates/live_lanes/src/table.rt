@@ -4,6 +4,7 @@ ghost use Rattle.std.specs.Prelude.{◌≡◌, ◌<◌, option_copied, length, s
 
 use crate::flow::Ways;
 use crate::lanes::LaneTable;
+use crate::late::Late;
 use crate::order::Order;
 use crate::row::{Cell, Row, exit_rank};
 use std::alloc::{AllocError, Global};
@@ -94,11 +95,13 @@ impl Rows {
 }
 
 /// What is known of a function besides its text: the numbers of its lanes, the order of its
-/// instructions, the ways between its blocks, and the pieces of its lanes.
+/// instructions and which of them aren't in their places, the ways between its blocks, and the pieces
+/// of its lanes.
 #[derive(Drop)]
 pub(crate) struct Table {
     pub lanes: LaneTable,
     pub order: Order,
+    pub late: Late,
     pub flow: Vec<Ways>,
     pub rows: Rows,
 }

@@ -118,8 +118,8 @@ impl LiveFunc {
 
     /// The place of an instruction among those of its block.
     pub fn place_of(&self, id: u32) -> usize {
-        self.table
-            .place_in(&self.func, self.table.order.block_of(id), id)
+        let block = self.table.order.block_of(id);
+        self.table.listed(&self.func, block).rank(id)
     }
 
     /// The position in the layout of the block of that number; of several, that of the first.
@@ -223,11 +223,10 @@ impl LiveFunc {
 impl LiveFunc {
     /// Whether some lane of a range is live at the end of the block at a position.
     pub fn is_live_out_of(&self, v: u32, position: u32) -> bool {
-        let last = match self.func.blocks.as_slice().get(position as usize) {
-            Some(block) => block.instrs.as_slice().last(),
-            None => return false,
-        };
-        match last {
+        if position as usize >= self.func.blocks.len() {
+            return false;
+        }
+        match self.settled(position).last() {
             Some(instr) => self.is_live_behind(v, instr.id),
             None => self.is_live_into(v, position),
         }

@@ -17,23 +17,14 @@ pub type Choices = List<(u32, Reg)>;
 /// The instructions of the place that begins with the one of that id: the terminators of a block are
 /// one place.
 fn place_at(live: &LiveFunc, at: u32) -> &[Instr] {
-    let Some(block) = live
-        .func()
-        .blocks
-        .as_slice()
-        .get(live.position_of(at) as usize)
-    else {
-        return &[];
-    };
-    let instrs = block.instrs.as_slice();
-    let k = live.place_of(at);
-    if k >= instrs.len() {
+    let instrs = live.instrs_from(at);
+    if instrs.is_empty() {
         return &[];
     }
-    if is_terminator(live.target(), &instrs[k]) {
-        &instrs[k..]
+    if is_terminator(live.target(), &instrs[0]) {
+        instrs
     } else {
-        &instrs[k..k + 1]
+        &instrs[..1]
     }
 }
 

@@ -166,14 +166,9 @@ impl<'a> View<'a> {
 
     /// The gap right behind an instruction.
     pub fn gap_behind(&self, id: u32) -> Gap {
-        let position = self.live.position_of(id) as usize;
-        let place = self.live.place_of(id).saturating_add(1);
         Gap {
             block: self.block_number(id),
-            before: match self.live.func().instr_at(position, place) {
-                Some(next) => Some(next.id),
-                None => None,
-            },
+            before: self.live.behind(id),
         }
     }
 

@@ -222,11 +222,7 @@ pub(crate) fn place_id(view: View<'_>, instr: &Instr) -> u32 {
     if !is_terminator(view.target, instr) {
         return instr.id;
     }
-    let position = view.live.position_of(instr.id) as usize;
-    let Some(block) = view.live.func().blocks.as_slice().get(position) else {
-        return instr.id;
-    };
-    let instrs = block.instrs.as_slice();
+    let instrs = view.live.settled(view.live.position_of(instr.id));
     match instrs.get(first_terminator(view, instrs)) {
         Some(first) => first.id,
         None => instr.id,

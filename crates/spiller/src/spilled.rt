@@ -94,12 +94,9 @@ fn change_touched(
     if last == Some(at) {
         return Ok(last);
     }
-    let position = view.live.position_of(id) as usize;
-    if let Some(block) = view.live.func().blocks.as_slice().get(position) {
-        let instrs = block.instrs.as_slice();
-        if let Some(end) = instrs.get(first_terminator(view, instrs)..) {
-            change_terminators(view, end, remat, slots, plan)?;
-        }
+    let instrs = view.live.settled(view.live.position_of(id));
+    if let Some(end) = instrs.get(first_terminator(view, instrs)..) {
+        change_terminators(view, end, remat, slots, plan)?;
     }
     Ok(Some(at))
 }

@@ -36,7 +36,7 @@ pub(crate) fn first_terminator(target: &Target, instrs: &[Instr]) -> usize {
 
 /// The first of the terminators at the end of the block at a position; none where it has none.
 pub(crate) fn end_of(live: &LiveFunc, position: u32) -> Option<u32> {
-    let instrs = block_at(live, position)?.instrs.as_slice();
+    let instrs = live.settled(position);
     let first = instrs.get(first_terminator(live.target(), instrs))?;
     Some(first.id)
 }
@@ -52,7 +52,7 @@ fn place_of(live: &LiveFunc, id: u32) -> Option<TouchedPlace> {
             is_end: false,
         });
     }
-    let last = block_at(live, position)?.instrs.as_slice().last()?;
+    let last = live.settled(position).last()?;
     Some(TouchedPlace {
         position,
         first: end_of(live, position).unwrap_or(id),

@@ -170,15 +170,6 @@ fn add_end(live: &LiveFunc, z: &TouchedPlace, labels: &mut Labels) -> Result<(),
     if z.is_end {
         return Ok(());
     }
-    let behind = id_behind(live, z.last);
+    let behind = live.behind(z.last);
     add_mark(live, z.position, Some(behind), 0, labels)
-}
-
-/// The instruction that stands right behind another in its block.
-fn id_behind(live: &LiveFunc, id: u32) -> Option<u32> {
-    let position = live.position_of(id) as usize;
-    let next = live
-        .func()
-        .instr_at(position, live.place_of(id).saturating_add(1))?;
-    Some(next.id)
 }

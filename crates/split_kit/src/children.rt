@@ -38,7 +38,10 @@ pub fn split(
         children: children.as_slice(),
     };
     let edits = edits_of(view, touched.as_slice(), labels.as_slice())?;
-    m.edit_all_of(edits, v)?;
+    match children.as_slice().first() {
+        Some(remainder) => m.edit_all_for(edits, v, *remainder)?,
+        None => m.edit_all_of(edits, v)?,
+    }
     Ok(children)
 }
 
