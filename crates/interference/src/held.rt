@@ -1,5 +1,6 @@
 //! What ranges hold of one unit in one block, in order.
 
+use crate::marks::Marks;
 use live_lanes::{Extent, Stretch};
 use slot_index::Slots;
 use std::alloc::{AllocError, Global};
@@ -80,24 +81,18 @@ fn met_by(slots: &Slots, stretches: &[Held], at: Stretch, but: u32) -> Met {
     Met::Open
 }
 
-/// Adds the ranges other than one that hold the unit at some of these points, by some stretches that
+/// Marks the ranges other than one that hold the unit at some of these points, by some stretches that
 /// begin before their end. Answers whether there may be more.
-fn add_met(
-    slots: &Slots,
-    stretches: &[Held],
-    at: Stretch,
-    but: u32,
-    found: &mut Vec<u32>,
-) -> Result<bool, AllocError> {
+fn mark_met(slots: &Slots, stretches: &[Held], at: Stretch, but: u32, marks: &mut Marks) -> bool {
     'stretches: for held in stretches.iter().rev() {
         if held.extent.last(slots) < at.first {
-            return Ok(false);
+            return false;
         }
-        if held.range != but && found.last().copied() != Some(held.range) {
-            found.push(held.range)?;
+        if held.range != but {
+            marks.mark(held.range);
         }
     }
-    Ok(true)
+    true
 }
 
 /// Looks for a stretch of a range that begins with an instruction or with the block, among some whose
@@ -171,21 +166,14 @@ impl HeldList {
         false
     }
 
-    /// Adds the ranges other than one that hold the unit at some of these points.
-    pub fn add_others(
-        &self,
-        slots: &Slots,
-        at: Stretch,
-        but: u32,
-        found: &mut Vec<u32>,
-    ) -> Result<(), AllocError> {
+    /// Marks the ranges other than one that hold the unit at some of these points.
+    pub fn mark(&self, slots: &Slots, at: Stretch, but: u32, marks: &mut Marks) {
         let gap = self.behind(slots, at.last);
         'parts: for part in (0..=gap.part).rev() {
-            if !add_met(slots, self.part_before(part, gap), at, but, found)? {
-                return Ok(());
+            if !mark_met(slots, self.part_before(part, gap), at, but, marks) {
+                return;
             }
         }
-        Ok(())
     }
 
     /// Adds points that a range holds. After a refusal nothing is added.

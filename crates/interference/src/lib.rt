@@ -2,6 +2,7 @@
 #![tactic(auto)]
 
 mod held;
+mod marks;
 pub mod matrix;
 pub mod tiny;
 

@@ -1,6 +1,7 @@
 //! The matrix: a function, the register of each assigned range, and what the ranges hold.
 
 use crate::held::HeldList;
+use crate::marks::Marks;
 use live_lanes::{Changes, Edit, LiveFunc, Mended, Stretch};
 use mir_func::{Gap, Operand, Operands, RegOp};
 use slot_index::Slots;
@@ -262,74 +263,51 @@ impl Matrix {
 
     /// What a range in a register would clash with.
     pub fn clashers(&self, v: u32, p: Reg) -> Result<Clash, AllocError> {
-        let mut found = Vec::new(self.alloc);
+        let mut marks = Marks::new(self.alloc, self.registers.len())?;
         let mut k = 0usize;
         'units: for u in units_at(self.live.target(), p) {
-            if !self.add_clashers(v, k, u.0 as u32, &mut found)? {
+            if !self.mark_lane(v, k, u.0 as u32, &mut marks) {
                 return Ok(Clash::Fixed);
             }
             k = k.saturating_add(1);
         }
-        found.sort_unstable();
-        found.dedup();
-        Ok(Clash::Ranges(List::from_vec(found)))
+        Ok(Clash::Ranges(List::from_vec(marks.numbers(self.alloc)?)))
     }
 
-    /// Adds the ranges that a lane of a range in a unit would clash with. Answers false where it would
-    /// clash with the unit.
-    fn add_clashers(
-        &self,
-        v: u32,
-        k: usize,
-        unit: u32,
-        found: &mut Vec<u32>,
-    ) -> Result<bool, AllocError> {
+    /// Marks the ranges that a lane of a range in a unit would clash with. Answers false where it
+    /// would clash with the unit.
+    fn mark_lane(&self, v: u32, k: usize, unit: u32, marks: &mut Marks) -> bool {
         let Some(lane) = self.live.lane_of(v, k) else {
-            return Ok(true);
+            return true;
         };
         'cells: for place in 0..self.live.cell_count(lane) {
-            if !self.add_clashers_in(v, unit, lane, place, found)? {
-                return Ok(false);
+            if !self.mark_cell(v, unit, lane, place, marks) {
+                return false;
             }
         }
-        Ok(true)
+        true
     }
 
-    fn add_clashers_in(
-        &self,
-        v: u32,
-        unit: u32,
-        lane: u32,
-        place: usize,
-        found: &mut Vec<u32>,
-    ) -> Result<bool, AllocError> {
+    fn mark_cell(&self, v: u32, unit: u32, lane: u32, place: usize, marks: &mut Marks) -> bool {
         let Some(block) = self.live.cell_block(lane, place) else {
-            return Ok(true);
+            return true;
         };
         'pieces: for index in 0..self.live.piece_count(lane, place) {
             if let Some(extent) = self.live.extent(lane, place, index) {
                 let at = extent.stretch(self.live.slots());
                 if self.live.meets(unit, block, at) {
-                    return Ok(false);
+                    return false;
                 }
-                self.add_holders(unit, v, block, at, found)?;
+                self.mark_held(unit, v, block, at, marks);
             }
         }
-        Ok(true)
+        true
     }
 
-    /// Adds the ranges other than one that hold a unit at some of these points.
-    fn add_holders(
-        &self,
-        unit: u32,
-        but: u32,
-        block: u32,
-        at: Stretch,
-        found: &mut Vec<u32>,
-    ) -> Result<(), AllocError> {
-        match self.held.list(unit, block) {
-            Some(list) => list.add_others(self.live.slots(), at, but, found),
-            None => Ok(()),
+    /// Marks the ranges other than one that hold a unit at some of these points.
+    fn mark_held(&self, unit: u32, but: u32, block: u32, at: Stretch, marks: &mut Marks) {
+        if let Some(list) = self.held.list(unit, block) {
+            list.mark(self.live.slots(), at, but, marks);
         }
     }
 

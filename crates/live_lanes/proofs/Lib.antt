@@ -15,4 +15,4 @@ pub mod Certain
 pub mod Pieces
 pub mod Certainty
 pub mod Whole
-pub mod Late
+pub mod Reordered
