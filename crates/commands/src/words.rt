@@ -4,6 +4,8 @@ ghost use Rattle.std.specs.Prelude.{◌≡◌, ◌==◌, ◌≤◌, ◌++◌, �
 ghost use Rattle.std.specs.List.{list_all};
 ghost use Rattle.commands.specs.Words.{is_option, is_word, is_digit, is_number, number_of, plain_words, asked, asks, command_of, bytes_of, texts_of};
 
+use clap::error::ErrorKind;
+use clap::{Arg, ArgAction, Command as Parser};
 use std::alloc::{AllocError, Global};
 
 /// What the program is asked to do. A target is a file's name, or `-` for the built-in target; a file
@@ -65,33 +67,29 @@ fn number(digits: &[u8]) -> u64
     n
 }
 
-/// Appends words.
-fn extend<'a>(plain: &mut Vec<&'a str>, words: &'a [String]) -> Result<(), AllocError>
-    ensures { IfOk result (λ _. texts_of plain.new.items ≡ texts_of plain.old.items ++ bytes_of words.now) }
-{
-    for word in words {
-        plain.push(word.as_str())?;
-    }
-    Ok(())
-}
-
 /// The words without the first `--`; None where a word before it looks like an option.
 fn plain_words<'a>(alloc: Global, words: &'a [String]) -> Result<Option<Vec<&'a str>>, AllocError>
     ensures { IfOk result (λ r. option_map (λ v. texts_of v.items) r ≡ plain_words (bytes_of words.now)) }
 {
-    let mut plain = Vec::new(alloc);
-    for (k, word) in words.iter().enumerate() {
-        let text = word.as_str();
-        if text == "--" {
-            extend(&mut plain, &words[k + 1..])?;
-            return Ok(Some(plain));
+    let word = Arg::new(alloc, "words").action(ArgAction::Append);
+    let command = Parser::new(alloc, "llra")
+        .no_binary_name(true)
+        .disable_help_flag(true)
+        .disable_version_flag(true)
+        .arg(word)?;
+    match command.try_get_matches_from(words) {
+        Ok(matches) => match matches.get_strs("words") {
+            None => Ok(Some(Vec::new(alloc))),
+            Some(plain) => Ok(Some(Vec::from_slice(alloc, plain)?)),
+        },
+        Err(fault) => {
+            if fault.kind() == ErrorKind::OutOfMemory {
+                Err(AllocError)
+            } else {
+                Ok(None)
+            }
         }
-        if is_option(text) {
-            return Ok(None);
-        }
-        plain.push(text)?;
     }
-    Ok(Some(plain))
 }
 
 /// A command of a name, TARGET and FILE.
