@@ -273,13 +273,20 @@ def name_of(data):
     return next(line[5:].strip() for line in data.split(b"\n") if line.startswith(b"name:"))
 
 
+def symbols_of(text):
+    """The symbols that a text names, in the order in which they first appear."""
+    return list(dict.fromkeys(re.findall(rb'@(?:"[^"]*"|[\w.$-]+)', text)))
+
+
 def unlike(folder, word, data, out):
     """What is wrong with an allocation that the program wrote, by the program's own verifier and runs."""
     write(os.path.join(folder, "G"), out)
     name = name_of(data)
     if run(folder, "verify", "allocated", word, "G") != (0, b"valid " + name + b"\n", b""):
         return "not valid"
-    for n, seed in (("40", "1"), ("400", "7")):
+    # an environment of a seed places symbols by their first appearance: other orders are other environments
+    runs = (("40", "1"), ("400", "7")) if symbols_of(data) == symbols_of(out) else ()
+    for n, seed in runs:
         source = run(folder, "run", word, "F", name, n, seed)
         if b"end undefined" not in source[1] and run(folder, "run", word, "G", name, n, seed) != source:
             # lanes that are undefined in the source may have any value
