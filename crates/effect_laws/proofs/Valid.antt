@@ -95,8 +95,8 @@ module _ (t : Target) (form : Form) (f : Function) where
     unfolding block_fault
     block-five k b g = (holds 5 (V5 f k b) ((6, V6 f k b) ∷ (9, V9 t f k b) ∷ (10, V10 t f k b) ∷ (15, not (nat_eq k 0) || V15_frame form f) ∷ (16, V16 b) ∷ []) (all-clean k b g).0).0
 
-    abbrev Four : ℕ → Block → ℕ → Instr → Type 0
-    Four k b j i = (V1 t f i ≡ true) × (V2 t f i ≡ true) × (V3 f i ≡ true) × (V4 t f i ≡ true) × (V7 t form f k b j i ≡ true)
+    abbrev Six : ℕ → Block → ℕ → Instr → Type 0
+    Six k b j i = (V1 t f i ≡ true) × (V2 t f i ≡ true) × (V3 f i ≡ true) × (V4 t f i ≡ true) × (V7 t form f k b j i ≡ true) × (V8 t b j i ≡ true)
 
     abbrev checks : ℕ → Block → ℕ → Instr → List (ℕ × Bool)
     checks k b j i = (2, V2 t f i) ∷ (3, V3 f i) ∷ (4, V4 t f i) ∷ (7, V7 t form f k b j i) ∷ (8, V8 t b j i) ∷ (11, V11 t form f i) ∷ (12, V12 t form f i) ∷ (15, V15 t form f i) ∷ []
@@ -104,20 +104,21 @@ module _ (t : Target) (form : Form) (f : Function) where
     abbrev fault-by : ℕ → Block → ℕ → Instr → Option OpcodeDesc → Option ℕ
     fault-by k b j i q = elim q [ None ↦ Some 16 | Some d ↦ cond (V1 t f i) (first_failing (checks k b j i)) (Some 1) ]
 
-    by-first : (k : ℕ) (b : Block) (j : ℕ) (i : Instr) (v : Bool) → V1 t f i ≡ v → cond v (first_failing (checks k b j i)) (Some 1) ≡ None → Four k b j i
+    by-first : (k : ℕ) (b : Block) (j : ℕ) (i : Instr) (v : Bool) → V1 t f i ≡ v → cond v (first_failing (checks k b j i)) (Some 1) ≡ None → Six k b j i
     by-first k b j i false g h = absurd (cc)
     by-first k b j i true g h =
         let a = holds 2 (V2 t f i) ((3, V3 f i) ∷ (4, V4 t f i) ∷ (7, V7 t form f k b j i) ∷ (8, V8 t b j i) ∷ (11, V11 t form f i) ∷ (12, V12 t form f i) ∷ (15, V15 t form f i) ∷ []) h in
         let c = holds 3 (V3 f i) ((4, V4 t f i) ∷ (7, V7 t form f k b j i) ∷ (8, V8 t b j i) ∷ (11, V11 t form f i) ∷ (12, V12 t form f i) ∷ (15, V15 t form f i) ∷ []) a.1 in
         let d = holds 4 (V4 t f i) ((7, V7 t form f k b j i) ∷ (8, V8 t b j i) ∷ (11, V11 t form f i) ∷ (12, V12 t form f i) ∷ (15, V15 t form f i) ∷ []) c.1 in
         let p = holds 7 (V7 t form f k b j i) ((8, V8 t b j i) ∷ (11, V11 t form f i) ∷ (12, V12 t form f i) ∷ (15, V15 t form f i) ∷ []) d.1 in
-        (g, a.0, c.0, d.0, p.0)
+        let e = holds 8 (V8 t b j i) ((11, V11 t form f i) ∷ (12, V12 t form f i) ∷ (15, V15 t form f i) ∷ []) p.1 in
+        (g, a.0, c.0, d.0, p.0, e.0)
 
-    by-opcode : (k : ℕ) (b : Block) (j : ℕ) (i : Instr) (q : Option OpcodeDesc) → fault-by k b j i q ≡ None → Four k b j i
+    by-opcode : (k : ℕ) (b : Block) (j : ℕ) (i : Instr) (q : Option OpcodeDesc) → fault-by k b j i q ≡ None → Six k b j i
     by-opcode k b j i None h = absurd (cc)
     by-opcode k b j i (Some d) h = by-first k b j i (V1 t f i) refl h
 
-    rules-of : (k : ℕ) (b : Block) (j : ℕ) (i : Instr) → instr_fault t form f k b j i ≡ None → Four k b j i
+    rules-of : (k : ℕ) (b : Block) (j : ℕ) (i : Instr) → instr_fault t form f k b j i ≡ None → Six k b j i
     unfolding instr_fault
     rules-of k b j i e = by-opcode k b j i (known_opcode t i.op) e
 
@@ -135,11 +136,15 @@ module _ (t : Target) (form : Form) (f : Function) where
         go None g = refl
         go (Some e) g = by e g
 
-    here : (b : Block) (i : Instr) → Member b f.blocks → Member i b.instrs → (k : ℕ) × (j : ℕ) × Four k b j i
+    here : (b : Block) (i : Instr) → Member b f.blocks → Member i b.instrs → (k : ℕ) × (j : ℕ) × Six k b j i
     here b i mb mi =
         let k = member-slice b f.blocks mb in
         let j = member-slice i b.instrs mi in
         (k.0, j.0, rules-of k.0 b j.0 i ((all-clean k.0 b k.1).1 j.0 i j.1))
+
+    -- terminators stand last in their blocks
+    pub ends : (b : Block) (j : ℕ) (i : Instr) → Member b f.blocks → slice_get b.instrs j ≡ Some i → V8 t b j i ≡ true
+    ends b j i mb g = let k = member-slice b f.blocks mb in (rules-of k.0 b j i ((all-clean k.0 b k.1).1 j i g)).5
 
     pub keeps : AreClasses t f → KeepsRules t f
     keeps classes = record {

@@ -40,6 +40,19 @@ pub fn cheapest(
     freqs: &Freqs,
     ranks: &Ranks,
 ) -> Result<Option<(Reg, Numbers)>, AllocError> {
+    let found = candidates(alloc, m, v, freqs)?;
+    cheapest_of(alloc, m, v, freqs, ranks, found.as_slice())
+}
+
+/// What `cheapest` answers, where these are the candidates.
+pub fn cheapest_of(
+    alloc: Global,
+    m: &Matrix,
+    v: u32,
+    freqs: &Freqs,
+    ranks: &Ranks,
+    found: &[Reg],
+) -> Result<Option<(Reg, Numbers)>, AllocError> {
     let view = View {
         alloc,
         m,
@@ -52,10 +65,10 @@ pub fn cheapest(
         },
     };
     let mut best: Option<Eviction> = None;
-    'candidates: for r in candidates(alloc, m, v, freqs)?.as_slice() {
-        if let Some(found) = eviction_at(view, v, *r)? {
-            if is_better(&found, &best) {
-                best = Some(found);
+    'candidates: for r in found {
+        if let Some(eviction) = eviction_at(view, v, *r)? {
+            if is_better(&eviction, &best) {
+                best = Some(eviction);
             }
         }
     }

@@ -6,7 +6,7 @@ mod hints;
 pub mod ranks;
 pub mod weights;
 
-pub use choice::cheapest;
+pub use choice::{cheapest, cheapest_of};
 pub use hints::candidates;
 pub use ranks::{Ranks, Stage, Stages};
 pub use weights::weight;

@@ -2,7 +2,7 @@
 
 use crate::run::Run;
 use block_freq::Freqs;
-use evictor::{Stage, candidates, cheapest};
+use evictor::{Stage, candidates, cheapest_of};
 use interference::{Clash, Tinies, Tiny};
 use place_solve::solve;
 use spiller::{RunStop, spill};
@@ -39,34 +39,33 @@ impl Run {
 
     /// Gives a range a free register, or that of cheaper ranges.
     fn step_in_registers(&mut self, freqs: &Freqs, v: u32) -> Result<Option<Step>, AllocError> {
-        if let Some(r) = self.free_register(freqs, v)? {
+        let found = candidates(self.alloc, &self.matrix, v, freqs)?;
+        if let Some(r) = self.free_register(v, found.as_slice()) {
             self.matrix.assign(v, r)?;
             return Ok(Some(Step::Assign(v, r)));
         }
         if self.stage(v) == Stage::Split {
             return Ok(None);
         }
-        self.step_by_eviction(freqs, v)
+        self.step_by_eviction(freqs, v, found.as_slice())
     }
 
     /// Gives a range the register of cheaper ranges.
-    fn step_by_eviction(&mut self, freqs: &Freqs, v: u32) -> Result<Option<Step>, AllocError> {
-        match cheapest(self.alloc, &self.matrix, v, freqs, &self.ranks)? {
+    fn step_by_eviction(
+        &mut self,
+        freqs: &Freqs,
+        v: u32,
+        found: &[Reg],
+    ) -> Result<Option<Step>, AllocError> {
+        match cheapest_of(self.alloc, &self.matrix, v, freqs, &self.ranks, found)? {
             Some((r, victims)) => Ok(Some(self.evict(v, r, victims)?)),
             None => Ok(None),
         }
     }
 
     /// The first candidate that is free.
-    fn free_register(&self, freqs: &Freqs, v: u32) -> Result<Option<Reg>, AllocError> {
-        let found = candidates(self.alloc, &self.matrix, v, freqs)?;
-        Ok(
-            found
-                .as_slice()
-                .iter()
-                .find(|r| self.matrix.free(v, **r))
-                .copied(),
-        )
+    fn free_register(&self, v: u32, found: &[Reg]) -> Option<Reg> {
+        found.iter().find(|r| self.matrix.free(v, **r)).copied()
     }
 
     /// Gives a range the register of others, which wait again.

@@ -1,11 +1,12 @@
 //! What ranges hold of one unit in one block, in order.
 
-ghost use Rattle.std.specs.Prelude.{◌≤◌, vec_len};
-
 use crate::marks::Marks;
 use live_lanes::{Extent, Stretch};
 use slot_index::Slots;
 use std::alloc::{AllocError, Global};
+
+/// So many stretches stand in one part of a list at most, so that few move when one comes or goes.
+const MOST_IN_A_PART: usize = 64;
 
 /// Points in a row at which a range holds the unit.
 #[derive(Clone, Copy, PartialEq, Eq)]
@@ -14,39 +15,152 @@ pub(crate) struct Held {
     pub extent: Extent,
 }
 
+/// A place between two stretches of a list: behind so many of one part.
+#[derive(Clone, Copy)]
+struct Gap {
+    part: usize,
+    count: usize,
+}
+
+/// What is known of some points when those that are held of them are gone through.
+#[derive(Clone, Copy, PartialEq, Eq)]
+enum Met {
+    /// Another range holds the unit there.
+    Other,
+    /// All that is held from there on lies before these points.
+    Behind,
+    /// There may be more.
+    Open,
+}
+
+/// Whether a stretch is among some.
+#[derive(Clone, Copy, PartialEq, Eq)]
+enum Sought {
+    /// It is the last one of so many.
+    UpTo(usize),
+    /// It isn't there.
+    Nowhere,
+    /// It may stand before these.
+    Open,
+}
+
 /// The points at which ranges hold the unit, in order of their first ones. No two ranges hold it at
 /// one point.
 #[derive(Drop)]
 pub(crate) struct HeldList {
-    items: Vec<Held>,
+    alloc: Global,
+    /// Each has some stretches, but for one that is alone.
+    parts: Vec<Vec<Held>>,
+}
+
+/// Whether the first stretch of a part begins at or before a point.
+fn begins_by(slots: &Slots, part: &Vec<Held>, at: u128) -> bool {
+    match part.first() {
+        Some(held) => held.extent.first(slots) <= at,
+        None => false,
+    }
+}
+
+/// How many stretches of a part begin at or before a point.
+fn count_by(slots: &Slots, part: &Vec<Held>, at: u128) -> usize {
+    part.as_slice()
+        .partition_point(|held| held.extent.first(slots) <= at)
+}
+
+/// Whether another range than one holds the unit at some of these points, by some stretches that
+/// begin before their end.
+fn met_by(slots: &Slots, stretches: &[Held], at: Stretch, but: u32) -> Met {
+    'stretches: for held in stretches.iter().rev() {
+        if held.extent.last(slots) < at.first {
+            return Met::Behind;
+        }
+        if held.range != but {
+            return Met::Other;
+        }
+    }
+    Met::Open
+}
+
+/// Marks the ranges other than one that hold the unit at some of these points, by some stretches that
+/// begin before their end. Answers whether there may be more.
+fn mark_met(slots: &Slots, stretches: &[Held], at: Stretch, but: u32, marks: &mut Marks) -> bool {
+    'stretches: for held in stretches.iter().rev() {
+        if held.extent.last(slots) < at.first {
+            return false;
+        }
+        if held.range != but {
+            marks.mark(held.range);
+        }
+    }
+    true
+}
+
+/// Looks for a stretch of a range that begins with an instruction or with the block, among some whose
+/// last ones are those that begin at the first of some points or behind it.
+fn sought(
+    slots: &Slots,
+    stretches: &[Held],
+    range: u32,
+    start: Option<u32>,
+    first: u128,
+) -> Sought {
+    let mut count = stretches.len();
+    'stretches: for held in stretches.iter().rev() {
+        if held.range == range && held.extent.start == start {
+            return Sought::UpTo(count);
+        }
+        if held.extent.first(slots) < first {
+            return Sought::Nowhere;
+        }
+        count = count.saturating_sub(1);
+    }
+    Sought::Open
 }
 
 impl HeldList {
     /// Nothing is held, which takes no memory.
     pub fn new(alloc: Global) -> HeldList {
         HeldList {
-            items: Vec::new(alloc),
+            alloc,
+            parts: Vec::new(alloc),
         }
     }
 
-    /// How many begin at or before a point.
-    fn before(&self, slots: &Slots, at: u128) -> usize
-        ensures { result ≤ vec_len self.now.items }
-    {
-        self.items
-            .as_slice()
-            .partition_point(|held| held.extent.first(slots) <= at)
+    /// The place behind the stretches that begin at or before a point.
+    fn behind(&self, slots: &Slots, at: u128) -> Gap {
+        let parts = self.parts.as_slice();
+        let part = parts
+            .partition_point(|part| begins_by(slots, part, at))
+            .saturating_sub(1);
+        let count = match parts.get(part) {
+            Some(there) => count_by(slots, there, at),
+            None => 0,
+        };
+        Gap { part, count }
+    }
+
+    /// The stretches of a part that stand before a place.
+    fn part_before(&self, part: usize, gap: Gap) -> &[Held] {
+        let Some(there) = self.parts.get(part) else {
+            return &[];
+        };
+        if part != gap.part {
+            return there.as_slice();
+        }
+        match there.as_slice().get(..gap.count) {
+            Some(some) => some,
+            None => &[],
+        }
     }
 
     /// Whether another range than one holds the unit at some of these points.
     pub fn meets(&self, slots: &Slots, at: Stretch, but: u32) -> bool {
-        let count = self.before(slots, at.last);
-        'items: for held in self.items.iter().take(count).rev() {
-            if held.extent.last(slots) < at.first {
-                return false;
-            }
-            if held.range != but {
-                return true;
+        let gap = self.behind(slots, at.last);
+        'parts: for part in (0..=gap.part).rev() {
+            match met_by(slots, self.part_before(part, gap), at, but) {
+                Met::Other => return true,
+                Met::Behind => return false,
+                Met::Open => {}
             }
         }
         false
@@ -54,26 +168,69 @@ impl HeldList {
 
     /// Marks the ranges other than one that hold the unit at some of these points.
     pub fn mark(&self, slots: &Slots, at: Stretch, but: u32, marks: &mut Marks) {
-        let count = self.before(slots, at.last);
-        'items: for held in self.items.iter().take(count).rev() {
-            if held.extent.last(slots) < at.first {
+        let gap = self.behind(slots, at.last);
+        'parts: for part in (0..=gap.part).rev() {
+            if !mark_met(slots, self.part_before(part, gap), at, but, marks) {
                 return;
-            }
-            if held.range != but {
-                marks.mark(held.range);
             }
         }
     }
 
-    /// Adds points that a range holds.
+    /// Adds points that a range holds. After a refusal nothing is added.
     pub fn add(&mut self, slots: &Slots, range: u32, extent: Extent) -> Result<(), AllocError> {
-        let at = self.before(slots, extent.first(slots));
-        self.items.insert(at, Held { range, extent })?;
+        let gap = self.gap_for(slots, extent.first(slots))?;
+        self.insert(gap, Held { range, extent })
+    }
+
+    /// The place behind the stretches that begin at or before a point, in a part that has room.
+    fn gap_for(&mut self, slots: &Slots, at: u128) -> Result<Gap, AllocError> {
+        let gap = self.behind(slots, at);
+        if self.parts.is_empty() {
+            self.parts.push(Vec::new(self.alloc))?;
+            return Ok(gap);
+        }
+        if !self.is_full(gap.part) {
+            return Ok(gap);
+        }
+        self.halve(gap.part)?;
+        Ok(self.behind(slots, at))
+    }
+
+    fn is_full(&self, part: usize) -> bool {
+        match self.parts.get(part) {
+            Some(there) => there.len() >= MOST_IN_A_PART,
+            None => false,
+        }
+    }
+
+    /// Makes two parts of one. After a refusal it is unchanged.
+    fn halve(&mut self, part: usize) -> Result<(), AllocError> {
+        let Some(there) = self.parts.get(part) else {
+            return Ok(());
+        };
+        let half = there.len() / 2;
+        let rest = match there.as_slice().get(half..) {
+            Some(rest) => Vec::from_slice(self.alloc, rest)?,
+            None => return Ok(()),
+        };
+        let next = part.saturating_add(1).min(self.parts.len());
+        self.parts.insert(next, rest)?;
+        if let Some(there) = self.parts.get_mut(part) {
+            there.truncate(half);
+        }
         Ok(())
     }
 
-    /// The place of the points of a range that begin with an instruction or with the block.
-    fn find(&self, slots: &Slots, range: u32, start: Option<u32>) -> Option<usize> {
+    fn insert(&mut self, gap: Gap, held: Held) -> Result<(), AllocError> {
+        if let Some(there) = self.parts.get_mut(gap.part) {
+            let at = gap.count.min(there.len());
+            there.insert(at, held)?;
+        }
+        Ok(())
+    }
+
+    /// The place behind the points of a range that begin with an instruction or with the block.
+    fn find(&self, slots: &Slots, range: u32, start: Option<u32>) -> Option<Gap> {
         let low = match start {
             None => 0,
             Some(id) => slots.number(id) as u128 * 2,
@@ -82,15 +239,12 @@ impl HeldList {
             None => 0,
             Some(_) => low + 1,
         };
-        let count = self.before(slots, high);
-        let mut at = count;
-        'items: for held in self.items.iter().take(count).rev() {
-            at = at.saturating_sub(1);
-            if held.range == range && held.extent.start == start {
-                return Some(at);
-            }
-            if held.extent.first(slots) < low {
-                return None;
+        let gap = self.behind(slots, high);
+        'parts: for part in (0..=gap.part).rev() {
+            match sought(slots, self.part_before(part, gap), range, start, low) {
+                Sought::UpTo(count) => return Some(Gap { part, count }),
+                Sought::Nowhere => return None,
+                Sought::Open => {}
             }
         }
         None
@@ -98,15 +252,22 @@ impl HeldList {
 
     /// Takes away the points of a range that begin with an instruction or with the block.
     pub fn remove(&mut self, slots: &Slots, range: u32, start: Option<u32>) {
-        if let Some(at) = self.find(slots, range, start) {
-            if at < self.items.len() {
-                let _ = self.items.remove(at);
-            }
+        if let Some(gap) = self.find(slots, range, start) {
+            self.cut(gap);
         }
     }
 
-    /// Takes away all points of a range.
-    pub fn remove_all(&mut self, range: u32) {
-        self.items.retain(|held| held.range != range);
+    /// Takes away the stretch before a place.
+    fn cut(&mut self, gap: Gap) {
+        let Some(there) = self.parts.get_mut(gap.part) else {
+            return;
+        };
+        if gap.count == 0 || gap.count > there.len() {
+            return;
+        }
+        let _ = there.remove(gap.count - 1);
+        if there.is_empty() && self.parts.len() > 1 {
+            let _ = self.parts.remove(gap.part);
+        }
     }
 }

@@ -134,22 +134,32 @@ impl AllHeld {
         Ok(())
     }
 
-    /// Takes away the points of a range in the block of a cell.
-    fn remove_cell(&mut self, range: u32, unit: u32, block: u32) {
+    /// Takes away the points of a lane of a range in the block of a cell.
+    fn remove_cell(&mut self, live: &LiveFunc, range: u32, unit: u32, lane: u32, place: usize) {
+        let Some(block) = live.cell_block(lane, place) else {
+            return;
+        };
         let Some(row) = self.units.get_mut(unit as usize) else {
             return;
         };
         if let Some(list) = row.blocks.get_mut(block as usize) {
-            list.remove_all(range);
+            remove_extents(list, live, range, lane, place);
         }
     }
 
     /// Takes away the points of a lane of a range.
     fn remove_lane(&mut self, live: &LiveFunc, range: u32, unit: u32, lane: u32) {
         'cells: for place in 0..live.cell_count(lane) {
-            if let Some(block) = live.cell_block(lane, place) {
-                self.remove_cell(range, unit, block);
-            }
+            self.remove_cell(live, range, unit, lane, place);
+        }
+    }
+}
+
+/// Takes away the points of the pieces of a lane in a block.
+fn remove_extents(list: &mut HeldList, live: &LiveFunc, range: u32, lane: u32, place: usize) {
+    'pieces: for index in 0..live.piece_count(lane, place) {
+        if let Some(extent) = live.extent(lane, place, index) {
+            list.remove(live.slots(), range, extent.start);
         }
     }
 }
@@ -452,7 +462,7 @@ impl Matrix {
             Err(e) => {
                 self.let_go(&changes);
                 self.live.take_back(&mut changes);
-                // The lists had room for this before.
+                // Where this is refused too, ranges hold less than they should, and the run is given up.
                 let _ = self.hold(&changes);
                 Err(e)
             }

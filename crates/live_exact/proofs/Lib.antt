@@ -2,3 +2,5 @@ pub mod Same
 pub mod Starts
 pub mod Quiet
 pub mod Quieter
+pub mod Coded
+pub mod Computed

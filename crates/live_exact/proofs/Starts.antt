@@ -32,7 +32,7 @@ module _ (t : Target) (f : Function) (num : Numbering) (rules : KeepsRules t f) 
   steps-none b e = ap (λ (q : Option Body). elim q [ None ↦ [] | Some x ↦ x.steps ]) (slice-map (body_of t f num) f.blocks b ∙ ap (option_map (body_of t f num)) e)
 
   -- each step of the table is matched
-  matched : (b : ℕ) (s : table.Step) → table.Among s (table.steps_of (code_as code) b) → table.IsMatched s
+  pub matched : (b : ℕ) (s : table.Step) → table.Among s (table.steps_of (code_as code) b) → table.IsMatched s
   matched b s m = go (slice_get f.blocks b) refl
     where
       none : {x : table.Step} → table.Among x [] → ⊥

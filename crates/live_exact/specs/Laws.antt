@@ -13,6 +13,12 @@ use Rattle.lane_effects.specs.Stepping.{tag_of}
 use Rattle.effect_laws.specs.Shaped.{is_proper}
 use Rattle.effect_laws.specs.Coded.{numbered_code, KeepsRules, IsNumbered}
 use Rattle.live_lanes.specs.Graph.{Causes, is_live, IsGrown}
+use Rattle.std.specs.Ordering.{nat_cmp}
+use Rattle.std.specs.BTreeMap.{get}
+use Rattle.lane_effects.specs.Numbered.{number_in}
+use Rattle.live_lanes.specs.declared.table.Table.{Table}
+use Rattle.live_lanes.specs.Marks.{marked_at}
+use Rattle.live_lanes.specs.Doing.{IsComputed}
 use Rattle.live_exact.specs.Same.{code_as, IsQuiet}
 
 -- the first piece of a lane in a block is marked live exactly where the lane is live at the block's start
@@ -28,3 +34,10 @@ abbrev pub QuietLaw : Type 0
 QuietLaw =
     (t : Target) (f : Function) (num : Numbering) → KeepsRules t f → IsNumbered t f num
     → ((b : Block) (j : ℕ) (i : Instr) → Member b f.blocks → slice_get b.instrs j ≡ Some i → V8 t b j i ≡ true) → IsQuiet (numbered_code t f num)
+
+-- a computed table marks a lane at the start of a block exactly where it is live there
+abbrev pub ComputedLaw : Type 0
+ComputedLaw =
+    (t : Target) (f : Function) (x : Table) → IsComputed t f x → KeepsRules t f → ((b : Block) (j : ℕ) (i : Instr) → Member b f.blocks → slice_get b.instrs j ≡ Some i → V8 t b j i ≡ true)
+    → (l : Lane) → is_slot l ≡ false → (k : ℕ) (b : Block) → slice_get f.blocks k ≡ Some b
+    → (marked_at x.rows.rows.items (tag_of (number_in x.lanes) (is_proper t) l) (get nat_cmp x.order.positions b.number) ≡ true) ↔ LiveAt t f (Start b.number) l

@@ -1,7 +1,7 @@
 //! Laws of the table of live lanes: what it marks is what the meaning of the function says.
 #![tactic(auto)]
 
-ghost use Rattle.live_exact.specs.Laws.{QuietLaw, StartsLaw};
+ghost use Rattle.live_exact.specs.Laws.{ComputedLaw, QuietLaw, StartsLaw};
 
 /// A grown table marks a lane at a block's start exactly where the lane is live there.
 pub fn starts_law()
@@ -11,4 +11,9 @@ pub fn starts_law()
 /// Where terminators stand last in their blocks, nothing is written behind them that phis read.
 pub fn quiet_law()
     ensures { QuietLaw }
+{}
+
+/// A computed table marks a lane at a block's start exactly where the lane is live there.
+pub fn computed_law()
+    ensures { ComputedLaw }
 {}

@@ -14,11 +14,11 @@ use Rattle.live_lanes.specs.declared.flow.Ways.{Ways}
 use Rattle.live_lanes.specs.declared.row.Row.{Row}
 use Rattle.live_lanes.specs.Paths.{Among, here, there, Step, Body, Code, steps_of, last_of, exits_of, has}
 use Rattle.live_lanes.specs.Ways.{predecessors, terminators}
-use Rattle.live_lanes.specs.Table.{Numbers, unseen}
-use Rattle.live_lanes.specs.Entered.{shape, Rises, readings_until, starts, IsFlow, IsTableOf}
+use Rattle.live_lanes.specs.Table.{Numbers}
+use Rattle.live_lanes.specs.Entered.{shape, Rises, readings_until, starts, IsTableOf}
 use Rattle.live_lanes.specs.Entering.{EnteredStep, steps_in, steps_from, is_end_read, is_read_last, AreApart, AllApart}
 use Rattle.live_lanes.specs.Ordered.{times, ids_of, all_ids, AreSingle, AreRising}
-use Rattle.live_lanes.specs.Flowing.{edge_places, exits_at, terminators_at, terminator_ids, AreWays}
+use Rattle.live_lanes.specs.Flowing.{edge_places, exits_at, terminator_ids}
 use Rattle.live_lanes.specs.Coded.{Doing, entries, lanes_at, last_at, body_at, bodies_from, code_of, IsMade}
 use Rattle.live_lanes.specs.Laws.{MadeLaw, AllMatched}
 use Rattle.live_lanes.proofs.Filled.{entering-law}

@@ -1,15 +1,15 @@
 -- Entering all instructions of all blocks gives each lane its pieces in each block.
-use Rattle.std.proofs.Common.{◌≡◌, ◌<◌, ℕ, zero, suc, Bool, true, false, cond, ◌&&◌, ◌||◌, List, [], ◌∷◌, ◌++◌, Option, Some, None, map, refl, sym, ap, ◌∙◌, subst, append-nil, append_assoc, eqb-true, eq-eqb, arith}
+use Rattle.std.proofs.Common.{◌≡◌, ◌<◌, ℕ, suc, Bool, true, false, cond, ◌&&◌, ◌||◌, List, [], ◌∷◌, ◌++◌, Option, Some, None, map, refl, sym, ap, ◌∙◌, append-nil, append_assoc, eqb-true, eq-eqb, arith}
 use Rattle.std.specs.Prelude.{nat_eq}
 use Rattle.std.specs.List.{list_any}
 use Rattle.std.proofs.lemmas.Bool.{ne_eqb}
-use Rattle.live_lanes.specs.declared.effects.Writing.{Writing}
+use Rattle.live_law.specs.declared.writing.Writing.{Writing}
 use Rattle.live_lanes.specs.Paths.{Step, has, Use, Unused, Certain, Into, use_of, writing_of}
-use Rattle.live_lanes.specs.Table.{Seen, unseen, is_none, ends_with, starts_last, with_reading, with_segment, read_at_end}
-use Rattle.live_lanes.specs.Entered.{Shape, shape, reading, readings_until, starts}
-use Rattle.live_lanes.specs.Entering.{enter_all, at_spot, reads_entered, moves_entered, writes_entered, source_entered, lasts_entered, end_entered, ends_entered, EnteredStep, step_entered, block_entered, blocks_entered, steps_in, steps_from, is_end_read, is_read_last, AreApart, AllApart}
+use Rattle.live_lanes.specs.Table.{Seen, unseen, is_none, with_reading, with_segment, read_at_end}
+use Rattle.live_lanes.specs.Entered.{reading, readings_until, starts}
+use Rattle.live_lanes.specs.Entering.{at_spot, reads_entered, moves_entered, writes_entered, source_entered, lasts_entered, end_entered, ends_entered, EnteredStep, step_entered, block_entered, blocks_entered, steps_in, steps_from, is_end_read, is_read_last, AreApart, AllApart}
 use Rattle.live_lanes.specs.Laws.{EnteringLaw}
-use Rattle.live_lanes.proofs.Stepped.{last_readings, used, written, step-is}
+use Rattle.live_lanes.proofs.Stepped.{used, written, step-is}
 use Rattle.live_lanes.proofs.Gathered.{pieces, added, pieces-more, bare, IsFresh, after_step, bare-step, fresh-step}
 
 -- a lane that phis read at the block's end, if they do

@@ -1,6 +1,6 @@
 -- Blocks are noted at those that follow them.
 use Rattle.std.proofs.Common.{add-one, ◌+◌, ◌≡◌, ◌<◌, ◌≤◌, ℕ, zero, suc, Bool, true, false, cond, ◌&&◌, ◌||◌, length, List, [], ◌∷◌, ◌++◌, take, Option, None, Some, refl, sym, ap, ◌∙◌, subst, arith, get_or, set, eqb-true, length-set, ⊎_elim}
-use Rattle.std.specs.Prelude.{slice_get, nat_eq, nat_lt, filter_map}
+use Rattle.std.specs.Prelude.{slice_get, nat_eq, nat_lt}
 use Rattle.std.specs.List.{cons_option, list_any}
 use Rattle.std.proofs.lemmas.Bool.{cases_lt, lt-ltb, le-ltb, eqb-false}
 use Rattle.std.proofs.Math.Dec.{eqb-zero-suc, eqb-suc-zero, eqb-suc-suc}

@@ -23,3 +23,7 @@ pub mod Filled
 pub mod Flowing
 pub mod Marks
 pub mod Coded
+pub mod Bounded
+pub mod Risen
+pub mod Dead
+pub mod Computed

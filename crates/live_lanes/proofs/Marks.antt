@@ -1,11 +1,11 @@
 -- Where only ends of pieces change, their causes stay.
-use Rattle.std.proofs.Common.{◌≡◌, ◌<◌, ℕ, zero, suc, Bool, true, false, cond, length, List, [], ◌∷◌, Option, None, Some, map, refl, sym, ap, ◌∙◌, arith, get_or, set, eqb-true, length-set}
+use Rattle.std.proofs.Common.{◌≡◌, ◌<◌, ℕ, zero, suc, Bool, true, false, cond, length, List, [], ◌∷◌, Option, None, Some, map, refl, ap, ◌∙◌, get_or, set, eqb-true, length-set}
 use Rattle.std.specs.Prelude.{slice_get, nat_eq}
 use Rattle.live_lanes.specs.declared.row.Cell.{Cell}
 use Rattle.live_lanes.specs.declared.row.End.{End}
 use Rattle.live_lanes.specs.declared.row.Row.{Row}
 use Rattle.live_lanes.specs.Table.{Begun, Seen, seen_in, cause_in, begun_cause, begun_with_end, changed_at, with_end, with_end_at}
-use Rattle.live_lanes.specs.Entered.{start_of, shape, rows_seen, causes}
+use Rattle.live_lanes.specs.Entered.{start_of, shape, rows_seen}
 use Rattle.live_lanes.specs.Marks.{KeepsCauses}
 use Rattle.live_lanes.proofs.Rows.{rows-set, row-of}
 

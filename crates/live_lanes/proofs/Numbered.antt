@@ -1,13 +1,12 @@
 -- Which piece of a lane a point lies in, by the numbers of instructions.
-use Rattle.std.proofs.Common.{◌≡◌, ◌<◌, ◌≤◌, ℕ, zero, suc, ◌+◌, ◌*◌, Bool, true, false, cond, ◌&&◌, leb, ltb, List, [], ◌∷◌, ◌++◌, ◌⊎◌, Option, None, Some, refl, sym, ap, ◌∙◌, subst, inl, inr, arith, map, append_assoc, append-nil}
-use Rattle.std.proofs.lemmas.Bool.{ltb-true, leb-true, le-leb, lt-ltb, lt-leb}
+use Rattle.std.proofs.Common.{◌≡◌, ◌<◌, ◌≤◌, ℕ, suc, Bool, true, false, cond, ◌&&◌, leb, ltb, List, [], ◌∷◌, ◌++◌, ◌⊎◌, Option, None, Some, refl, sym, ap, ◌∙◌, subst, inl, inr, arith, map, append_assoc, append-nil}
+use Rattle.std.proofs.lemmas.Bool.{ltb-true, le-leb, lt-ltb, lt-leb}
 use Rattle.slot_index.specs.Order.{number_of}
-use Rattle.live_lanes.specs.declared.effects.Writing.{Writing}
-use Rattle.live_lanes.specs.declared.row.Row.{Row}
-use Rattle.live_lanes.specs.Paths.{Among, here, there, Step, Code, steps_of, writing_of, is_written, is_present}
+use Rattle.live_law.specs.declared.writing.Writing.{Writing}
+use Rattle.live_lanes.specs.Paths.{Among, here, there, Step, Code, steps_of, writing_of, is_present}
 use Rattle.live_lanes.specs.Graph.{writes_in}
-use Rattle.live_lanes.specs.Table.{Numbers, entry_rank, exit_rank, leading, Begun, is_begun, rises_from, piece_at}
-use Rattle.live_lanes.specs.Entered.{Start, start_of, shape, starts, readings_until, shape_of, rows_seen, Rises, IsNumbered, IsEntered}
+use Rattle.live_lanes.specs.Table.{Numbers, entry_rank, exit_rank, leading, Begun, rises_from, piece_at}
+use Rattle.live_lanes.specs.Entered.{Start, start_of, starts, readings_until, Rises, IsNumbered}
 use Rattle.live_lanes.proofs.Basics.{none-among}
 use Rattle.live_lanes.proofs.Cells.{both, both-left, both-right}
 use Rattle.live_lanes.proofs.Segments.{leading-map}

@@ -1,13 +1,13 @@
 -- Instructions are put one behind the other, and blocks are given positions.
-use Rattle.std.proofs.Common.{drop, add-one, ◌≡◌, ◌<◌, ◌≤◌, ◌+◌, ℕ, zero, suc, Bool, true, false, cond, eqb, length, List, [], ◌∷◌, ◌++◌, take, Option, None, Some, map, refl, sym, ap, ◌∙◌, subst, arith, get_or, eqb-true, eq-eqb, append_assoc, append-nil}
-use Rattle.std.specs.Prelude.{nat_eq, nat_lt, option_map, flat_map, slice_get, IfSome}
+use Rattle.std.proofs.Common.{drop, add-one, ◌≡◌, ◌<◌, ◌≤◌, ◌+◌, ℕ, zero, suc, Bool, true, false, cond, eqb, length, List, [], ◌∷◌, ◌++◌, take, Option, None, Some, refl, sym, ap, ◌∙◌, subst, arith, get_or, eqb-true, eq-eqb, append_assoc, append-nil}
+use Rattle.std.specs.Prelude.{nat_eq, nat_lt, option_map, IfSome}
 use Rattle.std.proofs.lemmas.List.Edits.{insert_end}
-use Rattle.slot_index.specs.Order.{ids, place, place_after, put_after, number_of, Has}
+use Rattle.slot_index.specs.Order.{ids, place, place_after, put_after, Has}
 use Rattle.mir_func.specs.declared.func.Block.{Block}
 use Rattle.mir_func.specs.declared.func.Instr.{Instr}
 use Rattle.std.proofs.lemmas.List.Sums.{sum_by-cons}
 use Rattle.mir_func.specs.Value.{IsFunction, id_count, id_total}
-use Rattle.live_lanes.specs.Ordered.{times, ids_of, all_ids, AreSingle, last_id, place_of, placed, AreRising}
+use Rattle.live_lanes.specs.Ordered.{times, ids_of, all_ids, AreSingle, last_id, place_of, placed}
 
 -- positions
 

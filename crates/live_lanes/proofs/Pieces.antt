@@ -1,12 +1,11 @@
 -- Raising the pieces that need no other lane.
-use Rattle.std.proofs.Common.{◌≡◌, ◌<◌, ◌≤◌, ℕ, zero, suc, ◌+◌, Bool, true, false, cond, ◌&&◌, length, List, [], ◌∷◌, ◌++◌, ◌⊎◌, Option, None, Some, refl, sym, ap, ◌∙◌, subst, inl, inr, arith, get_or, set, length-set, map, reverse, eqb-true, append_assoc, append-nil}
-use Rattle.std.specs.Prelude.{slice_get, nat_eq, option_map}
+use Rattle.std.proofs.Common.{◌≡◌, ◌<◌, ◌≤◌, ℕ, zero, suc, Bool, true, false, cond, ◌&&◌, length, List, [], ◌∷◌, ◌++◌, ◌⊎◌, Option, None, Some, refl, sym, ap, ◌∙◌, subst, inl, inr, arith, get_or, set, length-set, map, reverse, eqb-true, append_assoc, append-nil}
+use Rattle.std.specs.Prelude.{slice_get, nat_eq}
 use mathlib.Core.List.{reverse_aux}
 use Rattle.std.specs.List.{find}
 use Rattle.std.proofs.lemmas.List.{length-map}
 use Rattle.std.proofs.lemmas.Option.{slice_get-get_or, slice_get_cases}
-use Rattle.live_lanes.specs.declared.effects.Writing.{Writing}
-use Rattle.live_lanes.specs.declared.flow.Ways.{Ways}
+use Rattle.live_law.specs.declared.writing.Writing.{Writing}
 use Rattle.live_lanes.specs.declared.row.Cause.{Cause}
 use Rattle.live_lanes.specs.declared.row.Cause.TheVariants as why
 use Rattle.live_lanes.specs.declared.row.Cell.{Cell}
@@ -15,15 +14,15 @@ use Rattle.live_lanes.specs.declared.row.Row.{Row}
 use Rattle.live_lanes.specs.declared.table.Spot.{Spot}
 use Rattle.live_lanes.specs.Paths.{Among, here, there, Step, Code, steps_of, last_of, has, Use, Unused, Certain, Into, use_of, writing_of, is_written, is_present}
 use Rattle.live_lanes.specs.Graph.{Causes, is_live, writes_in, Founded, by_reading, by_phi}
-use Rattle.live_lanes.specs.Table.{Numbers, Seen, seen_in, Begun, begun_readings, readings_in, is_certain, cause_of, certain_cause, cause_in, with_cause, raised_seen}
+use Rattle.live_lanes.specs.Table.{Seen, seen_in, Begun, begun_readings, readings_in, is_certain, cause_of, certain_cause, cause_in, with_cause, raised_seen}
 use Rattle.live_lanes.specs.Certain.{blocks_of, KeepsCertain, RaisesCertain}
-use Rattle.live_lanes.specs.Entered.{Start, start_of, Shape, shape, starts, readings_until, reading, reading_of, shape_of, rows_seen, cells_of, causes, IsTableOf}
+use Rattle.live_lanes.specs.Entered.{Start, start_of, Shape, shape, starts, readings_until, reading, reading_of, shape_of, rows_seen, cells_of, causes}
 use Rattle.live_lanes.specs.Growth.{spot, raised_spots, RaisedAt, AllFounded, Grew, row_blocks, KeepsBlocks, Done, RaisesPiece}
-use Rattle.live_lanes.proofs.Basics.{none-among, among-append, writes-append}
+use Rattle.live_lanes.proofs.Basics.{none-among, writes-append}
 use Rattle.live_lanes.proofs.Growth.{at-grew, at-live, founded-kept}
 use Rattle.live_lanes.proofs.Numbered.{among-cases, among-split}
 use Rattle.live_lanes.proofs.Rows.{get-set, rows-set, row-of}
-use Rattle.live_lanes.proofs.Sources.{Begins, starts-at}
+use Rattle.live_lanes.proofs.Sources.{starts-at}
 
 some-inj : {X : Type 0} (x y : X) → Some x ≡ Some y → x ≡ y
 some-inj x y e = cc

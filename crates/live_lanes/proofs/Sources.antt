@@ -1,20 +1,19 @@
 -- Raising what leads to a live piece.
-use Rattle.std.proofs.Common.{◌≡◌, ◌≢◌, ◌<◌, ◌≤◌, ℕ, zero, suc, ◌+◌, Bool, true, false, cond, length, List, [], ◌∷◌, ◌++◌, ◌⊎◌, Option, None, Some, refl, sym, ap, ◌∙◌, subst, inl, inr, arith, map, get_or, append-nil}
+use Rattle.std.proofs.Common.{◌≡◌, ◌<◌, ◌≤◌, ℕ, zero, suc, true, cond, length, List, [], ◌∷◌, ◌++◌, ◌⊎◌, Option, None, Some, refl, sym, ap, ◌∙◌, subst, inl, inr, arith, map, get_or, append-nil}
 use Rattle.std.specs.Prelude.{slice_get, option_map}
 use Rattle.std.proofs.lemmas.Option.{slice_get_cases}
-use Rattle.live_lanes.specs.declared.effects.Writing.{Writing}
+use Rattle.live_law.specs.declared.writing.Writing.{Writing}
 use Rattle.live_lanes.specs.declared.flow.Ways.{Ways}
-use Rattle.live_lanes.specs.declared.row.Cause.{Cause}
 use Rattle.live_lanes.specs.declared.row.Cause.TheVariants as why
 use Rattle.live_lanes.specs.declared.row.Reading.{Reading}
 use Rattle.live_lanes.specs.declared.row.Row.{Row}
 use Rattle.live_lanes.specs.declared.table.Spot.{Spot}
-use Rattle.live_lanes.specs.Paths.{Among, here, there, Step, Code, steps_of, exits_of, Use, Unused, Certain, Into, use_of, writing_of, is_written, is_present, IsMatched}
-use Rattle.live_lanes.specs.Graph.{Causes, is_live, writes_in, Founded, by_reading, by_move}
-use Rattle.live_lanes.specs.Table.{Numbers, Seen, unseen, Begun, begun_move, moved_at, moved_in, entry_rank}
-use Rattle.live_lanes.specs.Entered.{Start, start_of, Shape, shape, starts, readings_until, reading_of, shape_of, rows_seen, causes, IsTableOf}
-use Rattle.live_lanes.specs.Growth.{piece_in_rows, Raised, AllFounded, Grew, ExitsLive, SourcesLive, RaisesPredecessors}
-use Rattle.live_lanes.proofs.Basics.{none-among, among-append, writes-append, writes-more, writes-head, step-into}
+use Rattle.live_lanes.specs.Paths.{Among, Step, Code, steps_of, Use, Unused, Certain, Into, use_of, writing_of, is_written, is_present, IsMatched}
+use Rattle.live_lanes.specs.Graph.{is_live, writes_in, Founded, by_reading, by_move}
+use Rattle.live_lanes.specs.Table.{Numbers, Seen, unseen, Begun, moved_at, moved_in, entry_rank}
+use Rattle.live_lanes.specs.Entered.{Start, start_of, shape, starts, readings_until, reading_of, shape_of, rows_seen, causes, IsTableOf}
+use Rattle.live_lanes.specs.Growth.{piece_in_rows, Raised, AllFounded, Grew, SourcesLive, RaisesPredecessors}
+use Rattle.live_lanes.proofs.Basics.{among-append, writes-append, writes-more, writes-head}
 use Rattle.live_lanes.proofs.Growth.{founded-kept, raised-grew, raised-live, grew-refl}
 use Rattle.live_lanes.proofs.Numbered.{entry-piece}
 use Rattle.live_lanes.proofs.Rows.{row_seen}

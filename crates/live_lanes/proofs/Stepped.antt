@@ -1,13 +1,13 @@
 -- Entering one instruction changes a lane's pieces in its block as the instruction says.
-use Rattle.std.proofs.Common.{◌≡◌, ℕ, Bool, true, false, cond, ◌&&◌, List, [], ◌∷◌, ◌++◌, Option, Some, None, map, refl, sym, ap, ◌∙◌, append-nil, eq-eqb}
+use Rattle.std.proofs.Common.{◌≡◌, ℕ, Bool, true, false, cond, ◌&&◌, List, [], ◌∷◌, ◌++◌, Option, Some, None, refl, ap, ◌∙◌, eq-eqb}
 use Rattle.std.specs.Prelude.{nat_eq}
-use Rattle.live_lanes.specs.declared.effects.Writing.{Writing}
+use Rattle.live_law.specs.declared.writing.Writing.{Writing}
 use Rattle.live_lanes.specs.declared.row.Cause.{Cause}
 use Rattle.live_lanes.specs.declared.row.End.{End}
 use Rattle.live_lanes.specs.declared.row.Reading.{Reading}
 use Rattle.live_lanes.specs.Paths.{Step, has, Use, Unused, Certain, Into, move_of, use_of, writing_of, is_some_number}
 use Rattle.live_lanes.specs.Table.{Begun, Seen, last_passes, ends_with, with_last, changed_last, is_none, with_reading, new_begun, starts_last, with_segment}
-use Rattle.live_lanes.specs.Entered.{Start, Shape, start_of, shape, reading, reading_of}
+use Rattle.live_lanes.specs.Entered.{reading}
 use Rattle.live_lanes.specs.Entering.{at_spot, reads_entered, moves_entered, writes_entered, source_entered}
 
 -- the readings of the last piece

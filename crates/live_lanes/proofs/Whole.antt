@@ -4,22 +4,22 @@ use mathlib.Core.List.{reverse_aux}
 use Rattle.std.specs.Prelude.{slice_get, nat_eq}
 use Rattle.std.specs.List.{find}
 use Rattle.std.proofs.lemmas.List.{length-map}
-use Rattle.live_lanes.specs.declared.effects.Writing.{Writing}
+use Rattle.live_law.specs.declared.writing.Writing.{Writing}
 use Rattle.live_lanes.specs.declared.flow.Ways.{Ways}
 use Rattle.live_lanes.specs.declared.row.Cause.TheVariants as why
 use Rattle.live_lanes.specs.declared.row.Reading.{Reading}
 use Rattle.live_lanes.specs.declared.row.Row.{Row}
 use Rattle.live_lanes.specs.declared.table.Spot.{Spot}
-use Rattle.live_lanes.specs.Paths.{Among, here, there, Step, Code, steps_of, last_of, exits_of, has, Use, Certain, Into, use_of, writing_of, is_present}
-use Rattle.live_lanes.specs.Graph.{Causes, is_live, writes_in, IsClosed, IsGrown}
-use Rattle.live_lanes.specs.Table.{Numbers, is_certain, cause_of, certain_cause}
+use Rattle.live_lanes.specs.Paths.{Among, here, there, Step, Code, steps_of, last_of, has, Certain, use_of, writing_of, is_present}
+use Rattle.live_lanes.specs.Graph.{is_live, writes_in, IsClosed, IsGrown}
+use Rattle.live_lanes.specs.Table.{Numbers, is_certain, cause_of}
 use Rattle.live_lanes.specs.Entered.{Start, start_of, shape, starts, readings_until, reading, reading_of, shape_of, rows_seen, causes, IsTableOf}
-use Rattle.live_lanes.specs.Growth.{spot, AllFounded, Grew, ExitsLive, SourcesLive, Done, RaisesSources}
+use Rattle.live_lanes.specs.Growth.{spot, Grew, SourcesLive, Done, RaisesSources}
 use Rattle.live_lanes.proofs.Basics.{none-among, writes-append}
 use Rattle.live_lanes.proofs.Exits.{table-kept, exits-kept}
 use Rattle.live_lanes.proofs.Growth.{grew-trans}
 use Rattle.live_lanes.proofs.Numbered.{among-left, among-right, among-cases}
-use Rattle.live_lanes.proofs.Pieces.{certain-shape, done-kept, same-length, start_readings, shape_readings, shape_certain, length-starts}
+use Rattle.live_lanes.proofs.Pieces.{certain-shape, done-kept, start_readings, shape_readings, shape_certain, length-starts}
 
 pub sources-kept : (code : Code) (old new : List Row) (x y : List Spot) (l b n : ℕ) → Grew code old new x y → SourcesLive code (causes old) l b n → SourcesLive code (causes new) l b n
 sources-kept code old new x y l b n g s = record {

@@ -1,5 +1,5 @@
 -- The code of a function, of whose instructions it is known what they do to lanes.
-use Rattle.std.specs.Prelude.{◌≡◌, ◌<◌, ◌≤◌, ℕ, suc, cond, nat_eq, List, [], ◌∷◌, map, flat_map, length, Option, None, Some, slice_get}
+use Rattle.std.specs.Prelude.{◌≡◌, ◌<◌, ℕ, suc, cond, nat_eq, List, [], ◌∷◌, map, flat_map, length, Option, None, Some, slice_get}
 use Rattle.target_base.specs.declared.types.Target.{Target}
 use Rattle.mir_func.specs.declared.func.Block.{Block}
 use Rattle.mir_func.specs.declared.func.Instr.{Instr}

@@ -1,7 +1,6 @@
 -- The pieces that the instructions of a block give a lane, and tables that hold those of a whole function.
-use Rattle.std.specs.Prelude.{◌≡◌, ◌<◌, ◌↔◌, ℕ, zero, suc, ◌+◌, Bool, true, false, cond, List, [], ◌∷◌, ◌++◌, Option, None, Some, slice_get, map, length}
+use Rattle.std.specs.Prelude.{◌≡◌, ◌<◌, ℕ, ◌+◌, Bool, true, cond, List, [], ◌∷◌, ◌++◌, Option, None, Some, slice_get, map, length}
 use Rattle.slot_index.specs.Order.{number_of}
-use Rattle.live_lanes.specs.declared.effects.Writing.{Writing}
 use Rattle.live_lanes.specs.declared.flow.Ways.{Ways}
 use Rattle.live_lanes.specs.declared.row.Reading.{Reading}
 use Rattle.live_lanes.specs.declared.row.Cell.{Cell}

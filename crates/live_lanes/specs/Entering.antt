@@ -1,8 +1,7 @@
 -- Entering instructions into rows one after the other.
-use Rattle.std.specs.Prelude.{◌≡◌, ◌<◌, ℕ, suc, Bool, true, false, cond, ◌&&◌, nat_eq, List, [], ◌∷◌, Option, None, Some, length, map}
+use Rattle.std.specs.Prelude.{◌≡◌, ◌<◌, ℕ, suc, Bool, false, cond, ◌&&◌, nat_eq, List, [], ◌∷◌, Option, None, Some, length, map}
 use Rattle.std.specs.List.{list_any}
-use Rattle.live_lanes.specs.declared.effects.PhiRead.{PhiRead}
-use Rattle.live_lanes.specs.declared.effects.Writing.{Writing}
+use Rattle.live_law.specs.declared.writing.Writing.{Writing}
 use Rattle.live_lanes.specs.declared.row.Row.{Row}
 use Rattle.live_lanes.specs.Paths.{Step, has}
 use Rattle.live_lanes.specs.Table.{Seen, with_reading, with_segment, read_at_end}
@@ -59,9 +58,6 @@ end_entered place l b r v = elim (place r.0) [ None ↦ v | Some p ↦ lasts_ent
 
 abbrev pub ends_entered : (ℕ → Option ℕ) → List (ℕ × List ℕ) → Entering
 ends_entered place rs l b v = enter_all (end_entered place l b) rs v
-
-abbrev pub end_read : PhiRead → ℕ × List ℕ
-end_read r = (r.block, r.lanes.items)
 
 -- rows of as many lanes, after that
 pub record Enters (old new : List Row) (entering : Entering) : Type 0 where

@@ -11,3 +11,4 @@ pub mod Flowing
 pub mod Coded
 pub mod Marks
 pub mod Laws
+pub mod Doing

@@ -1,5 +1,5 @@
 -- Where instructions and blocks stand in the layout.
-use Rattle.std.specs.Prelude.{◌≡◌, ◌<◌, ◌≤◌, ℕ, suc, cond, nat_eq, List, [], ◌∷◌, map, flat_map, Option, None, Some, option_map}
+use Rattle.std.specs.Prelude.{◌<◌, ◌≤◌, ℕ, suc, cond, nat_eq, List, [], ◌∷◌, map, flat_map, Option, None, Some, option_map}
 use Rattle.slot_index.specs.Order.{number_of}
 use Rattle.mir_func.specs.declared.func.Block.{Block}
 use Rattle.mir_func.specs.declared.func.Instr.{Instr}

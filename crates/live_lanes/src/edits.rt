@@ -6,7 +6,7 @@ use crate::edit_log::{Log, Mended};
 use crate::edit_update::Touch;
 use crate::effects::{Reader, Tables};
 use crate::enter::slot_of;
-use crate::lanes::{Lanes, NO_LANES};
+use crate::lanes::{Lanes, has_lane, no_lanes};
 use crate::live::LiveFunc;
 use crate::row::{Cause, Cell, End, Piece, Reading, Row, Segment, entry_rank};
 use crate::table::Table;
@@ -88,7 +88,7 @@ impl LiveFunc {
     /// is to go still stands in the function, but does nothing to lanes. After a refusal the
     /// function is unchanged.
     pub fn begin_edits(&mut self, edits: Vec<Edit>) -> Result<Changes, AllocError> {
-        self.begin(edits, NO_LANES)
+        self.begin(edits, no_lanes())
     }
 
     /// Does edits as `begin_edits` does, which is done sooner where these edit each instruction that
@@ -96,7 +96,7 @@ impl LiveFunc {
     pub fn begin_edits_of(&mut self, edits: Vec<Edit>, v: u32) -> Result<Changes, AllocError> {
         let own = self.table.lanes.of_range(v);
         if self.table.is_read_last(own) || !self.is_edited_whole(edits.as_slice(), v)? {
-            return self.begin(edits, NO_LANES);
+            return self.begin(edits, no_lanes());
         }
         self.begin(edits, own)
     }
@@ -187,7 +187,7 @@ impl LiveFunc {
     /// What the instruction of an id does to lanes whose cells weren't taken away.
     fn standing_acts(&self, tables: &Tables, id: u32, gone: Lanes) -> Result<Vec<Act>, AllocError> {
         let mut acts = self.acts(tables, id)?;
-        acts.retain(|act| !gone.has(act.lane));
+        acts.retain(|act| !has_lane(gone, act.lane));
         Ok(acts)
     }
 
@@ -378,7 +378,8 @@ impl Table {
     fn add_slot(&mut self, operands: &[Operand]) -> Result<(), AllocError> {
         match slot_of(operands) {
             Some(slot) => {
-                self.lanes.add_slot(slot)?;
+                let alloc = self.rows.alloc;
+                self.lanes.add_slot(alloc, slot)?;
                 self.add_rows()
             }
             None => Ok(()),

@@ -1,21 +1,11 @@
 //! Which lanes an instruction reads and writes.
 
 use crate::flow::desc_of;
-use crate::lanes::{LaneTable, Lanes};
+use crate::lanes::{LaneTable, Lanes, lanes_of_slot};
+use lane_effects::Writing;
 use mir_func::{Instr, Loc, Operand, RegOp};
 use std::alloc::{AllocError, Global};
 use target_base::{Effect, IndexId, MaskId, OpcodeDesc, Reg, Role, Target, Unit};
-
-/// A lane that an instruction writes.
-#[derive(Clone, Copy, PartialEq, Eq)]
-pub(crate) struct Writing {
-    /// The lane.
-    pub lane: u32,
-    /// The lane that is moved here, if it is one that isn't reserved.
-    pub from: Option<u32>,
-    /// Whether the lane is occupied at the entry too.
-    pub early: bool,
-}
 
 /// What an instruction does to lanes that aren't reserved. Of two writings of a lane, or two moves
 /// of a lane, the first counts.
@@ -34,15 +24,6 @@ impl Effects {
             writes: Vec::new(alloc),
         }
     }
-}
-
-/// The lanes that a phi reads at the end of a block before it.
-#[derive(Drop)]
-pub(crate) struct PhiRead {
-    /// The number of that block.
-    pub block: u32,
-    /// The lanes.
-    pub lanes: Vec<u32>,
 }
 
 /// Tables of a target that are asked for each instruction.
@@ -263,7 +244,7 @@ impl<'a> Reader<'a> {
 
     /// The lanes of a slot that stand beside those of a register.
     fn slot_lanes(&self, parts: &SlotOperands, count: usize) -> Result<Vec<u32>, AllocError> {
-        let own = self.lanes.of_slot(parts.slot);
+        let own = lanes_of_slot(self.lanes, parts.slot);
         match parts.index {
             None => first_lanes(self.alloc, own, (count & 0xff) as u32),
             Some(i) => picked_lanes(self.alloc, own, index_lanes(self.target, i)),
@@ -289,41 +270,6 @@ impl<'a> Reader<'a> {
             _ => self.operation(desc, operands, &mut effects)?,
         }
         Ok(effects)
-    }
-
-    /// What a phi reads at the ends of the blocks before its own.
-    pub fn phi_reads(&self, instr: &Instr) -> Result<Vec<PhiRead>, AllocError> {
-        let mut reads = Vec::new(self.alloc);
-        let Some(desc) = desc_of(self.target, instr) else {
-            return Ok(reads);
-        };
-        if desc.effect != Effect::Phi {
-            return Ok(reads);
-        }
-        let operands = instr.operands.as_slice();
-        'pairs: for k in 1..operands.len() {
-            if let (Operand::Reg(op), Operand::Block(block)) = (&operands[k - 1], &operands[k]) {
-                if !op.def && !op.undef {
-                    let lanes = self.tracked(self.register_lanes(op)?)?;
-                    reads.push(PhiRead {
-                        block: *block,
-                        lanes,
-                    })?;
-                }
-            }
-        }
-        Ok(reads)
-    }
-
-    /// Those of these lanes that aren't reserved.
-    fn tracked(&self, lanes: Vec<u32>) -> Result<Vec<u32>, AllocError> {
-        let mut kept = Vec::new(self.alloc);
-        'lanes: for lane in lanes.as_slice() {
-            if !self.tables.is_reserved(*lane) {
-                kept.push(*lane)?;
-            }
-        }
-        Ok(kept)
     }
 
     /// Adds writings of lanes that get nothing that another lane held.

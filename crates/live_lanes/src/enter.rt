@@ -1,33 +1,24 @@
 //! What the instructions of a function do, entered into the pieces of its lanes.
 
-ghost use Rattle.std.specs.Prelude.{OnOk, map};
+ghost use Rattle.std.specs.Prelude.{◌≡◌, ◌<◌, ℕ, length, OnOk, IfOk, map};
+ghost use Rattle.lane_effects.specs.Numbered.{IsTable, number_in};
+ghost use Rattle.lane_effects.specs.Steps.{seen_read};
+ghost use Rattle.live_lanes.specs.Entered.{rows_seen};
+ghost use Rattle.live_lanes.specs.Coded.{entries};
+ghost use Rattle.live_lanes.specs.Doing.{doing_of};
 ghost use Rattle.std.specs.Ordering.{nat_cmp};
 ghost use Rattle.std.specs.BTreeMap.{get};
-ghost use Rattle.live_lanes.specs.Table.{with_reading, with_segment, read_at_end};
-ghost use Rattle.live_lanes.specs.Entering.{Enters, at_spot, reads_entered, move_entered, moves_entered, writes_entered, lasts_entered, end_entered, ends_entered, end_read};
+ghost use Rattle.live_lanes.specs.Table.{unseen, with_reading, with_segment, read_at_end};
+ghost use Rattle.live_lanes.specs.Entering.{Enters, at_spot, reads_entered, move_entered, moves_entered, writes_entered, lasts_entered, end_entered, ends_entered, step_entered, block_entered, blocks_entered};
 
-use crate::effects::{PhiRead, Reader, Tables, Writing};
 use crate::lanes::LaneTable;
 use crate::order::Order;
 use crate::row::Reading;
 use crate::table::Rows;
+use lane_effects::{PhiRead, Reader, Writing};
 use mir_func::{Block, Func, Instr, Operand};
 use std::alloc::{AllocError, Global};
-use target_base::{ClassId, Target};
-
-/// The number of lanes of a class.
-pub(crate) fn lane_count(target: &Target, class: ClassId) -> u32 {
-    let Some(desc) = target.classes.as_slice().get(class.0 as usize) else {
-        return 0;
-    };
-    let Some(r) = desc.regs.as_slice().first() else {
-        return 0;
-    };
-    match target.regs.as_slice().get(r.0 as usize) {
-        Some(desc) => (desc.units.len() & 0xff) as u32,
-        None => 0,
-    }
-}
+use target_base::Target;
 
 /// The slot that operands name.
 pub(crate) fn slot_of(operands: &[Operand]) -> Option<u32> {
@@ -37,36 +28,6 @@ pub(crate) fn slot_of(operands: &[Operand]) -> Option<u32> {
         }
     }
     None
-}
-
-/// Numbers for the lanes of a function: those of units, of ranges, and of the slots that it names.
-pub(crate) fn lanes_of(
-    alloc: Global,
-    target: &Target,
-    func: &Func,
-) -> Result<LaneTable, AllocError> {
-    let mut lanes = LaneTable::new(alloc);
-    lanes.add_units((target.units.len() & 0xffff) as u32)?;
-    'classes: for class in func.classes.as_slice() {
-        lanes.add_range(match class {
-            Some(class) => lane_count(target, *class),
-            None => 0,
-        })?;
-    }
-    'blocks: for block in func.blocks.as_slice() {
-        add_slots(&mut lanes, block.instrs.as_slice())?;
-    }
-    Ok(lanes)
-}
-
-/// Numbers the lanes of the slots that instructions name.
-fn add_slots(lanes: &mut LaneTable, instrs: &[Instr]) -> Result<(), AllocError> {
-    'instrs: for instr in instrs {
-        if let Some(slot) = slot_of(instr.operands.as_slice()) {
-            lanes.add_slot(slot)?;
-        }
-    }
-    Ok(())
 }
 
 impl Rows {
@@ -151,7 +112,7 @@ impl Rows {
 
     /// Enters what a phi reads at the end of a block before its own.
     fn add_phi_read(&mut self, order: &Order, read: &PhiRead) -> Result<(), AllocError>
-        ensures { OnOk result (Enters self.old.rows.items self.new.rows.items (λ l b v. end_entered (get nat_cmp order.now.positions) l b (end_read read.now) v)) }
+        ensures { OnOk result (Enters self.old.rows.items self.new.rows.items (λ l b v. end_entered (get nat_cmp order.now.positions) l b (seen_read read.now) v)) }
     {
         match order.position(read.block) {
             Some(position) => self.read_all_last(position, read.lanes.as_slice()),
@@ -161,7 +122,7 @@ impl Rows {
 
     /// Enters what a phi reads at the ends of the blocks before its own.
     fn add_phi_reads(&mut self, order: &Order, reads: &[PhiRead]) -> Result<(), AllocError>
-        ensures { OnOk result (Enters self.old.rows.items self.new.rows.items (ends_entered (get nat_cmp order.now.positions) (map end_read reads.now))) }
+        ensures { OnOk result (Enters self.old.rows.items self.new.rows.items (ends_entered (get nat_cmp order.now.positions) (map seen_read reads.now))) }
     {
         'reads: for read in reads {
             self.add_phi_read(order, read)?;
@@ -179,13 +140,16 @@ impl Rows {
         Ok(())
     }
 
+    /// Enters what an instruction does.
     fn add_instr(
         &mut self,
-        reader: Reader<'_>,
+        reader: &Reader<'_>,
         order: &Order,
         block: u32,
         instr: &Instr,
-    ) -> Result<(), AllocError> {
+    ) -> Result<(), AllocError>
+        ensures { OnOk result (Enters self.old.rows.items self.new.rows.items (λ l b v. step_entered (get nat_cmp order.now.positions) block l b (doing_of reader.now.target.now reader.now.func.now (number_in reader.now.lanes.now) instr.now) v)) }
+    {
         let effects = reader.effects(instr)?;
         self.add_reads(block, instr.id, effects.reads.as_slice())?;
         self.add_moves(block, instr.id, effects.writes.as_slice())?;
@@ -194,40 +158,65 @@ impl Rows {
         self.add_phi_reads(order, reads.as_slice())
     }
 
-    fn add_block(
+    /// Enters what the instructions of a block do.
+    fn add_instrs(
         &mut self,
-        reader: Reader<'_>,
+        reader: &Reader<'_>,
         order: &Order,
-        position: u32,
-        block: &Block,
-    ) -> Result<(), AllocError> {
-        'instrs: for instr in block.instrs.as_slice() {
-            self.add_instr(reader, order, position, instr)?;
+        block: u32,
+        instrs: &[Instr],
+    ) -> Result<(), AllocError>
+        ensures { OnOk result (Enters self.old.rows.items self.new.rows.items (block_entered (get nat_cmp order.now.positions) block (map (doing_of reader.now.target.now reader.now.func.now (number_in reader.now.lanes.now)) instrs.now))) }
+    {
+        'instrs: for instr in instrs {
+            self.add_instr(reader, order, block, instr)?;
+        }
+        Ok(())
+    }
+
+    /// Enters what the instructions of these blocks do.
+    fn add_blocks(
+        &mut self,
+        reader: &Reader<'_>,
+        order: &Order,
+        blocks: &[Block],
+    ) -> Result<(), AllocError>
+        ensures { OnOk result (Enters self.old.rows.items self.new.rows.items (blocks_entered (get nat_cmp order.now.positions) 0 (entries (doing_of reader.now.target.now reader.now.func.now (number_in reader.now.lanes.now)) blocks.now))) }
+    {
+        let Ok(count) = u32::try_from(blocks.len()) else {
+            return Err(AllocError);
+        };
+        'positions: for position in 0..count {
+            let block = &blocks[position as usize];
+            self.add_instrs(reader, order, position, block.instrs.as_slice())?;
         }
         Ok(())
     }
 }
 
-/// The pieces of the lanes of a function, none of them live.
+/// The pieces of the lanes of a function, none of them live. Where more lanes have numbers than fit
+/// 32 bits, there are none.
 pub(crate) fn entered(
     alloc: Global,
     target: &Target,
     lanes: &LaneTable,
     order: &Order,
     func: &Func,
-) -> Result<Rows, AllocError> {
-    let tables = Tables::new(alloc, target)?;
-    let mut rows = Rows::new(alloc, lanes.len())?;
+) -> Result<Rows, AllocError>
+    ensures few { IfOk result (λ x. length x.rows.items < 4294967296) }
+    ensures seen { IfOk result (λ x. IsTable lanes.now
+        → (l b : ℕ) → rows_seen x.rows.items l b ≡ blocks_entered (get nat_cmp order.now.positions) 0 (entries (doing_of target.now func.now (number_in lanes.now)) func.now.blocks) l b unseen) }
+{
+    let Ok(count) = u32::try_from(lanes.len()) else {
+        return Err(AllocError);
+    };
+    let mut rows = Rows::new(alloc, count as usize)?;
     let reader = Reader {
         alloc,
         target,
-        tables: &tables,
+        func,
         lanes,
     };
-    let mut position = 0u32;
-    'blocks: for block in func.blocks.as_slice() {
-        rows.add_block(reader, order, position, block)?;
-        position = position.saturating_add(1);
-    }
+    rows.add_blocks(&reader, order, func.blocks.as_slice())?;
     Ok(rows)
 }

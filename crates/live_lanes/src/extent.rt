@@ -3,7 +3,7 @@
 
 pub use crate::edit_log::Mended;
 use crate::edits::Changes;
-use crate::lanes::Owner;
+use crate::lanes::{Owner, owner_of};
 use crate::live::LiveFunc;
 use crate::row::{Cell, End, entry_rank, exit_rank, rank};
 use slot_index::Slots;
@@ -134,7 +134,7 @@ impl LiveFunc {
 
     /// The range that a lane belongs to, and the number of the lane in it.
     pub fn range_of(&self, lane: u32) -> Option<(u32, u32)> {
-        match self.table.lanes.owner(lane) {
+        match owner_of(&self.table.lanes, lane) {
             Some(Owner::Range(v, k)) => Some((v, k)),
             _ => None,
         }

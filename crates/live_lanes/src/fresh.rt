@@ -1,7 +1,8 @@
 //! New ranges.
 
-use crate::enter::lane_count;
+use crate::lanes::drop_range;
 use crate::live::LiveFunc;
+use lane_effects::registers::class_lanes;
 use std::alloc::AllocError;
 use target_base::ClassId;
 
@@ -16,11 +17,13 @@ impl LiveFunc {
         if count >= MOST {
             return Ok((count & 0xffff_ffff) as u32);
         }
-        self.table.lanes.add_range(lane_count(&self.target, class))?;
+        let alloc = self.table.rows.alloc;
+        let count = class_lanes(&self.target, class);
+        self.table.lanes.add_range(alloc, count)?;
         match self.make_fresh(class) {
             Ok(v) => Ok(v),
             Err(e) => {
-                self.table.lanes.drop_range();
+                drop_range(&mut self.table.lanes);
                 Err(e)
             }
         }

@@ -1,12 +1,20 @@
 //! A function with what is live in it.
 
 ghost use Rattle.std.specs.Prelude.{◌≡◌, IfOk};
+ghost use Rattle.std.specs.Ordering.{nat_cmp};
+ghost use Rattle.std.specs.BTreeMap.{get};
+ghost use Rattle.lane_effects.specs.Numbered.{number_in};
+ghost use Rattle.lane_effects.specs.declared.owner.Owner.TheVariants as owners;
+ghost use Rattle.live_lanes.specs.Marks.{marked_at};
+ghost use Rattle.live_lanes.specs.Doing.{IsComputed};
 
-use crate::enter::{entered, lanes_of};
+use crate::enter::entered;
 use crate::flow::flow_of;
+use crate::lanes::Owner;
 use crate::order::Order;
 use crate::row::{entry_rank, exit_rank};
 use crate::table::Table;
+use lane_effects::lanes_of;
 use mir_func::Func;
 use std::alloc::{AllocError, Global};
 use target_base::{Target, Unit};
@@ -21,7 +29,9 @@ pub struct LiveFunc {
 
 impl Table {
     /// What is known of a function besides its text.
-    fn of(alloc: Global, target: &Target, func: &Func) -> Result<Table, AllocError> {
+    fn of(alloc: Global, target: &Target, func: &Func) -> Result<Table, AllocError>
+        ensures { IfOk result (IsComputed target.now func.now) }
+    {
         let lanes = lanes_of(alloc, target, func)?;
         let order = Order::of(alloc, func)?;
         let flow = flow_of(alloc, target, &order, func)?;
@@ -40,7 +50,8 @@ impl Table {
 impl LiveFunc {
     /// The function with what is live in it under a target, which is copied. It may have phis.
     pub fn compute(alloc: Global, target: &Target, f: Func) -> Result<LiveFunc, AllocError>
-        ensures { IfOk result (λ x. (x.target ≡ target.now) × (x.func ≡ f)) }
+        ensures parts { IfOk result (λ x. (x.target ≡ target.now) × (x.func ≡ f)) }
+        ensures exact { IfOk result (λ x. IsComputed target.now f x.table) }
     {
         let table = Table::of(alloc, target, &f)?;
         let target = target.copy(alloc)?;
@@ -74,11 +85,14 @@ impl LiveFunc {
     }
 
     /// The number of a lane of a virtual register.
-    fn lane(&self, v: u32, lane: usize) -> Option<u32> {
-        if lane > 0xff {
-            return None;
+    fn lane(&self, v: u32, lane: usize) -> Option<u32>
+        ensures { result ≡ number_in self.now.table.lanes (owners.Range v lane) }
+    {
+        let own = self.table.lanes.of_range(v);
+        match u32::try_from(lane) {
+            Ok(k) => own.lane(k),
+            Err(_) => None,
         }
-        self.table.lanes.of_range(v).lane(lane as u32)
     }
 
     fn is_live_in(&self, lane: u32, id: u32) -> bool {
@@ -110,7 +124,9 @@ impl LiveFunc {
     }
 
     /// Whether a lane of a virtual register is live at the start of the block of that number.
-    pub fn live_at(&self, v: u32, lane: usize, block: u32) -> bool {
+    pub fn live_at(&self, v: u32, lane: usize, block: u32) -> bool
+        ensures { result ≡ marked_at self.now.table.rows.rows.items (number_in self.now.table.lanes (owners.Range v lane)) (get nat_cmp self.now.table.order.positions block) }
+    {
         match self.lane(v, lane) {
             Some(lane) => self.table.is_live_in(lane, block),
             None => false,
@@ -128,7 +144,12 @@ impl LiveFunc {
     }
 
     /// Whether a unit is live at the start of the block of that number. Reserved units are not.
-    pub fn unit_at(&self, u: Unit, block: u32) -> bool {
-        self.table.is_live_in(u.0 as u32, block)
+    pub fn unit_at(&self, u: Unit, block: u32) -> bool
+        ensures { result ≡ marked_at self.now.table.rows.rows.items (number_in self.now.table.lanes (owners.Unit u.0)) (get nat_cmp self.now.table.order.positions block) }
+    {
+        match self.table.lanes.number(Owner::Unit(u.0 as u32)) {
+            Some(lane) => self.table.is_live_in(lane, block),
+            None => false,
+        }
     }
 }

@@ -1,9 +1,10 @@
 //! The order of a function's instructions, and where each of them and each block stands.
 
-ghost use Rattle.std.specs.Prelude.{◌≡◌, ℕ, [], ◌++◌, IfOk, OnOk, IfSome};
+ghost use Rattle.std.specs.Prelude.{◌≡◌, ◌<◌, ℕ, [], ◌++◌, IfOk, OnOk, IfSome};
 ghost use Rattle.std.specs.Ordering.{nat_cmp};
 ghost use Rattle.std.specs.BTreeMap.{get};
 ghost use Rattle.slot_index.specs.Order.{ids, Has, IsNumbered, put_after};
+ghost use Rattle.slot_index.specs.Renewed.{low_end};
 ghost use Rattle.live_lanes.specs.Ordered.{ids_of, all_ids, last_id, place_of, placed, AreSingle};
 
 use mir_func::{Block, Func, Instr};
@@ -42,6 +43,7 @@ impl Order {
     pub fn of(alloc: Global, func: &Func) -> Result<Order, AllocError>
         ensures positions { IfOk result (λ o. (n : ℕ) → get nat_cmp o.positions n ≡ place_of n func.now.blocks) }
         ensures ids { IfOk result (λ o. ids o.slots ≡ all_ids func.now.blocks) }
+        ensures small { IfOk result (λ o. low_end (last_id (ids o.slots)) o.slots < 18446744073709551616) }
         ensures single { IfOk result (λ o. AreSingle (all_ids func.now.blocks)) }
         ensures numbered { IfOk result (λ o. IsNumbered o.slots) }
     {
@@ -56,7 +58,18 @@ impl Order {
             order.add_block(block, position)?;
             last = order.add_instrs(block.instrs.as_slice(), position, last)?;
         }
+        let _highest = order.number(last);
         Ok(order)
+    }
+
+    /// The number of an instruction, or 0 where none is given.
+    fn number(&self, id: Option<u32>) -> u64
+        ensures { result ≡ low_end id self.now.slots }
+    {
+        match id {
+            Some(id) => self.slots.number(id),
+            None => 0,
+        }
     }
 
     /// Notes the position of a block, where no block before it has its number.

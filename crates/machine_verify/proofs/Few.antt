@@ -1,11 +1,11 @@
 -- A function has fewer than 2 ^ 32 instructions, since their ids are distinct numbers of 32 bits.
-use Rattle.std.proofs.Common.{◌≡◌, ◌∙◌, ℕ, zero, suc, ◌+◌, ◌^◌, ◌<◌, ◌≤◌, List, [], ◌∷◌, Bool, true, false, refl, sym, ap, arith, length, cond, eqb, ltb, get_or}
-use Rattle.std.specs.Prelude.{if◌then◌else◌, nat_lt, count_by, sum_by}
+use Rattle.std.proofs.Common.{◌≡◌, ℕ, zero, suc, ◌+◌, ◌^◌, ◌<◌, ◌≤◌, List, [], ◌∷◌, Bool, true, refl, ap, arith, length, cond, eqb, ltb, get_or}
+use Rattle.std.specs.Prelude.{if◌then◌else◌, nat_lt, sum_by}
 use Rattle.std.proofs.lemmas.List.Sums.{sum_by-cons, get_or-le-sum_by}
 use Rattle.std.proofs.lemmas.Bool.Decides.{nat_tests}
 use Rattle.mir_func.specs.declared.func.Block.{Block}
 use Rattle.mir_func.specs.declared.func.Instr.{Instr}
-use Rattle.mir_func.specs.Value.{id_count, id_total, IsFunction}
+use Rattle.mir_func.specs.Value.{id_count, IsFunction}
 
 abbrev one : Bool → ℕ
 one b = cond b 1 0

@@ -5,4 +5,6 @@ pub mod Searched
 pub mod Few
 pub mod Apart
 pub mod Lived
+pub mod Marked
+pub mod Late
 pub mod Told

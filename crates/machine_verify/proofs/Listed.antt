@@ -1,9 +1,9 @@
 -- Numbers in lists and sets.
 use Rattle.std.proofs.Common.{◌≡◌, ◌∙◌, ℕ, zero, suc, ◌+◌, ◌<◌, List, [], ◌∷◌, Bool, true, false, refl, sym, ap, arith, drop, length, get_or}
-use Rattle.std.specs.Prelude.{◌&&◌, ◌||◌, ◌++◌, not, nat_eq, map}
+use Rattle.std.specs.Prelude.{◌&&◌, ◌||◌, ◌++◌, not, nat_eq}
 use Rattle.std.specs.List.{list_all, list_any}
 use Rattle.std.proofs.lemmas.List.{drop_more}
-use Rattle.std.proofs.lemmas.List.Folds.{list_all-append, list_any-append}
+use Rattle.std.proofs.lemmas.List.Folds.{list_all-append}
 use Rattle.target_base.specs.Storage.{same_numbers}
 use Rattle.target_base.specs.Names.{are_distinct_numbers}
 use Rattle.mir_meaning.specs.Registers.{has_number}

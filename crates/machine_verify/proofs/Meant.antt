@@ -1,7 +1,7 @@
 -- The rules of an instruction, over its operands as code sorts them, are the rules of the definitions.
-use Rattle.std.proofs.Common.{◌≡◌, ◌∙◌, ℕ, List, [], ◌∷◌, ◌++◌, Bool, true, false, refl, sym, ap, take, arith}
-use Rattle.std.specs.Prelude.{◌&&◌, ◌||◌, not, map, Option, Some, None, flat_map, option_map}
-use Rattle.std.specs.List.{list_all, list_any}
+use Rattle.std.proofs.Common.{◌≡◌, ◌∙◌, ℕ, List, [], ◌∷◌, ◌++◌, true, refl, sym, ap, take}
+use Rattle.std.specs.Prelude.{◌&&◌, ◌||◌, not, map, Some, None, flat_map}
+use Rattle.std.specs.List.{list_all}
 use Rattle.std.specs.Bool.{beq}
 use Rattle.target_base.specs.declared.types.OpcodeDesc.{OpcodeDesc}
 use Rattle.target_base.specs.Roles.{is_slot}

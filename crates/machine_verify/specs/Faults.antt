@@ -1,5 +1,4 @@
 -- Faults as code holds them.
-use Rattle.std.specs.Prelude.{ℕ}
 use Rattle.mir_meaning.specs.Valid.{Fault}
 use Rattle.machine_verify.specs.declared.stop.Invalid.{Invalid}
 

@@ -5,4 +5,5 @@ pub mod Ties
 pub mod Asked
 pub mod Faults
 pub mod Liveins
+pub mod Lives
 pub mod Verdict

@@ -1,10 +1,12 @@
 //! Both verifiers.
 
-ghost use Rattle.std.specs.Prelude.{◌≡◌, None, not, IfOk, IfErr, OnOk};
+ghost use Rattle.std.specs.Prelude.{◌≡◌, ◌<◌, ◌++◌, ◌∷◌, [], option_map, IfOk, IfErr, OnOk};
 ghost use Rattle.std.specs.List.{list_any};
 ghost use Rattle.mir_meaning.specs.declared.Form.TheVariants as forms;
-ghost use Rattle.mir_meaning.specs.Valid as valid;
-ghost use Rattle.machine_verify.specs.Verdict.{IsAccepted, IsFault, IfInvalid, IfLate, NamesNoneWhere};
+ghost use Rattle.mir_meaning.specs.Registers.{numbers};
+ghost use Rattle.machine_verify.specs.Faults.{fault_of};
+ghost use Rattle.machine_verify.specs.Lives.{unit_lives, flags_of, lane_lives, register_lives, some_register_lives, block_fits, starts_fit, first_late};
+ghost use Rattle.machine_verify.specs.Verdict.{IsAccepted, IsFault, IfInvalid};
 
 use crate::asked::Question;
 use crate::liveins::{liveins_fit, names_virtual};
@@ -17,26 +19,37 @@ use mir_meaning::Form;
 use std::alloc::{AllocError, Global};
 use target_base::{Target, Unit};
 
+/// Puts at the end whether the unit of that number is live at the start of a block.
+fn push_unit(flags: &mut Vec<bool>, live: &LiveFunc, u: usize, block: u32) -> Result<(), AllocError>
+    requires { u < 65536 }
+    ensures { OnOk result (flags.new.items ≡ flags.old.items ++ (unit_lives live.now.table block u ∷ [])) }
+{
+    flags.push(live.unit_at(Unit(u as u16), block))?;
+    Ok(())
+}
+
 /// Whether each unit is live at the start of a block, by its number.
+#[tactic(auto, using(crate::proofs::Marked::few_units))]
 fn live_units(
     alloc: Global,
     target: &Target,
     live: &LiveFunc,
     block: u32,
-) -> Result<Vec<bool>, AllocError> {
+) -> Result<Vec<bool>, AllocError>
+    ensures { IfOk result (λ flags. flags.items ≡ flags_of target.now live.now.table block) }
+{
     let mut flags = Vec::new(alloc);
     'units: for u in 0..target.units.len() {
-        let is_live = match u16::try_from(u) {
-            Ok(number) => live.unit_at(Unit(number), block),
-            Err(_) => false,
-        };
-        flags.push(is_live)?;
+        push_unit(&mut flags, live, u, block)?;
     }
     Ok(flags)
 }
 
 /// Whether one of the first lanes of a virtual register is live at the start of a block.
-fn some_lane_lives(live: &LiveFunc, v: u32, lanes: usize, block: u32) -> bool {
+#[tactic(auto, using(crate::proofs::Lived::numbers_step, crate::proofs::Lived::numbers_end))]
+fn some_lane_lives(live: &LiveFunc, v: u32, lanes: usize, block: u32) -> bool
+    ensures { result ≡ list_any (lane_lives live.now.table block v) (numbers 0 lanes) }
+{
     'lanes: for lane in 0..lanes {
         if live.live_at(v, lane, block) {
             return true;
@@ -45,22 +58,37 @@ fn some_lane_lives(live: &LiveFunc, v: u32, lanes: usize, block: u32) -> bool {
     false
 }
 
+/// Whether a lane of the virtual register of that number is live at the start of a block.
+fn register_lives(q: &Question, live: &LiveFunc, v: usize, block: u32) -> bool
+    ensures { result ≡ register_lives q.now.target.now q.now.f.now live.now.table block v }
+{
+    match u32::try_from(v) {
+        Ok(number) => {
+            let lanes = class_units(q.target, class_of(q.f, number)).len();
+            some_lane_lives(live, number, lanes, block)
+        }
+        Err(_) => false,
+    }
+}
+
 /// Whether a lane of a virtual register is live at the start of a block.
-fn some_register_lives(q: &Question, live: &LiveFunc, block: u32) -> bool {
+#[tactic(auto, using(crate::proofs::Lived::numbers_step, crate::proofs::Lived::numbers_end))]
+fn some_register_lives(q: &Question, live: &LiveFunc, block: u32) -> bool
+    ensures { result ≡ some_register_lives q.now.target.now q.now.f.now live.now.table block }
+{
     let f = q.f;
-    let mut v = 0u32;
-    'registers: for _ in f.classes.as_slice() {
-        let lanes = class_units(q.target, class_of(f, v)).len();
-        if some_lane_lives(live, v, lanes, block) {
+    'registers: for v in 0..f.classes.len() {
+        if register_lives(q, live, v, block) {
             return true;
         }
-        v = v.saturating_add(1);
     }
     false
 }
 
 /// V13, of block `k`: its live-ins are those of its live units.
-fn v13(q: &Question, live: &LiveFunc, k: usize, b: &Block) -> Result<bool, AllocError> {
+fn v13(q: &Question, live: &LiveFunc, k: usize, b: &Block) -> Result<bool, AllocError>
+    ensures { IfOk result (λ is_right. is_right ≡ block_fits q.now.target.now q.now.form live.now.table k b.now) }
+{
     let flags = live_units(q.alloc, q.target, live, b.number)?;
     liveins_fit(q.alloc, q.target, q.form, k, b, flags.as_slice())
 }
@@ -68,7 +96,7 @@ fn v13(q: &Question, live: &LiveFunc, k: usize, b: &Block) -> Result<bool, Alloc
 /// V14: no lane of a virtual register is live at the function's start. Allocated: no virtual
 /// register is named.
 fn v14(q: &Question, live: &LiveFunc, first: &Block) -> bool
-    ensures { NamesNoneWhere result q.now.form q.now.f.now }
+    ensures { result ≡ starts_fit q.now.target.now q.now.form q.now.f.now live.now.table first.now.number }
 {
     let f = q.f;
     match q.form {
@@ -78,9 +106,9 @@ fn v14(q: &Question, live: &LiveFunc, first: &Block) -> bool
 }
 
 /// The first fault of V13 and V14: V13 of the first block, then V14, then V13 of the later blocks.
-#[tactic(auto, using(crate::proofs::Told::late_thirteen, crate::proofs::Told::late_fourteen))]
+#[tactic(auto, using(crate::proofs::Marked::late_step, crate::proofs::Marked::late_end))]
 fn live_fault(q: &Question, live: &LiveFunc) -> Result<Option<Invalid>, AllocError>
-    ensures { IfOk result (IfLate q.now.form q.now.f.now) }
+    ensures { IfOk result (λ fault. option_map fault_of fault ≡ first_late q.now.target.now q.now.form q.now.f.now live.now.table q.now.f.now.blocks) }
 {
     let f = q.f;
     let blocks = f.blocks.as_slice();
@@ -91,7 +119,7 @@ fn live_fault(q: &Question, live: &LiveFunc) -> Result<Option<Invalid>, AllocErr
     if !v14(q, live, first) {
         return Ok(Some(fault_at(first, 0, 14)));
     }
-    'blocks: for k in 1..blocks.len() {
+    'rest: for k in 1..blocks.len() {
         let b = &blocks[k];
         if !v13(q, live, k, b)? {
             return Ok(Some(fault_at(b, 0, 13)));
@@ -101,7 +129,7 @@ fn live_fault(q: &Question, live: &LiveFunc) -> Result<Option<Invalid>, AllocErr
 }
 
 /// The verdict on a function in a form.
-#[tactic(auto, using(crate::proofs::Told::told_shape, crate::proofs::Told::told_late, crate::proofs::Told::told_none))]
+#[tactic(auto, using(crate::proofs::Told::told_shape, crate::proofs::Told::told_none))]
 fn check(q: &Question) -> Result<(), VerifyStop>
     ensures ok { OnOk result (IsAccepted q.now.target.now q.now.form q.now.f.now) }
     ensures err { IfErr result (IfInvalid (IsFault q.now.target.now q.now.form q.now.f.now)) }

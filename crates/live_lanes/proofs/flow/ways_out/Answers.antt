@@ -1,4 +1,4 @@
-use Rattle.std.proofs.Common.{arith, refl, subst, sym, [], take, ◌+◌}
+use Rattle.std.proofs.Common.{arith, subst, sym, [], take, ◌+◌}
 use Rattle.std.specs.Ordering.{nat_cmp}
 use Rattle.std.specs.BTreeMap.{get}
 use Rattle.live_lanes.specs.Flowing.{AreOut}

@@ -1,4 +1,4 @@
-use Rattle.std.proofs.Common.{◌≡◌, drop, ◌≤◌, length}
+use Rattle.std.proofs.Common.{◌≡◌, drop}
 use Rattle.mir_meaning.specs.Valid.{instrs_fault}
 use Rattle.machine_verify.specs.Asked.{before_at}
 use Rattle.machine_verify.proofs.search.later_fault.Given as goal

@@ -1,4 +1,4 @@
-use Rattle.std.proofs.Common.{arith, refl, sym, ap, ◌∙◌, append-nil}
+use Rattle.std.proofs.Common.{arith, refl, sym, ◌∙◌, append-nil}
 use Rattle.slot_index.specs.Order.{ids}
 use Rattle.live_lanes.proofs.Ordered.{put-more, put-all}
 use Rattle.live_lanes.proofs.order.Order.add_instrs.Goals as goal

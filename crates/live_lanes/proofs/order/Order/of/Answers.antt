@@ -1,7 +1,8 @@
-use Rattle.std.proofs.Common.{◌≡◌, ◌++◌, get_or, arith, refl, sym, ap, ◌∙◌, ◌≤◌, ◌<◌, length, subst}
+use Rattle.std.proofs.Common.{◌≡◌, ◌++◌, get_or, arith, sym, ap, ◌∙◌, ◌≤◌, ◌<◌, length, subst}
 use Rattle.std.specs.Ordering.{nat_cmp}
 use Rattle.std.specs.BTreeMap.{get}
 use Rattle.slot_index.specs.Order.{ids, IsNumbered}
+use Rattle.slot_index.specs.Renewed.{low_end}
 use Rattle.live_lanes.specs.Ordered.{ids_of, all_ids, last_id, placed, AreSingle}
 use Rattle.live_lanes.proofs.Ordered.{place-next, place-whole, blocks-more, blocks-all, once-single}
 use Rattle.live_lanes.proofs.order.Order.of.Goals as goal
@@ -39,9 +40,11 @@ returns c =
     let same : c.as_slice-blocks.result.now ≡ c.args.func.now.blocks = cc in
     let long : length c.as_slice-blocks.result.now ≡ length c.args.func.now.blocks = ap length same in
     let whole : length c.args.func.now.blocks ≤ c.blocks-2.position = omega (arith, c.in-Ok.ensures, c.blocks-2-test.false, long) in
+    let below : low_end c.blocks-2.last c.blocks-2.order.slots < 18446744073709551616 = omega (arith, c.number-highest.ensures) in
     record {
       positions = λ n. c.blocks-2.invariant.positions n ∙ place-whole n c.args.func.now.blocks c.blocks-2.position whole;
       ids = (c.blocks-2.invariant.ids single).0 ∙ blocks-all c.args.func.now.blocks c.blocks-2.position whole;
       single = single;
+      small = subst (λ q. low_end q c.blocks-2.order.slots < 18446744073709551616) (c.blocks-2.invariant.ids single).1 below;
       numbered = c.blocks-2.invariant.numbered;
     }

@@ -1,4 +1,4 @@
-use Rattle.std.proofs.Common.{arith, get_or, refl}
+use Rattle.std.proofs.Common.{arith, refl}
 use Rattle.live_lanes.specs.Entering.{move_entered}
 use Rattle.live_lanes.proofs.Entering.{enters-none, enters-more, enters-all}
 use Rattle.live_lanes.proofs.table.Rows.add_moves.Goals as goal

@@ -1,4 +1,4 @@
-use Rattle.std.proofs.Common.{arith, refl, ap, length-append, length}
+use Rattle.std.proofs.Common.{arith, ap, length-append, length}
 use Rattle.live_lanes.specs.Entered.{rows_seen}
 use Rattle.live_lanes.proofs.Entering.{new-row}
 use Rattle.live_lanes.proofs.table.Rows.new.Goals as goal

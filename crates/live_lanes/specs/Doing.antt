@@ -1,0 +1,35 @@
+-- What the instructions of a function do to its lanes, which go by numbers.
+use Rattle.std.specs.Prelude.{◌≡◌, ℕ, ◌++◌, map, filter_map}
+use Rattle.std.specs.Ordering.{nat_cmp}
+use Rattle.std.specs.BTreeMap.{get}
+use Rattle.target_base.specs.declared.types.Target.{Target}
+use Rattle.mir_func.specs.declared.func.Instr.{Instr}
+use Rattle.mir_func.specs.Value.{Function}
+use Rattle.mir_meaning.specs.Binding.{does, is_terminator}
+use Rattle.lane_effects.specs.Acts.{acts_of, read_owners, entered_reads, entered_writes}
+use Rattle.lane_effects.specs.Ends.{end_uses}
+use Rattle.lane_effects.specs.Numbered.{number_in, NumbersAll}
+use Rattle.lane_effects.specs.Steps.{Numbering, act_readings, act_writings, phi_read_of}
+use Rattle.live_lanes.specs.declared.table.Table.{Table}
+use Rattle.live_lanes.specs.Paths.{Code}
+use Rattle.live_lanes.specs.Graph.{IsGrown}
+use Rattle.live_lanes.specs.Entered.{causes}
+use Rattle.live_lanes.specs.Entering.{EnteredStep}
+use Rattle.live_lanes.specs.Ordered.{place_of}
+use Rattle.live_lanes.specs.Coded.{code_of}
+use Rattle.live_lanes.specs.Laws.{AllMatched}
+
+-- what an instruction does, and what it reads at the ends of other blocks
+abbrev pub doing_of : Target → Function → Numbering → Instr → EnteredStep
+doing_of t f num i =
+    (record { id = i.id; reads = filter_map num (read_owners (entered_reads t f i)) ++ act_readings num (acts_of (entered_writes t f i)); writes = act_writings num (acts_of (entered_writes t f i)); leaves = does is_terminator t i }, map (phi_read_of t f num) (end_uses t i))
+
+-- the function over numbered lanes
+abbrev pub lane_code : Target → Function → Numbering → Code
+lane_code t f num = code_of (doing_of t f num) (λ n. place_of n f.blocks) f.blocks
+
+-- the table tells of the function which lanes are live where blocks and writings begin
+pub record IsComputed (t : Target) (f : Function) (x : Table) : Type 0 where
+  pub numbers : NumbersAll t f x.lanes
+  pub positions : (n : ℕ) → get nat_cmp x.order.positions n ≡ place_of n f.blocks
+  pub grown : AllMatched (lane_code t f (number_in x.lanes)) → IsGrown (lane_code t f (number_in x.lanes)) (causes x.rows.rows.items)
