@@ -18,6 +18,7 @@ pub type Fact = (Source, Source);
 /// Facts in any order.
 pub type Facts = List<Fact>;
 
+/// Whether two lanes are one.
 pub fn same_lane(a: Lane, b: Lane) -> bool
     ensures { result ≡ same_lane a b }
 {
@@ -29,6 +30,7 @@ pub fn same_lane(a: Lane, b: Lane) -> bool
     }
 }
 
+/// Whether two texts are equal, byte by byte.
 pub fn same_bytes(a: &[u8], b: &[u8]) -> bool
     ensures { result ≡ same_numbers a.now b.now }
 {
@@ -49,6 +51,7 @@ fn same_constant(c: &Constant, d: &Constant) -> bool
     }
 }
 
+/// Whether two sources are equal, so that they give equal bits in every state.
 pub fn same_source(s: &Source, t: &Source) -> bool
     ensures { result ≡ same_source s.now t.now }
 {

@@ -166,6 +166,7 @@ impl Run {
         self.ranks.stage(v)
     }
 
+    /// Gives a range a stage; a number that no range has changes nothing.
     pub fn set_stage(&mut self, v: u32, stage: Stage) {
         let at = v as usize;
         if at < self.ranks.stages.len() {
@@ -173,6 +174,7 @@ impl Run {
         }
     }
 
+    /// Gives a range a cascade number; a number that no range has changes nothing.
     pub fn set_cascade(&mut self, v: u32, cascade: u32) {
         let at = v as usize;
         if at < self.ranks.cascades.len() {

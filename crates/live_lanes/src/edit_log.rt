@@ -60,6 +60,7 @@ impl Log {
         Ok(())
     }
 
+    /// Notes the edit that takes the change of a cell back.
     pub fn add_cell(&mut self, mended: Mended, back: CellEdit) -> Result<(), AllocError> {
         self.add(Undo::Cell(mended, back))
     }
@@ -68,14 +69,17 @@ impl Log {
         self.add(Undo::Row(lane, row))
     }
 
+    /// Notes that the instruction of an id was put into the block at a position.
     pub fn add_put(&mut self, block: u32, id: u32) -> Result<(), AllocError> {
         self.add(Undo::Put(block, id))
     }
 
+    /// Notes that the instruction of an id is to go from the block at a position.
     pub fn add_erased(&mut self, block: u32, id: u32) -> Result<(), AllocError> {
         self.add(Undo::Erased(block, id))
     }
 
+    /// Notes the opcode and the operands that the instruction of an id had before.
     pub fn add_replaced(
         &mut self,
         block: u32,

@@ -36,6 +36,7 @@ pub(crate) struct Tables {
 }
 
 impl Tables {
+    /// The tables of a target.
     pub fn new(alloc: Global, target: &Target) -> Result<Tables, AllocError> {
         let reserved = reserved_units(alloc, target)?;
         let mut clobbers = Vec::new(alloc);

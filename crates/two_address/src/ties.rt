@@ -39,6 +39,7 @@ pub struct Tie {
     pub after: Option<Move>,
 }
 
+/// Whether it is a virtual register.
 pub fn is_virtual(loc: Loc) -> bool
     ensures { result ≡ is_virtual loc }
 {
@@ -71,6 +72,7 @@ pub fn same_loc(a: Loc, b: Loc) -> bool
     }
 }
 
+/// Whether both are the whole register, or the same part of it.
 pub fn same_index(a: Option<IndexId>, b: Option<IndexId>) -> bool
     ensures { result ≡ same_index a b }
 {
