@@ -3,15 +3,15 @@ use Rattle.std.proofs.Common.{◌≡◌, ℕ, List, Option, Some, None, sym, ◌
 use Rattle.target_base.specs.declared.types.Target.{Target}
 use Rattle.mir_func.specs.Value.{Function}
 use Rattle.mir_meaning.specs.declared.Form.TheVariants as forms
-use Rattle.machine_verify.specs.Verdict.{IsAccepted}
+use Rattle.mir_meaning.specs.Valid.{IsValid}
 use Rattle.guarded_alloc.specs.declared.stop.LimitName.{LimitName}
 use Rattle.guarded_alloc.specs.Limits.{passed_limit}
 use Rattle.answers.specs.Documents.{IsRunOf, IsTextOfRun}
 
--- the copy g of f is accepted as a source, and handed back as h, which is run
-pub runs_source : (t : Target) (f g h : Function) (n seed : ℕ) (text : List ℕ) (limit : Option LimitName) → limit ≡ passed_limit f → limit ≡ None → g ≡ f → h ≡ g → IsAccepted t forms.Source g → IsTextOfRun t h n seed text → IsRunOf t f n seed text
-runs_source t f g h n seed text limit is none copied back accepted runs = record {
+-- the copy g of f is valid as a source, and handed back as h, which is run
+pub runs_source : (t : Target) (f g h : Function) (n seed : ℕ) (text : List ℕ) (limit : Option LimitName) → limit ≡ passed_limit f → limit ≡ None → g ≡ f → h ≡ g → IsValid t forms.Source g → IsTextOfRun t h n seed text → IsRunOf t f n seed text
+runs_source t f g h n seed text limit is none copied back valid runs = record {
   fits = sym is ∙ none;
-  valid = inl (subst (λ x. IsAccepted t forms.Source x) copied accepted);
+  valid = inl (subst (λ x. IsValid t forms.Source x) copied valid);
   run = subst (λ x. IsTextOfRun t x n seed text) (back ∙ copied) runs;
 }

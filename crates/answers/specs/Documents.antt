@@ -6,7 +6,7 @@ use Rattle.mir_func.specs.Value.{Function}
 use Rattle.mir_meaning.specs.declared.Form.{Form}
 use Rattle.mir_meaning.specs.declared.Form.TheVariants as forms
 use Rattle.mir_meaning.specs.Codes.{meaning_of}
-use Rattle.mir_meaning.specs.Valid.{Fault}
+use Rattle.mir_meaning.specs.Valid.{Fault, IsValid, FirstFault}
 use Rattle.meaning.specs.Environment.{Environment}
 use Rattle.meaning.specs.Code.{run}
 use Rattle.mir_interp.specs.Seeds.{of_seed}
@@ -15,7 +15,7 @@ use Rattle.run_text.specs.Printed.{lines_of_run}
 use Rattle.mir_func.specs.declared.func.Place.{Place}
 use Rattle.machine_verify.specs.declared.stop.Invalid.{Invalid}
 use Rattle.machine_verify.specs.Faults.{fault_of}
-use Rattle.machine_verify.specs.Verdict.{IsAccepted, IsFault}
+use Rattle.machine_verify.specs.Lives.{FitsTarget}
 use Rattle.guarded_alloc.specs.Limits.{passed_limit}
 use Rattle.guarded_alloc.specs.Function.{Allocates, IsTaken, IfRefused}
 use Rattle.guarded_alloc.specs.declared.stop.LimitName.TheVariants as limits
@@ -34,7 +34,7 @@ use Rattle.answers.specs.declared.status.Status.TheVariants as status
 use Rattle.answers.specs.Status.{invalid_words, unassignable_words}
 
 -- a text is the printed spelling of the lines before f and of an allocation of f: a function that does all that f
--- does, that the verifier of allocated functions accepts, and that names no virtual register
+-- does, that is valid in the allocated form, and that names no virtual register
 pub record IsAllocation (t : Target) (before : List ℕ) (f : Function) (text : List ℕ) : Type 0 where
   pub func : Function
   pub allocates : Allocates t f func
@@ -44,19 +44,19 @@ pub record IsAllocation (t : Target) (before : List ℕ) (f : Function) (text : 
 abbrev pub valid_line : List ℕ → List ℕ
 valid_line name = codes "valid " ++ (name ++ codes "\n")
 
--- the verifier of a form accepts f, which passes no limit
+-- f is valid in a form, and passes no limit
 pub record IsValidLine (t : Target) (form : Form) (f : Function) (text : List ℕ) : Type 0 where
   pub fits : passed_limit f ≡ None
-  pub accepted : IsAccepted t form f
+  pub valid : IsValid t form f
   pub line : text ≡ valid_line f.name
 
 -- a function has a name
 abbrev pub is_named : List ℕ → Function → Bool
 is_named name f = pointwise nat_eq f.name name
 
--- a function that a verifier accepts as a source, or else as an allocated function
+-- a function that is valid as a source, or else as an allocated function
 abbrev pub IsRunnable : Target → Function → Type 0
-IsRunnable t f = IsAccepted t forms.Source f ⊎ ((x : Fault) × IsFault t forms.Source f x × IsAccepted t forms.Allocated f)
+IsRunnable t f = IsValid t forms.Source f ⊎ ((x : Fault) × FirstFault t forms.Source f x × IsValid t forms.Allocated f)
 
 -- a text has the events and the end of the run of f through n counted instructions, in every environment that stands
 -- for the one of a number
@@ -135,7 +135,7 @@ IntervalsRefuses t f s detail = AllocRefuses t f s detail
 -- why `verify` refuses a function: a limit that it passes; within the limits, its first fault
 abbrev pub VerifyRefuses : Target → Form → Function → Status → List ℕ → Type 0
 VerifyRefuses t form f (status.Limit l) detail = passed_limit f ≡ Some l
-VerifyRefuses t form f (status.Invalid x) detail = (passed_limit f ≡ None) × IsFault t form f (fault_of x) × (detail ≡ invalid_words f.name x)
+VerifyRefuses t form f (status.Invalid x) detail = (passed_limit f ≡ None) × FirstFault t form f (fault_of x) × (detail ≡ invalid_words f.name x)
 VerifyRefuses t form f _ detail = ⊥
 
 -- why `run` refuses the function: a limit that it passes; within the limits, its first fault as a source, where it has
@@ -143,7 +143,7 @@ VerifyRefuses t form f _ detail = ⊥
 abbrev pub RunRefuses : Target → Function → Status → List ℕ → Type 0
 RunRefuses t f (status.Limit l) detail = passed_limit f ≡ Some l
 RunRefuses t f (status.Invalid x) detail =
-    (passed_limit f ≡ None) × IsFault t forms.Source f (fault_of x) × ((y : Fault) × IsFault t forms.Allocated f y) × (detail ≡ invalid_words f.name x)
+    (passed_limit f ≡ None) × FirstFault t forms.Source f (fault_of x) × ((y : Fault) × FirstFault t forms.Allocated f y) × (detail ≡ invalid_words f.name x)
 RunRefuses t f _ detail = ⊥
 
 -- why a function is refused
@@ -158,6 +158,12 @@ FunctionRefuses jobs.Trace t f s detail = AllocRefuses t f s detail
 abbrev pub RefusesDoc : Job → Target → Doc → Status → List ℕ → Type 0
 RefusesDoc job t (docs.Function before f) s detail = FunctionRefuses job t f s detail
 RefusesDoc job t d s detail = ⊥
+
+-- the virtual registers of a document's function are of classes of the target, as those of each document are that is
+-- read under it
+abbrev pub DocFits : Target → Doc → Type 0
+DocFits t (docs.Function before f) = FitsTarget t f
+DocFits t d = Unit {0}
 
 abbrev pub IsDocAnswer : Job → Target → Doc → Answer → Type 0
 IsDocAnswer job t d (answers.Text text) = IsTextOf job t d text
@@ -202,9 +208,9 @@ IsNamedAnswer t name n seed f (answers.Refused s detail) = (is_named name f ≡ 
 -- the answer for a function that isn't valid as a source, with this first fault
 abbrev pub IsSecondAnswer : Target → ℕ → ℕ → Function → Invalid → Answer → Type 0
 IsSecondAnswer t n seed f x (answers.Text text) = ⊥
-IsSecondAnswer t n seed f x (answers.Last text) = IsAccepted t forms.Allocated f × IsTextOfRun t f n seed text
+IsSecondAnswer t n seed f x (answers.Last text) = IsValid t forms.Allocated f × IsTextOfRun t f n seed text
 IsSecondAnswer t n seed f x (answers.Refused s detail) =
-    (s ≡ status.Invalid x) × ((y : Fault) × IsFault t forms.Allocated f y) × (detail ≡ invalid_words f.name x)
+    (s ≡ status.Invalid x) × ((y : Fault) × FirstFault t forms.Allocated f y) × (detail ≡ invalid_words f.name x)
 
 -- the answer that refuses a function for a cause
 abbrev pub IsAllocRefusal : FunctionStop → Answer → Type 0

@@ -57,6 +57,7 @@ pub fn end_status(job: Job) -> Status
 /// What is answered at a piece that begins at a spot; it may be 4,194,305 bytes long, which are the
 /// first ones of a longer piece. `number` is that of the next function that is allocated, and rises
 /// with it. The commands `alloc` and `trace` tell the watchers; the others leave them as they were.
+#[tactic(auto, using(crate::proofs::Read::doc_fits))]
 pub fn answer_at<W: Watcher>(
     alloc: Global,
     job: Job,

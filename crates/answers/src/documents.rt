@@ -1,8 +1,9 @@
 //! What each command answers at a document.
 
 ghost use Rattle.std.specs.Prelude.{◌≡◌, ◌++◌, IfOk, codes, false};
+ghost use Rattle.machine_verify.specs.Lives.{FitsTarget};
 ghost use Rattle.guarded_alloc.specs.Function.{IfRefused};
-ghost use Rattle.answers.specs.Documents.{IsDocAnswer, IsFunctionAnswer, IsAllocAnswer, IsAllocRefusal, IsEndText, tells, text_of_lines};
+ghost use Rattle.answers.specs.Documents.{DocFits, IsDocAnswer, IsFunctionAnswer, IsAllocAnswer, IsAllocRefusal, IsEndText, tells, text_of_lines};
 
 use crate::answer::{Answer, Job};
 use crate::intervals::intervals_of;
@@ -49,6 +50,7 @@ fn allocated_function<W: Watcher>(
     number: u32,
     watchers: &mut Vec<W>,
 ) -> Result<Answer, AllocError>
+    requires { FitsTarget target.now f }
     ensures { IfOk result (IsAllocAnswer target.now before f) }
 {
     match allocated(alloc, target, f, number, watchers) {
@@ -77,6 +79,7 @@ fn at_function<W: Watcher>(
     number: &mut u32,
     watchers: &mut Vec<W>,
 ) -> Result<Answer, AllocError>
+    requires { FitsTarget target.now f }
     ensures answer { IfOk result (IsFunctionAnswer job.entry target.now before f) }
     ensures leaves { tells job.entry ≡ false → watchers.new ≡ watchers.old }
 {
@@ -112,6 +115,7 @@ pub fn at_document<W: Watcher>(
     number: &mut u32,
     watchers: &mut Vec<W>,
 ) -> Result<Answer, AllocError>
+    requires { DocFits target.now doc }
     ensures answer { IfOk result (IsDocAnswer job.entry target.now doc) }
     ensures leaves { tells job.entry ≡ false → watchers.new ≡ watchers.old }
 {

@@ -1,15 +1,16 @@
 //! The command `intervals` at a function.
 
 ghost use Rattle.std.specs.Prelude.{◌≡◌, IfOk};
+ghost use Rattle.machine_verify.specs.Lives.{FitsTarget};
 ghost use Rattle.answers.specs.Documents.{IsIntervalsAnswer, IsLiveAnswer, IsPlaceRefusal};
 
 use crate::answer::Answer;
 use crate::status::Status;
 use crate::words::{invalid_words, unassignable_words};
 use function_alloc::prepare;
-use guarded_alloc::{LimitName, passed_limit};
+use guarded_alloc::{LimitName, passed_limit, verify_source};
 use interval_text::text_of_intervals;
-use machine_verify::{VerifyStop, verify_source};
+use machine_verify::VerifyStop;
 use mir_func::{Func, Valid};
 use place_solve::{PlaceStop, check_places};
 use std::alloc::{AllocError, Global};
@@ -53,6 +54,7 @@ fn intervals_of_valid(
 
 /// What is live where in a function once it is made ready for the allocator's run.
 pub(crate) fn intervals_of(alloc: Global, target: &Target, f: Func) -> Result<Answer, AllocError>
+    requires { FitsTarget target.now f }
     ensures { IfOk result (IsIntervalsAnswer target.now f) }
 {
     if let Some(limit) = passed_limit(&f) {

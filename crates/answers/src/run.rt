@@ -1,13 +1,14 @@
 //! The command `run` at a function.
 
 ghost use Rattle.std.specs.Prelude.{◌≡◌, IfOk};
+ghost use Rattle.machine_verify.specs.Lives.{FitsTarget};
 ghost use Rattle.answers.specs.Documents.{IsRunAnswer, IsNamedAnswer, IsSecondAnswer};
 
 use crate::answer::Answer;
 use crate::status::Status;
 use crate::words::invalid_words;
-use guarded_alloc::passed_limit;
-use machine_verify::{Invalid, VerifyStop, verify_allocated, verify_source};
+use guarded_alloc::{passed_limit, verify_allocated, verify_source};
+use machine_verify::{Invalid, VerifyStop};
 use mir_func::Func;
 use run_text::text_of_run;
 use std::alloc::{AllocError, Global};
@@ -23,6 +24,7 @@ fn ran_allocated(
     f: &Func,
     invalid: Invalid,
 ) -> Result<Answer, AllocError>
+    requires { FitsTarget target.now f.now }
     ensures { IfOk result (IsSecondAnswer target.now n seed f.now invalid) }
 {
     match verify_allocated(alloc, target, f) {
@@ -37,6 +39,7 @@ fn ran_allocated(
 
 /// Runs a function that is valid as a source, or else as an allocated function.
 fn ran(alloc: Global, target: &Target, n: u64, seed: u64, f: Func) -> Result<Answer, AllocError>
+    requires { FitsTarget target.now f }
     ensures { IfOk result (IsRunAnswer target.now n seed f) }
 {
     if let Some(limit) = passed_limit(&f) {
@@ -59,6 +62,7 @@ pub(crate) fn at_named(
     seed: u64,
     f: Func,
 ) -> Result<Answer, AllocError>
+    requires { FitsTarget target.now f }
     ensures { IfOk result (IsNamedAnswer target.now name.now n seed f) }
 {
     if f.name.as_slice() == name.as_bytes() {

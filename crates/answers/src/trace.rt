@@ -1,14 +1,15 @@
 //! The command `trace` at a function.
 
 ghost use Rattle.std.specs.Prelude.{◌≡◌, IfOk};
+ghost use Rattle.machine_verify.specs.Lives.{FitsTarget};
 ghost use Rattle.answers.specs.Documents.{IsTraceAnswer, IsTakenAnswer, IsTakenRefusal};
 
 use crate::answer::Answer;
 use crate::status::Status;
 use crate::words::{invalid_words, unassignable_words};
 use function_alloc::{RegisterStop, with_registers};
-use guarded_alloc::{LimitName, passed_limit};
-use machine_verify::{VerifyStop, verify_source};
+use guarded_alloc::{LimitName, passed_limit, verify_source};
+use machine_verify::VerifyStop;
 use mir_func::{Func, Valid};
 use std::alloc::{AllocError, Global};
 use target_base::{Bytes, Copied, Target};
@@ -62,6 +63,7 @@ pub(crate) fn traced<W: Watcher>(
     number: u32,
     watchers: &mut Vec<W>,
 ) -> Result<Answer, AllocError>
+    requires { FitsTarget target.now f }
     ensures { IfOk result (IsTraceAnswer target.now f) }
 {
     if let Some(limit) = passed_limit(&f) {

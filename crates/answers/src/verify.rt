@@ -1,14 +1,16 @@
 //! The command `verify` at a function.
 
 ghost use Rattle.std.specs.Prelude.{◌≡◌, ◌++◌, IfOk, IfErr, OnOk, codes};
-ghost use Rattle.machine_verify.specs.Verdict.{IsAccepted, IsFault, IfInvalid};
+ghost use Rattle.mir_meaning.specs.Valid.{IsValid, FirstFault};
+ghost use Rattle.machine_verify.specs.Lives.{FitsTarget};
+ghost use Rattle.machine_verify.specs.Verdict.{IfInvalid};
 ghost use Rattle.answers.specs.Documents.{valid_line, IsVerifyAnswer};
 
 use crate::answer::Answer;
 use crate::status::Status;
 use crate::words::invalid_words;
-use guarded_alloc::passed_limit;
-use machine_verify::{VerifyStop, verify_allocated, verify_source};
+use guarded_alloc::{passed_limit, verify_allocated, verify_source};
+use machine_verify::VerifyStop;
 use mir_func::Func;
 use mir_meaning::Form;
 use std::alloc::{AllocError, Global};
@@ -16,8 +18,9 @@ use target_base::{Bytes, Copied, Target};
 
 /// Whether a function is valid in a form.
 fn verified(alloc: Global, target: &Target, form: Form, f: Func) -> Result<(), VerifyStop>
-    ensures ok { OnOk result (IsAccepted target.now form f) }
-    ensures err { IfErr result (IfInvalid (IsFault target.now form f)) }
+    requires { FitsTarget target.now f }
+    ensures ok { OnOk result (IsValid target.now form f) }
+    ensures err { IfErr result (IfInvalid (FirstFault target.now form f)) }
 {
     match form {
         Form::Source => {
@@ -45,6 +48,7 @@ pub(crate) fn verified_function(
     form: Form,
     f: Func,
 ) -> Result<Answer, AllocError>
+    requires { FitsTarget target.now f }
     ensures { IfOk result (IsVerifyAnswer target.now form f) }
 {
     if let Some(limit) = passed_limit(&f) {

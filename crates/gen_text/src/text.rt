@@ -2,6 +2,7 @@
 
 ghost use Rattle.std.specs.Prelude.{IfOk, IfErr};
 ghost use Rattle.gen_text.specs.Generated.{IsTextOf, IsGenText, IfGenRefused};
+ghost use Rattle.machine_verify.specs.Lives.{FitsTarget};
 ghost use Rattle.guarded_alloc.specs.Function.{IfRefused};
 
 use crate::ran::summary;
@@ -19,6 +20,7 @@ fn text_of<W: Watcher>(
     source: &Func,
     watchers: &mut Vec<W>,
 ) -> Result<Bytes, FunctionStop>
+    requires { FitsTarget target.now source.now }
     ensures ok { IfOk result (IsTextOf target.now seed source.now) }
     ensures err { IfErr result (IfRefused target.now source.now) }
 {
@@ -33,6 +35,7 @@ fn text_of<W: Watcher>(
 /// allocated under guard with the number 0: the five lines that begin with `gen`, `source`,
 /// `allocated`, `source` and `allocated`. The watchers are told every step of the allocator's run. It is
 /// refused as each function is that isn't allocated.
+#[tactic(auto, using(crate::proofs::Fitting::generated_fits))]
 pub fn text_of_gen<W: Watcher>(
     alloc: Global,
     seed: u64,

@@ -11,7 +11,8 @@ use target_base::Target;
 
 /// The function of a document. None where it is no function document.
 fn function_of(doc: Doc) -> Option<Func>
-    ensures { result ≡ function_of doc }
+    ensures value { result ≡ function_of doc }
+    ensures few { (n : ℕ) → IsBulkWithin n doc → IfSome result (λ f. length f.classes ≤ n) }
 {
     match doc {
         Doc::Function(_, f) => Some(f),
@@ -21,9 +22,11 @@ fn function_of(doc: Doc) -> Option<Func>
 }
 
 /// The function that is generated for a seed: its text as it is read over a target, which is meant to
-/// be the built-in one. None where the text spells no function over the target.
+/// be the built-in one, with at most 4,194,304 virtual registers. None where the text spells no function
+/// over the target.
 pub fn generate(alloc: Global, target: &Target, seed: u64) -> Result<Option<Func>, AllocError>
-    ensures { IfOk result (λ f. f ≡ generated_for target.now seed) }
+    ensures value { IfOk result (λ f. f ≡ generated_for target.now seed) }
+    ensures few { IfOk result (λ o. IfSome o (λ f. length f.classes ≤ 4194304)) }
 {
     let text = generated(alloc, seed)?;
     match read_doc(alloc, target, true, 1, text.as_slice()) {

@@ -3,8 +3,8 @@ use Rattle.std.specs.Prelude.{◌≡◌, ℕ, Bool, true, false, List, Option, S
 use Rattle.target_base.specs.declared.types.Target.{Target}
 use Rattle.mir_func.specs.Value.{Function}
 use Rattle.mir_meaning.specs.declared.Form.TheVariants as forms
+use Rattle.mir_meaning.specs.Valid.{IsValid, FirstFault}
 use Rattle.machine_verify.specs.Faults.{fault_of}
-use Rattle.machine_verify.specs.Verdict.{IsAccepted, IsFault}
 use Rattle.alloc_check.specs.Verdict.{IsRight}
 use Rattle.guarded_alloc.specs.declared.stop.FunctionStop.{FunctionStop}
 use Rattle.guarded_alloc.specs.declared.stop.FunctionStop.TheVariants as stops
@@ -12,20 +12,20 @@ use Rattle.guarded_alloc.specs.declared.stop.LimitName.{LimitName}
 use Rattle.guarded_alloc.specs.declared.stop.LimitName.TheVariants as limits
 use Rattle.guarded_alloc.specs.Limits.{passed_limit}
 
--- the function lies within the limits, and the verifier accepts it as a source
+-- the function lies within the limits, and is valid as a source
 pub record IsTaken (t : Target) (f : Function) : Type 0 where
   pub fits : passed_limit f ≡ None
-  pub accepted : IsAccepted t forms.Source f
+  pub valid : IsValid t forms.Source f
 
--- g is right for f: the verifier accepts it in the allocated form, it names no virtual register, and it does all that f does
-pub record Allocates (t : Target) (f g : Function) : Type 0 where
-  pub taken : IsTaken t f
+-- what the guard lets through: g is valid in the allocated form, names no virtual register, and does all that f does
+pub record IsGuarded (t : Target) (f g : Function) : Type 0 where
+  pub valid : IsValid t forms.Allocated g
   pub right : IsRight t f g
 
--- what the guard lets through
-abbrev pub IfGuarded : Target → Function → Option Function → Type 0
-IfGuarded t f None = Unit {0}
-IfGuarded t f (Some g) = IsRight t f g
+-- g is an allocation of f, a function within the limits that is valid as a source
+pub record Allocates (t : Target) (f g : Function) : Type 0 where
+  pub taken : IsTaken t f
+  pub guarded : IsGuarded t f g
 
 -- the limit l is that of the variables of a place or that of range numbers, which are asked once a function is taken
 abbrev pub IsLateLimit : LimitName → Type 0
@@ -51,7 +51,7 @@ IfLimited t f l = passed_limit f ≡ Some l
 -- allocated, only where neither of these is due.
 abbrev pub IfRefused : Target → Function → FunctionStop → Type 0
 IfRefused t f (stops.Limit l) = IfLimited t f l
-IfRefused t f (stops.Invalid name x) = (passed_limit f ≡ None) × (name ≡ f.name) × IsFault t forms.Source f (fault_of x)
+IfRefused t f (stops.Invalid name x) = (passed_limit f ≡ None) × (name ≡ f.name) × FirstFault t forms.Source f (fault_of x)
 IfRefused t f (stops.Unassignable name x) = IsTaken t f × (name ≡ f.name)
 IfRefused t f stops.NotYet = IsTaken t f
 IfRefused t f (stops.Memory e) = Unit {0}

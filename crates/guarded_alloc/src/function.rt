@@ -1,16 +1,17 @@
 //! One function.
 
 ghost use Rattle.std.specs.Prelude.{◌≡◌, true, IfOk, IfErr};
-ghost use Rattle.alloc_check.specs.Verdict.{IsRight};
+ghost use Rattle.machine_verify.specs.Lives.{FitsTarget};
 ghost use Rattle.function_alloc.specs.Stops.{comes_of_a_place};
 ghost use Rattle.guarded_alloc.specs.Limits.{passed_limit};
-ghost use Rattle.guarded_alloc.specs.Function.{Allocates, IsOnceTaken, IfRefused, comes_before_run};
+ghost use Rattle.guarded_alloc.specs.Function.{Allocates, IsGuarded, IsOnceTaken, IfRefused, comes_before_run};
 
 use crate::guard::guarded;
 use crate::limits::passed_limit;
 use crate::stop::{FunctionStop, LimitName};
+use crate::valid::verify_source;
 use function_alloc::{RegisterStop, Watcher, with_registers};
-use machine_verify::{VerifyStop, verify_source};
+use machine_verify::VerifyStop;
 use mir_func::{Func, Valid};
 use std::alloc::Global;
 use target_base::{Bytes, Copied, Target};
@@ -38,7 +39,7 @@ fn allocated_valid<W: Watcher>(
     number: u32,
     watchers: &mut Vec<W>,
 ) -> Result<Func, FunctionStop>
-    ensures ok { IfOk result (IsRight target.now source.func) }
+    ensures ok { IfOk result (IsGuarded target.now source.func) }
     ensures err { IfErr result (IsOnceTaken name) }
     ensures untold { IfErr result (λ stop. comes_before_run stop ≡ true → watchers.new ≡ watchers.old) }
 {
@@ -66,6 +67,7 @@ pub fn allocated<W: Watcher>(
     number: u32,
     watchers: &mut Vec<W>,
 ) -> Result<Func, FunctionStop>
+    requires { FitsTarget target.now f }
     ensures ok { IfOk result (Allocates target.now f) }
     ensures err { IfErr result (IfRefused target.now f) }
     ensures untold { IfErr result (λ stop. comes_before_run stop ≡ true → watchers.new ≡ watchers.old) }

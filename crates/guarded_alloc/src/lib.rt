@@ -2,12 +2,15 @@
 //! chosen, and the checker of allocations is asked before it is handed out.
 #![tactic(auto)]
 
+mod fitting;
 pub mod function;
 mod guard;
 pub mod limits;
 pub mod stop;
+pub mod valid;
 
 pub use function::allocated;
 pub use function_alloc::Watcher;
 pub use limits::passed_limit;
 pub use stop::{FunctionStop, LimitName};
+pub use valid::{verify_allocated, verify_source};
