@@ -1,6 +1,7 @@
 //! The function that the text for a seed spells.
 
-ghost use Rattle.std.specs.Prelude.{◌≡◌, IfOk};
+ghost use Rattle.std.specs.Prelude.{◌≡◌, ◌≤◌, ℕ, IfOk, IfSome, length};
+ghost use Rattle.mir_text.specs.Document.{IsBulkWithin};
 ghost use Rattle.generator.specs.Generated.{function_of, generated_for};
 
 use crate::text::generated;
