@@ -97,13 +97,7 @@ fn mark_met(slots: &Slots, stretches: &[Held], at: Stretch, but: u32, marks: &mu
 
 /// Looks for a stretch of a range that begins with an instruction or with the block, among some whose
 /// last ones are those that begin at the first of some points or behind it.
-fn seek(
-    slots: &Slots,
-    stretches: &[Held],
-    range: u32,
-    start: Option<u32>,
-    first: u128,
-) -> Sought {
+fn seek(slots: &Slots, stretches: &[Held], range: u32, start: Option<u32>, first: u128) -> Sought {
     let mut count = stretches.len();
     'stretches: for held in stretches.iter().rev() {
         if held.range == range && held.extent.start == start {
