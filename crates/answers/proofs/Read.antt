@@ -4,7 +4,7 @@ use Rattle.target_base.specs.declared.types.Target.{Target}
 use Rattle.mir_text.specs.declared.doc.Doc.{Doc}
 use Rattle.mir_text.specs.declared.doc.Doc.TheVariants as docs
 use Rattle.mir_text.specs.Document.{document_of, IsBulkWithin}
-use Rattle.text_laws.proofs.Classes.{classes-law}
+use Rattle.text_laws.proofs.Spelled.{classes-law}
 use Rattle.answers.specs.Documents.{DocFits}
 
 pub doc_fits : (t : Target) (first : Bool) (n : ℕ) (bytes : List ℕ) (d : Doc) → length bytes ≤ 4194304 → document_of t first n bytes ≡ Ok d → IsBulkWithin (length bytes) d → DocFits t d

@@ -9,8 +9,9 @@ use Rattle.mir_text.specs.declared.doc.TextFault.{TextFault}
 use Rattle.mir_text.specs.Document.{document_of}
 use Rattle.generator.specs.Text.{generated_text}
 use Rattle.generator.specs.Generated.{function_of, function_read, generated_for}
+use Rattle.text_laws.specs.Laws.{AreClasses}
 use Rattle.machine_verify.specs.Lives.{FitsTarget}
-use Rattle.text_laws.proofs.Classes.{classes-law}
+use Rattle.text_laws.proofs.Spelled.{classes-law}
 
 pub generated_fits : (t : Target) (seed : ℕ) (f : Function) → generated_for t seed ≡ Some f → length f.classes ≤ 4194304 → FitsTarget t f
 generated_fits t seed f e few = record { classes = go (document_of t true 1 (generated_text seed)) refl (unfold generated_for e); few = omega (arith, few) }

@@ -1,0 +1,6 @@
+pub mod Types
+pub mod Given
+pub mod Looked
+pub mod Keyed
+pub mod Lines
+pub mod Spelled
