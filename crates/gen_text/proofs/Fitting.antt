@@ -1,5 +1,5 @@
 -- The virtual registers of a generated function are of classes of the target.
-use Rattle.std.proofs.Common.{◌≡◌, ◌≤◌, ℕ, Option, Some, None, Ok, Err, length, refl, arith}
+use Rattle.std.proofs.Common.{◌≡◌, ◌≤◌, ℕ, Option, Some, None, Ok, Err, length, refl, subst, arith}
 use Rattle.std.specs.Prelude.{Result}
 use Rattle.target_base.specs.declared.types.Target.{Target}
 use Rattle.mir_func.specs.Value.{Function}
@@ -14,10 +14,11 @@ use Rattle.machine_verify.specs.Lives.{FitsTarget}
 use Rattle.text_laws.proofs.Spelled.{classes-law}
 
 pub generated_fits : (t : Target) (seed : ℕ) (f : Function) → generated_for t seed ≡ Some f → length f.classes ≤ 4194304 → FitsTarget t f
-generated_fits t seed f e few = record { classes = go (document_of t true 1 (generated_text seed)) refl (unfold generated_for e); few = omega (arith, few) }
+unfolding generated_for
+generated_fits t seed f e few = record { classes = go (document_of t true 1 (generated_text seed)) refl e; few = omega (arith, few) }
   where
     go : (read : Result Doc TextFault) → document_of t true 1 (generated_text seed) ≡ read → function_read read ≡ Some f → AreClasses t f
-    go (Ok (docs.Function before g)) d h = classes-law t true 1 (generated_text seed) before f (d ∙ cc)
+    go (Ok (docs.Function before g)) d h = let e : g ≡ f = cc in subst (λ x. AreClasses t x) e (classes-law t true 1 (generated_text seed) before g d)
     go (Ok (docs.Ir lines)) d h = absurd (cc)
     go (Ok (docs.Rest lines)) d h = absurd (cc)
     go (Err fault) d h = absurd (cc)

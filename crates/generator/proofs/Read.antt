@@ -1,7 +1,8 @@
 -- What is read of the text for a seed.
-use Rattle.std.proofs.Common.{◌≡◌, ℕ, List, ap, sym, ◌∙◌}
-use Rattle.std.specs.Prelude.{true, Result}
+use Rattle.std.proofs.Common.{◌≡◌, ◌≤◌, ℕ, List, Option, Some, None, length, ap, sym, ◌∙◌, arith}
+use Rattle.std.specs.Prelude.{true, Result, IfSome}
 use Rattle.target_base.specs.declared.types.Target.{Target}
+use Rattle.mir_func.specs.Value.{Function}
 use Rattle.mir_text.specs.declared.doc.Doc.{Doc}
 use Rattle.mir_text.specs.declared.doc.TextFault.{TextFault}
 use Rattle.mir_text.specs.Document.{document_of}
@@ -12,3 +13,7 @@ pub reads : (t : Target) (seed : ℕ) (text : List ℕ) (read : Result Doc TextF
 unfolding generated_for
 reads t seed text read e is =
     sym (ap (λ (r : Result Doc TextFault). function_read r) is) ∙ ap (λ (x : List ℕ). function_read (document_of t true 1 x)) e
+
+pub few_of : (o : Option Function) (n m : ℕ) → IfSome o (λ f. length f.classes ≤ n) → n ≤ m → IfSome o (λ f. length f.classes ≤ m)
+few_of None n m h le = tt
+few_of (Some f) n m h le = omega (arith, h, le)

@@ -1,11 +1,9 @@
 -- How long the text is.
-use Rattle.std.proofs.Common.{◌≡◌, ℕ, ◌+◌, ◌*◌, ◌<◌, ◌≤◌, ◌^◌, ◌/◌, ◌%◌, List, [], ◌∷◌, ◌++◌, length, codes, arith, length-append, zero, suc, refl}
+use Rattle.std.proofs.Common.{◌≡◌, ℕ, ◌+◌, ◌*◌, ◌<◌, ◌≤◌, ◌/◌, List, ◌++◌, length, codes, arith, length-append, zero, suc, refl}
 use Rattle.std.specs.Prelude.{Bool, true, false, ◌==◌, if◌then◌else◌}
 use Rattle.std.specs.Fmt.{decimal}
 use Rattle.std.proofs.lemmas.Fmt.{length-decimal-le}
 use Rattle.std.proofs.Math.Nat.{mod-lt}
-use Rattle.generator.specs.declared.source.Numbers.{Numbers}
-use Rattle.generator.specs.declared.source.Jump.{Jump}
 use Rattle.generator.specs.Text.{next, drawn, numbers, jump, register_line, operation_line, move_line, store_line, instr_line, jump_lines, behind_registers, register_lines, behind_instrs, instr_lines, block_lines, behind_blocks, blocks_lines, head_lines, last_lines, generated_text}
 
 both : (a b : List ℕ) {m n : ℕ} → length a ≤ m → length b ≤ n → length (a ++ b) ≤ m + n

@@ -1,5 +1,5 @@
 -- The function that is generated for a seed.
-use Rattle.std.specs.Prelude.{ℕ, Bool, true, Option, Some, None, Result, Ok, Err}
+use Rattle.std.specs.Prelude.{ℕ, true, Option, Some, None, Result, Ok, Err}
 use Rattle.target_base.specs.declared.types.Target.{Target}
 use Rattle.mir_func.specs.Value.{Function}
 use Rattle.mir_text.specs.declared.doc.Doc.{Doc}

@@ -13,7 +13,11 @@ use target_base::Target;
 
 /// The function where it is valid as a source, and else its first fault.
 #[tactic(auto, using(crate::proofs::Fitting::valid_of, crate::proofs::Fitting::if_first))]
-pub fn verify_source(alloc: Global, target: &Target, f: Func) -> Result<Valid, machine_verify::VerifyStop>
+pub fn verify_source(
+    alloc: Global,
+    target: &Target,
+    f: Func,
+) -> Result<Valid, machine_verify::VerifyStop>
     requires { FitsTarget target.now f }
     ensures ok { IfOk result (λ v. (v.func ≡ f) × IsValid target.now forms.Source f) }
     ensures err { IfErr result (IfInvalid (FirstFault target.now forms.Source f)) }
@@ -23,7 +27,11 @@ pub fn verify_source(alloc: Global, target: &Target, f: Func) -> Result<Valid, m
 
 /// Whether a function is valid in the allocated form, and else its first fault.
 #[tactic(auto, using(crate::proofs::Fitting::valid_of, crate::proofs::Fitting::if_first))]
-pub fn verify_allocated(alloc: Global, target: &Target, f: &Func) -> Result<(), machine_verify::VerifyStop>
+pub fn verify_allocated(
+    alloc: Global,
+    target: &Target,
+    f: &Func,
+) -> Result<(), machine_verify::VerifyStop>
     requires { FitsTarget target.now f.now }
     ensures ok { OnOk result (IsValid target.now forms.Allocated f.now) }
     ensures err { IfErr result (IfInvalid (FirstFault target.now forms.Allocated f.now)) }
