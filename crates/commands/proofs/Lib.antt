@@ -1,2 +1,3 @@
-pub mod Plain
+pub mod Walk
+pub mod Parse
 pub mod Digits

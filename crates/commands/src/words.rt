@@ -1,9 +1,13 @@
 //! The commands by their words.
 
-ghost use Rattle.std.specs.Prelude.{◌≡◌, ◌==◌, ◌≤◌, ◌++◌, ◌∷◌, [], ℕ, List, IfOk, option_map, map, length, nat_le, IsTrue, ◌<◌, ◌^◌};
+ghost use Rattle.std.specs.Prelude.{◌≡◌, ◌==◌, ◌≤◌, ◌∷◌, [], ℕ, List, IfOk, option_map, length, nat_le, IsTrue, ◌<◌, ◌^◌};
 ghost use Rattle.std.specs.List.{list_all};
-ghost use Rattle.commands.specs.Words.{is_option, is_word, is_digit, is_number, number_of, plain_words, asked, asks, command_of, bytes_of, texts_of};
+ghost use Rattle.commands.specs.Words.{is_word, is_digit, is_number, number_of, plain_words, asked, asks, command_of, bytes_of, texts_of};
+ghost use Rattle.clap.specs.Words.{app_of};
+ghost use Rattle.commands.specs.Parser.{parser};
 
+use clap::error::ErrorKind;
+use clap::{Arg, ArgAction, Command as Parser};
 use std::alloc::{AllocError, Global};
 
 /// What the program is asked to do. A target is a file's name, or `-` for the built-in target; a file
@@ -25,17 +29,6 @@ pub enum Command<'a> {
     Trace(&'a str, &'a str),
     /// SEED, below 1,000,000,000: a generated function, allocated and run.
     Gen(u64),
-}
-
-/// Whether a word has two or more bytes and begins with `-`.
-fn is_option(word: &str) -> bool
-    ensures { result ≡ is_option word.now }
-{
-    match word.as_bytes() {
-        [] => false,
-        [_] => false,
-        [first, ..] => *first == b'-',
-    }
 }
 
 fn are_digits(word: &[u8]) -> bool
@@ -65,33 +58,32 @@ fn number(digits: &[u8]) -> u64
     n
 }
 
-/// Appends words.
-fn extend<'a>(plain: &mut Vec<&'a str>, words: &'a [String]) -> Result<(), AllocError>
-    ensures { IfOk result (λ _. texts_of plain.new.items ≡ texts_of plain.old.items ++ bytes_of words.now) }
+/// The parser of the words: each is a value of one argument, and there is neither help nor version.
+fn parser<'a>(alloc: Global) -> Result<Parser<'a>, AllocError>
+    ensures { IfOk result (λ p. app_of p ≡ parser) }
 {
-    for word in words {
-        plain.push(word.as_str())?;
-    }
-    Ok(())
+    let words = Arg::new(alloc, "words").action(ArgAction::Append);
+    Parser::new(alloc, "llra")
+        .no_binary_name(true)
+        .disable_help_flag(true)
+        .disable_version_flag(true)
+        .arg(words)
 }
 
 /// The words without the first `--`; None where a word before it looks like an option.
 fn plain_words<'a>(alloc: Global, words: &'a [String]) -> Result<Option<Vec<&'a str>>, AllocError>
     ensures { IfOk result (λ r. option_map (λ v. texts_of v.items) r ≡ plain_words (bytes_of words.now)) }
 {
-    let mut plain = Vec::new(alloc);
-    for (k, word) in words.iter().enumerate() {
-        let text = word.as_str();
-        if text == "--" {
-            extend(&mut plain, &words[k + 1..])?;
-            return Ok(Some(plain));
-        }
-        if is_option(text) {
-            return Ok(None);
-        }
-        plain.push(text)?;
+    match parser(alloc)?.try_get_matches_from(words) {
+        Ok(matches) => match matches.get_strs("words") {
+            None => Ok(Some(Vec::new(alloc))),
+            Some(plain) => Ok(Some(Vec::from_slice(alloc, plain)?)),
+        },
+        Err(fault) => match fault.kind() {
+            ErrorKind::OutOfMemory => Err(AllocError),
+            _ => Ok(None),
+        },
     }
-    Ok(Some(plain))
 }
 
 /// A command of a name, TARGET and FILE.
