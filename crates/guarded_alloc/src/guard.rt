@@ -11,7 +11,7 @@ use target_base::Target;
 
 /// The allocated function, where the checker says Yes to it beside its source, and its ranges are of
 /// classes of the target, on which it rests that the verifier is exact.
-#[tactic(auto, using(crate::proofs::Fitting::valid_of))]
+#[tactic(auto, using(crate::proofs::Exact::valid_of))]
 pub(crate) fn guarded(
     alloc: Global,
     target: &Target,

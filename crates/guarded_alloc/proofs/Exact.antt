@@ -1,5 +1,5 @@
 -- Where a function's classes are those of its target, the verifier's words are exact.
-use Rattle.std.proofs.Common.{◌≡◌, ◌≤◌, ℕ, zero, suc, Bool, true, false, List, [], ◌∷◌, Option, Some, None, Ok, Err, length, refl, sym, ap, ◌∙◌, ltb-true}
+use Rattle.std.proofs.Common.{◌≡◌, ◌≤◌, ℕ, zero, suc, true, List, [], ◌∷◌, Option, Some, None, Ok, Err, length, sym, ap, ◌∙◌, ltb-true}
 use Rattle.std.specs.Prelude.{Result, IfErr, slice_get}
 use Rattle.std.specs.List.{list_all}
 use Rattle.target_base.specs.declared.types.ClassId.{ClassId}
@@ -7,7 +7,6 @@ use Rattle.target_base.specs.declared.types.Target.{Target}
 use Rattle.target_base.specs.Registers.{IsClass}
 use Rattle.mir_func.specs.Value.{Function}
 use Rattle.mir_meaning.specs.declared.Form.{Form}
-use Rattle.mir_meaning.specs.Binding.{class_of}
 use Rattle.mir_meaning.specs.Valid.{Fault, IsValid, FirstFault}
 use Rattle.mir_meaning.specs.Valid as first
 use Rattle.machine_verify.specs.Lives.{FitsTarget}
