@@ -1,5 +1,5 @@
 -- The virtual registers of a generated function are of classes of the target.
-use Rattle.std.proofs.Common.{◌≡◌, ◌≤◌, ℕ, Option, Some, None, Ok, Err, length, refl, subst, arith}
+use Rattle.std.proofs.Common.{◌≡◌, ◌≤◌, ℕ, true, Some, Ok, Err, length, refl, subst, arith}
 use Rattle.std.specs.Prelude.{Result}
 use Rattle.target_base.specs.declared.types.Target.{Target}
 use Rattle.mir_func.specs.Value.{Function}
@@ -8,7 +8,7 @@ use Rattle.mir_text.specs.declared.doc.Doc.TheVariants as docs
 use Rattle.mir_text.specs.declared.doc.TextFault.{TextFault}
 use Rattle.mir_text.specs.Document.{document_of}
 use Rattle.generator.specs.Text.{generated_text}
-use Rattle.generator.specs.Generated.{function_of, function_read, generated_for}
+use Rattle.generator.specs.Generated.{function_read, generated_for}
 use Rattle.text_laws.specs.Laws.{AreClasses}
 use Rattle.machine_verify.specs.Lives.{FitsTarget}
 use Rattle.text_laws.proofs.Spelled.{classes-law}
