@@ -12,7 +12,6 @@ use Rattle.meaning.specs.Code.{run}
 use Rattle.mir_interp.specs.Seeds.{of_seed}
 use Rattle.mir_interp.specs.Stands.{StandsFor}
 use Rattle.run_text.specs.Printed.{lines_of_run}
-use Rattle.mir_func.specs.declared.func.Place.{Place}
 use Rattle.machine_verify.specs.declared.stop.Invalid.{Invalid}
 use Rattle.machine_verify.specs.Faults.{fault_of}
 use Rattle.machine_verify.specs.Lives.{FitsTarget}
