@@ -1,5 +1,5 @@
 -- The place of a register among the entries.
-use Rattle.std.proofs.Common.{◌≡◌, ℕ, ◌+◌, ◌<◌, ◌≤◌, ◌==◌, nat_le, suc, Bool, true, false, cond, List, [], ◌∷◌, ◌++◌, take, drop, length, Option, Some, None, not, refl, sym, ◌∙◌, ap, arith, get_or, set}
+use Rattle.std.proofs.Common.{◌≡◌, ℕ, ◌+◌, ◌<◌, ◌≤◌, ◌==◌, nat_le, suc, Bool, true, false, cond, List, [], ◌∷◌, ◌++◌, take, drop, length, Some, None, not, refl, sym, ◌∙◌, ap, arith, get_or, set}
 use Rattle.std.specs.List.{position, position_or_len}
 use Rattle.std.proofs.lemmas.Grind.{common_steps}
 use Rattle.std.proofs.lemmas.List.{set_split, take_all, drop_all, drop_more}

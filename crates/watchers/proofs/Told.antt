@@ -1,5 +1,5 @@
 -- A refusal while watchers are told.
-use Rattle.std.proofs.Common.{◌≡◌, ℕ, ◌<◌, ◌≤◌, List, ◌++◌, map, take, drop, length, Result, Ok, Err, OnErr, ◌∙◌, ap, arith, get_or, set}
+use Rattle.std.proofs.Common.{◌≡◌, ℕ, ◌<◌, List, ◌++◌, map, take, drop, length, Result, Ok, Err, OnErr, ◌∙◌, ap, arith, get_or, set}
 use Rattle.std.proofs.lemmas.List.{set-get_or, take_all, drop_all, append-nil}
 use Rattle.watchers.specs.Told.{FirstBecame}
 
@@ -13,8 +13,8 @@ pub first_became : {W : Type 0} (f : W → W) (old now : List W) (len i : ℕ) (
 first_became f old now len i x y whole long inside told same =
     let kept : set now i y ≡ now = ap (set now i) same ∙ set-get_or now i x in
     let rest : take len (set now i y ++ drop (length (set now i y)) old) ≡ now =
-        ap (λ l. take len (l ++ drop (length l) old)) kept ∙ ap (λ l. take len (now ++ l)) (drop_all (length now) old (omega (arith, long)))
-        ∙ ap (take len) (append-nil now) ∙ take_all len now (omega (arith, whole, long)) in
+    ap (λ l. take len (l ++ drop (length l) old)) kept ∙ ap (λ l. take len (now ++ l)) (drop_all (length now) old (omega (arith, long)))
+    ∙ ap (take len) (append-nil now) ∙ take_all len now (omega (arith, whole, long)) in
     (i, omega (arith, inside), rest ∙ told)
 
 -- a box whose value becomes what it is after a step is the box after that step

@@ -79,12 +79,7 @@ fn first_given(alloc: Global, target: &Target, r: Reg) -> Result<Given, AllocErr
 }
 
 /// Counts a register. After a refusal the entries are unchanged.
-fn give(
-    alloc: Global,
-    target: &Target,
-    given: &mut Vec<Given>,
-    r: Reg,
-) -> Result<(), AllocError>
+fn give(alloc: Global, target: &Target, given: &mut Vec<Given>, r: Reg) -> Result<(), AllocError>
     ensures ok { OnOk result (given.new.items ≡ given_once target.now given.old.items r) }
     ensures err { OnErr result (given.new.items ≡ given.old.items) }
 {
