@@ -97,13 +97,7 @@ fn mark_met(slots: &Slots, stretches: &[Held], at: Stretch, but: u32, marks: &mu
 
 /// Looks for a stretch of a range that begins with an instruction or with the block, among some whose
 /// last ones are those that begin at the first of some points or behind it.
-fn sought(
-    slots: &Slots,
-    stretches: &[Held],
-    range: u32,
-    start: Option<u32>,
-    first: u128,
-) -> Sought {
+fn seek(slots: &Slots, stretches: &[Held], range: u32, start: Option<u32>, first: u128) -> Sought {
     let mut count = stretches.len();
     'stretches: for held in stretches.iter().rev() {
         if held.range == range && held.extent.start == start {
@@ -241,7 +235,7 @@ impl HeldList {
         };
         let gap = self.behind(slots, high);
         'parts: for part in (0..=gap.part).rev() {
-            match sought(slots, self.part_before(part, gap), range, start, low) {
+            match seek(slots, self.part_before(part, gap), range, start, low) {
                 Sought::UpTo(count) => return Some(Gap { part, count }),
                 Sought::Nowhere => return None,
                 Sought::Open => {}
