@@ -1,5 +1,9 @@
 //! The run: its state, and its steps until no range waits.
 
+ghost use Rattle.std.specs.Prelude.{◌∷◌, List, OnOk, OnErr};
+ghost use Rattle.watchers.specs.declared.steps.Step.{Step};
+ghost use Rattle.watchers.specs.Told.{AllTold, PartTold};
+
 use crate::queue::Queue;
 use block_freq::Freqs;
 use evictor::{Ranks, Stage, Stages};
@@ -36,8 +40,9 @@ pub(crate) struct Run {
 }
 
 /// Runs the allocator over a function from its first state to the one in which no range waits.
-/// Each watcher is told every step, in order. Ranges comes where a step gives more range numbers
-/// than the limit allows. After a refusal each watcher was told a first part of the steps.
+/// Each watcher is told every step, in order, from the beginning of the run over the function of
+/// this number. Ranges comes where a step gives more range numbers than the limit allows. After a
+/// refusal each watcher was told a first part of the steps.
 pub fn allocate<W: Watcher>(
     alloc: Global,
     target: &Target,
@@ -46,7 +51,10 @@ pub fn allocate<W: Watcher>(
     policy: Policy,
     number: u32,
     watchers: &mut Vec<W>,
-) -> Result<Allocated, RunStop> {
+) -> Result<Allocated, RunStop>
+    ensures told { OnOk result ((steps : List Step) × AllTold (W.next target.now) (Step.Begin number ∷ steps) watchers.old.items watchers.new.items) }
+    ensures part { OnErr result ((steps : List Step) × PartTold (W.next target.now) steps watchers.old.items watchers.new.items) }
+{
     match policy {
         Policy::Greedy => run_greedy(alloc, target, f, freqs, number, watchers),
     }
@@ -59,7 +67,10 @@ fn run_greedy<W: Watcher>(
     freqs: &Freqs,
     number: u32,
     watchers: &mut Vec<W>,
-) -> Result<Allocated, RunStop> {
+) -> Result<Allocated, RunStop>
+    ensures told { OnOk result ((steps : List Step) × AllTold (W.next target.now) (Step.Begin number ∷ steps) watchers.old.items watchers.new.items) }
+    ensures part { OnErr result ((steps : List Step) × PartTold (W.next target.now) steps watchers.old.items watchers.new.items) }
+{
     let mut run = Run::new(alloc, f)?;
     tell_all(watchers, target, &Step::Begin(number))?;
     'steps: for _ in 0..u64::MAX {

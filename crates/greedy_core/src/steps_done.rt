@@ -1,5 +1,9 @@
 //! The steps of a run: for the range that comes first, the first of them that applies is done.
 
+ghost use Rattle.std.specs.Prelude.{◌≡◌, OnOk, OnErr, map};
+ghost use Rattle.watchers.specs.declared.steps.Step.{Step};
+ghost use Rattle.watchers.specs.Told.{FirstBecame};
+
 use crate::run::Run;
 use block_freq::Freqs;
 use evictor::{Stage, candidates, cheapest_of};
@@ -12,14 +16,17 @@ use target_base::{Numbers, Reg, Target};
 use watchers::{Choices, Step, Watcher, tell_all};
 
 impl Run {
-    /// Does a step for a range.
+    /// Does a step for a range, and tells it to all watchers, in order.
     pub fn step<W: Watcher>(
         &mut self,
         target: &Target,
         freqs: &Freqs,
         v: u32,
         watchers: &mut Vec<W>,
-    ) -> Result<(), RunStop> {
+    ) -> Result<(), RunStop>
+        ensures told { OnOk result ((step : Step) × (watchers.new.items ≡ map (λ w. W.next target.now w step) watchers.old.items)) }
+        ensures part { OnErr result ((step : Step) × FirstBecame (λ w. W.next target.now w step) watchers.old.items watchers.new.items) }
+    {
         let done = self.first_step(freqs, v)?;
         tell_all(watchers, target, &done)?;
         Ok(())

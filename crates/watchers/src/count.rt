@@ -1,9 +1,14 @@
 //! The watcher that counts the steps of each kind.
 
+ghost use Rattle.std.specs.Prelude.{◌≡◌, ◌++◌, OnOk, OnErr, IfOk};
+ghost use Rattle.std.specs.Fmt.{decimal};
+ghost use Rattle.watchers.specs.Counts.{one_more, no_counts, counted, counts_line};
+
 use crate::steps::Step;
 use crate::telling::Watcher;
 use crate::text::{put, put_number};
 use std::alloc::{AllocError, Global};
+use std::marker::Model;
 use target_base::{Bytes, Target};
 
 /// How often each kind of step was told, but for the beginnings of runs. A count that has reached
@@ -18,9 +23,19 @@ pub struct CountWatcher {
     placed: u64,
 }
 
+impl Model for CountWatcher {
+    ghost use Rattle.watchers.specs.Counts.{Counts};
+
+    ghost Value = { Counts };
+
+    ghost view = { λ s. record { assigned = s.assigned; evicted = s.evicted; deferred = s.deferred; divided = s.divided; spilled = s.spilled; placed = s.placed } };
+}
+
 impl CountWatcher {
     /// It was told no step.
-    pub fn new() -> CountWatcher {
+    pub fn new() -> CountWatcher
+        ensures { result ≡ no_counts }
+    {
         CountWatcher {
             assigned: 0,
             evicted: 0,
@@ -33,17 +48,29 @@ impl CountWatcher {
 }
 
 /// One more than a count.
-pub(crate) fn more(n: u64) -> u64 {
-    if n < u64::MAX { n + 1 } else { n }
+pub(crate) fn more(n: u64) -> u64
+    ensures { result ≡ one_more n }
+{
+    n.saturating_add(1)
 }
 
 /// Adds a word and a count.
-fn put_count(line: &mut Bytes, word: &str, n: u64) -> Result<(), AllocError> {
+fn put_count(line: &mut Bytes, word: &str, n: u64) -> Result<(), AllocError>
+    ensures { OnOk result (line.new ≡ line.old ++ (word.now ++ decimal n)) }
+{
     put(line, word)?;
     put_number(line, n)
 }
 
 impl Watcher for CountWatcher {
+    ghost use Rattle.watchers.specs.Counts.{counted, counts_line};
+
+    ghost next = { λ t s step. counted s step };
+
+    ghost count = { λ s. 1 };
+
+    ghost text = { λ s k. counts_line s };
+
     fn tell(&mut self, _target: &Target, step: &Step) -> Result<(), AllocError> {
         match step {
             Step::Begin(_) => {}

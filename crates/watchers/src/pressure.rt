@@ -1,19 +1,35 @@
 //! The watcher that counts how often each register was given.
 
+ghost use Rattle.std.specs.Prelude.{◌≡◌, ◌≤◌, OnOk, OnErr, IfOk, nat_le, position, [], length, slice_get};
+ghost use Rattle.watchers.specs.Given.{first_given, given_once, given_all, given_by, given_line, line_in, given_line_at};
+
 use crate::count::more;
 use crate::steps::{Choices, Step};
 use crate::telling::Watcher;
 use crate::text::{name_of, put, put_number};
 use std::alloc::{AllocError, Global};
-use target_base::{Bytes, Reg, Target};
+use std::marker::Model;
+use target_base::{Bytes, Copied, Reg, Target};
 
 /// A register that was given.
 #[derive(Drop)]
-struct Given {
-    register: Reg,
-    name: Bytes,
+pub struct Given {
+    /// Its number in the target.
+    pub register: Reg,
+    /// Its name.
+    pub name: Bytes,
     /// How often. A count that has reached 2^64 - 1 stands there.
-    count: u64,
+    pub count: u64,
+}
+
+impl Copied for Given {
+    fn copied(&self, alloc: Global) -> Result<Given, AllocError> {
+        Ok(Given {
+            register: self.register,
+            name: self.name.copied(alloc)?,
+            count: self.count,
+        })
+    }
 }
 
 /// How often each register was given to a range, in target order.
@@ -23,90 +39,108 @@ pub struct PressureWatcher {
     given: Vec<Given>,
 }
 
+impl Model for PressureWatcher {
+    ghost use Rattle.std.specs.Prelude.{List};
+    ghost use Rattle.watchers.specs.declared.pressure.Given.{Given};
+
+    ghost Value = { List Given };
+
+    ghost view = { λ s. s.given.items };
+}
+
 impl PressureWatcher {
     /// It was told no step. It takes no memory.
-    pub fn new(alloc: Global) -> PressureWatcher {
+    pub fn new(alloc: Global) -> PressureWatcher
+        ensures { result ≡ [] }
+    {
         PressureWatcher {
             alloc,
             given: Vec::new(alloc),
         }
     }
+}
 
-    /// The place of a register, or where it would stand.
-    fn place(&self, r: Reg) -> usize {
-        self.given
-            .as_slice()
-            .partition_point(|given| given.register.0 < r.0)
-    }
+/// The place of the first entry that isn't of an earlier register.
+fn place_of(given: &[Given], r: Reg) -> Option<usize>
+    ensures { result ≡ position (λ g. nat_le r.0 g.register.0) given.now }
+{
+    given.iter().position(|g| r.0 <= g.register.0)
+}
 
-    fn is_at(&self, place: usize, r: Reg) -> bool {
-        match self.given.get(place) {
-            Some(given) => given.register == r,
-            None => false,
-        }
-    }
+/// An entry of a register that was given for the first time.
+fn first_given(alloc: Global, target: &Target, r: Reg) -> Result<Given, AllocError>
+    ensures { IfOk result (λ g. g ≡ first_given target.now r) }
+{
+    Ok(Given {
+        register: r,
+        name: Bytes::from_slice(alloc, name_of(target, r))?,
+        count: 1,
+    })
+}
 
-    /// Makes an entry for a register that has none.
-    fn note(&mut self, target: &Target, r: Reg) -> Result<(), AllocError> {
-        let place = self.place(r);
-        if self.is_at(place, r) {
-            return Ok(());
-        }
-        let name = Bytes::from_slice(self.alloc, name_of(target, r))?;
-        let at = place.min(self.given.len());
-        self.given.insert(
-            at,
-            Given {
-                register: r,
-                name,
-                count: 0,
-            },
-        )?;
-        Ok(())
+/// Counts a register. After a refusal the entries are unchanged.
+fn give(alloc: Global, target: &Target, given: &mut Vec<Given>, r: Reg) -> Result<(), AllocError>
+    ensures ok { OnOk result (given.new.items ≡ given_once target.now given.old.items r) }
+    ensures err { OnErr result (given.new.items ≡ given.old.items) }
+{
+    let Some(place) = place_of(given.as_slice(), r) else {
+        given.push(first_given(alloc, target, r)?)?;
+        return Ok(());
+    };
+    if given[place].register.0 == r.0 {
+        let entry = &mut given[place];
+        entry.count = more(entry.count);
+        return Ok(());
     }
+    given.insert(place, first_given(alloc, target, r)?)?;
+    Ok(())
+}
 
-    /// Counts a register that has an entry.
-    fn count(&mut self, r: Reg) {
-        let place = self.place(r);
-        if let Some(given) = self.given.get_mut(place) {
-            if given.register == r {
-                given.count = more(given.count);
-            }
-        }
+/// Equal entries.
+fn copied_all(alloc: Global, given: &[Given]) -> Result<Vec<Given>, AllocError>
+    ensures { IfOk result (λ made. made.items ≡ given.now) }
+{
+    let mut made = Vec::new(alloc);
+    'given: for g in given {
+        made.push(g.copied(alloc)?)?;
     }
+    Ok(made)
+}
 
-    fn note_all(&mut self, target: &Target, choices: &Choices) -> Result<(), AllocError> {
-        'choices: for (_, r) in choices.as_slice() {
-            self.note(target, *r)?;
-        }
-        Ok(())
+/// The entries after the registers of a place are counted.
+fn given_all(
+    alloc: Global,
+    target: &Target,
+    given: &[Given],
+    choices: &Choices,
+) -> Result<Vec<Given>, AllocError>
+    ensures { IfOk result (λ made. made.items ≡ given_all target.now given.now choices.now) }
+{
+    let mut made = copied_all(alloc, given)?;
+    'choices: for (_, r) in choices.as_slice() {
+        give(alloc, target, &mut made, *r)?;
     }
-
-    fn count_all(&mut self, choices: &Choices) {
-        'choices: for (_, r) in choices.as_slice() {
-            self.count(*r);
-        }
-    }
-
-    /// Takes away the entries that count nothing.
-    fn drop_empty(&mut self) {
-        self.given.retain(|given| given.count > 0);
-    }
+    Ok(made)
 }
 
 impl Watcher for PressureWatcher {
+    ghost use Rattle.std.specs.Prelude.{length};
+    ghost use Rattle.watchers.specs.Given.{given_by, given_line_at};
+
+    ghost next = { λ t s step. given_by t s step };
+
+    ghost count = { λ s. length s };
+
+    ghost text = { λ s k. given_line_at s k };
+
     fn tell(&mut self, target: &Target, step: &Step) -> Result<(), AllocError> {
         match step {
             Step::Assign(_, r) | Step::Evict(_, r, _) => {
-                self.note(target, *r)?;
-                self.count(*r);
+                give(self.alloc, target, &mut self.given, *r)?;
             }
+            // made apart, so that a refusal changes nothing
             Step::Place(choices) => {
-                if let Err(e) = self.note_all(target, choices) {
-                    self.drop_empty();
-                    return Err(e);
-                }
-                self.count_all(choices);
+                self.given = given_all(self.alloc, target, self.given.as_slice(), choices)?;
             }
             _ => {}
         }
@@ -118,13 +152,21 @@ impl Watcher for PressureWatcher {
     }
 
     fn line(&self, alloc: Global, k: u64) -> Result<Bytes, AllocError> {
-        let mut line = Bytes::new(alloc);
-        if let Some(given) = self.given.get(k as usize) {
-            put(&mut line, "given $")?;
-            line.extend(given.name.as_slice())?;
-            put(&mut line, " ")?;
-            put_number(&mut line, given.count)?;
+        match self.given.get(k as usize) {
+            None => Ok(Bytes::new(alloc)),
+            Some(given) => line_of(alloc, given),
         }
-        Ok(line)
     }
+}
+
+/// The line of an entry.
+fn line_of(alloc: Global, given: &Given) -> Result<Bytes, AllocError>
+    ensures { IfOk result (λ line. line ≡ given_line given.now) }
+{
+    let mut line = Bytes::new(alloc);
+    put(&mut line, "given $")?;
+    line.extend(given.name.as_slice())?;
+    put(&mut line, " ")?;
+    put_number(&mut line, given.count)?;
+    Ok(line)
 }
