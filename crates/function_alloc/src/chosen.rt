@@ -1,6 +1,9 @@
 //! The registers of a function.
 
-ghost use Rattle.std.specs.Prelude.{◌≡◌, true, false, IfErr};
+ghost use Rattle.std.specs.Prelude.{◌≡◌, ◌∷◌, List, true, false, IfErr, OnOk, OnErr};
+ghost use Rattle.watchers.specs.declared.steps.Step.{Step};
+ghost use Rattle.watchers.specs.declared.steps.Step.TheVariants.{Begin};
+ghost use Rattle.watchers.specs.Told.{AllTold, PartTold};
 ghost use Rattle.function_alloc.specs.Stops.{comes_of_a_place};
 
 use crate::ready::{Prepared, prepare};
@@ -25,6 +28,8 @@ pub fn with_registers<W: Watcher>(
     watchers: &mut Vec<W>,
 ) -> Result<Func, RegisterStop>
     ensures untold { IfErr result (λ stop. comes_of_a_place stop ≡ true → watchers.new ≡ watchers.old) }
+    ensures told { OnOk result ((steps : List Step) × AllTold (W.next target.now) (Begin number ∷ steps) watchers.old.items watchers.new.items) }
+    ensures part { OnErr result ((steps : List Step) × PartTold (W.next target.now) steps watchers.old.items watchers.new.items) }
 {
     check_places(alloc, target, source)?;
     let copy = Valid {
@@ -41,7 +46,9 @@ fn run<W: Watcher>(
     number: u32,
     watchers: &mut Vec<W>,
 ) -> Result<Func, RegisterStop>
-    ensures { IfErr result (λ stop. comes_of_a_place stop ≡ false) }
+    ensures late { IfErr result (λ stop. comes_of_a_place stop ≡ false) }
+    ensures told { OnOk result ((steps : List Step) × AllTold (W.next target.now) (Begin number ∷ steps) watchers.old.items watchers.new.items) }
+    ensures part { OnErr result ((steps : List Step) × PartTold (W.next target.now) steps watchers.old.items watchers.new.items) }
 {
     let Prepared { live, freqs } = prepare(alloc, target, source)?;
     let done = allocate(
