@@ -124,6 +124,17 @@ impl<T: Drop> BoxedList<T> {
         BoxedList { items }
     }
 
+    /// The list of a vector's elements, each put into a box.
+    pub fn from_items(alloc: Global, items: Vec<T>) -> Result<Self, AllocError>
+        ensures { IfOk result (λ made. made ≡ items.items) }
+    {
+        let mut made = BoxedList::new(alloc);
+        for x in items {
+            made.push(x)?;
+        }
+        Ok(made)
+    }
+
     /// The number of elements.
     pub fn len(&self) -> usize
         ensures { result ≡ length self.now }
