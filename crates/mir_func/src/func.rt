@@ -6,7 +6,9 @@ use crate::short::ShortList;
 use std::alloc::{AllocError, Global};
 use std::default::MadeWith;
 use std::marker::Model;
-use target_base::{Boxed, BoxedList, Bytes, ClassId, Copied, IndexId, List, MaskId, OpId, Reg, Regs};
+use target_base::{
+    Boxed, BoxedList, Bytes, ClassId, Copied, IndexId, List, MaskId, OpId, Reg, Regs,
+};
 
 /// Where a register operand lies.
 #[derive(Clone, Copy, Debug, PartialEq, Eq)]
