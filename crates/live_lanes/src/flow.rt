@@ -98,7 +98,11 @@ fn does_leave(target: &Target, instr: &Instr) -> bool
 }
 
 /// The ids of a block's terminators.
-fn terminators_of(alloc: Global, target: &Target, instrs: &[Boxed<Instr>]) -> Result<Vec<u32>, AllocError>
+fn terminators_of(
+    alloc: Global,
+    target: &Target,
+    instrs: &[Boxed<Instr>],
+) -> Result<Vec<u32>, AllocError>
     ensures { IfOk result (λ v. v.items ≡ terminator_ids target.now instrs.now) }
 {
     instrs

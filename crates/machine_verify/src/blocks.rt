@@ -125,7 +125,11 @@ fn is_branch_at(target: &Target, i: &Instr) -> bool
 }
 
 /// The blocks that branches name.
-fn branch_targets(alloc: Global, target: &Target, instrs: &[Boxed<Instr>]) -> Result<Vec<u32>, AllocError>
+fn branch_targets(
+    alloc: Global,
+    target: &Target,
+    instrs: &[Boxed<Instr>],
+) -> Result<Vec<u32>, AllocError>
     ensures { IfOk result (λ made. made.items ≡ rules.branch_targets target.now instrs.now) }
 {
     let mut made = Vec::new(alloc);

@@ -126,7 +126,11 @@ fn add_targets(blocks: &mut NumberSet, target: &Target, i: &Instr) -> Result<(),
 }
 
 /// The blocks that branches go to, each once.
-fn branch_targets(alloc: Global, target: &Target, instrs: &[Boxed<Instr>]) -> Result<NumberSet, AllocError>
+fn branch_targets(
+    alloc: Global,
+    target: &Target,
+    instrs: &[Boxed<Instr>],
+) -> Result<NumberSet, AllocError>
     requires { operand_count instrs.now < 4294967294 }
     ensures value { IfOk result (λ ns. ns ≡ with_numbers [] (branch_targets target.now instrs.now)) }
     ensures few { IfOk result (λ ns. length ns ≤ operand_count instrs.now) }

@@ -106,9 +106,7 @@ pub fn is_at_exit(live: &LiveFunc, around: Around<'_>, u: Unit) -> bool {
     match around {
         Around::Instrs(instrs) => {
             let target = live.target();
-            instrs
-                .iter()
-                .any(|i| live.unit_out(u, i.get().id) || writes(target, i.get(), u))
+            instrs.iter().any(|i| live.unit_out(u, i.get().id) || writes(target, i.get(), u))
         }
         _ => false,
     }

@@ -81,7 +81,12 @@ fn crowded(
 }
 
 /// Whether the own place of an instruction, and the copies that lowering makes of it, admit registers.
-fn admits(alloc: Global, live: &LiveFunc, instrs: &[Boxed<Instr>], j: usize) -> Result<bool, AllocError> {
+fn admits(
+    alloc: Global,
+    live: &LiveFunc,
+    instrs: &[Boxed<Instr>],
+    j: usize,
+) -> Result<bool, AllocError> {
     let (target, f) = (live.target(), live.func());
     if j >= instrs.len() {
         return Ok(true);

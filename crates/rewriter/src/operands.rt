@@ -146,7 +146,11 @@ fn is_identity(target: &Target, i: &Instr) -> bool
 }
 
 /// Puts an instruction behind the others, unless it is a COPY of a register to itself.
-fn push_unless_identity(target: &Target, i: Instr, out: &mut Vec<Boxed<Instr>>) -> Result<(), AllocError>
+fn push_unless_identity(
+    target: &Target,
+    i: Instr,
+    out: &mut Vec<Boxed<Instr>>,
+) -> Result<(), AllocError>
     ensures { OnOk result (out.new.items ≡ out.old.items ++ cond (is_identity target.now i) [] (i ∷ [])) }
 {
     if !is_identity(target, &i) {
