@@ -27,3 +27,4 @@ pub mod Bounded
 pub mod Risen
 pub mod Dead
 pub mod Computed
+pub mod Ending

@@ -12,3 +12,4 @@ pub mod Coded
 pub mod Marks
 pub mod Laws
 pub mod Doing
+pub mod Ends
