@@ -28,3 +28,9 @@ pub mod Risen
 pub mod Dead
 pub mod Computed
 pub mod Ending
+pub mod Lasting
+pub mod Right
+pub mod Gives
+pub mod Outward
+pub mod Homes
+pub mod Looked

@@ -1,11 +1,12 @@
 -- Up to where a lane is live in each piece.
-use Rattle.std.specs.Prelude.{◌≡◌, ◌⊎◌, ◌≤◌, ℕ, Bool, true, false, List, [], ◌∷◌, ◌++◌, nat_le}
+use Rattle.std.specs.Prelude.{◌≡◌, ◌⊎◌, ◌≤◌, ℕ, Bool, true, List, [], ◌∷◌, ◌++◌}
 use Rattle.live_lanes.specs.declared.row.End.{End}
 use Rattle.live_lanes.specs.declared.row.End.TheVariants as ends
 use Rattle.live_lanes.specs.declared.row.Row.{Row}
 use Rattle.live_lanes.specs.Paths.{Among, Step, Code, steps_of, last_of, exits_of, Certain, Into, use_of}
 use Rattle.live_lanes.specs.Graph.{Causes, is_live, writes_in}
 use Rattle.live_lanes.specs.Table.{Numbers, end_rank, end_in}
+pub use Rattle.live_lanes.specs.Reach.{reaches, seen_at}
 use Rattle.live_lanes.specs.Entered.{rows_seen, causes}
 
 -- The points of piece n of a lane in a block that count: the entry of an instruction that reads the lane in any case, or that
@@ -31,9 +32,6 @@ row_end rows l b n = end_in (rows_seen rows l b) n
 abbrev pub AreEnds : Code → Numbers → List Row → Type 0
 AreEnds code slots rows = (l b n : ℕ) → IsEnd code slots (causes rows) l b n (row_end rows l b n)
 
--- a piece with this end isn't over before the point of that rank
-abbrev pub reaches : Numbers → End → ℕ → Bool
-reaches slots ends.Never at = false
-reaches slots (ends.Entry id) at = nat_le at (end_rank slots (ends.Entry id))
-reaches slots (ends.Exit id) at = nat_le at (end_rank slots (ends.Exit id))
-reaches slots ends.Last at = nat_le at (end_rank slots ends.Last)
+-- the lane of that number is live at the point of that rank in the block at a position
+abbrev pub row_at : Numbers → List Row → ℕ → ℕ → ℕ → Bool
+row_at slots rows l b at = seen_at slots (rows_seen rows l b) at
