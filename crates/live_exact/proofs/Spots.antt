@@ -1,5 +1,5 @@
 -- Where the instruction of an id stands, and which lanes that are live there have numbers.
-use Rattle.std.proofs.Common.{◌≡◌, ◌<◌, ◌⊎◌, ℕ, zero, suc, Bool, true, false, cond, List, [], ◌∷◌, ◌++◌, Option, Some, None, map, take, drop, length, refl, sym, ap, ◌∙◌, subst, inl, inr, arith, eqb, eqb-true}
+use Rattle.std.proofs.Common.{◌≡◌, ◌<◌, ◌⊎◌, ℕ, zero, suc, Bool, true, false, cond, not, ◌+◌, List, [], ◌∷◌, ◌++◌, Option, Some, None, map, take, drop, length, refl, sym, ap, ◌∙◌, subst, inl, inr, arith, eqb, eqb-true}
 use Rattle.std.specs.Prelude.{slice_get, option_map, nat_lt}
 use Rattle.std.proofs.lemmas.Bool.{ltb-true}
 use Rattle.target_base.specs.declared.types.Target.{Target}
@@ -42,9 +42,12 @@ named-at : (id : ℕ) (is : List Instr) → instr_place id is < length is → (i
 named-at id [] h = absurd (omega arith)
 named-at id (i ∷ is) h = go (eqb i.id id) refl h (named-at id is)
   where
-    go : (q : Bool) → eqb i.id id ≡ q → cond q zero (suc (instr_place id is)) < suc (length is) → (instr_place id is < length is → (j : Instr) × (slice_get is (instr_place id is) ≡ Some j) × (j.id ≡ id)) → (j : Instr) × (slice_get (i ∷ is) (cond q zero (suc (instr_place id is))) ≡ Some j) × (j.id ≡ id)
+    go : (q : Bool) → eqb i.id id ≡ q → cond (not q) (1 + instr_place id is) 0 < length (i ∷ is) → (instr_place id is < length is → (j : Instr) × (slice_get is (instr_place id is) ≡ Some j) × (j.id ≡ id)) → (j : Instr) × (slice_get (i ∷ is) (cond (not q) (1 + instr_place id is) 0) ≡ Some j) × (j.id ≡ id)
     go true e g ih = (i, refl, eqb-true i.id id e)
-    go false e g ih = ih (omega arith)
+    go false e g ih =
+        let z = ih (omega arith) in
+        let one : 1 + instr_place id is ≡ suc (instr_place id is) = omega arith in
+        (z.0, ap (slice_get (i ∷ is)) one ∙ z.1, z.2)
 
 pub spot : (t : Target) (f : Function) (id : ℕ) (bs : List Block) (x k : ℕ) → spot_in id bs ≡ Some (x, k) → Spot t f id bs x k
 spot t f id [] x k e = absurd (cc)

@@ -21,6 +21,7 @@ use Rattle.live_lanes.specs.Lasting.{Shapes, shapes, live_end, right_end, readin
 use Rattle.live_lanes.proofs.Certainty.{lt-cases, block-cell, cell-tells, place-or-unseen}
 use Rattle.live_lanes.proofs.Numbered.{ids-rise, rises-ids, map-twice}
 use Rattle.live_lanes.proofs.Rows.{rows-set, row-of}
+use Rattle.live_lanes.proofs.Segments.{changed-past}
 
 -- what causes and shapes tell stays where only ends change
 
@@ -108,14 +109,9 @@ module _ (mid new : List Row) (lane place k : ℕ) (e : End) (s : SetsEnd mid ne
           within : ((length (rows_seen mid l b).segments < k) ⊎ (k ≤ length (rows_seen mid l b).segments)) → Kept mid new l b n ⊎ Given mid new lane place k e l b n
           within (inl h) = inl (m ∙ beyond k h)
             where
-              unchanged : (ss : List Begun) (j : ℕ) → length ss ≤ j → changed_at j (begun_with_end e) ss ≡ ss
-              unchanged [] j h = refl
-              unchanged (x ∷ ss) zero h = absurd (omega arith)
-              unchanged (x ∷ ss) (suc j) h = ap (λ t. x ∷ t) (unchanged ss j (omega arith))
-
               beyond : (j : ℕ) → length (rows_seen mid l b).segments < j → end_in (with_end (rows_seen mid l b) j e) n ≡ end_in (rows_seen mid l b) n
               beyond zero h = absurd (omega arith)
-              beyond (suc j) h = ap (λ ss. end_in (record (rows_seen mid l b) { segments = ss }) n) (unchanged (rows_seen mid l b).segments j (omega arith))
+              beyond (suc j) h = ap (λ ss. end_in (record (rows_seen mid l b) { segments = ss }) n) (changed-past (begun_with_end e) (rows_seen mid l b).segments j (omega arith))
           within (inr h) = inr (record { cell = c; there = f; block = eqb-true c.block b g; own = eqb-true lane l i; index = same; is = m ∙ ap (λ j. end_in (with_end (rows_seen mid l b) k e) j) same ∙ end-here (rows_seen mid l b) k e h })
 
       inside : (q : Option Cell) → slice_get (cells_of mid lane) place ≡ q → nat_eq lane l ≡ true → rows_seen new l b ≡ with_end_at q k e (rows_seen mid l b) b → Kept mid new l b n ⊎ Given mid new lane place k e l b n

@@ -1,14 +1,18 @@
 -- Pieces by their shapes, and the last elements that pass a test.
 use Rattle.std.proofs.Common.{◌≡◌, ◌<◌, ◌≤◌, ℕ, zero, suc, Bool, true, false, cond, leb, length, List, [], ◌∷◌, Option, None, Some, refl, sym, ap, ◌∙◌, arith, drop, get_or, map}
 use Rattle.std.specs.Prelude.{slice_get, option_map, nat_le}
+use Rattle.live_lanes.specs.declared.flow.Ways.{Ways}
 use Rattle.live_lanes.specs.declared.row.Cause.TheVariants as why
 use Rattle.live_lanes.specs.declared.row.Cell.{Cell}
+use Rattle.live_lanes.specs.declared.row.End.{End}
+use Rattle.live_lanes.specs.declared.row.End.TheVariants as ends
 use Rattle.live_lanes.specs.declared.row.Piece.{Piece}
 use Rattle.live_lanes.specs.declared.row.Row.{Row}
 use Rattle.live_lanes.specs.declared.row.Segment.{Segment}
+use Rattle.live_lanes.specs.Graph.{is_live}
 use Rattle.live_lanes.specs.Table.{Numbers, exit_rank, Seen, Begun, begun, seen, seen_in, seen_cell, unseen, begun_cause, cause_in, piece_at, piece_in}
-use Rattle.live_lanes.specs.Entered.{Start, start_of, shape, rows_seen, cells_of}
-use Rattle.live_lanes.specs.Lasting.{piece_of, start_readings, readings_of, later_of, last_with}
+use Rattle.live_lanes.specs.Entered.{Start, start_of, shape, rows_seen, cells_of, causes}
+use Rattle.live_lanes.specs.Lasting.{shapes, piece_of, start_readings, readings_of, later_of, last_with, live_end, right_end, cell_end}
 use Rattle.live_lanes.proofs.Cells.{is-found}
 use Rattle.live_lanes.proofs.Segments.{leading-map}
 
@@ -60,3 +64,22 @@ pub last-here : {X : Type 0} (test : X → Bool) (xs : List X) (k : ℕ) (d : X)
 last-here test [] k d h t n = absurd (omega arith)
 last-here test (x ∷ xs) zero d h t n = ap (λ q. later_of q (cond (test x) (Some x) None)) n ∙ ap (λ u. cond u (Some x) None) t
 last-here test (x ∷ xs) (suc k) d h t n = ap (λ q. later_of q (cond (test x) (Some x) None)) (last-here test xs k d (omega arith) t n)
+
+-- the end of a piece of a cell of the rows
+module _ (slots : Numbers) (flow : List Ways) (rows : List Row) (lane place index : ℕ) (c : Cell) (there : slice_get (cells_of rows lane) place ≡ Some c) where
+  abbrev of_seen : Seen → End
+  of_seen v = cond (is_live (cause_in v index)) (live_end slots flow (causes rows) (shapes rows) (shape v) lane c.block index (cause_in v index) (readings_of (shape v) index)) ends.Never
+
+  told : cell_end slots flow (causes rows) (shapes rows) lane index (slice_get (cells_of rows lane) place) ≡ of_seen (seen_cell c)
+  told = ap (cell_end slots flow (causes rows) (shapes rows) lane index) there ∙ ap of_seen (cell-in rows lane place c there)
+
+  pub dead-cell : is_live (cause_in (seen_cell c) index) ≡ false → ends.Never ≡ cell_end slots flow (causes rows) (shapes rows) lane index (slice_get (cells_of rows lane) place)
+  dead-cell e = sym (told ∙ ap (λ u. cond u (live_end slots flow (causes rows) (shapes rows) (shape (seen_cell c)) lane c.block index (cause_in (seen_cell c) index) (readings_of (shape (seen_cell c)) index)) ends.Never) e)
+
+  pub live-cell : (p : Piece) → Some p ≡ piece_in c index → is_live p.cause ≡ true → live_end slots flow (causes rows) (shapes rows) (shape (seen_cell c)) lane c.block index p.cause p.readings.items ≡ cell_end slots flow (causes rows) (shapes rows) lane index (slice_get (cells_of rows lane) place)
+  live-cell p e live =
+      let z = cell-piece c index p e in
+      let live' : is_live (cause_in (seen_cell c) index) ≡ true = ap is_live (sym z.0) ∙ live in
+      ap (λ x. live_end slots flow (causes rows) (shapes rows) (shape (seen_cell c)) lane c.block index x p.readings.items) z.0
+      ∙ ap (λ x. live_end slots flow (causes rows) (shapes rows) (shape (seen_cell c)) lane c.block index (cause_in (seen_cell c) index) x) z.1
+      ∙ sym (told ∙ ap (λ u. cond u (live_end slots flow (causes rows) (shapes rows) (shape (seen_cell c)) lane c.block index (cause_in (seen_cell c) index) (readings_of (shape (seen_cell c)) index)) ends.Never) live')

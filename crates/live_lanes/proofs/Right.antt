@@ -26,6 +26,7 @@ use Rattle.live_lanes.proofs.Numbered.{among-cases, among-split, among-right, ri
 use Rattle.live_lanes.proofs.Coded.{has-among, among-has}
 use Rattle.live_lanes.proofs.Lasting.{piece-shape}
 use Rattle.live_lanes.proofs.Pieces.{length-starts, reads-at}
+use Rattle.live_lanes.proofs.Pieces.{start_readings as piece_start}
 use Rattle.live_lanes.proofs.Sources.{starts-at}
 use Rattle.live_lanes.proofs.Whole.{piece-readings, readings-there}
 
@@ -102,7 +103,7 @@ readings-same : (code : Code) (l b n : ℕ) → piece-readings l (steps_of code 
 readings-same code l b zero = refl
 readings-same code l b (suc k) = go (slice_get (starts l (steps_of code b)) k)
   where
-    go : (q : Option Start) → elim q [ None ↦ [] | Some s ↦ s.readings ] ≡ start_readings q
+    go : (q : Option Start) → piece_start q ≡ start_readings q
     go None = refl
     go (Some s) = refl
 
@@ -133,10 +134,10 @@ record Stands (code : Code) (l b n : ℕ) (r : Reading) : Type 0 where
   rest : List Step
   split : steps_of code b ≡ before ++ step ∷ rest
   piece : writes_in l before ≡ n
-  reads : Among r (reading_of step.id (use_of l step))
+  used : Among r (reading_of step.id (use_of l step))
 
 stands : (code : Code) (l b n : ℕ) (r : Reading) → Among r (readings_of (shape_of code l b) n) → Stands code l b n r
-stands code l b zero r a = let z = reads-at l r (steps_of code b) a in record { before = z.before; step = z.step; rest = z.rest; split = z.split; piece = z.unwritten; reads = z.reads }
+stands code l b zero r a = let z = reads-at l r (steps_of code b) a in record { before = z.before; step = z.step; rest = z.rest; split = z.split; piece = z.unwritten; used = z.reads }
 stands code l b (suc k) r a = go (slice_get (starts l (steps_of code b)) k) refl a
   where
     go : (q : Option Start) → slice_get (starts l (steps_of code b)) k ≡ q → Among r (start_readings q) → Stands code l b (suc k) r
@@ -153,7 +154,7 @@ stands code l b (suc k) r a = go (slice_get (starts l (steps_of code b)) k) refl
           rest = z.rest;
           split = g.split ∙ ap (λ t. g.before ++ g.step ∷ t) z.split ∙ sym (append_assoc g.before (g.step ∷ []) (z.before ++ z.step ∷ z.rest)) ∙ sym (append_assoc (g.before ++ g.step ∷ []) z.before (z.step ∷ z.rest));
           piece = omega (arith, w, x, y);
-          reads = z.reads;
+          used = z.reads;
         }
 
 piece-ascends : (code : Code) (slots : Numbers) (l b n : ℕ) → Rises slots 0 (steps_of code b) → Ascends (number slots) 0 (readings_of (shape_of code l b) n)
@@ -186,6 +187,11 @@ is_entry ends.Never = false
 is_entry (ends.Entry id) = true
 is_entry (ends.Exit id) = false
 is_entry ends.Last = false
+
+-- the last of the entries that count, or of the other points
+record Part (code : Code) (slots : Numbers) (why : Causes) (l b n : ℕ) (entry : Bool) (x : End) : Type 0 where
+  some : (x ≡ ends.Never) ⊎ Counts code why l b n x
+  last : (p : End) → Counts code why l b n p → is_entry p ≡ entry → end_rank slots p ≤ end_rank slots x
 
 rising-ascends : (slots : Numbers) (m : ℕ) (ids : List ℕ) → AreRising slots m ids → Ascends (number_of slots) m ids
 rising-ascends slots m [] r = tt
@@ -262,12 +268,6 @@ module _ (code : Code) (slots : Numbers) (flow : List Ways) (rows : List Row) (t
       go (whys.Follower x) f g = cc
       go whys.Phi f g = cc
 
-  -- the last of the entries that count, or of the other points
-
-  record PartOf (l b n : ℕ) (entry : Bool) (x : End) : Type 0 where
-    some : (x ≡ ends.Never) ⊎ Counts code why l b n x
-    last : (p : End) → Counts code why l b n p → is_entry p ≡ entry → end_rank slots p ≤ end_rank slots x
-
   module _ (l b n : ℕ) where
     abbrev ids : List ℕ
     ids = terminators flow b
@@ -279,45 +279,29 @@ module _ (code : Code) (slots : Numbers) (flow : List Ways) (rows : List Row) (t
     left : (before : List Step) (s : Step) (rest : List Step) → steps_of code b ≡ before ++ s ∷ rest → writes_in l (before ++ s ∷ []) ≡ n → s.leaves ≡ true → (id : ℕ) × (last_with lies ids ≡ Some id) × (number_of slots s.id ≤ number_of slots id)
     left before s rest e k f = last-greatest (number_of slots) 0 lies ids s.id (rising-ascends slots 0 ids (out.rising b)) (t.ways.leaves b s (among b before s rest e) f) (eq-eqb (piece_of slots (exit_rank slots s.id) (h l b)) n (exit-at l b before s rest e ∙ k))
 
-    no-exits : (Follows l b → ⊥) → (Among l (last_of code b) → writes_in l (steps_of code b) ≡ n → ⊥) → PartOf l b n false ends.Never
-    no-exits none silent = record { some = inl refl; last = below }
+    no-exits : (Follows l b → ⊥) → (Among l (last_of code b) → writes_in l (steps_of code b) ≡ n → ⊥) → Part code slots why l b n false ends.Never
+    no-exits none silent = record { some = inl refl; last = λ p c g. below c g }
       where
-        below : (p : End) → Counts code why l b n p → is_entry p ≡ false → end_rank slots p ≤ 0
-        below (ends.Entry id) c f = absurd (cc)
-        below (ends.Exit id) c f = absurd (away c)
-          where
-            away : Counts code why l b n (ends.Exit id) → ⊥
-            away c = gone c refl
-              where
-                gone : {p : End} → Counts code why l b n p → p ≡ ends.Exit id → ⊥
-                gone (reads before s rest e k u) q = cc
-                gone (moves a before s rest e k u g) q = cc
-                gone (leaves x before s rest e k y a g) q = none (x, a, g)
-                gone (goes x k a g) q = cc
-                gone (phi k a) q = cc
-        below ends.Last c f = absurd (gone c refl)
-          where
-            gone : {p : End} → Counts code why l b n p → p ≡ ends.Last → ⊥
-            gone (reads before s rest e k u) q = cc
-            gone (moves a before s rest e k u g) q = cc
-            gone (leaves x before s rest e k y a g) q = cc
-            gone (goes x k a g) q = none (x, a, g)
-            gone (phi k a) q = silent a k
-        below ends.Never c f = omega arith
+        below : {p : End} → Counts code why l b n p → is_entry p ≡ false → end_rank slots p ≤ 0
+        below (reads before s rest e k u) g = absurd (cc)
+        below (moves a before s rest e k u m) g = absurd (cc)
+        below (leaves x before s rest e k y a m) g = absurd (none (x, a, m))
+        below (goes x k a m) g = absurd (none (x, a, m))
+        below (phi k a) g = absurd (silent a k)
 
-    exits-part : Follows l b → (writes_in l (steps_of code b) ≡ n → ⊥) → PartOf l b n false (exit_end (last_with lies ids))
+    exits-part : Follows l b → (writes_in l (steps_of code b) ≡ n → ⊥) → Part code slots why l b n false (exit_end (last_with lies ids))
     exits-part z inner = go (last_with lies ids) refl
       where
-        go : (q : Option ℕ) → last_with lies ids ≡ q → PartOf l b n false (exit_end q)
-        go None f = record { some = inl refl; last = λ p c g. below p c g }
+        go : (q : Option ℕ) → last_with lies ids ≡ q → Part code slots why l b n false (exit_end q)
+        go None f = record { some = inl refl; last = λ p c g. below c g }
           where
-            below : (p : End) → Counts code why l b n p → is_entry p ≡ false → end_rank slots p ≤ 0
-            below p (reads before s rest e k u) g = absurd (cc)
-            below p (moves a before s rest e k u m) g = absurd (cc)
-            below p (leaves x before s rest e k y a m) g = absurd (let w = left before s rest e k y in let v = sym f ∙ w.1 in cc)
-            below p (goes x k a m) g = absurd (inner k)
-            below p (phi k a) g = absurd (inner k)
-        go (Some id) f = record { some = inr counted; last = λ p c g. below p c g }
+            below : {p : End} → Counts code why l b n p → is_entry p ≡ false → end_rank slots p ≤ 0
+            below (reads before s rest e k u) g = absurd (cc)
+            below (moves a before s rest e k u m) g = absurd (cc)
+            below (leaves x before s rest e k y a m) g = absurd (let w = left before s rest e k y in let v = sym f ∙ w.1 in cc)
+            below (goes x k a m) g = absurd (inner k)
+            below (phi k a) g = absurd (inner k)
+        go (Some id) f = record { some = inr counted; last = λ p c g. below c g }
           where
             found : (lies id ≡ true) × Among id ids
             found = last-found lies ids id f
@@ -328,22 +312,22 @@ module _ (code : Code) (slots : Numbers) (flow : List Ways) (rows : List Row) (t
                 let at : writes_in l (w.0 ++ w.1 ∷ []) ≡ n = sym (exit-at l b w.0 w.1 w.2 w.3) ∙ ap (λ i. piece_of slots (exit_rank slots i) (h l b)) w.4 ∙ eqb-true (piece_of slots (exit_rank slots id) (h l b)) n found.0 in
                 subst (λ i. Counts code why l b n (ends.Exit i)) w.4 (leaves z.0 w.0 w.1 w.2 w.3 at w.5 z.1 z.2)
 
-            below : (p : End) → Counts code why l b n p → is_entry p ≡ false → end_rank slots p ≤ end_rank slots (ends.Exit id)
-            below p (reads before s rest e k u) g = absurd (cc)
-            below p (moves a before s rest e k u m) g = absurd (cc)
-            below p (leaves x before s rest e k y a m) g =
+            below : {p : End} → Counts code why l b n p → is_entry p ≡ false → end_rank slots p ≤ end_rank slots (ends.Exit id)
+            below (reads before s rest e k u) g = absurd (cc)
+            below (moves a before s rest e k u m) g = absurd (cc)
+            below (leaves x before s rest e k y a m) g =
                 let w = left before s rest e k y in
                 let same : w.0 ≡ id = some-inj w.0 id (sym w.1 ∙ f) in
                 let le = w.2 in
                 let n' = ap (number_of slots) same in
                 omega (arith, le, n')
-            below p (goes x k a m) g = absurd (inner k)
-            below p (phi k a) g = absurd (inner k)
+            below (goes x k a m) g = absurd (inner k)
+            below (phi k a) g = absurd (inner k)
 
-    exit-part : is_live (why l b n) ≡ true → (Among l (last_of code b) → writes_in l (steps_of code b) ≡ n → ⊥) → PartOf l b n false (last_exit slots flow why (h l b) l b n (why l b n))
+    exit-part : is_live (why l b n) ≡ true → (Among l (last_of code b) → writes_in l (steps_of code b) ≡ n → ⊥) → Part code slots why l b n false (last_exit slots flow why (h l b) l b n (why l b n))
     exit-part live silent = go (leads_on flow why l b (why l b n)) refl (nat_eq n (length (h l b).segments)) refl
       where
-        go : (u : Bool) → leads_on flow why l b (why l b n) ≡ u → (v : Bool) → nat_eq n (length (h l b).segments) ≡ v → PartOf l b n false (cond u (cond v ends.Last (exit_end (last_with lies ids))) ends.Never)
+        go : (u : Bool) → leads_on flow why l b (why l b n) ≡ u → (v : Bool) → nat_eq n (length (h l b).segments) ≡ v → Part code slots why l b n false (cond u (cond v ends.Last (exit_end (last_with lies ids))) ends.Never)
         go false e v f = no-exits (leads-nowhere l b (why l b n) e) silent
         go true e true f =
             let z = leads l b n live e in
@@ -365,7 +349,7 @@ module _ (code : Code) (slots : Numbers) (flow : List Ways) (rows : List Row) (t
         let in' : Among r rs = subst (Among r) (readings-same code l b n ∙ readings-are) (subst (λ m. Among r (piece-readings l (steps_of code b) m)) k (subst (λ ss. Among r (piece-readings l ss (writes_in l before))) (sym e) there')) in
         last-greatest (number slots) 0 counting rs r (subst (Ascends (number slots) 0) readings-are (piece-ascends code slots l b n (t.numbered b))) in' c
 
-    entry-part : PartOf l b n true (last_entry slots why h b rs)
+    entry-part : Part code slots why l b n true (last_entry slots why h b rs)
     entry-part = go (last_with counting rs) refl
       where
         reading-is : (s : Step) (u : Use) → use_of l s ≡ u → (r : Reading) → Among r (reading_of s.id u) → Among r (reading_of s.id (use_of l s))
@@ -377,16 +361,16 @@ module _ (code : Code) (slots : Numbers) (flow : List Ways) (rows : List Row) (t
         of-moves : (a : ℕ) (before : List Step) (s : Step) (rest : List Step) → steps_of code b ≡ before ++ s ∷ rest → writes_in l before ≡ n → use_of l s ≡ Into a → is_live (why a b (writes_in a (before ++ s ∷ []))) ≡ true → (q : Reading) × (last_with counting rs ≡ Some q) × (number_of slots s.id ≤ number slots q)
         of-moves a before s rest e k u g = read before s rest (reading s.id (Some a)) e k (reading-is s (Into a) u (reading s.id (Some a)) here) (ap (λ m. is_live (why a b m)) (exit-at a b before s rest e) ∙ g)
 
-        go : (q : Option Reading) → last_with counting rs ≡ q → PartOf l b n true (entry_end q)
-        go None f = record { some = inl refl; last = λ p c g. below p c g }
+        go : (q : Option Reading) → last_with counting rs ≡ q → Part code slots why l b n true (entry_end q)
+        go None f = record { some = inl refl; last = λ p c g. below c g }
           where
-            below : (p : End) → Counts code why l b n p → is_entry p ≡ true → end_rank slots p ≤ 0
-            below p (reads before s rest e k u) g = absurd (let w = of-reads before s rest e k u in let v = sym f ∙ w.1 in cc)
-            below p (moves a before s rest e k u m) g = absurd (let w = of-moves a before s rest e k u m in let v = sym f ∙ w.1 in cc)
-            below p (leaves x before s rest e k y a m) g = absurd (cc)
-            below p (goes x k a m) g = absurd (cc)
-            below p (phi k a) g = absurd (cc)
-        go (Some r) f = record { some = inr counted; last = λ p c g. below p c g }
+            below : {p : End} → Counts code why l b n p → is_entry p ≡ true → end_rank slots p ≤ 0
+            below (reads before s rest e k u) g = absurd (let w = of-reads before s rest e k u in let v = sym f ∙ w.1 in cc)
+            below (moves a before s rest e k u m) g = absurd (let w = of-moves a before s rest e k u m in let v = sym f ∙ w.1 in cc)
+            below (leaves x before s rest e k y a m) g = absurd (cc)
+            below (goes x k a m) g = absurd (cc)
+            below (phi k a) g = absurd (cc)
+        go (Some r) f = record { some = inr counted; last = λ p c g. below c g }
           where
             found : (counting r ≡ true) × Among r rs
             found = last-found counting rs r f
@@ -401,7 +385,7 @@ module _ (code : Code) (slots : Numbers) (flow : List Ways) (rows : List Row) (t
                 subst (λ i. Counts code why l b n (ends.Entry i)) (sym (ap (λ x. x.id) z.2)) (moves z.0 at.before at.step at.rest at.split at.piece z.1 live)
 
             counted : Counts code why l b n (ends.Entry r.id)
-            counted = by (reading-use at.step.id (use_of l at.step) r at.reads)
+            counted = by (reading-use at.step.id (use_of l at.step) r at.used)
 
             least : (id : ℕ) → (q : Reading) × (last_with counting rs ≡ Some q) × (number_of slots id ≤ number slots q) → entry_rank slots id ≤ entry_rank slots r.id
             least id w =
@@ -410,15 +394,15 @@ module _ (code : Code) (slots : Numbers) (flow : List Ways) (rows : List Row) (t
                 let n' = ap (number slots) same in
                 omega (arith, le, n')
 
-            below : (p : End) → Counts code why l b n p → is_entry p ≡ true → end_rank slots p ≤ entry_rank slots r.id
-            below p (reads before s rest e k u) g = least s.id (of-reads before s rest e k u)
-            below p (moves a before s rest e k u m) g = least s.id (of-moves a before s rest e k u m)
-            below p (leaves x before s rest e k y a m) g = absurd (cc)
-            below p (goes x k a m) g = absurd (cc)
-            below p (phi k a) g = absurd (cc)
+            below : {p : End} → Counts code why l b n p → is_entry p ≡ true → end_rank slots p ≤ entry_rank slots r.id
+            below (reads before s rest e k u) g = least s.id (of-reads before s rest e k u)
+            below (moves a before s rest e k u m) g = least s.id (of-moves a before s rest e k u m)
+            below (leaves x before s rest e k y a m) g = absurd (cc)
+            below (goes x k a m) g = absurd (cc)
+            below (phi k a) g = absurd (cc)
 
     -- the later of both
-    both : (x y : End) → PartOf l b n false x → PartOf l b n true y → IsEnd code slots why l b n (later slots x y)
+    both : (x y : End) → Part code slots why l b n false x → Part code slots why l b n true y → IsEnd code slots why l b n (later slots x y)
     both x y px py = go (ltb (end_rank slots x) (end_rank slots y)) refl
       where
         go : (u : Bool) → ltb (end_rank slots x) (end_rank slots y) ≡ u → IsEnd code slots why l b n (cond u y x)

@@ -123,6 +123,19 @@ impl Order {
         if self.slots.is_present(id) {
             return Ok(());
         }
+        self.put(id, after)?;
+        self.settle(id, position);
+        Ok(())
+    }
+
+    /// Puts an id behind another, where that one is there, or first.
+    fn put(&mut self, id: u32, after: Option<u32>) -> Result<(), AllocError>
+        requires { Has self.old.slots id → ⊥ }
+        ensures positions { self.new.positions ≡ self.old.positions }
+        ensures homes { self.new.block_of ≡ self.old.block_of }
+        ensures ids { OnOk result (IfSome after (Has self.old.slots) → ids self.new.slots ≡ put_after after id (ids self.old.slots)) }
+        ensures numbered { IsNumbered self.old.slots → IsNumbered self.new.slots }
+    {
         match after {
             None => self.slots.insert_after(None, id)?,
             Some(last) => {
@@ -131,7 +144,6 @@ impl Order {
                 }
             }
         }
-        self.settle(id, position);
         Ok(())
     }
 
