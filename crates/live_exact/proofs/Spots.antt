@@ -125,9 +125,9 @@ module _ (t : Target) (f : Function) (num : Numbering) (rules : KeepsRules t f) 
     inside : Member s.instr s.block.instrs
     inside = drop-of s.instr k s.block.instrs (subst (Member s.instr) (sym (drop-at s.block.instrs k s.instr s.there).0) first)
 
-    after-numbered : R l ≡ false → (p : Places) → ((q : LivePlace R C p l) → HasNumber) → LiveAfter R C (point_item t f s.block s.instr) p l → HasNumber
-    after-numbered free p next (after_next q h) = next h
-    after-numbered free p next (after_leap {e = e} {a = a} m h g) =
+    after-numbered : R l ≡ false → (p : Places) → (LivePlace R C p l → HasNumber) → LiveAfter R C (point_item t f s.block s.instr) p l → HasNumber
+    after-numbered free p onward (after_next q h) = onward h
+    after-numbered free p onward (after_leap {e = e} {a = a} m h g) =
         let step = step-at t f num rules numbered x s.block s.place s.instr inside in
         let o = is-out t f num rules numbered x s.block s.place in
         let out' = leaving (instr_step t f num s.instr).leaves (ways_out t f s.block) e (subst (λ es. Member e es) step.exits m) in
@@ -136,7 +136,7 @@ module _ (t : Target) (f : Function) (num : Numbering) (rules : KeepsRules t f) 
         let z = meets R T (number_at f.blocks) C code (code-of t f num rules numbered) h y.0 (steps_of code y.0) begun in
         let same : l ≡ a = moved-same l a (sym g ∙ o.through e a out'.1 h) in
         (z.0, ap T same ∙ z.1)
-    after-numbered free p next (after_phi {e = e} {w = w} m j g) =
+    after-numbered free p onward (after_phi {e = e} {w = w} m j g) =
         let step = step-at t f num rules numbered x s.block s.place s.instr inside in
         let o = is-out t f num rules numbered x s.block s.place in
         let out' = leaving (instr_step t f num s.instr).leaves (ways_out t f s.block) e (subst (λ es. Member e es) step.exits m) in
@@ -146,5 +146,5 @@ module _ (t : Target) (f : Function) (num : Numbering) (rules : KeepsRules t f) 
     pub exit-numbered : R l ≡ false → AtFirst (λ i p. LiveAfter R C i p l) (from_instr t f id f.blocks) → HasNumber
     exit-numbered free h =
         let ahead = map (point_item t f s.block) (drop (suc k) s.block.instrs) ++ (block_end t f s.block s.after ∷ blocks_code (point_item t f) t f s.after) in
-        let next = λ (q : LivePlace R C ahead l). let z = meets R T (number_at f.blocks) C code (code-of t f num rules numbered) q x _ (rest (suc k)) in (z.0, z.1) in
-        after-numbered free ahead next (subst (λ (is : List Instr). AtFirst (λ i p. LiveAfter R C i p l) (map (point_item t f s.block) is ++ (block_end t f s.block s.after ∷ blocks_code (point_item t f) t f s.after))) (drop-at s.block.instrs k s.instr s.there).0 (subst (AtFirst (λ i p. LiveAfter R C i p l)) s.code h))
+        let onward : LivePlace R C ahead l → HasNumber = λ q. let z = meets R T (number_at f.blocks) C code (code-of t f num rules numbered) q x _ (rest (suc k)) in (z.0, z.1) in
+        after-numbered free ahead onward (subst (λ (is : List Instr). AtFirst (λ i p. LiveAfter R C i p l) (map (point_item t f s.block) is ++ (block_end t f s.block s.after ∷ blocks_code (point_item t f) t f s.after))) (drop-at s.block.instrs k s.instr s.there).0 (subst (AtFirst (λ i p. LiveAfter R C i p l)) s.code h))
