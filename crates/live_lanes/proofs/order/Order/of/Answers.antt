@@ -37,7 +37,7 @@ blocks-2-preserved c =
           let ready = blocks-ready bs c.blocks-2.position b (ids c.blocks-2.order.slots) (ids c.add_block.new.self.slots) c.blocks-2.last within own single (ap ids c.in_ok-add_block.ensures.slots) so.0 so.1 in
           let before = c.blocks-2.invariant.homes single in
           homes-more bs c.blocks-2.order.block_of.items c.add_instrs.new.self.block_of.items c.blocks-2.position b c.args.func.now.next_id single within own before
-              (subst (λ v. Settles v.items c.add_instrs.new.self.block_of.items (ids_of b.instrs) c.blocks-2.position) c.in_ok-add_block.ensures.homes (subst (λ is. AreSingle (ids c.add_block.new.self.slots ++ ids_of is) → c.blocks-2.last ≡ last_id (ids c.add_block.new.self.slots) → Settles c.add_block.new.self.block_of.items c.add_instrs.new.self.block_of.items (ids_of is) c.blocks-2.position) c.as_slice.ensures c.in_ok-last.ensures.homes ready.0 ready.1));
+          (subst (λ v. Settles v.items c.add_instrs.new.self.block_of.items (ids_of b.instrs) c.blocks-2.position) c.in_ok-add_block.ensures.homes (subst (λ is. AreSingle (ids c.add_block.new.self.slots ++ ids_of is) → c.blocks-2.last ≡ last_id (ids c.add_block.new.self.slots) → Settles c.add_block.new.self.block_of.items c.add_instrs.new.self.block_of.items (ids_of is) c.blocks-2.position) c.as_slice.ensures c.in_ok-last.ensures.homes ready.0 ready.1));
       numbered = c.in_ok-last.ensures.numbered (subst IsNumbered (sym c.in_ok-add_block.ensures.slots) c.blocks-2.invariant.numbered);
     }
 
