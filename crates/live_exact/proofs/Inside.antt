@@ -64,7 +64,7 @@ module _ (t : Target) (f : Function) (x : Table) (computed : IsComputed t f x) (
   abbrev num : Numbering
   num = number_in x.lanes
 
-  numbered : IsNumbered t f num
+  pub numbered : IsNumbered t f num
   numbered = table-law t f x.lanes computed.numbers rules
 
   abbrev code : Code
@@ -73,17 +73,17 @@ module _ (t : Target) (f : Function) (x : Table) (computed : IsComputed t f x) (
   quiet : IsQuiet code
   quiet = quiet-law t f num rules numbered last
 
-  all : AllMatched (lane_code t f num)
+  pub all : AllMatched (lane_code t f num)
   all = subst AllMatched (sym (code-same t f num rules)) (matched t f num rules numbered quiet)
 
-  tells : TellsLive (code_as code) x.order.slots x.rows.rows.items
+  pub tells : TellsLive (code_as code) x.order.slots x.rows.rows.items
   tells = look-law (code_as code) x.order.slots x.flow.items x.rows.rows.items
       (subst (λ c. IsTableOf c x.order.slots x.flow.items x.rows.rows.items) (code-same t f num rules) (computed.table all))
       (subst (λ c. IsGrown c (causes x.rows.rows.items)) (code-same t f num rules) (computed.grown all))
       (subst (λ c. AreEnds c x.order.slots x.rows.rows.items) (code-same t f num rules) (computed.ended all))
 
   module _ (id p k : ℕ) (at : spot_in id f.blocks ≡ Some (p, k)) where
-    s : Spot t f id f.blocks p k
+    pub s : Spot t f id f.blocks p k
     s = spot t f id f.blocks p k at
 
     abbrev step : Step
@@ -98,21 +98,21 @@ module _ (t : Target) (f : Function) (x : Table) (computed : IsComputed t f x) (
     abbrev rest : List Step
     rest = drop (suc k) (steps_of code p)
 
-    from : drop k (steps_of code p) ≡ step ∷ rest
+    pub from : drop k (steps_of code p) ≡ step ∷ rest
     from = (drop-at (steps_of code p) k step there).0
 
-    split : steps_of code p ≡ before ++ step ∷ rest
+    pub split : steps_of code p ≡ before ++ step ∷ rest
     split = (drop-at (steps_of code p) k step there).1
 
-    split-as : table.steps_of (code_as code) p ≡ map step_as before ++ step_as step ∷ map step_as rest
+    pub split-as : table.steps_of (code_as code) p ≡ map step_as before ++ step_as step ∷ map step_as rest
     split-as = steps-same code p ∙ ap (map step_as) split ∙ map-both before (step ∷ rest)
 
-    home : slice_index x.order.block_of.items id ≡ p
+    pub home : slice_index x.order.block_of.items id ≡ p
     home = computed.homes p s.block id s.place (subst (λ i. has i (ids_of s.block.instrs) ≡ true) s.named (has-id s.block.instrs k s.instr s.there))
 
     -- at the entry
 
-    entry-told : (n : ℕ) → (entry_at x (Some n) id ≡ true) ↔ Live code p (law.Entry (step ∷ rest)) n
+    pub entry-told : (n : ℕ) → (entry_at x (Some n) id ≡ true) ↔ Live code p (law.Entry (step ∷ rest)) n
     entry-told n =
         let z = tells.entry n p (map step_as before) (step_as step) (map step_as rest) split-as in
         let same : row_at x.order.slots x.rows.rows.items n (slice_index x.order.block_of.items id) (entry_rank x.order.slots id) ≡ row_at x.order.slots x.rows.rows.items n p (entry_rank x.order.slots s.instr.id) = ap (λ b. row_at x.order.slots x.rows.rows.items n b (entry_rank x.order.slots id)) home ∙ ap (λ i. row_at x.order.slots x.rows.rows.items n p (entry_rank x.order.slots i)) (sym s.named) in (
@@ -120,7 +120,7 @@ module _ (t : Target) (f : Function) (x : Table) (computed : IsComputed t f x) (
           (λ h. same ∙ z.1 (same-forth code quiet h (before, split))),
         )
 
-    exit-told : (n : ℕ) → (exit_at x (Some n) id ≡ true) ↔ Live code p (law.Exit step rest) n
+    pub exit-told : (n : ℕ) → (exit_at x (Some n) id ≡ true) ↔ Live code p (law.Exit step rest) n
     exit-told n =
         let z = tells.exit n p (map step_as before) (step_as step) (map step_as rest) split-as in
         let same : row_at x.order.slots x.rows.rows.items n (slice_index x.order.block_of.items id) (exit_rank x.order.slots id) ≡ row_at x.order.slots x.rows.rows.items n p (exit_rank x.order.slots s.instr.id) = ap (λ b. row_at x.order.slots x.rows.rows.items n b (exit_rank x.order.slots id)) home ∙ ap (λ i. row_at x.order.slots x.rows.rows.items n p (exit_rank x.order.slots i)) (sym s.named) in (

@@ -1,12 +1,12 @@
 -- What a grown table of live lanes tells of a function.
-use Rattle.std.specs.Prelude.{◌≡◌, ◌↔◌, ℕ, false, true, Some, slice_get}
+use Rattle.std.specs.Prelude.{◌≡◌, ◌↔◌, ◌⊎◌, ℕ, false, true, is_some, Some, slice_get}
 use Rattle.target_base.specs.declared.types.Target.{Target}
 use Rattle.meaning.specs.declared.types.Lane.{Lane}
 use Rattle.meaning.specs.Live.{Among as Member, is_slot}
 use Rattle.mir_func.specs.declared.func.Block.{Block}
 use Rattle.mir_func.specs.declared.func.Instr.{Instr}
 use Rattle.mir_func.specs.Value.{Function}
-use Rattle.mir_meaning.specs.Points.{Start, Entry, Exit, LiveAt}
+use Rattle.mir_meaning.specs.Points.{Start, Entry, Exit, LiveAt, OccupiedAt}
 use Rattle.mir_meaning.specs.Registers.{is_reserved}
 use Rattle.mir_meaning.specs.Rules.{V8}
 use Rattle.lane_effects.specs.Steps.{Numbering}
@@ -20,7 +20,8 @@ use Rattle.lane_effects.specs.Numbered.{number_in}
 use Rattle.live_lanes.specs.declared.table.Table.{Table}
 use Rattle.live_lanes.specs.Marks.{marked_at}
 use Rattle.live_lanes.specs.Doing.{IsComputed}
-use Rattle.live_lanes.specs.Looks.{InOrder, entry_at, exit_at}
+use Rattle.live_lanes.specs.Looks.{InOrder, entry_at, exit_at, written_by}
+use Rattle.live_lanes.specs.Reach.{begun_early}
 use Rattle.live_exact.specs.Same.{code_as, IsQuiet}
 
 -- the first piece of a lane in a block is marked live exactly where the lane is live at the block's start
@@ -55,3 +56,14 @@ abbrev pub InsideLaw : Type 0
 InsideLaw =
     (t : Target) (f : Function) (x : Table) → IsComputed t f x → KeepsRules t f → ((b : Block) (j : ℕ) (i : Instr) → Member b f.blocks → slice_get b.instrs j ≡ Some i → V8 t b j i ≡ true)
     → TellsInside t f x
+
+-- of a lane that has a number, a table tells at the entry and at the exit of each instruction exactly whether it is occupied: live there or written, at the entry written early
+pub record TellsOccupied (t : Target) (f : Function) (x : Table) : Type 0 where
+  pub entry : (l : Lane) (n : ℕ) → is_slot l ≡ false → tag_of (number_in x.lanes) (is_proper t) l ≡ Some n → (id p k : ℕ) → spot_in id f.blocks ≡ Some (p, k) → ((entry_at x (Some n) id ≡ true) ⊎ (begun_early (written_by x (Some n) id) ≡ true)) ↔ OccupiedAt t f (Entry id) l
+  pub exit : (l : Lane) (n : ℕ) → is_slot l ≡ false → tag_of (number_in x.lanes) (is_proper t) l ≡ Some n → (id p k : ℕ) → spot_in id f.blocks ≡ Some (p, k) → ((exit_at x (Some n) id ≡ true) ⊎ (is_some (written_by x (Some n) id) ≡ true)) ↔ OccupiedAt t f (Exit id) l
+
+-- a computed table does so
+abbrev pub OccupiedLaw : Type 0
+OccupiedLaw =
+    (t : Target) (f : Function) (x : Table) → IsComputed t f x → KeepsRules t f → ((b : Block) (j : ℕ) (i : Instr) → Member b f.blocks → slice_get b.instrs j ≡ Some i → V8 t b j i ≡ true)
+    → TellsOccupied t f x

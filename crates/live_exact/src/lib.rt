@@ -1,7 +1,7 @@
 //! Laws of the table of live lanes: what it marks is what the meaning of the function says.
 #![tactic(auto)]
 
-ghost use Rattle.live_exact.specs.Laws.{ComputedLaw, InsideLaw, QuietLaw, StartsLaw};
+ghost use Rattle.live_exact.specs.Laws.{ComputedLaw, InsideLaw, OccupiedLaw, QuietLaw, StartsLaw};
 
 /// A grown table marks a lane at a block's start exactly where the lane is live there.
 pub fn starts_law()
@@ -22,4 +22,10 @@ pub fn computed_law()
 /// live there.
 pub fn inside_law()
     ensures { InsideLaw }
+{}
+
+/// A computed table tells at the entry and at the exit of each instruction exactly which lanes are
+/// occupied there.
+pub fn occupied_law()
+    ensures { OccupiedLaw }
 {}

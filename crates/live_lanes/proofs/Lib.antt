@@ -34,3 +34,4 @@ pub mod Gives
 pub mod Outward
 pub mod Homes
 pub mod Looked
+pub mod Written

@@ -86,7 +86,7 @@ pub past-end : (v : Seen) (index : ℕ) (end : End) → (index ≡ 0 → ⊥) �
 past-end v zero end ne h = absurd (ne refl)
 past-end v (suc k) end ne h = ap (λ ss. record v { segments = ss }) (sym (changed-past (begun_with_end end) v.segments k (omega arith)))
 
-get-map : {X Y : Type 0} (f : X → Y) (xs : List X) (k : ℕ) (x : X) → k < length xs → x ≡ get_or xs k x → slice_get (map f xs) k ≡ Some (f x)
+pub get-map : {X Y : Type 0} (f : X → Y) (xs : List X) (k : ℕ) (x : X) → k < length xs → x ≡ get_or xs k x → slice_get (map f xs) k ≡ Some (f x)
 get-map f [] k x h e = absurd (omega arith)
 get-map f (y ∷ xs) zero x h e = ap (λ t. Some (f t)) (sym e)
 get-map f (y ∷ xs) (suc k) x h e = get-map f xs k x (omega arith) e

@@ -1,6 +1,6 @@
 -- What follows from a table of causes that is grown.
-use Rattle.std.specs.Prelude.{◌≡◌, ◌<◌, length, ℕ, true, Option, List, ◌∷◌, [], ◌++◌, ◌↔◌}
-use Rattle.live_lanes.specs.Paths.{Step, Code, steps_of, is_written, Entry, Exit, Live, IsMatched, Among}
+use Rattle.std.specs.Prelude.{◌≡◌, ◌<◌, length, ℕ, true, false, is_some, None, Some, Option, List, ◌∷◌, [], ◌++◌, ◌↔◌}
+use Rattle.live_lanes.specs.Paths.{Step, Code, steps_of, writing_of, is_written, Entry, Exit, Live, IsMatched, Among}
 use Rattle.live_lanes.specs.Graph.{Causes, is_live, writes_in, IsGrown}
 use Rattle.live_lanes.specs.declared.flow.Ways.{Ways}
 use Rattle.live_lanes.specs.declared.row.Row.{Row}
@@ -8,7 +8,8 @@ use Rattle.target_base.specs.declared.types.Target.{Target}
 use Rattle.mir_func.specs.declared.func.Block.{Block}
 use Rattle.live_lanes.specs.declared.row.End.{End}
 use Rattle.live_lanes.specs.Table.{Numbers, unseen, entry_rank, exit_rank}
-use Rattle.live_lanes.specs.Entered.{shape, readings_until, starts, causes, IsNumbered, IsTableOf}
+use Rattle.live_lanes.specs.Entered.{shape, readings_until, starts, rows_seen, causes, IsNumbered, IsTableOf}
+use Rattle.live_lanes.specs.Reach.{begun_by, begun_early}
 use Rattle.live_lanes.specs.Ends.{IsEnd, AreEnds, reaches, row_at}
 use Rattle.live_lanes.specs.Lasting.{shapes, right_end, AllRise, AreOutward}
 use Rattle.live_lanes.specs.Coded.{Doing, code_of, IsMade}
@@ -48,6 +49,14 @@ pub record TellsLive (code : Code) (slots : Numbers) (rows : List Row) : Type 0 
 
 abbrev pub LookLaw : Type 0
 LookLaw = (code : Code) (slots : Numbers) (flow : List Ways) (rows : List Row) → IsTableOf code slots flow rows → IsGrown code (causes rows) → AreEnds code slots rows → TellsLive code slots rows
+
+-- a table tells which instructions write a lane, and which do so early
+pub record TellsWritten (code : Code) (rows : List Row) : Type 0 where
+  pub written : (l b : ℕ) (before : List Step) (s : Step) (rest : List Step) → steps_of code b ≡ before ++ s ∷ rest → is_some (begun_by (rows_seen rows l b) s.id) ≡ is_written l s
+  pub early : (l b : ℕ) (before : List Step) (s : Step) (rest : List Step) → steps_of code b ≡ before ++ s ∷ rest → begun_early (begun_by (rows_seen rows l b) s.id) ≡ elim (writing_of l s.writes) [ None ↦ false | Some w ↦ w.early ]
+
+abbrev pub WrittenLaw : Type 0
+WrittenLaw = (code : Code) (slots : Numbers) (flow : List Ways) (rows : List Row) → IsTableOf code slots flow rows → TellsWritten code rows
 
 -- entering the instructions of all blocks one after the other gives each lane its pieces in each block
 abbrev pub EnteringLaw : Type 0

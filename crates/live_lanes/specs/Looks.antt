@@ -1,7 +1,9 @@
 -- What the table answers of lanes at the entries and exits of instructions.
 use Rattle.std.specs.Prelude.{ℕ, Bool, false, Option, None, Some, slice_index}
 use Rattle.live_lanes.specs.declared.table.Table.{Table}
-use Rattle.live_lanes.specs.Table.{entry_rank, exit_rank}
+use Rattle.live_lanes.specs.Table.{Begun, entry_rank, exit_rank}
+use Rattle.live_lanes.specs.Reach.{begun_by}
+use Rattle.live_lanes.specs.Entered.{rows_seen}
 use Rattle.live_lanes.specs.Ends.{row_at}
 use Rattle.live_lanes.specs.Lasting.{AllRise}
 
@@ -18,3 +20,8 @@ entry_at x (Some l) id = row_at x.order.slots x.rows.rows.items l (slice_index x
 abbrev pub exit_at : Table → Option ℕ → ℕ → Bool
 exit_at x None id = false
 exit_at x (Some l) id = row_at x.order.slots x.rows.rows.items l (slice_index x.order.block_of.items id) (exit_rank x.order.slots id)
+
+-- the piece of the lane of that number, if there is one, that the instruction of that id begins
+abbrev pub written_by : Table → Option ℕ → ℕ → Option Begun
+written_by x None id = None
+written_by x (Some l) id = begun_by (rows_seen x.rows.rows.items l (slice_index x.order.block_of.items id)) id

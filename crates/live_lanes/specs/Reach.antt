@@ -1,8 +1,8 @@
 -- Which points of a piece its end comes at or behind.
-use Rattle.std.specs.Prelude.{ℕ, Bool, true, false, not, ◌&&◌, nat_le}
+use Rattle.std.specs.Prelude.{ℕ, Bool, true, false, not, ◌&&◌, nat_eq, nat_le, find, Option, None, Some}
 use Rattle.live_lanes.specs.declared.row.End.{End}
 use Rattle.live_lanes.specs.declared.row.End.TheVariants as ends
-use Rattle.live_lanes.specs.Table.{Numbers, Seen, end_rank, end_in, piece_at}
+use Rattle.live_lanes.specs.Table.{Numbers, Seen, Begun, end_rank, end_in, piece_at}
 
 abbrev pub is_never : End → Bool
 is_never ends.Never = true
@@ -17,3 +17,12 @@ reaches slots e at = not (is_never e) && nat_le at (end_rank slots e)
 -- a lane in a block is live at the point of that rank
 abbrev pub seen_at : Numbers → Seen → ℕ → Bool
 seen_at slots v at = reaches slots (end_in v (piece_at slots at v.segments)) at
+
+-- the piece that begins with an instruction
+abbrev pub begun_by : Seen → ℕ → Option Begun
+begun_by v id = find (λ (s : Begun). nat_eq s.start id) v.segments
+
+-- the lane is occupied at the entry of the instruction that begins this piece
+abbrev pub begun_early : Option Begun → Bool
+begun_early None = false
+begun_early (Some s) = s.early

@@ -1,6 +1,6 @@
 //! What is true of the pieces that are marked live.
 
-ghost use Rattle.live_lanes.specs.Laws.{StartLaw, WritingLaw, EndLaw, RightLaw, LookLaw, EnteringLaw, MadeLaw};
+ghost use Rattle.live_lanes.specs.Laws.{StartLaw, WritingLaw, EndLaw, RightLaw, LookLaw, WrittenLaw, EnteringLaw, MadeLaw};
 ghost use Rattle.live_lanes.specs.Growth.{PieceLaw};
 
 /// Exactly the pieces at whose start their lane is live are marked so.
@@ -15,6 +15,11 @@ pub(crate) fn ends_are_exact()
     ensures reached { EndLaw }
     ensures right { RightLaw }
     ensures look { LookLaw }
+{}
+
+/// A table tells which instructions write a lane.
+pub(crate) fn writings_are_exact()
+    ensures { WrittenLaw }
 {}
 
 /// Entering the instructions of all blocks one after the other gives each lane its pieces.

@@ -86,7 +86,7 @@ impl LiveFunc {
     }
 
     /// The number of a lane of a virtual register.
-    fn lane(&self, v: u32, lane: usize) -> Option<u32>
+    pub(crate) fn lane(&self, v: u32, lane: usize) -> Option<u32>
         ensures { result ≡ number_in self.now.table.lanes (owners.Range v lane) }
     {
         let own = self.table.lanes.of_range(v);

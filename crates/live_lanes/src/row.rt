@@ -3,11 +3,11 @@
 //! A piece of a lane begins at a block's start or with a writing, and lasts until the next writing
 //! or the block's end. In it the lane is live up to the last reading that counts.
 
-ghost use Rattle.std.specs.Prelude.{◌≡◌, ℕ, ◌<◌, ◌≤◌, ◌+◌, ◌*◌, length, IfOk, IsTrue, true, option_copied, slice_get, find, reverse, [], OnOk, OnErr, cond, is_some, map, nat_eq, not, MatchOption, Some};
+ghost use Rattle.std.specs.Prelude.{◌≡◌, ℕ, ◌<◌, ◌≤◌, ◌+◌, ◌*◌, length, IfOk, IsTrue, true, option_copied, slice_get, find, reverse, [], OnOk, OnErr, cond, is_some, map, option_map, nat_eq, not, MatchOption, Some};
 ghost use Rattle.live_lanes.specs.Certain.{blocks_of, KeepsCertain, RaisesCertain};
 ghost use Rattle.live_lanes.specs.Table.{entry_rank, exit_rank, end_rank, descends, leading, is_before, find_cell, seen_in, seen_cell, unseen, rises_from, piece_at, piece_in, cause_in, end_in, with_cause, with_end, certain_cause, is_certain, cause_of, read_at_end, IsRaised, with_last, with_reading, with_segment, ends_with, starts_last, begun, with_end_at, begun_move, moved_in};
 ghost use Rattle.live_lanes.specs.Graph.{is_live};
-ghost use Rattle.live_lanes.specs.Reach.{is_never, reaches, seen_at};
+ghost use Rattle.live_lanes.specs.Reach.{is_never, reaches, seen_at, begun_by};
 
 use slot_index::Slots;
 use std::alloc::{AllocError, Global};
@@ -467,6 +467,23 @@ impl Cell {
             return None;
         }
         self.segments[index - 1].moved()
+    }
+
+    /// The piece that begins with an instruction.
+    pub fn begun_by(&self, slots: &Slots, id: u32) -> Option<&Segment>
+        ensures { rises_from slots.now 0 (seen_cell self.now).segments ≡ true
+            → option_map begun (option_copied result) ≡ begun_by (seen_cell self.now) id }
+    {
+        let index = self.piece_at(slots, exit_rank(slots, id));
+        if index == 0 {
+            return None;
+        }
+        let segment = &self.segments[index - 1];
+        if segment.start == id {
+            Some(segment)
+        } else {
+            None
+        }
     }
 
     /// Whether a piece is live.

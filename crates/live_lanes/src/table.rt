@@ -5,7 +5,7 @@ ghost use Rattle.std.specs.Prelude.{◌≡◌, ◌<◌, option_copied, length, s
 use crate::flow::Ways;
 use crate::lanes::LaneTable;
 use crate::order::Order;
-use crate::row::{Cell, Row, exit_rank};
+use crate::row::{Cell, Row, Segment, exit_rank};
 use std::alloc::{AllocError, Global};
 
 /// Where a piece stands.
@@ -114,7 +114,9 @@ pub(crate) struct Table {
 }
 
 impl Table {
-    ghost use Rattle.std.specs.Prelude.{Some};
+    ghost use Rattle.std.specs.Prelude.{Some, option_map};
+    ghost use Rattle.live_lanes.specs.Table.{begun};
+    ghost use Rattle.live_lanes.specs.Looks.{InOrder, written_by};
     ghost use Rattle.std.specs.Ordering.{nat_cmp};
     ghost use Rattle.std.specs.BTreeMap.{get};
     ghost use Rattle.live_lanes.specs.Marks.{marked_at};
@@ -128,6 +130,16 @@ impl Table {
         match self.rows.cell(lane, block) {
             Some(cell) => cell.is_live_at(&self.order.slots, at),
             None => false,
+        }
+    }
+
+    /// The piece of a lane that an instruction begins.
+    pub fn segment_of(&self, lane: u32, id: u32) -> Option<&Segment>
+        ensures { InOrder self.now → option_map begun (option_copied result) ≡ written_by self.now (Some lane) id }
+    {
+        match self.rows.cell(lane, self.order.block_of(id)) {
+            Some(cell) => cell.begun_by(&self.order.slots, id),
+            None => None,
         }
     }
 

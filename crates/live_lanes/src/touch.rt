@@ -1,5 +1,12 @@
 //! The instructions of a function by their ids, and those that touch a range.
 
+ghost use Rattle.std.specs.Prelude.{◌≡◌, Some, is_some, option_map, option_copied};
+ghost use Rattle.lane_effects.specs.Numbered.{number_in};
+ghost use Rattle.lane_effects.specs.declared.owner.Owner.TheVariants as owners;
+ghost use Rattle.live_lanes.specs.Table.{begun};
+ghost use Rattle.live_lanes.specs.Reach.{begun_early};
+ghost use Rattle.live_lanes.specs.Looks.{InOrder, written_by};
+
 use crate::flow::successors;
 use crate::lanes::Lanes;
 use crate::live::LiveFunc;
@@ -171,30 +178,26 @@ impl LiveFunc {
     }
 
     /// The piece of a lane of a range that an instruction begins.
-    fn segment_of(&self, v: u32, k: u32, id: u32) -> Option<&Segment> {
-        let lane = self.table.lanes.of_range(v).lane(k)?;
-        let cell = self.table.rows.cell(lane, self.table.order.block_of(id))?;
-        let slots = &self.table.order.slots;
-        let at = slots.number(id);
-        let place = cell
-            .segments
-            .as_slice()
-            .partition_point(|s| slots.number(s.start) < at);
-        let segment = cell.segments.get(place)?;
-        if segment.start == id {
-            Some(segment)
-        } else {
-            None
-        }
+    fn segment_of(&self, v: u32, k: u32, id: u32) -> Option<&Segment>
+        ensures { InOrder self.now.table → option_map begun (option_copied result) ≡ written_by self.now.table (number_in self.now.table.lanes (owners.Range v k)) id }
+    {
+        let Some(lane) = self.lane(v, k as usize) else {
+            return None;
+        };
+        self.table.segment_of(lane, id)
     }
 
     /// Whether an instruction writes a lane of a range.
-    pub fn is_written(&self, v: u32, k: u32, id: u32) -> bool {
+    pub fn is_written(&self, v: u32, k: u32, id: u32) -> bool
+        ensures { InOrder self.now.table → result ≡ is_some (written_by self.now.table (number_in self.now.table.lanes (owners.Range v k)) id) }
+    {
         self.segment_of(v, k, id).is_some()
     }
 
     /// Whether an instruction writes a lane of a range early, so that it is occupied at the entry.
-    pub fn is_written_early(&self, v: u32, k: u32, id: u32) -> bool {
+    pub fn is_written_early(&self, v: u32, k: u32, id: u32) -> bool
+        ensures { InOrder self.now.table → result ≡ begun_early (written_by self.now.table (number_in self.now.table.lanes (owners.Range v k)) id) }
+    {
         match self.segment_of(v, k, id) {
             Some(segment) => segment.early,
             None => false,
