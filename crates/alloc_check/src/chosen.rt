@@ -7,6 +7,7 @@ ghost use Rattle.mir_meaning.specs.Rules.{is_virtual};
 ghost use Rattle.mir_meaning.specs.Valid.{names_virtual};
 
 use mir_func::{Block, Func, Instr, Loc, Operand};
+use target_base::Boxed;
 
 fn have_virtual(operands: &[Operand]) -> bool
     ensures { result ≡ list_any (λ r. is_virtual r.loc) (registers operands.now) }
@@ -21,10 +22,11 @@ fn have_virtual(operands: &[Operand]) -> bool
     false
 }
 
-fn instrs_have_virtual(instrs: &[Instr]) -> bool
+fn instrs_have_virtual(instrs: &[Boxed<Instr>]) -> bool
     ensures { result ≡ list_any (λ i. list_any (λ r. is_virtual r.loc) (registers i.operands)) instrs.now }
 {
     for i in instrs {
+        let i = i.get();
         if have_virtual(i.operands.as_slice()) {
             return true;
         }

@@ -5,7 +5,7 @@ use crate::facts::same_bytes;
 use mir_func::{Block, Func, Instr, Loc, Op, Operand, Place, RegOp};
 use mir_items::counted::{effect_of, is_silent};
 use target_base::registers::units_at;
-use target_base::{Reg, Target};
+use target_base::{Boxed, Reg, Target};
 
 /// Whether an instruction counts in a run.
 pub fn is_counted(t: &Target, i: &Instr) -> bool {
@@ -165,9 +165,9 @@ fn block_doubt(t: &Target, f: &Func, g: &Func) -> Option<Place> {
 }
 
 /// The place of the next counted instruction from one on.
-fn next_counted(t: &Target, instrs: &[Instr], from: usize) -> usize {
+fn next_counted(t: &Target, instrs: &[Boxed<Instr>], from: usize) -> usize {
     for k in from..instrs.len() {
-        if is_counted(t, &instrs[k]) {
+        if is_counted(t, instrs[k].get()) {
             return k;
         }
     }

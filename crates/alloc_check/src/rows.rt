@@ -331,6 +331,7 @@ fn push_instrs(
 {
     let mut j = 0;
     for i in b.instrs.as_slice() {
+        let i = i.get();
         match push_next(rows, alloc, t, f, g, b, c, i, j)? {
             None => return Ok(false),
             Some(next) => j = next,

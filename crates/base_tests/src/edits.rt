@@ -7,7 +7,7 @@ use mir_func::{Block, Func, Gap, Loc, Operand, Operands, RegOp, ShortList};
 use slot_index::Slots;
 use std::alloc::{AllocError, Global};
 use std::test::Fail;
-use target_base::{ClassId, List, OpId, Reg};
+use target_base::{BoxedList, ClassId, List, OpId, Reg};
 
 fn register(loc: Loc, def: bool) -> RegOp {
     RegOp {
@@ -38,7 +38,7 @@ fn empty_block(alloc: Global) -> Block
         attributes: List::new(alloc),
         successors: List::new(alloc),
         liveins: List::new(alloc),
-        instrs: List::new(alloc),
+        instrs: BoxedList::new(alloc),
     }
 }
 
@@ -74,7 +74,7 @@ fn begins_with(f: &Func, loc: Loc) -> bool {
     let Some(instr) = block.instrs.as_slice().first() else {
         return false;
     };
-    match instr.operands.as_slice().first() {
+    match instr.get().operands.as_slice().first() {
         Some(Operand::Reg(r)) => r.loc == loc,
         _ => false,
     }

@@ -7,6 +7,7 @@ ghost use Rattle.block_freq.specs.Weights.{names, naming, block_uses, use_sum, w
 
 use crate::freqs::Freqs;
 use mir_func::{Block, Func, Instr, Loc, Operand, RegOp};
+use target_base::Boxed;
 
 /// The spill weight of range `v`, which has so many points: 1,024 times the frequencies of its uses
 /// and definitions, divided by 8 more than its points (LLVM's `VirtRegAuxInfo` plays this part). It
@@ -34,11 +35,12 @@ fn all_uses(freqs: &[u64], blocks: &[Block], v: u32) -> u128
 
 /// Adds those of one block.
 #[tactic(auto, using(crate::proofs::Sums::sums))]
-fn add_uses(before: u128, freq: u64, instrs: &[Instr], v: u32) -> u128
+fn add_uses(before: u128, freq: u64, instrs: &[Boxed<Instr>], v: u32) -> u128
     ensures { result ≡ min (before + sum_by (λ i. freq * naming v i) instrs.now) (2 ^ 128 - 1) }
 {
     let mut sum = before;
     'instrs: for i in instrs {
+        let i = i.get();
         sum = sum.saturating_add(freq as u128 * naming_of(i, v) as u128);
     }
     sum

@@ -96,6 +96,7 @@ fn copies_of(alloc: Global, live: &LiveFunc, freqs: &Freqs) -> Result<Vec<Candid
 
 fn add_copies(block: &Block, rank: u64, copies: &mut Vec<Candidate>) -> Result<(), AllocError> {
     'instrs: for instr in block.instrs.as_slice() {
+        let instr = instr.get();
         if sides(instr).is_some() {
             let number = copies.len();
             copies.push(Candidate {

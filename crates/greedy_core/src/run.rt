@@ -98,6 +98,7 @@ fn mark_named(operands: &[Operand], named: &mut Vec<bool>) {
 /// Sets the flags of the ranges that operands of a block name.
 fn mark_block(block: &Block, named: &mut Vec<bool>) {
     'instrs: for instr in block.instrs.as_slice() {
+        let instr = instr.get();
         mark_named(instr.operands.as_slice(), named);
     }
 }

@@ -5,13 +5,13 @@ use crate::parts::{Point, put_segment};
 use live_lanes::{Extent, LiveFunc};
 use mir_func::{Block, Instr};
 use std::alloc::AllocError;
-use target_base::Bytes;
+use target_base::{Boxed, Bytes};
 
 /// A block of a function, and the numbers of its start and of the start of the next.
 #[derive(Clone, Copy)]
 pub(crate) struct Here<'a> {
     live: &'a LiveFunc,
-    instrs: &'a [Instr],
+    instrs: &'a [Boxed<Instr>],
     start: u64,
     end: u64,
 }
@@ -21,7 +21,7 @@ impl Here<'_> {
     fn number_at(&self, point: u128) -> u64 {
         let place = self
             .instrs
-            .partition_point(|i| self.live.exit_of(i.id) < point);
+            .partition_point(|i| self.live.exit_of(i.get().id) < point);
         number_behind(self.start, place.saturating_add(1))
     }
 

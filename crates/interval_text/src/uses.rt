@@ -2,6 +2,7 @@
 
 use mir_func::{Func, Instr, Loc, Operand, RegOp};
 use std::alloc::{AllocError, Global};
+use target_base::Boxed;
 
 /// How often a range is used.
 #[derive(Clone, Copy)]
@@ -39,8 +40,9 @@ fn add_operands(uses: &mut [Use], freq: u64, operands: &[Operand]) {
 }
 
 /// Adds the instructions of a block of this frequency.
-fn add_instrs(uses: &mut [Use], freq: u64, instrs: &[Instr]) {
+fn add_instrs(uses: &mut [Use], freq: u64, instrs: &[Boxed<Instr>]) {
     'instrs: for instr in instrs {
+        let instr = instr.get();
         add_operands(uses, freq, instr.operands.as_slice());
     }
 }

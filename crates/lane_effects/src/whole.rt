@@ -10,7 +10,7 @@ use crate::lanes::LaneTable;
 use crate::registers::{class_lanes, slot_at};
 use mir_func::{Block, Func, Instr};
 use std::alloc::{AllocError, Global};
-use target_base::{ClassId, Target};
+use target_base::{Boxed, ClassId, Target};
 
 /// The number of lanes of a range of this class; none where it has no class.
 fn count_of(target: &Target, class: Option<ClassId>) -> usize
@@ -56,7 +56,7 @@ impl LaneTable {
     }
 
     /// Numbers the lanes of the slots that instructions store to or reload.
-    fn add_slots_of(&mut self, alloc: Global, instrs: &[Instr]) -> Result<(), AllocError>
+    fn add_slots_of(&mut self, alloc: Global, instrs: &[Boxed<Instr>]) -> Result<(), AllocError>
         ensures table { OnOk result (IsTable self.old → IsTable self.new) }
         ensures reserved { OnOk result (self.new.reserved ≡ self.old.reserved) }
         ensures ranges { OnOk result (self.new.ranges ≡ self.old.ranges) }
@@ -64,6 +64,7 @@ impl LaneTable {
         ensures kept { OnOk result ((s : ℕ) → HasSlot self.old s → HasSlot self.new s) }
     {
         'instrs: for instr in instrs {
+            let instr = instr.get();
             self.add_slot_of(alloc, instr)?;
         }
         Ok(())

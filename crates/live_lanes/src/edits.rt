@@ -306,7 +306,7 @@ fn id_before(func: &Func, block: u32, place: usize) -> Option<u32> {
 fn last_id_before(func: &Func, block: u32) -> Option<u32> {
     'blocks: for before in func.blocks.as_slice().iter().take(block as usize).rev() {
         if let Some(instr) = before.instrs.as_slice().last() {
-            return Some(instr.id);
+            return Some(instr.get().id);
         }
     }
     None

@@ -18,7 +18,7 @@ use crate::table::Rows;
 use lane_effects::{PhiRead, Reader, Writing};
 use mir_func::{Block, Func, Instr, Operand};
 use std::alloc::{AllocError, Global};
-use target_base::Target;
+use target_base::{Boxed, Target};
 
 /// The slot that operands name.
 pub(crate) fn slot_of(operands: &[Operand]) -> Option<u32> {
@@ -164,11 +164,12 @@ impl Rows {
         reader: &Reader<'_>,
         order: &Order,
         block: u32,
-        instrs: &[Instr],
+        instrs: &[Boxed<Instr>],
     ) -> Result<(), AllocError>
         ensures { OnOk result (Enters self.old.rows.items self.new.rows.items (block_entered (get nat_cmp order.now.positions) block (map (doing_of reader.now.target.now reader.now.func.now (number_in reader.now.lanes.now)) instrs.now))) }
     {
         'instrs: for instr in instrs {
+            let instr = instr.get();
             self.add_instr(reader, order, block, instr)?;
         }
         Ok(())

@@ -12,7 +12,7 @@ ghost use Rattle.live_lanes.specs.Flowing.{terminator_ids, edge_places, Notes, N
 use crate::order::Order;
 use mir_func::{Block, Edge, Func, Instr, Op};
 use std::alloc::{AllocError, Global};
-use target_base::{Effect, OpcodeDesc, Target};
+use target_base::{Boxed, Effect, OpcodeDesc, Target};
 
 /// The ways into a block and out of it, by the positions of blocks in the layout.
 #[derive(Drop)]
@@ -98,13 +98,17 @@ fn does_leave(target: &Target, instr: &Instr) -> bool
 }
 
 /// The ids of a block's terminators.
-fn terminators_of(alloc: Global, target: &Target, instrs: &[Instr]) -> Result<Vec<u32>, AllocError>
+fn terminators_of(
+    alloc: Global,
+    target: &Target,
+    instrs: &[Boxed<Instr>],
+) -> Result<Vec<u32>, AllocError>
     ensures { IfOk result (λ v. v.items ≡ terminator_ids target.now instrs.now) }
 {
     instrs
         .iter()
-        .filter(|i| does_leave(target, *i))
-        .map(|i| i.id)
+        .filter(|i| does_leave(target, i.get()))
+        .map(|i| i.get().id)
         .collect(alloc)
 }
 

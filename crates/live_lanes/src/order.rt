@@ -11,6 +11,7 @@ use mir_func::{Block, Func, Instr};
 use slot_index::Slots;
 use std::alloc::{AllocError, Global};
 use std::collections::BTreeMap;
+use target_base::Boxed;
 
 /// The order of instructions, and the positions of blocks in the layout.
 #[derive(Drop)]
@@ -86,7 +87,7 @@ impl Order {
     /// Adds the instructions of a block behind the last one, and answers what is the last one then.
     fn add_instrs(
         &mut self,
-        instrs: &[Instr],
+        instrs: &[Boxed<Instr>],
         position: u32,
         last: Option<u32>,
     ) -> Result<Option<u32>, AllocError>
@@ -97,6 +98,7 @@ impl Order {
     {
         let mut after = last;
         'instrs: for instr in instrs {
+            let instr = instr.get();
             self.add_instr(instr.id, position, after)?;
             after = Some(instr.id);
         }
@@ -144,8 +146,8 @@ impl Order {
     }
 
     /// The place of an instruction among those of its block.
-    pub fn place(&self, instrs: &[Instr], id: u32) -> usize {
+    pub fn place(&self, instrs: &[Boxed<Instr>], id: u32) -> usize {
         let at = self.slots.number(id);
-        instrs.partition_point(|i| self.slots.number(i.id) < at)
+        instrs.partition_point(|i| self.slots.number(i.get().id) < at)
     }
 }

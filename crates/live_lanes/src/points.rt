@@ -5,6 +5,7 @@ use crate::live::LiveFunc;
 use crate::row::{Cell, End};
 use crate::table::Table;
 use mir_func::Instr;
+use target_base::Boxed;
 
 /// Points in a row, counted from the block's start: the first and the last.
 #[derive(Clone, Copy)]
@@ -38,7 +39,7 @@ impl Tally {
 
 impl Table {
     /// The number of a point of a block, counted from its start.
-    fn point(&self, instrs: &[Instr], end: End) -> u64 {
+    fn point(&self, instrs: &[Boxed<Instr>], end: End) -> u64 {
         match end {
             End::Never => 0,
             End::Entry(id) => (self.order.place(instrs, id) as u64)
@@ -52,7 +53,7 @@ impl Table {
     }
 
     /// The points at which the lane is live or occupied in a piece, if there are any.
-    fn stretch(&self, instrs: &[Instr], cell: &Cell, index: usize) -> Option<Stretch> {
+    fn stretch(&self, instrs: &[Boxed<Instr>], cell: &Cell, index: usize) -> Option<Stretch> {
         if index == 0 {
             return self.first_stretch_of(instrs, cell.first.end);
         }
@@ -68,7 +69,7 @@ impl Table {
     }
 
     /// The points of a piece that begins with its block, if it is live.
-    fn first_stretch_of(&self, instrs: &[Instr], end: End) -> Option<Stretch> {
+    fn first_stretch_of(&self, instrs: &[Boxed<Instr>], end: End) -> Option<Stretch> {
         if end == End::Never {
             return None;
         }
@@ -79,7 +80,7 @@ impl Table {
     /// The first piece from a place on that has points, and these.
     fn next_stretch(
         &self,
-        instrs: &[Instr],
+        instrs: &[Boxed<Instr>],
         lane: u32,
         block: u32,
         from: usize,
@@ -101,7 +102,7 @@ impl Table {
     /// Of the stretches that come next in each lane, one that begins first.
     fn first_stretch(
         &self,
-        instrs: &[Instr],
+        instrs: &[Boxed<Instr>],
         own: Lanes,
         block: u32,
         cursors: &[usize; 32],
@@ -126,7 +127,7 @@ impl Table {
     }
 
     /// The number of points in a block at which some of the lanes is live or occupied.
-    fn points_in(&self, instrs: &[Instr], own: Lanes, block: u32) -> u64 {
+    fn points_in(&self, instrs: &[Boxed<Instr>], own: Lanes, block: u32) -> u64 {
         let mut cursors = [0usize; 32];
         let mut tally = Tally { count: 0, next: 0 };
         'stretches: for _ in 0..u64::MAX {

@@ -5,6 +5,7 @@ use crate::live::LiveFunc;
 use crate::order::Order;
 use crate::row::{Cell, End, Segment};
 use mir_func::Instr;
+use target_base::Boxed;
 
 /// Points counted so far in a block: how many, and the first one behind them.
 #[derive(Clone, Copy)]
@@ -29,7 +30,7 @@ impl Count {
 }
 
 /// The number of a point of a block, counted from its start.
-fn point(order: &Order, instrs: &[Instr], end: End) -> u64 {
+fn point(order: &Order, instrs: &[Boxed<Instr>], end: End) -> u64 {
     match end {
         End::Never => 0,
         End::Entry(id) => (order.place(instrs, id) as u64)
@@ -59,7 +60,7 @@ fn have_same_points(a: &Cell, b: &Cell) -> bool {
 }
 
 /// Counts the points of a segment.
-fn counted(order: &Order, instrs: &[Instr], segment: &Segment, count: Count) -> Count {
+fn counted(order: &Order, instrs: &[Boxed<Instr>], segment: &Segment, count: Count) -> Count {
     let exit = point(order, instrs, End::Exit(segment.start));
     let first = if segment.early {
         exit.saturating_sub(1)
@@ -74,7 +75,7 @@ fn counted(order: &Order, instrs: &[Instr], segment: &Segment, count: Count) -> 
 }
 
 /// The number of points of a cell.
-fn cell_size(order: &Order, instrs: &[Instr], cell: &Cell) -> u64 {
+fn cell_size(order: &Order, instrs: &[Boxed<Instr>], cell: &Cell) -> u64 {
     let mut count = Count { points: 0, next: 0 };
     if cell.first.end != End::Never {
         count = count.with(0, point(order, instrs, cell.first.end));

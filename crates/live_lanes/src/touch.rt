@@ -228,7 +228,7 @@ impl LiveFunc {
             None => return false,
         };
         match last {
-            Some(instr) => self.is_live_behind(v, instr.id),
+            Some(instr) => self.is_live_behind(v, instr.get().id),
             None => self.is_live_into(v, position),
         }
     }

@@ -15,7 +15,7 @@ use mir_func::{Block, Edge, Func, Instr, Operand};
 use mir_items::counted::effect_of;
 use mir_items::ways::falls_through;
 use std::alloc::{AllocError, Global};
-use target_base::Target;
+use target_base::{Boxed, Target};
 
 /// Whether the blocks that operands name are among these numbers.
 fn operands_are_there(numbers: &NumberSet, operands: &[Operand]) -> bool
@@ -33,10 +33,11 @@ fn operands_are_there(numbers: &NumberSet, operands: &[Operand]) -> bool
 
 /// Whether the blocks that instructions name are among these numbers.
 #[tactic(auto, using(crate::proofs::Listed::list_all_joined))]
-fn named_are_there(numbers: &NumberSet, instrs: &[Instr]) -> bool
+fn named_are_there(numbers: &NumberSet, instrs: &[Boxed<Instr>]) -> bool
     ensures { result ≡ list_all (has numbers.now) (flat_map rules.named_blocks instrs.now) }
 {
     for i in instrs {
+        let i = i.get();
         if !operands_are_there(numbers, i.operands.as_slice()) {
             return false;
         }
@@ -124,11 +125,16 @@ fn is_branch_at(target: &Target, i: &Instr) -> bool
 }
 
 /// The blocks that branches name.
-fn branch_targets(alloc: Global, target: &Target, instrs: &[Instr]) -> Result<Vec<u32>, AllocError>
+fn branch_targets(
+    alloc: Global,
+    target: &Target,
+    instrs: &[Boxed<Instr>],
+) -> Result<Vec<u32>, AllocError>
     ensures { IfOk result (λ made. made.items ≡ rules.branch_targets target.now instrs.now) }
 {
     let mut made = Vec::new(alloc);
     for i in instrs {
+        let i = i.get();
         if is_branch_at(target, i) {
             push_named(&mut made, i.operands.as_slice())?;
         }
@@ -179,11 +185,12 @@ fn some_branch_is_wrong(
     alloc: Global,
     target: &Target,
     f: &Func,
-    instrs: &[Instr],
+    instrs: &[Boxed<Instr>],
 ) -> Result<bool, AllocError>
     ensures { IfOk result (λ is_wrong. is_wrong ≡ list_any (λ i. binding.does binding.is_branch target.now i && not (rules.V1 target.now f.now i)) instrs.now) }
 {
     for i in instrs {
+        let i = i.get();
         if is_wrong_branch(alloc, target, f, i)? {
             return Ok(true);
         }

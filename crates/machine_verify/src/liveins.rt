@@ -17,7 +17,7 @@ use mir_func::{Block, Instr, Operand};
 use mir_meaning::Form;
 use std::alloc::{AllocError, Global};
 use target_base::registers::units_at;
-use target_base::{Reg, Target, Unit};
+use target_base::{Boxed, Reg, Target, Unit};
 
 /// Whether the unit of that number is set among these flags.
 fn is_set(flags: &[bool], u: usize) -> bool
@@ -297,10 +297,11 @@ fn operands_name_virtual(operands: &[Operand]) -> bool
     false
 }
 
-fn instrs_name_virtual(instrs: &[Instr]) -> bool
+fn instrs_name_virtual(instrs: &[Boxed<Instr>]) -> bool
     ensures { result ≡ list_any (λ i. list_any (λ o. is_virtual o.loc) (registers i.operands)) instrs.now }
 {
     for i in instrs {
+        let i = i.get();
         if operands_name_virtual(i.operands.as_slice()) {
             return true;
         }

@@ -144,7 +144,7 @@ fn later_fault(
     let instrs = b.instrs.as_slice();
     let mut before = first;
     'instrs: for j in 1..instrs.len() {
-        let i = &instrs[j];
+        let i = instrs[j].get();
         if let Some(rule) = instr_rule(q, &known.slots, i, k == 0, before, preds)? {
             return Ok(Some(fault_at(b, j as u32, rule)));
         }
@@ -168,6 +168,7 @@ fn fault_in(q: &Question, known: &Known, k: usize, b: &Block) -> Result<Option<I
     let [i, ..] = b.instrs.as_slice() else {
         return Ok(first_fault_at(b, own));
     };
+    let i = i.get();
     let start = Before {
         only_phis: true,
         terminator: false,

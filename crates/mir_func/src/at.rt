@@ -50,7 +50,10 @@ impl Func {
     /// The instruction at a place of the block at a position.
     pub fn instr_at(&self, position: usize, place: usize) -> Option<&Instr> {
         match self.blocks.as_slice().get(position) {
-            Some(block) => block.instrs.as_slice().get(place),
+            Some(block) => match block.instrs.as_slice().get(place) {
+                Some(boxed) => Some(boxed.get()),
+                None => None,
+            },
             None => None,
         }
     }

@@ -6,7 +6,9 @@ use crate::short::ShortList;
 use std::alloc::{AllocError, Global};
 use std::default::MadeWith;
 use std::marker::Model;
-use target_base::{Bytes, ClassId, Copied, IndexId, List, MaskId, OpId, Reg, Regs};
+use target_base::{
+    Boxed, BoxedList, Bytes, ClassId, Copied, IndexId, List, MaskId, OpId, Reg, Regs,
+};
 
 /// Where a register operand lies.
 #[derive(Clone, Copy, Debug, PartialEq, Eq)]
@@ -78,7 +80,7 @@ pub enum Op {
 pub type Operands = ShortList<Operand>;
 
 /// Instructions in order.
-pub type Instrs = List<Instr>;
+pub type Instrs = BoxedList<Instr>;
 
 /// Blocks in layout order.
 pub type Blocks = List<Block>;
@@ -205,10 +207,10 @@ fn find_block(blocks: &[Block], number: u32) -> Option<usize>
 }
 
 /// The place of the first instruction of that id.
-fn find_instr(instrs: &[Instr], id: u32) -> Option<usize>
+fn find_instr(instrs: &[Boxed<Instr>], id: u32) -> Option<usize>
     ensures { result ≡ position (λ i. i.id == id) instrs.now }
 {
-    instrs.iter().position(|i| i.id == id)
+    instrs.iter().position(|i| i.get().id == id)
 }
 
 /// The place of the first block of that number, or their count.
@@ -221,7 +223,7 @@ fn block_at(blocks: &[Block], number: u32) -> usize
 
 /// The place of a gap among a block's instructions.
 #[tactic(auto, using(crate::proofs::Places::places))]
-fn gap_at(instrs: &[Instr], before: Option<u32>) -> usize
+fn gap_at(instrs: &[Boxed<Instr>], before: Option<u32>) -> usize
     ensures value { result ≡ gap_place before instrs.now }
     ensures within { result ≤ length instrs.now }
 {

@@ -7,7 +7,7 @@ ghost use Rattle.mir_interp.specs.Stands.{first_seen, symbols_in, symbols_among,
 
 use mir_func::{Func, Instr, Operand};
 use std::alloc::{AllocError, Global};
-use target_base::{Bytes, List};
+use target_base::{Boxed, Bytes, List};
 
 /// Whether a list holds a name.
 fn holds(names: &[Bytes], name: &[u8]) -> bool
@@ -66,11 +66,12 @@ fn add_symbols(
 fn add_all_symbols(
     names: &mut List<Bytes>,
     alloc: Global,
-    instrs: &[Instr],
+    instrs: &[Boxed<Instr>],
 ) -> Result<(), AllocError>
     ensures { OnOk result (names.new ≡ first_seen names.old (symbols_among instrs.now)) }
 {
     for i in instrs {
+        let i = i.get();
         add_symbols(names, alloc, i.operands.as_slice())?;
     }
     Ok(())

@@ -18,7 +18,7 @@ use mir_items::silent::push_silent_writes;
 use mir_items::ways::{falls_through, push_phis, target_of};
 use std::alloc::{AllocError, Global};
 use std::collections::HashMap;
-use target_base::{Effect, List, Target};
+use target_base::{Boxed, Effect, List, Target};
 
 /// A way into a block, with what its phis write at once.
 #[derive(Drop)]
@@ -158,11 +158,12 @@ fn push_instrs(
     t: &Target,
     f: &Func,
     n: u32,
-    instrs: &[Instr],
+    instrs: &[Boxed<Instr>],
 ) -> Result<(), AllocError>
     ensures { OnOk result ((b : Block) → b.number ≡ n → code_of_steps out.new ≡ code_of_steps out.old ++ map bare (map (item_of t.now f.now b) instrs.now)) }
 {
     for i in instrs {
+        let i = i.get();
         let step = step_of(alloc, t, f, n, i)?;
         out.push(step)?;
     }

@@ -10,7 +10,7 @@ use crate::writes::push_defined;
 use meaning::Writes;
 use mir_func::{Block, Func, Instr, Operand, RegOp};
 use std::alloc::{AllocError, Global};
-use target_base::{Effect, Target};
+use target_base::{Boxed, Effect, Target};
 
 /// Appends what a phi writes where its block is entered from block n.
 fn push_phi_pair(
@@ -70,7 +70,7 @@ fn push_phi_writes(
 }
 
 /// The instructions of the first block of that number.
-fn instrs_of(blocks: &[Block], m: u32) -> &[Instr]
+fn instrs_of(blocks: &[Block], m: u32) -> &[Boxed<Instr>]
     ensures { result.now ≡ instrs_of blocks.now m }
 {
     for b in blocks {
@@ -87,11 +87,12 @@ fn push_all_phis(
     t: &Target,
     f: &Func,
     n: u32,
-    instrs: &[Instr],
+    instrs: &[Boxed<Instr>],
 ) -> Result<(), AllocError>
     ensures { OnOk result (out.new ≡ out.old ++ flat_map (phi_writes t.now f.now n) instrs.now) }
 {
     for i in instrs {
+        let i = i.get();
         push_phi_writes(out, alloc, t, f, n, i)?;
     }
     Ok(())
@@ -154,13 +155,13 @@ fn goes_on(t: &Target, i: &Instr) -> bool
 }
 
 /// Whether control goes on behind the last of these instructions.
-pub fn falls_through(t: &Target, instrs: &[Instr]) -> bool
+pub fn falls_through(t: &Target, instrs: &[Boxed<Instr>]) -> bool
     ensures { result ≡ falls_through t.now instrs.now }
 {
     let mut rest = instrs;
     while let [i, more @ ..] = rest {
         if more.is_empty() {
-            return goes_on(t, i);
+            return goes_on(t, i.get());
         }
         rest = more;
     }

@@ -13,7 +13,7 @@ use mir_func::{Block, Blocks, Edges, Instr, Instrs, Op, Operand};
 use mir_lines::RawHeader;
 use std::alloc::{AllocError, Global};
 use std::marker::Model;
-use target_base::{Effect, List, Regs, Target};
+use target_base::{Boxed, BoxedList, Effect, List, Regs, Target};
 
 /// The header of the block that is being read, and the lists that have come behind it.
 #[derive(Drop)]
@@ -77,11 +77,12 @@ fn ends_control(target: &Target, i: &Instr) -> bool
 }
 
 /// Whether control goes on behind the last of these instructions.
-fn falls_through(target: &Target, instrs: &[Instr]) -> bool
+fn falls_through(target: &Target, instrs: &[Boxed<Instr>]) -> bool
     ensures { result ≡ falls_through target.now instrs.now }
 {
     let mut falls = true;
     for i in instrs {
+        let i = i.get();
         falls = !ends_control(target, i);
     }
     falls
@@ -125,13 +126,18 @@ fn add_targets(blocks: &mut NumberSet, target: &Target, i: &Instr) -> Result<(),
 }
 
 /// The blocks that branches go to, each once.
-fn branch_targets(alloc: Global, target: &Target, instrs: &[Instr]) -> Result<NumberSet, AllocError>
+fn branch_targets(
+    alloc: Global,
+    target: &Target,
+    instrs: &[Boxed<Instr>],
+) -> Result<NumberSet, AllocError>
     requires { operand_count instrs.now < 4294967294 }
     ensures value { IfOk result (λ ns. ns ≡ with_numbers [] (branch_targets target.now instrs.now)) }
     ensures few { IfOk result (λ ns. length ns ≤ operand_count instrs.now) }
 {
     let mut blocks = NumberSet::new(alloc);
     for i in instrs {
+        let i = i.get();
         add_targets(&mut blocks, target, i)?;
     }
     Ok(blocks)
@@ -142,7 +148,7 @@ fn branch_targets(alloc: Global, target: &Target, instrs: &[Instr]) -> Result<Nu
 fn due_blocks(
     alloc: Global,
     target: &Target,
-    instrs: &[Instr],
+    instrs: &[Boxed<Instr>],
     next: Option<u32>,
 ) -> Result<NumberSet, AllocError>
     requires { operand_count instrs.now < 4294967294 }
@@ -161,7 +167,7 @@ fn due_blocks(
 fn due_successors(
     alloc: Global,
     target: &Target,
-    instrs: &[Instr],
+    instrs: &[Boxed<Instr>],
     next: Option<u32>,
 ) -> Result<Edges, AllocError>
     requires { operand_count instrs.now < 4294967294 }
@@ -260,7 +266,7 @@ impl Body {
         Body {
             done: List::new(alloc),
             opened: None,
-            instrs: List::new(alloc),
+            instrs: BoxedList::new(alloc),
             next_id: 0,
         }
     }
@@ -327,7 +333,7 @@ impl Body {
                 Ok(Body {
                     done,
                     opened: None,
-                    instrs: List::new(alloc),
+                    instrs: BoxedList::new(alloc),
                     next_id,
                 })
             }

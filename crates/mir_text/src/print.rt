@@ -8,7 +8,7 @@ ghost use Rattle.mir_text.specs.Print.{reg_name, index_name, class_name, mask_na
 use crate::doc::Doc;
 use mir_func::{Block, Classes, Edge, Func, Instr, Loc, Op, Operand, RegOp};
 use std::alloc::{AllocError, Global};
-use target_base::{Bytes, ClassId, Copied, IndexId, List, MaskId, Reg, Role, Target};
+use target_base::{Boxed, Bytes, ClassId, Copied, IndexId, List, MaskId, Reg, Role, Target};
 
 fn put(out: &mut Bytes, text: &str) -> Result<(), AllocError>
     ensures { OnOk result (out.new ≡ out.old ++ text.now) }
@@ -354,12 +354,13 @@ fn put_instrs(
     out: &mut Bytes,
     target: &Target,
     left: &mut Classes,
-    instrs: &[Instr],
+    instrs: &[Boxed<Instr>],
 ) -> Result<(), AllocError>
     ensures text { OnOk result (out.new ≡ out.old ++ print_instrs target.now left.old instrs.now) }
     ensures left { OnOk result (left.new ≡ left_behind_instrs left.old instrs.now) }
 {
     for i in instrs {
+        let i = i.get();
         put(out, "    ")?;
         put_instr(out, target, left, i)?;
         put(out, "\n")?;

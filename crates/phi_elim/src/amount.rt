@@ -5,6 +5,7 @@ ghost use Rattle.std.specs.List.{sum_by};
 ghost use Rattle.phi_elim.specs.Bulk.{bulk, operand_count};
 
 use mir_func::{Block, Func, Instr};
+use target_base::Boxed;
 
 /// The bulk of a function, by which the numbers are bounded that lowering makes: the next id and the
 /// numbers of its ranges, operands and frame objects together; at most 2^64 - 1.
@@ -29,11 +30,12 @@ fn add_blocks(before: u64, blocks: &[Block]) -> u64
 }
 
 #[tactic(auto, using(crate::proofs::Bulks::bulks))]
-fn add_instrs(before: u64, instrs: &[Instr]) -> u64
+fn add_instrs(before: u64, instrs: &[Boxed<Instr>]) -> u64
     ensures { result ≡ min (before + operand_count instrs.now) (2 ^ 64 - 1) }
 {
     let mut sum = before;
     'each: for i in instrs {
+        let i = i.get();
         sum = sum.saturating_add(i.operands.len() as u64);
     }
     sum

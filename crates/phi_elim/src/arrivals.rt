@@ -9,7 +9,7 @@ ghost use Rattle.phi_elim.specs.Numbered.{instr_count};
 use crate::reading::is_phi;
 use mir_func::{Block, Instr, Operand, RegOp};
 use std::alloc::{AllocError, Global};
-use target_base::Target;
+use target_base::{Boxed, Target};
 
 /// A copy that a phi needs in a block that leads to its own.
 #[derive(Clone, Copy)]
@@ -106,7 +106,7 @@ fn push_instrs(
     target: &Target,
     blocks: &[Block],
     first: u32,
-    instrs: &[Instr],
+    instrs: &[Boxed<Instr>],
 ) -> Result<u32, AllocError>
     requires { first + length instrs.now < 2 ^ 32 }
     ensures arrivals { OnOk result (arrivals.new.items ≡ arrivals.old.items ++ arrivals_in target.now blocks.now first instrs.now) }
@@ -114,6 +114,7 @@ fn push_instrs(
 {
     let mut to = first;
     'each: for i in instrs {
+        let i = i.get();
         to = push_instr(arrivals, target, blocks, to, i)?;
     }
     Ok(to)

@@ -12,7 +12,7 @@ use crate::ids::number_blocks;
 use crate::reading::is_phi;
 use mir_func::{Block, Blocks, Classes, Func, Instr, Loc, NoPhi, Operand, Valid};
 use std::alloc::{AllocError, Global};
-use target_base::{ClassId, Target};
+use target_base::{Boxed, ClassId, Target};
 
 /// The greatest bulk of a function of which something is promised.
 const MOST: u64 = 1 << 24;
@@ -109,11 +109,12 @@ fn push_classes(
     made: &mut Vec<Option<ClassId>>,
     target: &Target,
     classes: &[Option<ClassId>],
-    instrs: &[Instr],
+    instrs: &[Boxed<Instr>],
 ) -> Result<(), AllocError>
     ensures { OnOk result (made.new.items ≡ made.old.items ++ flat_map (incoming_class target.now classes.now) instrs.now) }
 {
     'each: for i in instrs {
+        let i = i.get();
         push_class(made, target, classes, i)?;
     }
     Ok(())

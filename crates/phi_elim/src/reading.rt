@@ -6,7 +6,7 @@ ghost use Rattle.target_base.specs.Rules.{is_phi};
 ghost use Rattle.mir_meaning.specs.Binding.{effect_of, does, is_terminator};
 
 use mir_func::{Instr, Op};
-use target_base::{Effect, Target};
+use target_base::{Boxed, Effect, Target};
 
 /// What the instruction's opcode computes; nothing where it is an excluded one.
 pub fn effect_of(target: &Target, i: &Instr) -> Option<Effect>
@@ -42,15 +42,15 @@ pub fn is_terminator(target: &Target, i: &Instr) -> bool
 }
 
 /// The place of the first terminator.
-fn find_terminator(target: &Target, instrs: &[Instr]) -> Option<usize>
+fn find_terminator(target: &Target, instrs: &[Boxed<Instr>]) -> Option<usize>
     ensures { result ≡ position (does is_terminator target.now) instrs.now }
 {
-    instrs.iter().position(|i| is_terminator(target, i))
+    instrs.iter().position(|i| is_terminator(target, i.get()))
 }
 
 /// The place of the first terminator, or the number of instructions.
 #[tactic(auto, using(mir_func::proofs::Places::places))]
-pub fn first_terminator(target: &Target, instrs: &[Instr]) -> usize
+pub fn first_terminator(target: &Target, instrs: &[Boxed<Instr>]) -> usize
     ensures value { result ≡ position_or_len (does is_terminator target.now) instrs.now }
     ensures within { result ≤ length instrs.now }
 {

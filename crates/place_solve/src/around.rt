@@ -4,14 +4,14 @@ use live_lanes::LiveFunc;
 use mir_func::{Instr, Loc, Operand, RegOp};
 use phi_elim::reading::effect_of;
 use target_base::registers::units_at;
-use target_base::{Effect, MaskId, Role, Target, Unit};
+use target_base::{Boxed, Effect, MaskId, Role, Target, Unit};
 use two_address::classes::{first_role, roles_of};
 
 /// Where a place stands.
 #[derive(Clone, Copy)]
 pub enum Around<'a> {
     /// Instructions that make one place.
-    Instrs(&'a [Instr]),
+    Instrs(&'a [Boxed<Instr>]),
     /// A copy before the instruction of that id.
     Before(u32),
     /// A copy behind the instruction of that id.
@@ -88,7 +88,7 @@ pub fn is_at_entry(live: &LiveFunc, around: Around<'_>, u: Unit) -> bool {
         Around::Instrs(instrs) => {
             let target = live.target();
             'each: for k in 0..instrs.len() {
-                let i = &instrs[k];
+                let i = instrs[k].get();
                 if live.unit_in(u, i.id) || writes_early(target, i, u) {
                     return true;
                 }
@@ -106,9 +106,7 @@ pub fn is_at_exit(live: &LiveFunc, around: Around<'_>, u: Unit) -> bool {
     match around {
         Around::Instrs(instrs) => {
             let target = live.target();
-            instrs
-                .iter()
-                .any(|i| live.unit_out(u, i.id) || writes(target, i, u))
+            instrs.iter().any(|i| live.unit_out(u, i.get().id) || writes(target, i.get(), u))
         }
         _ => false,
     }

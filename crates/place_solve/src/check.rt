@@ -8,7 +8,7 @@ use live_lanes::LiveFunc;
 use mir_func::{Block, Func, Instr, Place, Valid};
 use phi_elim::reading::{effect_of, is_terminator};
 use std::alloc::{AllocError, Global};
-use target_base::{Effect, Target};
+use target_base::{Boxed, Effect, Target};
 use thiserror::Error;
 
 /// The most variables of a place.
@@ -36,28 +36,28 @@ impl From<AllocError> for PlaceStop {
 
 /// The instructions that make the own place of the one at `j`: the terminators are one place at the
 /// first of them, and PHI, REG_SEQUENCE and INSERT_SUBREG have none.
-fn own_place<'a>(target: &Target, instrs: &'a [Instr], j: usize) -> &'a [Instr] {
+fn own_place<'a>(target: &Target, instrs: &'a [Boxed<Instr>], j: usize) -> &'a [Boxed<Instr>] {
     if j >= instrs.len() {
         return &[];
     }
-    if is_terminator(target, &instrs[j]) {
-        if j > 0 && is_terminator(target, &instrs[j - 1]) {
+    if is_terminator(target, instrs[j].get()) {
+        if j > 0 && is_terminator(target, instrs[j - 1].get()) {
             return &[];
         }
         return &instrs[j..];
     }
-    match effect_of(target, &instrs[j]) {
+    match effect_of(target, instrs[j].get()) {
         Some(Effect::Phi | Effect::RegSequence | Effect::InsertSubreg) => &[],
         _ => &instrs[j..j + 1],
     }
 }
 
 /// Where the own place of these instructions stands: a copy counts by the point before it.
-fn own_around<'a>(target: &Target, instrs: &'a [Instr]) -> Around<'a> {
+fn own_around<'a>(target: &Target, instrs: &'a [Boxed<Instr>]) -> Around<'a> {
     match instrs.first() {
         None => Around::Instrs(instrs),
-        Some(i) => match effect_of(target, i) {
-            Some(Effect::Copy) => Around::Before(i.id),
+        Some(i) => match effect_of(target, i.get()) {
+            Some(Effect::Copy) => Around::Before(i.get().id),
             _ => Around::Instrs(instrs),
         },
     }
@@ -81,7 +81,12 @@ fn crowded(
 }
 
 /// Whether the own place of an instruction, and the copies that lowering makes of it, admit registers.
-fn admits(alloc: Global, live: &LiveFunc, instrs: &[Instr], j: usize) -> Result<bool, AllocError> {
+fn admits(
+    alloc: Global,
+    live: &LiveFunc,
+    instrs: &[Boxed<Instr>],
+    j: usize,
+) -> Result<bool, AllocError> {
     let (target, f) = (live.target(), live.func());
     if j >= instrs.len() {
         return Ok(true);
@@ -92,7 +97,7 @@ fn admits(alloc: Global, live: &LiveFunc, instrs: &[Instr], j: usize) -> Result<
     if first_choice(alloc, live, around, variables.as_slice())?.is_none() {
         return Ok(false);
     }
-    copies_admit(alloc, live, &instrs[j])
+    copies_admit(alloc, live, instrs[j].get())
 }
 
 /// The first instruction of a block one of whose places admits nothing.

@@ -31,9 +31,9 @@ fn phi_point<'a>(target: &Target, f: &'a Func, number: u32) -> Around<'a> {
     let instrs = block.instrs.as_slice();
     let at = first_terminator(target, instrs);
     match instrs.get(at) {
-        Some(i) => Around::Before(i.id),
+        Some(i) => Around::Before(i.get().id),
         None => match instrs.last() {
-            Some(i) => Around::Behind(i.id),
+            Some(i) => Around::Behind(i.get().id),
             None => Around::Start(number),
         },
     }

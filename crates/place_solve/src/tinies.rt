@@ -9,14 +9,14 @@ use mir_func::{Instr, Loc};
 use phi_elim::phis::located_class;
 use phi_elim::reading::{effect_of, is_terminator};
 use std::alloc::{AllocError, Global};
-use target_base::{Effect, List, Reg};
+use target_base::{Boxed, Effect, List, Reg};
 
 /// Ranges with the registers that are chosen for them.
 pub type Choices = List<(u32, Reg)>;
 
 /// The instructions of the place that begins with the one of that id: the terminators of a block are
 /// one place.
-fn place_at(live: &LiveFunc, at: u32) -> &[Instr] {
+fn place_at(live: &LiveFunc, at: u32) -> &[Boxed<Instr>] {
     let Some(block) = live
         .func()
         .blocks
@@ -30,7 +30,7 @@ fn place_at(live: &LiveFunc, at: u32) -> &[Instr] {
     if k >= instrs.len() {
         return &[];
     }
-    if is_terminator(live.target(), &instrs[k]) {
+    if is_terminator(live.target(), instrs[k].get()) {
         &instrs[k..]
     } else {
         &instrs[k..k + 1]
@@ -47,7 +47,7 @@ fn is_tiny(tinies: &Tinies, v: u32) -> bool {
 fn tiny_variables(
     alloc: Global,
     live: &LiveFunc,
-    place: &[Instr],
+    place: &[Boxed<Instr>],
     tinies: &Tinies,
 ) -> Result<Vec<Variable>, AllocError> {
     let mut made = Vec::new(alloc);
@@ -70,10 +70,10 @@ fn stored_variable(live: &LiveFunc, range: u32) -> Variable {
 }
 
 /// Whether the place is a store to a slot.
-fn is_store(live: &LiveFunc, place: &[Instr]) -> bool {
+fn is_store(live: &LiveFunc, place: &[Boxed<Instr>]) -> bool {
     match place.first() {
         None => false,
-        Some(i) => match effect_of(live.target(), i) {
+        Some(i) => match effect_of(live.target(), i.get()) {
             Some(Effect::Spill) => true,
             _ => false,
         },

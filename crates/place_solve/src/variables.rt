@@ -4,7 +4,7 @@ use crate::widths::{class_of_widths, operand_widths};
 use mir_func::{Func, Instr, Loc, Operand, RegOp};
 use phi_elim::reading::effect_of;
 use std::alloc::{AllocError, Global};
-use target_base::{ClassId, Effect, IndexId, Role, Target};
+use target_base::{Boxed, ClassId, Effect, IndexId, Role, Target};
 use two_address::classes::{class_asked, first_role, roles_behind, roles_of};
 
 /// How a variable is used at its place.
@@ -216,10 +216,11 @@ pub fn variables_of(
     alloc: Global,
     target: &Target,
     f: &Func,
-    instrs: &[Instr],
+    instrs: &[Boxed<Instr>],
 ) -> Result<Vec<Variable>, AllocError> {
     let mut variables = Vec::new(alloc);
     'each: for i in instrs {
+        let i = i.get();
         add_variables(alloc, target, f, i, &mut variables)?;
     }
     Ok(variables)

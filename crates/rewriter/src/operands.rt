@@ -8,7 +8,7 @@ use mir_func::{Instr, Loc, Operand, Operands, RegOp};
 use phi_elim::reading::effect_of;
 use std::alloc::{AllocError, Global};
 use target_base::registers::{find_sub, units_at};
-use target_base::{Copied, Effect, IndexId, Reg, Target};
+use target_base::{Boxed, Copied, Effect, IndexId, Reg, Target};
 use two_address::classes::index_lanes;
 use two_address::ties::same_loc;
 
@@ -146,11 +146,16 @@ fn is_identity(target: &Target, i: &Instr) -> bool
 }
 
 /// Puts an instruction behind the others, unless it is a COPY of a register to itself.
-fn push_unless_identity(target: &Target, i: Instr, out: &mut Vec<Instr>) -> Result<(), AllocError>
+fn push_unless_identity(
+    target: &Target,
+    i: Instr,
+    out: &mut Vec<Boxed<Instr>>,
+) -> Result<(), AllocError>
     ensures { OnOk result (out.new.items ≡ out.old.items ++ cond (is_identity target.now i) [] (i ∷ [])) }
 {
     if !is_identity(target, &i) {
-        out.push(i)?;
+        let boxed = Boxed::new(*out.allocator(), i)?;
+        out.push(boxed)?;
     }
     Ok(())
 }
@@ -161,12 +166,13 @@ pub fn physical_instrs(
     alloc: Global,
     target: &Target,
     registers: &[Option<Reg>],
-    instrs: &[Instr],
-) -> Result<Vec<Instr>, AllocError>
+    instrs: &[Boxed<Instr>],
+) -> Result<Vec<Boxed<Instr>>, AllocError>
     ensures { IfOk result (λ made. made.items ≡ physical_instrs target.now registers.now instrs.now) }
 {
     let mut made = Vec::new(alloc);
     'each: for i in instrs {
+        let i = i.get();
         let physical = physical_instr(alloc, target, registers, i)?;
         push_unless_identity(target, physical, &mut made)?;
     }

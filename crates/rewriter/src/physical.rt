@@ -11,7 +11,7 @@ use live_lanes::LiveFunc;
 use mir_func::{Block, Blocks, Frames, Func};
 use phi_elim::ids::number_blocks;
 use std::alloc::{AllocError, Global};
-use target_base::{ClassId, Copied, List, Reg, Regs, Target};
+use target_base::{BoxedList, ClassId, Copied, List, Reg, Regs, Target};
 
 /// The frame objects with the slots, which are spill slots.
 #[tactic(auto, using(crate::proofs::Physicals::physicals))]
@@ -35,7 +35,7 @@ fn put_block(
     ensures { OnOk result (block.new ≡ physical_block target.now registers.now block.old) }
 {
     let instrs = physical_instrs(alloc, target, registers, block.instrs.as_slice())?;
-    block.instrs = List::from_vec(instrs);
+    block.instrs = BoxedList::from_vec(instrs);
     Ok(())
 }
 

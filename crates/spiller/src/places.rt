@@ -9,7 +9,7 @@ use crate::roles::{Tie, class_of, operand_class, register_at, tie_of};
 use crate::slot_map::SlotMap;
 use mir_func::{Instr, Loc, Op, Operand, Operands, RegOp};
 use std::alloc::AllocError;
-use target_base::{ClassId, Copied, Effect, IndexId, OpId};
+use target_base::{Boxed, ClassId, Copied, Effect, IndexId, OpId};
 
 /// The tiny of a use: its index and operand class, and the range.
 #[derive(Clone, Copy, PartialEq, Eq)]
@@ -291,13 +291,13 @@ fn change_undefined(
 /// Changes the place of the terminators of a block.
 pub(crate) fn change_terminators(
     view: View<'_>,
-    instrs: &[Instr],
+    instrs: &[Boxed<Instr>],
     remat: &Remat,
     slots: &mut SlotMap,
     plan: &mut Plan,
 ) -> Result<(), AllocError> {
     match instrs.first() {
-        Some(first) => change_place(view, instrs, first, remat, slots, plan),
+        Some(first) => change_place(view, instrs, first.get(), remat, slots, plan),
         None => Ok(()),
     }
 }
@@ -305,7 +305,7 @@ pub(crate) fn change_terminators(
 /// Changes a place of instructions, or of one where the list is empty.
 fn change_place(
     view: View<'_>,
-    instrs: &[Instr],
+    instrs: &[Boxed<Instr>],
     first: &Instr,
     remat: &Remat,
     slots: &mut SlotMap,
@@ -314,7 +314,7 @@ fn change_place(
     let mut place = PlaceWork {
         at: first.id,
         last: match instrs.last() {
-            Some(last) => last.id,
+            Some(last) => last.get().id,
             None => first.id,
         },
         reads: Vec::new(view.alloc),
@@ -355,12 +355,13 @@ impl PlaceWork {
     fn read_all(
         &mut self,
         view: View<'_>,
-        instrs: &[Instr],
+        instrs: &[Boxed<Instr>],
         remat: &Remat,
         slots: &mut SlotMap,
         plan: &mut Plan,
     ) -> Result<(), AllocError> {
         'instrs: for instr in instrs {
+            let instr = instr.get();
             self.read_instr(view, instr, remat, slots, plan)?;
         }
         Ok(())
@@ -369,11 +370,12 @@ impl PlaceWork {
     fn write_all(
         &mut self,
         view: View<'_>,
-        instrs: &[Instr],
+        instrs: &[Boxed<Instr>],
         slots: &mut SlotMap,
         plan: &mut Plan,
     ) -> Result<(), AllocError> {
         'instrs: for instr in instrs {
+            let instr = instr.get();
             if names(view, instr) {
                 self.write_instr(view, instr, slots, plan)?;
             }

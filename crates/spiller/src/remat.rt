@@ -7,7 +7,7 @@ use crate::reaching::{Event, Events, ReadLanes, readings_reached};
 use crate::roles::{Tie, operand_class, register_at, role_of, tie_of};
 use mir_func::{Instr, Loc, Operand, RegOp};
 use std::alloc::{AllocError, Global};
-use target_base::{ClassId, Effect, IndexId, Reg, Role};
+use target_base::{Boxed, ClassId, Effect, IndexId, Reg, Role};
 
 /// What a reading asks of the instruction that is repeated for it.
 #[derive(Clone, Copy, PartialEq, Eq)]
@@ -228,17 +228,17 @@ pub(crate) fn place_id(view: View<'_>, instr: &Instr) -> u32 {
     };
     let instrs = block.instrs.as_slice();
     match instrs.get(first_terminator(view, instrs)) {
-        Some(first) => first.id,
+        Some(first) => first.get().id,
         None => instr.id,
     }
 }
 
 /// The place of the first of the terminators at the end of a block, or the block's end.
-pub(crate) fn first_terminator(view: View<'_>, instrs: &[Instr]) -> usize {
+pub(crate) fn first_terminator(view: View<'_>, instrs: &[Boxed<Instr>]) -> usize {
     let count = instrs
         .iter()
         .rev()
-        .take_while(|instr| is_terminator(view.target, *instr))
+        .take_while(|instr| is_terminator(view.target, instr.get()))
         .count();
     instrs.len().saturating_sub(count)
 }

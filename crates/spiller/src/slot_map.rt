@@ -4,7 +4,7 @@
 use mir_func::{Func, Instr, Operand};
 use std::alloc::{AllocError, Global};
 use std::collections::{BTreeMap, BTreeSet};
-use target_base::ClassId;
+use target_base::{Boxed, ClassId};
 
 /// A spill slot that was given.
 #[derive(Clone, Copy, Debug, PartialEq, Eq)]
@@ -59,8 +59,9 @@ impl SlotMap {
         Ok(())
     }
 
-    fn take_named(&mut self, instrs: &[Instr]) -> Result<(), AllocError> {
+    fn take_named(&mut self, instrs: &[Boxed<Instr>]) -> Result<(), AllocError> {
         'instrs: for instr in instrs {
+            let instr = instr.get();
             self.take_operands(instr.operands.as_slice())?;
         }
         Ok(())

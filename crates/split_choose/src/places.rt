@@ -4,7 +4,7 @@ use live_lanes::LiveFunc;
 use mir_func::{Block, Instr, Loc, Operand};
 use spiller::kinds::is_terminator;
 use std::alloc::{AllocError, Global};
-use target_base::Target;
+use target_base::{Boxed, Target};
 
 /// A place that touches a range: an instruction, or the terminators of a block together.
 #[derive(Clone, Copy, PartialEq, Eq)]
@@ -25,11 +25,11 @@ pub(crate) fn block_at(live: &LiveFunc, position: u32) -> Option<&Block> {
 }
 
 /// The place of the first of the terminators at the end of a block, or the block's end.
-pub(crate) fn first_terminator(target: &Target, instrs: &[Instr]) -> usize {
+pub(crate) fn first_terminator(target: &Target, instrs: &[Boxed<Instr>]) -> usize {
     let count = instrs
         .iter()
         .rev()
-        .take_while(|instr| is_terminator(target, *instr))
+        .take_while(|instr| is_terminator(target, instr.get()))
         .count();
     instrs.len().saturating_sub(count)
 }
@@ -38,7 +38,7 @@ pub(crate) fn first_terminator(target: &Target, instrs: &[Instr]) -> usize {
 pub(crate) fn end_of(live: &LiveFunc, position: u32) -> Option<u32> {
     let instrs = block_at(live, position)?.instrs.as_slice();
     let first = instrs.get(first_terminator(live.target(), instrs))?;
-    Some(first.id)
+    Some(first.get().id)
 }
 
 fn place_of(live: &LiveFunc, id: u32) -> Option<TouchedPlace> {
@@ -56,7 +56,7 @@ fn place_of(live: &LiveFunc, id: u32) -> Option<TouchedPlace> {
     Some(TouchedPlace {
         position,
         first: end_of(live, position).unwrap_or(id),
-        last: last.id,
+        last: last.get().id,
         is_end: true,
     })
 }

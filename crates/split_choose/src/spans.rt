@@ -202,7 +202,7 @@ pub(crate) fn is_alone(m: &Matrix, v: u32, r: Reg, position: u32, stretches: &[S
 pub(crate) fn gap_ids(live: &LiveFunc, position: u32) -> (Option<u32>, Option<u32>) {
     let first = match block_at(live, position) {
         Some(block) => match block.instrs.as_slice().first() {
-            Some(instr) => Some(instr.id),
+            Some(instr) => Some(instr.get().id),
             None => None,
         },
         None => None,

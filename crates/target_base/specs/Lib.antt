@@ -7,3 +7,4 @@ pub mod Mini
 pub mod Tables
 pub mod Registers
 pub mod Lending
+pub mod BoxLending

@@ -2,12 +2,14 @@
 //! classes, call masks and opcodes, and the questions that the allocator asks of them.
 #![tactic(auto)]
 
+pub mod boxed;
 pub mod builtin;
 pub mod classes;
 pub mod list;
 pub mod registers;
 pub mod types;
 
+pub use boxed::{Boxed, BoxedList};
 pub use builtin::mini;
 pub use list::{Copied, List};
 pub use types::{

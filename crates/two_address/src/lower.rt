@@ -20,7 +20,7 @@ use phi_elim::amount::bulk_of;
 use phi_elim::ids::number_blocks;
 use phi_elim::phis::located_class;
 use std::alloc::{AllocError, Global};
-use target_base::{ClassId, List, Target};
+use target_base::{Boxed, BoxedList, ClassId, Target};
 
 /// The greatest bulk of a function of which something is promised.
 const MOST: u64 = 1 << 27;
@@ -102,7 +102,7 @@ fn lower_block(
     ensures classes { OnOk result (made.new.items ≡ made.old.items ++ classes_made target.now classes.now (length classes.now + length made.old.items) block.old.instrs) }
 {
     let out = lower_instrs(alloc, target, classes, made, block.instrs.as_slice())?;
-    block.instrs = List::from_vec(out);
+    block.instrs = BoxedList::from_items(alloc, out)?;
     Ok(())
 }
 
@@ -113,7 +113,7 @@ fn lower_instrs(
     target: &Target,
     classes: &[Option<ClassId>],
     made: &mut Vec<Option<ClassId>>,
-    instrs: &[Instr],
+    instrs: &[Boxed<Instr>],
 ) -> Result<Vec<Instr>, AllocError>
     requires { length classes.now + length made.old.items + length instrs.now < 2 ^ 32 }
     ensures instrs { IfOk result (λ out. out.items ≡ instrs_lowered target.now classes.now (length classes.now + length made.old.items) instrs.now) }
@@ -121,6 +121,7 @@ fn lower_instrs(
 {
     let mut out = Vec::new(alloc);
     'each: for i in instrs {
+        let i = i.get();
         push_instr(alloc, target, classes, made, i, &mut out)?;
     }
     Ok(out)

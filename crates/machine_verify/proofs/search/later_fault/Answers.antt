@@ -11,9 +11,9 @@ returns-in-Some c =
     let f = c.args.q.now.f.now in
     let b = c.args.b.now in
     let j = c.instrs.j in
-    let i = c.index-instrs-j.result in
+    let i = c.get-i.result.now in
     let h : j < length b.instrs = omega (arith, ap length c.as_slice-instrs.ensures) in
-    let e = sym (c.index-instrs-j.is ∙ ap (λ is. get_or is j i) c.as_slice-instrs.ensures) in
+    let e = sym (rw c.get-i.ensures c.index-instrs-j.is ∙ ap (λ is. get_or is j i) c.as_slice-instrs.ensures) in
     let r = rule_here t form f c.args.k b j i c.instrs.before c.args.preds.now (Some c.in-Some.rule) c.instrs.invariant.before c.requires.preds (sym c.in-Some.is ∙ c.in_ok-rule.ensures) in
     found_here t form f c.args.k b j i c.in-Some.rule _ (fault_of c.fault_at.result) h e r c.instrs.invariant.rest c.fault_at.ensures
 
@@ -24,9 +24,9 @@ instrs-preserved c =
     let f = c.args.q.now.f.now in
     let b = c.args.b.now in
     let j = c.instrs.j in
-    let i = c.index-instrs-j.result in
+    let i = c.get-i.result.now in
     let h : j < length b.instrs = omega (arith, ap length c.as_slice-instrs.ensures) in
-    let e = sym (c.index-instrs-j.is ∙ ap (λ is. get_or is j i) c.as_slice-instrs.ensures) in
+    let e = sym (rw c.get-i.ensures c.index-instrs-j.is ∙ ap (λ is. get_or is j i) c.as_slice-instrs.ensures) in
     let r = rule_here t form f c.args.k b j i c.instrs.before c.args.preds.now None c.instrs.invariant.before c.requires.preds (sym c.in_default.is ∙ c.in_ok-rule.ensures) in
     record {
       before = c.after-before.ensures ∙ (ap (λ x. after t x i) c.instrs.invariant.before ∙ before_step t b.instrs j i h e);

@@ -4,4 +4,4 @@ use Rattle.rewriter.proofs.operands.physical_instrs.Goals as goal
 
 pub each-preserved : goal.each-preserved
 each-preserved c =
-    instr_more c.args.target.now c.args.registers.now c.each.i-index c.args.instrs.now c.each.made.items c.push_unless_identity.new.out.items _ c.i-item.result c.in_ok-physical.physical (omega arith) c.i-item.is c.in_ok-physical.ensures c.in_ok-push_unless_identity.ensures c.each.invariant
+    instr_more c.args.target.now c.args.registers.now c.each.i-index c.args.instrs.now c.each.made.items c.push_unless_identity.new.out.items _ c.get-i.result.now c.in_ok-physical.physical (omega arith) (rw c.get-i.ensures c.i-item.is) c.in_ok-physical.ensures c.in_ok-push_unless_identity.ensures c.each.invariant
