@@ -4,3 +4,5 @@ pub mod Quiet
 pub mod Quieter
 pub mod Coded
 pub mod Computed
+pub mod Spots
+pub mod Inside

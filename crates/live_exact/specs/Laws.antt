@@ -6,12 +6,13 @@ use Rattle.meaning.specs.Live.{Among as Member, is_slot}
 use Rattle.mir_func.specs.declared.func.Block.{Block}
 use Rattle.mir_func.specs.declared.func.Instr.{Instr}
 use Rattle.mir_func.specs.Value.{Function}
-use Rattle.mir_meaning.specs.Points.{Start, LiveAt}
+use Rattle.mir_meaning.specs.Points.{Start, Entry, Exit, LiveAt}
+use Rattle.mir_meaning.specs.Registers.{is_reserved}
 use Rattle.mir_meaning.specs.Rules.{V8}
 use Rattle.lane_effects.specs.Steps.{Numbering}
 use Rattle.lane_effects.specs.Stepping.{tag_of}
 use Rattle.effect_laws.specs.Shaped.{is_proper}
-use Rattle.effect_laws.specs.Coded.{numbered_code, KeepsRules, IsNumbered}
+use Rattle.effect_laws.specs.Coded.{numbered_code, spot_in, KeepsRules, IsNumbered}
 use Rattle.live_lanes.specs.Graph.{Causes, is_live, IsGrown}
 use Rattle.std.specs.Ordering.{nat_cmp}
 use Rattle.std.specs.BTreeMap.{get}
@@ -19,6 +20,7 @@ use Rattle.lane_effects.specs.Numbered.{number_in}
 use Rattle.live_lanes.specs.declared.table.Table.{Table}
 use Rattle.live_lanes.specs.Marks.{marked_at}
 use Rattle.live_lanes.specs.Doing.{IsComputed}
+use Rattle.live_lanes.specs.Looks.{InOrder, entry_at, exit_at}
 use Rattle.live_exact.specs.Same.{code_as, IsQuiet}
 
 -- the first piece of a lane in a block is marked live exactly where the lane is live at the block's start
@@ -41,3 +43,15 @@ ComputedLaw =
     (t : Target) (f : Function) (x : Table) → IsComputed t f x → KeepsRules t f → ((b : Block) (j : ℕ) (i : Instr) → Member b f.blocks → slice_get b.instrs j ≡ Some i → V8 t b j i ≡ true)
     → (l : Lane) → is_slot l ≡ false → (k : ℕ) (b : Block) → slice_get f.blocks k ≡ Some b
     → (marked_at x.rows.rows.items (tag_of (number_in x.lanes) (is_proper t) l) (get nat_cmp x.order.positions b.number) ≡ true) ↔ LiveAt t f (Start b.number) l
+
+-- a table tells at the entry and at the exit of each instruction exactly which lanes are live there; reserved lanes take no part
+pub record TellsInside (t : Target) (f : Function) (x : Table) : Type 0 where
+  pub ordered : InOrder x
+  pub entry : (l : Lane) → is_slot l ≡ false → (id p k : ℕ) → spot_in id f.blocks ≡ Some (p, k) → (entry_at x (tag_of (number_in x.lanes) (is_proper t) l) id ≡ true) ↔ LiveAt t f (Entry id) l
+  pub exit : (l : Lane) → is_slot l ≡ false → is_reserved t l ≡ false → (id p k : ℕ) → spot_in id f.blocks ≡ Some (p, k) → (exit_at x (tag_of (number_in x.lanes) (is_proper t) l) id ≡ true) ↔ LiveAt t f (Exit id) l
+
+-- a computed table does so
+abbrev pub InsideLaw : Type 0
+InsideLaw =
+    (t : Target) (f : Function) (x : Table) → IsComputed t f x → KeepsRules t f → ((b : Block) (j : ℕ) (i : Instr) → Member b f.blocks → slice_get b.instrs j ≡ Some i → V8 t b j i ≡ true)
+    → TellsInside t f x

@@ -1,7 +1,7 @@
 //! Laws of the table of live lanes: what it marks is what the meaning of the function says.
 #![tactic(auto)]
 
-ghost use Rattle.live_exact.specs.Laws.{ComputedLaw, QuietLaw, StartsLaw};
+ghost use Rattle.live_exact.specs.Laws.{ComputedLaw, InsideLaw, QuietLaw, StartsLaw};
 
 /// A grown table marks a lane at a block's start exactly where the lane is live there.
 pub fn starts_law()
@@ -16,4 +16,10 @@ pub fn quiet_law()
 /// A computed table marks a lane at a block's start exactly where the lane is live there.
 pub fn computed_law()
     ensures { ComputedLaw }
+{}
+
+/// A computed table tells at the entry and at the exit of each instruction exactly which lanes are
+/// live there.
+pub fn inside_law()
+    ensures { InsideLaw }
 {}

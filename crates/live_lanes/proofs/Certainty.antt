@@ -27,7 +27,7 @@ pub record SomePieces (code : Code) (old new : List Row) (lane place k : ℕ) (x
   pub grew : Grew code old new x y
   pub done : (b n : ℕ) → slice_get (row_blocks old lane) place ≡ Some b → n < k → n ≤ length (rows_seen old lane b).segments → Done new lane b n
 
-lt-cases : (n k : ℕ) → n < k + 1 → (n < k) ⊎ (n ≡ k)
+pub lt-cases : (n k : ℕ) → n < k + 1 → (n < k) ⊎ (n ≡ k)
 lt-cases n k h = go (cases_lt n k)
   where
     go : ((n < k) ⊎ (k ≤ n)) → (n < k) ⊎ (n ≡ k)
@@ -48,7 +48,7 @@ pieces-more code slots flow old mid new lane place k x y z t keeps so r = record
     go b n e w (inr f) = subst (Done new lane b) (sym f) (step.1 b (ap (λ bs. slice_get bs place) (keeps lane) ∙ e) (let s = same-length code old mid x y lane b so.grew in omega arith))
 
 -- the cell at a place whose block is b
-block-cell : (cells : List Cell) (p b : ℕ) → slice_get (blocks_of cells) p ≡ Some b → (c : Cell) × (slice_get cells p ≡ Some c) × (c.block ≡ b)
+pub block-cell : (cells : List Cell) (p b : ℕ) → slice_get (blocks_of cells) p ≡ Some b → (c : Cell) × (slice_get cells p ≡ Some c) × (c.block ≡ b)
 block-cell [] p b e = absurd (cc)
 block-cell (c ∷ cells) zero b e = (c, refl, some-inj c.block b e)
 block-cell (c ∷ cells) (suc p) b e = block-cell cells p b e
@@ -112,7 +112,7 @@ find-place (d ∷ cells) b c e = go (nat_eq d.block b) refl e (λ f. find-place 
     go false f g ih = let z = ih g in (suc z.0, (let h = z.1 in omega arith), z.2)
 
 -- a block with a cell has a place; elsewhere nothing is seen
-place-or-unseen : (rows : List Row) (l b : ℕ) → ((p : ℕ) × (p < length (cells_of rows l)) × (slice_get (row_blocks rows l) p ≡ Some b)) ⊎ (rows_seen rows l b ≡ unseen)
+pub place-or-unseen : (rows : List Row) (l b : ℕ) → ((p : ℕ) × (p < length (cells_of rows l)) × (slice_get (row_blocks rows l) p ≡ Some b)) ⊎ (rows_seen rows l b ≡ unseen)
 place-or-unseen rows l b = go (slice_get rows l)
   where
     inside : (cells : List Cell) → ((p : ℕ) × (p < length cells) × (slice_get (blocks_of cells) p ≡ Some b)) ⊎ (seen_in cells b ≡ unseen)

@@ -107,7 +107,7 @@ module _ (t : Target) (doing : Doing) (place : ℕ → Option ℕ) (bs : List Bl
   abbrev exits_some : Option Block → List ℕ
   exits_some q = elim q [ None ↦ [] | Some c ↦ edge_places place c.successors ]
 
-  exits-is : (k : ℕ) → exits_of code k ≡ exits_at place bs k
+  pub exits-is : (k : ℕ) → exits_of code k ≡ exits_at place bs k
   exits-is k = ap exits_in (body-is k) ∙ go (slice_get bs k)
     where
       go : (q : Option Block) → exits_in (option_map (body_at doing place bs k) q) ≡ exits_some q

@@ -10,19 +10,29 @@ use Rattle.mir_func.specs.Value.{Function}
 use Rattle.lane_effects.specs.Steps.{Numbering}
 use Rattle.live_lanes.specs.declared.flow.Ways.{Ways}
 use Rattle.live_lanes.specs.declared.row.Row.{Row}
+use Rattle.live_lanes.specs.declared.table.Table.{Table}
+use Rattle.std.specs.Ordering.{nat_cmp}
+use Rattle.std.specs.BTreeMap.{get}
+use Rattle.lane_effects.specs.Numbered.{number_in, NumbersAll}
 use Rattle.live_lanes.specs.Graph.{is_live, IsGrown}
 use Rattle.live_lanes.specs.Table.{Numbers, unseen, cause_in}
-use Rattle.live_lanes.specs.Entered.{rows_seen, causes}
+use Rattle.live_lanes.specs.Entered.{rows_seen, causes, IsTableOf}
+use Rattle.live_lanes.specs.Ends.{IsEnd, row_end, AreEnds}
+use Rattle.live_lanes.specs.Lasting.{AllRise, Lasts, AreOutward}
+use Rattle.live_lanes.specs.Paths.{Code}
 use Rattle.live_lanes.specs.Entering.{blocks_entered}
-use Rattle.live_lanes.specs.Ordered.{last_id, all_ids, place_of, AreSingle}
+use Rattle.live_lanes.specs.Ordered.{last_id, all_ids, place_of, AreSingle, AreHomes}
 use Rattle.live_lanes.specs.Flowing.{AreWays}
 use Rattle.live_lanes.specs.Growth.{GrowsAll}
 use Rattle.live_lanes.specs.Marks.{KeepsCauses}
 use Rattle.live_lanes.specs.Coded.{entries, IsMade}
-use Rattle.live_lanes.specs.Doing.{doing_of, lane_code}
+use Rattle.live_lanes.specs.Doing.{doing_of, lane_code, IsComputed}
 use Rattle.live_lanes.specs.Laws.{AllMatched}
 use Rattle.live_lanes.proofs.Coded.{made-law}
 use Rattle.live_lanes.proofs.Dead.{blocks-dead, unseen-dead}
+use Rattle.live_lanes.proofs.Growth.{piece-law}
+use Rattle.live_lanes.proofs.Outward.{outward}
+use Rattle.live_lanes.proofs.Right.{right-law}
 use Rattle.live_lanes.proofs.Risen.{block-rising}
 
 place-below : (n : ℕ) (bs : List Block) (p : ℕ) → place_of n bs ≡ Some p → p < length bs
@@ -37,11 +47,30 @@ place-below n (b ∷ bs) p e = go (nat_eq b.number n) e (place-below n bs)
     go true e ih = let same : 0 ≡ p = cc in omega (arith, same)
     go false e ih = up (place_of n bs) e ih
 
+-- what holds of a table in the end
+pub record Told (code : Code) (slots : Numbers) (flow : List Ways) (rows : List Row) : Type 0 where
+  pub table : IsTableOf code slots flow rows
+  pub grown : IsGrown code (causes rows)
+  pub ended : AreEnds code slots rows
+
+-- pieces that are grown get their ends
+pub ended-told : (code : Code) (slots : Numbers) (flow : List Ways) (grown ended : List Row) → IsTableOf code slots flow grown → AreOutward code slots flow → IsGrown code (causes grown) → KeepsCauses grown ended
+    → (AllRise slots grown → length grown < 4294967296 → (l b n : ℕ) → Lasts slots flow grown ended l b n) → Told code slots flow ended
+ended-told code slots flow grown ended table out is keeps ends =
+    let kept : causes grown ≡ causes ended = fun_ext (λ l. fun_ext (λ b. fun_ext (λ n. sym (keeps.causes l b n)))) in
+    let rises : AllRise slots grown = piece-law code slots flow grown table in
+    record {
+      table = record { entered = λ l b. keeps.shapes l b ∙ table.entered l b; numbered = table.numbered; ways = table.ways; matched = table.matched; few = subst (λ n. n < 4294967296) (sym keeps.lanes) table.few };
+      grown = subst (λ why. IsGrown code why) kept is;
+      ended = λ l b n. subst (λ why. IsEnd code slots why l b n (row_end ended l b n)) kept (subst (λ e. IsEnd code slots (causes grown) l b n e) (sym (ends rises table.few l b n)) (right-law code slots flow grown table out is l b n));
+    }
+
 pub computed : (t : Target) (f : Function) (num : Numbering) (got : ℕ → Option ℕ) (slots : Numbers) (flow : List Ways) (entered grown ended : List Row)
     → ((n : ℕ) → got n ≡ place_of n f.blocks) → ids slots ≡ all_ids f.blocks → AreSingle (all_ids f.blocks) → IsNumbered slots → low_end (last_id (ids slots)) slots < 18446744073709551616 → AreWays t got f.blocks flow
     → length entered < 4294967296 → ((l b : ℕ) → rows_seen entered l b ≡ blocks_entered got 0 (entries (doing_of t f num) f.blocks) l b unseen)
-    → GrowsAll slots flow entered grown → KeepsCauses grown ended → AllMatched (lane_code t f num) → IsGrown (lane_code t f num) (causes ended)
-computed t f num got slots flow entered grown ended places laid single numbered small ways few seen grows keeps matched =
+    → GrowsAll slots flow entered grown → KeepsCauses grown ended → (AllRise slots grown → length grown < 4294967296 → (l b n : ℕ) → Lasts slots flow grown ended l b n)
+    → AllMatched (lane_code t f num) → Told (lane_code t f num) slots flow ended
+computed t f num got slots flow entered grown ended places laid single numbered small ways few seen grows keeps ends matched =
     let same : got ≡ (λ n. place_of n f.blocks) = fun_ext places in
     let made : IsMade t (doing_of t f num) (λ n. place_of n f.blocks) f.blocks slots flow entered = record {
       named = λ i. refl;
@@ -55,5 +84,9 @@ computed t f num got slots flow entered grown ended places laid single numbered 
     let table = made-law t (doing_of t f num) (λ n. place_of n f.blocks) f.blocks slots flow entered made matched few in
     let dead : (l b n : ℕ) → is_live (causes entered l b n) ≡ false = λ l b n. ap (λ v. is_live (cause_in v n)) (seen l b) ∙ blocks-dead got 0 (entries (doing_of t f num) f.blocks) l b unseen unseen-dead n in
     let z = grows (lane_code t f num) table dead in
-    let kept : causes grown ≡ causes ended = fun_ext (λ l. fun_ext (λ b. fun_ext (λ n. sym (keeps.causes l b n)))) in
-    subst (λ why. IsGrown (lane_code t f num) why) kept z.1
+    let of-grown : IsTableOf (lane_code t f num) slots flow grown = record { entered = λ l b. z.0 l b ∙ table.entered l b; numbered = table.numbered; ways = table.ways; matched = table.matched; few = subst (λ n. n < 4294967296) (sym z.2) table.few } in
+    ended-told (lane_code t f num) slots flow grown ended of-grown (outward t (doing_of t f num) (λ n. place_of n f.blocks) f.blocks slots flow entered made) z.1 keeps ends
+
+pub is-computed : (t : Target) (f : Function) (x : Table) → NumbersAll t f x.lanes → ((n : ℕ) → get nat_cmp x.order.positions n ≡ place_of n f.blocks) → AreHomes f.blocks x.order.block_of.items
+    → (AllMatched (lane_code t f (number_in x.lanes)) → Told (lane_code t f (number_in x.lanes)) x.order.slots x.flow.items x.rows.rows.items) → IsComputed t f x
+is-computed t f x numbers positions homes told = record { numbers = numbers; positions = positions; homes = homes; table = λ m. (told m).table; grown = λ m. (told m).grown; ended = λ m. (told m).ended }

@@ -27,3 +27,10 @@ pub mod Bounded
 pub mod Risen
 pub mod Dead
 pub mod Computed
+pub mod Ending
+pub mod Lasting
+pub mod Right
+pub mod Gives
+pub mod Outward
+pub mod Homes
+pub mod Looked

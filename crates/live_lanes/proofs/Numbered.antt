@@ -139,15 +139,15 @@ module _ (code : Code) (slots : Numbers) (numbered : IsNumbered code slots) (l b
       low t a = let h = rises-bounded slots 0 (steps_of code b) t (numbered b) a in le-leb (exit_rank slots t.id) 340282366920938463463374607431768211455 (omega arith)
 
 -- the numbers of segments rise
-abbrev ids-rise : Numbers → ℕ → List ℕ → Bool
+abbrev pub ids-rise : Numbers → ℕ → List ℕ → Bool
 ids-rise slots n [] = true
 ids-rise slots n (i ∷ is) = ltb n (number_of slots i) && ids-rise slots (number_of slots i) is
 
-rises-ids : (slots : Numbers) (n : ℕ) (segments : List Begun) → rises_from slots n segments ≡ ids-rise slots n (map (λ s. s.start) segments)
+pub rises-ids : (slots : Numbers) (n : ℕ) (segments : List Begun) → rises_from slots n segments ≡ ids-rise slots n (map (λ s. s.start) segments)
 rises-ids slots n [] = refl
 rises-ids slots n (s ∷ ss) = ap (λ b. ltb n (number_of slots s.start) && b) (rises-ids slots (number_of slots s.start) ss)
 
-map-twice : (segments : List Begun) → map (λ s. s.start) segments ≡ map (λ (s : Start). s.start) (map start_of segments)
+pub map-twice : (segments : List Begun) → map (λ s. s.start) segments ≡ map (λ (s : Start). s.start) (map start_of segments)
 map-twice [] = refl
 map-twice (s ∷ ss) = ap (λ t. s.start ∷ t) (map-twice ss)
 

@@ -92,7 +92,7 @@ behind-last (x ∷ y ∷ xs) s = go (last_id (y ∷ xs)) refl (behind-last (y �
     go None e h = absurd (none y xs e)
     go (Some z) e h = ap (λ q. place_after q (x ∷ y ∷ xs)) e ∙ by z e (eqb x z) refl (sym (ap (λ q. place_after q (y ∷ xs)) e) ∙ h)
 
-single-left : (xs ys : List ℕ) → AreSingle (xs ++ ys) → AreSingle xs
+pub single-left : (xs ys : List ℕ) → AreSingle (xs ++ ys) → AreSingle xs
 single-left xs ys s x = omega (arith, s x, times-both x xs ys)
 
 -- an id behind the last one
@@ -122,7 +122,7 @@ split-at [] k d h = absurd (omega arith)
 split-at (i ∷ is) zero d h = refl
 split-at (i ∷ is) (suc k) d h = ap (λ xs. i.id ∷ xs) (split-at is k d (omega arith))
 
-take-one : (is : List Instr) (k : ℕ) (d : Instr) → k < length is → ids_of (take (suc k) is) ≡ ids_of (take k is) ++ (get_or is k d).id ∷ []
+pub take-one : (is : List Instr) (k : ℕ) (d : Instr) → k < length is → ids_of (take (suc k) is) ≡ ids_of (take k is) ++ (get_or is k d).id ∷ []
 take-one [] k d h = absurd (omega arith)
 take-one (i ∷ is) zero d h = refl
 take-one (i ∷ is) (suc k) d h = ap (λ xs. i.id ∷ xs) (take-one is k d (omega arith))
@@ -142,6 +142,13 @@ put-more slots new old is k d after h own single e last put =
     let came : ids new ≡ xs ++ id ∷ [] = put (λ has. next-absent slots xs rest id e alone has) there ∙ ap (λ ys. put_after after id ys) e ∙ ap (λ q. put_after q id xs) at ∙ put-last xs rest id alone in
     let told : xs ++ id ∷ [] ≡ old ++ ids_of (take (k + 1) is) = append_assoc old (ids_of (take k is)) (id ∷ []) ∙ ap (λ ys. old ++ ys) (sym (take-one is k d h ∙ ap (λ i. ids_of (take k is) ++ i.id ∷ []) (sym own))) ∙ ap (λ n. old ++ ids_of (take n is)) (sym (add-one k)) in
     (came ∙ told, sym (ap last_id came ∙ last-more xs id))
+
+-- the id of the next instruction isn't there yet
+pub next-new : (slots : List (ℕ × ℕ)) (old : List ℕ) (is : List Instr) (k : ℕ) (d : Instr) → k < length is → d ≡ get_or is k d → AreSingle (old ++ ids_of is) → ids slots ≡ old ++ ids_of (take k is) → Has slots d.id → ⊥
+next-new slots old is k d h own single e has =
+    let rest = ids_of (drop (suc k) is) in
+    let whole : old ++ ids_of is ≡ (old ++ ids_of (take k is)) ++ d.id ∷ rest = ap (λ ys. old ++ ys) (split-at is k d h ∙ ap (λ i. ids_of (take k is) ++ i.id ∷ rest) (sym own)) ∙ sym (append_assoc old (ids_of (take k is)) (d.id ∷ rest)) in
+    next-absent slots (old ++ ids_of (take k is)) rest d.id e (subst AreSingle whole single) has
 
 take-past : {X : Type 0} (xs : List X) (k : ℕ) → length xs ≤ k → take k xs ≡ xs
 take-past [] zero h = refl
@@ -173,6 +180,13 @@ blocks-more bs k b was mid new last after h e single same told ends add =
     let z = add alone (ends ∙ ap last_id (sym same)) in
     (z.0 ∙ sym left ∙ sym (all-one bs k b h e) ∙ ap (λ n. all_ids (take n bs)) (sym (add-one k)), z.1)
 
+-- the instructions of the next block come behind those that are there
+pub blocks-ready : (bs : List Block) (k : ℕ) (b : Block) (was mid : List ℕ) (last : Option ℕ) → k < length bs → b ≡ get_or bs k b → AreSingle (all_ids bs) → mid ≡ was → was ≡ all_ids (take k bs) → last ≡ last_id was
+    → AreSingle (mid ++ ids_of b.instrs) × (last ≡ last_id mid)
+blocks-ready bs k b was mid last h e single same told ends =
+    let left : all_ids (take k bs) ++ ids_of b.instrs ≡ mid ++ ids_of b.instrs = ap (λ xs. xs ++ ids_of b.instrs) (sym (same ∙ told)) in
+    (subst AreSingle left (single-left (all_ids (take k bs) ++ ids_of b.instrs) (all_ids (drop (suc k) bs)) (subst AreSingle (all-split bs k b h e) single)), ends ∙ ap last_id (sym same))
+
 pub blocks-all : (bs : List Block) (k : ℕ) → length bs ≤ k → all_ids (take k bs) ≡ all_ids bs
 blocks-all bs k h = ap all_ids (take-past bs k h)
 
@@ -186,7 +200,7 @@ times-count x (i ∷ is) = go (eqb i.id x) (times-count x is) ∙ sym (sum_by-co
     go true ih = omega (arith, ih)
     go false ih = omega (arith, ih)
 
-times-total : (x : ℕ) (bs : List Block) → times x (all_ids bs) ≡ id_total x bs
+pub times-total : (x : ℕ) (bs : List Block) → times x (all_ids bs) ≡ id_total x bs
 times-total x [] = refl
 times-total x (b ∷ bs) = times-both x (ids_of b.instrs) (all_ids bs) ∙ omega (arith, times-count x b.instrs, times-total x bs, sum_by-cons (λ c. id_count x c.instrs) b bs)
 

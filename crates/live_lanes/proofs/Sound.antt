@@ -6,7 +6,7 @@ use Rattle.live_lanes.proofs.Basics.{writes-append, writes-head, writes-more, wr
 
 module _ (code : Code) (b l : ℕ) where
   -- where nothing writes the lane between two points, and it is live at the later one
-  back : (mid rest : List Step) → writes_in l mid ≡ 0 → Live code b (Entry rest) l → Live code b (Entry (mid ++ rest)) l
+  pub back : (mid rest : List Step) → writes_in l mid ≡ 0 → Live code b (Entry rest) l → Live code b (Entry (mid ++ rest)) l
   back [] rest e h = h
   back (s ∷ mid) rest e h = go (written-or-not l s) (λ n. back mid rest n h)
     where

@@ -80,11 +80,11 @@ take-all (x ∷ xs) zero h = absurd (omega arith)
 take-all (x ∷ xs) (suc k) h = ap (λ t. x ∷ t) (take-all xs k (omega arith))
 
 -- the readings of a piece, by its number
-abbrev piece-readings : ℕ → List Step → ℕ → List Reading
+abbrev pub piece-readings : ℕ → List Step → ℕ → List Reading
 piece-readings l steps zero = readings_until l steps
 piece-readings l steps (suc k) = start_readings (slice_get (starts l steps) k)
 
-readings-there : (l : ℕ) (r : Reading) (before : List Step) (s : Step) (rest : List Step) → Among r (reading_of s.id (use_of l s)) → Among r (piece-readings l (before ++ s ∷ rest) (writes_in l before))
+pub readings-there : (l : ℕ) (r : Reading) (before : List Step) (s : Step) (rest : List Step) → Among r (reading_of s.id (use_of l s)) → Among r (piece-readings l (before ++ s ∷ rest) (writes_in l before))
 readings-there l r [] s rest a = among-left r (reading_of s.id (use_of l s)) (cond (is_present (writing_of l s.writes)) [] (readings_until l rest)) a
 readings-there l r (x ∷ before) s rest a = go (writing_of l x.writes) refl (writes_in l before) refl (readings-there l r before s rest a)
   where
@@ -154,8 +154,8 @@ module _ (code : Code) (l b : ℕ) where
 writes-within : (l : ℕ) (before rest steps : List Step) → steps ≡ before ++ rest → writes_in l before ≤ writes_in l steps
 writes-within l before rest steps e = let h = ap (writes_in l) e ∙ writes-append l before rest in omega arith
 
-pub grown-all : (code : Code) (slots : Numbers) (flow : List Ways) (old new : List Row) (k : ℕ) (risen : List Spot) → IsTableOf code slots flow old → ((l b n : ℕ) → is_live (causes old l b n) ≡ false) → length risen ≤ k → SomeGrown code old new k risen → ((l b : ℕ) → shape (rows_seen new l b) ≡ shape (rows_seen old l b)) × IsGrown code (causes new)
-grown-all code slots flow old new k risen t dead h so = (so.grew.shapes, record { closed = closed; founded = so.grew.founded (λ l b n e. absurd (alive l b n e)) })
+pub grown-all : (code : Code) (slots : Numbers) (flow : List Ways) (old new : List Row) (k : ℕ) (risen : List Spot) → IsTableOf code slots flow old → ((l b n : ℕ) → is_live (causes old l b n) ≡ false) → length risen ≤ k → SomeGrown code old new k risen → ((l b : ℕ) → shape (rows_seen new l b) ≡ shape (rows_seen old l b)) × IsGrown code (causes new) × (length new ≡ length old)
+grown-all code slots flow old new k risen t dead h so = (so.grew.shapes, record { closed = closed; founded = so.grew.founded (λ l b n e. absurd (alive l b n e)) }, so.grew.lanes)
   where
     alive : (l b n : ℕ) → is_live (causes old l b n) ≡ true → ⊥
     alive l b n e = let k' : false ≡ true = sym (dead l b n) ∙ e in cc

@@ -13,9 +13,10 @@ use Rattle.lane_effects.specs.Steps.{Numbering, act_readings, act_writings, phi_
 use Rattle.live_lanes.specs.declared.table.Table.{Table}
 use Rattle.live_lanes.specs.Paths.{Code}
 use Rattle.live_lanes.specs.Graph.{IsGrown}
-use Rattle.live_lanes.specs.Entered.{causes}
+use Rattle.live_lanes.specs.Entered.{causes, IsTableOf}
+use Rattle.live_lanes.specs.Ends.{AreEnds}
 use Rattle.live_lanes.specs.Entering.{EnteredStep}
-use Rattle.live_lanes.specs.Ordered.{place_of}
+use Rattle.live_lanes.specs.Ordered.{place_of, AreHomes}
 use Rattle.live_lanes.specs.Coded.{code_of}
 use Rattle.live_lanes.specs.Laws.{AllMatched}
 
@@ -28,8 +29,11 @@ doing_of t f num i =
 abbrev pub lane_code : Target → Function → Numbering → Code
 lane_code t f num = code_of (doing_of t f num) (λ n. place_of n f.blocks) f.blocks
 
--- the table tells of the function which lanes are live where blocks and writings begin
+-- the table tells of the function which lanes are live where blocks and writings begin, and up to where
 pub record IsComputed (t : Target) (f : Function) (x : Table) : Type 0 where
   pub numbers : NumbersAll t f x.lanes
   pub positions : (n : ℕ) → get nat_cmp x.order.positions n ≡ place_of n f.blocks
+  pub homes : AreHomes f.blocks x.order.block_of.items
+  pub table : AllMatched (lane_code t f (number_in x.lanes)) → IsTableOf (lane_code t f (number_in x.lanes)) x.order.slots x.flow.items x.rows.rows.items
   pub grown : AllMatched (lane_code t f (number_in x.lanes)) → IsGrown (lane_code t f (number_in x.lanes)) (causes x.rows.rows.items)
+  pub ended : AllMatched (lane_code t f (number_in x.lanes)) → AreEnds (lane_code t f (number_in x.lanes)) x.order.slots x.rows.rows.items

@@ -115,4 +115,4 @@ RaisesAll old new to =
 abbrev pub GrowsAll : Numbers → List Ways → List Row → List Row → Type 0
 GrowsAll slots flow old new =
     (code : Code) → IsTableOf code slots flow old → ((l b n : ℕ) → is_live (causes old l b n) ≡ false)
-    → ((l b : ℕ) → shape (rows_seen new l b) ≡ shape (rows_seen old l b)) × IsGrown code (causes new)
+    → ((l b : ℕ) → shape (rows_seen new l b) ≡ shape (rows_seen old l b)) × IsGrown code (causes new) × (length new ≡ length old)

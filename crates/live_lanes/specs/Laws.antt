@@ -6,8 +6,11 @@ use Rattle.live_lanes.specs.declared.flow.Ways.{Ways}
 use Rattle.live_lanes.specs.declared.row.Row.{Row}
 use Rattle.target_base.specs.declared.types.Target.{Target}
 use Rattle.mir_func.specs.declared.func.Block.{Block}
-use Rattle.live_lanes.specs.Table.{Numbers, unseen}
-use Rattle.live_lanes.specs.Entered.{shape, readings_until, starts, IsTableOf}
+use Rattle.live_lanes.specs.declared.row.End.{End}
+use Rattle.live_lanes.specs.Table.{Numbers, unseen, entry_rank, exit_rank}
+use Rattle.live_lanes.specs.Entered.{shape, readings_until, starts, causes, IsNumbered, IsTableOf}
+use Rattle.live_lanes.specs.Ends.{IsEnd, AreEnds, reaches, row_at}
+use Rattle.live_lanes.specs.Lasting.{shapes, right_end, AllRise, AreOutward}
 use Rattle.live_lanes.specs.Coded.{Doing, code_of, IsMade}
 use Rattle.live_lanes.specs.Entering.{EnteredStep, blocks_entered, steps_from, is_read_last, AllApart}
 
@@ -22,6 +25,29 @@ StartLaw = (code : Code) (why : Causes) → AllMatched code → IsGrown code why
 -- a piece that begins with a writing is marked live exactly where the lane is live behind it
 abbrev pub WritingLaw : Type 0
 WritingLaw = (code : Code) (why : Causes) → AllMatched code → IsGrown code why → (l b : ℕ) (before : List Step) (s : Step) (rest : List Step) → steps_of code b ≡ before ++ s ∷ rest → is_written l s ≡ true → (is_live (why l b (writes_in l (before ++ s ∷ []))) ≡ true) ↔ Live code b (Exit s rest) l
+
+-- a lane is live at the entry and at the exit of an instruction exactly where the piece there isn't over before
+pub record IsReached (code : Code) (slots : Numbers) (why : Causes) (l b : ℕ) (before : List Step) (s : Step) (rest : List Step) (end : End) : Type 0 where
+  pub entry : IsEnd code slots why l b (writes_in l before) end → (reaches slots end (entry_rank slots s.id) ≡ true) ↔ Live code b (Entry (s ∷ rest)) l
+  pub exit : IsEnd code slots why l b (writes_in l (before ++ s ∷ [])) end → (reaches slots end (exit_rank slots s.id) ≡ true) ↔ Live code b (Exit s rest) l
+
+abbrev pub EndLaw : Type 0
+EndLaw = (code : Code) (slots : Numbers) (why : Causes) → AllMatched code → IsGrown code why → IsNumbered code slots → (l b : ℕ) (before : List Step) (s : Step) (rest : List Step) → steps_of code b ≡ before ++ s ∷ rest → (end : End) → IsReached code slots why l b before s rest end
+
+-- the ends by the causes of a grown table are the last points that count
+abbrev pub RightLaw : Type 0
+RightLaw =
+    (code : Code) (slots : Numbers) (flow : List Ways) (rows : List Row) → IsTableOf code slots flow rows → AreOutward code slots flow → IsGrown code (causes rows)
+    → (l b n : ℕ) → IsEnd code slots (causes rows) l b n (right_end slots flow (causes rows) (shapes rows) l b n)
+
+-- a table whose causes are grown and whose pieces have their ends tells at the entry and at the exit of each instruction exactly which lanes are live
+pub record TellsLive (code : Code) (slots : Numbers) (rows : List Row) : Type 0 where
+  pub rises : AllRise slots rows
+  pub entry : (l b : ℕ) (before : List Step) (s : Step) (rest : List Step) → steps_of code b ≡ before ++ s ∷ rest → (row_at slots rows l b (entry_rank slots s.id) ≡ true) ↔ Live code b (Entry (s ∷ rest)) l
+  pub exit : (l b : ℕ) (before : List Step) (s : Step) (rest : List Step) → steps_of code b ≡ before ++ s ∷ rest → (row_at slots rows l b (exit_rank slots s.id) ≡ true) ↔ Live code b (Exit s rest) l
+
+abbrev pub LookLaw : Type 0
+LookLaw = (code : Code) (slots : Numbers) (flow : List Ways) (rows : List Row) → IsTableOf code slots flow rows → IsGrown code (causes rows) → AreEnds code slots rows → TellsLive code slots rows
 
 -- entering the instructions of all blocks one after the other gives each lane its pieces in each block
 abbrev pub EnteringLaw : Type 0

@@ -12,3 +12,7 @@ pub mod Coded
 pub mod Marks
 pub mod Laws
 pub mod Doing
+pub mod Reach
+pub mod Ends
+pub mod Lasting
+pub mod Looks

@@ -1,8 +1,9 @@
 -- Where instructions and blocks stand in the layout.
-use Rattle.std.specs.Prelude.{◌<◌, ◌≤◌, ℕ, suc, cond, nat_eq, List, [], ◌∷◌, map, flat_map, Option, None, Some, option_map}
+use Rattle.std.specs.Prelude.{◌≡◌, true, false, length, slice_get, slice_index, ◌<◌, ◌≤◌, ℕ, suc, cond, nat_eq, List, [], ◌∷◌, map, flat_map, Option, None, Some, option_map}
 use Rattle.slot_index.specs.Order.{number_of}
 use Rattle.mir_func.specs.declared.func.Block.{Block}
 use Rattle.mir_func.specs.declared.func.Instr.{Instr}
+use Rattle.live_lanes.specs.Paths.{has}
 use Rattle.live_lanes.specs.Table.{Numbers}
 
 abbrev pub ids_of : List Instr → List ℕ
@@ -41,3 +42,13 @@ placed (Some p) number n position = Some p
 abbrev pub AreRising : Numbers → ℕ → List ℕ → Type 0
 AreRising slots n [] = Unit {0}
 AreRising slots n (id ∷ ids) = (n < number_of slots id) × (number_of slots id < 18446744073709551616) × AreRising slots (number_of slots id) ids
+
+-- the position of the block of each instruction stands at its id
+abbrev pub AreHomes : List Block → List ℕ → Type 0
+AreHomes bs homes = (k : ℕ) (b : Block) (id : ℕ) → slice_get bs k ≡ Some b → has id (ids_of b.instrs) ≡ true → slice_index homes id ≡ k
+
+-- a position stands at each of these ids, as far as there is room; all else stays
+pub record Settles (old new ids : List ℕ) (position : ℕ) : Type 0 where
+  pub here : (id : ℕ) → has id ids ≡ true → id < length old → slice_index new id ≡ position
+  pub other : (id : ℕ) → has id ids ≡ false → slice_index new id ≡ slice_index old id
+  pub room : length new ≡ length old

@@ -184,14 +184,6 @@ impl Cell {
         }
     }
 
-    /// Up to where a piece is live.
-    pub fn end_of(&self, index: usize) -> End {
-        match self.piece(index) {
-            Some(piece) => piece.end,
-            None => End::Never,
-        }
-    }
-
     /// The instruction that begins a piece; none for the one that begins with the block.
     pub fn start_of(&self, index: usize) -> Option<u32> {
         if index == 0 {

@@ -1,6 +1,11 @@
 //! Up to where a lane is live in each live piece: the last reading or exit that counts.
 
+ghost use Rattle.std.specs.Prelude.{◌≡◌, ◌<◌, ℕ, true, length, Some, slice_get};
+ghost use Rattle.live_lanes.specs.Entered.{cells_of, causes, shape};
+ghost use Rattle.live_lanes.specs.Growth.{KeepsBlocks, row_blocks};
+ghost use Rattle.live_lanes.specs.Lasting.{AllRise, shapes, last_with, reading_counts, exit_end, leaves_in, has_live, leads_on, last_exit, last_entry, later, live_end, cell_end, SetsEnd, Lasts, GivesEnds};
 ghost use Rattle.live_lanes.specs.Marks.{KeepsCauses};
+ghost use Rattle.live_lanes.specs.Table.{rises_from, seen_cell};
 
 use crate::flow::{Ways, successors, terminators};
 use crate::order::Order;
@@ -9,7 +14,9 @@ use crate::table::Rows;
 use slot_index::Slots;
 
 /// The later of two ends.
-fn later(slots: &Slots, a: End, b: End) -> End {
+fn later(slots: &Slots, a: End, b: End) -> End
+    ensures { result ≡ later slots.now a b }
+{
     if rank(slots, a) < rank(slots, b) {
         b
     } else {
@@ -17,24 +24,38 @@ fn later(slots: &Slots, a: End, b: End) -> End {
     }
 }
 
+/// Whether the exit of an instruction lies in a piece.
+fn leaves_in(slots: &Slots, cell: &Cell, index: usize, id: u32) -> bool
+    ensures { rises_from slots.now 0 (seen_cell cell.now).segments ≡ true → result ≡ leaves_in slots.now (shape (seen_cell cell.now)) index id }
+{
+    cell.piece_at(slots, exit_rank(slots, id)) == index
+}
+
 /// The exit of the last of the terminators that lie in a piece.
-fn last_exit(slots: &Slots, cell: &Cell, index: usize, terminators: &[u32]) -> End {
-    'terminators: for id in terminators.iter().rev() {
-        if cell.piece_at(slots, exit_rank(slots, *id)) == index {
-            return End::Exit(*id);
+fn last_exit(slots: &Slots, cell: &Cell, index: usize, terminators: &[u32]) -> End
+    ensures { rises_from slots.now 0 (seen_cell cell.now).segments ≡ true → result ≡ exit_end (last_with (leaves_in slots.now (shape (seen_cell cell.now)) index) terminators.now) }
+{
+    'terminators: for k in (0..terminators.len()).rev() {
+        let id = terminators[k];
+        if leaves_in(slots, cell, index, id) {
+            return End::Exit(id);
         }
     }
     End::Never
 }
 
 impl Rows {
-    /// Whether a lane is live at the start of a block that follows.
-    fn has_live_follower(&self, lane: u32, successors: &[u32]) -> bool {
-        successors.iter().any(|next| self.is_live_in(lane, *next))
+    /// Whether a lane is live at the start of one of these blocks.
+    fn has_live(&self, lane: u32, blocks: &[u32]) -> bool
+        ensures { result ≡ has_live (causes self.now.rows.items) lane blocks.now }
+    {
+        blocks.iter().any(|next| self.is_live_in(lane, *next))
     }
 
     /// Whether a reading counts: what it is moved into is live behind the instruction.
-    fn counts(&self, order: &Order, block: u32, reading: &Reading) -> bool {
+    fn counts(&self, order: &Order, block: u32, reading: &Reading) -> bool
+        ensures { AllRise order.now.slots self.now.rows.items → result ≡ reading_counts order.now.slots (causes self.now.rows.items) (shapes self.now.rows.items) block reading.now }
+    {
         match reading.into {
             None => true,
             Some(lane) => self.is_live_after(order, lane, block, reading.id),
@@ -42,8 +63,11 @@ impl Rows {
     }
 
     /// The entry at the last of these readings that counts.
-    fn last_entry(&self, order: &Order, block: u32, readings: &[Reading]) -> End {
-        'readings: for reading in readings.iter().rev() {
+    fn last_entry(&self, order: &Order, block: u32, readings: &[Reading]) -> End
+        ensures { AllRise order.now.slots self.now.rows.items → result ≡ last_entry order.now.slots (causes self.now.rows.items) (shapes self.now.rows.items) block readings.now }
+    {
+        'readings: for k in (0..readings.len()).rev() {
+            let reading = &readings[k];
             if self.counts(order, block, reading) {
                 return End::Entry(reading.id);
             }
@@ -51,12 +75,14 @@ impl Rows {
         End::Never
     }
 
-    /// Whether a piece is live because the lane is at the start of a block that follows, or a lane is
-    /// live at the start of one anyway.
-    fn leads_on(&self, flow: &[Ways], lane: u32, cell: &Cell, piece: &Piece) -> bool {
-        match piece.cause {
+    /// Whether a piece with this cause is live because the lane is at the start of a block that
+    /// follows, or a lane is live at the start of one anyway.
+    fn leads_on(&self, flow: &[Ways], lane: u32, block: u32, cause: Cause) -> bool
+        ensures { result ≡ leads_on flow.now (causes self.now.rows.items) lane block cause }
+    {
+        match cause {
             Cause::Follower(_) => true,
-            _ => self.has_live_follower(lane, successors(flow, cell.block)),
+            _ => self.has_live(lane, successors(flow, block)),
         }
     }
 
@@ -69,13 +95,16 @@ impl Rows {
         cell: &Cell,
         index: usize,
         piece: &Piece,
-    ) -> End {
+    ) -> End
+        ensures { rises_from order.now.slots 0 (seen_cell cell.now).segments ≡ true
+            → result ≡ last_exit order.now.slots flow.now (causes self.now.rows.items) (shape (seen_cell cell.now)) lane cell.now.block index piece.now.cause }
+    {
         let ids = terminators(flow, cell.block);
         let is_last = index == cell.segments.len();
         if !is_last && ids.is_empty() {
             return End::Never;
         }
-        if !self.leads_on(flow, lane, cell, piece) {
+        if !self.leads_on(flow, lane, cell.block, piece.cause) {
             return End::Never;
         }
         if is_last {
@@ -93,7 +122,10 @@ impl Rows {
         cell: &Cell,
         index: usize,
         piece: &Piece,
-    ) -> End {
+    ) -> End
+        ensures { AllRise order.now.slots self.now.rows.items → rises_from order.now.slots 0 (seen_cell cell.now).segments ≡ true
+            → result ≡ live_end order.now.slots flow.now (causes self.now.rows.items) (shapes self.now.rows.items) (shape (seen_cell cell.now)) lane cell.now.block index piece.now.cause piece.now.readings.items }
+    {
         if cell.is_read_last && index == cell.segments.len() {
             return End::Last;
         }
@@ -103,7 +135,10 @@ impl Rows {
     }
 
     /// The end of a piece of a lane's cell at a place.
-    fn end_at(&self, order: &Order, flow: &[Ways], lane: u32, place: usize, index: usize) -> End {
+    fn end_at(&self, order: &Order, flow: &[Ways], lane: u32, place: usize, index: usize) -> End
+        ensures { AllRise order.now.slots self.now.rows.items
+            → result ≡ cell_end order.now.slots flow.now (causes self.now.rows.items) (shapes self.now.rows.items) lane index (slice_get (cells_of self.now.rows.items lane) place) }
+    {
         let Some(cell) = self.cells(lane).get(place) else {
             return End::Never;
         };
@@ -117,7 +152,9 @@ impl Rows {
     }
 
     fn set_end(&mut self, lane: u32, place: usize, index: usize, end: End)
-        ensures { KeepsCauses self.old.rows.items self.new.rows.items }
+        ensures keeps { KeepsCauses self.old.rows.items self.new.rows.items }
+        ensures blocks { KeepsBlocks self.old.rows.items self.new.rows.items }
+        ensures set { SetsEnd self.old.rows.items self.new.rows.items lane place index end }
     {
         let at = lane as usize;
         if at < self.rows.len() {
@@ -126,7 +163,10 @@ impl Rows {
     }
 
     fn end_cell(&mut self, order: &Order, flow: &[Ways], lane: u32, place: usize)
-        ensures { KeepsCauses self.old.rows.items self.new.rows.items }
+        ensures keeps { KeepsCauses self.old.rows.items self.new.rows.items }
+        ensures blocks { KeepsBlocks self.old.rows.items self.new.rows.items }
+        ensures ended { AllRise order.now.slots self.old.rows.items
+            → GivesEnds order.now.slots flow.now self.old.rows.items self.new.rows.items (λ l b. (l ≡ lane) × (slice_get (row_blocks self.old.rows.items lane) place ≡ Some b)) }
     {
         'pieces: for index in 0..self.piece_count(lane, place) {
             let end = self.end_at(order, flow, lane, place, index);
@@ -135,7 +175,9 @@ impl Rows {
     }
 
     fn end_row(&mut self, order: &Order, flow: &[Ways], lane: u32)
-        ensures { KeepsCauses self.old.rows.items self.new.rows.items }
+        ensures keeps { KeepsCauses self.old.rows.items self.new.rows.items }
+        ensures ended { AllRise order.now.slots self.old.rows.items
+            → GivesEnds order.now.slots flow.now self.old.rows.items self.new.rows.items (λ l b. l ≡ lane) }
     {
         'cells: for place in 0..self.cells(lane).len() {
             self.end_cell(order, flow, lane, place);
@@ -144,12 +186,12 @@ impl Rows {
 
     /// Gives each piece its end.
     pub fn end_all(&mut self, order: &Order, flow: &[Ways])
-        ensures { KeepsCauses self.old.rows.items self.new.rows.items }
+        ensures keeps { KeepsCauses self.old.rows.items self.new.rows.items }
+        ensures ended { AllRise order.now.slots self.old.rows.items → length self.old.rows.items < 4294967296
+            → (l b n : ℕ) → Lasts order.now.slots flow.now self.old.rows.items self.new.rows.items l b n }
     {
-        let mut lane = 0u32;
-        'rows: for _ in 0..self.rows.len() {
+        'rows: for lane in 0..self.lane_count() {
             self.end_row(order, flow, lane);
-            lane = lane.saturating_add(1);
         }
     }
 }

@@ -1,6 +1,6 @@
 //! What is true of the pieces that are marked live.
 
-ghost use Rattle.live_lanes.specs.Laws.{StartLaw, WritingLaw, EnteringLaw, MadeLaw};
+ghost use Rattle.live_lanes.specs.Laws.{StartLaw, WritingLaw, EndLaw, RightLaw, LookLaw, EnteringLaw, MadeLaw};
 ghost use Rattle.live_lanes.specs.Growth.{PieceLaw};
 
 /// Exactly the pieces at whose start their lane is live are marked so.
@@ -8,6 +8,13 @@ pub(crate) fn marks_are_exact()
     ensures start { StartLaw }
     ensures writing { WritingLaw }
     ensures piece { PieceLaw }
+{}
+
+/// A lane is live at the points of a piece up to its end, which is told by causes and readings.
+pub(crate) fn ends_are_exact()
+    ensures reached { EndLaw }
+    ensures right { RightLaw }
+    ensures look { LookLaw }
 {}
 
 /// Entering the instructions of all blocks one after the other gives each lane its pieces.

@@ -1,12 +1,13 @@
 //! A function with what is live in it.
 
-ghost use Rattle.std.specs.Prelude.{◌≡◌, IfOk};
+ghost use Rattle.std.specs.Prelude.{◌≡◌, Some, IfOk};
 ghost use Rattle.std.specs.Ordering.{nat_cmp};
 ghost use Rattle.std.specs.BTreeMap.{get};
 ghost use Rattle.lane_effects.specs.Numbered.{number_in};
 ghost use Rattle.lane_effects.specs.declared.owner.Owner.TheVariants as owners;
 ghost use Rattle.live_lanes.specs.Marks.{marked_at};
 ghost use Rattle.live_lanes.specs.Doing.{IsComputed};
+ghost use Rattle.live_lanes.specs.Looks.{InOrder, entry_at, exit_at};
 
 use crate::enter::entered;
 use crate::flow::flow_of;
@@ -95,20 +96,28 @@ impl LiveFunc {
         }
     }
 
-    fn is_live_in(&self, lane: u32, id: u32) -> bool {
+    /// Whether the lane of that number is live at the entry of the instruction of that id.
+    fn is_live_in(&self, lane: u32, id: u32) -> bool
+        ensures { InOrder self.now.table → result ≡ entry_at self.now.table (Some lane) id }
+    {
         let at = entry_rank(&self.table.order.slots, id);
         self.table
             .is_live_at(lane, self.table.order.block_of(id), at)
     }
 
-    fn is_live_out(&self, lane: u32, id: u32) -> bool {
+    /// Whether the lane of that number is live at the exit of the instruction of that id.
+    fn is_live_out(&self, lane: u32, id: u32) -> bool
+        ensures { InOrder self.now.table → result ≡ exit_at self.now.table (Some lane) id }
+    {
         let at = exit_rank(&self.table.order.slots, id);
         self.table
             .is_live_at(lane, self.table.order.block_of(id), at)
     }
 
     /// Whether a lane of a virtual register is live at the entry of the instruction of that id.
-    pub fn live_in(&self, v: u32, lane: usize, id: u32) -> bool {
+    pub fn live_in(&self, v: u32, lane: usize, id: u32) -> bool
+        ensures { InOrder self.now.table → result ≡ entry_at self.now.table (number_in self.now.table.lanes (owners.Range v lane)) id }
+    {
         match self.lane(v, lane) {
             Some(lane) => self.is_live_in(lane, id),
             None => false,
@@ -116,7 +125,9 @@ impl LiveFunc {
     }
 
     /// Whether a lane of a virtual register is live at the exit of the instruction of that id.
-    pub fn live_out(&self, v: u32, lane: usize, id: u32) -> bool {
+    pub fn live_out(&self, v: u32, lane: usize, id: u32) -> bool
+        ensures { InOrder self.now.table → result ≡ exit_at self.now.table (number_in self.now.table.lanes (owners.Range v lane)) id }
+    {
         match self.lane(v, lane) {
             Some(lane) => self.is_live_out(lane, id),
             None => false,
@@ -134,13 +145,23 @@ impl LiveFunc {
     }
 
     /// Whether a unit is live at the entry of the instruction of that id. Reserved units are not.
-    pub fn unit_in(&self, u: Unit, id: u32) -> bool {
-        self.is_live_in(u.0 as u32, id)
+    pub fn unit_in(&self, u: Unit, id: u32) -> bool
+        ensures { InOrder self.now.table → result ≡ entry_at self.now.table (number_in self.now.table.lanes (owners.Unit u.0)) id }
+    {
+        match self.table.lanes.number(Owner::Unit(u.0 as u32)) {
+            Some(lane) => self.is_live_in(lane, id),
+            None => false,
+        }
     }
 
     /// Whether a unit is live at the exit of the instruction of that id. Reserved units are not.
-    pub fn unit_out(&self, u: Unit, id: u32) -> bool {
-        self.is_live_out(u.0 as u32, id)
+    pub fn unit_out(&self, u: Unit, id: u32) -> bool
+        ensures { InOrder self.now.table → result ≡ exit_at self.now.table (number_in self.now.table.lanes (owners.Unit u.0)) id }
+    {
+        match self.table.lanes.number(Owner::Unit(u.0 as u32)) {
+            Some(lane) => self.is_live_out(lane, id),
+            None => false,
+        }
     }
 
     /// Whether a unit is live at the start of the block of that number. Reserved units are not.

@@ -1,11 +1,11 @@
 //! The order of a function's instructions, and where each of them and each block stands.
 
-ghost use Rattle.std.specs.Prelude.{◌≡◌, ◌<◌, ℕ, [], ◌++◌, IfOk, OnOk, IfSome};
+ghost use Rattle.std.specs.Prelude.{◌≡◌, ◌<◌, ℕ, [], ◌∷◌, ◌++◌, length, slice_index, IfOk, OnOk, IfSome};
 ghost use Rattle.std.specs.Ordering.{nat_cmp};
 ghost use Rattle.std.specs.BTreeMap.{get};
 ghost use Rattle.slot_index.specs.Order.{ids, Has, IsNumbered, put_after};
 ghost use Rattle.slot_index.specs.Renewed.{low_end};
-ghost use Rattle.live_lanes.specs.Ordered.{ids_of, all_ids, last_id, place_of, placed, AreSingle};
+ghost use Rattle.live_lanes.specs.Ordered.{ids_of, all_ids, last_id, place_of, placed, AreSingle, AreHomes, Settles};
 
 use mir_func::{Block, Func, Instr};
 use slot_index::Slots;
@@ -30,6 +30,7 @@ impl Order {
         ensures positions { IfOk result (λ o. (n : ℕ) → get nat_cmp o.positions n ≡ place_of n []) }
         ensures ids { IfOk result (λ o. ids o.slots ≡ []) }
         ensures numbered { IfOk result (λ o. IsNumbered o.slots) }
+        ensures room { IfOk result (λ o. length o.block_of.items ≡ next_id) }
     {
         let mut block_of = Vec::new(alloc);
         block_of.resize(next_id as usize, 0)?;
@@ -47,6 +48,7 @@ impl Order {
         ensures small { IfOk result (λ o. low_end (last_id (ids o.slots)) o.slots < 18446744073709551616) }
         ensures single { IfOk result (λ o. AreSingle (all_ids func.now.blocks)) }
         ensures numbered { IfOk result (λ o. IsNumbered o.slots) }
+        ensures homes { IfOk result (λ o. AreHomes func.now.blocks o.block_of.items) }
     {
         let blocks = func.blocks.as_slice();
         let Ok(count) = u32::try_from(blocks.len()) else {
@@ -77,6 +79,7 @@ impl Order {
     fn add_block(&mut self, block: &Block, position: u32) -> Result<(), AllocError>
         ensures positions { OnOk result ((n : ℕ) → get nat_cmp self.new.positions n ≡ placed (get nat_cmp self.old.positions n) block.now.number n position) }
         ensures slots { self.new.slots ≡ self.old.slots }
+        ensures homes { self.new.block_of ≡ self.old.block_of }
     {
         if !self.positions.contains_key(&block.number) {
             self.positions.insert(block.number, position)?;
@@ -95,6 +98,8 @@ impl Order {
         ensures ids { IfOk result (λ after. AreSingle (ids self.old.slots ++ ids_of instrs.now) → last ≡ last_id (ids self.old.slots)
             → (ids self.new.slots ≡ ids self.old.slots ++ ids_of instrs.now) × (after ≡ last_id (ids self.new.slots))) }
         ensures numbered { IsNumbered self.old.slots → IsNumbered self.new.slots }
+        ensures homes { IfOk result (λ after. AreSingle (ids self.old.slots ++ ids_of instrs.now) → last ≡ last_id (ids self.old.slots)
+            → Settles self.old.block_of.items self.new.block_of.items (ids_of instrs.now) position) }
     {
         let mut after = last;
         'instrs: for instr in instrs {
@@ -115,10 +120,24 @@ impl Order {
         ensures positions { self.new.positions ≡ self.old.positions }
         ensures ids { OnOk result ((Has self.old.slots id → ⊥) → IfSome after (Has self.old.slots) → ids self.new.slots ≡ put_after after id (ids self.old.slots)) }
         ensures numbered { IsNumbered self.old.slots → IsNumbered self.new.slots }
+        ensures homes { OnOk result ((Has self.old.slots id → ⊥) → Settles self.old.block_of.items self.new.block_of.items (id ∷ []) position) }
     {
         if self.slots.is_present(id) {
             return Ok(());
         }
+        self.put(id, after)?;
+        self.settle(id, position);
+        Ok(())
+    }
+
+    /// Puts an id behind another, where that one is there, or first.
+    fn put(&mut self, id: u32, after: Option<u32>) -> Result<(), AllocError>
+        requires { Has self.old.slots id → ⊥ }
+        ensures positions { self.new.positions ≡ self.old.positions }
+        ensures homes { self.new.block_of ≡ self.old.block_of }
+        ensures ids { OnOk result (IfSome after (Has self.old.slots) → ids self.new.slots ≡ put_after after id (ids self.old.slots)) }
+        ensures numbered { IsNumbered self.old.slots → IsNumbered self.new.slots }
+    {
         match after {
             None => self.slots.insert_after(None, id)?,
             Some(last) => {
@@ -127,10 +146,19 @@ impl Order {
                 }
             }
         }
-        if let Some(place) = self.block_of.get_mut(id as usize) {
-            *place = position;
-        }
         Ok(())
+    }
+
+    /// Notes the position of an instruction's block, where there is room for the id.
+    fn settle(&mut self, id: u32, position: u32)
+        ensures positions { self.new.positions ≡ self.old.positions }
+        ensures slots { self.new.slots ≡ self.old.slots }
+        ensures homes { Settles self.old.block_of.items self.new.block_of.items (id ∷ []) position }
+    {
+        let at = id as usize;
+        if at < self.block_of.len() {
+            self.block_of[at] = position;
+        }
     }
 
     /// The position of the block of that number; of several blocks, that of the first.
@@ -141,7 +169,9 @@ impl Order {
     }
 
     /// The position of the block of an instruction.
-    pub fn block_of(&self, id: u32) -> u32 {
+    pub fn block_of(&self, id: u32) -> u32
+        ensures { result ≡ slice_index self.now.block_of.items id }
+    {
         self.block_of.get(id as usize).copied().unwrap_or(0)
     }
 

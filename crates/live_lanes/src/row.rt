@@ -3,10 +3,11 @@
 //! A piece of a lane begins at a block's start or with a writing, and lasts until the next writing
 //! or the block's end. In it the lane is live up to the last reading that counts.
 
-ghost use Rattle.std.specs.Prelude.{◌≡◌, ℕ, ◌<◌, ◌≤◌, ◌+◌, ◌*◌, length, IfOk, IsTrue, option_copied, slice_get, find, reverse, [], OnOk, OnErr, cond, is_some, map, nat_eq, not, MatchOption, Some};
+ghost use Rattle.std.specs.Prelude.{◌≡◌, ℕ, ◌<◌, ◌≤◌, ◌+◌, ◌*◌, length, IfOk, IsTrue, true, option_copied, slice_get, find, reverse, [], OnOk, OnErr, cond, is_some, map, nat_eq, not, MatchOption, Some};
 ghost use Rattle.live_lanes.specs.Certain.{blocks_of, KeepsCertain, RaisesCertain};
-ghost use Rattle.live_lanes.specs.Table.{entry_rank, exit_rank, end_rank, descends, leading, is_before, find_cell, seen_in, seen_cell, unseen, rises_from, piece_at, piece_in, cause_in, with_cause, with_end, certain_cause, is_certain, cause_of, read_at_end, IsRaised, with_last, with_reading, with_segment, ends_with, starts_last, begun, with_end_at, begun_move, moved_in};
+ghost use Rattle.live_lanes.specs.Table.{entry_rank, exit_rank, end_rank, descends, leading, is_before, find_cell, seen_in, seen_cell, unseen, rises_from, piece_at, piece_in, cause_in, end_in, with_cause, with_end, certain_cause, is_certain, cause_of, read_at_end, IsRaised, with_last, with_reading, with_segment, ends_with, starts_last, begun, with_end_at, begun_move, moved_in};
 ghost use Rattle.live_lanes.specs.Graph.{is_live};
+ghost use Rattle.live_lanes.specs.Reach.{is_never, reaches, seen_at};
 
 use slot_index::Slots;
 use std::alloc::{AllocError, Global};
@@ -120,6 +121,20 @@ pub(crate) fn rank(slots: &Slots, end: End) -> u128
         End::Exit(id) => exit_rank(slots, id),
         End::Last => u128::MAX,
     }
+}
+
+/// Whether an end is none.
+fn is_never(end: End) -> bool
+    ensures { result ≡ is_never end }
+{
+    matches!(end, End::Never)
+}
+
+/// Whether a piece with this end isn't over before the point of this rank.
+fn reaches(slots: &Slots, end: End, at: u128) -> bool
+    ensures { result ≡ reaches slots.now end at }
+{
+    !is_never(end) && at <= rank(slots, end)
 }
 
 impl Row {
@@ -273,7 +288,8 @@ impl Row {
 
     /// Gives a piece of the cell at a place an end.
     pub fn set_end(&mut self, place: usize, index: usize, end: End)
-        ensures { (b : ℕ) → seen_in self.new.cells.items b
+        ensures blocks { blocks_of self.new.cells.items ≡ blocks_of self.old.cells.items }
+        ensures set { (b : ℕ) → seen_in self.new.cells.items b
             ≡ with_end_at (slice_get self.old.cells.items place) index end (seen_in self.old.cells.items b) b }
     {
         if place < self.cells.len() {
@@ -500,11 +516,21 @@ impl Cell {
         }
     }
 
-    /// Whether the lane is live at the point of this rank.
-    pub fn is_live_at(&self, slots: &Slots, at: u128) -> bool {
-        match self.piece(self.piece_at(slots, at)) {
-            Some(piece) => rank(slots, piece.end) >= at,
-            None => false,
+    /// Up to where a piece is live.
+    pub fn end_of(&self, index: usize) -> End
+        ensures { result ≡ end_in (seen_cell self.now) index }
+    {
+        match self.piece(index) {
+            Some(piece) => piece.end,
+            None => End::Never,
         }
+    }
+
+    /// Whether the lane is live at the point of this rank.
+    pub fn is_live_at(&self, slots: &Slots, at: u128) -> bool
+        ensures { rises_from slots.now 0 (seen_cell self.now).segments ≡ true
+            → result ≡ seen_at slots.now (seen_cell self.now) at }
+    {
+        reaches(slots, self.end_of(self.piece_at(slots, at)), at)
     }
 }

@@ -29,8 +29,9 @@ pub(crate) struct Rows {
 impl Rows {
     ghost use Rattle.std.specs.Prelude.{ℕ, IfOk};
     ghost use Rattle.live_lanes.specs.Graph.{is_live};
-    ghost use Rattle.live_lanes.specs.Table.{seen, unseen};
+    ghost use Rattle.live_lanes.specs.Table.{seen, unseen, exit_rank};
     ghost use Rattle.live_lanes.specs.Entered.{rows_seen, cells_of, piece_count, causes};
+    ghost use Rattle.live_lanes.specs.Lasting.{AllRise, piece_of, shapes};
 
     /// So many lanes without pieces.
     pub fn new(alloc: Global, count: usize) -> Result<Rows, AllocError>
@@ -92,7 +93,9 @@ impl Rows {
     }
 
     /// Whether the piece of a lane that an instruction begins is live.
-    pub fn is_live_after(&self, order: &Order, lane: u32, block: u32, id: u32) -> bool {
+    pub fn is_live_after(&self, order: &Order, lane: u32, block: u32, id: u32) -> bool
+        ensures { AllRise order.now.slots self.now.rows.items → result ≡ is_live (causes self.now.rows.items lane block (piece_of order.now.slots (exit_rank order.now.slots id) (shapes self.now.rows.items lane block))) }
+    {
         match self.cell(lane, block) {
             Some(cell) => cell.is_live(cell.piece_at(&order.slots, exit_rank(&order.slots, id))),
             None => false,
@@ -115,9 +118,13 @@ impl Table {
     ghost use Rattle.std.specs.Ordering.{nat_cmp};
     ghost use Rattle.std.specs.BTreeMap.{get};
     ghost use Rattle.live_lanes.specs.Marks.{marked_at};
+    ghost use Rattle.live_lanes.specs.Ends.{row_at};
+    ghost use Rattle.live_lanes.specs.Lasting.{AllRise};
 
     /// Whether a lane is live at the point of this rank in a block.
-    pub fn is_live_at(&self, lane: u32, block: u32, at: u128) -> bool {
+    pub fn is_live_at(&self, lane: u32, block: u32, at: u128) -> bool
+        ensures { AllRise self.now.order.slots self.now.rows.rows.items → result ≡ row_at self.now.order.slots self.now.rows.rows.items lane block at }
+    {
         match self.rows.cell(lane, block) {
             Some(cell) => cell.is_live_at(&self.order.slots, at),
             None => false,

@@ -3,14 +3,17 @@ use Rattle.std.specs.Ordering.{nat_cmp}
 use Rattle.std.specs.BTreeMap.{get}
 use Rattle.slot_index.specs.Order.{ids, IsNumbered}
 use Rattle.slot_index.specs.Renewed.{low_end}
-use Rattle.live_lanes.specs.Ordered.{ids_of, all_ids, last_id, placed, AreSingle}
-use Rattle.live_lanes.proofs.Ordered.{place-next, place-whole, blocks-more, blocks-all, once-single}
+use Rattle.live_lanes.specs.Ordered.{ids_of, all_ids, last_id, placed, AreSingle, Settles}
+use Rattle.mir_func.specs.Value.{IsFunction}
+use Rattle.live_lanes.proofs.Homes.{homes-none, homes-more, homes-all}
+use Rattle.live_lanes.proofs.Ordered.{place-next, place-whole, blocks-more, blocks-ready, blocks-all, once-single}
 use Rattle.live_lanes.proofs.order.Order.of.Goals as goal
 
 pub blocks-2-init : goal.blocks-2-init
 blocks-2-init c = record {
   positions = c.in_ok-order.ensures.positions;
   ids = λ single. (c.in_ok-order.ensures.ids, sym (ap last_id c.in_ok-order.ensures.ids));
+  homes = λ single. homes-none c.args.func.now.blocks c.in_ok-order.order.block_of.items c.args.func.now.next_id (c.in_ok-order.ensures.room ∙ ap (λ f. f.next_id) c.func.view_is);
   numbered = c.in_ok-order.ensures.numbered;
 }
 
@@ -29,6 +32,12 @@ blocks-2-preserved c =
       ids = λ single.
           let so = c.blocks-2.invariant.ids single in
           blocks-more bs c.blocks-2.position b (ids c.blocks-2.order.slots) (ids c.add_block.new.self.slots) (ids c.add_instrs.new.self.slots) c.blocks-2.last c.in_ok-last.last within own single (ap ids c.in_ok-add_block.ensures.slots) so.0 so.1 (subst (λ is. AreSingle (ids c.add_block.new.self.slots ++ ids_of is) → c.blocks-2.last ≡ last_id (ids c.add_block.new.self.slots) → (ids c.add_instrs.new.self.slots ≡ ids c.add_block.new.self.slots ++ ids_of is) × (c.in_ok-last.last ≡ last_id (ids c.add_instrs.new.self.slots))) c.as_slice.ensures c.in_ok-last.ensures.ids);
+      homes = λ single.
+          let so = c.blocks-2.invariant.ids single in
+          let ready = blocks-ready bs c.blocks-2.position b (ids c.blocks-2.order.slots) (ids c.add_block.new.self.slots) c.blocks-2.last within own single (ap ids c.in_ok-add_block.ensures.slots) so.0 so.1 in
+          let before = c.blocks-2.invariant.homes single in
+          homes-more bs c.blocks-2.order.block_of.items c.add_instrs.new.self.block_of.items c.blocks-2.position b c.args.func.now.next_id single within own before
+          (subst (λ v. Settles v.items c.add_instrs.new.self.block_of.items (ids_of b.instrs) c.blocks-2.position) c.in_ok-add_block.ensures.homes (subst (λ is. AreSingle (ids c.add_block.new.self.slots ++ ids_of is) → c.blocks-2.last ≡ last_id (ids c.add_block.new.self.slots) → Settles c.add_block.new.self.block_of.items c.add_instrs.new.self.block_of.items (ids_of is) c.blocks-2.position) c.as_slice.ensures c.in_ok-last.ensures.homes ready.0 ready.1));
       numbered = c.in_ok-last.ensures.numbered (subst IsNumbered (sym c.in_ok-add_block.ensures.slots) c.blocks-2.invariant.numbered);
     }
 
@@ -45,6 +54,7 @@ returns c =
       positions = λ n. c.blocks-2.invariant.positions n ∙ place-whole n c.args.func.now.blocks c.blocks-2.position whole;
       ids = (c.blocks-2.invariant.ids single).0 ∙ blocks-all c.args.func.now.blocks c.blocks-2.position whole;
       single = single;
+      homes = homes-all c.args.func.now.blocks c.blocks-2.order.block_of.items c.blocks-2.position c.args.func.now.next_id whole (c.blocks-2.invariant.homes single) (subst (λ f. IsFunction f.blocks f.next_id) c.func.view_is c.func.invariant);
       small = subst (λ q. low_end q c.blocks-2.order.slots < 18446744073709551616) (c.blocks-2.invariant.ids single).1 below;
       numbered = c.blocks-2.invariant.numbered;
     }
