@@ -12,10 +12,10 @@ instrs-preserved c = record {
   positions = c.add_instr.ensures.positions ∙ c.instrs.invariant.positions;
   ids = λ single last.
       let so = c.instrs.invariant.ids single last in
-      put-more c.instrs.self.slots c.add_instr.new.self.slots (ids c.args.self.now.slots) c.args.instrs.now c.instrs.instr-index c.instr-item.result c.instrs.after (omega arith) c.instr-item.is single so.0 so.1 c.in_ok-add_instr.ensures.ids;
+      put-more c.instrs.self.slots c.add_instr.new.self.slots (ids c.args.self.now.slots) c.args.instrs.now c.instrs.instr-index c.get-instr.result.now c.instrs.after (omega arith) (rw c.get-instr.ensures c.instr-item.is) single so.0 so.1 c.in_ok-add_instr.ensures.ids;
   homes = λ single last.
       let so = c.instrs.invariant.ids single last in
-      settles-more c.args.self.now.block_of.items c.instrs.self.block_of.items c.add_instr.new.self.block_of.items c.args.instrs.now c.instrs.instr-index c.instr-item.result c.args.position (omega arith) c.instr-item.is (c.instrs.invariant.homes single last) (c.in_ok-add_instr.ensures.homes (next-new c.instrs.self.slots (ids c.args.self.now.slots) c.args.instrs.now c.instrs.instr-index c.instr-item.result (omega arith) c.instr-item.is single so.0));
+      settles-more c.args.self.now.block_of.items c.instrs.self.block_of.items c.add_instr.new.self.block_of.items c.args.instrs.now c.instrs.instr-index c.get-instr.result.now c.args.position (omega arith) (rw c.get-instr.ensures c.instr-item.is) (c.instrs.invariant.homes single last) (c.in_ok-add_instr.ensures.homes (next-new c.instrs.self.slots (ids c.args.self.now.slots) c.args.instrs.now c.instrs.instr-index c.get-instr.result.now (omega arith) (rw c.get-instr.ensures c.instr-item.is) single so.0));
   numbered = λ n. c.add_instr.ensures.numbered (c.instrs.invariant.numbered n);
 }
 

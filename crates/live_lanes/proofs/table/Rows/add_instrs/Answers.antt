@@ -13,7 +13,7 @@ instrs-init c = enters-none c.args.self.now.rows.items _ (λ l b v. refl)
 pub instrs-preserved : goal.instrs-preserved
 instrs-preserved c =
     let r = c.args.reader.now in
-    enters-item (λ l b i. step_entered (get nat_cmp c.args.order.now.positions) c.args.block l b (doing_of r.target.now r.func.now (number_in r.lanes.now) i)) c.args.self.now.rows.items c.instrs.self.rows.items c.add_instr.new.self.rows.items c.args.instrs.now c.instrs.instr-index c.instr-item.result (omega arith) c.instr-item.is c.instrs.invariant c.in_ok-add_instr.ensures
+    enters-item (λ l b i. step_entered (get nat_cmp c.args.order.now.positions) c.args.block l b (doing_of r.target.now r.func.now (number_in r.lanes.now) i)) c.args.self.now.rows.items c.instrs.self.rows.items c.add_instr.new.self.rows.items c.args.instrs.now c.instrs.instr-index c.get-instr.result.now (omega arith) (rw c.get-instr.ensures c.instr-item.is) c.instrs.invariant c.in_ok-add_instr.ensures
 
 pub returns : goal.returns
 returns c =
