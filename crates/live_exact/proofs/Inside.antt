@@ -1,5 +1,5 @@
 -- A computed table tells at the entry and at the exit of each instruction exactly which lanes are live.
-use Rattle.std.proofs.Common.{◌≡◌, ◌<◌, ℕ, zero, suc, Bool, true, false, cond, List, [], ◌∷◌, ◌++◌, Option, Some, None, map, take, drop, refl, sym, ap, ◌∙◌, subst, eq-eqb}
+use Rattle.std.proofs.Common.{◌≡◌, ℕ, zero, suc, Bool, true, false, cond, List, [], ◌∷◌, ◌++◌, Option, Some, None, map, take, drop, refl, sym, ap, ◌∙◌, subst, eq-eqb}
 use Rattle.std.specs.Prelude.{◌↔◌, slice_get, slice_index, nat_eq}
 use Rattle.target_base.specs.declared.types.Target.{Target}
 use Rattle.meaning.specs.declared.types.Lane.{Lane}
@@ -8,8 +8,7 @@ use Rattle.mir_func.specs.declared.func.Block.{Block}
 use Rattle.mir_func.specs.declared.func.Instr.{Instr}
 use Rattle.mir_func.specs.Value.{Function}
 use Rattle.mir_meaning.specs.Registers.{is_reserved}
-use Rattle.mir_meaning.specs.Codes.{blocks_code}
-use Rattle.mir_meaning.specs.Points.{point_item, from_instr, AtFirst, Entry, Exit, LiveAt}
+use Rattle.mir_meaning.specs.Points.{from_instr, AtFirst, Entry, Exit, LiveAt}
 use Rattle.mir_meaning.specs.Rules.{V8}
 use Rattle.live_law.specs.Paths.{Step, Code, steps_of, Live}
 use Rattle.live_law.specs.Paths as law
@@ -35,7 +34,7 @@ use Rattle.live_lanes.specs.Doing.{lane_code, IsComputed}
 use Rattle.live_lanes.specs.Looks.{entry_at, exit_at}
 use Rattle.live_lanes.proofs.Looked.{look-law}
 use Rattle.live_exact.specs.Same.{step_as, code_as, IsQuiet}
-use Rattle.live_exact.specs.Laws.{TellsInside, InsideLaw}
+use Rattle.live_exact.specs.Laws.{InsideLaw}
 use Rattle.live_exact.proofs.Coded.{code-same}
 use Rattle.live_exact.proofs.Quieter.{quiet-law}
 use Rattle.live_exact.proofs.Same.{steps-same, same-forth, same-back}

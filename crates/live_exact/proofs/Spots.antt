@@ -1,10 +1,10 @@
 -- Where the instruction of an id stands, and which lanes that are live there have numbers.
-use Rattle.std.proofs.Common.{◌≡◌, ◌<◌, ◌⊎◌, ℕ, zero, suc, Bool, true, false, cond, not, ◌+◌, List, [], ◌∷◌, ◌++◌, Option, Some, None, map, take, drop, length, refl, sym, ap, ◌∙◌, subst, inl, inr, arith, eqb, eqb-true}
-use Rattle.std.specs.Prelude.{slice_get, option_map, nat_lt}
+use Rattle.std.proofs.Common.{◌≡◌, ◌<◌, ℕ, zero, suc, Bool, true, false, cond, not, ◌+◌, List, [], ◌∷◌, ◌++◌, Option, Some, None, map, take, drop, length, refl, sym, ap, ◌∙◌, subst, arith, eqb, eqb-true}
+use Rattle.std.specs.Prelude.{slice_get, option_map}
 use Rattle.std.proofs.lemmas.Bool.{ltb-true}
 use Rattle.target_base.specs.declared.types.Target.{Target}
 use Rattle.meaning.specs.declared.types.Lane.{Lane}
-use Rattle.meaning.specs.Code.{Edge, Item, Code as Places, found}
+use Rattle.meaning.specs.Code.{Edge, Code as Places, found}
 use Rattle.meaning.specs.Live.{Among as Member, here as first, there as later, Live as LivePlace, LiveAfter, after_next, after_leap, after_phi}
 use Rattle.mir_func.specs.declared.func.Block.{Block}
 use Rattle.mir_func.specs.declared.func.Instr.{Instr}
@@ -34,8 +34,16 @@ pub record Spot (t : Target) (f : Function) (id : ℕ) (bs : List Block) (x k : 
   pub named : instr.id ≡ id
   pub code : from_instr t f id bs ≡ block_rest t f block after k
 
-same-pair : (x k y j : ℕ) → Some (x, k) ≡ Some (y, j) → (x ≡ y) × (k ≡ j)
-same-pair x k y j e = let p : (x, k) ≡ (y, j) = cc in (ap (λ z. z.0) p, ap (λ z. z.1) p)
+abbrev first-of : Option (ℕ × ℕ) → ℕ
+first-of None = 0
+first-of (Some p) = p.0
+
+abbrev second-of : Option (ℕ × ℕ) → ℕ
+second-of None = 0
+second-of (Some p) = p.1
+
+same-pair : (x k y j : ℕ) → ◌≡◌ {A = Option (ℕ × ℕ)} (Some (x, k)) (Some (y, j)) → (x ≡ y) × (k ≡ j)
+same-pair x k y j e = (ap first-of e, ap second-of e)
 
 -- the first instruction of an id in a block
 named-at : (id : ℕ) (is : List Instr) → instr_place id is < length is → (i : Instr) × (slice_get is (instr_place id is) ≡ Some i) × (i.id ≡ id)
