@@ -1,0 +1,5 @@
+//! Tests of the verifiers over functions that no text spells.
+#![tactic(auto)]
+
+#[cfg(test)]
+mod unspelled;
