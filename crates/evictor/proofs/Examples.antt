@@ -94,7 +94,7 @@ not_from_a_tiny = refl
 
 -- The weights of the three.
 pub weights :
-    map (λ p. weight_of three_across.blocks (16384 ∷ []) p.0 p.1) ((0, 8) ∷ (1, 6) ∷ (2, 6) ∷ []) ≡ 2097152 ∷ 2396745 ∷ 3595117 ∷ []
+    map (λ (p : ℕ × ℕ). weight_of three_across.blocks (16384 ∷ []) p.0 p.1) ((0, 8) ∷ (1, 6) ∷ (2, 6) ∷ []) ≡ 2097152 ∷ 2396745 ∷ 3595117 ∷ []
 weights = refl
 
 -- Two ranges in the halves of $ax, one in $ecx, and one that may be in $eax or $ecx alone.

@@ -33,7 +33,7 @@ unfolding mini_target spilled tinies slots_after
 constant_repeated = refl
 
 -- Two definitions reach the reading: both are stored, and it is reloaded.
-abbrev two_reach_before : Function
+abbrev pub two_reach_before : Function
 two_reach_before = function 7 (0 ∷ 0 ∷ []) (
     block 0 (2 ∷ 1 ∷ []) (1 ∷ []) (
     instr 0 MOV32ri (def 0 ∷ imm 7 ∷ []) ∷
