@@ -9,7 +9,7 @@ use Rattle.mir_func.specs.Value.{Function}
 use Rattle.evictor.specs.declared.ranks.Stage.{Stage}
 use Rattle.evictor.specs.declared.ranks.Stage.TheVariants as stages
 use Rattle.evictor.specs.Candidates.{candidates}
-use Rattle.evictor.specs.Cheapest.{Facts, cheapest_of}
+use Rattle.evictor.specs.Cheapest.{Facts, cheapest_of, ranking_after}
 use Rattle.block_freq.specs.Weights.{weight_of}
 use Rattle.spiller.proofs.Sample.{function, block, instr, def, val, fixed, implicit_def, imm, symbol, csr, COPY, CMP32rr, STORE32mr, STORE8mr, CALL, RET}
 
@@ -146,3 +146,9 @@ pub the_hint_comes_first :
     ≡ taken 1 (1 ∷ [])
 unfolding mini_target cheapest_of
 the_hint_comes_first = refl
+
+-- Behind the second eviction of the three the range that takes the register and the one that loses it have the new cascade.
+pub new_cascades :
+    ranking_after (record { stages = map stage (0 ∷ 1 ∷ 0 ∷ []); cascades = 1 ∷ 1 ∷ 0 ∷ []; greatest = 1 }) 2 (1 ∷ [])
+    ≡ record { stages = map stage (0 ∷ 1 ∷ 0 ∷ []); cascades = 1 ∷ 2 ∷ 2 ∷ []; greatest = 2 }
+new_cascades = refl

@@ -19,11 +19,12 @@ pub record Ranking : Type 0 where
   pub cascades : List ℕ
   pub greatest : ℕ
 
--- a tiny was made by spilling, for one place
+-- the stage of a tiny
 abbrev pub is_tiny_stage : Option Stage → Bool
 is_tiny_stage (Some stages.Tiny) = true
 is_tiny_stage _ = false
 
+-- a tiny was made by spilling, for one place
 abbrev pub is_tiny : Ranking → ℕ → Bool
 is_tiny k v = is_tiny_stage (slice_get k.stages v)
 
@@ -105,12 +106,14 @@ pub record IsCheapest (t : Target) (f : Function) (a : Assignment) (freqs : List
   pub are_facts : AreFacts t f a v facts
   pub answered : answer ≡ cheapest_of (record { func = f; freqs = freqs; ranking = ranking; range = v; facts = facts }) (candidates t f a freqs v)
 
--- The ranking behind an eviction: v and all that it evicts have the number that it compared with.
+-- the range evicts, or is evicted
 abbrev pub is_marked : ℕ → List ℕ → ℕ → Bool
 is_marked v victims w = w == v || has_number victims w
 
+-- the cascades behind an eviction: v and all that it evicts have the number that it compared with
 abbrev pub cascades_after : Ranking → ℕ → List ℕ → List ℕ
 cascades_after k v victims = map (λ w. cond (is_marked v victims w) (number k v) (cascade k w)) (numbers 0 (length k.cascades))
 
+-- the ranking behind it; stages stay
 abbrev pub ranking_after : Ranking → ℕ → List ℕ → Ranking
 ranking_after k v victims = record k { cascades = cascades_after k v victims; greatest = max k.greatest (number k v) }

@@ -17,7 +17,7 @@ use Rattle.mir_func.specs.declared.func.Block.{Block}
 use Rattle.mir_func.specs.Value.{Function}
 use Rattle.spiller.specs.Reaching.{Facts}
 use Rattle.spiller.specs.Slots.{Slots}
-use Rattle.spiller.specs.Spilled.{spilled, tinies, slots_after, spilling}
+use Rattle.spiller.specs.Spilled.{spilled, tinies, slots_after, setting_of}
 
 abbrev pub ro : Loc → Option IndexId → Bool → Bool → Bool → Bool → Bool → Option ℕ → RegOp
 ro l x d i u e r t = record { loc = l; index = x; def = d; implicit = i; undef = u; early = e; renamable = r; tie = t }
@@ -113,7 +113,7 @@ without_ids b = record b { instrs = map without_id b.instrs }
 -- after a spill: the blocks without ids, the classes, each tiny with the place in layout of the instruction that names its place, and the slots
 abbrev pub seen : Function → Slots → ℕ → Facts → List Block × List (Option ClassId) × List (ℕ × ℕ) × Slots
 seen f slots v facts =
-    let s = spilling mini_target f slots v facts in
+    let s = setting_of mini_target f slots v facts in
     let g = spilled s in
     (map without_ids g.blocks, g.classes, map (λ p. (p.0, position_or_len (λ i. nat_eq i.id p.1) (flat_map (λ b. b.instrs) g.blocks))) (tinies s), slots_after slots s)
 

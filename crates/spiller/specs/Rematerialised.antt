@@ -22,11 +22,12 @@ use Rattle.mir_meaning.specs.Binding.{effect_of, does, is_terminator, roles_of, 
 use Rattle.mir_meaning.specs.Places.{Variable, is_defining, same_use, each_once, operand_variables}
 use Rattle.spiller.specs.Setting.{Spilling, is_own, own_lanes}
 
--- The places of a block: each instruction before the terminators, and the terminators together.
+-- instructions as places: each one before the terminators by itself, and the terminators together
 abbrev pub places_from : Target → List Instr → List (List Instr)
 places_from t [] = []
 places_from t (i ∷ is) = cond (does is_terminator t i) ((i ∷ is) ∷ []) ((i ∷ []) ∷ places_from t is)
 
+-- the places of a block
 abbrev pub places_of : Target → Block → List (List Instr)
 places_of t b = places_from t b.instrs
 
@@ -55,37 +56,41 @@ pub record Reading : Type 0 where
   pub lanes : List ℕ
   pub wish : Wish
 
-abbrev pub reading : Spilling → List Instr → Option IndexId → Wish → Reading
-reading s is x wish = record { by = is; lanes = own_lanes s x; wish = wish }
+-- of the lanes that an index picks
+abbrev pub reading_of : Spilling → List Instr → Option IndexId → Wish → Reading
+reading_of s is x wish = record { by = is; lanes = own_lanes s x; wish = wish }
 
--- without an index
+-- a wish that only a reading without an index has
 abbrev pub if_whole : Option IndexId → Wish → Wish
 if_whole None wish = wish
 if_whole (Some x) wish = Never
 
 -- one way of reading at a place
 abbrev pub way_reading : Spilling → List Instr → Variable → Reading
-way_reading s is x = reading s (filter (λ i. list_any (same_use x) (own_variables s i)) is) x.index (if_whole x.index (Within x.class))
+way_reading s is x = reading_of s (filter (λ i. list_any (same_use x) (own_variables s i)) is) x.index (if_whole x.index (Within x.class))
 
--- a copy of the range to a register
+-- what a copy asks: one to a fixed register, that the class holds this
 abbrev pub copy_wish : Loc → Wish
 copy_wish (Virtual w) = Never
 copy_wish (Fixed r) = Holding r
 
+-- the reading by a copy of the range
 abbrev pub copy_reading : Spilling → Instr → RegOp → RegOp → Reading
-copy_reading s i d o = reading s (i ∷ []) o.index (if_whole o.index (copy_wish d.loc))
+copy_reading s i d o = reading_of s (i ∷ []) o.index (if_whole o.index (copy_wish d.loc))
 
--- the readings at a place
+-- the readings by operands: each way of reading, and tied uses, for which nothing serves
 abbrev pub operand_readings : Spilling → List Instr → List Reading
 operand_readings s is =
     map (way_reading s is) (ways_read s is)
-    ++ flat_map (λ i. map (λ o. reading s (i ∷ []) o.index Never) (tied_reading s i)) is
+    ++ flat_map (λ i. map (λ o. reading_of s (i ∷ []) o.index Never) (tied_reading s i)) is
 
+-- the readings by an instruction; a copy and a store read what they move
 abbrev pub effect_readings : Spilling → Instr → Option Effect → List Operand → List Reading
 effect_readings s i (Some effects.Copy) (operands.Reg d ∷ operands.Reg o ∷ os) = cond (is_own s o) (copy_reading s i d o ∷ []) []
-effect_readings s i (Some effects.Spill) (operands.Reg o ∷ os) = cond (is_own s o) (reading s (i ∷ []) o.index Never ∷ []) []
+effect_readings s i (Some effects.Spill) (operands.Reg o ∷ os) = cond (is_own s o) (reading_of s (i ∷ []) o.index Never ∷ []) []
 effect_readings s i e os = operand_readings s (i ∷ [])
 
+-- the readings at a place
 abbrev pub place_readings : Spilling → List Instr → List Reading
 place_readings s (i ∷ []) = effect_readings s i (effect_of s.target i) i.operands
 place_readings s is = operand_readings s is
@@ -108,15 +113,17 @@ is_constant effects.Const = true
 is_constant effects.Addr = true
 is_constant _ = false
 
--- the class of the definition of an instruction that may be repeated: a constant or an address for a whole register
+-- the class of the definition, whose role is the first
 abbrev pub definition_class : List Role → Option ClassId
 definition_class [] = None
 definition_class (r ∷ rs) = role_class r
 
+-- the same, where it is of a whole register
 abbrev pub whole_class : Target → Instr → List Operand → Option ClassId
 whole_class t d (operands.Reg o ∷ os) = elim o.index [ None ↦ definition_class (roles_of t d) | Some x ↦ None ]
 whole_class t d os = None
 
+-- the class of an instruction that may be repeated: a constant or an address for a whole register
 abbrev pub repeatable_class : Target → Instr → Option ClassId
 repeatable_class t d = cond (does is_constant t d) (whole_class t d d.operands) None
 
@@ -126,11 +133,12 @@ serves t (Within (Some c)) (Some k) = is_within (regs_of t c) (regs_of t k)
 serves t (Holding r) (Some k) = holds_reg (regs_of t k) r
 serves t wish k = false
 
--- the instruction that is repeated for a reading: its one definition, where that serves
+-- the one definition of these, where it serves
 abbrev pub if_serves : Target → Wish → List Instr → Option Instr
 if_serves t wish (d ∷ []) = cond (serves t wish (repeatable_class t d)) (Some d) None
 if_serves t wish ds = None
 
+-- the instruction that is repeated for a reading: the one definition that reaches it, where that serves
 abbrev pub repeated_for : Spilling → Reading → Option Instr
 repeated_for s r = if_serves s.target r.wish (reaching s r)
 

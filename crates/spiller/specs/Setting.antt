@@ -56,18 +56,20 @@ own_lanes s (Some x) = lanes_of s.target x
 abbrev pub is_live_behind : Spilling → Instr → Option IndexId → Bool
 is_live_behind s i x = list_any (s.facts.live_behind i.id) (own_lanes s x)
 
--- a use and a definition without flags
+-- a use without flags
 abbrev pub plain_use : Loc → Option IndexId → RegOp
 plain_use l x = record { loc = l; index = x; def = false; implicit = false; undef = false; early = false; renamable = false; tie = None }
 
+-- a definition without flags
 abbrev pub plain_definition : Loc → Option IndexId → RegOp
 plain_definition l x = record (plain_use l x) { def = true }
 
--- an `undef` use of the first unreserved register of a class
+-- the first of these registers
 abbrev pub first_of : List Reg → Reg
 first_of [] = reg_number 0
 first_of (r ∷ rs) = r
 
+-- an `undef` use of the first unreserved register of a class
 abbrev pub undef_use : Target → Option ClassId → RegOp
 undef_use t k = record (plain_use (Fixed (first_of (domain t k))) None) { undef = true }
 
@@ -80,15 +82,16 @@ lanes_named (Some x) = operands.Index x
 abbrev pub in_own_slot : Spilling → Option IndexId → List Operand
 in_own_slot s x = operands.Stack s.slot ∷ lanes_named x ∷ []
 
--- the first opcode that stores, or reloads, every register of a class
+-- an opcode by its number, where there is one: each class of a target has its stores and reloads
 abbrev pub opcode : Option ℕ → OpId
 opcode None = op_number 0
 opcode (Some k) = op_number k
 
--- a store of a register of a class, and a reload of one; ids are given later
+-- a store of a register of a class; its id is given later
 abbrev pub store : Target → Option ClassId → RegOp → List Operand → Instr
 store t k o slot = made 0 (opcode (option_and_then (spill_place t) k)) (operands.Reg o ∷ slot)
 
+-- a reload of one
 abbrev pub reload : Target → Option ClassId → RegOp → List Operand → Instr
 reload t k o slot = made 0 (opcode (option_and_then (reload_place t) k)) (operands.Reg o ∷ slot)
 

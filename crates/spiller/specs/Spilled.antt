@@ -65,6 +65,7 @@ copied_within s n c i d o =
     cond (same_numbers (own_lanes s d.index) (own_lanes s o.index)) (becomes [])
     (through_tiny s n c i (moving_class s d.index) (in_own_slot s o.index) (in_own_slot s d.index))
 
+-- what becomes of a copy
 abbrev pub copy_change : Spilling → ℕ → ℕ → Instr → RegOp → RegOp → Change
 copy_change s n c i d o =
     cond (is_own s o) (cond (is_own s d) (copied_within s n c i d o) (copied_out s i d o))
@@ -86,10 +87,11 @@ undefined_change s i o =
     cond (not (is_own s o)) (becomes (i ∷ []))
     (cond (is_live_behind s i o.index) (becomes (in_place_of i (store s.target k (undef_use s.target k) (in_own_slot s o.index)) ∷ [])) (becomes []))
 
--- Any other place. Tinies are numbered from c on: one for each way of reading the range, then one for its definition,
--- with which a tied use shares it. (Places of several instructions are terminators, which define no range.)
+-- Any other place has tinies numbered from c on: one for each way of reading the range, then one for its definition,
+-- with which a tied use shares it. An instruction has at most one definition of a range, and terminators, which
+-- share a place, have none.
 
--- a definition of the range, by an instruction of the place
+-- the definition of the range by an instruction of the place
 abbrev pub definitions_in : Spilling → List Instr → List (Instr × Variable)
 definitions_in s is = flat_map (λ i. map (λ x. (i, x)) (filter (λ x. is_defining x.kind) (own_variables s i))) is
 
@@ -121,10 +123,12 @@ seated s c ways b o =
     (cond (passes is_tied b.0) (record (plain_use last None) { undef = o.undef })
     (cond o.undef o (plain_use (Virtual (tiny_read s c ways b o)) None))))
 
+-- an operand with the tiny in place of the range
 abbrev pub seated_operand : Spilling → ℕ → List Variable → Bound → Operand
 seated_operand s c ways (r, operands.Reg o) = operands.Reg (seated s c ways (r, operands.Reg o) o)
 seated_operand s c ways (r, o) = o
 
+-- an instruction with tinies in place of the range
 abbrev pub with_tinies : Spilling → ℕ → List Variable → Instr → Instr
 with_tinies s c ways i = record i { operands = map (seated_operand s c ways) (explicit_bound (explicit_roles (roles_of s.target i)) i.operands) }
 
@@ -133,6 +137,7 @@ abbrev pub place_name : List Instr → ℕ
 place_name [] = 0
 place_name (i ∷ is) = i.id
 
+-- What becomes of any other place: reloads or repeated instructions, the place itself with tinies, and stores.
 abbrev pub place_change : Spilling → ℕ → List Instr → Change
 place_change s c is =
     let ways = ways_read s is in
@@ -208,11 +213,12 @@ tinies s =
     let made = flat_map tinies_of (all_changes s) in
     zip (numbers (length s.func.classes) (length made)) (map (λ x. x.1) made)
 
--- an instruction names the slot
+-- the operand is the slot
 abbrev pub is_slot : ℕ → Operand → Bool
 is_slot n (operands.Stack m) = nat_eq m n
 is_slot n o = false
 
+-- an instruction of the function names the slot
 abbrev pub names_slot : ℕ → Function → Bool
 names_slot n f = list_any (λ b. list_any (λ i. list_any (is_slot n) i.operands) b.instrs) f.blocks
 
@@ -221,21 +227,21 @@ unfoldable pub slots_after : Slots → Spilling → Slots
 slots_after slots s = with_ranges (cond (names_slot s.slot (spilled s)) (with_slot slots s.range) slots) (length (tinies s))
 
 -- the range as it is spilled under these facts
-abbrev pub spilling : Target → Function → Slots → ℕ → Facts → Spilling
-spilling t f slots v facts = record { target = t; func = f; range = v; slot = own_slot slots v; facts = facts }
+abbrev pub setting_of : Target → Function → Slots → ℕ → Facts → Spilling
+setting_of t f slots v facts = record { target = t; func = f; range = v; slot = own_slot slots v; facts = facts }
 
 -- g, with these slots, is f after range v is spilled, and these are the tinies
 pub record IsSpilled (t : Target) (f : Function) (slots : Slots) (v : ℕ) (g : Function) (new : Slots) (made : List (ℕ × ℕ)) : Type 0 where
   pub facts : Facts
   pub are_facts : AreFacts t f v facts
-  pub func : g ≡ spilled (spilling t f slots v facts)
-  pub slot : new ≡ slots_after slots (spilling t f slots v facts)
-  pub tinies : made ≡ tinies (spilling t f slots v facts)
+  pub func : g ≡ spilled (setting_of t f slots v facts)
+  pub slot : new ≡ slots_after slots (setting_of t f slots v facts)
+  pub tinies : made ≡ tinies (setting_of t f slots v facts)
 
 -- the most range numbers that may be given for one function
-abbrev pub MostRanges : ℕ
-MostRanges = 1048576
+abbrev pub most_ranges : ℕ
+most_ranges = 1048576
 
 -- it would have too many range numbers
 abbrev pub TooManyRanges : Target → Function → Slots → ℕ → Type 0
-TooManyRanges t f slots v = (facts : Facts) × AreFacts t f v facts × (MostRanges < length (spilled (spilling t f slots v facts)).classes)
+TooManyRanges t f slots v = (facts : Facts) × AreFacts t f v facts × (most_ranges < length (spilled (setting_of t f slots v facts)).classes)
