@@ -9,7 +9,7 @@ use Rattle.mir_func.specs.Value.{Function}
 use Rattle.evictor.specs.declared.ranks.Stage.{Stage}
 use Rattle.evictor.specs.declared.ranks.Stage.TheVariants as stages
 use Rattle.evictor.specs.Candidates.{candidates}
-use Rattle.evictor.specs.Cheapest.{Facts, cheapest_of, ranking_after}
+use Rattle.evictor.specs.Cheapest.{Facts, cheapest_of, ranking_after, assignment_after}
 use Rattle.block_freq.specs.Weights.{weight_of}
 use Rattle.spiller.proofs.Sample.{function, block, instr, def, val, fixed, implicit_def, imm, symbol, csr, COPY, CMP32rr, STORE32mr, STORE8mr, CALL, RET}
 
@@ -152,3 +152,7 @@ pub new_cascades :
     ranking_after (record { stages = map stage (0 ∷ 1 ∷ 0 ∷ []); cascades = 1 ∷ 1 ∷ 0 ∷ []; greatest = 1 }) 2 (1 ∷ [])
     ≡ record { stages = map stage (0 ∷ 1 ∷ 0 ∷ []); cascades = 1 ∷ 2 ∷ 2 ∷ []; greatest = 2 }
 new_cascades = refl
+
+-- The one has the register then, and the other has none.
+pub new_registers : map (assignment_after (found ((1, 3) ∷ [])) 2 (reg_number 3) (1 ∷ [])) (0 ∷ 1 ∷ 2 ∷ []) ≡ None ∷ None ∷ Some (reg_number 3) ∷ []
+new_registers = refl

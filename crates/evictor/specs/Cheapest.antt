@@ -117,3 +117,7 @@ cascades_after k v victims = map (λ w. cond (is_marked v victims w) (number k v
 -- the ranking behind it; stages stay
 abbrev pub ranking_after : Ranking → ℕ → List ℕ → Ranking
 ranking_after k v victims = record k { cascades = cascades_after k v victims; greatest = max k.greatest (number k v) }
+
+-- the registers behind it: v has the one that it takes, and those that are evicted have none
+abbrev pub assignment_after : Assignment → ℕ → Reg → List ℕ → Assignment
+assignment_after a v r victims w = cond (w == v) (Some r) (cond (has_number victims w) None (a w))
