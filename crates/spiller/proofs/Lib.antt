@@ -1,0 +1,3 @@
+pub mod Sample
+mod Examples
+mod Reached

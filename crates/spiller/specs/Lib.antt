@@ -1,0 +1,5 @@
+pub mod Slots
+pub mod Reaching
+pub mod Setting
+pub mod Rematerialised
+pub mod Spilled
