@@ -219,11 +219,11 @@ module _ (t : Target) (f : Function) (n m : ℕ) where
   live_lanes (Entry id) = row (from_instr t f id f.blocks)
   live_lanes (Exit id) = after_first (from_instr t f id f.blocks)
 
-  abbrev entering : Code → List Lane
+  abbrev pub entering : Code → List Lane
   entering [] = []
   entering (i ∷ p) = unreserved reserved (row (i ∷ p) ++ lanes_of (early_of (writes_of i)))
 
-  abbrev leaving : Code → List Lane
+  abbrev pub leaving : Code → List Lane
   leaving [] = []
   leaving (i ∷ p) = unreserved reserved (after i p ++ lanes_of (writes_of i))
 

@@ -7,3 +7,4 @@ pub mod Faults
 pub mod Choosing
 pub mod Everywhere
 pub mod Quieted
+pub mod Elsewhere

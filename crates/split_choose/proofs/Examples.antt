@@ -18,7 +18,7 @@ abbrev ebx : Reg
 ebx = reg_number 3
 
 -- %0 has $ebx, over the call; %1 is to be split
-abbrev over_a_call : Function
+abbrev pub over_a_call : Function
 over_a_call = record (function (gr32 ∷ gr32 ∷ []) (block 0 [] (eax ∷ ecx ∷ []) (
     instr 0 COPY (def 0 ∷ fixed eax ∷ [])
     ∷ instr 1 COPY (def 1 ∷ fixed ecx ∷ [])
@@ -28,10 +28,10 @@ over_a_call = record (function (gr32 ∷ gr32 ∷ []) (block 0 [] (eax ∷ ecx �
     ∷ instr 5 STORE32mr (val 1 ∷ imm 4 ∷ val 1 ∷ [])
     ∷ instr 6 RET [] ∷ []) ∷ [])) { next_id = 7 }
 
-abbrev behind_the_call : List Mark
+abbrev pub behind_the_call : List Mark
 behind_the_call = at_gap 0 (Some 4) 1 ∷ at_gap 0 (Some 6) 0 ∷ []
 
-call_computed : is_computed mini_target over_a_call 5 12 ≡ true
+pub call_computed : is_computed mini_target over_a_call 5 12 ≡ true
 unfolding mini_target points_of point_item item_of
 call_computed = refl
 

@@ -1,3 +1,3 @@
-mod Held
-mod Bundles
-mod Examples
+pub mod Held
+pub mod Bundles
+pub mod Examples

@@ -17,7 +17,7 @@ abbrev at_gap : ℕ → Option ℕ → ℕ → Mark
 at_gap n before label = record { block = n; spot = spots.Gap (record { block = n; before = before }); label = label }
 
 -- %1 is to be split behind the call
-abbrev over_a_call : Function
+abbrev pub over_a_call : Function
 over_a_call = record (function (gr32 ∷ gr32 ∷ []) (block 0 [] (eax ∷ ecx ∷ []) (
     instr 0 COPY (def 0 ∷ fixed eax ∷ [])
     ∷ instr 1 COPY (def 1 ∷ fixed ecx ∷ [])
@@ -28,7 +28,7 @@ over_a_call = record (function (gr32 ∷ gr32 ∷ []) (block 0 [] (eax ∷ ecx �
     ∷ instr 6 RET [] ∷ []) ∷ [])) { next_id = 7 }
 
 -- %2 is what is left of it, and %3 lives from before the first store to behind the second
-abbrev split_behind_the_call : Function
+abbrev pub split_behind_the_call : Function
 split_behind_the_call = record (function (gr32 ∷ gr32 ∷ gr32 ∷ gr32 ∷ []) (block 0 [] (eax ∷ ecx ∷ []) (
     instr 0 COPY (def 0 ∷ fixed eax ∷ [])
     ∷ instr 1 COPY (def 2 ∷ fixed ecx ∷ [])
@@ -39,10 +39,10 @@ split_behind_the_call = record (function (gr32 ∷ gr32 ∷ gr32 ∷ gr32 ∷ []
     ∷ instr 5 STORE32mr (val 3 ∷ imm 4 ∷ val 3 ∷ [])
     ∷ instr 6 RET [] ∷ []) ∷ [])) { next_id = 8 }
 
-abbrev behind_the_call : List Mark
+abbrev pub behind_the_call : List Mark
 behind_the_call = at_gap 0 (Some 4) 1 ∷ at_gap 0 (Some 6) 0 ∷ []
 
-call_computed : is_computed mini_target over_a_call 5 12 ≡ true
+pub call_computed : is_computed mini_target over_a_call 5 12 ≡ true
 unfolding mini_target points_of point_item item_of
 call_computed = refl
 
