@@ -31,7 +31,7 @@ module _ (reserved : Lane → Bool) (code : Code) where
   abbrev pub all_found : ℕ → ℕ → List Lane → Bool
   all_found n k ls = list_all (λ a. is_some (found_live reserved code n (drop k code) a)) ls
 
-  found_all : (n : ℕ) (p : Code) (ls : List Lane) (l : Lane) → list_all (λ a. is_some (found_live reserved code n p a)) ls ≡ true → lists ls l ≡ true → Live reserved code p l
+  pub found_all : (n : ℕ) (p : Code) (ls : List Lane) (l : Lane) → list_all (λ a. is_some (found_live reserved code n p a)) ls ≡ true → lists ls l ≡ true → Live reserved code p l
   found_all n p [] l a h = absurd (cc)
   found_all n p (b ∷ bs) l a h =
       let q = both-true (is_some (found_live reserved code n p b)) (list_all (λ c. is_some (found_live reserved code n p c)) bs) a in

@@ -5,3 +5,6 @@ pub mod Living
 pub mod Occupied
 pub mod Faults
 pub mod Choosing
+pub mod Everywhere
+pub mod Quieted
+pub mod Elsewhere

@@ -78,7 +78,7 @@ module _ (reserved : Lane → Bool) (code : Code) (i : Item) (p : Code) where
   abbrev pub occupied_before_test : List Lane → Lane → Bool
   occupied_before_test ls l = (lists ls l || lists (lanes_of (early_of (writes_of i))) l) && not (reserved l)
 
-  decides_early : (l : Lane) → Decides (lists (lanes_of (early_of (writes_of i))) l) (WritingEarly i l)
+  pub decides_early : (l : Lane) → Decides (lists (lanes_of (early_of (writes_of i))) l) (WritingEarly i l)
   decides_early l =
       ((λ e. shown (wrote (early_of (writes_of i)) l e)), (λ h. listed (early_of (writes_of i)) h.0 l (is_early (writes_of i) h.0 h.1 h.3) h.2))
     where
@@ -91,7 +91,7 @@ module _ (reserved : Lane → Bool) (code : Code) (i : Item) (p : Code) where
   abbrev pub occupied_after_test : List Lane → Lane → Bool
   occupied_after_test ls l = (lists ls l || lists (lanes_of (writes_of i)) l) && not (reserved l)
 
-  decides_writing : (l : Lane) → Decides (lists (lanes_of (writes_of i)) l) (Writing i l)
+  pub decides_writing : (l : Lane) → Decides (lists (lanes_of (writes_of i)) l) (Writing i l)
   decides_writing l = ((λ e. wrote (writes_of i) l e), (λ h. listed (writes_of i) h.0 l h.1 h.2))
 
   decides_after : exits_of i ≡ [] → in_order i ≡ true → (ls : List Lane) (l : Lane) → Decides (lists ls l) (Live reserved code p l) → Decides (lists ls l) (LiveAfter reserved code i p l)

@@ -1,0 +1,6 @@
+pub mod Joining
+pub mod Splitting
+pub mod Held
+pub mod Bundles
+pub mod Offering
+pub mod Running
