@@ -1,5 +1,5 @@
 -- The own places of instructions, and those of the copies that lowering makes, which have few variables.
-use Rattle.std.proofs.Common.{◌≡◌, ◌×◌, ◌⊎◌, ⊥, ℕ, zero, suc, ◌+◌, ◌-◌, ◌<◌, ◌≤◌, Bool, true, false, cond, not, ◌&&◌, ◌||◌, List, [], ◌∷◌, ◌++◌, map, filter, length, get_or, take, drop, Option, Some, None, refl, ap, sym, ◌∙◌, arith, absurd, subst, inl, inr, below_more}
+use Rattle.std.proofs.Common.{◌≡◌, ◌⊎◌, ℕ, zero, suc, ◌+◌, ◌-◌, ◌<◌, ◌≤◌, Bool, true, false, cond, not, ◌&&◌, ◌||◌, List, [], ◌∷◌, ◌++◌, map, filter, length, get_or, take, drop, Option, Some, None, refl, ap, sym, ◌∙◌, arith, subst, inl, inr, below_more}
 use Rattle.std.specs.Prelude.{slice_get, nat_lt}
 use Rattle.std.proofs.lemmas.Bool.Decides.{nat_tests}
 use Rattle.std.specs.List.{list_any, flat_map}
@@ -91,7 +91,7 @@ single_is : (t : Target) (f : Function) (i : Instr) → (instr_place t f i).vari
 single_is t f i = single_case (does is_copy t i) t f i refl
 
 among_none : {P : Type 0} (p : Needs) → Among p [] → P
-among_none p ()
+among_none p h = elim h [ ]
 
 among_one : (p q : Needs) → Among p (q ∷ []) → p ≡ q
 among_one p q here = refl

@@ -1,5 +1,5 @@
 -- The own places of instructions, and the first that has too many variables.
-use Rattle.std.specs.Prelude.{◌≡◌, ◌×◌, ◌<◌, ⊥, ℕ, Bool, true, false, cond, nat_lt, List, [], ◌∷◌, take, drop, length, flat_map, Option, Some, None, slice_get}
+use Rattle.std.specs.Prelude.{◌≡◌, ◌<◌, ℕ, Bool, true, false, cond, nat_lt, List, [], ◌∷◌, take, drop, length, flat_map, Option, Some, None, slice_get}
 use Rattle.std.specs.List.{list_any}
 use Rattle.target_base.specs.declared.types.Target.{Target}
 use Rattle.mir_func.specs.declared.func.Place.{Place}
