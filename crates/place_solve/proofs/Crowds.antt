@@ -3,7 +3,7 @@ use Rattle.std.proofs.Common.{◌≡◌, ◌⊎◌, ℕ, zero, suc, ◌+◌, ◌
 use Rattle.std.specs.Prelude.{slice_get, nat_lt}
 use Rattle.std.proofs.lemmas.Bool.Decides.{nat_tests}
 use Rattle.std.specs.List.{list_any, flat_map}
-use Rattle.std.proofs.lemmas.List.{drop_more, append-nil}
+use Rattle.std.proofs.lemmas.List.{drop_more, length-map}
 use Rattle.std.proofs.lemmas.List.Folds.{list_any_at}
 use Rattle.std.proofs.lemmas.Option.{slice_get_cases, slice_get_read, slice_get_past, slice_get_within, get_or_from_slice_get}
 use Rattle.meaning.specs.Live.{Among, here, there}
@@ -22,8 +22,10 @@ use Rattle.mir_meaning.specs.Binding.{does, effect_of, is_terminator, registers,
 use Rattle.mir_meaning.specs.Points.{Point, Entry, Exit}
 use Rattle.mir_meaning.specs.Rules.{is_lowered_away, is_virtual, same_loc, same_index, readings, untied_readings}
 use Rattle.mir_meaning.specs.Places.{Needs, Variable as Need, each_once, copy_variables, instr_variables, place_of, copy_place, instr_place, own_places, copied_at, phi_copies, phi_point, defines_and_reads, input_copies, tied_copies, effect_copies, lowering_places, places_at, StandsAt, Earlier, FirstPlace, TooMany}
+use Rattle.place_solve.specs.declared.variables.Variable.{Variable}
+use Rattle.place_solve.specs.Choice.{need_of}
 use Rattle.place_solve.specs.Once.{virtual_sides, side_variables}
-use Rattle.place_solve.specs.Own.{own_of, own_instrs, place_variables, is_crowded, IsFirst, HasFew, IsCrowded}
+use Rattle.place_solve.specs.Own.{own_of, own_found, own_instrs, place_variables, is_crowded, IsFirst, HasFew, IsCrowded}
 use Rattle.place_solve.proofs.Operands.{copies_are}
 
 -- the last of a list is among them
@@ -33,10 +35,10 @@ last_is_there t is i h at holds = list_any_at (does is_terminator t) is (length 
 -- the instructions of the own place
 
 own_there : (t : Target) (is : List Instr) (j : ℕ) (i : Instr) → j < length is → i ≡ get_or is j i → own_of t is j i ≡ own_instrs t is j
-own_there t is j i h at = let e : slice_get is j ≡ Some i = slice_get_read is (length is) j i refl h at in rw e refl
+own_there t is j i h at = sym (ap (own_found t is j) (slice_get_read is (length is) j i refl h at))
 
 pub own_past : (t : Target) (is : List Instr) (j : ℕ) → length is ≤ j → [] ≡ own_instrs t is j
-own_past t is j h = let e : slice_get is j ≡ None = slice_get_past is j h in rw e refl
+own_past t is j h = sym (ap (own_found t is j) (slice_get_past is j h))
 
 pub own_behind : (t : Target) (is before : List Instr) (j : ℕ) (i : Instr) (a b : Bool) → j < length is → i ≡ get_or is j i → b ≡ does is_terminator t i → b ≡ true → before ≡ take j is → a ≡ list_any (does is_terminator t) before → a ≡ true → [] ≡ own_instrs t is j
 own_behind t is before j i a b h at is_b holds cut is_a found =
@@ -132,14 +134,25 @@ slim_copy t f q o ps s = λ p h m. slim_one p h m
     slim_one p here m = omega arith
     slim_one p (there h) m = s p h m
 
-slim_append : (ps qs : List Needs) → Slim ps → Slim qs → Slim (ps ++ qs)
+at_one : (x : Needs) (ps : List Needs) → (TooMany x → ⊥) → ((q : Needs) → Among q ps → TooMany q → ⊥) → (p : Needs) → Among p (x ∷ ps) → TooMany p → ⊥
+at_one x ps a s p here m = a m
+at_one x ps a s p (there h) m = s p h m
+
+slim_push : (x : Needs) (ps : List Needs) → (TooMany x → ⊥) → Slim ps → Slim (x ∷ ps)
 unfolding Slim
+slim_push x ps a s = λ p h m. at_one x ps a s p h m
+
+slim_head : (x : Needs) (ps : List Needs) → Slim (x ∷ ps) → TooMany x → ⊥
+unfolding Slim
+slim_head x ps s m = s x here m
+
+slim_tail : (x : Needs) (ps : List Needs) → Slim (x ∷ ps) → Slim ps
+unfolding Slim
+slim_tail x ps s = λ p h m. s p (there h) m
+
+slim_append : (ps qs : List Needs) → Slim ps → Slim qs → Slim (ps ++ qs)
 slim_append [] qs a b = b
-slim_append (x ∷ ps) qs a b = λ p h m. either p h m
-  where
-    either : (p : Needs) → Among p (x ∷ (ps ++ qs)) → TooMany p → ⊥
-    either p here m = a p here m
-    either p (there h) m = slim_append ps qs (λ r g n. a r (there g) n) b p h m
+slim_append (x ∷ ps) qs a b = slim_push x (ps ++ qs) (slim_head x ps a) (slim_append ps qs (slim_tail x ps a) b)
 
 slim_if : (b : Bool) (ps qs : List Needs) → Slim ps → Slim qs → Slim (cond b ps qs)
 slim_if true ps qs a b = a
@@ -276,6 +289,7 @@ in_both (x ∷ ps) qs p here f g = f here
 in_both (x ∷ ps) qs p (there h) f g = in_both ps qs p h (λ k. f (there k)) g
 
 in_first : (ps qs : List Needs) (p : Needs) → Among p ps → Among p (ps ++ qs)
+in_first [] qs p h = elim h [ ]
 in_first (x ∷ ps) qs p here = here
 in_first (x ∷ ps) qs p (there h) = there (in_first ps qs p h)
 
@@ -287,7 +301,7 @@ many_length n e = grind (arith, nat_tests)
 
 own_few : (t : Target) (f : Function) (b : Block) (j : ℕ) (i : Instr) (p : Needs) → slice_get b.instrs j ≡ Some i → is_crowded t f b.instrs j ≡ false → Among p (own_places t f b j i) → TooMany p → ⊥
 own_few t f b j i p at few h many =
-    let own : own_instrs t b.instrs j ≡ own_of t b.instrs j i = rw at refl in
+    let own : own_instrs t b.instrs j ≡ own_of t b.instrs j i = ap (own_found t b.instrs j) at in
     let vs : p.variables ≡ place_variables t f (own_of t b.instrs j i) = own_down (does is_terminator t i) (list_any (does is_terminator t) (take j b.instrs)) (does is_lowered_away t i) t f (drop j b.instrs) i p h in
     let same : p.variables ≡ place_variables t f (own_instrs t b.instrs j) = vs ∙ sym (ap (place_variables t f) own) in
     let lengths : length p.variables ≡ length (place_variables t f (own_instrs t b.instrs j)) = ap (λ (ns : List Need). length ns) same in
@@ -295,7 +309,7 @@ own_few t f b j i p at few h many =
 
 own_many : (t : Target) (f : Function) (b : Block) (j : ℕ) (i : Instr) → slice_get b.instrs j ≡ Some i → is_crowded t f b.instrs j ≡ true → 6 < length (place_variables t f (own_of t b.instrs j i))
 own_many t f b j i at crowded =
-    let own : own_instrs t b.instrs j ≡ own_of t b.instrs j i = rw at refl in
+    let own : own_instrs t b.instrs j ≡ own_of t b.instrs j i = ap (own_found t b.instrs j) at in
     let e : nat_lt 6 (length (place_variables t f (own_of t b.instrs j i))) ≡ true = ap (λ (is : List Instr). nat_lt 6 (length (place_variables t f is))) (sym own) ∙ crowded in
     many_length (length (place_variables t f (own_of t b.instrs j i))) e
 
@@ -337,14 +351,14 @@ none_all t f k h before = λ l j p s m.
 
 stood : (t : Target) (f : Function) (k : ℕ) (b : Block) (i : Instr) (name : Place) → slice_get f.blocks k ≡ Some b → slice_get b.instrs name.at ≡ Some i → is_crowded t f b.instrs name.at ≡ true → ((j : ℕ) → j < name.at → is_crowded t f b.instrs j ≡ false) → b.number ≡ name.block → NoneBefore t f k → FirstPlace t f TooMany name
 unfolding places_at
-stood t f k b i name at there crowded few block before =
-    let many = own_many t f b name.at i there crowded in
+stood t f k b i name at got crowded few block before =
+    let many = own_many t f b name.at i got crowded in
     let has = own_up (does is_terminator t i) (list_any (does is_terminator t) (take name.at b.instrs)) (does is_lowered_away t i) t f (drop name.at b.instrs) i many in
     let lengths : length has.place.variables ≡ length (place_variables t f (own_of t b.instrs name.at i)) = ap (λ (ns : List Need). length ns) has.variables in
     record {
       k = k;
       place = has.place;
-      stands = record { block = b; instr = i; is_block = at; is_instr = there; is_place = in_first (own_places t f b name.at i) (lowering_places t f i) has.place has.among };
+      stands = record { block = b; instr = i; is_block = at; is_instr = got; is_place = in_first (own_places t f b name.at i) (lowering_places t f i) has.place has.among };
       is_block = block;
       holds = omega arith;
       first = λ l j q s e m. elim e [
@@ -357,6 +371,14 @@ pub first_found : (t : Target) (f : Function) (k : ℕ) (b : Block) (j : ℕ) (n
 first_found t f k b j name at found is block before =
     let here : IsFirst (is_crowded t f b.instrs) (length b.instrs) (Some name.at) = subst (λ (n : ℕ). IsFirst (is_crowded t f b.instrs) (length b.instrs) (Some n)) (sym is) found in
     elim (slice_get_cases b.instrs name.at).1 [
-      inl x ↦ stood t f k b x.0 name at x.2.0 here.1.0 here.1.1 (sym block) before
+      inl x ↦ stood t f k b x.0 name at x.2 here.1 here.2 (sym block) before
       | inr x ↦ absurd (omega (arith, here.0, x.0))
     ]
+
+-- the count of a place's variables
+pub counted_is : (t : Target) (f : Function) (is place : List Instr) (j : ℕ) (vs : List Variable) → place ≡ own_instrs t is j → map need_of vs ≡ each_once [] (flat_map (instr_variables t f) place) → nat_lt 6 (length vs) ≡ is_crowded t f is j
+counted_is t f is place j vs own made =
+    let e : length vs ≡ length (place_variables t f place) = sym (length-map vs need_of) ∙ ap (λ (ns : List Need). length ns) made in
+    ap (nat_lt 6) (e ∙ ap (λ (js : List Instr). length (place_variables t f js)) own)
+
+pub ruleset counted = (counted_is)

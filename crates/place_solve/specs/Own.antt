@@ -16,9 +16,13 @@ use Rattle.place_solve.specs.declared.check.PlaceStop.TheVariants as stops
 abbrev pub own_of : Target → List Instr → ℕ → Instr → List Instr
 own_of t is j i = cond (does is_terminator t i) (cond (list_any (does is_terminator t) (take j is)) [] (drop j is)) (cond (does is_lowered_away t i) [] (i ∷ []))
 
--- those of the one at j; none where there is no such one
+-- those of the one that was found at j; none where there is no such one
+abbrev pub own_found : Target → List Instr → ℕ → Option Instr → List Instr
+own_found t is j None = []
+own_found t is j (Some i) = own_of t is j i
+
 abbrev pub own_instrs : Target → List Instr → ℕ → List Instr
-own_instrs t is j = elim (slice_get is j) [ None ↦ [] | Some i ↦ own_of t is j i ]
+own_instrs t is j = own_found t is j (slice_get is j)
 
 -- the variables of such a place
 abbrev pub place_variables : Target → Function → List Instr → List Need

@@ -120,7 +120,7 @@ fn is_crowded(
 {
     let place = own_place(target, instrs, j);
     let variables = variables_of(alloc, target, f, place)?;
-    Ok(variables.len() > MOST)
+    Ok(variables.as_slice().len() > MOST)
 }
 
 /// The first instruction of a block whose place has too many variables.
