@@ -1,11 +1,11 @@
 -- The own places of instructions, and those of the copies that lowering makes, which have few variables.
-use Rattle.std.proofs.Common.{◌≡◌, ◌⊎◌, ℕ, zero, suc, ◌+◌, ◌-◌, ◌<◌, ◌≤◌, Bool, true, false, cond, not, ◌&&◌, ◌||◌, List, [], ◌∷◌, ◌++◌, map, filter, length, get_or, take, drop, Option, Some, None, refl, ap, sym, ◌∙◌, arith, subst, inl, inr, below_more}
+use Rattle.std.proofs.Common.{◌≡◌, ℕ, ◌+◌, ◌-◌, ◌<◌, ◌≤◌, Bool, true, false, cond, not, ◌&&◌, ◌||◌, List, [], ◌∷◌, ◌++◌, map, length, get_or, take, drop, Option, Some, None, refl, ap, sym, ◌∙◌, arith, subst, inl, inr, below_more}
 use Rattle.std.specs.Prelude.{slice_get, nat_lt}
 use Rattle.std.proofs.lemmas.Bool.Decides.{nat_tests}
 use Rattle.std.specs.List.{list_any, flat_map}
 use Rattle.std.proofs.lemmas.List.{drop_more, length-map}
 use Rattle.std.proofs.lemmas.List.Folds.{list_any_at}
-use Rattle.std.proofs.lemmas.Option.{slice_get_cases, slice_get_read, slice_get_past, slice_get_within, get_or_from_slice_get}
+use Rattle.std.proofs.lemmas.Option.{slice_get_cases, slice_get_read, slice_get_past, slice_get_within}
 use Rattle.meaning.specs.Live.{Among, here, there}
 use Rattle.target_base.specs.declared.types.Effect.{Effect}
 use Rattle.target_base.specs.declared.types.Effect.TheVariants as effects
@@ -21,11 +21,11 @@ use Rattle.mir_func.specs.Value.{Function}
 use Rattle.mir_meaning.specs.Binding.{does, effect_of, is_terminator, registers, bound, tied_pair}
 use Rattle.mir_meaning.specs.Points.{Point, Entry, Exit}
 use Rattle.mir_meaning.specs.Rules.{is_lowered_away, is_virtual, same_loc, same_index, readings, untied_readings}
-use Rattle.mir_meaning.specs.Places.{Needs, Variable as Need, each_once, copy_variables, instr_variables, place_of, copy_place, instr_place, own_places, copied_at, phi_copies, phi_point, defines_and_reads, input_copies, tied_copies, effect_copies, lowering_places, places_at, StandsAt, Earlier, FirstPlace, TooMany}
+use Rattle.mir_meaning.specs.Places.{Needs, Variable as Need, each_once, copy_variables, instr_variables, place_of, copy_place, instr_place, own_places, copied_at, phi_copies, phi_point, defines_and_reads, input_copies, tied_copies, effect_copies, lowering_places, places_at, StandsAt, FirstPlace, TooMany}
 use Rattle.place_solve.specs.declared.variables.Variable.{Variable}
 use Rattle.place_solve.specs.Choice.{need_of}
 use Rattle.place_solve.specs.Once.{virtual_sides, side_variables}
-use Rattle.place_solve.specs.Own.{own_of, own_found, own_instrs, place_variables, is_crowded, IsFirst, HasFew, IsCrowded}
+use Rattle.place_solve.specs.Own.{own_of, own_found, own_instrs, place_variables, is_crowded, IsFirst, HasFew}
 use Rattle.place_solve.proofs.Operands.{copies_are}
 
 -- the last of a list is among them
@@ -362,7 +362,7 @@ stood t f k b i name at got crowded few block before =
       is_block = block;
       holds = omega arith;
       first = λ l j q s e m. elim e [
-        inl h ↦ before l h j q s m
+        | inl h ↦ before l h j q s m
         | inr h ↦ stands_few t f k b j q at (subst (λ (n : ℕ). StandsAt t f n j q) h.0 s) (few j h.1) m
       ];
     }
@@ -371,7 +371,7 @@ pub first_found : (t : Target) (f : Function) (k : ℕ) (b : Block) (j : ℕ) (n
 first_found t f k b j name at found is block before =
     let here : IsFirst (is_crowded t f b.instrs) (length b.instrs) (Some name.at) = subst (λ (n : ℕ). IsFirst (is_crowded t f b.instrs) (length b.instrs) (Some n)) (sym is) found in
     elim (slice_get_cases b.instrs name.at).1 [
-      inl x ↦ stood t f k b x.0 name at x.2 here.1 here.2 (sym block) before
+      | inl x ↦ stood t f k b x.0 name at x.2 here.1 here.2 (sym block) before
       | inr x ↦ absurd (omega (arith, here.0, x.0))
     ]
 

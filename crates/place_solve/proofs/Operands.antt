@@ -1,8 +1,7 @@
 -- The variables of operands, one after the other.
-use Rattle.std.proofs.Common.{◌≡◌, ℕ, ◌+◌, ◌<◌, ◌≤◌, Bool, true, false, cond, not, ◌&&◌, ◌||◌, List, [], ◌∷◌, ◌++◌, map, filter, find, length, get_or, drop, Option, Some, None, refl, ap, sym, ◌∙◌, append_assoc}
-use Rattle.std.specs.Prelude.{option_map}
-use Rattle.std.specs.List.{list_any, filter_map, flat_map, cons_option}
-use Rattle.std.proofs.lemmas.List.{drop_more, append-nil}
+use Rattle.std.proofs.Common.{◌≡◌, ℕ, ◌+◌, ◌<◌, ◌≤◌, Bool, true, false, cond, not, ◌&&◌, ◌||◌, List, [], ◌∷◌, ◌++◌, map, find, length, get_or, drop, Option, Some, None, refl, ap, sym, ◌∙◌}
+use Rattle.std.specs.List.{list_any, filter_map, cons_option}
+use Rattle.std.proofs.lemmas.List.{drop_more}
 use Rattle.std.proofs.lemmas.List.Folds.{list_any-append}
 use Rattle.std.proofs.lemmas.List.Elements.{filter_map-append}
 use Rattle.target_base.specs.declared.types.ClassId.{ClassId}
@@ -18,14 +17,14 @@ use Rattle.mir_func.specs.declared.func.Operand.{Operand}
 use Rattle.mir_func.specs.declared.func.Operand.TheVariants as operands
 use Rattle.mir_func.specs.declared.func.Instr.{Instr}
 use Rattle.mir_func.specs.Value.{Function}
-use Rattle.mir_meaning.specs.Binding.{Bound, bound, passes, does, is_early, same_fixed, takes_many, takes_role, is_implicit_operand, explicit_operands, explicit_roles, explicit_bound, implicit_registers, implicit_roles, implicit_bound, registers, roles_of, class_of, moving_class, any_class, asked_class, operand_class}
+use Rattle.mir_meaning.specs.Binding.{Bound, passes, does, is_early, same_fixed, takes_many, takes_role, is_implicit_operand, explicit_operands, explicit_roles, explicit_bound, implicit_registers, implicit_roles, implicit_bound, roles_of, moving_class, any_class, asked_class, operand_class}
 use Rattle.mir_meaning.specs.Registers.{operand_widths}
 use Rattle.mir_meaning.specs.Rules.{is_virtual}
 use Rattle.mir_meaning.specs.Places.{Kind as Use, Using, Defining, Variable as Need, variable, copy_variable, register_variable, operand_variable, operand_variables, has_tied_pair, copy_variables, moves_alone, instr_variables}
 use Rattle.phi_elim.specs.Phis.{located_class}
 use Rattle.phi_elim.proofs.Walks.{drop_all}
 use Rattle.two_address.specs.Classes.{class_asked, first_role, roles_behind}
-use Rattle.place_solve.specs.Once.{once_more, once_if, all_once, operand_use, is_left_out, from_explicit, left_behind, explicit_variable, implicit_variable, is_tied_operand, is_tied_bound, explicit_variables, virtual_sides, two_sides, side_variables}
+use Rattle.place_solve.specs.Once.{once_more, once_if, all_once, operand_use, is_left_out, from_explicit, left_behind, explicit_variable, implicit_variable, is_tied_operand, is_tied_bound, explicit_variables, virtual_sides, side_variables}
 use Rattle.place_solve.proofs.Once.{once_option, once_append}
 
 -- the class that is asked

@@ -409,7 +409,13 @@ fn two_sides(a: &Operand, b: &Operand) -> Option<RegOp>
 {
     match a {
         Operand::Reg(d) => match b {
-            Operand::Reg(s) => { if is_virtual(d.loc) && is_virtual(s.loc) { Some(*d) } else { None } }
+            Operand::Reg(s) => {
+                if is_virtual(d.loc) && is_virtual(s.loc) {
+                    Some(*d)
+                } else {
+                    None
+                }
+            }
             _ => None,
         },
         _ => None,

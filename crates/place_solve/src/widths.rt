@@ -77,7 +77,12 @@ fn picked_widths(
 ) -> Result<Vec<u8>, AllocError>
     ensures { IfOk result (λ made. made.items ≡ map (slice_index (range_widths target.now f.now v)) (lanes_of target.now index)) }
 {
-    let made = widths_at(alloc, target, range_units(target, f, v), index_lanes(target, index))?;
+    let made = widths_at(
+        alloc,
+        target,
+        range_units(target, f, v),
+        index_lanes(target, index),
+    )?;
     Ok(made)
 }
 

@@ -3,6 +3,7 @@ use Rattle.std.specs.Prelude.{slice_get}
 use Rattle.std.proofs.lemmas.Option.{slice_get_read}
 use Rattle.mir_func.specs.declared.func.Instr.{Instr}
 use Rattle.mir_func.specs.declared.func.Block.{Block}
+use Rattle.mir_func.specs.Value.{Function}
 use Rattle.place_solve.specs.Own.{is_crowded, IsFirst}
 use Rattle.place_solve.proofs.Few.{few_instrs}
 use Rattle.place_solve.proofs.Crowds.{none_next, none_all, first_found}
@@ -14,7 +15,7 @@ returns-in-Some c =
     let f = c.args.f.now in
     let k = c.counted.k in
     let b = c.index-blocks-k.result in
-    let all : c.as_slice-blocks.result.now ≡ f.blocks = cc in
+    let all : c.as_slice-blocks.result.now ≡ f.blocks = c.as_slice-blocks.ensures ∙ ap (λ (g : Function). g.blocks) c.f.view_is in
     let h : k < length f.blocks = omega (arith, ap length all) in
     let e : b ≡ get_or f.blocks k b = c.index-blocks-k.is ∙ ap (λ (bs : List Block). get_or bs k b) all in
     let at : slice_get f.blocks k ≡ Some b = slice_get_read f.blocks (length f.blocks) k b refl h e in
@@ -31,7 +32,7 @@ counted-preserved c =
     let f = c.args.f.now in
     let k = c.counted.k in
     let b = c.index-blocks-k.result in
-    let all : c.as_slice-blocks.result.now ≡ f.blocks = cc in
+    let all : c.as_slice-blocks.result.now ≡ f.blocks = c.as_slice-blocks.ensures ∙ ap (λ (g : Function). g.blocks) c.f.view_is in
     let h : k < length f.blocks = omega (arith, ap length all) in
     let e : b ≡ get_or f.blocks k b = c.index-blocks-k.is ∙ ap (λ (bs : List Block). get_or bs k b) all in
     let at : slice_get f.blocks k ≡ Some b = slice_get_read f.blocks (length f.blocks) k b refl h e in
@@ -42,6 +43,6 @@ counted-preserved c =
 pub returns : goal.returns
 returns c =
     let f = c.args.f.now in
-    let all : c.as_slice-blocks.result.now ≡ f.blocks = cc in
+    let all : c.as_slice-blocks.result.now ≡ f.blocks = c.as_slice-blocks.ensures ∙ ap (λ (g : Function). g.blocks) c.f.view_is in
     let h : length f.blocks ≤ c.counted.k = omega (arith, ap length all) in
     none_all c.args.target.now f c.counted.k h c.counted.invariant

@@ -1,4 +1,4 @@
-use Rattle.std.proofs.Common.{arith, map, ap, ◌≡◌, ◌∙◌, List}
+use Rattle.std.proofs.Common.{arith, map, ap, ◌≡◌, ◌∙◌}
 use Rattle.mir_func.specs.declared.func.Instr.{Instr}
 use Rattle.mir_meaning.specs.Places.{instr_variables}
 use Rattle.place_solve.specs.Choice.{need_of}
