@@ -1,6 +1,6 @@
 //! The variables of a place: what needs a register of its class there.
 
-ghost use Rattle.std.specs.Prelude.{◌≡◌, ◌++◌, [], OnOk, IfOk, drop, map, flat_map, option_map};
+ghost use Rattle.std.specs.Prelude.{◌≡◌, [], OnOk, IfOk, map, flat_map, option_map};
 ghost use Rattle.std.specs.List.{list_any, filter_map};
 ghost use Rattle.target_base.specs.Roles.{is_implicit, is_tied};
 ghost use Rattle.target_base.specs.Rules.{is_copy};

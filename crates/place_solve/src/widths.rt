@@ -1,8 +1,8 @@
 //! Lane widths of operands, and the classes with such lanes.
 
-ghost use Rattle.std.specs.Prelude.{◌≡◌, IfOk, map, slice_get, slice_index, position};
+ghost use Rattle.std.specs.Prelude.{◌≡◌, IfOk, map, slice_index, position};
 ghost use Rattle.target_base.specs.Registers.{lanes_of, class_of_widths};
-ghost use Rattle.target_base.specs.Storage.{widths, width_in, unit_width, class_widths, same_numbers};
+ghost use Rattle.target_base.specs.Storage.{widths, class_widths, same_numbers};
 ghost use Rattle.mir_func.specs.declared.func.Loc.TheVariants.{Virtual};
 ghost use Rattle.mir_meaning.specs.Registers.{range_widths, located_widths, operand_widths};
 ghost use Rattle.place_solve.specs.Choice.{width_at};
