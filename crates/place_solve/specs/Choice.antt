@@ -1,8 +1,11 @@
 -- The first choice of registers, one of each variable's list, that keeps apart what must be apart.
-use Rattle.std.specs.Prelude.{◌≡◌, ℕ, Bool, true, false, cond, not, ◌&&◌, List, [], ◌∷◌, ◌++◌, map, filter, length, drop, Option, Some, None}
+use Rattle.std.specs.Prelude.{◌≡◌, ℕ, Bool, true, false, cond, not, ◌&&◌, List, [], ◌∷◌, ◌++◌, map, filter, length, drop, Option, Some, None, slice_get}
 use Rattle.std.specs.List.{zip, list_all}
 use Rattle.target_base.specs.declared.types.Reg.{Reg}
 use Rattle.target_base.specs.declared.types.Target.{Target}
+use Rattle.target_base.specs.declared.types.Unit.{Unit as UnitNumber}
+use Rattle.target_base.specs.declared.types.UnitDesc.{UnitDesc}
+use Rattle.target_base.specs.Storage.{unit_width}
 use Rattle.mir_meaning.specs.Places.{Using, Copying, Defining, Kind as Use, Variable as Need, variable, must_be_apart, share_a_unit, all_apart, choices}
 use Rattle.place_solve.specs.declared.variables.Kind.{Kind}
 use Rattle.place_solve.specs.declared.variables.Kind.TheVariants as kinds
@@ -44,3 +47,7 @@ pub record Found (t : Target) (vs : List Variable) (options : List (List Reg)) (
   pub choice : first (completions t vs done (drop (length done) options)) ≡ cond answer (Some (drop (length done) new)) None
   pub before : answer ≡ true → new ≡ done ++ drop (length done) new
   pub kept : answer ≡ false → new ≡ done
+
+-- the width of one of these units, by its place; 0 where there is none
+abbrev pub width_at : List UnitDesc → List UnitNumber → ℕ → ℕ
+width_at units us k = elim (slice_get us k) [ None ↦ 0 | Some u ↦ unit_width units u ]

@@ -1,1 +1,3 @@
 pub mod Choice
+pub mod Once
+pub mod Own
