@@ -1,9 +1,11 @@
 //! The summary of a generated function.
 
-ghost use Rattle.std.specs.Prelude.{IfOk, IfErr};
+ghost use Rattle.std.specs.Prelude.{IfOk, IfErr, OnOk, OnErr};
 ghost use Rattle.gen_text.specs.Generated.{IsTextOf, IsGenText, IfGenRefused};
 ghost use Rattle.machine_verify.specs.Lives.{FitsTarget};
 ghost use Rattle.guarded_alloc.specs.Function.{IfRefused};
+ghost use Rattle.guarded_alloc.specs.Told.{ToldRun, ToldPart};
+ghost use Rattle.target_base.specs.Mini.{mini_target};
 
 use crate::ran::summary;
 use generator::generate;
@@ -23,6 +25,8 @@ fn text_of<W: Watcher>(
     requires { FitsTarget target.now source.now }
     ensures ok { IfOk result (IsTextOf target.now seed source.now) }
     ensures err { IfErr result (IfRefused target.now source.now) }
+    ensures told { OnOk result (ToldRun (W.next target.now) 0 watchers.old.items watchers.new.items) }
+    ensures part { OnErr result (ToldPart (W.next target.now) watchers.old.items watchers.new.items) }
 {
     let copy = source.copy(alloc)?;
     match allocated(alloc, target, copy, 0, watchers) {
@@ -33,8 +37,8 @@ fn text_of<W: Watcher>(
 
 /// The summary of the function that is generated for a seed over the built-in target, once it is
 /// allocated under guard with the number 0: the five lines that begin with `gen`, `source`,
-/// `allocated`, `source` and `allocated`. The watchers are told every step of the allocator's run. It is
-/// refused as each function is that isn't allocated.
+/// `allocated`, `source` and `allocated`. The watchers are told every step of the allocator's run, and a
+/// first part of them where it is refused, as each function is that isn't allocated.
 #[tactic(auto, using(crate::proofs::Fitting::generated_fits))]
 pub fn text_of_gen<W: Watcher>(
     alloc: Global,
@@ -43,6 +47,8 @@ pub fn text_of_gen<W: Watcher>(
 ) -> Result<Bytes, FunctionStop>
     ensures ok { IfOk result (IsGenText seed) }
     ensures err { IfErr result (IfGenRefused seed) }
+    ensures told { OnOk result (ToldRun (W.next mini_target) 0 watchers.old.items watchers.new.items) }
+    ensures part { OnErr result (ToldPart (W.next mini_target) watchers.old.items watchers.new.items) }
 {
     let target = mini(alloc)?;
     match generate(alloc, &target, seed)? {

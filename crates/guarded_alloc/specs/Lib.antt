@@ -1,3 +1,4 @@
 pub mod Limits
 pub mod Function
 pub mod Fitting
+pub mod Told

@@ -1,10 +1,11 @@
 //! One function.
 
-ghost use Rattle.std.specs.Prelude.{◌≡◌, true, IfOk, IfErr};
+ghost use Rattle.std.specs.Prelude.{◌≡◌, true, IfOk, IfErr, OnOk, OnErr};
 ghost use Rattle.machine_verify.specs.Lives.{FitsTarget};
 ghost use Rattle.function_alloc.specs.Stops.{comes_of_a_place};
 ghost use Rattle.guarded_alloc.specs.Limits.{passed_limit};
 ghost use Rattle.guarded_alloc.specs.Function.{Allocates, IsGuarded, IsOnceTaken, IfRefused, comes_before_run};
+ghost use Rattle.guarded_alloc.specs.Told.{ToldRun, ToldPart};
 
 use crate::guard::guarded;
 use crate::limits::passed_limit;
@@ -42,6 +43,8 @@ fn allocated_valid<W: Watcher>(
     ensures ok { IfOk result (IsGuarded target.now source.func) }
     ensures err { IfErr result (IsOnceTaken name) }
     ensures untold { IfErr result (λ stop. comes_before_run stop ≡ true → watchers.new ≡ watchers.old) }
+    ensures told { OnOk result (ToldRun (W.next target.now) number watchers.old.items watchers.new.items) }
+    ensures part { OnErr result (ToldPart (W.next target.now) watchers.old.items watchers.new.items) }
 {
     let made = match with_registers(alloc, target, &source, number, watchers) {
         Ok(made) => made,
@@ -71,6 +74,8 @@ pub fn allocated<W: Watcher>(
     ensures ok { IfOk result (Allocates target.now f) }
     ensures err { IfErr result (IfRefused target.now f) }
     ensures untold { IfErr result (λ stop. comes_before_run stop ≡ true → watchers.new ≡ watchers.old) }
+    ensures told { OnOk result (ToldRun (W.next target.now) number watchers.old.items watchers.new.items) }
+    ensures part { OnErr result (ToldPart (W.next target.now) watchers.old.items watchers.new.items) }
 {
     if let Some(limit) = passed_limit(&f) {
         return Err(FunctionStop::Limit(limit));

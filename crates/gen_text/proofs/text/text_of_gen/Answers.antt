@@ -1,6 +1,17 @@
-use Rattle.std.proofs.Common.{◌∙◌, sym}
+use Rattle.std.proofs.Common.{◌∙◌, sym, refl}
+use Rattle.target_base.specs.Mini.{mini_target}
+use Rattle.guarded_alloc.proofs.Told.{part_of_none, on_err}
 use Rattle.gen_text.proofs.Fitting.{generated_fits}
 use Rattle.gen_text.proofs.text.text_of_gen.Goals as goal
 
 pub text_of-requires : goal.text_of-requires
 text_of-requires g c = generated_fits c.in_ok-target.target c.args.seed c.in-Some.source (sym c.in_ok-source.ensures.value ∙ c.in-Some.is) (rw c.in-Some.is at c.in_ok-source.ensures.few)
+
+pub returns-in_err-target-clause-part : goal.returns-in_err-target-clause-part
+returns-in_err-target-clause-part g c = on_err c.from_residual.result (part_of_none (g.W.Watcher.next mini_target) c.args.watchers.now.items c.args.watchers.now.items refl)
+
+pub returns-in_err-source-clause-part : goal.returns-in_err-source-clause-part
+returns-in_err-source-clause-part g c = on_err c.from_residual-in_err-source.result (part_of_none (g.W.Watcher.next mini_target) c.args.watchers.now.items c.args.watchers.now.items refl)
+
+pub returns-clause-part : goal.returns-clause-part
+returns-clause-part g c = part_of_none (g.W.Watcher.next mini_target) c.args.watchers.now.items c.args.watchers.now.items refl
