@@ -32,6 +32,11 @@ impl From<AllocError> for RegisterStop {
 }
 
 impl From<PlaceStop> for RegisterStop {
+    ghost use Rattle.std.specs.Prelude.{◌≡◌};
+    ghost use Rattle.function_alloc.specs.Stops.{refusal_of};
+
+    ghost from_gives = { λ x e. e ≡ refusal_of x };
+
     fn from(stop: PlaceStop) -> RegisterStop {
         match stop {
             PlaceStop::Unassignable(place) => RegisterStop::Unassignable(place),

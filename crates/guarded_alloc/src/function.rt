@@ -2,7 +2,10 @@
 
 ghost use Rattle.std.specs.Prelude.{◌≡◌, true, IfOk, IfErr, OnOk, OnErr};
 ghost use Rattle.machine_verify.specs.Lives.{FitsTarget};
-ghost use Rattle.function_alloc.specs.Stops.{comes_of_a_place};
+ghost use Rattle.target_base.specs.declared.types.Target.{Target as TargetValue};
+ghost use Rattle.mir_func.specs.Value.{Function};
+ghost use Rattle.place_solve.specs.Own.{HasFew};
+ghost use Rattle.function_alloc.specs.Stops.{SaysOfPlaces, comes_of_a_place};
 ghost use Rattle.guarded_alloc.specs.Limits.{passed_limit};
 ghost use Rattle.guarded_alloc.specs.Function.{Allocates, IsGuarded, IsOnceTaken, IfRefused, comes_before_run};
 ghost use Rattle.guarded_alloc.specs.Told.{ToldRun, ToldPart};
@@ -19,7 +22,7 @@ use target_base::{Bytes, Copied, Target};
 
 /// The refusal of a valid function of this name for want of registers.
 fn refused(name: Bytes, stop: RegisterStop) -> FunctionStop
-    ensures late { IsOnceTaken name result }
+    ensures late { (t : TargetValue) → (f : Function) → SaysOfPlaces t f stop → IsOnceTaken t f name result }
     ensures run { comes_before_run result ≡ comes_of_a_place stop }
 {
     match stop {
@@ -41,7 +44,8 @@ fn allocated_valid<W: Watcher>(
     watchers: &mut Vec<W>,
 ) -> Result<Func, FunctionStop>
     ensures ok { IfOk result (IsGuarded target.now source.func) }
-    ensures err { IfErr result (IsOnceTaken name) }
+    ensures few { OnOk result (HasFew target.now source.func) }
+    ensures err { IfErr result (IsOnceTaken target.now source.func name) }
     ensures untold { IfErr result (λ stop. comes_before_run stop ≡ true → watchers.new ≡ watchers.old) }
     ensures told { OnOk result (ToldRun (W.next target.now) number watchers.old.items watchers.new.items) }
     ensures part { OnErr result (ToldPart (W.next target.now) watchers.old.items watchers.new.items) }
