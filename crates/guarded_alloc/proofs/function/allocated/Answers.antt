@@ -1,4 +1,7 @@
-use Rattle.std.proofs.Common.{refl}
+use Rattle.std.proofs.Common.{refl, ap, ◌∙◌}
+use Rattle.mir_func.specs.Value.{Function}
+use Rattle.guarded_alloc.specs.Function.{IsTaken}
+use Rattle.guarded_alloc.proofs.Taken.{allocates, refuses}
 use Rattle.guarded_alloc.proofs.Told.{part_of_none, on_err}
 use Rattle.guarded_alloc.proofs.function.allocated.Goals as goal
 
@@ -13,3 +16,13 @@ returns-in-Err-Invalid-clause-part g c = part_of_none (g.W.Watcher.next c.args.t
 
 pub returns-in-Err-Memory-clause-part : goal.returns-in-Err-Memory-clause-part
 returns-in-Err-Memory-clause-part g c = part_of_none (g.W.Watcher.next c.args.target.now) c.args.watchers.now.items c.args.watchers.now.items refl
+
+pub returns-in-Ok-clause-ok : goal.returns-in-Ok-clause-ok
+returns-in-Ok-clause-ok g c =
+    let taken : IsTaken c.args.target.now c.args.f = record { fits = cc; valid = c.in-Ok.ensures.ok.1 } in
+    allocates c.args.target.now c.args.f c.in-Ok.source.func c.allocated_valid.result taken c.in-Ok.ensures.ok.0 c.allocated_valid.ensures.ok c.allocated_valid.ensures.few
+
+pub returns-in-Ok-clause-err : goal.returns-in-Ok-clause-err
+returns-in-Ok-clause-err g c =
+    let taken : IsTaken c.args.target.now c.args.f = record { fits = cc; valid = c.in-Ok.ensures.ok.1 } in
+    refuses c.args.target.now c.args.f c.in-Ok.source.func c.in_ok-name.name c.allocated_valid.result taken c.in-Ok.ensures.ok.0 (c.in_ok-name.ensures ∙ ap (λ (x : Function). x.name) c.f.view_is) c.allocated_valid.ensures.err

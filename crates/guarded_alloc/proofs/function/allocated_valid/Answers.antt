@@ -8,3 +8,6 @@ returns-in_err-function-clause-part g c =
 
 pub returns-clause-part : goal.returns-clause-part
 returns-clause-part g c = part_of_run (g.W.Watcher.next c.args.target.now) c.args.number c.args.watchers.now.items c.with_registers.new.watchers.items c.in-Ok.ensures.told
+
+pub returns-in-Err-clause-err : goal.returns-in-Err-clause-err
+returns-in-Err-clause-err g c = c.refused.ensures.late c.args.target.now c.args.source.func c.in-Err.ensures.places
