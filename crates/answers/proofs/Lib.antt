@@ -1,3 +1,4 @@
 pub mod Joined
 pub mod Runs
 pub mod Read
+pub mod Watched

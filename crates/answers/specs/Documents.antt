@@ -106,7 +106,7 @@ abbrev pub end_status : Job → Status
 end_status (jobs.Run name n seed) = status.Usage
 end_status job = status.Done
 
--- what is written where the file ends; that it is the lines of the watchers for `trace` isn't said here
+-- what is written where the file ends; that it is the lines of the watchers for `trace` is said by `IsEndOf`
 abbrev pub IsEndText : Job → List ℕ → Type 0
 IsEndText jobs.Trace text = Unit {0}
 IsEndText job text = text ≡ []

@@ -3,3 +3,4 @@ pub mod Spot
 pub mod Documents
 pub mod Generated
 pub mod Answer
+pub mod Told

@@ -1,6 +1,8 @@
 //! What a command answers at a piece of a file.
 
-ghost use Rattle.std.specs.Prelude.{◌≡◌, ◌==◌, ◌≤◌, ◌+◌, IfOk, length, Some, None, false};
+ghost use Rattle.std.specs.Prelude.{◌≡◌, ◌==◌, ◌≤◌, ◌+◌, IfOk, OnErr, length, Some, None, false};
+ghost use Rattle.guarded_alloc.specs.Told.{ToldPart};
+ghost use Rattle.answers.specs.Told.{ToldAnswer};
 ghost use Rattle.answers.specs.Spot.{file_most, length_fault};
 ghost use Rattle.answers.specs.Answer.{IsAnswer};
 ghost use Rattle.answers.specs.Documents.{end_status, IsEndText, tells};
@@ -56,7 +58,8 @@ pub fn end_status(job: Job) -> Status
 
 /// What is answered at a piece that begins at a spot; it may be 4,194,305 bytes long, which are the
 /// first ones of a longer piece. `number` is that of the next function that is allocated, and rises
-/// with it. The commands `alloc` and `trace` tell the watchers; the others leave them as they were.
+/// with it. The commands `alloc` and `trace` tell the watchers; the others leave them as they were. Each
+/// watcher is told all steps of the function's run, and a first part of them where it is refused.
 #[tactic(auto, using(crate::proofs::Read::doc_fits))]
 pub fn answer_at<W: Watcher>(
     alloc: Global,
@@ -71,6 +74,8 @@ pub fn answer_at<W: Watcher>(
     requires within { spot.offset ≤ file_most }
     ensures answer { IfOk result (λ a. IsAnswer job.entry target.now spot piece.now a) }
     ensures leaves { tells job.entry ≡ false → watchers.new ≡ watchers.old }
+    ensures told { IfOk result (ToldAnswer (W.next target.now) number.old number.new watchers.old.items watchers.new.items) }
+    ensures part { OnErr result (ToldPart (W.next target.now) watchers.old.items watchers.new.items) }
 {
     if let Some(limit) = spot.length_fault(piece.len()) {
         return Ok(Answer::Refused(Status::Limit(limit), Bytes::new(alloc)));

@@ -1,8 +1,11 @@
 //! What each command answers at a document.
 
-ghost use Rattle.std.specs.Prelude.{◌≡◌, ◌++◌, IfOk, codes, false};
+ghost use Rattle.std.specs.Prelude.{◌≡◌, ◌++◌, IfOk, OnErr, codes, false};
 ghost use Rattle.machine_verify.specs.Lives.{FitsTarget};
 ghost use Rattle.guarded_alloc.specs.Function.{IfRefused};
+ghost use Rattle.guarded_alloc.specs.Told.{ToldPart};
+ghost use Rattle.answers.specs.Told as watched;
+ghost use Rattle.answers.specs.Told.{next_number, ToldAnswer, ToldOne, IsEndOf};
 ghost use Rattle.answers.specs.Documents.{DocFits, IsDocAnswer, IsFunctionAnswer, IsAllocAnswer, IsAllocRefusal, IsEndText, tells, text_of_lines};
 
 use crate::answer::{Answer, Job};
@@ -51,7 +54,9 @@ fn allocated_function<W: Watcher>(
     watchers: &mut Vec<W>,
 ) -> Result<Answer, AllocError>
     requires { FitsTarget target.now f }
-    ensures { IfOk result (IsAllocAnswer target.now before f) }
+    ensures answer { IfOk result (IsAllocAnswer target.now before f) }
+    ensures told { IfOk result (ToldOne (W.next target.now) number watchers.old.items watchers.new.items) }
+    ensures part { OnErr result (ToldPart (W.next target.now) watchers.old.items watchers.new.items) }
 {
     match allocated(alloc, target, f, number, watchers) {
         Ok(made) => {
@@ -63,7 +68,10 @@ fn allocated_function<W: Watcher>(
 }
 
 /// The number of the next function, which rises. At its greatest value it stands.
-fn next(number: &mut u32) -> u32 {
+fn next(number: &mut u32) -> u32
+    ensures now { result ≡ number.old }
+    ensures next { number.new ≡ next_number number.old }
+{
     let now = *number;
     *number = now.saturating_add(1);
     now
@@ -82,6 +90,8 @@ fn at_function<W: Watcher>(
     requires { FitsTarget target.now f }
     ensures answer { IfOk result (IsFunctionAnswer job.entry target.now before f) }
     ensures leaves { tells job.entry ≡ false → watchers.new ≡ watchers.old }
+    ensures told { IfOk result (ToldAnswer (W.next target.now) number.old number.new watchers.old.items watchers.new.items) }
+    ensures part { OnErr result (ToldPart (W.next target.now) watchers.old.items watchers.new.items) }
 {
     match job {
         Job::Alloc => allocated_function(alloc, target, before, f, next(number), watchers),
@@ -118,6 +128,8 @@ pub fn at_document<W: Watcher>(
     requires { DocFits target.now doc }
     ensures answer { IfOk result (IsDocAnswer job.entry target.now doc) }
     ensures leaves { tells job.entry ≡ false → watchers.new ≡ watchers.old }
+    ensures told { IfOk result (ToldAnswer (W.next target.now) number.old number.new watchers.old.items watchers.new.items) }
+    ensures part { OnErr result (ToldPart (W.next target.now) watchers.old.items watchers.new.items) }
 {
     match doc {
         Doc::Function(before, f) => at_function(alloc, job, target, before, f, number, watchers),
@@ -129,7 +141,8 @@ pub fn at_document<W: Watcher>(
 /// What is written where the file ends: the lines of the watchers for `trace`, and nothing for the
 /// other commands.
 pub fn end_text<W: Watcher>(alloc: Global, job: Job, watchers: &[W]) -> Result<Bytes, AllocError>
-    ensures { IfOk result (IsEndText job.entry) }
+    ensures text { IfOk result (IsEndText job.entry) }
+    ensures lines { IfOk result (IsEndOf (watched.lines_of W.count W.text watchers.now) job.entry) }
 {
     match job {
         Job::Trace => lines_of(alloc, watchers),

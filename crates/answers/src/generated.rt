@@ -1,6 +1,9 @@
 //! The command `gen`.
 
-ghost use Rattle.std.specs.Prelude.{IfOk};
+ghost use Rattle.std.specs.Prelude.{IfOk, OnErr};
+ghost use Rattle.target_base.specs.Mini.{mini_target};
+ghost use Rattle.guarded_alloc.specs.Told.{ToldPart};
+ghost use Rattle.answers.specs.Told.{ToldOne};
 ghost use Rattle.answers.specs.Generated.{IsGenAnswer};
 
 use crate::answer::Answer;
@@ -15,7 +18,9 @@ pub fn gen_answer<W: Watcher>(
     seed: u64,
     watchers: &mut Vec<W>,
 ) -> Result<Answer, AllocError>
-    ensures { IfOk result (IsGenAnswer seed) }
+    ensures answer { IfOk result (IsGenAnswer seed) }
+    ensures told { IfOk result (ToldOne (W.next mini_target) 0 watchers.old.items watchers.new.items) }
+    ensures part { OnErr result (ToldPart (W.next mini_target) watchers.old.items watchers.new.items) }
 {
     match text_of_gen(alloc, seed, watchers) {
         Ok(text) => Ok(Answer::Last(text)),

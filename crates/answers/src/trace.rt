@@ -1,8 +1,10 @@
 //! The command `trace` at a function.
 
-ghost use Rattle.std.specs.Prelude.{◌≡◌, IfOk};
+ghost use Rattle.std.specs.Prelude.{◌≡◌, IfOk, OnErr};
 ghost use Rattle.machine_verify.specs.Lives.{FitsTarget};
 ghost use Rattle.answers.specs.Documents.{IsTraceAnswer, IsTakenAnswer, IsTakenRefusal};
+ghost use Rattle.guarded_alloc.specs.Told.{ToldPart};
+ghost use Rattle.answers.specs.Told.{ToldOne};
 
 use crate::answer::Answer;
 use crate::status::Status;
@@ -47,7 +49,9 @@ fn traced_valid<W: Watcher>(
     number: u32,
     watchers: &mut Vec<W>,
 ) -> Result<Answer, AllocError>
-    ensures { IfOk result (IsTakenAnswer name.now) }
+    ensures answer { IfOk result (IsTakenAnswer name.now) }
+    ensures told { IfOk result (ToldOne (W.next target.now) number watchers.old.items watchers.new.items) }
+    ensures part { OnErr result (ToldPart (W.next target.now) watchers.old.items watchers.new.items) }
 {
     match with_registers(alloc, target, source, number, watchers) {
         Ok(_) => Ok(Answer::Text(Bytes::new(alloc))),
@@ -64,7 +68,9 @@ pub(crate) fn traced<W: Watcher>(
     watchers: &mut Vec<W>,
 ) -> Result<Answer, AllocError>
     requires { FitsTarget target.now f }
-    ensures { IfOk result (IsTraceAnswer target.now f) }
+    ensures answer { IfOk result (IsTraceAnswer target.now f) }
+    ensures told { IfOk result (ToldOne (W.next target.now) number watchers.old.items watchers.new.items) }
+    ensures part { OnErr result (ToldPart (W.next target.now) watchers.old.items watchers.new.items) }
 {
     if let Some(limit) = passed_limit(&f) {
         return Ok(Answer::Refused(Status::Limit(limit), Bytes::new(alloc)));
