@@ -1,2 +1,3 @@
 pub mod Summaries
 pub mod Fitting
+pub mod Refused

@@ -1,4 +1,5 @@
-use Rattle.std.proofs.Common.{refl}
+use Rattle.std.proofs.Common.{refl, subst}
+use Rattle.guarded_alloc.specs.Function.{IfRefused}
 use Rattle.guarded_alloc.proofs.Told.{part_of_none, part_of_run, on_err}
 use Rattle.gen_text.proofs.text.text_of.Goals as goal
 
@@ -9,3 +10,6 @@ returns-in_err-copy-clause-part g c = on_err c.from_residual.result (part_of_non
 pub returns-in_err-summary-in-Ok-clause-part : goal.returns-in_err-summary-in-Ok-clause-part
 returns-in_err-summary-in-Ok-clause-part g c =
     on_err c.from_residual-in_err-summary-in-Ok.result (part_of_run (g.W.Watcher.next c.args.target.now) 0 c.args.watchers.now.items c.allocated.new.watchers.items c.in-Ok.ensures.told)
+
+pub returns-in-Err-clause-err : goal.returns-in-Err-clause-err
+returns-in-Err-clause-err g c = subst (λ f. IfRefused c.args.target.now f c.in-Err.stop) c.in_ok-copy.ensures c.in-Err.ensures.err

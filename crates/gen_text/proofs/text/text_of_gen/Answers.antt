@@ -2,6 +2,7 @@ use Rattle.std.proofs.Common.{◌∙◌, sym, refl}
 use Rattle.target_base.specs.Mini.{mini_target}
 use Rattle.guarded_alloc.proofs.Told.{part_of_none, on_err}
 use Rattle.gen_text.proofs.Fitting.{generated_fits}
+use Rattle.gen_text.proofs.Refused.{refuses}
 use Rattle.gen_text.proofs.text.text_of_gen.Goals as goal
 
 pub text_of-requires : goal.text_of-requires
@@ -15,3 +16,6 @@ returns-in_err-source-clause-part g c = on_err c.from_residual-in_err-source.res
 
 pub returns-clause-part : goal.returns-clause-part
 returns-clause-part g c = part_of_none (g.W.Watcher.next mini_target) c.args.watchers.now.items c.args.watchers.now.items refl
+
+pub returns-in-Some-clause-err : goal.returns-in-Some-clause-err
+returns-in-Some-clause-err g c = refuses c.args.seed c.in_ok-target.target c.in-Some.source c.text_of.result c.in_ok-target.ensures (sym c.in_ok-source.ensures.value ∙ c.in-Some.is) c.text_of.ensures.err
