@@ -5,13 +5,10 @@ use Rattle.watchers.specs.declared.steps.Step.{Step}
 use Rattle.watchers.specs.declared.steps.Step.TheVariants.{Begin}
 use Rattle.watchers.specs.Told.{AllTold}
 use Rattle.watchers.proofs.Runs.{none_told}
-use Rattle.guarded_alloc.specs.declared.stop.FunctionStop.{FunctionStop}
-use Rattle.guarded_alloc.specs.declared.stop.FunctionStop.TheVariants as stops
 use Rattle.guarded_alloc.specs.Told.{ToldRun, ToldPart}
 use Rattle.guarded_alloc.proofs.Told.{all_joined, part_joined, part_of_all, part_of_none}
 use Rattle.answers.specs.declared.answer.Answer.{Answer}
 use Rattle.answers.specs.declared.answer.Answer.TheVariants as answers
-use Rattle.answers.specs.Documents.{IsAllocRefusal, IsTakenRefusal}
 use Rattle.answers.specs.Told.{next_number, steps_of, number_after, ToldRuns, ToldAnswer, ToldOne}
 
 steps_joined : (n : ℕ) (xs ys : List (List Step)) → steps_of n (xs ++ ys) ≡ steps_of n xs ++ steps_of (number_after n xs) ys
@@ -21,20 +18,6 @@ steps_joined n (x ∷ xs) ys = ap (λ l. (Begin n ∷ x) ++ l) (steps_joined (ne
 number_joined : (n : ℕ) (xs ys : List (List Step)) → number_after n (xs ++ ys) ≡ number_after (number_after n xs) ys
 number_joined n [] ys = refl
 number_joined n (x ∷ xs) ys = number_joined (next_number n) xs ys
-
-no_text : (stop : FunctionStop) (text : List ℕ) → IsAllocRefusal stop (answers.Text text) → ⊥
-no_text (stops.Limit l) text h = h
-no_text (stops.Invalid name x) text h = h
-no_text (stops.Unassignable name p) text h = h
-no_text stops.NotYet text h = h
-no_text (stops.Memory e) text h = h
-
-no_last : (stop : FunctionStop) (text : List ℕ) → IsAllocRefusal stop (answers.Last text) → ⊥
-no_last (stops.Limit l) text h = h
-no_last (stops.Invalid name x) text h = h
-no_last (stops.Unassignable name p) text h = h
-no_last stops.NotYet text h = h
-no_last (stops.Memory e) text h = h
 
 module _ {W : Type 0} (next : W → Step → W) where
   -- no run was told
@@ -73,17 +56,3 @@ module _ {W : Type 0} (next : W → Step → W) where
   answer_of_none (Ok (answers.Last text)) n m old new e same = no_runs n m old new e same
   answer_of_none (Ok (answers.Refused s detail)) n m old new e same = part_of_none next old new same
   answer_of_none (Err x) n m old new e same = tt
-
-  -- a function was refused
-  pub one_refused : {E : Type 0} (r : Result Answer E) (stop : FunctionStop) (n : ℕ) (old new : List W) → IfOk r (IsAllocRefusal stop) → ToldPart next old new → IfOk r (ToldOne next n old new)
-  one_refused (Ok (answers.Text text)) stop n old new h p = absurd (no_text stop text h)
-  one_refused (Ok (answers.Last text)) stop n old new h p = absurd (no_last stop text h)
-  one_refused (Ok (answers.Refused s detail)) stop n old new h p = p
-  one_refused (Err x) stop n old new h p = tt
-
-  -- a valid function was refused
-  pub one_late : {E : Type 0} (r : Result Answer E) (name : List ℕ) (n : ℕ) (old new : List W) → IfOk r (IsTakenRefusal name) → ToldPart next old new → IfOk r (ToldOne next n old new)
-  one_late (Ok (answers.Text text)) name n old new h p = absurd h
-  one_late (Ok (answers.Last text)) name n old new h p = absurd h
-  one_late (Ok (answers.Refused s detail)) name n old new h p = p
-  one_late (Err x) name n old new h p = tt

@@ -1,5 +1,5 @@
 -- What treating a piece means for the file that it is the next piece of.
-use Rattle.std.proofs.Common.{◌≡◌, ◌⊎◌, ℕ, ◌<◌, ◌+◌, List, [], ◌∷◌, ◌++◌, Option, Some, None, true, refl, ap, sym, ◌∙◌, subst, inl, inr, arith, length, length-append}
+use Rattle.std.proofs.Common.{◌≡◌, ◌⊎◌, ℕ, ◌<◌, List, [], ◌∷◌, ◌++◌, Option, Some, None, true, refl, ap, sym, subst, inl, inr, arith, length, length-append}
 use Rattle.std.specs.Prelude.{IfSome}
 use Rattle.target_base.specs.declared.types.Target.{Target}
 use Rattle.devices.specs.Pieces.{is_whole, NoneWhole, held_most, lines_of}

@@ -4,3 +4,4 @@ pub mod Documents
 pub mod Starts
 pub mod Verdicts
 pub mod Jobs
+pub mod Watched

@@ -1,10 +1,9 @@
 -- Pieces that are treated in turn.
-use Rattle.std.proofs.Common.{◌≡◌, ℕ, List, [], ◌∷◌, ◌++◌, Option, Some, None, refl, ap, sym, ◌∙◌, subst, append_assoc, append-nil}
+use Rattle.std.proofs.Common.{◌≡◌, ℕ, List, [], ◌∷◌, ◌++◌, Option, Some, None, refl, ap, sym, ◌∙◌, subst, append-nil}
 use Rattle.std.specs.Prelude.{IfSome}
-use Rattle.std.specs.List.{flat_map}
 use Rattle.std.proofs.lemmas.Grind.{flat_map-append}
 use Rattle.target_base.specs.declared.types.Target.{Target}
-use Rattle.devices.specs.Device.{WritesPart, WritesAll}
+use Rattle.devices.specs.Device.{WritesAll}
 use Rattle.devices.proofs.Written.{part_after, all_after}
 use Rattle.answers.specs.declared.answer.Job.{Job}
 use Rattle.answers.specs.declared.spot.Spot.{Spot}

@@ -1,17 +1,15 @@
 -- A run before its first document.
-use Rattle.std.proofs.Common.{◌≡◌, ℕ, ◌<◌, Bool, List, [], ◌++◌, Option, Some, None, true, false, refl, sym, ◌∙◌, subst, inl, inr, arith, length}
+use Rattle.std.proofs.Common.{◌≡◌, ℕ, List, [], Option, Some, None, false, refl, sym, ◌∙◌, subst, inl, inr, arith}
 use Rattle.std.specs.Prelude.{IfSome, codes}
 use Rattle.target_base.specs.declared.types.Target.{Target}
-use Rattle.target_base.specs.Mini.{mini_target}
-use Rattle.devices.specs.Device.{WritesAll}
 use Rattle.devices.specs.Pieces.{is_whole, NoneWhole, lines_of}
-use Rattle.commands.specs.Words.{Asked, Alloc, VerifySource, VerifyAllocated, Run, Intervals, Trace, Gen, is_word}
+use Rattle.commands.specs.Words.{Asked, Alloc, VerifySource, VerifyAllocated, Run, Intervals, Trace, Gen}
 use Rattle.answers.specs.declared.answer.Job.{Job}
 use Rattle.answers.specs.declared.answer.Job.TheVariants as jobs
 use Rattle.answers.specs.declared.status.Status.{Status}
 use Rattle.answers.specs.declared.status.Status.TheVariants as status
 use Rattle.answers.specs.Status.{line_of}
-use Rattle.ra_top.specs.Told.{Begun, CutOff, Streamed, IsUnfinished, IsTold, TargetVerdict, DoesJob, DoesAll}
+use Rattle.ra_top.specs.Told.{Begun, CutOff, Streamed, IsTold, TargetVerdict, DoesJob, DoesAll}
 use Rattle.mir_meaning.specs.declared.Form.TheVariants as forms
 use Rattle.ra_top.proofs.Nothing.{writes_none}
 

@@ -1,10 +1,9 @@
 -- What the first bytes of a target file tell of it.
-use Rattle.std.proofs.Common.{◌≡◌, ℕ, ◌<◌, ◌≤◌, ◌+◌, List, length, take, Option, Some, None, refl, ap, sym, ◌∙◌, subst, arith, length-take}
+use Rattle.std.proofs.Common.{◌≡◌, ℕ, ◌≤◌, ◌+◌, List, length, take, Option, Some, None, refl, ap, ◌∙◌, subst, arith, length-take}
 use Rattle.std.specs.Prelude.{IfSome, IfOk, IfErr, Result, Ok, Err}
 use Rattle.target_base.specs.declared.types.Target.{Target}
 use Rattle.ra_top.specs.declared.ending.Ending.{Ending}
 use Rattle.std.proofs.lemmas.List.{take_all}
-use Rattle.target_desc.specs.Reading.{spelled}
 use Rattle.guarded_alloc.specs.declared.stop.LimitName.TheVariants as limits
 use Rattle.answers.specs.declared.status.Status.{Status}
 use Rattle.answers.specs.declared.status.Status.TheVariants as status

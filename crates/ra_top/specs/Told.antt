@@ -23,7 +23,7 @@ use Rattle.answers.specs.declared.status.Status.TheVariants as status
 use Rattle.answers.specs.Spot.{first_spot, after, file_most}
 use Rattle.answers.specs.Status.{line_of}
 use Rattle.answers.specs.Answer.{IsText, IsLast, Refuses}
-use Rattle.answers.specs.Documents.{IsEndText, end_status, tells}
+use Rattle.answers.specs.Documents.{IsEndText, end_status}
 use Rattle.answers.specs.Generated.{GenRefuses}
 use Rattle.gen_text.specs.Generated.{IsGenText}
 use Rattle.ra_top.specs.Due.{IsHeld, Treatment, output, Treated, AtEnd, Due}

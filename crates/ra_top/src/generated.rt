@@ -1,7 +1,9 @@
 //! The command `gen`.
 
 ghost use Rattle.std.specs.Prelude.{◌≡◌};
+ghost use Rattle.target_base.specs.Mini.{mini_target};
 ghost use Rattle.ra_top.specs.Told.{HasStatusCause, IsWrittenEnd, DoesGen};
+ghost use Rattle.ra_top.specs.Watched.{ToldGen};
 
 use crate::ending::Ending;
 use crate::stream::ends;
@@ -32,6 +34,7 @@ pub fn generate<O: Sink, W: Watcher>(
 ) -> Ending
     ensures does { DoesGen seed (O.written out.old) (O.written out.new) result.status result.detail }
     ensures cause { HasStatusCause result.status 0 0 (O.faults out.old) (O.faults out.new) }
+    ensures told { ToldGen (W.next mini_target) watchers.old.items watchers.new.items result.status }
 {
     match gen_answer(alloc, seed, watchers) {
         Err(_) => ends(alloc, Status::Memory),

@@ -1,11 +1,13 @@
 //! The top call.
 
-ghost use Rattle.std.specs.Prelude.{◌≡◌, ℕ, List, IfSome, false};
+ghost use Rattle.std.specs.Prelude.{◌≡◌, ℕ, List, IfSome, false, true};
 ghost use Rattle.commands.specs.Words.{bytes_of, command_of};
 ghost use Rattle.answers.specs.Status.{line_of};
 ghost use Rattle.answers.specs.Documents.{tells};
 ghost use Rattle.target_base.specs.Mini.{mini_target};
 ghost use Rattle.ra_top.specs.Told.{HasStatusCause, DoesAll, DoesJobAll, asks_anything, tells_words, IsTold, Streamed};
+ghost use Rattle.answers.specs.Told.{lines_of};
+ghost use Rattle.ra_top.specs.Watched.{ToldAs, ToldJob, ToldWords, is_trace, asks_trace, WritesLines};
 
 use crate::ending::Ending;
 use crate::generated::generate;
@@ -26,7 +28,8 @@ use watchers::Watcher;
 /// target, then each document in turn. The output of a document is made whole before any of it is
 /// written. After the first fault of `files` or `out` it calls neither again; a fault of `err`
 /// changes nothing. `alloc`, `trace` and `gen` tell the watchers each step of each run, in order; the
-/// other commands leave them as they were.
+/// other commands leave them as they were. With Done each watcher was told all of these steps, and
+/// else a first part of them. With Done `trace` has written the watchers' lines as they then stand.
 pub fn top<F: Files, O: Sink, E: Sink, W: Watcher>(
     alloc: Global,
     words: &[String],
@@ -39,6 +42,8 @@ pub fn top<F: Files, O: Sink, E: Sink, W: Watcher>(
     ensures does { DoesAll (command_of (bytes_of words.now)) (F.contents files.old) (F.left files.new) (O.written out.old) (O.written out.new) (E.faults err.old) (E.faults err.new) (E.written err.old) (E.written err.new) result }
     ensures cause { HasStatusCause result (F.faults files.old) (F.faults files.new) (O.faults out.old) (O.faults out.new) }
     ensures leaves { tells_words (command_of (bytes_of words.now)) ≡ false → watchers.new ≡ watchers.old }
+    ensures told { ToldWords W.next (command_of (bytes_of words.now)) (F.contents files.old) watchers.old.items watchers.new.items result }
+    ensures traced { asks_trace (command_of (bytes_of words.now)) ≡ true → WritesLines (lines_of W.count W.text watchers.new.items) (O.written out.old) (O.written out.new) result }
     ensures words { asks_anything (command_of (bytes_of words.now)) ≡ false → (files.new ≡ files.old) × (out.new ≡ out.old) }
 {
     match read_words(alloc, words) {
@@ -124,6 +129,8 @@ fn over_file<F: Files, O: Sink, E: Sink, W: Watcher>(
     ensures does { DoesJobAll job.entry target.now file.now (F.contents files.old) (F.left files.new) (O.written out.old) (O.written out.new) (E.faults err.old) (E.faults err.new) (E.written err.old) (E.written err.new) result }
     ensures cause { HasStatusCause result (F.faults files.old) (F.faults files.new) (O.faults out.old) (O.faults out.new) }
     ensures leaves { tells job.entry ≡ false → watchers.new ≡ watchers.old }
+    ensures told { ToldJob W.next target.now (F.contents files.old target.now) watchers.old.items watchers.new.items result }
+    ensures traced { is_trace job.entry ≡ true → WritesLines (lines_of W.count W.text watchers.new.items) (O.written out.old) (O.written out.new) result }
 {
     if target == "-" {
         let ending = over_mini(alloc, job, file, files, out, watchers);
@@ -151,6 +158,8 @@ fn over_mini<F: Files, O: Sink, W: Watcher>(
     ensures streamed { IfSome (F.contents files.old file.now) (λ bytes. Streamed job.entry mini_target bytes (F.left files.new) (O.written out.old) (O.written out.new) result.status result.detail) }
     ensures cause { HasStatusCause result.status (F.faults files.old) (F.faults files.new) (O.faults out.old) (O.faults out.new) }
     ensures leaves { tells job.entry ≡ false → watchers.new ≡ watchers.old }
+    ensures told { ToldAs (W.next mini_target) 0 watchers.old.items watchers.new.items result.status }
+    ensures traced { is_trace job.entry ≡ true → WritesLines (lines_of W.count W.text watchers.new.items) (O.written out.old) (O.written out.new) result.status }
 {
     match mini(alloc) {
         Ok(target) => over_target(alloc, job, &target, file, files, out, watchers),
@@ -172,6 +181,8 @@ fn over_target<F: Files, O: Sink, W: Watcher>(
     ensures streamed { IfSome (F.contents files.old file.now) (λ bytes. Streamed job.entry target.now bytes (F.left files.new) (O.written out.old) (O.written out.new) result.status result.detail) }
     ensures cause { HasStatusCause result.status (F.faults files.old) (F.faults files.new) (O.faults out.old) (O.faults out.new) }
     ensures leaves { tells job.entry ≡ false → watchers.new ≡ watchers.old }
+    ensures told { ToldAs (W.next target.now) 0 watchers.old.items watchers.new.items result.status }
+    ensures traced { is_trace job.entry ≡ true → WritesLines (lines_of W.count W.text watchers.new.items) (O.written out.old) (O.written out.new) result.status }
 {
     match files.start(file) {
         Err(_) => ends(alloc, Status::ReadFault),

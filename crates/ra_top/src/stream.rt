@@ -1,10 +1,12 @@
 //! Documents of a file in turn, one at a time.
 
-ghost use Rattle.std.specs.Prelude.{◌≡◌, ◌≤◌, ◌<◌, ◌+◌, ◌++◌, ℕ, List, length, IfSome, [], Some, false};
+ghost use Rattle.std.specs.Prelude.{◌≡◌, ◌≤◌, ◌<◌, ◌+◌, ◌++◌, ℕ, List, length, IfSome, [], Some, false, true};
 ghost use Rattle.devices.specs.Pieces.{held_most};
 ghost use Rattle.answers.specs.Spot.{file_most, after};
 ghost use Rattle.ra_top.specs.Told.{HasStatusCause, HasStepCause, Streamed, AfterPiece, AfterDocument, Moves, Advances, IsFinished};
 ghost use Rattle.answers.specs.Documents.{tells, end_status};
+ghost use Rattle.answers.specs.Told.{lines_of};
+ghost use Rattle.ra_top.specs.Watched.{ToldAs, ToldStep, is_trace, WritesLines, TracesStep};
 
 use crate::ending::{Ending, Step};
 use answers::{Answer, Job, Spot, Status, answer_at, end_status, end_text};
@@ -43,6 +45,7 @@ fn treat<O: Sink, W: Watcher>(
     ensures moves { Moves spot.old piece.now spot.new result }
     ensures cause { HasStepCause result 0 0 (O.faults out.old) (O.faults out.new) }
     ensures leaves { tells job.entry ≡ false → watchers.new ≡ watchers.old }
+    ensures told { ToldStep (W.next target.now) number.old number.new watchers.old.items watchers.new.items result }
 {
     match answer_at(alloc, job, target, *spot, piece, number, watchers) {
         Err(_) => Step::End(ends(alloc, Status::Memory)),
@@ -64,6 +67,7 @@ fn treat<O: Sink, W: Watcher>(
 /// Ends a run where its file ends.
 fn finish<O: Sink, W: Watcher>(alloc: Global, job: Job, out: &mut O, watchers: &[W]) -> Step
     ensures finished { IsFinished job.entry (O.written out.old) (O.written out.new) result }
+    ensures traced { is_trace job.entry ≡ true → TracesStep (lines_of W.count W.text watchers.now) (O.written out.old) (O.written out.new) result }
     ensures cause { HasStepCause result 0 0 (O.faults out.old) (O.faults out.new) }
 {
     match end_text(alloc, job, watchers) {
@@ -95,6 +99,8 @@ fn document<F: Files, O: Sink, W: Watcher>(
     ensures moves { Advances spot.old spot.new result }
     ensures cause { HasStepCause result (F.faults files.old) (F.faults files.new) (O.faults out.old) (O.faults out.new) }
     ensures leaves { tells job.entry ≡ false → watchers.new ≡ watchers.old }
+    ensures told { ToldStep (W.next target.now) number.old number.new watchers.old.items watchers.new.items result }
+    ensures traced { is_trace job.entry ≡ true → TracesStep (lines_of W.count W.text watchers.new.items) (O.written out.old) (O.written out.new) result }
 {
     piece.clear();
     match read_piece(files, chunk, piece) {
@@ -132,6 +138,8 @@ pub fn stream<F: Files, O: Sink, W: Watcher>(
     ensures streamed { IfSome (F.left files.old) (λ file. Streamed job.entry target.now file (F.left files.new) (O.written out.old) (O.written out.new) result.status result.detail) }
     ensures cause { HasStatusCause result.status (F.faults files.old) (F.faults files.new) (O.faults out.old) (O.faults out.new) }
     ensures leaves { tells job.entry ≡ false → watchers.new ≡ watchers.old }
+    ensures told { ToldAs (W.next target.now) 0 watchers.old.items watchers.new.items result.status }
+    ensures traced { is_trace job.entry ≡ true → WritesLines (lines_of W.count W.text watchers.new.items) (O.written out.old) (O.written out.new) result.status }
 {
     match Chunk::new(alloc) {
         Err(_) => ends(alloc, Status::Memory),
@@ -154,6 +162,8 @@ fn stream_chunks<F: Files, O: Sink, W: Watcher>(
     ensures streamed { IfSome (F.left files.old) (λ file. Streamed job.entry target.now file (F.left files.new) (O.written out.old) (O.written out.new) result.status result.detail) }
     ensures cause { HasStatusCause result.status (F.faults files.old) (F.faults files.new) (O.faults out.old) (O.faults out.new) }
     ensures leaves { tells job.entry ≡ false → watchers.new ≡ watchers.old }
+    ensures told { ToldAs (W.next target.now) 0 watchers.old.items watchers.new.items result.status }
+    ensures traced { is_trace job.entry ≡ true → WritesLines (lines_of W.count W.text watchers.new.items) (O.written out.old) (O.written out.new) result.status }
 {
     let mut chunk = empty;
     let mut piece = Pieces::new(alloc);

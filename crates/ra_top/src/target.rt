@@ -3,6 +3,7 @@
 ghost use Rattle.std.specs.Prelude.{◌≡◌, ℕ, List, IfOk, IfErr, IfSome};
 ghost use Rattle.std.specs.Fmt.{decimal};
 ghost use Rattle.ra_top.specs.Told.{IsFaultOrMemory, NamesNoDevice, TargetVerdict, IsTargetOf, HasTargetCause, NamesNone};
+ghost use Rattle.ra_top.specs.Watched.{IsUndone};
 
 use crate::ending::Ending;
 use crate::stream::ends;
@@ -28,6 +29,7 @@ fn digits(alloc: Global, n: u64) -> Result<Bytes, AllocError>
 fn target_fault(alloc: Global, fault: TargetFault) -> Ending
     ensures told { IsFaultOrMemory fault result.status result.detail }
     ensures fault { NamesNoDevice result.status }
+    ensures undone { IsUndone result.status }
 {
     match digits(alloc, fault.line) {
         Err(_) => ends(alloc, Status::Memory),
@@ -48,6 +50,7 @@ pub fn read_target_file<F: Files>(
     ensures ok { IfOk result (λ t. IfSome (F.contents files.old name.now) (λ bytes. IsTargetOf bytes t)) }
     ensures err { IfErr result (λ e. IfSome (F.contents files.old name.now) (λ bytes. TargetVerdict bytes e.status e.detail)) }
     ensures cause { HasTargetCause result (F.faults files.old) (F.faults files.new) }
+    ensures undone { IfErr result (λ e. IsUndone e.status) }
 {
     match read_file(alloc, name, files, TARGET_MOST) {
         Err(ReadStop::Failed) => Err(ends(alloc, Status::ReadFault)),
@@ -62,6 +65,7 @@ fn target_of(alloc: Global, bytes: &[u8]) -> Result<Target, Ending>
     ensures ok { IfOk result (IsTargetOf bytes.now) }
     ensures err { IfErr result (λ e. TargetVerdict bytes.now e.status e.detail) }
     ensures fault { NamesNone result }
+    ensures undone { IfErr result (λ e. IsUndone e.status) }
 {
     if bytes.len() > TARGET_MOST as usize {
         return Err(ends(alloc, Status::Limit(LimitName::TargetBytes)));

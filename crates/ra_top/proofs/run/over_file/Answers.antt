@@ -2,6 +2,7 @@ use Rattle.std.proofs.Common.{refl, rules}
 use Rattle.std.specs.Prelude.{true, false}
 use Rattle.target_base.specs.Mini.{mini_target}
 use Rattle.ra_top.proofs.Jobs.{does_over_target}
+use Rattle.ra_top.proofs.Watched.{job_told}
 use Rattle.ra_top.proofs.run.over_file.Goals as goal
 
 pub returns-then-eq-clause-does : goal.returns-then-eq-clause-does
@@ -11,3 +12,11 @@ returns-then-eq-clause-does g c =
 pub returns-in-Ok-clause-does : goal.returns-in-Ok-clause-does
 returns-in-Ok-clause-does g c =
     does_over_target c.args.job false c.in-Ok.read c.args.target.now c.args.file.now (g.F.Files.contents c.args.files.now) (g.F.Files.contents c.read_target_file.new.files) _ _ _ _ _ _ _ c.over_target-ending.result.status _ c.over_target-ending.result.detail (search rules) c.in-Ok.ensures.ok (c.in-Ok.ensures.contents c.args.file.now) c.over_target-ending.ensures.streamed c.tell-in-Ok.ensures.status c.tell-in-Ok.ensures.line
+
+pub returns-then-eq-clause-told : goal.returns-then-eq-clause-told
+returns-then-eq-clause-told g c =
+    job_told g.W.Watcher.next true mini_target c.args.target.now (g.F.Files.contents c.args.files.now c.args.target.now) c.args.watchers.now.items c.over_mini-ending.new.watchers.items c.over_mini-ending.result.status _ (search rules) refl c.tell.ensures.status c.over_mini-ending.ensures.told
+
+pub returns-in-Ok-clause-told : goal.returns-in-Ok-clause-told
+returns-in-Ok-clause-told g c =
+    job_told g.W.Watcher.next false c.in-Ok.read c.args.target.now (g.F.Files.contents c.args.files.now c.args.target.now) c.args.watchers.now.items c.over_target-ending.new.watchers.items c.over_target-ending.result.status _ (search rules) c.in-Ok.ensures.ok c.tell-in-Ok.ensures.status c.over_target-ending.ensures.told

@@ -1,5 +1,9 @@
-use Rattle.std.proofs.Common.{◌≡◌, ◌≤◌, ◌+◌, refl, sym, subst, ◌∙◌, arith}
+use Rattle.std.proofs.Common.{◌≤◌, ◌+◌, [], refl, sym, subst, ◌∙◌, arith}
+use Rattle.devices.proofs.Written.{all_after}
 use Rattle.answers.specs.Spot.{file_most}
+use Rattle.answers.proofs.Watched.{no_runs, runs_joined}
+use Rattle.ra_top.proofs.Nothing.{writes_none}
+use Rattle.ra_top.proofs.Watched.{as_behind, lines_behind}
 use Rattle.ra_top.proofs.Progress.{begins, goes_on, run_stops}
 use Rattle.ra_top.proofs.stream.stream_chunks.Goals as goal
 
@@ -11,6 +15,8 @@ documents-init g c = record {
   line = subst (λ s. s.line ≤ s.offset + 1) (sym c.first-spot.ensures) (omega arith);
   within = subst (λ s. s.offset ≤ file_most) (sym c.first-spot.ensures) (omega arith);
   leaves = λ e. refl;
+  told = no_runs (g.W.Watcher.next c.args.target.now) 0 0 c.args.watchers.now.items c.args.watchers.now.items refl refl;
+  traced = λ e. writes_none (g.O.Sink.written c.args.out.now);
   progress = begins _ _ _ c.first-spot.result c.args.empty _ c.first-spot.ensures c.requires.empty;
 }
 
@@ -22,8 +28,16 @@ documents-preserved g c = record {
   line = c.in-More.ensures.moves.1;
   within = c.in-More.ensures.moves.2;
   leaves = λ e. c.in-More.ensures.leaves e ∙ c.documents.invariant.leaves e;
+  told = runs_joined (g.W.Watcher.next c.args.target.now) 0 c.documents.number c.document.new.number c.args.watchers.now.items c.documents.watchers.items c.document.new.watchers.items c.documents.invariant.told c.in-More.ensures.told;
+  traced = λ e. all_after _ _ _ [] [] (c.documents.invariant.traced e) (c.in-More.ensures.traced e);
   progress = goes_on _ _ _ c.documents.spot c.document.new.spot c.documents.chunk c.document.new.chunk _ _ _ _ _ c.documents.invariant.progress c.in-More.ensures.step;
 }
 
 pub returns-in-End-clause-streamed : goal.returns-in-End-clause-streamed
 returns-in-End-clause-streamed g c = run_stops _ _ _ c.documents.spot c.documents.chunk _ _ _ _ _ c.in-End.ending.status c.in-End.ending.detail c.documents.invariant.progress c.in-End.ensures.step
+
+pub returns-in-End-clause-told : goal.returns-in-End-clause-told
+returns-in-End-clause-told g c = as_behind (g.W.Watcher.next c.args.target.now) c.in-End.ending.status 0 c.documents.number c.args.watchers.now.items c.documents.watchers.items c.document.new.watchers.items c.documents.invariant.told c.in-End.ensures.told
+
+pub returns-in-End-clause-traced : goal.returns-in-End-clause-traced
+returns-in-End-clause-traced g c = λ e. lines_behind c.in-End.ending.status _ _ _ _ (c.documents.invariant.traced e) (c.in-End.ensures.traced e)

@@ -1,6 +1,9 @@
-use Rattle.std.proofs.Common.{◌≡◌, ℕ, ◌≤◌, ◌+◌, ◌-◌, List, false}
+use Rattle.std.proofs.Common.{◌≡◌, ℕ, ◌≤◌, ◌+◌, ◌-◌, List, [], false, true}
+use Rattle.devices.specs.Device.{WritesAll}
 use Rattle.answers.specs.Documents.{tells}
+use Rattle.answers.specs.Told.{ToldRuns}
 use Rattle.answers.specs.Spot.{file_most}
+use Rattle.ra_top.specs.Watched.{is_trace}
 use Rattle.ra_top.proofs.Progress.{Progresses}
 use Rattle.ra_top.proofs.stream.stream_chunks.Given as goal
 
@@ -12,6 +15,8 @@ invariant-documents g l = record {
   line : l.spot.line ≤ l.spot.offset + 1;
   within : l.spot.offset ≤ file_most;
   leaves : tells l.job ≡ false → l.watchers ≡ l.fn.watchers;
+  told : ToldRuns (g.W.Watcher.next l.target) 0 l.number l.fn.watchers.items l.watchers.items;
+  traced : is_trace l.job ≡ true → WritesAll (g.O.Sink.written l.fn.out) (g.O.Sink.written l.out) [];
   progress : Progresses l.job l.target (g.F.Files.left l.fn.files) l.spot l.chunk (g.F.Files.left l.files) (g.O.Sink.written l.fn.out) (g.O.Sink.written l.out);
 }
 
