@@ -2,3 +2,4 @@ pub mod Joined
 pub mod Runs
 pub mod Read
 pub mod Watched
+pub mod Taken

@@ -16,7 +16,8 @@ use Rattle.machine_verify.specs.declared.stop.Invalid.{Invalid}
 use Rattle.machine_verify.specs.Faults.{fault_of}
 use Rattle.machine_verify.specs.Lives.{FitsTarget}
 use Rattle.guarded_alloc.specs.Limits.{passed_limit}
-use Rattle.guarded_alloc.specs.Function.{Allocates, IsTaken, IfRefused}
+use Rattle.place_solve.specs.Own.{HasFew}
+use Rattle.guarded_alloc.specs.Function.{Allocates, HasMany, IsTaken, IfRefused}
 use Rattle.guarded_alloc.specs.declared.stop.LimitName.TheVariants as limits
 use Rattle.guarded_alloc.specs.declared.stop.FunctionStop.{FunctionStop}
 use Rattle.guarded_alloc.specs.declared.stop.FunctionStop.TheVariants as stops
@@ -219,34 +220,34 @@ IsAllocRefusal (stops.Unassignable name p) (answers.Refused s detail) = (s ≡ s
 IsAllocRefusal stops.NotYet (answers.Refused s detail) = s ≡ status.NotYet
 IsAllocRefusal stop a = ⊥
 
--- a refusal of a valid function of a name within the limits
-abbrev pub LateRefuses : List ℕ → Status → List ℕ → Type 0
-LateRefuses name (status.Limit limits.Variables) detail = Unit {0}
-LateRefuses name (status.Limit limits.Ranges) detail = Unit {0}
-LateRefuses name (status.Unassignable p) detail = detail ≡ unassignable_words name p
-LateRefuses name status.NotYet detail = Unit {0}
-LateRefuses name s detail = ⊥
+-- a refusal of a valid function within the limits, by a name
+abbrev pub LateRefuses : Target → Function → List ℕ → Status → List ℕ → Type 0
+LateRefuses t f name (status.Limit limits.Variables) detail = HasMany t f
+LateRefuses t f name (status.Limit limits.Ranges) detail = HasFew t f
+LateRefuses t f name (status.Unassignable p) detail = (detail ≡ unassignable_words name p) × HasFew t f
+LateRefuses t f name status.NotYet detail = HasFew t f
+LateRefuses t f name s detail = ⊥
 
-abbrev pub IsTakenRefusal : List ℕ → Answer → Type 0
-IsTakenRefusal name (answers.Refused s detail) = LateRefuses name s detail
-IsTakenRefusal name a = ⊥
+abbrev pub IsTakenRefusal : Target → Function → List ℕ → Answer → Type 0
+IsTakenRefusal t f name (answers.Refused s detail) = LateRefuses t f name s detail
+IsTakenRefusal t f name a = ⊥
 
-abbrev pub IsTakenAnswer : List ℕ → Answer → Type 0
-IsTakenAnswer name (answers.Text text) = text ≡ []
-IsTakenAnswer name (answers.Last text) = ⊥
-IsTakenAnswer name (answers.Refused s detail) = LateRefuses name s detail
+abbrev pub IsTakenAnswer : Target → Function → List ℕ → Answer → Type 0
+IsTakenAnswer t f name (answers.Text text) = text ≡ []
+IsTakenAnswer t f name (answers.Last text) = ⊥
+IsTakenAnswer t f name (answers.Refused s detail) = LateRefuses t f name s detail
 
--- a refusal of a valid function of a name within the limits for one of its places
-abbrev pub PlaceRefuses : List ℕ → Status → List ℕ → Type 0
-PlaceRefuses name (status.Limit limits.Variables) detail = Unit {0}
-PlaceRefuses name (status.Unassignable p) detail = detail ≡ unassignable_words name p
-PlaceRefuses name s detail = ⊥
+-- a refusal of a valid function within the limits for one of its places, by a name
+abbrev pub PlaceRefuses : Target → Function → List ℕ → Status → List ℕ → Type 0
+PlaceRefuses t f name (status.Limit limits.Variables) detail = HasMany t f
+PlaceRefuses t f name (status.Unassignable p) detail = (detail ≡ unassignable_words name p) × HasFew t f
+PlaceRefuses t f name s detail = ⊥
 
-abbrev pub IsPlaceRefusal : List ℕ → Answer → Type 0
-IsPlaceRefusal name (answers.Refused s detail) = PlaceRefuses name s detail
-IsPlaceRefusal name a = ⊥
+abbrev pub IsPlaceRefusal : Target → Function → List ℕ → Answer → Type 0
+IsPlaceRefusal t f name (answers.Refused s detail) = PlaceRefuses t f name s detail
+IsPlaceRefusal t f name a = ⊥
 
-abbrev pub IsLiveAnswer : List ℕ → Answer → Type 0
-IsLiveAnswer name (answers.Text text) = IsLiveText name text
-IsLiveAnswer name (answers.Last text) = ⊥
-IsLiveAnswer name (answers.Refused s detail) = PlaceRefuses name s detail
+abbrev pub IsLiveAnswer : Target → Function → List ℕ → Answer → Type 0
+IsLiveAnswer t f name (answers.Text text) = IsLiveText name text
+IsLiveAnswer t f name (answers.Last text) = ⊥
+IsLiveAnswer t f name (answers.Refused s detail) = PlaceRefuses t f name s detail

@@ -1,6 +1,10 @@
 //! The command `intervals` at a function.
 
 ghost use Rattle.std.specs.Prelude.{◌≡◌, IfOk};
+ghost use Rattle.target_base.specs.declared.types.Target.{Target as TargetValue};
+ghost use Rattle.mir_func.specs.Value.{Function};
+ghost use Rattle.mir_meaning.specs.Places.{FirstPlace, TooMany};
+ghost use Rattle.place_solve.specs.Own.{HasFew, IfVariables, IfUnassignable};
 ghost use Rattle.machine_verify.specs.Lives.{FitsTarget};
 ghost use Rattle.answers.specs.Documents.{IsIntervalsAnswer, IsLiveAnswer, IsPlaceRefusal};
 
@@ -18,7 +22,7 @@ use target_base::{Bytes, Copied, Target};
 
 /// Refuses a valid function of a name for one of its places.
 fn refused(alloc: Global, name: &[u8], stop: PlaceStop) -> Result<Answer, AllocError>
-    ensures { IfOk result (IsPlaceRefusal name.now) }
+    ensures { (t : TargetValue) → (f : Function) → IfVariables (FirstPlace t f TooMany) stop → IfUnassignable (λ _. HasFew t f) stop → IfOk result (IsPlaceRefusal t f name.now) }
 {
     match stop {
         PlaceStop::Variables(_) => Ok(Answer::Refused(
@@ -40,7 +44,7 @@ fn intervals_of_valid(
     name: &[u8],
     source: Valid,
 ) -> Result<Answer, AllocError>
-    ensures { IfOk result (IsLiveAnswer name.now) }
+    ensures { IfOk result (IsLiveAnswer target.now source.func name.now) }
 {
     match check_places(alloc, target, &source) {
         Ok(()) => {

@@ -1,7 +1,10 @@
 //! The command `trace` at a function.
 
 ghost use Rattle.std.specs.Prelude.{◌≡◌, IfOk, OnErr};
+ghost use Rattle.target_base.specs.declared.types.Target.{Target as TargetValue};
+ghost use Rattle.mir_func.specs.Value.{Function};
 ghost use Rattle.machine_verify.specs.Lives.{FitsTarget};
+ghost use Rattle.function_alloc.specs.Stops.{SaysOfPlaces};
 ghost use Rattle.answers.specs.Documents.{IsTraceAnswer, IsTakenAnswer, IsTakenRefusal};
 ghost use Rattle.guarded_alloc.specs.Told.{ToldPart};
 ghost use Rattle.answers.specs.Told.{ToldOne};
@@ -19,7 +22,7 @@ use watchers::Watcher;
 
 /// Refuses a valid function of a name, for the cause that its ranges get no registers.
 fn refused(alloc: Global, name: &[u8], stop: RegisterStop) -> Result<Answer, AllocError>
-    ensures { IfOk result (IsTakenRefusal name.now) }
+    ensures { (t : TargetValue) → (f : Function) → SaysOfPlaces t f stop → IfOk result (IsTakenRefusal t f name.now) }
 {
     match stop {
         RegisterStop::Variables(_) => Ok(Answer::Refused(
@@ -49,14 +52,14 @@ fn traced_valid<W: Watcher>(
     number: u32,
     watchers: &mut Vec<W>,
 ) -> Result<Answer, AllocError>
-    ensures answer { IfOk result (IsTakenAnswer name.now) }
+    ensures answer { IfOk result (IsTakenAnswer target.now source.now.func name.now) }
     ensures told { IfOk result (ToldOne (W.next target.now) number watchers.old.items watchers.new.items) }
     ensures part { OnErr result (ToldPart (W.next target.now) watchers.old.items watchers.new.items) }
 {
-    match with_registers(alloc, target, source, number, watchers) {
-        Ok(_) => Ok(Answer::Text(Bytes::new(alloc))),
-        Err(stop) => refused(alloc, name, stop),
+    if let Err(stop) = with_registers(alloc, target, source, number, watchers) {
+        return refused(alloc, name, stop);
     }
+    Ok(Answer::Text(Bytes::new(alloc)))
 }
 
 /// Allocates a function of a number for the watchers.

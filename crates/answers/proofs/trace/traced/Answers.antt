@@ -1,4 +1,7 @@
-use Rattle.std.proofs.Common.{refl}
+use Rattle.std.proofs.Common.{refl, ap, ◌∙◌}
+use Rattle.mir_func.specs.Value.{Function}
+use Rattle.guarded_alloc.specs.Function.{IsTaken}
+use Rattle.answers.proofs.Taken.{traces}
 use Rattle.guarded_alloc.proofs.Told.{part_of_none, on_err}
 use Rattle.answers.proofs.trace.traced.Goals as goal
 
@@ -17,3 +20,8 @@ returns-in-Err-Invalid-clause-told g c = part_of_none (g.W.Watcher.next c.args.t
 
 pub returns-clause-part : goal.returns-clause-part
 returns-clause-part g c = part_of_none (g.W.Watcher.next c.args.target.now) c.args.watchers.now.items c.args.watchers.now.items refl
+
+pub returns-in-Ok-clause-answer : goal.returns-in-Ok-clause-answer
+returns-in-Ok-clause-answer g c =
+    let taken : IsTaken c.args.target.now c.args.f = record { fits = cc; valid = c.in-Ok.ensures.ok.1 } in
+    traces c.args.target.now c.args.f c.in-Ok.source.func c.as_slice.result.now c.traced_valid.result taken c.in-Ok.ensures.ok.0 (c.as_slice.ensures ∙ c.in_ok-name.ensures ∙ ap (λ (x : Function). x.name) c.f.view_is) c.traced_valid.ensures.answer
