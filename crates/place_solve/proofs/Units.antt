@@ -1,10 +1,11 @@
 -- Tests of elements one after the other, and units among those of several registers.
-use Rattle.std.proofs.Common.{◌≡◌, ◌∙◌, ◌⊎◌, inl, inr, ℕ, zero, suc, ◌+◌, ◌<◌, ◌≤◌, List, [], ◌∷◌, ◌++◌, Bool, true, false, refl, sym, ap, arith, length, drop, get_or}
-use Rattle.std.specs.Prelude.{◌||◌, ◌&&◌, ◌==◌, flat_map, nat_lt}
-use Rattle.std.specs.List.{list_any}
+use Rattle.std.proofs.Common.{◌≡◌, ◌∙◌, ◌⊎◌, inl, inr, ℕ, zero, suc, ◌+◌, ◌<◌, ◌≤◌, List, [], ◌∷◌, ◌++◌, Bool, true, false, refl, sym, ap, arith, length, drop, take, get_or}
+use Rattle.std.specs.Prelude.{◌||◌, ◌&&◌, ◌==◌, filter, flat_map, nat_lt}
+use Rattle.std.specs.List.{list_all, list_any}
 use Rattle.std.proofs.lemmas.List.Folds.{list_any-append}
 use Rattle.std.proofs.lemmas.Bool.{lt-ltb, le-ltb, cases_lt}
-use Rattle.std.proofs.lemmas.List.{drop_more}
+use Rattle.std.proofs.lemmas.List.{drop_more, take_more, take_all}
+use Rattle.std.proofs.lemmas.List.Elements.{filter-append}
 use Rattle.phi_elim.proofs.Walks.{drop_all}
 use Rattle.target_base.specs.declared.types.Unit.{Unit as UnitNumber}
 use Rattle.target_base.specs.declared.types.Target.{Target}
@@ -86,3 +87,30 @@ module _ (t : Target) (x : Table) (u : UnitNumber) where
   none-there is k total h was = rw (drop_all k is h) at was
 
 pub ruleset entries = (taken-there, written-there, none-written, none-behind, none-there)
+
+-- a test of all, element by element
+
+pub all_next : {X : Type 0} (f : X → Bool) (xs : List X) (k : ℕ) (x : X) (total : Bool) → k < length xs → x ≡ get_or xs k x → f x ≡ true → list_all f (drop k xs) ≡ total → list_all f (drop (k + 1) xs) ≡ total
+all_next f xs k x total h at passes was =
+    let e : list_all f (drop k xs) ≡ (f x && list_all f (drop (k + 1) xs)) = rw (drop_more xs k x h, ← at) refl in
+    sym (ap (λ c. c && list_all f (drop (k + 1) xs)) passes) ∙ (sym e ∙ was)
+
+pub all_lost : {X : Type 0} (f : X → Bool) (xs : List X) (k : ℕ) (x : X) (total : Bool) → k < length xs → x ≡ get_or xs k x → f x ≡ false → list_all f (drop k xs) ≡ total → false ≡ total
+all_lost f xs k x total h at passes was =
+    let e : list_all f (drop k xs) ≡ (f x && list_all f (drop (k + 1) xs)) = rw (drop_more xs k x h, ← at) refl in
+    sym (ap (λ c. c && list_all f (drop (k + 1) xs)) passes) ∙ (sym e ∙ was)
+
+pub all_passed : {X : Type 0} (f : X → Bool) (xs : List X) (k : ℕ) (total : Bool) → length xs ≤ k → list_all f (drop k xs) ≡ total → true ≡ total
+all_passed f xs k total h was = rw (drop_all k xs h) at was
+
+pub ruleset alls = (all_next, all_lost, all_passed)
+
+-- what passes a test, element by element
+
+pub filter_next : {X : Type 0} (f : X → Bool) (xs made : List X) (k : ℕ) (x : X) → k < length xs → x ≡ get_or xs k x → made ≡ filter f (take k xs) → made ++ filter f (x ∷ []) ≡ filter f (take (k + 1) xs)
+filter_next f xs made k x h at was = rw (take_more xs k x h, ← at, filter-append f (take k xs) (x ∷ []), was) refl
+
+pub filter_all : {X : Type 0} (f : X → Bool) (xs made : List X) (k : ℕ) → length xs ≤ k → made ≡ filter f (take k xs) → made ≡ filter f xs
+filter_all f xs made k h was = was ∙ ap (filter f) (take_all k xs h)
+
+pub ruleset filters = (filter_next, filter_all)
