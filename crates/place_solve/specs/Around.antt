@@ -12,6 +12,8 @@ use Rattle.mir_func.specs.declared.func.Loc.TheVariants.{Virtual, Fixed}
 use Rattle.mir_func.specs.declared.func.Operand.{Operand}
 use Rattle.mir_func.specs.declared.func.Operand.TheVariants as operands
 use Rattle.mir_func.specs.declared.func.Instr.{Instr}
+use Rattle.target_base.specs.Numbers.{unit_number}
+use Rattle.mir_meaning.specs.Registers.{is_reserved_unit}
 use Rattle.mir_meaning.specs.Binding.{does, roles_of, is_early_clobber}
 use Rattle.lane_effects.specs.Acts.{is_call, mask_regs}
 use Rattle.lane_effects.specs.declared.owner.Owner.TheVariants as owners
@@ -95,3 +97,10 @@ at_entry t x (arounds.Start n) u = starts x u n
 abbrev pub at_exit : Target → Table → Around → UnitNumber → Bool
 at_exit t x (arounds.Instrs is) u = exit_tests t x u is.now
 at_exit t x _ u = false
+
+-- the same, by the unit's number; reserved units are never in use
+abbrev pub entry_of : Target → Table → Around → ℕ → Bool
+entry_of t x a n = not (is_reserved_unit t n) && at_entry t x a (unit_number n)
+
+abbrev pub exit_of : Target → Table → Around → ℕ → Bool
+exit_of t x a n = not (is_reserved_unit t n) && at_exit t x a (unit_number n)

@@ -2,10 +2,10 @@
 
 ghost use Rattle.std.specs.Prelude.{◌≡◌, ◌≤◌, ◌+◌, ◌&&◌, ◌++◌, ◌∷◌, [], IfOk, OnOk, filter, map, not, option_map, true, length};
 ghost use Rattle.target_base.specs.Storage.{is_among};
-ghost use Rattle.mir_meaning.specs.Places.{all_apart, is_defining, reaches_back, share_a_unit};
+ghost use Rattle.mir_meaning.specs.Places.{all_apart, is_defining, reaches_back, share_a_unit, solutions};
 ghost use Rattle.live_lanes.specs.Looks.{InOrder};
-ghost use Rattle.place_solve.specs.Around.{at_entry, at_exit};
-ghost use Rattle.place_solve.specs.Choice.{use_of, need_of, seats, stands_beside, fits, Found, is_free, may_lie, options_in, first_apart};
+ghost use Rattle.place_solve.specs.Around.{at_entry, at_exit, entry_of, exit_of};
+ghost use Rattle.place_solve.specs.Choice.{use_of, need_of, seats, stands_beside, fits, Found, is_free, may_lie, options_in, first};
 
 use crate::around::{Around, is_at_entry, is_at_exit};
 use crate::variables::{Kind, Variable};
@@ -181,13 +181,14 @@ fn all_options(
 
 /// The first choice of registers for the variables, in their order and in allocation order, that
 /// serves at the place. None where no choice does.
+#[tactic(auto, using(crate::proofs::Solved::solved))]
 pub fn first_choice(
     alloc: Global,
     live: &LiveFunc,
     around: Around<'_>,
     variables: &[Variable],
 ) -> Result<Option<Vec<Reg>>, AllocError>
-    ensures { IfOk result (λ q. InOrder live.now.table → option_map (λ v. v.items) q ≡ first_apart live.now.target live.now.table around.entry variables.now) }
+    ensures { IfOk result (λ q. InOrder live.now.table → option_map (λ v. v.items) q ≡ first (solutions live.now.target (entry_of live.now.target live.now.table around.entry) (exit_of live.now.target live.now.table around.entry) (map need_of variables.now))) }
 {
     let options = all_options(alloc, live, around, variables)?;
     let mut chosen = Vec::new(alloc);
