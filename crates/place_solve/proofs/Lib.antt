@@ -1,3 +1,4 @@
 pub mod Chosen
 pub mod Units
 pub mod Solved
+pub mod Told

@@ -1,2 +1,4 @@
 pub mod Around
 pub mod Choice
+pub mod Told
+pub mod Laws
