@@ -2,3 +2,4 @@ pub mod Chosen
 pub mod Units
 pub mod Solved
 pub mod Told
+pub mod Writes
