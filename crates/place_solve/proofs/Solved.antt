@@ -1,6 +1,6 @@
 -- The first choice of options that keeps apart what must be apart is the first that serves.
-use Rattle.std.proofs.Common.{◌≡◌, ◌∙◌, ℕ, List, [], ◌∷◌, ◌++◌, Bool, true, false, cond, not, refl, sym, ap, map}
-use Rattle.std.specs.Prelude.{◌&&◌, ◌||◌, filter, flat_map, Option, None, Some}
+use Rattle.std.proofs.Common.{◌≡◌, ◌∙◌, ◌<◌, ℕ, length, List, [], ◌∷◌, ◌++◌, Bool, true, false, cond, not, refl, sym, ap, map}
+use Rattle.std.specs.Prelude.{◌&&◌, ◌||◌, filter, flat_map, nat_lt, slice_get, Option, None, Some}
 use Rattle.std.specs.List.{list_all, list_any, zip}
 use Rattle.std.proofs.lemmas.List.Elements.{filter-append}
 use Rattle.target_base.specs.declared.types.Reg.{Reg}
@@ -9,12 +9,21 @@ use Rattle.target_base.specs.declared.types.ClassId.{ClassId}
 use Rattle.target_base.specs.declared.types.Target.{Target}
 use Rattle.target_base.specs.Registers.{regs_of, units_of}
 use Rattle.target_base.specs.Rules.{regs_of_some}
-use Rattle.target_base.specs.Storage.{is_among, is_unreserved}
+use Rattle.std.proofs.lemmas.Bool.{lt-ltb, ltb-true}
+use Rattle.std.proofs.lemmas.Option.{slice_get_within, get_or_from_slice_get}
+use Rattle.target_base.specs.declared.types.RegDesc.{RegDesc}
+use Rattle.target_base.specs.Rules.{is_reg_desc}
+use Rattle.target_base.specs.Storage.{is_among, is_unreserved, units_in}
+use Rattle.target_base.proofs.Sound.{regs_sound}
+use Rattle.target_base.proofs.Tests.{first_of_both, second_of_both, each_passes}
+use Rattle.meaning.specs.Live.{Among as Member, here, there}
+use Rattle.lane_effects.proofs.Members.{member-none}
+use Rattle.effect_laws.proofs.Lists.{all-of}
 use Rattle.mir_meaning.specs.Places.{Kind as Use, Variable as Need, all_apart, avoids_units, choices, domain, holds_any, is_defining, reaches_back, serves, solutions}
 use Rattle.live_lanes.specs.declared.table.Table.{Table}
 use Rattle.place_solve.specs.declared.around.Around.{Around}
 use Rattle.place_solve.specs.declared.variables.Variable.{Variable}
-use Rattle.place_solve.specs.Around.{at_entry, at_exit, entry_of, exit_of}
+use Rattle.place_solve.specs.Around.{at_entry, at_exit, entry_of, exit_of, takes_part}
 use Rattle.place_solve.specs.Choice.{need_of, use_of, is_free, may_lie, options_in, first, first_apart}
 
 filter_alike : {X : Type 0} (p q : X → Bool) → ((x : X) → p x ≡ q x) → (xs : List X) → filter p xs ≡ filter q xs
@@ -75,6 +84,18 @@ module _ (p : Need × Reg → Bool) where
       part v vs (choices (map dom vs)) (dom v)
       ∙ ap (λ cs. flat_map (λ r. map (λ qs. r ∷ qs) cs) (filter (λ r. p (v, r)) (dom v))) (passing dom vs)
 
+-- the units of a register are units of the target
+unit-sound : (t : Target) (o : Option RegDesc) (k : ℕ) → slice_get t.regs k ≡ o → (u : UnitNumber) → Member u (units_in o) → u.0 < length t.units
+unit-sound t None k e u m = absurd (member-none u m)
+unit-sound t (Some d) k e u m =
+    let all = second_of_both _ _ (first_of_both _ _ (regs_sound t.name t.version t.units t.regs t.reserved t.indexes t.classes t.masks t.opcodes t.sound)) in
+    let p = each_passes (is_reg_desc t.version t.units) t.regs k d (slice_get_within t.regs k d e) all in
+    let each = second_of_both _ _ (first_of_both _ _ (first_of_both _ _ (rw (get_or_from_slice_get t.regs k d d e) at p))) in
+    ltb-true u.0 (length t.units) (all-of (λ v. nat_lt v.0 (length t.units)) u d.units m each)
+
+pub units-within : (t : Target) (r : Reg) (u : UnitNumber) → Member u (units_of t r) → u.0 < length t.units
+units-within t r u m = unit-sound t (slice_get t.regs r.0) r.0 refl u m
+
 -- a variable may lie in a register that is unreserved and avoids the units in use
 
 free_step : (r b d e x all entry exit : Bool) → ((not r && not (b && e) && not (d && x)) && (all && ((not b || not entry) && (not d || not exit)))) ≡ ((not r && all) && ((not b || not ((not r && e) || entry)) && (not d || not ((not r && x) || exit))))
@@ -94,7 +115,7 @@ free_step false true true false true false entry exit = refl
 free_step false true true false false all entry exit = refl
 
 module _ (t : Target) (x : Table) (a : Around) where
-  free_of : (k : Use) (us : List UnitNumber) → list_all (is_free t x a k) us ≡ (list_all (λ u. not (is_among t.reserved u)) us && ((not (reaches_back k) || not (list_any (λ u. entry_of t x a u.0) us)) && (not (is_defining k) || not (list_any (λ u. exit_of t x a u.0) us))))
+  free_of : (k : Use) (us : List UnitNumber) → list_all (is_free t x a k) us ≡ (list_all (λ u. not (is_among t.reserved u)) us && ((not (reaches_back k) || not (list_any (λ u. not (is_among t.reserved u) && at_entry t x a u) us)) && (not (is_defining k) || not (list_any (λ u. not (is_among t.reserved u) && at_exit t x a u) us))))
   free_of k [] = sym (nothing (reaches_back k) (is_defining k))
     where
       nothing : (b d : Bool) → (true && ((not b || true) && (not d || true))) ≡ true
@@ -104,7 +125,19 @@ module _ (t : Target) (x : Table) (a : Around) where
       nothing false false = refl
   free_of k (u ∷ us) =
       ap (λ s. is_free t x a k u && s) (free_of k us)
-      ∙ free_step (is_among t.reserved u) (reaches_back k) (is_defining k) (at_entry t x a u) (at_exit t x a u) (list_all (λ w. not (is_among t.reserved w)) us) (list_any (λ w. entry_of t x a w.0) us) (list_any (λ w. exit_of t x a w.0) us)
+      ∙ free_step (is_among t.reserved u) (reaches_back k) (is_defining k) (at_entry t x a u) (at_exit t x a u) (list_all (λ w. not (is_among t.reserved w)) us) (list_any (λ w. not (is_among t.reserved w) && at_entry t x a w) us) (list_any (λ w. not (is_among t.reserved w) && at_exit t x a w) us)
+
+  told_any : (test : UnitNumber → Bool) (us : List UnitNumber) → ((u : UnitNumber) → Member u us → u.0 < length t.units) → list_any (λ u. not (is_among t.reserved u) && test u) us ≡ list_any (λ u. takes_part t u.0 && test u) us
+  told_any test [] h = refl
+  told_any test (u ∷ us) h =
+      ap (λ b. (b && test u) || list_any (λ w. not (is_among t.reserved w) && test w) us) (sym (ap (λ b. b && not (is_among t.reserved u)) (lt-ltb u.0 (length t.units) (h u here))))
+      ∙ ap (λ b. (takes_part t u.0 && test u) || b) (told_any test us (λ w m. h w (there m)))
+
+  may_told : (k : Use) (r : Reg) → may_lie t x a k r ≡ (is_unreserved t.reserved t.regs r && ((not (reaches_back k) || not (holds_any t (entry_of t x a) r)) && (not (is_defining k) || not (holds_any t (exit_of t x a) r))))
+  may_told k r =
+      free_of k (units_of t r)
+      ∙ ap (λ b. list_all (λ u. not (is_among t.reserved u)) (units_of t r) && ((not (reaches_back k) || not b) && (not (is_defining k) || not (list_any (λ u. not (is_among t.reserved u) && at_exit t x a u) (units_of t r))))) (told_any (at_entry t x a) (units_of t r) (λ u m. units-within t r u m))
+      ∙ ap (λ b. list_all (λ u. not (is_among t.reserved u)) (units_of t r) && ((not (reaches_back k) || not (list_any (λ u. takes_part t u.0 && at_entry t x a u) (units_of t r))) && (not (is_defining k) || not b))) (told_any (at_exit t x a) (units_of t r) (λ u m. units-within t r u m))
 
   options_are : (v : Variable) → filter (λ r. avoids_units t (entry_of t x a) (exit_of t x a) (need_of v, r)) (domain t v.class) ≡ options_in t x a v
   options_are v = go v.class
@@ -113,7 +146,7 @@ module _ (t : Target) (x : Table) (a : Around) where
       go None = refl
       go (Some c) =
           sym (filter_both (is_unreserved t.reserved t.regs) (λ r. avoids_units t (entry_of t x a) (exit_of t x a) (need_of v, r)) (regs_of t c))
-          ∙ filter_alike _ _ (λ r. sym (free_of (use_of v.kind) (units_of t r))) (regs_of t c)
+          ∙ filter_alike _ _ (λ r. sym (may_told (use_of v.kind) r)) (regs_of t c)
 
   all_options : (vs : List Variable) → map (λ v. filter (λ r. avoids_units t (entry_of t x a) (exit_of t x a) (v, r)) (domain t v.class)) (map need_of vs) ≡ map (options_in t x a) vs
   all_options [] = refl

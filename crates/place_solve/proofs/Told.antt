@@ -6,6 +6,10 @@ use Rattle.std.specs.Ordering.{nat_cmp}
 use Rattle.std.specs.BTreeMap.{get}
 use Rattle.target_base.specs.declared.types.Target.{Target}
 use Rattle.target_base.specs.Numbers.{unit_number}
+use Rattle.target_base.proofs.Tests.{first_of_both, second_of_both}
+use Rattle.std.proofs.lemmas.Bool.{lt-ltb}
+use Rattle.std.proofs.lemmas.Option.{slice_get_within}
+use Rattle.std.proofs.Common.{◌<◌, arith}
 use Rattle.meaning.specs.declared.types.Lane.{Lane}
 use Rattle.meaning.specs.declared.types.Lane.TheVariants.{UnitLane}
 use Rattle.target_base.specs.declared.types.Effect.{Effect}
@@ -19,12 +23,17 @@ use Rattle.mir_func.specs.Value.{Function}
 use Rattle.mir_meaning.specs.Binding.{does, effect_of, is_early_clobber, is_terminator, passes, roles_of}
 use Rattle.mir_meaning.specs.Codes.{block_end, blocks_code, effect_item, item_of, target_of, way, ways_out}
 use Rattle.mir_meaning.specs.Items.{counted_writes, defined_undef, rest_of, silent_reads, silent_writes, values}
-use Rattle.mir_meaning.specs.Registers.{is_reserved, is_reserved_unit}
+use Rattle.mir_meaning.specs.Registers.{is_reserved, is_reserved_unit, numbers}
 use Rattle.mir_meaning.specs.Points.{Point, Start, Entry, Exit, LiveAt, Tests, AtFirst, point_item, points_of, from_instr}
 use Rattle.mir_meaning.specs.Places.{Variable as Need, Needs, AtEntry, AtExit, Admits, UnitsOf, copy_place, solutions}
 use Rattle.mir_meaning.specs.Rules.{V8}
 use Rattle.lane_effects.proofs.Members.{member-none, member-elim}
-use Rattle.effect_laws.specs.Coded.{KeepsRules, spot_in}
+use Rattle.lane_effects.specs.declared.owner.Owner.TheVariants as owners
+use Rattle.lane_effects.specs.Numbered.{number_in}
+use Rattle.effect_laws.specs.Coded.{KeepsRules, IsNumbered, spot_in}
+use Rattle.effect_laws.proofs.Tabled.{table-law}
+use Rattle.live_lanes.specs.Marks.{marked_at}
+use Rattle.live_lanes.specs.Looks.{entry_at, exit_at}
 use Rattle.live_lanes.specs.declared.table.Table.{Table}
 use Rattle.live_lanes.specs.Doing.{IsComputed}
 use Rattle.live_exact.specs.Laws.{TellsInside}
@@ -32,7 +41,7 @@ use Rattle.live_exact.proofs.Computed.{computed-law}
 use Rattle.live_exact.proofs.Inside.{inside-law}
 use Rattle.live_exact.proofs.Spots.{spot, drop-at}
 use Rattle.place_solve.specs.declared.around.Around.{Around}
-use Rattle.place_solve.specs.Around.{at_entry, at_exit, entry_of, exit_of}
+use Rattle.place_solve.specs.Around.{at_entry, at_exit, entry_of, exit_of, takes_part}
 use Rattle.place_solve.specs.Laws.{CopyLaw}
 use Rattle.place_solve.specs.Told.{is_solved, around_of, copy_solved, IsPoint}
 
@@ -64,10 +73,25 @@ live-free R code p l (phi m n g k e) = e
 live-free R code p l (store w o h g s e) = e
 live-free R code p l (kept h g e) = e
 
--- an answer that counts for what isn't reserved
-unreserved-decides : {P : Type 0} (r b : Bool) → (r ≡ false → (b ≡ true) ↔ P) → (P → r ≡ false) → Decides (not r && b) P
-unreserved-decides true b h free = ((λ e. absurd (cc)), (λ p. absurd (let e = free p in cc)))
-unreserved-decides false b h free = h refl
+-- an answer that counts for units that take part
+takes-decides : {P : Type 0} (t : Target) (u : ℕ) (b : Bool) → (is_reserved_unit t u ≡ false → (b ≡ true) ↔ P) → (P → is_reserved_unit t u ≡ false) → (P → u < length t.units) → Decides (takes_part t u && b) P
+takes-decides {P} t u b told free few = (go, back)
+  where
+    go : (takes_part t u && b) ≡ true → P
+    go e = (told (plain (is_reserved_unit t u) (second_of_both (nat_lt u (length t.units)) (not (is_reserved_unit t u)) (first_of_both (takes_part t u) b e)))).0 (second_of_both (takes_part t u) b e)
+      where
+        plain : (r : Bool) → not r ≡ true → r ≡ false
+        plain true h = absurd (cc)
+        plain false h = refl
+
+    all : (n r c : Bool) → n ≡ true → r ≡ false → c ≡ true → (n && not r && c) ≡ true
+    all true false true e f g = refl
+    all false r c e f g = absurd (cc)
+    all true true c e f g = absurd (cc)
+    all true false false e f g = absurd (cc)
+
+    back : P → (takes_part t u && b) ≡ true
+    back p = all (nat_lt u (length t.units)) (is_reserved_unit t u) b (lt-ltb u (length t.units) (few p)) (free p) ((told (free p)).1 p)
 
 no-edge : (R : Lane → Bool) (code : Places) (i : Item) (p : Places) (l : Lane) → edges_of i ≡ [] → LiveAfter R code i p l → R l ≡ false
 no-edge R code i p l none (after_next o h) = live-free R code p l h
@@ -77,7 +101,7 @@ no-edge R code i p l none (after_phi {e = e} m k g) = absurd (member-none e (sub
 same_value : {X : Type 0} (x y : X) → Some x ≡ Some y → x ≡ y
 same_value x y e = cc
 
-false-test : (b : Bool) → Decides (not b && false) ⊥
+false-test : (b : Bool) → Decides (b && false) ⊥
 false-test true = ((λ e. absurd (cc)), (λ p. absurd p))
 false-test false = ((λ e. absurd (cc)), (λ p. absurd p))
 
@@ -126,10 +150,42 @@ module _ (t : Target) (f : Function) (x : Table) (computed : IsComputed t f x) (
   at-copy (Entry id) (k, j, e) u r = tells.entry (UnitLane u) refl id k j e
   at-copy (Exit id) (k, j, b, i, e, is_block, is_instr, ends) u r = tells.exit (UnitLane u) refl r id k j e
 
+  numbered : IsNumbered t f (number_in x.lanes)
+  numbered = table-law t f x.lanes computed.numbers rules
+
+  -- a unit with a number is one of the target
+  long : {X : Type 0} (g : ℕ → X) (n k : ℕ) → length (map g (numbers n k)) ≡ k
+  long g n zero = refl
+  long g n (suc k) = ap (λ m. suc m) (long g (suc n) k)
+
+  pub few-numbered : (u : ℕ) → ((n : ℕ) × (number_in x.lanes (owners.Unit u) ≡ Some n)) → u < length t.units
+  few-numbered u (n, e) =
+      let l : length x.lanes.reserved.items ≡ length t.units = ap length computed.numbers.reserved ∙ long (is_reserved_unit t) 0 (length t.units) in
+      go (slice_get x.lanes.reserved.items u) refl e l
+    where
+      go : (q : Option Bool) → slice_get x.lanes.reserved.items u ≡ q → elim q [ None ↦ None | Some b ↦ cond b None (Some u) ] ≡ Some n → length x.lanes.reserved.items ≡ length t.units → u < length t.units
+      go None g h l = absurd (cc)
+      go (Some b) g h l = let w = slice_get_within x.lanes.reserved.items u b g in omega (arith, w, l)
+
+  marks-few : (u : ℕ) (test : Option ℕ → Bool) → test None ≡ false → test (number_in x.lanes (owners.Unit u)) ≡ true → u < length t.units
+  marks-few u test none e = go (number_in x.lanes (owners.Unit u)) refl e
+    where
+      go : (q : Option ℕ) → number_in x.lanes (owners.Unit u) ≡ q → test q ≡ true → u < length t.units
+      go None g h = absurd (let k : false ≡ true = sym none ∙ h in cc)
+      go (Some n) g h = few-numbered u (n, g)
+
+  few-at : (q : Point) → IsPoint t f q → (u : ℕ) → LiveAt t f q (UnitLane u) → u < length t.units
+  few-at q s u h = go q ((at-copy q s u (free-at t f q s u h)).1 h)
+    where
+      go : (q : Point) → at_entry t x (around_of q) (unit_number u) ≡ true → u < length t.units
+      go (Start n) e = marks-few u (λ o. marked_at x.rows.rows.items o (get nat_cmp x.order.positions n)) refl e
+      go (Entry id) e = marks-few u (λ o. entry_at x o id) refl e
+      go (Exit id) e = marks-few u (λ o. exit_at x o id) refl e
+
   copy-entry : (vs : List Need) (q : Point) → IsPoint t f q → Tests (AtEntry t f (copy_place vs q)) (entry_of t x (around_of q))
   copy-entry vs q s u =
       decides-as (entry_of t x (around_of q) u) (λ h. inr (q, first, h)) back
-      (unreserved-decides (is_reserved_unit t u) (at_entry t x (around_of q) (unit_number u)) (λ r. at-copy q s u r) (free-at t f q s u))
+      (takes-decides t u (at_entry t x (around_of q) (unit_number u)) (λ r. at-copy q s u r) (free-at t f q s u) (λ h. few-at q s u h))
     where
       back : AtEntry t f (copy_place vs q) u → LiveAt t f q (UnitLane u)
       back (inl (p, m, h)) = absurd (member-none p m)
@@ -139,9 +195,9 @@ module _ (t : Target) (f : Function) (x : Table) (computed : IsComputed t f x) (
   copy-exit vs q u = decides-as (exit_of t x (around_of q) u) (λ n. absurd n) (λ z. member-none z.0 z.1) (by q)
     where
       by : (q : Point) → Decides (exit_of t x (around_of q) u) ⊥
-      by (Start n) = false-test (is_reserved_unit t u)
-      by (Entry id) = false-test (is_reserved_unit t u)
-      by (Exit id) = false-test (is_reserved_unit t u)
+      by (Start n) = false-test (takes_part t u)
+      by (Entry id) = false-test (takes_part t u)
+      by (Exit id) = false-test (takes_part t u)
 
   pub copy-told : (vs : List Need) (q : Point) → IsPoint t f q → (is_solved t x (around_of q) vs ≡ true) ↔ Admits t f (copy_place vs q)
   copy-told vs q s = admitted t f (copy_place vs q) (entry_of t x (around_of q)) (exit_of t x (around_of q)) (copy-entry vs q s, copy-exit vs q)

@@ -1,5 +1,5 @@
 -- Which units are in use around a place, as the table of live lanes and the operands tell it.
-use Rattle.std.specs.Prelude.{ℕ, Bool, true, false, not, ◌&&◌, ◌||◌, List, [], ◌∷◌}
+use Rattle.std.specs.Prelude.{ℕ, Bool, true, false, not, ◌&&◌, ◌||◌, List, [], ◌∷◌, length, nat_lt}
 use Rattle.std.specs.List.{list_any}
 use Rattle.std.specs.Ordering.{nat_cmp}
 use Rattle.std.specs.BTreeMap.{get}
@@ -98,9 +98,13 @@ abbrev pub at_exit : Target → Table → Around → UnitNumber → Bool
 at_exit t x (arounds.Instrs is) u = exit_tests t x u is.now
 at_exit t x _ u = false
 
+-- the unit is one of the target, and not reserved
+abbrev pub takes_part : Target → ℕ → Bool
+takes_part t n = nat_lt n (length t.units) && not (is_reserved_unit t n)
+
 -- the same, by the unit's number; reserved units are never in use
 abbrev pub entry_of : Target → Table → Around → ℕ → Bool
-entry_of t x a n = not (is_reserved_unit t n) && at_entry t x a (unit_number n)
+entry_of t x a n = takes_part t n && at_entry t x a (unit_number n)
 
 abbrev pub exit_of : Target → Table → Around → ℕ → Bool
-exit_of t x a n = not (is_reserved_unit t n) && at_exit t x a (unit_number n)
+exit_of t x a n = takes_part t n && at_exit t x a (unit_number n)
