@@ -3,3 +3,4 @@ pub mod Units
 pub mod Solved
 pub mod Told
 pub mod Writes
+pub mod Owned

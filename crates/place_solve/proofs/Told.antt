@@ -7,7 +7,7 @@ use Rattle.std.specs.BTreeMap.{get}
 use Rattle.target_base.specs.declared.types.Target.{Target}
 use Rattle.target_base.specs.Numbers.{unit_number}
 use Rattle.target_base.proofs.Tests.{first_of_both, second_of_both}
-use Rattle.std.proofs.lemmas.Bool.{lt-ltb}
+use Rattle.std.proofs.lemmas.Bool.{lt-ltb, ltb-true}
 use Rattle.std.proofs.lemmas.Option.{slice_get_within}
 use Rattle.std.proofs.Common.{◌<◌, arith}
 use Rattle.meaning.specs.declared.types.Lane.{Lane}
@@ -65,7 +65,7 @@ admitted t f p entry exit told = ((λ h. (entry, exit, told, h)), back)
         sym (ap (λ e. nat_lt 0 (length (solutions t e a.1 p.variables))) one ∙ ap (λ e. nat_lt 0 (length (solutions t entry e p.variables))) two) ∙ a.3
 
 -- reserved lanes take no part
-live-free : (R : Lane → Bool) (code p : Places) (l : Lane) → LivePlace R code p l → R l ≡ false
+pub live-free : (R : Lane → Bool) (code p : Places) (l : Lane) → LivePlace R code p l → R l ≡ false
 live-free R code p l (read m k e) = e
 live-free R code p l (next o h g e) = e
 live-free R code p l (leap m h g k e) = e
@@ -74,7 +74,7 @@ live-free R code p l (store w o h g s e) = e
 live-free R code p l (kept h g e) = e
 
 -- an answer that counts for units that take part
-takes-decides : {P : Type 0} (t : Target) (u : ℕ) (b : Bool) → (is_reserved_unit t u ≡ false → (b ≡ true) ↔ P) → (P → is_reserved_unit t u ≡ false) → (P → u < length t.units) → Decides (takes_part t u && b) P
+pub takes-decides : {P : Type 0} (t : Target) (u : ℕ) (b : Bool) → (is_reserved_unit t u ≡ false → (b ≡ true) ↔ P) → (P → is_reserved_unit t u ≡ false) → (P → u < length t.units) → Decides (takes_part t u && b) P
 takes-decides {P} t u b told free few = (go, back)
   where
     go : (takes_part t u && b) ≡ true → P
@@ -93,19 +93,40 @@ takes-decides {P} t u b told free few = (go, back)
     back : P → (takes_part t u && b) ≡ true
     back p = all (nat_lt u (length t.units)) (is_reserved_unit t u) b (lt-ltb u (length t.units) (few p)) (free p) ((told (free p)).1 p)
 
+pub decides-takes : {P : Type 0} (t : Target) (u : ℕ) (b : Bool) → (u < length t.units → is_reserved_unit t u ≡ false → (b ≡ true) ↔ P) → (P → (u < length t.units) × (is_reserved_unit t u ≡ false)) → Decides (takes_part t u && b) P
+decides-takes {P} t u b told takes = (go, back)
+  where
+    plain : (r : Bool) → not r ≡ true → r ≡ false
+    plain true h = absurd (cc)
+    plain false h = refl
+
+    go : (takes_part t u && b) ≡ true → P
+    go e =
+        let p = first_of_both (takes_part t u) b e in
+        (told (ltb-true u (length t.units) (first_of_both (nat_lt u (length t.units)) (not (is_reserved_unit t u)) p)) (plain (is_reserved_unit t u) (second_of_both (nat_lt u (length t.units)) (not (is_reserved_unit t u)) p))).0 (second_of_both (takes_part t u) b e)
+
+    all : (n r c : Bool) → n ≡ true → r ≡ false → c ≡ true → (n && not r && c) ≡ true
+    all true false true e f g = refl
+    all false r c e f g = absurd (cc)
+    all true true c e f g = absurd (cc)
+    all true false false e f g = absurd (cc)
+
+    back : P → (takes_part t u && b) ≡ true
+    back p = let z = takes p in all (nat_lt u (length t.units)) (is_reserved_unit t u) b (lt-ltb u (length t.units) z.0) z.1 ((told z.0 z.1).1 p)
+
 no-edge : (R : Lane → Bool) (code : Places) (i : Item) (p : Places) (l : Lane) → edges_of i ≡ [] → LiveAfter R code i p l → R l ≡ false
 no-edge R code i p l none (after_next o h) = live-free R code p l h
 no-edge R code i p l none (after_leap {e = e} m h g) = absurd (member-none e (subst (Member e) none m))
 no-edge R code i p l none (after_phi {e = e} m k g) = absurd (member-none e (subst (Member e) none m))
 
-same_value : {X : Type 0} (x y : X) → Some x ≡ Some y → x ≡ y
+pub same_value : {X : Type 0} (x y : X) → Some x ≡ Some y → x ≡ y
 same_value x y e = cc
 
 false-test : (b : Bool) → Decides (b && false) ⊥
 false-test true = ((λ e. absurd (cc)), (λ p. absurd p))
 false-test false = ((λ e. absurd (cc)), (λ p. absurd p))
 
-decides-as : {P Q : Type 0} (b : Bool) → (P → Q) → (Q → P) → Decides b P → Decides b Q
+pub decides-as : {P Q : Type 0} (b : Bool) → (P → Q) → (Q → P) → Decides b P → Decides b Q
 decides-as b to from d = ((λ e. to (d.0 e)), (λ q. d.1 (from q)))
 
 module _ (t : Target) (f : Function) where
@@ -150,7 +171,7 @@ module _ (t : Target) (f : Function) (x : Table) (computed : IsComputed t f x) (
   at-copy (Entry id) (k, j, e) u r = tells.entry (UnitLane u) refl id k j e
   at-copy (Exit id) (k, j, b, i, e, is_block, is_instr, ends) u r = tells.exit (UnitLane u) refl r id k j e
 
-  numbered : IsNumbered t f (number_in x.lanes)
+  pub numbered : IsNumbered t f (number_in x.lanes)
   numbered = table-law t f x.lanes computed.numbers rules
 
   -- a unit with a number is one of the target
@@ -167,7 +188,7 @@ module _ (t : Target) (f : Function) (x : Table) (computed : IsComputed t f x) (
       go None g h l = absurd (cc)
       go (Some b) g h l = let w = slice_get_within x.lanes.reserved.items u b g in omega (arith, w, l)
 
-  marks-few : (u : ℕ) (test : Option ℕ → Bool) → test None ≡ false → test (number_in x.lanes (owners.Unit u)) ≡ true → u < length t.units
+  pub marks-few : (u : ℕ) (test : Option ℕ → Bool) → test None ≡ false → test (number_in x.lanes (owners.Unit u)) ≡ true → u < length t.units
   marks-few u test none e = go (number_in x.lanes (owners.Unit u)) refl e
     where
       go : (q : Option ℕ) → number_in x.lanes (owners.Unit u) ≡ q → test q ≡ true → u < length t.units

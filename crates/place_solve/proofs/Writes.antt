@@ -34,10 +34,14 @@ use Rattle.mir_meaning.specs.Binding.{as_register, does, effect_of, implicit_reg
 use Rattle.mir_meaning.specs.Items.{all_lanes, computed, counted_writes, defined_undef, rest_of, silent_reads, silent_writes, values, explicit_definitions, implicit_definitions, implicit_writes, mask_units, preserves, result_writes, undefined, write}
 use Rattle.mir_meaning.specs.Points.{point_item}
 use Rattle.mir_meaning.specs.Codes.{effect_item, item_of, target_of, way, ways_out}
-use Rattle.mir_meaning.specs.Registers.{is_reserved_unit, located_lanes, numbers, operand_lanes, range_widths, undefined_lanes, whole_lanes}
+use Rattle.mir_meaning.specs.Registers.{is_reserved, is_reserved_unit, located_lanes, numbers, operand_lanes, range_widths, undefined_lanes, whole_lanes}
 use Rattle.lane_effects.specs.Acts.{silent_acts, call_writes, counted_acts, effect_acts, entered_writes, is_call, mask_regs, unpreserved}
 use Rattle.lane_effects.specs.Numbered.{number_in}
 use Rattle.lane_effects.specs.Steps.{Numbering}
+use Rattle.lane_effects.specs.Stepping.{tag_of}
+use Rattle.lane_effects.specs.declared.owner.Owner.TheVariants as owners
+use Rattle.lane_effects.proofs.CountedSteps.{counted-law}
+use Rattle.effect_laws.specs.Shaped.{is_proper}
 use Rattle.lane_effects.proofs.Members.{member-none, member-elim, left-in, right-in, in-either, flat-of, flat-in, filter-of, filter-in, map-of, map-in}
 use Rattle.effect_laws.specs.Coded.{KeepsRules, IsNumbered}
 use Rattle.effect_laws.proofs.Blocks.{filtered-of, filtered-in}
@@ -50,7 +54,7 @@ use Rattle.effect_laws.proofs.Shapes.{numbers-in}
 use Rattle.place_solve.specs.Around.{has_unit, keeps_unit, defines, defines_explicitly, clobbers, writes, writes_early}
 use Rattle.place_solve.proofs.Units.{units_any}
 
-any-of : {X : Type 0} (p : X → Bool) (xs : List X) → list_any p xs ≡ true → (x : X) × Member x xs × (p x ≡ true)
+pub any-of : {X : Type 0} (p : X → Bool) (xs : List X) → list_any p xs ≡ true → (x : X) × Member x xs × (p x ≡ true)
 any-of p [] e = absurd (cc)
 any-of {X} p (x ∷ xs) e = go (p x) refl e (any-of p xs)
   where
@@ -62,19 +66,19 @@ any-alike : {X : Type 0} (p q : X → Bool) → ((x : X) → p x ≡ q x) → (x
 any-alike p q h [] = refl
 any-alike p q h (x ∷ xs) = ap (λ b. b || list_any p xs) (h x) ∙ ap (λ b. q x || b) (any-alike p q h xs)
 
-either-true : (a b : Bool) → (a || b) ≡ true → (a ≡ true) ⊎ (b ≡ true)
+pub either-true : (a b : Bool) → (a || b) ≡ true → (a ≡ true) ⊎ (b ≡ true)
 either-true true b e = inl refl
 either-true false b e = inr e
 
-or-left : (a b : Bool) → a ≡ true → (a || b) ≡ true
+pub or-left : (a b : Bool) → a ≡ true → (a || b) ≡ true
 or-left true b e = refl
 or-left false b e = absurd (cc)
 
-or-right : (a b : Bool) → b ≡ true → (a || b) ≡ true
+pub or-right : (a b : Bool) → b ≡ true → (a || b) ≡ true
 or-right true b e = refl
 or-right false b e = e
 
-both : (a b : Bool) → a ≡ true → b ≡ true → (a && b) ≡ true
+pub both : (a b : Bool) → a ≡ true → b ≡ true → (a && b) ≡ true
 both true b e h = h
 both false b e h = absurd (cc)
 
@@ -318,3 +322,18 @@ module _ (t : Target) (f : Function) where
           (λ g. same.back (UnitLane u) n.0 n.1 refl (subst (Wrote (UnitLane u)) (sym acts-are) (write-back u few g))),
           (λ w. write-forth u (subst (Wrote (UnitLane u)) acts-are (same.forth (UnitLane u) n.0 n.1 refl w))),
         )
+
+    -- a written unit has a number
+    pub numbered-written : (num : Numbering) → IsNumbered t f num → (b : Block) → Member b f.blocks → Member i b.instrs → (u : ℕ) → is_reserved_unit t u ≡ false → Writing (point_item t f b i) (UnitLane u) → (n : ℕ) × (num (owners.Unit u) ≡ Some n)
+    numbered-written num numbered b mb mi u free (w, m, h) =
+        let plain = counted-law t f (tag_of num (is_proper t)) b i e known counted (numbered.names b i mb mi) in
+        let unreserved : (l : Lane) → l ≡ UnitLane u → is_reserved t l ≡ false = λ l g. ap (is_reserved t) g ∙ free in
+        let v = plain.covered w m (unreserved w.lane h) in
+        let n = plain.written v.0 v.1 (unreserved v.0.lane (v.2 ∙ h)) in
+        (n.0, ap (tag_of num (is_proper t)) (sym (v.2 ∙ h)) ∙ n.1)
+
+-- the tests tell what the instruction writes of units
+pub record IsExact (t : Target) (f : Function) (b : Block) (i : Instr) : Type 0 where
+  pub written : (u : ℕ) → u < length t.units → is_reserved_unit t u ≡ false → (writes t i (unit_number u) ≡ true) ↔ Writing (point_item t f b i) (UnitLane u)
+  pub early : (u : ℕ) → u < length t.units → is_reserved_unit t u ≡ false → (writes_early t i (unit_number u) ≡ true) ↔ WritingEarly (point_item t f b i) (UnitLane u)
+  pub few : (u : ℕ) → is_reserved_unit t u ≡ false → Writing (point_item t f b i) (UnitLane u) → u < length t.units

@@ -37,3 +37,12 @@ abbrev pub IsPoint : Target → Function → Point → Type 0
 IsPoint t f (Start n) = (k : ℕ) × (b : Block) × (slice_get f.blocks k ≡ Some b) × (b.number ≡ n)
 IsPoint t f (Entry id) = (k : ℕ) × (j : ℕ) × (spot_in id f.blocks ≡ Some (k, j))
 IsPoint t f (Exit id) = (k : ℕ) × (j : ℕ) × (b : Block) × (i : Instr) × (spot_in id f.blocks ≡ Some (k, j)) × (slice_get f.blocks k ≡ Some b) × (slice_get b.instrs j ≡ Some i) × (does is_terminator t i ≡ false)
+
+-- where an instruction stands: it is the first of its id
+pub record Seated (t : Target) (f : Function) (i : Instr) : Type 0 where
+  pub position : ℕ
+  pub place : ℕ
+  pub block : Block
+  pub spot : spot_in i.id f.blocks ≡ Some (position, place)
+  pub is_block : slice_get f.blocks position ≡ Some block
+  pub is_instr : slice_get block.instrs place ≡ Some i
