@@ -2,3 +2,5 @@ pub mod Around
 pub mod Choice
 pub mod Told
 pub mod Laws
+pub mod Once
+pub mod Own

@@ -1,5 +1,12 @@
 //! Whether every place of a source admits a choice of registers.
 
+ghost use Rattle.std.specs.Prelude.{◌≡◌, ◌<◌, ◌^◌, length, IfOk, OnOk, IfErr, true};
+ghost use Rattle.std.specs.List.{list_any};
+ghost use Rattle.mir_meaning.specs.Binding.{does, is_terminator};
+ghost use Rattle.mir_meaning.specs.Rules.{is_lowered_away};
+ghost use Rattle.mir_meaning.specs.Places.{FirstPlace, TooMany};
+ghost use Rattle.place_solve.specs.Own as own;
+
 use crate::around::Around;
 use crate::copies::copies_admit;
 use crate::search::first_choice;
@@ -29,27 +36,64 @@ pub enum PlaceStop {
 }
 
 impl From<AllocError> for PlaceStop {
+    ghost use Rattle.std.specs.Prelude.{◌≡◌};
+    ghost use Rattle.place_solve.specs.declared.check.PlaceStop.TheVariants.{Memory};
+
+    ghost from_gives = { λ x e. e ≡ Memory x };
+
     fn from(e: AllocError) -> PlaceStop {
         PlaceStop::Memory(e)
     }
 }
 
+/// Whether the instruction is a PHI, REG_SEQUENCE or INSERT_SUBREG.
+fn is_lowered_away(target: &Target, i: &Instr) -> bool
+    ensures { result ≡ does is_lowered_away target.now i.now }
+{
+    match effect_of(target, i) {
+        Some(Effect::Phi | Effect::RegSequence | Effect::InsertSubreg) => true,
+        _ => false,
+    }
+}
+
+/// Whether the last of these instructions is a terminator.
+#[tactic(auto, using(crate::proofs::Crowds::last_is_there))]
+fn ends_in_terminator(target: &Target, before: &[Boxed<Instr>]) -> bool
+    ensures { result ≡ true → list_any (does is_terminator target.now) before.now ≡ true }
+{
+    if before.is_empty() {
+        return false;
+    }
+    is_terminator(target, before[before.len() - 1].get())
+}
+
+/// Whether one of these instructions is a terminator.
+fn has_terminator(target: &Target, before: &[Boxed<Instr>]) -> bool
+    ensures { result ≡ list_any (does is_terminator target.now) before.now }
+{
+    ends_in_terminator(target, before) || before.iter().any(|i| is_terminator(target, i.get()))
+}
+
 /// The instructions that make the own place of the one at `j`: the terminators are one place at the
 /// first of them, and PHI, REG_SEQUENCE and INSERT_SUBREG have none.
-fn own_place<'a>(target: &Target, instrs: &'a [Boxed<Instr>], j: usize) -> &'a [Boxed<Instr>] {
+#[tactic(auto, using(crate::proofs::Crowds::own_is))]
+fn own_place<'a>(target: &Target, instrs: &'a [Boxed<Instr>], j: usize) -> &'a [Boxed<Instr>]
+    ensures { result.now ≡ own.own_instrs target.now instrs.now j }
+{
     if j >= instrs.len() {
         return &[];
     }
-    if is_terminator(target, instrs[j].get()) {
-        if j > 0 && is_terminator(target, instrs[j - 1].get()) {
+    let i = instrs[j].get();
+    if is_terminator(target, i) {
+        if has_terminator(target, &instrs[..j]) {
             return &[];
         }
         return &instrs[j..];
     }
-    match effect_of(target, instrs[j].get()) {
-        Some(Effect::Phi | Effect::RegSequence | Effect::InsertSubreg) => &[],
-        _ => &instrs[j..j + 1],
+    if is_lowered_away(target, i) {
+        return &[];
     }
+    &instrs[j..j + 1]
 }
 
 /// Where the own place of these instructions stands: a copy counts by the point before it.
@@ -63,18 +107,49 @@ fn own_around<'a>(target: &Target, instrs: &'a [Boxed<Instr>]) -> Around<'a> {
     }
 }
 
+/// Whether the own place of the instruction at `j` has too many variables.
+#[tactic(auto, using(crate::proofs::Crowds::counted))]
+fn is_crowded(
+    alloc: Global,
+    target: &Target,
+    f: &Func,
+    instrs: &[Boxed<Instr>],
+    j: usize,
+) -> Result<bool, AllocError>
+    ensures { IfOk result (λ b. b ≡ own.is_crowded target.now f.now instrs.now j) }
+{
+    let place = own_place(target, instrs, j);
+    let variables = variables_of(alloc, target, f, place)?;
+    Ok(variables.as_slice().len() > MOST)
+}
+
 /// The first instruction of a block whose place has too many variables.
 fn crowded(
     alloc: Global,
     target: &Target,
     f: &Func,
-    block: &Block,
-) -> Result<Option<usize>, AllocError> {
-    let instrs = block.instrs.as_slice();
+    instrs: &[Boxed<Instr>],
+) -> Result<Option<usize>, AllocError>
+    ensures { IfOk result (own.IsFirst (own.is_crowded target.now f.now instrs.now) (length instrs.now)) }
+{
     'each: for j in 0..instrs.len() {
-        let place = own_place(target, instrs, j);
-        if variables_of(alloc, target, f, place)?.len() > MOST {
+        if is_crowded(alloc, target, f, instrs, j)? {
             return Ok(Some(j));
+        }
+    }
+    Ok(None)
+}
+
+/// The first place in layout that has too many variables.
+fn first_crowded(alloc: Global, target: &Target, f: &Func) -> Result<Option<Place>, AllocError>
+    ensures { IfOk result (own.IsCrowded target.now f.now) }
+{
+    let _last = f.next_id;
+    let blocks = f.blocks.as_slice();
+    'counted: for k in 0..blocks.len() {
+        let block = &blocks[k];
+        if let Some(at) = crowded(alloc, target, f, block.instrs.as_slice())? {
+            return Ok(Some(place_of(block, at)));
         }
     }
     Ok(None)
@@ -115,7 +190,11 @@ fn unassignable(
     Ok(None)
 }
 
-fn place_of(block: &Block, at: usize) -> Place {
+/// The name of the instruction at a place of a block.
+fn place_of(block: &Block, at: usize) -> Place
+    ensures block { result.block ≡ block.now.number }
+    ensures at { at < 2 ^ 32 → result.at ≡ at }
+{
     Place {
         block: block.number,
         at: at.min(0xffff_ffff) as u32,
@@ -126,11 +205,13 @@ fn place_of(block: &Block, at: usize) -> Place {
 /// the copies that lowering will make. Variables comes where a place has more than 6 variables, with
 /// the first such place in layout, and before any search. Unassignable comes where no choice of
 /// registers serves at a place, with the first such place.
-pub fn check_places(alloc: Global, target: &Target, f: &Valid) -> Result<(), PlaceStop> {
-    'counted: for block in f.func.blocks.as_slice() {
-        if let Some(at) = crowded(alloc, target, &f.func, block)? {
-            return Err(PlaceStop::Variables(place_of(block, at)));
-        }
+pub fn check_places(alloc: Global, target: &Target, f: &Valid) -> Result<(), PlaceStop>
+    ensures variables { IfErr result (own.IfVariables (FirstPlace target.now f.now.func TooMany)) }
+    ensures few_at_ok { OnOk result (own.HasFew target.now f.now.func) }
+    ensures few_at_unassignable { IfErr result (own.IfUnassignable (λ _. own.HasFew target.now f.now.func)) }
+{
+    if let Some(place) = first_crowded(alloc, target, &f.func)? {
+        return Err(PlaceStop::Variables(place));
     }
     let live = LiveFunc::compute(alloc, target, f.func.copy(alloc)?)?;
     'tested: for block in f.func.blocks.as_slice() {

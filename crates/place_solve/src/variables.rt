@@ -1,11 +1,22 @@
 //! The variables of a place: what needs a register of its class there.
 
+ghost use Rattle.std.specs.Prelude.{◌≡◌, [], OnOk, IfOk, map, flat_map, option_map};
+ghost use Rattle.std.specs.List.{list_any, filter_map};
+ghost use Rattle.target_base.specs.Roles.{is_implicit, is_tied};
+ghost use Rattle.target_base.specs.Rules.{is_copy};
+ghost use Rattle.mir_meaning.specs.Binding.{passes, does, is_early, is_implicit_operand, operand_class, explicit_operands, explicit_roles, explicit_bound};
+ghost use Rattle.mir_meaning.specs.Registers.{operand_widths};
+ghost use Rattle.mir_meaning.specs.Places as places;
+ghost use Rattle.place_solve.specs.Choice.{use_of, need_of};
+ghost use Rattle.place_solve.specs.Once as once;
+
 use crate::widths::{class_of_widths, operand_widths};
 use mir_func::{Func, Instr, Loc, Operand, RegOp};
 use phi_elim::reading::effect_of;
 use std::alloc::{AllocError, Global};
 use target_base::{Boxed, ClassId, Effect, IndexId, Role, Target};
 use two_address::classes::{class_asked, first_role, roles_behind, roles_of};
+use two_address::ties::{is_virtual, same_index};
 
 /// How a variable is used at its place.
 #[derive(Clone, Copy, PartialEq, Eq)]
@@ -69,14 +80,30 @@ pub struct Variable {
     pub class: Option<ClassId>,
 }
 
-impl Variable {
-    /// Whether the two are one use of one register, index and class.
-    fn is_same_use(self, other: Variable) -> bool {
-        !(self.kind.is_defining() || other.kind.is_defining())
-            && self.range == other.range
-            && self.index == other.index
-            && self.class == other.class
+/// Whether the classes are one, or both are absent.
+fn same_class(a: Option<ClassId>, b: Option<ClassId>) -> bool
+    ensures { result ≡ places.same_class a b }
+{
+    match a {
+        None => match b {
+            None => true,
+            Some(_) => false,
+        },
+        Some(x) => match b {
+            None => false,
+            Some(y) => x.0 == y.0,
+        },
     }
+}
+
+/// Whether the two are one use of one register, index and class.
+fn is_same_use(v: Variable, w: Variable) -> bool
+    ensures { result ≡ places.same_use (need_of v) (need_of w) }
+{
+    !(v.kind.is_defining() || w.kind.is_defining())
+        && v.range == w.range
+        && same_index(v.index, w.index)
+        && same_class(v.class, w.class)
 }
 
 /// The variable of a copy between lanes of these operands' widths.
@@ -85,7 +112,9 @@ pub fn copy_variable(
     target: &Target,
     f: &Func,
     o: RegOp,
-) -> Result<Variable, AllocError> {
+) -> Result<Variable, AllocError>
+    ensures { IfOk result (λ v. need_of v ≡ places.copy_variable target.now (operand_widths target.now f.now o)) }
+{
     let widths = operand_widths(alloc, target, f, o)?;
     Ok(Variable {
         kind: Kind::Copying,
@@ -95,129 +124,385 @@ pub fn copy_variable(
     })
 }
 
-/// Whether the opcode ties a use to its definition.
-fn has_tied_role(roles: &[Role]) -> bool {
-    roles.iter().any(|r| is_tied(Some(*r)))
-}
-
-fn is_tied(role: Option<Role>) -> bool {
+fn is_tied(role: Option<Role>) -> bool
+    ensures { result ≡ passes is_tied role }
+{
     match role {
         Some(Role::Tied(_)) => true,
         _ => false,
     }
 }
 
-fn is_early(role: Option<Role>) -> bool {
+fn is_early(role: Option<Role>) -> bool
+    ensures { result ≡ passes is_early role }
+{
     match role {
         Some(Role::Early(_)) => true,
         _ => false,
     }
 }
 
-/// The variable of a register operand: each virtual definition, and each virtual use that is neither
-/// `undef` nor tied, has one.
-fn register_variable(
-    target: &Target,
-    f: &Func,
-    tied: bool,
-    role: Option<Role>,
-    o: RegOp,
-) -> Option<Variable> {
-    let Loc::Virtual(v) = o.loc else {
-        return None;
-    };
-    if !o.def && (o.undef || is_tied(role)) {
-        return None;
-    }
-    let kind = if o.def {
+/// The class that an operand's role asks of its register.
+#[tactic(auto, using(crate::proofs::Operands::class_is))]
+fn operand_class(target: &Target, f: &Func, role: Option<Role>, o: RegOp) -> Option<ClassId>
+    ensures { result ≡ operand_class target.now f.now role o }
+{
+    class_asked(target, f.classes.as_slice(), role, o)
+}
+
+/// How an operand is used: as a definition or a use.
+fn kind_of(tied: bool, role: Option<Role>, o: RegOp) -> Kind
+    ensures { use_of result ≡ once.operand_use tied role o }
+{
+    if o.def {
         Kind::Defining {
             tied,
             early: is_early(role),
         }
     } else {
         Kind::Using
+    }
+}
+
+/// Whether an operand has no variable, because it reads nothing or is tied.
+fn is_left_out(role: Option<Role>, o: RegOp) -> bool
+    ensures { result ≡ once.is_left_out role o }
+{
+    !o.def && (o.undef || is_tied(role))
+}
+
+/// The variable of a register operand: each virtual definition, and each virtual use that is neither
+/// `undef` nor tied, has one.
+#[tactic(auto, using(crate::proofs::Operands::register_is))]
+fn register_variable(
+    target: &Target,
+    f: &Func,
+    tied: bool,
+    role: Option<Role>,
+    o: RegOp,
+) -> Option<Variable>
+    ensures { option_map need_of result ≡ places.register_variable target.now f.now tied role o o.loc }
+{
+    let Loc::Virtual(v) = o.loc else {
+        return None;
     };
+    if is_left_out(role, o) {
+        return None;
+    }
     Some(Variable {
-        kind,
+        kind: kind_of(tied, role, o),
         range: v,
         index: o.index,
-        class: class_asked(target, f.classes.as_slice(), role, o),
+        class: operand_class(target, f, role, o),
     })
 }
 
+/// Whether a use stands among these variables.
+fn is_there(variables: &[Variable], v: Variable) -> bool
+    ensures { result ≡ list_any (once.same_use_of v) variables.now }
+{
+    variables.iter().any(|w| is_same_use(v, *w))
+}
+
 /// Puts a variable behind the others, unless it is a use that stands there.
-fn add(variables: &mut Vec<Variable>, v: Variable) -> Result<(), AllocError> {
-    if !variables.iter().any(|w| w.is_same_use(v)) {
+#[tactic(auto, using(crate::proofs::Once::added))]
+fn add(variables: &mut Vec<Variable>, v: Variable) -> Result<(), AllocError>
+    ensures { OnOk result (map need_of variables.new.items ≡ once.once_more (map need_of variables.old.items) (need_of v)) }
+{
+    if !is_there(variables.as_slice(), v) {
         variables.push(v)?;
     }
     Ok(())
 }
 
-/// Puts the variables of an instruction's operands behind the others.
+/// Puts a variable behind the others, if there is one.
+#[tactic(auto, using(crate::proofs::Once::added_if))]
+fn add_if(variables: &mut Vec<Variable>, v: Option<Variable>) -> Result<(), AllocError>
+    ensures { OnOk result (map need_of variables.new.items ≡ once.once_if (map need_of variables.old.items) (option_map need_of v)) }
+{
+    if let Some(v) = v {
+        add(variables, v)?;
+    }
+    Ok(())
+}
+
+/// The roles from the first explicit one on.
+#[tactic(auto, using(crate::proofs::Operands::explicits))]
+fn from_explicit(roles: &[Role]) -> &[Role]
+    ensures { result.now ≡ once.from_explicit roles.now }
+{
+    'each: for k in 0..roles.len() {
+        if !is_implicit(roles[k]) {
+            return &roles[k..];
+        }
+    }
+    &[]
+}
+
+/// Whether the role is one of an implicit operand.
+fn is_implicit(role: Role) -> bool
+    ensures { result ≡ is_implicit role }
+{
+    match role {
+        Role::ImpDef(_) | Role::ImpRead(_) => true,
+        _ => false,
+    }
+}
+
+/// Whether the operand is an implicit register.
+fn is_implicit_operand(o: &Operand) -> bool
+    ensures { result ≡ is_implicit_operand o.now }
+{
+    match o {
+        Operand::Reg(r) => r.implicit,
+        _ => false,
+    }
+}
+
+/// The roles that are left for the operands behind this one: an implicit operand takes none.
+fn left_behind<'a>(roles: &'a [Role], o: &Operand) -> &'a [Role]
+    ensures { result.now ≡ once.left_behind roles.now o.now }
+{
+    if is_implicit_operand(o) {
+        roles
+    } else {
+        roles_behind(from_explicit(roles))
+    }
+}
+
+/// The variable of an operand with its role.
+fn operand_variable(
+    target: &Target,
+    f: &Func,
+    tied: bool,
+    role: Option<Role>,
+    o: &Operand,
+) -> Option<Variable>
+    ensures { option_map need_of result ≡ places.operand_variable target.now f.now tied (role, o.now) }
+{
+    match o {
+        Operand::Reg(r) => register_variable(target, f, tied, role, *r),
+        _ => None,
+    }
+}
+
+/// The variable of an explicit operand, which takes the first explicit role.
+fn explicit_variable(
+    target: &Target,
+    f: &Func,
+    tied: bool,
+    roles: &[Role],
+    o: &Operand,
+) -> Option<Variable>
+    ensures { option_map need_of result ≡ once.explicit_variable target.now f.now tied roles.now o.now }
+{
+    if is_implicit_operand(o) {
+        None
+    } else {
+        operand_variable(target, f, tied, first_role(from_explicit(roles)), o)
+    }
+}
+
+/// The variable of an implicit operand.
+fn implicit_variable(target: &Target, f: &Func, tied: bool, o: &Operand) -> Option<Variable>
+    ensures { option_map need_of result ≡ once.implicit_variable target.now f.now tied o.now }
+{
+    if is_implicit_operand(o) {
+        operand_variable(target, f, tied, None, o)
+    } else {
+        None
+    }
+}
+
+/// Whether an explicit operand is tied.
+fn is_tied_operand(roles: &[Role], o: &Operand) -> bool
+    ensures { result ≡ once.is_tied_operand roles.now o.now }
+{
+    if is_implicit_operand(o) {
+        false
+    } else {
+        is_tied(first_role(from_explicit(roles)))
+    }
+}
+
+/// Whether one of the explicit operands is tied.
+#[tactic(auto, using(crate::proofs::Operands::ties))]
+fn has_tied_operand(roles: &[Role], operands: &[Operand]) -> bool
+    ensures { result ≡ list_any once.is_tied_bound (explicit_bound (explicit_roles roles.now) (explicit_operands operands.now)) }
+{
+    let mut left = roles;
+    'each: for o in operands {
+        if is_tied_operand(left, o) {
+            return true;
+        }
+        left = left_behind(left, o);
+    }
+    false
+}
+
+/// Whether the opcode ties a use to its definition.
+#[tactic(auto, using(crate::proofs::Operands::has_tie))]
+fn has_tied_pair(target: &Target, i: &Instr) -> bool
+    ensures { result ≡ places.has_tied_pair target.now i.now }
+{
+    has_tied_operand(roles_of(target, i), i.operands.as_slice())
+}
+
+/// Puts the variables of the explicit operands behind the others.
+#[tactic(auto, using(crate::proofs::Operands::explicit_walk))]
+fn add_explicit(
+    target: &Target,
+    f: &Func,
+    tied: bool,
+    roles: &[Role],
+    operands: &[Operand],
+    variables: &mut Vec<Variable>,
+) -> Result<(), AllocError>
+    ensures { OnOk result (map need_of variables.new.items ≡ once.all_once (map need_of variables.old.items) (once.explicit_variables target.now f.now tied roles.now operands.now)) }
+{
+    let mut left = roles;
+    'each: for o in operands {
+        add_if(variables, explicit_variable(target, f, tied, left, o))?;
+        left = left_behind(left, o);
+    }
+    Ok(())
+}
+
+/// Puts the variables of the implicit operands behind the others.
+#[tactic(auto, using(crate::proofs::Operands::implicit_walk))]
+fn add_implicit(
+    target: &Target,
+    f: &Func,
+    tied: bool,
+    operands: &[Operand],
+    variables: &mut Vec<Variable>,
+) -> Result<(), AllocError>
+    ensures { OnOk result (map need_of variables.new.items ≡ once.all_once (map need_of variables.old.items) (filter_map (once.implicit_variable target.now f.now tied) operands.now)) }
+{
+    'each: for o in operands {
+        add_if(variables, implicit_variable(target, f, tied, o))?;
+    }
+    Ok(())
+}
+
+/// Puts the variables of an instruction's operands behind the others: those of the explicit operands
+/// come first.
+#[tactic(auto, using(crate::proofs::Operands::operands_added))]
 fn add_operands(
     target: &Target,
     f: &Func,
     i: &Instr,
     variables: &mut Vec<Variable>,
-) -> Result<(), AllocError> {
-    let mut roles = roles_of(target, i);
-    let tied = has_tied_role(roles);
-    'each: for o in i.operands.as_slice() {
-        if let Operand::Reg(r) = o {
-            if let Some(v) = register_variable(target, f, tied, first_role(roles), *r) {
-                add(variables, v)?;
+) -> Result<(), AllocError>
+    ensures { OnOk result (map need_of variables.new.items ≡ once.all_once (map need_of variables.old.items) (places.operand_variables target.now f.now i.now)) }
+{
+    let (roles, operands) = (roles_of(target, i), i.operands.as_slice());
+    let tied = has_tied_pair(target, i);
+    add_explicit(target, f, tied, roles, operands, variables)?;
+    add_implicit(target, f, tied, operands, variables)?;
+    Ok(())
+}
+
+/// The definition of a copy, where both its sides are virtual.
+fn two_sides(a: &Operand, b: &Operand) -> Option<RegOp>
+    ensures { result ≡ once.two_sides a.now b.now }
+{
+    match a {
+        Operand::Reg(d) => match b {
+            Operand::Reg(s) => {
+                if is_virtual(d.loc) && is_virtual(s.loc) {
+                    Some(*d)
+                } else {
+                    None
+                }
             }
-        }
-        roles = roles_behind(roles);
+            _ => None,
+        },
+        _ => None,
+    }
+}
+
+/// The definition of a copy with these operands, where both its sides are virtual.
+fn virtual_sides(operands: &[Operand]) -> Option<RegOp>
+    ensures { result ≡ once.virtual_sides operands.now }
+{
+    match operands {
+        [a, b, ..] => two_sides(a, b),
+        _ => None,
+    }
+}
+
+/// Puts the variable of a copy with these operands behind the others, where it has one.
+#[tactic(auto, using(crate::proofs::Operands::copy_added))]
+fn add_copy(
+    alloc: Global,
+    target: &Target,
+    f: &Func,
+    operands: &[Operand],
+    variables: &mut Vec<Variable>,
+) -> Result<(), AllocError>
+    ensures { OnOk result (map need_of variables.new.items ≡ once.all_once (map need_of variables.old.items) (places.copy_variables target.now f.now operands.now)) }
+{
+    if let Some(d) = virtual_sides(operands) {
+        let v = copy_variable(alloc, target, f, d)?;
+        add(variables, v)?;
     }
     Ok(())
 }
 
-/// The sides of a copy between virtual registers.
-fn virtual_sides(operands: &[Operand]) -> Option<RegOp> {
-    let Some(Operand::Reg(d)) = operands.get(0) else {
-        return None;
-    };
-    let Some(Operand::Reg(s)) = operands.get(1) else {
-        return None;
-    };
-    match d.loc {
-        Loc::Fixed(_) => None,
-        Loc::Virtual(_) => match s.loc {
-            Loc::Fixed(_) => None,
-            Loc::Virtual(_) => Some(*d),
-        },
+/// Whether the instruction is a copy.
+fn is_copy(target: &Target, i: &Instr) -> bool
+    ensures { result ≡ does is_copy target.now i.now }
+{
+    match effect_of(target, i) {
+        Some(Effect::Copy) => true,
+        _ => false,
+    }
+}
+
+/// Whether it is an IMPLICIT_DEF, a store to a slot or a reload.
+fn moves_alone(target: &Target, i: &Instr) -> bool
+    ensures { result ≡ does places.moves_alone target.now i.now }
+{
+    match effect_of(target, i) {
+        Some(Effect::ImplicitDef | Effect::Spill | Effect::Reload) => true,
+        _ => false,
     }
 }
 
 /// Puts the variables of an instruction behind the others. A copy has one where both its sides are
 /// virtual; IMPLICIT_DEF, stores to slots and reloads have none.
+#[tactic(auto, using(crate::proofs::Operands::instr_added))]
 pub fn add_variables(
     alloc: Global,
     target: &Target,
     f: &Func,
     i: &Instr,
     variables: &mut Vec<Variable>,
-) -> Result<(), AllocError> {
-    match effect_of(target, i) {
-        Some(Effect::Copy) => {
-            if let Some(d) = virtual_sides(i.operands.as_slice()) {
-                variables.push(copy_variable(alloc, target, f, d)?)?;
-            }
-            Ok(())
-        }
-        Some(Effect::ImplicitDef | Effect::Spill | Effect::Reload) => Ok(()),
-        _ => add_operands(target, f, i, variables),
+) -> Result<(), AllocError>
+    ensures { OnOk result (map need_of variables.new.items ≡ once.all_once (map need_of variables.old.items) (places.instr_variables target.now f.now i.now)) }
+{
+    if is_copy(target, i) {
+        add_copy(alloc, target, f, i.operands.as_slice(), variables)?;
+        return Ok(());
     }
+    if moves_alone(target, i) {
+        return Ok(());
+    }
+    add_operands(target, f, i, variables)?;
+    Ok(())
 }
 
-/// The variables of instructions that make one place.
+/// The variables of instructions that make one place: each once, where it is named first.
+#[tactic(auto, using(crate::proofs::Once::instrs_walk))]
 pub fn variables_of(
     alloc: Global,
     target: &Target,
     f: &Func,
     instrs: &[Boxed<Instr>],
-) -> Result<Vec<Variable>, AllocError> {
+) -> Result<Vec<Variable>, AllocError>
+    ensures { IfOk result (λ made. map need_of made.items ≡ places.each_once [] (flat_map (places.instr_variables target.now f.now) instrs.now)) }
+{
     let mut variables = Vec::new(alloc);
     'each: for i in instrs {
         let i = i.get();
