@@ -9,3 +9,6 @@ pub mod Solved
 pub mod Told
 pub mod Writes
 pub mod Owned
+pub mod Stands
+pub mod Given
+pub mod Owns

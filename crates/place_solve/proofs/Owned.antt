@@ -65,7 +65,7 @@ module _ (t : Target) (f : Function) (x : Table) (computed : IsComputed t f x) (
   abbrev Good : Instr → Type 0
   Good i = (s : Seated t f i) × IsExact t f s.block i
 
-  module _ (i : Instr) (s : Seated t f i) (exact : IsExact t f s.block i) (u : ℕ) where
+  module _ (i : Instr) (s : Seated t f i) (u : ℕ) where
     abbrev l : Lane
     l = UnitLane u
 
@@ -84,91 +84,92 @@ module _ (t : Target) (f : Function) (x : Table) (computed : IsComputed t f x) (
         ∙ ap (λ b. block_rest t f b stands.after s.place) (same_value stands.block s.block (sym stands.place ∙ s.is_block))
         ∙ ap (λ is. map (point_item t f s.block) is ++ (block_end t f s.block stands.after ∷ blocks_code (point_item t f) t f stands.after)) (drop-at s.block.instrs s.place i s.is_instr).0
 
-    entered : (enters x (unit_number u) i.id ≡ true) ↔ LivePlace R C (item ∷ rest) l
+    pub entered : (enters x (unit_number u) i.id ≡ true) ↔ LivePlace R C (item ∷ rest) l
     entered =
         let z = (tells t f x computed rules last).entry l refl i.id s.position s.place s.spot in
         ((λ e. subst (λ p. LivePlace R C p l) from (z.0 e)), (λ h. z.1 (subst (λ p. LivePlace R C p l) (sym from) h)))
 
-    left : is_reserved_unit t u ≡ false → (leaves x (unit_number u) i.id ≡ true) ↔ LiveAfter R C item rest l
+    pub left : is_reserved_unit t u ≡ false → (leaves x (unit_number u) i.id ≡ true) ↔ LiveAfter R C item rest l
     left free =
         let z = (tells t f x computed rules last).exit l refl free i.id s.position s.place s.spot in
         ((λ e. subst (AtFirst (λ i p. LiveAfter R C i p l)) from (z.0 e)), (λ h. z.1 (subst (AtFirst (λ i p. LiveAfter R C i p l)) (sym from) h)))
 
-    at-entry : OccupiedAt t f (Entry i.id) l → (LivePlace R C (item ∷ rest) l ⊎ WritingEarly item l) × (is_reserved_unit t u ≡ false)
+    pub at-entry : OccupiedAt t f (Entry i.id) l → (LivePlace R C (item ∷ rest) l ⊎ WritingEarly item l) × (is_reserved_unit t u ≡ false)
     at-entry h = subst (AtFirst (λ i p. OccupiedBefore R C i p l)) from h
 
-    of-entry : (LivePlace R C (item ∷ rest) l ⊎ WritingEarly item l) × (is_reserved_unit t u ≡ false) → OccupiedAt t f (Entry i.id) l
+    pub of-entry : (LivePlace R C (item ∷ rest) l ⊎ WritingEarly item l) × (is_reserved_unit t u ≡ false) → OccupiedAt t f (Entry i.id) l
     of-entry h = subst (AtFirst (λ i p. OccupiedBefore R C i p l)) (sym from) h
 
-    at-exit : OccupiedAt t f (Exit i.id) l → (LiveAfter R C item rest l ⊎ Writing item l) × (is_reserved_unit t u ≡ false)
+    pub at-exit : OccupiedAt t f (Exit i.id) l → (LiveAfter R C item rest l ⊎ Writing item l) × (is_reserved_unit t u ≡ false)
     at-exit h = subst (AtFirst (λ i p. OccupiedAfter R C i p l)) from h
 
-    of-exit : (LiveAfter R C item rest l ⊎ Writing item l) × (is_reserved_unit t u ≡ false) → OccupiedAt t f (Exit i.id) l
+    pub of-exit : (LiveAfter R C item rest l ⊎ Writing item l) × (is_reserved_unit t u ≡ false) → OccupiedAt t f (Exit i.id) l
     of-exit h = subst (AtFirst (λ i p. OccupiedAfter R C i p l)) (sym from) h
 
-    early-few : is_reserved_unit t u ≡ false → WritingEarly item l → u < length t.units
-    early-few free (w, m, h, g) = exact.few u free (w, m, h)
+    module _ (exact : IsExact t f s.block i) where
+      early-few : is_reserved_unit t u ≡ false → WritingEarly item l → u < length t.units
+      early-few free (w, m, h, g) = exact.few u free (w, m, h)
 
-    few-entry : OccupiedAt t f (Entry i.id) l → u < length t.units
-    few-entry h = let z = at-entry h in go z.0 z.1
-      where
-        go : LivePlace R C (item ∷ rest) l ⊎ WritingEarly item l → is_reserved_unit t u ≡ false → u < length t.units
-        go (inl h) free = marks-few t f x computed rules last u (λ o. entry_at x o i.id) refl (entered.1 h)
-        go (inr w) free = early-few free w
-
-    few-exit : OccupiedAt t f (Exit i.id) l → u < length t.units
-    few-exit h = let z = at-exit h in go z.0 z.1
-      where
-        go : LiveAfter R C item rest l ⊎ Writing item l → is_reserved_unit t u ≡ false → u < length t.units
-        go (inl h) free = marks-few t f x computed rules last u (λ o. exit_at x o i.id) refl ((left free).1 h)
-        go (inr w) free = exact.few u free w
-
-    module _ (few : u < length t.units) (free : is_reserved_unit t u ≡ false) where
-      taken-forth : is_taken t x (unit_number u) i ≡ true → OccupiedAt t f (Entry i.id) l
-      taken-forth e = go (either-true (enters x (unit_number u) i.id) (writes_early t i (unit_number u)) e)
+      few-entry : OccupiedAt t f (Entry i.id) l → u < length t.units
+      few-entry h = let z = at-entry h in go z.0 z.1
         where
-          go : (enters x (unit_number u) i.id ≡ true) ⊎ (writes_early t i (unit_number u) ≡ true) → OccupiedAt t f (Entry i.id) l
-          go (inl h) = of-entry (inl (entered.0 h), free)
-          go (inr h) = of-entry (inr ((exact.early u few free).0 h), free)
+          go : LivePlace R C (item ∷ rest) l ⊎ WritingEarly item l → is_reserved_unit t u ≡ false → u < length t.units
+          go (inl h) free = marks-few t f x computed rules last u (λ o. entry_at x o i.id) refl (entered.1 h)
+          go (inr w) free = early-few free w
 
-      taken-back : OccupiedAt t f (Entry i.id) l → is_taken t x (unit_number u) i ≡ true
-      taken-back h = go (at-entry h).0
+      few-exit : OccupiedAt t f (Exit i.id) l → u < length t.units
+      few-exit h = let z = at-exit h in go z.0 z.1
         where
-          go : LivePlace R C (item ∷ rest) l ⊎ WritingEarly item l → is_taken t x (unit_number u) i ≡ true
-          go (inl h) = or-left (enters x (unit_number u) i.id) (writes_early t i (unit_number u)) (entered.1 h)
-          go (inr w) = or-right (enters x (unit_number u) i.id) (writes_early t i (unit_number u)) ((exact.early u few free).1 w)
+          go : LiveAfter R C item rest l ⊎ Writing item l → is_reserved_unit t u ≡ false → u < length t.units
+          go (inl h) free = marks-few t f x computed rules last u (λ o. exit_at x o i.id) refl ((left free).1 h)
+          go (inr w) free = exact.few u free w
 
-      left-forth : is_left t x (unit_number u) i ≡ true → OccupiedAt t f (Exit i.id) l
-      left-forth e = go (either-true (leaves x (unit_number u) i.id) (writes t i (unit_number u)) e)
-        where
-          go : (leaves x (unit_number u) i.id ≡ true) ⊎ (writes t i (unit_number u) ≡ true) → OccupiedAt t f (Exit i.id) l
-          go (inl h) = of-exit (inl ((left free).0 h), free)
-          go (inr h) = of-exit (inr ((exact.written u few free).0 h), free)
+      module _ (few : u < length t.units) (free : is_reserved_unit t u ≡ false) where
+        taken-forth : is_taken t x (unit_number u) i ≡ true → OccupiedAt t f (Entry i.id) l
+        taken-forth e = go (either-true (enters x (unit_number u) i.id) (writes_early t i (unit_number u)) e)
+          where
+            go : (enters x (unit_number u) i.id ≡ true) ⊎ (writes_early t i (unit_number u) ≡ true) → OccupiedAt t f (Entry i.id) l
+            go (inl h) = of-entry (inl (entered.0 h), free)
+            go (inr h) = of-entry (inr ((exact.early u few free).0 h), free)
 
-      left-back : OccupiedAt t f (Exit i.id) l → is_left t x (unit_number u) i ≡ true
-      left-back h = go (at-exit h).0
-        where
-          go : LiveAfter R C item rest l ⊎ Writing item l → is_left t x (unit_number u) i ≡ true
-          go (inl h) = or-left (leaves x (unit_number u) i.id) (writes t i (unit_number u)) ((left free).1 h)
-          go (inr w) = or-right (leaves x (unit_number u) i.id) (writes t i (unit_number u)) ((exact.written u few free).1 w)
+        taken-back : OccupiedAt t f (Entry i.id) l → is_taken t x (unit_number u) i ≡ true
+        taken-back h = go (at-entry h).0
+          where
+            go : LivePlace R C (item ∷ rest) l ⊎ WritingEarly item l → is_taken t x (unit_number u) i ≡ true
+            go (inl h) = or-left (enters x (unit_number u) i.id) (writes_early t i (unit_number u)) (entered.1 h)
+            go (inr w) = or-right (enters x (unit_number u) i.id) (writes_early t i (unit_number u)) ((exact.early u few free).1 w)
 
-      written-forth : writes t i (unit_number u) ≡ true → OccupiedAt t f (Exit i.id) l
-      written-forth h = of-exit (inr ((exact.written u few free).0 h), free)
+        left-forth : is_left t x (unit_number u) i ≡ true → OccupiedAt t f (Exit i.id) l
+        left-forth e = go (either-true (leaves x (unit_number u) i.id) (writes t i (unit_number u)) e)
+          where
+            go : (leaves x (unit_number u) i.id ≡ true) ⊎ (writes t i (unit_number u) ≡ true) → OccupiedAt t f (Exit i.id) l
+            go (inl h) = of-exit (inl ((left free).0 h), free)
+            go (inr h) = of-exit (inr ((exact.written u few free).0 h), free)
 
-      -- what is in use behind it is written, or in use before it
-      passed : OccupiedAt t f (Exit i.id) l → (is_taken t x (unit_number u) i || writes t i (unit_number u)) ≡ true
-      passed h = go (writes t i (unit_number u)) refl (at-exit h).0
-        where
-          taken : is_taken t x (unit_number u) i ≡ true → (is_taken t x (unit_number u) i || writes t i (unit_number u)) ≡ true
-          taken e = or-left (is_taken t x (unit_number u) i) (writes t i (unit_number u)) e
+        left-back : OccupiedAt t f (Exit i.id) l → is_left t x (unit_number u) i ≡ true
+        left-back h = go (at-exit h).0
+          where
+            go : LiveAfter R C item rest l ⊎ Writing item l → is_left t x (unit_number u) i ≡ true
+            go (inl h) = or-left (leaves x (unit_number u) i.id) (writes t i (unit_number u)) ((left free).1 h)
+            go (inr w) = or-right (leaves x (unit_number u) i.id) (writes t i (unit_number u)) ((exact.written u few free).1 w)
 
-          not-written : writes t i (unit_number u) ≡ false → Writing item l → ⊥
-          not-written e w = let h : false ≡ true = sym e ∙ (exact.written u few free).1 w in cc
+        written-forth : writes t i (unit_number u) ≡ true → OccupiedAt t f (Exit i.id) l
+        written-forth h = of-exit (inr ((exact.written u few free).0 h), free)
 
-          go : (b : Bool) → writes t i (unit_number u) ≡ b → LiveAfter R C item rest l ⊎ Writing item l → (is_taken t x (unit_number u) i || writes t i (unit_number u)) ≡ true
-          go true e h = or-right (is_taken t x (unit_number u) i) (writes t i (unit_number u)) e
-          go false e (inr w) = absurd (not-written e w)
-          go false e (inl h) = taken (or-left (enters x (unit_number u) i.id) (writes_early t i (unit_number u)) (entered.1 (unwritten-live R C item rest l free (not-written e) h)))
+        -- what is in use behind it is written, or in use before it
+        passed : OccupiedAt t f (Exit i.id) l → (is_taken t x (unit_number u) i || writes t i (unit_number u)) ≡ true
+        passed h = go (writes t i (unit_number u)) refl (at-exit h).0
+          where
+            taken : is_taken t x (unit_number u) i ≡ true → (is_taken t x (unit_number u) i || writes t i (unit_number u)) ≡ true
+            taken e = or-left (is_taken t x (unit_number u) i) (writes t i (unit_number u)) e
+
+            not-written : writes t i (unit_number u) ≡ false → Writing item l → ⊥
+            not-written e w = let h : false ≡ true = sym e ∙ (exact.written u few free).1 w in cc
+
+            go : (b : Bool) → writes t i (unit_number u) ≡ b → LiveAfter R C item rest l ⊎ Writing item l → (is_taken t x (unit_number u) i || writes t i (unit_number u)) ≡ true
+            go true e h = or-right (is_taken t x (unit_number u) i) (writes t i (unit_number u)) e
+            go false e (inr w) = absurd (not-written e w)
+            go false e (inl h) = taken (or-left (enters x (unit_number u) i.id) (writes_early t i (unit_number u)) (entered.1 (unwritten-live R C item rest l free (not-written e) h)))
 
   -- the instructions of a place
 
@@ -181,15 +182,15 @@ module _ (t : Target) (f : Function) (x : Table) (computed : IsComputed t f x) (
   module _ (u : ℕ) (few : u < length t.units) (free : is_reserved_unit t u ≡ false) where
     entry-forth : (is : List Instr) → AllGood is → entry_tests t x (unit_number u) is ≡ true → OneIn (entries_of is) u
     entry-forth [] good e = absurd (cc)
-    entry-forth (i ∷ []) good e = let g = good i first in (Entry i.id, first, taken-forth i g.0 g.1 u few free e)
+    entry-forth (i ∷ []) good e = let g = good i first in (Entry i.id, first, taken-forth i g.0 u g.1 few free e)
     entry-forth (i ∷ j ∷ is) good e = go (either-true (is_taken t x (unit_number u) i || writes t i (unit_number u)) (entry_tests t x (unit_number u) (j ∷ is)) e) (entry-forth (j ∷ is) (λ k m. good k (later m)))
       where
         g : Good i
         g = good i first
 
         here : (is_taken t x (unit_number u) i ≡ true) ⊎ (writes t i (unit_number u) ≡ true) → OneIn (entries_of (i ∷ j ∷ is)) u
-        here (inl h) = (Entry i.id, first, taken-forth i g.0 g.1 u few free h)
-        here (inr h) = (Exit i.id, later first, written-forth i g.0 g.1 u few free h)
+        here (inl h) = (Entry i.id, first, taken-forth i g.0 u g.1 few free h)
+        here (inr h) = (Exit i.id, later first, written-forth i g.0 u g.1 few free h)
 
         go : ((is_taken t x (unit_number u) i || writes t i (unit_number u)) ≡ true) ⊎ (entry_tests t x (unit_number u) (j ∷ is) ≡ true) → (entry_tests t x (unit_number u) (j ∷ is) ≡ true → OneIn (entries_of (j ∷ is)) u) → OneIn (entries_of (i ∷ j ∷ is)) u
         go (inl h) ih = here (either-true (is_taken t x (unit_number u) i) (writes t i (unit_number u)) h)
@@ -197,32 +198,32 @@ module _ (t : Target) (f : Function) (x : Table) (computed : IsComputed t f x) (
 
     entry-back : (is : List Instr) → AllGood is → (q : Point) → Member q (entries_of is) → OccupiedAt t f q (UnitLane u) → entry_tests t x (unit_number u) is ≡ true
     entry-back [] good q m h = absurd (member-none q m)
-    entry-back (i ∷ []) good q m h = let g = good i first in member-elim q (Entry i.id) [] (λ e. taken-back i g.0 g.1 u few free (subst (λ p. OccupiedAt t f p (UnitLane u)) e h)) (λ k. absurd (member-none q k)) m
+    entry-back (i ∷ []) good q m h = let g = good i first in member-elim q (Entry i.id) [] (λ e. taken-back i g.0 u g.1 few free (subst (λ p. OccupiedAt t f p (UnitLane u)) e h)) (λ k. absurd (member-none q k)) m
     entry-back (i ∷ j ∷ is) good q m h =
         let g = good i first in
         let A = is_taken t x (unit_number u) i || writes t i (unit_number u) in
         let B = entry_tests t x (unit_number u) (j ∷ is) in
         member-elim q (Entry i.id) (Exit i.id ∷ entries_of (j ∷ is))
-        (λ e. or-left A B (or-left (is_taken t x (unit_number u) i) (writes t i (unit_number u)) (taken-back i g.0 g.1 u few free (subst (λ p. OccupiedAt t f p (UnitLane u)) e h))))
-        (λ k. member-elim q (Exit i.id) (entries_of (j ∷ is)) (λ e. or-left A B (passed i g.0 g.1 u few free (subst (λ p. OccupiedAt t f p (UnitLane u)) e h))) (λ n. or-right A B (entry-back (j ∷ is) (λ k m. good k (later m)) q n h)) k)
+        (λ e. or-left A B (or-left (is_taken t x (unit_number u) i) (writes t i (unit_number u)) (taken-back i g.0 u g.1 few free (subst (λ p. OccupiedAt t f p (UnitLane u)) e h))))
+        (λ k. member-elim q (Exit i.id) (entries_of (j ∷ is)) (λ e. or-left A B (passed i g.0 u g.1 few free (subst (λ p. OccupiedAt t f p (UnitLane u)) e h))) (λ n. or-right A B (entry-back (j ∷ is) (λ k m. good k (later m)) q n h)) k)
         m
 
     exit-forth : (is : List Instr) → AllGood is → exit_tests t x (unit_number u) is ≡ true → OneIn (map (λ i. Exit i.id) is) u
     exit-forth is good e =
         let z = any-of (is_left t x (unit_number u)) is e in
         let g = good z.0 z.1 in
-        (Exit z.0.id, map-in (λ i. Exit i.id) z.0 is z.1, left-forth z.0 g.0 g.1 u few free z.2)
+        (Exit z.0.id, map-in (λ i. Exit i.id) z.0 is z.1, left-forth z.0 g.0 u g.1 few free z.2)
 
     exit-back : (is : List Instr) → AllGood is → (q : Point) → Member q (map (λ i. Exit i.id) is) → OccupiedAt t f q (UnitLane u) → exit_tests t x (unit_number u) is ≡ true
     exit-back is good q m h =
         let z = map-of (λ i. Exit i.id) q is m in
         let g = good z.0 z.1 in
-        any-in (is_left t x (unit_number u)) z.0 is z.1 (left-back z.0 g.0 g.1 u few free (subst (λ p. OccupiedAt t f p (UnitLane u)) z.2 h))
+        any-in (is_left t x (unit_number u)) z.0 is z.1 (left-back z.0 g.0 u g.1 few free (subst (λ p. OccupiedAt t f p (UnitLane u)) z.2 h))
 
   -- what is in use is a unit that takes part
 
   taking : (i : Instr) → Good i → (u : ℕ) → (OccupiedAt t f (Entry i.id) (UnitLane u) → (u < length t.units) × (is_reserved_unit t u ≡ false)) × (OccupiedAt t f (Exit i.id) (UnitLane u) → (u < length t.units) × (is_reserved_unit t u ≡ false))
-  taking i g u = ((λ h. (few-entry i g.0 g.1 u h, (at-entry i g.0 g.1 u h).1)), (λ h. (few-exit i g.0 g.1 u h, (at-exit i g.0 g.1 u h).1)))
+  taking i g u = ((λ h. (few-entry i g.0 u g.1 h, (at-entry i g.0 u h).1)), (λ h. (few-exit i g.0 u g.1 h, (at-exit i g.0 u h).1)))
 
   entry-takes : (is : List Instr) → AllGood is → (u : ℕ) (q : Point) → Member q (entries_of is) → OccupiedAt t f q (UnitLane u) → (u < length t.units) × (is_reserved_unit t u ≡ false)
   entry-takes [] good u q m h = absurd (member-none q m)
@@ -256,7 +257,7 @@ module _ (t : Target) (f : Function) (x : Table) (computed : IsComputed t f x) (
     pub place-told : (is_solved t x a (place_of t f is.now).variables ≡ true) ↔ Admits t f (place_of t f is.now)
     place-told = admitted t f (place_of t f is.now) (entry_of t x a) (exit_of t x a) (place-entry, place-exit)
 
-  exact-of : (i : Instr) (s : Seated t f i) (e : Effect) → effect_of t i ≡ Some e → is_silent e ≡ false → IsExact t f s.block i
+  pub exact-of : (i : Instr) (s : Seated t f i) (e : Effect) → effect_of t i ≡ Some e → is_silent e ≡ false → IsExact t f s.block i
   exact-of i s e known counted =
       let mb = slice-member f.blocks s.position s.block s.is_block in
       let mi = slice-member s.block.instrs s.place i s.is_instr in

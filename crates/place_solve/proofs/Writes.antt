@@ -113,20 +113,20 @@ register-of os d m = let z = filtered-of as_register d os m in subst (λ o. Memb
     go (operands.Mask x) e = absurd (cc)
 
 module _ (t : Target) (f : Function) where
-  unit-of : (x : Loc) (q : Option IndexId) (u : ℕ) → Member (UnitLane u) (located_lanes t f x q) → has_unit t x (unit_number u) ≡ true
+  pub unit-of : (x : Loc) (q : Option IndexId) (u : ℕ) → Member (UnitLane u) (located_lanes t f x q) → has_unit t x (unit_number u) ≡ true
   unit-of (Virtual v) None u m = let z = map-of (VirtualLane v) (UnitLane u) (numbers 0 (length (range_widths t f v))) m in absurd (let h = z.2 in cc)
   unit-of (Virtual v) (Some i) u m = let z = map-of (VirtualLane v) (UnitLane u) (lanes_of t i) m in absurd (let h = z.2 in cc)
   unit-of (Fixed r) q u m =
       let z = map-of (λ w. UnitLane w.0) (UnitLane u) (units_of t r) m in
       any-in (λ v. v.0 == u) z.0 (units_of t r) z.1 (eq-eqb z.0.0 u (sym (unit-same u z.0.0 z.2)))
 
-  unit-in : (x : Loc) (q : Option IndexId) (u : ℕ) → has_unit t x (unit_number u) ≡ true → Member (UnitLane u) (located_lanes t f x q)
+  pub unit-in : (x : Loc) (q : Option IndexId) (u : ℕ) → has_unit t x (unit_number u) ≡ true → Member (UnitLane u) (located_lanes t f x q)
   unit-in (Virtual v) q u e = absurd (cc)
   unit-in (Fixed r) q u e =
       let z = any-of (λ v. v.0 == u) (units_of t r) e in
       subst (λ k. Member (UnitLane k) (located_lanes t f (Fixed r) q)) (eqb-true z.0.0 u z.2) (map-in (λ w. UnitLane w.0) z.0 (units_of t r) z.1)
 
-  no-other : (d : RegOp) (u : ℕ) → Member (UnitLane u) (undefined_lanes t f d) → ⊥
+  pub no-other : (d : RegOp) (u : ℕ) → Member (UnitLane u) (undefined_lanes t f d) → ⊥
   no-other d u m = go (d.def && d.undef) d.loc m
     where
       go : (b : Bool) (x : Loc) → Member (UnitLane u) (cond b (whole_lanes t f x) []) → ⊥
@@ -136,7 +136,7 @@ module _ (t : Target) (f : Function) where
 
   -- the definition of the unit
 
-  defined-of : (u : UnitNumber) (os : List Operand) → list_any (defines t u) os ≡ true → (d : RegOp) × Member d (registers os) × (d.def ≡ true) × (has_unit t d.loc u ≡ true)
+  pub defined-of : (u : UnitNumber) (os : List Operand) → list_any (defines t u) os ≡ true → (d : RegOp) × Member d (registers os) × (d.def ≡ true) × (has_unit t d.loc u ≡ true)
   unfolding defines
   defined-of u os e = let z = any-of (defines t u) os e in go z.0 z.1 z.2
     where
@@ -150,11 +150,11 @@ module _ (t : Target) (f : Function) where
       go (operands.Index x) m h = absurd (cc)
       go (operands.Mask x) m h = absurd (cc)
 
-  defined-in : (u : UnitNumber) (os : List Operand) (d : RegOp) → Member d (registers os) → d.def ≡ true → has_unit t d.loc u ≡ true → list_any (defines t u) os ≡ true
+  pub defined-in : (u : UnitNumber) (os : List Operand) (d : RegOp) → Member d (registers os) → d.def ≡ true → has_unit t d.loc u ≡ true → list_any (defines t u) os ≡ true
   unfolding defines
   defined-in u os d m e h = any-in (defines t u) (operands.Reg d) os (register-of os d m) (both d.def (has_unit t d.loc u) e h)
 
-  explicit-of : (u : UnitNumber) (os : List Operand) → list_any (defines_explicitly t u) os ≡ true → (d : RegOp) × Member d (explicit_definitions os) × (has_unit t d.loc u ≡ true)
+  pub explicit-of : (u : UnitNumber) (os : List Operand) → list_any (defines_explicitly t u) os ≡ true → (d : RegOp) × Member d (explicit_definitions os) × (has_unit t d.loc u ≡ true)
   unfolding defines_explicitly
   explicit-of u os e = let z = any-of (defines_explicitly t u) os e in go z.0 z.1 z.2
     where
@@ -169,7 +169,7 @@ module _ (t : Target) (f : Function) where
       go (operands.Index x) m h = absurd (cc)
       go (operands.Mask x) m h = absurd (cc)
 
-  explicit-in : (u : UnitNumber) (os : List Operand) (d : RegOp) → Member d (explicit_definitions os) → has_unit t d.loc u ≡ true → list_any (defines_explicitly t u) os ≡ true
+  pub explicit-in : (u : UnitNumber) (os : List Operand) (d : RegOp) → Member d (explicit_definitions os) → has_unit t d.loc u ≡ true → list_any (defines_explicitly t u) os ≡ true
   unfolding defines_explicitly
   explicit-in u os d m h =
       let z = filter-of (λ o. o.def && not o.implicit) d (registers os) m in

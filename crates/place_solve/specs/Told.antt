@@ -1,5 +1,12 @@
 -- What the table of live lanes tells of places.
-use Rattle.std.specs.Prelude.{◌≡◌, ℕ, Bool, true, false, List, [], ◌∷◌, length, nat_lt, Some, slice_get}
+use Rattle.std.specs.Prelude.{◌≡◌, ◌≤◌, ℕ, Bool, true, false, cond, List, [], ◌∷◌, length, nat_lt, None, Some, slice_get}
+use Rattle.std.specs.Borrow.{Bor}
+use Rattle.target_base.specs.Rules.{is_copy}
+use Rattle.mir_func.specs.Value.{id_total}
+use Rattle.mir_meaning.specs.declared.Form.TheVariants as forms
+use Rattle.mir_meaning.specs.Valid.{shape_fault}
+use Rattle.effect_laws.specs.Shaped.{AreClasses}
+use Rattle.place_solve.specs.Own.{place_variables}
 use Rattle.target_base.specs.declared.types.Unit.{Unit as UnitNumber}
 use Rattle.target_base.specs.declared.types.Target.{Target}
 use Rattle.mir_func.specs.declared.func.Block.{Block}
@@ -46,3 +53,21 @@ pub record Seated (t : Target) (f : Function) (i : Instr) : Type 0 where
   pub spot : spot_in i.id f.blocks ≡ Some (position, place)
   pub is_block : slice_get f.blocks position ≡ Some block
   pub is_instr : slice_get block.instrs place ≡ Some i
+
+-- where these instructions, which make one place, stand: a copy counts by the point before it
+abbrev pub around_at : Target → Bor (List Instr) → List Instr → Around
+around_at t is [] = arounds.Instrs is
+around_at t is (i ∷ more) = cond (does is_copy t i) (arounds.Before i.id) (arounds.Instrs is)
+
+abbrev pub own_around : Target → Bor (List Instr) → Around
+own_around t is = around_at t is is.now
+
+-- the own place of these instructions admits a choice, by the table
+abbrev pub own_solved : Target → Function → Table → Bor (List Instr) → Bool
+own_solved t f x is = is_solved t x (own_around t is) (place_variables t f is.now)
+
+-- what a valid source is known by here, whose virtual registers are of classes of the target
+pub record IsSource (t : Target) (f : Function) : Type 0 where
+  pub valid : shape_fault t forms.Source f ≡ None
+  pub classes : AreClasses t f
+  pub once : (id : ℕ) → id_total id f.blocks ≤ 1
