@@ -12,3 +12,5 @@ pub mod Owned
 pub mod Stands
 pub mod Given
 pub mod Owns
+pub mod Serving
+pub mod OwnPlaces

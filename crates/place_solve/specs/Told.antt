@@ -1,20 +1,21 @@
 -- What the table of live lanes tells of places.
-use Rattle.std.specs.Prelude.{◌≡◌, ◌≤◌, ℕ, Bool, true, false, cond, List, [], ◌∷◌, length, nat_lt, None, Some, slice_get}
+use Rattle.std.specs.Prelude.{◌≡◌, ◌<◌, ◌≤◌, ℕ, Bool, true, false, cond, List, [], ◌∷◌, length, nat_lt, None, Some, slice_get}
 use Rattle.std.specs.Borrow.{Bor}
 use Rattle.target_base.specs.Rules.{is_copy}
 use Rattle.mir_func.specs.Value.{id_total}
 use Rattle.mir_meaning.specs.declared.Form.TheVariants as forms
 use Rattle.mir_meaning.specs.Valid.{shape_fault}
 use Rattle.effect_laws.specs.Shaped.{AreClasses}
-use Rattle.place_solve.specs.Own.{place_variables}
+use Rattle.place_solve.specs.Own.{own_instrs, place_variables}
 use Rattle.target_base.specs.declared.types.Unit.{Unit as UnitNumber}
 use Rattle.target_base.specs.declared.types.Target.{Target}
 use Rattle.mir_func.specs.declared.func.Block.{Block}
 use Rattle.mir_func.specs.declared.func.Instr.{Instr}
+use Rattle.meaning.specs.Live.{Among}
 use Rattle.mir_func.specs.Value.{Function}
 use Rattle.mir_meaning.specs.Binding.{does, is_terminator}
 use Rattle.mir_meaning.specs.Points.{Point, Start, Entry, Exit}
-use Rattle.mir_meaning.specs.Places.{Variable as Need, Needs, solutions}
+use Rattle.mir_meaning.specs.Places.{Variable as Need, Needs, Admits, own_places, solutions}
 use Rattle.effect_laws.specs.Coded.{spot_in}
 use Rattle.live_lanes.specs.declared.table.Table.{Table}
 use Rattle.place_solve.specs.declared.around.Around.{Around}
@@ -71,3 +72,19 @@ pub record IsSource (t : Target) (f : Function) : Type 0 where
   pub valid : shape_fault t forms.Source f ≡ None
   pub classes : AreClasses t f
   pub once : (id : ℕ) → id_total id f.blocks ≤ 1
+
+-- this answers whether the own place of the instruction at j of these admits a choice, by the table
+abbrev pub OwnTold : Target → Function → Table → List Instr → ℕ → Bool → Type 0
+OwnTold t f x is j answer = (w : Bor (List Instr)) → w.now ≡ own_instrs t is j → answer ≡ own_solved t f x w
+
+-- the own places of the instructions at the first of n places of these admit choices, by the table
+abbrev pub OwnServe : Target → Function → Table → List Instr → ℕ → Type 0
+OwnServe t f x is n = (j : ℕ) → j < n → OwnTold t f x is j true
+
+-- so do those of all instructions of the first n blocks
+abbrev pub BlocksServe : Target → Function → Table → List Block → ℕ → Type 0
+BlocksServe t f x bs n = (k : ℕ) (b : Block) → k < n → slice_get bs k ≡ Some b → OwnServe t f x b.instrs (length b.instrs)
+
+-- the own place of each instruction admits a choice
+abbrev pub OwnPlacesServe : Target → Function → Type 0
+OwnPlacesServe t f = (k j : ℕ) (b : Block) (i : Instr) → slice_get f.blocks k ≡ Some b → slice_get b.instrs j ≡ Some i → (p : Needs) → Among p (own_places t f b j i) → Admits t f p
