@@ -1,6 +1,6 @@
 -- What a constant or an address writes of units, by its operands.
-use Rattle.std.proofs.Common.{◌≡◌, ◌⊎◌, ◌∙◌, ◌<◌, ◌≤◌, ◌+◌, ℕ, zero, suc, Bool, true, false, cond, not, List, [], ◌∷◌, ◌++◌, Option, Some, None, refl, sym, ap, subst, map, filter, drop, length, inl, inr, arith, sum}
-use Rattle.std.specs.Prelude.{◌↔◌, ◌&&◌, ◌||◌, ◌==◌, option_map, slice_get}
+use Rattle.std.proofs.Common.{◌≡◌, ◌⊎◌, ◌∙◌, ◌<◌, ◌≤◌, ◌+◌, ℕ, zero, suc, Bool, true, false, cond, not, List, [], ◌∷◌, ◌++◌, Option, Some, None, refl, sym, ap, subst, map, drop, length, inl, inr, arith, sum}
+use Rattle.std.specs.Prelude.{◌&&◌, ◌==◌, option_map, slice_get}
 use Rattle.std.specs.List.{list_all, list_any}
 use Rattle.std.proofs.Common.{eqb-true}
 use Rattle.target_base.specs.declared.types.Effect.{Effect}
@@ -9,7 +9,6 @@ use Rattle.target_base.specs.declared.types.OpcodeDesc.{OpcodeDesc}
 use Rattle.target_base.specs.declared.types.Role.{Role}
 use Rattle.target_base.specs.declared.types.Role.TheVariants as roles
 use Rattle.target_base.specs.declared.types.Target.{Target}
-use Rattle.target_base.specs.declared.types.Unit.{Unit as UnitNumber}
 use Rattle.target_base.specs.Numbers.{unit_number}
 use Rattle.target_base.specs.Registers.{units_of}
 use Rattle.target_base.specs.Roles.{is_silent, is_implicit, explicit_shape, shape_fits, has_shape, is_immediate, is_frame_or_symbol, is_definition as is_definition_role}
@@ -24,9 +23,8 @@ use Rattle.meaning.specs.declared.types.Lane.TheVariants.{UnitLane}
 use Rattle.meaning.specs.declared.types.Source.{Source}
 use Rattle.meaning.specs.declared.types.Write.{Write}
 use Rattle.meaning.specs.Code.{Silent, Counted}
-use Rattle.meaning.specs.Environment.{constant_source}
 use Rattle.meaning.specs.Lanes.{Writes}
-use Rattle.meaning.specs.Live.{Among as Member, here as first, there as later, Writing, WritingEarly, writes_of}
+use Rattle.meaning.specs.Live.{Among as Member, here as first, there as later, writes_of}
 use Rattle.mir_func.specs.declared.func.Loc.{Loc}
 use Rattle.mir_func.specs.declared.func.Loc.TheVariants.{Virtual, Fixed}
 use Rattle.mir_func.specs.declared.func.RegOp.{RegOp}
@@ -39,9 +37,9 @@ use Rattle.mir_func.specs.declared.func.Block.{Block}
 use Rattle.mir_func.specs.Value.{Function}
 use Rattle.mir_meaning.specs.Binding.{does, effect_of, explicit_operands, explicit_roles, implicit_registers, is_early_clobber, is_terminator, known_opcode, passes, registers, roles_of, takes_many}
 use Rattle.mir_meaning.specs.Codes.{effect_item, item_of, target_of, way, ways_out}
-use Rattle.mir_meaning.specs.Items.{constant_bits, constant_lanes, constant_of, counted_writes, defined, defined_undef, given_constant, moved, rest_of, silent_reads, silent_writes, undefined, values, write}
+use Rattle.mir_meaning.specs.Items.{constant_bits, constant_lanes, constant_of, counted_writes, defined_undef, given_constant, moved, rest_of, silent_reads, silent_writes, undefined, values, write}
 use Rattle.mir_meaning.specs.Points.{point_item}
-use Rattle.mir_meaning.specs.Registers.{located_lanes, located_widths, operand_lanes, operand_widths, is_reserved_unit, undefined_lanes}
+use Rattle.mir_meaning.specs.Registers.{located_lanes, located_widths, operand_lanes, operand_widths, undefined_lanes}
 use Rattle.mir_meaning.specs.Rules.{V1, explicit_fit, fits_role, implicit_fit, is_definition, is_virtual, operands_fit}
 use Rattle.lane_effects.specs.Acts.{is_call}
 use Rattle.lane_effects.proofs.Members.{member-none, member-elim, left-in, in-either, filter-of, filter-in}

@@ -1,15 +1,13 @@
 -- Where the search finds a choice at each own place of a valid source, each admits one.
-use Rattle.std.proofs.Common.{◌≡◌, ◌∙◌, ◌≤◌, ◌<◌, ℕ, true, List, Some, refl, sym, length, subst, Bor}
+use Rattle.std.proofs.Common.{◌≡◌, ◌∙◌, ◌≤◌, ℕ, true, List, refl, sym, length, subst, Bor}
 use Rattle.std.proofs.Common.{Bool, false, arith}
-use Rattle.std.specs.Prelude.{if◌then◌else◌, nat_lt, slice_get}
+use Rattle.std.specs.Prelude.{if◌then◌else◌, nat_lt}
 use Rattle.std.proofs.lemmas.Option.{slice_get_within}
 use Rattle.target_base.specs.declared.types.Target.{Target}
-use Rattle.meaning.specs.Live.{Among}
 use Rattle.mir_func.specs.declared.func.Instr.{Instr}
 use Rattle.mir_func.specs.declared.func.Block.{Block}
 use Rattle.mir_func.specs.Value.{Function, id_total}
 use Rattle.mir_meaning.specs.declared.Form.TheVariants as forms
-use Rattle.mir_meaning.specs.Places.{Needs, Admits, own_places}
 use Rattle.mir_meaning.specs.Valid.{IsValid}
 use Rattle.effect_laws.specs.Shaped.{AreClasses}
 use Rattle.effect_laws.proofs.Valid.{valid-law, ends}

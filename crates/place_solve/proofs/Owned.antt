@@ -1,7 +1,6 @@
 -- Where a table is computed, its tests tell exactly the units in use at the place of instructions.
-use Rattle.std.proofs.Common.{◌≡◌, ◌⊎◌, ◌∙◌, ◌<◌, ℕ, suc, Bool, true, false, List, [], ◌∷◌, ◌++◌, Option, Some, None, refl, sym, ap, subst, map, drop, length, inl, inr, Bor}
-use Rattle.std.specs.Prelude.{◌↔◌, ◌&&◌, ◌||◌, Decides, slice_get}
-use Rattle.std.specs.List.{list_any}
+use Rattle.std.proofs.Common.{◌≡◌, ◌⊎◌, ◌∙◌, ◌<◌, ℕ, suc, Bool, true, false, List, [], ◌∷◌, ◌++◌, Some, refl, sym, ap, subst, map, drop, length, inl, inr, Bor}
+use Rattle.std.specs.Prelude.{◌↔◌, ◌||◌, slice_get}
 use Rattle.target_base.specs.declared.types.Effect.{Effect}
 use Rattle.target_base.specs.declared.types.Target.{Target}
 use Rattle.target_base.specs.Numbers.{unit_number}
@@ -21,12 +20,12 @@ use Rattle.mir_meaning.specs.Binding.{effect_of}
 use Rattle.mir_meaning.specs.Codes.{block_end, blocks_code}
 use Rattle.lane_effects.specs.Numbered.{number_in}
 use Rattle.mir_meaning.specs.Registers.{is_reserved, is_reserved_unit}
-use Rattle.mir_meaning.specs.Points.{Point, Entry, Exit, LiveAt, OccupiedAt, Tests, AtFirst, point_item, points_of, from_instr, block_rest}
-use Rattle.mir_meaning.specs.Places.{AtEntry, AtExit, Admits, UnitsOf, place_of, entries_of}
+use Rattle.mir_meaning.specs.Points.{Point, Entry, Exit, OccupiedAt, Tests, AtFirst, point_item, points_of, from_instr, block_rest}
+use Rattle.mir_meaning.specs.Places.{AtEntry, AtExit, Admits, place_of, entries_of}
 use Rattle.mir_meaning.specs.Rules.{V8}
 use Rattle.lane_effects.proofs.Members.{member-none, member-elim, map-of, map-in}
 use Rattle.lane_effects.proofs.Plain.{filled-cases}
-use Rattle.effect_laws.specs.Coded.{KeepsRules, spot_in}
+use Rattle.effect_laws.specs.Coded.{KeepsRules}
 use Rattle.effect_laws.proofs.Blocks.{slice-member}
 use Rattle.effect_laws.proofs.Lists.{any-in}
 use Rattle.live_lanes.specs.declared.table.Table.{Table}
@@ -35,10 +34,10 @@ use Rattle.live_lanes.specs.Looks.{entry_at, exit_at}
 use Rattle.live_exact.proofs.Spots.{Spot, spot, drop-at}
 use Rattle.place_solve.specs.declared.around.Around.{Around}
 use Rattle.place_solve.specs.declared.around.Around.TheVariants as arounds
-use Rattle.place_solve.specs.Around.{entry_tests, exit_tests, is_taken, is_left, enters, leaves, writes, writes_early, entry_of, exit_of, takes_part}
+use Rattle.place_solve.specs.Around.{entry_tests, exit_tests, is_taken, is_left, enters, leaves, writes, writes_early, entry_of, exit_of}
 use Rattle.place_solve.specs.Laws.{PlaceLaw}
 use Rattle.place_solve.specs.Told.{is_solved, Seated}
-use Rattle.place_solve.proofs.Told.{admitted, decides-as, few-numbered, live-free, numbered, same_value, decides-takes, tells, marks-few}
+use Rattle.place_solve.proofs.Told.{admitted, few-numbered, numbered, same_value, decides-takes, tells, marks-few}
 use Rattle.place_solve.proofs.Writes.{IsExact, any-of, either-true, or-left, or-right, told, early-told, numbered-written}
 
 -- a lane that is live behind an item that doesn't write it is live before it

@@ -1,6 +1,6 @@
 -- In a valid source the tests of own places tell which admit a choice.
-use Rattle.std.proofs.Common.{◌≡◌, ◌⊎◌, ◌∙◌, ◌<◌, ◌≤◌, ◌+◌, ℕ, zero, suc, Bool, true, false, cond, not, List, [], ◌∷◌, ◌++◌, Option, Some, None, refl, sym, ap, subst, map, drop, take, length, inl, inr, Bor, arith, eq-eqb, eqb-true}
-use Rattle.std.specs.Prelude.{◌↔◌, ◌&&◌, ◌||◌, Decides, nat_eq, nat_lt, option_map, slice_get, flat_map}
+use Rattle.std.proofs.Common.{◌≡◌, ◌⊎◌, ◌∙◌, ◌<◌, ◌+◌, ℕ, zero, suc, Bool, true, false, cond, not, List, [], ◌∷◌, ◌++◌, Some, refl, sym, ap, subst, drop, take, length, inl, inr, Bor, arith, eq-eqb, eqb-true}
+use Rattle.std.specs.Prelude.{◌↔◌, ◌&&◌, ◌||◌, Decides, nat_eq, nat_lt, option_map, slice_get}
 use Rattle.std.specs.List.{list_any}
 use Rattle.target_base.specs.declared.types.Effect.{Effect}
 use Rattle.target_base.specs.declared.types.Effect.TheVariants as effects
@@ -12,19 +12,19 @@ use Rattle.target_base.specs.Rules.{is_copy}
 use Rattle.meaning.specs.declared.types.Lane.{Lane}
 use Rattle.meaning.specs.declared.types.Lane.TheVariants.{VirtualLane, UnitLane, SlotLane}
 use Rattle.meaning.specs.declared.types.Write.{Write}
-use Rattle.meaning.specs.Code.{Item, Code as Places}
-use Rattle.meaning.specs.Live.{Among as Member, here as first, there as later, Live as LivePlace, LiveAfter, Writing, WritingEarly, writes_of}
+use Rattle.meaning.specs.Code.{Item}
+use Rattle.meaning.specs.Live.{Among as Member, here as first, there as later, Writing, WritingEarly, writes_of}
 use Rattle.mir_func.specs.declared.func.Block.{Block}
 use Rattle.mir_func.specs.declared.func.Instr.{Instr}
 use Rattle.mir_func.specs.Value.{Function}
 use Rattle.mir_meaning.specs.declared.Form.TheVariants as forms
 use Rattle.mir_meaning.specs.Binding.{does, effect_of, is_terminator, known_opcode, passes}
-use Rattle.mir_meaning.specs.Registers.{is_reserved, is_reserved_unit}
-use Rattle.mir_meaning.specs.Points.{Point, Entry, Exit, LiveAt, OccupiedAt, Tests, point_item}
-use Rattle.mir_meaning.specs.Places.{Variable as Need, Needs, AtEntry, AtExit, Admits, UnitsOf, copy_place, copy_variables, each_once, instr_place, instr_variables, moves_alone, operand_variables, own_places, place_of, solutions}
-use Rattle.mir_meaning.specs.Rules.{V8, is_lowered_away, is_virtual}
+use Rattle.mir_meaning.specs.Registers.{is_reserved_unit}
+use Rattle.mir_meaning.specs.Points.{Entry, Exit, OccupiedAt, Tests, point_item}
+use Rattle.mir_meaning.specs.Places.{Variable as Need, Needs, AtEntry, AtExit, Admits, copy_place, copy_variables, each_once, instr_place, instr_variables, moves_alone, operand_variables, own_places, place_of, solutions}
+use Rattle.mir_meaning.specs.Rules.{V8, is_lowered_away}
 use Rattle.lane_effects.proofs.Members.{member-none, member-elim}
-use Rattle.effect_laws.specs.Coded.{KeepsRules, spot_in}
+use Rattle.effect_laws.specs.Coded.{KeepsRules}
 use Rattle.effect_laws.proofs.Blocks.{slice-member, member-slice}
 use Rattle.effect_laws.proofs.Lists.{any-in}
 use Rattle.effect_laws.proofs.Valid.{valid-law, ends}
@@ -36,7 +36,7 @@ use Rattle.place_solve.specs.Around.{enters, leaves}
 use Rattle.place_solve.specs.Laws.{OwnLaw}
 use Rattle.place_solve.specs.Own.{own_of, own_found, own_instrs, place_variables}
 use Rattle.place_solve.specs.Told.{around_at, is_solved, own_around, own_solved, IsSource, Seated}
-use Rattle.place_solve.proofs.Told.{admitted, copy-told, decides-as}
+use Rattle.place_solve.proofs.Told.{copy-told}
 use Rattle.target_base.proofs.Tests.{first_of_both, second_of_both}
 use Rattle.place_solve.proofs.Owned.{at-entry, at-exit, of-entry, of-exit, entered, left, exact-of, place-told}
 use Rattle.place_solve.proofs.Writes.{IsExact, any-of, both, either-true, or-left, or-right}

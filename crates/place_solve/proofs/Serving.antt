@@ -15,11 +15,11 @@ use Rattle.mir_meaning.specs.Places.{Variable as Need, solutions}
 use Rattle.live_lanes.specs.declared.table.Table.{Table}
 use Rattle.place_solve.specs.declared.around.Around.{Around}
 use Rattle.place_solve.specs.declared.around.Around.TheVariants as arounds
-use Rattle.place_solve.specs.Around.{at_entry, at_exit, entry_of, entry_tests, exit_of, exit_tests, takes_part}
+use Rattle.place_solve.specs.Around.{entry_of, entry_tests, exit_of, exit_tests, takes_part}
 use Rattle.place_solve.specs.declared.variables.Variable.{Variable}
 use Rattle.place_solve.specs.Choice.{first, need_of}
 use Rattle.place_solve.specs.Own.{own_instrs, place_variables}
-use Rattle.place_solve.specs.Told.{around_at, is_solved, own_around, own_solved, OwnTold, OwnServe, BlocksServe}
+use Rattle.place_solve.specs.Told.{around_at, is_solved, OwnTold, OwnServe, BlocksServe}
 
 -- there is a first just where there is one
 first_there : {X Y : Type 0} (q : Option Y) (g : Y → X) (xs : List X) → option_map g q ≡ first xs → is_some q ≡ nat_lt 0 (length xs)

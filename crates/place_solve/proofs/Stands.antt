@@ -1,10 +1,9 @@
 -- Instructions of a function with distinct ids stand where their ids say; those of a valid function have known opcodes.
-use Rattle.std.proofs.Common.{◌≡◌, ◌∙◌, ◌+◌, ◌<◌, ◌≤◌, ℕ, zero, suc, Bool, true, false, cond, not, List, [], ◌∷◌, Option, Some, None, refl, sym, ap, subst, length, arith, eqb, eq-eqb}
+use Rattle.std.proofs.Common.{◌≡◌, ◌∙◌, ◌+◌, ◌<◌, ◌≤◌, ℕ, zero, suc, Bool, true, false, cond, not, List, [], ◌∷◌, Option, Some, None, refl, ap, subst, length, arith, eqb, eq-eqb}
 use Rattle.std.specs.Prelude.{nat_lt, option_map, slice_get}
 use Rattle.std.specs.Option.{option_or}
 use Rattle.std.proofs.lemmas.Bool.{lt-ltb, le-ltb}
 use Rattle.std.proofs.lemmas.List.Sums.{sum_by-cons}
-use Rattle.target_base.specs.declared.types.Effect.{Effect}
 use Rattle.target_base.specs.declared.types.OpcodeDesc.{OpcodeDesc}
 use Rattle.target_base.specs.declared.types.Target.{Target}
 use Rattle.mir_func.specs.declared.func.Block.{Block}
@@ -12,10 +11,9 @@ use Rattle.mir_func.specs.declared.func.Instr.{Instr}
 use Rattle.mir_func.specs.Edits.{instr_place}
 use Rattle.mir_func.specs.Value.{Function, id_count, id_total}
 use Rattle.mir_meaning.specs.declared.Form.{Form}
-use Rattle.mir_meaning.specs.Binding.{effect_of, known_opcode}
+use Rattle.mir_meaning.specs.Binding.{known_opcode}
 use Rattle.mir_meaning.specs.Points.{has_instr}
-use Rattle.mir_meaning.specs.Rules.{V1}
-use Rattle.mir_meaning.specs.Valid.{block_fault, blocks_fault, fault_at, fault_in, first_failing, instr_fault, instrs_fault, least, shape_fault}
+use Rattle.mir_meaning.specs.Valid.{block_fault, blocks_fault, fault_at, fault_in, instr_fault, instrs_fault, least, shape_fault}
 use Rattle.effect_laws.specs.Coded.{one_on, spot_in}
 use Rattle.place_solve.specs.Told.{Seated}
 

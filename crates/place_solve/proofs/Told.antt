@@ -1,5 +1,5 @@
 -- Where a table is computed, its tests tell exactly the units in use at the places of copies.
-use Rattle.std.proofs.Common.{◌≡◌, ◌⊎◌, ◌∙◌, ℕ, zero, suc, Bool, true, false, cond, not, List, [], ◌∷◌, ◌++◌, Option, Some, None, refl, sym, ap, subst, map, drop, length, inl, inr}
+use Rattle.std.proofs.Common.{◌≡◌, ◌∙◌, ℕ, zero, suc, Bool, true, false, cond, not, List, [], ◌∷◌, ◌++◌, Option, Some, None, refl, sym, ap, subst, map, drop, length, inl, inr}
 use mathlib.Core.Path.{fun_ext}
 use Rattle.std.specs.Prelude.{◌↔◌, ◌&&◌, Decides, nat_lt, option_map, slice_get}
 use Rattle.std.specs.Ordering.{nat_cmp}
@@ -16,7 +16,7 @@ use Rattle.target_base.specs.declared.types.Effect.{Effect}
 use Rattle.target_base.specs.Roles.{is_silent}
 use Rattle.target_base.specs.Rules.{is_phi}
 use Rattle.meaning.specs.Code.{Item, Silent, Counted, Code as Places}
-use Rattle.meaning.specs.Live.{Among as Member, here as first, there as later, Live as LivePlace, LiveAfter, exits_of as edges_of, is_slot, read, next, leap, phi, store, kept, after_next, after_leap, after_phi}
+use Rattle.meaning.specs.Live.{Among as Member, here as first, Live as LivePlace, LiveAfter, exits_of as edges_of, read, next, leap, phi, store, kept, after_next, after_leap, after_phi}
 use Rattle.mir_func.specs.declared.func.Block.{Block}
 use Rattle.mir_func.specs.declared.func.Instr.{Instr}
 use Rattle.mir_func.specs.Value.{Function}
@@ -30,7 +30,7 @@ use Rattle.mir_meaning.specs.Rules.{V8}
 use Rattle.lane_effects.proofs.Members.{member-none, member-elim}
 use Rattle.lane_effects.specs.declared.owner.Owner.TheVariants as owners
 use Rattle.lane_effects.specs.Numbered.{number_in}
-use Rattle.effect_laws.specs.Coded.{KeepsRules, IsNumbered, spot_in}
+use Rattle.effect_laws.specs.Coded.{KeepsRules, IsNumbered}
 use Rattle.effect_laws.proofs.Tabled.{table-law}
 use Rattle.live_lanes.specs.Marks.{marked_at}
 use Rattle.live_lanes.specs.Looks.{entry_at, exit_at}
@@ -40,10 +40,9 @@ use Rattle.live_exact.specs.Laws.{TellsInside}
 use Rattle.live_exact.proofs.Computed.{computed-law}
 use Rattle.live_exact.proofs.Inside.{inside-law}
 use Rattle.live_exact.proofs.Spots.{spot, drop-at}
-use Rattle.place_solve.specs.declared.around.Around.{Around}
-use Rattle.place_solve.specs.Around.{at_entry, at_exit, entry_of, exit_of, takes_part}
+use Rattle.place_solve.specs.Around.{at_entry, entry_of, exit_of, takes_part}
 use Rattle.place_solve.specs.Laws.{CopyLaw}
-use Rattle.place_solve.specs.Told.{is_solved, around_of, copy_solved, IsPoint}
+use Rattle.place_solve.specs.Told.{is_solved, around_of, IsPoint}
 
 same_answer : {P : Type 0} (r s : Bool) → Decides r P → Decides s P → r ≡ s
 same_answer true s h k = sym (k.1 (h.0 refl))

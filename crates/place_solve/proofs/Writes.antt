@@ -1,12 +1,11 @@
 -- What counted instructions write of units, by their operands.
-use Rattle.std.proofs.Common.{◌≡◌, ◌⊎◌, ◌∙◌, ◌<◌, ◌+◌, ℕ, zero, suc, Bool, true, false, cond, not, List, [], ◌∷◌, ◌++◌, Option, Some, None, refl, sym, ap, subst, map, filter, flat_map, length, inl, inr, arith, eq-eqb, eqb-true}
-use Rattle.std.specs.Prelude.{◌↔◌, ◌&&◌, ◌||◌, ◌==◌, filter_map, option_map, slice_get}
+use Rattle.std.proofs.Common.{◌≡◌, ◌⊎◌, ◌∙◌, ◌<◌, ℕ, suc, Bool, true, false, cond, not, List, [], ◌∷◌, ◌++◌, Option, Some, None, refl, sym, ap, subst, map, flat_map, length, inl, inr, arith, eq-eqb, eqb-true}
+use Rattle.std.specs.Prelude.{◌↔◌, ◌&&◌, ◌||◌, ◌==◌, option_map, slice_get}
 use Rattle.std.specs.List.{list_any}
 use Rattle.target_base.specs.declared.types.Effect.{Effect}
 use Rattle.target_base.specs.declared.types.Effect.TheVariants as effects
 use Rattle.target_base.specs.declared.types.IndexId.{IndexId}
 use Rattle.target_base.specs.declared.types.MaskDesc.{MaskDesc}
-use Rattle.target_base.specs.declared.types.MaskId.{MaskId}
 use Rattle.target_base.specs.declared.types.Unit.{Unit as UnitNumber}
 use Rattle.target_base.specs.declared.types.Target.{Target}
 use Rattle.target_base.specs.Numbers.{unit_number}
@@ -31,12 +30,11 @@ use Rattle.mir_func.specs.declared.func.Instr.{Instr}
 use Rattle.mir_func.specs.declared.func.Block.{Block}
 use Rattle.mir_func.specs.Value.{Function}
 use Rattle.mir_meaning.specs.Binding.{as_register, does, effect_of, implicit_registers, implicit_roles, is_early_clobber, is_terminator, passes, registers, roles_of}
-use Rattle.mir_meaning.specs.Items.{all_lanes, computed, counted_writes, defined_undef, rest_of, silent_reads, silent_writes, values, explicit_definitions, implicit_definitions, implicit_writes, mask_units, preserves, result_writes, undefined, write}
+use Rattle.mir_meaning.specs.Items.{all_lanes, computed, counted_writes, defined_undef, rest_of, silent_reads, silent_writes, values, explicit_definitions, implicit_definitions, implicit_writes, preserves, result_writes, undefined, write}
 use Rattle.mir_meaning.specs.Points.{point_item}
 use Rattle.mir_meaning.specs.Codes.{effect_item, item_of, target_of, way, ways_out}
 use Rattle.mir_meaning.specs.Registers.{is_reserved, is_reserved_unit, located_lanes, numbers, operand_lanes, range_widths, undefined_lanes, whole_lanes}
-use Rattle.lane_effects.specs.Acts.{silent_acts, call_writes, counted_acts, effect_acts, entered_writes, is_call, mask_regs, unpreserved}
-use Rattle.lane_effects.specs.Numbered.{number_in}
+use Rattle.lane_effects.specs.Acts.{silent_acts, call_writes, counted_acts, effect_acts, entered_writes, is_call, unpreserved}
 use Rattle.lane_effects.specs.Steps.{Numbering}
 use Rattle.lane_effects.specs.Stepping.{tag_of}
 use Rattle.lane_effects.specs.declared.owner.Owner.TheVariants as owners
@@ -45,7 +43,7 @@ use Rattle.effect_laws.specs.Shaped.{is_proper}
 use Rattle.lane_effects.proofs.Members.{member-none, member-elim, left-in, right-in, in-either, flat-of, flat-in, filter-of, filter-in, map-of, map-in}
 use Rattle.effect_laws.specs.Coded.{KeepsRules, IsNumbered}
 use Rattle.effect_laws.proofs.Blocks.{filtered-of, filtered-in}
-use Rattle.effect_laws.proofs.Flags.{Wrote, WroteEarly}
+use Rattle.effect_laws.proofs.Flags.{Wrote}
 use Rattle.effect_laws.proofs.FlagsOf.{uniform-implicit, uniform-results}
 use Rattle.effect_laws.proofs.Instrs.{same-law}
 use Rattle.effect_laws.proofs.Lists.{any-in}

@@ -7,7 +7,6 @@ use Rattle.mir_meaning.specs.declared.Form.TheVariants as forms
 use Rattle.mir_meaning.specs.Valid.{shape_fault}
 use Rattle.effect_laws.specs.Shaped.{AreClasses}
 use Rattle.place_solve.specs.Own.{own_instrs, place_variables}
-use Rattle.target_base.specs.declared.types.Unit.{Unit as UnitNumber}
 use Rattle.target_base.specs.declared.types.Target.{Target}
 use Rattle.mir_func.specs.declared.func.Block.{Block}
 use Rattle.mir_func.specs.declared.func.Instr.{Instr}

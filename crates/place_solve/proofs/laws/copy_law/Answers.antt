@@ -1,5 +1,4 @@
 use Rattle.place_solve.proofs.Told.{copy-law}
-use Rattle.place_solve.proofs.Writes.{told}
 use Rattle.place_solve.proofs.laws.copy_law.Goals as goal
 
 pub returns : goal.returns

@@ -1,6 +1,5 @@
 use Rattle.std.proofs.Common.{◌≡◌, drop}
 use Rattle.std.specs.List.{list_all}
-use Rattle.target_base.specs.Registers.{units_of}
 use Rattle.live_lanes.specs.Looks.{InOrder}
 use Rattle.place_solve.specs.Choice.{use_of, is_free}
 use Rattle.place_solve.proofs.search.avoids.Given as goal

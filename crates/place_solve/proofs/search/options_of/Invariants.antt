@@ -1,6 +1,5 @@
 use Rattle.std.proofs.Common.{◌≡◌, take}
 use Rattle.std.specs.Prelude.{filter}
-use Rattle.target_base.specs.Rules.{regs_of_some}
 use Rattle.live_lanes.specs.Looks.{InOrder}
 use Rattle.place_solve.specs.Choice.{use_of, may_lie}
 use Rattle.place_solve.proofs.search.options_of.Given as goal
