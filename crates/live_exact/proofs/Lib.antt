@@ -6,3 +6,4 @@ pub mod Coded
 pub mod Computed
 pub mod Spots
 pub mod Inside
+pub mod Occupied
