@@ -7,3 +7,4 @@ pub mod Computed
 pub mod Spots
 pub mod Inside
 pub mod Occupied
+pub mod Counted

@@ -110,14 +110,14 @@ module _ (t : Target) (f : Function) (x : Table) (computed : IsComputed t f x) (
       pub at-entry : (held_at x.order.slots (rows_seen x.rows.rows.items n p) (entry_rank x.order.slots id) ≡ true) ↔ OccupiedAt t f (Entry id) l
       at-entry = subst (λ i. (held_at x.order.slots (rows_seen x.rows.rows.items n p) (entry_rank x.order.slots i) ≡ true) ↔ OccupiedAt t f (Entry id) l) named
           (both-ways (told.entry n p (map step_as before) (step_as step) (map step_as rest) (split-as t f x computed rules last id p k at))
-            (either ((λ h. same-back code (quiet t f x computed rules last) h (law.Entry (step ∷ rest)) refl), (λ h. same-forth code (quiet t f x computed rules last) h (before, split t f x computed rules last id p k at))) (of-same (writes_early (table.writing_of n (step_as step).writes)) (is_early n step) (early-same n step.writes)))
-            ((occupied-number-law t f num rules (numbered t f x computed rules last) l n still tagged).entry id p k step rest at (from t f x computed rules last id p k at)))
+          (either ((λ h. same-back code (quiet t f x computed rules last) h (law.Entry (step ∷ rest)) refl), (λ h. same-forth code (quiet t f x computed rules last) h (before, split t f x computed rules last id p k at))) (of-same (writes_early (table.writing_of n (step_as step).writes)) (is_early n step) (early-same n step.writes)))
+          ((occupied-number-law t f num rules (numbered t f x computed rules last) l n still tagged).entry id p k step rest at (from t f x computed rules last id p k at)))
 
       pub at-exit : (held_at x.order.slots (rows_seen x.rows.rows.items n p) (exit_rank x.order.slots id) ≡ true) ↔ OccupiedAt t f (Exit id) l
       at-exit = subst (λ i. (held_at x.order.slots (rows_seen x.rows.rows.items n p) (exit_rank x.order.slots i) ≡ true) ↔ OccupiedAt t f (Exit id) l) named
           (both-ways (told.exit n p (map step_as before) (step_as step) (map step_as rest) (split-as t f x computed rules last id p k at))
-            (either ((λ h. same-back code (quiet t f x computed rules last) h (law.Exit step rest) refl), (λ h. same-forth code (quiet t f x computed rules last) h (before, split t f x computed rules last id p k at))) (of-same (table.is_written n (step_as step)) (is_written n step) (written-same n step)))
-            ((occupied-number-law t f num rules (numbered t f x computed rules last) l n still tagged).exit id p k step rest at (from t f x computed rules last id p k at)))
+          (either ((λ h. same-back code (quiet t f x computed rules last) h (law.Exit step rest) refl), (λ h. same-forth code (quiet t f x computed rules last) h (before, split t f x computed rules last id p k at))) (of-same (table.is_written n (step_as step)) (is_written n step) (written-same n step)))
+          ((occupied-number-law t f num rules (numbered t f x computed rules last) l n still tagged).exit id p k step rest at (from t f x computed rules last id p k at)))
 
 pub occupied-law : TellsOccupiedLaw
 occupied-law t f x computed rules last = record {
