@@ -1,15 +1,18 @@
 -- The count that a table gives of a range's points is one of the points of the function.
-use Rattle.std.proofs.Common.{◌≡◌, ◌<◌, ℕ, zero, suc, ◌+◌, Bool, cond, length, List, [], ◌∷◌, ◌++◌, Option, None, Some, refl, sym, ap, ◌∙◌, arith}
-use Rattle.std.specs.Prelude.{flat_map, count_by, slice_get}
+use Rattle.std.proofs.Common.{◌≡◌, ◌<◌, ℕ, zero, suc, ◌+◌, Bool, true, false, cond, length, List, [], ◌∷◌, ◌++◌, Option, None, Some, refl, sym, ap, ◌∙◌, arith}
+use Rattle.std.specs.Prelude.{◌||◌, flat_map, count_by, nat_eq, slice_get}
+use Rattle.std.proofs.lemmas.Bool.{eqb-true, eq-eqb}
 use Rattle.std.proofs.lemmas.List.Sums.{sum_by-cons, sum_by-append}
 use Rattle.meaning.specs.Live.{Among as Member, here as first, there as later}
 use Rattle.mir_func.specs.declared.func.Block.{Block}
 use Rattle.mir_func.specs.declared.func.Instr.{Instr}
 use Rattle.mir_meaning.specs.Points.{Point, Start, Entry, Exit, block_points}
+use Rattle.live_lanes.specs.declared.row.Row.{Row}
 use Rattle.live_lanes.specs.declared.table.Table.{Table}
+use Rattle.live_lanes.specs.Entered.{rows_seen}
 use Rattle.live_lanes.specs.Table.{Numbers, entry_rank, exit_rank}
 use Rattle.live_lanes.specs.Ordered.{ids_of}
-use Rattle.live_lanes.specs.Held.{one, inside, passing, any_held, block_held, sum_below}
+use Rattle.live_lanes.specs.Held.{one, inside, passing, held_at, any_held, block_held, sum_below}
 
 module _ (test : Point → Bool) where
   tally-cons : (p : Point) (ps : List Point) → count_by test (p ∷ ps) ≡ one (test p) + count_by test ps
@@ -84,3 +87,28 @@ held-count test x bs low count h =
         go : (q : Option Block) → ◌≡◌ {A = ℕ} (elim q [ None ↦ 0 | Some b ↦ passing x.order.slots (any_held x.order.slots x.rows.rows.items low count k) (ids_of b.instrs) ]) (elim q [ None ↦ 0 | Some b ↦ passing x.order.slots (any_held x.order.slots x.rows.rows.items low count (0 + k)) (ids_of b.instrs) ])
         go None = refl
         go (Some b) = ap (λ n. passing x.order.slots (any_held x.order.slots x.rows.rows.items low count n) (ids_of b.instrs)) (sym (zero-left k))
+
+-- one of the lanes is live or occupied just where there is such a lane
+
+pub any-forth : (slots : Numbers) (rows : List Row) (low count b at : ℕ) → any_held slots rows low count b at ≡ true → (j : ℕ) × (j < count) × (held_at slots (rows_seen rows (low + j) b) at ≡ true)
+any-forth slots rows low zero b at h = absurd (cc)
+any-forth slots rows low (suc n) b at h = go (held_at slots (rows_seen rows (low + n) b) at) refl h (any-forth slots rows low n b at)
+  where
+    go : (u : Bool) → held_at slots (rows_seen rows (low + n) b) at ≡ u → (u || any_held slots rows low n b at) ≡ true → (any_held slots rows low n b at ≡ true → (j : ℕ) × (j < n) × (held_at slots (rows_seen rows (low + j) b) at ≡ true)) → (j : ℕ) × (j < suc n) × (held_at slots (rows_seen rows (low + j) b) at ≡ true)
+    go true e g ih = (n, omega arith, e)
+    go false e g ih = let z = ih g in let near = z.1 in (z.0, omega (arith, near), z.2)
+
+pub any-back : (slots : Numbers) (rows : List Row) (low count b at j : ℕ) → j < count → held_at slots (rows_seen rows (low + j) b) at ≡ true → any_held slots rows low count b at ≡ true
+any-back slots rows low zero b at j lt h = absurd (omega arith)
+any-back slots rows low (suc n) b at j lt h = go (nat_eq j n) refl (λ k. any-back slots rows low n b at j k h)
+  where
+    unequal : nat_eq j n ≡ false → (j ≡ n) → ⊥
+    unequal e q = let z : true ≡ false = sym (eq-eqb j n q) ∙ e in absurd (cc)
+
+    last : (u w : Bool) → w ≡ true → (u || w) ≡ true
+    last true w e = refl
+    last false w e = e
+
+    go : (u : Bool) → nat_eq j n ≡ u → (j < n → any_held slots rows low n b at ≡ true) → (held_at slots (rows_seen rows (low + n) b) at || any_held slots rows low n b at) ≡ true
+    go true e ih = ap (λ u. u || any_held slots rows low n b at) (ap (λ k. held_at slots (rows_seen rows (low + k) b) at) (sym (eqb-true j n e)) ∙ h)
+    go false e ih = last (held_at slots (rows_seen rows (low + n) b) at) (any_held slots rows low n b at) (ih (omega (arith, unequal e, lt)))
