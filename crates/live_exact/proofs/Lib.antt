@@ -8,3 +8,4 @@ pub mod Spots
 pub mod Inside
 pub mod Occupied
 pub mod Counted
+pub mod Ranged
