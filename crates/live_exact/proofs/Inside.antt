@@ -63,16 +63,16 @@ module _ (t : Target) (f : Function) (x : Table) (computed : IsComputed t f x) (
   abbrev num : Numbering
   num = number_in x.lanes
 
-  numbered : IsNumbered t f num
+  pub numbered : IsNumbered t f num
   numbered = table-law t f x.lanes computed.numbers rules
 
   abbrev code : Code
   code = numbered_code t f num
 
-  quiet : IsQuiet code
+  pub quiet : IsQuiet code
   quiet = quiet-law t f num rules numbered last
 
-  all : AllMatched (lane_code t f num)
+  pub all : AllMatched (lane_code t f num)
   all = subst AllMatched (sym (code-same t f num rules)) (matched t f num rules numbered quiet)
 
   tells : TellsLive (code_as code) x.order.slots x.rows.rows.items
@@ -82,7 +82,7 @@ module _ (t : Target) (f : Function) (x : Table) (computed : IsComputed t f x) (
       (subst (λ c. AreEnds c x.order.slots x.rows.rows.items) (code-same t f num rules) (computed.ended all))
 
   module _ (id p k : ℕ) (at : spot_in id f.blocks ≡ Some (p, k)) where
-    s : Spot t f id f.blocks p k
+    pub s : Spot t f id f.blocks p k
     s = spot t f id f.blocks p k at
 
     abbrev step : Step
@@ -97,13 +97,13 @@ module _ (t : Target) (f : Function) (x : Table) (computed : IsComputed t f x) (
     abbrev rest : List Step
     rest = drop (suc k) (steps_of code p)
 
-    from : drop k (steps_of code p) ≡ step ∷ rest
+    pub from : drop k (steps_of code p) ≡ step ∷ rest
     from = (drop-at (steps_of code p) k step there).0
 
-    split : steps_of code p ≡ before ++ step ∷ rest
+    pub split : steps_of code p ≡ before ++ step ∷ rest
     split = (drop-at (steps_of code p) k step there).1
 
-    split-as : table.steps_of (code_as code) p ≡ map step_as before ++ step_as step ∷ map step_as rest
+    pub split-as : table.steps_of (code_as code) p ≡ map step_as before ++ step_as step ∷ map step_as rest
     split-as = steps-same code p ∙ ap (map step_as) split ∙ map-both before (step ∷ rest)
 
     home : slice_index x.order.block_of.items id ≡ p

@@ -6,3 +6,6 @@ pub mod Coded
 pub mod Computed
 pub mod Spots
 pub mod Inside
+pub mod Occupied
+pub mod Counted
+pub mod Ranged

@@ -2,6 +2,7 @@
 #![tactic(auto)]
 
 ghost use Rattle.live_exact.specs.Laws.{ComputedLaw, InsideLaw, QuietLaw, StartsLaw};
+ghost use Rattle.live_exact.specs.Occupied.{TellsOccupiedLaw, TellsRangeLaw};
 
 /// A grown table marks a lane at a block's start exactly where the lane is live there.
 pub fn starts_law()
@@ -22,4 +23,16 @@ pub fn computed_law()
 /// live there.
 pub fn inside_law()
     ensures { InsideLaw }
+{}
+
+/// A computed table tells of each lane that has a number exactly at which points it is live or
+/// occupied.
+pub fn occupied_law()
+    ensures { TellsOccupiedLaw }
+{}
+
+/// A computed table tells of each range exactly at which points one of its lanes that have numbers
+/// is live or occupied.
+pub fn range_law()
+    ensures { TellsRangeLaw }
 {}

@@ -34,3 +34,8 @@ pub mod Gives
 pub mod Outward
 pub mod Homes
 pub mod Looked
+pub mod Held
+pub mod Tallied
+pub mod Behind
+pub mod Summed
+pub mod Occupied

@@ -16,3 +16,5 @@ pub mod Reach
 pub mod Ends
 pub mod Lasting
 pub mod Looks
+pub mod Held
+pub mod Occupied

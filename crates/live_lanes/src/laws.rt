@@ -2,6 +2,7 @@
 
 ghost use Rattle.live_lanes.specs.Laws.{StartLaw, WritingLaw, EndLaw, RightLaw, LookLaw, EnteringLaw, MadeLaw};
 ghost use Rattle.live_lanes.specs.Growth.{PieceLaw};
+ghost use Rattle.live_lanes.specs.Occupied.{HeldLaw};
 
 /// Exactly the pieces at whose start their lane is live are marked so.
 pub(crate) fn marks_are_exact()
@@ -15,6 +16,11 @@ pub(crate) fn ends_are_exact()
     ensures reached { EndLaw }
     ensures right { RightLaw }
     ensures look { LookLaw }
+{}
+
+/// What a table tells of live and occupied lanes is what its code does.
+pub(crate) fn occupied_is_exact()
+    ensures { HeldLaw }
 {}
 
 /// Entering the instructions of all blocks one after the other gives each lane its pieces.

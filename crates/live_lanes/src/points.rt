@@ -1,189 +1,294 @@
 //! The points of a range: those at which some lane of it is live or occupied.
 
+ghost use Rattle.std.specs.Prelude.{◌≡◌, ◌<◌, ◌-◌, ◌||◌, ℕ, Bool, true, nat_lt, slice_get};
+ghost use Rattle.live_lanes.specs.Table.{rises_from, seen_cell, unseen, seen_in};
+ghost use Rattle.live_lanes.specs.Entered.{rows_seen};
+ghost use Rattle.live_lanes.specs.Ordered.{ids_of, AreRising};
+ghost use Rattle.live_lanes.specs.Looks.{InOrder};
+ghost use Rattle.live_lanes.specs.Held.{IsSpan, IsLastBefore, later_place, AreUnseen, AreRanked, next_rank, exits_at, begins_at, held_at, any_held, passing, block_held, range_held};
+
 use crate::lanes::Lanes;
 use crate::live::LiveFunc;
-use crate::row::{Cell, End};
-use crate::table::Table;
-use mir_func::Instr;
+use crate::row::{Cell, Row, entry_rank, exit_rank, rank, reaches};
+use crate::table::{Rows, Table};
+use mir_func::{Block, Instr};
+use slot_index::Slots;
 use target_base::Boxed;
 
-/// Points in a row, counted from the block's start: the first and the last.
+/// What holds of lanes from a point on: whether one is live or occupied, and the rank before which
+/// this stays so.
 #[derive(Clone, Copy)]
-struct Stretch {
-    first: u64,
-    last: u64,
+pub(crate) struct Span {
+    pub is_held: bool,
+    pub end: u128,
 }
 
-/// Points counted so far: how many, and the first one behind them.
-#[derive(Clone, Copy)]
-struct Tally {
-    count: u64,
-    next: u64,
-}
-
-impl Tally {
-    /// Counts the points of a stretch that aren't counted yet. It begins no earlier than those
-    /// counted before.
-    fn with(self, stretch: Stretch) -> Tally {
-        let first = stretch.first.max(self.next);
-        let next = stretch.last.saturating_add(1);
-        if first >= next {
-            return self;
+impl Span {
+    /// What holds of two lanes together.
+    fn with(self, other: Span) -> Span
+        ensures further { (at : ℕ) → at < self.end → at < other.end → at < result.end }
+        ensures span { (p q : ℕ → Bool) (at : ℕ) → IsSpan p at self → IsSpan q at other → IsSpan (λ x. p x || q x) at result }
+    {
+        if self.is_held != other.is_held {
+            if self.is_held {
+                return self;
+            }
+            return other;
         }
-        Tally {
-            count: self.count.saturating_add(next - first),
-            next,
+        let end = if self.is_held {
+            self.end.max(other.end)
+        } else {
+            self.end.min(other.end)
+        };
+        Span {
+            is_held: self.is_held,
+            end,
+        }
+    }
+}
+
+impl Cell {
+    /// The first point at which the lane is occupied by the writing that begins the piece behind
+    /// that number; behind all points, where there is none.
+    fn next_rank(&self, slots: &Slots, index: usize) -> u128
+        ensures { result ≡ next_rank slots.now (seen_cell self.now).segments index }
+    {
+        match self.segments.as_slice().get(index) {
+            Some(segment) => {
+                if segment.early {
+                    entry_rank(slots, segment.start)
+                } else {
+                    exit_rank(slots, segment.start)
+                }
+            }
+            None => u128::MAX,
+        }
+    }
+
+    /// Whether the piece of that number begins with a writing at this point, which is an exit.
+    fn begins_at(&self, slots: &Slots, at: u128, index: usize) -> bool
+        ensures { result ≡ begins_at slots.now at (seen_cell self.now).segments index }
+    {
+        if index == 0 {
+            return false;
+        }
+        self.exits_at(slots, at, index - 1)
+    }
+
+    /// Whether the writing of that number is done at this point, which is an exit.
+    fn exits_at(&self, slots: &Slots, at: u128, index: usize) -> bool
+        ensures { result ≡ exits_at slots.now at (slice_get (seen_cell self.now).segments index) }
+    {
+        match self.segments.as_slice().get(index) {
+            Some(segment) => exit_rank(slots, segment.start) == at,
+            None => false,
+        }
+    }
+
+    /// What holds of the lane from the point of this rank on.
+    fn span(&self, slots: &Slots, at: u128) -> Span
+        requires { at < 340282366920938463463374607431768211455 }
+        ensures further { at < result.end }
+        ensures span { rises_from slots.now 0 (seen_cell self.now).segments ≡ true
+            → IsSpan (held_at slots.now (seen_cell self.now)) at result }
+    {
+        let index = self.piece_at(slots, at);
+        let next = self.next_rank(slots, index);
+        if next <= at {
+            return Span {
+                is_held: true,
+                end: at + 1,
+            };
+        }
+        let end = self.end_of(index);
+        if reaches(slots, end, at) {
+            return Span {
+                is_held: true,
+                end: rank(slots, end).saturating_add(1).min(next),
+            };
+        }
+        if self.begins_at(slots, at, index) {
+            return Span {
+                is_held: true,
+                end: at + 1,
+            };
+        }
+        Span {
+            is_held: false,
+            end: next,
+        }
+    }
+}
+
+impl Row {
+    /// The last block before a position that has a cell.
+    fn last_before(&self, bound: usize) -> Option<u32>
+        ensures { IsLastBefore (λ b. seen_in self.now.cells.items b ≡ unseen) bound result }
+    {
+        let at = self
+            .cells
+            .as_slice()
+            .partition_point(|c| c.block as usize >= bound);
+        if at >= self.cells.len() {
+            return None;
+        }
+        Some(self.cells[at].block)
+    }
+}
+
+/// The later one of two positions, where there are such.
+fn later(one: Option<u32>, other: Option<u32>) -> Option<u32>
+    ensures { result ≡ later_place one other }
+{
+    match one {
+        Some(a) => match other {
+            Some(b) => Some(a.max(b)),
+            None => one,
+        },
+        None => other,
+    }
+}
+
+impl Table {
+    /// What holds of the lanes of a range in a block from the point of this rank on.
+    fn span(&self, own: Lanes, block: u32, at: u128) -> Span
+        requires { at < 340282366920938463463374607431768211455 }
+        ensures further { at < result.end }
+        ensures span { InOrder self.now → IsSpan (any_held self.now.order.slots self.now.rows.rows.items own.first own.count block) at result }
+    {
+        let mut span = Span {
+            is_held: false,
+            end: u128::MAX,
+        };
+        'lanes: for k in 0..own.count {
+            span = self.lane_span(own.first + k, block, at).with(span);
+        }
+        span
+    }
+
+    /// The same of one lane.
+    fn lane_span(&self, lane: u32, block: u32, at: u128) -> Span
+        requires { at < 340282366920938463463374607431768211455 }
+        ensures further { at < result.end }
+        ensures span { InOrder self.now → IsSpan (held_at self.now.order.slots (rows_seen self.now.rows.rows.items lane block)) at result }
+    {
+        match self.rows.cell(lane, block) {
+            Some(cell) => cell.span(&self.order.slots, at),
+            None => Span {
+                is_held: false,
+                end: u128::MAX,
+            },
+        }
+    }
+
+    /// How many points of a block lie before a rank.
+    fn points_below(&self, instrs: &[Boxed<Instr>], at: u128) -> u64
+        ensures { AreRising self.now.order.slots 0 (ids_of instrs.now)
+            → result ≡ passing self.now.order.slots (λ x. nat_lt x at) (ids_of instrs.now) }
+    {
+        if at == 0 {
+            return 0;
+        }
+        let slots = &self.order.slots;
+        let entries = instrs.partition_point(|i| entry_rank(slots, i.get().id) < at);
+        let exits = instrs.partition_point(|i| exit_rank(slots, i.get().id) < at);
+        (entries as u64) + (exits as u64) + 1
+    }
+
+    /// How many points of a block lie from one rank on up to before another one.
+    fn points_between(&self, instrs: &[Boxed<Instr>], first: u128, end: u128) -> u64
+        ensures few { AreRising self.now.order.slots 0 (ids_of instrs.now)
+            → passing self.now.order.slots (λ x. nat_lt x end) (ids_of instrs.now) < 18446744073709551616 }
+        ensures between { AreRising self.now.order.slots 0 (ids_of instrs.now)
+            → result ≡ passing self.now.order.slots (λ x. nat_lt x end) (ids_of instrs.now) - passing self.now.order.slots (λ x. nat_lt x first) (ids_of instrs.now) }
+    {
+        let before = self.points_below(instrs, end);
+        before.saturating_sub(self.points_below(instrs, first))
+    }
+
+    /// The number of points in a block at which some of the lanes is live or occupied.
+    fn points_in(&self, instrs: &[Boxed<Instr>], own: Lanes, block: u32) -> u64
+        ensures { InOrder self.now → AreRising self.now.order.slots 0 (ids_of instrs.now)
+            → result ≡ passing self.now.order.slots (any_held self.now.order.slots self.now.rows.rows.items own.first own.count block) (ids_of instrs.now) }
+    {
+        let mut count = 0u64;
+        let mut at = 0u128;
+        'spans: while at < u128::MAX {
+            let span = self.span(own, block, at);
+            if span.is_held {
+                count = count.saturating_add(self.points_between(instrs, at, span.end));
+            }
+            at = span.end;
+        }
+        count
+    }
+
+    /// The last block before a position in which one of the lanes has a cell.
+    fn last_before(&self, own: Lanes, bound: usize) -> Option<u32>
+        ensures { IsLastBefore (AreUnseen self.now.rows.rows.items own.first own.count) bound result }
+    {
+        let mut last = None;
+        'lanes: for k in 0..own.count {
+            if let Some(lane) = own.lane(k) {
+                last = later(self.rows.last_before(lane, bound), last);
+            }
+        }
+        last
+    }
+}
+
+impl Rows {
+    /// The last block before a position in which the lane has a cell.
+    fn last_before(&self, lane: u32, bound: usize) -> Option<u32>
+        ensures { IsLastBefore (λ b. rows_seen self.now.rows.items lane b ≡ unseen) bound result }
+    {
+        match self.rows.as_slice().get(lane as usize) {
+            Some(row) => row.last_before(bound),
+            None => None,
         }
     }
 }
 
 impl Table {
-    /// The number of a point of a block, counted from its start.
-    fn point(&self, instrs: &[Boxed<Instr>], end: End) -> u64 {
-        match end {
-            End::Never => 0,
-            End::Entry(id) => (self.order.place(instrs, id) as u64)
-                .saturating_mul(2)
-                .saturating_add(1),
-            End::Exit(id) => (self.order.place(instrs, id) as u64)
-                .saturating_mul(2)
-                .saturating_add(2),
-            End::Last => (instrs.len() as u64).saturating_mul(2),
+    /// The number of points at which some lane of a range is live or occupied, in a function of
+    /// these blocks.
+    fn points(&self, blocks: &[Block], v: u32) -> u64
+        ensures { InOrder self.now → AreRanked self.now.order.slots blocks.now
+            → range_held self.now blocks.now v < 18446744073709551616
+            → result ≡ range_held self.now blocks.now v }
+    {
+        let own = self.lanes.of_range(v);
+        let mut total = 0u64;
+        let mut bound = blocks.len();
+        'layout: while let Some(block) = self.last_before(own, bound) {
+            total = total.saturating_add(self.points_at(blocks, own, block));
+            bound = block as usize;
         }
+        total
     }
 
-    /// The points at which the lane is live or occupied in a piece, if there are any.
-    fn stretch(&self, instrs: &[Boxed<Instr>], cell: &Cell, index: usize) -> Option<Stretch> {
-        if index == 0 {
-            return self.first_stretch_of(instrs, cell.first.end);
+    /// The number of points in the block at a position at which some of the lanes is live or
+    /// occupied.
+    fn points_at(&self, blocks: &[Block], own: Lanes, block: u32) -> u64
+        ensures { InOrder self.now → AreRanked self.now.order.slots blocks.now
+            → result ≡ block_held self.now blocks.now own.first own.count block }
+    {
+        let at = block as usize;
+        if at >= blocks.len() {
+            return 0;
         }
-        let segment = cell.segments.get(index - 1)?;
-        let exit = self.point(instrs, End::Exit(segment.start));
-        let first = if segment.early {
-            exit.saturating_sub(1)
-        } else {
-            exit
-        };
-        let last = exit.max(self.point(instrs, segment.piece.end));
-        Some(Stretch { first, last })
-    }
-
-    /// The points of a piece that begins with its block, if it is live.
-    fn first_stretch_of(&self, instrs: &[Boxed<Instr>], end: End) -> Option<Stretch> {
-        if end == End::Never {
-            return None;
-        }
-        let last = self.point(instrs, end);
-        Some(Stretch { first: 0, last })
-    }
-
-    /// The first piece from a place on that has points, and these.
-    fn next_stretch(
-        &self,
-        instrs: &[Boxed<Instr>],
-        lane: u32,
-        block: u32,
-        from: usize,
-    ) -> Option<(usize, Stretch)> {
-        let cell = self.rows.cell(lane, block)?;
-        if from > cell.segments.len() {
-            return None;
-        }
-        match self.stretch(instrs, cell, from) {
-            Some(stretch) => Some((from, stretch)),
-            None => {
-                let next = from.saturating_add(1);
-                let stretch = self.stretch(instrs, cell, next)?;
-                Some((next, stretch))
-            }
-        }
-    }
-
-    /// Of the stretches that come next in each lane, one that begins first.
-    fn first_stretch(
-        &self,
-        instrs: &[Boxed<Instr>],
-        own: Lanes,
-        block: u32,
-        cursors: &[usize; 32],
-    ) -> Option<(usize, usize, Stretch)> {
-        let mut best: Option<(usize, usize, Stretch)> = None;
-        let mut k = 0u32;
-        'lanes: for cursor in cursors {
-            if let Some(lane) = own.lane(k) {
-                if let Some((index, stretch)) = self.next_stretch(instrs, lane, block, *cursor) {
-                    let is_better = match best {
-                        Some((_, _, old)) => stretch.first < old.first,
-                        None => true,
-                    };
-                    if is_better {
-                        best = Some((k as usize, index, stretch));
-                    }
-                }
-            }
-            k = k.saturating_add(1);
-        }
-        best
-    }
-
-    /// The number of points in a block at which some of the lanes is live or occupied.
-    fn points_in(&self, instrs: &[Boxed<Instr>], own: Lanes, block: u32) -> u64 {
-        let mut cursors = [0usize; 32];
-        let mut tally = Tally { count: 0, next: 0 };
-        'stretches: for _ in 0..u64::MAX {
-            let Some((k, index, stretch)) = self.first_stretch(instrs, own, block, &cursors) else {
-                break;
-            };
-            tally = tally.with(stretch);
-            if k < cursors.len() {
-                cursors[k] = index.saturating_add(1);
-            }
-        }
-        tally.count
-    }
-
-    /// Whether one of the first lanes has a cell for a block.
-    fn is_seen(&self, own: Lanes, count: u32, block: u32) -> bool {
-        'lanes: for k in 0..count {
-            if let Some(lane) = own.lane(k) {
-                if self.rows.cell(lane, block).is_some() {
-                    return true;
-                }
-            }
-        }
-        false
+        let here = &blocks[at];
+        self.points_in(here.instrs.as_slice(), own, block)
     }
 }
 
 impl LiveFunc {
     /// The number of points at which some lane of a range is live or occupied.
-    pub fn points(&self, v: u32) -> u64 {
-        let own = self.table.lanes.of_range(v);
-        let mut total = 0u64;
-        'lanes: for k in 0..own.count {
-            total = total.saturating_add(self.points_first_seen(own, k));
-        }
-        total
-    }
-
-    /// The number of points in the blocks that have a cell of a lane and none of those before it.
-    fn points_first_seen(&self, own: Lanes, k: u32) -> u64 {
-        let Some(lane) = own.lane(k) else {
-            return 0;
-        };
-        let mut total = 0u64;
-        'cells: for cell in self.table.rows.cells(lane) {
-            if !self.table.is_seen(own, k, cell.block) {
-                total = total.saturating_add(self.points_in(own, cell.block));
-            }
-        }
-        total
-    }
-
-    fn points_in(&self, own: Lanes, block: u32) -> u64 {
-        match self.func().blocks.as_slice().get(block as usize) {
-            Some(here) => self.table.points_in(here.instrs.as_slice(), own, block),
-            None => 0,
-        }
+    pub fn points(&self, v: u32) -> u64
+        ensures { InOrder self.now.table → AreRanked self.now.table.order.slots self.now.func.blocks
+            → range_held self.now.table self.now.func.blocks v < 18446744073709551616
+            → result ≡ range_held self.now.table self.now.func.blocks v }
+    {
+        self.table.points(self.func.blocks.as_slice(), v)
     }
 }

@@ -131,7 +131,7 @@ fn is_never(end: End) -> bool
 }
 
 /// Whether a piece with this end isn't over before the point of this rank.
-fn reaches(slots: &Slots, end: End, at: u128) -> bool
+pub(crate) fn reaches(slots: &Slots, end: End, at: u128) -> bool
     ensures { result ≡ reaches slots.now end at }
 {
     !is_never(end) && at <= rank(slots, end)
