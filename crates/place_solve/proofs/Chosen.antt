@@ -1,5 +1,5 @@
 -- A search that chooses one register at a time finds the first choice.
-use Rattle.std.proofs.Common.{◌≡◌, ℕ, zero, suc, ◌+◌, ◌<◌, ◌≤◌, Bool, true, false, cond, not, ◌&&◌, List, [], ◌∷◌, ◌++◌, map, length, get_or, take, drop, Option, Some, None, refl, ap, sym, ◌∙◌, arith, append_assoc, length-append}
+use Rattle.std.proofs.Common.{◌≡◌, ℕ, ◌+◌, ◌<◌, ◌≤◌, Bool, true, false, cond, not, ◌&&◌, List, [], ◌∷◌, ◌++◌, map, length, get_or, take, drop, Some, None, refl, ap, sym, ◌∙◌, arith, append_assoc, length-append}
 use Rattle.std.specs.List.{zip, list_all, flat_map, filter}
 use Rattle.std.proofs.lemmas.List.{get_or_default, drop_more, append-nil, take_more, take_all, get_or-map, take-append-drop, length-map, drop_at, take_at}
 use Rattle.std.proofs.lemmas.List.Concat.{flat_map-append}

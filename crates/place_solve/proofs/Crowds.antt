@@ -89,13 +89,13 @@ single_case : (b : Bool) (t : Target) (f : Function) (i : Instr) → does is_cop
 single_case true t f i e = instr_once t f i e
 single_case false t f i e = refl
 
-single_is : (t : Target) (f : Function) (i : Instr) → (instr_place t f i).variables ≡ place_variables t f (i ∷ [])
+pub single_is : (t : Target) (f : Function) (i : Instr) → (instr_place t f i).variables ≡ place_variables t f (i ∷ [])
 single_is t f i = single_case (does is_copy t i) t f i refl
 
-among_none : {P : Type 0} (p : Needs) → Among p [] → P
+pub among_none : {P : Type 0} (p : Needs) → Among p [] → P
 among_none p h = elim h [ ]
 
-among_one : (p q : Needs) → Among p (q ∷ []) → p ≡ q
+pub among_one : (p q : Needs) → Among p (q ∷ []) → p ≡ q
 among_one p q here = refl
 among_one p q (there h) = among_none p h
 

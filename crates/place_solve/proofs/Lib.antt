@@ -4,3 +4,13 @@ pub mod Once
 pub mod Operands
 pub mod Few
 pub mod Crowds
+pub mod Units
+pub mod Solved
+pub mod Told
+pub mod Writes
+pub mod Owned
+pub mod Stands
+pub mod Given
+pub mod Owns
+pub mod Serving
+pub mod OwnPlaces

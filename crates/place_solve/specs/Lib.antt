@@ -1,3 +1,6 @@
+pub mod Around
 pub mod Choice
+pub mod Told
+pub mod Laws
 pub mod Once
 pub mod Own

@@ -1,10 +1,20 @@
 //! The units that are in use around a place.
 
+ghost use Rattle.std.specs.Prelude.{◌≡◌};
+ghost use Rattle.target_base.specs.Registers.{units_of};
+ghost use Rattle.std.specs.List.{list_any};
+ghost use Rattle.target_base.specs.Storage.{is_among};
+ghost use Rattle.mir_meaning.specs.Binding.{is_early_clobber, roles_of};
+ghost use Rattle.lane_effects.specs.Acts.{mask_regs};
+ghost use Rattle.live_lanes.specs.Looks.{InOrder};
+ghost use Rattle.place_solve.specs.Around.{has_unit, keeps_unit, defines, defines_explicitly, clobbers, writes, writes_early, is_taken, is_left, entry_tests, exit_tests, at_entry, at_exit};
+
+use lane_effects::registers::mask_regs;
 use live_lanes::LiveFunc;
 use mir_func::{Instr, Loc, Operand, RegOp};
 use phi_elim::reading::effect_of;
 use target_base::registers::units_at;
-use target_base::{Boxed, Effect, MaskId, Role, Target, Unit};
+use target_base::{Boxed, Effect, MaskId, Reg, Role, Target, Unit};
 use two_address::classes::{first_role, roles_of};
 
 /// Where a place stands.
@@ -21,93 +31,206 @@ pub enum Around<'a> {
 }
 
 /// Whether a register has the unit.
-fn has_unit(target: &Target, o: RegOp, u: Unit) -> bool {
+fn holds(target: &Target, r: Reg, u: Unit) -> bool
+    ensures { result ≡ is_among (units_of target.now r) u }
+{
+    units_at(target.regs.as_slice(), r)
+        .iter()
+        .any(|w| w.0 == u.0)
+}
+
+/// Whether a location is a register that has the unit.
+fn has_unit(target: &Target, o: RegOp, u: Unit) -> bool
+    ensures { result ≡ has_unit target.now o.loc u }
+{
     match o.loc {
         Loc::Virtual(_) => false,
-        Loc::Fixed(r) => units_at(target.regs.as_slice(), r)
-            .iter()
-            .any(|w| w.0 == u.0),
+        Loc::Fixed(r) => holds(target, r, u),
     }
+}
+
+/// Whether one of the registers has the unit.
+fn one_holds(target: &Target, regs: &[Reg], u: Unit) -> bool
+    ensures { result ≡ list_any (λ r. is_among (units_of target.now r) u) regs.now }
+{
+    regs.iter().any(|r| holds(target, *r, u))
 }
 
 /// Whether the mask preserves the unit.
-fn preserves(target: &Target, mask: MaskId, u: Unit) -> bool {
-    match target.masks.as_slice().get(mask.0 as usize) {
-        None => false,
-        Some(d) => d.regs.as_slice().iter().any(|r| units_at(target.regs.as_slice(), *r)
-            .iter()
-            .any(|w| w.0 == u.0)),
+fn preserves(target: &Target, mask: MaskId, u: Unit) -> bool
+    ensures { result ≡ list_any (λ r. is_among (units_of target.now r) u) (mask_regs target.now mask) }
+{
+    one_holds(target, mask_regs(target, mask), u)
+}
+
+/// Whether the operand is a mask that preserves the unit.
+#[tactic(auto, unfolding(crate::specs::Around::keeps_unit))]
+fn is_preserving(target: &Target, o: &Operand, u: Unit) -> bool
+    ensures { result ≡ keeps_unit target.now u o.now }
+{
+    match o {
+        Operand::Mask(m) => preserves(target, *m, u),
+        _ => false,
     }
 }
 
-/// Whether a call with these operands makes the unit undefined.
-fn is_clobbered(target: &Target, operands: &[Operand], u: Unit) -> bool {
-    !operands.iter().any(|o| match o {
-        Operand::Mask(m) => preserves(target, *m, u),
-        _ => false,
-    })
+/// Whether one of the operands is a mask that preserves the unit.
+#[tactic(auto, using(crate::proofs::Units::anys))]
+fn is_preserved(target: &Target, operands: &[Operand], u: Unit) -> bool
+    ensures { result ≡ list_any (keeps_unit target.now u) operands.now }
+{
+    'each: for o in operands {
+        if is_preserving(target, o, u) {
+            return true;
+        }
+    }
+    false
 }
 
 /// Whether an operand defines the unit.
-fn defines(target: &Target, o: &Operand, u: Unit) -> bool {
+#[tactic(auto, unfolding(crate::specs::Around::defines))]
+fn defines(target: &Target, o: &Operand, u: Unit) -> bool
+    ensures { result ≡ defines target.now u o.now }
+{
     match o {
         Operand::Reg(r) => r.def && has_unit(target, *r, u),
         _ => false,
     }
 }
 
-/// Whether the instruction writes an unreserved unit.
-fn writes(target: &Target, i: &Instr, u: Unit) -> bool {
-    let operands = i.operands.as_slice();
-    if operands.iter().any(|o| defines(target, o, u)) {
-        return true;
+/// Whether an operand is an explicit definition of the unit.
+#[tactic(auto, unfolding(crate::specs::Around::defines_explicitly))]
+fn defines_explicitly(target: &Target, o: &Operand, u: Unit) -> bool
+    ensures { result ≡ defines_explicitly target.now u o.now }
+{
+    match o {
+        Operand::Reg(r) => r.def && !r.implicit && has_unit(target, *r, u),
+        _ => false,
     }
+}
+
+/// Whether one of the operands defines the unit.
+#[tactic(auto, using(crate::proofs::Units::anys))]
+fn is_defined(target: &Target, operands: &[Operand], u: Unit) -> bool
+    ensures { result ≡ list_any (defines target.now u) operands.now }
+{
+    'each: for o in operands {
+        if defines(target, o, u) {
+            return true;
+        }
+    }
+    false
+}
+
+/// Whether one of the operands is an explicit definition of the unit.
+#[tactic(auto, using(crate::proofs::Units::anys))]
+fn is_defined_explicitly(target: &Target, operands: &[Operand], u: Unit) -> bool
+    ensures { result ≡ list_any (defines_explicitly target.now u) operands.now }
+{
+    'each: for o in operands {
+        if defines_explicitly(target, o, u) {
+            return true;
+        }
+    }
+    false
+}
+
+/// Whether the instruction is a call that makes the unit undefined.
+fn clobbers(target: &Target, i: &Instr, u: Unit) -> bool
+    ensures { result ≡ clobbers target.now i.now u }
+{
     match effect_of(target, i) {
-        Some(Effect::Call) => is_clobbered(target, operands, u),
+        Some(Effect::Call) => !is_preserved(target, i.operands.as_slice(), u),
+        _ => false,
+    }
+}
+
+/// Whether the instruction writes an unreserved unit.
+fn writes(target: &Target, i: &Instr, u: Unit) -> bool
+    ensures { result ≡ writes target.now i.now u }
+{
+    is_defined(target, i.operands.as_slice(), u) || clobbers(target, i, u)
+}
+
+/// Whether the instruction's definition is an early-clobber one.
+fn is_early_clobber(target: &Target, i: &Instr) -> bool
+    ensures { result ≡ is_early_clobber (roles_of target.now i.now) }
+{
+    match first_role(roles_of(target, i)) {
+        Some(Role::Early(_)) => true,
         _ => false,
     }
 }
 
 /// Whether the instruction writes the unit by an early-clobber definition.
-fn writes_early(target: &Target, i: &Instr, u: Unit) -> bool {
-    match first_role(roles_of(target, i)) {
-        Some(Role::Early(_)) => i.operands.as_slice().iter().any(|o| match o {
-            Operand::Reg(r) => r.def && !r.implicit && has_unit(target, *r, u),
-            _ => false,
-        }),
-        _ => false,
+fn writes_early(target: &Target, i: &Instr, u: Unit) -> bool
+    ensures { result ≡ writes_early target.now i.now u }
+{
+    is_early_clobber(target, i) && is_defined_explicitly(target, i.operands.as_slice(), u)
+}
+
+/// Whether uses may not lie in the unit at an instruction.
+fn is_taken(live: &LiveFunc, i: &Instr, u: Unit) -> bool
+    ensures { InOrder live.now.table → result ≡ is_taken live.now.target live.now.table u i.now }
+{
+    live.unit_in(u, i.id) || writes_early(live.target(), i, u)
+}
+
+/// Whether uses may not lie in the unit at instructions that make one place.
+#[tactic(auto, using(crate::proofs::Units::entries))]
+fn is_entered(live: &LiveFunc, instrs: &[Boxed<Instr>], u: Unit) -> bool
+    ensures { InOrder live.now.table → result ≡ entry_tests live.now.target live.now.table u instrs.now }
+{
+    'each: for k in 0..instrs.len() {
+        let i = instrs[k].get();
+        if is_taken(live, i, u) {
+            return true;
+        }
+        if k + 1 < instrs.len() && writes(live.target(), i, u) {
+            return true;
+        }
     }
+    false
+}
+
+/// Whether definitions may not lie in the unit at an instruction.
+fn is_left(live: &LiveFunc, i: &Instr, u: Unit) -> bool
+    ensures { InOrder live.now.table → result ≡ is_left live.now.target live.now.table u i.now }
+{
+    live.unit_out(u, i.id) || writes(live.target(), i, u)
+}
+
+/// Whether definitions may not lie in the unit at instructions that make one place.
+#[tactic(auto, using(crate::proofs::Units::anys))]
+fn is_exited(live: &LiveFunc, instrs: &[Boxed<Instr>], u: Unit) -> bool
+    ensures { InOrder live.now.table → result ≡ exit_tests live.now.target live.now.table u instrs.now }
+{
+    'each: for i in instrs {
+        if is_left(live, i.get(), u) {
+            return true;
+        }
+    }
+    false
 }
 
 /// Whether uses and copies at the place may not lie in the unit.
-pub fn is_at_entry(live: &LiveFunc, around: Around<'_>, u: Unit) -> bool {
+pub fn is_at_entry(live: &LiveFunc, around: Around<'_>, u: Unit) -> bool
+    ensures { InOrder live.now.table → result ≡ at_entry live.now.target live.now.table around.entry u }
+{
     match around {
         Around::Before(id) => live.unit_in(u, id),
         Around::Behind(id) => live.unit_out(u, id),
         Around::Start(block) => live.unit_at(u, block),
-        Around::Instrs(instrs) => {
-            let target = live.target();
-            'each: for k in 0..instrs.len() {
-                let i = instrs[k].get();
-                if live.unit_in(u, i.id) || writes_early(target, i, u) {
-                    return true;
-                }
-                if k + 1 < instrs.len() && writes(target, i, u) {
-                    return true;
-                }
-            }
-            false
-        }
+        Around::Instrs(instrs) => is_entered(live, instrs, u),
     }
 }
 
 /// Whether definitions at the place may not lie in the unit.
-pub fn is_at_exit(live: &LiveFunc, around: Around<'_>, u: Unit) -> bool {
+pub fn is_at_exit(live: &LiveFunc, around: Around<'_>, u: Unit) -> bool
+    ensures { InOrder live.now.table → result ≡ at_exit live.now.target live.now.table around.entry u }
+{
     match around {
-        Around::Instrs(instrs) => {
-            let target = live.target();
-            instrs.iter().any(|i| live.unit_out(u, i.get().id) || writes(target, i.get(), u))
-        }
+        Around::Instrs(instrs) => is_exited(live, instrs, u),
         _ => false,
     }
 }

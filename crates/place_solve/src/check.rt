@@ -1,11 +1,16 @@
 //! Whether every place of a source admits a choice of registers.
 
-ghost use Rattle.std.specs.Prelude.{◌≡◌, ◌<◌, ◌^◌, length, IfOk, OnOk, IfErr, true};
+ghost use Rattle.std.specs.Prelude.{◌≡◌, ◌<◌, ◌^◌, length, IfOk, OnOk, IfErr, None, true};
 ghost use Rattle.std.specs.List.{list_any};
 ghost use Rattle.mir_meaning.specs.Binding.{does, is_terminator};
 ghost use Rattle.mir_meaning.specs.Rules.{is_lowered_away};
 ghost use Rattle.mir_meaning.specs.Places.{FirstPlace, TooMany};
+ghost use Rattle.mir_meaning.specs.declared.Form.TheVariants as forms;
+ghost use Rattle.mir_meaning.specs.Valid.{IsValid};
+ghost use Rattle.effect_laws.specs.Shaped.{AreClasses};
+ghost use Rattle.live_lanes.specs.Looks.{InOrder};
 ghost use Rattle.place_solve.specs.Own as own;
+ghost use Rattle.place_solve.specs.Told as told;
 
 use crate::around::Around;
 use crate::copies::copies_admit;
@@ -97,7 +102,9 @@ fn own_place<'a>(target: &Target, instrs: &'a [Boxed<Instr>], j: usize) -> &'a [
 }
 
 /// Where the own place of these instructions stands: a copy counts by the point before it.
-fn own_around<'a>(target: &Target, instrs: &'a [Boxed<Instr>]) -> Around<'a> {
+fn own_around<'a>(target: &Target, instrs: &'a [Boxed<Instr>]) -> Around<'a>
+    ensures { result ≡ told.around_at target.now instrs.entry instrs.now }
+{
     match instrs.first() {
         None => Around::Instrs(instrs),
         Some(i) => match effect_of(target, i.get()) {
@@ -155,32 +162,44 @@ fn first_crowded(alloc: Global, target: &Target, f: &Func) -> Result<Option<Plac
     Ok(None)
 }
 
+/// Whether the own place of an instruction admits registers.
+fn own_admits(
+    alloc: Global,
+    live: &LiveFunc,
+    instrs: &[Boxed<Instr>],
+    j: usize,
+) -> Result<bool, AllocError>
+    ensures { IfOk result (λ yes. InOrder live.now.table → told.OwnTold live.now.target live.now.func live.now.table instrs.now j yes) }
+{
+    let (target, f) = (live.target(), live.func());
+    let place = own_place(target, instrs, j);
+    let variables = variables_of(alloc, target, f, place)?;
+    let around = own_around(target, place);
+    Ok(first_choice(alloc, live, around, variables.as_slice())?.is_some())
+}
+
 /// Whether the own place of an instruction, and the copies that lowering makes of it, admit registers.
 fn admits(
     alloc: Global,
     live: &LiveFunc,
     instrs: &[Boxed<Instr>],
     j: usize,
-) -> Result<bool, AllocError> {
-    let (target, f) = (live.target(), live.func());
+) -> Result<bool, AllocError>
+    ensures { IfOk result (λ yes. yes ≡ true → j < length instrs.now → InOrder live.now.table → told.OwnTold live.now.target live.now.func live.now.table instrs.now j true) }
+{
     if j >= instrs.len() {
         return Ok(true);
     }
-    let place = own_place(target, instrs, j);
-    let variables = variables_of(alloc, target, f, place)?;
-    let around = own_around(target, place);
-    if first_choice(alloc, live, around, variables.as_slice())?.is_none() {
+    if !own_admits(alloc, live, instrs, j)? {
         return Ok(false);
     }
     copies_admit(alloc, live, instrs[j].get())
 }
 
 /// The first instruction of a block one of whose places admits nothing.
-fn unassignable(
-    alloc: Global,
-    live: &LiveFunc,
-    block: &Block,
-) -> Result<Option<usize>, AllocError> {
+fn unassignable(alloc: Global, live: &LiveFunc, block: &Block) -> Result<Option<usize>, AllocError>
+    ensures { IfOk result (λ q. q ≡ None → InOrder live.now.table → told.OwnServe live.now.target live.now.func live.now.table block.now.instrs (length block.now.instrs)) }
+{
     let instrs = block.instrs.as_slice();
     'each: for j in 0..instrs.len() {
         if !admits(alloc, live, instrs, j)? {
@@ -201,6 +220,34 @@ fn place_of(block: &Block, at: usize) -> Place
     }
 }
 
+/// The first of these blocks' instructions one of whose places admits nothing.
+fn first_unassignable(
+    alloc: Global,
+    live: &LiveFunc,
+    blocks: &[Block],
+) -> Result<Option<Place>, AllocError>
+    ensures { IfOk result (λ q. q ≡ None → InOrder live.now.table → told.BlocksServe live.now.target live.now.func live.now.table blocks.now (length blocks.now)) }
+{
+    'tested: for k in 0..blocks.len() {
+        let block = &blocks[k];
+        if let Some(at) = unassignable(alloc, live, block)? {
+            return Ok(Some(place_of(block, at)));
+        }
+    }
+    Ok(None)
+}
+
+/// The first instruction of a function one of whose places admits nothing.
+fn first_refused(alloc: Global, target: &Target, f: &Func) -> Result<Option<Place>, AllocError>
+    ensures { IfOk result (λ q. q ≡ None → AreClasses target.now f.now → IsValid target.now forms.Source f.now → told.OwnPlacesServe target.now f.now) }
+{
+    let _last = f.next_id;
+    let copy = f.copy(alloc)?;
+    let live = LiveFunc::compute(alloc, target, copy)?;
+    let blocks = f.blocks.as_slice();
+    first_unassignable(alloc, &live, blocks)
+}
+
 /// Tests every place of a valid source: its instructions, the terminators of each block together, and
 /// the copies that lowering will make. Variables comes where a place has more than 6 variables, with
 /// the first such place in layout, and before any search. Unassignable comes where no choice of
@@ -208,16 +255,14 @@ fn place_of(block: &Block, at: usize) -> Place
 pub fn check_places(alloc: Global, target: &Target, f: &Valid) -> Result<(), PlaceStop>
     ensures variables { IfErr result (own.IfVariables (FirstPlace target.now f.now.func TooMany)) }
     ensures few_at_ok { OnOk result (own.HasFew target.now f.now.func) }
+    ensures own_at_ok { OnOk result (AreClasses target.now f.now.func → IsValid target.now forms.Source f.now.func → told.OwnPlacesServe target.now f.now.func) }
     ensures few_at_unassignable { IfErr result (own.IfUnassignable (λ _. own.HasFew target.now f.now.func)) }
 {
     if let Some(place) = first_crowded(alloc, target, &f.func)? {
         return Err(PlaceStop::Variables(place));
     }
-    let live = LiveFunc::compute(alloc, target, f.func.copy(alloc)?)?;
-    'tested: for block in f.func.blocks.as_slice() {
-        if let Some(at) = unassignable(alloc, &live, block)? {
-            return Err(PlaceStop::Unassignable(place_of(block, at)));
-        }
+    match first_refused(alloc, target, &f.func)? {
+        Some(place) => Err(PlaceStop::Unassignable(place)),
+        None => Ok(()),
     }
-    Ok(())
 }

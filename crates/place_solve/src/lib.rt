@@ -4,6 +4,7 @@
 pub mod around;
 mod check;
 mod copies;
+pub mod laws;
 mod search;
 mod tinies;
 pub mod variables;

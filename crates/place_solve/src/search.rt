@@ -1,9 +1,11 @@
 //! The first choice of registers that serves.
 
-ghost use Rattle.std.specs.Prelude.{◌≡◌, ◌≤◌, ◌+◌, IfOk, not, true, length};
+ghost use Rattle.std.specs.Prelude.{◌≡◌, ◌≤◌, ◌+◌, ◌&&◌, ◌++◌, ◌∷◌, [], IfOk, OnOk, filter, map, not, option_map, true, length};
 ghost use Rattle.target_base.specs.Storage.{is_among};
-ghost use Rattle.mir_meaning.specs.Places.{all_apart, share_a_unit};
-ghost use Rattle.place_solve.specs.Choice.{use_of, need_of, seats, stands_beside, fits, Found};
+ghost use Rattle.mir_meaning.specs.Places.{all_apart, is_defining, reaches_back, share_a_unit, solutions};
+ghost use Rattle.live_lanes.specs.Looks.{InOrder};
+ghost use Rattle.place_solve.specs.Around.{at_entry, at_exit, entry_of, exit_of};
+ghost use Rattle.place_solve.specs.Choice.{use_of, need_of, seats, stands_beside, fits, Found, is_free, may_lie, options_in, first};
 
 use crate::around::{Around, is_at_entry, is_at_exit};
 use crate::variables::{Kind, Variable};
@@ -29,29 +31,72 @@ fn share_a_unit(target: &Target, a: Reg, b: Reg) -> bool
     units_at(regs, b).iter().any(|u| holds(own, *u))
 }
 
-/// Whether a variable of this kind may lie in a register: it is unreserved, and none of its units is
-/// in use around the place where the variable needs it.
-fn avoids(live: &LiveFunc, around: Around<'_>, kind: Kind, r: Reg) -> bool {
-    let target = live.target();
-    units_at(target.regs.as_slice(), r).iter().all(|u| {
-        !holds(target.reserved.as_slice(), *u)
-            && !(kind.reaches_back() && is_at_entry(live, around, *u))
-            && !(kind.is_defining() && is_at_exit(live, around, *u))
-    })
+/// Whether a variable of this kind may not lie in a unit before or at the place.
+fn clashes_before(live: &LiveFunc, around: Around<'_>, kind: Kind, u: Unit) -> bool
+    ensures { InOrder live.now.table → result ≡ (reaches_back (use_of kind) && at_entry live.now.target live.now.table around.entry u) }
+{
+    kind.reaches_back() && is_at_entry(live, around, u)
+}
+
+/// Whether a variable of this kind may not lie in a unit behind the place.
+fn clashes_behind(live: &LiveFunc, around: Around<'_>, kind: Kind, u: Unit) -> bool
+    ensures { InOrder live.now.table → result ≡ (is_defining (use_of kind) && at_exit live.now.target live.now.table around.entry u) }
+{
+    kind.is_defining() && is_at_exit(live, around, u)
+}
+
+/// Whether a variable of this kind may lie in a unit: it is unreserved, and not in use around the place
+/// where the variable needs it.
+fn is_free(live: &LiveFunc, around: Around<'_>, kind: Kind, u: Unit) -> bool
+    ensures { InOrder live.now.table → result ≡ is_free live.now.target live.now.table around.entry (use_of kind) u }
+{
+    !holds(live.target().reserved.as_slice(), u)
+        && !clashes_before(live, around, kind, u)
+        && !clashes_behind(live, around, kind, u)
+}
+
+/// Whether a variable of this kind may lie in a register: in each of its units.
+#[tactic(auto, using(crate::proofs::Units::alls))]
+fn avoids(live: &LiveFunc, around: Around<'_>, kind: Kind, r: Reg) -> bool
+    ensures { InOrder live.now.table → result ≡ may_lie live.now.target live.now.table around.entry (use_of kind) r }
+{
+    'each: for u in units_at(live.target().regs.as_slice(), r) {
+        if !is_free(live, around, kind, *u) {
+            return false;
+        }
+    }
+    true
+}
+
+/// Puts a register behind the options of a variable of this kind, if it may lie there.
+fn push_option(
+    options: &mut Regs,
+    live: &LiveFunc,
+    around: Around<'_>,
+    kind: Kind,
+    r: Reg,
+) -> Result<(), AllocError>
+    ensures { OnOk result (InOrder live.now.table → options.new ≡ options.old ++ filter (may_lie live.now.target live.now.table around.entry (use_of kind)) (r ∷ [])) }
+{
+    if avoids(live, around, kind, r) {
+        options.push(r)?;
+    }
+    Ok(())
 }
 
 /// The registers of a variable's class that it may lie in, in allocation order.
+#[tactic(auto, using(crate::proofs::Units::filters))]
 fn options_of(
     alloc: Global,
     live: &LiveFunc,
     around: Around<'_>,
     v: Variable,
-) -> Result<Regs, AllocError> {
+) -> Result<Regs, AllocError>
+    ensures { IfOk result (λ made. InOrder live.now.table → made ≡ options_in live.now.target live.now.table around.entry v) }
+{
     let mut options = List::new(alloc);
     'each: for r in regs_at(live.target().classes.as_slice(), v.class) {
-        if avoids(live, around, v.kind, *r) {
-            options.push(*r)?;
-        }
+        push_option(&mut options, live, around, v.kind, *r)?;
     }
     Ok(options)
 }
@@ -124,7 +169,8 @@ fn all_options(
     around: Around<'_>,
     variables: &[Variable],
 ) -> Result<Vec<Regs>, AllocError>
-    ensures { IfOk result (λ made. length made.items ≡ length variables.now) }
+    ensures long { IfOk result (λ made. length made.items ≡ length variables.now) }
+    ensures value { IfOk result (λ made. InOrder live.now.table → made.items ≡ map (options_in live.now.target live.now.table around.entry) variables.now) }
 {
     let mut options = Vec::new(alloc);
     'each: for v in variables {
@@ -135,12 +181,15 @@ fn all_options(
 
 /// The first choice of registers for the variables, in their order and in allocation order, that
 /// serves at the place. None where no choice does.
+#[tactic(auto, using(crate::proofs::Solved::solved))]
 pub fn first_choice(
     alloc: Global,
     live: &LiveFunc,
     around: Around<'_>,
     variables: &[Variable],
-) -> Result<Option<Vec<Reg>>, AllocError> {
+) -> Result<Option<Vec<Reg>>, AllocError>
+    ensures { IfOk result (λ q. InOrder live.now.table → option_map (λ v. v.items) q ≡ first (solutions live.now.target (entry_of live.now.target live.now.table around.entry) (exit_of live.now.target live.now.table around.entry) (map need_of variables.now))) }
+{
     let options = all_options(alloc, live, around, variables)?;
     let mut chosen = Vec::new(alloc);
     if choose(

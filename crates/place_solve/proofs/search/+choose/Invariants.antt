@@ -1,4 +1,4 @@
-use Rattle.std.proofs.Common.{◌≡◌, ◌+◌, [], take, drop, length}
+use Rattle.std.proofs.Common.{◌≡◌, ◌+◌, [], take, drop}
 use Rattle.std.specs.List.{flat_map}
 use Rattle.place_solve.proofs.Chosen.{with_next}
 use Rattle.place_solve.proofs.search.+choose.Given as goal
