@@ -7,5 +7,6 @@ pub mod Rowed
 pub mod BareRuns
 pub mod Steps
 pub mod Placed
+pub mod Fitting
 pub mod Celled
 pub mod Alone

@@ -3,3 +3,4 @@ pub mod Marks
 pub mod Cells
 pub mod Verdict
 pub mod Bare
+pub mod Fitting

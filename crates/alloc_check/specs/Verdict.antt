@@ -4,8 +4,7 @@ use Rattle.std.specs.List.{list_any}
 use Rattle.target_base.specs.declared.types.Target.{Target}
 use Rattle.mir_func.specs.Value.{Function}
 use Rattle.mir_meaning.specs.declared.Form.TheVariants as forms
-use Rattle.mir_meaning.specs.Valid.{names_virtual}
-use Rattle.machine_verify.specs.Verdict.{IsAccepted}
+use Rattle.mir_meaning.specs.Valid.{IsValid, names_virtual}
 use Rattle.mir_meaning.specs.Codes.{refines}
 use Rattle.alloc_check.specs.declared.check.Verdict.{Verdict}
 use Rattle.alloc_check.specs.declared.check.Verdict.TheVariants.{Yes, No}
@@ -15,9 +14,9 @@ abbrev pub IfYes : Type 0 → Verdict → Type 0
 IfYes P Yes = P
 IfYes P (No place) = Unit {0}
 
--- The allocated function is right for its source: the verifier accepts it, it names no virtual register, and it does
--- all that the source does.
+-- The allocated function is right for its source: it is valid in the allocated form, names no virtual register, and
+-- does all that the source does.
 pub record IsRight (t : Target) (f g : Function) : Type 0 where
-  pub accepted : IsAccepted t forms.Allocated g
+  pub valid : IsValid t forms.Allocated g
   pub chosen : list_any names_virtual g.blocks ≡ false
   pub refines : refines t f g

@@ -9,6 +9,7 @@ mod closed;
 mod doubts;
 mod facts;
 mod family;
+mod fitting;
 mod needs;
 mod pair;
 mod rests;

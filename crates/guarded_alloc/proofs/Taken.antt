@@ -8,11 +8,12 @@ use Rattle.guarded_alloc.specs.declared.stop.FunctionStop.{FunctionStop}
 use Rattle.guarded_alloc.specs.declared.stop.FunctionStop.TheVariants as stops
 use Rattle.guarded_alloc.specs.declared.stop.LimitName.{LimitName}
 use Rattle.guarded_alloc.specs.declared.stop.LimitName.TheVariants as limits
-use Rattle.guarded_alloc.specs.Function.{IsTaken, IsGuarded, Allocates, HasMany, IsLateLimit, IsOnceTaken, IfLimited, IfRefused}
+use Rattle.alloc_check.specs.Verdict.{IsRight}
+use Rattle.guarded_alloc.specs.Function.{IsTaken, Allocates, HasMany, IsLateLimit, IsOnceTaken, IfLimited, IfRefused}
 
 -- its allocation, where the source is the function
-pub allocates : (t : Target) (f s : Function) (result : Result Function FunctionStop) → IsTaken t f → s ≡ f → IfOk result (IsGuarded t s) → OnOk result (HasFew t s) → IfOk result (Allocates t f)
-allocates t f s (Ok g) taken same guarded few = record { taken = taken; few = subst (HasFew t) same few; guarded = subst (λ x. IsGuarded t x g) same guarded }
+pub allocates : (t : Target) (f s : Function) (result : Result Function FunctionStop) → IsTaken t f → s ≡ f → IfOk result (IsRight t s) → OnOk result (HasFew t s) → IfOk result (Allocates t f)
+allocates t f s (Ok g) taken same guarded few = record { taken = taken; few = subst (HasFew t) same few; right = subst (λ x. IsRight t x g) same guarded }
 allocates t f s (Err e) taken same guarded few = tt
 
 -- the late limits

@@ -20,20 +20,16 @@ pub record IsTaken (t : Target) (f : Function) : Type 0 where
   pub fits : passed_limit f ≡ None
   pub valid : IsValid t forms.Source f
 
--- what the guard lets through: g is valid in the allocated form, names no virtual register, and does all that f does
-pub record IsGuarded (t : Target) (f g : Function) : Type 0 where
-  pub valid : IsValid t forms.Allocated g
-  pub right : IsRight t f g
-
 -- some place has too many variables
 abbrev pub HasMany : Target → Function → Type 0
 HasMany t f = (name : Place) × FirstPlace t f TooMany name
 
--- g is an allocation of f, a function within the limits that is valid as a source, no place of which has too many variables
+-- g is an allocation of f, a function within the limits that is valid as a source, no place of which has too many variables:
+-- the checker of allocations said Yes to both
 pub record Allocates (t : Target) (f g : Function) : Type 0 where
   pub taken : IsTaken t f
   pub few : HasFew t f
-  pub guarded : IsGuarded t f g
+  pub right : IsRight t f g
 
 -- the limit l is that of the variables of a place, and some place passes it; or it is that of range numbers, and none does
 abbrev pub IsLateLimit : Target → Function → LimitName → Type 0

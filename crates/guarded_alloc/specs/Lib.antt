@@ -1,4 +1,3 @@
 pub mod Limits
 pub mod Function
-pub mod Fitting
 pub mod Told

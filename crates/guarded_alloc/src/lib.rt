@@ -2,7 +2,6 @@
 //! chosen, and the checker of allocations is asked before it is handed out.
 #![tactic(auto)]
 
-mod fitting;
 pub mod function;
 mod guard;
 pub mod limits;

@@ -1,10 +1,11 @@
-//! Whether the classes of a function's virtual registers are those of its target. The verifiers are
-//! exact for such functions, and each function that is read under its target is one.
+//! Whether the classes of a function's virtual registers are those of its target, as every call with a
+//! target asks: the verifiers are exact for such functions, and each function that is read under its
+//! target is one. Of a function that anybody made it is tested.
 
 ghost use Rattle.std.specs.Prelude.{◌≡◌, IsTrue};
 ghost use Rattle.std.specs.List.{list_all};
 ghost use Rattle.machine_verify.specs.Lives.{FitsTarget};
-ghost use Rattle.guarded_alloc.specs.Fitting.{is_class};
+ghost use Rattle.alloc_check.specs.Fitting.{is_class};
 
 use mir_func::Func;
 use target_base::{ClassId, Target};
@@ -30,7 +31,7 @@ fn are_classes(target: &Target, classes: &[Option<ClassId>]) -> bool
 
 /// Whether each virtual register of a function is of a class of the target, and their numbers have
 /// 32 bits.
-#[tactic(auto, using(crate::proofs::Exact::fits_of))]
+#[tactic(auto, using(crate::proofs::Fitting::fits_of))]
 pub(crate) fn fits(target: &Target, f: &Func) -> bool
     ensures { IsTrue result → FitsTarget target.now f.now }
 {
