@@ -3,12 +3,13 @@ use Rattle.std.specs.Prelude.{◌≡◌, ℕ, List, [], Result, Ok, Err, IfOk}
 use Rattle.std.proofs.Common.{subst, ap, refl, ◌∙◌}
 use Rattle.target_base.specs.declared.types.Target.{Target}
 use Rattle.mir_func.specs.Value.{Function}
-use Rattle.place_solve.specs.Own.{HasFew}
+use Rattle.effect_laws.specs.Shaped.{AreClasses}
 use Rattle.guarded_alloc.specs.declared.stop.LimitName.{LimitName}
 use Rattle.guarded_alloc.specs.declared.stop.LimitName.TheVariants as limits
 use Rattle.guarded_alloc.specs.Function.{IsTaken, HasMany}
 use Rattle.watchers.specs.declared.steps.Step.{Step}
 use Rattle.guarded_alloc.specs.Told.{ToldPart}
+use Rattle.guarded_alloc.proofs.Taken.{serving, first_refused}
 use Rattle.answers.specs.Told.{ToldOne}
 use Rattle.answers.specs.declared.answer.Answer.{Answer}
 use Rattle.answers.specs.declared.answer.Answer.TheVariants as answers
@@ -17,57 +18,57 @@ use Rattle.answers.specs.declared.status.Status.TheVariants as status
 use Rattle.answers.specs.Status.{unassignable_words}
 use Rattle.answers.specs.Documents.{AllocRefuses, IntervalsRefuses, LateRefuses, PlaceRefuses, IsTakenRefusal, IsTakenAnswer, IsTraceAnswer, IsPlaceRefusal, IsLiveAnswer, IsLiveText, IsIntervalsAnswer}
 
-late : (t : Target) (f s : Function) (name : List ℕ) (x : Status) (detail : List ℕ) → IsTaken t f → s ≡ f → name ≡ f.name → LateRefuses t s name x detail → AllocRefuses t f x detail
-late t f s name (status.Limit limits.Variables) detail taken same named h = (taken, subst (HasMany t) same h)
-late t f s name (status.Limit limits.Ranges) detail taken same named h = (taken, subst (HasFew t) same h)
-late t f s name (status.Limit limits.TargetBytes) detail taken same named h = absurd h
-late t f s name (status.Limit limits.File) detail taken same named h = absurd h
-late t f s name (status.Limit limits.Document) detail taken same named h = absurd h
-late t f s name (status.Limit limits.Blocks) detail taken same named h = absurd h
-late t f s name (status.Limit limits.Instructions) detail taken same named h = absurd h
-late t f s name (status.Limit limits.Registers) detail taken same named h = absurd h
-late t f s name (status.Unassignable p) detail taken same named h = ((taken, refl, subst (HasFew t) same h.1), h.0 ∙ ap (λ n. unassignable_words n p) named)
-late t f s name status.NotYet detail taken same named h = (taken, subst (HasFew t) same h)
-late t f s name status.Done detail taken same named h = absurd h
-late t f s name status.Usage detail taken same named h = absurd h
-late t f s name (status.Target e) detail taken same named h = absurd h
-late t f s name (status.Text e) detail taken same named h = absurd h
-late t f s name (status.Invalid e) detail taken same named h = absurd h
-late t f s name status.ReadFault detail taken same named h = absurd h
-late t f s name status.WriteFault detail taken same named h = absurd h
-late t f s name status.Memory detail taken same named h = absurd h
+late : (t : Target) (f s : Function) (name : List ℕ) (x : Status) (detail : List ℕ) → IsTaken t f → AreClasses t f → s ≡ f → name ≡ f.name → LateRefuses t s name x detail → AllocRefuses t f x detail
+late t f s name (status.Limit limits.Variables) detail taken classes same named h = (taken, subst (HasMany t) same h)
+late t f s name (status.Limit limits.Ranges) detail taken classes same named h = (taken, serving t f s taken classes same h)
+late t f s name (status.Limit limits.TargetBytes) detail taken classes same named h = absurd h
+late t f s name (status.Limit limits.File) detail taken classes same named h = absurd h
+late t f s name (status.Limit limits.Document) detail taken classes same named h = absurd h
+late t f s name (status.Limit limits.Blocks) detail taken classes same named h = absurd h
+late t f s name (status.Limit limits.Instructions) detail taken classes same named h = absurd h
+late t f s name (status.Limit limits.Registers) detail taken classes same named h = absurd h
+late t f s name (status.Unassignable p) detail taken classes same named h = ((taken, refl, first_refused t f s p taken classes same h.1), h.0 ∙ ap (λ n. unassignable_words n p) named)
+late t f s name status.NotYet detail taken classes same named h = (taken, serving t f s taken classes same h)
+late t f s name status.Done detail taken classes same named h = absurd h
+late t f s name status.Usage detail taken classes same named h = absurd h
+late t f s name (status.Target e) detail taken classes same named h = absurd h
+late t f s name (status.Text e) detail taken classes same named h = absurd h
+late t f s name (status.Invalid e) detail taken classes same named h = absurd h
+late t f s name status.ReadFault detail taken classes same named h = absurd h
+late t f s name status.WriteFault detail taken classes same named h = absurd h
+late t f s name status.Memory detail taken classes same named h = absurd h
 
-pub traces : {E : Type 0} (t : Target) (f s : Function) (name : List ℕ) (result : Result Answer E) → IsTaken t f → s ≡ f → name ≡ f.name → IfOk result (IsTakenAnswer t s name) → IfOk result (IsTraceAnswer t f)
-traces t f s name (Ok (answers.Text text)) taken same named h = (taken, h)
-traces t f s name (Ok (answers.Last text)) taken same named h = absurd h
-traces t f s name (Ok (answers.Refused x detail)) taken same named h = late t f s name x detail taken same named h
-traces t f s name (Err e) taken same named h = tt
+pub traces : {E : Type 0} (t : Target) (f s : Function) (name : List ℕ) (result : Result Answer E) → IsTaken t f → AreClasses t f → s ≡ f → name ≡ f.name → IfOk result (IsTakenAnswer t s name) → IfOk result (IsTraceAnswer t f)
+traces t f s name (Ok (answers.Text text)) taken classes same named h = (taken, h)
+traces t f s name (Ok (answers.Last text)) taken classes same named h = absurd h
+traces t f s name (Ok (answers.Refused x detail)) taken classes same named h = late t f s name x detail taken classes same named h
+traces t f s name (Err e) taken classes same named h = tt
 
-placed : (t : Target) (f s : Function) (name : List ℕ) (x : Status) (detail : List ℕ) → IsTaken t f → s ≡ f → name ≡ f.name → PlaceRefuses t s name x detail → IntervalsRefuses t f x detail
-placed t f s name (status.Limit limits.Variables) detail taken same named h = late t f s name (status.Limit limits.Variables) detail taken same named h
-placed t f s name (status.Limit limits.Ranges) detail taken same named h = absurd h
-placed t f s name (status.Limit limits.TargetBytes) detail taken same named h = absurd h
-placed t f s name (status.Limit limits.File) detail taken same named h = absurd h
-placed t f s name (status.Limit limits.Document) detail taken same named h = absurd h
-placed t f s name (status.Limit limits.Blocks) detail taken same named h = absurd h
-placed t f s name (status.Limit limits.Instructions) detail taken same named h = absurd h
-placed t f s name (status.Limit limits.Registers) detail taken same named h = absurd h
-placed t f s name (status.Unassignable p) detail taken same named h = late t f s name (status.Unassignable p) detail taken same named h
-placed t f s name status.NotYet detail taken same named h = absurd h
-placed t f s name status.Done detail taken same named h = absurd h
-placed t f s name status.Usage detail taken same named h = absurd h
-placed t f s name (status.Target e) detail taken same named h = absurd h
-placed t f s name (status.Text e) detail taken same named h = absurd h
-placed t f s name (status.Invalid e) detail taken same named h = absurd h
-placed t f s name status.ReadFault detail taken same named h = absurd h
-placed t f s name status.WriteFault detail taken same named h = absurd h
-placed t f s name status.Memory detail taken same named h = absurd h
+placed : (t : Target) (f s : Function) (name : List ℕ) (x : Status) (detail : List ℕ) → IsTaken t f → AreClasses t f → s ≡ f → name ≡ f.name → PlaceRefuses t s name x detail → IntervalsRefuses t f x detail
+placed t f s name (status.Limit limits.Variables) detail taken classes same named h = late t f s name (status.Limit limits.Variables) detail taken classes same named h
+placed t f s name (status.Limit limits.Ranges) detail taken classes same named h = absurd h
+placed t f s name (status.Limit limits.TargetBytes) detail taken classes same named h = absurd h
+placed t f s name (status.Limit limits.File) detail taken classes same named h = absurd h
+placed t f s name (status.Limit limits.Document) detail taken classes same named h = absurd h
+placed t f s name (status.Limit limits.Blocks) detail taken classes same named h = absurd h
+placed t f s name (status.Limit limits.Instructions) detail taken classes same named h = absurd h
+placed t f s name (status.Limit limits.Registers) detail taken classes same named h = absurd h
+placed t f s name (status.Unassignable p) detail taken classes same named h = late t f s name (status.Unassignable p) detail taken classes same named h
+placed t f s name status.NotYet detail taken classes same named h = absurd h
+placed t f s name status.Done detail taken classes same named h = absurd h
+placed t f s name status.Usage detail taken classes same named h = absurd h
+placed t f s name (status.Target e) detail taken classes same named h = absurd h
+placed t f s name (status.Text e) detail taken classes same named h = absurd h
+placed t f s name (status.Invalid e) detail taken classes same named h = absurd h
+placed t f s name status.ReadFault detail taken classes same named h = absurd h
+placed t f s name status.WriteFault detail taken classes same named h = absurd h
+placed t f s name status.Memory detail taken classes same named h = absurd h
 
-pub shows : {E : Type 0} (t : Target) (f s : Function) (name : List ℕ) (result : Result Answer E) → IsTaken t f → s ≡ f → name ≡ f.name → IfOk result (IsLiveAnswer t s name) → IfOk result (IsIntervalsAnswer t f)
-shows t f s name (Ok (answers.Text text)) taken same named h = (taken, subst (λ n. IsLiveText n text) named h)
-shows t f s name (Ok (answers.Last text)) taken same named h = absurd h
-shows t f s name (Ok (answers.Refused x detail)) taken same named h = placed t f s name x detail taken same named h
-shows t f s name (Err e) taken same named h = tt
+pub shows : {E : Type 0} (t : Target) (f s : Function) (name : List ℕ) (result : Result Answer E) → IsTaken t f → AreClasses t f → s ≡ f → name ≡ f.name → IfOk result (IsLiveAnswer t s name) → IfOk result (IsIntervalsAnswer t f)
+shows t f s name (Ok (answers.Text text)) taken classes same named h = (taken, subst (λ n. IsLiveText n text) named h)
+shows t f s name (Ok (answers.Last text)) taken classes same named h = absurd h
+shows t f s name (Ok (answers.Refused x detail)) taken classes same named h = placed t f s name x detail taken classes same named h
+shows t f s name (Err e) taken classes same named h = tt
 
 -- a refusal is an answer
 pub taken_refused : {E : Type 0} (t : Target) (f : Function) (name : List ℕ) (result : Result Answer E) → IfOk result (IsTakenRefusal t f name) → IfOk result (IsTakenAnswer t f name)

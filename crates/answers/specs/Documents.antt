@@ -16,7 +16,7 @@ use Rattle.machine_verify.specs.declared.stop.Invalid.{Invalid}
 use Rattle.machine_verify.specs.Faults.{fault_of}
 use Rattle.machine_verify.specs.Lives.{FitsTarget}
 use Rattle.guarded_alloc.specs.Limits.{passed_limit}
-use Rattle.place_solve.specs.Own.{HasFew}
+use Rattle.function_alloc.specs.Stops.{AllServe, FirstRefused}
 use Rattle.guarded_alloc.specs.Function.{Allocates, HasMany, IsTaken, IfRefused}
 use Rattle.guarded_alloc.specs.declared.stop.LimitName.TheVariants as limits
 use Rattle.guarded_alloc.specs.declared.stop.FunctionStop.{FunctionStop}
@@ -223,9 +223,9 @@ IsAllocRefusal stop a = ⊥
 -- a refusal of a valid function within the limits, by a name
 abbrev pub LateRefuses : Target → Function → List ℕ → Status → List ℕ → Type 0
 LateRefuses t f name (status.Limit limits.Variables) detail = HasMany t f
-LateRefuses t f name (status.Limit limits.Ranges) detail = HasFew t f
-LateRefuses t f name (status.Unassignable p) detail = (detail ≡ unassignable_words name p) × HasFew t f
-LateRefuses t f name status.NotYet detail = HasFew t f
+LateRefuses t f name (status.Limit limits.Ranges) detail = AllServe t f
+LateRefuses t f name (status.Unassignable p) detail = (detail ≡ unassignable_words name p) × FirstRefused t f p
+LateRefuses t f name status.NotYet detail = AllServe t f
 LateRefuses t f name s detail = ⊥
 
 abbrev pub IsTakenRefusal : Target → Function → List ℕ → Answer → Type 0
@@ -240,7 +240,7 @@ IsTakenAnswer t f name (answers.Refused s detail) = LateRefuses t f name s detai
 -- a refusal of a valid function within the limits for one of its places, by a name
 abbrev pub PlaceRefuses : Target → Function → List ℕ → Status → List ℕ → Type 0
 PlaceRefuses t f name (status.Limit limits.Variables) detail = HasMany t f
-PlaceRefuses t f name (status.Unassignable p) detail = (detail ≡ unassignable_words name p) × HasFew t f
+PlaceRefuses t f name (status.Unassignable p) detail = (detail ≡ unassignable_words name p) × FirstRefused t f p
 PlaceRefuses t f name s detail = ⊥
 
 abbrev pub IsPlaceRefusal : Target → Function → List ℕ → Answer → Type 0

@@ -4,7 +4,8 @@ ghost use Rattle.std.specs.Prelude.{◌≡◌, IfOk};
 ghost use Rattle.target_base.specs.declared.types.Target.{Target as TargetValue};
 ghost use Rattle.mir_func.specs.Value.{Function};
 ghost use Rattle.mir_meaning.specs.Places.{FirstPlace, TooMany};
-ghost use Rattle.place_solve.specs.Own.{HasFew, IfVariables, IfUnassignable};
+ghost use Rattle.place_solve.specs.Own.{IfVariables, IfUnassignable};
+ghost use Rattle.function_alloc.specs.Stops.{FirstRefused};
 ghost use Rattle.machine_verify.specs.Lives.{FitsTarget};
 ghost use Rattle.answers.specs.Documents.{IsIntervalsAnswer, IsLiveAnswer, IsPlaceRefusal};
 
@@ -22,7 +23,7 @@ use target_base::{Bytes, Copied, Target};
 
 /// Refuses a valid function of a name for one of its places.
 fn refused(alloc: Global, name: &[u8], stop: PlaceStop) -> Result<Answer, AllocError>
-    ensures { (t : TargetValue) → (f : Function) → IfVariables (FirstPlace t f TooMany) stop → IfUnassignable (λ _. HasFew t f) stop → IfOk result (IsPlaceRefusal t f name.now) }
+    ensures { (t : TargetValue) → (f : Function) → IfVariables (FirstPlace t f TooMany) stop → IfUnassignable (FirstRefused t f) stop → IfOk result (IsPlaceRefusal t f name.now) }
 {
     match stop {
         PlaceStop::Variables(_) => Ok(Answer::Refused(

@@ -4,8 +4,7 @@ ghost use Rattle.std.specs.Prelude.{◌≡◌, ◌∷◌, List, true, false, IfE
 ghost use Rattle.watchers.specs.declared.steps.Step.{Step};
 ghost use Rattle.watchers.specs.declared.steps.Step.TheVariants.{Begin};
 ghost use Rattle.watchers.specs.Told.{AllTold, PartTold};
-ghost use Rattle.place_solve.specs.Own.{HasFew};
-ghost use Rattle.function_alloc.specs.Stops.{comes_of_a_place, SaysOfPlaces};
+ghost use Rattle.function_alloc.specs.Stops.{comes_of_a_place, AllServe, SaysOfPlaces};
 
 use crate::ready::{Prepared, prepare};
 use crate::stop::RegisterStop;
@@ -29,7 +28,7 @@ pub fn with_registers<W: Watcher>(
     watchers: &mut Vec<W>,
 ) -> Result<Func, RegisterStop>
     ensures places { IfErr result (SaysOfPlaces target.now source.now.func) }
-    ensures few { OnOk result (HasFew target.now source.now.func) }
+    ensures serve { OnOk result (AllServe target.now source.now.func) }
     ensures untold { IfErr result (λ stop. comes_of_a_place stop ≡ true → watchers.new ≡ watchers.old) }
     ensures told { OnOk result ((steps : List Step) × AllTold (W.next target.now) (Begin number ∷ steps) watchers.old.items watchers.new.items) }
     ensures part { OnErr result ((steps : List Step) × PartTold (W.next target.now) steps watchers.old.items watchers.new.items) }

@@ -4,8 +4,7 @@ ghost use Rattle.std.specs.Prelude.{◌≡◌, true, IfOk, IfErr, OnOk, OnErr};
 ghost use Rattle.machine_verify.specs.Lives.{FitsTarget};
 ghost use Rattle.target_base.specs.declared.types.Target.{Target as TargetValue};
 ghost use Rattle.mir_func.specs.Value.{Function};
-ghost use Rattle.place_solve.specs.Own.{HasFew};
-ghost use Rattle.function_alloc.specs.Stops.{SaysOfPlaces, comes_of_a_place};
+ghost use Rattle.function_alloc.specs.Stops.{AllServe, SaysOfPlaces, comes_of_a_place};
 ghost use Rattle.guarded_alloc.specs.Limits.{passed_limit};
 ghost use Rattle.alloc_check.specs.Verdict.{IsRight};
 ghost use Rattle.guarded_alloc.specs.Function.{Allocates, IsOnceTaken, IfRefused, comes_before_run};
@@ -45,7 +44,7 @@ fn allocated_valid<W: Watcher>(
     watchers: &mut Vec<W>,
 ) -> Result<Func, FunctionStop>
     ensures ok { IfOk result (IsRight target.now source.func) }
-    ensures few { OnOk result (HasFew target.now source.func) }
+    ensures serve { OnOk result (AllServe target.now source.func) }
     ensures err { IfErr result (IsOnceTaken target.now source.func name) }
     ensures untold { IfErr result (λ stop. comes_before_run stop ≡ true → watchers.new ≡ watchers.old) }
     ensures told { OnOk result (ToldRun (W.next target.now) number watchers.old.items watchers.new.items) }
