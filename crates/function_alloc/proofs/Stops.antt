@@ -1,0 +1,24 @@
+-- What a refusal for a place says of all places.
+use Rattle.std.specs.Prelude.{◌≡◌}
+use Rattle.target_base.specs.declared.types.Target.{Target}
+use Rattle.mir_func.specs.Value.{Function}
+use Rattle.mir_meaning.specs.declared.Form.TheVariants as forms
+use Rattle.mir_meaning.specs.Valid.{IsValid}
+use Rattle.mir_meaning.specs.Places.{FirstPlace, TooMany}
+use Rattle.effect_laws.specs.Shaped.{AreClasses}
+use Rattle.place_solve.specs.Own.{HasFew, IfVariables, IfUnassignable}
+use Rattle.place_solve.specs.declared.check.PlaceStop.{PlaceStop}
+use Rattle.place_solve.specs.declared.check.PlaceStop.TheVariants as places
+use Rattle.function_alloc.specs.Stops.{AdmitsNone, FirstRefused, SaysOfPlaces, refusal_of}
+
+pub first_of :
+    (t : Target) (f : Function) (stop : PlaceStop) → IfUnassignable (λ x. HasFew t f) stop → IfUnassignable (λ x. AreClasses t f → IsValid t forms.Source f → FirstPlace t f (AdmitsNone t f) x) stop
+    → IfUnassignable (FirstRefused t f) stop
+first_of t f (places.Unassignable x) few first = (few, first)
+first_of t f (places.Variables x) few first = tt
+first_of t f (places.Memory e) few first = tt
+
+pub says : (t : Target) (f : Function) (stop : PlaceStop) → IfVariables (FirstPlace t f TooMany) stop → IfUnassignable (FirstRefused t f) stop → SaysOfPlaces t f (refusal_of stop)
+says t f (places.Unassignable x) many first = first
+says t f (places.Variables x) many first = many
+says t f (places.Memory e) many first = tt
