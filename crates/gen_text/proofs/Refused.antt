@@ -7,7 +7,7 @@ use Rattle.mir_func.specs.Value.{Function}
 use Rattle.generator.specs.Generated.{generated_for}
 use Rattle.guarded_alloc.specs.declared.stop.FunctionStop.{FunctionStop}
 use Rattle.guarded_alloc.specs.declared.stop.FunctionStop.TheVariants as stops
-use Rattle.guarded_alloc.specs.Function.{IsTaken, IfRefused}
+use Rattle.guarded_alloc.specs.Function.{IfRefused}
 use Rattle.gen_text.specs.Generated.{IsGenerated, IfGenRefused}
 
 -- the function of the seed is this one
@@ -19,7 +19,7 @@ stopped : (seed : ℕ) (f : Function) (stop : FunctionStop) → IsGenerated seed
 stopped seed f (stops.Limit l) made h = record { source = f; generated = made; refused = h }
 stopped seed f (stops.Invalid n x) made h = record { source = f; generated = made; refused = h }
 stopped seed f (stops.Unassignable n p) made h = record { source = f; generated = made; refused = h }
-stopped seed f stops.NotYet made h = λ g other. subst (IsTaken mini_target) (only seed f g made other) h.0
+stopped seed f stops.NotYet made h = λ g other. subst (λ x. IfRefused mini_target x stops.NotYet) (only seed f g made other) h
 stopped seed f (stops.Memory e) made h = tt
 
 pub refuses : {X : Type 0} (seed : ℕ) (t : Target) (f : Function) (result : Result X FunctionStop) → t ≡ mini_target → generated_for t seed ≡ Some f → IfErr result (IfRefused t f) → IfErr result (IfGenRefused seed)

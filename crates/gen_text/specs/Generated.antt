@@ -4,7 +4,7 @@ use Rattle.target_base.specs.Mini.{mini_target}
 use Rattle.target_base.specs.declared.types.Target.{Target}
 use Rattle.mir_func.specs.Value.{Function}
 use Rattle.generator.specs.Generated.{generated_for}
-use Rattle.guarded_alloc.specs.Function.{IsTaken, Allocates, IfRefused}
+use Rattle.guarded_alloc.specs.Function.{Allocates, IfRefused}
 use Rattle.guarded_alloc.specs.declared.stop.FunctionStop.{FunctionStop}
 use Rattle.guarded_alloc.specs.declared.stop.FunctionStop.TheVariants as stops
 use Rattle.gen_text.specs.Summary.{IsSummary}
@@ -32,8 +32,8 @@ pub record IsGenRefusal (seed : ℕ) (stop : FunctionStop) : Type 0 where
   pub refused : IfRefused mini_target source stop
 
 -- Why nothing is said of a seed: its function is refused as each function is that isn't allocated. As not yet allocated it
--- is refused only where it lies within the limits and is valid; the same is said where there should be no such function.
+-- is refused where that is due for each function of the seed; so it is too where there should be no such function.
 abbrev pub IfGenRefused : ℕ → FunctionStop → Type 0
 IfGenRefused seed (stops.Memory e) = Unit {0}
-IfGenRefused seed stops.NotYet = (f : Function) → IsGenerated seed f → IsTaken mini_target f
+IfGenRefused seed stops.NotYet = (f : Function) → IsGenerated seed f → IfRefused mini_target f stops.NotYet
 IfGenRefused seed stop = IsGenRefusal seed stop

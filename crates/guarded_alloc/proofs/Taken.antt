@@ -12,8 +12,7 @@ use Rattle.guarded_alloc.specs.declared.stop.FunctionStop.{FunctionStop}
 use Rattle.guarded_alloc.specs.declared.stop.FunctionStop.TheVariants as stops
 use Rattle.guarded_alloc.specs.declared.stop.LimitName.{LimitName}
 use Rattle.guarded_alloc.specs.declared.stop.LimitName.TheVariants as limits
-use Rattle.alloc_check.specs.Verdict.{IsRight}
-use Rattle.guarded_alloc.specs.Function.{IsTaken, Allocates, HasMany, IsLateLimit, IsOnceTaken, IfLimited, IfRefused}
+use Rattle.guarded_alloc.specs.Function.{IsTaken, IsGuarded, Allocates, HasMany, IsLateLimit, IsOnceTaken, IfLimited, IfRefused}
 
 -- its places, where the source is the function and its classes are the target's
 pub serving : (t : Target) (f s : Function) → IsTaken t f → AreClasses t f → s ≡ f → AllServe t s → PlacesServe t f
@@ -23,8 +22,8 @@ pub first_refused : (t : Target) (f s : Function) (x : Place) → IsTaken t f �
 first_refused t f s x taken classes same h = let z = subst (λ g. FirstRefused t g x) same h in (z.0, z.1 classes taken.valid)
 
 -- its allocation
-pub allocates : (t : Target) (f s : Function) (result : Result Function FunctionStop) → IsTaken t f → AreClasses t f → s ≡ f → IfOk result (IsRight t s) → OnOk result (AllServe t s) → IfOk result (Allocates t f)
-allocates t f s (Ok g) taken classes same guarded serve = record { taken = taken; serve = serving t f s taken classes same serve; right = subst (λ x. IsRight t x g) same guarded }
+pub allocates : (t : Target) (f s : Function) (result : Result Function FunctionStop) → IsTaken t f → AreClasses t f → s ≡ f → IfOk result (IsGuarded t s) → OnOk result (AllServe t s) → IfOk result (Allocates t f)
+allocates t f s (Ok g) taken classes same guarded serve = record { taken = taken; serve = serving t f s taken classes same serve; guarded = subst (λ x. IsGuarded t x g) same guarded }
 allocates t f s (Err e) taken classes same guarded serve = tt
 
 -- the late limits

@@ -1,5 +1,5 @@
 -- What comes of a function, and why one is refused.
-use Rattle.std.specs.Prelude.{◌≡◌, ℕ, Bool, true, false, List, Some, None}
+use Rattle.std.specs.Prelude.{◌≡◌, ◌≤◌, ℕ, Bool, true, false, List, [], length, Some, None}
 use Rattle.target_base.specs.declared.types.Target.{Target}
 use Rattle.mir_func.specs.Value.{Function}
 use Rattle.mir_meaning.specs.declared.Form.TheVariants as forms
@@ -9,6 +9,9 @@ use Rattle.mir_meaning.specs.Valid.{IsValid, FirstFault}
 use Rattle.place_solve.specs.Own.{HasFew}
 use Rattle.machine_verify.specs.Faults.{fault_of}
 use Rattle.alloc_check.specs.Verdict.{IsRight}
+use Rattle.mir_text.specs.declared.doc.Doc.TheVariants as docs
+use Rattle.mir_text.specs.Print.{print_doc}
+use Rattle.mir_text.specs.Document.{Spells}
 use Rattle.function_alloc.specs.Stops.{AdmitsNone, AllServe, FirstRefused}
 use Rattle.guarded_alloc.specs.declared.stop.FunctionStop.{FunctionStop}
 use Rattle.guarded_alloc.specs.declared.stop.FunctionStop.TheVariants as stops
@@ -21,16 +24,26 @@ pub record IsTaken (t : Target) (f : Function) : Type 0 where
   pub fits : passed_limit f ≡ None
   pub valid : IsValid t forms.Source f
 
+-- what is printed of a function alone spells it, where it is no longer than a document may be that is read
+abbrev pub SpellsItself : Target → Function → Type 0
+SpellsItself t g = length (print_doc t (docs.Function [] g)) ≤ 4194304 → Spells t false 1 (print_doc t (docs.Function [] g)) (docs.Function [] g)
+
+-- what the guard lets through for f: a function of its name that is right for it, as the printed text spells it
+pub record IsGuarded (t : Target) (f g : Function) : Type 0 where
+  pub right : IsRight t f g
+  pub named : g.name ≡ f.name
+  pub spelled : SpellsItself t g
+
 -- some place has too many variables
 abbrev pub HasMany : Target → Function → Type 0
 HasMany t f = (name : Place) × FirstPlace t f TooMany name
 
 -- g is an allocation of f, a function within the limits that is valid as a source, and each place of which has few enough
--- variables and admits a choice: the checker of allocations said Yes to both
+-- variables and admits a choice: the checker of allocations said Yes to both, and what is printed of g spells g
 pub record Allocates (t : Target) (f g : Function) : Type 0 where
   pub taken : IsTaken t f
   pub serve : PlacesServe t f
-  pub right : IsRight t f g
+  pub guarded : IsGuarded t f g
 
 -- the limit l is that of the variables of a place, and some place passes it; or it is that of range numbers, and all places serve
 abbrev pub IsLateLimit : Target → Function → LimitName → Type 0

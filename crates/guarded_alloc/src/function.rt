@@ -6,8 +6,7 @@ ghost use Rattle.target_base.specs.declared.types.Target.{Target as TargetValue}
 ghost use Rattle.mir_func.specs.Value.{Function};
 ghost use Rattle.function_alloc.specs.Stops.{AllServe, SaysOfPlaces, comes_of_a_place};
 ghost use Rattle.guarded_alloc.specs.Limits.{passed_limit};
-ghost use Rattle.alloc_check.specs.Verdict.{IsRight};
-ghost use Rattle.guarded_alloc.specs.Function.{Allocates, IsOnceTaken, IfRefused, comes_before_run};
+ghost use Rattle.guarded_alloc.specs.Function.{Allocates, IsGuarded, IsOnceTaken, IfRefused, comes_before_run};
 ghost use Rattle.guarded_alloc.specs.Told.{ToldRun, ToldPart};
 
 use crate::guard::guarded;
@@ -43,7 +42,7 @@ fn allocated_valid<W: Watcher>(
     number: u32,
     watchers: &mut Vec<W>,
 ) -> Result<Func, FunctionStop>
-    ensures ok { IfOk result (IsRight target.now source.func) }
+    ensures ok { IfOk result (IsGuarded target.now source.func) }
     ensures serve { OnOk result (AllServe target.now source.func) }
     ensures err { IfErr result (IsOnceTaken target.now source.func name) }
     ensures untold { IfErr result (λ stop. comes_before_run stop ≡ true → watchers.new ≡ watchers.old) }

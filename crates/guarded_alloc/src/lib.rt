@@ -5,6 +5,7 @@
 pub mod function;
 mod guard;
 pub mod limits;
+mod respelled;
 pub mod stop;
 pub mod valid;
 
