@@ -41,7 +41,7 @@ no_verdict (Some bytes) = tt
 
 -- memory ran out before a job
 out_of_memory : (job : Job) (t f : List ℕ) (contents : List ℕ → Option (List ℕ)) (left old : Option (List ℕ)) → DoesJob job t f contents left old old status.Memory t []
-out_of_memory job t f contents left old = inl (record { file_is = refl; verdict = no_verdict (contents t); unwritten = refl })
+out_of_memory job t f contents left old = inl (record { named = λ h. refl; file_is = refl; verdict = no_verdict (contents t); unwritten = refl })
 
 -- memory ran out before anything was done, whatever was asked
 pub memory_does : (a : Option Asked) (contents : List ℕ → Option (List ℕ)) (left old : Option (List ℕ)) (f0 f1 : ℕ) (e0 e1 : Option (List ℕ)) → IsTold f0 f1 e0 e1 (line_of status.Memory [] []) → DoesAll a contents left old old f0 f1 e0 e1 status.Memory

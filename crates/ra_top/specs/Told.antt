@@ -222,8 +222,9 @@ abbrev pub NamesTarget : Bool → Option (List ℕ) → Target → Type 0
 NamesTarget true text t = t ≡ mini_target
 NamesTarget false text t = IfSome text (λ bytes. IsTargetOf bytes t)
 
--- the target of a word is refused, and nothing is written
+-- the target of a word is refused, and nothing is written; the built-in one only where memory runs out
 pub record IsTargetRefused (word : List ℕ) (text old new : Option (List ℕ)) (s : Status) (file detail : List ℕ) : Type 0 where
+  pub named : is_word word (codes "-") ≡ true → s ≡ status.Memory
   pub file_is : file ≡ word
   pub verdict : IfSome text (λ bytes. TargetVerdict bytes s detail)
   pub unwritten : new ≡ old
