@@ -39,3 +39,4 @@ pub mod Tallied
 pub mod Behind
 pub mod Summed
 pub mod Occupied
+pub mod Few

@@ -1,11 +1,12 @@
 -- What the instructions of a function do to its lanes, which go by numbers.
-use Rattle.std.specs.Prelude.{◌≡◌, ℕ, ◌++◌, map, filter_map}
+use Rattle.std.specs.Prelude.{◌≡◌, ◌<◌, ℕ, ◌++◌, length, map, filter_map}
 use Rattle.std.specs.Ordering.{nat_cmp}
 use Rattle.std.specs.BTreeMap.{get}
 use Rattle.target_base.specs.declared.types.Target.{Target}
 use Rattle.mir_func.specs.declared.func.Instr.{Instr}
 use Rattle.mir_func.specs.Value.{Function}
 use Rattle.mir_meaning.specs.Binding.{does, is_terminator}
+use Rattle.mir_meaning.specs.Points.{all_points}
 use Rattle.lane_effects.specs.Acts.{acts_of, read_owners, entered_reads, entered_writes}
 use Rattle.lane_effects.specs.Ends.{end_uses}
 use Rattle.lane_effects.specs.Numbered.{number_in, NumbersAll}
@@ -29,11 +30,12 @@ doing_of t f num i =
 abbrev pub lane_code : Target → Function → Numbering → Code
 lane_code t f num = code_of (doing_of t f num) (λ n. place_of n f.blocks) f.blocks
 
--- the table tells of the function which lanes are live where blocks and writings begin, and up to where
+-- the table tells of the function, whose points can be counted in 64 bits, which lanes are live where blocks and writings begin, and up to where
 pub record IsComputed (t : Target) (f : Function) (x : Table) : Type 0 where
   pub numbers : NumbersAll t f x.lanes
   pub positions : (n : ℕ) → get nat_cmp x.order.positions n ≡ place_of n f.blocks
   pub homes : AreHomes f.blocks x.order.block_of.items
+  pub few : length (all_points f) < 18446744073709551616
   pub table : AllMatched (lane_code t f (number_in x.lanes)) → IsTableOf (lane_code t f (number_in x.lanes)) x.order.slots x.flow.items x.rows.rows.items
   pub grown : AllMatched (lane_code t f (number_in x.lanes)) → IsGrown (lane_code t f (number_in x.lanes)) (causes x.rows.rows.items)
   pub ended : AllMatched (lane_code t f (number_in x.lanes)) → AreEnds (lane_code t f (number_in x.lanes)) x.order.slots x.rows.rows.items

@@ -1,5 +1,7 @@
 //! New ranges.
 
+ghost use Rattle.std.specs.Prelude.{◌≡◌, ◌<◌, ◌^◌, ◌++◌, ◌∷◌, [], Some, length, IfOk, OnErr};
+
 use crate::lanes::drop_range;
 use crate::live::LiveFunc;
 use lane_effects::registers::class_lanes;
@@ -12,7 +14,11 @@ const MOST: usize = 1 << 31;
 impl LiveFunc {
     /// The next range number, which no operand names yet, for a class. Where all are given, none is
     /// made. After a refusal the function is unchanged.
-    pub fn fresh(&mut self, class: ClassId) -> Result<u32, AllocError> {
+    pub fn fresh(&mut self, class: ClassId) -> Result<u32, AllocError>
+        ensures ok { length self.old.func.classes < 2 ^ 31 → IfOk result (λ v. (v ≡ length self.old.func.classes) × (self.new.func ≡ record self.old.func { classes = self.old.func.classes ++ Some class ∷ [] })) }
+        ensures err { OnErr result (self.new.func ≡ self.old.func) }
+        ensures target { self.new.target ≡ self.old.target }
+    {
         let count = self.func.classes.len();
         if count >= MOST {
             return Ok((count & 0xffff_ffff) as u32);
@@ -29,7 +35,11 @@ impl LiveFunc {
         }
     }
 
-    fn make_fresh(&mut self, class: ClassId) -> Result<u32, AllocError> {
+    fn make_fresh(&mut self, class: ClassId) -> Result<u32, AllocError>
+        ensures ok { length self.old.func.classes < 2 ^ 31 → IfOk result (λ v. (v ≡ length self.old.func.classes) × (self.new.func ≡ record self.old.func { classes = self.old.func.classes ++ Some class ∷ [] })) }
+        ensures err { OnErr result (self.new.func ≡ self.old.func) }
+        ensures target { self.new.target ≡ self.old.target }
+    {
         self.table.add_rows()?;
         if self.func.classes.len() >= MOST {
             return Ok(0);

@@ -5,6 +5,7 @@ ghost use Rattle.std.specs.Ordering.{nat_cmp};
 ghost use Rattle.std.specs.BTreeMap.{get};
 ghost use Rattle.slot_index.specs.Order.{ids, Has, IsNumbered, put_after};
 ghost use Rattle.slot_index.specs.Renewed.{low_end};
+ghost use Rattle.mir_meaning.specs.Points.{all_points};
 ghost use Rattle.live_lanes.specs.Ordered.{ids_of, all_ids, last_id, place_of, placed, AreSingle, AreHomes, Settles};
 
 use mir_func::{Block, Func, Instr};
@@ -49,6 +50,7 @@ impl Order {
         ensures single { IfOk result (λ o. AreSingle (all_ids func.now.blocks)) }
         ensures numbered { IfOk result (λ o. IsNumbered o.slots) }
         ensures homes { IfOk result (λ o. AreHomes func.now.blocks o.block_of.items) }
+        ensures few { IfOk result (λ o. length (all_points func.now) < 18446744073709551616) }
     {
         let blocks = func.blocks.as_slice();
         let Ok(count) = u32::try_from(blocks.len()) else {

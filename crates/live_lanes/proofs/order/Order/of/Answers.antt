@@ -5,6 +5,7 @@ use Rattle.slot_index.specs.Order.{ids, IsNumbered}
 use Rattle.slot_index.specs.Renewed.{low_end}
 use Rattle.live_lanes.specs.Ordered.{ids_of, all_ids, last_id, placed, AreSingle, Settles}
 use Rattle.mir_func.specs.Value.{IsFunction}
+use Rattle.live_lanes.proofs.Few.{few-points}
 use Rattle.live_lanes.proofs.Homes.{homes-none, homes-more, homes-all}
 use Rattle.live_lanes.proofs.Ordered.{place-next, place-whole, blocks-more, blocks-ready, blocks-all, once-single}
 use Rattle.live_lanes.proofs.order.Order.of.Goals as goal
@@ -49,12 +50,14 @@ returns c =
     let same : c.as_slice-blocks.result.now ≡ c.args.func.now.blocks = cc in
     let long : length c.as_slice-blocks.result.now ≡ length c.args.func.now.blocks = ap length same in
     let whole : length c.args.func.now.blocks ≤ c.blocks-2.position = omega (arith, c.in-Ok.ensures, c.blocks-2-test.false, long) in
+    let next : c.args.func.now.next_id < 4294967296 = subst (λ f. f.next_id < 4294967296) c.func.view_is (let small : c.func.inside.next_id < 4294967296 = omega arith in small) in
     let below : low_end c.blocks-2.last c.blocks-2.order.slots < 18446744073709551616 = omega (arith, c.number-highest.ensures) in
     record {
       positions = λ n. c.blocks-2.invariant.positions n ∙ place-whole n c.args.func.now.blocks c.blocks-2.position whole;
       ids = (c.blocks-2.invariant.ids single).0 ∙ blocks-all c.args.func.now.blocks c.blocks-2.position whole;
       single = single;
       homes = homes-all c.args.func.now.blocks c.blocks-2.order.block_of.items c.blocks-2.position c.args.func.now.next_id whole (c.blocks-2.invariant.homes single) (subst (λ f. IsFunction f.blocks f.next_id) c.func.view_is c.func.invariant);
+      few = few-points c.args.func.now.blocks c.args.func.now.next_id (subst (λ f. IsFunction f.blocks f.next_id) c.func.view_is c.func.invariant) next (omega (arith, c.in-Ok.ensures, long));
       small = subst (λ q. low_end q c.blocks-2.order.slots < 18446744073709551616) (c.blocks-2.invariant.ids single).1 below;
       numbered = c.blocks-2.invariant.numbered;
     }
