@@ -13,6 +13,7 @@ use target_base::Target;
 
 /// The allocated function as what is printed of it is read, where it has the source's name and the
 /// checker says Yes to it beside its source.
+#[tactic(auto, using(crate::proofs::Texts::same_texts))]
 pub(crate) fn guarded(
     alloc: Global,
     target: &Target,

@@ -35,7 +35,7 @@ fn spelled(alloc: Global, target: &Target, text: &[u8]) -> Result<Option<Doc>, A
 }
 
 /// Whether this text is what is printed of a document.
-#[tactic(auto, using(laws::proofs::Same::numbers-true))]
+#[tactic(auto, using(crate::proofs::Texts::same_texts))]
 fn is_printed(
     alloc: Global,
     target: &Target,
@@ -54,7 +54,7 @@ fn function_alone(doc: Doc) -> Option<Func>
 {
     match doc {
         Doc::Function(before, f) => {
-            if before.is_empty() {
+            if before.as_slice().is_empty() {
                 Some(f)
             } else {
                 None
