@@ -17,13 +17,12 @@ use Rattle.machine_verify.specs.Faults.{fault_of}
 use Rattle.machine_verify.specs.Lives.{FitsTarget}
 use Rattle.guarded_alloc.specs.Limits.{passed_limit}
 use Rattle.function_alloc.specs.Stops.{AllServe, FirstRefused}
-use Rattle.guarded_alloc.specs.Function.{Allocates, HasMany, IsTaken, IfRefused}
+use Rattle.guarded_alloc.specs.Function.{Allocates, IsTextFor, HasMany, IsTaken, IfRefused}
 use Rattle.guarded_alloc.specs.declared.stop.LimitName.TheVariants as limits
 use Rattle.guarded_alloc.specs.declared.stop.FunctionStop.{FunctionStop}
 use Rattle.guarded_alloc.specs.declared.stop.FunctionStop.TheVariants as stops
 use Rattle.mir_text.specs.declared.doc.Doc.{Doc}
 use Rattle.mir_text.specs.declared.doc.Doc.TheVariants as docs
-use Rattle.mir_text.specs.Print.{print_doc}
 use Rattle.interval_text.specs.Lines.{function_line}
 use Rattle.answers.specs.declared.answer.Job.{Job}
 use Rattle.answers.specs.declared.answer.Job.TheVariants as jobs
@@ -33,12 +32,14 @@ use Rattle.answers.specs.declared.status.Status.{Status}
 use Rattle.answers.specs.declared.status.Status.TheVariants as status
 use Rattle.answers.specs.Status.{invalid_words, unassignable_words}
 
--- a text is the printed spelling of the lines before f and of an allocation of f: a function that does all that f
--- does, that is valid in the allocated form, and that names no virtual register
+-- a text is the lines before f and a text for an allocation of f: a function that does all that f does, that is valid in
+-- the allocated form, and that names no virtual register
 pub record IsAllocation (t : Target) (before : List ℕ) (f : Function) (text : List ℕ) : Type 0 where
   pub func : Function
   pub allocates : Allocates t f func
-  pub printed : text ≡ print_doc t (docs.Function before func)
+  pub own : List ℕ
+  pub spelled : IsTextFor t func own
+  pub written : text ≡ before ++ own
 
 -- the line of a valid function: `valid NAME`
 abbrev pub valid_line : List ℕ → List ℕ

@@ -18,7 +18,7 @@ use crate::verify::verified_function;
 use crate::words::{invalid_words, unassignable_words};
 use guarded_alloc::{FunctionStop, allocated};
 use mir_func::Func;
-use mir_text::{Doc, print_doc};
+use mir_text::Doc;
 use std::alloc::{AllocError, Global};
 use target_base::{Bytes, Target};
 use watchers::Watcher;
@@ -60,7 +60,8 @@ fn allocated_function<W: Watcher>(
 {
     match allocated(alloc, target, f, number, watchers) {
         Ok(made) => {
-            let text = print_doc(alloc, target, &Doc::Function(before, made))?;
+            let mut text = before;
+            text.extend(made.text.as_slice())?;
             Ok(Answer::Text(text))
         }
         Err(stop) => refused(alloc, stop),

@@ -30,7 +30,7 @@ fn text_of<W: Watcher>(
 {
     let copy = source.copy(alloc)?;
     match allocated(alloc, target, copy, 0, watchers) {
-        Ok(made) => Ok(summary(alloc, target, seed, source, &made)?),
+        Ok(made) => Ok(summary(alloc, target, seed, source, &made.func)?),
         Err(stop) => Err(stop),
     }
 }

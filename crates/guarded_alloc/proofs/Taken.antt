@@ -8,6 +8,7 @@ use Rattle.mir_meaning.specs.Places.{FirstPlace, PlacesServe}
 use Rattle.effect_laws.specs.Shaped.{AreClasses}
 use Rattle.function_alloc.specs.Stops.{AdmitsNone, AllServe, FirstRefused}
 use Rattle.place_solve.specs.Own.{HasFew}
+use Rattle.guarded_alloc.specs.declared.spelled.Allocation.{Allocation}
 use Rattle.guarded_alloc.specs.declared.stop.FunctionStop.{FunctionStop}
 use Rattle.guarded_alloc.specs.declared.stop.FunctionStop.TheVariants as stops
 use Rattle.guarded_alloc.specs.declared.stop.LimitName.{LimitName}
@@ -22,8 +23,8 @@ pub first_refused : (t : Target) (f s : Function) (x : Place) → IsTaken t f �
 first_refused t f s x taken classes same h = let z = subst (λ g. FirstRefused t g x) same h in (z.0, z.1 classes taken.valid)
 
 -- its allocation
-pub allocates : (t : Target) (f s : Function) (result : Result Function FunctionStop) → IsTaken t f → AreClasses t f → s ≡ f → IfOk result (IsGuarded t s) → OnOk result (AllServe t s) → IfOk result (Allocates t f)
-allocates t f s (Ok g) taken classes same guarded serve = record { taken = taken; serve = serving t f s taken classes same serve; guarded = subst (λ x. IsGuarded t x g) same guarded }
+pub allocates : (t : Target) (f s : Function) (result : Result Allocation FunctionStop) → IsTaken t f → AreClasses t f → s ≡ f → IfOk result (λ a. IsGuarded t s a.func) → OnOk result (AllServe t s) → IfOk result (λ a. Allocates t f a.func)
+allocates t f s (Ok a) taken classes same guarded serve = record { taken = taken; serve = serving t f s taken classes same serve; guarded = subst (λ x. IsGuarded t x a.func) same guarded }
 allocates t f s (Err e) taken classes same guarded serve = tt
 
 -- the late limits
@@ -45,6 +46,6 @@ stopped t f s name (stops.Invalid n x) taken classes same named h = absurd h
 stopped t f s name stops.NotYet taken classes same named h = (taken, serving t f s taken classes same h)
 stopped t f s name (stops.Memory e) taken classes same named h = tt
 
-pub refuses : (t : Target) (f s : Function) (name : List ℕ) (result : Result Function FunctionStop) → IsTaken t f → AreClasses t f → s ≡ f → name ≡ f.name → IfErr result (IsOnceTaken t s name) → IfErr result (IfRefused t f)
+pub refuses : (t : Target) (f s : Function) (name : List ℕ) (result : Result Allocation FunctionStop) → IsTaken t f → AreClasses t f → s ≡ f → name ≡ f.name → IfErr result (IsOnceTaken t s name) → IfErr result (IfRefused t f)
 refuses t f s name (Ok g) taken classes same named h = tt
 refuses t f s name (Err stop) taken classes same named h = stopped t f s name stop taken classes same named h

@@ -1,5 +1,5 @@
 -- What comes of a function, and why one is refused.
-use Rattle.std.specs.Prelude.{◌≡◌, ◌≤◌, ℕ, Bool, true, false, List, [], length, Some, None}
+use Rattle.std.specs.Prelude.{◌≡◌, ◌≤◌, ◌<◌, ℕ, Bool, true, false, List, [], length, Some, None}
 use Rattle.target_base.specs.declared.types.Target.{Target}
 use Rattle.mir_func.specs.Value.{Function}
 use Rattle.mir_meaning.specs.declared.Form.TheVariants as forms
@@ -24,22 +24,25 @@ pub record IsTaken (t : Target) (f : Function) : Type 0 where
   pub fits : passed_limit f ≡ None
   pub valid : IsValid t forms.Source f
 
--- what is printed of a function alone spells it, where it is no longer than a document may be that is read
-abbrev pub SpellsItself : Target → Function → Type 0
-SpellsItself t g = length (print_doc t (docs.Function [] g)) ≤ 4194304 → Spells t false 1 (print_doc t (docs.Function [] g)) (docs.Function [] g)
+-- A text is what is printed of a function alone; it spells g, and where it is longer than a document may be that is read,
+-- it is what is printed of g. (`renamable` is printed and no reader keeps it.)
+pub record IsTextFor (t : Target) (g : Function) (text : List ℕ) : Type 0 where
+  pub func : Function
+  pub printed : text ≡ print_doc t (docs.Function [] func)
+  pub spells : length text ≤ 4194304 → Spells t false 1 text (docs.Function [] g)
+  pub long : 4194304 < length text → func ≡ g
 
--- what the guard lets through for f: a function of its name that is right for it, as the printed text spells it
+-- what the guard lets through for f: a function of its name that is right for it
 pub record IsGuarded (t : Target) (f g : Function) : Type 0 where
   pub right : IsRight t f g
   pub named : g.name ≡ f.name
-  pub spelled : SpellsItself t g
 
 -- some place has too many variables
 abbrev pub HasMany : Target → Function → Type 0
 HasMany t f = (name : Place) × FirstPlace t f TooMany name
 
 -- g is an allocation of f, a function within the limits that is valid as a source, and each place of which has few enough
--- variables and admits a choice: the checker of allocations said Yes to both, and what is printed of g spells g
+-- variables and admits a choice: the checker of allocations said Yes to both
 pub record Allocates (t : Target) (f g : Function) : Type 0 where
   pub taken : IsTaken t f
   pub serve : PlacesServe t f

@@ -6,11 +6,12 @@ ghost use Rattle.target_base.specs.declared.types.Target.{Target as TargetValue}
 ghost use Rattle.mir_func.specs.Value.{Function};
 ghost use Rattle.function_alloc.specs.Stops.{AllServe, SaysOfPlaces, comes_of_a_place};
 ghost use Rattle.guarded_alloc.specs.Limits.{passed_limit};
-ghost use Rattle.guarded_alloc.specs.Function.{Allocates, IsGuarded, IsOnceTaken, IfRefused, comes_before_run};
+ghost use Rattle.guarded_alloc.specs.Function.{Allocates, IsGuarded, IsTextFor, IsOnceTaken, IfRefused, comes_before_run};
 ghost use Rattle.guarded_alloc.specs.Told.{ToldRun, ToldPart};
 
 use crate::guard::guarded;
 use crate::limits::passed_limit;
+use crate::spelled::Allocation;
 use crate::stop::{FunctionStop, LimitName};
 use crate::valid::verify_source;
 use function_alloc::{RegisterStop, Watcher, with_registers};
@@ -41,8 +42,9 @@ fn allocated_valid<W: Watcher>(
     source: Valid,
     number: u32,
     watchers: &mut Vec<W>,
-) -> Result<Func, FunctionStop>
-    ensures ok { IfOk result (IsGuarded target.now source.func) }
+) -> Result<Allocation, FunctionStop>
+    ensures ok { IfOk result (λ a. IsGuarded target.now source.func a.func) }
+    ensures text { IfOk result (λ a. IsTextFor target.now a.func a.text) }
     ensures serve { OnOk result (AllServe target.now source.func) }
     ensures err { IfErr result (IsOnceTaken target.now source.func name) }
     ensures untold { IfErr result (λ stop. comes_before_run stop ≡ true → watchers.new ≡ watchers.old) }
@@ -54,12 +56,13 @@ fn allocated_valid<W: Watcher>(
         Err(stop) => return Err(refused(name, stop)),
     };
     match guarded(alloc, target, &source, made)? {
-        Some(function) => Ok(function),
+        Some(made) => Ok(made),
         None => Err(FunctionStop::NotYet),
     }
 }
 
-/// The function with its registers chosen, once the checker of allocations has said Yes to it. Its
+/// The function with its registers chosen and its text, once the checker of allocations has said Yes to
+/// what the text spells. Its
 /// number is that in its file, with which the run begins; each watcher is told every step of the run.
 /// Refused are, in this order, a function that passes a limit of its blocks, instructions or virtual
 /// registers, one that isn't valid as a source, one a place of which has too many variables, one a
@@ -72,9 +75,10 @@ pub fn allocated<W: Watcher>(
     f: Func,
     number: u32,
     watchers: &mut Vec<W>,
-) -> Result<Func, FunctionStop>
+) -> Result<Allocation, FunctionStop>
     requires { FitsTarget target.now f }
-    ensures ok { IfOk result (Allocates target.now f) }
+    ensures ok { IfOk result (λ a. Allocates target.now f a.func) }
+    ensures text { IfOk result (λ a. IsTextFor target.now a.func a.text) }
     ensures err { IfErr result (IfRefused target.now f) }
     ensures untold { IfErr result (λ stop. comes_before_run stop ≡ true → watchers.new ≡ watchers.old) }
     ensures told { OnOk result (ToldRun (W.next target.now) number watchers.old.items watchers.new.items) }

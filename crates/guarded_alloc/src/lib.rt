@@ -5,12 +5,13 @@
 pub mod function;
 mod guard;
 pub mod limits;
-mod respelled;
+pub mod spelled;
 pub mod stop;
 pub mod valid;
 
 pub use function::allocated;
 pub use function_alloc::Watcher;
 pub use limits::passed_limit;
+pub use spelled::Allocation;
 pub use stop::{FunctionStop, LimitName};
 pub use valid::{verify_allocated, verify_source};
