@@ -7,12 +7,7 @@
 #                                 printing, of `trace`, of `alloc`, the most memory in MB, and the ratios to the first
 # Wanted: the function of `gen 1` in under 1.2 s by `trace` and 2 s by `alloc`, at most 300 MB; 16,000 instructions in one
 # block with 5,000 ranges in under 4 s; growth at most n^1.25. docs/PERFORMANCE.md says what is reached.
-set -eu
-root=$(dirname "$(dirname "$(readlink -f "${BASH_SOURCE[0]}")")")
-program=$(LLRA_WHERE=1 "$root/llra")
-reader=$(LLRA_CRATE=read_doc_bench LLRA_WHERE=1 "$root/llra")
-work=$(mktemp -d)
-trap 'rm -rf "$work"' EXIT
+. "$(dirname "$(readlink -f "${BASH_SOURCE[0]}")")/common.sh"
 
 if [ $# -eq 0 ]; then
     python3 - "$work" <<'MAKE'
@@ -122,12 +117,6 @@ for family in (straight, loops, blocks, pressure):
 MAKE
     set -- "$work"/*.mir
 fi
-
-# Leaves the processor seconds and the most memory in KB of a run.
-timed() { # WORD..
-    /usr/bin/time -f "%U %S %M" -o "$work/time" "$@" >"$work/out" 2>"$work/err" || { cat "$work/err" >&2; return 1; }
-    tail -n 1 "$work/time" | awk '{ printf "%.3f %d", $1 + $2, $3 }'
-}
 
 printf '%-18s %6s %8s %8s %8s %8s %8s %8s\n' file lines read trace alloc MB 'trace/r' 'alloc/r'
 for file in "$@"; do

@@ -9,13 +9,8 @@
 #                             the most memory of the checker in MB, and the ratio of its time to reading
 # Wanted: for the function of `gen 1` both verifiers in under 0.2 s, the checker in under 0.7 s and 300 MB; no table that
 # grows with the square of registers and slots. docs/PERFORMANCE.md says what is reached.
-set -eu
-root=$(dirname "$(dirname "$(readlink -f "${BASH_SOURCE[0]}")")")
-program=$(LLRA_WHERE=1 "$root/llra")
-reader=$(LLRA_CRATE=read_doc_bench LLRA_WHERE=1 "$root/llra")
+. "$(dirname "$(readlink -f "${BASH_SOURCE[0]}")")/common.sh"
 checker=$(LLRA_CRATE=check_pair_bench LLRA_WHERE=1 "$root/llra")
-work=$(mktemp -d)
-trap 'rm -rf "$work"' EXIT
 
 if [ $# -eq 0 ]; then
     python3 - "$work" <<'MAKE'
@@ -45,12 +40,6 @@ write("blocks_400", lines + ["  bb.401:", "    RET"])
 MAKE
     set -- "$work"/*.mir
 fi
-
-# Leaves the processor seconds and the most memory in KB of a run.
-timed() { # WORD..
-    /usr/bin/time -f "%U %S %M" -o "$work/time" "$@" >"$work/out" 2>"$work/err" || { cat "$work/err" >&2; return 1; }
-    tail -n 1 "$work/time" | awk '{ printf "%.3f %d", $1 + $2, $3 }'
-}
 
 printf '%-14s %6s %9s %8s %8s %8s %8s %8s\n' file lines allocated read source checker MB 'c/read'
 for file in "$@"; do

@@ -8,12 +8,7 @@
 #                             memory in MB, and the ratio of both times
 # Wanted: the function of `gen 1` in under 0.1 s and 100 MB; 16,000 instructions with 16,000 registers, and one block of
 # 16,000 instructions, in under 1 s; growth at most n log n. docs/PERFORMANCE.md says what is reached.
-set -eu
-root=$(dirname "$(dirname "$(readlink -f "${BASH_SOURCE[0]}")")")
-program=$(LLRA_WHERE=1 "$root/llra")
-reader=$(LLRA_CRATE=read_doc_bench LLRA_WHERE=1 "$root/llra")
-work=$(mktemp -d)
-trap 'rm -rf "$work"' EXIT
+. "$(dirname "$(readlink -f "${BASH_SOURCE[0]}")")/common.sh"
 
 if [ $# -eq 0 ]; then
     python3 - "$work" <<'MAKE'
@@ -60,12 +55,6 @@ for family in (straight, many):
 MAKE
     set -- "$work"/*.mir
 fi
-
-# Leaves the processor seconds and the most memory in KB of a run.
-timed() { # WORD..
-    /usr/bin/time -f "%U %S %M" -o "$work/time" "$@" >"$work/out" 2>"$work/err" || { cat "$work/err" >&2; return 1; }
-    tail -n 1 "$work/time" | awk '{ printf "%.3f %d", $1 + $2, $3 }'
-}
 
 printf '%-18s %6s %8s %8s %8s %8s\n' file lines read verify MB 'verify/r'
 for file in "$@"; do
