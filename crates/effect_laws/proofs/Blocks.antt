@@ -187,7 +187,7 @@ module _ (t : Target) (f : Function) where
   abbrev pub block_code : Block → List Block → Places
   block_code b after = map (point_item t f b) b.instrs ++ (block_end t f b after ∷ blocks_code (point_item t f) t f after)
 
-  items-past : (n : ℕ) (b : Block) (is : List Instr) (p : Places) → found n (map (point_item t f b) is ++ p) ≡ found n p
+  pub items-past : (n : ℕ) (b : Block) (is : List Instr) (p : Places) → found n (map (point_item t f b) is ++ p) ≡ found n p
   items-past n b [] p = refl
   items-past n b (i ∷ is) p = found-past n (point_item t f b i) (map (point_item t f b) is ++ p) (item-inside b i) ∙ items-past n b is p
 

@@ -92,8 +92,12 @@ module _ (t : Target) (f : Function) (num : Numbering) (classes : AreClasses t f
       go false f = absurd (cc)
 
   module _ (out : List Edge) (id : ℕ) where
+    -- the lanes that the item writes have numbers, but for reserved ones and those of slots
+    abbrev WritesNumbered : Item → Type 0
+    WritesNumbered x = (w : Write) → Member w (writes_of x) → is_reserved t w.lane ≡ false → is_slot w.lane ≡ false → (n : ℕ) × (T w.lane ≡ Some n)
+
     abbrev Is : Item → Bool → Reads → Writes → Type 0
-    Is x b rs ws = IsStep (is_reserved t) T out x (step_of num id b rs ws) × IsMatched (step_of num id b rs ws) × IsSame T (writes_of x) ws
+    Is x b rs ws = IsStep (is_reserved t) T out x (step_of num id b rs ws) × IsMatched (step_of num id b rs ws) × IsSame T (writes_of x) ws × WritesNumbered x
 
     tag-number : (l : Lane) (n : ℕ) → T l ≡ Some n → num (owner_of l) ≡ Some n
     tag-number l n e = go (is_proper t l) e
@@ -108,11 +112,15 @@ module _ (t : Target) (f : Function) (num : Numbering) (classes : AreClasses t f
     plain-back : (x : Item) (ws : Writes) → IsPlain (is_reserved t) T x ws → (l : Lane) (n : ℕ) → T l ≡ Some n → is_slot l ≡ false → Wrote l ws → Wrote l (writes_of x)
     plain-back x ws p l n e s z = let y = p.covers z.0 z.1 (ap (is_reserved t) z.2 ∙ names.free l n (tag-number l n e)) in (y.0, y.1, y.2 ∙ z.2)
 
+    plain-numbered : (x : Item) (ws : Writes) → IsPlain (is_reserved t) T x ws → WritesNumbered x
+    plain-numbered x ws p w m r s = let y = p.covered w m r in let z = p.written y.0 y.1 (ap (is_reserved t) y.2 ∙ r) in (z.0, ap T (sym y.2) ∙ z.1)
+
     plain-is : (rs : Reads) (W ws : Writes) (flag : Bool) → Uniform flag W → Uniform flag ws → IsPlain (is_reserved t) T (Silent rs W) ws → Is (Silent rs W) false rs ws
     plain-is rs W ws flag u v p = (
       (plain-law (is_reserved t) num (is_proper t) names (others-proper t)).1 (Silent rs W) out id false ws refl p,
       plain-matched num id false rs ws p.unmoved,
       uniform-same T flag W ws u v (plain-forth (Silent rs W) ws p) (plain-back (Silent rs W) ws p),
+      plain-numbered (Silent rs W) ws p,
     )
 
     given-is : (early : Bool) (ds : List Lane) (ss : List Source) (xs ys : List Lane) → IsGiven (is_reserved t) T (Silent [] (moved early ds ss ++ undefined early xs)) early ds ss xs ys → Is (Silent [] (moved early ds ss ++ undefined early xs)) false [] (moved early ds ss ++ undefined early ys)
@@ -121,6 +129,7 @@ module _ (t : Target) (f : Function) (num : Numbering) (classes : AreClasses t f
           (given-moving (is_reserved t) T (Silent [] (moved early ds ss ++ undefined early xs)) early ds ss xs ys g refl refl refl refl),
       given-matched num names.names id early ds ss ys g.apart g.once,
       uniform-same T early (moved early ds ss ++ undefined early xs) (moved early ds ss ++ undefined early ys) (uniform-join early (moved early ds ss) (undefined early xs) (uniform-moved early ds ss) (uniform-undefined early xs)) (uniform-join early (moved early ds ss) (undefined early ys) (uniform-moved early ds ss) (uniform-undefined early ys)) forth back,
+      writes-numbered,
     )
       where
         forth : (l : Lane) (n : ℕ) → tag_of num (is_proper t) l ≡ Some n → is_slot l ≡ false → Wrote l (moved early ds ss ++ undefined early xs) → Wrote l (moved early ds ss ++ undefined early ys)
@@ -128,6 +137,13 @@ module _ (t : Target) (f : Function) (num : Numbering) (classes : AreClasses t f
 
         back : (l : Lane) (n : ℕ) → tag_of num (is_proper t) l ≡ Some n → is_slot l ≡ false → Wrote l (moved early ds ss ++ undefined early ys) → Wrote l (moved early ds ss ++ undefined early xs)
         back l n e s z = g.closed l n e z.0 z.1 (ap owner_of z.2)
+
+        writes-numbered : WritesNumbered (Silent [] (moved early ds ss ++ undefined early xs))
+        writes-numbered w m r s =
+            let y = g.covered w m in
+            let same : w.lane ≡ y.0.lane = one-lane w.lane y.0.lane (sym y.2) s in
+            let z = g.written y.0 y.1 (ap (is_reserved t) (sym same) ∙ r) in
+            (z.0, ap T same ∙ z.1)
 
     empty-is : Is (Silent [] []) false [] []
     empty-is = plain-is [] [] [] false (uniform-none false) (uniform-none false) (empty-plain t f T)
@@ -295,7 +311,7 @@ module _ (t : Target) (f : Function) (num : Numbering) (classes : AreClasses t f
         let exits = ap edges_of (point-is (Some e) known) ∙ item.0 ∙ sym (ap (λ k. cond k (ways_out t f b) []) (ap (passes is_terminator) known)) in
         let step = (plain-law (is_reserved t) num (is_proper t) names (others-proper t)).1 (point_item t f b i) out i.id (does is_terminator t i) (entered_writes t f i) exits plain in
         let matched = plain-matched num i.id (does is_terminator t i) (reads_of (point_item t f b i)) (entered_writes t f i) plain.unmoved in
-        subst (λ rs. Goal (point_item t f b i) (does is_terminator t i) rs (entered_writes t f i)) (ap reads_of (point-is (Some e) known) ∙ item.1 ∙ sym (reads-are (Some e) known)) (step, matched, counted-same e (roles_of t i) known h (point_item t f b i) (ap writes_of (point-is (Some e) known) ∙ item.2) (plain-forth out i.id (point_item t f b i) (entered_writes t f i) plain) (plain-back out i.id (point_item t f b i) (entered_writes t f i) plain))
+        subst (λ rs. Goal (point_item t f b i) (does is_terminator t i) rs (entered_writes t f i)) (ap reads_of (point-is (Some e) known) ∙ item.1 ∙ sym (reads-are (Some e) known)) (step, matched, counted-same e (roles_of t i) known h (point_item t f b i) (ap writes_of (point-is (Some e) known) ∙ item.2) (plain-forth out i.id (point_item t f b i) (entered_writes t f i) plain) (plain-back out i.id (point_item t f b i) (entered_writes t f i) plain), plain-numbered out i.id (point_item t f b i) (entered_writes t f i) plain)
 
     go : (q : Option Effect) → effect_of t i ≡ q → Goal (point_item t f b i) (does is_terminator t i) (entered_reads t f i) (entered_writes t f i)
     go None known = swap (point_item t f b i) (Silent [] []) (does is_terminator t i) false (entered_reads t f i) [] (entered_writes t f i) [] (point-is None known) (ap (passes is_terminator) known) (reads-are None known) (acts-are None known) (empty-is out i.id)
@@ -312,3 +328,7 @@ matched-law t f num rules numbered b i mb mi = (instr-is t f num rules.classes n
 
 pub same-law : (t : Target) (f : Function) (num : Numbering) (rules : KeepsRules t f) (numbered : IsNumbered t f num) (b : Block) (i : Instr) → Member b f.blocks → Member i b.instrs → IsSame (tag_of num (is_proper t)) (writes_of (point_item t f b i)) (entered_writes t f i)
 same-law t f num rules numbered b i mb mi = (instr-is t f num rules.classes numbered.numbering b i (rules.shaped b i mb mi) (numbered.names b i mb mi) (numbered.slots b i mb mi)).2
+
+-- a lane that an instruction writes has a number, but for reserved ones and those of slots
+pub written-law : (t : Target) (f : Function) (num : Numbering) (rules : KeepsRules t f) (numbered : IsNumbered t f num) (b : Block) (i : Instr) → Member b f.blocks → Member i b.instrs → (w : Write) → Member w (writes_of (point_item t f b i)) → is_reserved t w.lane ≡ false → is_slot w.lane ≡ false → (n : ℕ) × (tag_of num (is_proper t) w.lane ≡ Some n)
+written-law t f num rules numbered b i mb mi = (instr-is t f num rules.classes numbered.numbering b i (rules.shaped b i mb mi) (numbered.names b i mb mi) (numbered.slots b i mb mi)).3
