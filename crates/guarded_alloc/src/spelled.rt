@@ -1,7 +1,7 @@
 //! What is printed of an allocated function is read again before the checker is asked: so what was
 //! checked is what the text says.
 
-ghost use Rattle.std.specs.Prelude.{◌≡◌, ◌≤◌, [], length, IfOk, IfSome};
+ghost use Rattle.std.specs.Prelude.{◌≡◌, ◌≤◌, false, [], length, IfOk, IfSome};
 ghost use Rattle.target_base.specs.Storage.{same_numbers};
 ghost use Rattle.mir_text.specs.declared.doc.Doc.TheVariants as docs;
 ghost use Rattle.mir_text.specs.Document.{Spells};
