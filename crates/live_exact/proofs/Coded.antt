@@ -24,7 +24,8 @@ use Rattle.live_lanes.specs.Coded.{entries, lanes_at, last_at, body_at, bodies_f
 use Rattle.live_lanes.specs.Doing.{doing_of, lane_code}
 use Rattle.live_exact.specs.Same.{step_as, body_as, code_as}
 
-place-same : (n : ℕ) (bs : List Block) → place_of n bs ≡ coded.place_of n bs
+-- the two words for places of blocks
+pub place-same : (n : ℕ) (bs : List Block) → place_of n bs ≡ coded.place_of n bs
 place-same n [] = refl
 place-same n (b ∷ bs) = ap (λ q. cond {A = Option ℕ} (nat_eq b.number n) (Some 0) (option_map (λ x. suc x) q)) (place-same n bs)
 

@@ -33,7 +33,7 @@ use Rattle.live_exact.proofs.Quieter.{quiet-law}
 use Rattle.live_exact.proofs.Coded.{place-is, code-same}
 
 -- a lane that is live at the start of a block has a number
-live-numbered : (t : Target) (f : Function) (num : Numbering) (rules : KeepsRules t f) (numbered : IsNumbered t f num) (l : Lane) (k : ℕ) (b : Block) → slice_get f.blocks k ≡ Some b → LivePlace (is_reserved t) (blocks_code (point_item t f) t f f.blocks) (found b.number (blocks_code (point_item t f) t f f.blocks)) l → (n : ℕ) × (tag_of num (is_proper t) l ≡ Some n)
+pub live-numbered : (t : Target) (f : Function) (num : Numbering) (rules : KeepsRules t f) (numbered : IsNumbered t f num) (l : Lane) (k : ℕ) (b : Block) → slice_get f.blocks k ≡ Some b → LivePlace (is_reserved t) (blocks_code (point_item t f) t f f.blocks) (found b.number (blocks_code (point_item t f) t f f.blocks)) l → (n : ℕ) × (tag_of num (is_proper t) l ≡ Some n)
 live-numbered t f num rules numbered l k b e h =
     let block = found-block t f f.blocks k b e (numbers-apart f rules.blocks) in
     let at = standing t f num rules numbered k b e block.0 b.instrs (λ i m. m) in

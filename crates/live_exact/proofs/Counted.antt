@@ -15,7 +15,7 @@ use Rattle.live_lanes.specs.Ordered.{ids_of}
 use Rattle.live_lanes.specs.Held.{one, inside, passing, held_at, any_held, block_held, sum_below}
 
 module _ (test : Point → Bool) where
-  tally-cons : (p : Point) (ps : List Point) → count_by test (p ∷ ps) ≡ one (test p) + count_by test ps
+  pub tally-cons : (p : Point) (ps : List Point) → count_by test (p ∷ ps) ≡ one (test p) + count_by test ps
   tally-cons p ps = sum_by-cons (λ q. cond (test q) 1 0) p ps
 
   tally-append : (ps qs : List Point) → count_by test (ps ++ qs) ≡ count_by test ps + count_by test qs

@@ -50,7 +50,7 @@ map-both : (xs ys : List Step) → map step_as (xs ++ ys) ≡ map step_as xs ++ 
 map-both [] ys = refl
 map-both (x ∷ xs) ys = ap (λ zs. step_as x ∷ zs) (map-both xs ys)
 
-has-id : (is : List Instr) (k : ℕ) (i : Instr) → slice_get is k ≡ Some i → has i.id (ids_of is) ≡ true
+pub has-id : (is : List Instr) (k : ℕ) (i : Instr) → slice_get is k ≡ Some i → has i.id (ids_of is) ≡ true
 has-id [] k i e = absurd (cc)
 has-id (j ∷ is) zero i e = let same : j ≡ i = cc in ap (λ u. cond u true (has i.id (ids_of is))) (eq-eqb j.id i.id (ap (λ x. x.id) same))
 has-id (j ∷ is) (suc k) i e = go (nat_eq j.id i.id) (has-id is k i e)
@@ -106,7 +106,7 @@ module _ (t : Target) (f : Function) (x : Table) (computed : IsComputed t f x) (
     pub split-as : table.steps_of (code_as code) p ≡ map step_as before ++ step_as step ∷ map step_as rest
     split-as = steps-same code p ∙ ap (map step_as) split ∙ map-both before (step ∷ rest)
 
-    home : slice_index x.order.block_of.items id ≡ p
+    pub home : slice_index x.order.block_of.items id ≡ p
     home = computed.homes p s.block id s.place (subst (λ i. has i (ids_of s.block.instrs) ≡ true) s.named (has-id s.block.instrs k s.instr s.there))
 
     -- at the entry

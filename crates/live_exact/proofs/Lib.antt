@@ -9,3 +9,5 @@ pub mod Inside
 pub mod Occupied
 pub mod Counted
 pub mod Ranged
+pub mod Everywhere
+pub mod Pointed

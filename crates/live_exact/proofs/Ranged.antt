@@ -1,25 +1,19 @@
 -- A computed table tells of each range exactly at which points one of its lanes is live or occupied.
-use Rattle.std.proofs.Common.{◌≡◌, ◌<◌, ℕ, ◌+◌, Bool, true, false, cond, Option, Some, None, refl, sym, ap, ◌∙◌}
+use Rattle.std.proofs.Common.{◌≡◌, ◌<◌, ℕ, ◌+◌, true, cond, Some, None, refl, ap, ◌∙◌}
 use Rattle.std.specs.Prelude.{◌↔◌, slice_get}
 use Rattle.std.proofs.lemmas.Bool.{lt-ltb}
 use Rattle.target_base.specs.declared.types.Target.{Target}
 use Rattle.meaning.specs.declared.types.Lane.TheVariants.{VirtualLane}
-use Rattle.meaning.specs.Live.{Among as Member}
-use Rattle.mir_func.specs.declared.func.Block.{Block}
-use Rattle.mir_func.specs.declared.func.Instr.{Instr}
 use Rattle.mir_func.specs.Value.{Function}
 use Rattle.mir_meaning.specs.Points.{Point, Start, Entry, Exit, OccupiedAt}
-use Rattle.mir_meaning.specs.Rules.{V8}
 use Rattle.lane_effects.specs.declared.row.Lanes.{Lanes}
 use Rattle.lane_effects.specs.Numbers.{row_number_in}
 use Rattle.lane_effects.specs.Numbered.{number_in}
 use Rattle.lane_effects.specs.Stepping.{tag_of}
 use Rattle.effect_laws.specs.Shaped.{is_proper}
-use Rattle.effect_laws.specs.Coded.{KeepsRules}
 use Rattle.live_lanes.specs.declared.table.Table.{Table}
 use Rattle.live_lanes.specs.Table.{entry_rank, exit_rank}
 use Rattle.live_lanes.specs.Entered.{rows_seen}
-use Rattle.live_lanes.specs.Doing.{IsComputed}
 use Rattle.live_lanes.specs.Held.{held_at, any_held}
 use Rattle.live_exact.specs.Occupied.{TellsOccupied, LanePoint, TellsRangeLaw}
 use Rattle.live_exact.proofs.Occupied.{occupied-law}

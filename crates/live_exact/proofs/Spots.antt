@@ -1,11 +1,11 @@
--- Where the instruction of an id stands, and which lanes that are live there have numbers.
-use Rattle.std.proofs.Common.{◌≡◌, ◌<◌, ℕ, zero, suc, Bool, true, false, cond, not, ◌+◌, List, [], ◌∷◌, ◌++◌, Option, Some, None, map, take, drop, length, refl, sym, ap, ◌∙◌, subst, arith, eqb, eqb-true}
+-- Where the instruction of an id stands, and that lanes which are live or occupied there have numbers.
+use Rattle.std.proofs.Common.{◌≡◌, ◌⊎◌, ◌<◌, ℕ, zero, suc, Bool, true, false, cond, not, ◌+◌, List, [], ◌∷◌, ◌++◌, Option, Some, None, map, take, drop, length, inl, inr, refl, sym, ap, ◌∙◌, subst, arith, eqb, eqb-true}
 use Rattle.std.specs.Prelude.{slice_get, option_map}
 use Rattle.std.proofs.lemmas.Bool.{ltb-true}
 use Rattle.target_base.specs.declared.types.Target.{Target}
 use Rattle.meaning.specs.declared.types.Lane.{Lane}
 use Rattle.meaning.specs.Code.{Edge, Code as Places, found}
-use Rattle.meaning.specs.Live.{Among as Member, here as first, there as later, Live as LivePlace, LiveAfter, after_next, after_leap, after_phi}
+use Rattle.meaning.specs.Live.{Among as Member, here as first, there as later, Live as LivePlace, LiveAfter, after_next, after_leap, after_phi, Writing, WritingEarly, OccupiedBefore, OccupiedAfter, is_slot}
 use Rattle.mir_func.specs.declared.func.Block.{Block}
 use Rattle.mir_func.specs.declared.func.Instr.{Instr}
 use Rattle.mir_func.specs.Value.{Function}
@@ -22,6 +22,8 @@ use Rattle.lane_effects.proofs.Members.{member-none}
 use Rattle.lane_effects.proofs.Plain.{moved-same}
 use Rattle.effect_laws.specs.Shaped.{is_proper}
 use Rattle.effect_laws.specs.Coded.{instr_step, numbered_code, number_at, one_on, spot_in, KeepsRules, IsNumbered}
+use Rattle.effect_laws.proofs.Instrs.{written-law}
+use Rattle.effect_laws.proofs.Blocks.{slice-member}
 use Rattle.effect_laws.proofs.Whole.{standing, starts, is-out, step-at, code-of}
 
 -- the instruction of an id
@@ -151,8 +153,36 @@ module _ (t : Target) (f : Function) (num : Numbering) (rules : KeepsRules t f) 
         let z = o.phis e w l out'.1 j g free in
         (z.0, z.1)
 
+    abbrev ahead : Places
+    ahead = map (point_item t f s.block) (drop (suc k) s.block.instrs) ++ (block_end t f s.block s.after ∷ blocks_code (point_item t f) t f s.after)
+
+    -- the instruction comes first in the code from its id on
+    first-is : from_instr t f id f.blocks ≡ point_item t f s.block s.instr ∷ ahead
+    first-is = s.code ∙ ap (λ (is : List Instr). map (point_item t f s.block) is ++ (block_end t f s.block s.after ∷ blocks_code (point_item t f) t f s.after)) (drop-at s.block.instrs k s.instr s.there).0
+
+    onward : LivePlace R C ahead l → HasNumber
+    onward q = let z = meets R T (number_at f.blocks) C code (code-of t f num rules numbered) q x _ (rest (suc k)) in (z.0, z.1)
+
     pub exit-numbered : R l ≡ false → AtFirst (λ i p. LiveAfter R C i p l) (from_instr t f id f.blocks) → HasNumber
-    exit-numbered free h =
-        let ahead = map (point_item t f s.block) (drop (suc k) s.block.instrs) ++ (block_end t f s.block s.after ∷ blocks_code (point_item t f) t f s.after) in
-        let onward : LivePlace R C ahead l → HasNumber = λ q. let z = meets R T (number_at f.blocks) C code (code-of t f num rules numbered) q x _ (rest (suc k)) in (z.0, z.1) in
-        after-numbered free ahead onward (subst (λ (is : List Instr). AtFirst (λ i p. LiveAfter R C i p l) (map (point_item t f s.block) is ++ (block_end t f s.block s.after ∷ blocks_code (point_item t f) t f s.after))) (drop-at s.block.instrs k s.instr s.there).0 (subst (AtFirst (λ i p. LiveAfter R C i p l)) s.code h))
+    exit-numbered free h = after-numbered free ahead onward (subst (AtFirst (λ i p. LiveAfter R C i p l)) first-is h)
+
+    -- so has one that the instruction writes
+
+    written-numbered : is_slot l ≡ false → R l ≡ false → Writing (point_item t f s.block s.instr) l → HasNumber
+    written-numbered still free w =
+        let z = written-law t f num rules numbered s.block s.instr (slice-member f.blocks x s.block s.place) inside w.0 w.1 (ap R w.2 ∙ free) (ap is_slot w.2 ∙ still) in
+        (z.0, ap T (sym w.2) ∙ z.1)
+
+    pub entry-occupied : is_slot l ≡ false → AtFirst (λ i p. OccupiedBefore R C i p l) (from_instr t f id f.blocks) → HasNumber
+    entry-occupied still h = let z = subst (AtFirst (λ i p. OccupiedBefore R C i p l)) first-is h in go z.0 z.1
+      where
+        go : LivePlace R C (point_item t f s.block s.instr ∷ ahead) l ⊎ WritingEarly (point_item t f s.block s.instr) l → R l ≡ false → HasNumber
+        go (inl q) free = entry-numbered (subst (λ p. LivePlace R C p l) (sym first-is) q)
+        go (inr w) free = written-numbered still free (w.0, w.1, w.2)
+
+    pub exit-occupied : is_slot l ≡ false → AtFirst (λ i p. OccupiedAfter R C i p l) (from_instr t f id f.blocks) → HasNumber
+    exit-occupied still h = let z = subst (AtFirst (λ i p. OccupiedAfter R C i p l)) first-is h in go z.0 z.1
+      where
+        go : LiveAfter R C (point_item t f s.block s.instr) ahead l ⊎ Writing (point_item t f s.block s.instr) l → R l ≡ false → HasNumber
+        go (inl q) free = after-numbered free ahead onward q
+        go (inr w) free = written-numbered still free w

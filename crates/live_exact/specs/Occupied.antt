@@ -7,7 +7,7 @@ use Rattle.meaning.specs.Live.{Among as Member, is_slot}
 use Rattle.mir_func.specs.declared.func.Block.{Block}
 use Rattle.mir_func.specs.declared.func.Instr.{Instr}
 use Rattle.mir_func.specs.Value.{Function}
-use Rattle.mir_meaning.specs.Points.{Point, Start, Entry, Exit, OccupiedAt}
+use Rattle.mir_meaning.specs.Points.{Point, Start, Entry, Exit, OccupiedAt, PointCount}
 use Rattle.mir_meaning.specs.Rules.{V8}
 use Rattle.lane_effects.specs.declared.row.Lanes.{Lanes}
 use Rattle.lane_effects.specs.Numbered.{number_in}
@@ -19,7 +19,7 @@ use Rattle.live_lanes.specs.Table.{entry_rank, exit_rank}
 use Rattle.live_lanes.specs.Entered.{rows_seen}
 use Rattle.live_lanes.specs.Doing.{IsComputed}
 use Rattle.live_lanes.specs.Looks.{InOrder}
-use Rattle.live_lanes.specs.Held.{held_at, any_held, AreRanked}
+use Rattle.live_lanes.specs.Held.{held_at, any_held, range_held, AreRanked}
 
 -- a table tells of each lane that has a number exactly at which points it is live or occupied; it stands in order for look-ups
 pub record TellsOccupied (t : Target) (f : Function) (x : Table) : Type 0 where
@@ -50,3 +50,17 @@ abbrev pub TellsRangeLaw : Type 0
 TellsRangeLaw =
     (t : Target) (f : Function) (x : Table) → IsComputed t f x → KeepsRules t f → ((b : Block) (j : ℕ) (i : Instr) → Member b f.blocks → slice_get b.instrs j ≡ Some i → V8 t b j i ≡ true)
     → (v : ℕ) (own : Lanes) → slice_get x.lanes.ranges.items v ≡ Some own → TellsRange t f x v own
+
+-- A table's count of a range is the number of its points, and fits 64 bits. It stands in order for the counting. (A range that the table
+-- doesn't know has no points.)
+pub record TellsPoints (t : Target) (f : Function) (x : Table) : Type 0 where
+  pub ordered : InOrder x
+  pub ranked : AreRanked x.order.slots f.blocks
+  pub few : (v : ℕ) → range_held x f.blocks v < 18446744073709551616
+  pub count : (v : ℕ) → PointCount t f v (range_held x f.blocks v)
+
+-- a computed table's does so
+abbrev pub PointsLaw : Type 0
+PointsLaw =
+    (t : Target) (f : Function) (x : Table) → IsComputed t f x → KeepsRules t f → ((b : Block) (j : ℕ) (i : Instr) → Member b f.blocks → slice_get b.instrs j ≡ Some i → V8 t b j i ≡ true)
+    → TellsPoints t f x

@@ -2,7 +2,7 @@
 #![tactic(auto)]
 
 ghost use Rattle.live_exact.specs.Laws.{ComputedLaw, InsideLaw, QuietLaw, StartsLaw};
-ghost use Rattle.live_exact.specs.Occupied.{TellsOccupiedLaw, TellsRangeLaw};
+ghost use Rattle.live_exact.specs.Occupied.{PointsLaw, TellsOccupiedLaw, TellsRangeLaw};
 
 /// A grown table marks a lane at a block's start exactly where the lane is live there.
 pub fn starts_law()
@@ -35,4 +35,10 @@ pub fn occupied_law()
 /// is live or occupied.
 pub fn range_law()
     ensures { TellsRangeLaw }
+{}
+
+/// A computed table's count of a range is the number of points at which some lane of it is live or
+/// occupied; so all that counting it asks of the table holds.
+pub fn points_law()
+    ensures { PointsLaw }
 {}
