@@ -13,4 +13,6 @@ pub mod Stands
 pub mod Given
 pub mod Owns
 pub mod Serving
-pub mod OwnPlaces
+pub mod Lowered
+pub mod Copying
+pub mod Refused

@@ -113,7 +113,7 @@ tied_found rs k os o b total h at is holds was =
     let m : list_any is_tied_bound (explicit_bound (explicit_roles rs) (explicit_operands (drop k os))) ≡ true = e ∙ ap (λ c. c || list_any is_tied_bound (explicit_bound (explicit_roles (left_behind rs o)) (explicit_operands (drop (k + 1) os)))) n in
     sym m ∙ was
 
-bound-nil : (rs : List Role) → explicit_bound rs [] ≡ []
+pub bound-nil : (rs : List Role) → explicit_bound rs [] ≡ []
 bound-nil [] = refl
 bound-nil (r ∷ rs) = refl
 
@@ -130,7 +130,7 @@ taken : (b : Bool) (r : Role) (q : Option Role) → is_tied r ≡ false → pass
 taken true r q e h = e
 taken false r q e h = h
 
-found_tie : (o : RegOp) (rs : List Role) → passes is_tied (find (takes_role o) rs) ≡ false
+pub found_tie : (o : RegOp) (rs : List Role) → passes is_tied (find (takes_role o) rs) ≡ false
 found_tie o [] = refl
 found_tie o (roles.Tied k ∷ rs) = found_tie o rs
 found_tie o (roles.Def k ∷ rs) = found_tie o rs

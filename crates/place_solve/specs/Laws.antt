@@ -11,13 +11,13 @@ use Rattle.target_base.specs.Roles.{is_silent}
 use Rattle.mir_meaning.specs.Binding.{effect_of}
 use Rattle.mir_meaning.specs.Points.{Point}
 use Rattle.place_solve.specs.declared.around.Around.TheVariants as arounds
-use Rattle.mir_meaning.specs.Places.{Variable as Need, Needs, Admits, copy_place, own_places, place_of}
+use Rattle.mir_meaning.specs.Places.{Variable as Need, Needs, Admits, copy_place, lowering_places, own_places, place_of}
 use Rattle.mir_meaning.specs.Rules.{V8}
 use Rattle.effect_laws.specs.Coded.{KeepsRules}
 use Rattle.live_lanes.specs.declared.table.Table.{Table}
 use Rattle.live_lanes.specs.Doing.{IsComputed}
 use Rattle.place_solve.specs.Own.{own_instrs}
-use Rattle.place_solve.specs.Told.{is_solved, own_solved, around_of, IsPoint, IsSource, Seated}
+use Rattle.place_solve.specs.Told.{is_solved, copy_solved, own_solved, around_of, IsPoint, IsSource, Seated}
 
 -- the place of a copy admits a choice just where one serves by the table
 abbrev pub CopyLaw : Type 0
@@ -38,3 +38,10 @@ OwnLaw =
     (t : Target) (f : Function) (x : Table) → IsComputed t f x → IsSource t f
     → (k j : ℕ) (b : Block) (i : Instr) → slice_get f.blocks k ≡ Some b → slice_get b.instrs j ≡ Some i
     → (is : Bor (List Instr)) → is.now ≡ own_instrs t b.instrs j → (own_solved t f x is ≡ true) ↔ ((p : Needs) → Member p (own_places t f b j i) → Admits t f p)
+
+-- so does each place of a copy that lowering makes of it
+abbrev pub LoweredLaw : Type 0
+LoweredLaw =
+    (t : Target) (f : Function) (x : Table) → IsComputed t f x → IsSource t f
+    → (k j : ℕ) (b : Block) (i : Instr) → slice_get f.blocks k ≡ Some b → slice_get b.instrs j ≡ Some i
+    → (p : Needs) → Member p (lowering_places t f i) → (copy_solved t x p ≡ true) ↔ Admits t f p

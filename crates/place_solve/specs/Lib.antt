@@ -1,6 +1,7 @@
 pub mod Around
 pub mod Choice
 pub mod Told
+pub mod Copies
 pub mod Laws
 pub mod Once
 pub mod Own

@@ -1,5 +1,6 @@
 -- What the table of live lanes tells of places.
-use Rattle.std.specs.Prelude.{◌≡◌, ◌<◌, ◌≤◌, ℕ, Bool, true, false, cond, List, [], ◌∷◌, length, nat_lt, None, Some, slice_get}
+use Rattle.std.specs.Prelude.{◌≡◌, ◌<◌, ◌≤◌, ◌&&◌, ℕ, Bool, true, false, cond, List, [], ◌∷◌, length, nat_lt, Option, None, Some, slice_get}
+use Rattle.std.specs.List.{list_all}
 use Rattle.std.specs.Borrow.{Bor}
 use Rattle.target_base.specs.Rules.{is_copy}
 use Rattle.mir_func.specs.Value.{id_total}
@@ -9,12 +10,13 @@ use Rattle.effect_laws.specs.Shaped.{AreClasses}
 use Rattle.place_solve.specs.Own.{own_instrs, place_variables}
 use Rattle.target_base.specs.declared.types.Target.{Target}
 use Rattle.mir_func.specs.declared.func.Block.{Block}
+use Rattle.mir_func.specs.declared.func.Place.{Place}
 use Rattle.mir_func.specs.declared.func.Instr.{Instr}
 use Rattle.meaning.specs.Live.{Among}
 use Rattle.mir_func.specs.Value.{Function}
-use Rattle.mir_meaning.specs.Binding.{does, is_terminator}
+use Rattle.mir_meaning.specs.Binding.{does}
 use Rattle.mir_meaning.specs.Points.{Point, Start, Entry, Exit}
-use Rattle.mir_meaning.specs.Places.{Variable as Need, Needs, Admits, own_places, solutions}
+use Rattle.mir_meaning.specs.Places.{Variable as Need, Needs, Admits, FirstPlace, StandsAt, lowering_places, own_places, solutions}
 use Rattle.effect_laws.specs.Coded.{spot_in}
 use Rattle.live_lanes.specs.declared.table.Table.{Table}
 use Rattle.place_solve.specs.declared.around.Around.{Around}
@@ -39,11 +41,11 @@ copy_solved t x p = at p.copies
     at [] = true
     at (q ∷ qs) = is_solved t x (around_of q) p.variables
 
--- the point is one of a block or of an instruction; behind it no path leaves the block
+-- the point is one of a block or of an instruction
 abbrev pub IsPoint : Target → Function → Point → Type 0
 IsPoint t f (Start n) = (k : ℕ) × (b : Block) × (slice_get f.blocks k ≡ Some b) × (b.number ≡ n)
 IsPoint t f (Entry id) = (k : ℕ) × (j : ℕ) × (spot_in id f.blocks ≡ Some (k, j))
-IsPoint t f (Exit id) = (k : ℕ) × (j : ℕ) × (b : Block) × (i : Instr) × (spot_in id f.blocks ≡ Some (k, j)) × (slice_get f.blocks k ≡ Some b) × (slice_get b.instrs j ≡ Some i) × (does is_terminator t i ≡ false)
+IsPoint t f (Exit id) = (k : ℕ) × (j : ℕ) × (spot_in id f.blocks ≡ Some (k, j))
 
 -- where an instruction stands: it is the first of its id
 pub record Seated (t : Target) (f : Function) (i : Instr) : Type 0 where
@@ -76,13 +78,49 @@ pub record IsSource (t : Target) (f : Function) : Type 0 where
 abbrev pub OwnTold : Target → Function → Table → List Instr → ℕ → Bool → Type 0
 OwnTold t f x is j answer = (w : Bor (List Instr)) → w.now ≡ own_instrs t is j → answer ≡ own_solved t f x w
 
--- the own places of the instructions at the first of n places of these admit choices, by the table
-abbrev pub OwnServe : Target → Function → Table → List Instr → ℕ → Type 0
-OwnServe t f x is n = (j : ℕ) → j < n → OwnTold t f x is j true
+-- the copies that lowering makes of an instruction admit choices, by the table
+abbrev pub copies_solved : Target → Function → Table → Instr → Bool
+copies_solved t f x i = list_all (copy_solved t x) (lowering_places t f i)
 
--- so do those of all instructions of the first n blocks
+-- this answers whether each place of the instruction at j of these admits a choice, by the table
+abbrev pub PlacesTold : Target → Function → Table → List Instr → ℕ → Bool → Type 0
+PlacesTold t f x is j answer = (w : Bor (List Instr)) (i : Instr) → w.now ≡ own_instrs t is j → slice_get is j ≡ Some i → answer ≡ (own_solved t f x w && copies_solved t f x i)
+
+-- the places of the first n of these instructions admit choices, by the table
+abbrev pub AllServe : Target → Function → Table → List Instr → ℕ → Type 0
+AllServe t f x is n = (j : ℕ) → j < n → PlacesTold t f x is j true
+
+-- the first of these instructions one of whose places admits nothing, if one does
+abbrev pub IsFirstLost : Target → Function → Table → List Instr → Option ℕ → Type 0
+IsFirstLost t f x is None = AllServe t f x is (length is)
+IsFirstLost t f x is (Some j) = (j < length is) × PlacesTold t f x is j false × AllServe t f x is j
+
+-- the places of all instructions of the first n blocks admit choices, by the table
 abbrev pub BlocksServe : Target → Function → Table → List Block → ℕ → Type 0
-BlocksServe t f x bs n = (k : ℕ) (b : Block) → k < n → slice_get bs k ≡ Some b → OwnServe t f x b.instrs (length b.instrs)
+BlocksServe t f x bs n = (k : ℕ) (b : Block) → k < n → slice_get bs k ≡ Some b → AllServe t f x b.instrs (length b.instrs)
+
+-- the name of the first instruction of these blocks one of whose places admits nothing
+pub record LostAt (t : Target) (f : Function) (x : Table) (bs : List Block) (name : Place) : Type 0 where
+  pub position : ℕ
+  pub block : Block
+  pub is_block : slice_get bs position ≡ Some block
+  pub number : block.number ≡ name.block
+  pub lost : IsFirstLost t f x block.instrs (Some name.at)
+  pub before : BlocksServe t f x bs position
+
+-- its name, if there is one
+abbrev pub IsLost : Target → Function → Table → List Block → Option Place → Type 0
+IsLost t f x bs None = BlocksServe t f x bs (length bs)
+IsLost t f x bs (Some name) = LostAt t f x bs name
+
+-- every place admits a choice
+abbrev pub AllAdmit : Target → Function → Type 0
+AllAdmit t f = (k j : ℕ) (p : Needs) → StandsAt t f k j p → Admits t f p
+
+-- the name of the first place that admits none, if one does
+abbrev pub IsRefused : Target → Function → Option Place → Type 0
+IsRefused t f None = AllAdmit t f
+IsRefused t f (Some name) = FirstPlace t f (λ q. Admits t f q → ⊥) name
 
 -- the own place of each instruction admits a choice
 abbrev pub OwnPlacesServe : Target → Function → Type 0

@@ -4,7 +4,7 @@ ghost use Rattle.std.specs.Prelude.{◌≡◌, ◌<◌, ◌^◌, length, IfOk, O
 ghost use Rattle.std.specs.List.{list_any};
 ghost use Rattle.mir_meaning.specs.Binding.{does, is_terminator};
 ghost use Rattle.mir_meaning.specs.Rules.{is_lowered_away};
-ghost use Rattle.mir_meaning.specs.Places.{FirstPlace, TooMany};
+ghost use Rattle.mir_meaning.specs.Places.{Admits, FirstPlace, PlacesServe, TooMany};
 ghost use Rattle.mir_meaning.specs.declared.Form.TheVariants as forms;
 ghost use Rattle.mir_meaning.specs.Valid.{IsValid};
 ghost use Rattle.effect_laws.specs.Shaped.{AreClasses};
@@ -185,7 +185,7 @@ fn admits(
     instrs: &[Boxed<Instr>],
     j: usize,
 ) -> Result<bool, AllocError>
-    ensures { IfOk result (λ yes. yes ≡ true → j < length instrs.now → InOrder live.now.table → told.OwnTold live.now.target live.now.func live.now.table instrs.now j true) }
+    ensures { IfOk result (λ yes. InOrder live.now.table → told.PlacesTold live.now.target live.now.func live.now.table instrs.now j yes) }
 {
     if j >= instrs.len() {
         return Ok(true);
@@ -198,7 +198,7 @@ fn admits(
 
 /// The first instruction of a block one of whose places admits nothing.
 fn unassignable(alloc: Global, live: &LiveFunc, block: &Block) -> Result<Option<usize>, AllocError>
-    ensures { IfOk result (λ q. q ≡ None → InOrder live.now.table → told.OwnServe live.now.target live.now.func live.now.table block.now.instrs (length block.now.instrs)) }
+    ensures { IfOk result (λ q. InOrder live.now.table → told.IsFirstLost live.now.target live.now.func live.now.table block.now.instrs q) }
 {
     let instrs = block.instrs.as_slice();
     'each: for j in 0..instrs.len() {
@@ -220,14 +220,13 @@ fn place_of(block: &Block, at: usize) -> Place
     }
 }
 
-/// The first of these blocks' instructions one of whose places admits nothing.
-fn first_unassignable(
-    alloc: Global,
-    live: &LiveFunc,
-    blocks: &[Block],
-) -> Result<Option<Place>, AllocError>
-    ensures { IfOk result (λ q. q ≡ None → InOrder live.now.table → told.BlocksServe live.now.target live.now.func live.now.table blocks.now (length blocks.now)) }
+/// The first instruction of a function one of whose places admits nothing, by the live lanes of a copy
+/// of it.
+fn first_unassignable(alloc: Global, live: &LiveFunc, f: &Func) -> Result<Option<Place>, AllocError>
+    ensures { IfOk result (λ q. InOrder live.now.table → told.IsLost live.now.target live.now.func live.now.table f.now.blocks q) }
 {
+    let _last = f.next_id;
+    let blocks = f.blocks.as_slice();
     'tested: for k in 0..blocks.len() {
         let block = &blocks[k];
         if let Some(at) = unassignable(alloc, live, block)? {
@@ -239,13 +238,12 @@ fn first_unassignable(
 
 /// The first instruction of a function one of whose places admits nothing.
 fn first_refused(alloc: Global, target: &Target, f: &Func) -> Result<Option<Place>, AllocError>
-    ensures { IfOk result (λ q. q ≡ None → AreClasses target.now f.now → IsValid target.now forms.Source f.now → told.OwnPlacesServe target.now f.now) }
+    ensures { IfOk result (λ q. AreClasses target.now f.now → IsValid target.now forms.Source f.now → told.IsRefused target.now f.now q) }
 {
     let _last = f.next_id;
     let copy = f.copy(alloc)?;
     let live = LiveFunc::compute(alloc, target, copy)?;
-    let blocks = f.blocks.as_slice();
-    first_unassignable(alloc, &live, blocks)
+    first_unassignable(alloc, &live, f)
 }
 
 /// Tests every place of a valid source: its instructions, the terminators of each block together, and
@@ -257,6 +255,8 @@ pub fn check_places(alloc: Global, target: &Target, f: &Valid) -> Result<(), Pla
     ensures few_at_ok { OnOk result (own.HasFew target.now f.now.func) }
     ensures own_at_ok { OnOk result (AreClasses target.now f.now.func → IsValid target.now forms.Source f.now.func → told.OwnPlacesServe target.now f.now.func) }
     ensures few_at_unassignable { IfErr result (own.IfUnassignable (λ _. own.HasFew target.now f.now.func)) }
+    ensures serve_at_ok { OnOk result (AreClasses target.now f.now.func → IsValid target.now forms.Source f.now.func → PlacesServe target.now f.now.func) }
+    ensures unassignable { IfErr result (own.IfUnassignable (λ p. AreClasses target.now f.now.func → IsValid target.now forms.Source f.now.func → FirstPlace target.now f.now.func (λ q. Admits target.now f.now.func q → ⊥) p)) }
 {
     if let Some(place) = first_crowded(alloc, target, &f.func)? {
         return Err(PlaceStop::Variables(place));

@@ -228,7 +228,7 @@ fn add_if(variables: &mut Vec<Variable>, v: Option<Variable>) -> Result<(), Allo
 
 /// The roles from the first explicit one on.
 #[tactic(auto, using(crate::proofs::Operands::explicits))]
-fn from_explicit(roles: &[Role]) -> &[Role]
+pub(crate) fn from_explicit(roles: &[Role]) -> &[Role]
     ensures { result.now ≡ once.from_explicit roles.now }
 {
     'each: for k in 0..roles.len() {
@@ -250,7 +250,7 @@ fn is_implicit(role: Role) -> bool
 }
 
 /// Whether the operand is an implicit register.
-fn is_implicit_operand(o: &Operand) -> bool
+pub(crate) fn is_implicit_operand(o: &Operand) -> bool
     ensures { result ≡ is_implicit_operand o.now }
 {
     match o {
@@ -260,7 +260,7 @@ fn is_implicit_operand(o: &Operand) -> bool
 }
 
 /// The roles that are left for the operands behind this one: an implicit operand takes none.
-fn left_behind<'a>(roles: &'a [Role], o: &Operand) -> &'a [Role]
+pub(crate) fn left_behind<'a>(roles: &'a [Role], o: &Operand) -> &'a [Role]
     ensures { result.now ≡ once.left_behind roles.now o.now }
 {
     if is_implicit_operand(o) {
@@ -315,7 +315,7 @@ fn implicit_variable(target: &Target, f: &Func, tied: bool, o: &Operand) -> Opti
 }
 
 /// Whether an explicit operand is tied.
-fn is_tied_operand(roles: &[Role], o: &Operand) -> bool
+pub(crate) fn is_tied_operand(roles: &[Role], o: &Operand) -> bool
     ensures { result ≡ once.is_tied_operand roles.now o.now }
 {
     if is_implicit_operand(o) {
