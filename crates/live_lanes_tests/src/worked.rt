@@ -38,7 +38,7 @@ struct Row {
     ecx: bool,
 }
 
-fn row(at: Point, range: bool, eax: bool, ecx: bool) -> Row {
+fn wanted(at: Point, range: bool, eax: bool, ecx: bool) -> Row {
     Row {
         at,
         range,
@@ -115,13 +115,13 @@ fn check(
 #[test]
 fn reads_a_copied_range(rt: HostRuntime) -> Result<(), Fail> {
     let rows = [
-        row(Point::Start(0), false, false, true),
-        row(Point::Entry(0), false, false, true),
-        row(Point::Exit(0), true, false, false),
-        row(Point::Entry(1), true, false, false),
-        row(Point::Exit(1), false, true, false),
-        row(Point::Entry(2), false, true, false),
-        row(Point::Exit(2), false, false, false),
+        wanted(Point::Start(0), false, false, true),
+        wanted(Point::Entry(0), false, false, true),
+        wanted(Point::Exit(0), true, false, false),
+        wanted(Point::Entry(1), true, false, false),
+        wanted(Point::Exit(1), false, true, false),
+        wanted(Point::Entry(2), false, true, false),
+        wanted(Point::Exit(2), false, false, false),
     ];
     check(&rt, rt.alloc(), COPIED, &rows, 2)
 }
@@ -130,15 +130,15 @@ fn reads_a_copied_range(rt: HostRuntime) -> Result<(), Fail> {
 #[test]
 fn reads_a_range_around_a_loop(rt: HostRuntime) -> Result<(), Fail> {
     let rows = [
-        row(Point::Start(0), false, false, false),
-        row(Point::Entry(0), false, false, false),
-        row(Point::Exit(0), true, false, false),
-        row(Point::Start(1), true, false, false),
-        row(Point::Entry(1), true, false, false),
-        row(Point::Exit(1), true, false, false),
-        row(Point::Start(2), false, false, false),
-        row(Point::Entry(2), false, false, false),
-        row(Point::Exit(2), false, false, false),
+        wanted(Point::Start(0), false, false, false),
+        wanted(Point::Entry(0), false, false, false),
+        wanted(Point::Exit(0), true, false, false),
+        wanted(Point::Start(1), true, false, false),
+        wanted(Point::Entry(1), true, false, false),
+        wanted(Point::Exit(1), true, false, false),
+        wanted(Point::Start(2), false, false, false),
+        wanted(Point::Entry(2), false, false, false),
+        wanted(Point::Exit(2), false, false, false),
     ];
     check(&rt, rt.alloc(), LOOPED, &rows, 4)
 }
