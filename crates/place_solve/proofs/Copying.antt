@@ -5,12 +5,9 @@ use Rattle.std.specs.List.{list_all, list_any, cons_option}
 use Rattle.std.proofs.lemmas.List.{drop_more, append-nil}
 use Rattle.std.proofs.lemmas.List.Elements.{filter-append}
 use Rattle.std.proofs.lemmas.List.Folds.{list_all-append, list_any-append}
-use Rattle.target_base.specs.declared.types.Effect.{Effect}
-use Rattle.target_base.specs.declared.types.Effect.TheVariants as effects
 use Rattle.target_base.specs.declared.types.Role.{Role}
 use Rattle.target_base.specs.declared.types.Target.{Target}
 use Rattle.target_base.specs.Roles.{is_tied}
-use Rattle.target_base.specs.Rules.{is_phi, is_reg_sequence, is_insert_subreg}
 use Rattle.mir_func.specs.declared.func.Block.{Block}
 use Rattle.mir_func.specs.declared.func.Loc.{Loc}
 use Rattle.mir_func.specs.declared.func.RegOp.{RegOp}
@@ -18,12 +15,11 @@ use Rattle.mir_func.specs.declared.func.Operand.{Operand}
 use Rattle.mir_func.specs.declared.func.Operand.TheVariants as operands
 use Rattle.mir_func.specs.declared.func.Instr.{Instr}
 use Rattle.mir_func.specs.Value.{Function}
-use Rattle.mir_meaning.specs.Binding.{Bound, as_register, bound, does, explicit_bound, explicit_operands, explicit_roles, implicit_bound, implicit_registers, implicit_roles, is_implicit_operand, is_terminator, passes, registers, roles_of, takes_role, tied_pair, tied_uses}
+use Rattle.mir_meaning.specs.Binding.{Bound, as_register, bound, does, explicit_bound, explicit_operands, explicit_roles, implicit_bound, implicit_registers, implicit_roles, is_implicit_operand, is_terminator, passes, registers, roles_of, takes_role, tied_uses}
 use Rattle.mir_meaning.specs.Codes.{instrs_of}
 use Rattle.mir_meaning.specs.Points.{Point, Entry, Exit}
 use Rattle.mir_meaning.specs.Rules.{same_loc, readings, untied_readings}
-use Rattle.mir_meaning.specs.Places.{Needs, before_terminators, copied_at, defines_and_reads, effect_copies, input_copies, phi_copies, phi_point, tied_copies}
-use Rattle.lane_effects.specs.Acts.{register_at}
+use Rattle.mir_meaning.specs.Places.{Needs, before_terminators, copied_at, defines_and_reads, input_copies, phi_copies, phi_point}
 use Rattle.lane_effects.specs.Ends.{first_pair, pairs_of}
 use Rattle.lane_effects.proofs.Pairs.{first_step, pairs_long}
 use Rattle.phi_elim.proofs.Walks.{drop_all}
@@ -33,7 +29,7 @@ use Rattle.live_lanes.specs.declared.table.Table.{Table}
 use Rattle.place_solve.specs.declared.around.Around.{Around}
 use Rattle.place_solve.specs.declared.around.Around.TheVariants as arounds
 use Rattle.place_solve.specs.Choice.{first}
-use Rattle.place_solve.specs.Copies.{copy_fits, input_fits, is_in_place, names, pair_fits, reads, reads_implicitly, reads_untied, tie_copies, tied_operand}
+use Rattle.place_solve.specs.Copies.{copy_fits, input_fits, names, pair_fits, reads, reads_implicitly, reads_untied, tied_operand}
 use Rattle.place_solve.specs.Once.{from_explicit, left_behind}
 use Rattle.place_solve.specs.Told.{around_of, copy_solved}
 use Rattle.place_solve.proofs.Operands.{bound-nil, explicit_one, found_tie}
@@ -82,9 +78,6 @@ before_more t is k i a b h at e =
     let d : drop k is ≡ i ∷ drop (k + 1) is = rw (← at) at (drop_more is k i h) in
     ap (before_from t a) d ∙ ap (λ q. cond q (arounds.Before i.id) (before_from t (arounds.Behind i.id) (drop (k + 1) is))) e
 
-pub before_next : (t : Target) (is : List Instr) (k : ℕ) (i : Instr) (a total : Around) → k < length is → i ≡ get_or is k i → does is_terminator t i ≡ false → before_from t a (drop k is) ≡ total → before_from t (arounds.Behind i.id) (drop (k + 1) is) ≡ total
-before_next t is k i a total h at fails was = sym (before_more t is k i a false h at fails) ∙ was
-
 pub before_found : (t : Target) (is : List Instr) (k : ℕ) (i : Instr) (a total : Around) → k < length is → i ≡ get_or is k i → does is_terminator t i ≡ true → before_from t a (drop k is) ≡ total → arounds.Before i.id ≡ total
 before_found t is k i a total h at holds was = sym (before_more t is k i a true h at holds) ∙ was
 
@@ -119,9 +112,6 @@ pub pairs_done : (t : Target) (f : Function) (x : Table) (os : List Operand) (to
 pairs_done t f x os total e was = sym (ap (list_all (pair_fits t f x)) (no_pair os e)) ∙ was
 
 pub ruleset pair_walk = (pair_next, pair_lost, pairs_done, pairs_long)
-
-pub pair_first : (a b : Operand) (os : List Operand) → first_pair (a ∷ b ∷ []) ≡ first_pair (a ∷ b ∷ os)
-pair_first a b os = refl
 
 pub pair_short : (os : List Operand) → length os < 2 → None ≡ first_pair os
 pair_short [] h = refl
@@ -356,91 +346,3 @@ read_is t d i rs os a b roles list explicit implicit =
     let two : b ≡ list_any (reads_besides d.loc) (map (implicit_bound (implicit_roles (roles_of t i))) (implicit_registers i.operands)) = implicit ∙ ap (list_any (reads_implicitly d.loc)) list ∙ sym (implicit_read d.loc (implicit_roles (roles_of t i)) i.operands) in
     ap (λ c. c || b) one ∙ ap (λ c. list_any (reads_besides d.loc) (seats (roles_of t i) i.operands) || c) two
     ∙ sym (untied_is d (bound t i) ∙ list_any-append (reads_besides d.loc) (seats (roles_of t i) i.operands) (map (implicit_bound (implicit_roles (roles_of t i))) (implicit_registers i.operands)))
-
--- the copies for a tied use
-
-tie_by : (t : Target) (i : Instr) (T : RegOp → RegOp → List Needs) (ds us : List RegOp) → registers i.operands ≡ ds → tied_uses (bound t i) ≡ us → ◌≡◌ {A = List Needs} (elim (tied_pair t i) [ None ↦ [] | Some p ↦ T p.0 p.1 ]) (elim (first ds) [ None ↦ [] | Some d ↦ elim (first us) [ None ↦ [] | Some u ↦ T d u ] ])
-tie_by t i T [] us e g = rw e refl
-tie_by t i T (d ∷ ds) [] e g = rw (g, e) refl
-tie_by t i T (d ∷ ds) (u ∷ us) e g = rw (g, e) refl
-
-tie_is : (t : Target) (f : Function) (i : Instr) → tie_copies t f i ≡ elim (first (registers i.operands)) [ None ↦ [] | Some d ↦ elim (first (tied_uses (bound t i))) [ None ↦ [] | Some u ↦ tied_copies t f i d u ] ]
-tie_is t f i = tie_by t i (tied_copies t f i) (registers i.operands) (tied_uses (bound t i)) refl refl
-
-pub no_definition : (t : Target) (f : Function) (i : Instr) → None ≡ first (registers i.operands) → tie_copies t f i ≡ []
-no_definition t f i e = tie_is t f i ∙ ap (λ q. elim q [ None ↦ [] | Some d ↦ elim (first (tied_uses (bound t i))) [ None ↦ [] | Some u ↦ tied_copies t f i d u ] ]) (sym e)
-
-pub no_tie : (t : Target) (f : Function) (i : Instr) (d : RegOp) → Some d ≡ first (registers i.operands) → None ≡ first (tied_uses (bound t i)) → tie_copies t f i ≡ []
-no_tie t f i d e g =
-    tie_is t f i ∙ ap (λ q. elim q [ None ↦ [] | Some d ↦ elim (first (tied_uses (bound t i))) [ None ↦ [] | Some u ↦ tied_copies t f i d u ] ]) (sym e)
-    ∙ ap (λ q. elim q [ None ↦ [] | Some u ↦ tied_copies t f i d u ]) (sym g)
-
-pub one_tie : (t : Target) (f : Function) (i : Instr) (d u : RegOp) → Some d ≡ first (registers i.operands) → Some u ≡ first (tied_uses (bound t i)) → tie_copies t f i ≡ tied_copies t f i d u
-one_tie t f i d u e g =
-    tie_is t f i ∙ ap (λ q. elim q [ None ↦ [] | Some d ↦ elim (first (tied_uses (bound t i))) [ None ↦ [] | Some u ↦ tied_copies t f i d u ] ]) (sym e)
-    ∙ ap (λ q. elim q [ None ↦ [] | Some u ↦ tied_copies t f i d u ]) (sym g)
-
-module _ (t : Target) (f : Function) (x : Table) (i : Instr) (d u : RegOp) where
-  abbrev behind : Bool → List Needs
-  behind b = cond b (copied_at t f (Exit i.id) d ∷ []) []
-
-  tied-as : (p r : Bool) → is_in_place d u ≡ p → defines_and_reads d (untied_readings (bound t i)) ≡ r → tied_copies t f i d u ≡ cond p [] (copied_at t f (Entry i.id) d ∷ behind r)
-  tied-as p r e g = ap (λ q. cond q [] (copied_at t f (Entry i.id) d ∷ behind (defines_and_reads d (untied_readings (bound t i))))) e ∙ ap (λ q. cond p [] (copied_at t f (Entry i.id) d ∷ behind q)) g
-
-  pub tie_in_place : is_in_place d u ≡ true → true ≡ list_all (copy_solved t x) (tied_copies t f i d u)
-  tie_in_place e = sym (ap (list_all (copy_solved t x)) (tied-as true (defines_and_reads d (untied_readings (bound t i))) e refl))
-
-  pub tie_lost : is_in_place d u ≡ false → false ≡ copy_fits t f x (arounds.Before i.id) d → false ≡ list_all (copy_solved t x) (tied_copies t f i d u)
-  tie_lost e h =
-      let r = defines_and_reads d (untied_readings (bound t i)) in
-      sym (ap (list_all (copy_solved t x)) (tied-as false r e refl) ∙ ap (λ q. q && list_all (copy_solved t x) (behind r)) (sym h))
-
-  pub tie_alone : is_in_place d u ≡ false → true ≡ copy_fits t f x (arounds.Before i.id) d → defines_and_reads d (untied_readings (bound t i)) ≡ false → true ≡ list_all (copy_solved t x) (tied_copies t f i d u)
-  tie_alone e h g = sym (ap (list_all (copy_solved t x)) (tied-as false false e g) ∙ ap (λ q. q && true) (sym h))
-
-  pub tie_behind : (b : Bool) → is_in_place d u ≡ false → true ≡ copy_fits t f x (arounds.Before i.id) d → defines_and_reads d (untied_readings (bound t i)) ≡ true → b ≡ copy_fits t f x (arounds.Behind i.id) d → b ≡ list_all (copy_solved t x) (tied_copies t f i d u)
-  tie_behind b e h g last = last ∙ one_copy t f x (Exit i.id) d ∙ sym (ap (list_all (copy_solved t x)) (tied-as false true e g) ∙ ap (λ q. q && list_all (copy_solved t x) (behind true)) (sym h))
-
--- the copies by the effect
-
-module _ (t : Target) (f : Function) (i : Instr) where
-  pub phi_is : (d : RegOp) (os : List Operand) (e : Effect) → is_phi e ≡ true → phi_copies t f os ++ (copied_at t f (Entry i.id) d ∷ []) ≡ effect_copies t f i (operands.Reg d ∷ os) e
-  phi_is d [] effects.Phi h = refl
-  phi_is d (o ∷ os) effects.Phi h = refl
-  phi_is d os e h = absurd (cc)
-
-  pub sequence_is : (d : RegOp) (os : List Operand) (e : Effect) → is_reg_sequence e ≡ true → input_copies t f (Entry i.id) d (registers os) (registers os) ≡ effect_copies t f i (operands.Reg d ∷ os) e
-  sequence_is d [] effects.RegSequence h = refl
-  sequence_is d (o ∷ os) effects.RegSequence h = refl
-  sequence_is d os e h = absurd (cc)
-
-  pub insert_is : (d : RegOp) (os : List Operand) (e : Effect) → is_insert_subreg e ≡ true → 0 < length os → input_copies t f (Entry i.id) d (registers os) (registers (drop 1 os)) ≡ effect_copies t f i (operands.Reg d ∷ os) e
-  insert_is d [] e h l = absurd (omega arith)
-  insert_is d (o ∷ os) effects.InsertSubreg h l = refl
-  insert_is d (o ∷ os) e h l = absurd (cc)
-
-  pub alone_is : (d : RegOp) (os : List Operand) (e : Effect) → is_phi e ≡ false → is_reg_sequence e ≡ false → length os ≡ 0 → tie_copies t f i ≡ effect_copies t f i (operands.Reg d ∷ os) e
-  alone_is d (o ∷ os) e p s l = absurd (omega arith)
-  alone_is d [] effects.Phi p s l = absurd (cc)
-  alone_is d [] effects.RegSequence p s l = absurd (cc)
-  alone_is d [] e p s l = refl
-
-  pub other_is : (d : RegOp) (os : List Operand) (e : Effect) → is_phi e ≡ false → is_reg_sequence e ≡ false → is_insert_subreg e ≡ false → 0 < length os → tie_copies t f i ≡ effect_copies t f i (operands.Reg d ∷ os) e
-  other_is d [] e p s n l = absurd (omega arith)
-  other_is d (o ∷ os) effects.Phi p s n l = absurd (cc)
-  other_is d (o ∷ os) effects.RegSequence p s n l = absurd (cc)
-  other_is d (o ∷ os) effects.InsertSubreg p s n l = absurd (cc)
-  other_is d (o ∷ os) e p s n l = refl
-
-  pub no_result : (os : List Operand) (e : Effect) → None ≡ register_at os 0 → tie_copies t f i ≡ effect_copies t f i os e
-  no_result [] e h = refl
-  no_result (operands.Reg d ∷ os) e h = absurd (cc)
-  no_result (o ∷ os) e h = refl
-
-pub result_first : (os : List Operand) (d : RegOp) → Some d ≡ register_at os 0 → operands.Reg d ∷ drop 1 os ≡ os
-result_first [] d h = absurd (cc)
-result_first (operands.Reg o ∷ os) d h = ap (λ r. operands.Reg r ∷ os) (same d o h)
-  where
-    same : (a b : RegOp) → Some a ≡ Some b → a ≡ b
-    same a b e = cc
-result_first (o ∷ os) d h = absurd (cc)

@@ -16,3 +16,4 @@ pub mod Serving
 pub mod Lowered
 pub mod Copying
 pub mod Refused
+pub mod Pairing

@@ -5,3 +5,4 @@ pub mod Copies
 pub mod Laws
 pub mod Once
 pub mod Own
+pub mod Tinies

@@ -11,4 +11,4 @@ pub mod variables;
 mod widths;
 
 pub use check::{PlaceStop, check_places};
-pub use tinies::{Choices, solve};
+pub use tinies::{Choices, solve, solve_at};

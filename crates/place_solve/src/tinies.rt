@@ -1,15 +1,20 @@
 //! Registers for the tinies of a place, all at once.
 
+ghost use Rattle.std.specs.Prelude.{◌≡◌, ◌++◌, ◌∷◌, [], None, IfOk, OnOk, filter, map};
+ghost use Rattle.live_lanes.specs.Looks.{InOrder};
+ghost use Rattle.place_solve.specs.Choice.{need_of};
+ghost use Rattle.place_solve.specs.Tinies as tiny;
+
 use crate::around::Around;
 use crate::search::first_choice;
 use crate::variables::{Kind, Variable, variables_of};
-use interference::{Matrix, Tinies};
+use interference::{Matrix, Tinies, Tiny};
 use live_lanes::LiveFunc;
-use mir_func::{Instr, Loc};
+use mir_func::{Func, Instr, Loc};
 use phi_elim::phis::located_class;
 use phi_elim::reading::{effect_of, is_terminator};
 use std::alloc::{AllocError, Global};
-use target_base::{Boxed, Effect, List, Reg};
+use target_base::{Boxed, Effect, List, Reg, Target};
 
 /// Ranges with the registers that are chosen for them.
 pub type Choices = List<(u32, Reg)>;
@@ -38,42 +43,81 @@ fn place_at(live: &LiveFunc, at: u32) -> &[Boxed<Instr>] {
 }
 
 /// Whether a range is one of the tinies.
-fn is_tiny(tinies: &Tinies, v: u32) -> bool {
-    tinies.as_slice().iter().any(|t| t.range == v)
+#[tactic(auto, using(crate::proofs::Units::anys))]
+fn is_tiny(tinies: &Tinies, v: u32) -> bool
+    ensures { result ≡ tiny.is_tiny tinies.now v }
+{
+    let all = tinies.as_slice();
+    'each: for t in all {
+        if t.range == v {
+            return true;
+        }
+    }
+    false
 }
 
-/// The variables of a place that stand for tinies, in operand order. A reload into a tiny and a store
-/// of it, which is the place then, stand for one copy and have one variable.
-fn tiny_variables(
+/// Puts a variable behind the others, if it stands for a tiny.
+fn push_tiny(made: &mut Vec<Variable>, tinies: &Tinies, v: Variable) -> Result<(), AllocError>
+    ensures { OnOk result (made.new.items ≡ made.old.items ++ filter (tiny.stands_for_tiny tinies.now) (v ∷ [])) }
+{
+    if is_tiny(tinies, v.range) {
+        made.push(v)?;
+    }
+    Ok(())
+}
+
+/// The variables that stand for tinies, in their order.
+#[tactic(auto, using(crate::proofs::Units::filters))]
+fn tinies_among(
     alloc: Global,
-    live: &LiveFunc,
-    place: &[Boxed<Instr>],
+    variables: &[Variable],
     tinies: &Tinies,
-) -> Result<Vec<Variable>, AllocError> {
+) -> Result<Vec<Variable>, AllocError>
+    ensures { IfOk result (λ made. made.items ≡ filter (tiny.stands_for_tiny tinies.now) variables.now) }
+{
     let mut made = Vec::new(alloc);
-    'each: for v in variables_of(alloc, live.target(), live.func(), place)?.as_slice() {
-        if is_tiny(tinies, v.range) {
-            made.push(*v)?;
-        }
+    'each: for v in variables {
+        push_tiny(&mut made, tinies, *v)?;
     }
     Ok(made)
 }
 
+/// The variables of a place that stand for tinies, in operand order. A reload into a tiny and a store
+/// of it, which is the place then, stand for one copy and have one variable.
+#[tactic(auto, using(crate::proofs::Pairing::tinies_made))]
+fn tiny_variables(
+    alloc: Global,
+    target: &Target,
+    f: &Func,
+    place: &[Boxed<Instr>],
+    tinies: &Tinies,
+) -> Result<Vec<Variable>, AllocError>
+    ensures { IfOk result (λ made. map need_of made.items ≡ tiny.tiny_needs target.now f.now tinies.now place.now) }
+{
+    let variables = variables_of(alloc, target, f, place)?;
+    let made = tinies_among(alloc, variables.as_slice(), tinies)?;
+    Ok(made)
+}
+
 /// The variable of the copy for which a store of this tiny stands.
-fn stored_variable(live: &LiveFunc, range: u32) -> Variable {
+fn stored_variable(f: &Func, range: u32) -> Variable
+    ensures { need_of result ≡ tiny.stored_need f.now range }
+{
     Variable {
         kind: Kind::Copying,
         range,
         index: None,
-        class: located_class(live.func().classes.as_slice(), Loc::Virtual(range)),
+        class: located_class(f.classes.as_slice(), Loc::Virtual(range)),
     }
 }
 
 /// Whether the place is a store to a slot.
-fn is_store(live: &LiveFunc, place: &[Boxed<Instr>]) -> bool {
+fn is_store(target: &Target, place: &[Boxed<Instr>]) -> bool
+    ensures { result ≡ tiny.is_store target.now place.now }
+{
     match place.first() {
         None => false,
-        Some(i) => match effect_of(live.target(), i.get()) {
+        Some(i) => match effect_of(target, i.get()) {
             Some(Effect::Spill) => true,
             _ => false,
         },
@@ -81,35 +125,63 @@ fn is_store(live: &LiveFunc, place: &[Boxed<Instr>]) -> bool {
 }
 
 /// The variables with the registers chosen for them.
-fn paired(alloc: Global, variables: &[Variable], chosen: &[Reg]) -> Result<Choices, AllocError> {
+fn paired(alloc: Global, variables: &[Variable], chosen: &[Reg]) -> Result<Choices, AllocError>
+    ensures { IfOk result (λ made. made ≡ tiny.paired (map need_of variables.now) chosen.now) }
+{
     let mut made = List::new(alloc);
-    'each: for (v, r) in variables.iter().zip(chosen) {
-        made.push((v.range, *r))?;
+    'each: for k in 0..variables.len() {
+        if k >= chosen.len() {
+            return Ok(made);
+        }
+        made.push((variables[k].range, chosen[k]))?;
     }
     Ok(made)
 }
 
-/// The first choice of registers for the tinies of one place, the variables in operand order and the
-/// registers in allocation order, that serves among them and against the units in use there. None where
-/// no choice does, and where there is no tiny.
-pub fn solve(alloc: Global, m: &Matrix, tinies: &Tinies) -> Result<Option<Choices>, AllocError> {
+/// The first choice of registers for these variables, in their order and in allocation order, that
+/// serves there. None where no choice does.
+fn choose_at(
+    alloc: Global,
+    live: &LiveFunc,
+    around: Around<'_>,
+    variables: &[Variable],
+) -> Result<Option<Choices>, AllocError>
+    ensures { IfOk result (λ q. InOrder live.now.table → q ≡ tiny.choice_at live.now.target live.now.table around.entry (map need_of variables.now)) }
+{
+    match first_choice(alloc, live, around, variables)? {
+        None => Ok(None),
+        Some(chosen) => Ok(Some(paired(alloc, variables, chosen.as_slice())?)),
+    }
+}
+
+/// The first choice of registers for tinies, of which `first` is one, at these instructions, which
+/// make their place: the variables in operand order and the registers in allocation order, that serves
+/// among them and against the units in use there. None where no choice does.
+pub fn solve_at(
+    alloc: Global,
+    live: &LiveFunc,
+    place: &[Boxed<Instr>],
+    first: Tiny,
+    tinies: &Tinies,
+) -> Result<Option<Choices>, AllocError>
+    ensures { IfOk result (λ q. InOrder live.now.table → q ≡ tiny.tiny_choice live.now.target live.now.func live.now.table tinies.now first place.entry) }
+{
+    let (target, f) = (live.target(), live.func());
+    if is_store(target, place) {
+        let one = [stored_variable(f, first.range)];
+        return choose_at(alloc, live, Around::Before(first.at), &one);
+    }
+    let variables = tiny_variables(alloc, target, f, place, tinies)?;
+    choose_at(alloc, live, Around::Instrs(place), variables.as_slice())
+}
+
+/// The same at the place of the tinies. None too where there is no tiny.
+pub fn solve(alloc: Global, m: &Matrix, tinies: &Tinies) -> Result<Option<Choices>, AllocError>
+    ensures { tinies.now ≡ [] → IfOk result (λ q. q ≡ None) }
+{
     let live = m.live();
     let Some(first) = tinies.as_slice().first() else {
         return Ok(None);
     };
-    let place = place_at(live, first.at);
-    let (variables, around) = if is_store(live, place) {
-        let mut one = Vec::new(alloc);
-        one.push(stored_variable(live, first.range))?;
-        (one, Around::Before(first.at))
-    } else {
-        (
-            tiny_variables(alloc, live, place, tinies)?,
-            Around::Instrs(place),
-        )
-    };
-    match first_choice(alloc, live, around, variables.as_slice())? {
-        None => Ok(None),
-        Some(chosen) => Ok(Some(paired(alloc, variables.as_slice(), chosen.as_slice())?)),
-    }
+    solve_at(alloc, live, place_at(live, first.at), *first, tinies)
 }
