@@ -10,3 +10,4 @@ pub mod Placed
 pub mod Fitting
 pub mod Celled
 pub mod Alone
+pub mod Matched

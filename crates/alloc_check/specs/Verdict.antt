@@ -1,11 +1,12 @@
 -- What a verdict says.
-use Rattle.std.specs.Prelude.{◌≡◌, false}
+use Rattle.std.specs.Prelude.{◌≡◌, false, None}
 use Rattle.std.specs.List.{list_any}
 use Rattle.target_base.specs.declared.types.Target.{Target}
 use Rattle.mir_func.specs.Value.{Function}
 use Rattle.mir_meaning.specs.declared.Form.TheVariants as forms
 use Rattle.mir_meaning.specs.Valid.{IsValid, names_virtual}
 use Rattle.mir_meaning.specs.Codes.{refines}
+use Rattle.mir_meaning.specs.Agreement.{block_doubt, partner_doubt}
 use Rattle.alloc_check.specs.declared.check.Verdict.{Verdict}
 use Rattle.alloc_check.specs.declared.check.Verdict.TheVariants.{Yes, No}
 
@@ -14,9 +15,16 @@ abbrev pub IfYes : Type 0 → Verdict → Type 0
 IfYes P Yes = P
 IfYes P (No place) = Unit {0}
 
--- The allocated function is right for its source: it is valid in the allocated form, names no virtual register, and
--- does all that the source does.
+-- The functions match: their blocks are alike, and their counted instructions pair, of one opcode and with operands that
+-- differ in no more than the registers chosen for virtual ones. So calls and returns name the same registers and masks.
+pub record AreAlike (t : Target) (f g : Function) : Type 0 where
+  pub blocks : block_doubt t f g ≡ None
+  pub partners : partner_doubt t f g ≡ None
+
+-- The allocated function is right for its source: it is valid in the allocated form, names no virtual register, matches
+-- the source instruction by instruction, and does all that the source does.
 pub record IsRight (t : Target) (f g : Function) : Type 0 where
   pub valid : IsValid t forms.Allocated g
   pub chosen : list_any names_virtual g.blocks ≡ false
+  pub alike : AreAlike t f g
   pub refines : refines t f g

@@ -5,7 +5,7 @@ ghost use Rattle.meaning.specs.Agree.{rows_hold};
 ghost use Rattle.meaning.specs.Facts.{known_at_start};
 ghost use Rattle.mir_meaning.specs.Codes.{refines, given_of};
 ghost use Rattle.alloc_check.specs.Bare.{AreSides};
-ghost use Rattle.alloc_check.specs.Verdict.{IfYes};
+ghost use Rattle.alloc_check.specs.Verdict.{IfYes, AreAlike};
 ghost use Rattle.std.specs.List.{list_any};
 ghost use Rattle.mir_meaning.specs.Valid.{names_virtual};
 
@@ -116,7 +116,8 @@ fn compared(
     source: &Func,
     allocated: &Func,
 ) -> Result<Verdict, AllocError>
-    ensures { IfOk result (IfYes (refines target.now source.now allocated.now)) }
+    ensures alike { IfOk result (IfYes (AreAlike target.now source.now allocated.now)) }
+    ensures refines { IfOk result (IfYes (refines target.now source.now allocated.now)) }
 {
     if let Some(place) = first_unlike(target, source, allocated) {
         return Ok(Verdict::No(place));
@@ -129,8 +130,9 @@ fn compared(
 
 /// Whether an allocated function agrees with its source, whoever made it: they match, and some
 /// family of facts gives each pair of counted instructions what it needs. The allocated function
-/// isn't asked to be valid. Yes says that it names no virtual register and does all that the source
-/// does.
+/// isn't asked to be valid. Yes says that it names no virtual register, that its blocks and counted
+/// instructions are those of the source but for the registers chosen, and that it does all that the
+/// source does.
 pub fn agree(
     alloc: Global,
     target: &Target,
@@ -138,6 +140,7 @@ pub fn agree(
     allocated: &Func,
 ) -> Result<Verdict, AllocError>
     ensures chosen { IfOk result (IfYes (list_any names_virtual allocated.now.blocks ≡ false)) }
+    ensures alike { IfOk result (IfYes (AreAlike target.now source.now allocated.now)) }
     ensures refines { IfOk result (IfYes (refines target.now source.now allocated.now)) }
 {
     if func_names_virtual(allocated) {

@@ -1,221 +1,279 @@
-//! Where two functions don't match: their blocks, and their counted instructions in pairs. Nothing
-//! rests on it but the place that a No carries.
+//! Where two functions don't match: their blocks, and their counted instructions in pairs.
 
-use crate::facts::same_bytes;
-use mir_func::{Block, Func, Instr, Loc, Op, Operand, Place, RegOp};
+ghost use Rattle.std.specs.Prelude.{◌≡◌, ◌∷◌, ◌≤◌, ◌<◌, ◌^◌, [], filter, length, option_map, IfSome, MatchOption, map};
+ghost use Rattle.std.specs.List.{All, list_all};
+ghost use Rattle.std.specs.Option.{option_or};
+ghost use Rattle.mir_meaning.specs.Agreement.{blocks_alike, entries_alike, unlike_block, further_block, block_doubt, is_counted, unpaired, unpaired_in, partner_doubt, place};
+ghost use Rattle.mir_meaning.specs.Registers.{has_number};
+ghost use Rattle.mir_meaning.specs.Rules.{successors_of};
+ghost use Rattle.mir_meaning.specs.Valid.{listed_units};
+
+use crate::alike::are_partners;
+use mir_func::{Block, Func, Instr, Place};
 use mir_items::counted::{effect_of, is_silent};
 use target_base::registers::units_at;
-use target_base::{Boxed, Reg, Target};
+use target_base::{Boxed, Target, Unit};
 
 /// Whether an instruction counts in a run.
-pub fn is_counted(t: &Target, i: &Instr) -> bool {
+pub fn is_counted(t: &Target, i: &Instr) -> bool
+    ensures { result ≡ is_counted t.now i.now }
+{
     match effect_of(t, i) {
         None => false,
         Some(e) => !is_silent(e),
     }
 }
 
-fn same_op(a: &Op, b: &Op) -> bool {
-    match (a, b) {
-        (Op::Known(x), Op::Known(y)) => x.0 == y.0,
-        (Op::Excluded(x), Op::Excluded(y)) => same_bytes(x.as_slice(), y.as_slice()),
-        _ => false,
-    }
-}
-
-fn same_loc(a: Loc, b: Loc) -> bool {
-    match (a, b) {
-        (Loc::Virtual(v), Loc::Virtual(w)) => v == w,
-        (Loc::Fixed(r), Loc::Fixed(q)) => r.0 == q.0,
-        _ => false,
-    }
-}
-
-fn is_virtual(loc: Loc) -> bool {
-    match loc {
-        Loc::Virtual(_) => true,
-        Loc::Fixed(_) => false,
-    }
-}
-
-/// A fixed register of the first stays; a virtual one may be any. `undef` stands in the second only
-/// where the first has it.
-fn register_alike(o: &RegOp, p: &RegOp) -> bool {
-    let chosen = !o.implicit && is_virtual(o.loc);
-    o.def == p.def && (chosen || same_loc(o.loc, p.loc)) && (o.undef || !p.undef)
-}
-
-fn operand_alike(o: &Operand, p: &Operand) -> bool {
-    match (o, p) {
-        (Operand::Reg(a), Operand::Reg(b)) => register_alike(a, b),
-        (Operand::Imm(a), Operand::Imm(b)) => *a == *b,
-        (Operand::Block(a), Operand::Block(b)) => *a == *b,
-        (Operand::Stack(a), Operand::Stack(b)) => *a == *b,
-        (Operand::FixedStack(a), Operand::FixedStack(b)) => *a == *b,
-        (Operand::Symbol(a), Operand::Symbol(b)) => same_bytes(a.as_slice(), b.as_slice()),
-        (Operand::Index(a), Operand::Index(b)) => a.0 == b.0,
-        (Operand::Mask(a), Operand::Mask(b)) => a.0 == b.0,
-        _ => false,
-    }
-}
-
-fn is_implicit(o: &Operand) -> bool {
-    match o {
-        Operand::Reg(r) => r.implicit,
-        _ => false,
-    }
-}
-
-/// The place of the next explicit, or implicit, operand from one on.
-fn next_operand(operands: &[Operand], from: usize, implicit: bool) -> usize {
-    for k in from..operands.len() {
-        if is_implicit(&operands[k]) == implicit {
-            return k;
-        }
-    }
-    operands.len()
-}
-
-/// Whether the explicit operands, or the implicit ones, correspond in order.
-fn operands_alike(a: &[Operand], b: &[Operand], implicit: bool) -> bool {
-    let mut k: usize = 0;
-    for j in 0..a.len() {
-        if is_implicit(&a[j]) == implicit {
-            let at = next_operand(b, k, implicit);
-            if at >= b.len() || !operand_alike(&a[j], &b[at]) {
-                return false;
-            }
-            k = at.saturating_add(1);
-        }
-    }
-    next_operand(b, k, implicit) >= b.len()
-}
-
-/// Whether the second may be the first with its registers chosen.
-fn are_partners(i: &Instr, j: &Instr) -> bool {
-    let (a, b) = (i.operands.as_slice(), j.operands.as_slice());
-    same_op(&i.op, &j.op) && operands_alike(a, b, false) && operands_alike(a, b, true)
-}
-
-fn has_successor(b: &Block, n: u32) -> bool {
-    b.successors.as_slice().iter().any(|e| e.block == n)
-}
-
-fn has_successors(b: &Block, c: &Block) -> bool {
-    b.successors
-        .as_slice()
-        .iter()
-        .all(|e| has_successor(c, e.block))
-}
-
-fn has_unit(t: &Target, regs: &[Reg], u: u16) -> bool {
-    for r in regs {
-        if units_at(t.regs.as_slice(), *r).iter().any(|v| v.0 == u) {
+fn has_successor(b: &Block, n: u32) -> bool
+    ensures { result ≡ has_number (successors_of b.now) n }
+{
+    for e in b.successors.as_slice() {
+        if n == e.block {
             return true;
         }
     }
     false
 }
 
-fn holds_units(t: &Target, regs: &[Reg], others: &[Reg]) -> bool {
-    for r in regs {
-        for u in units_at(t.regs.as_slice(), *r) {
-            if !has_unit(t, others, u.0) {
-                return false;
-            }
+/// Whether each successor of the first is one of the second.
+fn has_successors(b: &Block, c: &Block) -> bool
+    ensures { result ≡ list_all (has_number (successors_of c.now)) (successors_of b.now) }
+{
+    for e in b.successors.as_slice() {
+        if !has_successor(c, e.block) {
+            return false;
         }
     }
     true
 }
 
-/// Whether the blocks have one number and the same successors; entry blocks list the same units.
-fn blocks_alike(t: &Target, k: usize, b: &Block, c: &Block) -> bool {
-    let (first, second) = (b.liveins.as_slice(), c.liveins.as_slice());
-    b.number == c.number
-        && has_successors(b, c)
-        && has_successors(c, b)
-        && (k != 0 || (holds_units(t, first, second) && holds_units(t, second, first)))
+fn is_among(units: &[Unit], n: u32) -> bool
+    ensures { result ≡ has_number (map (λ u. u.0) units.now) n }
+{
+    for u in units {
+        if n == u.0 as u32 {
+            return true;
+        }
+    }
+    false
 }
 
-/// The start of the k-th block, or of the entry block where there is none.
-fn start_of(f: &Func, k: usize) -> Place {
-    let block = match f.blocks.as_slice().get(k) {
-        None => f.blocks.as_slice().first().map(|b| b.number).unwrap_or(0),
-        Some(b) => b.number,
-    };
-    Place { block, at: 0 }
+/// Whether the block lists a register that has the unit of a number.
+fn lists_unit(t: &Target, b: &Block, n: u32) -> bool
+    ensures { result ≡ has_number (listed_units t.now b.now) n }
+{
+    for r in b.liveins.as_slice() {
+        if is_among(units_at(t.regs.as_slice(), *r), n) {
+            return true;
+        }
+    }
+    false
 }
 
-/// Where the blocks differ.
-fn block_doubt(t: &Target, f: &Func, g: &Func) -> Option<Place> {
-    for k in 0..f.blocks.len() {
-        match g.blocks.as_slice().get(k) {
-            None => return Some(start_of(f, k)),
+fn lists_all(t: &Target, b: &Block, units: &[Unit]) -> bool
+    ensures { result ≡ list_all (has_number (listed_units t.now b.now)) (map (λ u. u.0) units.now) }
+{
+    for u in units {
+        if !lists_unit(t, b, u.0 as u32) {
+            return false;
+        }
+    }
+    true
+}
+
+/// Whether each unit that the first lists is one that the second lists.
+fn lists_units_of(t: &Target, b: &Block, c: &Block) -> bool
+    ensures { result ≡ list_all (has_number (listed_units t.now c.now)) (listed_units t.now b.now) }
+{
+    for r in b.liveins.as_slice() {
+        if !lists_all(t, c, units_at(t.regs.as_slice(), *r)) {
+            return false;
+        }
+    }
+    true
+}
+
+/// Whether the blocks have one number and the same successors.
+fn blocks_alike(b: &Block, c: &Block) -> bool
+    ensures { result ≡ blocks_alike b.now c.now }
+{
+    b.number == c.number && has_successors(b, c) && has_successors(c, b)
+}
+
+/// Whether the entry blocks list the same units too.
+fn entries_alike(t: &Target, b: &Block, c: &Block) -> bool
+    ensures { result ≡ entries_alike t.now b.now c.now }
+{
+    blocks_alike(b, c) && lists_units_of(t, b, c) && lists_units_of(t, c, b)
+}
+
+/// The number of the first of these blocks that has no like one among the others in its place.
+fn unlike_later(blocks: &[Block], others: &[Block]) -> Option<u32>
+    ensures { result ≡ unlike_block blocks_alike blocks.now others.now }
+{
+    for k in 0..blocks.len() {
+        let b = &blocks[k];
+        match others.get(k) {
+            None => return Some(b.number),
             Some(c) => {
-                if !blocks_alike(t, k, f.blocks.get(k), c) {
-                    return Some(start_of(f, k));
+                if !blocks_alike(b, c) {
+                    return Some(b.number);
                 }
             }
         }
     }
-    if g.blocks.len() > f.blocks.len() {
-        return Some(start_of(f, 0));
-    }
     None
 }
 
-/// The place of the next counted instruction from one on.
-fn next_counted(t: &Target, instrs: &[Boxed<Instr>], from: usize) -> usize {
-    for k in from..instrs.len() {
-        if is_counted(t, instrs[k].get()) {
-            return k;
-        }
-    }
-    instrs.len()
-}
-
-/// The first counted instruction of a block whose partner is missing or differs; or instruction 0,
-/// where the other block has more of them.
-fn unpaired(t: &Target, b: &Block, c: &Block) -> Option<usize> {
-    let mut j: usize = 0;
-    for k in 0..b.instrs.len() {
-        let i = b.instrs.get(k);
-        if is_counted(t, i) {
-            let at = next_counted(t, c.instrs.as_slice(), j);
-            if at >= c.instrs.len() || !are_partners(i, c.instrs.get(at)) {
-                return Some(k);
+/// The same of all blocks, the entry first.
+fn unlike_block(t: &Target, blocks: &[Block], others: &[Block]) -> Option<u32>
+    ensures { result ≡ unlike_block (entries_alike t.now) blocks.now others.now }
+{
+    match (blocks, others) {
+        ([], _) => None,
+        ([b, ..], []) => Some(b.number),
+        ([b, later @ ..], [c, behind @ ..]) => {
+            if !entries_alike(t, b, c) {
+                return Some(b.number);
             }
-            j = at.saturating_add(1);
+            unlike_later(later, behind)
         }
     }
-    if next_counted(t, c.instrs.as_slice(), j) < c.instrs.len() {
-        return Some(0);
+}
+
+/// The number of the first block, where there are more of the others.
+fn further_block(blocks: &[Block], others: &[Block]) -> Option<u32>
+    ensures { result ≡ further_block blocks.now others.now }
+{
+    match blocks {
+        [] => None,
+        [b, ..] => {
+            if blocks.len() < others.len() {
+                Some(b.number)
+            } else {
+                None
+            }
+        }
+    }
+}
+
+/// The number of the first block without a like one in its place, or of the entry block where there
+/// are more of the others.
+fn doubtful_block(t: &Target, blocks: &[Block], others: &[Block]) -> Option<u32>
+    ensures { result ≡ option_or (unlike_block (entries_alike t.now) blocks.now others.now) (further_block blocks.now others.now) }
+{
+    match unlike_block(t, blocks, others) {
+        Some(n) => Some(n),
+        None => further_block(blocks, others),
+    }
+}
+
+/// Where the blocks differ.
+#[tactic(auto, unfolding(mir_meaning::specs::Agreement::block_doubt))]
+fn block_doubt(t: &Target, f: &Func, g: &Func) -> Option<Place>
+    ensures { result ≡ block_doubt t.now f.now g.now }
+{
+    match doubtful_block(t, f.blocks.as_slice(), g.blocks.as_slice()) {
+        Some(block) => Some(Place { block, at: 0 }),
+        None => None,
+    }
+}
+
+/// The first counted instruction, with the instructions behind it.
+fn next_counted<'a>(
+    t: &Target,
+    instrs: &'a [Boxed<Instr>],
+) -> Option<(&'a Instr, &'a [Boxed<Instr>])>
+    ensures { MatchOption result (filter (is_counted t.now) instrs.now ≡ []) (λ n. filter (is_counted t.now) instrs.now ≡ n.0.now ∷ filter (is_counted t.now) n.1.now) }
+{
+    for k in 0..instrs.len() {
+        let i = instrs[k].get();
+        if is_counted(t, i) {
+            return Some((i, &instrs[k + 1..]));
+        }
     }
     None
 }
 
-fn place(b: &Block, k: usize) -> Place {
+/// The first counted instruction whose partner among the others is missing or differs; or
+/// instruction 0, where more of the others count.
+fn unpaired(t: &Target, instrs: &[Boxed<Instr>], others: &[Boxed<Instr>]) -> Option<usize>
+    ensures value { result ≡ unpaired t.now 0 instrs.now (filter (is_counted t.now) others.now) }
+    ensures within { IfSome result (λ at. at ≤ length instrs.now) }
+{
+    let mut left = others;
+    for k in 0..instrs.len() {
+        let i = instrs[k].get();
+        if is_counted(t, i) {
+            match next_counted(t, left) {
+                None => return Some(k),
+                Some((x, behind)) => {
+                    if !are_partners(i, x) {
+                        return Some(k);
+                    }
+                    left = behind;
+                }
+            }
+        }
+    }
+    match next_counted(t, left) {
+        None => None,
+        Some(_) => Some(0),
+    }
+}
+
+fn place(b: &Block, at: usize) -> Place
+    ensures { at < 2 ^ 32 → result ≡ place b.now.number at }
+{
     Place {
         block: b.number,
-        at: u32::try_from(k).unwrap_or(u32::MAX),
+        at: u32::try_from(at).unwrap_or(u32::MAX),
     }
 }
 
-/// Where the counted instructions of the blocks don't pair.
-fn partner_doubt(t: &Target, f: &Func, g: &Func) -> Option<Place> {
-    for k in 0..f.blocks.len() {
-        if k < g.blocks.len() {
-            let b = f.blocks.get(k);
-            if let Some(at) = unpaired(t, b, g.blocks.get(k)) {
-                return Some(place(b, at));
+/// Where the counted instructions of two blocks don't pair.
+fn unpaired_place(t: &Target, b: &Block, c: &Block) -> Option<Place>
+    requires { length b.now.instrs < 2 ^ 32 }
+    ensures { result ≡ option_map (place b.now.number) (unpaired t.now 0 b.now.instrs (filter (is_counted t.now) c.now.instrs)) }
+{
+    match unpaired(t, b.instrs.as_slice(), c.instrs.as_slice()) {
+        Some(at) => Some(place(b, at)),
+        None => None,
+    }
+}
+
+/// Where the counted instructions of these blocks don't pair with those of the others.
+fn unpaired_in(t: &Target, blocks: &[Block], others: &[Block]) -> Option<Place>
+    requires { All (λ b. length b.instrs < 2 ^ 32) blocks.now }
+    ensures { result ≡ unpaired_in t.now blocks.now others.now }
+{
+    for k in 0..blocks.len() {
+        let b = &blocks[k];
+        match others.get(k) {
+            None => return None,
+            Some(c) => {
+                if let Some(place) = unpaired_place(t, b, c) {
+                    return Some(place);
+                }
             }
         }
     }
     None
+}
+
+/// Where the counted instructions of the functions don't pair.
+#[tactic(auto, unfolding(mir_meaning::specs::Agreement::partner_doubt))]
+fn partner_doubt(t: &Target, f: &Func, g: &Func) -> Option<Place>
+    ensures { result ≡ partner_doubt t.now f.now g.now }
+{
+    let _last = f.next_id;
+    unpaired_in(t, f.blocks.as_slice(), g.blocks.as_slice())
 }
 
 /// The first place where the functions don't match.
-pub fn first_unlike(t: &Target, f: &Func, g: &Func) -> Option<Place> {
+pub fn first_unlike(t: &Target, f: &Func, g: &Func) -> Option<Place>
+    ensures { result ≡ option_or (block_doubt t.now f.now g.now) (partner_doubt t.now f.now g.now) }
+{
     match block_doubt(t, f, g) {
         Some(place) => Some(place),
         None => partner_doubt(t, f, g),
@@ -235,10 +293,11 @@ pub fn counted_place(t: &Target, f: &Func, n: usize) -> Place {
             }
         }
     }
-    start_of(f, 0)
+    entry_place(f)
 }
 
 /// The start of the function.
 pub fn entry_place(f: &Func) -> Place {
-    start_of(f, 0)
+    let block = f.blocks.as_slice().first().map(|b| b.number).unwrap_or(0);
+    Place { block, at: 0 }
 }

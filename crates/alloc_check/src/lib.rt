@@ -2,6 +2,7 @@
 //! it. What it says Yes to is right.
 #![tactic(auto)]
 
+mod alike;
 mod cells;
 pub mod check;
 mod chosen;

@@ -12,8 +12,9 @@ use std::alloc::{AllocError, Global};
 use target_base::Target;
 
 /// Whether an allocated function, whoever made it, is right for its source. Yes says that it is valid
-/// in the allocated form, that it names no virtual register, and that it does all that the source
-/// does, in every environment and through every number of instructions. No comes with the fault's
+/// in the allocated form, that it names no virtual register, that its blocks and counted instructions
+/// are those of the source but for the registers chosen, and that it does all that the source does, in
+/// every environment and through every number of instructions. No comes with the fault's
 /// place in the allocated function, or the first place of the source in doubt; and with the start of
 /// the allocated function where it holds a class that isn't the target's, as no function does that is
 /// read under it.
