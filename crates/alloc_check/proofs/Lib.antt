@@ -10,4 +10,3 @@ pub mod Placed
 pub mod Fitting
 pub mod Celled
 pub mod Alone
-pub mod Matched

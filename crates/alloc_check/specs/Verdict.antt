@@ -15,14 +15,15 @@ abbrev pub IfYes : Type 0 → Verdict → Type 0
 IfYes P Yes = P
 IfYes P (No place) = Unit {0}
 
--- The functions match: their blocks are alike, and their counted instructions pair, of one opcode and with operands that
--- differ in no more than the registers chosen for virtual ones. So calls and returns name the same registers and masks.
+-- The functions match: their blocks are alike, and their counted instructions pair, of one opcode and with operands
+-- alike, in which only virtual registers are replaced. So calls and returns name the registers, symbols and masks of the
+-- source.
 pub record AreAlike (t : Target) (f g : Function) : Type 0 where
   pub blocks : block_doubt t f g ≡ None
   pub partners : partner_doubt t f g ≡ None
 
 -- The allocated function is right for its source: it is valid in the allocated form, names no virtual register, matches
--- the source instruction by instruction, and does all that the source does.
+-- the source, and does all that the source does.
 pub record IsRight (t : Target) (f g : Function) : Type 0 where
   pub valid : IsValid t forms.Allocated g
   pub chosen : list_any names_virtual g.blocks ≡ false

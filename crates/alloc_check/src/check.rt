@@ -131,8 +131,7 @@ fn compared(
 /// Whether an allocated function agrees with its source, whoever made it: they match, and some
 /// family of facts gives each pair of counted instructions what it needs. The allocated function
 /// isn't asked to be valid. Yes says that it names no virtual register, that its blocks and counted
-/// instructions are those of the source but for the registers chosen, and that it does all that the
-/// source does.
+/// instructions match those of the source, and that it does all that the source does.
 pub fn agree(
     alloc: Global,
     target: &Target,

@@ -13,8 +13,9 @@ use target_base::Target;
 
 /// Whether an allocated function, whoever made it, is right for its source. Yes says that it is valid
 /// in the allocated form, that it names no virtual register, that its blocks and counted instructions
-/// are those of the source but for the registers chosen, and that it does all that the source does, in
-/// every environment and through every number of instructions. No comes with the fault's
+/// match those of the source, so that calls and returns name the registers, symbols and masks that the
+/// source names, and that it does all that the source does, in every environment and through every
+/// number of instructions. No comes with the fault's
 /// place in the allocated function, or the first place of the source in doubt; and with the start of
 /// the allocated function where it holds a class that isn't the target's, as no function does that is
 /// read under it.

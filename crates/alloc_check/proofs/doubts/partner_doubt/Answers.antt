@@ -1,4 +1,4 @@
-use Rattle.std.proofs.Common.{◌≡◌, ◌<◌, ◌∙◌, List, ap, arith, get_or, length, sym}
+use Rattle.std.proofs.Common.{◌<◌, ◌∙◌, List, ap, arith, get_or, length, sym}
 use Rattle.std.proofs.lemmas.List.{get_or_default}
 use Rattle.mir_func.specs.declared.func.Block.{Block}
 use Rattle.machine_verify.proofs.Few.{few_instrs}
