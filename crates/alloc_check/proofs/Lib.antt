@@ -7,6 +7,6 @@ pub mod Rowed
 pub mod BareRuns
 pub mod Steps
 pub mod Placed
-pub mod Fitting
+pub mod Classes
 pub mod Celled
 pub mod Alone

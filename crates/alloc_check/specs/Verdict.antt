@@ -1,7 +1,9 @@
 -- What a verdict says.
-use Rattle.std.specs.Prelude.{◌≡◌, false, None}
+use Rattle.std.specs.Prelude.{◌≡◌, false, Some, None}
 use Rattle.std.specs.List.{list_any}
+use Rattle.std.specs.Option.{option_or}
 use Rattle.target_base.specs.declared.types.Target.{Target}
+use Rattle.mir_func.specs.declared.func.Place.{Place}
 use Rattle.mir_func.specs.Value.{Function}
 use Rattle.mir_meaning.specs.declared.Form.TheVariants as forms
 use Rattle.mir_meaning.specs.Valid.{IsValid, names_virtual}
@@ -21,6 +23,10 @@ IfYes P (No place) = Unit {0}
 pub record AreAlike (t : Target) (f g : Function) : Type 0 where
   pub blocks : block_doubt t f g ≡ None
   pub partners : partner_doubt t f g ≡ None
+
+-- where the functions don't match, the verdict is No with the first place at which they don't
+abbrev pub TellsUnlike : Target → Function → Function → Verdict → Type 0
+TellsUnlike t f g v = (p : Place) → option_or (block_doubt t f g) (partner_doubt t f g) ≡ Some p → v ≡ No p
 
 -- The allocated function is right for its source: it is valid in the allocated form, names no virtual register, matches
 -- the source, and does all that the source does.

@@ -5,7 +5,7 @@ ghost use Rattle.meaning.specs.Agree.{rows_hold};
 ghost use Rattle.meaning.specs.Facts.{known_at_start};
 ghost use Rattle.mir_meaning.specs.Codes.{refines, given_of};
 ghost use Rattle.alloc_check.specs.Bare.{AreSides};
-ghost use Rattle.alloc_check.specs.Verdict.{IfYes, AreAlike};
+ghost use Rattle.alloc_check.specs.Verdict.{IfYes, AreAlike, TellsUnlike};
 ghost use Rattle.std.specs.List.{list_any};
 ghost use Rattle.mir_meaning.specs.Valid.{names_virtual};
 
@@ -118,6 +118,7 @@ fn compared(
 ) -> Result<Verdict, AllocError>
     ensures alike { IfOk result (IfYes (AreAlike target.now source.now allocated.now)) }
     ensures refines { IfOk result (IfYes (refines target.now source.now allocated.now)) }
+    ensures unlike { IfOk result (TellsUnlike target.now source.now allocated.now) }
 {
     if let Some(place) = first_unlike(target, source, allocated) {
         return Ok(Verdict::No(place));
@@ -131,7 +132,8 @@ fn compared(
 /// Whether an allocated function agrees with its source, whoever made it: they match, and some
 /// family of facts gives each pair of counted instructions what it needs. The allocated function
 /// isn't asked to be valid. Yes says that it names no virtual register, that its blocks and counted
-/// instructions match those of the source, and that it does all that the source does.
+/// instructions match those of the source, and that it does all that the source does. Where it names no
+/// virtual register and doesn't match, No comes with the first place at which it doesn't.
 pub fn agree(
     alloc: Global,
     target: &Target,
@@ -141,6 +143,7 @@ pub fn agree(
     ensures chosen { IfOk result (IfYes (list_any names_virtual allocated.now.blocks ≡ false)) }
     ensures alike { IfOk result (IfYes (AreAlike target.now source.now allocated.now)) }
     ensures refines { IfOk result (IfYes (refines target.now source.now allocated.now)) }
+    ensures unlike { list_any names_virtual allocated.now.blocks ≡ false → IfOk result (TellsUnlike target.now source.now allocated.now) }
 {
     if func_names_virtual(allocated) {
         return Ok(Verdict::No(entry_place(source)));

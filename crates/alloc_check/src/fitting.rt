@@ -31,7 +31,7 @@ fn are_classes(target: &Target, classes: &[Option<ClassId>]) -> bool
 
 /// Whether each virtual register of a function is of a class of the target, and their numbers have
 /// 32 bits.
-#[tactic(auto, using(crate::proofs::Fitting::fits_of))]
+#[tactic(auto, using(crate::proofs::Classes::fits_of))]
 pub(crate) fn fits(target: &Target, f: &Func) -> bool
     ensures { IsTrue result → FitsTarget target.now f.now }
 {

@@ -19,7 +19,7 @@ use target_base::Target;
 /// place in the allocated function, or the first place of the source in doubt; and with the start of
 /// the allocated function where it holds a class that isn't the target's, as no function does that is
 /// read under it.
-#[tactic(auto, using(crate::proofs::Fitting::valid_of))]
+#[tactic(auto, using(crate::proofs::Classes::valid_of))]
 pub fn check_pair(
     alloc: Global,
     target: &Target,

@@ -12,7 +12,7 @@ use std::alloc::Global;
 use target_base::Target;
 
 /// The function where it is valid as a source, and else its first fault.
-#[tactic(auto, using(alloc_check::proofs::Fitting::valid_of, crate::proofs::Exact::if_first))]
+#[tactic(auto, using(alloc_check::proofs::Classes::valid_of, crate::proofs::Exact::if_first))]
 pub fn verify_source(
     alloc: Global,
     target: &Target,
@@ -26,7 +26,7 @@ pub fn verify_source(
 }
 
 /// Whether a function is valid in the allocated form, and else its first fault.
-#[tactic(auto, using(alloc_check::proofs::Fitting::valid_of, crate::proofs::Exact::if_first))]
+#[tactic(auto, using(alloc_check::proofs::Classes::valid_of, crate::proofs::Exact::if_first))]
 pub fn verify_allocated(
     alloc: Global,
     target: &Target,

@@ -2,7 +2,7 @@ use Rattle.std.proofs.Common.{◌∙◌, ap, sym, length, arith}
 use Rattle.std.specs.List.{list_all}
 use Rattle.mir_func.specs.Value.{Function}
 use Rattle.alloc_check.specs.Fitting.{is_class}
-use Rattle.alloc_check.proofs.Fitting.{fits_of}
+use Rattle.alloc_check.proofs.Classes.{fits_of}
 use Rattle.alloc_check.proofs.fitting.fits.Goals as goal
 
 pub returns-then-len-le-MOST_RANGES : goal.returns-then-len-le-MOST_RANGES
