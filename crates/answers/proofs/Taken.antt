@@ -27,7 +27,7 @@ late t f s name (status.Limit limits.Document) detail taken classes same named h
 late t f s name (status.Limit limits.Blocks) detail taken classes same named h = absurd h
 late t f s name (status.Limit limits.Instructions) detail taken classes same named h = absurd h
 late t f s name (status.Limit limits.Registers) detail taken classes same named h = absurd h
-late t f s name (status.Unassignable p) detail taken classes same named h = ((taken, refl, first_refused t f s p taken classes same h.1), h.0 ∙ ap (λ n. unassignable_words n p) named)
+late t f s name (status.Unassignable p) detail taken classes same named h = let z = first_refused t f s p taken classes same h.1 in ((taken, refl, z.0, z.1), h.0 ∙ ap (λ n. unassignable_words n p) named)
 late t f s name status.NotYet detail taken classes same named h = (taken, serving t f s taken classes same h)
 late t f s name status.Done detail taken classes same named h = absurd h
 late t f s name status.Usage detail taken classes same named h = absurd h

@@ -41,7 +41,7 @@ limited t f s limits.Registers taken classes same h = absurd h
 -- its refusals
 stopped : (t : Target) (f s : Function) (name : List ℕ) (stop : FunctionStop) → IsTaken t f → AreClasses t f → s ≡ f → name ≡ f.name → IsOnceTaken t s name stop → IfRefused t f stop
 stopped t f s name (stops.Limit l) taken classes same named h = limited t f s l taken classes same h
-stopped t f s name (stops.Unassignable n x) taken classes same named h = (taken, h.0 ∙ named, first_refused t f s x taken classes same h.1)
+stopped t f s name (stops.Unassignable n x) taken classes same named h = let z = first_refused t f s x taken classes same h.1 in (taken, h.0 ∙ named, z.0, z.1)
 stopped t f s name (stops.Invalid n x) taken classes same named h = absurd h
 stopped t f s name stops.NotYet taken classes same named h = (taken, serving t f s taken classes same h)
 stopped t f s name (stops.Memory e) taken classes same named h = tt

@@ -2,8 +2,8 @@ use Rattle.guarded_alloc.proofs.Told.{part_of_run, on_err}
 use Rattle.guarded_alloc.proofs.function.allocated_valid.Goals as goal
 
 -- the run had come to its end
-pub returns-in_err-function-clause-part : goal.returns-in_err-function-clause-part
-returns-in_err-function-clause-part g c =
+pub returns-in_err-made-clause-part : goal.returns-in_err-made-clause-part
+returns-in_err-made-clause-part g c =
     on_err c.from_residual.result (part_of_run (g.W.Watcher.next c.args.target.now) c.args.number c.args.watchers.now.items c.with_registers.new.watchers.items c.in-Ok.ensures.told)
 
 pub returns-clause-part : goal.returns-clause-part
