@@ -1,7 +1,7 @@
 use Rattle.std.proofs.Common.{refl, rules}
 use Rattle.std.specs.Prelude.{true, false}
 use Rattle.target_base.specs.Mini.{mini_target}
-use Rattle.ra_top.proofs.Jobs.{does_over_target}
+use Rattle.ra_top.proofs.Jobs.{does_over_target, does_refused}
 use Rattle.ra_top.proofs.Watched.{job_told}
 use Rattle.ra_top.proofs.run.over_file.Goals as goal
 
@@ -20,3 +20,7 @@ returns-then-eq-clause-told g c =
 pub returns-in-Ok-clause-told : goal.returns-in-Ok-clause-told
 returns-in-Ok-clause-told g c =
     job_told g.W.Watcher.next false c.in-Ok.read c.args.target.now (g.F.Files.contents c.args.files.now c.args.target.now) c.args.watchers.now.items c.over_target-ending.new.watchers.items c.over_target-ending.result.status _ (search rules) c.in-Ok.ensures.ok c.tell-in-Ok.ensures.status c.over_target-ending.ensures.told
+
+pub returns-in-Err-clause-does : goal.returns-in-Err-clause-does
+returns-in-Err-clause-does g c =
+    does_refused c.args.job c.args.target.now c.args.file.now (g.F.Files.contents c.args.files.now) _ _ _ _ _ _ c.in-Err.ending.status _ c.in-Err.ending.detail (search rules) c.in-Err.ensures.err c.tell-in-Err.ensures.status c.tell-in-Err.ensures.line
