@@ -5,12 +5,7 @@
 #                       program crate read_doc_bench: reading and printing alone; then files of 1,000 and 10,000 documents
 #                       (6.4 and 64 MiB) by `verify source`. Each row: processor seconds, the most memory in MB.
 # Wanted: 4 MiB in under 0.4 s and 250 MB; memory that doesn't grow with the documents of a file; growth linear.
-set -eu
-root=$(dirname "$(dirname "$(readlink -f "${BASH_SOURCE[0]}")")")
-program=$(LLRA_WHERE=1 "$root/llra")
-reader=$(LLRA_CRATE=read_doc_bench LLRA_WHERE=1 "$root/llra")
-work=$(mktemp -d)
-trap 'rm -rf "$work"' EXIT
+. "$(dirname "$(readlink -f "${BASH_SOURCE[0]}")")/common.sh"
 
 # Prints a document of so many instructions; the tails fill each line to so many bytes.
 document() { # INSTRUCTIONS BYTES
