@@ -15,7 +15,7 @@ use Rattle.answers.specs.Documents.{end_status}
 use Rattle.devices.specs.Device.{WritesAll}
 use Rattle.ra_top.proofs.Nothing.{writes_none}
 use Rattle.ra_top.specs.Due.{IsHeld}
-use Rattle.ra_top.specs.Told.{AfterPiece, EndsAtPiece, EndsHere, AfterDocument, Moves, IsEnded, Finishes, IsFinished}
+use Rattle.ra_top.specs.Steps.{AfterPiece, EndsAtPiece, EndsHere, AfterDocument, Moves, IsEnded, Finishes, IsFinished}
 
 -- the piece that was cut off a text
 pub record Cut (text : List ℕ) (left : Option (List ℕ)) (chunk piece : List ℕ) : Type 0 where

@@ -1,5 +1,5 @@
 -- A job over the file and the target that words name.
-use Rattle.std.proofs.Common.{◌≡◌, ℕ, List, Bool, true, false, Option, refl, sym, subst, inl, inr, codes}
+use Rattle.std.proofs.Common.{◌≡◌, ℕ, List, Bool, false, Option, refl, sym, subst, inl, inr, codes}
 use Rattle.std.specs.Prelude.{IfSome}
 use Rattle.target_base.specs.declared.types.Target.{Target}
 use Rattle.commands.specs.Words.{is_word}

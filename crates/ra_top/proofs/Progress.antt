@@ -11,7 +11,8 @@ use Rattle.answers.specs.declared.status.Status.{Status}
 use Rattle.answers.specs.declared.status.Status.TheVariants as status
 use Rattle.answers.specs.Spot.{first_spot, after}
 use Rattle.ra_top.specs.Due.{Treatment, output, Treated}
-use Rattle.ra_top.specs.Told.{Streamed, EndsHere, GoesOn}
+use Rattle.ra_top.specs.Told.{Streamed}
+use Rattle.ra_top.specs.Steps.{EndsHere, GoesOn}
 use Rattle.ra_top.proofs.Nothing.{writes_none}
 
 -- the rest meets another fact

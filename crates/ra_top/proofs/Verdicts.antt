@@ -7,7 +7,8 @@ use Rattle.std.proofs.lemmas.List.{take_all}
 use Rattle.guarded_alloc.specs.declared.stop.LimitName.TheVariants as limits
 use Rattle.answers.specs.declared.status.Status.{Status}
 use Rattle.answers.specs.declared.status.Status.TheVariants as status
-use Rattle.ra_top.specs.Told.{target_most, IsTargetOf, TargetVerdict, HasStatusCause, HasTargetCause, NamesNoDevice, NamesNone}
+use Rattle.ra_top.specs.Told.{target_most, IsTargetOf, TargetVerdict, HasStatusCause}
+use Rattle.ra_top.specs.Steps.{HasTargetCause, NamesNoDevice, NamesNone}
 
 whole : (all bytes : List ℕ) → bytes ≡ take (1048576 + 1) all → length bytes ≤ target_most → bytes ≡ all
 whole all bytes e h =

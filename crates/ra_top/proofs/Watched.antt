@@ -21,7 +21,8 @@ use Rattle.answers.specs.Told.{ToldRuns}
 use Rattle.answers.proofs.Watched.{no_runs, runs_joined, runs_then_part, part_of_runs}
 use Rattle.ra_top.specs.declared.ending.Step.{Step}
 use Rattle.ra_top.specs.declared.ending.Step.TheVariants as steps
-use Rattle.ra_top.specs.Told.{AfterPiece, EndsAtPiece, IsDueText, NamesTarget}
+use Rattle.ra_top.specs.Told.{IsDueText, NamesTarget}
+use Rattle.ra_top.specs.Steps.{AfterPiece, EndsAtPiece}
 use Rattle.ra_top.specs.Watched.{IsUndone, ToldAs, ToldStep, ToldJob, ToldGen, ToldWords, is_trace, WritesLines, TracesStep}
 use Rattle.ra_top.proofs.Nothing.{writes_none}
 

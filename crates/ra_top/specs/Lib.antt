@@ -1,3 +1,4 @@
 pub mod Due
 pub mod Told
 pub mod Watched
+pub mod Steps

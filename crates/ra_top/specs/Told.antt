@@ -1,5 +1,5 @@
 -- What is told of a call: the bytes that were written, and the faults of its devices.
-use Rattle.std.specs.Prelude.{◌≡◌, ◌⊎◌, ◌<◌, ◌≤◌, ◌+◌, ℕ, false, true, Bool, List, [], ◌++◌, Option, Some, None, IfSome, Result, Ok, Err, length, codes}
+use Rattle.std.specs.Prelude.{◌≡◌, ◌⊎◌, ◌<◌, ◌≤◌, ℕ, false, true, Bool, List, [], ◌++◌, Option, Some, None, IfSome, Ok, Err, length, codes}
 use Rattle.std.specs.Borrow.{Bor}
 use Rattle.std.specs.Fmt.{decimal}
 use Rattle.target_base.specs.declared.types.Target.{Target}
@@ -7,26 +7,22 @@ use Rattle.target_base.specs.Mini.{mini_target}
 use Rattle.target_desc.specs.Reading.{spelled}
 use Rattle.target_desc.specs.Ending.{parts_of}
 use Rattle.mir_meaning.specs.declared.Form.TheVariants as forms
-use Rattle.target_desc.specs.declared.fault.TargetFault.{TargetFault}
 use Rattle.devices.specs.Device.{Rose, WritesPart, WritesAll}
 use Rattle.devices.specs.Pieces.{is_whole, NoneWhole}
 use Rattle.commands.specs.Words.{Asked, Alloc, VerifySource, VerifyAllocated, Run, Intervals, Trace, Gen, is_word}
 use Rattle.answers.specs.declared.answer.Job.{Job}
 use Rattle.answers.specs.declared.answer.Job.TheVariants as jobs
-use Rattle.ra_top.specs.declared.ending.Ending.{Ending}
-use Rattle.ra_top.specs.declared.ending.Step.{Step}
-use Rattle.ra_top.specs.declared.ending.Step.TheVariants as steps
 use Rattle.answers.specs.declared.spot.Spot.{Spot}
 use Rattle.guarded_alloc.specs.declared.stop.LimitName.TheVariants as limits
 use Rattle.answers.specs.declared.status.Status.{Status}
 use Rattle.answers.specs.declared.status.Status.TheVariants as status
-use Rattle.answers.specs.Spot.{first_spot, after, file_most}
+use Rattle.answers.specs.Spot.{first_spot}
 use Rattle.answers.specs.Status.{line_of}
-use Rattle.answers.specs.Answer.{IsText, IsLast, Refuses}
-use Rattle.answers.specs.Documents.{IsEndText, end_status}
+use Rattle.answers.specs.Answer.{IsText, IsLast}
+use Rattle.answers.specs.Documents.{IsEndText}
 use Rattle.answers.specs.Generated.{GenRefuses}
 use Rattle.gen_text.specs.Generated.{IsGenText}
-use Rattle.ra_top.specs.Due.{IsHeld, Treatment, output, Treated, AtEnd, Due}
+use Rattle.ra_top.specs.Due.{IsHeld, Treatment, output, Treated, Due}
 
 -- which faults rose for a status
 abbrev pub HasStatusCause : Status → ℕ → ℕ → ℕ → ℕ → Type 0
@@ -91,93 +87,10 @@ Streamed job t file left old new status.WriteFault detail = PartWritten job t fi
 Streamed job t file left old new status.Memory detail = Begun job t file old new
 Streamed job t file left old new s detail = Written job t file old new s detail
 
--- of a document: its text is written
-pub record IsWritten (job : Job) (t : Target) (spot : Spot) (piece : List ℕ) (old new : Option (List ℕ)) : Type 0 where
-  pub text : List ℕ
-  pub is : IsText job t spot piece text
-  pub written : WritesAll old new text
-
--- of the document that ends the run: its text is written
-pub record IsLastWritten (job : Job) (t : Target) (spot : Spot) (piece : List ℕ) (old new : Option (List ℕ)) : Type 0 where
-  pub text : List ℕ
-  pub is : IsLast job t spot piece text
-  pub written : WritesAll old new text
-
--- of a document: a first part of its text is written
-pub record IsPartWritten (job : Job) (t : Target) (spot : Spot) (piece : List ℕ) (old new : Option (List ℕ)) : Type 0 where
-  pub text : List ℕ
-  pub is : IsDueText job t spot piece text
-  pub written : WritesPart old new text
-
--- how a run ends at a piece that was read
-abbrev pub EndsAtPiece : Job → Target → Spot → List ℕ → Option (List ℕ) → Option (List ℕ) → Status → List ℕ → Type 0
-EndsAtPiece job t spot piece old new status.Done detail = IsLastWritten job t spot piece old new
-EndsAtPiece job t spot piece old new status.ReadFault detail = ⊥
-EndsAtPiece job t spot piece old new status.WriteFault detail = IsPartWritten job t spot piece old new
-EndsAtPiece job t spot piece old new status.Memory detail = new ≡ old
-EndsAtPiece job t spot piece old new s detail = Refuses job t spot piece s detail × (new ≡ old)
-
--- what treating a piece that was read leads to
-abbrev pub AfterPiece : Job → Target → Spot → List ℕ → Option (List ℕ) → Option (List ℕ) → Step → Type 0
-AfterPiece job t spot piece old new steps.More = IsWritten job t spot piece old new
-AfterPiece job t spot piece old new (steps.End e) = EndsAtPiece job t spot piece old new e.status e.detail
-
--- how a run ends from a place in a file on
-abbrev pub EndsHere : Job → Target → Spot → List ℕ → Option (List ℕ) → Option (List ℕ) → Option (List ℕ) → Status → List ℕ → Type 0
-EndsHere job t spot text left old new status.ReadFault detail = IsUnfinished text left × (new ≡ old)
-EndsHere job t spot text left old new status.WriteFault detail = (out : List ℕ) × IsNextText job t out spot text × WritesPart old new out
-EndsHere job t spot text left old new status.Memory detail = new ≡ old
-EndsHere job t spot text left old new s detail = (out : List ℕ) × AtEnd job t out s detail spot text × WritesAll old new out
-
--- the text that is due at the end of a file is written
-abbrev pub IsEnded : Job → Option (List ℕ) → Option (List ℕ) → Type 0
-IsEnded job old new = (out : List ℕ) × IsEndText job out × WritesAll old new out
-
--- how a run ends where its file does
-abbrev pub Finishes : Job → Option (List ℕ) → Option (List ℕ) → Status → Type 0
-Finishes job old new status.Done = (status.Done ≡ end_status job) × IsEnded job old new
-Finishes job old new status.Usage = (status.Usage ≡ end_status job) × IsEnded job old new
-Finishes job old new status.WriteFault = (out : List ℕ) × IsEndText job out × WritesPart old new out
-Finishes job old new status.Memory = new ≡ old
-Finishes job old new s = ⊥
-
-abbrev pub IsFinished : Job → Option (List ℕ) → Option (List ℕ) → Step → Type 0
-IsFinished job old new steps.More = ⊥
-IsFinished job old new (steps.End e) = Finishes job old new e.status
-
--- the run goes on behind a piece
-pub record GoesOn (job : Job) (t : Target) (spot next : Spot) (text : List ℕ) (left : Option (List ℕ)) (chunk : List ℕ) (old new : Option (List ℕ)) : Type 0 where
-  pub piece : List ℕ
-  pub rest : List ℕ
-  pub left_is : left ≡ Some rest
-  pub cut : text ≡ piece ++ (chunk ++ rest)
-  pub held : IsHeld piece (chunk ++ rest)
-  pub next_is : next ≡ after spot piece
-  pub out : IsWritten job t spot piece old new
-
-abbrev pub AfterDocument : Job → Target → Spot → Spot → List ℕ → Option (List ℕ) → List ℕ → Option (List ℕ) → Option (List ℕ) → Step → Type 0
-AfterDocument job t spot next text left chunk old new steps.More = GoesOn job t spot next text left chunk old new
-AfterDocument job t spot next text left chunk old new (steps.End e) = EndsHere job t spot text left old new e.status e.detail
-
 -- a line was written, and without a fault all of it
 pub record IsTold (old_faults new_faults : ℕ) (old new : Option (List ℕ)) (line : List ℕ) : Type 0 where
   pub part : WritesPart old new line
   pub all : Rose old_faults new_faults ⊎ ((new_faults ≡ old_faults) × WritesAll old new line)
-
--- the faults that rose in a step
-abbrev pub HasStepCause : Step → ℕ → ℕ → ℕ → ℕ → Type 0
-HasStepCause steps.More old new out_old out_new = (new ≡ old) × (out_new ≡ out_old)
-HasStepCause (steps.End e) old new out_old out_new = HasStatusCause e.status old new out_old out_new
-
--- where a step goes on, the spot stands behind the piece
-abbrev pub Moves : Spot → List ℕ → Spot → Step → Type 0
-Moves spot piece next steps.More = (next ≡ after spot piece) × (next.line ≤ next.offset + 1) × (next.offset ≤ file_most)
-Moves spot piece next (steps.End e) = Unit {0}
-
--- where a document is treated, the spot moves on
-abbrev pub Advances : Spot → Spot → Step → Type 0
-Advances spot next steps.More = (spot.offset < next.offset) × (next.line ≤ next.offset + 1) × (next.offset ≤ file_most)
-Advances spot next (steps.End e) = Unit {0}
 
 -- the most bytes of a target file
 abbrev pub target_most : ℕ
@@ -194,28 +107,6 @@ TargetVerdict bytes (status.Target fault) detail = (length bytes ≤ target_most
 TargetVerdict bytes status.ReadFault detail = Unit {0}
 TargetVerdict bytes status.Memory detail = Unit {0}
 TargetVerdict bytes s detail = ⊥
-
--- the status says of no device that its call failed
-abbrev pub NamesNoDevice : Status → Type 0
-NamesNoDevice status.ReadFault = ⊥
-NamesNoDevice status.WriteFault = ⊥
-NamesNoDevice s = Unit {0}
-
--- an ending for the fault of a target file, or for want of memory
-abbrev pub IsFaultOrMemory : TargetFault → Status → List ℕ → Type 0
-IsFaultOrMemory fault (status.Target f) detail = (f ≡ fault) × (detail ≡ decimal fault.line)
-IsFaultOrMemory fault status.Memory detail = Unit {0}
-IsFaultOrMemory fault s detail = ⊥
-
--- the faults that rose where a target file was read
-abbrev pub HasTargetCause : Result Target Ending → ℕ → ℕ → Type 0
-HasTargetCause (Ok t) old new = new ≡ old
-HasTargetCause (Err e) old new = HasStatusCause e.status old new 0 0
-
--- an ending names no device
-abbrev pub NamesNone : Result Target Ending → Type 0
-NamesNone (Ok t) = Unit {0}
-NamesNone (Err e) = NamesNoDevice e.status
 
 -- A word names a target, where its file holds these bytes; `-` is the built-in target.
 abbrev pub NamesTarget : Bool → Option (List ℕ) → Target → Type 0

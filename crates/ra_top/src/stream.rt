@@ -3,7 +3,8 @@
 ghost use Rattle.std.specs.Prelude.{◌≡◌, ◌≤◌, ◌<◌, ◌+◌, ◌++◌, ℕ, List, length, IfSome, [], Some, false, true};
 ghost use Rattle.devices.specs.Pieces.{held_most};
 ghost use Rattle.answers.specs.Spot.{file_most, after};
-ghost use Rattle.ra_top.specs.Told.{HasStatusCause, HasStepCause, Streamed, AfterPiece, AfterDocument, Moves, Advances, IsFinished};
+ghost use Rattle.ra_top.specs.Told.{HasStatusCause, Streamed};
+ghost use Rattle.ra_top.specs.Steps.{HasStepCause, AfterPiece, AfterDocument, Moves, Advances, IsFinished};
 ghost use Rattle.answers.specs.Documents.{tells, end_status};
 ghost use Rattle.answers.specs.Told.{lines_of};
 ghost use Rattle.ra_top.specs.Watched.{ToldAs, ToldStep, is_trace, WritesLines, TracesStep};

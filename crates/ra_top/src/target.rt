@@ -2,7 +2,8 @@
 
 ghost use Rattle.std.specs.Prelude.{◌≡◌, ℕ, List, IfOk, IfErr, IfSome};
 ghost use Rattle.std.specs.Fmt.{decimal};
-ghost use Rattle.ra_top.specs.Told.{IsFaultOrMemory, NamesNoDevice, TargetVerdict, IsTargetOf, HasTargetCause, NamesNone};
+ghost use Rattle.ra_top.specs.Told.{TargetVerdict, IsTargetOf};
+ghost use Rattle.ra_top.specs.Steps.{IsFaultOrMemory, NamesNoDevice, HasTargetCause, NamesNone};
 ghost use Rattle.ra_top.specs.Watched.{IsUndone};
 
 use crate::ending::Ending;

@@ -1,0 +1,123 @@
+-- What single steps of a run leave: words of the code's own clauses. What the top call promises (Told) uses none of them.
+use Rattle.std.specs.Prelude.{◌≡◌, ◌<◌, ◌≤◌, ◌+◌, ℕ, List, ◌++◌, Option, Some, Result, Ok, Err}
+use Rattle.std.specs.Fmt.{decimal}
+use Rattle.target_base.specs.declared.types.Target.{Target}
+use Rattle.target_desc.specs.declared.fault.TargetFault.{TargetFault}
+use Rattle.devices.specs.Device.{WritesPart, WritesAll}
+use Rattle.answers.specs.declared.answer.Job.{Job}
+use Rattle.ra_top.specs.declared.ending.Ending.{Ending}
+use Rattle.ra_top.specs.declared.ending.Step.{Step}
+use Rattle.ra_top.specs.declared.ending.Step.TheVariants as steps
+use Rattle.answers.specs.declared.spot.Spot.{Spot}
+use Rattle.answers.specs.declared.status.Status.{Status}
+use Rattle.answers.specs.declared.status.Status.TheVariants as status
+use Rattle.answers.specs.Spot.{after, file_most}
+use Rattle.answers.specs.Answer.{IsText, IsLast, Refuses}
+use Rattle.answers.specs.Documents.{IsEndText, end_status}
+use Rattle.ra_top.specs.Due.{IsHeld, AtEnd}
+use Rattle.ra_top.specs.Told.{HasStatusCause, IsUnfinished, IsDueText, IsNextText}
+
+-- of a document: its text is written
+pub record IsWritten (job : Job) (t : Target) (spot : Spot) (piece : List ℕ) (old new : Option (List ℕ)) : Type 0 where
+  pub text : List ℕ
+  pub is : IsText job t spot piece text
+  pub written : WritesAll old new text
+
+-- of the document that ends the run: its text is written
+pub record IsLastWritten (job : Job) (t : Target) (spot : Spot) (piece : List ℕ) (old new : Option (List ℕ)) : Type 0 where
+  pub text : List ℕ
+  pub is : IsLast job t spot piece text
+  pub written : WritesAll old new text
+
+-- of a document: a first part of its text is written
+pub record IsPartWritten (job : Job) (t : Target) (spot : Spot) (piece : List ℕ) (old new : Option (List ℕ)) : Type 0 where
+  pub text : List ℕ
+  pub is : IsDueText job t spot piece text
+  pub written : WritesPart old new text
+
+-- how a run ends at a piece that was read
+abbrev pub EndsAtPiece : Job → Target → Spot → List ℕ → Option (List ℕ) → Option (List ℕ) → Status → List ℕ → Type 0
+EndsAtPiece job t spot piece old new status.Done detail = IsLastWritten job t spot piece old new
+EndsAtPiece job t spot piece old new status.ReadFault detail = ⊥
+EndsAtPiece job t spot piece old new status.WriteFault detail = IsPartWritten job t spot piece old new
+EndsAtPiece job t spot piece old new status.Memory detail = new ≡ old
+EndsAtPiece job t spot piece old new s detail = Refuses job t spot piece s detail × (new ≡ old)
+
+-- what treating a piece that was read leads to
+abbrev pub AfterPiece : Job → Target → Spot → List ℕ → Option (List ℕ) → Option (List ℕ) → Step → Type 0
+AfterPiece job t spot piece old new steps.More = IsWritten job t spot piece old new
+AfterPiece job t spot piece old new (steps.End e) = EndsAtPiece job t spot piece old new e.status e.detail
+
+-- how a run ends from a place in a file on
+abbrev pub EndsHere : Job → Target → Spot → List ℕ → Option (List ℕ) → Option (List ℕ) → Option (List ℕ) → Status → List ℕ → Type 0
+EndsHere job t spot text left old new status.ReadFault detail = IsUnfinished text left × (new ≡ old)
+EndsHere job t spot text left old new status.WriteFault detail = (out : List ℕ) × IsNextText job t out spot text × WritesPart old new out
+EndsHere job t spot text left old new status.Memory detail = new ≡ old
+EndsHere job t spot text left old new s detail = (out : List ℕ) × AtEnd job t out s detail spot text × WritesAll old new out
+
+-- the text that is due at the end of a file is written
+abbrev pub IsEnded : Job → Option (List ℕ) → Option (List ℕ) → Type 0
+IsEnded job old new = (out : List ℕ) × IsEndText job out × WritesAll old new out
+
+-- how a run ends where its file does
+abbrev pub Finishes : Job → Option (List ℕ) → Option (List ℕ) → Status → Type 0
+Finishes job old new status.Done = (status.Done ≡ end_status job) × IsEnded job old new
+Finishes job old new status.Usage = (status.Usage ≡ end_status job) × IsEnded job old new
+Finishes job old new status.WriteFault = (out : List ℕ) × IsEndText job out × WritesPart old new out
+Finishes job old new status.Memory = new ≡ old
+Finishes job old new s = ⊥
+
+abbrev pub IsFinished : Job → Option (List ℕ) → Option (List ℕ) → Step → Type 0
+IsFinished job old new steps.More = ⊥
+IsFinished job old new (steps.End e) = Finishes job old new e.status
+
+-- the run goes on behind a piece
+pub record GoesOn (job : Job) (t : Target) (spot next : Spot) (text : List ℕ) (left : Option (List ℕ)) (chunk : List ℕ) (old new : Option (List ℕ)) : Type 0 where
+  pub piece : List ℕ
+  pub rest : List ℕ
+  pub left_is : left ≡ Some rest
+  pub cut : text ≡ piece ++ (chunk ++ rest)
+  pub held : IsHeld piece (chunk ++ rest)
+  pub next_is : next ≡ after spot piece
+  pub out : IsWritten job t spot piece old new
+
+abbrev pub AfterDocument : Job → Target → Spot → Spot → List ℕ → Option (List ℕ) → List ℕ → Option (List ℕ) → Option (List ℕ) → Step → Type 0
+AfterDocument job t spot next text left chunk old new steps.More = GoesOn job t spot next text left chunk old new
+AfterDocument job t spot next text left chunk old new (steps.End e) = EndsHere job t spot text left old new e.status e.detail
+
+-- the faults that rose in a step
+abbrev pub HasStepCause : Step → ℕ → ℕ → ℕ → ℕ → Type 0
+HasStepCause steps.More old new out_old out_new = (new ≡ old) × (out_new ≡ out_old)
+HasStepCause (steps.End e) old new out_old out_new = HasStatusCause e.status old new out_old out_new
+
+-- where a step goes on, the spot stands behind the piece
+abbrev pub Moves : Spot → List ℕ → Spot → Step → Type 0
+Moves spot piece next steps.More = (next ≡ after spot piece) × (next.line ≤ next.offset + 1) × (next.offset ≤ file_most)
+Moves spot piece next (steps.End e) = Unit {0}
+
+-- where a document is treated, the spot moves on
+abbrev pub Advances : Spot → Spot → Step → Type 0
+Advances spot next steps.More = (spot.offset < next.offset) × (next.line ≤ next.offset + 1) × (next.offset ≤ file_most)
+Advances spot next (steps.End e) = Unit {0}
+
+-- the status says of no device that its call failed
+abbrev pub NamesNoDevice : Status → Type 0
+NamesNoDevice status.ReadFault = ⊥
+NamesNoDevice status.WriteFault = ⊥
+NamesNoDevice s = Unit {0}
+
+-- an ending for the fault of a target file, or for want of memory
+abbrev pub IsFaultOrMemory : TargetFault → Status → List ℕ → Type 0
+IsFaultOrMemory fault (status.Target f) detail = (f ≡ fault) × (detail ≡ decimal fault.line)
+IsFaultOrMemory fault status.Memory detail = Unit {0}
+IsFaultOrMemory fault s detail = ⊥
+
+-- the faults that rose where a target file was read
+abbrev pub HasTargetCause : Result Target Ending → ℕ → ℕ → Type 0
+HasTargetCause (Ok t) old new = new ≡ old
+HasTargetCause (Err e) old new = HasStatusCause e.status old new 0 0
+
+-- an ending names no device
+abbrev pub NamesNone : Result Target Ending → Type 0
+NamesNone (Ok t) = Unit {0}
+NamesNone (Err e) = NamesNoDevice e.status
