@@ -58,13 +58,11 @@ fn is_quiet_lane(view: View<'_>, lane: Lane, id: u32) -> bool {
     let Some(other) = partner(view, lane) else {
         return true;
     };
-    if copies(view, lane, other, id) || copies(view, lane, lane, id) {
-        return true;
-    }
     let (w, j) = (other.range, other.k);
-    !live.live_out(w, j as usize, id)
+    let is_apart = !live.live_out(w, j as usize, id)
         && !live.is_written(w, j, id)
-        && !(live.is_written_early(lane.range, lane.k, id) && live.live_in(w, j as usize, id))
+        && !(live.is_written_early(lane.range, lane.k, id) && live.live_in(w, j as usize, id));
+    is_apart || copies(view, lane, other, id) || copies(view, lane, lane, id)
 }
 
 /// The lane of the other range that becomes one with a lane.

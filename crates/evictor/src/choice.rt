@@ -96,6 +96,9 @@ fn is_better(found: &Eviction, best: &Option<Eviction>) -> bool {
 
 /// The eviction that gives a range a register, where it may take it.
 fn eviction_at(view: View<'_>, v: u32, r: Reg) -> Result<Option<Eviction>, AllocError> {
+    if is_kept_out(view, v, r)? {
+        return Ok(None);
+    }
     let victims = match view.m.clashers(v, r)? {
         Clash::Fixed => return Ok(None),
         Clash::Ranges(victims) => victims,
@@ -111,6 +114,15 @@ fn eviction_at(view: View<'_>, v: u32, r: Reg) -> Result<Option<Eviction>, Alloc
         }),
         None => None,
     })
+}
+
+/// Whether the range in the way that is found first may not lose its register. Mostly that settles
+/// it, before all those in the way are found.
+fn is_kept_out(view: View<'_>, v: u32, r: Reg) -> Result<bool, AllocError> {
+    match view.m.some_clasher(v, r) {
+        Some(w) => Ok(!may_lose(view, w) || cost_of(view, &[w])?.is_none()),
+        None => Ok(false),
+    }
 }
 
 /// Whether a range in the way may lose its register, but for its weight.

@@ -4,7 +4,7 @@ use crate::run::Run;
 use block_freq::Freqs;
 use live_lanes::Labels;
 use spiller::RunStop;
-use split_choose::{local, per_block, region};
+use split_choose::{local, per_block, region_over};
 use split_kit::split;
 use std::alloc::AllocError;
 use target_base::Reg;
@@ -51,7 +51,8 @@ impl Run {
     }
 
     fn region_offer(&self, freqs: &Freqs, v: u32) -> Result<Option<Offer>, AllocError> {
-        Ok(match region(self.alloc, &self.matrix, v, freqs)? {
+        let found = region_over(self.alloc, &self.matrix, v, freqs, &self.bundles)?;
+        Ok(match found {
             Some((r, labels)) => Some(Offer {
                 kind: Kind::Region,
                 register: Some(r),

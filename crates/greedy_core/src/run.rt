@@ -11,6 +11,7 @@ use interference::Matrix;
 use live_lanes::LiveFunc;
 use mir_func::{Block, Func, Loc, Operand};
 use spiller::{Allocated, RunStop, SlotMap};
+use split_choose::Bundles;
 use std::alloc::{AllocError, Global};
 use std::collections::BTreeMap;
 use target_base::{Numbers, Target};
@@ -28,6 +29,8 @@ pub enum Policy {
 pub(crate) struct Run {
     pub alloc: Global,
     pub matrix: Matrix,
+    /// The edge bundles of the function.
+    pub bundles: Bundles,
     pub slots: SlotMap,
     pub ranks: Ranks,
     /// How often a range comes from a split, by range.
@@ -124,8 +127,10 @@ impl Run {
     /// A run that knows of no range.
     fn empty(alloc: Global, f: LiveFunc) -> Result<Run, AllocError> {
         let slots = SlotMap::new(alloc, f.func())?;
+        let bundles = Bundles::of(alloc, &f)?;
         Ok(Run {
             alloc,
+            bundles,
             matrix: Matrix::new(alloc, f)?,
             slots,
             ranks: Ranks {

@@ -25,8 +25,8 @@ struct Gap {
 /// What is known of some points when those that are held of them are gone through.
 #[derive(Clone, Copy, PartialEq, Eq)]
 enum Met {
-    /// Another range holds the unit there.
-    Other,
+    /// Another range, this one, holds the unit there.
+    Other(u32),
     /// All that is held from there on lies before these points.
     Behind,
     /// There may be more.
@@ -75,7 +75,7 @@ fn met_by(slots: &Slots, stretches: &[Held], at: Stretch, but: u32) -> Met {
             return Met::Behind;
         }
         if held.range != but {
-            return Met::Other;
+            return Met::Other(held.range);
         }
     }
     Met::Open
@@ -149,15 +149,20 @@ impl HeldList {
 
     /// Whether another range than one holds the unit at some of these points.
     pub fn meets(&self, slots: &Slots, at: Stretch, but: u32) -> bool {
+        self.other(slots, at, but).is_some()
+    }
+
+    /// A range other than one that holds the unit at some of these points: the last one there.
+    pub fn other(&self, slots: &Slots, at: Stretch, but: u32) -> Option<u32> {
         let gap = self.behind(slots, at.last);
         'parts: for part in (0..=gap.part).rev() {
             match met_by(slots, self.part_before(part, gap), at, but) {
-                Met::Other => return true,
-                Met::Behind => return false,
+                Met::Other(range) => return Some(range),
+                Met::Behind => return None,
                 Met::Open => {}
             }
         }
-        false
+        None
     }
 
     /// Marks the ranges other than one that hold the unit at some of these points.

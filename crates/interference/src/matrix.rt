@@ -40,6 +40,37 @@ pub struct Matrix {
     held: AllHeld,
 }
 
+/// The range and the unit that hold a lane, where its range is assigned.
+#[derive(Clone, Copy)]
+struct Holding {
+    lane: u32,
+    holder: Option<(u32, u32)>,
+}
+
+/// A piece of a range that is assigned, and the unit that it holds.
+#[derive(Clone, Copy, PartialEq, Eq)]
+struct HeldPiece {
+    range: u32,
+    unit: u32,
+    piece: Mended,
+}
+
+/// Adds a piece of a lane that is held, unless it is the one that was added last.
+fn add_held(
+    holding: Holding,
+    piece: Mended,
+    pieces: &mut Vec<HeldPiece>,
+) -> Result<(), AllocError> {
+    let Some((range, unit)) = holding.holder else {
+        return Ok(());
+    };
+    let held = HeldPiece { range, unit, piece };
+    if pieces.last() != Some(&held) {
+        pieces.push(held)?;
+    }
+    Ok(())
+}
+
 /// The units of a register; none where there is no such register.
 fn units_at(target: &Target, r: Reg) -> &[Unit] {
     match target.regs.as_slice().get(r.0 as usize) {
@@ -311,6 +342,43 @@ impl Matrix {
         }
     }
 
+    /// One of the ranges that a range in a register would clash with, found sooner than all of them.
+    /// None where it would clash with none.
+    pub fn some_clasher(&self, v: u32, p: Reg) -> Option<u32> {
+        let mut k = 0usize;
+        'units: for u in units_at(self.live.target(), p) {
+            if let Some(w) = self.clasher_of_lane(v, k, u.0 as u32) {
+                return Some(w);
+            }
+            k = k.saturating_add(1);
+        }
+        None
+    }
+
+    fn clasher_of_lane(&self, v: u32, k: usize, unit: u32) -> Option<u32> {
+        let lane = self.live.lane_of(v, k)?;
+        'cells: for place in 0..self.live.cell_count(lane) {
+            if let Some(w) = self.clasher_in_cell(v, unit, lane, place) {
+                return Some(w);
+            }
+        }
+        None
+    }
+
+    fn clasher_in_cell(&self, v: u32, unit: u32, lane: u32, place: usize) -> Option<u32> {
+        let block = self.live.cell_block(lane, place)?;
+        let list = self.held.list(unit, block)?;
+        'pieces: for index in 0..self.live.piece_count(lane, place) {
+            if let Some(extent) = self.live.extent(lane, place, index) {
+                let at = extent.stretch(self.live.slots());
+                if let Some(w) = list.other(self.live.slots(), at, v) {
+                    return Some(w);
+                }
+            }
+        }
+        None
+    }
+
     /// Gives a range a register. After a refusal the range is unassigned, and all else unchanged.
     pub fn assign(&mut self, v: u32, p: Reg) -> Result<(), AllocError> {
         self.unassign(v);
@@ -453,19 +521,60 @@ impl Matrix {
     /// Brings what the assigned ranges hold up to date after edits, and keeps these.
     fn settle(&mut self, changes: Changes) -> Result<(), AllocError> {
         let mut changes = changes;
-        self.let_go(&changes);
-        match self.hold(&changes) {
+        match self.settle_pieces(&mut changes) {
             Ok(()) => {
                 self.live.keep(changes);
                 Ok(())
             }
+            Err(e) => Err(e),
+        }
+    }
+
+    /// Brings what the assigned ranges hold up to date after edits. After a refusal these are taken
+    /// back.
+    fn settle_pieces(&mut self, changes: &mut Changes) -> Result<(), AllocError> {
+        let pieces = match self.held_pieces(changes) {
+            Ok(pieces) => pieces,
             Err(e) => {
-                self.let_go(&changes);
-                self.live.take_back(&mut changes);
-                // Where this is refused too, ranges hold less than they should, and the run is given up.
-                let _ = self.hold(&changes);
-                Err(e)
+                self.live.take_back(changes);
+                return Err(e);
             }
+        };
+        self.let_go(pieces.as_slice());
+        if let Err(e) = self.hold(pieces.as_slice()) {
+            self.let_go(pieces.as_slice());
+            self.live.take_back(changes);
+            // Where this is refused too, ranges hold less than they should, and the run is given up.
+            let _ = self.hold(pieces.as_slice());
+            return Err(e);
+        }
+        Ok(())
+    }
+
+    /// The pieces of assigned ranges that edits changed. One that comes several times in a row is
+    /// given once.
+    fn held_pieces(&self, changes: &Changes) -> Result<Vec<HeldPiece>, AllocError> {
+        let mut pieces = Vec::new(self.alloc);
+        let mut last = Holding {
+            lane: u32::MAX,
+            holder: None,
+        };
+        'steps: for k in 0..changes.len() {
+            if let Some(piece) = changes.mended(k) {
+                if piece.lane != last.lane {
+                    last = self.holding(piece.lane);
+                }
+                add_held(last, piece, &mut pieces)?;
+            }
+        }
+        Ok(pieces)
+    }
+
+    /// Who holds a lane.
+    fn holding(&self, lane: u32) -> Holding {
+        Holding {
+            lane,
+            holder: self.holder(lane),
         }
     }
 
@@ -478,36 +587,30 @@ impl Matrix {
     }
 
     /// Takes away the points of the pieces that edits changed, as they were held before.
-    fn let_go(&mut self, changes: &Changes) {
-        'steps: for k in 0..changes.len() {
-            if let Some(piece) = changes.mended(k) {
-                self.let_go_piece(piece);
-            }
+    fn let_go(&mut self, pieces: &[HeldPiece]) {
+        'pieces: for held in pieces {
+            self.let_go_piece(held);
         }
     }
 
-    fn let_go_piece(&mut self, piece: Mended) {
-        if let Some((v, unit)) = self.holder(piece.lane) {
-            self.held.remove_piece(self.live.slots(), v, unit, piece);
-        }
+    fn let_go_piece(&mut self, held: &HeldPiece) {
+        let slots = self.live.slots();
+        self.held
+            .remove_piece(slots, held.range, held.unit, held.piece);
     }
 
     /// Adds the points of the pieces that edits changed, as they are now.
-    fn hold(&mut self, changes: &Changes) -> Result<(), AllocError> {
-        'steps: for k in 0..changes.len() {
-            if let Some(piece) = changes.mended(k) {
-                self.hold_piece(piece)?;
-            }
+    fn hold(&mut self, pieces: &[HeldPiece]) -> Result<(), AllocError> {
+        'pieces: for held in pieces {
+            self.hold_piece(held)?;
         }
         Ok(())
     }
 
     /// Adds the points of a piece. It may have been added by an earlier step.
-    fn hold_piece(&mut self, piece: Mended) -> Result<(), AllocError> {
-        let Some((v, unit)) = self.holder(piece.lane) else {
-            return Ok(());
-        };
-        self.held.remove_piece(self.live.slots(), v, unit, piece);
-        self.held.add_piece(&self.live, v, unit, piece)
+    fn hold_piece(&mut self, held: &HeldPiece) -> Result<(), AllocError> {
+        self.let_go_piece(held);
+        self.held
+            .add_piece(&self.live, held.range, held.unit, held.piece)
     }
 }

@@ -5,6 +5,7 @@ ghost use Rattle.std.specs.Prelude.{◌≡◌};
 use crate::row::{Cause, Cell, End, Piece, Reading, Row, Segment};
 use std::alloc::{AllocError, Global};
 use std::mem;
+use target_base::Boxed;
 
 /// A change of a cell. Its pieces are named by their places, 0 the one that begins with the block.
 #[derive(Drop)]
@@ -17,8 +18,9 @@ pub(crate) enum CellEdit {
     CutReading(usize, usize),
     /// The reading at a place among those of a piece is this one.
     SetReading(usize, usize, Reading),
-    /// A piece begins at this place. Its readings are the last ones of the piece before.
-    Begin(usize, Segment),
+    /// A piece begins at this place. Its readings are the last ones of the piece before. It lies in a
+    /// box, so that a change is small.
+    Begin(usize, Boxed<Segment>),
     /// The piece at this place becomes a part of the one before.
     Join(usize),
     /// The writing that begins a piece: whether it is early, and the lane that it moves.
@@ -59,6 +61,22 @@ impl Piece {
     fn cut_last(&mut self, count: usize) {
         let left = self.readings.len().saturating_sub(count);
         self.readings.truncate(left);
+    }
+}
+
+impl Segment {
+    /// A piece that says nothing.
+    fn empty(alloc: Global) -> Segment {
+        Segment {
+            start: 0,
+            early: false,
+            from: None,
+            piece: Piece {
+                cause: Cause::None,
+                end: End::Never,
+                readings: Vec::new(alloc),
+            },
+        }
     }
 }
 
@@ -136,27 +154,32 @@ impl Cell {
         Ok(())
     }
 
-    fn begin(&mut self, index: usize, segment: Segment) -> Result<CellEdit, AllocError>
+    fn begin(&mut self, index: usize, segment: Boxed<Segment>) -> Result<CellEdit, AllocError>
         ensures { self.new.block ≡ self.old.block }
     {
         if index == 0 || index - 1 > self.segments.len() {
             return Ok(CellEdit::Nothing);
         }
+        let segment = segment.into_inner();
         let count = segment.piece.readings.len();
         self.segments.insert(index - 1, segment)?;
         self.cut_last(index - 1, count);
         Ok(CellEdit::Join(index))
     }
 
-    fn join(&mut self, index: usize) -> Result<CellEdit, AllocError>
+    fn join(&mut self, alloc: Global, index: usize) -> Result<CellEdit, AllocError>
         ensures { self.new.block ≡ self.old.block }
     {
         if index == 0 || index > self.segments.len() {
             return Ok(CellEdit::Nothing);
         }
+        let mut kept = Boxed::new(alloc, Segment::empty(alloc))?;
         let segment = self.segments.remove(index - 1);
         match self.add_readings(index - 1, segment.piece.readings.as_slice()) {
-            Ok(()) => Ok(CellEdit::Begin(index, segment)),
+            Ok(()) => {
+                *kept.get_mut() = segment;
+                Ok(CellEdit::Begin(index, kept))
+            }
             Err(e) => {
                 let at = (index - 1).min(self.segments.len());
                 let _ = self.segments.insert(at, segment);
@@ -196,7 +219,7 @@ impl Cell {
     }
 
     /// Does a change, and answers the one that takes it back. After a refusal the cell is unchanged.
-    pub fn edit(&mut self, edit: CellEdit) -> Result<CellEdit, AllocError>
+    pub fn edit(&mut self, alloc: Global, edit: CellEdit) -> Result<CellEdit, AllocError>
         ensures { self.new.block ≡ self.old.block }
     {
         Ok(match edit {
@@ -209,7 +232,7 @@ impl Cell {
                 self.set_reading(index, place, reading)
             }
             CellEdit::Begin(index, segment) => self.begin(index, segment)?,
-            CellEdit::Join(index) => self.join(index)?,
+            CellEdit::Join(index) => self.join(alloc, index)?,
             CellEdit::SetWriting(index, early, from) => self.set_writing(index, early, from),
             CellEdit::SetCause(index, cause) => {
                 let old = self.cause_of(index);
@@ -249,10 +272,15 @@ impl Row {
 
     /// Does a change of the cell at a place, and answers the one that takes it back. After a
     /// refusal the cell is unchanged.
-    pub fn edit(&mut self, place: usize, edit: CellEdit) -> Result<CellEdit, AllocError> {
+    pub fn edit(
+        &mut self,
+        alloc: Global,
+        place: usize,
+        edit: CellEdit,
+    ) -> Result<CellEdit, AllocError> {
         if place >= self.cells.len() {
             return Ok(CellEdit::Nothing);
         }
-        self.cells[place].edit(edit)
+        self.cells[place].edit(alloc, edit)
     }
 }

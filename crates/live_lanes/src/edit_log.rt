@@ -28,18 +28,28 @@ enum Undo {
     Row(u32, Row),
     /// An instruction came to the block at a position.
     Put(u32, u32),
-    /// An instruction of the block at a position had this opcode and these operands.
-    Replaced(u32, u32, Op, Operands),
+    /// An instruction of the block at a position had the opcode and the operands that were kept last.
+    Replaced(u32, u32),
     /// An instruction of the block at a position is to go.
     Erased(u32, u32),
     /// It was taken back.
     Done(Option<Mended>),
 }
 
+/// What an instruction was before it was replaced.
+#[derive(Drop)]
+struct Former {
+    op: Op,
+    operands: Operands,
+}
+
 /// The changes that edits made, in order.
 #[derive(Drop)]
 pub(crate) struct Log {
     entries: Vec<Undo>,
+    /// What instructions were, in the order of the entries that say that they were replaced. It
+    /// stands apart, since it is much larger than an entry.
+    formers: Vec<Former>,
 }
 
 impl Log {
@@ -47,12 +57,19 @@ impl Log {
     pub fn new(alloc: Global, room: usize) -> Result<Log, AllocError> {
         Ok(Log {
             entries: Vec::with_capacity(alloc, room)?,
+            formers: Vec::new(alloc),
         })
     }
 
     /// Makes room for one more entry.
     pub fn reserve(&mut self) -> Result<(), AllocError> {
         self.entries.reserve(1)
+    }
+
+    /// Makes room for one more entry that says that an instruction was replaced.
+    pub fn reserve_replaced(&mut self) -> Result<(), AllocError> {
+        self.formers.reserve(1)?;
+        self.reserve()
     }
 
     fn add(&mut self, entry: Undo) -> Result<(), AllocError> {
@@ -87,7 +104,8 @@ impl Log {
         op: Op,
         operands: Operands,
     ) -> Result<(), AllocError> {
-        self.add(Undo::Replaced(block, id, op, operands))
+        self.formers.push(Former { op, operands })?;
+        self.add(Undo::Replaced(block, id))
     }
 
     /// The number of entries.
@@ -145,10 +163,11 @@ impl Table {
             return Ok(());
         }
         log.reserve()?;
+        let alloc = self.rows.alloc;
         let Some(row) = self.rows.rows.get_mut(mended.lane as usize) else {
             return Ok(());
         };
-        let back = row.edit(place, edit)?;
+        let back = row.edit(alloc, place, edit)?;
         log.add_cell(mended, back)
     }
 
@@ -158,7 +177,7 @@ impl Table {
             return Ok(CellEdit::Nothing);
         };
         let place = row.make(alloc, mended.block)?;
-        row.edit(place, edit)
+        row.edit(alloc, place, edit)
     }
 
     /// Takes all cells of some lanes away.
@@ -203,7 +222,7 @@ impl Table {
             Some(cell) if cell.cause_of(spot.index) == Cause::None => cell.start_of(spot.index),
             _ => return Ok(false),
         };
-        let back = row.edit(place, CellEdit::SetCause(spot.index, cause))?;
+        let back = row.edit(alloc, place, CellEdit::SetCause(spot.index, cause))?;
         log.add_cell(mended_from(spot, start), back)?;
         Ok(true)
     }
@@ -212,6 +231,7 @@ impl Table {
     /// it has none then.
     pub fn take_cause(&mut self, spot: Spot, log: &mut Log) -> Result<bool, AllocError> {
         log.reserve()?;
+        let alloc = self.rows.alloc;
         let Some(row) = self.rows.rows.get_mut(spot.lane as usize) else {
             return Ok(false);
         };
@@ -226,7 +246,7 @@ impl Table {
             return Ok(false);
         }
         let start = cell.start_of(spot.index);
-        let back = row.edit(place, CellEdit::SetCause(spot.index, cause))?;
+        let back = row.edit(alloc, place, CellEdit::SetCause(spot.index, cause))?;
         log.add_cell(mended_from(spot, start), back)?;
         Ok(cause == Cause::None)
     }
@@ -240,6 +260,7 @@ impl Table {
         log: &mut Log,
     ) -> Result<(), AllocError> {
         log.reserve()?;
+        let alloc = self.rows.alloc;
         let Some(row) = self.rows.rows.get_mut(spot.lane as usize) else {
             return Ok(());
         };
@@ -247,7 +268,7 @@ impl Table {
             Some(cell) => cell.start_of(spot.index),
             None => return Ok(()),
         };
-        let back = row.edit(place, CellEdit::SetEnd(spot.index, end))?;
+        let back = row.edit(alloc, place, CellEdit::SetEnd(spot.index, end))?;
         log.add_cell(mended_from(spot, start), back)
     }
 
@@ -286,11 +307,11 @@ impl Table {
     pub fn take_back(&mut self, func: &mut Func, log: &mut Log) {
         'entries: for k in (0..log.len()).rev() {
             let entry = log.take(k);
-            self.take_back_one(func, entry);
+            self.take_back_one(func, entry, log);
         }
     }
 
-    fn take_back_one(&mut self, func: &mut Func, entry: Undo) {
+    fn take_back_one(&mut self, func: &mut Func, entry: Undo, log: &mut Log) {
         match entry {
             Undo::Cell(mended, back) => {
                 let _ = self.change_cell(mended, back);
@@ -303,14 +324,22 @@ impl Table {
                 }
                 self.forget(id);
             }
-            Undo::Replaced(block, id, op, operands) => {
-                let place = self.place_in(func, block, id);
-                if self.stands_at(func, block, place, id) {
-                    let _ = func.change_at(block as usize, place, op, operands);
+            Undo::Replaced(block, id) => {
+                if let Some(former) = log.formers.pop() {
+                    self.put_former(func, block, id, former);
                 }
             }
             Undo::Erased(_, _) => {}
             Undo::Done(_) => {}
+        }
+    }
+
+    /// Gives an instruction the opcode and the operands that it had.
+    fn put_former(&self, func: &mut Func, block: u32, id: u32, former: Former) {
+        let Former { op, operands } = former;
+        let place = self.place_in(func, block, id);
+        if self.stands_at(func, block, place, id) {
+            let _ = func.change_at(block as usize, place, op, operands);
         }
     }
 

@@ -31,9 +31,13 @@ fn lies_in(order: &slot_index::Slots, cell: &Cell, index: usize, end: End) -> bo
     cell.piece_at(order, rank(order, end)) == index
 }
 
+/// So many pieces are looked at where one is added: those of some lanes on both sides of an
+/// instruction.
+const NEAR: usize = 12;
+
 /// Adds a piece, unless it is among those that were added last.
 fn add_new(spots: &mut Vec<Spot>, spot: Spot) -> Result<(), AllocError> {
-    let is_there = spots.iter().rev().take(4).any(|near| {
+    let is_there = spots.iter().rev().take(NEAR).any(|near| {
         near.block == spot.block && near.lane == spot.lane && near.index == spot.index
     });
     if !is_there {
@@ -97,15 +101,18 @@ impl Table {
         let suspects = self.suspects(touched)?;
         let ids = self.touched_ids(touched)?;
         let mut fallen = self.look_again(suspects.as_slice(), ids.as_slice(), log)?;
+        let first = fallen.len();
         let mut around = Vec::new(self.rows.alloc);
         self.fall(&mut fallen, &mut around, log)?;
+        // Those that fell first are among the suspects.
+        let others = fallen.get(first..).unwrap_or(&[]);
         // What has a reason is found before anything comes alive again.
         let mut reasons = Vec::new(self.rows.alloc);
         self.ask(suspects.as_slice(), &mut reasons)?;
-        self.ask(fallen.as_slice(), &mut reasons)?;
+        self.ask(others, &mut reasons)?;
         let risen = self.rise(reasons.as_slice(), &mut around, log)?;
         self.end_again(suspects.as_slice(), log)?;
-        self.end_again(fallen.as_slice(), log)?;
+        self.end_again(others, log)?;
         self.end_again(risen.as_slice(), log)?;
         self.end_again(around.as_slice(), log)
     }

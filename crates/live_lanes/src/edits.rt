@@ -1,6 +1,6 @@
 //! Edits of a function, after which exactly the lanes that they reach are looked at again.
 
-use crate::acts::{Act, act_on, acts_of, has_act};
+use crate::acts::{Act, Written, act_on, acts_of, has_act};
 use crate::cell_edit::CellEdit;
 use crate::edit_log::{Log, Mended};
 use crate::edit_update::Touch;
@@ -13,7 +13,7 @@ use crate::table::Table;
 use mir_func::{Func, Gap, Loc, Op, Operand, Operands, RegOp};
 use slot_index::Slots;
 use std::alloc::{AllocError, Global};
-use target_base::{OpId, Target};
+use target_base::{Boxed, OpId, Target};
 
 /// The opcode COPY of every target.
 const COPY: OpId = OpId(0);
@@ -169,8 +169,8 @@ impl LiveFunc {
         }
     }
 
-    /// What the instruction of an id does to lanes.
-    fn acts(&self, tables: &Tables, id: u32) -> Result<Vec<Act>, AllocError> {
+    /// What the instruction at a place of the block at a position does to lanes.
+    fn acts(&self, tables: &Tables, block: u32, place: usize) -> Result<Vec<Act>, AllocError> {
         let alloc = self.table.rows.alloc;
         let reader = Reader {
             alloc,
@@ -178,15 +178,22 @@ impl LiveFunc {
             tables,
             lanes: &self.table.lanes,
         };
-        match self.instr(id) {
+        match self.func.instr_at(block as usize, place) {
             Some(instr) => acts_of(alloc, reader, instr),
             None => Ok(Vec::new(alloc)),
         }
     }
 
-    /// What the instruction of an id does to lanes whose cells weren't taken away.
-    fn standing_acts(&self, tables: &Tables, id: u32, gone: Lanes) -> Result<Vec<Act>, AllocError> {
-        let mut acts = self.acts(tables, id)?;
+    /// What the instruction at a place of the block at a position does to lanes whose cells weren't
+    /// taken away.
+    fn standing_acts(
+        &self,
+        tables: &Tables,
+        block: u32,
+        place: usize,
+        gone: Lanes,
+    ) -> Result<Vec<Act>, AllocError> {
+        let mut acts = self.acts(tables, block, place)?;
         acts.retain(|act| !has_lane(gone, act.lane));
         Ok(acts)
     }
@@ -209,7 +216,7 @@ impl LiveFunc {
         self.put_into_order(block, place, id)?;
         progress.log.add_put(block, id)?;
         let _ = self.func.insert_at(block as usize, place, op, operands)?;
-        let acts = self.acts(tables, id)?;
+        let acts = self.acts(tables, block, place)?;
         self.table.change(block, id, &[], acts.as_slice(), progress)
     }
 
@@ -247,13 +254,13 @@ impl LiveFunc {
             return Ok(());
         }
         self.table.add_slot(operands.as_slice())?;
-        let old = self.standing_acts(tables, id, progress.gone)?;
-        progress.log.reserve()?;
+        let old = self.standing_acts(tables, block, place, progress.gone)?;
+        progress.log.reserve_replaced()?;
         let (old_op, old_operands) = self
             .func
             .change_at(block as usize, place, Op::Known(op), operands);
         progress.log.add_replaced(block, id, old_op, old_operands)?;
-        let new = self.acts(tables, id)?;
+        let new = self.acts(tables, block, place)?;
         self.table
             .change(block, id, old.as_slice(), new.as_slice(), progress)
     }
@@ -265,7 +272,11 @@ impl LiveFunc {
         progress: &mut Progress,
     ) -> Result<(), AllocError> {
         let block = self.table.order.block_of(id);
-        let old = self.standing_acts(tables, id, progress.gone)?;
+        let place = self.table.place_in(&self.func, block, id);
+        if !self.table.stands_at(&self.func, block, place, id) {
+            return progress.log.add_erased(block, id);
+        }
+        let old = self.standing_acts(tables, block, place, progress.gone)?;
         self.table.change(block, id, old.as_slice(), &[], progress)?;
         progress.log.add_erased(block, id)
     }
@@ -511,23 +522,28 @@ fn writing_edit(
     };
     let index = place.saturating_add(1);
     Ok(match (act.writes, is_there) {
-        (Some(written), false) => CellEdit::Begin(
-            index,
-            Segment {
-                start: id,
-                early: written.early,
-                from: written.from,
-                piece: Piece {
-                    cause: Cause::None,
-                    end: End::Never,
-                    readings: readings_behind(alloc, slots, cell, place, id)?,
-                },
-            },
-        ),
+        (Some(written), false) => {
+            let readings = readings_behind(alloc, slots, cell, place, id)?;
+            CellEdit::Begin(index, Boxed::new(alloc, begun(id, written, readings))?)
+        }
         (Some(written), true) => CellEdit::SetWriting(index, written.early, written.from),
         (None, true) => CellEdit::Join(index),
         (None, false) => CellEdit::Nothing,
     })
+}
+
+/// A piece that an instruction's writing begins, with these readings. It isn't live.
+fn begun(id: u32, written: Written, readings: Vec<Reading>) -> Segment {
+    Segment {
+        start: id,
+        early: written.early,
+        from: written.from,
+        piece: Piece {
+            cause: Cause::None,
+            end: End::Never,
+            readings,
+        },
+    }
 }
 
 /// The readings of a piece that stand behind an instruction.

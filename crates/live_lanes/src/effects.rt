@@ -18,11 +18,12 @@ pub(crate) struct Effects {
 }
 
 impl Effects {
-    fn new(alloc: Global) -> Effects {
-        Effects {
-            reads: Vec::new(alloc),
-            writes: Vec::new(alloc),
-        }
+    /// Nothing, with room for what most instructions do.
+    fn new(alloc: Global) -> Result<Effects, AllocError> {
+        Ok(Effects {
+            reads: Vec::with_capacity(alloc, 8)?,
+            writes: Vec::with_capacity(alloc, 8)?,
+        })
     }
 }
 
@@ -227,6 +228,30 @@ pub(crate) struct Reader<'a> {
     pub lanes: &'a LaneTable,
 }
 
+/// Adds readings of all lanes of a range.
+fn read_all(own: Lanes, effects: &mut Effects) -> Result<(), AllocError> {
+    'lanes: for k in 0..own.count {
+        if let Some(lane) = own.lane(k) {
+            effects.reads.push(lane)?;
+        }
+    }
+    Ok(())
+}
+
+/// Adds writings of all lanes of a range that get nothing that another lane held.
+fn write_all(own: Lanes, early: bool, effects: &mut Effects) -> Result<(), AllocError> {
+    'lanes: for k in 0..own.count {
+        if let Some(lane) = own.lane(k) {
+            effects.writes.push(Writing {
+                lane,
+                from: None,
+                early,
+            })?;
+        }
+    }
+    Ok(())
+}
+
 impl<'a> Reader<'a> {
     /// The lanes of a register operand, reserved units among them.
     fn register_lanes(&self, op: &RegOp) -> Result<Vec<u32>, AllocError> {
@@ -254,7 +279,7 @@ impl<'a> Reader<'a> {
 
     /// What an instruction does to lanes.
     pub fn effects(&self, instr: &Instr) -> Result<Effects, AllocError> {
-        let mut effects = Effects::new(self.alloc);
+        let mut effects = Effects::new(self.alloc)?;
         let Some(desc) = desc_of(self.target, instr) else {
             return Ok(effects);
         };
@@ -299,11 +324,20 @@ impl<'a> Reader<'a> {
 
     /// Adds what a definition writes. An `undef` one makes the other lanes of its register undefined.
     fn define(&self, op: &RegOp, early: bool, effects: &mut Effects) -> Result<(), AllocError> {
-        let lanes = match op.loc {
-            Loc::Virtual(v) if op.undef => self.own_lanes(self.lanes.of_range(v), None)?,
-            _ => self.register_lanes(op)?,
-        };
-        self.write(lanes.as_slice(), early, effects)
+        match op.loc {
+            Loc::Virtual(v) if op.undef || op.index.is_none() => {
+                write_all(self.lanes.of_range(v), early, effects)
+            }
+            _ => self.write(self.register_lanes(op)?.as_slice(), early, effects),
+        }
+    }
+
+    /// Adds the readings of a register operand.
+    fn read_operand(&self, op: &RegOp, effects: &mut Effects) -> Result<(), AllocError> {
+        match (op.loc, op.index) {
+            (Loc::Virtual(v), None) => read_all(self.lanes.of_range(v), effects),
+            _ => self.read(self.register_lanes(op)?.as_slice(), effects),
+        }
     }
 
     /// Adds the moves of lanes to others. What goes to a reserved unit is read in any case.
@@ -341,6 +375,7 @@ impl<'a> Reader<'a> {
         Ok(())
     }
 
+    /// What a copy does. Where all lanes that it defines are moved, nothing else is written.
     fn copy(&self, operands: &[Operand], effects: &mut Effects) -> Result<(), AllocError> {
         let [Operand::Reg(to), Operand::Reg(from)] = operands else {
             return Ok(());
@@ -349,6 +384,9 @@ impl<'a> Reader<'a> {
             let filled = self.register_lanes(to)?;
             let read = self.register_lanes(from)?;
             self.moves(filled.as_slice(), read.as_slice(), false, effects)?;
+            if filled.len() <= read.len() && to.index.is_none() {
+                return Ok(());
+            }
         }
         self.define(to, false, effects)
     }
@@ -361,6 +399,9 @@ impl<'a> Reader<'a> {
         let there = self.slot_lanes(&parts, own.len())?;
         if !parts.register.undef {
             self.moves(there.as_slice(), own.as_slice(), false, effects)?;
+            if there.len() <= own.len() {
+                return Ok(());
+            }
         }
         self.write(there.as_slice(), false, effects)
     }
@@ -378,6 +419,9 @@ impl<'a> Reader<'a> {
         let there = self.slot_lanes(&parts, own.len())?;
         let early = matches!(desc.roles.as_slice().first(), Some(Role::Early(_)));
         self.moves(own.as_slice(), there.as_slice(), early, effects)?;
+        if own.len() <= there.len() && parts.register.index.is_none() {
+            return Ok(());
+        }
         self.define(&parts.register, early, effects)
     }
 
@@ -404,7 +448,7 @@ impl<'a> Reader<'a> {
                 } else if is_flags(flags, op) {
                     self.test(op, operands, effects)?;
                 } else if !op.undef {
-                    self.read(self.register_lanes(op)?.as_slice(), effects)?;
+                    self.read_operand(op, effects)?;
                 }
             }
             place = place.saturating_add(1);

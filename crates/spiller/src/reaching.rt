@@ -73,11 +73,19 @@ impl Walk {
             return Ok(());
         }
         'successors: for next in view.live.successors(position) {
-            if view.live.is_live_into(view.v, *next) {
+            if self.is_new(*next, lanes) && view.live.is_live_into(view.v, *next) {
                 self.enter(*next, lanes)?;
             }
         }
         Ok(())
+    }
+
+    /// Whether some of these lanes haven't reached the start of a block yet.
+    fn is_new(&self, position: u32, lanes: u32) -> bool {
+        match self.starts.get(position as usize) {
+            Some(there) => lanes & !*there != 0,
+            None => false,
+        }
     }
 
     fn enter(&mut self, position: u32, lanes: u32) -> Result<(), AllocError> {

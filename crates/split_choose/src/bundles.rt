@@ -6,7 +6,7 @@ use std::alloc::{AllocError, Global};
 /// For each border, another one of its bundle or itself, up to the one that stands for all. The
 /// borders of the block at position k have the numbers 2 * k, its start, and 2 * k + 1, its end.
 #[derive(Drop)]
-pub(crate) struct Bundles {
+pub struct Bundles {
     parents: Vec<u32>,
 }
 
@@ -21,14 +21,23 @@ pub(crate) fn end_of(position: u32) -> u32 {
 }
 
 impl Bundles {
-    /// The bundles of a function.
+    /// The bundles of a function. Edits of its instructions don't change them.
     pub fn of(alloc: Global, live: &LiveFunc) -> Result<Bundles, AllocError> {
         let count = u32::try_from(live.func().blocks.len()).unwrap_or(u32::MAX);
         let mut bundles = Bundles::alone(alloc, count.saturating_mul(2))?;
         'blocks: for position in 0..count {
             bundles.join_all(live, position);
         }
+        bundles.shorten(count.saturating_mul(2));
         Ok(bundles)
+    }
+
+    /// Lets each border name the one that stands for all at once.
+    fn shorten(&mut self, count: u32) {
+        'borders: for border in 0..count {
+            let at = self.find(border);
+            self.set(border, at);
+        }
     }
 
     /// Each border is a bundle of its own.
@@ -51,7 +60,7 @@ impl Bundles {
     }
 
     /// The border that stands for the bundle of another.
-    pub fn find(&self, border: u32) -> u32 {
+    pub(crate) fn find(&self, border: u32) -> u32 {
         let mut at = border;
         'parents: for _ in 0..self.parents.len() {
             let next = self.parent(at);

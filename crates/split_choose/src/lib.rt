@@ -9,5 +9,6 @@ mod runs;
 mod spans;
 
 pub use blocks::per_block;
-pub use regions::region;
+pub use bundles::Bundles;
+pub use regions::{region, region_over};
 pub use runs::local;

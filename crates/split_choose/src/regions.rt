@@ -71,30 +71,35 @@ pub fn region(
     v: u32,
     freqs: &Freqs,
 ) -> Result<Option<(Reg, Labels)>, AllocError> {
+    let bundles = Bundles::of(alloc, m.live())?;
+    region_over(alloc, m, v, freqs, &bundles)
+}
+
+/// What `region` answers, where these are the bundles of the function.
+pub fn region_over(
+    alloc: Global,
+    m: &Matrix,
+    v: u32,
+    freqs: &Freqs,
+    bundles: &Bundles,
+) -> Result<Option<(Reg, Labels)>, AllocError> {
     let touched = m.live().touched(alloc, v)?;
     let places = places_of(alloc, m.live(), touched.as_slice())?;
     if places.len() < 2 {
         return Ok(None);
     }
     let spans = spans_of(alloc, m.live(), v, freqs, touched.as_slice())?;
-    best_split(alloc, m, v, spans.as_slice())
-}
-
-/// The region split of least cost that is offered to a range over its blocks.
-fn best_split(
-    alloc: Global,
-    m: &Matrix,
-    v: u32,
-    spans: &[Span],
-) -> Result<Option<(Reg, Labels)>, AllocError> {
-    let bundles = Bundles::of(alloc, m.live())?;
-    let view = View {
+    best_split(View {
         alloc,
         m,
         v,
-        spans,
-        bundles: &bundles,
-    };
+        spans: spans.as_slice(),
+        bundles,
+    })
+}
+
+/// The region split of least cost that is offered to a range over its blocks.
+fn best_split(view: View<'_>) -> Result<Option<(Reg, Labels)>, AllocError> {
     match best_offer(view)? {
         Some(offer) => labelled(view, &offer),
         None => Ok(None),

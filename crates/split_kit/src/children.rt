@@ -72,10 +72,11 @@ fn fresh_all(
 /// The edits that split a range, block by block.
 fn edits_of(view: View<'_>, touched: &[u32], marks: &[Mark]) -> Result<Vec<Edit>, AllocError> {
     let mut edits = Vec::new(view.alloc);
-    let mut marks_left = marks;
+    let placed = placed_marks(view, marks)?;
+    let mut marks_left = placed.as_slice();
     let mut touched_left = touched;
     'blocks: for position in 0..block_count(view.live) {
-        let (here, rest) = parted(marks_left, marks_in(view.live, marks_left, position));
+        let (here, rest) = parted(marks_left, marks_in(marks_left, position));
         marks_left = rest;
         let (own, others) = parted(touched_left, touched_in(view.live, touched_left, position));
         touched_left = others;
@@ -88,11 +89,33 @@ fn block_count(live: &LiveFunc) -> u32 {
     u32::try_from(live.func().blocks.len()).unwrap_or(u32::MAX)
 }
 
+/// A mark, and the position of its block.
+#[derive(Clone, Copy)]
+struct Placed {
+    position: u32,
+    mark: Mark,
+}
+
+/// Marks with the positions of their blocks, up to the first whose block isn't there.
+fn placed_marks(view: View<'_>, marks: &[Mark]) -> Result<Vec<Placed>, AllocError> {
+    let mut placed = Vec::with_capacity(view.alloc, marks.len())?;
+    'marks: for mark in marks {
+        let Some(position) = view.live.block_position(mark.block) else {
+            break;
+        };
+        placed.push(Placed {
+            position,
+            mark: *mark,
+        })?;
+    }
+    Ok(placed)
+}
+
 /// How many of the first marks stand in the block at a position.
-fn marks_in(live: &LiveFunc, marks: &[Mark], position: u32) -> usize {
+fn marks_in(marks: &[Placed], position: u32) -> usize {
     marks
         .iter()
-        .take_while(|mark| live.block_position(mark.block) == Some(position))
+        .take_while(|placed| placed.position == position)
         .count()
 }
 
@@ -105,15 +128,9 @@ fn touched_in(live: &LiveFunc, touched: &[u32], position: u32) -> usize {
 }
 
 /// The label at the start of a block.
-fn label_at_start(marks: &[Mark]) -> u16 {
+fn label_at_start(marks: &[Placed]) -> u16 {
     match marks.first() {
-        Some(
-            Mark {
-                spot: Spot::Border,
-                label,
-                ..
-            },
-        ) => *label,
+        Some(placed) if placed.mark.spot == Spot::Border => placed.mark.label,
         _ => 0,
     }
 }
@@ -123,12 +140,13 @@ fn split_block(
     view: View<'_>,
     position: u32,
     touched: &[u32],
-    marks: &[Mark],
+    marks: &[Placed],
     edits: &mut Vec<Edit>,
 ) -> Result<(), AllocError> {
     let mut now = label_at_start(marks);
     let mut left = touched;
-    'marks: for mark in marks {
+    'marks: for placed in marks {
+        let mark = placed.mark;
         if let Spot::Gap(gap) = mark.spot {
             let (before, behind) = parted(left, before_gap(view.live, left, gap));
             left = behind;
