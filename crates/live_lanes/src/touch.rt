@@ -1,31 +1,29 @@
 //! The instructions of a function by their ids, and those that touch a range.
 
 use crate::flow::successors;
-use crate::lanes::Lanes;
 use crate::live::LiveFunc;
 use crate::row::{Cell, Piece, Reading, Segment, entry_rank};
 use mir_func::Instr;
+use slot_index::Slots;
 use std::alloc::{AllocError, Global};
 
-/// Instructions in layout order, each once, and how many of them were met again.
+/// Instructions, and how many of them were met again.
 #[derive(Drop)]
 struct Found {
     ids: Vec<u32>,
+    /// So many of them, from the first, were met in the lane that is gone through.
     met: usize,
-    /// Whether one came that isn't the next one of those that were found.
+    /// Whether one stands behind another that it should stand before.
     is_mixed: bool,
 }
 
-impl Found {
-    /// Adds an instruction behind the others, where it isn't the last one.
-    fn add(&mut self, id: u32) -> Result<(), AllocError> {
-        if self.ids.last().copied() != Some(id) {
-            self.ids.push(id)?;
-        }
-        Ok(())
-    }
+/// A number of an instruction, which rises along the layout. No two instructions have the same.
+fn layout_key(slots: &Slots, id: u32) -> u128 {
+    slots.number(id) as u128 * 4294967296 + id as u128
+}
 
-    /// Whether an instruction is the one that was met last, or the next one.
+impl Found {
+    /// Whether an instruction is the one that was met last, or the next one, which is met then.
     fn is_next(&mut self, id: u32) -> bool {
         if self.met > 0 && self.ids.get(self.met - 1).copied() == Some(id) {
             return true;
@@ -37,34 +35,71 @@ impl Found {
         false
     }
 
-    /// Meets an instruction, which is among those found before if the lanes are named together.
-    fn meet(&mut self, id: u32) -> Result<(), AllocError> {
-        if self.is_mixed {
-            return self.add(id);
+    /// Adds an instruction behind the others, where it isn't the last one.
+    fn add(&mut self, slots: &Slots, id: u32) -> Result<(), AllocError> {
+        if let Some(last) = self.ids.last().copied() {
+            if last == id {
+                return Ok(());
+            }
+            if layout_key(slots, last) > layout_key(slots, id) {
+                self.is_mixed = true;
+            }
         }
-        if !self.is_next(id) {
-            self.is_mixed = true;
-            return self.add(id);
-        }
-        Ok(())
+        self.ids.push(id)
     }
 
-    /// Adds the instructions of a piece's readings.
-    fn meet_readings(&mut self, piece: &Piece) -> Result<(), AllocError> {
+    /// Meets an instruction. Where lanes are named together, it is among those that were found in
+    /// the lane before.
+    fn meet(&mut self, slots: &Slots, id: u32) -> Result<(), AllocError> {
+        if self.is_next(id) {
+            return Ok(());
+        }
+        self.add(slots, id)
+    }
+
+    /// Meets the instructions of a piece's readings.
+    fn meet_readings(&mut self, slots: &Slots, piece: &Piece) -> Result<(), AllocError> {
         'readings: for reading in &piece.readings {
-            self.meet(reading.id)?;
+            self.meet(slots, reading.id)?;
         }
         Ok(())
     }
 
-    /// Adds the instructions that name a lane in a cell.
-    fn meet_cell(&mut self, cell: &Cell) -> Result<(), AllocError> {
-        self.meet_readings(&cell.first)?;
+    /// Meets the instruction that begins a piece, and those of its readings.
+    fn meet_segment(&mut self, slots: &Slots, segment: &Segment) -> Result<(), AllocError> {
+        self.meet(slots, segment.start)?;
+        self.meet_readings(slots, &segment.piece)
+    }
+
+    /// Meets the instructions that name a lane in a cell.
+    fn meet_cell(&mut self, slots: &Slots, cell: &Cell) -> Result<(), AllocError> {
+        self.meet_readings(slots, &cell.first)?;
         'segments: for segment in &cell.segments {
-            self.meet(segment.start)?;
-            self.meet_readings(&segment.piece)?;
+            self.meet_segment(slots, segment)?;
         }
         Ok(())
+    }
+
+    /// Meets the instructions that name a lane with these cells, which go from the last block to the
+    /// first.
+    fn meet_lane(&mut self, slots: &Slots, cells: &[Cell]) -> Result<(), AllocError> {
+        self.met = 0;
+        'cells: for cell in cells.iter().rev() {
+            self.meet_cell(slots, cell)?;
+        }
+        Ok(())
+    }
+
+    /// The instructions in layout order, each once.
+    fn in_order(self, slots: &Slots) -> Vec<u32> {
+        let Found {
+            mut ids, is_mixed, ..
+        } = self;
+        if is_mixed {
+            ids.sort_unstable_by_key(|id| layout_key(slots, *id));
+            ids.dedup();
+        }
+        ids
     }
 }
 
@@ -73,34 +108,18 @@ impl LiveFunc {
     /// name it in an operand other than an `undef` use.
     pub fn touched(&self, alloc: Global, v: u32) -> Result<Vec<u32>, AllocError> {
         let own = self.table.lanes.of_range(v);
+        let slots = &self.table.order.slots;
         let mut found = Found {
             ids: Vec::new(alloc),
             met: 0,
-            is_mixed: true,
+            is_mixed: false,
         };
-        let mut is_mixed = false;
         'lanes: for k in 0..own.count {
-            self.meet_lane(own, k, &mut found)?;
-            is_mixed = is_mixed || (k > 0 && found.is_mixed);
-            found.met = 0;
-            found.is_mixed = is_mixed;
+            if let Some(lane) = own.lane(k) {
+                found.meet_lane(slots, self.table.rows.cells(lane))?;
+            }
         }
-        let Found { mut ids, .. } = found;
-        if is_mixed {
-            ids.sort_unstable_by_key(|id| self.table.order.slots.number(*id));
-            ids.dedup();
-        }
-        Ok(ids)
-    }
-
-    fn meet_lane(&self, own: Lanes, k: u32, found: &mut Found) -> Result<(), AllocError> {
-        let Some(lane) = own.lane(k) else {
-            return Ok(());
-        };
-        'cells: for cell in self.table.rows.cells(lane).iter().rev() {
-            found.meet_cell(cell)?;
-        }
-        Ok(())
+        Ok(found.in_order(slots))
     }
 
     /// The instruction of an id.
