@@ -1,6 +1,7 @@
 pub mod Paths
 pub mod Graph
 pub mod Table
+pub mod Touching
 pub mod Ways
 pub mod Entered
 pub mod Certain

@@ -1,5 +1,8 @@
 //! The instructions of a function by their ids, and those that touch a range.
 
+ghost use Rattle.std.specs.Prelude.{◌≡◌, IfOk};
+ghost use Rattle.live_lanes.specs.Touching.{AreTouched};
+
 use crate::flow::successors;
 use crate::live::LiveFunc;
 use crate::row::{Cell, Piece, Reading, Segment, entry_rank};
@@ -106,7 +109,9 @@ impl Found {
 impl LiveFunc {
     /// The instructions that touch a range, by their ids, in layout order, each once: those that
     /// name it in an operand other than an `undef` use.
-    pub fn touched(&self, alloc: Global, v: u32) -> Result<Vec<u32>, AllocError> {
+    pub fn touched(&self, alloc: Global, v: u32) -> Result<Vec<u32>, AllocError>
+        ensures { IfOk result (λ ids. AreTouched self.now.table v ids.items) }
+    {
         let own = self.table.lanes.of_range(v);
         let slots = &self.table.order.slots;
         let mut found = Found {

@@ -1,0 +1,53 @@
+-- Which instructions name a range, by the table.
+use Rattle.std.specs.Prelude.{◌≡◌, ℕ, zero, suc, ◌+◌, ◌*◌, Bool, false, ◌||◌, nat_eq, List, map, Option, None, Some, slice_get}
+use Rattle.std.specs.Ordering.{nat_cmp}
+use Rattle.std.specs.List.{list_any}
+use Rattle.std.specs.List.Sorted.{IsStrictlySortedBy}
+use Rattle.slot_index.specs.Order.{number_of}
+use Rattle.lane_effects.specs.declared.row.Lanes.{Lanes}
+use Rattle.live_lanes.specs.declared.row.Reading.{Reading}
+use Rattle.live_lanes.specs.declared.row.Segment.{Segment}
+use Rattle.live_lanes.specs.declared.row.Cell.{Cell}
+use Rattle.live_lanes.specs.declared.row.Row.{Row}
+use Rattle.live_lanes.specs.declared.table.Table.{Table}
+use Rattle.live_lanes.specs.Table.{Numbers}
+use Rattle.live_lanes.specs.Entered.{cells_of}
+use Rattle.live_lanes.specs.Paths.{has}
+
+-- the instruction is one of those that read the lane in a piece
+abbrev pub reads_in : ℕ → List Reading → Bool
+reads_in id rs = list_any (λ r. nat_eq r.id id) rs
+
+-- the instruction begins the piece, or reads the lane in it
+abbrev pub names_segment : ℕ → Segment → Bool
+names_segment id s = nat_eq s.start id || reads_in id s.piece.readings.items
+
+-- the instruction reads or writes the lane in the cell's block
+abbrev pub names_cell : ℕ → Cell → Bool
+names_cell id c = reads_in id c.first.readings.items || list_any (names_segment id) c.segments.items
+
+-- the instruction reads or writes the lane
+abbrev pub names_lane : ℕ → List Row → ℕ → Bool
+names_lane id rows l = list_any (names_cell id) (cells_of rows l)
+
+-- it reads or writes one of so many lanes, whose numbers stand in a row
+abbrev pub names_some : ℕ → List Row → ℕ → ℕ → Bool
+names_some id rows first zero = false
+names_some id rows first (suc n) = names_lane id rows (first + n) || names_some id rows first n
+
+abbrev pub names_lanes : ℕ → List Row → Option Lanes → Bool
+names_lanes id rows None = false
+names_lanes id rows (Some own) = names_some id rows own.first own.count
+
+-- it reads or writes a lane of the range
+abbrev pub names_range : Table → ℕ → ℕ → Bool
+names_range x v id = names_lanes id x.rows.rows.items (slice_get x.lanes.ranges.items v)
+
+-- a number of an instruction, which rises along the layout; no two have the same
+abbrev pub layout_key : Numbers → ℕ → ℕ
+layout_key slots id = number_of slots id * 4294967296 + id
+
+-- the instructions that read or write lanes of a range, in layout order, each once
+pub record AreTouched (x : Table) (v : ℕ) (ids : List ℕ) : Type 0 where
+  pub order : IsStrictlySortedBy nat_cmp (map (layout_key x.order.slots) ids)
+  pub named : (id : ℕ) → has id ids ≡ names_range x v id
