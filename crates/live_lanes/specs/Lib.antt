@@ -1,7 +1,6 @@
 pub mod Paths
 pub mod Graph
 pub mod Table
-pub mod Touching
 pub mod Ways
 pub mod Entered
 pub mod Certain
@@ -19,3 +18,4 @@ pub mod Lasting
 pub mod Looks
 pub mod Held
 pub mod Occupied
+pub mod Touching

@@ -1,9 +1,10 @@
--- Which instructions name a range, by the table.
+-- Which instructions name a range, by the table, and where instructions are found.
 use Rattle.std.specs.Prelude.{◌≡◌, ℕ, zero, suc, ◌+◌, ◌*◌, Bool, false, ◌||◌, nat_eq, List, map, Option, None, Some, slice_get}
 use Rattle.std.specs.Ordering.{nat_cmp}
 use Rattle.std.specs.List.{list_any}
 use Rattle.std.specs.List.Sorted.{IsStrictlySortedBy}
 use Rattle.slot_index.specs.Order.{number_of}
+use Rattle.mir_func.specs.declared.func.Block.{Block}
 use Rattle.lane_effects.specs.declared.row.Lanes.{Lanes}
 use Rattle.live_lanes.specs.declared.row.Reading.{Reading}
 use Rattle.live_lanes.specs.declared.row.Segment.{Segment}
@@ -12,6 +13,8 @@ use Rattle.live_lanes.specs.declared.row.Row.{Row}
 use Rattle.live_lanes.specs.declared.table.Table.{Table}
 use Rattle.live_lanes.specs.Table.{Numbers}
 use Rattle.live_lanes.specs.Entered.{cells_of}
+use Rattle.live_lanes.specs.Held.{AreRanked}
+use Rattle.live_lanes.specs.Ordered.{AreHomes}
 use Rattle.live_lanes.specs.Paths.{has}
 
 -- the instruction is one of those that read the lane in a piece
@@ -30,18 +33,22 @@ names_cell id c = reads_in id c.first.readings.items || list_any (names_segment 
 abbrev pub names_lane : ℕ → List Row → ℕ → Bool
 names_lane id rows l = list_any (names_cell id) (cells_of rows l)
 
--- it reads or writes one of so many lanes, whose numbers stand in a row
-abbrev pub names_some : ℕ → List Row → ℕ → ℕ → Bool
-names_some id rows first zero = false
-names_some id rows first (suc n) = names_lane id rows (first + n) || names_some id rows first n
+-- one of so many lanes, whose numbers stand in a row, passes the test
+abbrev pub some_below : (ℕ → Bool) → ℕ → ℕ → Bool
+some_below test first zero = false
+some_below test first (suc n) = test (first + n) || some_below test first n
 
-abbrev pub names_lanes : ℕ → List Row → Option Lanes → Bool
-names_lanes id rows None = false
-names_lanes id rows (Some own) = names_some id rows own.first own.count
+abbrev pub some_of : (ℕ → Bool) → Option Lanes → Bool
+some_of test None = false
+some_of test (Some own) = some_below test own.first own.count
 
--- it reads or writes a lane of the range
+-- a lane of the range does
+abbrev pub some_lane : Table → ℕ → (ℕ → Bool) → Bool
+some_lane x v test = some_of test (slice_get x.lanes.ranges.items v)
+
+-- the instruction reads or writes a lane of the range
 abbrev pub names_range : Table → ℕ → ℕ → Bool
-names_range x v id = names_lanes id x.rows.rows.items (slice_get x.lanes.ranges.items v)
+names_range x v id = some_lane x v (names_lane id x.rows.rows.items)
 
 -- a number of an instruction, which rises along the layout; no two have the same
 abbrev pub layout_key : Numbers → ℕ → ℕ
@@ -51,3 +58,8 @@ layout_key slots id = number_of slots id * 4294967296 + id
 pub record AreTouched (x : Table) (v : ℕ) (ids : List ℕ) : Type 0 where
   pub order : IsStrictlySortedBy nat_cmp (map (layout_key x.order.slots) ids)
   pub named : (id : ℕ) → has id ids ≡ names_range x v id
+
+-- instructions are found in these blocks: the table has the block of each, and their numbers rise along each block
+pub record FindsInstrs (x : Table) (bs : List Block) : Type 0 where
+  pub homes : AreHomes bs x.order.block_of.items
+  pub ranked : AreRanked x.order.slots bs
