@@ -48,7 +48,8 @@ impl Found {
                 self.is_mixed = true;
             }
         }
-        self.ids.push(id)
+        self.ids.push(id)?;
+        Ok(())
     }
 
     /// Meets an instruction. Where lanes are named together, it is among those that were found in
