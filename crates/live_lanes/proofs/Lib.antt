@@ -43,3 +43,4 @@ pub mod Few
 pub mod Finding
 pub mod Alike
 pub mod Extents
+pub mod Touching
