@@ -1,1 +1,8 @@
 pub mod Offers
+pub mod Bundles
+pub mod Seen
+pub mod Regions
+pub mod Places
+pub mod Marks
+pub mod Blocks
+pub mod Spans

@@ -1,0 +1,15 @@
+pub mod Roots
+pub mod Walked
+pub mod Joining
+pub mod Bordered
+pub mod Covers
+pub mod Walks
+pub mod Sums
+pub mod Ends
+pub mod Placed
+pub mod Sited
+pub mod Borders
+pub mod Labels
+pub mod Bordering
+pub mod Split
+pub mod Alone
