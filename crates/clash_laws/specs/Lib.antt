@@ -1,0 +1,4 @@
+pub mod Covered
+pub mod Laws
+pub mod Holds
+pub mod Facts
