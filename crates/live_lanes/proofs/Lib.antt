@@ -41,3 +41,4 @@ pub mod Summed
 pub mod Occupied
 pub mod Few
 pub mod Finding
+pub mod Touching
