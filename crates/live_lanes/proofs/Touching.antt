@@ -20,7 +20,7 @@ use Rattle.live_lanes.specs.declared.table.Table.{Table}
 use Rattle.live_lanes.specs.declared.touch.Found.{Found}
 use Rattle.live_lanes.specs.Table.{Numbers}
 use Rattle.live_lanes.specs.Paths.{has}
-use Rattle.live_lanes.specs.Touching.{some_below, some_of, some_lane, layout_key, InLine, Meets}
+use Rattle.live_lanes.specs.Touching.{some_below, some_of, some_lane, names_lane, layout_key, AreTouched, InLine, Meets}
 use Rattle.live_lanes.proofs.Flowing.{has-any, push-has, kept-has, or-assoc, or-false}
 
 -- meeting nothing, and meeting more
@@ -35,6 +35,12 @@ pub meets-more : (slots : Numbers) (a b c : Found) (one other both : ℕ → Boo
 meets-more slots a b c one other both first next same = record {
   named = λ x. next.named x ∙ ap (λ t. t || other x) (first.named x) ∙ or-assoc (has x a.ids.items) (one x) (other x) ∙ ap (λ t. has x a.ids.items || t) (same x);
   line = λ h. next.line (first.line h);
+}
+
+pub meets-reset : (slots : Numbers) (a b : Found) (test : ℕ → Bool) → a.ids ≡ b.ids → a.is_mixed ≡ b.is_mixed → ((x : ℕ) → test x ≡ false) → Meets slots a b test
+meets-reset slots a b test ids mixed none = record {
+  named = λ x. ap (λ v. has x v.items) (sym ids) ∙ sym (or-false (has x a.ids.items)) ∙ ap (λ t. has x a.ids.items || t) (sym (none x));
+  line = λ h m. subst (λ v. IsStrictlySortedBy nat_cmp (map (layout_key slots) v.items)) ids (h (mixed ∙ m));
 }
 
 pub meets-same : (slots : Numbers) (a b : Found) (one other : ℕ → Bool) → Meets slots a b one → ((x : ℕ) → one x ≡ other x) → Meets slots a b other
@@ -56,6 +62,9 @@ has-there xs items k id other e h own same = ap (has id) (sym e) ∙ has-any id 
 -- elements one after the other
 pub meets-element : {X : Type 0} (slots : Numbers) (a b c : Found) (f : ℕ → X → Bool) (xs : List X) (k : ℕ) (d : X) → k < length xs → Meets slots a b (λ x. list_any (f x) (take k xs)) → Meets slots b c (λ x. f x (get_or xs k d)) → Meets slots a c (λ x. list_any (f x) (take (k + 1) xs))
 meets-element slots a b c f xs k d h first next = meets-more slots a b c (λ x. list_any (f x) (take k xs)) (λ x. f x (get_or xs k d)) (λ x. list_any (f x) (take (k + 1) xs)) first next (λ x. sym (list_any_more (f x) xs k d h))
+
+pub meets-item : {X : Type 0} (slots : Numbers) (a b c : Found) (f : ℕ → X → Bool) (xs : List X) (k : ℕ) (d : X) → k < length xs → d ≡ get_or xs k d → Meets slots a b (λ x. list_any (f x) (take k xs)) → Meets slots b c (λ x. f x d) → Meets slots a c (λ x. list_any (f x) (take (k + 1) xs))
+meets-item slots a b c f xs k d h own first next = meets-element slots a b c f xs k d h first (subst (λ e. Meets slots b c (λ x. f x e)) own next)
 
 pub meets-all : {X : Type 0} (slots : Numbers) (a b : Found) (f : ℕ → X → Bool) (xs : List X) (k : ℕ) → length xs ≤ k → Meets slots a b (λ x. list_any (f x) (take k xs)) → Meets slots a b (λ x. list_any (f x) xs)
 meets-all slots a b f xs k h all = meets-same slots a b (λ x. list_any (f x) (take k xs)) (λ x. list_any (f x) xs) all (λ x. ap (list_any (f x)) (take_all k xs h))
@@ -100,8 +109,8 @@ increasing-push ks y up last k h = go (cases_lt (k + 1) (length ks))
 pub line-push : (slots : Numbers) (ids : List ℕ) (id last : ℕ) → slice_get ids (length ids - 1) ≡ Some last → layout_key slots last < layout_key slots id → IsStrictlySortedBy nat_cmp (map (layout_key slots) ids) → IsStrictlySortedBy nat_cmp (map (layout_key slots) (ids ++ id ∷ []))
 line-push slots ids id last there lt up =
     subst (IsStrictlySortedBy nat_cmp) (sym (map-append (layout_key slots) ids (id ∷ [])))
-      (sorted_from_strictly_increasing (map (layout_key slots) ids ++ layout_key slots id ∷ [])
-        (increasing-push (map (layout_key slots) ids) (layout_key slots id) (IsStrictlyIncreasing-from_sorted (map (layout_key slots) ids) up) below))
+    (sorted_from_strictly_increasing (map (layout_key slots) ids ++ layout_key slots id ∷ [])
+    (increasing-push (map (layout_key slots) ids) (layout_key slots id) (IsStrictlyIncreasing-from_sorted (map (layout_key slots) ids) up) below))
   where
     below : 0 < length (map (layout_key slots) ids) → get_or (map (layout_key slots) ids) (length (map (layout_key slots) ids) - 1) 0 < layout_key slots id
     below more =
@@ -252,3 +261,10 @@ module _ (test : ℕ → Bool) where
 
   pub range-lanes : (x : Table) (v first count : ℕ) → ((k : ℕ) → lane_in first count k ≡ row_number_in (slice_get x.lanes.ranges.items v) k) → some_below test first count ≡ some_lane x v test
   range-lanes x v first count h = some-of first count (slice_get x.lanes.ranges.items v) h
+
+-- the instructions that name a range
+pub touched-found : (x : Table) (v first count : ℕ) (empty found : Found) (ids : List ℕ) → empty.ids.items ≡ [] → ((k : ℕ) → lane_in first count k ≡ row_number_in (slice_get x.lanes.ranges.items v) k) → Meets x.order.slots empty found (λ id. some_below (names_lane id x.rows.rows.items) first count) → ((id : ℕ) → has id ids ≡ has id found.ids.items) → (InLine x.order.slots found → IsStrictlySortedBy nat_cmp (map (layout_key x.order.slots) ids)) → AreTouched x v ids
+touched-found x v first count empty found ids none own all same line = record {
+  order = line (all.line (λ m. subst (λ xs. IsStrictlySortedBy nat_cmp (map (layout_key x.order.slots) xs)) (sym none) (sorted_from_strictly_increasing [] (λ k lt. absurd (omega arith)))));
+  named = λ id. same id ∙ all.named id ∙ ap (λ xs. has id xs || some_below (names_lane id x.rows.rows.items) first count) none ∙ range-lanes (names_lane id x.rows.rows.items) x v first count own;
+}

@@ -161,7 +161,9 @@ impl Found {
         ensures order { InLine slots.now self → IsStrictlySortedBy nat_cmp (map (layout_key slots.now) result.items) }
     {
         let Found {
-            mut ids, is_mixed, ..
+            mut ids,
+            is_mixed,
+            ..
         } = self;
         if !is_mixed {
             return ids;
