@@ -1,9 +1,9 @@
 -- The pieces of lanes in blocks, which pieces are live, and why. A piece begins at a block's start or with a writing, and lasts
 -- until the next writing or the block's end. Pieces go by lane, block position and number: 0 begins with the block.
-use Rattle.std.specs.Prelude.{◌≡◌, ℕ, suc, Bool, true, false, cond, List, [], ◌∷◌, ◌++◌}
+use Rattle.std.specs.Prelude.{◌≡◌, ℕ, zero, suc, ◌+◌, Bool, true, false, cond, List, [], ◌∷◌, ◌++◌}
 use Rattle.live_lanes.specs.declared.row.Cause.{Cause}
 use Rattle.live_lanes.specs.declared.row.Cause.TheVariants as causes
-use Rattle.live_lanes.specs.Paths.{Among, Step, Code, steps_of, last_of, exits_of, Certain, Into, use_of, is_written}
+use Rattle.live_lanes.specs.Paths.{Among, Step, Code, steps_of, last_of, exits_of, Use, Certain, Into, use_of, is_written}
 
 -- how many of the instructions write the lane: the number of the piece behind them
 abbrev pub writes_in : ℕ → List Step → ℕ

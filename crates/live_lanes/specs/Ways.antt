@@ -1,5 +1,5 @@
 -- The ways into and out of blocks, by their positions.
-use Rattle.std.specs.Prelude.{ℕ, List, [], None, Some, slice_get}
+use Rattle.std.specs.Prelude.{ℕ, List, [], Option, None, Some, slice_get}
 use Rattle.live_lanes.specs.declared.flow.Ways.{Ways}
 
 abbrev pub predecessors : List Ways → ℕ → List ℕ
