@@ -42,3 +42,4 @@ pub mod Occupied
 pub mod Few
 pub mod Finding
 pub mod Touching
+pub mod Starting

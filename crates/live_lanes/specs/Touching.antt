@@ -1,5 +1,5 @@
 -- Which instructions name a range, by the table, and where instructions are found.
-use Rattle.std.specs.Prelude.{◌≡◌, ℕ, zero, suc, ◌+◌, ◌-◌, ◌*◌, length, Bool, false, ◌||◌, nat_eq, List, map, Option, None, Some, slice_get}
+use Rattle.std.specs.Prelude.{◌≡◌, ℕ, zero, suc, ◌+◌, ◌-◌, ◌*◌, length, Bool, false, ◌||◌, nat_eq, List, map, Option, None, Some, find, slice_get, slice_index}
 use Rattle.std.specs.Ordering.{nat_cmp}
 use Rattle.std.specs.List.{list_any}
 use Rattle.std.specs.List.Sorted.{IsStrictlySortedBy}
@@ -13,8 +13,8 @@ use Rattle.live_lanes.specs.declared.row.Cell.{Cell}
 use Rattle.live_lanes.specs.declared.row.Row.{Row}
 use Rattle.live_lanes.specs.declared.table.Table.{Table}
 use Rattle.live_lanes.specs.declared.touch.Found.{Found}
-use Rattle.live_lanes.specs.Table.{Numbers}
-use Rattle.live_lanes.specs.Entered.{causes, cells_of}
+use Rattle.live_lanes.specs.Table.{Begun, Numbers}
+use Rattle.live_lanes.specs.Entered.{causes, cells_of, rows_seen}
 use Rattle.live_lanes.specs.Graph.{is_live}
 use Rattle.live_lanes.specs.Looks.{exit_at}
 use Rattle.live_lanes.specs.Held.{AreRanked}
@@ -53,6 +53,20 @@ some_lane x v test = some_of test (slice_get x.lanes.ranges.items v)
 -- the instruction reads or writes a lane of the range
 abbrev pub names_range : Table → ℕ → ℕ → Bool
 names_range x v id = some_lane x v (names_lane id x.rows.rows.items)
+
+-- the piece of these that the instruction begins
+abbrev pub begun_by : ℕ → List Begun → Option Begun
+begun_by id ss = find (λ s. nat_eq s.start id) ss
+
+-- the piece of the lane of that number, if there is one, that the instruction begins
+abbrev pub begun_at : Table → Option ℕ → ℕ → Option Begun
+begun_at x None id = None
+begun_at x (Some l) id = begun_by id (rows_seen x.rows.rows.items l (slice_index x.order.block_of.items id)).segments
+
+-- the writing that begins the piece is early
+abbrev pub is_early : Option Begun → Bool
+is_early None = false
+is_early (Some s) = s.early
 
 -- a lane of the range is live behind the last instruction of the block at the position, or at its start where there is none
 abbrev pub leaves_last : Table → ℕ → ℕ → Option Instr → Bool

@@ -1,6 +1,6 @@
 //! The instructions of a function by their ids, and those that touch a range.
 
-ghost use Rattle.std.specs.Prelude.{◌≡◌, ℕ, [], ◌∷◌, ◌++◌, true, Some, IfOk, OnOk, map, nat_eq, option_copied, slice_get, slice_index};
+ghost use Rattle.std.specs.Prelude.{◌≡◌, ℕ, [], ◌∷◌, ◌++◌, true, Some, IfOk, OnOk, map, nat_eq, is_some, option_copied, option_map, slice_get, slice_index, IsTrue};
 ghost use Rattle.std.specs.List.{list_any};
 ghost use Rattle.std.specs.List.Sorted.{IsStrictlySortedBy};
 ghost use Rattle.std.specs.Ordering.{nat_cmp};
@@ -12,7 +12,10 @@ ghost use Rattle.live_lanes.specs.Looks.{InOrder, entry_at, exit_at};
 ghost use Rattle.live_lanes.specs.Ordered.{ids_of, AreRising};
 ghost use Rattle.live_lanes.specs.Paths.{has};
 ghost use Rattle.live_lanes.specs.Ways.{successors as behind};
-ghost use Rattle.live_lanes.specs.Touching.{leaves_block, some_lane, AreTouched, FindsInstrs, InLine, Meets, layout_key, names_cell, names_lane, names_segment, reads_in, some_below};
+ghost use Rattle.lane_effects.specs.Numbered.{number_in};
+ghost use Rattle.lane_effects.specs.declared.owner.Owner.TheVariants as owners;
+ghost use Rattle.live_lanes.specs.Table.{begun, rises_from, seen_cell};
+ghost use Rattle.live_lanes.specs.Touching.{begun_at, begun_by, is_early, leaves_block, some_lane, AreTouched, FindsInstrs, InLine, Meets, layout_key, names_cell, names_lane, names_segment, reads_in, some_below};
 
 use crate::flow::successors;
 use crate::live::LiveFunc;
@@ -307,30 +310,30 @@ impl LiveFunc {
     }
 
     /// The piece of a lane of a range that an instruction begins.
-    fn segment_of(&self, v: u32, k: u32, id: u32) -> Option<&Segment> {
-        let lane = self.table.lanes.of_range(v).lane(k)?;
-        let cell = self.table.rows.cell(lane, self.table.order.block_of(id))?;
-        let slots = &self.table.order.slots;
-        let at = slots.number(id);
-        let place = cell
-            .segments
-            .as_slice()
-            .partition_point(|s| slots.number(s.start) < at);
-        let segment = cell.segments.get(place)?;
-        if segment.start == id {
-            Some(segment)
-        } else {
-            None
+    fn segment_of(&self, v: u32, k: u32, id: u32) -> Option<&Segment>
+        ensures { InOrder self.now.table → option_map begun (option_copied result) ≡ begun_at self.now.table (number_in self.now.table.lanes (owners.Range v k)) id }
+    {
+        let Some(lane) = self.table.lanes.of_range(v).lane(k) else {
+            return None;
+        };
+        let order = &self.table.order;
+        match self.table.rows.cell(lane, order.block_of(id)) {
+            Some(cell) => cell.segment_of(&order.slots, id),
+            None => None,
         }
     }
 
     /// Whether an instruction writes a lane of a range.
-    pub fn is_written(&self, v: u32, k: u32, id: u32) -> bool {
+    pub fn is_written(&self, v: u32, k: u32, id: u32) -> bool
+        ensures { InOrder self.now.table → result ≡ is_some (begun_at self.now.table (number_in self.now.table.lanes (owners.Range v k)) id) }
+    {
         self.segment_of(v, k, id).is_some()
     }
 
     /// Whether an instruction writes a lane of a range early, so that it is occupied at the entry.
-    pub fn is_written_early(&self, v: u32, k: u32, id: u32) -> bool {
+    pub fn is_written_early(&self, v: u32, k: u32, id: u32) -> bool
+        ensures { InOrder self.now.table → result ≡ is_early (begun_at self.now.table (number_in self.now.table.lanes (owners.Range v k)) id) }
+    {
         match self.segment_of(v, k, id) {
             Some(segment) => segment.early,
             None => false,
@@ -351,6 +354,23 @@ impl LiveFunc {
         self.table
             .rows
             .is_some_live_in(self.table.lanes.of_range(v), position)
+    }
+}
+
+impl Cell {
+    /// The piece that an instruction begins.
+    fn segment_of(&self, slots: &Slots, id: u32) -> Option<&Segment>
+        ensures { IsTrue (rises_from slots.now 0 (seen_cell self.now).segments) → option_map begun (option_copied result) ≡ begun_by id (seen_cell self.now).segments }
+    {
+        let index = self.piece_at(slots, exit_rank(slots, id));
+        if index == 0 {
+            return None;
+        }
+        let segment = &self.segments[index - 1];
+        if segment.start != id {
+            return None;
+        }
+        Some(segment)
     }
 }
 
