@@ -43,3 +43,4 @@ pub mod Few
 pub mod Finding
 pub mod Touching
 pub mod Starting
+pub mod Readings
