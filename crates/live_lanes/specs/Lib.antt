@@ -19,3 +19,4 @@ pub mod Looks
 pub mod Held
 pub mod Occupied
 pub mod Touching
+pub mod Extents
