@@ -40,3 +40,4 @@ pub mod Behind
 pub mod Summed
 pub mod Occupied
 pub mod Few
+pub mod Extents

@@ -1,5 +1,5 @@
 -- The points of lanes, piece by piece, and whether a lane has one of a stretch of points.
-use Rattle.std.specs.Prelude.{ℕ, zero, suc, ◌+◌, ◌-◌, Bool, false, cond, List, Option, None, Some, max, slice_get, option_map}
+use Rattle.std.specs.Prelude.{ℕ, zero, suc, ◌+◌, ◌-◌, Bool, false, cond, List, Option, None, Some, max, nat_le, slice_get, option_map}
 use Rattle.std.specs.List.{list_any, filter_map}
 use Rattle.mir_meaning.specs.Registers.{numbers}
 use Rattle.lane_effects.specs.declared.row.Lanes.{Lanes}
@@ -9,10 +9,10 @@ use Rattle.live_lanes.specs.declared.row.Cell.{Cell}
 use Rattle.live_lanes.specs.declared.extent.Extent.{Extent}
 use Rattle.live_lanes.specs.declared.extent.Stretch.{Stretch}
 use Rattle.live_lanes.specs.declared.table.Table.{Table}
-use Rattle.live_lanes.specs.Table.{Numbers, entry_rank, exit_rank, end_rank}
+use Rattle.live_lanes.specs.Table.{Numbers, Begun, Seen, leading, entry_rank, exit_rank, end_rank}
 use Rattle.live_lanes.specs.Entered.{rows_seen, piece_count}
 use Rattle.live_lanes.specs.Reach.{is_never}
-use Rattle.live_lanes.specs.Held.{held_at}
+use Rattle.live_lanes.specs.Held.{held_at, hold_rank}
 
 -- how many lanes a range has
 abbrev pub lanes_count : Option Lanes → ℕ
@@ -48,6 +48,14 @@ last_rank slots e = elim e.start [ None ↦ end_rank slots e.end | Some id ↦ m
 abbrev pub stretch_of : Numbers → Extent → Stretch
 stretch_of slots e = record { first = first_rank slots e; last = last_rank slots e }
 
--- the lane is live or occupied at one of these points of the block at a position
+-- how many pieces begin with writings that occupy the lane at the point or before it
+abbrev pub begun_by : Numbers → ℕ → List Begun → ℕ
+begun_by slots at ss = leading (λ s. nat_le (hold_rank slots s) at) ss
+
+-- a lane in a block is live or occupied at one of these points
+abbrev pub is_met_in : Numbers → Seen → Stretch → Bool
+is_met_in slots v at = list_any (held_at slots v) (numbers at.first (at.last + 1 - at.first))
+
+-- the lane of that number is, in the block at a position
 abbrev pub is_met : Table → ℕ → ℕ → Stretch → Bool
-is_met x lane block at = list_any (held_at x.order.slots (rows_seen x.rows.rows.items lane block)) (numbers at.first (at.last + 1 - at.first))
+is_met x lane block at = is_met_in x.order.slots (rows_seen x.rows.rows.items lane block) at

@@ -1,13 +1,13 @@
 //! The points at which a lane is live or occupied, block by block, for the matrix of assigned
 //! ranges.
 
-ghost use Rattle.std.specs.Prelude.{◌≡◌, ◌≤◌, Some, length, slice_get, option_map};
+ghost use Rattle.std.specs.Prelude.{◌≡◌, ◌≤◌, true, Some, length, slice_get, option_map};
 ghost use Rattle.lane_effects.specs.Numbered.{number_in};
 ghost use Rattle.lane_effects.specs.declared.owner.Owner.TheVariants as owners;
-ghost use Rattle.live_lanes.specs.Table.{entry_rank, exit_rank};
+ghost use Rattle.live_lanes.specs.Table.{entry_rank, exit_rank, rises_from, seen_cell};
 ghost use Rattle.live_lanes.specs.Entered.{cells_of, piece_count};
 ghost use Rattle.live_lanes.specs.Looks.{InOrder};
-ghost use Rattle.live_lanes.specs.Extents.{lanes_count, extent_in, first_rank, last_rank, stretch_of, is_met};
+ghost use Rattle.live_lanes.specs.Extents.{lanes_count, extent_in, first_rank, last_rank, stretch_of, begun_by, is_met_in, is_met};
 
 pub use crate::edit_log::Mended;
 use crate::edits::Changes;
@@ -92,7 +92,9 @@ fn extent_of(cell: &Cell, index: usize) -> Option<Extent>
 }
 
 /// The number of pieces of a cell that begin at or before a point.
-fn begun_by(slots: &Slots, cell: &Cell, at: u128) -> usize {
+fn begun_by(slots: &Slots, cell: &Cell, at: u128) -> usize
+    ensures { rises_from slots.now 0 (seen_cell cell.now).segments ≡ true → result ≡ begun_by slots.now at (seen_cell cell.now).segments }
+{
     cell.segments.as_slice().partition_point(|s| {
         let first = if s.early {
             entry_rank(slots, s.start)
@@ -104,7 +106,9 @@ fn begun_by(slots: &Slots, cell: &Cell, at: u128) -> usize {
 }
 
 /// Whether a cell has a point in a stretch.
-fn meets(slots: &Slots, cell: &Cell, at: Stretch) -> bool {
+fn meets(slots: &Slots, cell: &Cell, at: Stretch) -> bool
+    ensures { rises_from slots.now 0 (seen_cell cell.now).segments ≡ true → at.first ≤ at.last → result ≡ is_met_in slots.now (seen_cell cell.now) at }
+{
     match extent_of(cell, begun_by(slots, cell, at.last)) {
         Some(extent) => extent.last(slots) >= at.first,
         None => false,
@@ -207,7 +211,9 @@ impl LiveFunc {
     }
 
     /// Whether a lane is live or occupied at one of these points of the block at a position.
-    pub fn meets(&self, lane: u32, block: u32, at: Stretch) -> bool {
+    pub fn meets(&self, lane: u32, block: u32, at: Stretch) -> bool
+        ensures { InOrder self.now.table → at.first ≤ at.last → result ≡ is_met self.now.table lane block at }
+    {
         match self.table.rows.cell(lane, block) {
             Some(cell) => meets(self.slots(), cell, at),
             None => false,
