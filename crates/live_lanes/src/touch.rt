@@ -97,9 +97,7 @@ impl Found {
     /// The instructions in layout order, each once.
     fn in_order(self, slots: &Slots) -> Vec<u32> {
         let Found {
-            mut ids,
-            is_mixed,
-            ..
+            mut ids, is_mixed, ..
         } = self;
         if is_mixed {
             ids.sort_unstable_by_key(|id| layout_key(slots, *id));
