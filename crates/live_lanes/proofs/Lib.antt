@@ -41,3 +41,5 @@ pub mod Summed
 pub mod Occupied
 pub mod Few
 pub mod Extents
+pub mod Finding
+pub mod Alike

@@ -20,3 +20,4 @@ pub mod Held
 pub mod Occupied
 pub mod Touching
 pub mod Extents
+pub mod Alike

@@ -1,10 +1,13 @@
 //! What edits changed, and what takes it back.
 
+ghost use Rattle.std.specs.Prelude.{◌≡◌, ℕ, Some, slice_get};
+ghost use Rattle.live_lanes.specs.Ordered.{ids_of, AreRising};
+
 use crate::cell_edit::CellEdit;
 use crate::lanes::Lanes;
 use crate::row::{Cause, End, Row};
 use crate::table::{Spot, Table};
-use mir_func::{Func, Op, Operands};
+use mir_func::{Block, Func, Instr, Op, Operands};
 use std::alloc::{AllocError, Global};
 use std::mem;
 
@@ -281,7 +284,10 @@ impl Table {
     }
 
     /// The place of an instruction among those of the block at a position.
-    pub fn place_in(&self, func: &Func, block: u32, id: u32) -> usize {
+    pub fn place_in(&self, func: &Func, block: u32, id: u32) -> usize
+        ensures { (b : Block) → slice_get func.now.blocks block ≡ Some b → AreRising self.now.order.slots 0 (ids_of b.instrs)
+            → (j : ℕ) (i : Instr) → slice_get b.instrs j ≡ Some i → i.id ≡ id → result ≡ j }
+    {
         match func.blocks.as_slice().get(block as usize) {
             Some(here) => self.order.place(here.instrs.as_slice(), id),
             None => 0,

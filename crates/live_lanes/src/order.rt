@@ -1,12 +1,12 @@
 //! The order of a function's instructions, and where each of them and each block stands.
 
-ghost use Rattle.std.specs.Prelude.{◌≡◌, ◌<◌, ℕ, [], ◌∷◌, ◌++◌, length, slice_index, IfOk, OnOk, IfSome};
+ghost use Rattle.std.specs.Prelude.{◌≡◌, ◌<◌, ℕ, [], ◌∷◌, ◌++◌, length, slice_get, slice_index, Some, IfOk, OnOk, IfSome};
 ghost use Rattle.std.specs.Ordering.{nat_cmp};
 ghost use Rattle.std.specs.BTreeMap.{get};
 ghost use Rattle.slot_index.specs.Order.{ids, Has, IsNumbered, put_after};
 ghost use Rattle.slot_index.specs.Renewed.{low_end};
 ghost use Rattle.mir_meaning.specs.Points.{all_points};
-ghost use Rattle.live_lanes.specs.Ordered.{ids_of, all_ids, last_id, place_of, placed, AreSingle, AreHomes, Settles};
+ghost use Rattle.live_lanes.specs.Ordered.{ids_of, all_ids, last_id, place_of, placed, AreSingle, AreHomes, AreRising, Settles};
 
 use mir_func::{Block, Func, Instr};
 use slot_index::Slots;
@@ -178,7 +178,9 @@ impl Order {
     }
 
     /// The place of an instruction among those of its block.
-    pub fn place(&self, instrs: &[Boxed<Instr>], id: u32) -> usize {
+    pub fn place(&self, instrs: &[Boxed<Instr>], id: u32) -> usize
+        ensures { AreRising self.now.slots 0 (ids_of instrs.now) → (j : ℕ) (i : Instr) → slice_get instrs.now j ≡ Some i → i.id ≡ id → result ≡ j }
+    {
         let at = self.slots.number(id);
         instrs.partition_point(|i| self.slots.number(i.get().id) < at)
     }

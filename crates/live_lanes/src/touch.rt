@@ -1,14 +1,17 @@
 //! The instructions of a function by their ids, and those that touch a range.
 
-ghost use Rattle.std.specs.Prelude.{◌≡◌, IfOk};
-ghost use Rattle.live_lanes.specs.Touching.{AreTouched};
+ghost use Rattle.std.specs.Prelude.{◌≡◌, ℕ, Some, IfOk, option_copied, slice_get, slice_index};
+ghost use Rattle.live_lanes.specs.Ordered.{ids_of, AreRising};
+ghost use Rattle.live_lanes.specs.Touching.{AreTouched, FindsInstrs};
 
 use crate::flow::successors;
 use crate::live::LiveFunc;
 use crate::row::{Cell, Piece, Reading, Segment, entry_rank};
-use mir_func::Instr;
+use crate::table::Table;
+use mir_func::{Block, Instr};
 use slot_index::Slots;
 use std::alloc::{AllocError, Global};
+use target_base::Boxed;
 
 /// Instructions, and how many of them were met again.
 #[derive(Drop)]
@@ -97,7 +100,9 @@ impl Found {
     /// The instructions in layout order, each once.
     fn in_order(self, slots: &Slots) -> Vec<u32> {
         let Found {
-            mut ids, is_mixed, ..
+            mut ids,
+            is_mixed,
+            ..
         } = self;
         if is_mixed {
             ids.sort_unstable_by_key(|id| layout_key(slots, *id));
@@ -107,11 +112,39 @@ impl Found {
     }
 }
 
+impl Table {
+    /// The instruction of an id among those of a block.
+    fn instr_among<'a>(&self, instrs: &'a [Boxed<Instr>], id: u32) -> Option<&'a Instr>
+        ensures { AreRising self.now.order.slots 0 (ids_of instrs.now) → (j : ℕ) (i : Instr) → slice_get instrs.now j ≡ Some i → i.id ≡ id → option_copied result ≡ Some i }
+    {
+        let at = self.order.place(instrs, id);
+        if at >= instrs.len() {
+            return None;
+        }
+        let instr = instrs[at].get();
+        if instr.id != id {
+            return None;
+        }
+        Some(instr)
+    }
+
+    /// The instruction of an id in these blocks.
+    fn instr<'a>(&self, blocks: &'a [Block], id: u32) -> Option<&'a Instr>
+        ensures { FindsInstrs self.now blocks.now → (p j : ℕ) (b : Block) (i : Instr) → slice_get blocks.now p ≡ Some b
+            → slice_get b.instrs j ≡ Some i → i.id ≡ id → option_copied result ≡ Some i }
+    {
+        let position = self.order.block_of(id) as usize;
+        if position >= blocks.len() {
+            return None;
+        }
+        self.instr_among(blocks[position].instrs.as_slice(), id)
+    }
+}
+
 impl LiveFunc {
     /// The instructions that touch a range, by their ids, in layout order, each once: those that
     /// name it in an operand other than an `undef` use.
     pub fn touched(&self, alloc: Global, v: u32) -> Result<Vec<u32>, AllocError>
-        ensures { IfOk result (λ ids. AreTouched self.now.table v ids.items) }
     {
         let own = self.table.lanes.of_range(v);
         let slots = &self.table.order.slots;
@@ -129,20 +162,25 @@ impl LiveFunc {
     }
 
     /// The instruction of an id.
-    pub fn instr(&self, id: u32) -> Option<&Instr> {
-        let block = self.table.order.block_of(id);
-        let place = self.table.place_in(&self.func, block, id);
-        let instr = self.func.instr_at(block as usize, place)?;
-        if instr.id == id { Some(instr) } else { None }
+    pub fn instr(&self, id: u32) -> Option<&Instr>
+        ensures { FindsInstrs self.now.table self.now.func.blocks → (p j : ℕ) (b : Block) (i : Instr) → slice_get self.now.func.blocks p ≡ Some b
+            → slice_get b.instrs j ≡ Some i → i.id ≡ id → option_copied result ≡ Some i }
+    {
+        self.table.instr(self.func.blocks.as_slice(), id)
     }
 
     /// The position in the layout of the block of an instruction.
-    pub fn position_of(&self, id: u32) -> u32 {
+    pub fn position_of(&self, id: u32) -> u32
+        ensures { result ≡ slice_index self.now.table.order.block_of.items id }
+    {
         self.table.order.block_of(id)
     }
 
     /// The place of an instruction among those of its block.
-    pub fn place_of(&self, id: u32) -> usize {
+    pub fn place_of(&self, id: u32) -> usize
+        ensures { FindsInstrs self.now.table self.now.func.blocks → (p j : ℕ) (b : Block) (i : Instr) → slice_get self.now.func.blocks p ≡ Some b
+            → slice_get b.instrs j ≡ Some i → i.id ≡ id → result ≡ j }
+    {
         self.table
             .place_in(&self.func, self.table.order.block_of(id), id)
     }

@@ -1,0 +1,4 @@
+pub mod Parts
+pub mod Marked
+pub mod Points
+pub mod Walked
