@@ -1,5 +1,5 @@
 -- Numbers as bits of words, and those that are marked in rising order.
-use Rattle.std.proofs.Common.{◌≡◌, ◌<◌, ◌≤◌, ◌⊎◌, ℕ, zero, suc, ◌+◌, ◌*◌, ◌-◌, ◌/◌, ◌%◌, ◌^◌, Bool, true, false, cond, eqb, length, List, [], ◌∷◌, ◌++◌, inl, inr, refl, sym, ap, ◌∙◌, subst, arith, get_or, set, append-nil, w64}
+use Rattle.std.proofs.Common.{◌≡◌, ◌<◌, ◌≤◌, ◌⊎◌, ℕ, zero, suc, ◌+◌, ◌*◌, ◌-◌, ◌/◌, ◌%◌, ◌^◌, Bool, true, false, cond, eqb, length, List, [], ◌∷◌, ◌++◌, inl, inr, refl, sym, ap, ◌∙◌, subst, arith, get_or, set, min, append-nil, append_assoc, w64}
 use Rattle.std.specs.Prelude.{◌||◌, nat_eq, filter, bit_and, bit_or}
 use Rattle.std.specs.Int.{bit_at, trailing_zeros}
 use Rattle.std.proofs.lemmas.Bool.{eqb-true, ne_eqb, eq-eqb, cases_eq, cases_lt}
@@ -7,7 +7,7 @@ use Rattle.std.proofs.lemmas.List.{get_or-set_same, get_or-set_other, get_or_pas
 use Rattle.std.proofs.lemmas.List.Elements.{filter-append}
 use Rattle.std.proofs.lemmas.Nat.Bits.{bit_at_set_same, bit_at_set_other, bit_at-zero, bit_at-trailing_zeros, shr_and_one}
 use Rattle.mir_meaning.specs.Registers.{numbers}
-use Rattle.interference.specs.Marked.{is_marked}
+use Rattle.interference.specs.Marked.{word_bits, is_marked}
 
 or-true : (b : Bool) → (true || b) ≡ true
 or-true b = refl
@@ -74,29 +74,48 @@ bits-step first word k =
     ap (filter (bit_of first word)) (numbers-cat first k 1) ∙ filter-append (bit_of first word) (numbers first k) ((first + k) ∷ [])
     ∙ ap (λ j. filter (bit_of first word) (numbers first k) ++ cond (nat_eq (bit_at word j) 1) ((first + k) ∷ []) []) e
 
+pub bits-are : word_bits ≡ 64
+unfolding word_bits
+bits-are = refl
+
+-- a bit that is set, and one that isn't
+pub bit_set : (first word k pushed : ℕ) (old made more : List ℕ) → bit_and (word / 2 ^ k) 1 ≡ 1 → pushed ≡ first + k → made ≡ old ++ filter (bit_of first word) (numbers first k) → more ≡ made ++ pushed ∷ [] → more ≡ old ++ filter (bit_of first word) (numbers first (k + 1))
+bit_set first word k pushed old made more bit at was e =
+    let b : bit_at word k ≡ 1 = sym (shr_and_one word k) ∙ bit in
+    e ∙ ap (λ xs. xs ++ pushed ∷ []) was ∙ append_assoc old (filter (bit_of first word) (numbers first k)) (pushed ∷ [])
+    ∙ ap (λ xs. old ++ xs) (ap (λ x. filter (bit_of first word) (numbers first k) ++ x ∷ []) at ∙ ap (λ t. filter (bit_of first word) (numbers first k) ++ cond t ((first + k) ∷ []) []) (sym (ap (λ x. nat_eq x 1) b)) ∙ sym (bits-step first word k))
+
+pub bit_clear : (first word k : ℕ) (old made : List ℕ) → (bit_and (word / 2 ^ k) 1 ≡ 1 → ⊥) → made ≡ old ++ filter (bit_of first word) (numbers first k) → made ≡ old ++ filter (bit_of first word) (numbers first (k + 1))
+bit_clear first word k old made none was =
+    let b : nat_eq (bit_at word k) 1 ≡ false = ne_eqb (bit_at word k) 1 (λ e. none (shr_and_one word k ∙ e)) in
+    was ∙ ap (λ xs. old ++ xs) (sym (bits-step first word k ∙ ap (λ t. filter (bit_of first word) (numbers first k) ++ cond t ((first + k) ∷ []) []) b ∙ append-nil (filter (bit_of first word) (numbers first k))))
+
+pub bits_all : (first word k : ℕ) (old made : List ℕ) → k ≡ 64 → made ≡ old ++ filter (bit_of first word) (numbers first k) → made ≡ old ++ filter (bit_of first word) (numbers first word_bits)
+bits_all first word k old made e was = was ∙ ap (λ j. old ++ filter (bit_of first word) (numbers first j)) (e ∙ sym bits-are)
+
 module _ (ws : List ℕ) where
   abbrev pub AreSmall : Type 0
   AreSmall = (w : ℕ) → is_marked ws w ≡ true → w < 4294967296
 
   -- the bits of the next word
-  pub word-step : (k : ℕ) → filter (is_marked ws) (numbers 0 (64 * (k + 1))) ≡ filter (is_marked ws) (numbers 0 (64 * k)) ++ filter (bit_of (64 * k) (get_or ws k 0)) (numbers (64 * k) 64)
-  word-step k =
-      let e : 64 * (k + 1) ≡ 64 * k + 64 = omega arith in
+  pub word-step : (k n : ℕ) → n ≡ 64 → filter (is_marked ws) (numbers 0 (64 * (k + 1))) ≡ filter (is_marked ws) (numbers 0 (64 * k)) ++ filter (bit_of (64 * k) (get_or ws k 0)) (numbers (64 * k) n)
+  word-step k n long =
+      let e : 64 * (k + 1) ≡ 64 * k + n = omega arith in
       let z : 0 + 64 * k ≡ 64 * k = omega arith in
-      ap (λ n. filter (is_marked ws) (numbers 0 n)) e ∙ ap (filter (is_marked ws)) (numbers-cat 0 (64 * k) 64) ∙ filter-append (is_marked ws) (numbers 0 (64 * k)) (numbers (0 + 64 * k) 64)
-      ∙ ap (λ n. filter (is_marked ws) (numbers 0 (64 * k)) ++ filter (is_marked ws) (numbers n 64)) z
-      ∙ ap (λ xs. filter (is_marked ws) (numbers 0 (64 * k)) ++ xs) (filter-same (is_marked ws) (bit_of (64 * k) (get_or ws k 0)) (64 * k) 64 same)
+      ap (λ j. filter (is_marked ws) (numbers 0 j)) e ∙ ap (filter (is_marked ws)) (numbers-cat 0 (64 * k) n) ∙ filter-append (is_marked ws) (numbers 0 (64 * k)) (numbers (0 + 64 * k) n)
+      ∙ ap (λ j. filter (is_marked ws) (numbers 0 (64 * k)) ++ filter (is_marked ws) (numbers j n)) z
+      ∙ ap (λ xs. filter (is_marked ws) (numbers 0 (64 * k)) ++ xs) (filter-same (is_marked ws) (bit_of (64 * k) (get_or ws k 0)) (64 * k) n same)
     where
-      same : (x : ℕ) → 64 * k ≤ x → x < 64 * k + 64 → is_marked ws x ≡ bit_of (64 * k) (get_or ws k 0) x
+      same : (x : ℕ) → 64 * k ≤ x → x < 64 * k + n → is_marked ws x ≡ bit_of (64 * k) (get_or ws k 0) x
       same x lo hi =
-          let a : x / 64 ≡ k = omega arith in
-          let b : x % 64 ≡ x - 64 * k = omega arith in
+          let a : x / 64 ≡ k = omega (arith, long) in
+          let b : x % 64 ≡ x - 64 * k = omega (arith, long) in
           ap (λ j. nat_eq (bit_at (get_or ws j 0) (x % 64)) 1) a ∙ ap (λ j. nat_eq (bit_at (get_or ws k 0) j) 1) b
 
-  pub word-none : (k : ℕ) → get_or ws k 0 ≡ 0 → filter (is_marked ws) (numbers 0 (64 * (k + 1))) ≡ filter (is_marked ws) (numbers 0 (64 * k))
-  word-none k e =
-      word-step k ∙ ap (λ x. filter (is_marked ws) (numbers 0 (64 * k)) ++ filter (bit_of (64 * k) x) (numbers (64 * k) 64)) e
-      ∙ ap (λ xs. filter (is_marked ws) (numbers 0 (64 * k)) ++ xs) (filter-none (bit_of (64 * k) 0) (64 * k) 64 (λ x lo hi. ap (λ y. nat_eq y 1) (bit_at-zero (x - 64 * k)))) ∙ append-nil (filter (is_marked ws) (numbers 0 (64 * k)))
+  pub word-none : (k n : ℕ) → n ≡ 64 → get_or ws k 0 ≡ 0 → filter (is_marked ws) (numbers 0 (64 * (k + 1))) ≡ filter (is_marked ws) (numbers 0 (64 * k))
+  word-none k n long e =
+      word-step k n long ∙ ap (λ x. filter (is_marked ws) (numbers 0 (64 * k)) ++ filter (bit_of (64 * k) x) (numbers (64 * k) n)) e
+      ∙ ap (λ xs. filter (is_marked ws) (numbers 0 (64 * k)) ++ xs) (filter-none (bit_of (64 * k) 0) (64 * k) n (λ x lo hi. ap (λ y. nat_eq y 1) (bit_at-zero (x - 64 * k)))) ∙ append-nil (filter (is_marked ws) (numbers 0 (64 * k)))
 
   -- a word with a bit stands among those of small numbers
   pub word-small : (k : ℕ) → AreSmall → 0 < get_or ws k 0 → get_or ws k 0 < 2 ^ 64 → 64 * k + 64 ≤ 4294967296
@@ -121,3 +140,14 @@ module _ (ws : List ℕ) where
       go : (n < 64 * length ws) ⊎ (64 * length ws ≤ n) → filter (is_marked ws) (numbers 0 (64 * length ws)) ≡ filter (is_marked ws) (numbers 0 n)
       go (inl le) = filter-more (is_marked ws) n (64 * length ws) (omega arith) (λ x lo hi. none x lo (is_marked ws x) refl)
       go (inr lt) = sym (filter-more (is_marked ws) (64 * length ws) n (omega arith) (λ x lo hi. past-none ws x (omega arith)))
+
+  pub words_more : (k first : ℕ) (old made : List ℕ) → first ≡ 64 * k → old ≡ filter (is_marked ws) (numbers 0 (64 * k)) → made ≡ old ++ filter (bit_of first (get_or ws k 0)) (numbers first word_bits) → made ≡ filter (is_marked ws) (numbers 0 (64 * (k + 1)))
+  words_more k first old made at was e =
+      e ∙ ap (λ j. old ++ filter (bit_of j (get_or ws k 0)) (numbers j word_bits)) at ∙ ap (λ xs. xs ++ filter (bit_of (64 * k) (get_or ws k 0)) (numbers (64 * k) word_bits)) was ∙ sym (word-step k word_bits bits-are)
+
+  -- a word that isn't 0 stands at a number that is told exactly
+  pub word_place : (k first : ℕ) (xs : List ℕ) → xs ≡ ws → AreSmall → first ≡ min (64 * k) 4294967295 → (get_or xs k 0 ≡ 0 → ⊥) → get_or xs k 0 < 2 ^ 64 → (first ≡ 64 * k) × (first + 64 ≤ 4294967296)
+  word_place k first xs same small at some fits =
+      let e : get_or xs k 0 ≡ get_or ws k 0 = ap (λ l. get_or l k 0) same in
+      let bound = word-small k small (omega (arith, some, e)) (omega (arith, fits, e)) in
+      (omega arith, omega arith)

@@ -4,7 +4,7 @@ use Rattle.std.specs.Prelude.{◌||◌, not, nat_eq, nat_lt, nat_le, filter, fla
 use Rattle.std.specs.Global.{Global}
 use Rattle.std.specs.List.{list_any, list_all}
 use Rattle.std.specs.List.Sorted.{IsPartitionedBy}
-use Rattle.std.proofs.lemmas.Bool.{ltb-true, lt-ltb, leb-true, leb-false, le-leb, eqb-true, ne_eqb, eq-eqb}
+use Rattle.std.proofs.lemmas.Bool.{ltb-true, lt-ltb, leb-true, leb-false, le-leb, eqb-true, ne_eqb, eq-eqb, cases_eq}
 use Rattle.std.proofs.lemmas.List.Elements.{filter-append}
 use Rattle.std.proofs.lemmas.List.Folds.{list_any-append, list_all-append}
 use Rattle.live_lanes.specs.declared.extent.Extent.{Extent}
@@ -30,10 +30,12 @@ flat-map (v ∷ vs) = ap (λ hs. part_of v ++ hs) (flat-map vs)
 pub flat-held : (h : HeldList) → flat (parts_of h) ≡ held_of h
 flat-held h = flat-map h.parts.items
 
-or-two : (a b : Bool) → a ≡ false → b ≡ false → (a || b) ≡ false
-or-two = or-none
+pub part-there : (vs : List (Vec Held Global)) (k : ℕ) (v : Vec Held Global) → k < length vs → v ≡ get_or vs k v → v.items ≡ part_in (map part_of vs) k
+part-there [] k v h e = absurd (omega arith)
+part-there (x ∷ xs) zero v h e = ap part_of e
+part-there (x ∷ xs) (suc k) v h e = part-there xs k v (omega arith) e
 
-and-left-none : (a b : Bool) → a ≡ false → (a && b) ≡ false
+pub and-left-none : (a b : Bool) → a ≡ false → (a && b) ≡ false
 and-left-none true b e = absurd (cc)
 and-left-none false b e = refl
 
@@ -94,7 +96,7 @@ module _ (slots : Numbers) where
     abbrev pub touched : List Held → Bool
     touched hs = list_any (λ h. test h && touches slots at h) hs
 
-    past-none : (h : Held) → last_rank slots h.extent < at.first → (test h && touches slots at h) ≡ false
+    pub past-none : (h : Held) → last_rank slots h.extent < at.first → (test h && touches slots at h) ≡ false
     past-none h low = and-none (test h) (touches slots at h) (and-none (begins_by slots at.last h) (nat_le at.first (last_rank slots h.extent)) (le-false at.first (last_rank slots h.extent) low))
 
     -- what lies before the points touches none
@@ -148,15 +150,22 @@ module _ (slots : Numbers) where
             let low = leb-false (first_rank slots h.extent) at e in let c = extent-le h.extent in
             ap (λ b. take (cond b (suc (leading (begins_by slots at) hs)) 0) (h ∷ hs)) e ∙ sym (keep-none h hs e ∙ none-begun (last_rank slots h.extent + 1) hs a.1 (omega arith))
 
-    abbrev lead : List (List Held) → ℕ
+    abbrev pub lead : List (List Held) → ℕ
     lead ps = leading (part_begins slots at) ps
 
-    abbrev gap_at : List (List Held) → ℕ → Gap
+    abbrev pub gap_at : List (List Held) → ℕ → Gap
     gap_at ps k = record { part = k; count = leading (begins_by slots at) (part_in ps k) }
 
+    eqb-suc : (j k : ℕ) → nat_eq (suc j) (suc k) ≡ nat_eq j k
+    eqb-suc j k = go (cases_eq j k)
+      where
+        go : (j ≡ k) ⊎ (j ≡ k → ⊥) → nat_eq (suc j) (suc k) ≡ nat_eq j k
+        go (inl e) = eq-eqb (suc j) (suc k) (ap suc e) ∙ sym (eq-eqb j k e)
+        go (inr n) = ne_eqb (suc j) (suc k) (λ h. n (omega (arith, h))) ∙ sym (ne_eqb j k n)
+
     shift : (q : List Held) (ps : List (List Held)) (k c j : ℕ) → before (q ∷ ps) (record { part = suc k; count = c }) (suc j) ≡ q ++ before ps (record { part = k; count = c }) j
-    shift q ps k c zero = sym (append-nil q)
-    shift q ps k c (suc j) = ap (λ xs. xs ++ part_before ps (record { part = k; count = c }) j) (shift q ps k c j) ∙ append_assoc q (before ps (record { part = k; count = c }) j) (part_before ps (record { part = k; count = c }) j)
+    shift q ps k c zero = ap (λ b. [] ++ cond b (take c q) q) (ne_eqb 0 (suc k) (λ e. omega arith)) ∙ sym (append-nil q)
+    shift q ps k c (suc j) = ap (λ b. before (q ∷ ps) (record { part = suc k; count = c }) (suc j) ++ cond b (take c (part_in ps j)) (part_in ps j)) (eqb-suc j k) ∙ ap (λ xs. xs ++ part_before ps (record { part = k; count = c }) j) (shift q ps k c j) ∙ append_assoc q (before ps (record { part = k; count = c }) j) (part_before ps (record { part = k; count = c }) j)
 
     head-none : (r : List Held) (rs : List (List Held)) (n : ℕ) → is_none r ≡ false → part_begins slots at r ≡ false → AreApart slots n (r ++ flat rs) → begun (r ++ flat rs) ≡ []
     head-none [] rs n e f a = absurd (cc)
@@ -179,8 +188,8 @@ module _ (slots : Numbers) where
     -- the first part begins by the point
     walk : (n : ℕ) (q : List Held) (rest : List (List Held)) → AreApart slots n (q ++ flat rest) → list_any is_none rest ≡ false → part_begins slots at q ≡ true
         → before (q ∷ rest) (gap_at (q ∷ rest) (lead rest)) (suc (lead rest)) ≡ begun (q ++ flat rest)
-    walk n q [] a full yes = lead-begun n q (apart-left n q [] a) ∙ sym (ap begun (append-nil q))
-    walk n q (r ∷ rs) a full yes = go (part_begins slots at r) refl (λ b f e. walk (behind_all n q) r rs b f e)
+    walk n q [] a full begins = lead-begun n q (apart-left n q [] a) ∙ sym (ap begun (append-nil q))
+    walk n q (r ∷ rs) a full begins = go (part_begins slots at r) refl (λ b f e. walk (behind_all n q) r rs b f e)
       where
         left : AreApart slots n q
         left = apart-left n q (r ++ flat rs) a
@@ -278,3 +287,9 @@ module _ (slots : Numbers) where
             let none = late-held (last_rank slots x.extent + 1) xs j d a.1 (omega arith) (omega arith) in cc)
     held-parted n (x ∷ xs) a (suc i) zero d w h e = absurd (omega arith)
     held-parted n (x ∷ xs) a (suc i) (suc j) d w h e = held-parted (last_rank slots x.extent + 1) xs a.1 i j d (omega arith) (omega arith) e
+
+  -- the stretches of each part lie apart
+  pub some-apart : (n : ℕ) (ps : List (List Held)) (k : ℕ) → AreApart slots n (flat ps) → (m : ℕ) × AreApart slots m (part_in ps k)
+  some-apart n [] k a = (n, tt)
+  some-apart n (p ∷ ps) zero a = (n, apart-left n p (flat ps) a)
+  some-apart n (p ∷ ps) (suc k) a = some-apart (behind_all n p) ps k (apart-right n p (flat ps) a)

@@ -1,6 +1,6 @@
 -- The points that a range would take, piece by piece, and what is in its way there.
 use Rattle.std.proofs.Common.{◌≡◌, ◌<◌, ◌≤◌, ◌⊎◌, ℕ, zero, suc, ◌+◌, ◌-◌, Bool, true, false, cond, ◌&&◌, eqb, length, map, drop, get_or, List, [], ◌∷◌, ◌++◌, Option, None, Some, inl, inr, refl, sym, ap, ◌∙◌, subst, arith}
-use Rattle.std.specs.Prelude.{◌||◌, not, nat_eq, nat_lt, nat_le, filter, flat_map, slice_get, option_map}
+use Rattle.std.specs.Prelude.{◌||◌, not, nat_eq, nat_lt, nat_le, filter, flat_map, slice_get, option_map, is_some, MatchOption}
 use Rattle.std.specs.List.{list_any, filter_map, cons_option}
 use Rattle.std.proofs.lemmas.Bool.{eqb-true, eq-eqb, le-leb, leb-true, cases_lt}
 use Rattle.std.proofs.lemmas.List.{drop_more}
@@ -23,7 +23,7 @@ use Rattle.live_lanes.proofs.Extents.{any-in}
 use Rattle.interference.specs.declared.held.Held.{Held}
 use Rattle.interference.specs.declared.held.HeldList.{HeldList}
 use Rattle.interference.specs.declared.matrix.Matrix.{Matrix}
-use Rattle.interference.specs.Clashes.{Points, IsOrdered, AreKnown, held_of, held_of_some, list_in, holds, touches, is_taken, is_taken_by, is_held, cell_points, some_cell_points, lane_points, range_points, points_in, is_fixed_at, is_held_at, is_taken_at, are_taken, is_fixed, is_in_way, ranges_of, is_free}
+use Rattle.interference.specs.Clashes.{Points, IsOrdered, AreApart, AreFilled, AreKnown, held_of, held_of_some, list_in, holds, touches, is_taken, is_taken_by, is_held, cell_points, some_cell_points, lane_points, range_points, points_in, is_fixed_at, is_held_at, is_taken_at, are_taken, is_fixed, is_in_way, ranges_of, is_free}
 
 drop_none : {X : Type 0} (k : ℕ) (xs : List X) → length xs ≤ k → drop k xs ≡ []
 drop_none zero [] h = refl
@@ -108,11 +108,11 @@ same-bool true b f g = sym (f refl)
 same-bool false true f g = g refl
 same-bool false false f g = refl
 
-not-false : (b : Bool) → b ≡ false → not b ≡ true
+pub not-false : (b : Bool) → b ≡ false → not b ≡ true
 not-false true e = absurd (cc)
 not-false false e = refl
 
-from-not : (b : Bool) → not b ≡ true → b ≡ false
+pub from-not : (b : Bool) → not b ≡ true → b ≡ false
 from-not true e = absurd (cc)
 from-not false e = refl
 
@@ -222,3 +222,22 @@ step-way m v w rest xs more e h = ap (λ ps. are_taken m v ps w) e ∙ taken-app
 
 pub more-way : (m : Matrix) (v w : ℕ) (rest xs more : List Points) → rest ≡ xs ++ more → are_taken m v more w ≡ true → are_taken m v rest w ≡ true
 more-way m v w rest xs more e h = ap (λ ps. are_taken m v ps w) e ∙ taken-append m v xs more w ∙ or-right (are_taken m v xs w) (are_taken m v more w) h
+
+-- some other range is found where there is one
+pub other-meets : (slots : Numbers) (hs : List Held) (but : ℕ) (at : Stretch) (o : Option ℕ) → MatchOption o (is_taken slots hs but at ≡ false) (λ w. (nat_eq w but ≡ false) × (is_taken_by slots hs w at ≡ true)) → is_some o ≡ is_taken slots hs but at
+other-meets slots hs but at None m = sym m
+other-meets slots hs but at (Some w) m = sym (by-taken slots hs but w at m.0 m.1)
+
+pub from-no : (b : Bool) → not b ≡ false → b ≡ true
+from-no true e = refl
+from-no false e = absurd (cc)
+
+-- what an ordered matrix says of a list
+pub list-filled : (m : Matrix) → IsOrdered m → (u b : ℕ) (l : HeldList) → Some l ≡ list_in m.held u b → AreFilled l
+list-filled m ordered u b l e = ordered.filled u b l (sym e)
+
+pub list-holds : (m : Matrix) (u b : ℕ) (l : HeldList) → Some l ≡ list_in m.held u b → held_of l ≡ holds m u b
+list-holds m u b l e = ap held_of_some e
+
+pub list-apart : (m : Matrix) → IsOrdered m → (u b : ℕ) (l : HeldList) → Some l ≡ list_in m.held u b → AreApart m.live.table.order.slots 0 (held_of l)
+list-apart m ordered u b l e = subst (AreApart m.live.table.order.slots 0) (sym (list-holds m u b l e)) (ordered.apart u b)

@@ -116,3 +116,12 @@ module _ (slots : Numbers) where
           let k : gap.part - j + suc j ≡ suc gap.part = omega arith in
           sym touched-all ∙ subst (λ i. touched slots at test (before ps gap i) ≡ true) k
           (any-up (λ h. test h && touches slots at h) (gap.part - j) (suc j) (touched-step j ∙ or-right (touched slots at test (before ps gap j)) (touched slots at test (part_before ps gap j)) e))
+
+pub turned : (n q p o : Bool) → ((n && q) || ((n && p) || o)) ≡ ((n && (q || p)) || o)
+turned true true p o = refl
+turned true false p o = refl
+turned false q p o = refl
+
+pub or-false : (b c : Bool) → c ≡ false → (b || c) ≡ b
+or-false true c e = refl
+or-false false c e = e

@@ -3,7 +3,7 @@
 ghost use Rattle.std.specs.Prelude.{◌≡◌, ◌<◌, ◌≤◌, ◌+◌, ◌-◌, ◌*◌, ◌++◌, ℕ, true, false, ◌||◌, nat_eq, length, filter, IfOk, OnOk};
 ghost use Rattle.std.specs.Int.{bit_at};
 ghost use Rattle.mir_meaning.specs.Registers.{numbers};
-ghost use Rattle.interference.specs.Marked.{is_marked};
+ghost use Rattle.interference.specs.Marked.{word_bits, is_marked};
 
 use std::alloc::{AllocError, Global};
 
@@ -55,12 +55,13 @@ impl Marks {
 }
 
 /// Adds the numbers of the bits of a word whose first bit has this number.
-fn add_bits(first: u32, word: u64, numbers: &mut Vec<u32>) -> Result<(), AllocError>
-    ensures { first + 64 ≤ 4294967296 → OnOk result (numbers.new.items ≡ numbers.old.items ++ filter (λ n. nat_eq (bit_at word (n - first)) 1) (numbers first 64)) }
+fn add_bits(first: u32, word: u64, made: &mut Vec<u32>) -> Result<(), AllocError>
+    requires { first + 64 ≤ 4294967296 }
+    ensures { OnOk result (made.new.items ≡ made.old.items ++ filter (λ n. nat_eq (bit_at word (n - first)) 1) (numbers first word_bits)) }
 {
     'bits: for k in 0..64u32 {
         if word >> k & 1 == 1 {
-            numbers.push(first.saturating_add(k))?;
+            made.push(first + k)?;
         }
     }
     Ok(())

@@ -13,6 +13,6 @@ abbrev pub invariant-units : goal.invariant-units
 invariant-units l = record {
   place : l.k ≡ l.u-index;
   room : length l.self.registers.items ≤ length l.marks.words.items * 64;
-  fixed : IsOrdered l.self → list_any (is_fixed_at l.self) (range_points l.self.live.table l.v l.u-index (drop l.u-index (units_of l.self.live.target l.p))) ≡ is_fixed l.self l.v l.p;
-  marked : IsOrdered l.self → (w : ℕ) → w < length l.marks.words.items * 64 → (are_taken l.self l.v (range_points l.self.live.table l.v l.u-index (drop l.u-index (units_of l.self.live.target l.p))) w || is_marked l.marks.words.items w) ≡ is_in_way l.self l.v l.p w;
+  fixed : IsOrdered l.self → list_any (is_fixed_at l.self) (range_points l.self.live.table l.v l.u-index (drop l.u-index (units_of l.self.live.target l.fn.p))) ≡ is_fixed l.self l.v l.fn.p;
+  marked : IsOrdered l.self → (w : ℕ) → w < length l.marks.words.items * 64 → (are_taken l.self l.v (range_points l.self.live.table l.v l.u-index (drop l.u-index (units_of l.self.live.target l.fn.p))) w || is_marked l.marks.words.items w) ≡ is_in_way l.self l.v l.fn.p w;
 }

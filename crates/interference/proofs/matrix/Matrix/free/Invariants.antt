@@ -12,5 +12,5 @@ use Rattle.interference.proofs.matrix.Matrix.free.Given as goal
 abbrev pub invariant-units : goal.invariant-units
 invariant-units l = record {
   place : l.k ≡ l.u-index;
-  rest : IsOrdered l.self → list_any (is_held_at l.self l.v) (range_points l.self.live.table l.v l.u-index (drop l.u-index (units_of l.self.live.target l.p))) ≡ list_any (is_held_at l.self l.v) (points_in l.self l.v l.p);
+  rest : IsOrdered l.self → list_any (is_held_at l.self l.v) (range_points l.self.live.table l.v l.u-index (drop l.u-index (units_of l.self.live.target l.fn.p))) ≡ list_any (is_held_at l.self l.v) (points_in l.self l.v l.fn.p);
 }

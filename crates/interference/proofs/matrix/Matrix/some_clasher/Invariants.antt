@@ -12,5 +12,5 @@ use Rattle.interference.proofs.matrix.Matrix.some_clasher.Given as goal
 abbrev pub invariant-units : goal.invariant-units
 invariant-units l = record {
   place : l.k ≡ l.u-index;
-  rest : (w : ℕ) → are_taken l.self l.v (range_points l.self.live.table l.v l.u-index (drop l.u-index (units_of l.self.live.target l.p))) w ≡ true → is_in_way l.self l.v l.p w ≡ true;
+  rest : (w : ℕ) → are_taken l.self l.v (range_points l.self.live.table l.v l.u-index (drop l.u-index (units_of l.self.live.target l.fn.p))) w ≡ true → is_in_way l.self l.v l.fn.p w ≡ true;
 }
