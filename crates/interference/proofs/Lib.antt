@@ -2,3 +2,4 @@ pub mod Parts
 pub mod Marked
 pub mod Points
 pub mod Walked
+pub mod Clashing

@@ -3,7 +3,7 @@ use Rattle.std.proofs.Common.{◌≡◌, ◌<◌, ◌≤◌, ◌⊎◌, ℕ, zer
 use Rattle.std.specs.Prelude.{◌||◌, not, nat_eq, nat_lt, nat_le, filter, flat_map, slice_get, option_map, is_some, MatchOption}
 use Rattle.std.specs.List.{list_any, filter_map, cons_option}
 use Rattle.std.proofs.lemmas.Bool.{eqb-true, eq-eqb, le-leb, leb-true, cases_lt}
-use Rattle.std.proofs.lemmas.List.{drop_more}
+use Rattle.std.proofs.lemmas.List.{drop_more, get_or_default}
 use Rattle.std.proofs.lemmas.List.Folds.{list_any-append}
 use Rattle.target_base.specs.declared.types.Reg.{Reg}
 use Rattle.target_base.specs.declared.types.Unit.{Unit as UnitNumber}
@@ -241,3 +241,10 @@ list-holds m u b l e = ap held_of_some e
 
 pub list-apart : (m : Matrix) → IsOrdered m → (u b : ℕ) (l : HeldList) → Some l ≡ list_in m.held u b → AreApart m.live.table.order.slots 0 (held_of l)
 list-apart m ordered u b l e = subst (AreApart m.live.table.order.slots 0) (sym (list-holds m u b l e)) (ordered.apart u b)
+
+-- the next unit of a register, by its place
+pub unit-next : (x : Table) (v k j : ℕ) (us vs : List UnitNumber) (d : UnitNumber) → us ≡ vs → j ≡ k → k < length us → range_points x v k (drop k vs) ≡ lane_points x (get_or us k d).0 (number_in x.lanes (owners.Range v j)) ++ range_points x v (k + 1) (drop (k + 1) vs)
+unit-next x v k j us vs d same at h =
+    ap (λ l. range_points x v k (drop k l)) (sym same) ∙ units-step x v k us (get_or us k d) h (get_or_default us k d (get_or us k d) h)
+    ∙ ap (λ n. lane_points x (get_or us k d).0 (number_in x.lanes (owners.Range v n)) ++ range_points x v (k + 1) (drop (k + 1) us)) (sym at)
+    ∙ ap (λ l. lane_points x (get_or us k d).0 (number_in x.lanes (owners.Range v j)) ++ range_points x v (k + 1) (drop (k + 1) l)) same

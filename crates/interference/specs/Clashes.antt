@@ -90,6 +90,10 @@ is_taken_by slots hs w at = list_any (λ h. nat_eq h.range w && touches slots at
 abbrev pub is_held : Matrix → ℕ → ℕ → ℕ → Stretch → Bool
 is_held m u but b at = is_met m.live.table u b at || is_taken m.live.table.order.slots (holds m u b) but at
 
+-- one point alone
+abbrev pub point : ℕ → Stretch
+point at = record { first = at; last = at }
+
 -- points of a unit in the block at a position
 pub record Points : Type 0 where
   pub unit : ℕ

@@ -1,12 +1,13 @@
 //! The matrix: a function, the register of each assigned range, and what the ranges hold.
 
-ghost use Rattle.std.specs.Prelude.{◌≡◌, ◌<◌, ◌≤◌, ◌*◌, ℕ, true, false, not, ◌&&◌, ◌||◌, nat_eq, length, IfOk, IfSome, option_copied, slice_get};
+ghost use Rattle.std.specs.Prelude.{◌≡◌, ◌<◌, ◌≤◌, ◌*◌, ℕ, true, false, not, ◌&&◌, ◌||◌, nat_eq, length, IfOk, IfSome, option_copied, slice_get, slice_index};
 ghost use Rattle.std.specs.List.{list_any};
 ghost use Rattle.target_base.specs.Registers.{units_of};
 ghost use Rattle.lane_effects.specs.Numbered.{number_in};
 ghost use Rattle.lane_effects.specs.declared.owner.Owner.TheVariants as owners;
+ghost use Rattle.live_lanes.specs.Table.{entry_rank, exit_rank};
 ghost use Rattle.live_lanes.specs.Entered.{cells_of};
-ghost use Rattle.interference.specs.Clashes.{register_in, list_in, IsOrdered, is_held, is_held_at, is_fixed_at, is_taken_at, are_taken, is_in_way, clash_at, is_free, holds, is_taken_by, cell_points, some_cell_points, lane_points};
+ghost use Rattle.interference.specs.Clashes.{register_in, list_in, IsOrdered, is_held, is_held_at, is_fixed_at, is_taken_at, are_taken, point, is_in_way, clash_at, is_free, holds, is_taken_by, cell_points, some_cell_points, lane_points};
 ghost use Rattle.interference.specs.Marked.{is_marked};
 
 use crate::held::HeldList;
@@ -478,12 +479,16 @@ impl Matrix {
 
     /// Whether a unit is live or occupied at the entry of an instruction, or an assigned range other
     /// than `but` holds it there.
-    pub fn held_in(&self, u: Unit, but: u32, id: u32) -> bool {
+    pub fn held_in(&self, u: Unit, but: u32, id: u32) -> bool
+        ensures { IsOrdered self.now → result ≡ is_held self.now u.0 but (slice_index self.now.live.table.order.block_of.items id) (point (entry_rank self.now.live.table.order.slots id)) }
+    {
         self.is_held_at(u, but, self.live.position_of(id), self.live.entry_of(id))
     }
 
     /// The same at the exit of an instruction.
-    pub fn held_out(&self, u: Unit, but: u32, id: u32) -> bool {
+    pub fn held_out(&self, u: Unit, but: u32, id: u32) -> bool
+        ensures { IsOrdered self.now → result ≡ is_held self.now u.0 but (slice_index self.now.live.table.order.block_of.items id) (point (exit_rank self.now.live.table.order.slots id)) }
+    {
         self.is_held_at(u, but, self.live.position_of(id), self.live.exit_of(id))
     }
 
@@ -503,7 +508,9 @@ impl Matrix {
         self.is_held(u.0 as u32, but, position, at)
     }
 
-    fn is_held_at(&self, u: Unit, but: u32, block: u32, at: u128) -> bool {
+    fn is_held_at(&self, u: Unit, but: u32, block: u32, at: u128) -> bool
+        ensures { IsOrdered self.now → result ≡ is_held self.now u.0 but block (point at) }
+    {
         let point = Stretch {
             first: at,
             last: at,
