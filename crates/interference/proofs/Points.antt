@@ -120,9 +120,9 @@ from-not false e = refl
 pub by-taken : (slots : Numbers) (hs : List Held) (but w : ℕ) (at : Stretch) → nat_eq w but ≡ false → is_taken_by slots hs w at ≡ true → is_taken slots hs but at ≡ true
 by-taken slots hs but w at ne e = any-cases (λ h. nat_eq h.range w && touches slots at h) hs (is_taken slots hs but at ≡ true)
     (λ h p lift.
-        let same : h.range ≡ w = eqb-true h.range w (both-left (nat_eq h.range w) (touches slots at h) p) in
-        let other : nat_eq h.range but ≡ false = ap (λ r. nat_eq r but) same ∙ ne in
-        lift (λ g. not (nat_eq g.range but) && touches slots at g) (both (not (nat_eq h.range but)) (touches slots at h) (not-false (nat_eq h.range but) other) (both-right (nat_eq h.range w) (touches slots at h) p))) e
+    let same : h.range ≡ w = eqb-true h.range w (both-left (nat_eq h.range w) (touches slots at h) p) in
+    let other : nat_eq h.range but ≡ false = ap (λ r. nat_eq r but) same ∙ ne in
+    lift (λ g. not (nat_eq g.range but) && touches slots at g) (both (not (nat_eq h.range but)) (touches slots at h) (not-false (nat_eq h.range but) other) (both-right (nat_eq h.range w) (touches slots at h) p))) e
 
 -- the range that does is known
 pub taken-by : (slots : Numbers) (hs : List Held) (but n : ℕ) (at : Stretch) (G : Type 0) → AreKnown n hs → ((w : ℕ) → w < n → nat_eq w but ≡ false → is_taken_by slots hs w at ≡ true → G) → is_taken slots hs but at ≡ true → G

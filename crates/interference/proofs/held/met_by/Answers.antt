@@ -10,6 +10,7 @@ returns-then-last-at c = λ all n a.
     let hs = c.args.stretches.now in
     let i : ℕ = c.stretches.k - 1 in
     let h : i < length hs = omega arith in
-    let next : suc i ≡ c.stretches.k = omega arith in
-    (from-behind slots c.args.at (λ g. not (nat_eq g.range c.args.but)) n hs i _ a h (subst (λ x. x < c.args.at.first) c.last.ensures c.if-last-at.true) ∙ ap (λ k. is_taken slots (drop k hs) c.args.but c.args.at) next ∙ c.stretches.invariant,
-    met-behind slots c.args.at hs i _ h (subst (λ x. x < c.args.at.first) c.last.ensures c.if-last-at.true))
+    let next : suc i ≡ c.stretches.k = omega arith in (
+      from-behind slots c.args.at (λ g. not (nat_eq g.range c.args.but)) n hs i _ a h (subst (λ x. x < c.args.at.first) c.last.ensures c.if-last-at.true) ∙ ap (λ k. is_taken slots (drop k hs) c.args.but c.args.at) next ∙ c.stretches.invariant,
+      met-behind slots c.args.at hs i _ h (subst (λ x. x < c.args.at.first) c.last.ensures c.if-last-at.true),
+    )

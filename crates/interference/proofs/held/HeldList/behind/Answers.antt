@@ -30,7 +30,7 @@ returns-in-Some-clause-before c = λ filled apart.
     let k : c.partition_point.result ≡ lead slots at ps = partition-leading test c.as_slice-parts.result.now c.partition_point.result c.partition_point.ensures.bound point.0 point.1 ∙ ap (leading test) same ∙ sym (leading-map part_of begins items) in
     let part : c.saturating_sub-part.result ≡ lead slots at ps - 1 = c.saturating_sub-part.ensures ∙ ap (λ x. x - 1) k in
     let there : c.in-Some.there.now.items ≡ part_in ps c.saturating_sub-part.result = let h = c.in-Some.ensures.lookup in
-        part-there c.as_slice-parts.result.now c.saturating_sub-part.result c.in-Some.there.now (ltb-true c.saturating_sub-part.result (length c.as_slice-parts.result.now) (sym h.0)) h.1 ∙ ap (λ vs. part_in (map part_of vs) c.saturating_sub-part.result) same in
+    part-there c.as_slice-parts.result.now c.saturating_sub-part.result c.in-Some.there.now (ltb-true c.saturating_sub-part.result (length c.as_slice-parts.result.now) (sym h.0)) h.1 ∙ ap (λ vs. part_in (map part_of vs) c.saturating_sub-part.result) same in
     let low = some-apart slots 0 ps c.saturating_sub-part.result whole in
     let count : c.count_by-count.result ≡ leading (begins_by slots at) (part_in ps c.saturating_sub-part.result) = c.count_by-count.ensures.count low.0 (subst (AreApart slots low.0) (sym there) low.1) ∙ ap (leading (begins_by slots at)) there in
     ap (λ x. before ps (record { part = c.saturating_sub-part.result; count = x }) (suc c.saturating_sub-part.result)) count

@@ -43,8 +43,8 @@ pieces-preserved c = λ n h.
     let more : List Points = pieces_from slots c.args.unit o (i + 1) in
     elim c.match-extent.branch [
       | in-Some+in_default-other w ↦
-        let s : Points = point_of slots c.args.unit c.in_ok-block.block w.in-Some.extent in
-        let step : rest ≡ s ∷ more = pieces-some slots c.args.unit o i c.in_ok-block.block w.in-Some.extent lt (sym w.in-Some.ensures) (sym c.in_ok-block.ensures) in
-        c.pieces.invariant n (more-way m c.args.v n rest (s ∷ []) more step h)
+          let s : Points = point_of slots c.args.unit c.in_ok-block.block w.in-Some.extent in
+          let step : rest ≡ s ∷ more = pieces-some slots c.args.unit o i c.in_ok-block.block w.in-Some.extent lt (sym w.in-Some.ensures) (sym c.in_ok-block.ensures) in
+          c.pieces.invariant n (more-way m c.args.v n rest (s ∷ []) more step h)
       | in_default w ↦ c.pieces.invariant n (ap (λ ps. are_taken m c.args.v ps n) (pieces-none slots c.args.unit o i lt (sym w.in_default.ensures)) ∙ h)
     ]

@@ -41,11 +41,11 @@ pieces-preserved c = λ ordered.
     let more : List Points = pieces_from slots c.args.unit o (i + 1) in
     elim c.match-extent.branch [
       | in-Some-extent+else-is_held w ↦
-        let s : Points = point_of slots c.args.unit c.in-Some.block w.in-Some-extent.extent in
-        let step : rest ≡ s ∷ more = pieces-some slots c.args.unit o i c.in-Some.block w.in-Some-extent.extent lt (sym w.in-Some-extent.ensures) (sym c.in-Some.ensures) in
-        let eq : w.stretch.result ≡ stretch_of slots w.in-Some-extent.extent = w.stretch.ensures ∙ ap (λ z. stretch_of z w.in-Some-extent.extent) w.slots.ensures in
-        let le : w.stretch.result.first ≤ w.stretch.result.last = subst (λ (z : Stretch). z.first ≤ z.last) (sym eq) (extent-le slots w.in-Some-extent.extent) in
-        let held : is_held_at m c.args.v s ≡ false = sym (ap (λ z. is_held m c.args.unit c.args.v c.in-Some.block z) eq) ∙ sym (w.is_held.ensures ordered le) ∙ w.if-is_held.false in
-        step-none (is_held_at m c.args.v) rest (s ∷ []) more (list_any (is_held_at m c.args.v) (some_cell_points slots c.args.unit o)) step (one-of (is_held_at m c.args.v) s ∙ held) (c.pieces.invariant ordered)
+          let s : Points = point_of slots c.args.unit c.in-Some.block w.in-Some-extent.extent in
+          let step : rest ≡ s ∷ more = pieces-some slots c.args.unit o i c.in-Some.block w.in-Some-extent.extent lt (sym w.in-Some-extent.ensures) (sym c.in-Some.ensures) in
+          let eq : w.stretch.result ≡ stretch_of slots w.in-Some-extent.extent = w.stretch.ensures ∙ ap (λ z. stretch_of z w.in-Some-extent.extent) w.slots.ensures in
+          let le : w.stretch.result.first ≤ w.stretch.result.last = subst (λ (z : Stretch). z.first ≤ z.last) (sym eq) (extent-le slots w.in-Some-extent.extent) in
+          let held : is_held_at m c.args.v s ≡ false = sym (ap (λ z. is_held m c.args.unit c.args.v c.in-Some.block z) eq) ∙ sym (w.is_held.ensures ordered le) ∙ w.if-is_held.false in
+          step-none (is_held_at m c.args.v) rest (s ∷ []) more (list_any (is_held_at m c.args.v) (some_cell_points slots c.args.unit o)) step (one-of (is_held_at m c.args.v) s ∙ held) (c.pieces.invariant ordered)
       | in_default-extent w ↦ ap (list_any (is_held_at m c.args.v)) (sym (pieces-none slots c.args.unit o i lt (sym w.in_default-extent.ensures))) ∙ c.pieces.invariant ordered
     ]
