@@ -40,6 +40,7 @@ pub mod Behind
 pub mod Summed
 pub mod Occupied
 pub mod Few
-pub mod Extents
 pub mod Finding
 pub mod Alike
+pub mod Extents
+pub mod Touching

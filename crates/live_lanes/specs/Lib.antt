@@ -19,5 +19,6 @@ pub mod Looks
 pub mod Held
 pub mod Occupied
 pub mod Touching
-pub mod Extents
 pub mod Alike
+pub mod Extents
+pub mod Tells

@@ -1,18 +1,22 @@
 -- Which instructions name a range, by the table, and where instructions are found.
-use Rattle.std.specs.Prelude.{◌≡◌, ℕ, zero, suc, ◌+◌, ◌*◌, Bool, false, ◌||◌, nat_eq, List, map, Option, None, Some, slice_get}
+use Rattle.std.specs.Prelude.{◌≡◌, ℕ, zero, suc, ◌+◌, ◌-◌, ◌*◌, length, Bool, false, ◌||◌, nat_eq, List, map, Option, None, Some, slice_get}
 use Rattle.std.specs.Ordering.{nat_cmp}
 use Rattle.std.specs.List.{list_any}
 use Rattle.std.specs.List.Sorted.{IsStrictlySortedBy}
 use Rattle.slot_index.specs.Order.{number_of}
 use Rattle.mir_func.specs.declared.func.Block.{Block}
+use Rattle.mir_func.specs.declared.func.Instr.{Instr}
 use Rattle.lane_effects.specs.declared.row.Lanes.{Lanes}
 use Rattle.live_lanes.specs.declared.row.Reading.{Reading}
 use Rattle.live_lanes.specs.declared.row.Segment.{Segment}
 use Rattle.live_lanes.specs.declared.row.Cell.{Cell}
 use Rattle.live_lanes.specs.declared.row.Row.{Row}
 use Rattle.live_lanes.specs.declared.table.Table.{Table}
+use Rattle.live_lanes.specs.declared.touch.Found.{Found}
 use Rattle.live_lanes.specs.Table.{Numbers}
-use Rattle.live_lanes.specs.Entered.{cells_of}
+use Rattle.live_lanes.specs.Entered.{causes, cells_of}
+use Rattle.live_lanes.specs.Graph.{is_live}
+use Rattle.live_lanes.specs.Looks.{exit_at}
 use Rattle.live_lanes.specs.Held.{AreRanked}
 use Rattle.live_lanes.specs.Ordered.{AreHomes}
 use Rattle.live_lanes.specs.Paths.{has}
@@ -50,6 +54,15 @@ some_lane x v test = some_of test (slice_get x.lanes.ranges.items v)
 abbrev pub names_range : Table → ℕ → ℕ → Bool
 names_range x v id = some_lane x v (names_lane id x.rows.rows.items)
 
+-- a lane of the range is live behind the last instruction of the block at the position, or at its start where there is none
+abbrev pub leaves_last : Table → ℕ → ℕ → Option Instr → Bool
+leaves_last x v p None = some_lane x v (λ l. is_live (causes x.rows.rows.items l p 0))
+leaves_last x v p (Some i) = some_lane x v (λ l. exit_at x (Some l) i.id)
+
+abbrev pub leaves_block : Table → ℕ → ℕ → Option Block → Bool
+leaves_block x v p None = false
+leaves_block x v p (Some b) = leaves_last x v p (slice_get b.instrs (length b.instrs - 1))
+
 -- a number of an instruction, which rises along the layout; no two have the same
 abbrev pub layout_key : Numbers → ℕ → ℕ
 layout_key slots id = number_of slots id * 4294967296 + id
@@ -58,6 +71,15 @@ layout_key slots id = number_of slots id * 4294967296 + id
 pub record AreTouched (x : Table) (v : ℕ) (ids : List ℕ) : Type 0 where
   pub order : IsStrictlySortedBy nat_cmp (map (layout_key x.order.slots) ids)
   pub named : (id : ℕ) → has id ids ≡ names_range x v id
+
+-- none stands behind another that it should stand before, unless the mark warns of that
+abbrev pub InLine : Numbers → Found → Type 0
+InLine slots f = f.is_mixed ≡ false → IsStrictlySortedBy nat_cmp (map (layout_key slots) f.ids.items)
+
+-- the instructions that pass the test are found besides the old ones
+pub record Meets (slots : Numbers) (old new : Found) (test : ℕ → Bool) : Type 0 where
+  pub named : (id : ℕ) → has id new.ids.items ≡ (has id old.ids.items || test id)
+  pub line : InLine slots old → InLine slots new
 
 -- instructions are found in these blocks: the table has the block of each, and their numbers rise along each block
 pub record FindsInstrs (x : Table) (bs : List Block) : Type 0 where
