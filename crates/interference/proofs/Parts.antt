@@ -1,23 +1,21 @@
 -- Stretches that lie apart: those that begin by a point, part by part.
-use Rattle.std.proofs.Common.{◌≡◌, ◌<◌, ◌≤◌, ◌⊎◌, ℕ, zero, suc, ◌+◌, ◌*◌, ◌-◌, Bool, true, false, cond, ◌&&◌, leb, ltb, eqb, length, map, take, List, [], ◌∷◌, ◌++◌, Option, None, Some, inl, inr, refl, sym, ap, ◌∙◌, subst, arith, get_or, max, append-nil, append_assoc}
-use Rattle.std.specs.Prelude.{◌||◌, not, nat_eq, nat_lt, nat_le, filter, flat_map, slice_get, Vec}
+use Rattle.std.proofs.Common.{◌≡◌, ◌<◌, ◌≤◌, ◌⊎◌, ℕ, zero, suc, ◌+◌, ◌-◌, Bool, true, false, cond, ◌&&◌, length, map, take, List, [], ◌∷◌, ◌++◌, Option, None, Some, inl, inr, refl, sym, ap, ◌∙◌, arith, get_or, max, append-nil, append_assoc}
+use Rattle.std.specs.Prelude.{◌||◌, nat_eq, nat_le, filter, flat_map, Vec}
 use Rattle.std.specs.Global.{Global}
-use Rattle.std.specs.List.{list_any, list_all}
+use Rattle.std.specs.List.{list_any}
 use Rattle.std.specs.List.Sorted.{IsPartitionedBy}
-use Rattle.std.proofs.lemmas.Bool.{ltb-true, lt-ltb, leb-true, leb-false, le-leb, eqb-true, ne_eqb, eq-eqb, cases_eq}
+use Rattle.std.proofs.lemmas.Bool.{ltb-true, leb-true, leb-false, le-leb, ne_eqb, eq-eqb, cases_eq}
 use Rattle.std.proofs.lemmas.List.Elements.{filter-append}
-use Rattle.std.proofs.lemmas.List.Folds.{list_any-append, list_all-append}
 use Rattle.live_lanes.specs.declared.extent.Extent.{Extent}
 use Rattle.live_lanes.specs.declared.extent.Stretch.{Stretch}
 use Rattle.live_lanes.specs.Table.{Numbers, leading, entry_rank, exit_rank, end_rank}
 use Rattle.live_lanes.specs.Extents.{first_rank, last_rank}
-use Rattle.live_lanes.proofs.Cells.{both, both-left, both-right}
-use Rattle.live_lanes.proofs.Held.{or-left, or-right, or-none, and-none, le-false}
+use Rattle.live_lanes.proofs.Held.{or-none, and-none, le-false}
 use Rattle.interference.specs.declared.held.Gap.{Gap}
 use Rattle.interference.specs.declared.held.Held.{Held}
 use Rattle.interference.specs.declared.held.HeldList.{HeldList}
-use Rattle.interference.specs.Clashes.{part_of, held_of, is_none, AreApart, AreFilled, begins_by, touches, is_taken, is_taken_by}
-use Rattle.interference.specs.Parts.{parts_of, some_part, part_in, part_before, before, part_begins, lies_before}
+use Rattle.interference.specs.Clashes.{part_of, held_of, is_none, AreApart, begins_by, touches}
+use Rattle.interference.specs.Parts.{parts_of, part_in, part_before, before, part_begins, lies_before}
 
 abbrev pub flat : List (List Held) → List Held
 flat [] = []

@@ -1,8 +1,8 @@
 -- The points that a range would take, piece by piece, and what is in its way there.
-use Rattle.std.proofs.Common.{◌≡◌, ◌<◌, ◌≤◌, ◌⊎◌, ℕ, zero, suc, ◌+◌, ◌-◌, Bool, true, false, cond, ◌&&◌, eqb, length, map, drop, get_or, List, [], ◌∷◌, ◌++◌, Option, None, Some, inl, inr, refl, sym, ap, ◌∙◌, subst, arith}
-use Rattle.std.specs.Prelude.{◌||◌, not, nat_eq, nat_lt, nat_le, filter, flat_map, slice_get, option_map, is_some, MatchOption}
+use Rattle.std.proofs.Common.{◌≡◌, ◌<◌, ◌≤◌, ◌⊎◌, ℕ, zero, suc, ◌+◌, ◌-◌, Bool, true, false, ◌&&◌, length, map, drop, get_or, List, [], ◌∷◌, ◌++◌, Option, None, Some, inl, inr, refl, sym, ap, ◌∙◌, subst, arith}
+use Rattle.std.specs.Prelude.{◌||◌, not, nat_eq, nat_le, flat_map, slice_get, option_map, is_some, MatchOption}
 use Rattle.std.specs.List.{list_any, filter_map, cons_option}
-use Rattle.std.proofs.lemmas.Bool.{eqb-true, eq-eqb, le-leb, leb-true, cases_lt}
+use Rattle.std.proofs.lemmas.Bool.{eqb-true, eq-eqb, le-leb, cases_lt}
 use Rattle.std.proofs.lemmas.List.{drop_more, get_or_default}
 use Rattle.std.proofs.lemmas.List.Folds.{list_any-append}
 use Rattle.target_base.specs.declared.types.Reg.{Reg}
@@ -16,14 +16,14 @@ use Rattle.live_lanes.specs.declared.row.Cell.{Cell}
 use Rattle.live_lanes.specs.declared.table.Table.{Table}
 use Rattle.live_lanes.specs.Table.{Numbers}
 use Rattle.live_lanes.specs.Entered.{piece_count}
-use Rattle.live_lanes.specs.Extents.{extent_in, stretch_of, is_met}
+use Rattle.live_lanes.specs.Extents.{extent_in, stretch_of}
 use Rattle.live_lanes.proofs.Cells.{both, both-left, both-right}
-use Rattle.live_lanes.proofs.Held.{or-left, or-right, or-none}
+use Rattle.live_lanes.proofs.Held.{or-left, or-right}
 use Rattle.live_lanes.proofs.Extents.{any-in}
 use Rattle.interference.specs.declared.held.Held.{Held}
 use Rattle.interference.specs.declared.held.HeldList.{HeldList}
 use Rattle.interference.specs.declared.matrix.Matrix.{Matrix}
-use Rattle.interference.specs.Clashes.{Points, IsOrdered, AreApart, AreFilled, AreKnown, held_of, held_of_some, list_in, holds, touches, is_taken, is_taken_by, is_held, cell_points, some_cell_points, lane_points, range_points, points_in, is_fixed_at, is_held_at, is_taken_at, are_taken, is_fixed, is_in_way, ranges_of, is_free}
+use Rattle.interference.specs.Clashes.{Points, IsOrdered, AreApart, AreFilled, AreKnown, held_of, held_of_some, list_in, holds, touches, is_taken, is_taken_by, cell_points, some_cell_points, lane_points, range_points, points_in, is_fixed_at, is_held_at, is_taken_at, are_taken, is_fixed, is_in_way, ranges_of, is_free}
 
 drop_none : {X : Type 0} (k : ℕ) (xs : List X) → length xs ≤ k → drop k xs ≡ []
 drop_none zero [] h = refl
@@ -224,9 +224,9 @@ pub more-way : (m : Matrix) (v w : ℕ) (rest xs more : List Points) → rest �
 more-way m v w rest xs more e h = ap (λ ps. are_taken m v ps w) e ∙ taken-append m v xs more w ∙ or-right (are_taken m v xs w) (are_taken m v more w) h
 
 -- some other range is found where there is one
-pub other-meets : (slots : Numbers) (hs : List Held) (but : ℕ) (at : Stretch) (o : Option ℕ) → MatchOption o (is_taken slots hs but at ≡ false) (λ w. (nat_eq w but ≡ false) × (is_taken_by slots hs w at ≡ true)) → is_some o ≡ is_taken slots hs but at
-other-meets slots hs but at None m = sym m
-other-meets slots hs but at (Some w) m = sym (by-taken slots hs but w at m.0 m.1)
+pub other-meets : (ns : Numbers) (hs : List Held) (but : ℕ) (at : Stretch) (o : Option ℕ) → MatchOption o (is_taken ns hs but at ≡ false) (λ w. (nat_eq w but ≡ false) × (is_taken_by ns hs w at ≡ true)) → is_some o ≡ is_taken ns hs but at
+other-meets ns hs but at None m = sym m
+other-meets ns hs but at (Some w) m = sym (by-taken ns hs but w at m.0 m.1)
 
 pub from-no : (b : Bool) → not b ≡ false → b ≡ true
 from-no true e = refl

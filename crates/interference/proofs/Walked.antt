@@ -1,19 +1,19 @@
 -- Stretches gone through from the last to the first.
-use Rattle.std.proofs.Common.{◌≡◌, ◌<◌, ◌≤◌, ◌⊎◌, ℕ, zero, suc, ◌+◌, ◌*◌, ◌-◌, Bool, true, false, cond, ◌&&◌, length, map, take, drop, get_or, List, [], ◌∷◌, ◌++◌, Option, None, Some, inl, inr, refl, sym, ap, ◌∙◌, subst, arith}
-use Rattle.std.specs.Prelude.{◌||◌, not, nat_eq, nat_lt, nat_le, filter}
+use Rattle.std.proofs.Common.{◌≡◌, ◌<◌, ◌≤◌, ℕ, zero, suc, ◌+◌, ◌-◌, Bool, true, false, cond, ◌&&◌, length, drop, get_or, List, [], ◌∷◌, ◌++◌, refl, sym, ap, ◌∙◌, subst, arith}
+use Rattle.std.specs.Prelude.{◌||◌, nat_eq, nat_le, filter}
 use Rattle.std.specs.List.{list_any, list_all}
-use Rattle.std.proofs.lemmas.Bool.{ltb-true, lt-ltb, leb-true, leb-false, le-leb, eqb-true, ne_eqb, eq-eqb}
+use Rattle.std.proofs.lemmas.Bool.{lt-ltb, le-leb, eq-eqb}
 use Rattle.std.proofs.lemmas.List.Folds.{list_any-append, list_all-append, list_any_at}
 use Rattle.live_lanes.specs.declared.extent.Stretch.{Stretch}
 use Rattle.live_lanes.specs.Table.{Numbers}
-use Rattle.live_lanes.specs.Extents.{first_rank, last_rank}
+use Rattle.live_lanes.specs.Extents.{last_rank}
 use Rattle.live_lanes.proofs.Cells.{both, both-left, both-right}
-use Rattle.live_lanes.proofs.Held.{or-left, or-right, or-none, and-none}
+use Rattle.live_lanes.proofs.Held.{or-left, or-right}
 use Rattle.interference.specs.declared.held.Gap.{Gap}
 use Rattle.interference.specs.declared.held.Held.{Held}
-use Rattle.interference.specs.Clashes.{AreApart, begins_by, touches, is_taken, is_taken_by}
-use Rattle.interference.specs.Parts.{part_in, part_before, before, lies_before}
-use Rattle.interference.proofs.Parts.{extent-le, apart-filter, apart-left, apart-right, behind_all, lies-low, touched, past-none, none-past, only-begun, and-left-none}
+use Rattle.interference.specs.Clashes.{AreApart, begins_by, touches, is_taken_by}
+use Rattle.interference.specs.Parts.{part_before, before, lies_before}
+use Rattle.interference.proofs.Parts.{extent-le, apart-filter, apart-left, apart-right, behind_all, lies-low, touched, past-none, none-past, only-begun}
 
 pub all-get : {X : Type 0} (p : X → Bool) (xs : List X) (i : ℕ) (d : X) → list_all p xs ≡ true → i < length xs → p (get_or xs i d) ≡ true
 all-get p [] i d e h = absurd (omega arith)

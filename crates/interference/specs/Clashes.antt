@@ -1,13 +1,13 @@
 -- Which registers ranges have, what they hold, and with what a range in a register would clash.
 use Rattle.std.specs.Prelude.{◌≡◌, ◌<◌, ◌≤◌, ℕ, suc, ◌+◌, Bool, true, false, cond, not, ◌&&◌, ◌||◌, nat_eq, nat_le, List, [], ◌∷◌, ◌++◌, map, flat_map, filter, length, Option, None, Some, slice_get, Vec}
 use Rattle.std.specs.List.{list_any}
+use Rattle.std.specs.Global.{Global}
 use Rattle.target_base.specs.declared.types.Reg.{Reg}
 use Rattle.target_base.specs.declared.types.Unit.{Unit as UnitNumber}
 use Rattle.target_base.specs.Registers.{units_of}
 use Rattle.mir_meaning.specs.Registers.{numbers}
 use Rattle.lane_effects.specs.Numbered.{number_in}
 use Rattle.lane_effects.specs.declared.owner.Owner.TheVariants as owners
-use Rattle.std.specs.Global.{Global}
 use Rattle.live_lanes.specs.declared.extent.Stretch.{Stretch}
 use Rattle.live_lanes.specs.declared.row.Cell.{Cell}
 use Rattle.live_lanes.specs.declared.table.Table.{Table}
@@ -45,7 +45,7 @@ held_of_some (Some h) = held_of h
 abbrev pub holds : Matrix → ℕ → ℕ → List Held
 holds m u b = held_of_some (list_in m.held u b)
 
--- each stretch begins behind the one before it
+-- each stretch begins behind the one before it, and the first one at that point or behind it
 abbrev pub AreApart : Numbers → ℕ → List Held → Type 0
 AreApart slots n [] = Unit {0}
 AreApart slots n (h ∷ hs) = (n ≤ first_rank slots h.extent) × AreApart slots (last_rank slots h.extent + 1) hs
@@ -62,7 +62,7 @@ AreFilled h = 1 < length h.parts.items → list_any is_none (map part_of h.parts
 abbrev pub AreKnown : ℕ → List Held → Type 0
 AreKnown n hs = list_any (λ h. nat_le n h.range) hs ≡ false
 
--- the stretches that are held of each unit in each block stand in order
+-- pieces of lanes, and the stretches that are held of each unit in each block, stand in order; no part of a list is empty beside others; ranges have their places among the registers
 pub record IsOrdered (m : Matrix) : Type 0 where
   pub table : InOrder m.live.table
   pub registers : length m.registers.items ≡ length m.live.func.classes
@@ -93,6 +93,11 @@ is_held m u but b at = is_met m.live.table u b at || is_taken m.live.table.order
 -- one point alone
 abbrev pub point : ℕ → Stretch
 point at = record { first = at; last = at }
+
+-- the same at the start of a block, by its position
+abbrev pub is_held_at_start : Matrix → ℕ → ℕ → Option ℕ → Bool
+is_held_at_start m u but None = false
+is_held_at_start m u but (Some b) = is_held m u but b (point 0)
 
 -- points of a unit in the block at a position
 pub record Points : Type 0 where

@@ -2,12 +2,14 @@
 
 ghost use Rattle.std.specs.Prelude.{◌≡◌, ◌<◌, ◌≤◌, ◌*◌, ℕ, true, false, not, ◌&&◌, ◌||◌, nat_eq, length, IfOk, IfSome, option_copied, slice_get, slice_index};
 ghost use Rattle.std.specs.List.{list_any};
+ghost use Rattle.std.specs.Ordering.{nat_cmp};
+ghost use Rattle.std.specs.BTreeMap.{get};
 ghost use Rattle.target_base.specs.Registers.{units_of};
 ghost use Rattle.lane_effects.specs.Numbered.{number_in};
 ghost use Rattle.lane_effects.specs.declared.owner.Owner.TheVariants as owners;
 ghost use Rattle.live_lanes.specs.Table.{entry_rank, exit_rank};
 ghost use Rattle.live_lanes.specs.Entered.{cells_of};
-ghost use Rattle.interference.specs.Clashes.{register_in, list_in, IsOrdered, is_held, is_held_at, is_fixed_at, is_taken_at, are_taken, point, is_in_way, clash_at, is_free, holds, is_taken_by, cell_points, some_cell_points, lane_points};
+ghost use Rattle.interference.specs.Clashes.{register_in, list_in, IsOrdered, is_held, is_held_at, is_held_at_start, is_fixed_at, is_taken_at, are_taken, point, is_in_way, clash_at, is_free, holds, is_taken_by, cell_points, some_cell_points, lane_points};
 ghost use Rattle.interference.specs.Marked.{is_marked};
 
 use crate::held::HeldList;
@@ -493,7 +495,9 @@ impl Matrix {
     }
 
     /// The same at the start of the block of that number.
-    pub fn held_at(&self, u: Unit, but: u32, block: u32) -> bool {
+    pub fn held_at(&self, u: Unit, but: u32, block: u32) -> bool
+        ensures { IsOrdered self.now → result ≡ is_held_at_start self.now u.0 but (get nat_cmp self.now.live.table.order.positions block) }
+    {
         match self.live.block_position(block) {
             Some(position) => self.is_held_at(u, but, position, 0),
             None => false,

@@ -1,4 +1,4 @@
-use Rattle.std.proofs.Common.{◌≡◌, ◌+◌, ◌++◌, ◌∙◌, ap, refl, arith}
+use Rattle.std.proofs.Common.{◌+◌, ◌∙◌, ap, refl, arith}
 use Rattle.interference.proofs.Marked.{bit_set, bit_clear, bits_all}
 use Rattle.interference.proofs.marks.add_bits.Goals as goal
 use Rattle.interference.proofs.marks.add_bits.Goals.{then-word-k-eq1+in_ok-push, else-word-k-eq1}

@@ -1,4 +1,4 @@
-use Rattle.std.proofs.Common.{◌≡◌, ◌<◌, ◌-◌, ℕ, suc, List, rules, sym, ap, ◌∙◌, subst, Bool, length, map}
+use Rattle.std.proofs.Common.{◌≡◌, ◌<◌, ◌-◌, suc, List, rules, sym, ap, ◌∙◌, subst, Bool, length, map}
 use Rattle.std.specs.Prelude.{Vec, filter}
 use Rattle.std.specs.Global.{Global}
 use Rattle.std.specs.List.Sorted.{IsPartitionedBy}

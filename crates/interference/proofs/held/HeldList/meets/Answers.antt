@@ -1,4 +1,4 @@
-use Rattle.std.proofs.Common.{ap, ◌∙◌}
+use Rattle.std.proofs.Common.{◌∙◌}
 use Rattle.interference.specs.Clashes.{held_of}
 use Rattle.interference.proofs.Points.{other-meets}
 use Rattle.interference.proofs.held.HeldList.meets.Goals as goal

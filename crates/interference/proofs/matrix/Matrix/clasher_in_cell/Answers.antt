@@ -1,16 +1,11 @@
-use Rattle.std.proofs.Common.{◌≡◌, ◌<◌, ◌≤◌, ◌+◌, ◌*◌, ℕ, List, [], ◌∷◌, Option, Some, None, Bool, true, false, ◌&&◌, length, drop, refl, sym, ap, ◌∙◌, subst, arith}
-use Rattle.std.specs.Prelude.{not, ◌||◌, nat_eq, slice_get, flat_map, option_map}
-use Rattle.std.specs.List.{list_any}
+use Rattle.std.proofs.Common.{◌≡◌, ◌<◌, ◌+◌, List, [], ◌∷◌, Option, true, false, sym, ap, ◌∙◌, subst, arith}
+use Rattle.std.specs.Prelude.{not, nat_eq, slice_get}
 use Rattle.live_lanes.specs.declared.row.Cell.{Cell}
-use Rattle.live_lanes.specs.declared.extent.Extent.{Extent}
-use Rattle.live_lanes.specs.declared.extent.Stretch.{Stretch}
 use Rattle.live_lanes.specs.Entered.{cells_of, piece_count}
-use Rattle.live_lanes.specs.Extents.{extent_in, stretch_of, is_met}
+use Rattle.live_lanes.specs.Extents.{stretch_of}
 use Rattle.live_lanes.proofs.Cells.{both}
-use Rattle.interference.specs.Clashes.{Points, IsOrdered, AreApart, held_of, holds, is_taken_by, is_held, is_held_at, is_fixed_at, is_taken_at, are_taken, cell_points, some_cell_points, lane_points}
-use Rattle.interference.specs.Marked.{is_marked}
-use Rattle.interference.proofs.Parts.{extent-le}
-use Rattle.interference.proofs.Points.{point_of, pieces_from, pieces-none, pieces-some, cells-step, step-none, step-found, one-of, step-marked, one-taken, step-way, more-way, not-false, from-not, from-no, list-filled, list-holds, list-apart}
+use Rattle.interference.specs.Clashes.{Points, AreApart, held_of, is_taken_by, is_taken_at, are_taken}
+use Rattle.interference.proofs.Points.{point_of, pieces_from, pieces-none, pieces-some, one-taken, step-way, more-way, not-false, list-filled, list-holds, list-apart}
 use Rattle.interference.proofs.matrix.Matrix.clasher_in_cell.Goals as goal
 use Rattle.interference.proofs.matrix.Matrix.clasher_in_cell.Goals.{in-Some+in_default-other, in_default}
 

@@ -1,10 +1,7 @@
-use Rattle.std.proofs.Common.{◌≡◌, ◌<◌, ◌≤◌, ◌*◌, ℕ, true, length, drop}
-use Rattle.std.specs.Prelude.{◌||◌, flat_map, slice_get}
-use Rattle.std.specs.List.{list_any}
-use Rattle.target_base.specs.Registers.{units_of}
+use Rattle.std.proofs.Common.{◌≡◌, ℕ, true}
+use Rattle.std.specs.Prelude.{slice_get}
 use Rattle.live_lanes.specs.Entered.{cells_of}
-use Rattle.interference.specs.Clashes.{IsOrdered, is_held_at, is_fixed_at, are_taken, is_in_way, is_fixed, cell_points, some_cell_points, range_points, points_in}
-use Rattle.interference.specs.Marked.{is_marked}
+use Rattle.interference.specs.Clashes.{are_taken, some_cell_points}
 use Rattle.interference.proofs.Points.{pieces_from}
 use Rattle.interference.proofs.matrix.Matrix.clasher_in_cell.Given as goal
 

@@ -1,12 +1,10 @@
-use Rattle.std.proofs.Common.{◌≡◌, ◌<◌, ◌≤◌, ◌+◌, ◌*◌, ℕ, List, Bool, true, false, length, drop, sym, ap, ◌∙◌, subst, arith}
-use Rattle.std.specs.Prelude.{not, ◌||◌}
-use Rattle.std.specs.List.{list_any}
+use Rattle.std.proofs.Common.{◌≡◌, ◌<◌, ◌+◌, ◌*◌, List, length, drop, sym, ap, ◌∙◌, subst, arith}
 use Rattle.target_base.specs.declared.types.Unit.{Unit as UnitNumber}
 use Rattle.target_base.specs.Registers.{units_of}
-use Rattle.interference.specs.Clashes.{Points, is_held_at, is_fixed_at, are_taken, is_fixed, is_in_way, range_points, points_in, clash_at}
+use Rattle.interference.specs.Clashes.{Points, is_fixed_at, is_fixed, is_in_way, range_points, clash_at}
 use Rattle.interference.specs.declared.matrix.Clash.TheVariants as clashes
 use Rattle.interference.specs.Marked.{is_marked}
-use Rattle.interference.proofs.Points.{unit-next, units-end, step-none, step-found, step-end, step-marked, end-marked, from-not, free-is}
+use Rattle.interference.proofs.Points.{unit-next, units-end, step-none, step-end, step-marked, end-marked, from-not}
 use Rattle.interference.proofs.matrix.Matrix.clashers.Goals as goal
 use Rattle.interference.proofs.Clashing.{clash-is}
 

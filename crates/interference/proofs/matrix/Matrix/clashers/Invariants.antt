@@ -1,11 +1,9 @@
-use Rattle.std.proofs.Common.{◌≡◌, ◌<◌, ◌≤◌, ◌*◌, ℕ, true, length, drop}
-use Rattle.std.specs.Prelude.{◌||◌, flat_map, slice_get}
+use Rattle.std.proofs.Common.{◌≡◌, ◌<◌, ◌≤◌, ◌*◌, ℕ, length, drop}
+use Rattle.std.specs.Prelude.{◌||◌}
 use Rattle.std.specs.List.{list_any}
 use Rattle.target_base.specs.Registers.{units_of}
-use Rattle.live_lanes.specs.Entered.{cells_of}
-use Rattle.interference.specs.Clashes.{IsOrdered, is_held_at, is_fixed_at, are_taken, is_in_way, is_fixed, cell_points, some_cell_points, range_points, points_in}
+use Rattle.interference.specs.Clashes.{IsOrdered, is_fixed_at, are_taken, is_in_way, is_fixed, range_points}
 use Rattle.interference.specs.Marked.{is_marked}
-use Rattle.interference.proofs.Points.{pieces_from}
 use Rattle.interference.proofs.matrix.Matrix.clashers.Given as goal
 
 -- what is left and what is marked are all that is to be marked

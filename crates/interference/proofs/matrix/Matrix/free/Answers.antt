@@ -1,11 +1,10 @@
-use Rattle.std.proofs.Common.{◌≡◌, ◌<◌, ◌≤◌, ◌+◌, ◌*◌, ℕ, List, Bool, true, false, length, drop, sym, ap, ◌∙◌, subst, arith}
-use Rattle.std.specs.Prelude.{not, ◌||◌}
+use Rattle.std.proofs.Common.{◌≡◌, ◌+◌, List, length, drop, sym, ap, ◌∙◌, arith}
+use Rattle.std.specs.Prelude.{not}
 use Rattle.std.specs.List.{list_any}
 use Rattle.target_base.specs.declared.types.Unit.{Unit as UnitNumber}
 use Rattle.target_base.specs.Registers.{units_of}
-use Rattle.interference.specs.Clashes.{Points, is_held_at, is_fixed_at, are_taken, is_fixed, is_in_way, range_points, points_in}
-use Rattle.interference.specs.Marked.{is_marked}
-use Rattle.interference.proofs.Points.{unit-next, units-end, step-none, step-found, step-end, step-marked, end-marked, from-not, free-is}
+use Rattle.interference.specs.Clashes.{Points, is_held_at, range_points, points_in}
+use Rattle.interference.proofs.Points.{unit-next, units-end, step-found, step-end, free-is}
 use Rattle.interference.proofs.matrix.Matrix.free.Goals as goal
 
 pub returns-then-is_lane_met : goal.returns-then-is_lane_met

@@ -1,10 +1,8 @@
-use Rattle.std.proofs.Common.{◌≡◌, ◌<◌, ◌≤◌, ◌*◌, ℕ, true, length, drop}
-use Rattle.std.specs.Prelude.{◌||◌, flat_map, slice_get}
+use Rattle.std.proofs.Common.{◌≡◌}
+use Rattle.std.specs.Prelude.{slice_get}
 use Rattle.std.specs.List.{list_any}
-use Rattle.target_base.specs.Registers.{units_of}
 use Rattle.live_lanes.specs.Entered.{cells_of}
-use Rattle.interference.specs.Clashes.{IsOrdered, is_held_at, is_fixed_at, are_taken, is_in_way, is_fixed, cell_points, some_cell_points, range_points, points_in}
-use Rattle.interference.specs.Marked.{is_marked}
+use Rattle.interference.specs.Clashes.{IsOrdered, is_held_at, some_cell_points}
 use Rattle.interference.proofs.Points.{pieces_from}
 use Rattle.interference.proofs.matrix.Matrix.is_cell_met.Given as goal
 
