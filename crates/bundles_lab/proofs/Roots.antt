@@ -4,16 +4,13 @@ use Rattle.std.specs.Prelude.{nat_eq, Decides}
 use Rattle.std.proofs.lemmas.Bool.{cases_eq, cases_lt, eqb-true, eq-eqb, ne_eqb}
 use Rattle.std.proofs.lemmas.List.{get_or_past, get_or-set_same, get_or-set_other, set_past, length-set}
 use Rattle.bundles_lab.specs.Paths.{has}
-use Rattle.bundles_lab.specs.Bundles.{start_of, end_of, Linked, itself, edge, back, onward, parent_of, above, root_of, IsForest, LeadsWithin, AreJoined, StayJoined, AreBundles}
-
-abbrev pub Falls : List ℕ → Type 0
-Falls ps = (x : ℕ) → parent_of ps x ≤ x
+use Rattle.bundles_lab.specs.Bundles.{start_of, end_of, Linked, itself, edge, back, onward, parent_of, above, root_of, AreEarlier, IsForest, LeadsWithin, AreJoined, StayJoined, AreBundles}
 
 pub stays : (ps : List ℕ) (n x : ℕ) → parent_of ps x ≡ x → above ps n x ≡ x
 stays ps zero x e = refl
 stays ps (suc n) x e = ap (above ps n) e ∙ stays ps n x e
 
-pub lands : (ps : List ℕ) → Falls ps → (n x : ℕ) → x ≤ n → parent_of ps (above ps n x) ≡ above ps n x
+pub lands : (ps : List ℕ) → AreEarlier ps → (n x : ℕ) → x ≤ n → parent_of ps (above ps n x) ≡ above ps n x
 lands ps f zero x h = let g : parent_of ps x ≤ x = f x in omega arith
 lands ps f (suc n) x h = go (lands ps f n (parent_of ps x)) (cases_eq (parent_of ps x) x)
   where
@@ -21,7 +18,7 @@ lands ps f (suc n) x h = go (lands ps f n (parent_of ps x)) (cases_eq (parent_of
     go ih (inl e) = let s : above ps n (parent_of ps x) ≡ x = ap (above ps n) e ∙ stays ps n x e in ap (parent_of ps) s ∙ (e ∙ sym s)
     go ih (inr d) = ih (let g : parent_of ps x ≤ x = f x in omega arith)
 
-pub settled : (ps : List ℕ) → Falls ps → (x : ℕ) → parent_of ps (root_of ps x) ≡ root_of ps x
+pub settled : (ps : List ℕ) → AreEarlier ps → (x : ℕ) → parent_of ps (root_of ps x) ≡ root_of ps x
 settled ps f x = go (cases_lt x (length ps))
   where
     go : (x < length ps) ⊎ (length ps ≤ x) → parent_of ps (root_of ps x) ≡ root_of ps x
@@ -34,16 +31,16 @@ commutes : (ps : List ℕ) (n x : ℕ) → above ps (suc n) x ≡ parent_of ps (
 commutes ps zero x = refl
 commutes ps (suc n) x = commutes ps n (parent_of ps x)
 
-pub root-parent : (ps : List ℕ) → Falls ps → (x : ℕ) → root_of ps (parent_of ps x) ≡ root_of ps x
+pub root-parent : (ps : List ℕ) → AreEarlier ps → (x : ℕ) → root_of ps (parent_of ps x) ≡ root_of ps x
 root-parent ps f x = commutes ps (length ps) x ∙ settled ps f x
 
 pub root-itself : (ps : List ℕ) (x : ℕ) → parent_of ps x ≡ x → root_of ps x ≡ x
 root-itself ps x e = stays ps (length ps) x e
 
-pub root-root : (ps : List ℕ) → Falls ps → (x : ℕ) → root_of ps (root_of ps x) ≡ root_of ps x
+pub root-root : (ps : List ℕ) → AreEarlier ps → (x : ℕ) → root_of ps (root_of ps x) ≡ root_of ps x
 root-root ps f x = root-itself ps (root_of ps x) (settled ps f x)
 
-pub root_falls : (ps : List ℕ) → Falls ps → (n x : ℕ) → above ps n x ≤ x
+pub root_falls : (ps : List ℕ) → AreEarlier ps → (n x : ℕ) → above ps n x ≤ x
 root_falls ps f zero x = omega arith
 root_falls ps f (suc n) x = let a : above ps n (parent_of ps x) ≤ parent_of ps x = root_falls ps f n (parent_of ps x) in let b : parent_of ps x ≤ x = f x in omega arith
 
@@ -52,19 +49,19 @@ along : (h : ℕ → ℕ) (ps : List ℕ) → ((z : ℕ) → h (parent_of ps z) 
 along h ps same zero z = refl
 along h ps same (suc n) z = along h ps same n (parent_of ps z) ∙ same z
 
-pub roots_by : (h : ℕ → ℕ) (ps : List ℕ) → Falls ps → ((z : ℕ) → parent_of ps z ≡ z → h z ≡ z) → ((z : ℕ) → h (parent_of ps z) ≡ h z) → (z : ℕ) → root_of ps z ≡ h z
+pub roots_by : (h : ℕ → ℕ) (ps : List ℕ) → AreEarlier ps → ((z : ℕ) → parent_of ps z ≡ z → h z ≡ z) → ((z : ℕ) → h (parent_of ps z) ≡ h z) → (z : ℕ) → root_of ps z ≡ h z
 roots_by h ps f fixed same z = sym (fixed (root_of ps z) (settled ps f z)) ∙ along h ps same (length ps) z
 
 -- one border is set
 
-set-parent : (ps : List ℕ) (b p z : ℕ) → b < length ps → ((z ≡ b) × (parent_of (set ps b p) z ≡ p)) ⊎ ((z ≢ b) × (parent_of (set ps b p) z ≡ parent_of ps z))
+pub set-parent : (ps : List ℕ) (b p z : ℕ) → b < length ps → ((z ≡ b) × (parent_of (set ps b p) z ≡ p)) ⊎ ((z ≢ b) × (parent_of (set ps b p) z ≡ parent_of ps z))
 set-parent ps b p z h = go (cases_eq z b)
   where
     go : (z ≡ b) ⊎ (z ≡ b → ⊥) → ((z ≡ b) × (parent_of (set ps b p) z ≡ p)) ⊎ ((z ≢ b) × (parent_of (set ps b p) z ≡ parent_of ps z))
     go (inl e) = inl (e, (let P : ℕ → Type 0 = λ w. parent_of (set ps b p) w ≡ p in subst P (sym e) (get_or-set_same ps b p b h)))
     go (inr d) = inr (d, get_or-set_other ps b z p z d)
 
-pub set-falls : (ps : List ℕ) (b p : ℕ) → Falls ps → p ≤ b → Falls (set ps b p)
+pub set-falls : (ps : List ℕ) (b p : ℕ) → AreEarlier ps → p ≤ b → AreEarlier (set ps b p)
 set-falls ps b p f le z = by_place (cases_lt b (length ps))
   where
     go : b < length ps → ((z ≡ b) × (parent_of (set ps b p) z ≡ p)) ⊎ ((z ≢ b) × (parent_of (set ps b p) z ≡ parent_of ps z)) → parent_of (set ps b p) z ≤ z
@@ -76,7 +73,7 @@ set-falls ps b p f le z = by_place (cases_lt b (length ps))
 
 -- the root of another bundle takes over
 
-module _ (ps : List ℕ) (f : Falls ps) (big small : ℕ) (order : small ≤ big) (within : big < length ps) (is_big : parent_of ps big ≡ big) (is_small : parent_of ps small ≡ small) where
+module _ (ps : List ℕ) (f : AreEarlier ps) (big small : ℕ) (order : small ≤ big) (within : big < length ps) (is_big : parent_of ps big ≡ big) (is_small : parent_of ps small ≡ small) where
   merged : ℕ → ℕ
   merged z = cond (nat_eq (root_of ps z) big) small (root_of ps z)
 
@@ -134,7 +131,7 @@ module _ (ps : List ℕ) (f : Falls ps) (big small : ℕ) (order : small ≤ big
 
 -- a border names at once the one that stands for its bundle
 
-pub shortened-root : (ps : List ℕ) → Falls ps → (b : ℕ) → (z : ℕ) → root_of (set ps b (root_of ps b)) z ≡ root_of ps z
+pub shortened-root : (ps : List ℕ) → AreEarlier ps → (b : ℕ) → (z : ℕ) → root_of (set ps b (root_of ps b)) z ≡ root_of ps z
 shortened-root ps f b z = by_place (cases_lt b (length ps))
   where
     inside : b < length ps → root_of (set ps b (root_of ps b)) z ≡ root_of ps z

@@ -30,10 +30,14 @@ above ps (suc n) x = above ps n (parent_of ps x)
 abbrev pub root_of : List ℕ → ℕ → ℕ
 root_of ps x = above ps (length ps) x
 
--- borders name earlier ones, to which they are linked
+-- borders name earlier ones, or themselves
+abbrev pub AreEarlier : List ℕ → Type 0
+AreEarlier ps = (x : ℕ) → parent_of ps x ≤ x
+
+-- the borders of so many blocks name earlier ones, to which they are linked
 pub record IsForest (next : ℕ → List ℕ) (count : ℕ) (ps : List ℕ) : Type 0 where
   pub size : length ps ≡ 2 * count
-  pub falls : (x : ℕ) → parent_of ps x ≤ x
+  pub earlier : AreEarlier ps
   pub sound : (x : ℕ) → Linked next (x, parent_of ps x)
 
 -- the blocks that follow the one at a position are among so many
@@ -47,6 +51,22 @@ AreJoined ps k ns = (n : ℕ) → has n ns ≡ true → root_of ps (end_of k) �
 -- borders that one border stands for stay together
 abbrev pub StayJoined : List ℕ → List ℕ → Type 0
 StayJoined old new = (x y : ℕ) → root_of old x ≡ root_of old y → root_of new x ≡ root_of new y
+
+-- the same border stands for each as before
+abbrev pub SameRoots : List ℕ → List ℕ → Type 0
+SameRoots old new = (x : ℕ) → root_of new x ≡ root_of old x
+
+-- so many blocks, and those that follow them are among them
+pub record IsClosed (next : ℕ → List ℕ) (count : ℕ) : Type 0 where
+  pub few : count < 2147483648
+  pub within : (k : ℕ) → k < count → LeadsWithin count (next k)
+  pub ends : (k : ℕ) → count ≤ k → LeadsWithin 0 (next k)
+
+-- the end of the block at position k is joined with these, and what was joined stays so
+pub record Joins (next : ℕ → List ℕ) (count : ℕ) (old new : List ℕ) (k : ℕ) (ns : List ℕ) : Type 0 where
+  pub forest : IsForest next count new
+  pub stay : StayJoined old new
+  pub joined : AreJoined new k ns
 
 -- two borders are linked just where the same border stands for both
 abbrev pub AreBundles : (ℕ → List ℕ) → List ℕ → Type 0
