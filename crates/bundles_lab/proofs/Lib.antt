@@ -1,3 +1,4 @@
 pub mod Roots
 pub mod Walked
 pub mod Joining
+pub mod Bordered
