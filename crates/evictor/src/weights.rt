@@ -45,6 +45,6 @@ pub fn use_sum(alloc: Global, live: &LiveFunc, v: u32, freqs: &Freqs) -> Result<
 /// The spill weight of a range: 1024 times its use sum, divided by 8 more than its points.
 pub fn weight(alloc: Global, live: &LiveFunc, v: u32, freqs: &Freqs) -> Result<u128, AllocError> {
     let uses = use_sum(alloc, live, v, freqs)?;
-    let points = live.size(v) as u128;
+    let points = live.points(v) as u128;
     Ok(uses.saturating_mul(1024) / (points + 8))
 }

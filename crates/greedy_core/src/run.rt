@@ -211,9 +211,9 @@ impl Run {
         let live = self.matrix.live();
         Ok(match self.stage(v) {
             Stage::Tiny => 1 << 31,
-            Stage::Split => live.size(v).min(1 << 28),
+            Stage::Split => live.points(v).min(1 << 28),
             Stage::New if live.is_in_two_blocks(v) => {
-                (1 << 30) + live.size(v).min((1 << 30) - 1)
+                (1 << 30) + live.points(v).min((1 << 30) - 1)
             }
             Stage::New => (1 << 29) - 1 - live.first_number(self.alloc, v)?.min((1 << 29) - 1),
         })

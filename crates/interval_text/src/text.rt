@@ -51,7 +51,7 @@ fn put_used(
     if !own.is_named {
         return Ok(());
     }
-    let weight = weight_of(own.sum, live.size(v));
+    let weight = weight_of(own.sum, live.points(v));
     put_range(out, v, name_of_class(target, live.func(), v), weight)?;
     put_lanes(out, live, starts, v)
 }

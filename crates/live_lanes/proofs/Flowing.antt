@@ -63,11 +63,11 @@ note-row flow next at w v within e added same kept = record {
 
 -- members
 
-or-assoc : (t u w : Bool) → (t || u) || w ≡ t || (u || w)
+pub or-assoc : (t u w : Bool) → (t || u) || w ≡ t || (u || w)
 or-assoc true u w = refl
 or-assoc false u w = refl
 
-or-false : (t : Bool) → t || false ≡ t
+pub or-false : (t : Bool) → t || false ≡ t
 or-false true = refl
 or-false false = refl
 
@@ -93,7 +93,7 @@ has-more x xs k h = ap (λ n. has x (take n xs)) (add-one k) ∙ go xs k h
     go (y ∷ xs) zero h = has-one x y
     go (y ∷ xs) (suc k) h = has-or x y (take (suc k) xs) ∙ ap (λ t. nat_eq y x || t) (go xs k (omega arith)) ∙ sym (or-assoc (nat_eq y x) (has x (take k xs)) (nat_eq (get_or xs k 0) x)) ∙ ap (λ t. t || nat_eq (get_or xs k 0) x) (sym (has-or x y (take k xs)))
 
-has-any : (x : ℕ) (xs : List ℕ) → has x xs ≡ list_any (λ y. nat_eq y x) xs
+pub has-any : (x : ℕ) (xs : List ℕ) → has x xs ≡ list_any (λ y. nat_eq y x) xs
 has-any x [] = refl
 has-any x (y ∷ xs) = has-or x y xs ∙ ap (λ t. nat_eq y x || t) (has-any x xs)
 

@@ -13,23 +13,23 @@ use Rattle.live_lanes.proofs.Cells.{both, both-left, both-right}
 abbrev pub greatest : ℕ
 greatest = 340282366920938463463374607431768211455
 
-or-left : (a b : Bool) → a ≡ true → (a || b) ≡ true
+pub or-left : (a b : Bool) → a ≡ true → (a || b) ≡ true
 or-left true b e = refl
 or-left false b e = absurd (cc)
 
-or-right : (a b : Bool) → b ≡ true → (a || b) ≡ true
+pub or-right : (a b : Bool) → b ≡ true → (a || b) ≡ true
 or-right true b e = refl
 or-right false b e = e
 
-or-none : (a b : Bool) → a ≡ false → b ≡ false → (a || b) ≡ false
+pub or-none : (a b : Bool) → a ≡ false → b ≡ false → (a || b) ≡ false
 or-none true b e f = absurd (cc)
 or-none false b e f = f
 
-and-none : (a b : Bool) → b ≡ false → (a && b) ≡ false
+pub and-none : (a b : Bool) → b ≡ false → (a && b) ≡ false
 and-none true b e = e
 and-none false b e = refl
 
-le-false : (a b : ℕ) → b < a → leb a b ≡ false
+pub le-false : (a b : ℕ) → b < a → leb a b ≡ false
 le-false a b h = go (leb a b) refl
   where
     go : (u : Bool) → leb a b ≡ u → leb a b ≡ false
@@ -37,7 +37,7 @@ le-false a b h = go (leb a b) refl
     go false e = e
 
 module _ (slots : Numbers) where
-  number-le : (s : Begun) → hold_rank slots s ≤ exit_rank slots s.start
+  pub number-le : (s : Begun) → hold_rank slots s ≤ exit_rank slots s.start
   number-le s = go s.early
     where
       go : (u : Bool) → cond u (entry_rank slots s.start) (exit_rank slots s.start) ≤ exit_rank slots s.start
@@ -45,11 +45,11 @@ module _ (slots : Numbers) where
       go false = omega arith
 
   -- behind a rank no instruction writes at it
-  past : (x : ℕ) (s : Begun) → exit_rank slots s.start < x → writes_at slots x s ≡ false
+  pub past : (x : ℕ) (s : Begun) → exit_rank slots s.start < x → writes_at slots x s ≡ false
   past x s h = or-none (nat_eq (exit_rank slots s.start) x) (s.early && nat_eq (entry_rank slots s.start) x) (ne_eqb (exit_rank slots s.start) x (λ e. omega arith)) (and-none s.early (nat_eq (entry_rank slots s.start) x) (ne_eqb (entry_rank slots s.start) x (λ e. omega arith)))
 
   -- nor before the first point at which it does
-  ahead : (x : ℕ) (s : Begun) → x < hold_rank slots s → writes_at slots x s ≡ false
+  pub ahead : (x : ℕ) (s : Begun) → x < hold_rank slots s → writes_at slots x s ≡ false
   ahead x s h = let low = number-le s in or-none (nat_eq (exit_rank slots s.start) x) (s.early && nat_eq (entry_rank slots s.start) x) (ne_eqb (exit_rank slots s.start) x (λ e. omega arith)) (go s.early h)
     where
       go : (u : Bool) → x < cond u (entry_rank slots s.start) (exit_rank slots s.start) → (u && nat_eq (entry_rank slots s.start) x) ≡ false
@@ -57,7 +57,7 @@ module _ (slots : Numbers) where
       go false l = refl
 
   -- nor by any of the pieces behind that one
-  above-none : (x m : ℕ) (ss : List Begun) → rises_from slots m ss ≡ true → x ≤ m * 2 + 1 → list_any (writes_at slots x) ss ≡ false
+  pub above-none : (x m : ℕ) (ss : List Begun) → rises_from slots m ss ≡ true → x ≤ m * 2 + 1 → list_any (writes_at slots x) ss ≡ false
   above-none x m [] r h = refl
   above-none x m (s ∷ ss) r h =
       let more : m < number_of slots s.start = ltb-true m (number_of slots s.start) (both-left (ltb m (number_of slots s.start)) (rises_from slots (number_of slots s.start) ss) r) in
@@ -72,10 +72,10 @@ module _ (slots : Numbers) where
         go true e = inl e
         go false e = inr e
 
-    piece-more : (s : Begun) (ss : List Begun) → is_begun slots at s ≡ true → piece_at slots at (s ∷ ss) ≡ suc (piece_at slots at ss)
+    pub piece-more : (s : Begun) (ss : List Begun) → is_begun slots at s ≡ true → piece_at slots at (s ∷ ss) ≡ suc (piece_at slots at ss)
     piece-more s ss e = ap (λ b. cond b (suc (piece_at slots at ss)) 0) e
 
-    piece-none : (s : Begun) (ss : List Begun) → is_begun slots at s ≡ false → piece_at slots at (s ∷ ss) ≡ 0
+    pub piece-none : (s : Begun) (ss : List Begun) → is_begun slots at s ≡ false → piece_at slots at (s ∷ ss) ≡ 0
     piece-none s ss e = ap (λ b. cond b (suc (piece_at slots at ss)) 0) e
 
     next-more : (s : Begun) (ss : List Begun) → is_begun slots at s ≡ true → next_rank slots (s ∷ ss) (piece_at slots at (s ∷ ss)) ≡ next_rank slots ss (piece_at slots at ss)
@@ -179,7 +179,7 @@ module _ (slots : Numbers) where
   reach-on : (e : End) (at x : ℕ) → reaches slots e at ≡ true → x ≤ end_rank slots e → reaches slots e x ≡ true
   reach-on e at x r le = both (not (is_never e)) (nat_le x (end_rank slots e)) (both-left (not (is_never e)) (nat_le at (end_rank slots e)) r) (le-leb x (end_rank slots e) le)
 
-  reach-off : (e : End) (at x : ℕ) → reaches slots e at ≡ false → at ≤ x → reaches slots e x ≡ false
+  pub reach-off : (e : End) (at x : ℕ) → reaches slots e at ≡ false → at ≤ x → reaches slots e x ≡ false
   reach-off e at x r le = go (not (is_never e)) r
     where
       go : (u : Bool) → (u && nat_le at (end_rank slots e)) ≡ false → (u && nat_le x (end_rank slots e)) ≡ false

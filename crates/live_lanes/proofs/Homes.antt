@@ -140,3 +140,11 @@ homes-all bs homes k room h so f j b id e i = so.here j b id (let w = within bs 
 
     low : id < room
     low = go (nat_lt id room) refl (f.once id)
+
+-- ids are below the number of the next one
+pub ids-below : (bs : List Block) (room top : ℕ) → IsFunction bs room → room < top → (id : ℕ) → has id (all_ids bs) ≡ true → id < top
+ids-below bs room top f short id h = go (nat_lt id room) refl (f.once id)
+  where
+    go : (t : Bool) → nat_lt id room ≡ t → id_total id bs ≤ cond t 1 0 → id < top
+    go true g w = let l = ltb-true id room g in omega (arith, l, short)
+    go false g w = absurd (omega (arith, w, times-total id bs, has-times id (all_ids bs) h))

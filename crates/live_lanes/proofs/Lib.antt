@@ -41,3 +41,6 @@ pub mod Summed
 pub mod Occupied
 pub mod Few
 pub mod Finding
+pub mod Alike
+pub mod Extents
+pub mod Touching

@@ -12,7 +12,7 @@ use Rattle.live_lanes.specs.declared.row.End.{End}
 use Rattle.live_lanes.specs.Table.{Numbers, exit_rank, is_begun, rises_from, changed_at, Seen, with_cause, with_end, Begun, begun, seen_cell, begun_with_cause, begun_with_end, leading, begun_move, moved_at, moved_in}
 use Rattle.live_lanes.proofs.Cells.{both-left, both-right}
 
-above : (slots : Numbers) (n : ℕ) (ss : List Begun) (i : ℕ) (d : Begun) → rises_from slots n ss ≡ true → i < length ss → n < number_of slots (get_or ss i d).start
+pub above : (slots : Numbers) (n : ℕ) (ss : List Begun) (i : ℕ) (d : Begun) → rises_from slots n ss ≡ true → i < length ss → n < number_of slots (get_or ss i d).start
 above slots n [] i d r h = absurd (omega arith)
 above slots n (s ∷ ss) zero d r h = ltb-true n (number_of slots s.start) (both-left (ltb n (number_of slots s.start)) (rises_from slots (number_of slots s.start) ss) r)
 above slots n (s ∷ ss) (suc i) d r h =

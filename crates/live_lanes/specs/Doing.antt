@@ -1,8 +1,9 @@
 -- What the instructions of a function do to its lanes, which go by numbers.
-use Rattle.std.specs.Prelude.{◌≡◌, ◌<◌, ℕ, ◌++◌, length, map, filter_map}
+use Rattle.std.specs.Prelude.{◌≡◌, ◌<◌, ℕ, true, ◌++◌, length, map, filter_map}
 use Rattle.std.specs.Ordering.{nat_cmp}
 use Rattle.std.specs.BTreeMap.{get}
 use Rattle.target_base.specs.declared.types.Target.{Target}
+use Rattle.slot_index.specs.Order.{ids, IsNumbered}
 use Rattle.mir_func.specs.declared.func.Instr.{Instr}
 use Rattle.mir_func.specs.Value.{Function}
 use Rattle.mir_meaning.specs.Binding.{does, is_terminator}
@@ -12,12 +13,12 @@ use Rattle.lane_effects.specs.Ends.{end_uses}
 use Rattle.lane_effects.specs.Numbered.{number_in, NumbersAll}
 use Rattle.lane_effects.specs.Steps.{Numbering, act_readings, act_writings, phi_read_of}
 use Rattle.live_lanes.specs.declared.table.Table.{Table}
-use Rattle.live_lanes.specs.Paths.{Code}
+use Rattle.live_lanes.specs.Paths.{has, Code}
 use Rattle.live_lanes.specs.Graph.{IsGrown}
 use Rattle.live_lanes.specs.Entered.{causes, IsTableOf}
 use Rattle.live_lanes.specs.Ends.{AreEnds}
 use Rattle.live_lanes.specs.Entering.{EnteredStep}
-use Rattle.live_lanes.specs.Ordered.{place_of, AreHomes}
+use Rattle.live_lanes.specs.Ordered.{all_ids, place_of, AreHomes}
 use Rattle.live_lanes.specs.Coded.{code_of}
 use Rattle.live_lanes.specs.Laws.{AllMatched}
 
@@ -35,6 +36,9 @@ pub record IsComputed (t : Target) (f : Function) (x : Table) : Type 0 where
   pub numbers : NumbersAll t f x.lanes
   pub positions : (n : ℕ) → get nat_cmp x.order.positions n ≡ place_of n f.blocks
   pub homes : AreHomes f.blocks x.order.block_of.items
+  pub layout : ids x.order.slots ≡ all_ids f.blocks
+  pub numbered : IsNumbered x.order.slots
+  pub short : (id : ℕ) → has id (all_ids f.blocks) ≡ true → id < 4294967296
   pub few : length (all_points f) < 18446744073709551616
   pub table : AllMatched (lane_code t f (number_in x.lanes)) → IsTableOf (lane_code t f (number_in x.lanes)) x.order.slots x.flow.items x.rows.rows.items
   pub grown : AllMatched (lane_code t f (number_in x.lanes)) → IsGrown (lane_code t f (number_in x.lanes)) (causes x.rows.rows.items)

@@ -19,3 +19,5 @@ pub mod Looks
 pub mod Held
 pub mod Occupied
 pub mod Touching
+pub mod Alike
+pub mod Extents

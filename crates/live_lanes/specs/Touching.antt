@@ -11,6 +11,7 @@ use Rattle.live_lanes.specs.declared.row.Segment.{Segment}
 use Rattle.live_lanes.specs.declared.row.Cell.{Cell}
 use Rattle.live_lanes.specs.declared.row.Row.{Row}
 use Rattle.live_lanes.specs.declared.table.Table.{Table}
+use Rattle.live_lanes.specs.declared.touch.Found.{Found}
 use Rattle.live_lanes.specs.Table.{Numbers}
 use Rattle.live_lanes.specs.Entered.{cells_of}
 use Rattle.live_lanes.specs.Held.{AreRanked}
@@ -58,6 +59,15 @@ layout_key slots id = number_of slots id * 4294967296 + id
 pub record AreTouched (x : Table) (v : ℕ) (ids : List ℕ) : Type 0 where
   pub order : IsStrictlySortedBy nat_cmp (map (layout_key x.order.slots) ids)
   pub named : (id : ℕ) → has id ids ≡ names_range x v id
+
+-- none stands behind another that it should stand before, unless the mark warns of that
+abbrev pub InLine : Numbers → Found → Type 0
+InLine slots f = f.is_mixed ≡ false → IsStrictlySortedBy nat_cmp (map (layout_key slots) f.ids.items)
+
+-- the instructions that pass the test are found besides the old ones
+pub record Meets (slots : Numbers) (old new : Found) (test : ℕ → Bool) : Type 0 where
+  pub named : (id : ℕ) → has id new.ids.items ≡ (has id old.ids.items || test id)
+  pub line : InLine slots old → InLine slots new
 
 -- instructions are found in these blocks: the table has the block of each, and their numbers rise along each block
 pub record FindsInstrs (x : Table) (bs : List Block) : Type 0 where

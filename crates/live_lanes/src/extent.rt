@@ -1,6 +1,14 @@
 //! The points at which a lane is live or occupied, block by block, for the matrix of assigned
 //! ranges.
 
+ghost use Rattle.std.specs.Prelude.{◌≡◌, ◌≤◌, true, Some, length, slice_get, option_map};
+ghost use Rattle.lane_effects.specs.Numbered.{number_in};
+ghost use Rattle.lane_effects.specs.declared.owner.Owner.TheVariants as owners;
+ghost use Rattle.live_lanes.specs.Table.{entry_rank, exit_rank, rises_from, seen_cell};
+ghost use Rattle.live_lanes.specs.Entered.{cells_of, piece_count};
+ghost use Rattle.live_lanes.specs.Looks.{InOrder};
+ghost use Rattle.live_lanes.specs.Extents.{lanes_count, extent_in, first_rank, last_rank, stretch_of, begun_by, is_met_in, is_met};
+
 pub use crate::edit_log::Mended;
 use crate::edits::Changes;
 use crate::lanes::{Owner, owner_of};
@@ -29,7 +37,9 @@ pub struct Extent {
 
 impl Extent {
     /// The number of its first point.
-    pub fn first(&self, slots: &Slots) -> u128 {
+    pub fn first(&self, slots: &Slots) -> u128
+        ensures { result ≡ first_rank slots.now self.now }
+    {
         match self.start {
             None => 0,
             Some(id) if self.early => entry_rank(slots, id),
@@ -38,7 +48,9 @@ impl Extent {
     }
 
     /// The number of its last point.
-    pub fn last(&self, slots: &Slots) -> u128 {
+    pub fn last(&self, slots: &Slots) -> u128
+        ensures { result ≡ last_rank slots.now self.now }
+    {
         let last = rank(slots, self.end);
         match self.start {
             None => last,
@@ -47,7 +59,9 @@ impl Extent {
     }
 
     /// Its points.
-    pub fn stretch(&self, slots: &Slots) -> Stretch {
+    pub fn stretch(&self, slots: &Slots) -> Stretch
+        ensures { result ≡ stretch_of slots.now self.now }
+    {
         Stretch {
             first: self.first(slots),
             last: self.last(slots),
@@ -56,7 +70,9 @@ impl Extent {
 }
 
 /// The points of a piece of a cell, if it has any.
-fn extent_of(cell: &Cell, index: usize) -> Option<Extent> {
+fn extent_of(cell: &Cell, index: usize) -> Option<Extent>
+    ensures { result ≡ extent_in (Some cell.now) index }
+{
     if index == 0 {
         if cell.first.end == End::Never {
             return None;
@@ -76,7 +92,9 @@ fn extent_of(cell: &Cell, index: usize) -> Option<Extent> {
 }
 
 /// The number of pieces of a cell that begin at or before a point.
-fn begun_by(slots: &Slots, cell: &Cell, at: u128) -> usize {
+fn begun_by(slots: &Slots, cell: &Cell, at: u128) -> usize
+    ensures { rises_from slots.now 0 (seen_cell cell.now).segments ≡ true → result ≡ begun_by slots.now at (seen_cell cell.now).segments }
+{
     cell.segments.as_slice().partition_point(|s| {
         let first = if s.early {
             entry_rank(slots, s.start)
@@ -88,7 +106,9 @@ fn begun_by(slots: &Slots, cell: &Cell, at: u128) -> usize {
 }
 
 /// Whether a cell has a point in a stretch.
-fn meets(slots: &Slots, cell: &Cell, at: Stretch) -> bool {
+fn meets(slots: &Slots, cell: &Cell, at: Stretch) -> bool
+    ensures { rises_from slots.now 0 (seen_cell cell.now).segments ≡ true → at.first ≤ at.last → result ≡ is_met_in slots.now (seen_cell cell.now) at }
+{
     match extent_of(cell, begun_by(slots, cell, at.last)) {
         Some(extent) => extent.last(slots) >= at.first,
         None => false,
@@ -115,12 +135,16 @@ fn index_from(slots: &Slots, cell: &Cell, start: Option<u32>) -> Option<usize> {
 
 impl LiveFunc {
     /// The order of the instructions.
-    pub fn slots(&self) -> &Slots {
+    pub fn slots(&self) -> &Slots
+        ensures { result.now ≡ self.now.table.order.slots }
+    {
         &self.table.order.slots
     }
 
     /// The number of a lane of a range.
-    pub fn lane_of(&self, v: u32, k: usize) -> Option<u32> {
+    pub fn lane_of(&self, v: u32, k: usize) -> Option<u32>
+        ensures { result ≡ number_in self.now.table.lanes (owners.Range v k) }
+    {
         match u32::try_from(k) {
             Ok(k) => self.table.lanes.of_range(v).lane(k),
             Err(_) => None,
@@ -128,7 +152,9 @@ impl LiveFunc {
     }
 
     /// The number of lanes of a range.
-    pub fn lane_count(&self, v: u32) -> u32 {
+    pub fn lane_count(&self, v: u32) -> u32
+        ensures { result ≡ lanes_count (slice_get self.now.table.lanes.ranges.items v) }
+    {
         self.table.lanes.of_range(v).count
     }
 
@@ -141,12 +167,16 @@ impl LiveFunc {
     }
 
     /// The number of blocks in which a lane is named or live.
-    pub fn cell_count(&self, lane: u32) -> usize {
+    pub fn cell_count(&self, lane: u32) -> usize
+        ensures { result ≡ length (cells_of self.now.table.rows.rows.items lane) }
+    {
         self.table.rows.cells(lane).len()
     }
 
     /// The position of one of the blocks in which a lane is named or live, the last one first.
-    pub fn cell_block(&self, lane: u32, place: usize) -> Option<u32> {
+    pub fn cell_block(&self, lane: u32, place: usize) -> Option<u32>
+        ensures { result ≡ option_map (λ c. c.block) (slice_get (cells_of self.now.table.rows.rows.items lane) place) }
+    {
         match self.table.rows.cells(lane).get(place) {
             Some(cell) => Some(cell.block),
             None => None,
@@ -154,12 +184,16 @@ impl LiveFunc {
     }
 
     /// The number of pieces of a lane in one of these blocks.
-    pub fn piece_count(&self, lane: u32, place: usize) -> usize {
+    pub fn piece_count(&self, lane: u32, place: usize) -> usize
+        ensures { result ≡ piece_count (slice_get (cells_of self.now.table.rows.rows.items lane) place) }
+    {
         self.table.rows.piece_count(lane, place)
     }
 
     /// The points of a piece of a lane in one of these blocks, if it has any.
-    pub fn extent(&self, lane: u32, place: usize, index: usize) -> Option<Extent> {
+    pub fn extent(&self, lane: u32, place: usize, index: usize) -> Option<Extent>
+        ensures { result ≡ extent_in (slice_get (cells_of self.now.table.rows.rows.items lane) place) index }
+    {
         extent_of(self.table.rows.cells(lane).get(place)?, index)
     }
 
@@ -177,7 +211,9 @@ impl LiveFunc {
     }
 
     /// Whether a lane is live or occupied at one of these points of the block at a position.
-    pub fn meets(&self, lane: u32, block: u32, at: Stretch) -> bool {
+    pub fn meets(&self, lane: u32, block: u32, at: Stretch) -> bool
+        ensures { InOrder self.now.table → at.first ≤ at.last → result ≡ is_met self.now.table lane block at }
+    {
         match self.table.rows.cell(lane, block) {
             Some(cell) => meets(self.slots(), cell, at),
             None => false,
@@ -185,12 +221,16 @@ impl LiveFunc {
     }
 
     /// The number of the point at the entry of an instruction.
-    pub fn entry_of(&self, id: u32) -> u128 {
+    pub fn entry_of(&self, id: u32) -> u128
+        ensures { result ≡ entry_rank self.now.table.order.slots id }
+    {
         entry_rank(self.slots(), id)
     }
 
     /// The number of the point at the exit of an instruction.
-    pub fn exit_of(&self, id: u32) -> u128 {
+    pub fn exit_of(&self, id: u32) -> u128
+        ensures { result ≡ exit_rank self.now.table.order.slots id }
+    {
         exit_rank(self.slots(), id)
     }
 }

@@ -1,11 +1,12 @@
 //! The order of a function's instructions, and where each of them and each block stands.
 
-ghost use Rattle.std.specs.Prelude.{◌≡◌, ◌<◌, ℕ, [], ◌∷◌, ◌++◌, length, slice_get, slice_index, Some, IfOk, OnOk, IfSome};
+ghost use Rattle.std.specs.Prelude.{◌≡◌, ◌<◌, ℕ, true, [], ◌∷◌, ◌++◌, length, slice_get, slice_index, Some, IfOk, OnOk, IfSome};
 ghost use Rattle.std.specs.Ordering.{nat_cmp};
 ghost use Rattle.std.specs.BTreeMap.{get};
 ghost use Rattle.slot_index.specs.Order.{ids, Has, IsNumbered, put_after};
 ghost use Rattle.slot_index.specs.Renewed.{low_end};
 ghost use Rattle.mir_meaning.specs.Points.{all_points};
+ghost use Rattle.live_lanes.specs.Paths.{has};
 ghost use Rattle.live_lanes.specs.Ordered.{ids_of, all_ids, last_id, place_of, placed, AreSingle, AreHomes, AreRising, Settles};
 
 use mir_func::{Block, Func, Instr};
@@ -47,6 +48,7 @@ impl Order {
         ensures positions { IfOk result (λ o. (n : ℕ) → get nat_cmp o.positions n ≡ place_of n func.now.blocks) }
         ensures ids { IfOk result (λ o. ids o.slots ≡ all_ids func.now.blocks) }
         ensures small { IfOk result (λ o. low_end (last_id (ids o.slots)) o.slots < 18446744073709551616) }
+        ensures short { IfOk result (λ o. (id : ℕ) → has id (all_ids func.now.blocks) ≡ true → id < 4294967296) }
         ensures single { IfOk result (λ o. AreSingle (all_ids func.now.blocks)) }
         ensures numbered { IfOk result (λ o. IsNumbered o.slots) }
         ensures homes { IfOk result (λ o. AreHomes func.now.blocks o.block_of.items) }

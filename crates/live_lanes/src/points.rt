@@ -1,11 +1,11 @@
 //! The points of a range: those at which some lane of it is live or occupied.
 
-ghost use Rattle.std.specs.Prelude.{◌≡◌, ◌<◌, ◌-◌, ◌||◌, ℕ, Bool, true, nat_lt, slice_get};
+ghost use Rattle.std.specs.Prelude.{◌≡◌, ◌<◌, ◌-◌, ◌||◌, ℕ, Bool, true, length, nat_lt, slice_get};
 ghost use Rattle.live_lanes.specs.Table.{rises_from, seen_cell, unseen, seen_in};
 ghost use Rattle.live_lanes.specs.Entered.{rows_seen};
 ghost use Rattle.live_lanes.specs.Ordered.{ids_of, AreRising};
 ghost use Rattle.live_lanes.specs.Looks.{InOrder};
-ghost use Rattle.live_lanes.specs.Held.{IsSpan, IsLastBefore, later_place, AreUnseen, AreRanked, next_rank, exits_at, begins_at, held_at, any_held, passing, block_held, range_held};
+ghost use Rattle.live_lanes.specs.Held.{IsSpan, IsLastBefore, later_place, AreUnseen, AreRanked, next_rank, exits_at, begins_at, held_at, any_held, passing, block_held, sum_below, range_held};
 
 use crate::lanes::Lanes;
 use crate::live::LiveFunc;
@@ -189,6 +189,9 @@ impl Table {
         if at == 0 {
             return 0;
         }
+        if at == u128::MAX {
+            return (instrs.len() as u64) * 2 + 1;
+        }
         let slots = &self.order.slots;
         let entries = instrs.partition_point(|i| entry_rank(slots, i.get().id) < at);
         let exits = instrs.partition_point(|i| exit_rank(slots, i.get().id) < at);
@@ -258,6 +261,15 @@ impl Table {
             → result ≡ range_held self.now blocks.now v }
     {
         let own = self.lanes.of_range(v);
+        self.points_of(blocks, self.counted_lanes(own))
+    }
+
+    /// The number of points at which one of these lanes is live or occupied.
+    fn points_of(&self, blocks: &[Block], own: Lanes) -> u64
+        ensures { InOrder self.now → AreRanked self.now.order.slots blocks.now
+            → sum_below (block_held self.now blocks.now own.first own.count) (length blocks.now) < 18446744073709551616
+            → result ≡ sum_below (block_held self.now blocks.now own.first own.count) (length blocks.now) }
+    {
         let mut total = 0u64;
         let mut bound = blocks.len();
         'layout: while let Some(block) = self.last_before(own, bound) {

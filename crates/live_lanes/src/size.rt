@@ -1,126 +1,103 @@
-//! The number of points of a range, counted in one lane where all its lanes have the same points.
+//! Lanes of a range that have the same points, of which one is counted for all.
+
+ghost use Rattle.std.specs.Prelude.{◌≡◌, ◌<◌, ◌+◌, ℕ, true, map};
+ghost use Rattle.live_lanes.specs.Alike.{bounds, outline};
+ghost use Rattle.live_lanes.specs.Entered.{rows_seen};
+ghost use Rattle.live_lanes.specs.Held.{any_held};
+ghost use Rattle.live_lanes.specs.Table.{begun, seen_cell, seen_in};
 
 use crate::lanes::Lanes;
-use crate::live::LiveFunc;
-use crate::order::Order;
 use crate::row::{Cell, End, Segment};
-use mir_func::Instr;
-use target_base::Boxed;
+use crate::table::{Rows, Table};
 
-/// Points counted so far in a block: how many, and the first one behind them.
-#[derive(Clone, Copy)]
-struct Count {
-    points: u64,
-    next: u64,
-}
-
-impl Count {
-    /// Counts the points from one to another that aren't counted yet.
-    fn with(self, first: u64, last: u64) -> Count {
-        let first = first.max(self.next);
-        let next = last.saturating_add(1);
-        if first >= next {
-            return self;
-        }
-        Count {
-            points: self.points.saturating_add(next - first),
-            next,
-        }
+/// Whether two ends are the same.
+fn is_same_end(a: End, b: End) -> bool
+    ensures { result ≡ true → a ≡ b }
+{
+    match a {
+        End::Never => matches!(b, End::Never),
+        End::Entry(id) => matches!(b, End::Entry(other) if other == id),
+        End::Exit(id) => matches!(b, End::Exit(other) if other == id),
+        End::Last => matches!(b, End::Last),
     }
 }
 
-/// The number of a point of a block, counted from its start.
-fn point(order: &Order, instrs: &[Boxed<Instr>], end: End) -> u64 {
-    match end {
-        End::Never => 0,
-        End::Entry(id) => (order.place(instrs, id) as u64)
-            .saturating_mul(2)
-            .saturating_add(1),
-        End::Exit(id) => (order.place(instrs, id) as u64)
-            .saturating_mul(2)
-            .saturating_add(2),
-        End::Last => (instrs.len() as u64).saturating_mul(2),
+/// Whether two pieces that begin with writings have the same points.
+fn are_alike(a: &Segment, b: &Segment) -> bool
+    ensures { result ≡ true → bounds (begun a.now) ≡ bounds (begun b.now) }
+{
+    a.start == b.start && a.early == b.early && is_same_end(a.piece.end, b.piece.end)
+}
+
+/// Whether two lists of pieces that begin with writings have the same points.
+fn are_all_alike(a: &[Segment], b: &[Segment]) -> bool
+    ensures { result ≡ true → map (λ s. bounds (begun s)) a.now ≡ map (λ s. bounds (begun s)) b.now }
+{
+    if a.len() != b.len() {
+        return false;
     }
-}
-
-/// Whether two segments have the same points.
-fn are_alike(a: &Segment, b: &Segment) -> bool {
-    a.start == b.start && a.early == b.early && a.piece.end == b.piece.end
-}
-
-/// Whether two cells have the same points.
-fn have_same_points(a: &Cell, b: &Cell) -> bool {
-    a.block == b.block
-        && a.first.end == b.first.end
-        && a.segments.len() == b.segments.len()
-        && a.segments
-            .iter()
-            .zip(b.segments.iter())
-            .all(|(x, y)| are_alike(x, y))
-}
-
-/// Counts the points of a segment.
-fn counted(order: &Order, instrs: &[Boxed<Instr>], segment: &Segment, count: Count) -> Count {
-    let exit = point(order, instrs, End::Exit(segment.start));
-    let first = if segment.early {
-        exit.saturating_sub(1)
-    } else {
-        exit
-    };
-    let last = match segment.piece.end {
-        End::Never => exit,
-        end => exit.max(point(order, instrs, end)),
-    };
-    count.with(first, last)
-}
-
-/// The number of points of a cell.
-fn cell_size(order: &Order, instrs: &[Boxed<Instr>], cell: &Cell) -> u64 {
-    let mut count = Count { points: 0, next: 0 };
-    if cell.first.end != End::Never {
-        count = count.with(0, point(order, instrs, cell.first.end));
-    }
-    'segments: for segment in &cell.segments {
-        count = counted(order, instrs, segment, count);
-    }
-    count.points
-}
-
-impl LiveFunc {
-    /// The number of points at which some lane of a range is live or occupied, as `points` counts
-    /// them. It is found sooner where all lanes have the same points.
-    pub fn size(&self, v: u32) -> u64 {
-        let own = self.table.lanes.of_range(v);
-        let Some(lane) = own.lane(0) else {
-            return 0;
-        };
-        if !self.are_all_alike(own, lane) {
-            return self.points(v);
-        }
-        let mut size = 0u64;
-        'cells: for cell in self.table.rows.cells(lane) {
-            size = size.saturating_add(self.size_in(cell));
-        }
-        size
-    }
-
-    fn size_in(&self, cell: &Cell) -> u64 {
-        match self.func.blocks.as_slice().get(cell.block as usize) {
-            Some(block) => cell_size(&self.table.order, block.instrs.as_slice(), cell),
-            None => 0,
+    'segments: for k in 0..a.len() {
+        if !are_alike(&a[k], &b[k]) {
+            return false;
         }
     }
+    true
+}
 
-    /// Whether all lanes of a range have the same points as one of them.
-    fn are_all_alike(&self, own: Lanes, lane: u32) -> bool {
-        (1..own.count).all(|k| match own.lane(k) {
-            Some(other) => self.is_alike(lane, other),
-            None => true,
-        })
+/// Whether two cells have the same points of one block.
+fn have_same_points(a: &Cell, b: &Cell) -> bool
+    ensures { result ≡ true → (a.now.block ≡ b.now.block) × (outline (seen_cell a.now) ≡ outline (seen_cell b.now)) }
+{
+    if a.block != b.block || !is_same_end(a.first.end, b.first.end) {
+        return false;
     }
+    are_all_alike(a.segments.as_slice(), b.segments.as_slice())
+}
 
-    fn is_alike(&self, lane: u32, other: u32) -> bool {
-        let (a, b) = (self.table.rows.cells(lane), self.table.rows.cells(other));
-        a.len() == b.len() && a.iter().zip(b).all(|(x, y)| have_same_points(x, y))
+/// Whether two lanes with these cells have the same points.
+fn are_cells_alike(a: &[Cell], b: &[Cell]) -> bool
+    ensures { result ≡ true → (n : ℕ) → outline (seen_in a.now n) ≡ outline (seen_in b.now n) }
+{
+    if a.len() != b.len() {
+        return false;
+    }
+    'cells: for k in 0..a.len() {
+        if !have_same_points(&a[k], &b[k]) {
+            return false;
+        }
+    }
+    true
+}
+
+impl Rows {
+    /// Whether all lanes of a range have the same points as the first one.
+    fn are_lanes_alike(&self, own: Lanes) -> bool
+        ensures { result ≡ true → (k n : ℕ) → k < own.count → outline (rows_seen self.now.rows.items own.first n) ≡ outline (rows_seen self.now.rows.items (own.first + k) n) }
+    {
+        let first = self.cells(own.first);
+        'lanes: for k in 1..own.count {
+            if !are_cells_alike(first, self.cells(own.first + k)) {
+                return false;
+            }
+        }
+        true
+    }
+}
+
+impl Table {
+    /// The first lane of a range alone, where all have the same points; else all of them.
+    pub fn counted_lanes(&self, own: Lanes) -> Lanes
+        ensures { (b at : ℕ) → any_held self.now.order.slots self.now.rows.rows.items result.first result.count b at ≡ any_held self.now.order.slots self.now.rows.rows.items own.first own.count b at }
+    {
+        if own.count <= 1 {
+            return own;
+        }
+        if !self.rows.are_lanes_alike(own) {
+            return own;
+        }
+        Lanes {
+            first: own.first,
+            count: 1,
+        }
     }
 }

@@ -1,13 +1,18 @@
 //! The instructions of a function by their ids, and those that touch a range.
 
-ghost use Rattle.std.specs.Prelude.{◌≡◌, ℕ, Some, IfOk, option_copied, slice_get, slice_index};
+ghost use Rattle.std.specs.Prelude.{◌≡◌, ℕ, [], ◌∷◌, ◌++◌, true, Some, IfOk, OnOk, map, nat_eq, option_copied, slice_get, slice_index};
+ghost use Rattle.std.specs.List.{list_any};
+ghost use Rattle.std.specs.List.Sorted.{IsStrictlySortedBy};
+ghost use Rattle.std.specs.Ordering.{nat_cmp};
 ghost use Rattle.live_lanes.specs.Ordered.{ids_of, AreRising};
-ghost use Rattle.live_lanes.specs.Touching.{AreTouched, FindsInstrs};
+ghost use Rattle.live_lanes.specs.Paths.{has};
+ghost use Rattle.live_lanes.specs.Touching.{AreTouched, FindsInstrs, InLine, Meets, layout_key, names_cell, names_lane, names_segment, reads_in, some_below};
 
 use crate::flow::successors;
 use crate::live::LiveFunc;
 use crate::row::{Cell, Piece, Reading, Segment, entry_rank};
 use crate::table::Table;
+use lane_effects::row::Lanes;
 use mir_func::{Block, Instr};
 use slot_index::Slots;
 use std::alloc::{AllocError, Global};
@@ -24,72 +29,114 @@ struct Found {
 }
 
 /// A number of an instruction, which rises along the layout. No two instructions have the same.
-fn layout_key(slots: &Slots, id: u32) -> u128 {
+fn layout_key(slots: &Slots, id: u32) -> u128
+    ensures { result ≡ layout_key slots.now id }
+{
     slots.number(id) as u128 * 4294967296 + id as u128
 }
 
 impl Found {
+    /// Whether that instruction is the one at a place.
+    fn has_at(&self, place: usize, id: u32) -> bool
+        ensures { result ≡ true → has id self.now.ids.items ≡ true }
+    {
+        match self.ids.get(place) {
+            Some(other) => *other == id,
+            None => false,
+        }
+    }
+
     /// Whether an instruction is the one that was met last, or the next one, which is met then.
-    fn is_next(&mut self, id: u32) -> bool {
-        if self.met > 0 && self.ids.get(self.met - 1).copied() == Some(id) {
+    fn is_next(&mut self, id: u32) -> bool
+        ensures ids { self.new.ids ≡ self.old.ids }
+        ensures mixed { self.new.is_mixed ≡ self.old.is_mixed }
+        ensures found { result ≡ true → has id self.old.ids.items ≡ true }
+    {
+        if self.met > 0 && self.has_at(self.met - 1, id) {
             return true;
         }
-        if self.ids.get(self.met).copied() == Some(id) {
+        if self.has_at(self.met, id) {
             self.met = self.met.saturating_add(1);
             return true;
         }
         false
     }
 
-    /// Adds an instruction behind the others, where it isn't the last one.
-    fn add(&mut self, slots: &Slots, id: u32) -> Result<(), AllocError> {
-        if let Some(last) = self.ids.last().copied() {
-            if last == id {
-                return Ok(());
-            }
-            if layout_key(slots, last) > layout_key(slots, id) {
-                self.is_mixed = true;
-            }
+    /// Whether an instruction should stand behind the last one.
+    fn is_behind(&self, slots: &Slots, id: u32) -> bool
+        ensures { result ≡ true → IsStrictlySortedBy nat_cmp (map (layout_key slots.now) self.now.ids.items)
+            → IsStrictlySortedBy nat_cmp (map (layout_key slots.now) (self.now.ids.items ++ id ∷ [])) }
+    {
+        match self.ids.last() {
+            Some(last) => layout_key(slots, *last) < layout_key(slots, id),
+            None => true,
         }
+    }
+
+    /// Adds an instruction behind the others, where it isn't the last one.
+    fn add(&mut self, slots: &Slots, id: u32) -> Result<(), AllocError>
+        ensures { OnOk result (Meets slots.now self.old self.new (nat_eq id)) }
+    {
+        if !self.ids.is_empty() && self.has_at(self.ids.len() - 1, id) {
+            return Ok(());
+        }
+        self.is_mixed |= !self.is_behind(slots, id);
         self.ids.push(id)?;
         Ok(())
     }
 
     /// Meets an instruction. Where lanes are named together, it is among those that were found in
     /// the lane before.
-    fn meet(&mut self, slots: &Slots, id: u32) -> Result<(), AllocError> {
+    fn meet(&mut self, slots: &Slots, id: u32) -> Result<(), AllocError>
+        ensures { OnOk result (Meets slots.now self.old self.new (nat_eq id)) }
+    {
         if self.is_next(id) {
             return Ok(());
         }
         self.add(slots, id)
     }
 
-    /// Meets the instructions of a piece's readings.
-    fn meet_readings(&mut self, slots: &Slots, piece: &Piece) -> Result<(), AllocError> {
-        'readings: for reading in &piece.readings {
+    /// Meets the instructions of readings.
+    fn meet_readings(&mut self, slots: &Slots, readings: &[Reading]) -> Result<(), AllocError>
+        ensures { OnOk result (Meets slots.now self.old self.new (λ x. reads_in x readings.now)) }
+    {
+        'readings: for reading in readings {
             self.meet(slots, reading.id)?;
         }
         Ok(())
     }
 
     /// Meets the instruction that begins a piece, and those of its readings.
-    fn meet_segment(&mut self, slots: &Slots, segment: &Segment) -> Result<(), AllocError> {
+    fn meet_segment(&mut self, slots: &Slots, segment: &Segment) -> Result<(), AllocError>
+        ensures { OnOk result (Meets slots.now self.old self.new (λ x. names_segment x segment.now)) }
+    {
         self.meet(slots, segment.start)?;
-        self.meet_readings(slots, &segment.piece)
+        self.meet_readings(slots, segment.piece.readings.as_slice())
     }
 
-    /// Meets the instructions that name a lane in a cell.
-    fn meet_cell(&mut self, slots: &Slots, cell: &Cell) -> Result<(), AllocError> {
-        self.meet_readings(slots, &cell.first)?;
-        'segments: for segment in &cell.segments {
+    /// The same of several pieces.
+    fn meet_segments(&mut self, slots: &Slots, segments: &[Segment]) -> Result<(), AllocError>
+        ensures { OnOk result (Meets slots.now self.old self.new (λ x. list_any (names_segment x) segments.now)) }
+    {
+        'segments: for segment in segments {
             self.meet_segment(slots, segment)?;
         }
         Ok(())
     }
 
+    /// Meets the instructions that name a lane in a cell.
+    fn meet_cell(&mut self, slots: &Slots, cell: &Cell) -> Result<(), AllocError>
+        ensures { OnOk result (Meets slots.now self.old self.new (λ x. names_cell x cell.now)) }
+    {
+        self.meet_readings(slots, cell.first.readings.as_slice())?;
+        self.meet_segments(slots, cell.segments.as_slice())
+    }
+
     /// Meets the instructions that name a lane with these cells, which go from the last block to the
     /// first.
-    fn meet_lane(&mut self, slots: &Slots, cells: &[Cell]) -> Result<(), AllocError> {
+    fn meet_lane(&mut self, slots: &Slots, cells: &[Cell]) -> Result<(), AllocError>
+        ensures { OnOk result (Meets slots.now self.old self.new (λ x. list_any (names_cell x) cells.now)) }
+    {
         self.met = 0;
         'cells: for cell in cells.iter().rev() {
             self.meet_cell(slots, cell)?;
@@ -97,19 +144,42 @@ impl Found {
         Ok(())
     }
 
+    /// Meets the instructions that name one of these lanes.
+    fn meet_lanes(&mut self, table: &Table, own: Lanes) -> Result<(), AllocError>
+        ensures { OnOk result (Meets table.now.order.slots self.old self.new
+            (λ x. some_below (names_lane x table.now.rows.rows.items) own.first own.count)) }
+    {
+        'lanes: for k in 0..own.count {
+            self.meet_lane(&table.order.slots, table.rows.cells(own.first + k))?;
+        }
+        Ok(())
+    }
+
     /// The instructions in layout order, each once.
-    fn in_order(self, slots: &Slots) -> Vec<u32> {
+    fn in_order(self, slots: &Slots) -> Vec<u32>
+        ensures named { (x : ℕ) → has x result.items ≡ has x self.ids.items }
+        ensures order { InLine slots.now self → IsStrictlySortedBy nat_cmp (map (layout_key slots.now) result.items) }
+    {
         let Found {
             mut ids,
             is_mixed,
             ..
         } = self;
-        if is_mixed {
-            ids.sort_unstable_by_key(|id| layout_key(slots, *id));
-            ids.dedup();
+        if !is_mixed {
+            return ids;
         }
+        put_in_order(&mut ids, slots);
         ids
     }
+}
+
+/// Puts instructions in layout order, each once.
+fn put_in_order(ids: &mut Vec<u32>, slots: &Slots)
+    ensures named { (x : ℕ) → has x ids.new.items ≡ has x ids.old.items }
+    ensures order { IsStrictlySortedBy nat_cmp (map (layout_key slots.now) ids.new.items) }
+{
+    ids.sort_unstable_by_key(|id| layout_key(slots, *id));
+    ids.dedup();
 }
 
 impl Table {
@@ -147,19 +217,13 @@ impl LiveFunc {
     pub fn touched(&self, alloc: Global, v: u32) -> Result<Vec<u32>, AllocError>
         ensures { IfOk result (λ ids. AreTouched self.now.table v ids.items) }
     {
-        let own = self.table.lanes.of_range(v);
-        let slots = &self.table.order.slots;
         let mut found = Found {
             ids: Vec::new(alloc),
             met: 0,
             is_mixed: false,
         };
-        'lanes: for k in 0..own.count {
-            if let Some(lane) = own.lane(k) {
-                found.meet_lane(slots, self.table.rows.cells(lane))?;
-            }
-        }
-        Ok(found.in_order(slots))
+        found.meet_lanes(&self.table, self.table.lanes.of_range(v))?;
+        Ok(found.in_order(&self.table.order.slots))
     }
 
     /// The instruction of an id.

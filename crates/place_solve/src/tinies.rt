@@ -1,7 +1,8 @@
 //! Registers for the tinies of a place, all at once.
 
-ghost use Rattle.std.specs.Prelude.{◌≡◌, ◌++◌, ◌∷◌, [], None, IfOk, OnOk, filter, map};
+ghost use Rattle.std.specs.Prelude.{◌≡◌, ℕ, ◌++◌, ◌∷◌, [], None, Some, IfOk, OnOk, drop, filter, map, slice_get};
 ghost use Rattle.live_lanes.specs.Looks.{InOrder};
+ghost use Rattle.live_lanes.specs.Touching.{FindsInstrs};
 ghost use Rattle.place_solve.specs.Choice.{need_of};
 ghost use Rattle.place_solve.specs.Tinies as tiny;
 
@@ -10,7 +11,7 @@ use crate::search::first_choice;
 use crate::variables::{Kind, Variable, variables_of};
 use interference::{Matrix, Tinies, Tiny};
 use live_lanes::LiveFunc;
-use mir_func::{Func, Instr, Loc};
+use mir_func::{Block, Func, Instr, Loc};
 use phi_elim::phis::located_class;
 use phi_elim::reading::{effect_of, is_terminator};
 use std::alloc::{AllocError, Global};
@@ -19,27 +20,39 @@ use target_base::{Boxed, Effect, List, Reg, Target};
 /// Ranges with the registers that are chosen for them.
 pub type Choices = List<(u32, Reg)>;
 
-/// The instructions of the place that begins with the one of that id: the terminators of a block are
-/// one place.
-fn place_at(live: &LiveFunc, at: u32) -> &[Boxed<Instr>] {
-    let Some(block) = live
-        .func()
-        .blocks
-        .as_slice()
-        .get(live.position_of(at) as usize)
-    else {
+/// The first of these instructions, which make the rest of a block, or all where it is a terminator:
+/// the terminators of a block are one place.
+fn place_among<'a>(target: &Target, rest: &'a [Boxed<Instr>]) -> &'a [Boxed<Instr>]
+    ensures { result.now ≡ tiny.place_among target.now rest.now }
+{
+    match rest.first() {
+        None => rest,
+        Some(i) => {
+            if is_terminator(target, i.get()) {
+                rest
+            } else {
+                &rest[..1]
+            }
+        }
+    }
+}
+
+/// The instructions of the place that begins with the one of that id.
+fn place_at(live: &LiveFunc, at: u32) -> &[Boxed<Instr>]
+    ensures { FindsInstrs live.now.table live.now.func.blocks → (p j : ℕ) (b : Block) (i : Instr) → slice_get live.now.func.blocks p ≡ Some b
+        → slice_get b.instrs j ≡ Some i → i.id ≡ at → result.now ≡ tiny.place_among live.now.target (drop j b.instrs) }
+{
+    let blocks = live.func().blocks.as_slice();
+    let position = live.position_of(at) as usize;
+    if position >= blocks.len() {
         return &[];
-    };
-    let instrs = block.instrs.as_slice();
+    }
+    let instrs = blocks[position].instrs.as_slice();
     let k = live.place_of(at);
     if k >= instrs.len() {
         return &[];
     }
-    if is_terminator(live.target(), instrs[k].get()) {
-        &instrs[k..]
-    } else {
-        &instrs[k..k + 1]
-    }
+    place_among(live.target(), &instrs[k..])
 }
 
 /// Whether a range is one of the tinies.
@@ -164,7 +177,7 @@ pub fn solve_at(
     first: Tiny,
     tinies: &Tinies,
 ) -> Result<Option<Choices>, AllocError>
-    ensures { IfOk result (λ q. InOrder live.now.table → q ≡ tiny.tiny_choice live.now.target live.now.func live.now.table tinies.now first place.entry) }
+    ensures { IfOk result (λ q. InOrder live.now.table → q ≡ tiny.tiny_choice live.now.target live.now.func live.now.table tinies.now first place.now) }
 {
     let (target, f) = (live.target(), live.func());
     if is_store(target, place) {
@@ -175,9 +188,13 @@ pub fn solve_at(
     choose_at(alloc, live, Around::Instrs(place), variables.as_slice())
 }
 
-/// The same at the place of the tinies. None too where there is no tiny.
+/// The same at the place of the tinies, over a table in which instructions are found. None too where
+/// there is no tiny.
 pub fn solve(alloc: Global, m: &Matrix, tinies: &Tinies) -> Result<Option<Choices>, AllocError>
-    ensures { tinies.now ≡ [] → IfOk result (λ q. q ≡ None) }
+    ensures none { tinies.now ≡ [] → IfOk result (λ q. q ≡ None) }
+    ensures exact { (one : Tiny) (others : List Tiny) → tinies.now ≡ one ∷ others → InOrder m.now.live.table → FindsInstrs m.now.live.table m.now.live.func.blocks
+        → (p j : ℕ) (b : Block) (i : Instr) → slice_get m.now.live.func.blocks p ≡ Some b → slice_get b.instrs j ≡ Some i → i.id ≡ one.at
+        → IfOk result (λ q. q ≡ tiny.tiny_choice m.now.live.target m.now.live.func m.now.live.table tinies.now one (tiny.place_among m.now.live.target (drop j b.instrs))) }
 {
     let live = m.live();
     let Some(first) = tinies.as_slice().first() else {

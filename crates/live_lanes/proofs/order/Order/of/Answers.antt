@@ -6,7 +6,7 @@ use Rattle.slot_index.specs.Renewed.{low_end}
 use Rattle.live_lanes.specs.Ordered.{ids_of, all_ids, last_id, placed, AreSingle, Settles}
 use Rattle.mir_func.specs.Value.{IsFunction}
 use Rattle.live_lanes.proofs.Few.{few-points}
-use Rattle.live_lanes.proofs.Homes.{homes-none, homes-more, homes-all}
+use Rattle.live_lanes.proofs.Homes.{homes-none, homes-more, homes-all, ids-below}
 use Rattle.live_lanes.proofs.Ordered.{place-next, place-whole, blocks-more, blocks-ready, blocks-all, once-single}
 use Rattle.live_lanes.proofs.order.Order.of.Goals as goal
 
@@ -58,6 +58,7 @@ returns c =
       single = single;
       homes = homes-all c.args.func.now.blocks c.blocks-2.order.block_of.items c.blocks-2.position c.args.func.now.next_id whole (c.blocks-2.invariant.homes single) (subst (λ f. IsFunction f.blocks f.next_id) c.func.view_is c.func.invariant);
       few = few-points c.args.func.now.blocks c.args.func.now.next_id (subst (λ f. IsFunction f.blocks f.next_id) c.func.view_is c.func.invariant) next (omega (arith, c.in-Ok.ensures, long));
+      short = ids-below c.args.func.now.blocks c.args.func.now.next_id 4294967296 (subst (λ f. IsFunction f.blocks f.next_id) c.func.view_is c.func.invariant) next;
       small = subst (λ q. low_end q c.blocks-2.order.slots < 18446744073709551616) (c.blocks-2.invariant.ids single).1 below;
       numbered = c.blocks-2.invariant.numbered;
     }

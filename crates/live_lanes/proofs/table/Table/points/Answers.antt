@@ -1,33 +1,14 @@
-use Rattle.std.proofs.Common.{◌≡◌, ◌<◌, ℕ, List, Some, None, length, sym, ap, ◌∙◌, subst, arith}
+use Rattle.std.proofs.Common.{◌≡◌, ◌<◌, ◌∙◌, ℕ, List, length, sym, subst}
 use Rattle.mir_func.specs.declared.func.Block.{Block}
-use Rattle.live_lanes.specs.Held.{AreUnseen, IsLastBefore, block_held, sum_below, range_held}
-use Rattle.live_lanes.proofs.Summed.{block-none, sum-step, sum-end, range-same}
+use Rattle.live_lanes.specs.Held.{block_held, sum_below, range_held}
+use Rattle.live_lanes.proofs.Alike.{held-sums}
+use Rattle.live_lanes.proofs.Summed.{range-same}
 use Rattle.live_lanes.proofs.table.Table.points.Goals as goal
 
-pub layout-preserved : goal.layout-preserved
-layout-preserved c =
-    let x = c.args.self.now in
-    let bs : List Block = c.args.blocks.now in
-    let first = c.of_range-own.result.first in
-    let count = c.of_range-own.result.count in
-    let rows = x.rows.rows.items in
-    let held : ℕ → ℕ = block_held x bs first count in
-    let last : IsLastBefore (AreUnseen rows first count) c.layout.bound (Some c.in-Some.block) = subst (IsLastBefore (AreUnseen rows first count) c.layout.bound) c.in-Some.is c.last_before.ensures in
-    record {
-      bound = omega (arith, last.0, c.layout.invariant.bound);
-      sum = λ o r s. sum-step held (AreUnseen rows first count) c.layout.bound c.in-Some.block c.layout.total c.points_at.result c.saturating_add-total.result (sum_below held (length bs)) (λ b h. block-none x bs first count b h) last (c.layout.invariant.sum o r s) (c.points_at.ensures o r) c.saturating_add-total.ensures s;
-    }
-
 pub returns : goal.returns
-returns c = λ o r s.
+returns c = λ o r few.
     let x = c.args.self.now in
     let bs : List Block = c.args.blocks.now in
-    let first = c.of_range-own.result.first in
-    let count = c.of_range-own.result.count in
-    let rows = x.rows.rows.items in
-    let held : ℕ → ℕ = block_held x bs first count in
-    let same : range_held x bs c.args.v ≡ sum_below held (length bs) = range-same x bs c.args.v first count c.of_range-own.ensures in
-    let few : sum_below held (length bs) < 18446744073709551616 = subst (λ n. n < 18446744073709551616) same s in
-    let gone : c.last_before.result ≡ None = c.in_default.is in
-    let last : IsLastBefore (AreUnseen rows first count) c.layout.bound None = subst (IsLastBefore (AreUnseen rows first count) c.layout.bound) gone c.last_before.ensures in
-    sum-end held (AreUnseen rows first count) c.layout.bound c.layout.total (sum_below held (length bs)) (λ b h. block-none x bs first count b h) last (c.layout.invariant.sum o r few) ∙ sym same
+    let all : range_held x bs c.args.v ≡ sum_below (block_held x bs c.of_range-own.result.first c.of_range-own.result.count) (length bs) = range-same x bs c.args.v c.of_range-own.result.first c.of_range-own.result.count c.of_range-own.ensures in
+    let same : sum_below (block_held x bs c.counted_lanes.result.first c.counted_lanes.result.count) (length bs) ≡ range_held x bs c.args.v = held-sums x bs c.counted_lanes.result.first c.counted_lanes.result.count c.of_range-own.result.first c.of_range-own.result.count c.counted_lanes.ensures ∙ sym all in
+    c.points_of.ensures o r (subst (λ n. n < 18446744073709551616) (sym same) few) ∙ same

@@ -1,7 +1,7 @@
 use Rattle.std.proofs.Common.{◌≡◌, ◌<◌, ◌≤◌, ◌+◌, length}
 use Rattle.live_lanes.specs.Looks.{InOrder}
 use Rattle.live_lanes.specs.Held.{AreRanked, block_held, sum_below}
-use Rattle.live_lanes.proofs.table.Table.points.Given as goal
+use Rattle.live_lanes.proofs.table.Table.points_of.Given as goal
 
 abbrev pub invariant-layout : goal.invariant-layout
 invariant-layout l = record {

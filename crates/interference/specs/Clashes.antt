@@ -1,0 +1,121 @@
+-- Which registers ranges have, what they hold, and with what a range in a register would clash.
+use Rattle.std.specs.Prelude.{◌≡◌, ◌<◌, ◌≤◌, ℕ, suc, ◌+◌, Bool, false, cond, not, ◌&&◌, ◌||◌, nat_eq, nat_le, List, [], ◌∷◌, ◌++◌, map, flat_map, filter, length, Option, None, Some, slice_get}
+use Rattle.std.specs.List.{list_any}
+use Rattle.target_base.specs.declared.types.Reg.{Reg}
+use Rattle.target_base.specs.declared.types.Unit.{Unit as UnitNumber}
+use Rattle.target_base.specs.Registers.{units_of}
+use Rattle.mir_meaning.specs.Registers.{numbers}
+use Rattle.lane_effects.specs.Numbered.{number_in}
+use Rattle.lane_effects.specs.declared.owner.Owner.TheVariants as owners
+use Rattle.live_lanes.specs.declared.extent.Extent.{Extent}
+use Rattle.live_lanes.specs.declared.extent.Stretch.{Stretch}
+use Rattle.live_lanes.specs.declared.row.Cell.{Cell}
+use Rattle.live_lanes.specs.declared.table.Table.{Table}
+use Rattle.live_lanes.specs.Table.{Numbers}
+use Rattle.live_lanes.specs.Entered.{cells_of}
+use Rattle.live_lanes.specs.Looks.{InOrder}
+use Rattle.live_lanes.specs.Extents.{cell_extents, first_rank, last_rank, stretch_of, is_met}
+use Rattle.interference.specs.declared.held.Held.{Held}
+use Rattle.interference.specs.declared.held.HeldList.{HeldList}
+use Rattle.interference.specs.declared.matrix.AllHeld.{AllHeld}
+use Rattle.interference.specs.declared.matrix.Matrix.{Matrix}
+use Rattle.interference.specs.declared.matrix.Clash.{Clash}
+use Rattle.interference.specs.declared.matrix.Clash.TheVariants as clashes
+
+-- the register of a range, where it has one
+abbrev pub register_in : List (Option Reg) → ℕ → Option Reg
+register_in rs v = elim (slice_get rs v) [ None ↦ None | Some r ↦ r ]
+
+-- the stretches of a list, over its parts
+abbrev pub held_of : HeldList → List Held
+held_of h = flat_map (λ p. p.items) h.parts.items
+
+-- the list of a unit in the block at a position
+abbrev pub list_in : AllHeld → ℕ → ℕ → Option HeldList
+list_in h u b = elim (slice_get h.units.items u) [ None ↦ None | Some r ↦ slice_get r.blocks.items b ]
+
+abbrev pub held_of_some : Option HeldList → List Held
+held_of_some None = []
+held_of_some (Some h) = held_of h
+
+-- what ranges hold of a unit in the block at a position
+abbrev pub holds : Matrix → ℕ → ℕ → List Held
+holds m u b = held_of_some (list_in m.held u b)
+
+-- each stretch begins behind the one before it
+abbrev pub AreApart : Numbers → ℕ → List Held → Type 0
+AreApart slots n [] = Unit {0}
+AreApart slots n (h ∷ hs) = (n ≤ first_rank slots h.extent) × AreApart slots (last_rank slots h.extent + 1) hs
+
+-- none of several parts is empty
+abbrev pub AreFilled : HeldList → Type 0
+AreFilled h = 1 < length h.parts.items → list_any (λ p. nat_eq (length p.items) 0) h.parts.items ≡ false
+
+-- each holding range has a place among the registers
+abbrev pub AreKnown : ℕ → List Held → Type 0
+AreKnown n hs = list_any (λ h. nat_le n h.range) hs ≡ false
+
+-- the stretches that are held of each unit in each block stand in order
+pub record IsOrdered (m : Matrix) : Type 0 where
+  pub table : InOrder m.live.table
+  pub registers : length m.registers.items ≡ length m.live.func.classes
+  pub filled : (u b : ℕ) (h : HeldList) → list_in m.held u b ≡ Some h → AreFilled h
+  pub apart : (u b : ℕ) → AreApart m.live.table.order.slots 0 (holds m u b)
+  pub known : (u b : ℕ) → AreKnown (length m.registers.items) (holds m u b)
+
+-- the two have a point in common
+abbrev pub touches : Numbers → Extent → Stretch → Bool
+touches slots e at = nat_le (first_rank slots e) at.last && nat_le at.first (last_rank slots e)
+
+-- another range than one holds some of these points
+abbrev pub is_taken : Numbers → List Held → ℕ → Stretch → Bool
+is_taken slots hs but at = list_any (λ h. not (nat_eq h.range but) && touches slots h.extent at) hs
+
+-- that range does
+abbrev pub is_taken_by : Numbers → List Held → ℕ → Stretch → Bool
+is_taken_by slots hs w at = list_any (λ h. nat_eq h.range w && touches slots h.extent at) hs
+
+-- a unit is live or occupied by itself, or another range than `but` holds it, at some of these points of the block at a position
+abbrev pub is_held : Matrix → ℕ → ℕ → ℕ → Stretch → Bool
+is_held m u but b at = is_met m.live.table u b at || is_taken m.live.table.order.slots (holds m u b) but at
+
+-- points of a unit in the block at a position
+pub record Points : Type 0 where
+  pub unit : ℕ
+  pub block : ℕ
+  pub at : Stretch
+
+abbrev pub cell_points : Numbers → ℕ → Cell → List Points
+cell_points slots u c = map (λ e. record { unit = u; block = c.block; at = stretch_of slots e }) (cell_extents c)
+
+-- those that a lane would take in a unit
+abbrev pub lane_points : Table → ℕ → Option ℕ → List Points
+lane_points x u None = []
+lane_points x u (Some lane) = flat_map (cell_points x.order.slots u) (cells_of x.rows.rows.items lane)
+
+-- those that the lanes of a range, from lane k on, would take in these units
+abbrev pub range_points : Table → ℕ → ℕ → List UnitNumber → List Points
+range_points x v k [] = []
+range_points x v k (u ∷ us) = lane_points x u.0 (number_in x.lanes (owners.Range v k)) ++ range_points x v (suc k) us
+
+-- those that a range would take in a register
+abbrev pub points_in : Matrix → ℕ → Reg → List Points
+points_in m v p = range_points m.live.table v 0 (units_of m.live.target p)
+
+-- some of them are those at which the unit is live or occupied by itself
+abbrev pub is_fixed : Matrix → ℕ → Reg → Bool
+is_fixed m v p = list_any (λ s. is_met m.live.table s.unit s.block s.at) (points_in m v p)
+
+-- another range, w, holds some of them
+abbrev pub is_in_way : Matrix → ℕ → Reg → ℕ → Bool
+is_in_way m v p w = not (nat_eq w v) && list_any (λ s. is_taken_by m.live.table.order.slots (holds m s.unit s.block) w s.at) (points_in m v p)
+
+abbrev pub ranges_of : Matrix → List ℕ
+ranges_of m = numbers 0 (length m.registers.items)
+
+abbrev pub clash_at : Matrix → ℕ → Reg → Clash
+clash_at m v p = cond (is_fixed m v p) clashes.Fixed (clashes.Ranges (filter (is_in_way m v p) (ranges_of m)))
+
+-- nothing is in the way
+abbrev pub is_free : Matrix → ℕ → Reg → Bool
+is_free m v p = not (is_fixed m v p) && not (list_any (is_in_way m v p) (ranges_of m))

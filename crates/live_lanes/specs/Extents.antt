@@ -1,0 +1,61 @@
+-- The points of lanes, piece by piece, and whether a lane has one of a stretch of points.
+use Rattle.std.specs.Prelude.{ℕ, zero, suc, ◌+◌, ◌-◌, Bool, false, cond, List, Option, None, Some, max, nat_le, slice_get, option_map}
+use Rattle.std.specs.List.{list_any, filter_map}
+use Rattle.mir_meaning.specs.Registers.{numbers}
+use Rattle.lane_effects.specs.declared.row.Lanes.{Lanes}
+use Rattle.live_lanes.specs.declared.row.End.{End}
+use Rattle.live_lanes.specs.declared.row.Segment.{Segment}
+use Rattle.live_lanes.specs.declared.row.Cell.{Cell}
+use Rattle.live_lanes.specs.declared.extent.Extent.{Extent}
+use Rattle.live_lanes.specs.declared.extent.Stretch.{Stretch}
+use Rattle.live_lanes.specs.declared.table.Table.{Table}
+use Rattle.live_lanes.specs.Table.{Numbers, Begun, Seen, leading, entry_rank, exit_rank, end_rank}
+use Rattle.live_lanes.specs.Entered.{rows_seen, piece_count}
+use Rattle.live_lanes.specs.Reach.{is_never}
+use Rattle.live_lanes.specs.Held.{held_at, hold_rank}
+
+-- how many lanes a range has
+abbrev pub lanes_count : Option Lanes → ℕ
+lanes_count None = 0
+lanes_count (Some own) = own.count
+
+-- the points of the piece that begins with the block, if it has any
+abbrev pub block_extent : End → Option Extent
+block_extent e = cond (is_never e) None (Some (record { start = None; early = false; end = e }))
+
+-- those of a piece that begins with a writing
+abbrev pub segment_extent : Segment → Extent
+segment_extent s = record { start = Some s.start; early = s.early; end = s.piece.end }
+
+-- those of a piece of a cell, by its number
+abbrev pub extent_in : Option Cell → ℕ → Option Extent
+extent_in None index = None
+extent_in (Some c) zero = block_extent c.first.end
+extent_in (Some c) (suc k) = option_map segment_extent (slice_get c.segments.items k)
+
+-- those of all pieces of a cell
+abbrev pub cell_extents : Cell → List Extent
+cell_extents c = filter_map (extent_in (Some c)) (numbers 0 (piece_count (Some c)))
+
+-- the block's start, or the first point that the writing occupies
+abbrev pub first_rank : Numbers → Extent → ℕ
+first_rank slots e = elim e.start [ None ↦ 0 | Some id ↦ cond e.early (entry_rank slots id) (exit_rank slots id) ]
+
+-- the last point at which the lane is live, or that the writing occupies
+abbrev pub last_rank : Numbers → Extent → ℕ
+last_rank slots e = elim e.start [ None ↦ end_rank slots e.end | Some id ↦ max (end_rank slots e.end) (exit_rank slots id) ]
+
+abbrev pub stretch_of : Numbers → Extent → Stretch
+stretch_of slots e = record { first = first_rank slots e; last = last_rank slots e }
+
+-- how many pieces begin with writings that occupy the lane at the point or before it
+abbrev pub begun_by : Numbers → ℕ → List Begun → ℕ
+begun_by slots at ss = leading (λ s. nat_le (hold_rank slots s) at) ss
+
+-- a lane in a block is live or occupied at one of these points
+abbrev pub is_met_in : Numbers → Seen → Stretch → Bool
+is_met_in slots v at = list_any (held_at slots v) (numbers at.first (at.last + 1 - at.first))
+
+-- the lane of that number is, in the block at a position
+abbrev pub is_met : Table → ℕ → ℕ → Stretch → Bool
+is_met x lane block at = is_met_in x.order.slots (rows_seen x.rows.rows.items lane block) at
