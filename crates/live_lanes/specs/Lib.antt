@@ -21,4 +21,3 @@ pub mod Occupied
 pub mod Touching
 pub mod Alike
 pub mod Extents
-pub mod Tells

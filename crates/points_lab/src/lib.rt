@@ -1,0 +1,6 @@
+//! Points of lanes, tried by themselves.
+#![tactic(auto)]
+
+pub fn none() -> bool {
+    false
+}
