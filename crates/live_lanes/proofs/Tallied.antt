@@ -66,6 +66,21 @@ module _ (slots : Numbers) where
       let b : one (nat_lt (exit_rank slots i.id) at) ≡ 0 = ap one (lt-false (exit_rank slots i.id) at (omega arith)) in
       omega (arith, ih, a, b)
 
+  all-below : (at n : ℕ) (is : List Instr) → AreRising slots n (ids_of is) → 36893488147419103232 ≤ at → below at is ≡ length is * 2
+  all-below at n [] r h = refl
+  all-below at n (i ∷ is) r h =
+      let fits = r.1 in
+      let ih = all-below at (number_of slots i.id) is r.2 h in
+      let a : one (nat_lt (entry_rank slots i.id) at) ≡ 1 = ap one (lt-ltb (entry_rank slots i.id) at (omega arith)) in
+      let b : one (nat_lt (exit_rank slots i.id) at) ≡ 1 = ap one (lt-ltb (exit_rank slots i.id) at (omega arith)) in
+      omega (arith, ih, a, b)
+
+  -- all points lie before the end of a block
+  pub counted-all : (at : ℕ) (is : List Instr) → AreRising slots 0 (ids_of is) → 36893488147419103232 ≤ at → length is * 2 + 1 ≡ passing slots (λ x. nat_lt x at) (ids_of is)
+  counted-all at is r h =
+      let first : one (nat_lt 0 at) ≡ 1 = ap one (lt-ltb 0 at (omega arith)) in
+      omega (arith, all-below at 0 is r h, first)
+
   no-entries : (at n : ℕ) (is : List Instr) → AreRising slots n (ids_of is) → at ≤ n * 2 + 2 → entries at is ≡ 0
   no-entries at n [] r h = refl
   no-entries at n (i ∷ is) r h = let low = r.0 in ap (λ b. cond b (suc (entries at is)) 0) (lt-false (entry_rank slots i.id) at (omega arith))

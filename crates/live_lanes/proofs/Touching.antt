@@ -1,6 +1,6 @@
 -- Which instructions are found, and that they come in layout order.
 use Rattle.std.proofs.Common.{add-one, ◌⊎◌, inl, inr, ◌+◌, ◌-◌, ◌≡◌, ◌<◌, ◌≤◌, ℕ, zero, suc, Bool, true, false, not, cond, length, List, [], ◌∷◌, ◌++◌, take, map, Option, None, Some, refl, sym, ap, ◌∙◌, subst, arith, get_or, eqb, eqb-true, length-append}
-use Rattle.std.specs.Prelude.{slice_get, nat_eq, nat_lt, reverse, ◌||◌}
+use Rattle.std.specs.Prelude.{slice_get, slice_index, nat_eq, nat_lt, reverse, ◌||◌}
 use Rattle.std.specs.Ordering.{nat_cmp}
 use Rattle.std.specs.declared.cmp.Ordering.TheVariants.{Less, Equal, Greater}
 use Rattle.std.specs.List.{list_any, AllByRecursion, dedup, dedup_from}
@@ -19,6 +19,7 @@ use Rattle.lane_effects.specs.Numbers.{row_number_in}
 use Rattle.live_lanes.specs.declared.table.Table.{Table}
 use Rattle.live_lanes.specs.declared.touch.Found.{Found}
 use Rattle.live_lanes.specs.Table.{Numbers}
+use Rattle.live_lanes.specs.Ends.{row_at}
 use Rattle.live_lanes.specs.Paths.{has}
 use Rattle.live_lanes.specs.Touching.{some_below, some_of, some_lane, names_lane, layout_key, AreTouched, InLine, Meets}
 use Rattle.live_lanes.proofs.Flowing.{has-any, push-has, kept-has, or-assoc, or-false}
@@ -268,3 +269,32 @@ touched-found x v first count empty found ids none own all same line = record {
   order = line (all.line (λ m. subst (λ xs. IsStrictlySortedBy nat_cmp (map (layout_key x.order.slots) xs)) (sym none) (sorted_from_strictly_increasing [] (λ k lt. absurd (omega arith)))));
   named = λ id. same id ∙ all.named id ∙ ap (λ xs. has id xs || some_below (names_lane id x.rows.rows.items) first count) none ∙ range-lanes (names_lane id x.rows.rows.items) x v first count own;
 }
+
+-- lanes of which none passed the test so far
+pub lane-found : (test : ℕ → Bool) (first k l count : ℕ) → k < count → l ≡ first + k → test l ≡ true → true ≡ some_below test first count
+lane-found test first k l zero h e holds = absurd (omega arith)
+lane-found test first k l (suc n) h e holds = go (cases_lt k n) (λ lt. lane-found test first k l n lt e holds)
+  where
+    or-true : (t : Bool) → (t || true) ≡ true
+    or-true true = refl
+    or-true false = refl
+
+    go : (k < n) ⊎ (n ≤ k) → (k < n → true ≡ some_below test first n) → true ≡ (test (first + n) || some_below test first n)
+    go (inl lt) ih = sym (ap (λ t. test (first + n) || t) (sym (ih lt)) ∙ or-true (test (first + n)))
+    go (inr ge) ih =
+        let same : l ≡ first + n = omega (arith, h, e, ge) in
+        sym (ap (λ t. t || some_below test first n) (ap test (sym same) ∙ holds))
+
+pub lane-missed : (test : ℕ → Bool) (first k l : ℕ) → l ≡ first + k → test l ≡ false → false ≡ some_below test first k → false ≡ some_below test first (k + 1)
+lane-missed test first k l e fails none = none ∙ sym (ap (some_below test first) (add-one k) ∙ ap (λ n. test n || some_below test first k) (sym e) ∙ ap (λ t. t || some_below test first k) fails)
+
+pub lanes-missed : (test : ℕ → Bool) (first k count : ℕ) → k ≤ count → count ≤ k → false ≡ some_below test first k → false ≡ some_below test first count
+lanes-missed test first k count h g none =
+    let same : k ≡ count = omega arith in
+    subst (λ n. false ≡ some_below test first n) same none
+
+pub lanes-at : (x : Table) (v first count id block at rank : ℕ) → block ≡ slice_index x.order.block_of.items id → at ≡ rank → ((k : ℕ) → lane_in first count k ≡ row_number_in (slice_get x.lanes.ranges.items v) k) → some_below (λ l. row_at x.order.slots x.rows.rows.items l block at) first count ≡ some_lane x v (λ l. row_at x.order.slots x.rows.rows.items l (slice_index x.order.block_of.items id) rank)
+lanes-at x v first count id block at rank there same own =
+    ap (λ b. some_below (λ l. row_at x.order.slots x.rows.rows.items l b at) first count) there
+    ∙ ap (λ n. some_below (λ l. row_at x.order.slots x.rows.rows.items l (slice_index x.order.block_of.items id) n) first count) same
+    ∙ range-lanes (λ l. row_at x.order.slots x.rows.rows.items l (slice_index x.order.block_of.items id) rank) x v first count own

@@ -21,3 +21,4 @@ pub mod Occupied
 pub mod Touching
 pub mod Alike
 pub mod Extents
+pub mod Tells

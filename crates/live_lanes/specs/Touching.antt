@@ -1,10 +1,11 @@
 -- Which instructions name a range, by the table, and where instructions are found.
-use Rattle.std.specs.Prelude.{◌≡◌, ℕ, zero, suc, ◌+◌, ◌*◌, Bool, false, ◌||◌, nat_eq, List, map, Option, None, Some, slice_get}
+use Rattle.std.specs.Prelude.{◌≡◌, ℕ, zero, suc, ◌+◌, ◌-◌, ◌*◌, length, Bool, false, ◌||◌, nat_eq, List, map, Option, None, Some, slice_get}
 use Rattle.std.specs.Ordering.{nat_cmp}
 use Rattle.std.specs.List.{list_any}
 use Rattle.std.specs.List.Sorted.{IsStrictlySortedBy}
 use Rattle.slot_index.specs.Order.{number_of}
 use Rattle.mir_func.specs.declared.func.Block.{Block}
+use Rattle.mir_func.specs.declared.func.Instr.{Instr}
 use Rattle.lane_effects.specs.declared.row.Lanes.{Lanes}
 use Rattle.live_lanes.specs.declared.row.Reading.{Reading}
 use Rattle.live_lanes.specs.declared.row.Segment.{Segment}
@@ -13,7 +14,9 @@ use Rattle.live_lanes.specs.declared.row.Row.{Row}
 use Rattle.live_lanes.specs.declared.table.Table.{Table}
 use Rattle.live_lanes.specs.declared.touch.Found.{Found}
 use Rattle.live_lanes.specs.Table.{Numbers}
-use Rattle.live_lanes.specs.Entered.{cells_of}
+use Rattle.live_lanes.specs.Entered.{causes, cells_of}
+use Rattle.live_lanes.specs.Graph.{is_live}
+use Rattle.live_lanes.specs.Looks.{exit_at}
 use Rattle.live_lanes.specs.Held.{AreRanked}
 use Rattle.live_lanes.specs.Ordered.{AreHomes}
 use Rattle.live_lanes.specs.Paths.{has}
@@ -50,6 +53,15 @@ some_lane x v test = some_of test (slice_get x.lanes.ranges.items v)
 -- the instruction reads or writes a lane of the range
 abbrev pub names_range : Table → ℕ → ℕ → Bool
 names_range x v id = some_lane x v (names_lane id x.rows.rows.items)
+
+-- a lane of the range is live behind the last instruction of the block at the position, or at its start where there is none
+abbrev pub leaves_last : Table → ℕ → ℕ → Option Instr → Bool
+leaves_last x v p None = some_lane x v (λ l. is_live (causes x.rows.rows.items l p 0))
+leaves_last x v p (Some i) = some_lane x v (λ l. exit_at x (Some l) i.id)
+
+abbrev pub leaves_block : Table → ℕ → ℕ → Option Block → Bool
+leaves_block x v p None = false
+leaves_block x v p (Some b) = leaves_last x v p (slice_get b.instrs (length b.instrs - 1))
 
 -- a number of an instruction, which rises along the layout; no two have the same
 abbrev pub layout_key : Numbers → ℕ → ℕ

@@ -189,6 +189,9 @@ impl Table {
         if at == 0 {
             return 0;
         }
+        if at == u128::MAX {
+            return (instrs.len() as u64) * 2 + 1;
+        }
         let slots = &self.order.slots;
         let entries = instrs.partition_point(|i| entry_rank(slots, i.get().id) < at);
         let exits = instrs.partition_point(|i| exit_rank(slots, i.get().id) < at);

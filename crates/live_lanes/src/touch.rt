@@ -4,14 +4,20 @@ ghost use Rattle.std.specs.Prelude.{◌≡◌, ℕ, [], ◌∷◌, ◌++◌, tru
 ghost use Rattle.std.specs.List.{list_any};
 ghost use Rattle.std.specs.List.Sorted.{IsStrictlySortedBy};
 ghost use Rattle.std.specs.Ordering.{nat_cmp};
+ghost use Rattle.std.specs.BTreeMap.{get};
+ghost use Rattle.live_lanes.specs.Ends.{row_at};
+ghost use Rattle.live_lanes.specs.Entered.{causes};
+ghost use Rattle.live_lanes.specs.Graph.{is_live};
+ghost use Rattle.live_lanes.specs.Looks.{InOrder, entry_at, exit_at};
 ghost use Rattle.live_lanes.specs.Ordered.{ids_of, AreRising};
 ghost use Rattle.live_lanes.specs.Paths.{has};
-ghost use Rattle.live_lanes.specs.Touching.{AreTouched, FindsInstrs, InLine, Meets, layout_key, names_cell, names_lane, names_segment, reads_in, some_below};
+ghost use Rattle.live_lanes.specs.Ways.{successors as behind};
+ghost use Rattle.live_lanes.specs.Touching.{leaves_block, some_lane, AreTouched, FindsInstrs, InLine, Meets, layout_key, names_cell, names_lane, names_segment, reads_in, some_below};
 
 use crate::flow::successors;
 use crate::live::LiveFunc;
-use crate::row::{Cell, Piece, Reading, Segment, entry_rank};
-use crate::table::Table;
+use crate::row::{Cell, Piece, Reading, Segment, entry_rank, exit_rank};
+use crate::table::{Rows, Table};
 use lane_effects::row::Lanes;
 use mir_func::{Block, Instr};
 use slot_index::Slots;
@@ -251,7 +257,9 @@ impl LiveFunc {
     }
 
     /// The position in the layout of the block of that number; of several, that of the first.
-    pub fn block_position(&self, number: u32) -> Option<u32> {
+    pub fn block_position(&self, number: u32) -> Option<u32>
+        ensures { result ≡ get nat_cmp self.now.table.order.positions number }
+    {
         self.table.order.position(number)
     }
 }
@@ -330,18 +338,44 @@ impl LiveFunc {
     }
 
     /// The positions of the blocks behind the one at a position.
-    pub fn successors(&self, position: u32) -> &[u32] {
+    pub fn successors(&self, position: u32) -> &[u32]
+        ensures { result.now ≡ behind self.now.table.flow.items position }
+    {
         successors(self.table.flow.as_slice(), position)
     }
 
     /// Whether some lane of a range is live at the start of the block at a position.
-    pub fn is_live_into(&self, v: u32, position: u32) -> bool {
-        let own = self.table.lanes.of_range(v);
+    pub fn is_live_into(&self, v: u32, position: u32) -> bool
+        ensures { result ≡ some_lane self.now.table v (λ l. is_live (causes self.now.table.rows.rows.items l position 0)) }
+    {
+        self.table
+            .rows
+            .is_some_live_in(self.table.lanes.of_range(v), position)
+    }
+}
+
+impl Rows {
+    /// Whether one of these lanes is live at the start of a block.
+    fn is_some_live_in(&self, own: Lanes, block: u32) -> bool
+        ensures { result ≡ some_below (λ l. is_live (causes self.now.rows.items l block 0)) own.first own.count }
+    {
         'lanes: for k in 0..own.count {
-            if let Some(lane) = own.lane(k) {
-                if self.table.rows.is_live_in(lane, position) {
-                    return true;
-                }
+            if self.is_live_in(own.first + k, block) {
+                return true;
+            }
+        }
+        false
+    }
+}
+
+impl Table {
+    /// Whether one of these lanes is live at the point of this rank in a block.
+    fn is_some_live_at(&self, own: Lanes, block: u32, at: u128) -> bool
+        ensures { InOrder self.now → result ≡ some_below (λ l. row_at self.now.order.slots self.now.rows.rows.items l block at) own.first own.count }
+    {
+        'lanes: for k in 0..own.count {
+            if self.is_live_at(own.first + k, block, at) {
+                return true;
             }
         }
         false
@@ -350,24 +384,35 @@ impl LiveFunc {
 
 impl LiveFunc {
     /// Whether some lane of a range is live at the end of the block at a position.
-    pub fn is_live_out_of(&self, v: u32, position: u32) -> bool {
-        let last = match self.func.blocks.as_slice().get(position as usize) {
-            Some(block) => block.instrs.as_slice().last(),
-            None => return false,
+    pub fn is_live_out_of(&self, v: u32, position: u32) -> bool
+        ensures { InOrder self.now.table → result ≡ leaves_block self.now.table v position (slice_get self.now.func.blocks position) }
+    {
+        let Some(block) = self.func.blocks.as_slice().get(position as usize) else {
+            return false;
         };
-        match last {
+        match block.instrs.as_slice().last() {
             Some(instr) => self.is_live_behind(v, instr.get().id),
             None => self.is_live_into(v, position),
         }
     }
 
     /// Whether some lane of a range is live at the entry of an instruction.
-    pub fn is_live_before(&self, v: u32, id: u32) -> bool {
-        (0..self.table.lanes.of_range(v).count).any(|k| self.live_in(v, k as usize, id))
+    pub fn is_live_before(&self, v: u32, id: u32) -> bool
+        ensures { InOrder self.now.table → result ≡ some_lane self.now.table v (λ l. entry_at self.now.table (Some l) id) }
+    {
+        let order = &self.table.order;
+        let at = entry_rank(&order.slots, id);
+        self.table
+            .is_some_live_at(self.table.lanes.of_range(v), order.block_of(id), at)
     }
 
     /// Whether some lane of a range is live at the exit of an instruction.
-    pub fn is_live_behind(&self, v: u32, id: u32) -> bool {
-        (0..self.table.lanes.of_range(v).count).any(|k| self.live_out(v, k as usize, id))
+    pub fn is_live_behind(&self, v: u32, id: u32) -> bool
+        ensures { InOrder self.now.table → result ≡ some_lane self.now.table v (λ l. exit_at self.now.table (Some l) id) }
+    {
+        let order = &self.table.order;
+        let at = exit_rank(&order.slots, id);
+        self.table
+            .is_some_live_at(self.table.lanes.of_range(v), order.block_of(id), at)
     }
 }

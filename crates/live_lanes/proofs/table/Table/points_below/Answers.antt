@@ -4,11 +4,14 @@ use Rattle.mir_func.specs.declared.func.Instr.{Instr}
 use Rattle.std.proofs.lemmas.List.Sorted.{IsPartitionPoint-from_clause}
 use Rattle.live_lanes.specs.Table.{entry_rank, exit_rank, leading}
 use Rattle.live_lanes.proofs.Cells.{partition-leading}
-use Rattle.live_lanes.proofs.Tallied.{entries-parted, exits-parted, counted-below, counted-none}
+use Rattle.live_lanes.proofs.Tallied.{entries-parted, exits-parted, counted-all, counted-below, counted-none}
 use Rattle.live_lanes.proofs.table.Table.points_below.Goals as goal
 
 pub returns-then-at-eq0 : goal.returns-then-at-eq0
 returns-then-at-eq0 c = λ r. counted-none c.args.self.now.order.slots c.args.instrs.now c.args.at r c.if-at-eq0.true
+
+pub returns-then-at : goal.returns-then-at
+returns-then-at c = λ r. counted-all c.args.self.now.order.slots c.args.at c.args.instrs.now r (omega (arith, c.if-at.true))
 
 pub returns : goal.returns
 returns c = λ r.
