@@ -234,3 +234,101 @@ module _ (slots : Numbers) (c : Cell) (rises : rises_from slots 0 (seen_cell c).
       go : (k : ℕ) → begun_by slots r vs ≡ k → ((e : Extent) × (extent_in (Some c) (begun_by slots r vs) ≡ Some e) × (r ≤ last_rank slots e)) → (e : Extent) × Among e (cell_extents c) × (first_rank slots e ≤ r) × (r ≤ last_rank slots e)
       go zero b (e, is, le) = let f = ap (extent_in (Some c)) (sym b) ∙ is in (e, piece-extent c 0 e f, block-start (is_never c.first.end) e f, le)
       go (suc j) b (e, is, le) = let f = ap (extent_in (Some c)) (sym b) ∙ is in (e, piece-extent c (suc j) e f, segment-start j e f (begun-tells slots 0 r vs j rises b), le)
+
+-- pieces end in turn
+
+module _ (slots : Numbers) where
+  turn-first : (e : End) (m : ℕ) (ss : List Begun) (i : ℕ) (s : Begun) → rises_from slots m ss ≡ true → turns_from slots e ss ≡ true → slice_get ss i ≡ Some s → end_rank slots e ≤ hold_rank slots s
+  turn-first e m [] i s r t g = absurd (cc)
+  turn-first e m (x ∷ xs) zero s r t g = let P : Begun → Type 0 = λ y. end_rank slots e ≤ hold_rank slots y in subst P (some-same x s g) (leb-true (end_rank slots e) (hold_rank slots x) (and_parts _ _ t).0)
+  turn-first e m (x ∷ xs) (suc i) s r t g =
+      let a : end_rank slots e ≤ hold_rank slots x = leb-true (end_rank slots e) (hold_rank slots x) (and_parts _ _ t).0 in
+      let b : hold_rank slots x ≤ exit_rank slots x.start = hold-high slots x in
+      let d : number_of slots x.start * 2 + 1 < hold_rank slots s = hold-above slots (number_of slots x.start) xs i s (and_parts _ _ r).1 g in
+      omega arith
+
+  -- a piece is over before the first point of a later one, or at it
+  turn-later : (e : End) (m : ℕ) (ss : List Begun) (j i : ℕ) (a s : Begun) → rises_from slots m ss ≡ true → turns_from slots e ss ≡ true → slice_get ss j ≡ Some a → slice_get ss i ≡ Some s → j < i → (end_rank slots a.end ≤ hold_rank slots s) × (exit_rank slots a.start < hold_rank slots s)
+  turn-later e m [] j i a s r t g h lt = absurd (cc)
+  turn-later e m (x ∷ xs) j zero a s r t g h lt = absurd (omega arith)
+  turn-later e m (x ∷ xs) zero (suc i) a s r t g h lt =
+      let P : Begun → Type 0 = λ y. (end_rank slots y.end ≤ hold_rank slots s) × (exit_rank slots y.start < hold_rank slots s) in
+      subst P (some-same x a g) (turn-first x.end (number_of slots x.start) xs i s (and_parts _ _ r).1 (and_parts _ _ t).1 h, hold-above slots (number_of slots x.start) xs i s (and_parts _ _ r).1 h)
+  turn-later e m (x ∷ xs) (suc j) (suc i) a s r t g h lt = turn-later x.end (number_of slots x.start) xs j i a s (and_parts _ _ r).1 (and_parts _ _ t).1 g h (omega arith)
+
+  begun-least : (r m : ℕ) (ss : List Begun) (j : ℕ) (s : Begun) → rises_from slots m ss ≡ true → slice_get ss j ≡ Some s → hold_rank slots s ≤ r → j < begun_by slots r ss
+  begun-least r m [] j s rises g h = absurd (cc)
+  begun-least r m (x ∷ xs) zero s rises g h =
+      let le : hold_rank slots x ≤ r = (let P : Begun → Type 0 = λ y. hold_rank slots y ≤ r in subst P (sym (some-same x s g)) h) in
+      let c = count-more slots r x xs le in omega (arith, c)
+  begun-least r m (x ∷ xs) (suc j) s rises g h =
+      let b : hold_rank slots x ≤ exit_rank slots x.start = hold-high slots x in
+      let d : number_of slots x.start * 2 + 1 < hold_rank slots s = hold-above slots (number_of slots x.start) xs j s (and_parts _ _ rises).1 g in
+      let c = count-more slots r x xs (omega arith) in
+      let ih : j < begun_by slots r xs = begun-least r (number_of slots x.start) xs j s (and_parts _ _ rises).1 g h in omega (arith, c, ih)
+
+extent-piece : (c : Cell) (e : Extent) → Among e (cell_extents c) → (k : ℕ) × (extent_in (Some c) k ≡ Some e)
+extent-piece c e m = let z = filter_map-in (extent_in (Some c)) (numbers 0 (piece_count (Some c))) e m in (z.0, z.2)
+
+module _ (slots : Numbers) (c : Cell) (rises : rises_from slots 0 (seen_cell c).segments ≡ true) (turns : ends_in_turn slots (seen_cell c) ≡ true) where
+  abbrev ws : List Begun
+  ws = (seen_cell c).segments
+
+  -- at the first point of a piece that is the last to begin there
+  at-start : (r i : ℕ) (s : Begun) → begun_by slots r ws ≡ suc i → slice_get ws i ≡ Some s → r ≡ hold_rank slots s → is_met_in slots (seen_cell c) (only r) ≡ true
+  at-start r i s b g e =
+      let P : ℕ → Type 0 = λ x. lasts slots x (extent_in (Some c) (suc i)) ≡ true in
+      at-only slots c rises r ∙ (ap (λ k. lasts slots r (extent_in (Some c) k)) b ∙ subst P (sym e) (start-lasts slots c i s g))
+
+  within-piece : (r k : ℕ) (e : Extent) → begun_by slots r ws ≡ k → extent_in (Some c) k ≡ Some e → r ≤ last_rank slots e → is_met_in slots (seen_cell c) (only r) ≡ true
+  within-piece r k e b is le = at-only slots c rises r ∙ (ap (λ i. lasts slots r (extent_in (Some c) i)) b ∙ (ap (lasts slots r) is ∙ le-leb r (last_rank slots e) le))
+
+  by-block : (r : ℕ) (e : Extent) → extent_in (Some c) 0 ≡ Some e → r ≤ last_rank slots e → is_met_in slots (seen_cell c) (only r) ≡ true
+  by-block r e is le = go (begun_by slots r ws) refl
+    where
+      low : (u : Bool) → cond u None (Some (record { start = None; early = false; end = c.first.end })) ≡ Some e → r ≤ end_rank slots c.first.end
+      low true h = absurd (cc)
+      low false h = let P : Extent → Type 0 = λ x. r ≤ last_rank slots x in subst P (sym (some-same _ e h)) le
+      later : (i : ℕ) → begun_by slots r ws ≡ suc i → ((s : Begun) × (slice_get ws i ≡ Some s) × (hold_rank slots s ≤ r) × ((t : Begun) → slice_get ws (suc i) ≡ Some t → r < hold_rank slots t)) → is_met_in slots (seen_cell c) (only r) ≡ true
+      later i b (s, g, lo, hi) =
+          let a : r ≤ end_rank slots c.first.end = low (is_never c.first.end) is in
+          let d : end_rank slots c.first.end ≤ hold_rank slots s = turn-first slots c.first.end 0 ws i s rises turns g in
+          at-start r i s b g (omega arith)
+      go : (k : ℕ) → begun_by slots r ws ≡ k → is_met_in slots (seen_cell c) (only r) ≡ true
+      go zero b = within-piece r 0 e b is le
+      go (suc i) b = later i b (begun-tells slots 0 r ws i rises b)
+
+  by-segment : (r j : ℕ) (p : Segment) (e : Extent) → slice_get ws j ≡ Some (begun p) → extent_in (Some c) (suc j) ≡ Some e → segment_extent p ≡ e → first_rank slots e ≤ r → r ≤ last_rank slots e → is_met_in slots (seen_cell c) (only r) ≡ true
+  by-segment r j p e g is same lo le = go (begun_by slots r ws) refl
+    where
+      low : hold_rank slots (begun p) ≤ r
+      low = let P : Extent → Type 0 = λ x. first_rank slots x ≤ r in subst P (sym same) lo
+      high : r ≤ max (end_rank slots p.piece.end) (exit_rank slots p.start)
+      high = let P : Extent → Type 0 = λ x. r ≤ last_rank slots x in subst P (sym same) le
+      least : j < begun_by slots r ws
+      least = begun-least slots r 0 ws j (begun p) rises g low
+      later : (i : ℕ) → begun_by slots r ws ≡ suc i → j < i → ((s : Begun) × (slice_get ws i ≡ Some s) × (hold_rank slots s ≤ r) × ((t : Begun) → slice_get ws (suc i) ≡ Some t → r < hold_rank slots t)) → is_met_in slots (seen_cell c) (only r) ≡ true
+      later i b lt (s, h, ho, hi) =
+          let d : (end_rank slots p.piece.end ≤ hold_rank slots s) × (exit_rank slots p.start < hold_rank slots s) = turn-later slots c.first.end 0 ws j i (begun p) s rises turns g h lt in
+          let d0 : end_rank slots p.piece.end ≤ hold_rank slots s = d.0 in let d1 : exit_rank slots p.start < hold_rank slots s = d.1 in
+          let up : r ≤ max (end_rank slots p.piece.end) (exit_rank slots p.start) = high in
+          at-start r i s b h (omega arith)
+      go : (k : ℕ) → begun_by slots r ws ≡ k → is_met_in slots (seen_cell c) (only r) ≡ true
+      go zero b = absurd (let l : j < begun_by slots r ws = least in omega arith)
+      go (suc i) b = by_place (cases_lt j i)
+        where
+          by_place : (j < i) ⊎ (i ≤ j) → is_met_in slots (seen_cell c) (only r) ≡ true
+          by_place (inl lt) = later i b lt (begun-tells slots 0 r ws i rises b)
+          by_place (inr ge) = let l : j < begun_by slots r ws = least in let same_place : i ≡ j = omega arith in within-piece r (suc j) e (b ∙ ap suc same_place) is le
+
+  pub covered-held : (r : ℕ) (e : Extent) → Among e (cell_extents c) → first_rank slots e ≤ r → r ≤ last_rank slots e → is_met_in slots (seen_cell c) (only r) ≡ true
+  covered-held r e m lo hi = go (extent-piece c e m)
+    where
+      segment : (j : ℕ) (o : Option Segment) → slice_get c.segments.items j ≡ o → option_map segment_extent o ≡ Some e → is_met_in slots (seen_cell c) (only r) ≡ true
+      segment j None g h = absurd (cc)
+      segment j (Some p) g h = by-segment r j p e (slice_get-map begun c.segments.items j ∙ ap (option_map begun) g) (ap (option_map segment_extent) g ∙ h) (some-same (segment_extent p) e h) lo hi
+      by_place : (k : ℕ) → extent_in (Some c) k ≡ Some e → is_met_in slots (seen_cell c) (only r) ≡ true
+      by_place zero is = by-block r e is hi
+      by_place (suc j) is = segment j (slice_get c.segments.items j) refl is
+      go : ((k : ℕ) × (extent_in (Some c) k ≡ Some e)) → is_met_in slots (seen_cell c) (only r) ≡ true
+      go (k, is) = by_place k is
