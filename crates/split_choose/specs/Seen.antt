@@ -1,5 +1,5 @@
 -- What offers ask, as a table of what is live and a matrix of what is held answer it, and what has to hold of these.
-use Rattle.std.specs.Prelude.{◌≡◌, ◌<◌, ℕ, Bool, true, false, cond, List, [], ◌∷◌, map, filter, flat_map, length, Option, None, Some, slice_get, slice_index}
+use Rattle.std.specs.Prelude.{◌≡◌, ◌<◌, ℕ, Bool, true, false, cond, ◌&&◌, nat_le, List, [], ◌∷◌, length, Option, None, Some, slice_get, slice_index}
 use Rattle.std.specs.List.{list_all, list_any}
 use Rattle.target_base.specs.declared.types.Unit.{Unit as UnitNumber}
 use Rattle.target_base.specs.declared.types.Target.{Target}
@@ -7,18 +7,20 @@ use Rattle.mir_func.specs.declared.func.Instr.{Instr}
 use Rattle.mir_func.specs.declared.func.Block.{Block}
 use Rattle.mir_func.specs.Value.{Function}
 use Rattle.mir_meaning.specs.Binding.{does, is_terminator}
-use Rattle.mir_meaning.specs.Points.{Point, Start, Entry, Exit, touches}
+use Rattle.mir_meaning.specs.Points.{Point, Start, Entry, Exit}
 use Rattle.live_lanes.specs.declared.extent.Stretch.{Stretch}
 use Rattle.live_lanes.specs.declared.table.Table.{Table}
 use Rattle.live_lanes.specs.Paths.{has}
 use Rattle.live_lanes.specs.Graph.{is_live}
-use Rattle.live_lanes.specs.Table.{Numbers, Seen, entry_rank, exit_rank}
+use Rattle.live_lanes.specs.declared.row.End.{End}
+use Rattle.live_lanes.specs.Table.{Numbers, Begun, Seen, entry_rank, exit_rank, end_rank, descends}
 use Rattle.live_lanes.specs.Ways.{successors}
-use Rattle.live_lanes.specs.Entered.{causes, rows_seen}
+use Rattle.live_lanes.specs.Entered.{causes, cells_of, rows_seen}
 use Rattle.live_lanes.specs.Ordered.{ids_of, place_of}
 use Rattle.live_lanes.specs.Looks.{InOrder, entry_at, exit_at}
-use Rattle.live_lanes.specs.Held.{held_at}
-use Rattle.live_lanes.specs.Touching.{AreTouched, FindsInstrs, some_lane}
+use Rattle.live_lanes.specs.Held.{held_at, hold_rank}
+use Rattle.live_lanes.specs.Touching.{FindsInstrs, some_lane}
+use Rattle.live_lanes.specs.Tells.{TellsTouched}
 use Rattle.interference.specs.declared.held.Held.{Held}
 use Rattle.interference.specs.declared.matrix.Matrix.{Matrix}
 use Rattle.interference.specs.Clashes.{IsOrdered, is_held, holds}
@@ -68,14 +70,6 @@ view_of m v parents = record {
   one_bundle = are_joined m.live.func.blocks parents
 }
 
--- the instructions that touch the range, in layout order
-abbrev pub touching_ids : Function → ℕ → List ℕ
-touching_ids f v = map (λ i. i.id) (filter (touches v) (flat_map (λ b. b.instrs) f.blocks))
-
--- what the table has of the range's lanes names these instructions
-abbrev pub TellsTouched : Table → Function → ℕ → Type 0
-TellsTouched x f v = (ids : List ℕ) → AreTouched x v ids → ids ≡ touching_ids f v
-
 -- behind a terminator stand terminators only
 abbrev pub ends_in_terminators : Target → List Instr → Bool
 ends_in_terminators t [] = true
@@ -99,10 +93,21 @@ begins_here is s = list_all (λ p. has p.start (ids_of is)) s.segments
 abbrev pub starts_here : List Instr → Held → Bool
 starts_here is h = elim h.extent.start [ None ↦ true | Some id ↦ has id (ids_of is) ]
 
--- Where points are asked for besides: points stand in order, and pieces and what is held begin at points of their blocks.
+-- no piece lasts beyond the first point of the next one
+abbrev pub turns_from : Numbers → End → List Begun → Bool
+turns_from slots e [] = true
+turns_from slots e (s ∷ ss) = nat_le (end_rank slots e) (hold_rank slots s) && turns_from slots s.end ss
+
+abbrev pub ends_in_turn : Numbers → Seen → Bool
+ends_in_turn slots v = turns_from slots v.end v.segments
+
+-- Where points are asked for besides: pieces and what is held begin at points of their blocks, pieces end in turn, and a lane
+-- has one cell for a block.
 pub record FindsPoints (m : Matrix) : Type 0 where
   pub order : IsOrdered m
   pub begun : (l k : ℕ) (b : Block) → slice_get m.live.func.blocks k ≡ Some b → begins_here b.instrs (rows_seen m.live.table.rows.rows.items l k) ≡ true
+  pub turns : (l k : ℕ) → ends_in_turn m.live.table.order.slots (rows_seen m.live.table.rows.rows.items l k) ≡ true
+  pub apart : (l : ℕ) → descends (cells_of m.live.table.rows.rows.items l) ≡ true
   pub held : (u k : ℕ) (b : Block) → slice_get m.live.func.blocks k ≡ Some b → list_all (starts_here b.instrs) (holds m u k) ≡ true
 
 -- where bundles are asked for, that blocks can be counted and that ways are those of the blocks

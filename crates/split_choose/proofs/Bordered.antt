@@ -7,12 +7,12 @@ use Rattle.meaning.specs.Live.{Among, here, there}
 use Rattle.mir_func.specs.declared.func.Edge.{Edge}
 use Rattle.mir_func.specs.declared.func.Block.{Block}
 use Rattle.mir_meaning.specs.Points.{Tests}
-use Rattle.bundles_lab.specs.Paths.{has}
-use Rattle.bundles_lab.specs.Ordered.{place_of}
-use Rattle.bundles_lab.specs.Flowing.{edge_places, exits_at}
-use Rattle.bundles_lab.specs.Bundles.{start_of, end_of, Linked, itself as alone, edge as way, back as turned, onward as further, root_of, AreBundles}
-use Rattle.bundles_lab.specs.Offers.{Border, In, Out, OneBundle, itself, edge, back, onward}
-use Rattle.bundles_lab.specs.Bordered.{border_place, same_border, same_root, are_joined, ArePlaced, is_found, are_led, AreFollowed}
+use Rattle.live_lanes.specs.Paths.{has}
+use Rattle.live_lanes.specs.Ordered.{place_of}
+use Rattle.live_lanes.specs.Flowing.{edge_places, exits_at}
+use Rattle.split_choose.specs.Bundles.{start_of, end_of, Linked, itself as alone, edge as way, back as turned, onward as further, root_of, AreBundles}
+use Rattle.split_choose.specs.Offers.{Border, In, Out, OneBundle, itself, edge, back, onward}
+use Rattle.split_choose.specs.Bundles.{border_place, same_border, same_root, are_joined, ArePlaced, is_found, are_led, AreFollowed}
 
 pub some-same : {X : Type 0} (x y : X) → Some x ≡ Some y → x ≡ y
 some-same x y e = cc

@@ -1,6 +1,6 @@
 use Rattle.std.proofs.Common.{ℕ}
-use Rattle.bundles_lab.specs.Bundles.{AreEarlier, SameRoots}
-use Rattle.bundles_lab.proofs.bundles.Bundles.shorten.Given as goal
+use Rattle.split_choose.specs.Bundles.{AreEarlier, SameRoots}
+use Rattle.split_choose.proofs.bundles.Bundles.shorten.Given as goal
 
 abbrev pub invariant-borders : goal.invariant-borders
 invariant-borders l = record {

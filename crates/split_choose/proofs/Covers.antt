@@ -18,7 +18,7 @@ use Rattle.live_lanes.specs.Entered.{piece_count}
 use Rattle.live_lanes.specs.Held.{held_at, hold_rank}
 use Rattle.live_lanes.specs.Extents.{block_extent, segment_extent, extent_in, cell_extents, first_rank, last_rank, stretch_of, begun_by, is_met_in}
 use Rattle.live_lanes.proofs.Extents.{any-in, lasts, met-is, unseen-none}
-use Rattle.points_lab.specs.Turns.{turns_from, ends_in_turn, only}
+use Rattle.split_choose.specs.Seen.{turns_from, ends_in_turn, only}
 
 some-same : {X : Type 0} (x y : X) → Some x ≡ Some y → x ≡ y
 some-same x y e = cc

@@ -1,8 +1,8 @@
 use Rattle.std.proofs.Common.{◌≡◌, ℕ, List, length, take, sym, subst}
-use Rattle.bundles_lab.specs.Ways.{successors}
-use Rattle.bundles_lab.specs.Bundles.{Joins}
-use Rattle.bundles_lab.proofs.Joining.{join_step, join_last, earlier_set}
-use Rattle.bundles_lab.proofs.bundles.Bundles.join_all.Goals as goal
+use Rattle.live_lanes.specs.Ways.{successors}
+use Rattle.split_choose.specs.Bundles.{Joins}
+use Rattle.split_choose.proofs.Joining.{join_step, join_last, earlier_set}
+use Rattle.split_choose.proofs.bundles.Bundles.join_all.Goals as goal
 
 pub successors-preserved : goal.successors-preserved
 successors-preserved c = record {

@@ -1,8 +1,8 @@
 use Rattle.std.proofs.Common.{◌≡◌, ◌∙◌, ℕ, ◌<◌, List, length, ap, arith}
-use Rattle.bundles_lab.specs.Ways.{successors}
-use Rattle.bundles_lab.specs.Bundles.{start_of, IsClosed}
-use Rattle.bundles_lab.proofs.Joining.{alone_earlier, below_first, below_last, below_next}
-use Rattle.bundles_lab.proofs.bundles.Bundles.of.Goals as goal
+use Rattle.live_lanes.specs.Ways.{successors}
+use Rattle.split_choose.specs.Bundles.{start_of, IsClosed}
+use Rattle.split_choose.proofs.Joining.{alone_earlier, below_first, below_last, below_next}
+use Rattle.split_choose.proofs.bundles.Bundles.of.Goals as goal
 
 pub blocks-2-init : goal.blocks-2-init
 blocks-2-init c = record {

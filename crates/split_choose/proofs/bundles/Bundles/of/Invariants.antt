@@ -1,8 +1,8 @@
 use Rattle.std.proofs.Common.{length}
-use Rattle.bundles_lab.specs.Ways.{successors}
-use Rattle.bundles_lab.specs.Bundles.{AreEarlier, IsClosed}
-use Rattle.bundles_lab.proofs.Joining.{JoinsBelow}
-use Rattle.bundles_lab.proofs.bundles.Bundles.of.Given as goal
+use Rattle.live_lanes.specs.Ways.{successors}
+use Rattle.split_choose.specs.Bundles.{AreEarlier, IsClosed}
+use Rattle.split_choose.proofs.Joining.{JoinsBelow}
+use Rattle.split_choose.proofs.bundles.Bundles.of.Given as goal
 
 abbrev pub invariant-blocks-2 : goal.invariant-blocks-2
 invariant-blocks-2 l = record {

@@ -1,7 +1,7 @@
 use Rattle.std.proofs.Common.{length, take}
-use Rattle.bundles_lab.specs.Ways.{successors}
-use Rattle.bundles_lab.specs.Bundles.{AreEarlier, IsForest, IsClosed, Joins}
-use Rattle.bundles_lab.proofs.bundles.Bundles.join_all.Given as goal
+use Rattle.live_lanes.specs.Ways.{successors}
+use Rattle.split_choose.specs.Bundles.{AreEarlier, IsForest, IsClosed, Joins}
+use Rattle.split_choose.proofs.bundles.Bundles.join_all.Given as goal
 
 abbrev pub invariant-successors : goal.invariant-successors
 invariant-successors l = record {

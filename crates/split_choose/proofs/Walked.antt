@@ -1,8 +1,8 @@
 -- Steps of loops over borders.
 use Rattle.std.proofs.Common.{◌≡◌, ◌∙◌, ℕ, zero, suc, ◌+◌, ◌-◌, ◌<◌, ◌≤◌, List, [], ◌∷◌, ◌++◌, refl, sym, ap, length, get_or, arith}
 use Rattle.mir_meaning.specs.Registers.{numbers}
-use Rattle.bundles_lab.specs.Bundles.{parent_of, above, root_of}
-use Rattle.bundles_lab.proofs.Roots.{stays}
+use Rattle.split_choose.specs.Bundles.{parent_of, above, root_of}
+use Rattle.split_choose.proofs.Roots.{stays}
 
 numbers_more : (n k : ℕ) → numbers n (suc k) ≡ numbers n k ++ (n + k) ∷ []
 numbers_more n zero = let e : n ≡ n + 0 = omega arith in ap (λ m. m ∷ []) e

@@ -3,8 +3,8 @@ use Rattle.std.proofs.Common.{◌≡◌, ◌≢◌, ◌∙◌, ◌⊎◌, inl, i
 use Rattle.std.specs.Prelude.{nat_eq, Decides}
 use Rattle.std.proofs.lemmas.Bool.{cases_eq, cases_lt, eqb-true, eq-eqb, ne_eqb}
 use Rattle.std.proofs.lemmas.List.{get_or_past, get_or-set_same, get_or-set_other, set_past, length-set}
-use Rattle.bundles_lab.specs.Paths.{has}
-use Rattle.bundles_lab.specs.Bundles.{start_of, end_of, Linked, itself, edge, back, onward, parent_of, above, root_of, AreEarlier, IsForest, LeadsWithin, AreJoined, StayJoined, AreBundles}
+use Rattle.live_lanes.specs.Paths.{has}
+use Rattle.split_choose.specs.Bundles.{start_of, end_of, Linked, itself, edge, back, onward, parent_of, above, root_of, AreEarlier, IsForest, LeadsWithin, AreJoined, StayJoined, AreBundles}
 
 pub stays : (ps : List ℕ) (n x : ℕ) → parent_of ps x ≡ x → above ps n x ≡ x
 stays ps zero x e = refl
