@@ -3,3 +3,5 @@ pub mod Walked
 pub mod Joining
 pub mod Bordered
 pub mod Covers
+pub mod Walks
+pub mod Sums
