@@ -5,3 +5,4 @@ pub mod Bordered
 pub mod Covers
 pub mod Walks
 pub mod Sums
+pub mod Alone

@@ -2,3 +2,4 @@ pub mod Offers
 pub mod Bundles
 pub mod Seen
 pub mod Regions
+pub mod Spans
