@@ -1,0 +1,7 @@
+//! Offers, tried by themselves.
+#![tactic(auto)]
+
+mod labels;
+mod places;
+
+pub use labels::{Labels, Mark, Spot};
