@@ -1,12 +1,13 @@
 -- The terminators at the end of a block.
 use Rattle.std.proofs.Common.{◌≡◌, ◌∙◌, ℕ, zero, suc, ◌-◌, ◌<◌, ◌≤◌, List, [], ◌∷◌, Bool, true, false, cond, refl, sym, ap, length, drop, get_or, arith}
-use Rattle.std.specs.Prelude.{filter}
+use Rattle.std.specs.Prelude.{Option, None, Some, option_map, slice_get, filter}
 use Rattle.std.specs.List.{list_all}
 use Rattle.std.proofs.lemmas.Bool.{and_parts, true≢false}
 use Rattle.target_base.specs.declared.types.Target.{Target}
 use Rattle.mir_func.specs.declared.func.Instr.{Instr}
 use Rattle.mir_meaning.specs.Binding.{does, is_terminator}
 use Rattle.choose_lab.specs.Seen.{ends_in_terminators}
+use Rattle.choose_lab.specs.Offers.{first_id, last_id}
 
 pub filter_every : {X : Type 0} (f : X → Bool) (xs : List X) → list_all f xs ≡ true → filter f xs ≡ xs
 filter_every f [] h = refl
@@ -63,3 +64,39 @@ pub ends_first : (t : Target) (is : List Instr) (k : ℕ) → k ≤ 0 → list_a
 ends_first t is k h a e = from-end t is k e a (λ j d q. absurd (omega arith)) (omega arith)
 
 pub ruleset ends = (ends_here, ends_first)
+
+-- the first of them, and the last
+
+first-at : (is : List Instr) (k : ℕ) → first_id (drop k is) ≡ option_map (λ i. i.id) (slice_get is k)
+first-at [] zero = refl
+first-at [] (suc k) = refl
+first-at (i ∷ is) zero = refl
+first-at (i ∷ is) (suc k) = first-at is k
+
+first_found : (is ts : List Instr) (r : ℕ) (i : Instr) → drop r is ≡ ts → Some i ≡ slice_get is r → Some i.id ≡ first_id ts
+first_found is ts r i e at = ap (option_map (λ (j : Instr). j.id)) at ∙ sym (first-at is r) ∙ ap first_id e
+
+first_missing : (is ts : List Instr) (r : ℕ) → drop r is ≡ ts → None ≡ slice_get is r → None ≡ first_id ts
+first_missing is ts r e at = ap (option_map (λ (j : Instr). j.id)) at ∙ sym (first-at is r) ∙ ap first_id e
+
+pub ruleset firsts = (first_found, first_missing)
+
+last_found : (is : List Instr) (id : ℕ) (i : Instr) → Some i ≡ slice_get is (length is - 1) → i.id ≡ last_id id is
+last_found [] id i e = cc
+last_found (j ∷ []) id i e = let q : i ≡ j = cc in ap (λ (x : Instr). x.id) q
+last_found (j ∷ h ∷ is) id i e =
+    let n : suc (suc (length is)) - 1 ≡ suc (suc (length is) - 1) = omega arith in
+    last_found (h ∷ is) j.id i (e ∙ ap (slice_get (j ∷ h ∷ is)) n)
+
+some-last : (i : Instr) (is : List Instr) → None ≡ slice_get (i ∷ is) (length (i ∷ is) - 1) → ⊥
+some-last i [] e = cc
+some-last i (j ∷ is) e = let n : suc (suc (length is)) - 1 ≡ suc (suc (length is) - 1) = omega arith in some-last j is (e ∙ ap (slice_get (i ∷ j ∷ is)) n)
+
+last_missing : (is : List Instr) (id : ℕ) → None ≡ slice_get is (length is - 1) → id ≡ last_id id is
+last_missing [] id e = refl
+last_missing (j ∷ []) id e = cc
+last_missing (j ∷ h ∷ is) id e =
+    let n : suc (suc (length is)) - 1 ≡ suc (suc (length is) - 1) = omega arith in
+    absurd (some-last h is (e ∙ ap (slice_get (j ∷ h ∷ is)) n))
+
+pub ruleset lasts = (last_found, last_missing)

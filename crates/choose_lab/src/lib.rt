@@ -2,6 +2,7 @@
 #![tactic(auto)]
 
 mod labels;
+mod live;
 mod places;
 
 pub use labels::{Labels, Mark, Spot};

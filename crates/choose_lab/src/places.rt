@@ -1,13 +1,20 @@
 //! The places that touch a range.
 
-ghost use Rattle.std.specs.Prelude.{◌≡◌, true, drop, filter, OnOk, Some};
+ghost use Rattle.std.specs.Prelude.{◌≡◌, ℕ, List, [], true, drop, filter, map, fold, OnOk, IfOk, Some, option_copied, slice_get};
+ghost use Rattle.std.specs.List.{list_all};
+ghost use Rattle.mir_func.specs.declared.func.Block.{Block};
+ghost use Rattle.mir_func.specs.declared.func.Instr.{Instr};
+ghost use Rattle.mir_func.specs.Edits.{block_place};
 ghost use Rattle.mir_meaning.specs.Binding.{does, is_terminator};
+ghost use Rattle.choose_lab.specs.Touching.{FindsInstrs, touching_ids};
+ghost use Rattle.choose_lab.specs.Offers.{View, first_id, last_id, touched_places};
 ghost use Rattle.choose_lab.specs.Seen.{ends_in_terminators};
-ghost use Rattle.choose_lab.specs.Places.{joined, is_ended_at};
+ghost use Rattle.choose_lab.specs.Places.{joined, is_ended_at, ending, single, place_in, place_at, placed, Site, IsSite, AreSites, site_id};
 
-use mir_func::Instr;
+use crate::live::LiveFunc;
+use mir_func::{Block, Instr};
 use phi_elim::reading::is_terminator;
-use std::alloc::AllocError;
+use std::alloc::{AllocError, Global};
 use target_base::{Boxed, Target};
 
 /// A place that touches a range: an instruction, or the terminators of a block together.
@@ -54,4 +61,78 @@ fn join(places: &mut Vec<TouchedPlace>, place: TouchedPlace) -> Result<(), Alloc
     }
     places.push(place)?;
     Ok(())
+}
+
+/// The block at a position.
+pub(crate) fn block_at(live: &LiveFunc, position: u32) -> Option<&Block>
+    ensures { option_copied result ≡ slice_get live.now.func.blocks position }
+{
+    live.func().blocks.as_slice().get(position as usize)
+}
+
+/// The first of the terminators at the end of these instructions; none where there is none.
+#[tactic(auto, using(crate::proofs::Ends::firsts))]
+fn end_in(target: &Target, instrs: &[Boxed<Instr>]) -> Option<u32>
+    ensures { ends_in_terminators target.now instrs.now ≡ true → result ≡ first_id (filter (does is_terminator target.now) instrs.now) }
+{
+    match instrs.get(first_terminator(target, instrs)) {
+        Some(first) => Some(first.get().id),
+        None => None,
+    }
+}
+
+/// The last of these instructions; without any the one of an id.
+#[tactic(auto, using(crate::proofs::Ends::lasts))]
+fn last_in(instrs: &[Boxed<Instr>], id: u32) -> u32
+    ensures { result ≡ last_id id instrs.now }
+{
+    match instrs.last() {
+        Some(last) => last.get().id,
+        None => id,
+    }
+}
+
+/// The first of the terminators at the end of the block at a position; none where it has none.
+pub(crate) fn end_of(live: &LiveFunc, position: u32) -> Option<u32>
+    ensures { (b : Block) → slice_get live.now.func.blocks position ≡ Some b → ends_in_terminators live.now.target b.instrs ≡ true
+        → result ≡ first_id (filter (does is_terminator live.now.target) b.instrs) }
+{
+    let block = block_at(live, position)?;
+    end_in(live.target(), block.instrs.as_slice())
+}
+
+/// The place of the terminators at the end of a block, of which one has the id.
+fn ending(target: &Target, position: u32, instrs: &[Boxed<Instr>], id: u32) -> TouchedPlace
+    ensures { (i : Instr) → i.id ≡ id → ends_in_terminators target.now instrs.now ≡ true → result ≡ ending target.now position instrs.now i }
+{
+    TouchedPlace {
+        position,
+        first: end_in(target, instrs).unwrap_or(id),
+        last: last_in(instrs, id),
+        is_end: true,
+    }
+}
+
+/// The place to which an instruction belongs.
+fn place_of(live: &LiveFunc, id: u32) -> Option<TouchedPlace>
+    ensures { FindsInstrs live.now.table live.now.func.blocks → (s : Site) → IsSite live.now.target live.now.func.blocks s → site_id s ≡ id
+        → result ≡ Some (place_at live.now.target s) }
+{
+    let instr = live.instr(id)?;
+    let position = live.position_of(id);
+    if !is_terminator(live.target(), instr) {
+        return Some(TouchedPlace {
+            position,
+            first: id,
+            last: id,
+            is_end: false,
+        });
+    }
+    let block = block_at(live, position)?;
+    Some(ending(
+        live.target(),
+        position,
+        block.instrs.as_slice(),
+        id,
+    ))
 }
