@@ -1,5 +1,7 @@
 -- The terminators at the end of a block.
 use Rattle.std.proofs.Common.{◌≡◌, ◌∙◌, ℕ, zero, suc, ◌-◌, ◌<◌, ◌≤◌, List, [], ◌∷◌, Bool, true, false, cond, refl, sym, ap, length, drop, get_or, arith}
+use Rattle.std.proofs.lemmas.List.{drop_more}
+use Rattle.phi_elim.proofs.Walks.{drop_all}
 use Rattle.std.specs.Prelude.{Option, None, Some, option_map, slice_get, filter}
 use Rattle.std.specs.List.{list_all}
 use Rattle.std.proofs.lemmas.Bool.{and_parts, true≢false}
@@ -67,21 +69,15 @@ pub ruleset ends = (ends_here, ends_first)
 
 -- the first of them, and the last
 
-first-at : (is : List Instr) (k : ℕ) → first_id (drop k is) ≡ option_map (λ i. i.id) (slice_get is k)
-first-at [] zero = refl
-first-at [] (suc k) = refl
-first-at (i ∷ is) zero = refl
-first-at (i ∷ is) (suc k) = first-at is k
+pub first_found : (is ts : List Instr) (r : ℕ) (i : Instr) → r < length is → i ≡ get_or is r i → drop r is ≡ ts → Some i.id ≡ first_id ts
+first_found is ts r i h at e = ap (λ (j : Instr). Some j.id) at ∙ sym (ap first_id (drop_more is r i h)) ∙ ap first_id e
 
-first_found : (is ts : List Instr) (r : ℕ) (i : Instr) → drop r is ≡ ts → Some i ≡ slice_get is r → Some i.id ≡ first_id ts
-first_found is ts r i e at = ap (option_map (λ (j : Instr). j.id)) at ∙ sym (first-at is r) ∙ ap first_id e
-
-first_missing : (is ts : List Instr) (r : ℕ) → drop r is ≡ ts → None ≡ slice_get is r → None ≡ first_id ts
-first_missing is ts r e at = ap (option_map (λ (j : Instr). j.id)) at ∙ sym (first-at is r) ∙ ap first_id e
+pub first_missing : (is ts : List Instr) (r : ℕ) → length is ≤ r → drop r is ≡ ts → None ≡ first_id ts
+first_missing is ts r h e = sym (ap first_id (drop_all r is h)) ∙ ap first_id e
 
 pub ruleset firsts = (first_found, first_missing)
 
-last_found : (is : List Instr) (id : ℕ) (i : Instr) → Some i ≡ slice_get is (length is - 1) → i.id ≡ last_id id is
+pub last_found : (is : List Instr) (id : ℕ) (i : Instr) → Some i ≡ slice_get is (length is - 1) → i.id ≡ last_id id is
 last_found [] id i e = cc
 last_found (j ∷ []) id i e = let q : i ≡ j = cc in ap (λ (x : Instr). x.id) q
 last_found (j ∷ h ∷ is) id i e =
@@ -92,7 +88,7 @@ some-last : (i : Instr) (is : List Instr) → None ≡ slice_get (i ∷ is) (len
 some-last i [] e = cc
 some-last i (j ∷ is) e = let n : suc (suc (length is)) - 1 ≡ suc (suc (length is) - 1) = omega arith in some-last j is (e ∙ ap (slice_get (i ∷ j ∷ is)) n)
 
-last_missing : (is : List Instr) (id : ℕ) → None ≡ slice_get is (length is - 1) → id ≡ last_id id is
+pub last_missing : (is : List Instr) (id : ℕ) → None ≡ slice_get is (length is - 1) → id ≡ last_id id is
 last_missing [] id e = refl
 last_missing (j ∷ []) id e = cc
 last_missing (j ∷ h ∷ is) id e =

@@ -1,6 +1,6 @@
 -- Touched places: those of the blocks one after the other are those that instructions belong to.
 use Rattle.std.proofs.Common.{◌≡◌, ◌∙◌, ◌⊎◌, inl, inr, ℕ, zero, suc, ◌+◌, ◌-◌, ◌<◌, ◌≤◌, List, [], ◌∷◌, ◌++◌, Bool, true, false, cond, refl, sym, ap, length, drop, take, get_or, arith, map, append_assoc, append-nil, Option, None, Some}
-use Rattle.std.specs.Prelude.{◌||◌, ◌&&◌, filter, flat_map, not, nat_eq, nat_lt, slice_get, fold, unwrap_or}
+use Rattle.std.specs.Prelude.{◌||◌, ◌&&◌, filter, flat_map, not, nat_eq, nat_lt, slice_get, slice_index, fold, unwrap_or}
 use Rattle.std.specs.List.{list_all, list_any, position_or_len}
 use Rattle.std.proofs.lemmas.Bool.{and_parts, and_from, and_right, not_from_false, not-true, true≢false, ne_eqb, eq-eqb, ltb-true, lt-ltb}
 use Rattle.std.proofs.lemmas.List.Elements.{filter-append}
@@ -14,10 +14,14 @@ use Rattle.mir_func.specs.Value.{Function}
 use Rattle.mir_func.specs.Edits.{block_place}
 use Rattle.mir_meaning.specs.Binding.{does, is_terminator}
 use Rattle.mir_meaning.specs.Points.{touches}
+use Rattle.live_lanes.specs.declared.table.Table.{Table}
+use Rattle.live_lanes.specs.Paths.{has}
+use Rattle.live_lanes.specs.Ordered.{ids_of}
+use Rattle.live_lanes.specs.Touching.{FindsInstrs}
 use Rattle.choose_lab.specs.declared.places.TouchedPlace.{TouchedPlace}
 use Rattle.choose_lab.specs.Seen.{ends_in_terminators}
 use Rattle.choose_lab.specs.Offers.{View, Touched, first_id, last_id, touched_places, touching, terminators, end_place}
-use Rattle.choose_lab.specs.Places.{placed, single, ending, place_in, ends_at, is_ended_at, joined, end_places, block_places, places_from, Site, sites_from, place_at}
+use Rattle.choose_lab.specs.Places.{placed, single, ending, place_in, ends_at, is_ended_at, joined, end_places, block_places, places_from, Site, IsSite, site_id, sites_from, place_at}
 use Rattle.choose_lab.proofs.Ends.{filter_every}
 
 -- the instructions of a block are those before its terminators, and these
@@ -282,3 +286,27 @@ module _ (t : Target) (f : Function) (v : ℕ) (view : View) (bs : List Block) w
       ap (λ ps. (ps ++ end_places v k (filter (does is_terminator t) b.instrs)) ++ places_from t v (suc k) cs) one
       ∙ (ap (λ ps. (map (placed bs) ones ++ ps) ++ places_from t v (suc k) cs) two
       ∙ (ap (λ ps. (map (placed bs) ones ++ map (placed bs) ends) ++ ps) ih ∙ sym parts))
+
+-- where instructions are found
+
+has-at : (is : List Instr) (j : ℕ) (i : Instr) → slice_get is j ≡ Some i → has i.id (ids_of is) ≡ true
+has-at [] j i e = cc
+has-at (h ∷ is) zero i e = let q : h ≡ i = cc in let same : nat_eq h.id i.id ≡ true = eq-eqb h.id i.id (ap (λ (x : Instr). x.id) q) in rw same refl
+has-at (h ∷ is) (suc j) i e = go (nat_eq h.id i.id) refl (has-at is j i e)
+  where
+    go : (b : Bool) → nat_eq h.id i.id ≡ b → has i.id (ids_of is) ≡ true → has i.id (ids_of (h ∷ is)) ≡ true
+    go true f ih = rw f refl
+    go false f ih = rw f ih
+
+module _ (t : Target) (x : Table) (bs : List Block) (s : Site) (finds : FindsInstrs x bs) (site : IsSite t bs s) where
+  pub home-of : (id : ℕ) → site_id s ≡ id → slice_index x.order.block_of.items id ≡ s.position
+  home-of id e = ap (slice_index x.order.block_of.items) (sym e) ∙ finds.homes s.position site.block s.instr.id site.found (ap (λ is. has s.instr.id (ids_of is)) site.same ∙ has-at s.among site.place s.instr site.stands)
+
+  pub stands-there : slice_get site.block.instrs site.place ≡ Some s.instr
+  stands-there = ap (λ is. slice_get is site.place) site.same ∙ site.stands
+
+pub alone : (t : Target) (s : Site) (k id : ℕ) → does is_terminator t s.instr ≡ false → k ≡ s.position → site_id s ≡ id → Some (record { position = k; first = id; last = id; is_end = false }) ≡ Some (place_at t s)
+alone t s k id not-term at named = rw (not-term, at, ← named) refl
+
+pub among-ends : (t : Target) (s : Site) → does is_terminator t s.instr ≡ true → ending t s.position s.among s.instr ≡ place_at t s
+among-ends t s term = rw term refl

@@ -1,4 +1,4 @@
-pub mod Touching
+
 pub mod Offers
 pub mod Seen
 pub mod Places

@@ -6,12 +6,13 @@ ghost use Rattle.mir_func.specs.declared.func.Block.{Block};
 ghost use Rattle.mir_func.specs.declared.func.Instr.{Instr};
 ghost use Rattle.mir_func.specs.Edits.{block_place};
 ghost use Rattle.mir_meaning.specs.Binding.{does, is_terminator};
-ghost use Rattle.choose_lab.specs.Touching.{FindsInstrs, touching_ids};
+ghost use Rattle.live_lanes.specs.Touching.{FindsInstrs};
+ghost use Rattle.live_lanes.specs.Tells.{touching_ids};
 ghost use Rattle.choose_lab.specs.Offers.{View, first_id, last_id, touched_places};
 ghost use Rattle.choose_lab.specs.Seen.{ends_in_terminators};
 ghost use Rattle.choose_lab.specs.Places.{joined, is_ended_at, ending, single, place_in, place_at, placed, Site, IsSite, AreSites, site_id};
 
-use crate::live::LiveFunc;
+use live_lanes::LiveFunc;
 use mir_func::{Block, Instr};
 use phi_elim::reading::is_terminator;
 use std::alloc::{AllocError, Global};
@@ -75,10 +76,11 @@ pub(crate) fn block_at(live: &LiveFunc, position: u32) -> Option<&Block>
 fn end_in(target: &Target, instrs: &[Boxed<Instr>]) -> Option<u32>
     ensures { ends_in_terminators target.now instrs.now ≡ true → result ≡ first_id (filter (does is_terminator target.now) instrs.now) }
 {
-    match instrs.get(first_terminator(target, instrs)) {
-        Some(first) => Some(first.get().id),
-        None => None,
+    let first = first_terminator(target, instrs);
+    if first >= instrs.len() {
+        return None;
     }
+    Some(instrs[first].get().id)
 }
 
 /// The last of these instructions; without any the one of an id.
