@@ -2,7 +2,7 @@
 use Rattle.std.proofs.Common.{◌≡◌, ◌∙◌, ℕ, zero, suc, ◌-◌, ◌<◌, ◌≤◌, List, [], ◌∷◌, Bool, true, false, cond, refl, sym, ap, length, drop, get_or, arith}
 use Rattle.std.proofs.lemmas.List.{drop_more}
 use Rattle.phi_elim.proofs.Walks.{drop_all}
-use Rattle.std.specs.Prelude.{Option, None, Some, option_map, slice_get, filter}
+use Rattle.std.specs.Prelude.{None, Some, slice_get, filter}
 use Rattle.std.specs.List.{list_all}
 use Rattle.std.proofs.lemmas.Bool.{and_parts, true≢false}
 use Rattle.target_base.specs.declared.types.Target.{Target}

@@ -1,10 +1,10 @@
 -- Touched places: those of the blocks one after the other are those that instructions belong to.
-use Rattle.std.proofs.Common.{◌≡◌, ◌∙◌, ◌⊎◌, inl, inr, ℕ, zero, suc, ◌+◌, ◌-◌, ◌<◌, ◌≤◌, List, [], ◌∷◌, ◌++◌, Bool, true, false, cond, refl, sym, ap, length, drop, take, get_or, arith, map, append_assoc, append-nil, Option, None, Some}
-use Rattle.std.specs.Prelude.{◌||◌, ◌&&◌, filter, flat_map, not, nat_eq, nat_lt, slice_get, slice_index, fold, unwrap_or}
-use Rattle.std.specs.List.{list_all, list_any, position_or_len}
-use Rattle.std.proofs.lemmas.Bool.{and_parts, and_from, and_right, not_from_false, not-true, true≢false, ne_eqb, eq-eqb, ltb-true, lt-ltb}
+use Rattle.std.proofs.Common.{◌≡◌, ◌∙◌, ℕ, zero, suc, ◌+◌, ◌-◌, ◌<◌, List, [], ◌∷◌, ◌++◌, Bool, true, false, cond, refl, sym, ap, length, arith, map, append_assoc, append-nil, Option, None, Some}
+use Rattle.std.specs.Prelude.{◌&&◌, filter, flat_map, not, nat_eq, nat_lt, slice_get, slice_index, fold, unwrap_or}
+use Rattle.std.specs.List.{list_all, list_any}
+use Rattle.std.proofs.lemmas.Bool.{and_parts, and_from, and_right, not_from_false, not-true, ne_eqb, eq-eqb, ltb-true, lt-ltb}
 use Rattle.std.proofs.lemmas.List.Elements.{filter-append}
-use Rattle.std.proofs.lemmas.List.Folds.{list_all-append, list_all-map}
+use Rattle.std.proofs.lemmas.List.Folds.{list_all-append}
 use Rattle.std.proofs.lemmas.List.Sums.{fold-append}
 use Rattle.std.proofs.lemmas.List.{map-append}
 use Rattle.target_base.specs.declared.types.Target.{Target}
@@ -20,7 +20,7 @@ use Rattle.live_lanes.specs.Ordered.{ids_of}
 use Rattle.live_lanes.specs.Touching.{FindsInstrs}
 use Rattle.choose_lab.specs.declared.places.TouchedPlace.{TouchedPlace}
 use Rattle.choose_lab.specs.Seen.{ends_in_terminators}
-use Rattle.choose_lab.specs.Offers.{View, Touched, first_id, last_id, touched_places, touching, terminators, end_place}
+use Rattle.choose_lab.specs.Offers.{View, first_id, last_id, touching, terminators, end_place}
 use Rattle.choose_lab.specs.Places.{placed, single, ending, place_in, ends_at, is_ended_at, joined, end_places, block_places, places_from, Site, IsSite, site_id, sites_from, place_at}
 use Rattle.choose_lab.proofs.Ends.{filter_every}
 

@@ -1,4 +1,5 @@
 
 pub mod Offers
+pub mod Bundles
 pub mod Seen
 pub mod Places

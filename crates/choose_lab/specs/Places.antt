@@ -80,7 +80,8 @@ pub record IsSite (t : Target) (bs : List Block) (s : Site) : Type 0 where
 
 -- these instructions do
 abbrev pub AreSites : Target → List Block → List Site → Type 0
-AreSites t bs ss = (k : ℕ) (s : Site) → slice_get ss k ≡ Some s → IsSite t bs s
+AreSites t bs [] = Unit {0}
+AreSites t bs (s ∷ ss) = IsSite t bs s × AreSites t bs ss
 
 abbrev pub site_id : Site → ℕ
 site_id s = s.instr.id

@@ -9,7 +9,7 @@ ghost use Rattle.mir_meaning.specs.Binding.{does, is_terminator};
 ghost use Rattle.live_lanes.specs.Touching.{FindsInstrs};
 ghost use Rattle.live_lanes.specs.Tells.{touching_ids};
 ghost use Rattle.choose_lab.specs.Offers.{View, first_id, last_id, touched_places};
-ghost use Rattle.choose_lab.specs.Seen.{ends_in_terminators};
+ghost use Rattle.choose_lab.specs.Seen.{ends_in_terminators, FindsPlaces};
 ghost use Rattle.choose_lab.specs.Places.{joined, is_ended_at, ending, single, place_in, place_at, placed, Site, IsSite, AreSites, site_id};
 
 use live_lanes::LiveFunc;
@@ -137,4 +137,35 @@ fn place_of(live: &LiveFunc, id: u32) -> Option<TouchedPlace>
         block.instrs.as_slice(),
         id,
     ))
+}
+
+/// Adds the place to which an instruction belongs.
+fn add_place(
+    live: &LiveFunc,
+    id: u32,
+    places: &mut Vec<TouchedPlace>,
+) -> Result<(), AllocError>
+    ensures { OnOk result (FindsInstrs live.now.table live.now.func.blocks → (s : Site) → IsSite live.now.target live.now.func.blocks s → site_id s ≡ id
+        → places.new.items ≡ joined places.old.items (place_at live.now.target s)) }
+{
+    if let Some(place) = place_of(live, id) {
+        join(places, place)?;
+    }
+    Ok(())
+}
+
+/// The places of instructions, in order, each once.
+pub(crate) fn places_of(
+    alloc: Global,
+    live: &LiveFunc,
+    touched: &[u32],
+) -> Result<Vec<TouchedPlace>, AllocError>
+    ensures { IfOk result (λ ps. (v : ℕ) (view : View) → FindsPlaces live.now.target live.now.func live.now.table v → touched.now ≡ touching_ids live.now.func v
+        → ps.items ≡ map (placed live.now.func.blocks) (touched_places live.now.target live.now.func v view)) }
+{
+    let mut places = Vec::new(alloc);
+    'touched: for id in touched {
+        add_place(live, *id, &mut places)?;
+    }
+    Ok(places)
 }

@@ -4,7 +4,7 @@ use Rattle.mir_meaning.specs.Binding.{does, is_terminator}
 use Rattle.mir_func.specs.declared.func.Instr.{Instr}
 use Rattle.mir_func.specs.declared.func.Block.{Block}
 use Rattle.choose_lab.specs.declared.places.TouchedPlace.{TouchedPlace}
-use Rattle.choose_lab.specs.Places.{Site, ending, place_at}
+use Rattle.choose_lab.specs.Places.{Site, ending}
 use Rattle.choose_lab.specs.Seen.{ends_in_terminators}
 use Rattle.choose_lab.proofs.Placed.{home-of, stands-there, alone, among-ends}
 use Rattle.choose_lab.proofs.places.place_of.Goals as goal
