@@ -3,3 +3,5 @@ pub mod Offers
 pub mod Bundles
 pub mod Seen
 pub mod Places
+pub mod Marks
+pub mod Blocks

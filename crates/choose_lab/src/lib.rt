@@ -1,4 +1,7 @@
 //! Offers, tried by themselves.
 #![tactic(auto)]
 
+mod blocks;
 mod places;
+mod regions;
+mod spans;

@@ -1,0 +1,109 @@
+//! Block splits: each block with several places gets a part of its own.
+
+ghost use Rattle.std.specs.Prelude.{◌≡◌, ◌++◌, true, OnOk, Some, slice_get};
+ghost use Rattle.std.specs.List.{list_all, list_any};
+ghost use Rattle.live_lanes.specs.Looks.{InOrder};
+ghost use Rattle.live_lanes.specs.Entered.{cells_of};
+ghost use Rattle.live_lanes.specs.Touching.{some_lane};
+ghost use Rattle.choose_lab.specs.Seen.{ends_in_terminators};
+ghost use Rattle.choose_lab.specs.Blocks.{at_border, cell_at_border, is_at, is_second, block_labelled, labelled};
+
+use crate::places::TouchedPlace;
+use crate::regions::add_mark;
+use crate::spans::gap_ids;
+use live_lanes::{Labels, LiveFunc};
+use std::alloc::{AllocError, Global};
+
+/// Whether a range is live at the start or the end of the block at a position.
+fn is_at_border(live: &LiveFunc, v: u32, position: u32) -> bool
+    ensures { InOrder live.now.table → result ≡ at_border live.now.table live.now.func.blocks v position }
+{
+    (position as usize) < live.func().blocks.len()
+        && (live.is_live_into(v, position) || live.is_live_out_of(v, position))
+}
+
+/// Whether it is at a border of one of the blocks that a lane is in.
+
+fn is_lane_at_border(live: &LiveFunc, v: u32, lane: u32) -> bool
+    ensures { InOrder live.now.table → result ≡ list_any (cell_at_border live.now.table live.now.func.blocks v) (cells_of live.now.table.rows.rows.items lane) }
+{
+    'cells: for place in 0..live.cell_count(lane) {
+        if let Some(position) = live.cell_block(lane, place) {
+            if is_at_border(live, v, position) {
+                return true;
+            }
+        }
+    }
+    false
+}
+
+/// Whether a range is live at the start or the end of some block.
+
+fn is_live_at_border(live: &LiveFunc, v: u32) -> bool
+    ensures { InOrder live.now.table
+        → result ≡ some_lane live.now.table v (λ l. list_any (cell_at_border live.now.table live.now.func.blocks v) (cells_of live.now.table.rows.rows.items l)) }
+{
+    'lanes: for k in 0..live.lane_count(v) {
+        if let Some(lane) = live.lane_of(v, k as usize) {
+            if is_lane_at_border(live, v, lane) {
+                return true;
+            }
+        }
+    }
+    false
+}
+
+/// Labels so far, the last of them, and the positions of the last two places.
+#[derive(Drop)]
+struct Labelled {
+    labels: Labels,
+    label: u16,
+    last: Option<u32>,
+    before: Option<u32>,
+}
+
+/// Whether that is the position.
+fn is_at(at: Option<u32>, position: u32) -> bool
+    ensures { result ≡ is_at at position }
+{
+    match at {
+        Some(there) => there == position,
+        None => false,
+    }
+}
+
+impl Labelled {
+    /// Whether a place at a position is the second of its block.
+    fn is_second(&self, position: u32) -> bool
+        ensures { result ≡ is_second self.now position }
+    {
+        is_at(self.last, position) && !is_at(self.before, position)
+    }
+
+    /// Adds the label of the block at a position.
+    fn add_block(&mut self, live: &LiveFunc, position: u32) -> Result<(), AllocError>
+        ensures { OnOk result (list_all (λ b. ends_in_terminators live.now.target b.instrs) live.now.func.blocks ≡ true
+            → self.new ≡ block_labelled live.now.target live.now.func.blocks self.old position) }
+    {
+        let (first, end) = gap_ids(live, position);
+        self.label = self.label.saturating_add(1);
+        add_mark(live, position, Some(first), self.label, &mut self.labels)?;
+        add_mark(live, position, Some(end), 0, &mut self.labels)
+    }
+
+    /// Meets a place. The block of the second one that isn't its terminators gets a label.
+    fn meet(&mut self, live: &LiveFunc, place: TouchedPlace) -> Result<(), AllocError>
+        ensures { OnOk result (list_all (λ b. ends_in_terminators live.now.target b.instrs) live.now.func.blocks ≡ true
+            → self.new ≡ labelled live.now.target live.now.func.blocks self.old place) }
+    {
+        if place.is_end {
+            return Ok(());
+        }
+        if self.is_second(place.position) {
+            self.add_block(live, place.position)?;
+        }
+        self.before = self.last;
+        self.last = Some(place.position);
+        Ok(())
+    }
+}
