@@ -1,13 +1,13 @@
 -- Where ranges are live at borders, and labels of blocks, as they are met along the layout.
 use Rattle.std.specs.Prelude.{ℕ, ◌+◌, ◌-◌, min, Bool, true, false, cond, not, ◌&&◌, ◌||◌, nat_eq, nat_lt, List, [], ◌∷◌, ◌++◌, filter, length, Option, None, Some, slice_get}
+use Rattle.std.specs.List.{list_any}
 use Rattle.target_base.specs.declared.types.Target.{Target}
 use Rattle.mir_func.specs.declared.func.Block.{Block}
 use Rattle.mir_meaning.specs.Binding.{does, is_terminator}
 use Rattle.live_lanes.specs.declared.labels.Mark.{Mark}
-use Rattle.live_lanes.specs.declared.row.Cell.{Cell}
 use Rattle.live_lanes.specs.declared.table.Table.{Table}
 use Rattle.live_lanes.specs.Graph.{is_live}
-use Rattle.live_lanes.specs.Entered.{causes}
+use Rattle.live_lanes.specs.Entered.{causes, cells_of}
 use Rattle.live_lanes.specs.Touching.{some_lane, leaves_block}
 use Rattle.choose_lab.specs.declared.blocks.Labelled.{Labelled}
 use Rattle.choose_lab.specs.declared.places.TouchedPlace.{TouchedPlace}
@@ -17,8 +17,14 @@ use Rattle.choose_lab.specs.Offers.{first_id, at_gap}
 abbrev pub at_border : Table → List Block → ℕ → ℕ → Bool
 at_border x bs v k = nat_lt k (length bs) && (some_lane x v (λ l. is_live (causes x.rows.rows.items l k 0)) || leaves_block x v k (slice_get bs k))
 
-abbrev pub cell_at_border : Table → List Block → ℕ → Cell → Bool
-cell_at_border x bs v c = at_border x bs v c.block
+-- one of the blocks that the lane is in has such a border
+abbrev pub lane_at_border : Table → List Block → ℕ → ℕ → Bool
+lane_at_border x bs v l = list_any (λ c. at_border x bs v c.block) (cells_of x.rows.rows.items l)
+
+-- there is a number, and it passes the test
+abbrev pub some_at : (ℕ → Bool) → Option ℕ → Bool
+some_at test None = false
+some_at test (Some n) = test n
 
 abbrev pub is_at : Option ℕ → ℕ → Bool
 is_at None k = false

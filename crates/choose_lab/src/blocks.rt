@@ -1,12 +1,14 @@
 //! Block splits: each block with several places gets a part of its own.
 
-ghost use Rattle.std.specs.Prelude.{◌≡◌, ◌++◌, true, OnOk, Some, slice_get};
-ghost use Rattle.std.specs.List.{list_all, list_any};
+ghost use Rattle.std.specs.Prelude.{◌≡◌, ◌++◌, true, OnOk, Some, slice_get, option_map};
+ghost use Rattle.std.specs.List.{list_all};
+ghost use Rattle.lane_effects.specs.Numbered.{number_in};
+ghost use Rattle.lane_effects.specs.declared.owner.Owner.TheVariants as owners;
 ghost use Rattle.live_lanes.specs.Looks.{InOrder};
 ghost use Rattle.live_lanes.specs.Entered.{cells_of};
 ghost use Rattle.live_lanes.specs.Touching.{some_lane};
 ghost use Rattle.choose_lab.specs.Seen.{ends_in_terminators};
-ghost use Rattle.choose_lab.specs.Blocks.{at_border, cell_at_border, is_at, is_second, block_labelled, labelled};
+ghost use Rattle.choose_lab.specs.Blocks.{at_border, lane_at_border, some_at, is_at, is_second, block_labelled, labelled};
 
 use crate::places::TouchedPlace;
 use crate::regions::add_mark;
@@ -22,32 +24,46 @@ fn is_at_border(live: &LiveFunc, v: u32, position: u32) -> bool
         && (live.is_live_into(v, position) || live.is_live_out_of(v, position))
 }
 
-/// Whether it is at a border of one of the blocks that a lane is in.
+/// The same of one of the blocks that a lane is in.
+fn is_cell_at_border(live: &LiveFunc, v: u32, lane: u32, place: usize) -> bool
+    ensures { InOrder live.now.table → result ≡ some_at (at_border live.now.table live.now.func.blocks v)
+        (option_map (λ c. c.block) (slice_get (cells_of live.now.table.rows.rows.items lane) place)) }
+{
+    match live.cell_block(lane, place) {
+        Some(position) => is_at_border(live, v, position),
+        None => false,
+    }
+}
 
+/// The same of any of them.
 fn is_lane_at_border(live: &LiveFunc, v: u32, lane: u32) -> bool
-    ensures { InOrder live.now.table → result ≡ list_any (cell_at_border live.now.table live.now.func.blocks v) (cells_of live.now.table.rows.rows.items lane) }
+    ensures { InOrder live.now.table → result ≡ lane_at_border live.now.table live.now.func.blocks v lane }
 {
     'cells: for place in 0..live.cell_count(lane) {
-        if let Some(position) = live.cell_block(lane, place) {
-            if is_at_border(live, v, position) {
-                return true;
-            }
+        if is_cell_at_border(live, v, lane, place) {
+            return true;
         }
     }
     false
 }
 
-/// Whether a range is live at the start or the end of some block.
+/// The same of a lane of the range.
+fn is_some_lane_at_border(live: &LiveFunc, v: u32, k: usize) -> bool
+    ensures { InOrder live.now.table → result ≡ some_at (lane_at_border live.now.table live.now.func.blocks v) (number_in live.now.table.lanes (owners.Range v k)) }
+{
+    match live.lane_of(v, k) {
+        Some(lane) => is_lane_at_border(live, v, lane),
+        None => false,
+    }
+}
 
-fn is_live_at_border(live: &LiveFunc, v: u32) -> bool
-    ensures { InOrder live.now.table
-        → result ≡ some_lane live.now.table v (λ l. list_any (cell_at_border live.now.table live.now.func.blocks v) (cells_of live.now.table.rows.rows.items l)) }
+/// Whether a range is live at the start or the end of some block.
+pub(crate) fn is_live_at_border(live: &LiveFunc, v: u32) -> bool
+    ensures { InOrder live.now.table → result ≡ some_lane live.now.table v (lane_at_border live.now.table live.now.func.blocks v) }
 {
     'lanes: for k in 0..live.lane_count(v) {
-        if let Some(lane) = live.lane_of(v, k as usize) {
-            if is_lane_at_border(live, v, lane) {
-                return true;
-            }
+        if is_some_lane_at_border(live, v, k as usize) {
+            return true;
         }
     }
     false
