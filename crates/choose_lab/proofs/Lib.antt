@@ -2,3 +2,4 @@ pub mod Ends
 pub mod Placed
 pub mod Sited
 pub mod Borders
+pub mod Labels

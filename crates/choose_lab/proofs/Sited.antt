@@ -18,7 +18,7 @@ use Rattle.live_lanes.specs.Tells.{touching_ids}
 use Rattle.choose_lab.specs.declared.places.TouchedPlace.{TouchedPlace}
 use Rattle.choose_lab.specs.Seen.{ends_in_terminators, FindsPlaces}
 use Rattle.choose_lab.specs.Offers.{View, touched_places}
-use Rattle.choose_lab.specs.Places.{placed, joined, Site, IsSite, AreSites, site_id, sites_from, place_at}
+use Rattle.choose_lab.specs.Places.{placed, joined, Site, IsSite, AreSites, site_id, sites_from, places_from, place_at}
 use Rattle.choose_lab.proofs.Placed.{blocks-join, blocks-placed}
 
 -- one more of them
@@ -115,6 +115,9 @@ place-number n k (b ∷ bs) e = go (nat_eq b.number n) (place_of n bs) refl refl
         let w : block_place n bs ≡ m = ih m p in
         rw f (omega arith)
 
+pub places-are : (t : Target) (f : Function) (x : Table) (v : ℕ) (view : View) → FindsPlaces t f x v → places_from t v 0 f.blocks ≡ map (placed f.blocks) (touched_places t f v view)
+places-are t f x v view finds = blocks-placed t f v view f.blocks 0 f.blocks (λ j b e. place-number b.number j f.blocks (finds.placed j b e) ∙ omega arith)
+
 pub all-places : (t : Target) (f : Function) (x : Table) (v : ℕ) (view : View) (ids : List ℕ) (n : ℕ) (ps : List TouchedPlace) → FindsPlaces t f x v → ids ≡ touching_ids f v → length ids ≤ n
     → ((ss : List Site) → AreSites t f.blocks ss → map site_id ss ≡ ids → ps ≡ fold joined [] (map (place_at t) (take n ss))) → ps ≡ map (placed f.blocks) (touched_places t f v view)
 all-places t f x v view ids n ps finds same h made =
@@ -125,4 +128,4 @@ all-places t f x v view ids n ps finds same h made =
     made ss (all-sites t v f.blocks f.blocks 0 finds.ended (λ j b e. (let z : 0 + j ≡ j = omega arith in ap (slice_get f.blocks) z ∙ e))) named
     ∙ (ap (λ rs. fold joined [] (map (place_at t) rs)) all
     ∙ (blocks-join t v 0 f.blocks [] finds.ended refl
-    ∙ blocks-placed t f v view f.blocks 0 f.blocks (λ j b e. place-number b.number j f.blocks (finds.placed j b e) ∙ omega arith)))
+    ∙ places-are t f x v view finds))

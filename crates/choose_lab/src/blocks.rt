@@ -1,13 +1,15 @@
 //! Block splits: each block with several places gets a part of its own.
 
-ghost use Rattle.std.specs.Prelude.{◌≡◌, ◌++◌, true, OnOk, Some, slice_get, option_map};
+ghost use Rattle.std.specs.Prelude.{◌≡◌, ℕ, true, map, OnOk, IfOk, Some, slice_get, option_map};
 ghost use Rattle.std.specs.List.{list_all};
 ghost use Rattle.lane_effects.specs.Numbered.{number_in};
 ghost use Rattle.lane_effects.specs.declared.owner.Owner.TheVariants as owners;
 ghost use Rattle.live_lanes.specs.Looks.{InOrder};
 ghost use Rattle.live_lanes.specs.Entered.{cells_of};
 ghost use Rattle.live_lanes.specs.Touching.{some_lane};
-ghost use Rattle.choose_lab.specs.Seen.{ends_in_terminators};
+ghost use Rattle.choose_lab.specs.Offers.{View, touched_places, block_marks};
+ghost use Rattle.choose_lab.specs.Seen.{ends_in_terminators, FindsPlaces};
+ghost use Rattle.choose_lab.specs.Places.{placed};
 ghost use Rattle.choose_lab.specs.Blocks.{at_border, lane_at_border, some_at, is_at, is_second, block_labelled, labelled};
 
 use crate::places::TouchedPlace;
@@ -104,7 +106,8 @@ impl Labelled {
         let (first, end) = gap_ids(live, position);
         self.label = self.label.saturating_add(1);
         add_mark(live, position, Some(first), self.label, &mut self.labels)?;
-        add_mark(live, position, Some(end), 0, &mut self.labels)
+        add_mark(live, position, Some(end), 0, &mut self.labels)?;
+        Ok(())
     }
 
     /// Meets a place. The block of the second one that isn't its terminators gets a label.
@@ -122,4 +125,26 @@ impl Labelled {
         self.last = Some(place.position);
         Ok(())
     }
+}
+
+/// Labels for the blocks with two or more of these places that aren't their terminators.
+fn labels_of(
+    alloc: Global,
+    live: &LiveFunc,
+    places: &[TouchedPlace],
+) -> Result<Labels, AllocError>
+    ensures { IfOk result (λ ls. (v : ℕ) (view : View) → FindsPlaces live.now.target live.now.func live.now.table v
+        → places.now ≡ map (placed live.now.func.blocks) (touched_places live.now.target live.now.func v view)
+        → ls ≡ block_marks live.now.target live.now.func v view 0 live.now.func.blocks) }
+{
+    let mut all = Labelled {
+        labels: Labels::new(alloc),
+        label: 0,
+        last: None,
+        before: None,
+    };
+    'places: for place in places {
+        all.meet(live, *place)?;
+    }
+    Ok(all.labels)
 }
