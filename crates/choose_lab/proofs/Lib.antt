@@ -3,3 +3,5 @@ pub mod Placed
 pub mod Sited
 pub mod Borders
 pub mod Labels
+pub mod Bordering
+pub mod Split

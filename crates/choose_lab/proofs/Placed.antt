@@ -289,7 +289,7 @@ module _ (t : Target) (f : Function) (v : ℕ) (view : View) (bs : List Block) w
 
 -- where instructions are found
 
-has-at : (is : List Instr) (j : ℕ) (i : Instr) → slice_get is j ≡ Some i → has i.id (ids_of is) ≡ true
+pub has-at : (is : List Instr) (j : ℕ) (i : Instr) → slice_get is j ≡ Some i → has i.id (ids_of is) ≡ true
 has-at [] j i e = cc
 has-at (h ∷ is) zero i e = let q : h ≡ i = cc in let same : nat_eq h.id i.id ≡ true = eq-eqb h.id i.id (ap (λ (x : Instr). x.id) q) in rw same refl
 has-at (h ∷ is) (suc j) i e = go (nat_eq h.id i.id) refl (has-at is j i e)

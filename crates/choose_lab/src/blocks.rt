@@ -7,12 +7,13 @@ ghost use Rattle.lane_effects.specs.declared.owner.Owner.TheVariants as owners;
 ghost use Rattle.live_lanes.specs.Looks.{InOrder};
 ghost use Rattle.live_lanes.specs.Entered.{cells_of};
 ghost use Rattle.live_lanes.specs.Touching.{some_lane};
-ghost use Rattle.choose_lab.specs.Offers.{View, touched_places, block_marks};
-ghost use Rattle.choose_lab.specs.Seen.{ends_in_terminators, FindsPlaces};
+ghost use Rattle.mir_meaning.specs.Points.{Point};
+ghost use Rattle.choose_lab.specs.Offers.{View, touched_places, block_marks, some_marks, block_offer};
+ghost use Rattle.choose_lab.specs.Seen.{ends_in_terminators, seen_live, FindsPlaces};
 ghost use Rattle.choose_lab.specs.Places.{placed};
 ghost use Rattle.choose_lab.specs.Blocks.{at_border, lane_at_border, some_at, is_at, is_second, block_labelled, labelled};
 
-use crate::places::TouchedPlace;
+use crate::places::{TouchedPlace, places_of};
 use crate::regions::add_mark;
 use crate::spans::gap_ids;
 use live_lanes::{Labels, LiveFunc};
@@ -147,4 +148,39 @@ fn labels_of(
         all.meet(live, *place)?;
     }
     Ok(all.labels)
+}
+
+/// The labels of the split, where some block gets one.
+fn some_labels(
+    alloc: Global,
+    live: &LiveFunc,
+    places: &[TouchedPlace],
+) -> Result<Option<Labels>, AllocError>
+    ensures { IfOk result (λ q. (v : ℕ) (view : View) → FindsPlaces live.now.target live.now.func live.now.table v
+        → places.now ≡ map (placed live.now.func.blocks) (touched_places live.now.target live.now.func v view)
+        → q ≡ some_marks live.now.target live.now.func v view (block_marks live.now.target live.now.func v view 0 live.now.func.blocks)) }
+{
+    let labels = labels_of(alloc, live, places)?;
+    if labels.len() == 0 {
+        return Ok(None);
+    }
+    Ok(Some(labels))
+}
+
+/// What `per_block` answers.
+fn split_of(alloc: Global, live: &LiveFunc, v: u32) -> Result<Option<Labels>, AllocError>
+    ensures { IfOk result (λ q. (view : View) → FindsPlaces live.now.target live.now.func live.now.table v
+        → ((p : Point) → view.live p ≡ seen_live live.now.table live.now.func.blocks v p)
+        → q ≡ block_offer live.now.target live.now.func v view) }
+{
+    let touched = live.touched(alloc, v)?;
+    let places = places_of(alloc, live, touched.as_slice())?;
+    if places.len() < 2 {
+        return Ok(None);
+    }
+    if !is_live_at_border(live, v) {
+        return Ok(None);
+    }
+    let labels = some_labels(alloc, live, places.as_slice())?;
+    Ok(labels)
 }
