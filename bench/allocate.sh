@@ -3,10 +3,11 @@
 # beside reading and printing alone, over a generated function and families of functions in three sizes each.
 #
 #   bench/allocate.sh [FILE..]    these files, or the families: one straight block, nests of loops, many blocks, many
-#                                 ranges that live all along; each row: instructions, processor seconds of reading and
+#                                 ranges that live all along, and 2,000 functions of 200 instructions of all four in one
+#                                 file; each row: instructions, processor seconds of reading and
 #                                 printing, of `trace`, of `alloc`, the most memory in MB, and the ratios to the first
 # Wanted: the function of `gen 1` in under 1.2 s by `trace` and 2 s by `alloc`, at most 300 MB; 16,000 instructions in one
-# block with 5,000 ranges in under 4 s; growth at most n^1.25. docs/PERFORMANCE.md says what is reached.
+# block with 5,000 ranges in under 4 s; 2,000 functions of 200 instructions in under 10 s; growth at most n^1.25. docs/PERFORMANCE.md says what is reached.
 . "$(dirname "$(readlink -f "${BASH_SOURCE[0]}")")/common.sh"
 
 if [ $# -eq 0 ]; then
@@ -21,8 +22,8 @@ folder = sys.argv[1]
 class Text:
     """A function in the making, over the built-in target."""
 
-    def __init__(self, ranges):
-        self.random = random.Random(7)
+    def __init__(self, ranges, seed):
+        self.random = random.Random(seed)
         self.lines = ["---", "name: bench", "body: |", "  bb.0:"]
         self.block, self.ranges = 0, 0
         for _ in range(ranges):
@@ -55,26 +56,26 @@ class Text:
         self.add("CMP32rr %0, %1, implicit-def $eflags")
         self.add("JCC %%bb.%d, 5, implicit $eflags" % to)
 
-    def write(self, name):
+    def whole(self):
+        """The text of the function."""
         self.add("RET")
-        with open(os.path.join(folder, name + ".mir"), "w") as f:
-            f.write("\n".join(self.lines + ["...", ""]))
+        return "\n".join(self.lines + ["...", ""])
 
 
-def straight(count):
+def straight(count, seed):
     """One block; each value is read a little later."""
-    t = Text(8)
+    t = Text(8, seed)
     while len(t.lines) < count:
         if t.random.randrange(3) == 0:
             t.const()
         else:
             t.work(range(max(0, t.ranges - 24), t.ranges))
-    t.write("straight_%05d" % count)
+    return t.whole()
 
 
-def loops(count):
+def loops(count, seed):
     """Nests of three loops, one behind the other."""
-    t = Text(16)
+    t = Text(16, seed)
     while len(t.lines) < count:
         heads = []
         for _ in range(3):
@@ -85,12 +86,12 @@ def loops(count):
             t.work(range(16))
             t.jump(head)
             t.start()
-    t.write("loops_%05d" % count)
+    return t.whole()
 
 
-def blocks(count):
+def blocks(count, seed):
     """Many small blocks, each with a jump to one that is drawn."""
-    t = Text(20)
+    t = Text(20, seed)
     number = count // 8
     for _ in range(number):
         t.start()
@@ -98,22 +99,29 @@ def blocks(count):
             t.work(range(20))
         t.jump(1 + t.random.randrange(number))
     t.start()
-    t.write("blocks_%05d" % count)
+    return t.whole()
 
 
-def pressure(count):
+def pressure(count, seed):
     """Many ranges that live all along."""
-    t = Text(max(16, count // 40))
+    t = Text(max(16, count // 40), seed)
     while len(t.lines) < count - count // 40:
         t.work(range(t.ranges))
     for k in range(t.ranges):
         t.add("STORE32mr %%%d, 0, %%%d" % (k, k))
-    t.write("pressure_%05d" % count)
+    return t.whole()
 
 
-for family in (straight, loops, blocks, pressure):
+def write(name, text):
+    with open(os.path.join(folder, name + ".mir"), "w") as f:
+        f.write(text)
+
+
+families = (straight, loops, blocks, pressure)
+for family in families:
     for count in (1000, 2000, 4000):
-        family(count)
+        write("%s_%05d" % (family.__name__, count), family(count, 7))
+write("2000_functions", "".join(families[k % 4](200, k) for k in range(2000)))
 MAKE
     set -- "$work"/*.mir
 fi

@@ -50,7 +50,8 @@ holds rule true rest e = (refl, e)
 holds rule false rest e = absurd (cc)
 
 module _ (t : Target) (form : Form) (f : Function) where
-  abbrev Clean : ℕ → Block → Type 0
+  -- no rule of the block and of its instructions fails
+  abbrev pub Clean : ℕ → Block → Type 0
   Clean k b = (block_fault t form f k b ≡ None) × ((j : ℕ) (i : Instr) → slice_get b.instrs j ≡ Some i → instr_fault t form f k b j i ≡ None)
 
   instrs-clean : (k : ℕ) (b : Block) (j : ℕ) (is : List Instr) → instrs_fault t form f k b j is ≡ None → (n : ℕ) (i : Instr) → slice_get is n ≡ Some i → instr_fault t form f k b (j + n) i ≡ None
@@ -87,7 +88,7 @@ module _ (t : Target) (form : Form) (f : Function) where
       subst (λ m. Clean m b) z (blocks-clean (suc k) bs (or-second (fault_in t form f k c c.instrs) (blocks_fault t form f (suc k) bs) e) n b g)
 
   module _ (clean : shape_fault t form f ≡ None) where
-    all-clean : (n : ℕ) (b : Block) → slice_get f.blocks n ≡ Some b → Clean n b
+    pub all-clean : (n : ℕ) (b : Block) → slice_get f.blocks n ≡ Some b → Clean n b
     unfolding shape_fault
     all-clean n b g = let z : 0 + n ≡ n = omega arith in subst (λ m. Clean m b) z (blocks-clean 0 f.blocks clean n b g)
 

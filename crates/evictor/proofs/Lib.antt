@@ -1,1 +1,11 @@
 mod Examples
+pub mod Choosing
+pub mod Clashing
+pub mod Domains
+pub mod Evicted
+pub mod Hinted
+pub mod Known
+pub mod Ranked
+pub mod Spots
+pub mod Tops
+pub mod Uses

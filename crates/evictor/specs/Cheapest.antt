@@ -1,5 +1,5 @@
 -- Eviction: which register a range takes from others, and which ranges lose it.
-use Rattle.std.specs.Prelude.{◌≡◌, ℕ, Bool, true, false, cond, not, ◌+◌, ◌&&◌, ◌||◌, ◌==◌, nat_lt, max, List, map, filter, length, find, Option, Some, None, option_map, slice_get}
+use Rattle.std.specs.Prelude.{◌≡◌, ℕ, Bool, true, false, cond, not, ◌+◌, ◌&&◌, ◌||◌, ◌==◌, nat_lt, max, List, map, filter, length, find, Option, Some, None, option_map, slice_get, unwrap_or}
 use Rattle.std.specs.List.{list_all, fold}
 use Rattle.target_base.specs.declared.types.Reg.{Reg}
 use Rattle.target_base.specs.declared.types.Unit.{Unit as UnitNumber}
@@ -30,7 +30,7 @@ is_tiny k v = is_tiny_stage (slice_get k.stages v)
 
 -- the cascade of a range; 0 where none was given
 abbrev pub cascade : Ranking → ℕ → ℕ
-cascade k v = elim (slice_get k.cascades v) [ None ↦ 0 | Some n ↦ n ]
+cascade k v = unwrap_or (slice_get k.cascades v) 0
 
 -- the number that a range compares with the cascades of others: its own cascade, or else one that is new
 abbrev pub number : Ranking → ℕ → ℕ

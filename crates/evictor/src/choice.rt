@@ -1,7 +1,17 @@
 //! The cheapest eviction.
 
+ghost use Rattle.std.specs.Prelude.{◌≡◌, ◌<◌, ◌+◌, ◌^◌, ◌&&◌, ℕ, true, false, not, nat_lt, map, length, option_map, IfOk};
+ghost use Rattle.std.specs.List.{list_all};
+ghost use Rattle.interference.specs.Clashes.{IsOrdered, is_fixed};
+ghost use Rattle.evictor.specs.Best.{best_with};
+ghost use Rattle.evictor.specs.Settings.{ranking_of};
+ghost use Rattle.evictor.specs.Hints.{assignment_of, copies_count};
+ghost use Rattle.evictor.specs.Candidates.{candidates};
+ghost use Rattle.evictor.specs.Cheapest.{is_tiny, cascade, number, weight, clashers, may_lose, qualifies, cheapest_of};
+ghost use Rattle.evictor.specs.Settings.{Weighs, weight_in, setting_of, limit, is_within, cost_within, eviction_of, eviction_at, costs_less, answer_of};
+
 use crate::hints::candidates;
-use crate::ranks::{Ranks, Stage};
+use crate::ranks::Ranks;
 use crate::weights::weight;
 use block_freq::Freqs;
 use interference::{Clash, Matrix};
@@ -15,9 +25,10 @@ struct View<'a> {
     m: &'a Matrix,
     freqs: &'a Freqs,
     ranks: &'a Ranks,
+    range: u32,
     /// The number that the range compares with the cascades of those in its way.
     number: u32,
-    /// Its weight, which those in its way must have less of; none where they need not.
+    /// Its weight, which those in the way must have less of; none where they need not.
     weight: Option<u128>,
 }
 
@@ -30,18 +41,198 @@ struct Eviction {
     victims: Numbers,
 }
 
-/// The register that a range takes from others, with these by their numbers: of those that it may
-/// take, the one whose greatest weight in the way is least, then with the fewest ranges in the way,
-/// then the first candidate. None exactly where it may take none.
-pub fn cheapest(
+/// Whether an eviction costs less than another, or as much with fewer victims.
+fn costs_less(a: &Eviction, b: &Eviction) -> bool
+    ensures { result ≡ costs_less a.now b.now }
+{
+    a.cost < b.cost || (a.cost == b.cost && a.victims.len() < b.victims.len())
+}
+
+/// The better of an eviction and the best one before it, where there are these.
+fn best_with(found: Option<Eviction>, best: Option<Eviction>) -> Option<Eviction>
+    ensures { result ≡ best_with costs_less found best }
+{
+    match found {
+        None => best,
+        Some(new) => match best {
+            None => Some(new),
+            Some(old) => {
+                if costs_less(&new, &old) {
+                    Some(new)
+                } else {
+                    Some(old)
+                }
+            }
+        },
+    }
+}
+
+/// What of an eviction is answered.
+fn answer_of(best: Option<Eviction>) -> Option<(Reg, Numbers)>
+    ensures { result ≡ answer_of best }
+{
+    match best {
+        Some(
+            Eviction {
+                register,
+                victims,
+                ..
+            },
+        ) => Some((register, victims)),
+        None => None,
+    }
+}
+
+/// Whether a range in the way may lose its register, but for its weight.
+fn may_lose(view: View<'_>, w: u32) -> bool
+    ensures { result ≡ (not (is_tiny (ranking_of view.entry.ranks.now) w) && nat_lt (cascade (ranking_of view.entry.ranks.now) w) view.entry.number) }
+{
+    !view.ranks.is_tiny(w) && view.ranks.cascade(w) < view.number
+}
+
+/// Whether all ranges in the way may lose their registers, but for their weights.
+#[tactic(auto, using(crate::proofs::Evicted::alls))]
+fn all_may_lose(view: View<'_>, victims: &[u32]) -> bool
+    ensures { result ≡ list_all (λ w. not (is_tiny (ranking_of view.entry.ranks.now) w) && nat_lt (cascade (ranking_of view.entry.ranks.now) w) view.entry.number) victims.now }
+{
+    'victims: for w in victims {
+        if !may_lose(view, *w) {
+            return false;
+        }
+    }
+    true
+}
+
+/// Whether a weight is less than the limit, if there is one.
+fn is_within(limit: Option<u128>, weight: u128) -> bool
+    ensures { result ≡ is_within limit weight }
+{
+    match limit {
+        None => true,
+        Some(limit) => weight < limit,
+    }
+}
+
+/// The weight of a range.
+fn weight_of(view: View<'_>, w: u32) -> Result<u128, AllocError>
+    ensures { IfOk result (λ own. Weighs view.entry.m.now.live.table view.entry.m.now.live.func view.entry.freqs.now → own ≡ weight_in view.entry.m.now view.entry.freqs.now w) }
+{
+    let own = weight(view.alloc, view.m.live(), w, view.freqs)?;
+    Ok(own)
+}
+
+/// The greatest weight of ranges in the way; none where one of them is too heavy.
+#[tactic(auto, using(crate::proofs::Evicted::costs))]
+fn cost_of(view: View<'_>, victims: &[u32]) -> Result<Option<u128>, AllocError>
+    ensures { IfOk result (λ cost. Weighs view.entry.m.now.live.table view.entry.m.now.live.func view.entry.freqs.now
+        → cost ≡ cost_within view.entry.weight (map (weight_in view.entry.m.now view.entry.freqs.now) victims.now)) }
+{
+    let mut cost = 0u128;
+    'victims: for w in victims {
+        let own = weight_of(view, *w)?;
+        if !is_within(view.weight, own) {
+            return Ok(None);
+        }
+        cost = cost.max(own);
+    }
+    Ok(Some(cost))
+}
+
+/// The eviction of these ranges at a cost, if there is one.
+fn evicted(r: Reg, victims: Numbers, cost: Option<u128>) -> Option<Eviction>
+    ensures { result ≡ option_map (eviction_of r victims) cost }
+{
+    match cost {
+        Some(cost) => Some(Eviction {
+            register: r,
+            cost,
+            victims,
+        }),
+        None => None,
+    }
+}
+
+/// The eviction of these ranges, which are those in the way in a register, where they may be evicted.
+fn evicting(view: View<'_>, r: Reg, victims: Numbers) -> Result<Option<Eviction>, AllocError>
+    ensures { IfOk result (λ found. Weighs view.entry.m.now.live.table view.entry.m.now.live.func view.entry.freqs.now
+        → view.entry.number ≡ number (ranking_of view.entry.ranks.now) view.entry.range
+        → view.entry.weight ≡ limit (setting_of view.entry.m.now view.entry.freqs.now view.entry.ranks.now view.entry.range)
+        → is_fixed view.entry.m.now view.entry.range r ≡ false
+        → victims ≡ clashers (setting_of view.entry.m.now view.entry.freqs.now view.entry.ranks.now view.entry.range) r
+        → found ≡ eviction_at (setting_of view.entry.m.now view.entry.freqs.now view.entry.ranks.now view.entry.range) r) }
+{
+    if !all_may_lose(view, victims.as_slice()) {
+        return Ok(None);
+    }
+    let cost = cost_of(view, victims.as_slice())?;
+    Ok(evicted(r, victims, cost))
+}
+
+/// Whether a range in the way may not lose its register.
+fn keeps_register(view: View<'_>, w: u32) -> Result<bool, AllocError>
+    ensures { IfOk result (λ keeps. Weighs view.entry.m.now.live.table view.entry.m.now.live.func view.entry.freqs.now
+        → view.entry.number ≡ number (ranking_of view.entry.ranks.now) view.entry.range
+        → view.entry.weight ≡ limit (setting_of view.entry.m.now view.entry.freqs.now view.entry.ranks.now view.entry.range)
+        → keeps ≡ not (may_lose (setting_of view.entry.m.now view.entry.freqs.now view.entry.ranks.now view.entry.range) w)) }
+{
+    if !may_lose(view, w) {
+        return Ok(true);
+    }
+    let own = weight_of(view, w)?;
+    Ok(!is_within(view.weight, own))
+}
+
+/// Whether the range in the way that is found first may not lose its register. Mostly that settles
+/// it, before all those in the way are found.
+fn is_kept_out(view: View<'_>, r: Reg) -> Result<bool, AllocError>
+    ensures { IfOk result (λ kept. IsOrdered view.entry.m.now → Weighs view.entry.m.now.live.table view.entry.m.now.live.func view.entry.freqs.now
+        → view.entry.number ≡ number (ranking_of view.entry.ranks.now) view.entry.range
+        → view.entry.weight ≡ limit (setting_of view.entry.m.now view.entry.freqs.now view.entry.ranks.now view.entry.range)
+        → kept ≡ true → qualifies (setting_of view.entry.m.now view.entry.freqs.now view.entry.ranks.now view.entry.range) r ≡ false) }
+{
+    match view.m.some_clasher(view.range, r) {
+        None => Ok(false),
+        Some(w) => {
+            let keeps = keeps_register(view, w)?;
+            Ok(keeps)
+        }
+    }
+}
+
+/// The eviction that gives the range a register, where it may take it.
+fn eviction_at(view: View<'_>, r: Reg) -> Result<Option<Eviction>, AllocError>
+    ensures { IfOk result (λ found. IsOrdered view.entry.m.now → Weighs view.entry.m.now.live.table view.entry.m.now.live.func view.entry.freqs.now
+        → view.entry.number ≡ number (ranking_of view.entry.ranks.now) view.entry.range
+        → view.entry.weight ≡ limit (setting_of view.entry.m.now view.entry.freqs.now view.entry.ranks.now view.entry.range)
+        → found ≡ eviction_at (setting_of view.entry.m.now view.entry.freqs.now view.entry.ranks.now view.entry.range) r) }
+{
+    if is_kept_out(view, r)? {
+        return Ok(None);
+    }
+    match view.m.clashers(view.range, r)? {
+        Clash::Fixed => Ok(None),
+        Clash::Ranges(victims) => {
+            let found = evicting(view, r, victims)?;
+            Ok(found)
+        }
+    }
+}
+
+/// The weight that those in the way of a range must have less of; none where it is a tiny.
+fn limit(
     alloc: Global,
     m: &Matrix,
     v: u32,
     freqs: &Freqs,
     ranks: &Ranks,
-) -> Result<Option<(Reg, Numbers)>, AllocError> {
-    let found = candidates(alloc, m, v, freqs)?;
-    cheapest_of(alloc, m, v, freqs, ranks, found.as_slice())
+) -> Result<Option<u128>, AllocError>
+    ensures { IfOk result (λ most. Weighs m.now.live.table m.now.live.func freqs.now → most ≡ limit (setting_of m.now freqs.now ranks.now v)) }
+{
+    if ranks.is_tiny(v) {
+        return Ok(None);
+    }
+    let own = weight(alloc, m.live(), v, freqs)?;
+    Ok(Some(own))
 }
 
 /// What `cheapest` answers, where these are the candidates.
@@ -52,95 +243,43 @@ pub fn cheapest_of(
     freqs: &Freqs,
     ranks: &Ranks,
     found: &[Reg],
-) -> Result<Option<(Reg, Numbers)>, AllocError> {
+) -> Result<Option<(Reg, Numbers)>, AllocError>
+    ensures { IfOk result (λ answer. IsOrdered m.now → Weighs m.now.live.table m.now.live.func freqs.now → ranks.now.greatest + 1 < 2 ^ 32
+        → answer ≡ cheapest_of (setting_of m.now freqs.now ranks.now v) found.now) }
+{
+    let number = ranks.number(v);
+    let weight = limit(alloc, m, v, freqs, ranks)?;
     let view = View {
         alloc,
         m,
         freqs,
         ranks,
-        number: ranks.number(v),
-        weight: match ranks.stage(v) {
-            Stage::Tiny => None,
-            _ => Some(weight(alloc, m.live(), v, freqs)?),
-        },
+        range: v,
+        number,
+        weight,
     };
     let mut best: Option<Eviction> = None;
     'candidates: for r in found {
-        if let Some(eviction) = eviction_at(view, v, *r)? {
-            if is_better(&eviction, &best) {
-                best = Some(eviction);
-            }
-        }
+        best = best_with(eviction_at(view, *r)?, best);
     }
-    Ok(match best {
-        Some(
-            Eviction {
-                register,
-                victims,
-                ..
-            },
-        ) => Some((register, victims)),
-        None => None,
-    })
+    Ok(answer_of(best))
 }
 
-fn is_better(found: &Eviction, best: &Option<Eviction>) -> bool {
-    match best {
-        Some(old) => {
-            found.cost < old.cost
-                || (found.cost == old.cost && found.victims.len() < old.victims.len())
-        }
-        None => true,
-    }
-}
-
-/// The eviction that gives a range a register, where it may take it.
-fn eviction_at(view: View<'_>, v: u32, r: Reg) -> Result<Option<Eviction>, AllocError> {
-    if is_kept_out(view, v, r)? {
-        return Ok(None);
-    }
-    let victims = match view.m.clashers(v, r)? {
-        Clash::Fixed => return Ok(None),
-        Clash::Ranges(victims) => victims,
-    };
-    if !victims.as_slice().iter().all(|w| may_lose(view, *w)) {
-        return Ok(None);
-    }
-    Ok(match cost_of(view, victims.as_slice())? {
-        Some(cost) => Some(Eviction {
-            register: r,
-            cost,
-            victims,
-        }),
-        None => None,
-    })
-}
-
-/// Whether the range in the way that is found first may not lose its register. Mostly that settles
-/// it, before all those in the way are found.
-fn is_kept_out(view: View<'_>, v: u32, r: Reg) -> Result<bool, AllocError> {
-    match view.m.some_clasher(v, r) {
-        Some(w) => Ok(!may_lose(view, w) || cost_of(view, &[w])?.is_none()),
-        None => Ok(false),
-    }
-}
-
-/// Whether a range in the way may lose its register, but for its weight.
-fn may_lose(view: View<'_>, w: u32) -> bool {
-    view.ranks.stage(w) != Stage::Tiny && view.ranks.cascade(w) < view.number
-}
-
-/// The greatest weight of ranges in the way; none where one of them is too heavy.
-fn cost_of(view: View<'_>, victims: &[u32]) -> Result<Option<u128>, AllocError> {
-    let mut cost = 0u128;
-    'victims: for w in victims {
-        let own = weight(view.alloc, view.m.live(), *w, view.freqs)?;
-        if let Some(limit) = view.weight {
-            if own >= limit {
-                return Ok(None);
-            }
-        }
-        cost = cost.max(own);
-    }
-    Ok(Some(cost))
+/// The register that a range takes from others, with these by their numbers: of those that it may
+/// take, the one whose greatest weight in the way is least, then with the fewest ranges in the way,
+/// then the first candidate. None exactly where it may take none.
+pub fn cheapest(
+    alloc: Global,
+    m: &Matrix,
+    v: u32,
+    freqs: &Freqs,
+    ranks: &Ranks,
+) -> Result<Option<(Reg, Numbers)>, AllocError>
+    ensures { IfOk result (λ answer. IsOrdered m.now → Weighs m.now.live.table m.now.live.func freqs.now → ranks.now.greatest + 1 < 2 ^ 32
+        → copies_count m.now.live.target m.now.live.func.blocks ≡ true → length freqs.now ≡ length m.now.live.func.blocks
+        → answer ≡ cheapest_of (setting_of m.now freqs.now ranks.now v) (candidates m.now.live.target m.now.live.func (assignment_of m.now) freqs.now v)) }
+{
+    let found = candidates(alloc, m, v, freqs)?;
+    let answer = cheapest_of(alloc, m, v, freqs, ranks, found.as_slice())?;
+    Ok(answer)
 }

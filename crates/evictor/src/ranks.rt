@@ -1,5 +1,10 @@
 //! What a run knows of each range besides its register.
 
+ghost use Rattle.std.specs.Prelude.{◌≡◌, ◌+◌, ◌<◌, ◌^◌, slice_get, unwrap_or};
+ghost use Rattle.evictor.specs.declared.ranks.Stage.TheVariants.{New};
+ghost use Rattle.evictor.specs.Settings.{ranking_of};
+ghost use Rattle.evictor.specs.Cheapest.{is_tiny, cascade, number};
+
 use std::alloc::{AllocError, Global};
 use target_base::{Copied, List, Numbers};
 
@@ -36,7 +41,9 @@ pub struct Ranks {
 
 impl Ranks {
     /// The stage of a range; New where none is known.
-    pub fn stage(&self, v: u32) -> Stage {
+    pub fn stage(&self, v: u32) -> Stage
+        ensures { result ≡ unwrap_or (slice_get self.now.stages v) New }
+    {
         self.stages
             .as_slice()
             .get(v as usize)
@@ -44,8 +51,20 @@ impl Ranks {
             .unwrap_or(Stage::New)
     }
 
+    /// Whether a range was made by spilling, for one place.
+    pub fn is_tiny(&self, v: u32) -> bool
+        ensures { result ≡ is_tiny (ranking_of self.now) v }
+    {
+        match self.stage(v) {
+            Stage::Tiny => true,
+            _ => false,
+        }
+    }
+
     /// The cascade number of a range.
-    pub fn cascade(&self, v: u32) -> u32 {
+    pub fn cascade(&self, v: u32) -> u32
+        ensures { result ≡ cascade (ranking_of self.now) v }
+    {
         self.cascades
             .as_slice()
             .get(v as usize)
@@ -54,10 +73,15 @@ impl Ranks {
     }
 
     /// The number that a range compares with the cascade numbers of others.
-    pub fn number(&self, v: u32) -> u32 {
-        match self.cascade(v) {
-            0 => self.greatest.saturating_add(1),
-            cascade => cascade,
+    #[tactic(auto, using(crate::proofs::Ranked::number_is))]
+    pub fn number(&self, v: u32) -> u32
+        ensures { self.now.greatest + 1 < 2 ^ 32 → result ≡ number (ranking_of self.now) v }
+    {
+        let own = self.cascade(v);
+        if own == 0 {
+            self.greatest.saturating_add(1)
+        } else {
+            own
         }
     }
 }

@@ -1,26 +1,57 @@
 //! Spill weights: how often a range is used, for the points that it has.
 
+ghost use Rattle.std.specs.Prelude.{◌≡◌, ◌<◌, ◌*◌, ◌-◌, ◌^◌, ℕ, min, slice_index, IfOk};
+ghost use Rattle.mir_meaning.specs.Points.{is_range, counts};
+ghost use Rattle.mir_func.specs.declared.func.Instr.{Instr as Instruction};
+ghost use Rattle.block_freq.specs.Weights.{names, naming, use_sum, weight_of};
+ghost use Rattle.live_lanes.specs.Held.{range_held};
+ghost use Rattle.live_lanes.specs.Looks.{InOrder};
+ghost use Rattle.live_lanes.specs.Touching.{FindsInstrs};
+ghost use Rattle.live_lanes.specs.Tells.{TellsInstrs};
+ghost use Rattle.evictor.specs.Spots.{IsSpot, uses_at};
+
 use block_freq::Freqs;
 use live_lanes::LiveFunc;
-use mir_func::{Instr, Loc, Operand};
+use mir_func::{Instr, Loc, Operand, RegOp};
 use std::alloc::{AllocError, Global};
 
 /// The number of operands of an instruction that name a range, `undef` uses aside.
-pub fn operand_count(instr: &Instr, v: u32) -> u64 {
+pub fn operand_count(instr: &Instr, v: u32) -> u64
+    ensures { result ≡ naming v instr.now }
+{
     let count = instr
         .operands
         .as_slice()
         .iter()
-        .filter(|operand| match operand {
-            Operand::Reg(op) => op.loc == Loc::Virtual(v) && (op.def || !op.undef),
-            _ => false,
-        })
+        .filter(|operand| names(operand, v))
         .count();
     count as u64
 }
 
+/// Whether an operand names a range and isn't an `undef` use.
+fn names(operand: &Operand, v: u32) -> bool
+    ensures { result ≡ names v operand.now }
+{
+    match operand {
+        Operand::Reg(op) => is_range(op, v) && (op.def || !op.undef),
+        _ => false,
+    }
+}
+
+/// Whether an operand is a range.
+pub(crate) fn is_range(op: &RegOp, v: u32) -> bool
+    ensures { result ≡ is_range v op.now.loc }
+{
+    match op.loc {
+        Loc::Virtual(w) => w == v,
+        Loc::Fixed(_) => false,
+    }
+}
+
 /// The frequency of the block at a position.
-pub fn frequency_at(freqs: &Freqs, position: u32) -> u64 {
+pub fn frequency_at(freqs: &Freqs, position: u32) -> u64
+    ensures { result ≡ slice_index freqs.now position }
+{
     freqs
         .as_slice()
         .get(position as usize)
@@ -28,22 +59,38 @@ pub fn frequency_at(freqs: &Freqs, position: u32) -> u64 {
         .unwrap_or(0)
 }
 
+/// The operands of an instruction that name a range, each as often as its block is entered.
+fn uses_at(live: &LiveFunc, id: u32, v: u32, freqs: &Freqs) -> u128
+    ensures { FindsInstrs live.now.table live.now.func.blocks → (s : ℕ × Instruction) → IsSpot live.now.func.blocks s → s.1.id ≡ id → result ≡ uses_at freqs.now v s }
+{
+    match live.instr(id) {
+        None => 0,
+        Some(instr) => {
+            frequency_at(freqs, live.position_of(id)) as u128 * operand_count(instr, v) as u128
+        }
+    }
+}
+
 /// The sum, over the instructions that touch a range, of the block's frequency times the number of
 /// operands that name it.
-pub fn use_sum(alloc: Global, live: &LiveFunc, v: u32, freqs: &Freqs) -> Result<u128, AllocError> {
+pub fn use_sum(alloc: Global, live: &LiveFunc, v: u32, freqs: &Freqs) -> Result<u128, AllocError>
+    ensures { IfOk result (λ sum. TellsInstrs live.now.func live.now.table
+        → sum ≡ min (use_sum live.now.func.blocks freqs.now v) (2 ^ 128 - 1)) }
+{
     let touched = live.touched(alloc, v)?;
     let mut sum = 0u128;
     'touched: for id in touched.as_slice() {
-        if let Some(instr) = live.instr(*id) {
-            let freq = frequency_at(freqs, live.position_of(*id)) as u128;
-            sum = sum.saturating_add(freq * operand_count(instr, v) as u128);
-        }
+        sum = sum.saturating_add(uses_at(live, *id, v, freqs));
     }
     Ok(sum)
 }
 
 /// The spill weight of a range: 1024 times its use sum, divided by 8 more than its points.
-pub fn weight(alloc: Global, live: &LiveFunc, v: u32, freqs: &Freqs) -> Result<u128, AllocError> {
+pub fn weight(alloc: Global, live: &LiveFunc, v: u32, freqs: &Freqs) -> Result<u128, AllocError>
+    ensures { IfOk result (λ weight. InOrder live.now.table → TellsInstrs live.now.func live.now.table
+        → range_held live.now.table live.now.func.blocks v < 2 ^ 64 → 1024 * use_sum live.now.func.blocks freqs.now v < 2 ^ 128
+        → weight ≡ weight_of live.now.func.blocks freqs.now v (range_held live.now.table live.now.func.blocks v)) }
+{
     let uses = use_sum(alloc, live, v, freqs)?;
     let points = live.points(v) as u128;
     Ok(uses.saturating_mul(1024) / (points + 8))

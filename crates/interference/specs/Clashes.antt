@@ -1,5 +1,5 @@
 -- Which registers ranges have, what they hold, and with what a range in a register would clash.
-use Rattle.std.specs.Prelude.{◌≡◌, ◌<◌, ◌≤◌, ℕ, suc, ◌+◌, Bool, false, cond, not, ◌&&◌, ◌||◌, nat_eq, nat_le, List, [], ◌∷◌, ◌++◌, map, flat_map, filter, length, Option, None, Some, slice_get}
+use Rattle.std.specs.Prelude.{◌≡◌, ◌<◌, ◌≤◌, ℕ, suc, ◌+◌, Bool, true, false, cond, not, ◌&&◌, ◌||◌, nat_eq, nat_le, List, [], ◌∷◌, ◌++◌, map, flat_map, filter, length, Option, None, Some, slice_get, Vec}
 use Rattle.std.specs.List.{list_any}
 use Rattle.target_base.specs.declared.types.Reg.{Reg}
 use Rattle.target_base.specs.declared.types.Unit.{Unit as UnitNumber}
@@ -7,7 +7,7 @@ use Rattle.target_base.specs.Registers.{units_of}
 use Rattle.mir_meaning.specs.Registers.{numbers}
 use Rattle.lane_effects.specs.Numbered.{number_in}
 use Rattle.lane_effects.specs.declared.owner.Owner.TheVariants as owners
-use Rattle.live_lanes.specs.declared.extent.Extent.{Extent}
+use Rattle.std.specs.Global.{Global}
 use Rattle.live_lanes.specs.declared.extent.Stretch.{Stretch}
 use Rattle.live_lanes.specs.declared.row.Cell.{Cell}
 use Rattle.live_lanes.specs.declared.table.Table.{Table}
@@ -26,9 +26,12 @@ use Rattle.interference.specs.declared.matrix.Clash.TheVariants as clashes
 abbrev pub register_in : List (Option Reg) → ℕ → Option Reg
 register_in rs v = elim (slice_get rs v) [ None ↦ None | Some r ↦ r ]
 
--- the stretches of a list, over its parts
+abbrev pub part_of : Vec Held Global → List Held
+part_of p = p.items
+
+-- the stretches of a list, part by part
 abbrev pub held_of : HeldList → List Held
-held_of h = flat_map (λ p. p.items) h.parts.items
+held_of h = flat_map part_of h.parts.items
 
 -- the list of a unit in the block at a position
 abbrev pub list_in : AllHeld → ℕ → ℕ → Option HeldList
@@ -47,9 +50,13 @@ abbrev pub AreApart : Numbers → ℕ → List Held → Type 0
 AreApart slots n [] = Unit {0}
 AreApart slots n (h ∷ hs) = (n ≤ first_rank slots h.extent) × AreApart slots (last_rank slots h.extent + 1) hs
 
+abbrev pub is_none : List Held → Bool
+is_none [] = true
+is_none (h ∷ hs) = false
+
 -- none of several parts is empty
 abbrev pub AreFilled : HeldList → Type 0
-AreFilled h = 1 < length h.parts.items → list_any (λ p. nat_eq (length p.items) 0) h.parts.items ≡ false
+AreFilled h = 1 < length h.parts.items → list_any is_none (map part_of h.parts.items) ≡ false
 
 -- each holding range has a place among the registers
 abbrev pub AreKnown : ℕ → List Held → Type 0
@@ -63,21 +70,34 @@ pub record IsOrdered (m : Matrix) : Type 0 where
   pub apart : (u b : ℕ) → AreApart m.live.table.order.slots 0 (holds m u b)
   pub known : (u b : ℕ) → AreKnown (length m.registers.items) (holds m u b)
 
--- the two have a point in common
-abbrev pub touches : Numbers → Extent → Stretch → Bool
-touches slots e at = nat_le (first_rank slots e) at.last && nat_le at.first (last_rank slots e)
+-- it begins at the point or before it
+abbrev pub begins_by : Numbers → ℕ → Held → Bool
+begins_by slots at h = nat_le (first_rank slots h.extent) at
+
+-- the range holds one of these points
+abbrev pub touches : Numbers → Stretch → Held → Bool
+touches slots at h = begins_by slots at.last h && nat_le at.first (last_rank slots h.extent)
 
 -- another range than one holds some of these points
 abbrev pub is_taken : Numbers → List Held → ℕ → Stretch → Bool
-is_taken slots hs but at = list_any (λ h. not (nat_eq h.range but) && touches slots h.extent at) hs
+is_taken slots hs but at = list_any (λ h. not (nat_eq h.range but) && touches slots at h) hs
 
 -- that range does
 abbrev pub is_taken_by : Numbers → List Held → ℕ → Stretch → Bool
-is_taken_by slots hs w at = list_any (λ h. nat_eq h.range w && touches slots h.extent at) hs
+is_taken_by slots hs w at = list_any (λ h. nat_eq h.range w && touches slots at h) hs
 
--- a unit is live or occupied by itself, or another range than `but` holds it, at some of these points of the block at a position
+-- a unit is live or occupied by itself, or another range than `but` holds it, at one of these points of the block at a position
 abbrev pub is_held : Matrix → ℕ → ℕ → ℕ → Stretch → Bool
 is_held m u but b at = is_met m.live.table u b at || is_taken m.live.table.order.slots (holds m u b) but at
+
+-- one point alone
+abbrev pub point : ℕ → Stretch
+point at = record { first = at; last = at }
+
+-- the same at the start of a block, by its position
+abbrev pub is_held_at_start : Matrix → ℕ → ℕ → Option ℕ → Bool
+is_held_at_start m u but None = false
+is_held_at_start m u but (Some b) = is_held m u but b (point 0)
 
 -- points of a unit in the block at a position
 pub record Points : Type 0 where
@@ -85,10 +105,15 @@ pub record Points : Type 0 where
   pub block : ℕ
   pub at : Stretch
 
+-- those that the pieces of a lane in a block would take in a unit
 abbrev pub cell_points : Numbers → ℕ → Cell → List Points
 cell_points slots u c = map (λ e. record { unit = u; block = c.block; at = stretch_of slots e }) (cell_extents c)
 
--- those that a lane would take in a unit
+abbrev pub some_cell_points : Numbers → ℕ → Option Cell → List Points
+some_cell_points slots u None = []
+some_cell_points slots u (Some c) = cell_points slots u c
+
+-- those that a lane would take
 abbrev pub lane_points : Table → ℕ → Option ℕ → List Points
 lane_points x u None = []
 lane_points x u (Some lane) = flat_map (cell_points x.order.slots u) (cells_of x.rows.rows.items lane)
@@ -102,13 +127,29 @@ range_points x v k (u ∷ us) = lane_points x u.0 (number_in x.lanes (owners.Ran
 abbrev pub points_in : Matrix → ℕ → Reg → List Points
 points_in m v p = range_points m.live.table v 0 (units_of m.live.target p)
 
--- some of them are those at which the unit is live or occupied by itself
-abbrev pub is_fixed : Matrix → ℕ → Reg → Bool
-is_fixed m v p = list_any (λ s. is_met m.live.table s.unit s.block s.at) (points_in m v p)
+-- the unit is live or occupied by itself at one of the points
+abbrev pub is_fixed_at : Matrix → Points → Bool
+is_fixed_at m s = is_met m.live.table s.unit s.block s.at
 
--- another range, w, holds some of them
+-- or another range than `but` holds it there
+abbrev pub is_held_at : Matrix → ℕ → Points → Bool
+is_held_at m but s = is_held m s.unit but s.block s.at
+
+-- that range does
+abbrev pub is_taken_at : Matrix → ℕ → Points → Bool
+is_taken_at m w s = is_taken_by m.live.table.order.slots (holds m s.unit s.block) w s.at
+
+-- another range, w, does at some of them
+abbrev pub are_taken : Matrix → ℕ → List Points → ℕ → Bool
+are_taken m v ps w = not (nat_eq w v) && list_any (is_taken_at m w) ps
+
+-- a range in a register would clash with a unit by itself
+abbrev pub is_fixed : Matrix → ℕ → Reg → Bool
+is_fixed m v p = list_any (is_fixed_at m) (points_in m v p)
+
+-- it would clash with that range
 abbrev pub is_in_way : Matrix → ℕ → Reg → ℕ → Bool
-is_in_way m v p w = not (nat_eq w v) && list_any (λ s. is_taken_by m.live.table.order.slots (holds m s.unit s.block) w s.at) (points_in m v p)
+is_in_way m v p w = are_taken m v (points_in m v p) w
 
 abbrev pub ranges_of : Matrix → List ℕ
 ranges_of m = numbers 0 (length m.registers.items)

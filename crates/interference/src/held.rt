@@ -1,5 +1,12 @@
 //! What ranges hold of one unit in one block, in order.
 
+ghost use Rattle.std.specs.Prelude.{◌≡◌, ◌≤◌, ◌<◌, ◌*◌, ℕ, suc, true, false, not, ◌&&◌, ◌||◌, nat_eq, length, filter, MatchOption};
+ghost use Rattle.std.specs.List.{list_any, list_all};
+ghost use Rattle.live_lanes.specs.Table.{leading};
+ghost use Rattle.interference.specs.Clashes.{held_of, AreApart, AreFilled, begins_by, is_taken, is_taken_by};
+ghost use Rattle.interference.specs.Parts.{parts_of, part_in, part_before, before, part_begins, lies_before, IsMet};
+ghost use Rattle.interference.specs.Marked.{is_marked};
+
 use crate::marks::Marks;
 use live_lanes::{Extent, Stretch};
 use slot_index::Slots;
@@ -54,7 +61,9 @@ pub(crate) struct HeldList {
 }
 
 /// Whether the first stretch of a part begins at or before a point.
-fn begins_by(slots: &Slots, part: &Vec<Held>, at: u128) -> bool {
+fn begins_by(slots: &Slots, part: &Vec<Held>, at: u128) -> bool
+    ensures { result ≡ part_begins slots.now at part.now.items }
+{
     match part.first() {
         Some(held) => held.extent.first(slots) <= at,
         None => false,
@@ -62,15 +71,21 @@ fn begins_by(slots: &Slots, part: &Vec<Held>, at: u128) -> bool {
 }
 
 /// How many stretches of a part begin at or before a point.
-fn count_by(slots: &Slots, part: &Vec<Held>, at: u128) -> usize {
+fn count_by(slots: &Slots, part: &Vec<Held>, at: u128) -> usize
+    ensures within { result ≤ length part.now.items }
+    ensures count { (n : ℕ) → AreApart slots.now n part.now.items → result ≡ leading (begins_by slots.now at) part.now.items }
+{
     part.as_slice()
         .partition_point(|held| held.extent.first(slots) <= at)
 }
 
 /// Whether another range than one holds the unit at some of these points, by some stretches that
 /// begin before their end.
-fn met_by(slots: &Slots, stretches: &[Held], at: Stretch, but: u32) -> Met {
-    'stretches: for held in stretches.iter().rev() {
+fn met_by(slots: &Slots, stretches: &[Held], at: Stretch, but: u32) -> Met
+    ensures { list_all (begins_by slots.now at.last) stretches.now ≡ true → (n : ℕ) → AreApart slots.now n stretches.now → IsMet slots.now stretches.now at but result }
+{
+    'stretches: for k in (0..stretches.len()).rev() {
+        let held = &stretches[k];
         if held.extent.last(slots) < at.first {
             return Met::Behind;
         }
@@ -83,8 +98,14 @@ fn met_by(slots: &Slots, stretches: &[Held], at: Stretch, but: u32) -> Met {
 
 /// Marks the ranges other than one that hold the unit at some of these points, by some stretches that
 /// begin before their end. Answers whether there may be more.
-fn mark_met(slots: &Slots, stretches: &[Held], at: Stretch, but: u32, marks: &mut Marks) -> bool {
-    'stretches: for held in stretches.iter().rev() {
+fn mark_met(slots: &Slots, stretches: &[Held], at: Stretch, but: u32, marks: &mut Marks) -> bool
+    ensures room { length marks.new.words.items ≡ length marks.old.words.items }
+    ensures marked { list_all (begins_by slots.now at.last) stretches.now ≡ true → (n : ℕ) → AreApart slots.now n stretches.now → (w : ℕ) → w < length marks.old.words.items * 64
+        → is_marked marks.new.words.items w ≡ ((not (nat_eq w but) && is_taken_by slots.now stretches.now w at) || is_marked marks.old.words.items w) }
+    ensures behind { result ≡ false → list_any (lies_before slots.now at.first) stretches.now ≡ true }
+{
+    'stretches: for k in (0..stretches.len()).rev() {
+        let held = &stretches[k];
         if held.extent.last(slots) < at.first {
             return false;
         }
@@ -121,7 +142,12 @@ impl HeldList {
     }
 
     /// The place behind the stretches that begin at or before a point.
-    fn behind(&self, slots: &Slots, at: u128) -> Gap {
+    fn behind(&self, slots: &Slots, at: u128) -> Gap
+        ensures part { result.part ≤ length self.now.parts.items }
+        ensures within { result.count ≤ length (part_in (parts_of self.now) result.part) }
+        ensures before { AreFilled self.now → AreApart slots.now 0 (held_of self.now)
+            → before (parts_of self.now) result (suc result.part) ≡ filter (begins_by slots.now at) (held_of self.now) }
+    {
         let parts = self.parts.as_slice();
         let part = parts
             .partition_point(|part| begins_by(slots, part, at))
@@ -134,7 +160,9 @@ impl HeldList {
     }
 
     /// The stretches of a part that stand before a place.
-    fn part_before(&self, part: usize, gap: Gap) -> &[Held] {
+    fn part_before(&self, part: usize, gap: Gap) -> &[Held]
+        ensures { gap.count ≤ length (part_in (parts_of self.now) gap.part) → result.now ≡ part_before (parts_of self.now) gap part }
+    {
         let Some(there) = self.parts.get(part) else {
             return &[];
         };
@@ -148,14 +176,19 @@ impl HeldList {
     }
 
     /// Whether another range than one holds the unit at some of these points.
-    pub fn meets(&self, slots: &Slots, at: Stretch, but: u32) -> bool {
+    pub fn meets(&self, slots: &Slots, at: Stretch, but: u32) -> bool
+        ensures { AreFilled self.now → AreApart slots.now 0 (held_of self.now) → result ≡ is_taken slots.now (held_of self.now) but at }
+    {
         self.other(slots, at, but).is_some()
     }
 
     /// A range other than one that holds the unit at some of these points: the last one there.
-    pub fn other(&self, slots: &Slots, at: Stretch, but: u32) -> Option<u32> {
+    pub fn other(&self, slots: &Slots, at: Stretch, but: u32) -> Option<u32>
+        ensures { AreFilled self.now → AreApart slots.now 0 (held_of self.now) → MatchOption result (is_taken slots.now (held_of self.now) but at ≡ false) (λ w. (nat_eq w but ≡ false)
+            × (is_taken_by slots.now (held_of self.now) w at ≡ true)) }
+    {
         let gap = self.behind(slots, at.last);
-        'parts: for part in (0..=gap.part).rev() {
+        'parts: for part in (0..gap.part + 1).rev() {
             match met_by(slots, self.part_before(part, gap), at, but) {
                 Met::Other(range) => return Some(range),
                 Met::Behind => return None,
@@ -166,9 +199,13 @@ impl HeldList {
     }
 
     /// Marks the ranges other than one that hold the unit at some of these points.
-    pub fn mark(&self, slots: &Slots, at: Stretch, but: u32, marks: &mut Marks) {
+    pub fn mark(&self, slots: &Slots, at: Stretch, but: u32, marks: &mut Marks)
+        ensures room { length marks.new.words.items ≡ length marks.old.words.items }
+        ensures marked { AreFilled self.now → AreApart slots.now 0 (held_of self.now) → (w : ℕ) → w < length marks.old.words.items * 64
+            → is_marked marks.new.words.items w ≡ ((not (nat_eq w but) && is_taken_by slots.now (held_of self.now) w at) || is_marked marks.old.words.items w) }
+    {
         let gap = self.behind(slots, at.last);
-        'parts: for part in (0..=gap.part).rev() {
+        'parts: for part in (0..gap.part + 1).rev() {
             if !mark_met(slots, self.part_before(part, gap), at, but, marks) {
                 return;
             }

@@ -1,5 +1,17 @@
 //! The matrix: a function, the register of each assigned range, and what the ranges hold.
 
+ghost use Rattle.std.specs.Prelude.{◌≡◌, ◌<◌, ◌≤◌, ◌*◌, ℕ, true, false, not, ◌&&◌, ◌||◌, nat_eq, length, IfOk, IfSome, option_copied, slice_get, slice_index};
+ghost use Rattle.std.specs.List.{list_any};
+ghost use Rattle.std.specs.Ordering.{nat_cmp};
+ghost use Rattle.std.specs.BTreeMap.{get};
+ghost use Rattle.target_base.specs.Registers.{units_of};
+ghost use Rattle.lane_effects.specs.Numbered.{number_in};
+ghost use Rattle.lane_effects.specs.declared.owner.Owner.TheVariants as owners;
+ghost use Rattle.live_lanes.specs.Table.{entry_rank, exit_rank};
+ghost use Rattle.live_lanes.specs.Entered.{cells_of};
+ghost use Rattle.interference.specs.Clashes.{register_in, list_in, IsOrdered, is_held, is_held_at, is_held_at_start, is_fixed_at, is_taken_at, are_taken, point, is_in_way, clash_at, is_free, holds, is_taken_by, cell_points, some_cell_points, lane_points};
+ghost use Rattle.interference.specs.Marked.{is_marked};
+
 use crate::held::HeldList;
 use crate::marks::Marks;
 use live_lanes::{Changes, Edit, LiveFunc, Mended, Stretch};
@@ -72,7 +84,9 @@ fn add_held(
 }
 
 /// The units of a register; none where there is no such register.
-fn units_at(target: &Target, r: Reg) -> &[Unit] {
+fn units_at(target: &Target, r: Reg) -> &[Unit]
+    ensures { result.now ≡ units_of target.now r }
+{
     match target.regs.as_slice().get(r.0 as usize) {
         Some(desc) => desc.units.as_slice(),
         None => &[],
@@ -96,7 +110,9 @@ impl AllHeld {
         Ok(AllHeld { units: all })
     }
 
-    fn list(&self, unit: u32, block: u32) -> Option<&HeldList> {
+    fn list(&self, unit: u32, block: u32) -> Option<&HeldList>
+        ensures { option_copied result ≡ list_in self.now unit block }
+    {
         self.units.get(unit as usize)?.blocks.get(block as usize)
     }
 
@@ -226,7 +242,9 @@ impl Matrix {
     }
 
     /// The function with what is live in it.
-    pub fn live(&self) -> &LiveFunc {
+    pub fn live(&self) -> &LiveFunc
+        ensures { result.now ≡ self.now.live }
+    {
         &self.live
     }
 
@@ -237,12 +255,16 @@ impl Matrix {
     }
 
     /// The register of a range; none exactly where it isn't assigned.
-    pub fn register_of(&self, v: u32) -> Option<Reg> {
+    pub fn register_of(&self, v: u32) -> Option<Reg>
+        ensures { result ≡ register_in self.now.registers.items v }
+    {
         self.registers.get(v as usize).copied().unwrap_or(None)
     }
 
     /// Whether a range in a register would clash with nothing.
-    pub fn free(&self, v: u32, p: Reg) -> bool {
+    pub fn free(&self, v: u32, p: Reg) -> bool
+        ensures { IsOrdered self.now → result ≡ is_free self.now v p }
+    {
         let mut k = 0usize;
         'units: for u in units_at(self.live.target(), p) {
             if self.is_lane_met(v, k, u.0 as u32) {
@@ -254,7 +276,9 @@ impl Matrix {
     }
 
     /// Whether a lane of a range in a unit would clash with something.
-    fn is_lane_met(&self, v: u32, k: usize, unit: u32) -> bool {
+    fn is_lane_met(&self, v: u32, k: usize, unit: u32) -> bool
+        ensures { IsOrdered self.now → result ≡ list_any (is_held_at self.now v) (lane_points self.now.live.table unit (number_in self.now.live.table.lanes (owners.Range v k))) }
+    {
         let Some(lane) = self.live.lane_of(v, k) else {
             return false;
         };
@@ -266,7 +290,9 @@ impl Matrix {
         false
     }
 
-    fn is_cell_met(&self, v: u32, unit: u32, lane: u32, place: usize) -> bool {
+    fn is_cell_met(&self, v: u32, unit: u32, lane: u32, place: usize) -> bool
+        ensures { IsOrdered self.now → result ≡ list_any (is_held_at self.now v) (some_cell_points self.now.live.table.order.slots unit (slice_get (cells_of self.now.live.table.rows.rows.items lane) place)) }
+    {
         let Some(block) = self.live.cell_block(lane, place) else {
             return false;
         };
@@ -282,7 +308,9 @@ impl Matrix {
 
     /// Whether a unit is live or written by itself, or held by another range than one, at some of
     /// these points of the block at a position.
-    fn is_held(&self, unit: u32, but: u32, block: u32, at: Stretch) -> bool {
+    fn is_held(&self, unit: u32, but: u32, block: u32, at: Stretch) -> bool
+        ensures { IsOrdered self.now → at.first ≤ at.last → result ≡ is_held self.now unit but block at }
+    {
         if self.live.meets(unit, block, at) {
             return true;
         }
@@ -293,7 +321,9 @@ impl Matrix {
     }
 
     /// What a range in a register would clash with.
-    pub fn clashers(&self, v: u32, p: Reg) -> Result<Clash, AllocError> {
+    pub fn clashers(&self, v: u32, p: Reg) -> Result<Clash, AllocError>
+        ensures { IsOrdered self.now → IfOk result (λ c. c ≡ clash_at self.now v p) }
+    {
         let mut marks = Marks::new(self.alloc, self.registers.len())?;
         let mut k = 0usize;
         'units: for u in units_at(self.live.target(), p) {
@@ -307,7 +337,12 @@ impl Matrix {
 
     /// Marks the ranges that a lane of a range in a unit would clash with. Answers false where it
     /// would clash with the unit.
-    fn mark_lane(&self, v: u32, k: usize, unit: u32, marks: &mut Marks) -> bool {
+    fn mark_lane(&self, v: u32, k: usize, unit: u32, marks: &mut Marks) -> bool
+        ensures room { length marks.new.words.items ≡ length marks.old.words.items }
+        ensures fixed { IsOrdered self.now → result ≡ not (list_any (is_fixed_at self.now) (lane_points self.now.live.table unit (number_in self.now.live.table.lanes (owners.Range v k)))) }
+        ensures marked { IsOrdered self.now → result ≡ true → (w : ℕ) → w < length marks.old.words.items * 64
+            → is_marked marks.new.words.items w ≡ (are_taken self.now v (lane_points self.now.live.table unit (number_in self.now.live.table.lanes (owners.Range v k))) w || is_marked marks.old.words.items w) }
+    {
         let Some(lane) = self.live.lane_of(v, k) else {
             return true;
         };
@@ -319,7 +354,12 @@ impl Matrix {
         true
     }
 
-    fn mark_cell(&self, v: u32, unit: u32, lane: u32, place: usize, marks: &mut Marks) -> bool {
+    fn mark_cell(&self, v: u32, unit: u32, lane: u32, place: usize, marks: &mut Marks) -> bool
+        ensures room { length marks.new.words.items ≡ length marks.old.words.items }
+        ensures fixed { IsOrdered self.now → result ≡ not (list_any (is_fixed_at self.now) (some_cell_points self.now.live.table.order.slots unit (slice_get (cells_of self.now.live.table.rows.rows.items lane) place))) }
+        ensures marked { IsOrdered self.now → result ≡ true → (w : ℕ) → w < length marks.old.words.items * 64
+            → is_marked marks.new.words.items w ≡ (are_taken self.now v (some_cell_points self.now.live.table.order.slots unit (slice_get (cells_of self.now.live.table.rows.rows.items lane) place)) w || is_marked marks.old.words.items w) }
+    {
         let Some(block) = self.live.cell_block(lane, place) else {
             return true;
         };
@@ -336,7 +376,11 @@ impl Matrix {
     }
 
     /// Marks the ranges other than one that hold a unit at some of these points.
-    fn mark_held(&self, unit: u32, but: u32, block: u32, at: Stretch, marks: &mut Marks) {
+    fn mark_held(&self, unit: u32, but: u32, block: u32, at: Stretch, marks: &mut Marks)
+        ensures room { length marks.new.words.items ≡ length marks.old.words.items }
+        ensures marked { IsOrdered self.now → (w : ℕ) → w < length marks.old.words.items * 64
+            → is_marked marks.new.words.items w ≡ ((not (nat_eq w but) && is_taken_by self.now.live.table.order.slots (holds self.now unit block) w at) || is_marked marks.old.words.items w) }
+    {
         if let Some(list) = self.held.list(unit, block) {
             list.mark(self.live.slots(), at, but, marks);
         }
@@ -344,7 +388,9 @@ impl Matrix {
 
     /// One of the ranges that a range in a register would clash with, found sooner than all of them.
     /// None where it would clash with none.
-    pub fn some_clasher(&self, v: u32, p: Reg) -> Option<u32> {
+    pub fn some_clasher(&self, v: u32, p: Reg) -> Option<u32>
+        ensures { IsOrdered self.now → IfSome result (λ w. is_in_way self.now v p w ≡ true) }
+    {
         let mut k = 0usize;
         'units: for u in units_at(self.live.target(), p) {
             if let Some(w) = self.clasher_of_lane(v, k, u.0 as u32) {
@@ -355,7 +401,9 @@ impl Matrix {
         None
     }
 
-    fn clasher_of_lane(&self, v: u32, k: usize, unit: u32) -> Option<u32> {
+    fn clasher_of_lane(&self, v: u32, k: usize, unit: u32) -> Option<u32>
+        ensures { IsOrdered self.now → IfSome result (λ w. are_taken self.now v (lane_points self.now.live.table unit (number_in self.now.live.table.lanes (owners.Range v k))) w ≡ true) }
+    {
         let lane = self.live.lane_of(v, k)?;
         'cells: for place in 0..self.live.cell_count(lane) {
             if let Some(w) = self.clasher_in_cell(v, unit, lane, place) {
@@ -365,7 +413,9 @@ impl Matrix {
         None
     }
 
-    fn clasher_in_cell(&self, v: u32, unit: u32, lane: u32, place: usize) -> Option<u32> {
+    fn clasher_in_cell(&self, v: u32, unit: u32, lane: u32, place: usize) -> Option<u32>
+        ensures { IsOrdered self.now → IfSome result (λ w. are_taken self.now v (some_cell_points self.now.live.table.order.slots unit (slice_get (cells_of self.now.live.table.rows.rows.items lane) place)) w ≡ true) }
+    {
         let block = self.live.cell_block(lane, place)?;
         let list = self.held.list(unit, block)?;
         'pieces: for index in 0..self.live.piece_count(lane, place) {
@@ -431,17 +481,23 @@ impl Matrix {
 
     /// Whether a unit is live or occupied at the entry of an instruction, or an assigned range other
     /// than `but` holds it there.
-    pub fn held_in(&self, u: Unit, but: u32, id: u32) -> bool {
+    pub fn held_in(&self, u: Unit, but: u32, id: u32) -> bool
+        ensures { IsOrdered self.now → result ≡ is_held self.now u.0 but (slice_index self.now.live.table.order.block_of.items id) (point (entry_rank self.now.live.table.order.slots id)) }
+    {
         self.is_held_at(u, but, self.live.position_of(id), self.live.entry_of(id))
     }
 
     /// The same at the exit of an instruction.
-    pub fn held_out(&self, u: Unit, but: u32, id: u32) -> bool {
+    pub fn held_out(&self, u: Unit, but: u32, id: u32) -> bool
+        ensures { IsOrdered self.now → result ≡ is_held self.now u.0 but (slice_index self.now.live.table.order.block_of.items id) (point (exit_rank self.now.live.table.order.slots id)) }
+    {
         self.is_held_at(u, but, self.live.position_of(id), self.live.exit_of(id))
     }
 
     /// The same at the start of the block of that number.
-    pub fn held_at(&self, u: Unit, but: u32, block: u32) -> bool {
+    pub fn held_at(&self, u: Unit, but: u32, block: u32) -> bool
+        ensures { IsOrdered self.now → result ≡ is_held_at_start self.now u.0 but (get nat_cmp self.now.live.table.order.positions block) }
+    {
         match self.live.block_position(block) {
             Some(position) => self.is_held_at(u, but, position, 0),
             None => false,
@@ -450,11 +506,15 @@ impl Matrix {
 
     /// Whether a unit is live or occupied at some of these points of the block at a position, or an
     /// assigned range other than `but` holds it there.
-    pub fn is_held_along(&self, u: Unit, but: u32, position: u32, at: Stretch) -> bool {
+    pub fn is_held_along(&self, u: Unit, but: u32, position: u32, at: Stretch) -> bool
+        ensures { IsOrdered self.now → at.first ≤ at.last → result ≡ is_held self.now u.0 but position at }
+    {
         self.is_held(u.0 as u32, but, position, at)
     }
 
-    fn is_held_at(&self, u: Unit, but: u32, block: u32, at: u128) -> bool {
+    fn is_held_at(&self, u: Unit, but: u32, block: u32, at: u128) -> bool
+        ensures { IsOrdered self.now → result ≡ is_held self.now u.0 but block (point at) }
+    {
         let point = Stretch {
             first: at,
             last: at,

@@ -1,1 +1,4 @@
 pub mod Offers
+pub mod Bundles
+pub mod Seen
+pub mod Regions

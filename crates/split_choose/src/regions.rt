@@ -1,5 +1,14 @@
 //! Region splits: a part of the range lives in a register where that is free.
 
+ghost use Rattle.std.specs.Prelude.{◌≡◌, ◌<◌, ◌≤◌, ◌*◌, ◌++◌, ◌∷◌, [], ℕ, Bool, true, false, filter, map, length, slice_index_or, slice_set, IfOk, OnOk};
+ghost use Rattle.std.specs.List.{sum_by, list_any};
+ghost use Rattle.target_base.specs.Storage.{is_unreserved, is_among};
+ghost use Rattle.mir_meaning.specs.Binding.{class_of};
+ghost use Rattle.mir_meaning.specs.Places.{domain};
+ghost use Rattle.split_choose.specs.declared.spans.Span.{Span as BlockSpan};
+ghost use Rattle.split_choose.specs.Bundles.{start_of, end_of, root_of};
+ghost use Rattle.split_choose.specs.Regions.{capped, uses_of, span_cost, inside_at};
+
 use crate::bundles::{Bundles, end_of, start_of};
 use crate::places::{block_at, places_of};
 use crate::spans::{Span, gap_ids, is_alone, spans_of};
@@ -7,9 +16,10 @@ use block_freq::Freqs;
 use interference::Matrix;
 use live_lanes::{Labels, LiveFunc, Mark, Spot};
 use mir_func::Gap;
-use spiller::kinds::{is_reserved, regs_of};
 use std::alloc::{AllocError, Global};
-use target_base::{ClassId, Reg, Target};
+use target_base::classes::regs_at;
+use target_base::registers::units_at;
+use target_base::{ClassId, Reg, Target, Unit};
 
 /// Where in a block the part in the register lives.
 #[derive(Clone, Copy, PartialEq, Eq)]
@@ -40,25 +50,53 @@ struct View<'a> {
     bundles: &'a Bundles,
 }
 
-/// The class of a range; class 0 where it has none.
-pub(crate) fn class_of(live: &LiveFunc, v: u32) -> ClassId {
+/// The class of a range; none where it has none.
+pub(crate) fn class_of(live: &LiveFunc, v: u32) -> Option<ClassId>
+    ensures { result ≡ class_of live.now.func v }
+{
     match live.func().classes.as_slice().get(v as usize) {
-        Some(Some(class)) => *class,
-        _ => ClassId(0),
+        None => None,
+        Some(class) => *class,
     }
 }
 
-/// The unreserved registers of the class of a range, in class order.
+fn has_unit(units: &[Unit], u: Unit) -> bool
+    ensures { result ≡ is_among units.now u }
+{
+    units.iter().any(|v| v.0 == u.0)
+}
+
+/// Whether none of a register's units is reserved.
+fn is_unreserved(target: &Target, r: Reg) -> bool
+    ensures { result ≡ is_unreserved target.now.reserved target.now.regs r }
+{
+    units_at(target.regs.as_slice(), r)
+        .iter()
+        .all(|u| !has_unit(target.reserved.as_slice(), *u))
+}
+
+/// Adds a register, if it isn't reserved.
+fn add_unreserved(target: &Target, r: Reg, domain: &mut Vec<Reg>) -> Result<(), AllocError>
+    ensures { OnOk result (domain.new.items ≡ domain.old.items ++ filter (is_unreserved target.now.reserved target.now.regs) (r ∷ [])) }
+{
+    if is_unreserved(target, r) {
+        domain.push(r)?;
+    }
+    Ok(())
+}
+
+/// The unreserved registers of a class, in class order; none without a class.
+#[tactic(auto, using(crate::proofs::Walks::filters))]
 pub(crate) fn domain_of(
     alloc: Global,
     target: &Target,
-    class: ClassId,
-) -> Result<Vec<Reg>, AllocError> {
+    class: Option<ClassId>,
+) -> Result<Vec<Reg>, AllocError>
+    ensures { IfOk result (λ d. d.items ≡ domain target.now class) }
+{
     let mut domain = Vec::new(alloc);
-    'regs: for r in regs_of(target, class) {
-        if !is_reserved(target, *r) {
-            domain.push(*r)?;
-        }
+    'regs: for r in regs_at(target.classes.as_slice(), class) {
+        add_unreserved(target, *r, &mut domain)?;
     }
     Ok(domain)
 }
@@ -113,7 +151,10 @@ fn labelled(view: View<'_>, offer: &Offer) -> Result<Option<(Reg, Labels)>, Allo
 }
 
 /// What the range costs where it isn't split.
-fn all_uses(spans: &[Span]) -> u128 {
+#[tactic(auto, using(crate::proofs::Sums::uses))]
+fn all_uses(spans: &[Span]) -> u128
+    ensures { result ≡ capped (uses_of spans.now) }
+{
     let mut sum = 0u128;
     'spans: for span in spans {
         sum = sum.saturating_add(span.uses);
@@ -158,7 +199,9 @@ fn clear_blocks(view: View<'_>, register: Reg) -> Result<Vec<bool>, AllocError> 
 }
 
 /// Sets the flag of the bundle of a border.
-fn forbid(view: View<'_>, border: u32, outside: &mut Vec<bool>) {
+fn forbid(view: View<'_>, border: u32, outside: &mut Vec<bool>)
+    ensures { outside.new.items ≡ slice_set outside.old.items (root_of view.entry.bundles.now.parents.items border) true }
+{
     if let Some(place) = outside.get_mut(view.bundles.find(border) as usize) {
         *place = true;
     }
@@ -187,7 +230,10 @@ fn forbid_borders(view: View<'_>, span: &Span, outside: &mut Vec<bool>) {
     }
 }
 
-fn is_out(view: View<'_>, border: u32, outside: &[bool]) -> bool {
+/// The flag of the bundle of a border.
+fn is_out(view: View<'_>, border: u32, outside: &[bool]) -> bool
+    ensures { result ≡ slice_index_or outside.now (root_of view.entry.bundles.now.parents.items border) false }
+{
     outside
         .get(view.bundles.find(border) as usize)
         .copied()
@@ -195,7 +241,10 @@ fn is_out(view: View<'_>, border: u32, outside: &[bool]) -> bool {
 }
 
 /// Where in a block the part in a register lives.
-fn inside_of(view: View<'_>, span: &Span, is_clear: bool, outside: &[bool]) -> Inside {
+fn inside_of(view: View<'_>, span: &Span, is_clear: bool, outside: &[bool]) -> Inside
+    ensures { let flag = λ (b : ℕ). slice_index_or outside.now (root_of view.entry.bundles.now.parents.items b) false in
+        span.now.position < 2147483648 → result ≡ inside_at is_clear (flag (start_of span.now.position)) (flag (end_of span.now.position)) span.now }
+{
     if !is_clear || span.stretches.is_empty() {
         return Inside::Nowhere;
     }
@@ -213,7 +262,9 @@ fn inside_of(view: View<'_>, span: &Span, is_clear: bool, outside: &[bool]) -> I
 }
 
 /// What a block costs.
-fn cost_of(span: &Span, inside: Inside) -> u128 {
+fn cost_of(span: &Span, inside: Inside) -> u128
+    ensures { result ≡ span_cost span.now inside }
+{
     match inside {
         Inside::Nowhere => span.uses,
         Inside::All => 0,

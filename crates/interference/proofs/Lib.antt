@@ -1,0 +1,5 @@
+pub mod Parts
+pub mod Marked
+pub mod Points
+pub mod Walked
+pub mod Clashing

@@ -1,0 +1,10 @@
+pub mod Known
+pub mod Cells
+pub mod Roles
+pub mod Lanes
+pub mod Exact
+pub mod Effects
+pub mod Naming
+pub mod Sequence
+pub mod Stepped
+pub mod Touched

@@ -1,0 +1,20 @@
+//! Laws of the instructions that touch a range: which they are by the table of live lanes.
+#![tactic(auto)]
+
+ghost use Rattle.touch_laws.specs.Laws.{KnownLaw, NamingLaw, TouchedLaw};
+
+/// A valid function has no excluded opcode.
+pub fn known_law()
+    ensures { KnownLaw }
+{}
+
+/// An instruction touches a range exactly where it reads, moves or writes a lane of it.
+pub fn naming_law()
+    ensures { NamingLaw }
+{}
+
+/// A computed table tells exactly which instructions touch a range, in layout order, and where each
+/// of them stands.
+pub fn touched_law()
+    ensures { TouchedLaw }
+{}
