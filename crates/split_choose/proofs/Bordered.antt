@@ -72,6 +72,7 @@ place-block n (b ∷ bs) k e = go (nat_eq b.number n) refl e (place-block n bs)
     up : (q : Option ℕ) → option_map (λ y. suc y) q ≡ Some k → ((y : ℕ) → q ≡ Some y → (c : Block) × (slice_get bs y ≡ Some c) × (c.number ≡ n)) → (c : Block) × (slice_get (b ∷ bs) k ≡ Some c) × (c.number ≡ n)
     up None f ih = absurd (cc)
     up (Some y) f ih = let z = ih y refl in (z.0, ap (slice_get (b ∷ bs)) (some-same k (suc y) (sym f)) ∙ z.1, z.2)
+
     go : (q : Bool) → nat_eq b.number n ≡ q → cond q (Some 0) (option_map (λ y. suc y) (place_of n bs)) ≡ Some k → ((y : ℕ) → place_of n bs ≡ Some y → (c : Block) × (slice_get bs y ≡ Some c) × (c.number ≡ n)) → (c : Block) × (slice_get (b ∷ bs) k ≡ Some c) × (c.number ≡ n)
     go true f g ih = (b, ap (slice_get (b ∷ bs)) (some-same k 0 (sym g)), eqb-true b.number n f)
     go false f g ih = up (place_of n bs) g ih
@@ -89,9 +90,11 @@ edge-at bs (e ∷ es) n h = go (place_of e.block bs) refl h (edge-at bs es n)
   where
     later : ((d : Edge) × Among d es × (place_of d.block bs ≡ Some n)) → (d : Edge) × Among d (e ∷ es) × (place_of d.block bs ≡ Some n)
     later z = (z.0, there z.1, z.2)
+
     step : (k : ℕ) → place_of e.block bs ≡ Some k → (k ≡ n) ⊎ (has n (edge_places (λ m. place_of m bs) es) ≡ true) → (has n (edge_places (λ m. place_of m bs) es) ≡ true → (d : Edge) × Among d es × (place_of d.block bs ≡ Some n)) → (d : Edge) × Among d (e ∷ es) × (place_of d.block bs ≡ Some n)
     step k q (inl s) ih = (e, here, q ∙ ap Some s)
     step k q (inr s) ih = later (ih s)
+
     go : (o : Option ℕ) → place_of e.block bs ≡ o → has n (cons_option o (edge_places (λ m. place_of m bs) es)) ≡ true → (has n (edge_places (λ m. place_of m bs) es) ≡ true → (d : Edge) × Among d es × (place_of d.block bs ≡ Some n)) → (d : Edge) × Among d (e ∷ es) × (place_of d.block bs ≡ Some n)
     go None q h ih = later (ih h)
     go (Some k) q h ih = step k q (has-cases k n (edge_places (λ m. place_of m bs) es) h) ih
@@ -103,8 +106,10 @@ at-edge bs (d ∷ es) e n m q = go m (at-edge bs es e n)
     past : (o : Option ℕ) → has n (edge_places (λ m. place_of m bs) es) ≡ true → has n (cons_option o (edge_places (λ m. place_of m bs) es)) ≡ true
     past None h = h
     past (Some k) h = has-later k n (edge_places (λ m. place_of m bs) es) h
+
     first : (o : Option ℕ) → o ≡ Some n → has n (cons_option o (edge_places (λ m. place_of m bs) es)) ≡ true
     first o f = let P : Option ℕ → Type 0 = λ p. has n (cons_option p (edge_places (λ m. place_of m bs) es)) ≡ true in subst P (sym f) (has-first n (edge_places (λ m. place_of m bs) es))
+
     go : Among e (d ∷ es) → (Among e es → place_of e.block bs ≡ Some n → has n (edge_places (λ m. place_of m bs) es) ≡ true) → has n (cons_option (place_of d.block bs) (edge_places (λ m. place_of m bs) es)) ≡ true
     go m ih = by_case (among-cases e d es m) ih
       where
@@ -143,6 +148,7 @@ module _ (bs : List Block) (next : ℕ → List ℕ) (placed : ArePlaced bs) (le
     where
       led_to : (b : Block) → slice_get bs k ≡ Some b → ((e : Edge) × Among e b.successors × (place_of e.block bs ≡ Some n)) → OfOne (end_of k, start_of n)
       led_to b at z = inr (Out b.number, In z.0.block, ap (option_map end_of) (placed k b at), ap (option_map start_of) z.2, edge (at-among b bs k at) z.1)
+
       go : (o : Option Block) → slice_get bs k ≡ o → has n (elim o [ None ↦ [] | Some c ↦ edge_places (λ m. place_of m bs) c.successors ]) ≡ true → OfOne (end_of k, start_of n)
       go None at h = absurd (false≢true h)
       go (Some b) at h = led_to b at (edge-at bs b.successors n h)
@@ -188,14 +194,17 @@ module _ (bs : List Block) (next : ℕ → List ℕ) (placed : ArePlaced bs) (le
       where
         equal : x ≡ y → OneBundle bs (x, y)
         equal e = let P : Border → Type 0 = λ z. OneBundle bs (x, z) in subst P e itself
+
         of : (i j : ℕ) → border_place bs x ≡ Some i → border_place bs y ≡ Some j → OfOne (i, j) → OneBundle bs (x, y)
         of i j at to (inl e) = equal (border-same bs x y i at (to ∙ ap Some (sym e)))
         of i j at to (inr z) =
             let P : Border → Type 0 = λ a. OneBundle bs (a, z.1) in let Q : Border → Type 0 = λ b. OneBundle bs (x, b) in
             subst Q (border-same bs z.1 y j z.3 to) (subst P (border-same bs z.0 x i z.2 at) z.4)
+
         with_root : (i : ℕ) (o : Option ℕ) → border_place bs x ≡ Some i → border_place bs y ≡ o → same_root ps i o ≡ true → OneBundle bs (x, y)
         with_root i None at to h = absurd (false≢true h)
         with_root i (Some j) at to h = of i j at to (of-linked (i, j) ((bundles i j).0 h))
+
         go : (o : Option ℕ) → border_place bs x ≡ o → elim o [ None ↦ same_border x y | Some i ↦ same_root ps i (border_place bs y) ] ≡ true → OneBundle bs (x, y)
         go None at h = equal (border-equal x y h)
         go (Some i) at h = with_root i (border_place bs y) at refl h
@@ -207,6 +216,7 @@ module _ (bs : List Block) (next : ℕ → List ℕ) (placed : ArePlaced bs) (le
         alike : (o : Option ℕ) → border_place bs x ≡ o → are_joined bs ps (x, x) ≡ true
         alike None e = ap (λ (o : Option ℕ). elim o [ None ↦ same_border x x | Some i ↦ same_root ps i (border_place bs x) ]) e ∙ border-itself x
         alike (Some i) e = ap (λ (o : Option ℕ). elim o [ None ↦ same_border x x | Some i ↦ same_root ps i (border_place bs x) ]) e ∙ (ap (same_root ps i) e ∙ eq-eqb (root_of ps i) (root_of ps i) refl)
+
         go : Numbered (x, y) → are_joined bs ps (x, y) ≡ true
         go (inl e) = let P : Border → Type 0 = λ z. are_joined bs ps (x, z) ≡ true in subst P e (alike (border_place bs x) refl)
         go (inr (i, j, at, to, l)) =

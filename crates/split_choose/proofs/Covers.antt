@@ -109,9 +109,11 @@ module _ (slots : Numbers) where
           by_case : (r < hold_rank slots u) ⊎ (hold_rank slots u ≤ r) → r < hold_rank slots t
           by_case (inl lt) = let P : Begun → Type 0 = λ y. r < hold_rank slots y in subst P (some-same u t g) lt
           by_case (inr le) = absurd (let a = count-more r u us le in omega (arith, a, e))
+
       more : (j : ℕ) → hold_rank slots s ≤ r → begun_by slots r ss ≡ j → ((k : ℕ) → begun_by slots r ss ≡ suc k → (t : Begun) × (slice_get ss k ≡ Some t) × (hold_rank slots t ≤ r) × ((u : Begun) → slice_get ss (suc k) ≡ Some u → r < hold_rank slots u)) → (t : Begun) × (slice_get (s ∷ ss) j ≡ Some t) × (hold_rank slots t ≤ r) × ((u : Begun) → slice_get (s ∷ ss) (suc j) ≡ Some u → r < hold_rank slots u)
       more zero le e ih = (s, refl, le, next ss e)
       more (suc k) le e ih = ih k e
+
       go : (r < hold_rank slots s) ⊎ (hold_rank slots s ≤ r) → ((k : ℕ) → begun_by slots r ss ≡ suc k → (t : Begun) × (slice_get ss k ≡ Some t) × (hold_rank slots t ≤ r) × ((u : Begun) → slice_get ss (suc k) ≡ Some u → r < hold_rank slots u)) → (t : Begun) × (slice_get (s ∷ ss) j ≡ Some t) × (hold_rank slots t ≤ r) × ((u : Begun) → slice_get (s ∷ ss) (suc j) ≡ Some u → r < hold_rank slots u)
       go (inl lt) ih = absurd (let a = count-none r s ss lt in omega (arith, a, e))
       go (inr le) ih = let a = count-more r s ss le in more j le (omega (arith, a, e)) ih
@@ -140,16 +142,20 @@ module _ (slots : Numbers) where
       where
         found : lasts slots at.first (extent_in (Some c) (begun_by slots at.last ss)) ≡ true
         found = sym (met-is slots c at rises le) ∙ met
+
         same : (r k : ℕ) → begun_by slots at.last ss ≡ k → begun_by slots r ss ≡ k → lasts slots r (extent_in (Some c) (begun_by slots at.last ss)) ≡ true → is_met_in slots (seen_cell c) (only r) ≡ true
         same r k a b h = at-only r ∙ (ap (λ i. lasts slots r (extent_in (Some c) i)) (b ∙ sym a) ∙ h)
+
         later : (j : ℕ) → begun_by slots at.last ss ≡ suc j → ((s : Begun) × (slice_get ss j ≡ Some s) × (hold_rank slots s ≤ at.last) × ((t : Begun) → slice_get ss (suc j) ≡ Some t → at.last < hold_rank slots t)) → (r : ℕ) × P r × (at.first ≤ r) × (r ≤ at.last) × (is_met_in slots (seen_cell c) (only r) ≡ true)
         later j e (s, g, lo, hi) = by_start (cases_lt (hold_rank slots s) at.first)
           where
             begun-there : (r : ℕ) → hold_rank slots s ≤ r → r ≤ at.last → begun_by slots r ss ≡ suc j
             begun-there r a b = begun-at 0 r ss j s rises g a (λ t h. let z = hi t h in omega arith)
+
             by_start : (hold_rank slots s < at.first) ⊎ (at.first ≤ hold_rank slots s) → (r : ℕ) × P r × (at.first ≤ r) × (r ≤ at.last) × (is_met_in slots (seen_cell c) (only r) ≡ true)
             by_start (inl h) = (at.first, first, omega arith, le, same at.first (suc j) e (begun-there at.first (omega arith) le) found)
             by_start (inr h) = (hold_rank slots s, starts j s g, h, lo, same (hold_rank slots s) (suc j) e (begun-there (hold_rank slots s) (omega arith) lo) (ap (λ i. lasts slots (hold_rank slots s) (extent_in (Some c) i)) e ∙ start-lasts c j s g))
+
         go : (k : ℕ) → begun_by slots at.last ss ≡ k → (r : ℕ) × P r × (at.first ≤ r) × (r ≤ at.last) × (is_met_in slots (seen_cell c) (only r) ≡ true)
         go zero e = (at.first, first, omega arith, le, same at.first 0 e (begun-none at.last at.first ss e le) found)
         go (suc j) e = later j e (begun-tells 0 at.last ss j rises e)
@@ -166,9 +172,11 @@ filter_map-in {X} {Y} h (x ∷ xs) y m = go (h x) refl m (filter_map-in h xs y)
   where
     later : ((z : X) × Among z xs × (h z ≡ Some y)) → (z : X) × Among z (x ∷ xs) × (h z ≡ Some y)
     later w = (w.0, there w.1, w.2)
+
     by_case : (z : Y) → h x ≡ Some z → (y ≡ z) ⊎ Among y (filter_map h xs) → (Among y (filter_map h xs) → (w : X) × Among w xs × (h w ≡ Some y)) → (w : X) × Among w (x ∷ xs) × (h w ≡ Some y)
     by_case z e (inl f) ih = (x, here, e ∙ ap Some (sym f))
     by_case z e (inr n) ih = later (ih n)
+
     go : (o : Option Y) → h x ≡ o → Among y (cons_option o (filter_map h xs)) → (Among y (filter_map h xs) → (w : X) × Among w xs × (h w ≡ Some y)) → (w : X) × Among w (x ∷ xs) × (h w ≡ Some y)
     go None e m ih = later (ih m)
     go (Some z) e m ih = by_case z e (among-cases y z (filter_map h xs) m) ih
@@ -180,6 +188,7 @@ filter_map-of {X} {Y} h (z ∷ xs) x y m e = go (among-cases x z xs m) (filter_m
     past : (o : Option Y) → Among y (filter_map h xs) → Among y (cons_option o (filter_map h xs))
     past None n = n
     past (Some w) n = there n
+
     go : (x ≡ z) ⊎ Among x xs → (Among x xs → h x ≡ Some y → Among y (filter_map h xs)) → Among y (cons_option (h z) (filter_map h xs))
     go (inl f) ih = let P : Option Y → Type 0 = λ o. Among y (cons_option o (filter_map h xs)) in subst P (sym (ap h (sym f) ∙ e)) here
     go (inr n) ih = past (h z) (ih n e)
@@ -203,6 +212,7 @@ piece-extent c k e h = filter_map-of (extent_in (Some c)) (numbers 0 (piece_coun
     seg : (j : ℕ) (o : Option Segment) → slice_get c.segments.items j ≡ o → option_map segment_extent o ≡ Some e → suc j < 0 + (length c.segments.items + 1)
     seg j None g f = absurd (cc)
     seg j (Some p) g f = let b = slice-below c.segments.items j p g in omega arith
+
     below : (k : ℕ) → extent_in (Some c) k ≡ Some e → k < 0 + (length c.segments.items + 1)
     below zero f = omega arith
     below (suc j) f = seg j (slice_get c.segments.items j) refl f
@@ -223,6 +233,7 @@ module _ (slots : Numbers) (c : Cell) (rises : rises_from slots 0 (seen_cell c).
       block-start : (u : Bool) (e : Extent) → cond u None (Some (record { start = None; early = false; end = c.first.end })) ≡ Some e → first_rank slots e ≤ r
       block-start true e h = absurd (cc)
       block-start false e h = let P : Extent → Type 0 = λ x. first_rank slots x ≤ r in subst P (some-same _ e h) (let z : 0 ≤ r = omega arith in z)
+
       segment-start : (j : ℕ) (e : Extent) → extent_in (Some c) (suc j) ≡ Some e → ((s : Begun) × (slice_get vs j ≡ Some s) × (hold_rank slots s ≤ r) × ((t : Begun) → slice_get vs (suc j) ≡ Some t → r < hold_rank slots t)) → first_rank slots e ≤ r
       segment-start j e h z = by_segment (segment-at c.segments.items j z.0 z.1)
         where
@@ -231,6 +242,7 @@ module _ (slots : Numbers) (c : Cell) (rises : rises_from slots 0 (seen_cell c).
               let P : Begun → Type 0 = λ b. hold_rank slots b ≤ r in let Q : Extent → Type 0 = λ x. first_rank slots x ≤ r in
               let same : segment_extent p ≡ e = some-same (segment_extent p) e (sym (ap (option_map segment_extent) at) ∙ h) in
               subst Q same (subst P (sym is) z.2)
+
       go : (k : ℕ) → begun_by slots r vs ≡ k → ((e : Extent) × (extent_in (Some c) (begun_by slots r vs) ≡ Some e) × (r ≤ last_rank slots e)) → (e : Extent) × Among e (cell_extents c) × (first_rank slots e ≤ r) × (r ≤ last_rank slots e)
       go zero b (e, is, le) = let f = ap (extent_in (Some c)) (sym b) ∙ is in (e, piece-extent c 0 e f, block-start (is_never c.first.end) e f, le)
       go (suc j) b (e, is, le) = let f = ap (extent_in (Some c)) (sym b) ∙ is in (e, piece-extent c (suc j) e f, segment-start j e f (begun-tells slots 0 r vs j rises b), le)
@@ -289,11 +301,13 @@ module _ (slots : Numbers) (c : Cell) (rises : rises_from slots 0 (seen_cell c).
       low : (u : Bool) → cond u None (Some (record { start = None; early = false; end = c.first.end })) ≡ Some e → r ≤ end_rank slots c.first.end
       low true h = absurd (cc)
       low false h = let P : Extent → Type 0 = λ x. r ≤ last_rank slots x in subst P (sym (some-same _ e h)) le
+
       later : (i : ℕ) → begun_by slots r ws ≡ suc i → ((s : Begun) × (slice_get ws i ≡ Some s) × (hold_rank slots s ≤ r) × ((t : Begun) → slice_get ws (suc i) ≡ Some t → r < hold_rank slots t)) → is_met_in slots (seen_cell c) (only r) ≡ true
       later i b (s, g, lo, hi) =
           let a : r ≤ end_rank slots c.first.end = low (is_never c.first.end) is in
           let d : end_rank slots c.first.end ≤ hold_rank slots s = turn-first slots c.first.end 0 ws i s rises turns g in
           at-start r i s b g (omega arith)
+
       go : (k : ℕ) → begun_by slots r ws ≡ k → is_met_in slots (seen_cell c) (only r) ≡ true
       go zero b = within-piece r 0 e b is le
       go (suc i) b = later i b (begun-tells slots 0 r ws i rises b)
@@ -303,16 +317,20 @@ module _ (slots : Numbers) (c : Cell) (rises : rises_from slots 0 (seen_cell c).
     where
       low : hold_rank slots (begun p) ≤ r
       low = let P : Extent → Type 0 = λ x. first_rank slots x ≤ r in subst P (sym same) lo
+
       high : r ≤ max (end_rank slots p.piece.end) (exit_rank slots p.start)
       high = let P : Extent → Type 0 = λ x. r ≤ last_rank slots x in subst P (sym same) le
+
       least : j < begun_by slots r ws
       least = begun-least slots r 0 ws j (begun p) rises g low
+
       later : (i : ℕ) → begun_by slots r ws ≡ suc i → j < i → ((s : Begun) × (slice_get ws i ≡ Some s) × (hold_rank slots s ≤ r) × ((t : Begun) → slice_get ws (suc i) ≡ Some t → r < hold_rank slots t)) → is_met_in slots (seen_cell c) (only r) ≡ true
       later i b lt (s, h, ho, hi) =
           let d : (end_rank slots p.piece.end ≤ hold_rank slots s) × (exit_rank slots p.start < hold_rank slots s) = turn-later slots c.first.end 0 ws j i (begun p) s rises turns g h lt in
           let d0 : end_rank slots p.piece.end ≤ hold_rank slots s = d.0 in let d1 : exit_rank slots p.start < hold_rank slots s = d.1 in
           let up : r ≤ max (end_rank slots p.piece.end) (exit_rank slots p.start) = high in
           at-start r i s b h (omega arith)
+
       go : (k : ℕ) → begun_by slots r ws ≡ k → is_met_in slots (seen_cell c) (only r) ≡ true
       go zero b = absurd (let l : j < begun_by slots r ws = least in omega arith)
       go (suc i) b = by_place (cases_lt j i)
@@ -327,8 +345,10 @@ module _ (slots : Numbers) (c : Cell) (rises : rises_from slots 0 (seen_cell c).
       segment : (j : ℕ) (o : Option Segment) → slice_get c.segments.items j ≡ o → option_map segment_extent o ≡ Some e → is_met_in slots (seen_cell c) (only r) ≡ true
       segment j None g h = absurd (cc)
       segment j (Some p) g h = by-segment r j p e (slice_get-map begun c.segments.items j ∙ ap (option_map begun) g) (ap (option_map segment_extent) g ∙ h) (some-same (segment_extent p) e h) lo hi
+
       by_place : (k : ℕ) → extent_in (Some c) k ≡ Some e → is_met_in slots (seen_cell c) (only r) ≡ true
       by_place zero is = by-block r e is hi
       by_place (suc j) is = segment j (slice_get c.segments.items j) refl is
+
       go : ((k : ℕ) × (extent_in (Some c) k ≡ Some e)) → is_met_in slots (seen_cell c) (only r) ≡ true
       go (k, is) = by_place k is

@@ -65,7 +65,7 @@ module _ (next : ℕ → List ℕ) (count : ℕ) (ps : List ℕ) (k n : ℕ) (fo
   forest_joined = record {
     size = length-set ps big small ∙ forest.size;
     earlier = set-falls ps big small forest.earlier order;
-    sound = λ x. go x (set-parent ps big small x big_within)
+    sound = λ x. go x (set-parent ps big small x big_within);
   }
     where
       go : (x : ℕ) → ((x ≡ big) × (parent_of (set ps big small) x ≡ small)) ⊎ ((x ≢ big) × (parent_of (set ps big small) x ≡ parent_of ps x)) → Linked next (x, parent_of (set ps big small) x)
@@ -89,14 +89,17 @@ join_next next count old ps ns made k i n a b closed are at is a_is b_is set_is 
   where
     follows : has n (next k) ≡ true
     follows = let P : List ℕ → Type 0 = λ ms. has n ms ≡ true in subst P are (has-at ns i n at is)
+
     at_k : k < count
     at_k = go (cases_lt k count)
       where
         go : (k < count) ⊎ (count ≤ k) → k < count
         go (inl h) = h
         go (inr h) = let bad : n < 0 = closed.ends k h n follows in omega arith
+
     at_n : n < count
     at_n = closed.within k at_k n follows
+
     with_ends : (big small : ℕ) → made ≡ set ps big small → small ≤ big → (root_of ps (end_of k) ≡ big) × (root_of ps (start_of n) ≡ small) ⊎ (root_of ps (end_of k) ≡ small) × (root_of ps (start_of n) ≡ big) → Joins next count old made k (take (i + 1) ns)
     with_ends big small e order ways =
         let P : List ℕ → Type 0 = λ qs. Joins next count old qs k (take (i + 1) ns) in
@@ -104,12 +107,13 @@ join_next next count old ps ns made k i n a b closed are at is a_is b_is set_is 
         subst P (sym e) (record {
           forest = forest_joined next count ps k n was.forest follows at_k at_n big small order ways;
           stay = λ x y same. stay x y (was.stay x y same);
-          joined = λ m h. joins stay m (has-push m n (take i ns) (let Q : List ℕ → Type 0 = λ ms. has m ms ≡ true in subst Q (take_more ns i n at ∙ ap (λ y. take i ns ++ y ∷ []) (sym is)) h))
+          joined = λ m h. joins stay m (has-push m n (take i ns) (let Q : List ℕ → Type 0 = λ ms. has m ms ≡ true in subst Q (take_more ns i n at ∙ ap (λ y. take i ns ++ y ∷ []) (sym is)) h));
         })
       where
         joins : StayJoined ps (set ps big small) → (m : ℕ) → (has m (take i ns) ≡ true) ⊎ (n ≡ m) → root_of (set ps big small) (end_of k) ≡ root_of (set ps big small) (start_of m)
         joins stay m (inl h) = stay (end_of k) (start_of m) (was.joined m h)
         joins stay m (inr h) = are_joined next count ps k n was.forest follows at_k at_n big small order ways ∙ ap (λ x. root_of (set ps big small) (start_of x)) h
+
     by_order : (a < b) ⊎ (b ≤ a) → Joins next count old made k (take (i + 1) ns)
     by_order (inl h) =
         let big : max a b ≡ b = omega arith in let small : min a b ≡ a = omega arith in
@@ -129,14 +133,17 @@ join_step next count old ps ns made k i s t are at s_is t_is set_is closed was =
   where
     read : get_or ns i 0 ≡ get_or ns i (get_or ns i 0)
     read = get_or_default ns i 0 (get_or ns i 0) at
+
     follows : has (get_or ns i 0) (next k) ≡ true
     follows = let P : List ℕ → Type 0 = λ ms. has (get_or ns i 0) ms ≡ true in subst P are (has-at ns i (get_or ns i 0) at read)
+
     at_k : k < count
     at_k = go (cases_lt k count)
       where
         go : (k < count) ⊎ (count ≤ k) → k < count
         go (inl h) = h
         go (inr h) = let bad : get_or ns i 0 < 0 = closed.ends k h (get_or ns i 0) follows in omega arith
+
     at_n : get_or ns i 0 < count
     at_n = closed.within k at_k (get_or ns i 0) follows
 
@@ -193,7 +200,7 @@ pub alone_forest : (next : ℕ → List ℕ) (count : ℕ) → IsForest next cou
 alone_forest next count = record {
   size = numbers-length 0 (2 * count);
   earlier = alone_earlier (numbers 0 (2 * count)) (2 * count) refl;
-  sound = λ x. let P : ℕ → Type 0 = λ y. Linked next (x, y) in subst P (sym (alone_parent (2 * count) x)) itself
+  sound = λ x. let P : ℕ → Type 0 = λ y. Linked next (x, y) in subst P (sym (alone_parent (2 * count) x)) itself;
 }
 
 -- so many blocks are joined with those that follow them
@@ -204,13 +211,13 @@ pub record JoinsBelow (next : ℕ → List ℕ) (count : ℕ) (ps : List ℕ) (k
 pub below_first : (next : ℕ → List ℕ) (count : ℕ) (ps : List ℕ) (n : ℕ) → n ≡ 2 * count → ps ≡ numbers 0 n → JoinsBelow next count ps 0
 below_first next count ps n e is = record {
   forest = (let P : List ℕ → Type 0 = IsForest next count in subst P (sym (is ∙ ap (numbers 0) e)) (alone_forest next count));
-  joined = λ j h. absurd (omega arith)
+  joined = λ j h. absurd (omega arith);
 }
 
 pub below_next : (next : ℕ → List ℕ) (count : ℕ) (ps made : List ℕ) (k : ℕ) → JoinsBelow next count ps k → Joins next count ps made k (next k) → JoinsBelow next count made (k + 1)
 below_next next count ps made k was j = record {
   forest = j.forest;
-  joined = λ i h. go i h (cases_eq i k)
+  joined = λ i h. go i h (cases_eq i k);
 }
   where
     go : (i : ℕ) → i < k + 1 → (i ≡ k) ⊎ (i ≡ k → ⊥) → AreJoined made i (next i)

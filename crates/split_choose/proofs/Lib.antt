@@ -5,3 +5,10 @@ pub mod Bordered
 pub mod Covers
 pub mod Walks
 pub mod Sums
+pub mod Ends
+pub mod Placed
+pub mod Sited
+pub mod Borders
+pub mod Labels
+pub mod Bordering
+pub mod Split

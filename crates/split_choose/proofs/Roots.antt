@@ -67,6 +67,7 @@ set-falls ps b p f le z = by_place (cases_lt b (length ps))
     go : b < length ps → ((z ≡ b) × (parent_of (set ps b p) z ≡ p)) ⊎ ((z ≢ b) × (parent_of (set ps b p) z ≡ parent_of ps z)) → parent_of (set ps b p) z ≤ z
     go h (inl q) = let e : z ≡ b = q.0 in let g : parent_of (set ps b p) z ≡ p = q.1 in omega arith
     go h (inr q) = let g : parent_of (set ps b p) z ≡ parent_of ps z = q.1 in let k : parent_of ps z ≤ z = f z in omega arith
+
     by_place : (b < length ps) ⊎ (length ps ≤ b) → parent_of (set ps b p) z ≤ z
     by_place (inl h) = go h (set-parent ps b p z h)
     by_place (inr h) = let P : List ℕ → Type 0 = λ qs. parent_of qs z ≤ z in subst P (sym (set_past ps b p h)) (f z)
@@ -110,6 +111,7 @@ module _ (ps : List ℕ) (f : AreEarlier ps) (big small : ℕ) (order : small �
           go (inr q) =
               let r : root_of ps z ≡ z = root-itself ps z (sym q.1 ∙ e) in
               at_other z (λ b. q.0 (sym r ∙ b)) ∙ r
+
       same : (z : ℕ) → merged (parent_of (set ps big small) z) ≡ merged z
       same z = go (set-parent ps big small z within)
         where
@@ -125,6 +127,7 @@ module _ (ps : List ℕ) (f : AreEarlier ps) (big small : ℕ) (order : small �
     where
       is_at : (z : ℕ) → root_of ps z ≡ small → merged z ≡ small
       is_at z e = merged-same z small (e ∙ sym (root-itself ps small is_small)) ∙ small-merged
+
       go : (root_of ps x ≡ big) × (root_of ps y ≡ small) ⊎ (root_of ps x ≡ small) × (root_of ps y ≡ big) → merged x ≡ merged y
       go (inl q) = at_big x q.0 ∙ sym (is_at y q.1)
       go (inr q) = is_at x q.0 ∙ sym (at_big y q.1)
@@ -143,12 +146,14 @@ shortened-root ps f b z = by_place (cases_lt b (length ps))
             go : ((w ≡ b) × (parent_of (set ps b (root_of ps b)) w ≡ root_of ps b)) ⊎ ((w ≢ b) × (parent_of (set ps b (root_of ps b)) w ≡ parent_of ps w)) → root_of ps w ≡ w
             go (inl q) = ap (root_of ps) q.0 ∙ (sym q.1 ∙ e)
             go (inr q) = root-itself ps w (sym q.1 ∙ e)
+
         same : (w : ℕ) → root_of ps (parent_of (set ps b (root_of ps b)) w) ≡ root_of ps w
         same w = go (set-parent ps b (root_of ps b) w h)
           where
             go : ((w ≡ b) × (parent_of (set ps b (root_of ps b)) w ≡ root_of ps b)) ⊎ ((w ≢ b) × (parent_of (set ps b (root_of ps b)) w ≡ parent_of ps w)) → root_of ps (parent_of (set ps b (root_of ps b)) w) ≡ root_of ps w
             go (inl q) = ap (root_of ps) q.1 ∙ (root-root ps f b ∙ ap (root_of ps) (sym q.0))
             go (inr q) = ap (root_of ps) q.1 ∙ root-parent ps f w
+
     by_place : (b < length ps) ⊎ (length ps ≤ b) → root_of (set ps b (root_of ps b)) z ≡ root_of ps z
     by_place (inl h) = inside h
     by_place (inr h) = let P : List ℕ → Type 0 = λ ys. root_of ys z ≡ root_of ps z in subst P (sym (set_past ps b (root_of ps b) h)) refl

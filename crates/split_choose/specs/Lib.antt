@@ -2,3 +2,6 @@ pub mod Offers
 pub mod Bundles
 pub mod Seen
 pub mod Regions
+pub mod Places
+pub mod Marks
+pub mod Blocks

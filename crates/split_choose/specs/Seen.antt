@@ -67,7 +67,7 @@ view_of m v parents = record {
   live = seen_live m.live.table m.live.func.blocks v;
   is_point = seen_point m.live.table m.live.func.blocks v;
   held = seen_held m v;
-  one_bundle = are_joined m.live.func.blocks parents
+  one_bundle = are_joined m.live.func.blocks parents;
 }
 
 -- behind a terminator stand terminators only

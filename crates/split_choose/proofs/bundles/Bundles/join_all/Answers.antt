@@ -9,7 +9,7 @@ successors-preserved c = record {
   earlier = λ e. earlier_set c.successors.self.parents.items _ _ _ c.join.ensures (c.successors.invariant.earlier e);
   joins = λ closed forest.
       join_step (successors c.args.live.now.table.flow.items) (length c.args.live.now.func.blocks) c.args.self.now.parents.items c.successors.self.parents.items c.successors-next-items.result.now _ c.args.position c.successors.next-index c.start_of.result c.end_of.result
-      c.successors-next-items.ensures c.successors-test.true c.start_of.ensures c.end_of.ensures c.join.ensures closed (c.successors.invariant.joins closed forest)
+      c.successors-next-items.ensures c.successors-test.true c.start_of.ensures c.end_of.ensures c.join.ensures closed (c.successors.invariant.joins closed forest);
 }
 
 pub returns-clause-joins : goal.returns-clause-joins

@@ -11,7 +11,7 @@ blocks-2-init c = record {
       let few = closed.few in
       let n : c.block_count-count.result ≡ length c.args.live.now.func.blocks = c.block_count-count.ensures (omega arith) in
       below_first (successors c.args.live.now.table.flow.items) (length c.args.live.now.func.blocks) c.in_ok-bundles.bundles.parents.items c.start_of.result
-      (c.start_of.ensures (omega arith) ∙ ap start_of n) c.in_ok-bundles.ensures
+      (c.start_of.ensures (omega arith) ∙ ap start_of n) c.in_ok-bundles.ensures;
 }
 
 pub returns-clause-exact : goal.returns-clause-exact
