@@ -1,7 +1,0 @@
-
-pub mod Offers
-pub mod Bundles
-pub mod Seen
-pub mod Places
-pub mod Marks
-pub mod Blocks
