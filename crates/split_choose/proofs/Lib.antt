@@ -6,3 +6,10 @@ pub mod Covers
 pub mod Walks
 pub mod Sums
 pub mod Alone
+pub mod Ends
+pub mod Placed
+pub mod Sited
+pub mod Borders
+pub mod Labels
+pub mod Bordering
+pub mod Split

@@ -3,3 +3,6 @@ pub mod Bundles
 pub mod Seen
 pub mod Regions
 pub mod Spans
+pub mod Places
+pub mod Marks
+pub mod Blocks

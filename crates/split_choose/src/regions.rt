@@ -1,17 +1,18 @@
 //! Region splits: a part of the range lives in a register where that is free.
 
-ghost use Rattle.std.specs.Prelude.{◌≡◌, ◌<◌, ◌≤◌, ◌*◌, ◌++◌, ◌∷◌, [], ℕ, Bool, true, false, filter, map, length, slice_index_or, slice_set, IfOk, OnOk};
+ghost use Rattle.std.specs.Prelude.{◌≡◌, ◌<◌, ◌≤◌, ◌*◌, ◌++◌, ◌∷◌, [], ℕ, Bool, true, false, filter, map, length, slice_get, slice_index_or, slice_set, IfOk, OnOk};
 ghost use Rattle.std.specs.List.{sum_by, list_any};
 ghost use Rattle.target_base.specs.Storage.{is_unreserved, is_among};
 ghost use Rattle.mir_meaning.specs.Binding.{class_of};
 ghost use Rattle.mir_meaning.specs.Places.{domain};
 ghost use Rattle.split_choose.specs.declared.spans.Span.{Span as BlockSpan};
 ghost use Rattle.split_choose.specs.Bundles.{start_of, end_of, root_of};
+ghost use Rattle.split_choose.specs.Marks.{mark_at, marks_in};
 ghost use Rattle.split_choose.specs.Regions.{capped, uses_of, span_cost, inside_at};
 
 use crate::bundles::{Bundles, end_of, start_of};
-use crate::places::{block_at, places_of};
-use crate::spans::{Span, gap_ids, is_alone, spans_of};
+use crate::places::{block_at, gap_ids, places_of};
+use crate::spans::{Span, is_alone, spans_of};
 use block_freq::Freqs;
 use interference::Matrix;
 use live_lanes::{Labels, LiveFunc, Mark, Spot};
@@ -304,18 +305,10 @@ fn cost_of_all(spans: &[Span], insides: &[Inside]) -> u128 {
     cost
 }
 
-/// Adds a mark in the block at a position.
-pub(crate) fn add_mark(
-    live: &LiveFunc,
-    position: u32,
-    before: Option<Option<u32>>,
-    label: u16,
-    labels: &mut Labels,
-) -> Result<(), AllocError> {
-    let Some(block) = block_at(live, position) else {
-        return Ok(());
-    };
-    let number = block.number;
+/// A mark in the block of a number.
+fn mark_of(number: u32, before: Option<Option<u32>>, label: u16) -> Mark
+    ensures { result ≡ mark_at number before label }
+{
     let spot = match before {
         None => Spot::Border,
         Some(before) => Spot::Gap(Gap {
@@ -323,11 +316,27 @@ pub(crate) fn add_mark(
             before,
         }),
     };
-    labels.push(Mark {
+    Mark {
         block: number,
         spot,
         label,
-    })
+    }
+}
+
+/// Adds a mark in the block at a position.
+pub(crate) fn add_mark(
+    live: &LiveFunc,
+    position: u32,
+    before: Option<Option<u32>>,
+    label: u16,
+    labels: &mut Labels,
+) -> Result<(), AllocError>
+    ensures { OnOk result (labels.new ≡ labels.old ++ marks_in (slice_get live.now.func.blocks position) before label) }
+{
+    let Some(block) = block_at(live, position) else {
+        return Ok(());
+    };
+    labels.push(mark_of(block.number, before, label))
 }
 
 /// The labels of an offer.

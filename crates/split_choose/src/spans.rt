@@ -6,7 +6,7 @@ ghost use Rattle.target_base.specs.Registers.{units_of};
 ghost use Rattle.interference.specs.Clashes.{IsOrdered};
 ghost use Rattle.split_choose.specs.Spans.{AreStretches, is_held_in, is_alone};
 
-use crate::places::{block_at, end_of, operand_count};
+use crate::places::operand_count;
 use block_freq::Freqs;
 use interference::Matrix;
 use live_lanes::{LiveFunc, Stretch};
@@ -216,16 +216,4 @@ pub(crate) fn is_alone(m: &Matrix, v: u32, r: Reg, position: u32, stretches: &[S
         }
     }
     true
-}
-
-/// The instruction before which a block's terminators begin, and the one that it begins with.
-pub(crate) fn gap_ids(live: &LiveFunc, position: u32) -> (Option<u32>, Option<u32>) {
-    let first = match block_at(live, position) {
-        Some(block) => match block.instrs.as_slice().first() {
-            Some(instr) => Some(instr.get().id),
-            None => None,
-        },
-        None => None,
-    };
-    (first, end_of(live, position))
 }
