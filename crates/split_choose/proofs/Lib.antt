@@ -5,7 +5,6 @@ pub mod Bordered
 pub mod Covers
 pub mod Walks
 pub mod Sums
-pub mod Alone
 pub mod Ends
 pub mod Placed
 pub mod Sited
@@ -13,3 +12,4 @@ pub mod Borders
 pub mod Labels
 pub mod Bordering
 pub mod Split
+pub mod Alone

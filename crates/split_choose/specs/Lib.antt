@@ -2,7 +2,7 @@ pub mod Offers
 pub mod Bundles
 pub mod Seen
 pub mod Regions
-pub mod Spans
 pub mod Places
 pub mod Marks
 pub mod Blocks
+pub mod Spans
