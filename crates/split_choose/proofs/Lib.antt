@@ -13,3 +13,5 @@ pub mod Labels
 pub mod Bordering
 pub mod Split
 pub mod Alone
+pub mod Flags
+pub mod Offered
