@@ -12,3 +12,4 @@ pub mod Borders
 pub mod Labels
 pub mod Bordering
 pub mod Split
+pub mod Running

@@ -5,3 +5,4 @@ pub mod Regions
 pub mod Places
 pub mod Marks
 pub mod Blocks
+pub mod Runs
