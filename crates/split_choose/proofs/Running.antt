@@ -1,6 +1,6 @@
 -- The labels of runs.
 use Rattle.std.proofs.Common.{◌≡◌, ◌∙◌, ◌⊎◌, inl, inr, ℕ, zero, suc, ◌+◌, ◌-◌, ◌<◌, ◌≤◌, List, [], ◌∷◌, ◌++◌, Bool, true, false, cond, refl, sym, ap, length, drop, take, arith, map, append_assoc, append-nil, Option, None, Some, subst, add-one}
-use Rattle.std.specs.Prelude.{◌&&◌, not, nat_eq, nat_lt, slice_get, filter, flat_map}
+use Rattle.std.specs.Prelude.{◌&&◌, not, nat_eq, nat_lt, slice_get, slice_index, filter, flat_map}
 use Rattle.std.specs.List.{list_any}
 use Rattle.std.proofs.lemmas.Bool.{eqb-true, eq-eqb, lt-ltb, ltb-true, le-ltb, true≢false}
 use Rattle.std.proofs.lemmas.List.{map-append}
@@ -14,6 +14,8 @@ use Rattle.mir_meaning.specs.Points.{touches}
 use Rattle.live_lanes.specs.declared.labels.Mark.{Mark}
 use Rattle.live_lanes.specs.declared.table.Table.{Table}
 use Rattle.live_lanes.specs.Touching.{FindsInstrs}
+use Rattle.split_choose.specs.declared.places.TouchedPlace.{TouchedPlace}
+use Rattle.split_choose.proofs.Placed.{has-at}
 use Rattle.split_choose.specs.Offers.{View, Touched, first_id, last_id, at_start, at_gap, touching, terminators, end_place, touched_places, gap_behind, blocks_between, run_marks}
 use Rattle.split_choose.specs.Seen.{FindsPlaces}
 use Rattle.split_choose.specs.Marks.{marks_in}
@@ -162,3 +164,50 @@ module _ (t : Target) (f : Function) (v : ℕ) (view : View) where
           → ((m : ℕ) → slice_get rest m ≡ Some p → Stands bs p) → Stands bs p
       go (inl r) ih = inside (in-append (map one (touching t f v view b)) (end_place t f v view b (terminators t f v view b)) r.0 p r.1)
       go (inr r) ih = ih r.0 r.1
+
+-- where the instruction before a gap is found
+
+pub home-behind : (x : Table) (bs : List Block) (id : ℕ) (before : Option ℕ) (r : IsBehind x bs id before) → slice_index x.order.block_of.items id ≡ r.position
+home-behind x bs id before r = ap (slice_index x.order.block_of.items) (sym r.named) ∙ r.finds.homes r.position r.block r.instr.id r.found (has-at r.block.instrs r.place r.instr r.stands)
+
+-- the marks of a run
+
+module _ (t : Target) (f : Function) (x : Table) (v : ℕ) (view : View) (finds : FindsPlaces t f x v) where
+  touched-stands : (n : ℕ) (p : Touched) → slice_get (touched_places t f v view) n ≡ Some p → Stands f.blocks p
+  touched-stands n p e = places-stand t f v view f.blocks f.blocks 0 (λ j b g. (let z : 0 + j ≡ j = omega arith in ap (slice_get f.blocks) z ∙ g)) n p e
+
+  position-of : (p : Touched) (s : Stands f.blocks p) → slice_get f.blocks (block_place p.block f.blocks) ≡ Some s.block
+  position-of p s = ap (slice_get f.blocks) (ap (λ n. block_place n f.blocks) (sym s.number) ∙ place-number s.block.number s.position f.blocks (finds.placed s.position s.block s.found)) ∙ s.found
+
+  mark-of : (p : Touched) (s : Stands f.blocks p) (before : Option ℕ) (label : ℕ) → marks_in (slice_get f.blocks (block_place p.block f.blocks)) (Some before) label ≡ at_gap p.block before label ∷ []
+  mark-of p s before label = ap (λ o. marks_in o (Some before) label) (position-of p s) ∙ ap (λ n. at_gap n before label ∷ []) s.number
+
+  pub run-behind : (m : ℕ) (q : Touched) → slice_get (touched_places t f v view) m ≡ Some q → q.is_end ≡ false → IsBehind x f.blocks q.last (gap_behind t f v view q.last f.blocks)
+  run-behind m q e open-end =
+      let s = touched-stands m q e in
+      let i = s.instr open-end in
+      behind-in t f v view x f.blocks finds.instrs q.last f.blocks 0 s.position i.0 s.block i.1 (λ j b g. (let z : 0 + j ≡ j = omega arith in ap (slice_get f.blocks) z ∙ g)) s.found i.2 i.3
+
+  pub run-marked : (n m : ℕ) (p q : Touched) (a z : TouchedPlace) (old first mid new : List Mark) → slice_get (touched_places t f v view) n ≡ Some p → a ≡ placed f.blocks p → slice_get (touched_places t f v view) m ≡ Some q → z ≡ placed f.blocks q
+      → first ≡ old ++ marks_in (slice_get f.blocks a.position) (Some (Some a.first)) 1
+      → mid ≡ first ++ map (λ b. at_start b.number 1) (take (z.position - a.position) (drop (a.position + 1) f.blocks))
+      → ((before : Option ℕ) → (z.is_end ≡ false → IsBehind x f.blocks z.last before) → new ≡ mid ++ cond z.is_end [] (marks_in (slice_get f.blocks z.position) (Some before) 0))
+      → new ≡ old ++ run_marks t f v view (p, q)
+  run-marked n m p q a z old first mid new e is-a g is-z one two three = done (subst (λ r. first ≡ old ++ marks_in (slice_get f.blocks r.position) (Some (Some r.first)) 1) is-a one)
+      (subst (λ r. mid ≡ first ++ map (λ b. at_start b.number 1) (take (r.0.position - r.1.position) (drop (r.1.position + 1) f.blocks))) both two)
+      (subst (λ r. (before : Option ℕ) → (r.is_end ≡ false → IsBehind x f.blocks r.last before) → new ≡ mid ++ cond r.is_end [] (marks_in (slice_get f.blocks r.position) (Some before) 0)) is-z three)
+    where
+      both : ◌≡◌ {A = TouchedPlace × TouchedPlace} (z, a) (placed f.blocks q, placed f.blocks p)
+      both = ap (λ r. (r, a)) is-z ∙ ap (λ r. (placed f.blocks q, r)) is-a
+      done : first ≡ old ++ marks_in (slice_get f.blocks (block_place p.block f.blocks)) (Some (Some p.first)) 1
+          → mid ≡ first ++ map (λ b. at_start b.number 1) (blocks_between t f v view p.block q.block)
+          → ((before : Option ℕ) → (q.is_end ≡ false → IsBehind x f.blocks q.last before) → new ≡ mid ++ cond q.is_end [] (marks_in (slice_get f.blocks (block_place q.block f.blocks)) (Some before) 0))
+          → new ≡ old ++ run_marks t f v view (p, q)
+      done one two three =
+          let starts = map (λ (b : Block). at_start b.number 1) (blocks_between t f v view p.block q.block) in
+          let gap = gap_behind t f v view q.last f.blocks in
+          let end = cond q.is_end [] (at_gap q.block gap 0 ∷ []) in
+          let begun : first ≡ old ++ at_gap p.block (Some p.first) 1 ∷ [] = one ∙ ap (λ ms. old ++ ms) (mark-of p (touched-stands n p e) (Some p.first) 1) in
+          let ended : new ≡ mid ++ end = three gap (run-behind m q g) ∙ ap (λ ms. mid ++ cond q.is_end [] ms) (mark-of q (touched-stands m q g) gap 0) in
+          ended ∙ (ap (λ ms. ms ++ end) two ∙ (ap (λ ms. (ms ++ starts) ++ end) begun
+          ∙ (append_assoc (old ++ at_gap p.block (Some p.first) 1 ∷ []) starts end ∙ append_assoc old (at_gap p.block (Some p.first) 1 ∷ []) (starts ++ end))))
