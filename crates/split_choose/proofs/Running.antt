@@ -1,5 +1,5 @@
 -- The labels of runs.
-use Rattle.std.proofs.Common.{◌≡◌, ◌∙◌, ◌⊎◌, inl, inr, ℕ, zero, suc, ◌+◌, ◌-◌, ◌<◌, ◌≤◌, List, [], ◌∷◌, ◌++◌, Bool, true, false, cond, refl, sym, ap, length, drop, take, arith, map, append_assoc, append-nil, Option, None, Some, subst, add-one}
+use Rattle.std.proofs.Common.{get_or, ◌≡◌, ◌∙◌, ◌⊎◌, inl, inr, ℕ, zero, suc, ◌+◌, ◌-◌, ◌<◌, ◌≤◌, List, [], ◌∷◌, ◌++◌, Bool, true, false, cond, refl, sym, ap, length, drop, take, arith, map, append_assoc, append-nil, Option, None, Some, subst, add-one}
 use Rattle.std.specs.Prelude.{◌&&◌, not, nat_eq, nat_lt, slice_get, slice_index, filter, flat_map}
 use Rattle.std.specs.List.{list_any}
 use Rattle.std.proofs.lemmas.Bool.{eqb-true, eq-eqb, lt-ltb, ltb-true, le-ltb, true≢false}
@@ -211,3 +211,11 @@ module _ (t : Target) (f : Function) (x : Table) (v : ℕ) (view : View) (finds 
           let ended : new ≡ mid ++ end = three gap (run-behind m q g) ∙ ap (λ ms. mid ++ cond q.is_end [] ms) (mark-of q (touched-stands m q g) gap 0) in
           ended ∙ (ap (λ ms. ms ++ end) two ∙ (ap (λ ms. (ms ++ starts) ++ end) begun
           ∙ (append_assoc (old ++ at_gap p.block (Some p.first) 1 ∷ []) starts end ∙ append_assoc old (at_gap p.block (Some p.first) 1 ∷ []) (starts ++ end))))
+
+pub placed-at : (bs : List Block) (ps : List TouchedPlace) (qs : List Touched) (n : ℕ) (q : Touched) (d : TouchedPlace) → ps ≡ map (placed bs) qs → slice_get qs n ≡ Some q → get_or ps n d ≡ placed bs q
+placed-at bs ps qs n q d same e = ap (λ rs. get_or rs n d) same ∙ go qs n e
+  where
+    go : (rs : List Touched) (m : ℕ) → slice_get rs m ≡ Some q → get_or (map (placed bs) rs) m d ≡ placed bs q
+    go [] m h = cc
+    go (r ∷ rs) zero h = let w : r ≡ q = cc in ap (placed bs) w
+    go (r ∷ rs) (suc m) h = go rs m h
