@@ -1,15 +1,15 @@
 -- Bundles of borders by their numbers are those of the function's blocks.
-use Rattle.std.proofs.Common.{◌≡◌, ◌≢◌, ◌∙◌, ◌⊎◌, inl, inr, ℕ, zero, suc, ◌+◌, ◌*◌, ◌<◌, ◌≤◌, List, [], ◌∷◌, Bool, true, false, cond, refl, sym, ap, subst, arith, length, Option, Some, None, option_map}
-use Rattle.std.specs.Prelude.{nat_eq, Decides, slice_get, filter_map, ◌&&◌}
+use Rattle.std.proofs.Common.{◌≡◌, ◌∙◌, ◌⊎◌, inl, inr, ℕ, zero, suc, List, [], ◌∷◌, Bool, true, false, cond, refl, sym, ap, subst, arith, Option, Some, None, option_map}
+use Rattle.std.specs.Prelude.{nat_eq, slice_get}
 use Rattle.std.specs.List.{list_all, cons_option}
-use Rattle.std.proofs.lemmas.Bool.{cases_eq, cases_lt, cases_Bool, eqb-true, eq-eqb, and_parts, false≢true, true≢false}
+use Rattle.std.proofs.lemmas.Bool.{eqb-true, eq-eqb, and_parts, false≢true}
 use Rattle.meaning.specs.Live.{Among, here, there}
 use Rattle.mir_func.specs.declared.func.Edge.{Edge}
 use Rattle.mir_func.specs.declared.func.Block.{Block}
 use Rattle.mir_meaning.specs.Points.{Tests}
 use Rattle.live_lanes.specs.Paths.{has}
 use Rattle.live_lanes.specs.Ordered.{place_of}
-use Rattle.live_lanes.specs.Flowing.{edge_places, exits_at}
+use Rattle.live_lanes.specs.Flowing.{edge_places}
 use Rattle.split_choose.specs.Bundles.{start_of, end_of, Linked, itself as alone, edge as way, back as turned, onward as further, root_of, AreBundles}
 use Rattle.split_choose.specs.Offers.{Border, In, Out, OneBundle, itself, edge, back, onward}
 use Rattle.split_choose.specs.Bundles.{border_place, same_border, same_root, are_joined, ArePlaced, is_found, are_led, AreFollowed}

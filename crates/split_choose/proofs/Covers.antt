@@ -1,8 +1,8 @@
 -- A lane is met in a stretch of points just where it is at some point of the block there, and it is at a point just where the points of one of its pieces are.
-use Rattle.std.proofs.Common.{◌≡◌, ◌<◌, ◌≤◌, ◌⊎◌, ℕ, zero, suc, ◌+◌, ◌*◌, ◌-◌, Bool, true, false, cond, ◌&&◌, leb, ltb, eqb, length, map, List, [], ◌∷◌, Option, None, Some, inl, inr, refl, sym, ap, ◌∙◌, subst, arith, get_or, max}
-use Rattle.std.specs.Prelude.{◌||◌, not, nat_eq, nat_le, slice_get, option_map}
+use Rattle.std.proofs.Common.{◌≡◌, ◌<◌, ◌≤◌, ◌⊎◌, ℕ, zero, suc, ◌+◌, ◌*◌, ◌-◌, Bool, true, false, cond, length, map, List, [], ◌∷◌, Option, None, Some, inl, inr, refl, sym, ap, ◌∙◌, subst, arith, max}
+use Rattle.std.specs.Prelude.{◌||◌, slice_get, option_map}
 use Rattle.std.specs.List.{list_any, filter_map, cons_option}
-use Rattle.std.proofs.lemmas.Bool.{ltb-true, ltb-false, lt-ltb, leb-true, leb-false, le-leb, eqb-true, ne_eqb, eq-eqb, cases_lt, lt-leb, and_parts, and_from, false≢true}
+use Rattle.std.proofs.lemmas.Bool.{ltb-true, leb-true, le-leb, cases_lt, lt-leb, and_parts, false≢true}
 use Rattle.std.proofs.lemmas.Option.{slice_get-map}
 use Rattle.slot_index.specs.Order.{number_of}
 use Rattle.meaning.specs.Live.{Among, here, there}
@@ -12,12 +12,12 @@ use Rattle.live_lanes.specs.declared.extent.Stretch.{Stretch}
 use Rattle.live_lanes.specs.declared.row.Segment.{Segment}
 use Rattle.live_lanes.specs.declared.row.Cell.{Cell}
 use Rattle.live_lanes.specs.declared.row.End.{End}
-use Rattle.live_lanes.specs.Table.{Numbers, Begun, Seen, unseen, begun, seen_cell, leading, entry_rank, exit_rank, end_rank, rises_from}
+use Rattle.live_lanes.specs.Table.{Numbers, Begun, Seen, begun, seen_cell, entry_rank, exit_rank, end_rank, rises_from}
 use Rattle.live_lanes.specs.Reach.{is_never}
 use Rattle.live_lanes.specs.Entered.{piece_count}
 use Rattle.live_lanes.specs.Held.{held_at, hold_rank}
-use Rattle.live_lanes.specs.Extents.{block_extent, segment_extent, extent_in, cell_extents, first_rank, last_rank, stretch_of, begun_by, is_met_in}
-use Rattle.live_lanes.proofs.Extents.{any-in, lasts, met-is, unseen-none}
+use Rattle.live_lanes.specs.Extents.{segment_extent, extent_in, cell_extents, first_rank, last_rank, begun_by, is_met_in}
+use Rattle.live_lanes.proofs.Extents.{any-in, lasts, met-is}
 use Rattle.split_choose.specs.Seen.{turns_from, ends_in_turn, only}
 
 some-same : {X : Type 0} (x y : X) → Some x ≡ Some y → x ≡ y

@@ -1,11 +1,11 @@
 -- Ends of blocks are joined with the starts of those that follow, one after the other.
-use Rattle.std.proofs.Common.{◌≡◌, ◌≢◌, ◌∙◌, ◌⊎◌, inl, inr, ℕ, zero, suc, ◌+◌, ◌-◌, ◌*◌, ◌<◌, ◌≤◌, List, [], ◌∷◌, ◌++◌, Bool, true, false, cond, refl, sym, ap, length, set, take, get_or, min, max, subst, arith}
+use Rattle.std.proofs.Common.{◌≡◌, ◌≢◌, ◌∙◌, ◌⊎◌, inl, inr, ℕ, zero, suc, ◌+◌, ◌*◌, ◌<◌, ◌≤◌, List, [], ◌∷◌, ◌++◌, Bool, true, false, cond, refl, sym, ap, length, set, take, get_or, min, max, subst, arith}
 use Rattle.std.specs.Prelude.{nat_eq, Decides}
-use Rattle.std.proofs.lemmas.Bool.{cases_eq, cases_lt, eqb-true, eq-eqb, ne_eqb, false≢true}
-use Rattle.std.proofs.lemmas.List.{get_or_past, take_more, take_all, get_or_default, set_past, length-set}
+use Rattle.std.proofs.lemmas.Bool.{cases_eq, cases_lt, eqb-true, eq-eqb, false≢true}
+use Rattle.std.proofs.lemmas.List.{get_or_past, take_more, take_all, get_or_default, length-set}
 use Rattle.mir_meaning.specs.Registers.{numbers}
 use Rattle.live_lanes.specs.Paths.{has}
-use Rattle.split_choose.specs.Bundles.{start_of, end_of, Linked, itself, edge, back, onward, parent_of, above, root_of, AreEarlier, IsForest, LeadsWithin, AreJoined, StayJoined, SameRoots, IsClosed, Joins, AreBundles}
+use Rattle.split_choose.specs.Bundles.{start_of, end_of, Linked, itself, edge, back, onward, parent_of, root_of, AreEarlier, IsForest, AreJoined, StayJoined, SameRoots, IsClosed, Joins, AreBundles}
 use Rattle.split_choose.proofs.Roots.{settled, root_falls, set-parent, set-falls, merged-keeps, merged-joins, linked-above, shortened-root, are_bundles}
 
 -- numbers in lists

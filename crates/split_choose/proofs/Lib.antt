@@ -13,3 +13,4 @@ pub mod Labels
 pub mod Bordering
 pub mod Split
 pub mod Running
+pub mod Alone

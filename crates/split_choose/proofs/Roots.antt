@@ -1,10 +1,9 @@
 -- Borders that stand for others, and what becomes of them where one is set.
-use Rattle.std.proofs.Common.{◌≡◌, ◌≢◌, ◌∙◌, ◌⊎◌, inl, inr, ℕ, zero, suc, ◌+◌, ◌*◌, ◌<◌, ◌≤◌, List, [], ◌∷◌, Bool, true, false, cond, refl, sym, ap, length, set, min, max, subst, arith}
-use Rattle.std.specs.Prelude.{nat_eq, Decides}
+use Rattle.std.proofs.Common.{◌≡◌, ◌≢◌, ◌∙◌, ◌⊎◌, inl, inr, ℕ, zero, suc, ◌<◌, ◌≤◌, List, cond, refl, sym, ap, length, set, subst, arith}
+use Rattle.std.specs.Prelude.{nat_eq}
 use Rattle.std.proofs.lemmas.Bool.{cases_eq, cases_lt, eqb-true, eq-eqb, ne_eqb}
-use Rattle.std.proofs.lemmas.List.{get_or_past, get_or-set_same, get_or-set_other, set_past, length-set}
-use Rattle.live_lanes.specs.Paths.{has}
-use Rattle.split_choose.specs.Bundles.{start_of, end_of, Linked, itself, edge, back, onward, parent_of, above, root_of, AreEarlier, IsForest, LeadsWithin, AreJoined, StayJoined, AreBundles}
+use Rattle.std.proofs.lemmas.List.{get_or_past, get_or-set_same, get_or-set_other, set_past}
+use Rattle.split_choose.specs.Bundles.{Linked, itself, edge, back, onward, parent_of, above, root_of, AreEarlier, AreJoined, StayJoined, AreBundles}
 
 pub stays : (ps : List ℕ) (n x : ℕ) → parent_of ps x ≡ x → above ps n x ≡ x
 stays ps zero x e = refl

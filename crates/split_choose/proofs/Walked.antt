@@ -1,7 +1,7 @@
 -- Steps of loops over borders.
-use Rattle.std.proofs.Common.{◌≡◌, ◌∙◌, ℕ, zero, suc, ◌+◌, ◌-◌, ◌<◌, ◌≤◌, List, [], ◌∷◌, ◌++◌, refl, sym, ap, length, get_or, arith}
+use Rattle.std.proofs.Common.{◌≡◌, ◌∙◌, ℕ, zero, suc, ◌+◌, ◌-◌, ◌<◌, ◌≤◌, List, [], ◌∷◌, ◌++◌, sym, ap, length, arith}
 use Rattle.mir_meaning.specs.Registers.{numbers}
-use Rattle.split_choose.specs.Bundles.{parent_of, above, root_of}
+use Rattle.split_choose.specs.Bundles.{parent_of, above}
 use Rattle.split_choose.proofs.Roots.{stays}
 
 numbers_more : (n k : ℕ) → numbers n (suc k) ≡ numbers n k ++ (n + k) ∷ []

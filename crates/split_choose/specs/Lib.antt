@@ -6,3 +6,4 @@ pub mod Places
 pub mod Marks
 pub mod Blocks
 pub mod Runs
+pub mod Spans

@@ -1,5 +1,5 @@
 -- What a part of a range in a register is, over the blocks of the range.
-use Rattle.std.specs.Prelude.{◌≡◌, ◌<◌, ◌≤◌, ℕ, ◌+◌, ◌*◌, Bool, true, false, cond, not, ◌&&◌, ◌||◌, nat_eq, nat_lt, List, [], ◌∷◌, map, filter, length, min, Option, None, Some, slice_index_or}
+use Rattle.std.specs.Prelude.{◌≡◌, ◌<◌, ℕ, ◌+◌, Bool, true, false, cond, not, ◌&&◌, ◌||◌, nat_eq, nat_lt, List, length, min, slice_index_or}
 use Rattle.std.specs.List.{list_all, list_any, sum_by}
 use Rattle.split_choose.specs.declared.spans.Span.{Span}
 use Rattle.split_choose.specs.declared.regions.Inside.{Inside}

@@ -1,6 +1,11 @@
 //! A range block by block: where it has points, where it is live at borders, and what its
 //! instructions cost.
 
+ghost use Rattle.std.specs.Prelude.{◌≡◌};
+ghost use Rattle.target_base.specs.Registers.{units_of};
+ghost use Rattle.interference.specs.Clashes.{IsOrdered};
+ghost use Rattle.split_choose.specs.Spans.{AreStretches, is_held_in, is_alone};
+
 use crate::places::operand_count;
 use block_freq::Freqs;
 use interference::Matrix;
@@ -178,20 +183,35 @@ fn add_lanes(live: &LiveFunc, v: u32, spans: &mut Vec<Span>) -> Result<(), Alloc
 }
 
 /// The units of a register; none where there is no such register.
-pub(crate) fn units_at(live: &LiveFunc, r: Reg) -> &[Unit] {
+pub(crate) fn units_at(live: &LiveFunc, r: Reg) -> &[Unit]
+    ensures { result.now ≡ units_of live.now.target r }
+{
     match live.target().regs.as_slice().get(r.0 as usize) {
         Some(desc) => desc.units.as_slice(),
         None => &[],
     }
 }
 
+/// Whether a unit is held by anything but a range at some of these points.
+#[tactic(auto, using(crate::proofs::Walks::anys))]
+fn is_held_in(m: &Matrix, v: u32, u: Unit, position: u32, stretches: &[Stretch]) -> bool
+    ensures { IsOrdered m.now → AreStretches stretches.now → result ≡ is_held_in m.now v position stretches.now u }
+{
+    'stretches: for at in stretches {
+        if m.is_held_along(u, v, position, *at) {
+            return true;
+        }
+    }
+    false
+}
+
 /// Whether no unit of a register is held by anything but a range at some of these points.
-pub(crate) fn is_alone(m: &Matrix, v: u32, r: Reg, position: u32, stretches: &[Stretch]) -> bool {
+#[tactic(auto, using(crate::proofs::Walks::anys))]
+pub(crate) fn is_alone(m: &Matrix, v: u32, r: Reg, position: u32, stretches: &[Stretch]) -> bool
+    ensures { IsOrdered m.now → AreStretches stretches.now → result ≡ is_alone m.now v r position stretches.now }
+{
     'units: for u in units_at(m.live(), r) {
-        if stretches
-            .iter()
-            .any(|at| m.is_held_along(*u, v, position, *at))
-        {
+        if is_held_in(m, v, *u, position, stretches) {
             return false;
         }
     }

@@ -1,4 +1,4 @@
-use Rattle.std.proofs.Common.{◌≡◌, ℕ, List, length, take, sym, subst}
+use Rattle.std.proofs.Common.{ℕ, List, length, take, sym, subst}
 use Rattle.live_lanes.specs.Ways.{successors}
 use Rattle.split_choose.specs.Bundles.{Joins}
 use Rattle.split_choose.proofs.Joining.{join_step, join_last, earlier_set}

@@ -1,7 +1,7 @@
-use Rattle.std.proofs.Common.{◌≡◌, ◌∙◌, ℕ, ◌<◌, List, length, ap, arith}
+use Rattle.std.proofs.Common.{◌≡◌, ◌∙◌, length, ap, arith}
 use Rattle.live_lanes.specs.Ways.{successors}
-use Rattle.split_choose.specs.Bundles.{start_of, IsClosed}
-use Rattle.split_choose.proofs.Joining.{alone_earlier, below_first, below_last, below_next}
+use Rattle.split_choose.specs.Bundles.{start_of}
+use Rattle.split_choose.proofs.Joining.{alone_earlier, below_first, below_last}
 use Rattle.split_choose.proofs.bundles.Bundles.of.Goals as goal
 
 pub blocks-2-init : goal.blocks-2-init

@@ -1,4 +1,3 @@
-use Rattle.std.proofs.Common.{ℕ}
 use Rattle.split_choose.specs.Bundles.{AreEarlier, SameRoots}
 use Rattle.split_choose.proofs.bundles.Bundles.shorten.Given as goal
 
