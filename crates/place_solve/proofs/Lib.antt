@@ -17,3 +17,4 @@ pub mod Lowered
 pub mod Copying
 pub mod Refused
 pub mod Pairing
+pub mod Placed

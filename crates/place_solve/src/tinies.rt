@@ -1,6 +1,6 @@
 //! Registers for the tinies of a place, all at once.
 
-ghost use Rattle.std.specs.Prelude.{◌≡◌, ℕ, ◌++◌, ◌∷◌, [], None, Some, IfOk, OnOk, drop, filter, map, slice_get};
+ghost use Rattle.std.specs.Prelude.{◌≡◌, ℕ, ◌++◌, ◌∷◌, [], None, Some, IfOk, OnOk, option_copied, drop, filter, map, slice_get};
 ghost use Rattle.live_lanes.specs.Looks.{InOrder};
 ghost use Rattle.live_lanes.specs.Touching.{FindsInstrs};
 ghost use Rattle.place_solve.specs.Choice.{need_of};
@@ -37,22 +37,34 @@ fn place_among<'a>(target: &Target, rest: &'a [Boxed<Instr>]) -> &'a [Boxed<Inst
     }
 }
 
-/// The instructions of the place that begins with the one of that id.
+/// The block at a position.
+fn block_at(live: &LiveFunc, position: usize) -> Option<&Block>
+    ensures { option_copied result ≡ slice_get live.now.func.blocks position }
+{
+    live.func().blocks.as_slice().get(position)
+}
+
+/// The instructions of the place that begins with the one of that id, in its block.
+fn place_in<'a>(live: &LiveFunc, block: &'a Block, at: u32) -> &'a [Boxed<Instr>]
+    ensures { FindsInstrs live.now.table live.now.func.blocks → (p j : ℕ) (i : Instr) → slice_get live.now.func.blocks p ≡ Some block.now
+        → slice_get block.now.instrs j ≡ Some i → i.id ≡ at → result.now ≡ tiny.place_among live.now.target (drop j block.now.instrs) }
+{
+    let k = live.place_of(at);
+    if k >= block.instrs.len() {
+        return &[];
+    }
+    place_among(live.target(), &block.instrs.as_slice()[k..])
+}
+
+/// The same, wherever its block is.
 fn place_at(live: &LiveFunc, at: u32) -> &[Boxed<Instr>]
     ensures { FindsInstrs live.now.table live.now.func.blocks → (p j : ℕ) (b : Block) (i : Instr) → slice_get live.now.func.blocks p ≡ Some b
         → slice_get b.instrs j ≡ Some i → i.id ≡ at → result.now ≡ tiny.place_among live.now.target (drop j b.instrs) }
 {
-    let blocks = live.func().blocks.as_slice();
-    let position = live.position_of(at) as usize;
-    if position >= blocks.len() {
-        return &[];
+    match block_at(live, live.position_of(at) as usize) {
+        None => &[],
+        Some(block) => place_in(live, block, at),
     }
-    let instrs = blocks[position].instrs.as_slice();
-    let k = live.place_of(at);
-    if k >= instrs.len() {
-        return &[];
-    }
-    place_among(live.target(), &instrs[k..])
 }
 
 /// Whether a range is one of the tinies.
@@ -188,17 +200,29 @@ pub fn solve_at(
     choose_at(alloc, live, Around::Instrs(place), variables.as_slice())
 }
 
-/// The same at the place of the tinies, over a table in which instructions are found. None too where
-/// there is no tiny.
+/// The same at the place of the first of the tinies, over a table in which instructions are found.
+fn solve_from(
+    alloc: Global,
+    live: &LiveFunc,
+    first: Tiny,
+    tinies: &Tinies,
+) -> Result<Option<Choices>, AllocError>
+    ensures { IfOk result (λ q. InOrder live.now.table → FindsInstrs live.now.table live.now.func.blocks
+        → (p j : ℕ) (b : Block) (i : Instr) → slice_get live.now.func.blocks p ≡ Some b → slice_get b.instrs j ≡ Some i → i.id ≡ first.at
+        → q ≡ tiny.tiny_choice live.now.target live.now.func live.now.table tinies.now first (tiny.place_among live.now.target (drop j b.instrs))) }
+{
+    solve_at(alloc, live, place_at(live, first.at), first, tinies)
+}
+
+/// The same, wherever the tinies are. None too where there is no tiny.
 pub fn solve(alloc: Global, m: &Matrix, tinies: &Tinies) -> Result<Option<Choices>, AllocError>
     ensures none { tinies.now ≡ [] → IfOk result (λ q. q ≡ None) }
-    ensures exact { (one : Tiny) (others : List Tiny) → tinies.now ≡ one ∷ others → InOrder m.now.live.table → FindsInstrs m.now.live.table m.now.live.func.blocks
-        → (p j : ℕ) (b : Block) (i : Instr) → slice_get m.now.live.func.blocks p ≡ Some b → slice_get b.instrs j ≡ Some i → i.id ≡ one.at
-        → IfOk result (λ q. q ≡ tiny.tiny_choice m.now.live.target m.now.live.func m.now.live.table tinies.now one (tiny.place_among m.now.live.target (drop j b.instrs))) }
+    ensures exact { (first : Tiny) (others : List Tiny) → tinies.now ≡ first ∷ others → IfOk result (λ q. InOrder m.now.live.table → FindsInstrs m.now.live.table m.now.live.func.blocks
+        → (p j : ℕ) (b : Block) (i : Instr) → slice_get m.now.live.func.blocks p ≡ Some b → slice_get b.instrs j ≡ Some i → i.id ≡ first.at
+        → q ≡ tiny.tiny_choice m.now.live.target m.now.live.func m.now.live.table tinies.now first (tiny.place_among m.now.live.target (drop j b.instrs))) }
 {
-    let live = m.live();
-    let Some(first) = tinies.as_slice().first() else {
-        return Ok(None);
-    };
-    solve_at(alloc, live, place_at(live, first.at), *first, tinies)
+    match tinies.as_slice().first() {
+        None => Ok(None),
+        Some(first) => solve_from(alloc, m.live(), *first, tinies),
+    }
 }
