@@ -25,10 +25,6 @@ use Rattle.split_choose.proofs.Sited.{place-number}
 
 -- one more block
 
-
-
-
-
 take-next : {X : Type 0} (xs : List X) (k : ℕ) → take (suc k) xs ≡ take k xs ++ elim (slice_get xs k) [ None ↦ [] | Some x ↦ x ∷ [] ]
 take-next [] zero = refl
 take-next [] (suc k) = refl
@@ -84,10 +80,13 @@ behind-in t f v view x bs finds id (c ∷ cs) o m j b i at e stands named = go (
   where
     next : (k : ℕ) (d : Block) → slice_get cs k ≡ Some d → slice_get bs (suc o + k) ≡ Some d
     next k d g = let s : suc o + k ≡ o + suc k = omega arith in ap (slice_get bs) s ∙ at (suc k) d g
+
     first : slice_get bs o ≡ Some c
     first = let z : o ≡ o + 0 = omega arith in ap (slice_get bs) z ∙ at 0 c refl
+
     inside : slice_get (c ∷ cs) 0 ≡ Some b → instr_place id c.instrs < length c.instrs
     inside g = let q : b ≡ c = cc in subst (λ (d : Block). instr_place id d.instrs < length d.instrs) q (instr-within b.instrs j i id stands named)
+
     go : (r : Bool) → nat_lt (instr_place id c.instrs) (length c.instrs) ≡ r → (n : ℕ) → slice_get (c ∷ cs) n ≡ Some b → ((k : ℕ) → slice_get cs k ≡ Some b → IsBehind x bs id (gap_behind t f v view id cs)) → IsBehind x bs id (gap_behind t f v view id (c ∷ cs))
     go true h n g ih =
         let r = place-stands c.instrs id (ltb-true (instr_place id c.instrs) (length c.instrs) h) in
@@ -130,6 +129,7 @@ module _ (t : Target) (f : Function) (v : ℕ) (view : View) where
     where
       whole : Touched
       whole = record { block = b.number; first = i.id; last = last_id i.id is; is_end = true }
+
       go : (c : Bool) → list_any (touches v) (i ∷ is) ≡ c → (m : ℕ) → slice_get (end_place t f v view b (i ∷ is)) m ≡ Some p → Stands bs p
       go true g zero h =
           let q : Some whole ≡ Some p = rw g at h in
@@ -146,20 +146,26 @@ module _ (t : Target) (f : Function) (v : ℕ) (view : View) where
     where
       one : Instr → Touched
       one i = record { block = b.number; first = i.id; last = i.id; is_end = false }
+
       rest : List Touched
       rest = flat_map (λ c. map (λ i. record { block = c.number; first = i.id; last = i.id; is_end = false }) (touching t f v view c) ++ end_place t f v view c (terminators t f v view c)) cs
+
       next : (j : ℕ) (c : Block) → slice_get cs j ≡ Some c → slice_get bs (suc o + j) ≡ Some c
       next j c g = let s : suc o + j ≡ o + suc j = omega arith in ap (slice_get bs) s ∙ at (suc j) c g
+
       first : slice_get bs o ≡ Some b
       first = let z : o ≡ o + 0 = omega arith in ap (slice_get bs) z ∙ at 0 b refl
+
       ones : (m : ℕ) → slice_get (map one (touching t f v view b)) m ≡ Some p → Stands bs p
       ones m h =
           let r = in-map one (touching t f v view b) m p h in
           let k = in-filter (λ (i : Instr). touches v i && not (does is_terminator t i)) b.instrs m r.0 r.1 in
           subst (Stands bs) r.2 (record { position = o; block = b; found = first; number = refl; instr = λ z. (k.0, r.0, k.1, refl) })
+
       inside : ((k : ℕ) × (slice_get (map one (touching t f v view b)) k ≡ Some p)) ⊎ ((k : ℕ) × (slice_get (end_place t f v view b (terminators t f v view b)) k ≡ Some p)) → Stands bs p
       inside (inl r) = ones r.0 r.1
       inside (inr r) = end-stands bs o b first (terminators t f v view b) r.0 p r.1
+
       go : ((k : ℕ) × (slice_get (map one (touching t f v view b) ++ end_place t f v view b (terminators t f v view b)) k ≡ Some p)) ⊎ ((k : ℕ) × (slice_get rest k ≡ Some p))
           → ((m : ℕ) → slice_get rest m ≡ Some p → Stands bs p) → Stands bs p
       go (inl r) ih = inside (in-append (map one (touching t f v view b)) (end_place t f v view b (terminators t f v view b)) r.0 p r.1)
@@ -199,6 +205,7 @@ module _ (t : Target) (f : Function) (x : Table) (v : ℕ) (view : View) (finds 
     where
       both : ◌≡◌ {A = TouchedPlace × TouchedPlace} (z, a) (placed f.blocks q, placed f.blocks p)
       both = ap (λ r. (r, a)) is-z ∙ ap (λ r. (placed f.blocks q, r)) is-a
+
       done : first ≡ old ++ marks_in (slice_get f.blocks (block_place p.block f.blocks)) (Some (Some p.first)) 1
           → mid ≡ first ++ map (λ b. at_start b.number 1) (blocks_between t f v view p.block q.block)
           → ((before : Option ℕ) → (q.is_end ≡ false → IsBehind x f.blocks q.last before) → new ≡ mid ++ cond q.is_end [] (marks_in (slice_get f.blocks (block_place q.block f.blocks)) (Some before) 0))
