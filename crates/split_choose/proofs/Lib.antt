@@ -13,4 +13,5 @@ pub mod Labels
 pub mod Bordering
 pub mod Split
 pub mod Running
+pub mod Clear
 pub mod Alone
