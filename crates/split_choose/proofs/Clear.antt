@@ -1,7 +1,9 @@
 -- Tests of all points from one to another: over places in a row they come to the tests between neighbours.
-use Rattle.std.proofs.Common.{◌≡◌, ◌∙◌, ℕ, zero, suc, ◌+◌, ◌-◌, ◌<◌, ◌≤◌, List, [], ◌∷◌, Bool, true, false, refl, sym, ap, length, take, drop, arith}
+use Rattle.std.proofs.Common.{◌≡◌, ◌∙◌, ℕ, zero, suc, ◌+◌, ◌-◌, ◌≤◌, List, [], ◌∷◌, Bool, true, false, refl, sym, ap, take, drop, arith}
 use Rattle.std.specs.Prelude.{◌&&◌}
-use Rattle.std.specs.List.{list_all}
+use Rattle.std.specs.List.{list_all, position_or_len}
+use Rattle.mir_meaning.specs.Points.{Point}
+use Rattle.split_choose.specs.Offers.{same_point, from_point, to_point}
 
 and-assoc : (a b c : Bool) → ((a && b) && c) ≡ (a && (b && c))
 and-assoc true b c = refl
@@ -56,7 +58,7 @@ overlap g xs a b c d ab bc cd =
     let one = ap (all_from g xs a) first ∙ (split-from g xs a (b - a) (suc c - b) ∙ ap (λ n. all_from g xs a (b - a) && all_from g xs n (suc c - b)) at) in
     let two = ap (all_from g xs b) second ∙ split-from g xs b (suc c - b) (d - c) in
     let three = ap (all_from g xs a) all ∙ (split-from g xs a (b - a) ((suc c - b) + (d - c)) ∙ (ap (λ n. all_from g xs a (b - a) && all_from g xs n ((suc c - b) + (d - c))) at
-        ∙ ap (λ t. all_from g xs a (b - a) && t) (split-from g xs b (suc c - b) (d - c)))) in
+    ∙ ap (λ t. all_from g xs a (b - a) && t) (split-from g xs b (suc c - b) (d - c)))) in
     three ∙ (and-twice (all_from g xs a (b - a)) (all_from g xs b (suc c - b)) (all_from g xs (b + (suc c - b)) (d - c))
     ∙ sym (ap (λ t. t && all_to g xs b d) one ∙ ap (λ t. (all_from g xs a (b - a) && all_from g xs b (suc c - b)) && t) two))
 
@@ -87,3 +89,30 @@ by-neighbours g xs c d (e ∷ ds) h =
     let behind = last-behind d (e ∷ ds) h.3 in
     let inner : d.0 ≤ suc d.1 = omega (arith, h.2) in
     overlap g xs c.0 d.0 d.1 (last_exit e ds) h.0 inner behind ∙ ap (λ t. all_to g xs c.0 d.1 && t) (by-neighbours g xs d e ds h.3)
+
+-- points of a list from one on, and up to one
+
+take-none : (ps : List Point) → take 0 ps ≡ []
+take-none [] = refl
+take-none (p ∷ ps) = refl
+
+pub from-is : (p : Point) (ps : List Point) → from_point p ps ≡ drop (position_or_len (same_point p) ps) ps
+from-is p [] = refl
+from-is p (q ∷ qs) = go (same_point p q) refl (from-is p qs)
+  where
+    go : (b : Bool) → same_point p q ≡ b → from_point p qs ≡ drop (position_or_len (same_point p) qs) qs → from_point p (q ∷ qs) ≡ drop (position_or_len (same_point p) (q ∷ qs)) (q ∷ qs)
+    go true e ih = rw e refl
+    go false e ih = let n : 1 + position_or_len (same_point p) qs ≡ suc (position_or_len (same_point p) qs) = omega arith in rw e (ih ∙ sym (ap (λ k. drop k (q ∷ qs)) n))
+
+pub to-is : (p : Point) (ps : List Point) → to_point p ps ≡ take (suc (position_or_len (same_point p) ps)) ps
+to-is p [] = refl
+to-is p (q ∷ qs) = go (same_point p q) refl (to-is p qs)
+  where
+    go : (b : Bool) → same_point p q ≡ b → to_point p qs ≡ take (suc (position_or_len (same_point p) qs)) qs → to_point p (q ∷ qs) ≡ take (suc (position_or_len (same_point p) (q ∷ qs))) (q ∷ qs)
+    go true e ih = rw e (ap (λ rs. q ∷ rs) (sym (take-none qs)))
+    go false e ih = let n : 1 + position_or_len (same_point p) qs ≡ suc (position_or_len (same_point p) qs) = omega arith in rw e (ap (λ rs. q ∷ rs) (ih ∙ sym (ap (λ k. take k qs) n)))
+
+-- the points from one to another, by their indexes: the first at which the one stands, and how much further the other first stands
+pub stretch-is : (g : Point → Bool) (p q : Point) (ps : List Point) → list_all g (to_point q (from_point p ps))
+    ≡ all_from g ps (position_or_len (same_point p) ps) (suc (position_or_len (same_point q) (drop (position_or_len (same_point p) ps) ps)))
+stretch-is g p q ps = ap (λ rs. list_all g (to_point q rs)) (from-is p ps) ∙ ap (list_all g) (to-is q (drop (position_or_len (same_point p) ps) ps))

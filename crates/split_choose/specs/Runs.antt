@@ -1,11 +1,10 @@
 -- Runs of touched places.
-use Rattle.std.specs.Prelude.{◌≡◌, ◌+◌, ℕ, Bool, ◌&&◌, nat_eq, List, drop, Option, Some, slice_get}
-use Rattle.std.specs.List.{list_any}
+use Rattle.std.specs.Prelude.{◌≡◌, ◌+◌, ℕ, List, drop, Option, Some, slice_get}
 use Rattle.mir_func.specs.declared.func.Instr.{Instr}
 use Rattle.mir_func.specs.declared.func.Block.{Block}
 use Rattle.live_lanes.specs.declared.table.Table.{Table}
 use Rattle.live_lanes.specs.Touching.{FindsInstrs}
-use Rattle.split_choose.specs.Offers.{Touched, first_id}
+use Rattle.split_choose.specs.Offers.{first_id}
 
 -- the instruction that stands right behind the one of that id in its block, if there is one
 pub record IsBehind (x : Table) (bs : List Block) (id : ℕ) (before : Option ℕ) : Type 0 where

@@ -1,7 +1,5 @@
-use Rattle.std.proofs.Common.{◌++◌, ◌≡◌, ◌∙◌, ap, map, slice_get, Some}
-use Rattle.split_choose.specs.declared.places.TouchedPlace.{TouchedPlace}
+use Rattle.std.proofs.Common.{◌++◌, ◌∙◌, ap}
 use Rattle.split_choose.specs.Offers.{run_marks}
-use Rattle.split_choose.specs.Places.{placed}
 use Rattle.split_choose.proofs.Running.{placed-at}
 use Rattle.split_choose.proofs.runs.labels_of.Goals as goal
 
