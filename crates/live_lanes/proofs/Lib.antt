@@ -44,3 +44,5 @@ pub mod Finding
 pub mod Alike
 pub mod Extents
 pub mod Touching
+pub mod Starting
+pub mod Readings

@@ -1,5 +1,5 @@
 -- Which instructions name a range, by the table, and where instructions are found.
-use Rattle.std.specs.Prelude.{◌≡◌, ℕ, zero, suc, ◌+◌, ◌-◌, ◌*◌, length, Bool, false, ◌||◌, nat_eq, List, map, Option, None, Some, slice_get}
+use Rattle.std.specs.Prelude.{◌≡◌, ℕ, zero, suc, ◌+◌, ◌-◌, ◌*◌, length, Bool, false, ◌||◌, nat_eq, List, map, Option, None, Some, find, slice_get, slice_index}
 use Rattle.std.specs.Ordering.{nat_cmp}
 use Rattle.std.specs.List.{list_any}
 use Rattle.std.specs.List.Sorted.{IsStrictlySortedBy}
@@ -13,12 +13,13 @@ use Rattle.live_lanes.specs.declared.row.Cell.{Cell}
 use Rattle.live_lanes.specs.declared.row.Row.{Row}
 use Rattle.live_lanes.specs.declared.table.Table.{Table}
 use Rattle.live_lanes.specs.declared.touch.Found.{Found}
-use Rattle.live_lanes.specs.Table.{Numbers}
-use Rattle.live_lanes.specs.Entered.{causes, cells_of}
+use Rattle.live_lanes.specs.Table.{Begun, Numbers, Seen, entry_rank, piece_at, readings_in}
+use Rattle.live_lanes.specs.Entered.{causes, cells_of, rows_seen}
 use Rattle.live_lanes.specs.Graph.{is_live}
+use Rattle.live_lanes.specs.Lasting.{reading_counts, shapes}
 use Rattle.live_lanes.specs.Looks.{exit_at}
 use Rattle.live_lanes.specs.Held.{AreRanked}
-use Rattle.live_lanes.specs.Ordered.{AreHomes}
+use Rattle.live_lanes.specs.Ordered.{AreHomes, AreRising}
 use Rattle.live_lanes.specs.Paths.{has}
 
 -- the instruction is one of those that read the lane in a piece
@@ -53,6 +54,40 @@ some_lane x v test = some_of test (slice_get x.lanes.ranges.items v)
 -- the instruction reads or writes a lane of the range
 abbrev pub names_range : Table → ℕ → ℕ → Bool
 names_range x v id = some_lane x v (names_lane id x.rows.rows.items)
+
+-- the piece of these that the instruction begins
+abbrev pub begun_by : ℕ → List Begun → Option Begun
+begun_by id ss = find (λ s. nat_eq s.start id) ss
+
+-- the piece of the lane of that number, if there is one, that the instruction begins
+abbrev pub begun_at : Table → Option ℕ → ℕ → Option Begun
+begun_at x None id = None
+begun_at x (Some l) id = begun_by id (rows_seen x.rows.rows.items l (slice_index x.order.block_of.items id)).segments
+
+-- the writing that begins the piece is early
+abbrev pub is_early : Option Begun → Bool
+is_early None = false
+is_early (Some s) = s.early
+
+abbrev pub reading_ids : List Reading → List ℕ
+reading_ids rs = map (λ r. r.id) rs
+
+-- the numbers of the instructions rise along the readings of each piece
+abbrev pub ReadsInOrder : Table → Type 0
+ReadsInOrder x = (l b n : ℕ) → AreRising x.order.slots 0 (reading_ids (readings_in (rows_seen x.rows.rows.items l b) n))
+
+abbrev pub is_counted : Table → ℕ → Option Reading → Bool
+is_counted x b None = false
+is_counted x b (Some r) = reading_counts x.order.slots (causes x.rows.rows.items) (shapes x.rows.rows.items) b r
+
+-- the instruction reads the lane in the piece in which its entry lies, and this counts
+abbrev pub reads_seen : Table → Seen → ℕ → ℕ → Bool
+reads_seen x v b id = is_counted x b (find (λ r. nat_eq r.id id) (readings_in v (piece_at x.order.slots (entry_rank x.order.slots id) v.segments)))
+
+-- the same of the lane of that number, if there is one
+abbrev pub reads_lane : Table → Option ℕ → ℕ → Bool
+reads_lane x None id = false
+reads_lane x (Some l) id = reads_seen x (rows_seen x.rows.rows.items l (slice_index x.order.block_of.items id)) (slice_index x.order.block_of.items id) id
 
 -- a lane of the range is live behind the last instruction of the block at the position, or at its start where there is none
 abbrev pub leaves_last : Table → ℕ → ℕ → Option Instr → Bool

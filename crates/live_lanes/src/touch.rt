@@ -1,6 +1,6 @@
 //! The instructions of a function by their ids, and those that touch a range.
 
-ghost use Rattle.std.specs.Prelude.{◌≡◌, ℕ, [], ◌∷◌, ◌++◌, true, Some, IfOk, OnOk, map, nat_eq, option_copied, slice_get, slice_index};
+ghost use Rattle.std.specs.Prelude.{◌≡◌, ℕ, [], ◌∷◌, ◌++◌, true, Some, IfOk, OnOk, map, nat_eq, is_some, find, option_copied, option_map, slice_get, slice_index, IsTrue};
 ghost use Rattle.std.specs.List.{list_any};
 ghost use Rattle.std.specs.List.Sorted.{IsStrictlySortedBy};
 ghost use Rattle.std.specs.Ordering.{nat_cmp};
@@ -12,7 +12,11 @@ ghost use Rattle.live_lanes.specs.Looks.{InOrder, entry_at, exit_at};
 ghost use Rattle.live_lanes.specs.Ordered.{ids_of, AreRising};
 ghost use Rattle.live_lanes.specs.Paths.{has};
 ghost use Rattle.live_lanes.specs.Ways.{successors as behind};
-ghost use Rattle.live_lanes.specs.Touching.{leaves_block, some_lane, AreTouched, FindsInstrs, InLine, Meets, layout_key, names_cell, names_lane, names_segment, reads_in, some_below};
+ghost use Rattle.lane_effects.specs.Numbered.{number_in};
+ghost use Rattle.lane_effects.specs.declared.owner.Owner.TheVariants as owners;
+ghost use Rattle.live_lanes.specs.Lasting.{reading_counts, shapes};
+ghost use Rattle.live_lanes.specs.Table.{begun, readings_in, rises_from, seen_cell};
+ghost use Rattle.live_lanes.specs.Touching.{ReadsInOrder, reading_ids, reads_lane, reads_seen, begun_at, begun_by, is_early, leaves_block, some_lane, AreTouched, FindsInstrs, InLine, Meets, layout_key, names_cell, names_lane, names_segment, reads_in, some_below};
 
 use crate::flow::successors;
 use crate::live::LiveFunc;
@@ -267,70 +271,44 @@ impl LiveFunc {
 impl LiveFunc {
     /// Whether an instruction reads a lane of a range: whatever is live behind it, or since it moves
     /// the lane to where it is live.
-    pub fn is_read(&self, v: u32, k: u32, id: u32) -> bool {
+    pub fn is_read(&self, v: u32, k: u32, id: u32) -> bool
+        ensures { InOrder self.now.table → ReadsInOrder self.now.table → result ≡ reads_lane self.now.table (number_in self.now.table.lanes (owners.Range v k)) id }
+    {
         let Some(lane) = self.table.lanes.of_range(v).lane(k) else {
             return false;
         };
         let block = self.table.order.block_of(id);
-        let Some(cell) = self.table.rows.cell(lane, block) else {
-            return false;
-        };
-        let slots = &self.table.order.slots;
-        match cell.piece(cell.piece_at(slots, entry_rank(slots, id))) {
-            Some(piece) => self.has_reading(piece, block, id),
+        match self.table.rows.cell(lane, block) {
+            Some(cell) => self.table.is_read_in(cell, block, id),
             None => false,
-        }
-    }
-
-    fn has_reading(&self, piece: &Piece, block: u32, id: u32) -> bool {
-        let slots = &self.table.order.slots;
-        let at = slots.number(id);
-        let place = piece
-            .readings
-            .as_slice()
-            .partition_point(|r| slots.number(r.id) < at);
-        match piece.readings.get(place) {
-            Some(reading) => reading.id == id && self.counts(block, reading),
-            None => false,
-        }
-    }
-
-    fn counts(&self, block: u32, reading: &Reading) -> bool {
-        match reading.into {
-            None => true,
-            Some(lane) => {
-                self.table
-                    .rows
-                    .is_live_after(&self.table.order, lane, block, reading.id)
-            }
         }
     }
 
     /// The piece of a lane of a range that an instruction begins.
-    fn segment_of(&self, v: u32, k: u32, id: u32) -> Option<&Segment> {
-        let lane = self.table.lanes.of_range(v).lane(k)?;
-        let cell = self.table.rows.cell(lane, self.table.order.block_of(id))?;
-        let slots = &self.table.order.slots;
-        let at = slots.number(id);
-        let place = cell
-            .segments
-            .as_slice()
-            .partition_point(|s| slots.number(s.start) < at);
-        let segment = cell.segments.get(place)?;
-        if segment.start == id {
-            Some(segment)
-        } else {
-            None
+    fn segment_of(&self, v: u32, k: u32, id: u32) -> Option<&Segment>
+        ensures { InOrder self.now.table → option_map begun (option_copied result) ≡ begun_at self.now.table (number_in self.now.table.lanes (owners.Range v k)) id }
+    {
+        let Some(lane) = self.table.lanes.of_range(v).lane(k) else {
+            return None;
+        };
+        let order = &self.table.order;
+        match self.table.rows.cell(lane, order.block_of(id)) {
+            Some(cell) => cell.segment_of(&order.slots, id),
+            None => None,
         }
     }
 
     /// Whether an instruction writes a lane of a range.
-    pub fn is_written(&self, v: u32, k: u32, id: u32) -> bool {
+    pub fn is_written(&self, v: u32, k: u32, id: u32) -> bool
+        ensures { InOrder self.now.table → result ≡ is_some (begun_at self.now.table (number_in self.now.table.lanes (owners.Range v k)) id) }
+    {
         self.segment_of(v, k, id).is_some()
     }
 
     /// Whether an instruction writes a lane of a range early, so that it is occupied at the entry.
-    pub fn is_written_early(&self, v: u32, k: u32, id: u32) -> bool {
+    pub fn is_written_early(&self, v: u32, k: u32, id: u32) -> bool
+        ensures { InOrder self.now.table → result ≡ is_early (begun_at self.now.table (number_in self.now.table.lanes (owners.Range v k)) id) }
+    {
         match self.segment_of(v, k, id) {
             Some(segment) => segment.early,
             None => false,
@@ -351,6 +329,73 @@ impl LiveFunc {
         self.table
             .rows
             .is_some_live_in(self.table.lanes.of_range(v), position)
+    }
+}
+
+impl Cell {
+    /// The piece that an instruction begins.
+    fn segment_of(&self, slots: &Slots, id: u32) -> Option<&Segment>
+        ensures { IsTrue (rises_from slots.now 0 (seen_cell self.now).segments) → option_map begun (option_copied result) ≡ begun_by id (seen_cell self.now).segments }
+    {
+        let index = self.piece_at(slots, exit_rank(slots, id));
+        if index == 0 {
+            return None;
+        }
+        let segment = &self.segments[index - 1];
+        if segment.start != id {
+            return None;
+        }
+        Some(segment)
+    }
+}
+
+impl Piece {
+    /// The reading of an instruction.
+    fn reading_of(&self, slots: &Slots, id: u32) -> Option<&Reading>
+        ensures { AreRising slots.now 0 (reading_ids self.now.readings.items) → option_copied result ≡ find (λ r. nat_eq r.id id) self.now.readings.items }
+    {
+        let at = slots.number(id);
+        let readings = self.readings.as_slice();
+        let place = readings.partition_point(|r| slots.number(r.id) < at);
+        if place >= readings.len() {
+            return None;
+        }
+        let reading = &readings[place];
+        if reading.id != id {
+            return None;
+        }
+        Some(reading)
+    }
+}
+
+impl Table {
+    /// Whether a reading in a block counts.
+    fn counts(&self, block: u32, reading: &Reading) -> bool
+        ensures { InOrder self.now → result ≡ reading_counts self.now.order.slots (causes self.now.rows.rows.items) (shapes self.now.rows.rows.items) block reading.now }
+    {
+        match reading.into {
+            None => true,
+            Some(lane) => {
+                self.rows
+                    .is_live_after(&self.order, lane, block, reading.id)
+            }
+        }
+    }
+
+    /// Whether an instruction reads the lane of a cell.
+    fn is_read_in(&self, cell: &Cell, block: u32, id: u32) -> bool
+        ensures { InOrder self.now → IsTrue (rises_from self.now.order.slots 0 (seen_cell cell.now).segments)
+            → ((n : ℕ) → AreRising self.now.order.slots 0 (reading_ids (readings_in (seen_cell cell.now) n)))
+            → result ≡ reads_seen self.now (seen_cell cell.now) block id }
+    {
+        let slots = &self.order.slots;
+        let Some(piece) = cell.piece(cell.piece_at(slots, entry_rank(slots, id))) else {
+            return false;
+        };
+        match piece.reading_of(slots, id) {
+            Some(reading) => self.counts(block, reading),
+            None => false,
+        }
     }
 }
 
