@@ -3,3 +3,4 @@ pub mod Marked
 pub mod Points
 pub mod Walked
 pub mod Clashing
+pub mod Empty

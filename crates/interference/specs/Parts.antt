@@ -1,5 +1,5 @@
 -- The parts of a list of stretches that are held, and places among them.
-use Rattle.std.specs.Prelude.{◌≡◌, ℕ, zero, suc, Bool, true, false, cond, nat_eq, nat_lt, List, [], ◌∷◌, ◌++◌, take, map, Option, None, Some, slice_get}
+use Rattle.std.specs.Prelude.{◌≡◌, ℕ, zero, suc, Bool, true, false, cond, nat_eq, nat_lt, List, [], ◌∷◌, ◌++◌, take, map, Option, None, Some, slice_get, length}
 use Rattle.std.specs.List.{list_any}
 use Rattle.live_lanes.specs.declared.extent.Stretch.{Stretch}
 use Rattle.live_lanes.specs.Table.{Numbers}
@@ -7,6 +7,7 @@ use Rattle.live_lanes.specs.Extents.{last_rank}
 use Rattle.interference.specs.declared.held.Gap.{Gap}
 use Rattle.interference.specs.declared.held.Held.{Held}
 use Rattle.interference.specs.declared.held.HeldList.{HeldList}
+use Rattle.interference.specs.declared.matrix.UnitHeld.{UnitHeld}
 use Rattle.interference.specs.declared.held.Met.{Met}
 use Rattle.interference.specs.declared.held.Met.TheVariants as mets
 use Rattle.interference.specs.Clashes.{part_of, begins_by, is_taken, is_taken_by}
@@ -45,3 +46,10 @@ abbrev pub IsMet : Numbers → List Held → Stretch → ℕ → Met → Type 0
 IsMet slots hs at but (mets.Other w) = (nat_eq w but ≡ false) × (is_taken_by slots hs w at ≡ true)
 IsMet slots hs at but mets.Behind = (is_taken slots hs but at ≡ false) × (list_any (lies_before slots at.first) hs ≡ true)
 IsMet slots hs at but mets.Open = is_taken slots hs but at ≡ false
+
+-- a list with some part, and a unit with such a list
+abbrev pub has_parts : HeldList → Bool
+has_parts h = nat_lt 0 (length h.parts.items)
+
+abbrev pub has_lists : UnitHeld → Bool
+has_lists r = list_any has_parts r.blocks.items

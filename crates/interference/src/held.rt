@@ -1,6 +1,6 @@
 //! What ranges hold of one unit in one block, in order.
 
-ghost use Rattle.std.specs.Prelude.{◌≡◌, ◌≤◌, ◌<◌, ◌*◌, ℕ, suc, true, false, not, ◌&&◌, ◌||◌, nat_eq, length, filter, MatchOption};
+ghost use Rattle.std.specs.Prelude.{◌≡◌, ◌≤◌, ◌<◌, ◌*◌, ℕ, suc, [], true, false, not, ◌&&◌, ◌||◌, nat_eq, length, filter, MatchOption};
 ghost use Rattle.std.specs.List.{list_any, list_all};
 ghost use Rattle.live_lanes.specs.Table.{leading};
 ghost use Rattle.interference.specs.Clashes.{held_of, AreApart, AreFilled, begins_by, is_taken, is_taken_by};
@@ -134,7 +134,9 @@ fn seek(slots: &Slots, stretches: &[Held], range: u32, start: Option<u32>, first
 
 impl HeldList {
     /// Nothing is held, which takes no memory.
-    pub fn new(alloc: Global) -> HeldList {
+    pub fn new(alloc: Global) -> HeldList
+        ensures { result.parts.items ≡ [] }
+    {
         HeldList {
             alloc,
             parts: Vec::new(alloc),

@@ -9,7 +9,9 @@ ghost use Rattle.lane_effects.specs.Numbered.{number_in};
 ghost use Rattle.lane_effects.specs.declared.owner.Owner.TheVariants as owners;
 ghost use Rattle.live_lanes.specs.Table.{entry_rank, exit_rank};
 ghost use Rattle.live_lanes.specs.Entered.{cells_of};
+ghost use Rattle.live_lanes.specs.Looks.{InOrder};
 ghost use Rattle.interference.specs.Clashes.{register_in, list_in, IsOrdered, is_held, is_held_at, is_held_at_start, is_fixed_at, is_taken_at, are_taken, point, is_in_way, clash_at, is_free, holds, is_taken_by, cell_points, some_cell_points, lane_points};
+ghost use Rattle.interference.specs.Parts.{has_lists};
 ghost use Rattle.interference.specs.Marked.{is_marked};
 
 use crate::held::HeldList;
@@ -93,18 +95,24 @@ fn units_at(target: &Target, r: Reg) -> &[Unit]
     }
 }
 
-fn empty_unit(alloc: Global, blocks: usize) -> Result<UnitHeld, AllocError> {
+#[tactic(auto, using(crate::proofs::Empty::empties))]
+fn empty_unit(alloc: Global, blocks: usize) -> Result<UnitHeld, AllocError>
+    ensures { IfOk result (λ r. has_lists r ≡ false) }
+{
     let mut lists = Vec::new(alloc);
-    'blocks: for _ in 0..blocks {
+    'each: for _ in 0..blocks {
         lists.push(HeldList::new(alloc))?;
     }
     Ok(UnitHeld { blocks: lists })
 }
 
 impl AllHeld {
-    fn new(alloc: Global, units: usize, blocks: usize) -> Result<AllHeld, AllocError> {
+    #[tactic(auto, using(crate::proofs::Empty::empties))]
+    fn new(alloc: Global, units: usize, blocks: usize) -> Result<AllHeld, AllocError>
+        ensures { IfOk result (λ a. list_any has_lists a.units.items ≡ false) }
+    {
         let mut all = Vec::new(alloc);
-        'units: for _ in 0..units {
+        'each: for _ in 0..units {
             all.push(empty_unit(alloc, blocks)?)?;
         }
         Ok(AllHeld { units: all })
@@ -229,7 +237,10 @@ fn add_extents(
 
 impl Matrix {
     /// A function without phis, with no range assigned.
-    pub fn new(alloc: Global, f: LiveFunc) -> Result<Matrix, AllocError> {
+    pub fn new(alloc: Global, f: LiveFunc) -> Result<Matrix, AllocError>
+        ensures live { IfOk result (λ m. m.live ≡ f) }
+        ensures ordered { IfOk result (λ m. InOrder f.table → IsOrdered m) }
+    {
         let units = f.target().units.len();
         let held = AllHeld::new(alloc, units, f.func().blocks.len())?;
         let registers = Vec::from_elem(alloc, None, f.func().classes.len())?;
@@ -249,7 +260,9 @@ impl Matrix {
     }
 
     /// The function with what is live in it, alone.
-    pub fn into_live(self) -> LiveFunc {
+    pub fn into_live(self) -> LiveFunc
+        ensures { result ≡ self.live }
+    {
         let Matrix { live, .. } = self;
         live
     }
