@@ -75,8 +75,11 @@ rows-split (z ∷ xs) x (suc v) y e = go (rows-split xs x v y e)
 
 -- a table with a further range is one
 pub with-range : (old new : LaneTable) (x : Lanes) (count : ℕ) → IsTable old → new.owners.items ≡ old.owners.items ++ map (owners.Range (length old.ranges.items)) (numbers 0 count) → new.ranges.items ≡ old.ranges.items ++ x ∷ [] → x.first ≡ length old.owners.items → x.count ≡ count → new.reserved.items ≡ old.reserved.items → ((s : ℕ) → get nat_cmp new.slots s ≡ get nat_cmp old.slots s) → IsTable new
-with-range old new x count table os rs first long reserved slots = record { owned = owned; full = λ s y e. table.full s y (sym (slots s) ∙ e) }
+with-range old new x count table os rs first long reserved slots = record { owned = owned; units = units; full = λ s y e. table.full s y (sym (slots s) ∙ e) }
   where
+    units : (u : ℕ) → u < length new.reserved.items → slice_get new.owners.items u ≡ Some (owners.Unit u)
+    units u h = ap (λ l. slice_get l u) os ∙ slice-left old.owners.items (map (owners.Range (length old.ranges.items)) (numbers 0 count)) u (owners.Unit u) (table.units u (let e = ap (λ bs. length bs) reserved in omega (arith, h, e)))
+
     kept : (o : Owner) (n : ℕ) → number_in old o ≡ Some n → slice_get new.owners.items n ≡ Some o
     kept o n e = ap (λ l. slice_get l n) os ∙ slice-left old.owners.items (map (owners.Range (length old.ranges.items)) (numbers 0 count)) n o (table.owned o n e)
 
@@ -98,8 +101,11 @@ with-range old new x count table os rs first long reserved slots = record { owne
 
 -- a table with a further slot is one
 pub with-slot : (old new : LaneTable) (x : Lanes) (slot : ℕ) → IsTable old → get nat_cmp old.slots slot ≡ None → new.owners.items ≡ old.owners.items ++ map (owners.Slot slot) (numbers 0 32) → x.first ≡ length old.owners.items → x.count ≡ 32 → new.reserved.items ≡ old.reserved.items → new.ranges.items ≡ old.ranges.items → get nat_cmp new.slots slot ≡ Some x → ((s : ℕ) → (s ≡ slot → ⊥) → get nat_cmp new.slots s ≡ get nat_cmp old.slots s) → IsTable new
-with-slot old new x slot table none os first long reserved ranges at others = record { owned = owned; full = λ s y e. full s y (nat_eq s slot) refl e }
+with-slot old new x slot table none os first long reserved ranges at others = record { owned = owned; units = units; full = λ s y e. full s y (nat_eq s slot) refl e }
   where
+    units : (u : ℕ) → u < length new.reserved.items → slice_get new.owners.items u ≡ Some (owners.Unit u)
+    units u h = ap (λ l. slice_get l u) os ∙ slice-left old.owners.items (map (owners.Slot slot) (numbers 0 32)) u (owners.Unit u) (table.units u (let e = ap (λ bs. length bs) reserved in omega (arith, h, e)))
+
     kept : (o : Owner) (n : ℕ) → number_in old o ≡ Some n → slice_get new.owners.items n ≡ Some o
     kept o n e = ap (λ l. slice_get l n) os ∙ slice-left old.owners.items (map (owners.Slot slot) (numbers 0 32)) n o (table.owned o n e)
 
@@ -123,8 +129,11 @@ with-slot old new x slot table none os first long reserved ranges at others = re
 
 -- a table of units alone is one
 pub of-units : (new : LaneTable) (count : ℕ) → new.owners.items ≡ map owners.Unit (numbers 0 count) → length new.reserved.items ≡ count → new.ranges.items ≡ [] → ((s : ℕ) → get nat_cmp new.slots s ≡ None) → IsTable new
-of-units new count os long ranges slots = record { owned = owned; full = λ s y e. absurd (let f = slots s in cc) }
+of-units new count os long ranges slots = record { owned = owned; units = units; full = λ s y e. absurd (let f = slots s in cc) }
   where
+    units : (u : ℕ) → u < length new.reserved.items → slice_get new.owners.items u ≡ Some (owners.Unit u)
+    units u h = let zero-on : 0 + u ≡ u = omega arith in ap (λ l. slice_get l u) os ∙ slice-numbers owners.Unit 0 count u (omega (arith, h, long)) ∙ ap (λ n. Some (owners.Unit n)) zero-on
+
     owned : (o : Owner) (n : ℕ) → number_in new o ≡ Some n → slice_get new.owners.items n ≡ Some o
     owned (owners.Unit u) n e = ap (λ l. slice_get l n) os ∙ unit-owned new.reserved.items count u n long e
     owned (owners.Range v k) n e = absurd (let f : None ≡ Some n = sym (ap (λ l. row_number_in (slice_get l v) k) ranges) ∙ e in cc)

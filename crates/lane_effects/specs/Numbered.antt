@@ -1,5 +1,5 @@
 -- The numbers of lanes in a table.
-use Rattle.std.specs.Prelude.{◌≡◌, ℕ, Bool, List, map, length, Option, Some, IsSome, slice_get}
+use Rattle.std.specs.Prelude.{◌≡◌, ◌<◌, ℕ, Bool, List, map, length, Option, Some, IsSome, slice_get}
 use Rattle.std.specs.Ordering.{nat_cmp}
 use Rattle.std.specs.BTreeMap.{get}
 use Rattle.target_base.specs.declared.types.ClassId.{ClassId}
@@ -11,6 +11,7 @@ use Rattle.mir_func.specs.Value.{Function}
 use Rattle.mir_meaning.specs.Registers.{numbers, is_reserved_unit}
 use Rattle.lane_effects.specs.declared.lanes.LaneTable.{LaneTable}
 use Rattle.lane_effects.specs.declared.owner.Owner.{Owner}
+use Rattle.lane_effects.specs.declared.owner.Owner.TheVariants as owners
 use Rattle.lane_effects.specs.declared.row.Lanes.{Lanes}
 use Rattle.lane_effects.specs.Acts.{slot_at}
 use Rattle.lane_effects.specs.Numbers.{owner_number}
@@ -19,9 +20,11 @@ use Rattle.lane_effects.specs.Numbers.{owner_number}
 abbrev pub number_in : LaneTable → Owner → Option ℕ
 number_in t o = owner_number t.reserved.items t.ranges.items t.slots o
 
--- each number is that of one lane, whose owner stands at it, and slots have numbers for all lanes that a register may have
+-- each number is that of one lane, whose owner stands at it; the first are those of the units, reserved ones too, and slots have
+-- numbers for all lanes that a register may have
 pub record IsTable (t : LaneTable) : Type 0 where
   pub owned : (o : Owner) (n : ℕ) → number_in t o ≡ Some n → slice_get t.owners.items n ≡ Some o
+  pub units : (u : ℕ) → u < length t.reserved.items → slice_get t.owners.items u ≡ Some (owners.Unit u)
   pub full : (s : ℕ) (x : Lanes) → get nat_cmp t.slots s ≡ Some x → x.count ≡ 32
 
 -- the slot has numbers
