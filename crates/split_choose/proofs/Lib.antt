@@ -12,4 +12,6 @@ pub mod Borders
 pub mod Labels
 pub mod Bordering
 pub mod Split
+pub mod Running
+pub mod Clear
 pub mod Alone

@@ -5,4 +5,5 @@ pub mod Regions
 pub mod Places
 pub mod Marks
 pub mod Blocks
+pub mod Runs
 pub mod Spans

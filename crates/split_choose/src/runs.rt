@@ -1,14 +1,22 @@
 //! Local splits: a run of places for which some register is free.
 
+ghost use Rattle.std.specs.Prelude.{◌≡◌, ◌+◌, ◌-◌, ◌++◌, [], ℕ, false, cond, map, take, drop, IfOk, OnOk, Option, Some, slice_get};
+ghost use Rattle.split_choose.specs.Offers.{View as OfferView, Touched, first_id, at_start, touched_places, run_marks};
+ghost use Rattle.split_choose.specs.Seen.{FindsPlaces};
+ghost use Rattle.split_choose.specs.Places.{placed};
+ghost use Rattle.split_choose.specs.Marks.{marks_in};
+ghost use Rattle.split_choose.specs.Runs.{IsBehind};
+
 use crate::blocks::is_live_at_border;
-use crate::places::{TouchedPlace, places_of};
+use crate::places::{TouchedPlace, block_at, places_of};
 use crate::regions::{add_mark, class_of, domain_of};
 use crate::spans::{Span, find_span, is_alone, spans_of};
 use block_freq::Freqs;
 use interference::Matrix;
 use live_lanes::{Labels, LiveFunc, Stretch};
+use mir_func::Instr;
 use std::alloc::{AllocError, Global};
-use target_base::Reg;
+use target_base::{Boxed, Reg};
 
 /// A run of places and a register that is free there.
 #[derive(Clone, Copy, PartialEq, Eq)]
@@ -54,7 +62,8 @@ fn best_split(view: View<'_>) -> Result<Option<(Reg, Labels)>, AllocError> {
     let Some(run) = best_run(view)? else {
         return Ok(None);
     };
-    let labels = labels_of(view, run)?;
+    let last = run.first.saturating_add(run.len).saturating_sub(1);
+    let labels = labels_of(view.alloc, view.m.live(), view.places, run.first, last)?;
     Ok(Some((run.register, labels)))
 }
 
@@ -143,42 +152,90 @@ fn is_free_in(view: View<'_>, register: Reg, position: u32, low: u128, high: u12
     })
 }
 
-/// The labels of a run.
-fn labels_of(view: View<'_>, run: Run) -> Result<Labels, AllocError> {
-    let mut labels = Labels::new(view.alloc);
-    let last = run.first.saturating_add(run.len).saturating_sub(1);
-    let (Some(a), Some(z)) = (view.places.get(run.first), view.places.get(last)) else {
+/// The labels of the run from one place to another.
+fn labels_of(
+    alloc: Global,
+    live: &LiveFunc,
+    places: &[TouchedPlace],
+    first: usize,
+    last: usize,
+) -> Result<Labels, AllocError>
+    ensures { IfOk result (λ ls. (v : ℕ) (view : OfferView) (p q : Touched) → FindsPlaces live.now.target live.now.func live.now.table v
+        → places.now ≡ map (placed live.now.func.blocks) (touched_places live.now.target live.now.func v view)
+        → slice_get (touched_places live.now.target live.now.func v view) first ≡ Some p
+        → slice_get (touched_places live.now.target live.now.func v view) last ≡ Some q
+        → ls ≡ run_marks live.now.target live.now.func v view (p, q)) }
+{
+    let mut labels = Labels::new(alloc);
+    if first >= places.len() {
         return Ok(labels);
-    };
-    let live = view.m.live();
-    add_mark(live, a.position, Some(Some(a.first)), 1, &mut labels)?;
-    add_borders(live, a.position, z.position, &mut labels)?;
-    add_end(live, z, &mut labels)?;
+    }
+    if last >= places.len() {
+        return Ok(labels);
+    }
+    add_run(live, places[first], places[last], &mut labels)?;
     Ok(labels)
 }
 
+/// Marks a run from its first place to its last.
+fn add_run(
+    live: &LiveFunc,
+    a: TouchedPlace,
+    z: TouchedPlace,
+    labels: &mut Labels,
+) -> Result<(), AllocError>
+    ensures { OnOk result ((v : ℕ) (view : OfferView) (n m : ℕ) (p q : Touched) → FindsPlaces live.now.target live.now.func live.now.table v
+        → slice_get (touched_places live.now.target live.now.func v view) n ≡ Some p → a ≡ placed live.now.func.blocks p
+        → slice_get (touched_places live.now.target live.now.func v view) m ≡ Some q → z ≡ placed live.now.func.blocks q
+        → labels.new ≡ labels.old ++ run_marks live.now.target live.now.func v view (p, q)) }
+{
+    add_mark(live, a.position, Some(Some(a.first)), 1, labels)?;
+    add_borders(live, a.position, z.position, labels)?;
+    add_end(live, z, labels)?;
+    Ok(())
+}
+
 /// Marks the starts of the blocks behind a position, up to another.
-fn add_borders(live: &LiveFunc, a: u32, z: u32, labels: &mut Labels) -> Result<(), AllocError> {
-    'blocks: for position in a.saturating_add(1)..=z {
-        add_mark(live, position, None, 1, labels)?;
+fn add_borders(live: &LiveFunc, a: u32, z: u32, labels: &mut Labels) -> Result<(), AllocError>
+    ensures { OnOk result (labels.new ≡ labels.old ++ map (λ b. at_start b.number 1) (take (z - a) (drop (a + 1) live.now.func.blocks))) }
+{
+    'starts: for offset in 0..z.saturating_sub(a) {
+        add_mark(live, a + 1 + offset, None, 1, labels)?;
     }
     Ok(())
 }
 
 /// Marks the end of a run behind its last place.
-fn add_end(live: &LiveFunc, z: &TouchedPlace, labels: &mut Labels) -> Result<(), AllocError> {
+fn add_end(live: &LiveFunc, z: TouchedPlace, labels: &mut Labels) -> Result<(), AllocError>
+    ensures { OnOk result ((before : Option ℕ) → (z.is_end ≡ false → IsBehind live.now.table live.now.func.blocks z.last before)
+        → labels.new ≡ labels.old ++ cond z.is_end [] (marks_in (slice_get live.now.func.blocks z.position) (Some before) 0)) }
+{
     if z.is_end {
         return Ok(());
     }
     let behind = id_behind(live, z.last);
-    add_mark(live, z.position, Some(behind), 0, labels)
+    add_mark(live, z.position, Some(behind), 0, labels)?;
+    Ok(())
+}
+
+/// The instruction behind the one at a place of these; none at their end.
+fn next_id(instrs: &[Boxed<Instr>], place: usize) -> Option<u32>
+    ensures { result ≡ first_id (drop (place + 1) instrs.now) }
+{
+    if place >= instrs.len() {
+        return None;
+    }
+    let next = place + 1;
+    if next >= instrs.len() {
+        return None;
+    }
+    Some(instrs[next].get().id)
 }
 
 /// The instruction that stands right behind another in its block.
-fn id_behind(live: &LiveFunc, id: u32) -> Option<u32> {
-    let position = live.position_of(id) as usize;
-    let next = live
-        .func()
-        .instr_at(position, live.place_of(id).saturating_add(1))?;
-    Some(next.id)
+fn id_behind(live: &LiveFunc, id: u32) -> Option<u32>
+    ensures { (before : Option ℕ) → IsBehind live.now.table live.now.func.blocks id before → result ≡ before }
+{
+    let block = block_at(live, live.position_of(id))?;
+    next_id(block.instrs.as_slice(), live.place_of(id))
 }
