@@ -15,3 +15,5 @@ pub mod Split
 pub mod Running
 pub mod Clear
 pub mod Alone
+pub mod Flags
+pub mod Offered

@@ -1,10 +1,10 @@
 -- Walks along lists.
-use Rattle.std.proofs.Common.{◌≡◌, ◌∙◌, ℕ, zero, suc, ◌+◌, ◌<◌, ◌≤◌, List, [], ◌∷◌, ◌++◌, Bool, true, false, arith, refl, sym, ap, length, take, get_or}
+use Rattle.std.proofs.Common.{◌≡◌, ◌∙◌, ℕ, zero, suc, ◌+◌, ◌<◌, ◌≤◌, List, [], ◌∷◌, ◌++◌, Bool, true, false, arith, refl, sym, ap, length, take, get_or, map}
 use Rattle.std.specs.Prelude.{filter, ◌||◌}
 use Rattle.std.specs.List.{list_any, list_all}
 use Rattle.std.proofs.lemmas.Bool.{or_from, or_left, or_right, and_parts}
 use Rattle.std.proofs.lemmas.List.Folds.{list_any-append}
-use Rattle.std.proofs.lemmas.List.{take_more, take_all}
+use Rattle.std.proofs.lemmas.List.{take_more, take_all, map-append}
 use Rattle.std.proofs.lemmas.List.Elements.{filter-append}
 
 -- what passes a test, element by element
@@ -39,3 +39,16 @@ all_at f (y ∷ ys) zero x all h at = ap f at ∙ (and_parts _ _ all).0
 all_at f (y ∷ ys) (suc k) x all h at = all_at f ys k x (and_parts _ _ all).1 (omega arith) at
 
 pub ruleset anys = (any_next, any_found, any_none)
+
+-- the image of an element
+
+pub mapped-at : {X Y : Type 0} (g : X → Y) (xs : List X) (k : ℕ) (x : X) (d : Y) → k < length xs → x ≡ get_or xs k x → get_or (map g xs) k d ≡ g x
+mapped-at g [] k x d h at = absurd (omega arith)
+mapped-at g (y ∷ ys) zero x d h at = ap g (sym at)
+mapped-at g (y ∷ ys) (suc k) x d h at = mapped-at g ys k x d (omega arith) at
+
+pub map_next : {X Y : Type 0} (g : X → Y) (xs : List X) (k : ℕ) (x : X) → k < length xs → x ≡ get_or xs k x → map g (take k xs) ++ g x ∷ [] ≡ map g (take (k + 1) xs)
+map_next g xs k x h at = sym (map-append g (take k xs) (x ∷ [])) ∙ ap (map g) (sym (take_more xs k x h ∙ ap (λ y. take k xs ++ y ∷ []) (sym at)))
+
+pub map_all : {X Y : Type 0} (g : X → Y) (xs : List X) (k : ℕ) → length xs ≤ k → map g (take k xs) ≡ map g xs
+map_all g xs k h = ap (map g) (take_all k xs h)

@@ -7,3 +7,4 @@ pub mod Marks
 pub mod Blocks
 pub mod Runs
 pub mod Spans
+pub mod Parts

@@ -21,10 +21,18 @@ span_cost s insides.All = 0
 span_cost s insides.Start = capped (s.frequency + s.end_uses)
 span_cost s insides.End = s.frequency
 
--- the range is live at a border of the block that is in the bundle of the border that stands for it, and the block isn't clear
+-- the range is live at a border of the block that is in the bundle for which a border stands
+abbrev pub is_bordered : List ℕ → ℕ → Span → Bool
+is_bordered parents root s = s.is_live_in && nat_eq (root_of parents (start_of s.position)) root || s.is_live_out && nat_eq (root_of parents (end_of s.position)) root
+
+-- and the block isn't clear
 abbrev pub bars : List ℕ → (Span → Bool) → ℕ → Span → Bool
-bars parents clear root s =
-    not (clear s) && (s.is_live_in && nat_eq (root_of parents (start_of s.position)) root || s.is_live_out && nat_eq (root_of parents (end_of s.position)) root)
+bars parents clear root s = not (clear s) && is_bordered parents root s
+
+-- the flags of the bundles that a block borders on are set
+pub record Sets (parents : List ℕ) (s : Span) (old new : List Bool) : Type 0 where
+  pub size : length new ≡ length old
+  pub told : (root : ℕ) → root < length old → slice_index_or new root false ≡ slice_index_or old root false || is_bordered parents root s
 
 -- the bundle of a border is out: some block bars it
 abbrev pub is_out : List ℕ → (Span → Bool) → List Span → ℕ → Bool

@@ -1,14 +1,18 @@
 //! Region splits: a part of the range lives in a register where that is free.
 
-ghost use Rattle.std.specs.Prelude.{◌≡◌, ◌<◌, ◌≤◌, ◌*◌, ◌++◌, ◌∷◌, [], ℕ, Bool, true, false, filter, map, length, slice_get, slice_index_or, slice_set, IfOk, OnOk};
+ghost use Rattle.std.specs.Prelude.{◌≡◌, ◌<◌, ◌≤◌, ◌*◌, ◌++◌, ◌∷◌, [], ℕ, Bool, true, false, filter, map, length, slice_get, slice_index_or, slice_set, cond, replicate, IfOk, OnOk};
 ghost use Rattle.std.specs.List.{sum_by, list_any};
 ghost use Rattle.target_base.specs.Storage.{is_unreserved, is_among};
 ghost use Rattle.mir_meaning.specs.Binding.{class_of};
 ghost use Rattle.mir_meaning.specs.Places.{domain};
 ghost use Rattle.split_choose.specs.declared.spans.Span.{Span as BlockSpan};
-ghost use Rattle.split_choose.specs.Bundles.{start_of, end_of, root_of};
+ghost use Rattle.split_choose.specs.declared.regions.Inside.{Inside as Where};
+ghost use Rattle.split_choose.specs.Bundles.{start_of, end_of, root_of, AreEarlier};
 ghost use Rattle.split_choose.specs.Marks.{mark_at, marks_in};
-ghost use Rattle.split_choose.specs.Regions.{capped, uses_of, span_cost, inside_at};
+ghost use Rattle.interference.specs.Clashes.{IsOrdered};
+ghost use Rattle.split_choose.specs.Spans.{AreSpans, is_clear_in};
+ghost use Rattle.split_choose.specs.Parts.{IsReady, IsPart};
+ghost use Rattle.split_choose.specs.Regions.{capped, uses_of, span_cost, costs_of, inside_at, inside_in, ArePositions, AreOut, Sets};
 
 use crate::bundles::{Bundles, end_of, start_of};
 use crate::places::{block_at, gap_ids, places_of};
@@ -185,7 +189,10 @@ fn best_of(view: View<'_>, registers: &[Reg]) -> Result<Option<Offer>, AllocErro
 }
 
 /// Whether a register is clear for the range in each block.
-fn clear_blocks(view: View<'_>, register: Reg) -> Result<Vec<bool>, AllocError> {
+fn clear_blocks(view: View<'_>, register: Reg) -> Result<Vec<bool>, AllocError>
+    ensures { IfOk result (λ clear. IsOrdered view.entry.m.now → AreSpans view.entry.spans.now
+        → clear.items ≡ map (is_clear_in view.entry.m.now view.entry.v register) view.entry.spans.now) }
+{
     let mut clear = Vec::new(view.alloc);
     'spans: for span in view.spans {
         clear.push(is_alone(
@@ -208,27 +215,59 @@ fn forbid(view: View<'_>, border: u32, outside: &mut Vec<bool>)
     }
 }
 
+/// The number of borders.
+fn border_count(live: &LiveFunc) -> usize
+    ensures { length live.now.func.blocks < 2147483648 → result ≡ 2 * length live.now.func.blocks }
+{
+    live.func().blocks.len().saturating_mul(2)
+}
+
+/// So many flags that aren't set.
+fn no_flags(alloc: Global, count: usize) -> Result<Vec<bool>, AllocError>
+    ensures { IfOk result (λ flags. flags.items ≡ replicate count false) }
+{
+    Vec::from_elem(alloc, false, count)
+}
+
+/// The flag at a place.
+fn flag_at(flags: &[bool], place: usize) -> bool
+    ensures { result ≡ slice_index_or flags.now place false }
+{
+    flags.get(place).copied().unwrap_or(false)
+}
+
 /// For the border that stands for each bundle, whether the bundle is out: some block that has a
 /// border of it at which the range is live isn't clear.
-fn outside_of(view: View<'_>, clear: &[bool]) -> Result<Vec<bool>, AllocError> {
-    let count = view.m.live().func().blocks.len().saturating_mul(2);
-    let mut outside = Vec::from_elem(view.alloc, false, count)?;
-    'spans: for (span, is_clear) in view.spans.iter().zip(clear) {
-        if !*is_clear {
+fn outside_of(view: View<'_>, clear: &[bool]) -> Result<Vec<bool>, AllocError>
+    ensures { IfOk result (λ flags. (test : BlockSpan → Bool) → clear.now ≡ map test view.entry.spans.now
+        → length view.entry.m.now.live.func.blocks < 2147483648 → ArePositions (length view.entry.m.now.live.func.blocks) view.entry.spans.now
+        → AreOut view.entry.bundles.now.parents.items test view.entry.spans.now (2 * length view.entry.m.now.live.func.blocks) flags.items) }
+{
+    let mut outside = no_flags(view.alloc, border_count(view.m.live()))?;
+    'spans: for (k, span) in view.spans.iter().enumerate() {
+        if !flag_at(clear, k) {
             forbid_borders(view, span, &mut outside);
         }
     }
     Ok(outside)
 }
 
+/// Sets the flag of the bundle of a border at which the range is live.
+fn forbid_if(view: View<'_>, is_live: bool, border: u32, outside: &mut Vec<bool>)
+    ensures { outside.new.items ≡ cond is_live (slice_set outside.old.items (root_of view.entry.bundles.now.parents.items border) true) outside.old.items }
+{
+    if is_live {
+        forbid(view, border, outside);
+    }
+}
+
 /// Sets the flags of the bundles of the borders of a block at which the range is live.
-fn forbid_borders(view: View<'_>, span: &Span, outside: &mut Vec<bool>) {
-    if span.is_live_in {
-        forbid(view, start_of(span.position), outside);
-    }
-    if span.is_live_out {
-        forbid(view, end_of(span.position), outside);
-    }
+#[tactic(auto, using(crate::proofs::Flags::sets))]
+fn forbid_borders(view: View<'_>, span: &Span, outside: &mut Vec<bool>)
+    ensures { span.now.position < 2147483648 → Sets view.entry.bundles.now.parents.items span.now outside.old.items outside.new.items }
+{
+    forbid_if(view, span.is_live_in, start_of(span.position), outside);
+    forbid_if(view, span.is_live_out, end_of(span.position), outside);
 }
 
 /// The flag of the bundle of a border.
@@ -275,7 +314,10 @@ fn cost_of(span: &Span, inside: Inside) -> u128
 }
 
 /// The part in a register.
-fn offer_of(view: View<'_>, register: Reg) -> Result<Offer, AllocError> {
+fn offer_of(view: View<'_>, register: Reg) -> Result<Offer, AllocError>
+    ensures { IfOk result (λ offer. IsReady view.entry.m.now view.entry.bundles.now.parents.items view.entry.spans.now
+        → IsPart view.entry.m.now view.entry.v view.entry.bundles.now.parents.items view.entry.spans.now register offer) }
+{
     let clear = clear_blocks(view, register)?;
     let insides = insides_of(view, clear.as_slice())?;
     let cost = cost_of_all(view.spans, insides.as_slice());
@@ -287,20 +329,35 @@ fn offer_of(view: View<'_>, register: Reg) -> Result<Offer, AllocError> {
 }
 
 /// Where in each block the part in a register lives.
-fn insides_of(view: View<'_>, clear: &[bool]) -> Result<Vec<Inside>, AllocError> {
+fn insides_of(view: View<'_>, clear: &[bool]) -> Result<Vec<Inside>, AllocError>
+    ensures { IfOk result (λ made. (test : BlockSpan → Bool) → clear.now ≡ map test view.entry.spans.now
+        → length view.entry.m.now.live.func.blocks < 2147483648 → ArePositions (length view.entry.m.now.live.func.blocks) view.entry.spans.now
+        → AreEarlier view.entry.bundles.now.parents.items
+        → made.items ≡ map (inside_in view.entry.bundles.now.parents.items test view.entry.spans.now) view.entry.spans.now) }
+{
     let outside = outside_of(view, clear)?;
     let mut insides = Vec::new(view.alloc);
-    'spans: for (span, is_clear) in view.spans.iter().zip(clear) {
-        insides.push(inside_of(view, span, *is_clear, outside.as_slice()))?;
+    'spans: for (k, span) in view.spans.iter().enumerate() {
+        insides.push(inside_of(view, span, flag_at(clear, k), outside.as_slice()))?;
     }
     Ok(insides)
 }
 
+/// Where the block at a place lies.
+fn inside_there(insides: &[Inside], place: usize) -> Inside
+    ensures { result ≡ slice_index_or insides.now place Inside.Nowhere }
+{
+    insides.get(place).copied().unwrap_or(Inside::Nowhere)
+}
+
 /// What all blocks cost.
-fn cost_of_all(spans: &[Span], insides: &[Inside]) -> u128 {
+#[tactic(auto, using(crate::proofs::Sums::costs))]
+fn cost_of_all(spans: &[Span], insides: &[Inside]) -> u128
+    ensures { (test : BlockSpan → Where) → insides.now ≡ map test spans.now → result ≡ capped (costs_of test spans.now) }
+{
     let mut cost = 0u128;
-    'spans: for (span, inside) in spans.iter().zip(insides) {
-        cost = cost.saturating_add(cost_of(span, *inside));
+    'spans: for (k, span) in spans.iter().enumerate() {
+        cost = cost.saturating_add(cost_of(span, inside_there(insides, k)));
     }
     cost
 }

@@ -1,0 +1,9 @@
+use Rattle.std.proofs.Common.{◌≡◌, ◌*◌, ◌<◌, Bool, length, take, map}
+use Rattle.split_choose.specs.declared.spans.Span.{Span}
+use Rattle.split_choose.specs.Regions.{ArePositions, AreOut}
+use Rattle.split_choose.proofs.regions.outside_of.Given as goal
+
+abbrev pub invariant-spans : goal.invariant-spans
+invariant-spans l = (test : Span → Bool) → l.clear ≡ map test l.view.spans.now → length l.view.m.now.live.func.blocks < 2147483648
+    → ArePositions (length l.view.m.now.live.func.blocks) l.view.spans.now
+    → AreOut l.view.bundles.now.parents.items test (take l.k l.view.spans.now) (2 * length l.view.m.now.live.func.blocks) l.outside.items
