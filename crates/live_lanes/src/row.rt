@@ -137,6 +137,17 @@ pub(crate) fn reaches(slots: &Slots, end: End, at: u128) -> bool
     !is_never(end) && at <= rank(slots, end)
 }
 
+/// Makes room for one element in a list that has none, and for no more: most lanes have one cell, and
+/// most pieces one reading.
+pub(crate) fn make_first_room<T>(list: &mut Vec<T>) -> Result<(), AllocError>
+    ensures { list.new.items ≡ list.old.items }
+{
+    if list.is_empty() {
+        list.reserve_exact(1)?;
+    }
+    Ok(())
+}
+
 impl Row {
     /// No cells, which takes no memory.
     pub fn new(alloc: Global) -> Row
@@ -196,6 +207,7 @@ impl Row {
         if self.has_at(at, block) {
             return Ok(at);
         }
+        make_first_room(&mut self.cells)?;
         self.cells.insert(at, Cell::new(alloc, block))?;
         Ok(at)
     }
@@ -348,6 +360,7 @@ impl Piece {
         if ends_with(self.readings.as_slice(), reading.id) {
             return Ok(());
         }
+        make_first_room(&mut self.readings)?;
         self.readings.push(reading)?;
         Ok(())
     }
@@ -423,6 +436,7 @@ impl Cell {
         if starts_last(self.segments.as_slice(), start) {
             return Ok(());
         }
+        make_first_room(&mut self.segments)?;
         self.segments.push(Segment {
             start,
             early,
