@@ -150,7 +150,11 @@ pub(crate) fn make_first_room<T>(list: &mut Vec<T>) -> Result<(), AllocError>
 }
 
 /// Puts an element at a place of a list.
-pub(crate) fn insert_one<T: Drop>(list: &mut Vec<T>, at: usize, element: T) -> Result<(), AllocError>
+pub(crate) fn insert_one<T: Drop>(
+    list: &mut Vec<T>,
+    at: usize,
+    element: T,
+) -> Result<(), AllocError>
     requires { at ≤ length list.old.items }
     ensures items { list.new.items ≡ (if is_ok result then insert list.old.items at element else list.old.items) }
 {
