@@ -107,7 +107,7 @@ next_is : (t : Target) (vs : List Variable) (done : List Reg) (os : List (List R
 unfolding with_next
 next_is t vs done os r = filter_map_of (λ qs. all_apart t (seats vs (done ++ qs))) (λ qs. r ∷ qs) (choices os) ∙ simp append_assoc
 
-comp_step : (t : Target) (vs : List Variable) (done rs : List Reg) (os : List (List Reg)) → completions t vs done (rs ∷ os) ≡ flat_map (with_next t vs done os) rs
+pub comp_step : (t : Target) (vs : List Variable) (done rs : List Reg) (os : List (List Reg)) → completions t vs done (rs ∷ os) ≡ flat_map (with_next t vs done os) rs
 comp_step t vs done [] os = refl
 comp_step t vs done (r ∷ rs) os =
     filter-append (λ qs. all_apart t (seats vs (done ++ qs))) (map (λ qs. r ∷ qs) (choices os)) (flat_map (λ q. map (λ qs. q ∷ qs) (choices os)) rs)
@@ -135,6 +135,10 @@ tried_more g xs i x h at was none = rw (take_more xs i x h, ← at, flat_map-app
 first_mapped : (r : Reg) (q : List Reg) (cs rest : List (List Reg)) → first cs ≡ Some q → first (map (λ qs. r ∷ qs) cs ++ rest) ≡ Some (r ∷ q)
 first_mapped r q [] rest e = absurd (cc)
 first_mapped r q (c ∷ cs) rest e = let same : c ≡ q = cc in ap (λ s. Some (r ∷ s)) same
+
+pub found_with : (t : Target) (vs : List Variable) (done : List Reg) (os : List (List Reg)) (r : Reg) (q : List Reg) (rest : List (List Reg)) → first (completions t vs (done ++ r ∷ []) os) ≡ Some q → first (with_next t vs done os r ++ rest) ≡ Some (r ∷ q)
+unfolding with_next
+found_with t vs done os r q rest found = first_mapped r q (completions t vs (done ++ r ∷ []) os) rest found
 
 split_at : {X : Type 0} (xs : List X) (i : ℕ) (x : X) → i < length xs → x ≡ get_or xs i x → xs ≡ take i xs ++ x ∷ drop (i + 1) xs
 split_at xs i x h at =

@@ -6,6 +6,7 @@ pub mod Few
 pub mod Crowds
 pub mod Units
 pub mod Solved
+pub mod Firsts
 pub mod Told
 pub mod Writes
 pub mod Owned

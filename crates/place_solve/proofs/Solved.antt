@@ -39,7 +39,7 @@ filter_both {X} p q (x ∷ xs) = go (p x) (filter_both p q xs)
     go true h = ap (λ ys. cond (q x) (x ∷ ys) ys) h
     go false h = h
 
-filter_other : {X : Type 0} (p q : X → Bool) (xs : List X) → filter (λ x. p x && q x) xs ≡ filter p (filter q xs)
+pub filter_other : {X : Type 0} (p q : X → Bool) (xs : List X) → filter (λ x. p x && q x) xs ≡ filter p (filter q xs)
 filter_other {X} p q xs = filter_alike (λ x. p x && q x) (λ x. q x && p x) (λ x. swap (p x) (q x)) xs ∙ filter_both q p xs
   where
     swap : (a b : Bool) → (a && b) ≡ (b && a)

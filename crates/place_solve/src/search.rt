@@ -1,11 +1,11 @@
 //! The first choice of registers that serves.
 
-ghost use Rattle.std.specs.Prelude.{◌≡◌, ◌≤◌, ◌+◌, ◌&&◌, ◌++◌, ◌∷◌, [], IfOk, OnOk, filter, map, not, option_map, true, length};
+ghost use Rattle.std.specs.Prelude.{◌≡◌, ◌≤◌, ◌+◌, ◌&&◌, ◌++◌, ◌∷◌, [], IfOk, IfSome, OnOk, Some, filter, map, not, option_map, true, length};
 ghost use Rattle.target_base.specs.Storage.{is_among};
 ghost use Rattle.mir_meaning.specs.Places.{all_apart, is_defining, reaches_back, share_a_unit, solutions};
 ghost use Rattle.live_lanes.specs.Looks.{InOrder};
 ghost use Rattle.place_solve.specs.Around.{at_entry, at_exit, entry_of, exit_of};
-ghost use Rattle.place_solve.specs.Choice.{use_of, need_of, seats, stands_beside, fits, Found, is_free, may_lie, options_in, first};
+ghost use Rattle.place_solve.specs.Choice.{use_of, need_of, seats, stands_beside, fits, Found, is_free, may_lie, options_in, first, first_apart};
 
 use crate::around::{Around, is_at_entry, is_at_exit};
 use crate::variables::{Kind, Variable};
@@ -179,16 +179,71 @@ fn all_options(
     Ok(options)
 }
 
-/// The first choice of registers for the variables, in their order and in allocation order, that
-/// serves at the place. None where no choice does.
-#[tactic(auto, using(crate::proofs::Solved::solved))]
-pub fn first_choice(
+/// Whether a variable of this kind may lie in a register, also beside those that are chosen for the
+/// variables before it. The chosen ones are asked first: that takes less.
+fn serves_beside(
+    live: &LiveFunc,
+    around: Around<'_>,
+    variables: &[Variable],
+    chosen: &[Reg],
+    kind: Kind,
+    r: Reg,
+) -> bool
+    requires { length chosen.now ≤ length variables.now }
+    ensures { InOrder live.now.table → result ≡ (fits live.now.target (seats variables.now chosen.now) (use_of kind) r && may_lie live.now.target live.now.table around.entry (use_of kind) r) }
+{
+    fits(live.target(), variables, chosen, kind, r) && avoids(live, around, kind, r)
+}
+
+/// The first register of a variable's class that it may lie in beside those that are chosen.
+#[tactic(auto, using(crate::proofs::Firsts::firsts))]
+fn first_beside(
+    live: &LiveFunc,
+    around: Around<'_>,
+    variables: &[Variable],
+    chosen: &[Reg],
+    v: Variable,
+) -> Option<Reg>
+    requires { length chosen.now ≤ length variables.now }
+    ensures { InOrder live.now.table → result ≡ first (filter (fits live.now.target (seats variables.now chosen.now) (use_of v.kind)) (options_in live.now.target live.now.table around.entry v)) }
+{
+    'each: for r in regs_at(live.target().classes.as_slice(), v.class) {
+        if serves_beside(live, around, variables, chosen, v.kind, *r) {
+            return Some(*r);
+        }
+    }
+    None
+}
+
+/// Gives each variable in turn the first register that it may lie in beside those before it, and never
+/// takes one back. None where a variable has no such register left: another choice may serve yet.
+fn choice_in_turn(
     alloc: Global,
     live: &LiveFunc,
     around: Around<'_>,
     variables: &[Variable],
 ) -> Result<Option<Vec<Reg>>, AllocError>
-    ensures { IfOk result (λ q. InOrder live.now.table → option_map (λ v. v.items) q ≡ first (solutions live.now.target (entry_of live.now.target live.now.table around.entry) (exit_of live.now.target live.now.table around.entry) (map need_of variables.now))) }
+    ensures { IfOk result (λ q. InOrder live.now.table → IfSome q (λ v. first_apart live.now.target live.now.table around.entry variables.now ≡ Some v.items)) }
+{
+    let mut chosen = Vec::new(alloc);
+    'each: for v in variables {
+        match first_beside(live, around, variables, chosen.as_slice(), *v) {
+            None => return Ok(None),
+            Some(r) => chosen.push(r)?,
+        }
+    }
+    Ok(Some(chosen))
+}
+
+/// The first choice that serves, of all options of each variable: the search goes back where a variable
+/// has no register left.
+fn choice_of_all(
+    alloc: Global,
+    live: &LiveFunc,
+    around: Around<'_>,
+    variables: &[Variable],
+) -> Result<Option<Vec<Reg>>, AllocError>
+    ensures { IfOk result (λ q. InOrder live.now.table → option_map (λ v. v.items) q ≡ first_apart live.now.target live.now.table around.entry variables.now) }
 {
     let options = all_options(alloc, live, around, variables)?;
     let mut chosen = Vec::new(alloc);
@@ -203,4 +258,24 @@ pub fn first_choice(
     } else {
         Ok(None)
     }
+}
+
+/// The first choice of registers for the variables, in their order and in allocation order, that
+/// serves at the place. None where no choice does.
+///
+/// Mostly each variable's first register serves, so those are asked for first, one by one. If that
+/// gives each variable one, it is the first choice; else all options are listed and searched.
+#[tactic(auto, using(crate::proofs::Solved::solved))]
+pub fn first_choice(
+    alloc: Global,
+    live: &LiveFunc,
+    around: Around<'_>,
+    variables: &[Variable],
+) -> Result<Option<Vec<Reg>>, AllocError>
+    ensures { IfOk result (λ q. InOrder live.now.table → option_map (λ v. v.items) q ≡ first (solutions live.now.target (entry_of live.now.target live.now.table around.entry) (exit_of live.now.target live.now.table around.entry) (map need_of variables.now))) }
+{
+    if let Some(chosen) = choice_in_turn(alloc, live, around, variables)? {
+        return Ok(Some(chosen));
+    }
+    choice_of_all(alloc, live, around, variables)
 }
