@@ -45,10 +45,10 @@ use Rattle.split_choose.proofs.Between.{entry-rank-in, exit-rank-in}
 -- lanes of a range
 
 -- a lane of those that pass, and the tests that it passes
-record OneOf (Some_pass : (ℕ → Bool) → Bool) (g : ℕ → Bool) : Type 0 where
-  lane : ℕ
-  passes : g lane ≡ true
-  every : (f : ℕ → Bool) → f lane ≡ true → Some_pass f ≡ true
+pub record OneOf (Some_pass : (ℕ → Bool) → Bool) (g : ℕ → Bool) : Type 0 where
+  pub lane : ℕ
+  pub passes : g lane ≡ true
+  pub every : (f : ℕ → Bool) → f lane ≡ true → Some_pass f ≡ true
 
 below-one : (first n : ℕ) (g : ℕ → Bool) → some_below g first n ≡ true → OneOf (λ f. some_below f first n) g
 below-one first zero g h = absurd (false≢true h)
@@ -65,17 +65,17 @@ of-one : (o : Option Lanes) (g : ℕ → Bool) → some_of g o ≡ true → OneO
 of-one None g h = absurd (false≢true h)
 of-one (Some own) g h = below-one own.first own.count g h
 
-lane-one : (x : Table) (v : ℕ) (g : ℕ → Bool) → some_lane x v g ≡ true → OneOf (some_lane x v) g
+pub lane-one : (x : Table) (v : ℕ) (g : ℕ → Bool) → some_lane x v g ≡ true → OneOf (some_lane x v) g
 lane-one x v g h = of-one (slice_get x.lanes.ranges.items v) g h
 
-lane-same : (x : Table) (v : ℕ) (f g : ℕ → Bool) → ((l : ℕ) → f l ≡ g l) → some_lane x v f ≡ some_lane x v g
+pub lane-same : (x : Table) (v : ℕ) (f g : ℕ → Bool) → ((l : ℕ) → f l ≡ g l) → some_lane x v f ≡ some_lane x v g
 lane-same x v f g same = both-ways (some_lane x v f) (some_lane x v g)
     (λ h. let o = lane-one x v f h in o.every g (sym (same o.lane) ∙ o.passes))
     (λ h. let o = lane-one x v g h in o.every f (same o.lane ∙ o.passes))
 
 -- a lane in a block: by its cell, or not there
 
-cell-or-not : (rows : List Row) (l k : ℕ) → ((c : Cell) × (rows_seen rows l k ≡ seen_cell c) × (find_cell k (cells_of rows l) ≡ Some c)) ⊎ (rows_seen rows l k ≡ unseen)
+pub cell-or-not : (rows : List Row) (l k : ℕ) → ((c : Cell) × (rows_seen rows l k ≡ seen_cell c) × (find_cell k (cells_of rows l) ≡ Some c)) ⊎ (rows_seen rows l k ≡ unseen)
 cell-or-not rows l k = by_row (slice_get rows l) refl
   where
     by_cell : (r : Row) → slice_get rows l ≡ Some r → (o : Option Cell) → find_cell k r.cells.items ≡ o → ((c : Cell) × (rows_seen rows l k ≡ seen_cell c) × (find_cell k (cells_of rows l) ≡ Some c)) ⊎ (rows_seen rows l k ≡ unseen)
@@ -86,7 +86,7 @@ cell-or-not rows l k = by_row (slice_get rows l) refl
     by_row None e = inr (ap (λ (o : Option Row). elim o [ None ↦ unseen | Some s ↦ seen_in s.cells.items k ]) e)
     by_row (Some r) e = by_cell r e (find_cell k r.cells.items) refl
 
-cell-among : (k : ℕ) (cs : List Cell) (c : Cell) → find_cell k cs ≡ Some c → Among c cs
+pub cell-among : (k : ℕ) (cs : List Cell) (c : Cell) → find_cell k cs ≡ Some c → Among c cs
 cell-among k [] c e = absurd (cc)
 cell-among k (d ∷ cs) c e = go (nat_eq d.block k) refl (cell-among k cs c)
   where
