@@ -17,3 +17,11 @@ pub mod Clear
 pub mod Alone
 pub mod Flags
 pub mod Offered
+pub mod Ranked
+pub mod Spread
+pub mod Neighbours
+pub mod Clearing
+pub mod Between
+pub mod Pointed
+pub mod Cleared
+pub mod Free
