@@ -17,3 +17,10 @@ pub mod Clear
 pub mod Alone
 pub mod Flags
 pub mod Offered
+pub mod Finding
+pub mod Building
+pub mod Positions
+pub mod Counting
+pub mod Covering
+pub mod Spanned
+pub mod Using
