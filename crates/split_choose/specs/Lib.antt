@@ -8,3 +8,6 @@ pub mod Blocks
 pub mod Runs
 pub mod Spans
 pub mod Parts
+pub mod Spanned
+pub mod Clearing
+pub mod Built
