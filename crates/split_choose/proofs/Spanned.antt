@@ -1,6 +1,6 @@
 -- The spans of a range, from what was put together.
 use Rattle.std.proofs.Common.{◌≡◌, ◌≢◌, ◌∙◌, ◌⊎◌, inl, inr, ℕ, zero, suc, ◌+◌, ◌*◌, ◌<◌, ◌≤◌, List, [], ◌∷◌, ◌++◌, Bool, true, false, cond, arith, refl, sym, ap, subst, length, map, Option, None, Some}
-use Rattle.std.specs.Prelude.{nat_eq, nat_lt, nat_le, ◌||◌, slice_get, slice_index_or, filter, fold}
+use Rattle.std.specs.Prelude.{nat_eq, nat_lt, nat_le, not, ◌||◌, ◌&&◌, slice_get, slice_index_or, filter, fold}
 use Rattle.std.specs.List.{list_any, list_all, sum_by}
 use Rattle.std.specs.Ordering.{nat_cmp}
 use Rattle.std.specs.List.Sorted.{IsStrictlySortedBy}
@@ -76,6 +76,19 @@ all-spans : (p : Span → Bool) (spans : List Span) → ((s : Span) → Among s 
 all-spans p [] h = refl
 all-spans p (s ∷ spans) h = and_from (p s) (list_all p spans) (h s here) (all-spans p spans (λ r m. h r (there m)))
 
+-- lists of which the same tests are passed by some are such of which the same are passed by all
+
+all-is : {X : Type 0} (p : X → Bool) (xs : List X) → list_all p xs ≡ not (list_any (λ y. not (p y)) xs)
+all-is p [] = refl
+all-is p (y ∷ xs) = go (p y) (all-is p xs)
+  where
+    go : (b : Bool) → list_all p xs ≡ not (list_any (λ z. not (p z)) xs) → (b && list_all p xs) ≡ not (not b || list_any (λ z. not (p z)) xs)
+    go true ih = ih
+    go false ih = refl
+
+all-alike : {X : Type 0} (p : X → Bool) (xs ys : List X) → ((q : X → Bool) → list_any q xs ≡ list_any q ys) → list_all p xs ≡ list_all p ys
+all-alike p xs ys same = all-is p xs ∙ (ap not (same (λ y. not (p y))) ∙ sym (all-is p ys))
+
 -- instruction by instruction, or span by span
 pub span-by-span : {S X : Type 0} (u : X → Told → Told) (g : S → Told) (ks : List S) (xs : List X) → fold (λ ts x. map (u x) ts) (map g ks) xs ≡ map (λ k. fold (λ t x. u x t) (g k) xs) ks
 span-by-span u g ks [] = refl
@@ -139,7 +152,7 @@ module _ (m : Matrix) (v : ℕ) (freqs : List ℕ) where
     known-span : (s : Span) → Known s → IsSpan m v freqs s
     known-span s k =
         let freq : s.frequency ≡ slice_index_or freqs s.position 0 = ap (λ (t : Told). t.frequency) k.is in
-        let points_of : s.stretches.items ≡ range_stretches x v count s.position = ap (λ (t : Told). t.stretches) k.is in
+        let points_of : (p : Stretch → Bool) → list_any p s.stretches.items ≡ list_any p (range_stretches x v count s.position) = λ p. ap (λ (t : Told). t.stretches p) k.is in
         record {
           block = k.block;
           found = k.at;
@@ -148,15 +161,15 @@ module _ (m : Matrix) (v : ℕ) (freqs : List ℕ) where
           frequency = freq;
           uses = ap (λ (t : Told). t.uses) k.is ∙ from-none (slice_index_or freqs s.position 0) s.frequency (sum_by (naming v) k.block.instrs) freq;
           end_uses = ap (λ (t : Told). t.end_uses) k.is ∙ from-none (slice_index_or freqs s.position 0) s.frequency (sum_by (naming v) (filter (does is_terminator m.live.target) k.block.instrs)) freq;
-          covered = λ at. ap (λ ss. is_covered ss at) points_of ∙ range-covers x v s.position points.apart points.order.table points.turns at;
-          begun = ap (list_all (begins_at_point x.order.slots k.block.instrs)) points_of ∙ range-begins x v s.position count points.apart k.block.instrs (λ l. points.begun l s.position k.block k.at);
+          covered = λ at. points_of (λ (r : Stretch). nat_le r.first at && nat_le at r.last) ∙ range-covers x v s.position points.apart points.order.table points.turns at;
+          begun = all-alike (begins_at_point x.order.slots k.block.instrs) s.stretches.items (range_stretches x v count s.position) points_of ∙ range-begins x v s.position count points.apart k.block.instrs (λ l. points.begun l s.position k.block k.at);
         }
       where
         from-none : (f g n : ℕ) → g ≡ f → capped (0 + f * n) ≡ capped (g * n)
         from-none f g n e = let z : 0 + f * n ≡ f * n = omega arith in ap capped (z ∙ ap (λ h. h * n) (sym e))
 
     known-order : (s : Span) → Known s → list_all (λ at. nat_le at.first at.last) s.stretches.items ≡ true
-    known-order s k = ap (λ (t : Told). list_all (λ (at : Stretch). nat_le at.first at.last) t.stretches) k.is ∙ range-ordered x v s.position count points.apart
+    known-order s k = all-alike (λ (at : Stretch). nat_le at.first at.last) s.stretches.items (range_stretches x v count s.position) (λ p. ap (λ (t : Told). t.stretches p) k.is) ∙ range-ordered x v s.position count points.apart
 
     positions-same : map (λ (s : Span). s.position) spans ≡ positions
     positions-same =
