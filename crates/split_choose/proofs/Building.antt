@@ -1,12 +1,12 @@
 -- Steps by which spans are put together.
-use Rattle.std.proofs.Common.{◌≡◌, ◌∙◌, ℕ, zero, suc, ◌+◌, ◌<◌, ◌≤◌, List, [], ◌∷◌, ◌++◌, Bool, true, false, cond, arith, refl, sym, ap, subst, length, take, get_or, map, append_assoc, append-nil, Option, None, Some}
+use Rattle.std.proofs.Common.{◌≡◌, ◌∙◌, ℕ, zero, suc, ◌+◌, List, [], ◌∷◌, ◌++◌, Bool, true, false, cond, arith, refl, sym, ap, subst, take, map, append-nil, Option, None, Some}
 use Rattle.std.specs.Prelude.{nat_eq, ◌||◌, slice_get, option_map, flat_map}
 use Rattle.std.specs.List.{filter_map, list_any}
 use Rattle.std.proofs.lemmas.List.Folds.{list_any-append}
 use Rattle.std.specs.Ordering.{nat_cmp}
 use Rattle.std.specs.List.Sorted.{IsStrictlySortedBy}
 use Rattle.std.proofs.lemmas.Bool.{or_left, or_right}
-use Rattle.std.proofs.lemmas.List.{map-append, take_more, take_all}
+use Rattle.std.proofs.lemmas.List.{map-append, take_all}
 use Rattle.std.proofs.lemmas.List.Elements.{filter_map-append}
 use Rattle.std.proofs.lemmas.Grind.{flat_map-append}
 use Rattle.mir_meaning.specs.Registers.{numbers}
@@ -17,7 +17,6 @@ use Rattle.live_lanes.specs.declared.extent.Stretch.{Stretch}
 use Rattle.live_lanes.specs.declared.row.Cell.{Cell}
 use Rattle.live_lanes.specs.declared.table.Table.{Table}
 use Rattle.live_lanes.specs.Table.{Numbers}
-use Rattle.live_lanes.specs.Entered.{cells_of}
 use Rattle.live_lanes.specs.Extents.{extent_in, stretch_of}
 use Rattle.split_choose.specs.declared.spans.Span.{Span}
 use Rattle.split_choose.specs.Built.{Told, told, Rise, piece_stretches, cell_stretches, stretches_at, cells_stretches, lane_stretches, range_stretches, stretched, with_stretches}

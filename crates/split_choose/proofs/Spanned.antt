@@ -1,33 +1,28 @@
 -- The spans of a range, from what was put together.
-use Rattle.std.proofs.Common.{◌≡◌, ◌≢◌, ◌∙◌, ◌⊎◌, inl, inr, ℕ, zero, suc, ◌+◌, ◌*◌, ◌<◌, ◌≤◌, List, [], ◌∷◌, ◌++◌, Bool, true, false, cond, arith, refl, sym, ap, subst, length, map, Option, None, Some}
+use Rattle.std.proofs.Common.{◌≡◌, ◌≢◌, ◌∙◌, ◌⊎◌, inl, inr, ℕ, zero, suc, ◌+◌, ◌*◌, ◌<◌, List, [], ◌∷◌, Bool, true, false, arith, refl, sym, ap, subst, length, map, Some}
 use Rattle.std.specs.Prelude.{nat_eq, nat_lt, nat_le, not, ◌||◌, ◌&&◌, slice_get, slice_index_or, filter, fold}
 use Rattle.std.specs.List.{list_any, list_all, sum_by}
 use Rattle.std.specs.Ordering.{nat_cmp}
 use Rattle.std.specs.List.Sorted.{IsStrictlySortedBy}
 use Rattle.std.proofs.lemmas.Bool.{cases_eq, eq-eqb, ne_eqb, and_parts, and_from, or_right, or_left, ltb-true, lt-ltb}
 use Rattle.meaning.specs.Live.{Among, here, there}
-use Rattle.mir_func.specs.declared.func.Instr.{Instr}
 use Rattle.mir_func.specs.declared.func.Block.{Block}
 use Rattle.mir_meaning.specs.Binding.{does, is_terminator}
 use Rattle.block_freq.specs.Weights.{naming}
 use Rattle.live_lanes.specs.declared.extent.Stretch.{Stretch}
 use Rattle.live_lanes.specs.declared.live.LiveFunc.{LiveFunc}
 use Rattle.live_lanes.specs.declared.table.Table.{Table}
-use Rattle.live_lanes.specs.Graph.{is_live}
-use Rattle.live_lanes.specs.Entered.{causes, rows_seen}
-use Rattle.live_lanes.specs.Extents.{lanes_count, is_met_in}
-use Rattle.live_lanes.specs.Touching.{some_lane, leaves_block}
+use Rattle.live_lanes.specs.Extents.{lanes_count}
+use Rattle.live_lanes.specs.Touching.{leaves_block}
 use Rattle.interference.specs.declared.matrix.Matrix.{Matrix}
 use Rattle.split_choose.specs.declared.spans.Span.{Span}
-use Rattle.split_choose.specs.Seen.{FindsPoints, only}
-use Rattle.split_choose.specs.Spans.{AreSpans}
-use Rattle.split_choose.specs.Regions.{capped, ArePositions}
-use Rattle.split_choose.specs.Places.{Site, sites_from}
-use Rattle.split_choose.specs.Spanned.{is_covered, begins_at_point, IsSpan, HasSpan, is_in_block, AreSpansOf}
-use Rattle.split_choose.specs.Built.{Told, told, blank, range_stretches, range_positions, with_stretches, used, whole}
+use Rattle.split_choose.specs.Seen.{FindsPoints}
+use Rattle.split_choose.specs.Regions.{capped}
+use Rattle.split_choose.specs.Spanned.{begins_at_point, IsSpan, HasSpan, is_in_block, AreSpansOf}
+use Rattle.split_choose.specs.Built.{Told, told, blank, range_stretches, range_positions, with_stretches, whole}
 use Rattle.split_choose.proofs.Covers.{among-cases}
 use Rattle.split_choose.proofs.Counting.{used-all}
-use Rattle.split_choose.proofs.Building.{map-map, map-same, told-positions}
+use Rattle.split_choose.proofs.Building.{map-map, told-positions}
 use Rattle.split_choose.proofs.Covering.{range-covers, range-begins, range-ordered, range-blocks, range-placed}
 
 -- what is told of each of several

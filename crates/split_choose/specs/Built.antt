@@ -1,5 +1,5 @@
 -- How the spans of a range are put together.
-use Rattle.std.specs.Prelude.{◌≡◌, ℕ, suc, ◌+◌, ◌*◌, Bool, false, cond, ◌||◌, nat_eq, List, [], ◌∷◌, ◌++◌, map, flat_map, filter_map, option_map, fold, Option, None, Some, slice_get, slice_index_or}
+use Rattle.std.specs.Prelude.{ℕ, suc, ◌+◌, ◌*◌, Bool, false, cond, ◌||◌, nat_eq, List, [], ◌∷◌, map, flat_map, filter_map, option_map, fold, Option, None, Some, slice_get, slice_index_or}
 use Rattle.std.specs.List.{list_any}
 use Rattle.std.specs.Ordering.{nat_cmp}
 use Rattle.std.specs.List.Sorted.{IsStrictlySortedBy}
