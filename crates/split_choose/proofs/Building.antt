@@ -1,10 +1,12 @@
 -- Steps by which spans are put together.
-use Rattle.std.proofs.Common.{◌≡◌, ◌∙◌, ℕ, zero, suc, ◌+◌, ◌<◌, ◌≤◌, List, [], ◌∷◌, ◌++◌, Bool, true, false, cond, arith, refl, sym, ap, subst, length, take, get_or, map, append_assoc, append-nil, Option, None, Some}
-use Rattle.std.specs.Prelude.{nat_eq, slice_get, option_map, flat_map}
-use Rattle.std.specs.List.{filter_map}
+use Rattle.std.proofs.Common.{◌≡◌, ◌∙◌, ℕ, zero, suc, ◌+◌, List, [], ◌∷◌, ◌++◌, Bool, true, false, cond, arith, refl, sym, ap, subst, take, map, append-nil, Option, None, Some}
+use Rattle.std.specs.Prelude.{nat_eq, ◌||◌, slice_get, option_map, flat_map}
+use Rattle.std.specs.List.{filter_map, list_any}
+use Rattle.std.proofs.lemmas.List.Folds.{list_any-append}
 use Rattle.std.specs.Ordering.{nat_cmp}
 use Rattle.std.specs.List.Sorted.{IsStrictlySortedBy}
-use Rattle.std.proofs.lemmas.List.{map-append, take_more, take_all}
+use Rattle.std.proofs.lemmas.Bool.{or_left, or_right}
+use Rattle.std.proofs.lemmas.List.{map-append, take_all}
 use Rattle.std.proofs.lemmas.List.Elements.{filter_map-append}
 use Rattle.std.proofs.lemmas.Grind.{flat_map-append}
 use Rattle.mir_meaning.specs.Registers.{numbers}
@@ -15,7 +17,6 @@ use Rattle.live_lanes.specs.declared.extent.Stretch.{Stretch}
 use Rattle.live_lanes.specs.declared.row.Cell.{Cell}
 use Rattle.live_lanes.specs.declared.table.Table.{Table}
 use Rattle.live_lanes.specs.Table.{Numbers}
-use Rattle.live_lanes.specs.Entered.{cells_of}
 use Rattle.live_lanes.specs.Extents.{extent_in, stretch_of}
 use Rattle.split_choose.specs.declared.spans.Span.{Span}
 use Rattle.split_choose.specs.Built.{Told, told, Rise, piece_stretches, cell_stretches, stretches_at, cells_stretches, lane_stretches, range_stretches, stretched, with_stretches}
@@ -29,6 +30,31 @@ numbers_more n (suc k) =
 pub numbers_next : (k : ℕ) → numbers 0 (k + 1) ≡ numbers 0 k ++ k ∷ []
 numbers_next k = let s : k + 1 ≡ suc k = omega arith in let z : 0 + k ≡ k = omega arith in ap (numbers 0) s ∙ (numbers_more 0 k ∙ ap (λ m. numbers 0 k ++ m ∷ []) z)
 
+or-assoc : (a b c : Bool) → ((a || b) || c) ≡ (a || (b || c))
+or-assoc true b c = refl
+or-assoc false b c = refl
+
+or-none : (b : Bool) → (b || false) ≡ b
+or-none true = refl
+or-none false = refl
+
+pub pointwise : {X Y : Type 0} {f g : X → Y} → ((x : X) → f x ≡ g x) → f ≡ g
+pointwise e = λ i x. e x i
+
+-- a stretch that stands there already
+
+pub already : (p : Stretch → Bool) (ss : List Stretch) (place : ℕ) (s : Stretch) → slice_get ss place ≡ Some s → list_any p ss ≡ (list_any p ss || list_any p (s ∷ []))
+already p ss place s at = go (p s) refl
+  where
+    passes : (ss : List Stretch) (place : ℕ) → slice_get ss place ≡ Some s → p s ≡ true → list_any p ss ≡ true
+    passes [] place at e = cc
+    passes (r ∷ rs) zero at e = let same : r ≡ s = cc in or_left (p r) (list_any p rs) (ap p same ∙ e)
+    passes (r ∷ rs) (suc place) at e = or_right (p r) (list_any p rs) (passes rs place at e)
+
+    go : (b : Bool) → p s ≡ b → list_any p ss ≡ (list_any p ss || (p s || false))
+    go true e = passes ss place at e ∙ sym (or_left (list_any p ss) (p s || false) (passes ss place at e))
+    go false e = sym (ap (λ b. list_any p ss || (b || false)) e ∙ or-none (list_any p ss))
+
 -- one more piece
 
 module _ (slots : Numbers) (c : Option Cell) (k : ℕ) where
@@ -38,15 +64,17 @@ module _ (slots : Numbers) (c : Option Cell) (k : ℕ) where
       ∙ (ap (map (stretch_of slots)) (filter_map-append (extent_in c) (numbers 0 k) (k ∷ []) ∙ ap (λ x. filter_map (extent_in c) (numbers 0 k) ++ x) e)
       ∙ map-append (stretch_of slots) (filter_map (extent_in c) (numbers 0 k)) es)
 
-  pub piece-added : (base old : List Stretch) (e : Extent) → Some e ≡ extent_in c k → old ≡ base ++ piece_stretches slots c k → old ++ stretch_of slots e ∷ [] ≡ base ++ piece_stretches slots c (k + 1)
-  piece-added base old e is was =
+  pub piece-added : (p : Stretch → Bool) (base : List Stretch) (old : Bool) (e : Extent) → Some e ≡ extent_in c k → old ≡ (list_any p base || list_any p (piece_stretches slots c k)) → (old || list_any p (stretch_of slots e ∷ [])) ≡ (list_any p base || list_any p (piece_stretches slots c (k + 1)))
+  piece-added p base old e is was =
       let only : filter_map (extent_in c) (k ∷ []) ≡ e ∷ [] = rw (← is) refl in
-      ap (λ ss. ss ++ stretch_of slots e ∷ []) was ∙ (append_assoc base (piece_stretches slots c k) (stretch_of slots e ∷ []) ∙ ap (λ ss. base ++ ss) (sym (more-pieces (e ∷ []) only)))
+      ap (λ b. b || list_any p (stretch_of slots e ∷ [])) was
+      ∙ (or-assoc (list_any p base) (list_any p (piece_stretches slots c k)) (list_any p (stretch_of slots e ∷ []))
+      ∙ ap (λ b. list_any p base || b) (sym (ap (list_any p) (more-pieces (e ∷ []) only) ∙ list_any-append p (piece_stretches slots c k) (stretch_of slots e ∷ []))))
 
-  pub piece-missing : (base old : List Stretch) → None ≡ extent_in c k → old ≡ base ++ piece_stretches slots c k → old ≡ base ++ piece_stretches slots c (k + 1)
-  piece-missing base old is was =
+  pub piece-missing : (p : Stretch → Bool) (base : List Stretch) (old : Bool) → None ≡ extent_in c k → old ≡ (list_any p base || list_any p (piece_stretches slots c k)) → old ≡ (list_any p base || list_any p (piece_stretches slots c (k + 1)))
+  piece-missing p base old is was =
       let only : filter_map (extent_in c) (k ∷ []) ≡ [] = rw (← is) refl in
-      was ∙ ap (λ ss. base ++ ss) (sym (more-pieces [] only ∙ append-nil (piece_stretches slots c k)))
+      was ∙ ap (λ ss. list_any p base || list_any p ss) (sym (more-pieces [] only ∙ append-nil (piece_stretches slots c k)))
 
 -- spans with more points
 
@@ -59,7 +87,7 @@ map-map f g [] = refl
 map-map f g (x ∷ xs) = ap (λ ys. g (f x) ∷ ys) (map-map f g xs)
 
 no-more : (s : Told) → stretched [] s ≡ s
-no-more s = ap (λ ss. record s { stretches = ss }) (append-nil s.stretches)
+no-more s = ap (λ ss. record s { stretches = ss }) (pointwise (λ p. or-none (s.stretches p)))
 
 pub stretched-if : (k : ℕ) (ss : List Stretch) (ts : List Told) → map (λ s. cond (nat_eq s.position k) (stretched ss s) s) ts ≡ map (with_stretches (λ j. cond (nat_eq j k) ss [])) ts
 stretched-if k ss ts = map-same (λ (s : Told). cond (nat_eq s.position k) (stretched ss s) s) (with_stretches (λ j. cond (nat_eq j k) ss [])) (λ s. go s (nat_eq s.position k)) ts
@@ -75,7 +103,12 @@ none-more f none (t ∷ ts) = ap (λ s. s ∷ ts) (sym (ap (λ ss. stretched ss 
 pub more-twice : (f g h : ℕ → List Stretch) → ((k : ℕ) → h k ≡ f k ++ g k) → (ts : List Told) → map (with_stretches g) (map (with_stretches f) ts) ≡ map (with_stretches h) ts
 more-twice f g h both ts =
     map-map (with_stretches f) (with_stretches g) ts
-    ∙ map-same (λ (s : Told). with_stretches g (with_stretches f s)) (with_stretches h) (λ s. ap (λ ss. record s { stretches = ss }) (append_assoc s.stretches (f s.position) (g s.position) ∙ ap (λ ss. s.stretches ++ ss) (sym (both s.position)))) ts
+    ∙ map-same (λ (s : Told). with_stretches g (with_stretches f s)) (with_stretches h) (λ s. ap (λ ss. record s { stretches = ss }) (pointwise (λ p. both-pass s p))) ts
+  where
+    both-pass : (s : Told) (p : Stretch → Bool) → ((s.stretches p || list_any p (f s.position)) || list_any p (g s.position)) ≡ (s.stretches p || list_any p (h s.position))
+    both-pass s p =
+        or-assoc (s.stretches p) (list_any p (f s.position)) (list_any p (g s.position))
+        ∙ ap (λ b. s.stretches p || b) (sym (ap (list_any p) (both s.position) ∙ list_any-append p (f s.position) (g s.position)))
 
 -- they stay where they are
 

@@ -1,8 +1,8 @@
 -- What the instructions that touch a range add to a block, in which they stand or not.
-use Rattle.std.proofs.Common.{◌≡◌, ◌≢◌, ◌∙◌, ◌⊎◌, inl, inr, ℕ, zero, suc, ◌+◌, ◌*◌, ◌<◌, ◌≤◌, List, [], ◌∷◌, ◌++◌, Bool, true, false, cond, arith, refl, sym, ap, subst, length, map, Option, None, Some}
-use Rattle.std.specs.Prelude.{nat_eq, ◌||◌, ◌&&◌, filter, filter_map, count_by, slice_get, fold}
+use Rattle.std.proofs.Common.{◌≡◌, ◌∙◌, ℕ, zero, suc, ◌+◌, ◌*◌, ◌<◌, List, [], ◌∷◌, Bool, true, false, cond, arith, refl, sym, ap, map, Some}
+use Rattle.std.specs.Prelude.{nat_eq, ◌||◌, ◌&&◌, filter, count_by, slice_get, fold}
 use Rattle.std.specs.List.{list_any, sum_by}
-use Rattle.std.proofs.lemmas.Bool.{cases_eq, eq-eqb, ne_eqb}
+use Rattle.std.proofs.lemmas.Bool.{eq-eqb, ne_eqb}
 use Rattle.std.proofs.lemmas.List.Sums.{sum_by-cons, fold-append}
 use Rattle.target_base.specs.declared.types.Target.{Target}
 use Rattle.mir_func.specs.declared.func.RegOp.{RegOp}
@@ -10,7 +10,7 @@ use Rattle.mir_func.specs.declared.func.Operand.{Operand}
 use Rattle.mir_func.specs.declared.func.Operand.TheVariants as operands
 use Rattle.mir_func.specs.declared.func.Instr.{Instr}
 use Rattle.mir_func.specs.declared.func.Block.{Block}
-use Rattle.mir_meaning.specs.Binding.{does, is_terminator, registers, as_register}
+use Rattle.mir_meaning.specs.Binding.{does, is_terminator, registers}
 use Rattle.mir_meaning.specs.Points.{is_range, counts, touches}
 use Rattle.block_freq.specs.Weights.{names, naming}
 use Rattle.split_choose.specs.Regions.{capped}

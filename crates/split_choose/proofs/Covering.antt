@@ -1,11 +1,10 @@
 -- What the stretches of a range cover, and at which points they begin.
-use Rattle.std.proofs.Common.{◌≡◌, ◌≢◌, ◌∙◌, ◌⊎◌, inl, inr, ℕ, zero, suc, ◌+◌, ◌*◌, ◌<◌, ◌≤◌, List, [], ◌∷◌, ◌++◌, Bool, true, false, cond, arith, refl, sym, ap, subst, length, map, Option, None, Some, max}
+use Rattle.std.proofs.Common.{◌≡◌, ◌≢◌, ◌∙◌, ◌⊎◌, inl, inr, ℕ, zero, suc, ◌+◌, ◌<◌, ◌≤◌, List, [], ◌∷◌, ◌++◌, Bool, true, false, cond, arith, refl, sym, ap, subst, map, Option, None, Some, max}
 use Rattle.std.specs.Prelude.{nat_eq, nat_lt, nat_le, ◌||◌, ◌&&◌, slice_get, option_map, flat_map}
 use Rattle.std.specs.List.{list_any, list_all}
-use Rattle.std.proofs.lemmas.Bool.{cases_eq, cases_lt, eq-eqb, ne_eqb, or_left, or_right, and_from, and_parts, leb-true, le-leb, lt-ltb, ltb-true, false≢true}
+use Rattle.std.proofs.lemmas.Bool.{cases_eq, eq-eqb, ne_eqb, or_left, or_right, and_from, and_parts, leb-true, le-leb, lt-ltb, ltb-true}
 use Rattle.std.proofs.lemmas.List.Folds.{list_any-append, list_all-append}
 use Rattle.std.proofs.lemmas.Grind.{flat_map-append}
-use Rattle.std.proofs.lemmas.List.{map-append}
 use Rattle.meaning.specs.Live.{Among, here, there}
 use Rattle.mir_meaning.specs.Registers.{numbers}
 use Rattle.mir_func.specs.declared.func.Instr.{Instr}
@@ -21,7 +20,7 @@ use Rattle.live_lanes.specs.declared.table.Table.{Table}
 use Rattle.live_lanes.specs.Table.{Numbers, Begun, Seen, begun, unseen, seen, seen_cell, seen_in, find_cell, is_below, descends, entry_rank, exit_rank, end_rank, rises_from}
 use Rattle.live_lanes.specs.Paths.{has}
 use Rattle.live_lanes.specs.Reach.{is_never}
-use Rattle.live_lanes.specs.Entered.{cells_of, rows_seen, piece_count}
+use Rattle.live_lanes.specs.Entered.{cells_of, rows_seen}
 use Rattle.live_lanes.specs.Extents.{lanes_count, segment_extent, extent_in, cell_extents, first_rank, last_rank, stretch_of, is_met_in}
 use Rattle.live_lanes.specs.Ordered.{ids_of}
 use Rattle.live_lanes.specs.Touching.{some_below, some_of, some_lane}
@@ -29,7 +28,7 @@ use Rattle.live_lanes.proofs.Extents.{unseen-none}
 use Rattle.split_choose.specs.Seen.{only, ends_in_turn, begins_here}
 use Rattle.split_choose.specs.Spanned.{is_covered, is_rank_in, begins_at_point, is_cell, is_in_block}
 use Rattle.split_choose.specs.Built.{cell_stretches, stretches_at, cells_stretches, lane_stretches, range_stretches, lane_positions, range_positions}
-use Rattle.split_choose.proofs.Covers.{among-cases, held-covered, covered-held, filter_map-in, extent-piece}
+use Rattle.split_choose.proofs.Covers.{among-cases, held-covered, covered-held, extent-piece}
 use Rattle.split_choose.proofs.Building.{numbers_next}
 use Rattle.split_choose.proofs.Positions.{both-ways}
 

@@ -1,33 +1,28 @@
 -- The spans of a range, from what was put together.
-use Rattle.std.proofs.Common.{◌≡◌, ◌≢◌, ◌∙◌, ◌⊎◌, inl, inr, ℕ, zero, suc, ◌+◌, ◌*◌, ◌<◌, ◌≤◌, List, [], ◌∷◌, ◌++◌, Bool, true, false, cond, arith, refl, sym, ap, subst, length, map, Option, None, Some}
-use Rattle.std.specs.Prelude.{nat_eq, nat_lt, nat_le, ◌||◌, slice_get, slice_index_or, filter, fold}
+use Rattle.std.proofs.Common.{◌≡◌, ◌≢◌, ◌∙◌, ◌⊎◌, inl, inr, ℕ, zero, suc, ◌+◌, ◌*◌, ◌<◌, List, [], ◌∷◌, Bool, true, false, arith, refl, sym, ap, subst, length, map, Some}
+use Rattle.std.specs.Prelude.{nat_eq, nat_lt, nat_le, not, ◌||◌, ◌&&◌, slice_get, slice_index_or, filter, fold}
 use Rattle.std.specs.List.{list_any, list_all, sum_by}
 use Rattle.std.specs.Ordering.{nat_cmp}
 use Rattle.std.specs.List.Sorted.{IsStrictlySortedBy}
 use Rattle.std.proofs.lemmas.Bool.{cases_eq, eq-eqb, ne_eqb, and_parts, and_from, or_right, or_left, ltb-true, lt-ltb}
 use Rattle.meaning.specs.Live.{Among, here, there}
-use Rattle.mir_func.specs.declared.func.Instr.{Instr}
 use Rattle.mir_func.specs.declared.func.Block.{Block}
 use Rattle.mir_meaning.specs.Binding.{does, is_terminator}
 use Rattle.block_freq.specs.Weights.{naming}
 use Rattle.live_lanes.specs.declared.extent.Stretch.{Stretch}
 use Rattle.live_lanes.specs.declared.live.LiveFunc.{LiveFunc}
 use Rattle.live_lanes.specs.declared.table.Table.{Table}
-use Rattle.live_lanes.specs.Graph.{is_live}
-use Rattle.live_lanes.specs.Entered.{causes, rows_seen}
-use Rattle.live_lanes.specs.Extents.{lanes_count, is_met_in}
-use Rattle.live_lanes.specs.Touching.{some_lane, leaves_block}
+use Rattle.live_lanes.specs.Extents.{lanes_count}
+use Rattle.live_lanes.specs.Touching.{leaves_block}
 use Rattle.interference.specs.declared.matrix.Matrix.{Matrix}
 use Rattle.split_choose.specs.declared.spans.Span.{Span}
-use Rattle.split_choose.specs.Seen.{FindsPoints, only}
-use Rattle.split_choose.specs.Spans.{AreSpans}
-use Rattle.split_choose.specs.Regions.{capped, ArePositions}
-use Rattle.split_choose.specs.Places.{Site, sites_from}
-use Rattle.split_choose.specs.Spanned.{is_covered, begins_at_point, IsSpan, HasSpan, is_in_block, AreSpansOf}
-use Rattle.split_choose.specs.Built.{Told, told, blank, range_stretches, range_positions, with_stretches, used, whole}
+use Rattle.split_choose.specs.Seen.{FindsPoints}
+use Rattle.split_choose.specs.Regions.{capped}
+use Rattle.split_choose.specs.Spanned.{begins_at_point, IsSpan, HasSpan, is_in_block, AreSpansOf}
+use Rattle.split_choose.specs.Built.{Told, told, blank, range_stretches, range_positions, with_stretches, whole}
 use Rattle.split_choose.proofs.Covers.{among-cases}
 use Rattle.split_choose.proofs.Counting.{used-all}
-use Rattle.split_choose.proofs.Building.{map-map, map-same, told-positions}
+use Rattle.split_choose.proofs.Building.{map-map, told-positions}
 use Rattle.split_choose.proofs.Covering.{range-covers, range-begins, range-ordered, range-blocks, range-placed}
 
 -- what is told of each of several
@@ -75,6 +70,19 @@ passing p (j ∷ ks) k a h = go (cases_eq k j) (passing p ks k (and_parts (p j) 
 all-spans : (p : Span → Bool) (spans : List Span) → ((s : Span) → Among s spans → p s ≡ true) → list_all p spans ≡ true
 all-spans p [] h = refl
 all-spans p (s ∷ spans) h = and_from (p s) (list_all p spans) (h s here) (all-spans p spans (λ r m. h r (there m)))
+
+-- lists of which the same tests are passed by some are such of which the same are passed by all
+
+all-is : {X : Type 0} (p : X → Bool) (xs : List X) → list_all p xs ≡ not (list_any (λ y. not (p y)) xs)
+all-is p [] = refl
+all-is p (y ∷ xs) = go (p y) (all-is p xs)
+  where
+    go : (b : Bool) → list_all p xs ≡ not (list_any (λ z. not (p z)) xs) → (b && list_all p xs) ≡ not (not b || list_any (λ z. not (p z)) xs)
+    go true ih = ih
+    go false ih = refl
+
+all-alike : {X : Type 0} (p : X → Bool) (xs ys : List X) → ((q : X → Bool) → list_any q xs ≡ list_any q ys) → list_all p xs ≡ list_all p ys
+all-alike p xs ys same = all-is p xs ∙ (ap not (same (λ y. not (p y))) ∙ sym (all-is p ys))
 
 -- instruction by instruction, or span by span
 pub span-by-span : {S X : Type 0} (u : X → Told → Told) (g : S → Told) (ks : List S) (xs : List X) → fold (λ ts x. map (u x) ts) (map g ks) xs ≡ map (λ k. fold (λ t x. u x t) (g k) xs) ks
@@ -139,7 +147,7 @@ module _ (m : Matrix) (v : ℕ) (freqs : List ℕ) where
     known-span : (s : Span) → Known s → IsSpan m v freqs s
     known-span s k =
         let freq : s.frequency ≡ slice_index_or freqs s.position 0 = ap (λ (t : Told). t.frequency) k.is in
-        let points_of : s.stretches.items ≡ range_stretches x v count s.position = ap (λ (t : Told). t.stretches) k.is in
+        let points_of : (p : Stretch → Bool) → list_any p s.stretches.items ≡ list_any p (range_stretches x v count s.position) = λ p. ap (λ (t : Told). t.stretches p) k.is in
         record {
           block = k.block;
           found = k.at;
@@ -148,15 +156,15 @@ module _ (m : Matrix) (v : ℕ) (freqs : List ℕ) where
           frequency = freq;
           uses = ap (λ (t : Told). t.uses) k.is ∙ from-none (slice_index_or freqs s.position 0) s.frequency (sum_by (naming v) k.block.instrs) freq;
           end_uses = ap (λ (t : Told). t.end_uses) k.is ∙ from-none (slice_index_or freqs s.position 0) s.frequency (sum_by (naming v) (filter (does is_terminator m.live.target) k.block.instrs)) freq;
-          covered = λ at. ap (λ ss. is_covered ss at) points_of ∙ range-covers x v s.position points.apart points.order.table points.turns at;
-          begun = ap (list_all (begins_at_point x.order.slots k.block.instrs)) points_of ∙ range-begins x v s.position count points.apart k.block.instrs (λ l. points.begun l s.position k.block k.at);
+          covered = λ at. points_of (λ (r : Stretch). nat_le r.first at && nat_le at r.last) ∙ range-covers x v s.position points.apart points.order.table points.turns at;
+          begun = all-alike (begins_at_point x.order.slots k.block.instrs) s.stretches.items (range_stretches x v count s.position) points_of ∙ range-begins x v s.position count points.apart k.block.instrs (λ l. points.begun l s.position k.block k.at);
         }
       where
         from-none : (f g n : ℕ) → g ≡ f → capped (0 + f * n) ≡ capped (g * n)
         from-none f g n e = let z : 0 + f * n ≡ f * n = omega arith in ap capped (z ∙ ap (λ h. h * n) (sym e))
 
     known-order : (s : Span) → Known s → list_all (λ at. nat_le at.first at.last) s.stretches.items ≡ true
-    known-order s k = ap (λ (t : Told). list_all (λ (at : Stretch). nat_le at.first at.last) t.stretches) k.is ∙ range-ordered x v s.position count points.apart
+    known-order s k = all-alike (λ (at : Stretch). nat_le at.first at.last) s.stretches.items (range_stretches x v count s.position) (λ p. ap (λ (t : Told). t.stretches p) k.is) ∙ range-ordered x v s.position count points.apart
 
     positions-same : map (λ (s : Span). s.position) spans ≡ positions
     positions-same =

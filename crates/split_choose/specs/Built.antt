@@ -1,5 +1,6 @@
 -- How the spans of a range are put together.
-use Rattle.std.specs.Prelude.{◌≡◌, ℕ, suc, ◌+◌, ◌*◌, Bool, cond, nat_eq, List, [], ◌∷◌, ◌++◌, map, flat_map, filter_map, option_map, fold, Option, None, Some, slice_get, slice_index_or}
+use Rattle.std.specs.Prelude.{ℕ, suc, ◌+◌, ◌*◌, Bool, false, cond, ◌||◌, nat_eq, List, [], ◌∷◌, map, flat_map, filter_map, option_map, fold, Option, None, Some, slice_get, slice_index_or}
+use Rattle.std.specs.List.{list_any}
 use Rattle.std.specs.Ordering.{nat_cmp}
 use Rattle.std.specs.List.Sorted.{IsStrictlySortedBy}
 use Rattle.target_base.specs.declared.types.Target.{Target}
@@ -22,10 +23,10 @@ use Rattle.split_choose.specs.declared.spans.Span.{Span}
 use Rattle.split_choose.specs.Places.{Site, sites_from}
 use Rattle.split_choose.specs.Regions.{capped}
 
--- what a span tells
+-- what a span tells; of its points, which tests some stretch of them passes
 pub record Told : Type 0 where
   pub position : ℕ
-  pub stretches : List Stretch
+  pub stretches : (Stretch → Bool) → Bool
   pub live_in : Bool
   pub live_out : Bool
   pub frequency : ℕ
@@ -33,7 +34,7 @@ pub record Told : Type 0 where
   pub end_uses : ℕ
 
 abbrev pub told : Span → Told
-told s = record { position = s.position; stretches = s.stretches.items; live_in = s.is_live_in; live_out = s.is_live_out; frequency = s.frequency; uses = s.uses; end_uses = s.end_uses }
+told s = record { position = s.position; stretches = λ p. list_any p s.stretches.items; live_in = s.is_live_in; live_out = s.is_live_out; frequency = s.frequency; uses = s.uses; end_uses = s.end_uses }
 
 -- the positions rise
 abbrev pub Rise : List Span → Type 0
@@ -48,7 +49,7 @@ span_place k (s ∷ ss) = cond (nat_eq s.position k) (Some 0) (option_map (λ n.
 abbrev pub blank : LiveFunc → ℕ → ℕ → ℕ → Told
 blank live v frequency k = record {
   position = k;
-  stretches = [];
+  stretches = λ p. false;
   live_in = some_lane live.table v (λ l. is_live (causes live.table.rows.rows.items l k 0));
   live_out = leaves_block live.table v k (slice_get live.func.blocks k);
   frequency = frequency;
@@ -92,7 +93,7 @@ range_stretches x v n k = flat_map (λ j. lane_stretches x k (number_in x.lanes 
 
 -- the span with more points
 abbrev pub stretched : List Stretch → Told → Told
-stretched ss s = record s { stretches = s.stretches ++ ss }
+stretched ss s = record s { stretches = λ p. s.stretches p || list_any p ss }
 
 -- each span with those that its block has more
 abbrev pub with_stretches : (ℕ → List Stretch) → Told → Told

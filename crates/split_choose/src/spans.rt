@@ -1,11 +1,12 @@
 //! A range block by block: where it has points, where it is live at borders, and what its
 //! instructions cost.
 
-ghost use Rattle.std.specs.Prelude.{◌≡◌, ◌<◌, ◌++◌, ℕ, List, [], Some, cond, nat_eq, map, fold, length, OnOk, IfOk, IfSome, slice_get, slice_index_or};
+ghost use Rattle.std.specs.Prelude.{◌≡◌, ◌<◌, ◌++◌, ◌||◌, ◌∷◌, ℕ, Bool, true, List, [], Some, cond, nat_eq, map, fold, length, OnOk, IfOk, IfSome, slice_get, slice_index_or};
 ghost use Rattle.std.specs.Ordering.{nat_cmp};
 ghost use Rattle.std.specs.List.{list_any};
 ghost use Rattle.std.specs.List.Sorted.{IsStrictlySortedBy};
 ghost use Rattle.target_base.specs.Registers.{units_of};
+ghost use Rattle.live_lanes.specs.declared.extent.Stretch.{Stretch as StretchValue};
 ghost use Rattle.live_lanes.specs.Entered.{cells_of};
 ghost use Rattle.live_lanes.specs.Extents.{lanes_count};
 ghost use Rattle.live_lanes.specs.Looks.{InOrder};
@@ -46,18 +47,43 @@ pub(crate) struct Span {
     pub end_uses: u128,
 }
 
-/// Adds the points of a lane in one of the blocks that it is in.
+/// Whether a stretch stands at a place among others.
+fn stands_at(stretches: &[Stretch], place: usize, stretch: Stretch) -> bool
+    ensures { result ≡ true → slice_get stretches.now place ≡ Some stretch }
+{
+    match stretches.get(place) {
+        Some(there) => there.first == stretch.first && there.last == stretch.last,
+        None => false,
+    }
+}
+
+/// Adds a stretch, unless it stands at its place already.
+fn join(stretches: &mut Vec<Stretch>, place: usize, stretch: Stretch) -> Result<(), AllocError>
+    ensures { OnOk result ((p : StretchValue → Bool) → list_any p stretches.new.items ≡ (list_any p stretches.old.items || list_any p (stretch ∷ []))) }
+{
+    if stands_at(stretches.as_slice(), place, stretch) {
+        return Ok(());
+    }
+    stretches.push(stretch)?;
+    Ok(())
+}
+
+/// Adds the points of a lane in one of the blocks that it is in. The lanes of a range mostly have
+/// the same ones, and what stands at its place already isn't added again.
 fn add_stretches(
     live: &LiveFunc,
     lane: u32,
     place: usize,
     stretches: &mut Vec<Stretch>,
 ) -> Result<(), AllocError>
-    ensures { OnOk result (stretches.new.items ≡ stretches.old.items ++ cell_stretches live.now.table.order.slots (slice_get (cells_of live.now.table.rows.rows.items lane) place)) }
+    ensures { OnOk result ((p : StretchValue → Bool) → list_any p stretches.new.items
+        ≡ (list_any p stretches.old.items || list_any p (cell_stretches live.now.table.order.slots (slice_get (cells_of live.now.table.rows.rows.items lane) place)))) }
 {
+    let mut count: usize = 0;
     'pieces: for index in 0..live.piece_count(lane, place) {
         if let Some(extent) = live.extent(lane, place, index) {
-            stretches.push(extent.stretch(live.slots()))?;
+            join(stretches, count, extent.stretch(live.slots()))?;
+            count = count.saturating_add(1);
         }
     }
     Ok(())
@@ -67,7 +93,8 @@ fn add_stretches(
 fn stretch_span(live: &LiveFunc, lane: u32, place: usize, span: &mut Span) -> Result<(), AllocError>
     ensures { OnOk result (told span.new ≡ stretched (cell_stretches live.now.table.order.slots (slice_get (cells_of live.now.table.rows.rows.items lane) place)) (told span.old)) }
 {
-    add_stretches(live, lane, place, &mut span.stretches)
+    add_stretches(live, lane, place, &mut span.stretches)?;
+    Ok(())
 }
 
 /// The range in a block, without points and uses.

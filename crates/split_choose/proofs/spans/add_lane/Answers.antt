@@ -1,8 +1,8 @@
-use Rattle.std.proofs.Common.{◌∙◌, sym, ap, refl, slice_get, map, take, length, ◌≤◌, arith, ℕ, [], List, ◌≡◌, ◌+◌, cond}
+use Rattle.std.proofs.Common.{◌∙◌, ap, refl, slice_get, map, take, length, ◌≤◌, arith, [], ◌+◌, cond}
 use Rattle.std.specs.Prelude.{nat_eq}
 use Rattle.std.proofs.lemmas.List.{take_all}
 use Rattle.live_lanes.specs.Entered.{cells_of}
-use Rattle.split_choose.specs.Built.{told, with_stretches, cells_stretches, cell_stretches}
+use Rattle.split_choose.specs.Built.{told, cells_stretches, cell_stretches}
 use Rattle.split_choose.proofs.Building.{none-more, more-added, as-well, cells-next, cells-over}
 use Rattle.split_choose.proofs.spans.add_lane.Goals.{in-Some+in_ok-add_cell, in_default}
 use Rattle.split_choose.proofs.spans.add_lane.Goals as goal

@@ -1,5 +1,5 @@
 use Rattle.std.proofs.Common.{◌∙◌, ap, refl, map, ◌+◌, Some}
-use Rattle.split_choose.specs.Built.{told, with_stretches, range_stretches, lane_stretches}
+use Rattle.split_choose.specs.Built.{told, range_stretches, lane_stretches}
 use Rattle.split_choose.proofs.Building.{none-more, more-added, as-well, lanes-more, lanes-over}
 use Rattle.split_choose.proofs.spans.add_lanes.Goals.{in-Some+in_ok-add_lane, in_default}
 use Rattle.split_choose.proofs.spans.add_lanes.Goals as goal

@@ -1,4 +1,4 @@
-use Rattle.std.proofs.Common.{◌∙◌, ap, Vec, Global, ℕ}
+use Rattle.std.proofs.Common.{◌∙◌, ap}
 use Rattle.live_lanes.specs.Entered.{cells_of}
 use Rattle.split_choose.proofs.Positions.{block-added, block-missing}
 use Rattle.split_choose.proofs.spans.add_positions.Goals.{in-Some+in_ok-push, in_default}

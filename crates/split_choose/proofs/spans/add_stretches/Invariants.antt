@@ -1,7 +1,10 @@
-use Rattle.std.proofs.Common.{◌≡◌, ◌++◌, slice_get}
+use Rattle.std.proofs.Common.{◌≡◌, slice_get, Bool}
+use Rattle.std.specs.Prelude.{◌||◌}
+use Rattle.std.specs.List.{list_any}
+use Rattle.live_lanes.specs.declared.extent.Stretch.{Stretch}
 use Rattle.live_lanes.specs.Entered.{cells_of}
 use Rattle.split_choose.specs.Built.{piece_stretches}
 use Rattle.split_choose.proofs.spans.add_stretches.Given as goal
 
 abbrev pub invariant-pieces : goal.invariant-pieces
-invariant-pieces l = l.stretches.items ≡ l.initial.stretches.items ++ piece_stretches l.live.table.order.slots (slice_get (cells_of l.live.table.rows.rows.items l.lane) l.place) l.index
+invariant-pieces l = (p : Stretch → Bool) → list_any p l.stretches.items ≡ (list_any p l.initial.stretches.items || list_any p (piece_stretches l.live.table.order.slots (slice_get (cells_of l.live.table.rows.rows.items l.lane) l.place) l.index))

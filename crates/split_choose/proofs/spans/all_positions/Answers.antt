@@ -1,4 +1,4 @@
-use Rattle.std.proofs.Common.{◌∙◌, ap, Vec, Global, ℕ, Some}
+use Rattle.std.proofs.Common.{◌∙◌, ap, Some}
 use Rattle.split_choose.proofs.Positions.{lane-added, lane-missing}
 use Rattle.split_choose.proofs.spans.all_positions.Goals.{in-Some+in_ok-add_positions, in_default}
 use Rattle.split_choose.proofs.spans.all_positions.Goals as goal

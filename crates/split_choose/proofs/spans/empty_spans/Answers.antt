@@ -1,5 +1,4 @@
-use Rattle.std.proofs.Common.{◌∙◌, ap, map, length, ◌<◌, arith, refl, get_or, ◌≡◌, sym}
-use Rattle.std.proofs.lemmas.List.{get_or_default}
+use Rattle.std.proofs.Common.{◌∙◌, ap, map, length, ◌<◌, arith, refl}
 use Rattle.split_choose.specs.Built.{told}
 use Rattle.split_choose.proofs.Using.{one-begun}
 use Rattle.split_choose.proofs.spans.empty_spans.Goals as goal

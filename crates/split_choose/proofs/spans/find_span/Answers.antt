@@ -1,11 +1,7 @@
-use Rattle.std.proofs.Common.{rules, ◌≡◌, ◌≢◌, ◌<◌, ◌≤◌, ◌∙◌, ap, sym, ℕ, Bool, length, arith, map, get_or, Some}
+use Rattle.std.proofs.Common.{rules, ◌≤◌, ◌∙◌, ap, sym, length, arith}
 use Rattle.std.specs.Prelude.{nat_lt}
-use Rattle.std.specs.List.{AllWithin}
-use Rattle.std.specs.Ordering.{nat_cmp}
-use Rattle.std.specs.List.Sorted.{IsPartitionedBy}
 use Rattle.std.proofs.lemmas.List.Sorted.{IsPartitionPoint-from_clause, IsPartitionedBy-ltb}
 use Rattle.split_choose.specs.declared.spans.Span.{Span}
-use Rattle.split_choose.specs.Built.{Rise}
 use Rattle.split_choose.proofs.Finding.{is-there, is-nowhere, rises-up}
 use Rattle.split_choose.proofs.spans.find_span.Goals as goal
 
