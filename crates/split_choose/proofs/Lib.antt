@@ -17,3 +17,11 @@ pub mod Clear
 pub mod Alone
 pub mod Flags
 pub mod Offered
+pub mod Along
+pub mod Least
+pub mod Telling
+pub mod Barred
+pub mod Insides
+pub mod Priced
+pub mod Regioned
+pub mod Spanning

@@ -9,3 +9,4 @@ pub mod Runs
 pub mod Spans
 pub mod Parts
 pub mod Spanned
+pub mod Counted
