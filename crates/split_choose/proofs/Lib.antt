@@ -25,3 +25,4 @@ pub mod Insides
 pub mod Priced
 pub mod Regioned
 pub mod Spanning
+pub mod Unused

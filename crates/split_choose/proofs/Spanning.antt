@@ -143,7 +143,7 @@ module _ (slots : Numbers) where
       let covered : is_covered (s ∷ ss) s.first ≡ true = or_left (nat_le s.first s.first && nat_le s.first s.last) (is_covered ss s.first) (and_from (nat_le s.first s.first) (nat_le s.first s.last) low high) in
       ne_eqb (length (s ∷ ss)) 0 (λ e. absurd (omega (arith, e))) ∙ sym (ap not (some-rank (is_covered (s ∷ ss)) s.first covered is first))
 
-has-among : (i : Instr) (is : List Instr) → Among i is → has i.id (ids_of is) ≡ true
+pub has-among : (i : Instr) (is : List Instr) → Among i is → has i.id (ids_of is) ≡ true
 has-among i [] m = elim m [ ]
 has-among i (j ∷ is) here = ap (λ b. cond b true (has i.id (ids_of is))) (eq-eqb i.id i.id refl)
 has-among i (j ∷ is) (there m) = go (nat_eq j.id i.id) (has-among i is m)
