@@ -15,6 +15,18 @@ module _ {Y : Type 0} (pos : Y → ℕ) where
   Rising k [] = Unit {0}
   Rising k (y ∷ ys) = (k ≤ pos y) × Rising (suc (pos y)) ys
 
+  rising-behind : (y : Y) (ys : List Y) → IsStrictlySortedBy nat_cmp (map pos (y ∷ ys)) → Rising (suc (pos y)) ys
+  unfolding IsStrictlySortedBy
+  rising-behind y [] h = tt
+  rising-behind y (z ∷ ys) h =
+      let lt : pos y < pos z = IsStrictlyIncreasing-from_sorted (map pos (y ∷ z ∷ ys)) h 0 (omega arith) in
+      (omega (arith, lt), rising-behind z ys h.1)
+
+  -- places that are in order rise
+  pub rising : (ys : List Y) → IsStrictlySortedBy nat_cmp (map pos ys) → Rising 0 ys
+  rising [] h = tt
+  rising (y ∷ ys) h = (omega arith, rising-behind y ys h)
+
   lower : (j k : ℕ) (ys : List Y) → j ≤ k → Rising k ys → Rising j ys
   lower j k [] h r = tt
   lower j k (y ∷ ys) h r = (let a = r.0 in omega arith, r.1)

@@ -26,3 +26,4 @@ pub mod Priced
 pub mod Regioned
 pub mod Spanning
 pub mod Unused
+pub mod Regional

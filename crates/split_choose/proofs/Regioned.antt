@@ -1,6 +1,6 @@
 -- The region split that is offered, by the parts over spans.
 use Rattle.std.proofs.Common.{◌≡◌, ◌∙◌, ℕ, List, [], ◌∷◌, Bool, true, false, cond, refl, sym, ap, map, filter, Option, None, Some, option_map}
-use Rattle.std.specs.Prelude.{nat_lt, slice_get, flat_map}
+use Rattle.std.specs.Prelude.{nat_lt}
 use Rattle.target_base.specs.declared.types.Target.{Target}
 use Rattle.target_base.specs.declared.types.Reg.{Reg}
 use Rattle.mir_func.specs.declared.func.Block.{Block}
@@ -8,13 +8,12 @@ use Rattle.mir_func.specs.Value.{Function}
 use Rattle.mir_meaning.specs.Binding.{class_of}
 use Rattle.mir_meaning.specs.Places.{domain}
 use Rattle.block_freq.specs.Weights.{use_sum}
-use Rattle.live_lanes.specs.declared.labels.Mark.{Mark}
 use Rattle.split_choose.specs.declared.spans.Span.{Span}
 use Rattle.split_choose.specs.Bundles.{are_joined, ArePlaced}
 use Rattle.split_choose.specs.Regions.{capped, uses_of, costs_of, inside_in}
 use Rattle.split_choose.specs.Offers.{View, Border, is_clear, region_cost, regions, region_marks, is_dividable, region_offer, least}
 use Rattle.split_choose.specs.Counted.{AreCounted}
-use Rattle.split_choose.specs.Parts.{marks_there}
+use Rattle.split_choose.specs.Parts.{marked}
 use Rattle.split_choose.proofs.Telling.{IsTold, IsUntold}
 use Rattle.split_choose.proofs.Along.{Along}
 use Rattle.split_choose.proofs.Least.{priced-same}
@@ -42,16 +41,12 @@ module _ (t : Target) (f : Function) (v : ℕ) (view : View) (freqs : List ℕ) 
     offered = ap (λ b. cond b (option_map (λ c. (c.1, region_marks t f v view c.1)) (least (regions t f v view freqs))) None) divides
         ∙ ap (λ ys. option_map (λ c. (c.1, region_marks t f v view c.1)) (least ys)) (sym parts-are)
 
-    pub none-offered : least (filter (λ c. nat_lt c.0 (capped (uses_of spans))) (map (λ r. (capped (costs_of (inside_in ps (clear r) spans) spans), r)) (domain t (class_of f v)))) ≡ None
-        → None ≡ region_offer t f v view freqs
+    -- with the marks of the blocks that spans are in
+    pub offered-is : option_map (marked t f v view (λ r. inside_in ps (clear r) spans) spans) (least (filter (λ c. nat_lt c.0 (capped (uses_of spans))) (map (λ r. (capped (costs_of (inside_in ps (clear r) spans) spans), r)) (domain t (class_of f v)))))
+        ≡ region_offer t f v view freqs
     unfolding parts
-    none-offered h = sym (offered ∙ ap (option_map (λ c. (c.1, region_marks t f v view c.1))) h)
-
-    pub one-offered : (c : ℕ) (r : Reg) (marks : List Mark)
-        → least (filter (λ c. nat_lt c.0 (capped (uses_of spans))) (map (λ r. (capped (costs_of (inside_in ps (clear r) spans) spans), r)) (domain t (class_of f v)))) ≡ Some (c, r)
-        → marks ≡ flat_map (λ s. marks_there t f v view (slice_get f.blocks s.position) (inside_in ps (clear r) spans s)) spans
-        → Some (r, marks) ≡ region_offer t f v view freqs
-    unfolding parts
-    one-offered c r marks h e =
-        ap (λ y. Some (r, y)) (e ∙ marks-are t f v view ps placed one freqs spans r (clear r) (cleared r) all)
-        ∙ sym (offered ∙ ap (option_map (λ c. (c.1, region_marks t f v view c.1))) h)
+    offered-is = same (least parts) ∙ sym offered
+      where
+        same : (o : Option (ℕ × Reg)) → option_map (marked t f v view (λ r. inside_in ps (clear r) spans) spans) o ≡ option_map (λ c. (c.1, region_marks t f v view c.1)) o
+        same None = refl
+        same (Some c) = ap (λ ms. Some (c.1, ms)) (marks-are t f v view ps placed one freqs spans c.1 (clear c.1) (cleared c.1) all)

@@ -62,3 +62,7 @@ marks_there t f v view (Some b) i = inside_marks t f v view b (as_inside i)
 -- those of the blocks of spans, of each of which it is told where it lies
 abbrev pub marks_of : Target → Function → ℕ → View → (Span → Inside) → List Span → List Mark
 marks_of t f v view inside spans = flat_map (λ s. marks_there t f v view (slice_get f.blocks s.position) (inside s)) spans
+
+-- the register of a part with the marks of these blocks
+abbrev pub marked : Target → Function → ℕ → View → (Reg → Span → Inside) → List Span → ℕ × Reg → Reg × List Mark
+marked t f v view inside spans c = (c.1, marks_of t f v view (inside c.1) spans)
