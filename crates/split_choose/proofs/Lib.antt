@@ -27,3 +27,5 @@ pub mod Regioned
 pub mod Spanning
 pub mod Unused
 pub mod Regional
+pub mod Choosing
+pub mod Labelling
