@@ -29,3 +29,11 @@ pub mod Unused
 pub mod Regional
 pub mod Choosing
 pub mod Labelling
+pub mod Ranked
+pub mod Spread
+pub mod Neighbours
+pub mod Clearing
+pub mod Between
+pub mod Pointed
+pub mod Cleared
+pub mod Free

@@ -10,3 +10,4 @@ pub mod Spans
 pub mod Parts
 pub mod Spanned
 pub mod Counted
+pub mod Clearing

@@ -14,6 +14,7 @@ use Rattle.live_lanes.specs.declared.table.Table.{Table}
 use Rattle.live_lanes.specs.Paths.{has}
 use Rattle.live_lanes.specs.Graph.{is_live}
 use Rattle.live_lanes.specs.declared.row.End.{End}
+use Rattle.live_lanes.specs.declared.row.End.TheVariants as ends
 use Rattle.live_lanes.specs.Table.{Numbers, Begun, Seen, entry_rank, exit_rank, end_rank, descends}
 use Rattle.live_lanes.specs.Ways.{successors}
 use Rattle.live_lanes.specs.Entered.{causes, cells_of, rows_seen}
@@ -119,6 +120,7 @@ pub record FindsPoints (m : Matrix) : Type 0 where
   pub placed : (l : ℕ) → list_all (λ c. nat_lt c.block (length m.live.func.blocks)) (cells_of m.live.table.rows.rows.items l) ≡ true
   pub read : (l k : ℕ) (b : Block) → slice_get m.live.func.blocks k ≡ Some b → reads_here b.instrs (rows_seen m.live.table.rows.rows.items l k) ≡ true
   pub held : (u k : ℕ) (b : Block) → slice_get m.live.func.blocks k ≡ Some b → list_all (starts_here b.instrs) (holds m u k) ≡ true
+  pub dead : (l k : ℕ) → is_live (causes m.live.table.rows.rows.items l k 0) ≡ false → (rows_seen m.live.table.rows.rows.items l k).end ≡ ends.Never
 
 -- where bundles are asked for, that blocks can be counted and that ways are those of the blocks
 pub record FindsWays (f : Function) (x : Table) : Type 0 where
