@@ -29,6 +29,7 @@ pub mod Unused
 pub mod Regional
 pub mod Choosing
 pub mod Labelling
+pub mod Closed
 pub mod Ranked
 pub mod Spread
 pub mod Neighbours

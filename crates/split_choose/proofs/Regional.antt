@@ -22,7 +22,8 @@ use Rattle.split_choose.specs.Parts.{IsReady, part_in, parts_of, marked}
 use Rattle.split_choose.proofs.Split.{as-many}
 use Rattle.split_choose.proofs.Along.{Along, rising, along}
 use Rattle.split_choose.proofs.Telling.{IsTold, IsUntold}
-use Rattle.split_choose.proofs.Spanning.{told, untold}
+use Rattle.split_choose.proofs.Spanning.{told, untold, right-at}
+use Rattle.split_choose.proofs.Cleared.{clear-in}
 use Rattle.split_choose.proofs.Unused.{unused}
 use Rattle.split_choose.proofs.Regioned.{none-divides, offered-is}
 
@@ -71,11 +72,21 @@ module _ (m : Matrix) (v : ℕ) (parents freqs : List ℕ) (finds : FindsPlaces 
               let P : ℕ → Type 0 = λ k. IsUntold m.live.target m.live.func v (view_of m v parents) k b in
               inr (subst P e (untold m v parents freqs finds j b at none (unused m v finds points ids touched j b at none)))
 
-      -- the parts over spans give what is offered, if blocks are clear where they should be
-      module _ (law : (r : Reg) (s : Span) (b : Block) → Among s spans → slice_get m.live.func.blocks s.position ≡ Some b → is_clear_in m v r s ≡ is_clear m.live.target m.live.func v (view_of m v parents) r b) where
-        pub region-is : AreCounted m.live.func freqs v → (ps : List TouchedPlace) → ps ≡ map (placed m.live.func.blocks) (touched_places m.live.target m.live.func v (view_of m v parents)) → 2 ≤ length ps
-            → option_map (marked m.live.target m.live.func v (view_of m v parents) (part_in m v parents spans) spans) (least (parts_of m v parents spans (domain m.live.target (class_of m.live.func v))))
-            ≡ region_offer m.live.target m.live.func v (view_of m v parents) freqs
-        region-is counted ps same many =
-            offered-is m.live.target m.live.func v (view_of m v parents) freqs counted spans spans-along parents finds.placed (λ x y. refl) (is_clear_in m v)
-            (λ r k b s is. law r s b is.among (ap (slice_get m.live.func.blocks) is.position ∙ is.at)) (divides ps same many)
+      -- the register is clear in a span just where it is in its block
+      clear-is : (r : Reg) (s : Span) (b : Block) → Among s spans → slice_get m.live.func.blocks s.position ≡ Some b → is_clear_in m v r s ≡ is_clear m.live.target m.live.func v (view_of m v parents) r b
+      clear-is r s b w at = go (are.each s w)
+        where
+          some-same : {Z : Type 0} (y z : Z) → Some y ≡ Some z → y ≡ z
+          some-same y z e = cc
+
+          go : IsSpan m v freqs s → is_clear_in m v r s ≡ is_clear m.live.target m.live.func v (view_of m v parents) r b
+          go is = clear-in m v points finds parents r freqs s is (right-at m v parents freqs finds spans are s spans are.stretches w)
+              ∙ ap (is_clear m.live.target m.live.func v (view_of m v parents) r) (some-same is.block b (sym is.found ∙ at))
+
+      -- the parts over spans give what is offered
+      pub region-is : AreCounted m.live.func freqs v → (ps : List TouchedPlace) → ps ≡ map (placed m.live.func.blocks) (touched_places m.live.target m.live.func v (view_of m v parents)) → 2 ≤ length ps
+          → option_map (marked m.live.target m.live.func v (view_of m v parents) (part_in m v parents spans) spans) (least (parts_of m v parents spans (domain m.live.target (class_of m.live.func v))))
+          ≡ region_offer m.live.target m.live.func v (view_of m v parents) freqs
+      region-is counted ps same many =
+          offered-is m.live.target m.live.func v (view_of m v parents) freqs counted spans spans-along parents finds.placed (λ x y. refl) (is_clear_in m v)
+          (λ r k b s is. clear-is r s b is.among (ap (slice_get m.live.func.blocks) is.position ∙ is.at)) (divides ps same many)

@@ -222,7 +222,7 @@ module _ (m : Matrix) (v : ℕ) (parents freqs : List ℕ) (finds : FindsPlaces 
       }
 
   module _ (spans : List Span) (are : AreSpansOf m v freqs spans) where
-    right-at : (s : Span) (ss : List Span) → list_all (λ s. list_all (λ at. nat_le at.first at.last) s.stretches.items) ss ≡ true → Among s ss → list_all (λ at. nat_le at.first at.last) s.stretches.items ≡ true
+    pub right-at : (s : Span) (ss : List Span) → list_all (λ s. list_all (λ at. nat_le at.first at.last) s.stretches.items) ss ≡ true → Among s ss → list_all (λ at. nat_le at.first at.last) s.stretches.items ≡ true
     right-at s [] h w = elim w [ ]
     right-at s (r ∷ ss) h here = (and_parts (list_all (λ (at : Stretch). nat_le at.first at.last) s.stretches.items) (list_all (λ (q : Span). list_all (λ (at : Stretch). nat_le at.first at.last) q.stretches.items) ss) h).0
     right-at s (r ∷ ss) h (there w) = right-at s ss (and_parts (list_all (λ (at : Stretch). nat_le at.first at.last) r.stretches.items) (list_all (λ (q : Span). list_all (λ (at : Stretch). nat_le at.first at.last) q.stretches.items) ss) h).1 w

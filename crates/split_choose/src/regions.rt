@@ -1,18 +1,20 @@
 //! Region splits: a part of the range lives in a register where that is free.
 
-ghost use Rattle.std.specs.Prelude.{◌≡◌, ◌<◌, ◌≤◌, ◌*◌, ◌++◌, ◌∷◌, [], ℕ, Bool, true, false, filter, map, length, slice_get, slice_index_or, slice_set, cond, replicate, option_map, Some, IfOk, OnOk};
+ghost use Rattle.std.specs.Prelude.{◌≡◌, ◌<◌, ◌≤◌, ◌*◌, ◌++◌, ◌∷◌, [], List, ℕ, Bool, true, false, filter, map, length, slice_get, slice_index_or, slice_set, cond, replicate, option_map, Some, IfOk, OnOk};
 ghost use Rattle.std.specs.List.{sum_by, list_any, list_all};
 ghost use Rattle.target_base.specs.Storage.{is_unreserved, is_among};
 ghost use Rattle.mir_meaning.specs.Binding.{class_of};
 ghost use Rattle.mir_meaning.specs.Places.{domain};
 ghost use Rattle.split_choose.specs.declared.spans.Span.{Span as BlockSpan};
 ghost use Rattle.split_choose.specs.declared.regions.Inside.{Inside as Where};
-ghost use Rattle.split_choose.specs.Bundles.{start_of, end_of, root_of, AreEarlier};
+ghost use Rattle.live_lanes.specs.Ways.{successors};
+ghost use Rattle.split_choose.specs.Bundles.{start_of, end_of, root_of, AreEarlier, AreBundles};
 ghost use Rattle.split_choose.specs.Marks.{mark_at, marks_in};
 ghost use Rattle.interference.specs.Clashes.{IsOrdered};
 ghost use Rattle.split_choose.specs.Spans.{AreSpans, is_clear_in};
-ghost use Rattle.split_choose.specs.Offers.{View as OfferView, least};
-ghost use Rattle.split_choose.specs.Seen.{ends_in_terminators};
+ghost use Rattle.split_choose.specs.Offers.{View as OfferView, least, region_offer};
+ghost use Rattle.split_choose.specs.Seen.{ends_in_terminators, view_of, FindsPlaces, FindsPoints, FindsWays};
+ghost use Rattle.split_choose.specs.Counted.{AreCounted};
 ghost use Rattle.split_choose.specs.Parts.{IsReady, IsPart, IsBest, part_in, parts_of, marked, marks_of, marks_there};
 ghost use Rattle.split_choose.specs.Regions.{capped, uses_of, span_cost, costs_of, inside_at, inside_in, ArePositions, AreOut, Sets};
 
@@ -115,7 +117,11 @@ pub fn region(
     m: &Matrix,
     v: u32,
     freqs: &Freqs,
-) -> Result<Option<(Reg, Labels)>, AllocError> {
+) -> Result<Option<(Reg, Labels)>, AllocError>
+    ensures { let target = m.now.live.target in let func = m.now.live.func in
+        IfOk result (λ q. FindsPlaces target func m.now.live.table v → FindsPoints m.now → FindsWays func m.now.live.table → AreCounted func freqs.now v
+            → (parents : List ℕ) × AreBundles (successors m.now.live.table.flow.items) parents × (q ≡ region_offer target func v (view_of m.now v parents) freqs.now)) }
+{
     let bundles = Bundles::of(alloc, m.live())?;
     region_over(alloc, m, v, freqs, &bundles)
 }
@@ -127,7 +133,11 @@ pub fn region_over(
     v: u32,
     freqs: &Freqs,
     bundles: &Bundles,
-) -> Result<Option<(Reg, Labels)>, AllocError> {
+) -> Result<Option<(Reg, Labels)>, AllocError>
+    ensures { let target = m.now.live.target in let func = m.now.live.func in
+        IfOk result (λ q. AreEarlier bundles.now.parents.items → FindsPlaces target func m.now.live.table v → FindsPoints m.now → AreCounted func freqs.now v
+            → q ≡ region_offer target func v (view_of m.now v bundles.now.parents.items) freqs.now) }
+{
     let touched = m.live().touched(alloc, v)?;
     let places = places_of(alloc, m.live(), touched.as_slice())?;
     if places.len() < 2 {
