@@ -118,8 +118,13 @@ module _ {Y : Type 0} (pos : Y → ℕ) where
             let P : ℕ → Type 0 = λ i. R i z y in
             let Q : X → Type 0 = λ w. R k w y in
             let low : Rising (suc k) rest = lower (suc k) (suc (pos y)) rest (omega arith) r in
-            inr (y, rest, refl, subst Q (some-same z x (sym found)) (subst P n told),
-            below rest low (each-later k x xs rest low (λ w m. each w (there m))) (all-rest (suc k) xs y rest (omega arith) (all-later k x xs (y ∷ rest) all)))
+            inr (
+              y,
+              rest,
+              refl,
+              subst Q (some-same z x (sym found)) (subst P n told),
+              below rest low (each-later k x xs rest low (λ w m. each w (there m))) (all-rest (suc k) xs y rest (omega arith) (all-later k x xs (y ∷ rest) all)),
+            )
 
         go : (ys : List Y) → Rising k ys → Each k (x ∷ xs) ys → All k (x ∷ xs) ys → ((ys : List Y) → Rising (suc k) ys → Each (suc k) xs ys → All (suc k) xs ys → Along (suc k) xs ys) → Along k (x ∷ xs) ys
         go [] r each all below = skip [] tt each all below

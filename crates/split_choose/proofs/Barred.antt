@@ -175,7 +175,6 @@ module _ (t : Target) (f : Function) (v : ℕ) (view : View) (ps : List ℕ) (pl
   module _ (freqs : List ℕ) (spans : List Span) (r : Reg) (clear : Span → Bool)
       (cleared : (k : ℕ) (b : Block) (s : Span) → IsTold t f v view freqs spans k b s → clear s ≡ is_clear t f v view r b)
       (all : Along (λ (s : Span). s.position) (IsTold t f v view freqs spans) (IsUntold t f v view) 0 f.blocks spans) where
-
     told-bars : (x : Border) (i k : ℕ) (b : Block) (s : Span) → border_place f.blocks x ≡ Some i → IsTold t f v view freqs spans k b s → bars ps clear (root_of ps i) s ≡ (not (keeps r x (In b.number)) || not (keeps r x (Out b.number)))
     unfolding bars-block
     told-bars x i k b s is told =

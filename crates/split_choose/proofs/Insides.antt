@@ -83,8 +83,8 @@ module _ (t : Target) (f : Function) (v : ℕ) (view : View) (ps : List ℕ) (pl
       along-flat (λ (s : Span). s.position) (IsTold t f v view freqs spans) (IsUntold t f v view)
       (λ (s : Span). marks_there t f v view (slice_get f.blocks s.position) (inside_in ps clear spans s)) (λ (b : Block). inside_marks t f v view b (inside t f v view r b))
       (λ k b s told.
-          ap (λ n. marks_there t f v view (slice_get f.blocks n) (inside_in ps clear spans s)) told.position
-          ∙ (ap (λ o. marks_there t f v view o (inside_in ps clear spans s)) told.at
-          ∙ ap (inside_marks t f v view b) (inside-is k b s told)))
+      ap (λ n. marks_there t f v view (slice_get f.blocks n) (inside_in ps clear spans s)) told.position
+      ∙ (ap (λ o. marks_there t f v view o (inside_in ps clear spans s)) told.at
+      ∙ ap (inside_marks t f v view b) (inside-is k b s told)))
       (λ k b untold. ap (inside_marks t f v view b) (untold-inside k b untold))
       0 f.blocks spans all

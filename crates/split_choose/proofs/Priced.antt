@@ -91,7 +91,7 @@ module _ (t : Target) (f : Function) (v : ℕ) (view : View) where
     cost-fits : (r : Reg) → region_cost t f v view freqs r ≤ 340282366920938463463374607431768211455
     cost-fits r =
         let a = sum-within (λ (p : ℕ × Block). p.0 * inside_cost t f v view p.1 (inside t f v view r p.1)) (block_uses v)
-            (λ w b. (let c = cost-below (inside t f v view r b) w b in let d = uses-are w b in omega (arith, c, d))) freqs f.blocks in
+        (λ w b. (let c = cost-below (inside t f v view r b) w b in let d = uses-are w b in omega (arith, c, d))) freqs f.blocks in
         let h = counted.fits in omega (arith, a, h)
 
     -- a block's share fits
@@ -147,8 +147,8 @@ module _ (t : Target) (f : Function) (v : ℕ) (view : View) where
             ap capped (along-sum (λ (s : Span). s.position) (IsTold t f v view freqs spans) (IsUntold t f v view) (λ (s : Span). span_cost s (inside_in ps clear spans s))
             (λ (p : ℕ × Block). p.0 * inside_cost t f v view p.1 (inside t f v view r p.1)) (λ n. slice_index_or freqs n 0)
             (λ k b s told. told-cost spans k b s told (inside_in ps clear spans s)
-                ∙ ap (λ i. slice_index_or freqs k 0 * inside_cost t f v view b i) (inside-is t f v view ps placed one freqs spans r clear cleared all k b s told))
+            ∙ ap (λ i. slice_index_or freqs k 0 * inside_cost t f v view b i) (inside-is t f v view ps placed one freqs spans r clear cleared all k b s told))
             (λ k b untold. ap (λ i. slice_index_or freqs k 0 * inside_cost t f v view b i) (untold-inside t f v view ps placed one freqs spans r clear cleared all k b untold)
-                ∙ (ap (λ n. slice_index_or freqs k 0 * n) untold.uses ∙ (let z : slice_index_or freqs k 0 * 0 ≡ 0 = omega arith in z)))
+            ∙ (ap (λ n. slice_index_or freqs k 0 * n) untold.uses ∙ (let z : slice_index_or freqs k 0 * 0 ≡ 0 = omega arith in z)))
             0 freqs f.blocks spans counted.many weights all)
             ∙ capped-fits (region_cost t f v view freqs r) (cost-fits r)

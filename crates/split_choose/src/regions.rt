@@ -120,7 +120,7 @@ pub fn region(
 ) -> Result<Option<(Reg, Labels)>, AllocError>
     ensures { let target = m.now.live.target in let func = m.now.live.func in
         IfOk result (λ q. FindsPlaces target func m.now.live.table v → FindsPoints m.now → FindsWays func m.now.live.table → AreCounted func freqs.now v
-            → (parents : List ℕ) × AreBundles (successors m.now.live.table.flow.items) parents × (q ≡ region_offer target func v (view_of m.now v parents) freqs.now)) }
+        → (parents : List ℕ) × AreBundles (successors m.now.live.table.flow.items) parents × (q ≡ region_offer target func v (view_of m.now v parents) freqs.now)) }
 {
     let bundles = Bundles::of(alloc, m.live())?;
     region_over(alloc, m, v, freqs, &bundles)
@@ -136,7 +136,7 @@ pub fn region_over(
 ) -> Result<Option<(Reg, Labels)>, AllocError>
     ensures { let target = m.now.live.target in let func = m.now.live.func in
         IfOk result (λ q. AreEarlier bundles.now.parents.items → FindsPlaces target func m.now.live.table v → FindsPoints m.now → AreCounted func freqs.now v
-            → q ≡ region_offer target func v (view_of m.now v bundles.now.parents.items) freqs.now) }
+        → q ≡ region_offer target func v (view_of m.now v bundles.now.parents.items) freqs.now) }
 {
     let touched = m.live().touched(alloc, v)?;
     let places = places_of(alloc, m.live(), touched.as_slice())?;
@@ -157,9 +157,9 @@ pub fn region_over(
 fn best_split(view: View<'_>) -> Result<Option<(Reg, Labels)>, AllocError>
     ensures { let target = view.entry.m.now.live.target in let func = view.entry.m.now.live.func in let parents = view.entry.bundles.now.parents.items in
         IfOk result (λ q. (v : ℕ) (offers : OfferView) → IsReady view.entry.m.now parents view.entry.spans.now
-            → list_all (λ b. ends_in_terminators target b.instrs) func.blocks ≡ true
-            → q ≡ option_map (marked target func v offers (part_in view.entry.m.now view.entry.v parents view.entry.spans.now) view.entry.spans.now)
-            (least (parts_of view.entry.m.now view.entry.v parents view.entry.spans.now (domain target (class_of func view.entry.v))))) }
+        → list_all (λ b. ends_in_terminators target b.instrs) func.blocks ≡ true
+        → q ≡ option_map (marked target func v offers (part_in view.entry.m.now view.entry.v parents view.entry.spans.now) view.entry.spans.now)
+        (least (parts_of view.entry.m.now view.entry.v parents view.entry.spans.now (domain target (class_of func view.entry.v))))) }
 {
     match best_offer(view)? {
         Some(offer) => labelled(view, &offer),
@@ -171,7 +171,7 @@ fn best_split(view: View<'_>) -> Result<Option<(Reg, Labels)>, AllocError>
 fn labelled(view: View<'_>, offer: &Offer) -> Result<Option<(Reg, Labels)>, AllocError>
     ensures { let target = view.entry.m.now.live.target in let func = view.entry.m.now.live.func in
         IfOk result (λ q. (v : ℕ) (offers : OfferView) (inside : BlockSpan → Where) → list_all (λ b. ends_in_terminators target b.instrs) func.blocks ≡ true
-            → offer.now.insides.items ≡ map inside view.entry.spans.now → q ≡ Some (offer.now.register, marks_of target func v offers inside view.entry.spans.now)) }
+        → offer.now.insides.items ≡ map inside view.entry.spans.now → q ≡ Some (offer.now.register, marks_of target func v offers inside view.entry.spans.now)) }
 {
     let labels = labels_of(view, offer)?;
     Ok(Some((offer.register, labels)))
@@ -193,7 +193,7 @@ fn all_uses(spans: &[Span]) -> u128
 fn best_offer(view: View<'_>) -> Result<Option<Offer>, AllocError>
     ensures { let parents = view.entry.bundles.now.parents.items in
         IfOk result (λ best. IsReady view.entry.m.now parents view.entry.spans.now → IsBest view.entry.m.now view.entry.v parents view.entry.spans.now
-            (least (parts_of view.entry.m.now view.entry.v parents view.entry.spans.now (domain view.entry.m.now.live.target (class_of view.entry.m.now.live.func view.entry.v)))) best) }
+        (least (parts_of view.entry.m.now view.entry.v parents view.entry.spans.now (domain view.entry.m.now.live.target (class_of view.entry.m.now.live.func view.entry.v)))) best) }
 {
     let live = view.m.live();
     let domain = domain_of(view.alloc, live.target(), class_of(live, view.v))?;
@@ -204,7 +204,7 @@ fn best_offer(view: View<'_>) -> Result<Option<Offer>, AllocError>
 fn best_of(view: View<'_>, registers: &[Reg]) -> Result<Option<Offer>, AllocError>
     ensures { let parents = view.entry.bundles.now.parents.items in
         IfOk result (λ best. IsReady view.entry.m.now parents view.entry.spans.now → IsBest view.entry.m.now view.entry.v parents view.entry.spans.now
-            (least (parts_of view.entry.m.now view.entry.v parents view.entry.spans.now registers.now)) best) }
+        (least (parts_of view.entry.m.now view.entry.v parents view.entry.spans.now registers.now)) best) }
 {
     let mut bound = all_uses(view.spans);
     let mut best: Option<Offer> = None;
@@ -430,7 +430,7 @@ pub(crate) fn add_mark(
 fn labels_of(view: View<'_>, offer: &Offer) -> Result<Labels, AllocError>
     ensures { let target = view.entry.m.now.live.target in let func = view.entry.m.now.live.func in
         IfOk result (λ ls. (v : ℕ) (offers : OfferView) (inside : BlockSpan → Where) → list_all (λ b. ends_in_terminators target b.instrs) func.blocks ≡ true
-            → offer.now.insides.items ≡ map inside view.entry.spans.now → ls ≡ marks_of target func v offers inside view.entry.spans.now) }
+        → offer.now.insides.items ≡ map inside view.entry.spans.now → ls ≡ marks_of target func v offers inside view.entry.spans.now) }
 {
     let mut labels = Labels::new(view.alloc);
     'spans: for (k, span) in view.spans.iter().enumerate() {

@@ -17,11 +17,11 @@ registers-preserved c = λ ready.
     let k = c.registers.register-index in
     let o = c.in_ok-offer.offer in
     elim c.if-offer-bound.branch [
-      then-offer-bound w ↦
+      | then-offer-bound w ↦
           let P : ℕ → Type 0 = λ n. Picks m v parents spans (take (k + 1) rs) n c.if-offer-bound.best in
           let Q : Option Offer → Type 0 = λ q. Picks m v parents spans (take (k + 1) rs) o.cost q in
           subst P (sym w.bound-is) (subst Q (sym w.best-is) (pick_taken m v parents spans rs k _ o c.registers.bound c.registers.best c.registers-test.true (c.in_ok-offer.ensures ready) (c.registers.invariant ready) w.if-offer-bound.true))
-    | else-offer-bound w ↦
+      | else-offer-bound w ↦
           let P : ℕ → Type 0 = λ n. Picks m v parents spans (take (k + 1) rs) n c.if-offer-bound.best in
           let Q : Option Offer → Type 0 = λ q. Picks m v parents spans (take (k + 1) rs) c.registers.bound q in
           subst P (sym w.bound-is) (subst Q (sym w.best-is) (pick_passed m v parents spans rs k _ o c.registers.bound c.registers.best c.registers-test.true (c.in_ok-offer.ensures ready) (c.registers.invariant ready) w.if-offer-bound.false))

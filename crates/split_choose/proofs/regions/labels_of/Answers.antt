@@ -15,7 +15,7 @@ pub spans-preserved : goal.spans-preserved
 spans-preserved c = λ v offers inside ended are.
     let s = c.span-item.result in
     let P : LiveFunc → Type 0 = λ live. list_all (λ b. ends_in_terminators live.target b.instrs) live.func.blocks ≡ true
-        → c.add_labels.new.labels ≡ c.spans.labels ++ marks_there live.target live.func v offers (slice_get live.func.blocks s.position) c.inside_there-inside.result in
+    → c.add_labels.new.labels ≡ c.spans.labels ++ marks_there live.target live.func v offers (slice_get live.func.blocks s.position) c.inside_there-inside.result in
     marks_next c.args.view.m.now.live.target c.args.view.m.now.live.func v offers inside c.args.view.spans.now c.args.offer.now.insides.items c.spans.k s c.inside_there-inside.result c.spans.labels c.add_labels.new.labels
     c.spans-test.true c.span-item.is are
     (c.inside_there-inside.ensures ∙ ap (λ xs. get_or xs c.spans.k places.Nowhere) c.as_slice.ensures.value)
