@@ -135,21 +135,37 @@ module _ (m : Matrix) (v : ℕ) (finds : FindsPoints m) (places : FindsPlaces m.
     passed k b at untouched = clear-passed m v finds places parents q named k b at untouched unbordered
 
     -- of one block
-    pub free-same : (a z : ℕ) (one other : Touched) (x y : TouchedPlace) (r : Bool) → slice_get all_places a ≡ Some one → slice_get all_places z ≡ Some other → z ≡ a + 1
-        → x ≡ placed m.live.func.blocks one → y ≡ placed m.live.func.blocks other → x.position ≡ y.position
-        → Tells r x.position (entry_rank slots x.first) (exit_rank slots y.last) → r ≡ is_clear_along one other
-    free-same a z one other x y r e f next there_one there_other same tells =
+    pub free-same : (a z : ℕ) (one other : Touched) (x y : TouchedPlace) (low high : ℕ) (r : Bool) → slice_get all_places a ≡ Some one → slice_get all_places z ≡ Some other → z ≡ a + 1
+        → x ≡ placed m.live.func.blocks one → y ≡ placed m.live.func.blocks other → x.position ≡ y.position → low ≡ entry_rank slots x.first → high ≡ exit_rank slots y.last
+        → Tells r x.position low high → r ≡ is_clear_along one other
+    free-same a z one other x y low high r e f next there_one there_other same from upto tells =
         near-same m.live.target m.live.func v (view_of m v parents) slots m.live.table.order.block_of.items clashes places.instrs.homes places.instrs.ranked places.placed places.ended passed
         a one other x.position y.position r e (ap (slice_get all_places) (sym (next ∙ add-one a)) ∙ f) (ap (λ (p : TouchedPlace). p.position) there_one) (ap (λ (p : TouchedPlace). p.position) there_other) same
-        (subst (λ n. Tells r x.position (entry_rank slots one.first) (exit_rank slots n)) (ap (λ (p : TouchedPlace). p.last) there_other)
-        (subst (λ n. Tells r x.position (entry_rank slots n) (exit_rank slots y.last)) (ap (λ (p : TouchedPlace). p.first) there_one) tells))
+        (subst (λ n. Tells r x.position (entry_rank slots one.first) n) (upto ∙ ap (λ (p : TouchedPlace). exit_rank slots p.last) there_other)
+        (subst (λ n. Tells r x.position n high) (from ∙ ap (λ (p : TouchedPlace). entry_rank slots p.first) there_one) tells))
 
     -- of two
-    pub free-other : (a z : ℕ) (one other : Touched) (x y : TouchedPlace) (r s : Bool) → slice_get all_places a ≡ Some one → slice_get all_places z ≡ Some other → z ≡ a + 1
-        → x ≡ placed m.live.func.blocks one → y ≡ placed m.live.func.blocks other → x.position ≢ y.position
-        → Tells r x.position (entry_rank slots x.first) 340282366920938463463374607431768211455 → Tells s y.position 0 (exit_rank slots y.last) → (r && s) ≡ is_clear_along one other
-    free-other a z one other x y r s e f next there_one there_other differ first second =
+    pub free-other : (a z : ℕ) (one other : Touched) (x y : TouchedPlace) (low high : ℕ) (r s : Bool) → slice_get all_places a ≡ Some one → slice_get all_places z ≡ Some other → z ≡ a + 1
+        → x ≡ placed m.live.func.blocks one → y ≡ placed m.live.func.blocks other → x.position ≢ y.position → low ≡ entry_rank slots x.first → high ≡ exit_rank slots y.last
+        → Tells r x.position low 340282366920938463463374607431768211455 → Tells s y.position 0 high → (r && s) ≡ is_clear_along one other
+    free-other a z one other x y low high r s e f next there_one there_other differ from upto first second =
         near-other m.live.target m.live.func v (view_of m v parents) slots m.live.table.order.block_of.items clashes places.instrs.homes places.instrs.ranked places.placed places.ended passed
         a one other x.position y.position r s e (ap (slice_get all_places) (sym (next ∙ add-one a)) ∙ f) (ap (λ (p : TouchedPlace). p.position) there_one) (ap (λ (p : TouchedPlace). p.position) there_other) differ
-        (subst (λ n. Tells r x.position (entry_rank slots n) 340282366920938463463374607431768211455) (ap (λ (p : TouchedPlace). p.first) there_one) first)
-        (subst (λ n. Tells s y.position 0 (exit_rank slots n)) (ap (λ (p : TouchedPlace). p.last) there_other) second)
+        (subst (λ n. Tells r x.position n 340282366920938463463374607431768211455) (from ∙ ap (λ (p : TouchedPlace). entry_rank slots p.first) there_one) first)
+        (subst (λ n. Tells s y.position 0 n) (upto ∙ ap (λ (p : TouchedPlace). exit_rank slots p.last) there_other) second)
+
+    -- what would be answered of a block
+    asked : ℕ → ℕ → ℕ → Bool
+    asked k low high = elim (slice_get m.live.func.blocks k) [ None ↦ true | Some b ↦ list_all clashes (points_between slots low high b) ]
+
+    asked-tells : (k low high : ℕ) → Tells (asked k low high) k low high
+    unfolding asked
+    asked-tells k low high b at first = ap (λ (o : Option Block). elim o [ None ↦ true | Some c ↦ list_all clashes (points_between slots low high c) ]) at
+
+    -- where the first of two isn't free, the other isn't asked
+    pub free-not : (a z : ℕ) (one other : Touched) (x y : TouchedPlace) (low high : ℕ) (r : Bool) → slice_get all_places a ≡ Some one → slice_get all_places z ≡ Some other → z ≡ a + 1
+        → x ≡ placed m.live.func.blocks one → y ≡ placed m.live.func.blocks other → x.position ≢ y.position → low ≡ entry_rank slots x.first → high ≡ exit_rank slots y.last
+        → Tells r x.position low 340282366920938463463374607431768211455 → r ≡ false → false ≡ is_clear_along one other
+    free-not a z one other x y low high r e f next there_one there_other differ from upto first fails =
+        ap (λ u. u && asked y.position 0 high) (sym fails)
+        ∙ free-other a z one other x y low high r (asked y.position 0 high) e f next there_one there_other differ from upto first (asked-tells y.position 0 high)

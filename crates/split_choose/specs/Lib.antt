@@ -11,3 +11,4 @@ pub mod Parts
 pub mod Spanned
 pub mod Counted
 pub mod Clearing
+pub mod Built

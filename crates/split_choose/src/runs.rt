@@ -3,6 +3,7 @@
 ghost use Rattle.std.specs.Prelude.{◌≡◌, ◌+◌, ◌-◌, ◌++◌, [], ℕ, List, true, false, cond, map, take, drop, IfOk, OnOk, Option, Some, slice_get};
 ghost use Rattle.std.specs.List.{list_all, list_any};
 ghost use Rattle.mir_func.specs.declared.func.Block.{Block};
+ghost use Rattle.live_lanes.specs.Table.{entry_rank, exit_rank};
 ghost use Rattle.live_lanes.specs.Touching.{AreTouched};
 ghost use Rattle.live_lanes.specs.Tells.{touching_ids};
 ghost use Rattle.interference.specs.Clashes.{IsOrdered};
@@ -134,7 +135,7 @@ fn is_free_between(view: View<'_>, register: Reg, a: usize, z: usize) -> bool
         → FindsPoints view.entry.m.now
         → AreTouched view.entry.m.now.live.table view.entry.v (touching_ids view.entry.m.now.live.func view.entry.v)
         → list_any (live_at view.entry.m.now.live.target view.entry.m.now.live.func view.entry.v (view_of view.entry.m.now view.entry.v parents))
-            (borders view.entry.m.now.live.target view.entry.m.now.live.func view.entry.v (view_of view.entry.m.now view.entry.v parents)) ≡ false
+        (borders view.entry.m.now.live.target view.entry.m.now.live.func view.entry.v (view_of view.entry.m.now view.entry.v parents)) ≡ false
         → AreSpansOf view.entry.m.now view.entry.v freqs view.entry.spans.now
         → view.entry.places.now ≡ map (placed view.entry.m.now.live.func.blocks) (touched_places view.entry.m.now.live.target view.entry.m.now.live.func view.entry.v (view_of view.entry.m.now view.entry.v parents))
         → slice_get (touched_places view.entry.m.now.live.target view.entry.m.now.live.func view.entry.v (view_of view.entry.m.now view.entry.v parents)) a ≡ Some p
@@ -158,7 +159,7 @@ fn is_free_from(view: View<'_>, register: Reg, a: TouchedPlace, z: TouchedPlace)
         → FindsPoints view.entry.m.now
         → AreTouched view.entry.m.now.live.table view.entry.v (touching_ids view.entry.m.now.live.func view.entry.v)
         → list_any (live_at view.entry.m.now.live.target view.entry.m.now.live.func view.entry.v (view_of view.entry.m.now view.entry.v parents))
-            (borders view.entry.m.now.live.target view.entry.m.now.live.func view.entry.v (view_of view.entry.m.now view.entry.v parents)) ≡ false
+        (borders view.entry.m.now.live.target view.entry.m.now.live.func view.entry.v (view_of view.entry.m.now view.entry.v parents)) ≡ false
         → AreSpansOf view.entry.m.now view.entry.v freqs view.entry.spans.now
         → slice_get (touched_places view.entry.m.now.live.target view.entry.m.now.live.func view.entry.v (view_of view.entry.m.now view.entry.v parents)) k ≡ Some p
         → slice_get (touched_places view.entry.m.now.live.target view.entry.m.now.live.func view.entry.v (view_of view.entry.m.now view.entry.v parents)) n ≡ Some q
@@ -166,13 +167,27 @@ fn is_free_from(view: View<'_>, register: Reg, a: TouchedPlace, z: TouchedPlace)
         → a ≡ placed view.entry.m.now.live.func.blocks p → z ≡ placed view.entry.m.now.live.func.blocks q
         → result ≡ clear_along view.entry.m.now.live.target view.entry.m.now.live.func view.entry.v (view_of view.entry.m.now view.entry.v parents) ((p, q), register) }
 {
-    let low = view.m.live().entry_of(a.first);
-    let high = view.m.live().exit_of(z.last);
+    let low = entry_of(view.m, a.first);
+    let high = exit_of(view.m, z.last);
     if a.position == z.position {
         return is_free_in(view, register, a.position, low, high);
     }
     is_free_in(view, register, a.position, low, u128::MAX)
         && is_free_in(view, register, z.position, 0, high)
+}
+
+/// The number of the point at the entry of an instruction.
+fn entry_of(m: &Matrix, id: u32) -> u128
+    ensures { result ≡ entry_rank m.now.live.table.order.slots id }
+{
+    m.live().entry_of(id)
+}
+
+/// The number of the point at the exit of an instruction.
+fn exit_of(m: &Matrix, id: u32) -> u128
+    ensures { result ≡ exit_rank m.now.live.table.order.slots id }
+{
+    m.live().exit_of(id)
 }
 
 /// Whether a register is free at those points of the range in a block that lie between two.
@@ -184,12 +199,18 @@ fn is_free_in(view: View<'_>, register: Reg, position: u32, low: u128, high: u12
         → (b : Block) → slice_get view.entry.m.now.live.func.blocks position ≡ Some b
         → is_rank_in view.entry.m.now.live.table.order.slots b.instrs low ≡ true
         → result ≡ list_all (clashes_not view.entry.m.now.live.target view.entry.m.now.live.func view.entry.v (view_of view.entry.m.now view.entry.v parents) register)
-            (points_between view.entry.m.now.live.table.order.slots low high b) }
+        (points_between view.entry.m.now.live.table.order.slots low high b) }
 {
-    let Some(at) = find_span(view.spans, position) else {
-        return true;
-    };
-    let span = &view.spans[at];
+    match find_span(view.spans, position) {
+        None => true,
+        Some(at) => is_free_span(view, register, &view.spans[at], low, high),
+    }
+}
+
+/// The same in the block of a span.
+fn is_free_span(view: View<'_>, register: Reg, span: &Span, low: u128, high: u128) -> bool
+    ensures { IsOrdered view.entry.m.now → result ≡ is_clear_between view.entry.m.now view.entry.v register span.now.position span.now.stretches.items low high }
+{
     let between = Stretch {
         first: low,
         last: high,
