@@ -65,7 +65,7 @@ has-cases m n ns h = go (nat_eq m n) refl h
 
 -- places of blocks
 
-place-block : (n : ℕ) (bs : List Block) (k : ℕ) → place_of n bs ≡ Some k → (b : Block) × (slice_get bs k ≡ Some b) × (b.number ≡ n)
+pub place-block : (n : ℕ) (bs : List Block) (k : ℕ) → place_of n bs ≡ Some k → (b : Block) × (slice_get bs k ≡ Some b) × (b.number ≡ n)
 place-block n [] k e = absurd (cc)
 place-block n (b ∷ bs) k e = go (nat_eq b.number n) refl e (place-block n bs)
   where
@@ -84,7 +84,7 @@ place-same n m bs k e f =
     let same : a.0 ≡ b.0 = some-same a.0 b.0 (sym a.1 ∙ b.1) in
     sym a.2 ∙ (ap P same ∙ b.2)
 
-edge-at : (bs : List Block) (es : List Edge) (n : ℕ) → has n (edge_places (λ m. place_of m bs) es) ≡ true → (e : Edge) × Among e es × (place_of e.block bs ≡ Some n)
+pub edge-at : (bs : List Block) (es : List Edge) (n : ℕ) → has n (edge_places (λ m. place_of m bs) es) ≡ true → (e : Edge) × Among e es × (place_of e.block bs ≡ Some n)
 edge-at bs [] n h = absurd (false≢true h)
 edge-at bs (e ∷ es) n h = go (place_of e.block bs) refl h (edge-at bs es n)
   where

@@ -134,10 +134,10 @@ module _ (t : Target) (f : Function) (x : Table) (v : ℕ) (view : View) (finds 
   into : ℕ → Bool
   into k = some_lane x v (λ l. is_live (causes x.rows.rows.items l k 0))
 
-  at-start : (b : Block) (k : ℕ) → slice_get f.blocks k ≡ Some b → view.live (Start b.number) ≡ some_lane x v (λ l. is_live (causes x.rows.rows.items l k 0))
+  pub at-start : (b : Block) (k : ℕ) → slice_get f.blocks k ≡ Some b → view.live (Start b.number) ≡ some_lane x v (λ l. is_live (causes x.rows.rows.items l k 0))
   at-start b k at = lives (Start b.number) ∙ ap (at_home (λ c. some_lane x v (λ l. is_live (causes x.rows.rows.items l c 0)))) (finds.placed k b at)
 
-  at-end : (b : Block) (k : ℕ) → slice_get f.blocks k ≡ Some b → (is : List Instr) → b.instrs ≡ is → view.live (last_point (Start b.number) is) ≡ leaves_last x v k (slice_get is (length is - 1))
+  pub at-end : (b : Block) (k : ℕ) → slice_get f.blocks k ≡ Some b → (is : List Instr) → b.instrs ≡ is → view.live (last_point (Start b.number) is) ≡ leaves_last x v k (slice_get is (length is - 1))
   at-end b k at [] e = at-start b k at
   at-end b k at (i ∷ is) e =
       let r = last-cons (Start b.number) i is in

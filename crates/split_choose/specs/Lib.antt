@@ -9,5 +9,6 @@ pub mod Runs
 pub mod Spans
 pub mod Parts
 pub mod Spanned
+pub mod Counted
 pub mod Clearing
 pub mod Built

@@ -9,6 +9,7 @@ use Rattle.mir_func.specs.Value.{Function}
 use Rattle.mir_meaning.specs.Binding.{does, is_terminator}
 use Rattle.mir_meaning.specs.Points.{Point, Start, Entry, Exit}
 use Rattle.live_lanes.specs.declared.extent.Stretch.{Stretch}
+use Rattle.live_lanes.specs.declared.row.Reading.{Reading}
 use Rattle.live_lanes.specs.declared.table.Table.{Table}
 use Rattle.live_lanes.specs.Paths.{has}
 use Rattle.live_lanes.specs.Graph.{is_live}
@@ -90,6 +91,13 @@ pub record FindsPlaces (t : Target) (f : Function) (x : Table) (v : ℕ) : Type 
 abbrev pub begins_here : List Instr → Seen → Bool
 begins_here is s = list_all (λ p. has p.start (ids_of is)) s.segments
 
+-- the instructions that read the lane in its pieces in the block at a position are of it
+abbrev pub are_here : List Instr → List Reading → Bool
+are_here is rs = list_all (λ r. has r.id (ids_of is)) rs
+
+abbrev pub reads_here : List Instr → Seen → Bool
+reads_here is s = are_here is s.readings && list_all (λ p. are_here is p.readings) s.segments
+
 -- what is held begins at the block's start or with an instruction of it
 abbrev pub starts_here : List Instr → Held → Bool
 starts_here is h = elim h.extent.start [ None ↦ true | Some id ↦ has id (ids_of is) ]
@@ -102,7 +110,7 @@ turns_from slots e (s ∷ ss) = nat_le (end_rank slots e) (hold_rank slots s) &&
 abbrev pub ends_in_turn : Numbers → Seen → Bool
 ends_in_turn slots v = turns_from slots v.end v.segments
 
--- Where points are asked for besides: pieces and what is held begin at points of their blocks, pieces end in turn, and a lane
+-- Where points are asked for besides: pieces and what is held begin at points of their blocks, pieces are read there and end in turn, and a lane
 -- has one cell for a block, for blocks of the function alone.
 pub record FindsPoints (m : Matrix) : Type 0 where
   pub order : IsOrdered m
@@ -110,6 +118,7 @@ pub record FindsPoints (m : Matrix) : Type 0 where
   pub turns : (l k : ℕ) → ends_in_turn m.live.table.order.slots (rows_seen m.live.table.rows.rows.items l k) ≡ true
   pub apart : (l : ℕ) → descends (cells_of m.live.table.rows.rows.items l) ≡ true
   pub placed : (l : ℕ) → list_all (λ c. nat_lt c.block (length m.live.func.blocks)) (cells_of m.live.table.rows.rows.items l) ≡ true
+  pub read : (l k : ℕ) (b : Block) → slice_get m.live.func.blocks k ≡ Some b → reads_here b.instrs (rows_seen m.live.table.rows.rows.items l k) ≡ true
   pub held : (u k : ℕ) (b : Block) → slice_get m.live.func.blocks k ≡ Some b → list_all (starts_here b.instrs) (holds m u k) ≡ true
   pub dead : (l k : ℕ) → is_live (causes m.live.table.rows.rows.items l k 0) ≡ false → (rows_seen m.live.table.rows.rows.items l k).end ≡ ends.Never
 

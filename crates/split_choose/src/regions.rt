@@ -1,17 +1,21 @@
 //! Region splits: a part of the range lives in a register where that is free.
 
-ghost use Rattle.std.specs.Prelude.{◌≡◌, ◌<◌, ◌≤◌, ◌*◌, ◌++◌, ◌∷◌, [], ℕ, Bool, true, false, filter, map, length, slice_get, slice_index_or, slice_set, cond, replicate, IfOk, OnOk};
-ghost use Rattle.std.specs.List.{sum_by, list_any};
+ghost use Rattle.std.specs.Prelude.{◌≡◌, ◌<◌, ◌≤◌, ◌*◌, ◌++◌, ◌∷◌, [], List, ℕ, Bool, true, false, filter, map, length, slice_get, slice_index_or, slice_set, cond, replicate, option_map, Some, IfOk, OnOk};
+ghost use Rattle.std.specs.List.{sum_by, list_any, list_all};
 ghost use Rattle.target_base.specs.Storage.{is_unreserved, is_among};
 ghost use Rattle.mir_meaning.specs.Binding.{class_of};
 ghost use Rattle.mir_meaning.specs.Places.{domain};
 ghost use Rattle.split_choose.specs.declared.spans.Span.{Span as BlockSpan};
 ghost use Rattle.split_choose.specs.declared.regions.Inside.{Inside as Where};
-ghost use Rattle.split_choose.specs.Bundles.{start_of, end_of, root_of, AreEarlier};
+ghost use Rattle.live_lanes.specs.Ways.{successors};
+ghost use Rattle.split_choose.specs.Bundles.{start_of, end_of, root_of, AreEarlier, AreBundles};
 ghost use Rattle.split_choose.specs.Marks.{mark_at, marks_in};
 ghost use Rattle.interference.specs.Clashes.{IsOrdered};
 ghost use Rattle.split_choose.specs.Spans.{AreSpans, is_clear_in};
-ghost use Rattle.split_choose.specs.Parts.{IsReady, IsPart};
+ghost use Rattle.split_choose.specs.Offers.{View as OfferView, least, region_offer};
+ghost use Rattle.split_choose.specs.Seen.{ends_in_terminators, view_of, FindsPlaces, FindsPoints, FindsWays};
+ghost use Rattle.split_choose.specs.Counted.{AreCounted};
+ghost use Rattle.split_choose.specs.Parts.{IsReady, IsPart, IsBest, part_in, parts_of, marked, marks_of, marks_there};
 ghost use Rattle.split_choose.specs.Regions.{capped, uses_of, span_cost, costs_of, inside_at, inside_in, ArePositions, AreOut, Sets};
 
 use crate::bundles::{Bundles, end_of, start_of};
@@ -113,7 +117,11 @@ pub fn region(
     m: &Matrix,
     v: u32,
     freqs: &Freqs,
-) -> Result<Option<(Reg, Labels)>, AllocError> {
+) -> Result<Option<(Reg, Labels)>, AllocError>
+    ensures { let target = m.now.live.target in let func = m.now.live.func in
+        IfOk result (λ q. FindsPlaces target func m.now.live.table v → FindsPoints m.now → FindsWays func m.now.live.table → AreCounted func freqs.now v
+        → (parents : List ℕ) × AreBundles (successors m.now.live.table.flow.items) parents × (q ≡ region_offer target func v (view_of m.now v parents) freqs.now)) }
+{
     let bundles = Bundles::of(alloc, m.live())?;
     region_over(alloc, m, v, freqs, &bundles)
 }
@@ -125,7 +133,11 @@ pub fn region_over(
     v: u32,
     freqs: &Freqs,
     bundles: &Bundles,
-) -> Result<Option<(Reg, Labels)>, AllocError> {
+) -> Result<Option<(Reg, Labels)>, AllocError>
+    ensures { let target = m.now.live.target in let func = m.now.live.func in
+        IfOk result (λ q. AreEarlier bundles.now.parents.items → FindsPlaces target func m.now.live.table v → FindsPoints m.now → AreCounted func freqs.now v
+        → q ≡ region_offer target func v (view_of m.now v bundles.now.parents.items) freqs.now) }
+{
     let touched = m.live().touched(alloc, v)?;
     let places = places_of(alloc, m.live(), touched.as_slice())?;
     if places.len() < 2 {
@@ -142,7 +154,13 @@ pub fn region_over(
 }
 
 /// The region split of least cost that is offered to a range over its blocks.
-fn best_split(view: View<'_>) -> Result<Option<(Reg, Labels)>, AllocError> {
+fn best_split(view: View<'_>) -> Result<Option<(Reg, Labels)>, AllocError>
+    ensures { let target = view.entry.m.now.live.target in let func = view.entry.m.now.live.func in let parents = view.entry.bundles.now.parents.items in
+        IfOk result (λ q. (v : ℕ) (offers : OfferView) → IsReady view.entry.m.now parents view.entry.spans.now
+        → list_all (λ b. ends_in_terminators target b.instrs) func.blocks ≡ true
+        → q ≡ option_map (marked target func v offers (part_in view.entry.m.now view.entry.v parents view.entry.spans.now) view.entry.spans.now)
+        (least (parts_of view.entry.m.now view.entry.v parents view.entry.spans.now (domain target (class_of func view.entry.v))))) }
+{
     match best_offer(view)? {
         Some(offer) => labelled(view, &offer),
         None => Ok(None),
@@ -150,7 +168,11 @@ fn best_split(view: View<'_>) -> Result<Option<(Reg, Labels)>, AllocError> {
 }
 
 /// The register of an offer with its labels.
-fn labelled(view: View<'_>, offer: &Offer) -> Result<Option<(Reg, Labels)>, AllocError> {
+fn labelled(view: View<'_>, offer: &Offer) -> Result<Option<(Reg, Labels)>, AllocError>
+    ensures { let target = view.entry.m.now.live.target in let func = view.entry.m.now.live.func in
+        IfOk result (λ q. (v : ℕ) (offers : OfferView) (inside : BlockSpan → Where) → list_all (λ b. ends_in_terminators target b.instrs) func.blocks ≡ true
+        → offer.now.insides.items ≡ map inside view.entry.spans.now → q ≡ Some (offer.now.register, marks_of target func v offers inside view.entry.spans.now)) }
+{
     let labels = labels_of(view, offer)?;
     Ok(Some((offer.register, labels)))
 }
@@ -168,14 +190,22 @@ fn all_uses(spans: &[Span]) -> u128
 }
 
 /// The offer of least cost, the first in class order at a tie.
-fn best_offer(view: View<'_>) -> Result<Option<Offer>, AllocError> {
+fn best_offer(view: View<'_>) -> Result<Option<Offer>, AllocError>
+    ensures { let parents = view.entry.bundles.now.parents.items in
+        IfOk result (λ best. IsReady view.entry.m.now parents view.entry.spans.now → IsBest view.entry.m.now view.entry.v parents view.entry.spans.now
+        (least (parts_of view.entry.m.now view.entry.v parents view.entry.spans.now (domain view.entry.m.now.live.target (class_of view.entry.m.now.live.func view.entry.v)))) best) }
+{
     let live = view.m.live();
     let domain = domain_of(view.alloc, live.target(), class_of(live, view.v))?;
     best_of(view, domain.as_slice())
 }
 
 /// The offer of least cost among those of registers, the first at a tie.
-fn best_of(view: View<'_>, registers: &[Reg]) -> Result<Option<Offer>, AllocError> {
+fn best_of(view: View<'_>, registers: &[Reg]) -> Result<Option<Offer>, AllocError>
+    ensures { let parents = view.entry.bundles.now.parents.items in
+        IfOk result (λ best. IsReady view.entry.m.now parents view.entry.spans.now → IsBest view.entry.m.now view.entry.v parents view.entry.spans.now
+        (least (parts_of view.entry.m.now view.entry.v parents view.entry.spans.now registers.now)) best) }
+{
     let mut bound = all_uses(view.spans);
     let mut best: Option<Offer> = None;
     'registers: for register in registers {
@@ -397,20 +427,29 @@ pub(crate) fn add_mark(
 }
 
 /// The labels of an offer.
-fn labels_of(view: View<'_>, offer: &Offer) -> Result<Labels, AllocError> {
+fn labels_of(view: View<'_>, offer: &Offer) -> Result<Labels, AllocError>
+    ensures { let target = view.entry.m.now.live.target in let func = view.entry.m.now.live.func in
+        IfOk result (λ ls. (v : ℕ) (offers : OfferView) (inside : BlockSpan → Where) → list_all (λ b. ends_in_terminators target b.instrs) func.blocks ≡ true
+        → offer.now.insides.items ≡ map inside view.entry.spans.now → ls ≡ marks_of target func v offers inside view.entry.spans.now) }
+{
     let mut labels = Labels::new(view.alloc);
-    'spans: for (span, inside) in view.spans.iter().zip(offer.insides.as_slice()) {
-        add_labels(view.m.live(), span.position, *inside, &mut labels)?;
+    'spans: for (k, span) in view.spans.iter().enumerate() {
+        let inside = inside_there(offer.insides.as_slice(), k);
+        add_labels(view.m.live(), span.position, inside, &mut labels)?;
     }
     Ok(labels)
 }
 
+/// Adds the labels of the block at a position.
 fn add_labels(
     live: &LiveFunc,
     position: u32,
     inside: Inside,
     labels: &mut Labels,
-) -> Result<(), AllocError> {
+) -> Result<(), AllocError>
+    ensures { OnOk result ((v : ℕ) (offers : OfferView) → list_all (λ b. ends_in_terminators live.now.target b.instrs) live.now.func.blocks ≡ true
+        → labels.new ≡ labels.old ++ marks_there live.now.target live.now.func v offers (slice_get live.now.func.blocks position) inside) }
+{
     let (first, end) = gap_ids(live, position);
     match inside {
         Inside::Nowhere => Ok(()),
