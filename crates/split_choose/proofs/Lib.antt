@@ -17,3 +17,6 @@ pub mod Clear
 pub mod Alone
 pub mod Flags
 pub mod Offered
+pub mod Longest
+pub mod Best
+pub mod Sought

@@ -8,3 +8,4 @@ pub mod Blocks
 pub mod Runs
 pub mod Spans
 pub mod Parts
+pub mod LongRuns
