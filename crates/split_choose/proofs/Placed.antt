@@ -26,7 +26,7 @@ use Rattle.split_choose.proofs.Ends.{filter_every}
 
 -- the instructions of a block are those before its terminators, and these
 
-parts-of : (t : Target) (is : List Instr) → ends_in_terminators t is ≡ true → is ≡ filter (λ i. not (does is_terminator t i)) is ++ filter (does is_terminator t) is
+pub parts-of : (t : Target) (is : List Instr) → ends_in_terminators t is ≡ true → is ≡ filter (λ i. not (does is_terminator t i)) is ++ filter (does is_terminator t) is
 parts-of t [] h = refl
 parts-of t (i ∷ is) h = go (parts-of t is) (does is_terminator t i) refl
   where
@@ -44,7 +44,7 @@ parts-of t (i ∷ is) h = go (parts-of t is) (does is_terminator t i) refl
         rw e (ap (λ js. i ∷ js) (ih a))
 
 -- those that touch the range and aren't terminators
-touching-before : (t : Target) (v : ℕ) (is : List Instr) → filter (touches v) (filter (λ i. not (does is_terminator t i)) is) ≡ filter (λ i. touches v i && not (does is_terminator t i)) is
+pub touching-before : (t : Target) (v : ℕ) (is : List Instr) → filter (touches v) (filter (λ i. not (does is_terminator t i)) is) ≡ filter (λ i. touches v i && not (does is_terminator t i)) is
 touching-before t v [] = refl
 touching-before t v (i ∷ is) = go (touching-before t v is) (does is_terminator t i) (touches v i) refl refl
   where

@@ -13,7 +13,7 @@ use Rattle.mir_func.specs.Value.{Function}
 use Rattle.split_choose.specs.Offers.{View, Touched, runs_of, runs_up_to, ends_of, run_ends}
 use Rattle.split_choose.proofs.Best.{get-within}
 
-get-some : {X : Type 0} (xs : List X) (k : ℕ) → k < length xs → (x : X) × (slice_get xs k ≡ Some x)
+pub get-some : {X : Type 0} (xs : List X) (k : ℕ) → k < length xs → (x : X) × (slice_get xs k ≡ Some x)
 get-some [] k h = absurd (omega arith)
 get-some (y ∷ xs) zero h = (y, refl)
 get-some (y ∷ xs) (suc k) h = get-some xs k (omega arith)

@@ -1,7 +1,10 @@
 -- The longest runs of places in which each is near the next one.
-use Rattle.std.specs.Prelude.{◌≡◌, ◌<◌, ◌≤◌, ◌+◌, ℕ, Bool, true, cond, ◌&&◌, ◌||◌, nat_eq, nat_lt, nat_le, List, Option, None, Some, slice_get}
+use Rattle.std.specs.Prelude.{◌≡◌, ◌<◌, ◌≤◌, ◌+◌, ℕ, Bool, true, false, cond, ◌&&◌, ◌||◌, nat_eq, nat_lt, nat_le, List, Option, None, Some, slice_get}
 use Rattle.target_base.specs.declared.types.Reg.{Reg}
+use Rattle.target_base.specs.declared.types.Target.{Target}
+use Rattle.mir_func.specs.Value.{Function}
 use Rattle.split_choose.specs.declared.runs.Run.{Run}
+use Rattle.split_choose.specs.Offers.{View, touched_places, clear_along}
 
 -- the run has two or more of so many places, but not all
 pub record IsWithin (count first len : ℕ) : Type 0 where
@@ -56,3 +59,12 @@ is_better r (Some b) = nat_lt b.len r.len || nat_eq r.len b.len && nat_lt r.firs
 abbrev pub better_of : Option Run → Option Run → Option Run
 better_of best None = best
 better_of best (Some r) = cond (is_better r best) (Some r) best
+
+-- the test of two, if there are two
+abbrev pub of_both : {X : Type 0} → (X × X → Bool) → Option X → Option X → Bool
+of_both test (Some p) (Some q) = test (p, q)
+of_both test _ _ = false
+
+-- the register is clear along a touched place and the next one
+abbrev pub is_near : Target → Function → ℕ → View → Reg → ℕ → Bool
+is_near t f v view r k = of_both (λ e. clear_along t f v view (e, r)) (slice_get (touched_places t f v view) k) (slice_get (touched_places t f v view) (k + 1))

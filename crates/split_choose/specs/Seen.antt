@@ -1,5 +1,5 @@
 -- What offers ask, as a table of what is live and a matrix of what is held answer it, and what has to hold of these.
-use Rattle.std.specs.Prelude.{◌≡◌, ◌<◌, ℕ, Bool, true, false, cond, ◌&&◌, nat_le, List, [], ◌∷◌, length, Option, None, Some, slice_get, slice_index}
+use Rattle.std.specs.Prelude.{◌≡◌, ◌<◌, ℕ, Bool, true, false, cond, ◌&&◌, nat_le, nat_lt, List, [], ◌∷◌, length, Option, None, Some, slice_get, slice_index}
 use Rattle.std.specs.List.{list_all}
 use Rattle.target_base.specs.declared.types.Unit.{Unit as UnitNumber}
 use Rattle.target_base.specs.declared.types.Target.{Target}
@@ -13,6 +13,7 @@ use Rattle.live_lanes.specs.declared.table.Table.{Table}
 use Rattle.live_lanes.specs.Paths.{has}
 use Rattle.live_lanes.specs.Graph.{is_live}
 use Rattle.live_lanes.specs.declared.row.End.{End}
+use Rattle.live_lanes.specs.declared.row.End.TheVariants as ends
 use Rattle.live_lanes.specs.Table.{Numbers, Begun, Seen, entry_rank, exit_rank, end_rank, descends}
 use Rattle.live_lanes.specs.Ways.{successors}
 use Rattle.live_lanes.specs.Entered.{causes, cells_of, rows_seen}
@@ -102,13 +103,15 @@ abbrev pub ends_in_turn : Numbers → Seen → Bool
 ends_in_turn slots v = turns_from slots v.end v.segments
 
 -- Where points are asked for besides: pieces and what is held begin at points of their blocks, pieces end in turn, and a lane
--- has one cell for a block.
+-- has one cell for a block, for blocks of the function alone.
 pub record FindsPoints (m : Matrix) : Type 0 where
   pub order : IsOrdered m
   pub begun : (l k : ℕ) (b : Block) → slice_get m.live.func.blocks k ≡ Some b → begins_here b.instrs (rows_seen m.live.table.rows.rows.items l k) ≡ true
   pub turns : (l k : ℕ) → ends_in_turn m.live.table.order.slots (rows_seen m.live.table.rows.rows.items l k) ≡ true
   pub apart : (l : ℕ) → descends (cells_of m.live.table.rows.rows.items l) ≡ true
+  pub placed : (l : ℕ) → list_all (λ c. nat_lt c.block (length m.live.func.blocks)) (cells_of m.live.table.rows.rows.items l) ≡ true
   pub held : (u k : ℕ) (b : Block) → slice_get m.live.func.blocks k ≡ Some b → list_all (starts_here b.instrs) (holds m u k) ≡ true
+  pub dead : (l k : ℕ) → is_live (causes m.live.table.rows.rows.items l k 0) ≡ false → (rows_seen m.live.table.rows.rows.items l k).end ≡ ends.Never
 
 -- where bundles are asked for, that blocks can be counted and that ways are those of the blocks
 pub record FindsWays (f : Function) (x : Table) : Type 0 where
