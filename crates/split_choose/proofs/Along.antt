@@ -12,7 +12,8 @@ use Rattle.live_lanes.specs.declared.table.Table.{Table}
 use Rattle.split_choose.specs.Offers.{View, Touched, from_point, to_point, touched_places, clashes_not, clear_along}
 use Rattle.split_choose.specs.Seen.{FindsPlaces}
 use Rattle.split_choose.specs.LongRuns.{IsRun, of_both, is_near}
-use Rattle.split_choose.proofs.Ranked.{AreRanked, between-ranked, among-one}
+use Rattle.split_choose.proofs.Covers.{among-cases}
+use Rattle.split_choose.proofs.Ranked.{AreRanked, between-ranked}
 use Rattle.split_choose.proofs.Best.{get-within}
 use Rattle.split_choose.proofs.Sought.{AreTold, get-some}
 use Rattle.split_choose.proofs.Apart.{index_in, points-rise}
@@ -22,7 +23,7 @@ use Rattle.split_choose.proofs.Turns.{IsIn, InTurn, IsAt, turn-at, turn-behind, 
 
 among-filter : {X : Type 0} (c g : X → Bool) (xs : List X) → list_all g (filter c xs) ≡ true → (x : X) → Among x xs → c x ≡ true → g x ≡ true
 among-filter c g [] h x m e = elim m [ ]
-among-filter {X} c g (y ∷ xs) h x m q = go (c y) refl (among-one x y xs m) (among-filter c g xs)
+among-filter {X} c g (y ∷ xs) h x m q = go (c y) refl (among-cases x y xs m) (among-filter c g xs)
   where
     go : (b : Bool) → c y ≡ b → (x ≡ y) ⊎ Among x xs → (list_all g (filter c xs) ≡ true → (z : X) → Among z xs → c z ≡ true → g z ≡ true) → g x ≡ true
     go true d (inl e) ih = let p = and_parts (g y) (list_all g (filter c xs)) (rw d at h) in ap g e ∙ p.0

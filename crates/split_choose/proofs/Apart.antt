@@ -16,7 +16,8 @@ use Rattle.slot_index.specs.Order.{number_of}
 use Rattle.split_choose.specs.Bundles.{ArePlaced}
 use Rattle.split_choose.specs.Offers.{same_point}
 use Rattle.split_choose.specs.Seen.{home_of, rank_of}
-use Rattle.split_choose.proofs.Ranked.{same-self, same-is, among-one, AreRanked, ranked-above, Lacks, ranked-from}
+use Rattle.split_choose.proofs.Covers.{among-cases}
+use Rattle.split_choose.proofs.Ranked.{same-self, same-is, AreRanked, ranked-above, Lacks, ranked-from}
 
 -- none stands twice
 abbrev pub Apart : List Point → Type 0
@@ -25,7 +26,7 @@ Apart (p ∷ ps) = Lacks p ps × Apart ps
 
 among-parts : {X : Type 0} (x : X) (xs ys : List X) → Among x (xs ++ ys) → Among x xs ⊎ Among x ys
 among-parts x [] ys m = inr m
-among-parts {X} x (z ∷ xs) ys m = go (among-one x z (xs ++ ys) m) (among-parts x xs ys)
+among-parts {X} x (z ∷ xs) ys m = go (among-cases x z (xs ++ ys) m) (among-parts x xs ys)
   where
     go : (x ≡ z) ⊎ Among x (xs ++ ys) → (Among x (xs ++ ys) → Among x xs ⊎ Among x ys) → Among x (z ∷ xs) ⊎ Among x ys
     go (inl e) ih = let P : X → Type 0 = λ w. Among x (w ∷ xs) in inl (subst P e here)
@@ -59,7 +60,7 @@ index-of p (x ∷ before) after h =
 
 apart-before : (p : Point) (before after : List Point) → Apart (before ++ (p ∷ after)) → Lacks p before
 apart-before p [] after a = λ m. elim m [ ]
-apart-before p (x ∷ before) after a = λ m. go (among-one p x before m) (apart-before p before after a.1)
+apart-before p (x ∷ before) after a = λ m. go (among-cases p x before m) (apart-before p before after a.1)
   where
     mid : (xs : List Point) → Among p (xs ++ (p ∷ after))
     mid [] = here
@@ -108,7 +109,7 @@ module _ (x : Table) (bs : List Block) (finds : FindsInstrs x bs) (placed : AreP
 
   home-in : (k : ℕ) (b : Block) → slice_get bs k ≡ Some b → (is : List Instr) → ((id : ℕ) → has id (ids_of is) ≡ true → has id (ids_of b.instrs) ≡ true) → (p : Point) → Among p (instr_points is) → home_of x bs p ≡ Some k
   home-in k b at [] sub p m = elim m [ ]
-  home-in k b at (i ∷ is) sub p m = entry (among-one p (Entry i.id) (Exit i.id ∷ instr_points is) m) (home-in k b at is (λ id h. sub id (has-later id i.id (ids_of is) h)) p)
+  home-in k b at (i ∷ is) sub p m = entry (among-cases p (Entry i.id) (Exit i.id ∷ instr_points is) m) (home-in k b at is (λ id h. sub id (has-later id i.id (ids_of is) h)) p)
     where
       here-is : slice_index x.order.block_of.items i.id ≡ k
       here-is = finds.homes k b i.id at (sub i.id (has-first i.id (ids_of is)))
@@ -119,10 +120,10 @@ module _ (x : Table) (bs : List Block) (finds : FindsInstrs x bs) (placed : AreP
 
       entry : (p ≡ Entry i.id) ⊎ Among p (Exit i.id ∷ instr_points is) → (Among p (instr_points is) → home_of x bs p ≡ Some k) → home_of x bs p ≡ Some k
       entry (inl e) ih = ap (home_of x bs) e ∙ ap Some here-is
-      entry (inr m) ih = exit (among-one p (Exit i.id) (instr_points is) m) ih
+      entry (inr m) ih = exit (among-cases p (Exit i.id) (instr_points is) m) ih
 
   home-is : (k : ℕ) (b : Block) → slice_get bs k ≡ Some b → (p : Point) → Among p (block_points b) → home_of x bs p ≡ Some k
-  home-is k b at p m = elim (among-one p (Start b.number) (instr_points b.instrs) m) [
+  home-is k b at p m = elim (among-cases p (Start b.number) (instr_points b.instrs) m) [
       inl e ↦ ap (home_of x bs) e ∙ placed k b at
     | inr h ↦ home-in k b at b.instrs (λ id g. g) p h
     ]
