@@ -100,7 +100,7 @@ module _ (t : Target) (f : Function) (x : Table) (v : ℕ) (view : View) (finds 
       ∙ all-filter (is_between p q) (clashes_not t f v view r) all (λ z m d. (let s = and_parts (nat_le (rank (Entry p.first)) (rank z)) (nat_le (rank z) (rank (Exit q.last))) d in
           h z m (leb-true (rank (Entry p.first)) (rank z) s.0) (leb-true (rank z) (rank (Exit q.last)) s.1)))
 
-  near-is : (k : ℕ) (p q : Touched) (r : Reg) → slice_get places k ≡ Some p → slice_get places (k + 1) ≡ Some q → is_near t f v view r k ≡ clear_along t f v view ((p, q), r)
+  pub near-is : (k : ℕ) (p q : Touched) (r : Reg) → slice_get places k ≡ Some p → slice_get places (k + 1) ≡ Some q → is_near t f v view r k ≡ clear_along t f v view ((p, q), r)
   near-is k p q r e g = ap (λ o. of_both (λ d. clear_along t f v view (d, r)) o (slice_get places (k + 1))) e ∙ ap (λ o. of_both (λ d. clear_along t f v view (d, r)) (Some p) o) g
 
   run-clear : (l k : ℕ) (p q : Touched) (r : Reg) → 1 ≤ l → slice_get places k ≡ Some p → slice_get places (k + l) ≡ Some q → IsRun (is_near t f v view r) k (suc l) → Clear r p q

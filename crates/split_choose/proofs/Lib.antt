@@ -19,6 +19,7 @@ pub mod Sought
 pub mod Apart
 pub mod Turns
 pub mod Along
+pub mod Locals
 pub mod Clear
 pub mod Ranked
 pub mod Alone

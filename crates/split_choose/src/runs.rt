@@ -1,8 +1,9 @@
 //! Local splits: a run of places for which some register is free.
 
-ghost use Rattle.std.specs.Prelude.{◌≡◌, ◌+◌, ◌-◌, ◌++◌, [], ℕ, false, cond, map, take, drop, IfOk, OnOk, Option, Some, slice_get};
-ghost use Rattle.split_choose.specs.Offers.{View as OfferView, Touched, first_id, at_start, touched_places, run_marks};
-ghost use Rattle.split_choose.specs.Seen.{FindsPlaces};
+ghost use Rattle.std.specs.Prelude.{◌≡◌, ◌+◌, ◌-◌, ◌++◌, [], ℕ, List, false, cond, map, take, drop, length, IfOk, OnOk, Option, Some, slice_get};
+ghost use Rattle.split_choose.specs.Offers.{View as OfferView, Touched, first_id, at_start, touched_places, run_marks, clear_along, local_offer};
+ghost use Rattle.split_choose.specs.Seen.{FindsPlaces, FindsPoints, view_of};
+ghost use Rattle.split_choose.specs.LongRuns.{IsLocal, IsLongestRun, IsBestRun, is_longer, is_better, better_of, near_in, registers_of, found_run};
 ghost use Rattle.split_choose.specs.Places.{placed};
 ghost use Rattle.split_choose.specs.Marks.{marks_in};
 ghost use Rattle.split_choose.specs.Runs.{IsBehind};
@@ -39,26 +40,36 @@ struct View<'a> {
 
 /// The local split that is offered to a range, with its register and its labels: label 1 along the
 /// run. None exactly where none is offered.
-pub fn local(alloc: Global, m: &Matrix, v: u32) -> Result<Option<(Reg, Labels)>, AllocError> {
+pub fn local(alloc: Global, m: &Matrix, v: u32) -> Result<Option<(Reg, Labels)>, AllocError>
+    ensures { IfOk result (λ q. (parents : List ℕ) → FindsPlaces m.now.live.target m.now.live.func m.now.live.table v → FindsPoints m.now
+        → q ≡ local_offer m.now.live.target m.now.live.func v (view_of m.now v parents)) }
+{
     let live = m.live();
     let touched = live.touched(alloc, v)?;
     let places = places_of(alloc, live, touched.as_slice())?;
-    if places.len() < 3 || is_live_at_border(live, v) {
+    if places.len() < 3 {
+        return Ok(None);
+    }
+    if is_live_at_border(live, v) {
         return Ok(None);
     }
     let even = Freqs::new(alloc);
     let spans = spans_of(alloc, live, v, &even, touched.as_slice())?;
-    best_split(View {
+    let split = best_split(View {
         alloc,
         m,
         v,
         places: places.as_slice(),
         spans: spans.as_slice(),
-    })
+    })?;
+    Ok(split)
 }
 
 /// The split along the longest run.
-fn best_split(view: View<'_>) -> Result<Option<(Reg, Labels)>, AllocError> {
+fn best_split(view: View<'_>) -> Result<Option<(Reg, Labels)>, AllocError>
+    ensures { IfOk result (λ q. (parents freqs : List ℕ) → IsLocal view.entry.m.now view.entry.v parents freqs view.entry.places.now view.entry.spans.now
+        → q ≡ found_run view.entry.m.now.live.target view.entry.m.now.live.func view.entry.v (view_of view.entry.m.now view.entry.v parents)) }
+{
     let Some(run) = best_run(view)? else {
         return Ok(None);
     };
@@ -68,21 +79,42 @@ fn best_split(view: View<'_>) -> Result<Option<(Reg, Labels)>, AllocError> {
 }
 
 /// The longest run, the earliest at a tie, and then the first in class order.
-fn best_run(view: View<'_>) -> Result<Option<Run>, AllocError> {
+fn best_run(view: View<'_>) -> Result<Option<Run>, AllocError>
+    ensures { IfOk result (λ best. (parents freqs : List ℕ) → IsLocal view.entry.m.now view.entry.v parents freqs view.entry.places.now view.entry.spans.now
+        → IsBestRun (near_in view.entry.m.now view.entry.v parents) (length view.entry.places.now)
+            (registers_of view.entry.m.now view.entry.v) (length (registers_of view.entry.m.now view.entry.v)) best) }
+{
     let live = view.m.live();
-    let mut best: Option<Run> = None;
     let domain = domain_of(view.alloc, live.target(), class_of(live, view.v))?;
-    'registers: for register in domain.as_slice() {
-        if let Some(run) = longest_run(view, *register) {
-            if is_better(run, best) {
-                best = Some(run);
-            }
-        }
-    }
-    Ok(best)
+    Ok(best_of(view, domain.as_slice()))
 }
 
-fn is_better(run: Run, best: Option<Run>) -> bool {
+/// The best run of these registers.
+fn best_of(view: View<'_>, registers: &[Reg]) -> Option<Run>
+    ensures { (parents freqs : List ℕ) → IsLocal view.entry.m.now view.entry.v parents freqs view.entry.places.now view.entry.spans.now
+        → IsBestRun (near_in view.entry.m.now view.entry.v parents) (length view.entry.places.now) registers.now (length registers.now) result }
+{
+    let mut best: Option<Run> = None;
+    'registers: for register in registers {
+        best = better_of(best, longest_run(view, *register));
+    }
+    best
+}
+
+/// The better of the best run and another one, if there is one.
+fn better_of(best: Option<Run>, other: Option<Run>) -> Option<Run>
+    ensures { result ≡ better_of best other }
+{
+    match other {
+        Some(run) if is_better(run, best) => Some(run),
+        _ => best,
+    }
+}
+
+/// Whether a run is longer than the best, or as long and earlier.
+fn is_better(run: Run, best: Option<Run>) -> bool
+    ensures { result ≡ is_better run best }
+{
     match best {
         Some(old) => run.len > old.len || (run.len == old.len && run.first < old.first),
         None => true,
@@ -90,7 +122,9 @@ fn is_better(run: Run, best: Option<Run>) -> bool {
 }
 
 /// Whether a run of a length is longer than the best, or the first of two or more places.
-fn is_longer(len: usize, best: Option<Run>) -> bool {
+fn is_longer(len: usize, best: Option<Run>) -> bool
+    ensures { result ≡ is_longer len best }
+{
     match best {
         Some(old) => len > old.len,
         None => len >= 2,
@@ -99,7 +133,10 @@ fn is_longer(len: usize, best: Option<Run>) -> bool {
 
 /// The longest run of two or more places, but not all of them, along which a register is free, and
 /// the earliest of these.
-fn longest_run(view: View<'_>, register: Reg) -> Option<Run> {
+fn longest_run(view: View<'_>, register: Reg) -> Option<Run>
+    ensures { (parents freqs : List ℕ) → IsLocal view.entry.m.now view.entry.v parents freqs view.entry.places.now view.entry.spans.now
+        → IsLongestRun (near_in view.entry.m.now view.entry.v parents register) (length view.entry.places.now) (length view.entry.places.now) register result }
+{
     let most = view.places.len().saturating_sub(1);
     let mut best: Option<Run> = None;
     let mut len = 1usize;
@@ -121,7 +158,13 @@ fn longest_run(view: View<'_>, register: Reg) -> Option<Run> {
 }
 
 /// Whether a register is free from the entry of one place to the exit of the next.
-fn is_free_between(view: View<'_>, register: Reg, a: usize, z: usize) -> bool {
+fn is_free_between(view: View<'_>, register: Reg, a: usize, z: usize) -> bool
+    ensures { (parents freqs : List ℕ) (p q : Touched) → IsLocal view.entry.m.now view.entry.v parents freqs view.entry.places.now view.entry.spans.now
+        → slice_get (touched_places view.entry.m.now.live.target view.entry.m.now.live.func view.entry.v (view_of view.entry.m.now view.entry.v parents)) a ≡ Some p
+        → slice_get (touched_places view.entry.m.now.live.target view.entry.m.now.live.func view.entry.v (view_of view.entry.m.now view.entry.v parents)) z ≡ Some q
+        → z ≡ a + 1
+        → result ≡ clear_along view.entry.m.now.live.target view.entry.m.now.live.func view.entry.v (view_of view.entry.m.now view.entry.v parents) ((p, q), register) }
+{
     let (Some(a), Some(z)) = (view.places.get(a), view.places.get(z)) else {
         return false;
     };
