@@ -19,6 +19,11 @@ get-within [] k x e = cc
 get-within (y ∷ xs) zero x e = omega arith
 get-within (y ∷ xs) (suc k) x e = let h = get-within xs k x e in omega arith
 
+same-default : {X : Type 0} (xs : List X) (k : ℕ) (d e : X) → k < length xs → get_or xs k d ≡ get_or xs k e
+same-default [] k d e h = absurd (omega arith)
+same-default (x ∷ xs) zero d e h = refl
+same-default (x ∷ xs) (suc k) d e h = same-default xs k d e (omega arith)
+
 -- the run is the better one
 beats : (r old : Run) → is_better r (Some old) ≡ true → (old.len < r.len) ⊎ ((r.len ≡ old.len) × (r.first < old.first))
 beats r old h = elim (or_cases (nat_lt old.len r.len) (nat_eq r.len old.len && nat_lt r.first old.first) h) [
@@ -166,6 +171,9 @@ module _ (near : Reg → ℕ → Bool) (count : ℕ) (rs : List Reg) where
       go : (o : Option Run) → IsLongestRun (near r) count count r o → IsBestRun near count rs (k + 1) (better_of best o)
       go None none = passed k best r (at-index rs k r h at) none was
       go (Some b) l = met k best b r (at-index rs k r h at) l.0 l.1 was
+
+  pub next-better : (k : ℕ) (best other new : Option Run) (d : Reg) → k < length rs → IsLongestRun (near (get_or rs k d)) count count (get_or rs k d) other → new ≡ better_of best other → IsBestRun near count rs k best → IsBestRun near count rs (k + 1) new
+  next-better k best other new d h long is was = better-next k best other new (get_or rs k d) h (same-default rs k d (get_or rs k d) h) long is was
 
   pub all-seen : (k : ℕ) (best : Option Run) → length rs ≤ k → IsBestRun near count rs k best → IsBestRun near count rs (length rs) best
   all-seen k None h was = λ j f l q z e w run. was j f l q (omega arith) e w run
