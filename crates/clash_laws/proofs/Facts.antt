@@ -51,7 +51,7 @@ use Rattle.interference.specs.Clashes.{Points, register_in, holds, touches, is_t
 use Rattle.evictor.specs.Cheapest.{UnitInTheWay, InTheWay, Facts, AreFacts}
 use Rattle.evictor.specs.Hints.{assignment_of}
 use Rattle.clash_laws.specs.Covered.{some_extents, extents_in, rank_of, LiesIn}
-use Rattle.clash_laws.specs.Holds.{lane_extents, IsIn, Holds, AreUnitsFirst}
+use Rattle.clash_laws.specs.Holds.{lane_extents, IsIn, Holds}
 use Rattle.clash_laws.specs.Facts.{IsExact, ClashesLaw, FactsLaw}
 use Rattle.clash_laws.proofs.Free.{no-pieces}
 use Rattle.clash_laws.proofs.Pieces.{any-of}
@@ -301,7 +301,7 @@ module _ (m : Matrix) (computed : IsComputed m.live.target m.live.func m.live.ta
           let number : unit_number_in x.lanes.reserved.items u.0 ≡ Some u.0 = ap (λ (q : Option Bool). elim q [ None ↦ None | Some b ↦ cond b None (Some u.0) ]) (flag-at u.0 known ∙ ap Some free) in
           ap is_some number
 
-  module _ (first-units : AreUnitsFirst x.lanes) where
+  module _ (first-units : (u : ℕ) → u < length x.lanes.reserved.items → slice_get x.lanes.owners.items u ≡ Some (owners.Unit u)) where
     few : (u : ℕ) → u < length t.units → u < length x.lanes.reserved.items
     few u h = let e = ap (λ bs. length bs) computed.numbers.reserved in let long = reserved-long t in omega (arith, h, e, long)
 
@@ -434,10 +434,10 @@ clashes-law m exact v none = record {
 }
 
 pub facts-law : FactsLaw
-facts-law m exact first-units v none =
+facts-law m exact v none =
     let facts = are-facts m exact v none in
     record {
-      fixed = λ r. decided (is_fixed m v r) (is_exact m exact.computed exact.rules exact.last v r) (first-same m exact.computed exact.rules exact.last first-units v r) (exact-tests m exact v r);
+      fixed = λ r. decided (is_fixed m v r) (is_exact m exact.computed exact.rules exact.last v r) (first-same m exact.computed exact.rules exact.last exact.computed.numbers.table.units v r) (exact-tests m exact v r);
       ranges = facts.ranges;
       points = facts.points;
     }

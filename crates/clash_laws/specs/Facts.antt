@@ -16,7 +16,7 @@ use Rattle.evictor.specs.Candidates.{candidates}
 use Rattle.evictor.specs.Cheapest.{UnitInTheWay, InTheWay, AreFacts, IsCheapest, cheapest_of}
 use Rattle.evictor.specs.Hints.{assignment_of}
 use Rattle.evictor.specs.Settings.{ranking_of, facts_of, setting_of}
-use Rattle.clash_laws.specs.Holds.{Holds, AreUnitsFirst}
+use Rattle.clash_laws.specs.Holds.{Holds}
 
 -- The matrix is exact: its table is computed, its function keeps the rules that liveness rests on, terminators stand last in their
 -- blocks, and of each unit it lists what the assigned ranges hold.
@@ -36,9 +36,9 @@ pub record TellsClashes (m : Matrix) (v : ℕ) : Type 0 where
 abbrev pub ClashesLaw : Type 0
 ClashesLaw = (m : Matrix) → IsExact m → (v : ℕ) → register_in m.registers.items v ≡ None → TellsClashes m v
 
--- where the units have the first numbers, all registers are told of right
+-- and what it tells of all registers is what an eviction asks
 abbrev pub FactsLaw : Type 0
-FactsLaw = (m : Matrix) → IsExact m → AreUnitsFirst m.live.table.lanes → (v : ℕ) → register_in m.registers.items v ≡ None → AreFacts m.live.target m.live.func (assignment_of m) v (facts_of m v)
+FactsLaw = (m : Matrix) → IsExact m → (v : ℕ) → register_in m.registers.items v ≡ None → AreFacts m.live.target m.live.func (assignment_of m) v (facts_of m v)
 
 -- the eviction that is chosen by an exact matrix is the cheapest one
 abbrev pub EvictionLaw : Type 0

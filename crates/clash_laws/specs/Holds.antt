@@ -1,9 +1,8 @@
 -- A matrix that lists what the assigned ranges hold.
-use Rattle.std.specs.Prelude.{◌≡◌, ◌<◌, ◌↔◌, ℕ, List, [], Option, None, Some, map, length, slice_get}
+use Rattle.std.specs.Prelude.{◌≡◌, ◌↔◌, ℕ, List, [], Option, None, Some, map, length, slice_get}
 use Rattle.target_base.specs.declared.types.Reg.{Reg}
 use Rattle.target_base.specs.Registers.{units_of}
 use Rattle.meaning.specs.Live.{Among as Member}
-use Rattle.lane_effects.specs.declared.lanes.LaneTable.{LaneTable}
 use Rattle.lane_effects.specs.declared.owner.Owner.TheVariants as owners
 use Rattle.lane_effects.specs.Numbered.{number_in}
 use Rattle.live_lanes.specs.declared.extent.Extent.{Extent}
@@ -29,7 +28,3 @@ IsHolding m u p h = (k : ℕ) × IsIn m h.range k u × Member h.extent (lane_ext
 -- of each unit and each block the matrix lists exactly the stretches that ranges hold
 abbrev pub Holds : Matrix → Type 0
 Holds m = (u p : ℕ) (h : Held) → Member h (holds m u p) ↔ IsHolding m u p h
-
--- the units have the first numbers, reserved ones too
-abbrev pub AreUnitsFirst : LaneTable → Type 0
-AreUnitsFirst tab = (u : ℕ) → u < length tab.reserved.items → slice_get tab.owners.items u ≡ Some (owners.Unit u)

@@ -23,7 +23,7 @@ pub fn clashes_law()
     ensures { ClashesLaw }
 {}
 
-/// It tells of all registers right, where lanes have numbers behind those of all units.
+/// It tells of all registers right: what it tells is what an eviction asks.
 pub fn facts_law()
     ensures { FactsLaw }
 {}

@@ -52,39 +52,39 @@ module _ (slots : Numbers) where
 
   pub apart-filter : (test : Held → Bool) (n : ℕ) (hs : List Held) → AreApart slots n hs → AreApart slots n (filter test hs)
   apart-filter test n [] a = tt
-  apart-filter test n (h ∷ hs) a = go (test h) (apart-filter test (last_rank slots h.extent + 1) hs a.1)
+  apart-filter test n (h ∷ hs) a = go (test h) (apart-filter test (last_rank slots h.extent) hs a.1)
     where
-      go : (u : Bool) → AreApart slots (last_rank slots h.extent + 1) (filter test hs) → AreApart slots n (cond u (h ∷ filter test hs) (filter test hs))
+      go : (u : Bool) → AreApart slots (last_rank slots h.extent) (filter test hs) → AreApart slots n (cond u (h ∷ filter test hs) (filter test hs))
       go true ih = (a.0, ih)
-      go false ih = let b = a.0 in let c = extent-le h.extent in apart-low n (last_rank slots h.extent + 1) (filter test hs) (omega arith) ih
+      go false ih = let b = a.0 in let c = extent-le h.extent in apart-low n (last_rank slots h.extent) (filter test hs) (omega arith) ih
 
-  -- the point behind the last of them
+  -- the last point of the last of them
   abbrev pub behind_all : ℕ → List Held → ℕ
   behind_all n [] = n
-  behind_all n (h ∷ hs) = behind_all (last_rank slots h.extent + 1) hs
+  behind_all n (h ∷ hs) = behind_all (last_rank slots h.extent) hs
 
   pub apart-left : (n : ℕ) (xs ys : List Held) → AreApart slots n (xs ++ ys) → AreApart slots n xs
   apart-left n [] ys a = tt
-  apart-left n (x ∷ xs) ys a = (a.0, apart-left (last_rank slots x.extent + 1) xs ys a.1)
+  apart-left n (x ∷ xs) ys a = (a.0, apart-left (last_rank slots x.extent) xs ys a.1)
 
   pub apart-right : (n : ℕ) (xs ys : List Held) → AreApart slots n (xs ++ ys) → AreApart slots (behind_all n xs) ys
   apart-right n [] ys a = a
-  apart-right n (x ∷ xs) ys a = apart-right (last_rank slots x.extent + 1) xs ys a.1
+  apart-right n (x ∷ xs) ys a = apart-right (last_rank slots x.extent) xs ys a.1
 
   behind-low : (n : ℕ) (hs : List Held) → AreApart slots n hs → n ≤ behind_all n hs
   behind-low n [] a = omega arith
-  behind-low n (h ∷ hs) a = let ih = behind-low (last_rank slots h.extent + 1) hs a.1 in let b = a.0 in let c = extent-le h.extent in omega arith
+  behind-low n (h ∷ hs) a = let ih = behind-low (last_rank slots h.extent) hs a.1 in let b = a.0 in let c = extent-le h.extent in omega arith
 
   -- they begin at their first one's first point, at the lowest
   pub from-first : (n : ℕ) (h : Held) (hs : List Held) → AreApart slots n (h ∷ hs) → AreApart slots (first_rank slots h.extent) (h ∷ hs)
   from-first n h hs a = (omega arith, a.1)
 
   -- where one of them lies before a point, so does all that stands ahead of them
-  pub lies-low : (t n : ℕ) (hs : List Held) → AreApart slots n hs → list_any (lies_before slots t) hs ≡ true → n ≤ t
+  pub lies-low : (t n : ℕ) (hs : List Held) → AreApart slots n hs → list_any (lies_before slots t) hs ≡ true → n < t
   lies-low t n [] a e = absurd (cc)
-  lies-low t n (h ∷ hs) a e = go (lies_before slots t h) refl (λ f. lies-low t (last_rank slots h.extent + 1) hs a.1 f)
+  lies-low t n (h ∷ hs) a e = go (lies_before slots t h) refl (λ f. lies-low t (last_rank slots h.extent) hs a.1 f)
     where
-      go : (u : Bool) → lies_before slots t h ≡ u → (list_any (lies_before slots t) hs ≡ true → last_rank slots h.extent + 1 ≤ t) → n ≤ t
+      go : (u : Bool) → lies_before slots t h ≡ u → (list_any (lies_before slots t) hs ≡ true → last_rank slots h.extent < t) → n < t
       go true f ih = let low = ltb-true (last_rank slots h.extent) t f in let b = a.0 in let c = extent-le h.extent in omega arith
       go false f ih =
           let rest : list_any (lies_before slots t) hs ≡ true = sym (ap (λ b. b || list_any (lies_before slots t) hs) f) ∙ e in
@@ -98,11 +98,11 @@ module _ (slots : Numbers) where
     past-none h low = and-none (test h) (touches slots at h) (and-none (begins_by slots at.last h) (nat_le at.first (last_rank slots h.extent)) (le-false at.first (last_rank slots h.extent) low))
 
     -- what lies before the points touches none
-    pub none-past : (n : ℕ) (hs : List Held) → AreApart slots n hs → behind_all n hs ≤ at.first → touched hs ≡ false
+    pub none-past : (n : ℕ) (hs : List Held) → AreApart slots n hs → behind_all n hs < at.first → touched hs ≡ false
     none-past n [] a le = refl
     none-past n (h ∷ hs) a le =
-        let low = behind-low (last_rank slots h.extent + 1) hs a.1 in
-        or-none (test h && touches slots at h) (touched hs) (past-none h (omega arith)) (none-past (last_rank slots h.extent + 1) hs a.1 le)
+        let low = behind-low (last_rank slots h.extent) hs a.1 in
+        or-none (test h && touches slots at h) (touched hs) (past-none h (omega arith)) (none-past (last_rank slots h.extent) hs a.1 le)
 
     -- nor does what begins behind them
     pub only-begun : (hs : List Held) → touched (filter (begins_by slots at.last) hs) ≡ touched hs
@@ -130,23 +130,23 @@ module _ (slots : Numbers) where
     none-begun n [] a lt = refl
     none-begun n (h ∷ hs) a lt =
         let b = a.0 in let c = extent-le h.extent in
-        keep-none h hs (late n h lt a.0) ∙ none-begun (last_rank slots h.extent + 1) hs a.1 (omega arith)
+        keep-none h hs (late n h lt a.0) ∙ none-begun (last_rank slots h.extent) hs a.1 (omega arith)
 
     all-begun : (n : ℕ) (hs : List Held) → AreApart slots n hs → behind_all n hs ≤ at → begun hs ≡ hs
     all-begun n [] a le = refl
     all-begun n (h ∷ hs) a le =
-        let low = behind-low (last_rank slots h.extent + 1) hs a.1 in let c = extent-le h.extent in
-        keep-more h hs (le-leb (first_rank slots h.extent) at (omega arith)) ∙ ap (λ xs. h ∷ xs) (all-begun (last_rank slots h.extent + 1) hs a.1 le)
+        let low = behind-low (last_rank slots h.extent) hs a.1 in let c = extent-le h.extent in
+        keep-more h hs (le-leb (first_rank slots h.extent) at (omega arith)) ∙ ap (λ xs. h ∷ xs) (all-begun (last_rank slots h.extent) hs a.1 le)
 
     lead-begun : (n : ℕ) (hs : List Held) → AreApart slots n hs → take (leading (begins_by slots at) hs) hs ≡ begun hs
     lead-begun n [] a = refl
-    lead-begun n (h ∷ hs) a = go (begins_by slots at h) refl (lead-begun (last_rank slots h.extent + 1) hs a.1)
+    lead-begun n (h ∷ hs) a = go (begins_by slots at h) refl (lead-begun (last_rank slots h.extent) hs a.1)
       where
         go : (u : Bool) → begins_by slots at h ≡ u → take (leading (begins_by slots at) hs) hs ≡ begun hs → take (leading (begins_by slots at) (h ∷ hs)) (h ∷ hs) ≡ begun (h ∷ hs)
         go true e ih = ap (λ b. take (cond b (suc (leading (begins_by slots at) hs)) 0) (h ∷ hs)) e ∙ ap (λ xs. h ∷ xs) ih ∙ sym (keep-more h hs e)
         go false e ih =
             let low = leb-false (first_rank slots h.extent) at e in let c = extent-le h.extent in
-            ap (λ b. take (cond b (suc (leading (begins_by slots at) hs)) 0) (h ∷ hs)) e ∙ sym (keep-none h hs e ∙ none-begun (last_rank slots h.extent + 1) hs a.1 (omega arith))
+            ap (λ b. take (cond b (suc (leading (begins_by slots at) hs)) 0) (h ∷ hs)) e ∙ sym (keep-none h hs e ∙ none-begun (last_rank slots h.extent) hs a.1 (omega arith))
 
     abbrev pub lead : List (List Held) → ℕ
     lead ps = leading (part_begins slots at) ps
@@ -254,7 +254,7 @@ module _ (slots : Numbers) where
         go false f = absurd (
             let low = leb-false (first_rank slots x.extent) at f in
             let up = behind-low n (x ∷ xs) (apart-left n (x ∷ xs) (flat ps) a) in
-            let up-x = behind-low (last_rank slots x.extent + 1) xs (apart-left (last_rank slots x.extent + 1) xs (flat ps) a.1) in
+            let up-x = behind-low (last_rank slots x.extent) xs (apart-left (last_rank slots x.extent) xs (flat ps) a.1) in
             let c = extent-le x.extent in
             let none = late-parts (behind_all n (x ∷ xs)) ps j d (apart-right n (x ∷ xs) (flat ps) a) (omega arith) (omega arith) in cc)
     parted-full n (p ∷ ps) a full (suc i) zero d w h e = absurd (omega arith)
@@ -270,7 +270,7 @@ module _ (slots : Numbers) where
     late-held : (n : ℕ) (hs : List Held) (i : ℕ) (d : Held) → AreApart slots n hs → at < n → i < length hs → begins_by slots at (get_or hs i d) ≡ false
     late-held n [] i d a lt h = absurd (omega arith)
     late-held n (x ∷ xs) zero d a lt h = late n x lt a.0
-    late-held n (x ∷ xs) (suc i) d a lt h = let c = extent-le x.extent in let b = a.0 in late-held (last_rank slots x.extent + 1) xs i d a.1 (omega arith) (omega arith)
+    late-held n (x ∷ xs) (suc i) d a lt h = let c = extent-le x.extent in let b = a.0 in late-held (last_rank slots x.extent) xs i d a.1 (omega arith) (omega arith)
 
     pub held-parted : (n : ℕ) (hs : List Held) → AreApart slots n hs → IsPartitionedBy (begins_by slots at) hs
     held-parted n [] a i j d w h e = absurd (omega arith)
@@ -282,9 +282,9 @@ module _ (slots : Numbers) where
         go false f = absurd (
             let low = leb-false (first_rank slots x.extent) at f in
             let c = extent-le x.extent in
-            let none = late-held (last_rank slots x.extent + 1) xs j d a.1 (omega arith) (omega arith) in cc)
+            let none = late-held (last_rank slots x.extent) xs j d a.1 (omega arith) (omega arith) in cc)
     held-parted n (x ∷ xs) a (suc i) zero d w h e = absurd (omega arith)
-    held-parted n (x ∷ xs) a (suc i) (suc j) d w h e = held-parted (last_rank slots x.extent + 1) xs a.1 i j d (omega arith) (omega arith) e
+    held-parted n (x ∷ xs) a (suc i) (suc j) d w h e = held-parted (last_rank slots x.extent) xs a.1 i j d (omega arith) (omega arith) e
 
   -- the stretches of each part lie apart
   pub some-apart : (n : ℕ) (ps : List (List Held)) (k : ℕ) → AreApart slots n (flat ps) → (m : ℕ) × AreApart slots m (part_in ps k)

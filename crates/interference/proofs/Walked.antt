@@ -43,7 +43,7 @@ module _ (slots : Numbers) where
   apart-last : (n : ℕ) (hs : List Held) (i : ℕ) (d : Held) → AreApart slots n hs → i < length hs → n ≤ last_rank slots (get_or hs i d).extent
   apart-last n [] i d a h = absurd (omega arith)
   apart-last n (x ∷ xs) zero d a h = let b = a.0 in let c = extent-le slots x.extent in omega arith
-  apart-last n (x ∷ xs) (suc i) d a h = let ih = apart-last (last_rank slots x.extent + 1) xs i d a.1 (omega arith) in let b = a.0 in let c = extent-le slots x.extent in omega arith
+  apart-last n (x ∷ xs) (suc i) d a h = let ih = apart-last (last_rank slots x.extent) xs i d a.1 (omega arith) in let b = a.0 in let c = extent-le slots x.extent in omega arith
 
   module _ (at : Stretch) (test : Held → Bool) where
     -- where one lies before the points, only those behind it touch some
@@ -51,8 +51,8 @@ module _ (slots : Numbers) where
     from-behind n [] i d a h low = absurd (omega arith)
     from-behind n (x ∷ xs) zero d a h low = ap (λ b. b || touched slots at test xs) (past-none slots at test x low)
     from-behind n (x ∷ xs) (suc i) d a h low =
-        let up = apart-last (last_rank slots x.extent + 1) xs i d a.1 (omega arith) in
-        ap (λ b. b || touched slots at test xs) (past-none slots at test x (omega arith)) ∙ from-behind (last_rank slots x.extent + 1) xs i d a.1 (omega arith) low
+        let up = apart-last (last_rank slots x.extent) xs i d a.1 (omega arith) in
+        ap (λ b. b || touched slots at test xs) (past-none slots at test x (omega arith)) ∙ from-behind (last_rank slots x.extent) xs i d a.1 (omega arith) low
 
   pub met-other : (at : Stretch) (hs : List Held) (i : ℕ) (d : Held) → list_all (begins_by slots at.last) hs ≡ true → i < length hs → at.first ≤ last_rank slots (get_or hs i d).extent → is_taken_by slots hs (get_or hs i d).range at ≡ true
   met-other at hs i d all h le =

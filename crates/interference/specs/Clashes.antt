@@ -45,10 +45,11 @@ held_of_some (Some h) = held_of h
 abbrev pub holds : Matrix → ℕ → ℕ → List Held
 holds m u b = held_of_some (list_in m.held u b)
 
--- each stretch begins behind the one before it
+-- each stretch begins behind the one before it, or at its last point, as where a piece of a range ends with a reading by
+-- an instruction that begins the next piece early
 abbrev pub AreApart : Numbers → ℕ → List Held → Type 0
 AreApart slots n [] = Unit {0}
-AreApart slots n (h ∷ hs) = (n ≤ first_rank slots h.extent) × AreApart slots (last_rank slots h.extent + 1) hs
+AreApart slots n (h ∷ hs) = (n ≤ first_rank slots h.extent) × AreApart slots (last_rank slots h.extent) hs
 
 abbrev pub is_none : List Held → Bool
 is_none [] = true

@@ -2,7 +2,7 @@
 
 ghost use Rattle.std.specs.Prelude.{◌≡◌};
 
-use crate::row::{Cause, Cell, End, Piece, Reading, Row, Segment, make_first_room};
+use crate::row::{Cause, Cell, End, Piece, Reading, Row, Segment, insert_one};
 use std::alloc::{AllocError, Global};
 use std::mem;
 use target_base::Boxed;
@@ -34,8 +34,7 @@ pub(crate) enum CellEdit {
 impl Piece {
     fn put_reading(&mut self, place: usize, reading: Reading) -> Result<(), AllocError> {
         let at = place.min(self.readings.len());
-        make_first_room(&mut self.readings)?;
-        self.readings.insert(at, reading)?;
+        insert_one(&mut self.readings, at, reading)?;
         Ok(())
     }
 
@@ -163,8 +162,7 @@ impl Cell {
         }
         let segment = segment.into_inner();
         let count = segment.piece.readings.len();
-        make_first_room(&mut self.segments)?;
-        self.segments.insert(index - 1, segment)?;
+        insert_one(&mut self.segments, index - 1, segment)?;
         self.cut_last(index - 1, count);
         Ok(CellEdit::Join(index))
     }

@@ -3,7 +3,8 @@
 //! A piece of a lane begins at a block's start or with a writing, and lasts until the next writing
 //! or the block's end. In it the lane is live up to the last reading that counts.
 
-ghost use Rattle.std.specs.Prelude.{◌≡◌, ℕ, ◌<◌, ◌≤◌, ◌+◌, ◌*◌, length, IfOk, IsTrue, true, option_copied, slice_get, find, reverse, [], OnOk, OnErr, cond, is_some, map, nat_eq, not, MatchOption, Some};
+ghost use Rattle.std.specs.Prelude.{◌≡◌, ℕ, ◌<◌, ◌≤◌, ◌+◌, ◌*◌, length, IfOk, IsTrue, true, option_copied, slice_get, find, reverse, [], OnOk, OnErr, cond, is_ok, is_some, map, nat_eq, not, MatchOption, Some, if◌then◌else◌};
+ghost use Rattle.std.specs.List.{insert};
 ghost use Rattle.live_lanes.specs.Certain.{blocks_of, KeepsCertain, RaisesCertain};
 ghost use Rattle.live_lanes.specs.Table.{entry_rank, exit_rank, end_rank, descends, leading, is_before, find_cell, seen_in, seen_cell, unseen, rises_from, piece_at, piece_in, cause_in, end_in, with_cause, with_end, certain_cause, is_certain, cause_of, read_at_end, IsRaised, with_last, with_reading, with_segment, ends_with, starts_last, begun, with_end_at, begun_move, moved_in};
 ghost use Rattle.live_lanes.specs.Graph.{is_live};
@@ -148,6 +149,20 @@ pub(crate) fn make_first_room<T>(list: &mut Vec<T>) -> Result<(), AllocError>
     Ok(())
 }
 
+/// Puts an element at a place of a list.
+pub(crate) fn insert_one<T: Drop>(
+    list: &mut Vec<T>,
+    at: usize,
+    element: T,
+) -> Result<(), AllocError>
+    requires { at ≤ length list.old.items }
+    ensures items { list.new.items ≡ (if is_ok result then insert list.old.items at element else list.old.items) }
+{
+    make_first_room(list)?;
+    list.insert(at, element)?;
+    Ok(())
+}
+
 impl Row {
     /// No cells, which takes no memory.
     pub fn new(alloc: Global) -> Row
@@ -207,8 +222,7 @@ impl Row {
         if self.has_at(at, block) {
             return Ok(at);
         }
-        make_first_room(&mut self.cells)?;
-        self.cells.insert(at, Cell::new(alloc, block))?;
+        insert_one(&mut self.cells, at, Cell::new(alloc, block))?;
         Ok(at)
     }
 }

@@ -48,9 +48,9 @@ call_view = record {
 
 call_shown : Shows mini_target over_a_call (Some ebx ∷ None ∷ []) 1 call_view
 call_shown = record {
-  live = range_live mini_target over_a_call 5 12 call_computed 1;
-  is_point = range_points mini_target over_a_call 5 12 call_computed 1;
-  held = held_by_others mini_target over_a_call 5 12 call_computed (Some ebx ∷ None ∷ []) 1;
+  live = λ p j. range_live mini_target over_a_call 5 12 call_computed 1 p;
+  is_point = λ p j. range_points mini_target over_a_call 5 12 call_computed 1 p;
+  held = λ u p j. held_by_others mini_target over_a_call 5 12 call_computed (Some ebx ∷ None ∷ []) 1 (u, p);
   one_bundle = one_bundle over_a_call.blocks alone refl (λ x. itself);
 }
 
@@ -121,9 +121,9 @@ loops_view = record {
 
 loops_shown : Shows mini_target two_loops (None ∷ Some ebx ∷ []) 0 loops_view
 loops_shown = record {
-  live = range_live mini_target two_loops 8 26 loops_computed 0;
-  is_point = range_points mini_target two_loops 8 26 loops_computed 0;
-  held = held_by_others mini_target two_loops 8 26 loops_computed (None ∷ Some ebx ∷ []) 0;
+  live = λ p j. range_live mini_target two_loops 8 26 loops_computed 0 p;
+  is_point = λ p j. range_points mini_target two_loops 8 26 loops_computed 0 p;
+  held = λ u p j. held_by_others mini_target two_loops 8 26 loops_computed (None ∷ Some ebx ∷ []) 0 (u, p);
   one_bundle = one_bundle two_loops.blocks stands refl reached;
 }
 

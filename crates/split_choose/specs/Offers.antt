@@ -1,5 +1,5 @@
 -- Which splits are offered to a live range, over a function whose ranges have registers or wait.
-use Rattle.std.specs.Prelude.{◌≡◌, ◌≢◌, ◌⊎◌, ℕ, zero, suc, Bool, true, false, cond, not, ◌&&◌, ◌||◌, ◌+◌, ◌-◌, ◌*◌, nat_eq, nat_lt, nat_le, List, [], ◌∷◌, ◌++◌, map, filter, flat_map, find, take, drop, length, zip, Option, Some, None, option_map, slice_get}
+use Rattle.std.specs.Prelude.{◌≡◌, ◌≢◌, ◌⊎◌, Decides, ℕ, zero, suc, Bool, true, false, cond, not, ◌&&◌, ◌||◌, ◌+◌, ◌-◌, ◌*◌, nat_eq, nat_lt, nat_le, List, [], ◌∷◌, ◌++◌, map, filter, flat_map, find, take, drop, length, zip, Option, Some, None, option_map, slice_get}
 use Rattle.std.specs.List.{list_all, list_any, sum_by}
 use Rattle.target_base.specs.declared.types.Unit.{Unit as UnitNumber}
 use Rattle.target_base.specs.declared.types.Reg.{Reg}
@@ -54,11 +54,15 @@ pub record View : Type 0 where
   pub held : UnitNumber × Point → Bool
   pub one_bundle : Border × Border → Bool
 
+-- the test tells of each point of the function whether this holds there
+abbrev pub TestsPoints : Function → (Point → Type 0) → (Point → Bool) → Type 0
+TestsPoints f P test = (p : Point) → Among p (all_points f) → Decides (test p) (P p)
+
 -- the tests tell this of a range of the function
 pub record Shows (t : Target) (f : Function) (registers : List (Option Reg)) (v : ℕ) (view : View) : Type 0 where
-  pub live : Tests (RangeLive t f v) view.live
-  pub is_point : Tests (RangePoint t f v) view.is_point
-  pub held : Tests (HeldByOthers t f registers v) view.held
+  pub live : TestsPoints f (RangeLive t f v) view.live
+  pub is_point : TestsPoints f (RangePoint t f v) view.is_point
+  pub held : (u : UnitNumber) → TestsPoints f (λ p. HeldByOthers t f registers v (u, p)) (λ p. view.held (u, p))
   pub one_bundle : Tests (OneBundle f.blocks) view.one_bundle
 
 -- the point at a block's end

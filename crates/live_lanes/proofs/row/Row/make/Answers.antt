@@ -13,13 +13,13 @@ returns-then-has_at-clause-there c =
 
 pub invariant_of-self : goal.invariant_of-self
 invariant_of-self c = record {
-  sorted = put-descends c.args.block c.args.self.now.cells.items c.place-at.result c.new.result c.args.self.now.sorted c.place-at.ensures.place (sym c.has_at.ensures ∙ c.if-has_at.false) c.new.ensures.block (is_ok c.insert.result) c.insert.new.self.items c.insert.ensures.items;
+  sorted = put-descends c.args.block c.args.self.now.cells.items c.place-at.result c.new.result c.args.self.now.sorted c.place-at.ensures.place (sym c.has_at.ensures ∙ c.if-has_at.false) c.new.ensures.block (is_ok c.insert_one.result) c.insert_one.new.list.items c.insert_one.ensures.items;
 }
 
 pub returns-clause-there : goal.returns-clause-there
 returns-clause-there c =
-    (put-there c.args.block c.args.self.now.cells.items c.place-at.result c.new.result c.args.self.now.sorted c.place-at.ensures.place (sym c.has_at.ensures ∙ c.if-has_at.false) c.new.ensures.block c.insert.new.self.items c.in_ok-insert.ensures.items).1
+    (put-there c.args.block c.args.self.now.cells.items c.place-at.result c.new.result c.args.self.now.sorted c.place-at.ensures.place (sym c.has_at.ensures ∙ c.if-has_at.false) c.new.ensures.block c.insert_one.new.list.items c.in_ok-insert_one.ensures.items).1
 
 pub returns-clause-same : goal.returns-clause-same
 returns-clause-same c =
-    put-same c.args.block c.args.self.now.cells.items c.place-at.result c.new.result c.args.self.now.sorted c.place-at.ensures.place (sym c.has_at.ensures ∙ c.if-has_at.false) c.new.ensures.block c.new.ensures.unseen c.insert.new.self.items c.in_ok-insert.ensures.items
+    put-same c.args.block c.args.self.now.cells.items c.place-at.result c.new.result c.args.self.now.sorted c.place-at.ensures.place (sym c.has_at.ensures ∙ c.if-has_at.false) c.new.ensures.block c.new.ensures.unseen c.insert_one.new.list.items c.in_ok-insert_one.ensures.items
