@@ -14,10 +14,18 @@ use Rattle.split_choose.specs.declared.places.TouchedPlace.{TouchedPlace}
 use Rattle.split_choose.specs.declared.runs.Run.{Run}
 use Rattle.split_choose.specs.Offers.{View, Touched, touched_places, is_dividable, live_at, borders, clear_along, runs, runs_up_to, run_ends, run_marks, local_offer}
 use Rattle.split_choose.specs.Places.{placed}
-use Rattle.split_choose.specs.Seen.{FindsPlaces, view_of}
+use Rattle.live_lanes.specs.Looks.{InOrder}
+use Rattle.live_lanes.specs.Touching.{AreTouched, some_lane}
+use Rattle.live_lanes.specs.Tells.{touching_ids}
+use Rattle.split_choose.specs.Blocks.{lane_at_border}
+use Rattle.split_choose.specs.Spanned.{AreSpansOf}
+use Rattle.split_choose.specs.Seen.{FindsPlaces, FindsPoints, view_of}
+use Rattle.live_lanes.specs.declared.live.LiveFunc.{LiveFunc}
+use Rattle.target_base.specs.declared.types.ClassId.{ClassId}
 use Rattle.split_choose.specs.declared.spans.Span.{Span}
 use Rattle.interference.specs.declared.matrix.Matrix.{Matrix}
-use Rattle.split_choose.specs.LongRuns.{IsLocal, IsBest, IsBestRun, is_near, near_in, found_run}
+use Rattle.split_choose.specs.LongRuns.{IsLocal, IsBest, IsBestRun, is_near, near_in, registers_of, found_run}
+use Rattle.split_choose.proofs.Bordering.{borders-by-lanes}
 use Rattle.split_choose.proofs.Split.{as-many}
 use Rattle.split_choose.proofs.Sought.{IsSought, best-sought, none-sought, get-some}
 use Rattle.split_choose.proofs.Along.{runs-told, near-is}
@@ -80,3 +88,66 @@ near-told m v parents freqs places spans r k free loc some less told =
     let next : k ≡ k - 1 + 1 = omega arith in
     near-is m.live.target m.live.func m.live.table v (view_of m v parents) loc.finds (k - 1) p.0 q.0 r p.1 (ap (slice_get (touched_places m.live.target m.live.func v (view_of m v parents))) (sym next) ∙ q.1)
     ∙ sym (told p.0 q.0 p.1 q.1 next)
+
+-- from what the parts of the search answer
+
+module _ (m : Matrix) (v : ℕ) (parents freqs : List ℕ) (places : List TouchedPlace) (spans : List Span) (loc : IsLocal m v parents freqs places spans) (best : Option Run)
+    (h : IsBestRun (near_in m v parents) (length places) (registers_of m v) (length (registers_of m v)) best) where
+  pub split-none : best ≡ None → None ≡ found_run m.live.target m.live.func v (view_of m v parents)
+  split-none e =
+      let B : Option Run → Type 0 = λ o. IsBestRun (near_in m v parents) (length places) (registers_of m v) (length (registers_of m v)) o in
+      no-run-found m.live.target m.live.func v (view_of m v parents) places loc.same m.live.table loc.finds (subst B e h)
+
+  pub split-found : (l : LiveFunc) (b : Run) (sum last : ℕ) (labels : List Mark) → l ≡ m.live → best ≡ Some b → length places < 18446744073709551616 → sum ≡ min (b.first + b.len) 18446744073709551615 → last ≡ sum - 1
+      → ((w : ℕ) (view : View) (p q : Touched) → FindsPlaces l.target l.func l.table w → places ≡ map (placed l.func.blocks) (touched_places l.target l.func w view)
+          → slice_get (touched_places l.target l.func w view) b.first ≡ Some p → slice_get (touched_places l.target l.func w view) last ≡ Some q → labels ≡ run_marks l.target l.func w view (p, q))
+      → Some (b.register, labels) ≡ found_run m.live.target m.live.func v (view_of m v parents)
+  split-found l b sum last labels same e fits one two marks =
+      let B : Option Run → Type 0 = λ o. IsBestRun (near_in m v parents) (length places) (registers_of m v) (length (registers_of m v)) o in
+      let L : LiveFunc → Type 0 = λ n. (w : ℕ) (view : View) (p q : Touched) → FindsPlaces n.target n.func n.table w → places ≡ map (placed n.func.blocks) (touched_places n.target n.func w view)
+          → slice_get (touched_places n.target n.func w view) b.first ≡ Some p → slice_get (touched_places n.target n.func w view) last ≡ Some q → labels ≡ run_marks n.target n.func w view (p, q) in
+      let told = subst L same marks in
+      run-found m.live.target m.live.func v (view_of m v parents) places loc.same m.live.table loc.finds b sum last labels (subst B e h) fits one two (λ p q. told v (view_of m v parents) p q loc.finds loc.same)
+
+-- the registers are those of the range's class
+pub registers-are : (near : Reg → ℕ → Bool) (count : ℕ) (rs ds : List Reg) (best : Option Run) → rs ≡ ds → IsBestRun near count rs (length rs) best → IsBestRun near count ds (length ds) best
+registers-are near count rs ds best e h = let R : List Reg → Type 0 = λ ys. IsBestRun near count ys (length ys) best in subst R e h
+
+pub domain-is : (m : Matrix) (v : ℕ) (l : LiveFunc) (t : Target) (class : Option ClassId) (rs ds : List Reg) → l ≡ m.live → t ≡ l.target → class ≡ class_of l.func v → ds ≡ domain t class → rs ≡ ds → rs ≡ registers_of m v
+domain-is m v l t class rs ds live target at is same =
+    same ∙ (is ∙ (ap (λ u. domain u class) (target ∙ ap (λ (k : LiveFunc). k.target) live) ∙ ap (domain m.live.target) (at ∙ ap (λ (k : LiveFunc). class_of k.func v) live)))
+
+-- what local asks first, of the function that the matrix has
+
+module _ (m : Matrix) (v : ℕ) (parents : List ℕ) (finds : FindsPlaces m.live.target m.live.func m.live.table v) (l : LiveFunc) (live : l ≡ m.live) where
+  finds-at : FindsPlaces l.target l.func l.table v
+  finds-at = let P : LiveFunc → Type 0 = λ k. FindsPlaces k.target k.func k.table v in subst P (sym live) finds
+
+  pub ids-are : (ids given : List ℕ) → AreTouched l.table v ids → given ≡ ids → given ≡ touching_ids l.func v
+  ids-are ids given t is = is ∙ finds-at.touched ids t
+
+  pub places-at : (ids given : List ℕ) (places : List TouchedPlace) → AreTouched l.table v ids → given ≡ ids
+      → ((w : ℕ) (view : View) → FindsPlaces l.target l.func l.table w → given ≡ touching_ids l.func w → places ≡ map (placed l.func.blocks) (touched_places l.target l.func w view))
+      → places ≡ map (placed m.live.func.blocks) (touched_places m.live.target m.live.func v (view_of m v parents))
+  places-at ids given places t is told =
+      let P : LiveFunc → Type 0 = λ k. places ≡ map (placed k.func.blocks) (touched_places k.target k.func v (view_of m v parents)) in
+      subst P live (told v (view_of m v parents) finds-at (ids-are ids given t is))
+
+  pub border-at : (b : Bool) → (InOrder l.table → b ≡ some_lane l.table v (lane_at_border l.table l.func.blocks v)) → list_any (live_at m.live.target m.live.func v (view_of m v parents)) (borders m.live.target m.live.func v (view_of m v parents)) ≡ b
+  border-at b told =
+      let P : LiveFunc → Type 0 = λ k. b ≡ some_lane k.table v (lane_at_border k.table k.func.blocks v) in
+      sym (borders-by-lanes m.live.target m.live.func m.live.table v (view_of m v parents) finds (λ p. refl)) ∙ sym (subst P live (told finds-at.order))
+
+  pub local-at : (points : FindsPoints m) (freqs ids given again : List ℕ) (places seen : List TouchedPlace) (spans spread : List Span) (b : Bool) → AreTouched l.table v ids → given ≡ ids → again ≡ ids
+      → ((w : ℕ) (view : View) → FindsPlaces l.target l.func l.table w → given ≡ touching_ids l.func w → places ≡ map (placed l.func.blocks) (touched_places l.target l.func w view))
+      → seen ≡ places → (InOrder l.table → b ≡ some_lane l.table v (lane_at_border l.table l.func.blocks v)) → b ≡ false
+      → ((n : Matrix) → n.live ≡ l → FindsPlaces l.target l.func l.table v → FindsPoints n → again ≡ touching_ids l.func v → AreSpansOf n v freqs spans) → spread ≡ spans
+      → IsLocal m v parents freqs seen spread
+  local-at points freqs ids given again places seen spans spread b t is anew told same bordered fails spanned spreads = record {
+    finds = finds;
+    points = points;
+    touched = (let P : LiveFunc → Type 0 = λ k. AreTouched k.table v (touching_ids k.func v) in let A : List ℕ → Type 0 = λ ns. AreTouched l.table v ns in subst P live (subst A (finds-at.touched ids t) t));
+    inside = border-at b bordered ∙ fails;
+    spanned = (let A : List Span → Type 0 = λ ss. AreSpansOf m v freqs ss in subst A (sym spreads) (spanned m (sym live) finds-at points (ids-are ids again t anew)));
+    same = same ∙ places-at ids given places t is told;
+  }
