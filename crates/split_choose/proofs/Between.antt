@@ -44,6 +44,25 @@ entry-rank-in slots is id h = or_right (nat_eq (entry_rank slots id) 0) (list_an
         by_place (inr n) ih =
             or_right (nat_eq (entry_rank slots id) (entry_rank slots j.id) || nat_eq (entry_rank slots id) (exit_rank slots j.id)) (list_any (λ (i : Instr). nat_eq (entry_rank slots id) (entry_rank slots i.id) || nat_eq (entry_rank slots id) (exit_rank slots i.id)) js) (ih n)
 
+-- so is its exit
+pub exit-rank-in : (slots : Numbers) (is : List Instr) (id : ℕ) → has id (ids_of is) ≡ true → is_rank_in slots is (exit_rank slots id) ≡ true
+exit-rank-in slots is id h = or_right (nat_eq (exit_rank slots id) 0) (list_any (λ (i : Instr). nat_eq (exit_rank slots id) (entry_rank slots i.id) || nat_eq (exit_rank slots id) (exit_rank slots i.id)) is) (go is h)
+  where
+    go : (js : List Instr) → has id (ids_of js) ≡ true → list_any (λ (i : Instr). nat_eq (exit_rank slots id) (entry_rank slots i.id) || nat_eq (exit_rank slots id) (exit_rank slots i.id)) js ≡ true
+    go [] k = absurd (false≢true k)
+    go (j ∷ js) k = by_place (has-cases id j.id (ids_of js) k) (go js)
+      where
+        rest : Bool
+        rest = list_any (λ (i : Instr). nat_eq (exit_rank slots id) (entry_rank slots i.id) || nat_eq (exit_rank slots id) (exit_rank slots i.id)) js
+
+        by_place : (j.id ≡ id) ⊎ (has id (ids_of js) ≡ true) → (has id (ids_of js) ≡ true → list_any (λ (i : Instr). nat_eq (exit_rank slots id) (entry_rank slots i.id) || nat_eq (exit_rank slots id) (exit_rank slots i.id)) js ≡ true)
+            → list_any (λ (i : Instr). nat_eq (exit_rank slots id) (entry_rank slots i.id) || nat_eq (exit_rank slots id) (exit_rank slots i.id)) (j ∷ js) ≡ true
+        by_place (inl e) ih =
+            or_left (nat_eq (exit_rank slots id) (entry_rank slots j.id) || nat_eq (exit_rank slots id) (exit_rank slots j.id)) (list_any (λ (i : Instr). nat_eq (exit_rank slots id) (entry_rank slots i.id) || nat_eq (exit_rank slots id) (exit_rank slots i.id)) js)
+            (or_right (nat_eq (exit_rank slots id) (entry_rank slots j.id)) (nat_eq (exit_rank slots id) (exit_rank slots j.id)) (eq-eqb (exit_rank slots id) (exit_rank slots j.id) (ap (exit_rank slots) (sym e))))
+        by_place (inr n) ih =
+            or_right (nat_eq (exit_rank slots id) (entry_rank slots j.id) || nat_eq (exit_rank slots id) (exit_rank slots j.id)) (list_any (λ (i : Instr). nat_eq (exit_rank slots id) (entry_rank slots i.id) || nat_eq (exit_rank slots id) (exit_rank slots i.id)) js) (ih n)
+
 -- tests of the points of blocks without any of the range
 pub all-blocks : (g : Point → Bool) (bs : List Block) → ((b : Block) → Among b bs → list_all g (block_points b) ≡ true) → list_all g (flat_map block_points bs) ≡ true
 all-blocks g [] h = refl
@@ -140,4 +159,4 @@ module _ (t : Target) (f : Function) (v : ℕ) (view : View) (slots : Numbers) (
       go : OneBlock (places_in t f v view) f.blocks p q ⊎ TwoBlocks (places_in t f v view) f.blocks p q → (r && s) ≡ all_between p q
       go (inl o) = absurd (together p q o k n here_is there_is other)
       go (inr o) = two-blocks p q o k n r s here_is there_is first second
-pub ruleset betweens = (entry-rank-in)
+

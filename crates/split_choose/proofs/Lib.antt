@@ -21,7 +21,14 @@ pub mod Turns
 pub mod Along
 pub mod Locals
 pub mod Clear
-pub mod Ranked
 pub mod Alone
 pub mod Flags
 pub mod Offered
+pub mod Ranked
+pub mod Spread
+pub mod Neighbours
+pub mod Clearing
+pub mod Between
+pub mod Pointed
+pub mod Cleared
+pub mod Free

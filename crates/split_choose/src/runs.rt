@@ -1,8 +1,16 @@
 //! Local splits: a run of places for which some register is free.
 
-ghost use Rattle.std.specs.Prelude.{◌≡◌, ◌+◌, ◌-◌, ◌++◌, [], ℕ, List, false, cond, map, take, drop, length, IfOk, OnOk, Option, Some, slice_get};
-ghost use Rattle.split_choose.specs.Offers.{View as OfferView, Touched, first_id, at_start, touched_places, run_marks, clear_along, local_offer};
-ghost use Rattle.split_choose.specs.Seen.{FindsPlaces, FindsPoints, view_of};
+ghost use Rattle.std.specs.Prelude.{◌≡◌, ◌+◌, ◌-◌, ◌++◌, [], ℕ, List, true, false, cond, map, take, drop, length, IfOk, OnOk, Option, Some, slice_get};
+ghost use Rattle.std.specs.List.{list_all, list_any};
+ghost use Rattle.mir_func.specs.declared.func.Block.{Block};
+ghost use Rattle.live_lanes.specs.Table.{entry_rank, exit_rank};
+ghost use Rattle.live_lanes.specs.Touching.{AreTouched};
+ghost use Rattle.live_lanes.specs.Tells.{touching_ids};
+ghost use Rattle.interference.specs.Clashes.{IsOrdered};
+ghost use Rattle.split_choose.specs.Offers.{View as OfferView, Touched, first_id, at_start, touched_places, live_at, borders, clashes_not, clear_along, run_marks, local_offer};
+ghost use Rattle.split_choose.specs.Seen.{view_of, FindsPlaces, FindsPoints};
+ghost use Rattle.split_choose.specs.Spanned.{is_rank_in, AreSpansOf};
+ghost use Rattle.split_choose.specs.Clearing.{cut, points_between, is_part_clear, is_clear_between};
 ghost use Rattle.split_choose.specs.LongRuns.{IsLocal, IsLongestRun, IsBestRun, is_longer, is_better, better_of, near_in, registers_of, found_run};
 ghost use Rattle.split_choose.specs.Places.{placed};
 ghost use Rattle.split_choose.specs.Marks.{marks_in};
@@ -159,18 +167,45 @@ fn longest_run(view: View<'_>, register: Reg) -> Option<Run>
 
 /// Whether a register is free from the entry of one place to the exit of the next.
 fn is_free_between(view: View<'_>, register: Reg, a: usize, z: usize) -> bool
-    ensures { (parents freqs : List ℕ) (p q : Touched) → IsLocal view.entry.m.now view.entry.v parents freqs view.entry.places.now view.entry.spans.now
+    ensures { (parents freqs : List ℕ) (p q : Touched)
+        → FindsPlaces view.entry.m.now.live.target view.entry.m.now.live.func view.entry.m.now.live.table view.entry.v
+        → FindsPoints view.entry.m.now
+        → AreTouched view.entry.m.now.live.table view.entry.v (touching_ids view.entry.m.now.live.func view.entry.v)
+        → list_any (live_at view.entry.m.now.live.target view.entry.m.now.live.func view.entry.v (view_of view.entry.m.now view.entry.v parents))
+            (borders view.entry.m.now.live.target view.entry.m.now.live.func view.entry.v (view_of view.entry.m.now view.entry.v parents)) ≡ false
+        → AreSpansOf view.entry.m.now view.entry.v freqs view.entry.spans.now
+        → view.entry.places.now ≡ map (placed view.entry.m.now.live.func.blocks) (touched_places view.entry.m.now.live.target view.entry.m.now.live.func view.entry.v (view_of view.entry.m.now view.entry.v parents))
         → slice_get (touched_places view.entry.m.now.live.target view.entry.m.now.live.func view.entry.v (view_of view.entry.m.now view.entry.v parents)) a ≡ Some p
         → slice_get (touched_places view.entry.m.now.live.target view.entry.m.now.live.func view.entry.v (view_of view.entry.m.now view.entry.v parents)) z ≡ Some q
         → z ≡ a + 1
         → result ≡ clear_along view.entry.m.now.live.target view.entry.m.now.live.func view.entry.v (view_of view.entry.m.now view.entry.v parents) ((p, q), register) }
 {
-    let (Some(a), Some(z)) = (view.places.get(a), view.places.get(z)) else {
+    if a >= view.places.len() {
         return false;
-    };
-    let live = view.m.live();
-    let low = live.entry_of(a.first);
-    let high = live.exit_of(z.last);
+    }
+    if z >= view.places.len() {
+        return false;
+    }
+    is_free_from(view, register, view.places[a], view.places[z])
+}
+
+/// The same of a place and the next one.
+fn is_free_from(view: View<'_>, register: Reg, a: TouchedPlace, z: TouchedPlace) -> bool
+    ensures { (parents freqs : List ℕ) (p q : Touched) (k n : ℕ)
+        → FindsPlaces view.entry.m.now.live.target view.entry.m.now.live.func view.entry.m.now.live.table view.entry.v
+        → FindsPoints view.entry.m.now
+        → AreTouched view.entry.m.now.live.table view.entry.v (touching_ids view.entry.m.now.live.func view.entry.v)
+        → list_any (live_at view.entry.m.now.live.target view.entry.m.now.live.func view.entry.v (view_of view.entry.m.now view.entry.v parents))
+            (borders view.entry.m.now.live.target view.entry.m.now.live.func view.entry.v (view_of view.entry.m.now view.entry.v parents)) ≡ false
+        → AreSpansOf view.entry.m.now view.entry.v freqs view.entry.spans.now
+        → slice_get (touched_places view.entry.m.now.live.target view.entry.m.now.live.func view.entry.v (view_of view.entry.m.now view.entry.v parents)) k ≡ Some p
+        → slice_get (touched_places view.entry.m.now.live.target view.entry.m.now.live.func view.entry.v (view_of view.entry.m.now view.entry.v parents)) n ≡ Some q
+        → n ≡ k + 1
+        → a ≡ placed view.entry.m.now.live.func.blocks p → z ≡ placed view.entry.m.now.live.func.blocks q
+        → result ≡ clear_along view.entry.m.now.live.target view.entry.m.now.live.func view.entry.v (view_of view.entry.m.now view.entry.v parents) ((p, q), register) }
+{
+    let low = entry_of(view.m, a.first);
+    let high = exit_of(view.m, z.last);
     if a.position == z.position {
         return is_free_in(view, register, a.position, low, high);
     }
@@ -178,21 +213,88 @@ fn is_free_between(view: View<'_>, register: Reg, a: usize, z: usize) -> bool
         && is_free_in(view, register, z.position, 0, high)
 }
 
+/// The number of the point at the entry of an instruction.
+fn entry_of(m: &Matrix, id: u32) -> u128
+    ensures { result ≡ entry_rank m.now.live.table.order.slots id }
+{
+    m.live().entry_of(id)
+}
+
+/// The number of the point at the exit of an instruction.
+fn exit_of(m: &Matrix, id: u32) -> u128
+    ensures { result ≡ exit_rank m.now.live.table.order.slots id }
+{
+    m.live().exit_of(id)
+}
+
 /// Whether a register is free at those points of the range in a block that lie between two.
-fn is_free_in(view: View<'_>, register: Reg, position: u32, low: u128, high: u128) -> bool {
-    let Some(at) = find_span(view.spans, position) else {
-        return true;
+fn is_free_in(view: View<'_>, register: Reg, position: u32, low: u128, high: u128) -> bool
+    ensures { (parents freqs : List ℕ)
+        → FindsPlaces view.entry.m.now.live.target view.entry.m.now.live.func view.entry.m.now.live.table view.entry.v
+        → FindsPoints view.entry.m.now
+        → AreSpansOf view.entry.m.now view.entry.v freqs view.entry.spans.now
+        → (b : Block) → slice_get view.entry.m.now.live.func.blocks position ≡ Some b
+        → is_rank_in view.entry.m.now.live.table.order.slots b.instrs low ≡ true
+        → result ≡ list_all (clashes_not view.entry.m.now.live.target view.entry.m.now.live.func view.entry.v (view_of view.entry.m.now view.entry.v parents) register)
+            (points_between view.entry.m.now.live.table.order.slots low high b) }
+{
+    match find_span(view.spans, position) {
+        None => true,
+        Some(at) => is_free_span(view, register, &view.spans[at], low, high),
+    }
+}
+
+/// The same in the block of a span.
+fn is_free_span(view: View<'_>, register: Reg, span: &Span, low: u128, high: u128) -> bool
+    ensures { IsOrdered view.entry.m.now → result ≡ is_clear_between view.entry.m.now view.entry.v register span.now.position span.now.stretches.items low high }
+{
+    let between = Stretch {
+        first: low,
+        last: high,
     };
-    let Some(span) = view.spans.get(at) else {
-        return true;
-    };
-    span.stretches.iter().all(|stretch| {
-        let part = Stretch {
-            first: stretch.first.max(low),
-            last: stretch.last.min(high),
-        };
-        part.first > part.last || is_alone(view.m, view.v, register, position, &[part])
-    })
+    is_free_along(
+        view,
+        register,
+        span.position,
+        span.stretches.as_slice(),
+        between,
+    )
+}
+
+/// The same of some stretches of points in the block at a position.
+#[tactic(auto, using(crate::proofs::Free::alls))]
+fn is_free_along(
+    view: View<'_>,
+    register: Reg,
+    position: u32,
+    stretches: &[Stretch],
+    between: Stretch,
+) -> bool
+    ensures { IsOrdered view.entry.m.now → result ≡ is_clear_between view.entry.m.now view.entry.v register position stretches.now between.first between.last }
+{
+    'stretches: for stretch in stretches {
+        if !is_part_free(view, register, position, cut(*stretch, between)) {
+            return false;
+        }
+    }
+    true
+}
+
+/// The points of a stretch that are among others.
+fn cut(stretch: Stretch, between: Stretch) -> Stretch
+    ensures { result ≡ cut between.first between.last stretch }
+{
+    Stretch {
+        first: stretch.first.max(between.first),
+        last: stretch.last.min(between.last),
+    }
+}
+
+/// Whether a register is free along a stretch, or there are no points in it.
+fn is_part_free(view: View<'_>, register: Reg, position: u32, part: Stretch) -> bool
+    ensures { IsOrdered view.entry.m.now → result ≡ is_part_clear view.entry.m.now view.entry.v register position part }
+{
+    part.first > part.last || is_alone(view.m, view.v, register, position, &[part])
 }
 
 /// The labels of the run from one place to another.

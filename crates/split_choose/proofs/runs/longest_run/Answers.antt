@@ -8,7 +8,7 @@ use Rattle.split_choose.proofs.runs.longest_run.Goals.{then-is_free_between, els
 near : (c : goal.Joined-is_longer) (parents freqs : List ℕ) → IsLocal c.args.view.m.now c.args.view.v parents freqs c.args.view.places.now c.args.view.spans.now → near_in c.args.view.m.now c.args.view.v parents c.args.register (c.places.k - 1) ≡ c.is_free_between.result
 near c parents freqs loc =
     near-told c.args.view.m.now c.args.view.v parents freqs c.args.view.places.now c.args.view.spans.now c.args.register c.places.k c.is_free_between.result loc (omega arith) (omega arith)
-    (λ p q e g h. c.is_free_between.ensures parents freqs p q loc e g h)
+    (λ p q e g h. c.is_free_between.ensures parents freqs p q loc.finds loc.points loc.touched loc.inside loc.spanned loc.same e g h)
 
 tail : (c : goal.Joined-is_longer) (parents freqs : List ℕ) → IsLocal c.args.view.m.now c.args.view.v parents freqs c.args.view.places.now c.args.view.spans.now → 2 ≤ length c.args.view.places.now
     → IsTail (near_in c.args.view.m.now c.args.view.v parents c.args.register) (length c.args.view.places.now) (c.places.k + 1) c.if-is_free_between.len
