@@ -18,7 +18,7 @@ pub mod Best
 pub mod Sought
 pub mod Apart
 pub mod Turns
-pub mod Along
+pub mod Nearby
 pub mod Locals
 pub mod Clear
 pub mod Alone

@@ -28,7 +28,7 @@ use Rattle.split_choose.specs.LongRuns.{IsLocal, IsBest, IsBestRun, is_near, nea
 use Rattle.split_choose.proofs.Bordering.{borders-by-lanes}
 use Rattle.split_choose.proofs.Split.{as-many}
 use Rattle.split_choose.proofs.Sought.{IsSought, best-sought, none-sought, get-some}
-use Rattle.split_choose.proofs.Along.{runs-told, near-is}
+use Rattle.split_choose.proofs.Nearby.{runs-told, near-is}
 
 module _ (t : Target) (f : Function) (v : ℕ) (view : View) (ps : List TouchedPlace) (same : ps ≡ map (placed f.blocks) (touched_places t f v view)) where
 
