@@ -75,7 +75,6 @@ module _ (t : Target) (f : Function) (v : ℕ) (view : View) (slots : Numbers) (
     (set : (k : ℕ) (b : Block) → slice_get f.blocks k ≡ Some b → place_of b.number f.blocks ≡ Some k)
     (ended : list_all (λ b. ends_in_terminators t b.instrs) f.blocks ≡ true)
     (passes : (k : ℕ) (b : Block) → slice_get f.blocks k ≡ Some b → list_any (touches v) b.instrs ≡ false → list_all g (block_points b) ≡ true) where
-
   -- the tests answer so of the points of the block at a position between two ranks, of which the first is one of its ranks
   abbrev pub TellsOf : Bool → ℕ → ℕ → ℕ → Type 0
   TellsOf r k low high = (b : Block) → slice_get f.blocks k ≡ Some b → is_rank_in slots b.instrs low ≡ true → r ≡ list_all g (points_between slots low high b)
@@ -159,4 +158,3 @@ module _ (t : Target) (f : Function) (v : ℕ) (view : View) (slots : Numbers) (
       go : OneBlock (places_in t f v view) f.blocks p q ⊎ TwoBlocks (places_in t f v view) f.blocks p q → (r && s) ≡ all_between p q
       go (inl o) = absurd (together p q o k n here_is there_is other)
       go (inr o) = two-blocks p q o k n r s here_is there_is first second
-

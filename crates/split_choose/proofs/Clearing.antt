@@ -14,7 +14,6 @@ use Rattle.split_choose.specs.Seen.{rank_of, only}
 use Rattle.split_choose.specs.Spanned.{is_covered, is_rank_in}
 use Rattle.split_choose.specs.Clearing.{cut}
 use Rattle.split_choose.proofs.Covers.{among-cases}
-
 use Rattle.split_choose.proofs.Spread.{instr_points}
 
 -- tests of all and of some
@@ -185,7 +184,6 @@ module _ {U : Type 0} (held : U → Stretch → Bool) (units : List U) where
   module _ (P : ℕ → Type 0) (wider : (u : U) (r : ℕ) (s : Stretch) → s.first ≤ r → r ≤ s.last → held u (only r) ≡ true → held u s ≡ true)
       (meets : (u : U) (s : Stretch) → s.first ≤ s.last → P s.first → held u s ≡ true → (r : ℕ) × P r × (s.first ≤ r) × (r ≤ s.last) × (held u (only r) ≡ true))
       (X : Type 0) (rank : X → ℕ) (ps : List X) (found : (r : ℕ) → P r → (p : X) × Among p ps × (rank p ≡ r)) where
-
     no-held : (parts : List Stretch) (r : ℕ) (u : U) → Among u units → list_all clear_part parts ≡ true → is_covered parts r ≡ true → held u (only r) ≡ true → ⊥
     no-held parts r u m a c h =
         let f = some-among (λ (s : Stretch). nat_le s.first r && nat_le r s.last) parts c in

@@ -172,7 +172,7 @@ fn is_free_between(view: View<'_>, register: Reg, a: usize, z: usize) -> bool
         → FindsPoints view.entry.m.now
         → AreTouched view.entry.m.now.live.table view.entry.v (touching_ids view.entry.m.now.live.func view.entry.v)
         → list_any (live_at view.entry.m.now.live.target view.entry.m.now.live.func view.entry.v (view_of view.entry.m.now view.entry.v parents))
-            (borders view.entry.m.now.live.target view.entry.m.now.live.func view.entry.v (view_of view.entry.m.now view.entry.v parents)) ≡ false
+        (borders view.entry.m.now.live.target view.entry.m.now.live.func view.entry.v (view_of view.entry.m.now view.entry.v parents)) ≡ false
         → AreSpansOf view.entry.m.now view.entry.v freqs view.entry.spans.now
         → view.entry.places.now ≡ map (placed view.entry.m.now.live.func.blocks) (touched_places view.entry.m.now.live.target view.entry.m.now.live.func view.entry.v (view_of view.entry.m.now view.entry.v parents))
         → slice_get (touched_places view.entry.m.now.live.target view.entry.m.now.live.func view.entry.v (view_of view.entry.m.now view.entry.v parents)) a ≡ Some p
@@ -196,7 +196,7 @@ fn is_free_from(view: View<'_>, register: Reg, a: TouchedPlace, z: TouchedPlace)
         → FindsPoints view.entry.m.now
         → AreTouched view.entry.m.now.live.table view.entry.v (touching_ids view.entry.m.now.live.func view.entry.v)
         → list_any (live_at view.entry.m.now.live.target view.entry.m.now.live.func view.entry.v (view_of view.entry.m.now view.entry.v parents))
-            (borders view.entry.m.now.live.target view.entry.m.now.live.func view.entry.v (view_of view.entry.m.now view.entry.v parents)) ≡ false
+        (borders view.entry.m.now.live.target view.entry.m.now.live.func view.entry.v (view_of view.entry.m.now view.entry.v parents)) ≡ false
         → AreSpansOf view.entry.m.now view.entry.v freqs view.entry.spans.now
         → slice_get (touched_places view.entry.m.now.live.target view.entry.m.now.live.func view.entry.v (view_of view.entry.m.now view.entry.v parents)) k ≡ Some p
         → slice_get (touched_places view.entry.m.now.live.target view.entry.m.now.live.func view.entry.v (view_of view.entry.m.now view.entry.v parents)) n ≡ Some q
@@ -236,7 +236,7 @@ fn is_free_in(view: View<'_>, register: Reg, position: u32, low: u128, high: u12
         → (b : Block) → slice_get view.entry.m.now.live.func.blocks position ≡ Some b
         → is_rank_in view.entry.m.now.live.table.order.slots b.instrs low ≡ true
         → result ≡ list_all (clashes_not view.entry.m.now.live.target view.entry.m.now.live.func view.entry.v (view_of view.entry.m.now view.entry.v parents) register)
-            (points_between view.entry.m.now.live.table.order.slots low high b) }
+        (points_between view.entry.m.now.live.table.order.slots low high b) }
 {
     match find_span(view.spans, position) {
         None => true,

@@ -18,5 +18,6 @@ returns-then-is_free_in c parents freqs p q k n places finds named unbordered to
 
 pub returns-else-is_free_in : goal.returns-else-is_free_in
 returns-else-is_free_in c parents freqs p q k n places finds named unbordered told at_k at_n next is_a is_z =
-    free-not c.args.view.m.now c.args.view.v finds places parents freqs c.args.register c.args.view.spans.now told named unbordered k n p q c.args.a c.args.z c.entry_of-low.result c.exit_of-high.result c.is_free_in-2.result
+    c.if-is_free_in.false
+    ∙ free-not c.args.view.m.now c.args.view.v finds places parents freqs c.args.register c.args.view.spans.now told named unbordered k n p q c.args.a c.args.z c.entry_of-low.result c.exit_of-high.result c.is_free_in-2.result
     at_k at_n next is_a is_z c.if-a-z.false c.entry_of-low.ensures c.exit_of-high.ensures (c.is_free_in-2.ensures parents freqs places finds told) c.if-is_free_in.false
