@@ -3,7 +3,8 @@ use Rattle.split_choose.proofs.Locals.{split-none, split-found}
 use Rattle.split_choose.proofs.runs.best_split.Goals as goal
 
 pub returns-in_default : goal.returns-in_default
-returns-in_default c parents freqs loc = let a = c.in_default.is in let b = c.in_default.not-Some in ?
+returns-in_default c parents freqs loc =
+    split-none c.args.view.m.now c.args.view.v parents freqs c.args.view.places.now c.args.view.spans.now loc _ (c.in_ok-run.ensures parents freqs loc) c.in_default.is
 
 pub returns : goal.returns
 returns c parents freqs loc =
