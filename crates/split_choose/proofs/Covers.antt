@@ -279,7 +279,7 @@ module _ (slots : Numbers) where
       let c = count-more slots r x xs (omega arith) in
       let ih : j < begun_by slots r xs = begun-least r (number_of slots x.start) xs j s (and_parts _ _ rises).1 g h in omega (arith, c, ih)
 
-extent-piece : (c : Cell) (e : Extent) → Among e (cell_extents c) → (k : ℕ) × (extent_in (Some c) k ≡ Some e)
+pub extent-piece : (c : Cell) (e : Extent) → Among e (cell_extents c) → (k : ℕ) × (extent_in (Some c) k ≡ Some e)
 extent-piece c e m = let z = filter_map-in (extent_in (Some c)) (numbers 0 (piece_count (Some c))) e m in (z.0, z.2)
 
 module _ (slots : Numbers) (c : Cell) (rises : rises_from slots 0 (seen_cell c).segments ≡ true) (turns : ends_in_turn slots (seen_cell c) ≡ true) where

@@ -32,3 +32,10 @@ pub mod Between
 pub mod Pointed
 pub mod Cleared
 pub mod Free
+pub mod Finding
+pub mod Building
+pub mod Positions
+pub mod Counting
+pub mod Covering
+pub mod Spanned
+pub mod Using

@@ -23,22 +23,22 @@ use Rattle.split_choose.proofs.Placed.{blocks-join, blocks-placed}
 
 -- one more of them
 
-at-index : {X : Type 0} (xs : List X) (k : ℕ) → k < length xs → (x : X) × (slice_get xs k ≡ Some x) × (get_or xs k x ≡ x)
+pub at-index : {X : Type 0} (xs : List X) (k : ℕ) → k < length xs → (x : X) × (slice_get xs k ≡ Some x) × (get_or xs k x ≡ x)
 at-index [] k h = absurd (omega arith)
 at-index (x ∷ xs) zero h = (x, refl, refl)
 at-index (x ∷ xs) (suc k) h = at-index xs k (omega arith)
 
-site-at : (t : Target) (bs : List Block) (ss : List Site) (k : ℕ) (s : Site) → AreSites t bs ss → slice_get ss k ≡ Some s → IsSite t bs s
+pub site-at : (t : Target) (bs : List Block) (ss : List Site) (k : ℕ) (s : Site) → AreSites t bs ss → slice_get ss k ≡ Some s → IsSite t bs s
 site-at t bs [] k s a e = cc
 site-at t bs (r ∷ ss) zero s a e = let q : r ≡ s = cc in subst (IsSite t bs) q a.0
 site-at t bs (r ∷ ss) (suc k) s a e = site-at t bs ss k s a.1 e
 
-get-map : {X : Type 0} (f : X → ℕ) (xs : List X) (k d : ℕ) (e : X) → k < length xs → get_or (map f xs) k d ≡ f (get_or xs k e)
+pub get-map : {X : Type 0} (f : X → ℕ) (xs : List X) (k d : ℕ) (e : X) → k < length xs → get_or (map f xs) k d ≡ f (get_or xs k e)
 get-map f [] k d e h = absurd (omega arith)
 get-map f (x ∷ xs) zero d e h = refl
 get-map f (x ∷ xs) (suc k) d e h = get-map f xs k d e (omega arith)
 
-length-map : {X Y : Type 0} (f : X → Y) (xs : List X) → length (map f xs) ≡ length xs
+pub length-map : {X Y : Type 0} (f : X → Y) (xs : List X) → length (map f xs) ≡ length xs
 length-map f [] = refl
 length-map f (x ∷ xs) = ap suc (length-map f xs)
 
@@ -80,7 +80,7 @@ module _ (t : Target) (v : ℕ) where
       go ih true e = rw e ((record { block = b; place = o; found = at; same = refl; stands = here; ended = ended }), ih)
       go ih false e = rw e ih
 
-  all-sites : (bs cs : List Block) (k : ℕ) → list_all (λ b. ends_in_terminators t b.instrs) cs ≡ true → ((j : ℕ) (b : Block) → slice_get cs j ≡ Some b → slice_get bs (k + j) ≡ Some b) → AreSites t bs (sites_from v k cs)
+  pub all-sites : (bs cs : List Block) (k : ℕ) → list_all (λ b. ends_in_terminators t b.instrs) cs ≡ true → ((j : ℕ) (b : Block) → slice_get cs j ≡ Some b → slice_get bs (k + j) ≡ Some b) → AreSites t bs (sites_from v k cs)
   all-sites bs [] k ended at = tt
   all-sites bs (b ∷ cs) k ended at =
       let ends = and_parts (ends_in_terminators t b.instrs) (list_all (λ (c : Block). ends_in_terminators t c.instrs) cs) ended in
@@ -94,7 +94,7 @@ module _ (t : Target) (v : ℕ) where
   ids-in k is [] = refl
   ids-in k is (j ∷ js) = ap (λ ns. j.id ∷ ns) (ids-in k is js)
 
-  site-ids : (k : ℕ) (bs : List Block) → map site_id (sites_from v k bs) ≡ map (λ i. i.id) (filter (touches v) (flat_map (λ b. b.instrs) bs))
+  pub site-ids : (k : ℕ) (bs : List Block) → map site_id (sites_from v k bs) ≡ map (λ i. i.id) (filter (touches v) (flat_map (λ b. b.instrs) bs))
   site-ids k [] = refl
   site-ids k (b ∷ bs) =
       map-append site_id (map (λ i. record { position = k; among = b.instrs; instr = i }) (filter (touches v) b.instrs)) (sites_from v (suc k) bs)

@@ -11,3 +11,4 @@ pub mod Spans
 pub mod Parts
 pub mod Spanned
 pub mod Clearing
+pub mod Built

@@ -1,18 +1,32 @@
 //! A range block by block: where it has points, where it is live at borders, and what its
 //! instructions cost.
 
-ghost use Rattle.std.specs.Prelude.{◌≡◌};
+ghost use Rattle.std.specs.Prelude.{◌≡◌, ◌<◌, ◌++◌, ℕ, List, [], Some, cond, nat_eq, map, fold, length, OnOk, IfOk, IfSome, slice_get, slice_index_or};
+ghost use Rattle.std.specs.Ordering.{nat_cmp};
+ghost use Rattle.std.specs.List.{list_any};
+ghost use Rattle.std.specs.List.Sorted.{IsStrictlySortedBy};
 ghost use Rattle.target_base.specs.Registers.{units_of};
+ghost use Rattle.live_lanes.specs.Entered.{cells_of};
+ghost use Rattle.live_lanes.specs.Extents.{lanes_count};
+ghost use Rattle.live_lanes.specs.Looks.{InOrder};
+ghost use Rattle.live_lanes.specs.Touching.{FindsInstrs};
+ghost use Rattle.live_lanes.specs.Tells.{touching_ids};
+ghost use Rattle.interference.specs.declared.matrix.Matrix.{Matrix as MatrixValue};
 ghost use Rattle.interference.specs.Clashes.{IsOrdered};
+ghost use Rattle.split_choose.specs.Seen.{FindsPlaces, FindsPoints};
+ghost use Rattle.split_choose.specs.Places.{Site, IsSite, AreSites, site_id};
 ghost use Rattle.split_choose.specs.Spans.{AreStretches, is_held_in, is_alone};
+ghost use Rattle.split_choose.specs.Spanned.{AreSpansOf};
+ghost use Rattle.split_choose.specs.Built.{Told, told, Rise, span_place, blank, cell_stretches, cells_stretches, range_stretches, stretched, with_stretches, counted, used, filled, lane_positions, range_positions};
 
 use crate::places::operand_count;
 use block_freq::Freqs;
 use interference::Matrix;
 use live_lanes::{LiveFunc, Stretch};
-use spiller::kinds::is_terminator;
+use mir_func::Instr;
+use phi_elim::reading::is_terminator;
 use std::alloc::{AllocError, Global};
-use target_base::{Reg, Unit};
+use target_base::{Reg, Target, Unit};
 
 /// A range in one block.
 #[derive(Drop)]
@@ -38,7 +52,9 @@ fn add_stretches(
     lane: u32,
     place: usize,
     stretches: &mut Vec<Stretch>,
-) -> Result<(), AllocError> {
+) -> Result<(), AllocError>
+    ensures { OnOk result (stretches.new.items ≡ stretches.old.items ++ cell_stretches live.now.table.order.slots (slice_get (cells_of live.now.table.rows.rows.items lane) place)) }
+{
     'pieces: for index in 0..live.piece_count(lane, place) {
         if let Some(extent) = live.extent(lane, place, index) {
             stretches.push(extent.stretch(live.slots()))?;
@@ -47,7 +63,17 @@ fn add_stretches(
     Ok(())
 }
 
-fn empty_span(alloc: Global, live: &LiveFunc, v: u32, position: u32, frequency: u64) -> Span {
+/// Adds the points of a lane in the block of a span.
+fn stretch_span(live: &LiveFunc, lane: u32, place: usize, span: &mut Span) -> Result<(), AllocError>
+    ensures { OnOk result (told span.new ≡ stretched (cell_stretches live.now.table.order.slots (slice_get (cells_of live.now.table.rows.rows.items lane) place)) (told span.old)) }
+{
+    add_stretches(live, lane, place, &mut span.stretches)
+}
+
+/// The range in a block, without points and uses.
+fn empty_span(alloc: Global, live: &LiveFunc, v: u32, position: u32, frequency: u64) -> Span
+    ensures { InOrder live.now.table → told result ≡ blank live.now v frequency position }
+{
     Span {
         position,
         stretches: Vec::new(alloc),
@@ -60,24 +86,16 @@ fn empty_span(alloc: Global, live: &LiveFunc, v: u32, position: u32, frequency: 
 }
 
 /// The frequency of the block at a position.
-fn frequency_of(freqs: &[u64], position: u32) -> u64 {
+fn frequency_of(freqs: &[u64], position: u32) -> u64
+    ensures { result ≡ slice_index_or freqs.now position 0 }
+{
     freqs.get(position as usize).copied().unwrap_or(0)
 }
 
-/// The positions of the blocks in which lanes of a range are named or live, in order.
-fn positions_of(alloc: Global, live: &LiveFunc, v: u32) -> Result<Vec<u32>, AllocError> {
-    let mut positions = Vec::new(alloc);
-    'lanes: for k in 0..live.lane_count(v) as usize {
-        if let Some(lane) = live.lane_of(v, k) {
-            add_positions(live, lane, &mut positions)?;
-        }
-    }
-    positions.sort_unstable();
-    positions.dedup();
-    Ok(positions)
-}
-
-fn add_positions(live: &LiveFunc, lane: u32, positions: &mut Vec<u32>) -> Result<(), AllocError> {
+/// Adds the positions of the blocks in which a lane is named or live.
+fn add_positions(live: &LiveFunc, lane: u32, positions: &mut Vec<u32>) -> Result<(), AllocError>
+    ensures { OnOk result (positions.new.items ≡ positions.old.items ++ lane_positions live.now.table (Some lane)) }
+{
     'cells: for place in 0..live.cell_count(lane) {
         if let Some(position) = live.cell_block(lane, place) {
             positions.push(position)?;
@@ -86,22 +104,40 @@ fn add_positions(live: &LiveFunc, lane: u32, positions: &mut Vec<u32>) -> Result
     Ok(())
 }
 
+/// The positions of the blocks in which lanes of a range are named or live, lane by lane.
+fn all_positions(alloc: Global, live: &LiveFunc, v: u32) -> Result<Vec<u32>, AllocError>
+    ensures { IfOk result (λ ps. ps.items ≡ range_positions live.now.table v (lanes_count (slice_get live.now.table.lanes.ranges.items v))) }
+{
+    let mut positions = Vec::new(alloc);
+    'lanes: for k in 0..live.lane_count(v) as usize {
+        if let Some(lane) = live.lane_of(v, k) {
+            add_positions(live, lane, &mut positions)?;
+        }
+    }
+    Ok(positions)
+}
+
+/// The positions of the blocks in which lanes of a range are named or live, in order.
+fn positions_of(alloc: Global, live: &LiveFunc, v: u32) -> Result<Vec<u32>, AllocError>
+    ensures order { IfOk result (λ ps. IsStrictlySortedBy nat_cmp ps.items) }
+    ensures all { IfOk result (λ ps. (k : ℕ) → list_any (nat_eq k) ps.items ≡ list_any (nat_eq k) (range_positions live.now.table v (lanes_count (slice_get live.now.table.lanes.ranges.items v)))) }
+{
+    let mut positions = all_positions(alloc, live, v)?;
+    positions.sort_unstable();
+    positions.dedup();
+    Ok(positions)
+}
+
 /// The place of the span of a block.
-pub(crate) fn find_span(spans: &[Span], position: u32) -> Option<usize> {
+pub(crate) fn find_span(spans: &[Span], position: u32) -> Option<usize>
+    ensures within { IfSome result (λ place. place < length spans.now) }
+    ensures place { Rise spans.now → result ≡ span_place position spans.now }
+{
     let place = spans.partition_point(|span| span.position < position);
     match spans.get(place) {
         Some(span) if span.position == position => Some(place),
         _ => None,
     }
-}
-
-fn add_lane(live: &LiveFunc, lane: u32, spans: &mut Vec<Span>) -> Result<(), AllocError> {
-    'cells: for place in 0..live.cell_count(lane) {
-        if let Some(position) = live.cell_block(lane, place) {
-            add_cell(live, lane, place, position, spans)?;
-        }
-    }
-    Ok(())
 }
 
 /// Adds the points of a lane in the block at a position.
@@ -110,34 +146,108 @@ fn add_cell(
     lane: u32,
     place: usize,
     position: u32,
-    spans: &mut Vec<Span>,
-) -> Result<(), AllocError> {
-    let Some(at) = find_span(spans.as_slice(), position) else {
-        return Ok(());
-    };
-    if let Some(span) = spans.get_mut(at) {
-        add_stretches(live, lane, place, &mut span.stretches)?;
+    spans: &mut [Span],
+) -> Result<(), AllocError>
+    ensures { OnOk result (Rise spans.old → map told spans.new ≡ map (with_stretches (λ k. cond (nat_eq k position) (cell_stretches live.now.table.order.slots (slice_get (cells_of live.now.table.rows.rows.items lane) place)) [])) (map told spans.old)) }
+{
+    if let Some(at) = find_span(spans, position) {
+        stretch_span(live, lane, place, &mut spans[at])?;
     }
     Ok(())
 }
 
-/// Adds the uses of an instruction to the span of its block.
-fn add_uses(live: &LiveFunc, v: u32, id: u32, spans: &mut Vec<Span>) {
-    let Some(instr) = live.instr(id) else {
-        return;
-    };
-    let Some(at) = find_span(spans.as_slice(), live.position_of(id)) else {
-        return;
-    };
-    if let Some(span) = spans.get_mut(at) {
-        let uses = span
-            .frequency
-            .saturating_mul(operand_count(instr, v) as u128);
-        span.uses = span.uses.saturating_add(uses);
-        if is_terminator(live.target(), instr) {
-            span.end_uses = span.end_uses.saturating_add(uses);
+/// Adds the points of a lane in all its blocks.
+fn add_lane(live: &LiveFunc, lane: u32, spans: &mut [Span]) -> Result<(), AllocError>
+    ensures { OnOk result (Rise spans.old → map told spans.new ≡ map (with_stretches (cells_stretches live.now.table.order.slots (cells_of live.now.table.rows.rows.items lane))) (map told spans.old)) }
+{
+    'cells: for place in 0..live.cell_count(lane) {
+        if let Some(position) = live.cell_block(lane, place) {
+            add_cell(live, lane, place, position, spans)?;
         }
     }
+    Ok(())
+}
+
+/// Adds the points of all lanes of a range.
+fn add_lanes(live: &LiveFunc, v: u32, spans: &mut [Span]) -> Result<(), AllocError>
+    ensures { OnOk result (Rise spans.old → map told spans.new ≡ map (with_stretches (range_stretches live.now.table v (lanes_count (slice_get live.now.table.lanes.ranges.items v)))) (map told spans.old)) }
+{
+    'lanes: for k in 0..live.lane_count(v) as usize {
+        if let Some(lane) = live.lane_of(v, k) {
+            add_lane(live, lane, spans)?;
+        }
+    }
+    Ok(())
+}
+
+/// Adds the uses of an instruction to a span.
+fn count_uses(target: &Target, instr: &Instr, v: u32, span: &mut Span)
+    ensures { told span.new ≡ counted target.now v instr.now (told span.old) }
+{
+    let uses = span
+        .frequency
+        .saturating_mul(operand_count(instr, v) as u128);
+    span.uses = span.uses.saturating_add(uses);
+    if is_terminator(target, instr) {
+        span.end_uses = span.end_uses.saturating_add(uses);
+    }
+}
+
+/// Adds the uses of an instruction to the span of the block at its position.
+fn add_uses_at(target: &Target, instr: &Instr, v: u32, position: u32, spans: &mut [Span])
+    ensures { Rise spans.old → map told spans.new ≡ map (λ s. cond (nat_eq s.position position) (counted target.now v instr.now s) s) (map told spans.old) }
+{
+    if let Some(at) = find_span(spans, position) {
+        count_uses(target, instr, v, &mut spans[at]);
+    }
+}
+
+/// Adds the uses of an instruction to the span of its block.
+fn add_uses(live: &LiveFunc, v: u32, id: u32, spans: &mut [Span])
+    ensures { FindsInstrs live.now.table live.now.func.blocks → (s : Site) → IsSite live.now.target live.now.func.blocks s → site_id s ≡ id → Rise spans.old
+        → map told spans.new ≡ map (used live.now.target v s) (map told spans.old) }
+{
+    if let Some(instr) = live.instr(id) {
+        add_uses_at(live.target(), instr, v, live.position_of(id), spans);
+    }
+}
+
+/// Adds the uses of the instructions that touch a range.
+fn add_touched(live: &LiveFunc, v: u32, touched: &[u32], spans: &mut [Span])
+    ensures { FindsInstrs live.now.table live.now.func.blocks → (ss : List Site) → AreSites live.now.target live.now.func.blocks ss → map site_id ss ≡ touched.now → Rise spans.old
+        → map told spans.new ≡ fold (λ ts s. map (used live.now.target v s) ts) (map told spans.old) ss }
+{
+    'touched: for id in touched {
+        add_uses(live, v, *id, spans);
+    }
+}
+
+/// The blocks at these positions, without points and uses.
+fn empty_spans(
+    alloc: Global,
+    live: &LiveFunc,
+    v: u32,
+    freqs: &[u64],
+    positions: &[u32],
+) -> Result<Vec<Span>, AllocError>
+    ensures { IfOk result (λ ss. InOrder live.now.table → map told ss.items ≡ map (λ k. blank live.now v (slice_index_or freqs.now k 0) k) positions.now) }
+{
+    let mut spans = Vec::new(alloc);
+    'positions: for position in positions {
+        let frequency = frequency_of(freqs, *position);
+        spans.push(empty_span(alloc, live, v, *position, frequency))?;
+    }
+    Ok(spans)
+}
+
+/// Adds the points of all lanes of a range, and the uses of the instructions that touch it.
+fn fill(live: &LiveFunc, v: u32, touched: &[u32], spans: &mut [Span]) -> Result<(), AllocError>
+    ensures { OnOk result (FindsInstrs live.now.table live.now.func.blocks → (ss : List Site) → AreSites live.now.target live.now.func.blocks ss → map site_id ss ≡ touched.now → Rise spans.old
+        → map told spans.new ≡ filled live.now v ss (map told spans.old)) }
+{
+    add_lanes(live, v, spans)?;
+    add_touched(live, v, touched, spans);
+    Ok(())
 }
 
 /// A range block by block, in layout order. Blocks without points of it are among them.
@@ -147,39 +257,14 @@ pub(crate) fn spans_of(
     v: u32,
     freqs: &Freqs,
     touched: &[u32],
-) -> Result<Vec<Span>, AllocError> {
-    let mut spans = empty_spans(alloc, live, v, freqs)?;
-    add_lanes(live, v, &mut spans)?;
-    'touched: for id in touched {
-        add_uses(live, v, *id, &mut spans);
-    }
-    Ok(spans)
-}
-
-/// The blocks of a range, without points and uses.
-fn empty_spans(
-    alloc: Global,
-    live: &LiveFunc,
-    v: u32,
-    freqs: &Freqs,
-) -> Result<Vec<Span>, AllocError> {
+) -> Result<Vec<Span>, AllocError>
+    ensures { IfOk result (λ ss. (m : MatrixValue) → m.live ≡ live.now → FindsPlaces live.now.target live.now.func live.now.table v → FindsPoints m
+        → touched.now ≡ touching_ids live.now.func v → AreSpansOf m v freqs.now ss.items) }
+{
     let positions = positions_of(alloc, live, v)?;
-    let mut spans = Vec::new(alloc);
-    'positions: for position in positions.as_slice() {
-        let frequency = frequency_of(freqs.as_slice(), *position);
-        spans.push(empty_span(alloc, live, v, *position, frequency))?;
-    }
+    let mut spans = empty_spans(alloc, live, v, freqs.as_slice(), positions.as_slice())?;
+    fill(live, v, touched, spans.as_mut_slice())?;
     Ok(spans)
-}
-
-/// Adds the points of all lanes of a range.
-fn add_lanes(live: &LiveFunc, v: u32, spans: &mut Vec<Span>) -> Result<(), AllocError> {
-    'lanes: for k in 0..live.lane_count(v) as usize {
-        if let Some(lane) = live.lane_of(v, k) {
-            add_lane(live, lane, spans)?;
-        }
-    }
-    Ok(())
 }
 
 /// The units of a register; none where there is no such register.
