@@ -124,9 +124,9 @@ module _ (x : Table) (bs : List Block) (finds : FindsInstrs x bs) (placed : AreP
 
   home-is : (k : ℕ) (b : Block) → slice_get bs k ≡ Some b → (p : Point) → Among p (block_points b) → home_of x bs p ≡ Some k
   home-is k b at p m = elim (among-cases p (Start b.number) (instr_points b.instrs) m) [
-      inl e ↦ ap (home_of x bs) e ∙ placed k b at
+    | inl e ↦ ap (home_of x bs) e ∙ placed k b at
     | inr h ↦ home-in k b at b.instrs (λ id g. g) p h
-    ]
+  ]
 
   -- where a point of these blocks is, the first of which stands at a position
   record IsLater (o : ℕ) (p : Point) : Type 0 where
@@ -146,7 +146,7 @@ module _ (x : Table) (bs : List Block) (finds : FindsInstrs x bs) (placed : AreP
   apart-from o [] at = tt
   apart-from o (c ∷ cs) at =
       apart-append (block_points c) (flat_map block_points cs) (block-apart x.order.slots c (finds.ranked o c here-at)) (apart-from (suc o) cs next) (λ p m k. (let r = later (suc o) cs next p k in let l = r.late in
-          let same : Some r.place ≡ Some o = sym r.home ∙ home-is o c here-at p m in let e : r.place ≡ o = cc in absurd (omega arith)))
+      let same : Some r.place ≡ Some o = sym r.home ∙ home-is o c here-at p m in let e : r.place ≡ o = cc in absurd (omega arith)))
     where
       here-at : slice_get bs o ≡ Some c
       here-at = let z : o ≡ o + 0 = omega arith in ap (slice_get bs) z ∙ at 0 c refl

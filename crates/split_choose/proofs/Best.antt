@@ -27,18 +27,20 @@ same-default (x ∷ xs) (suc k) d e h = same-default xs k d e (omega arith)
 -- the run is the better one
 beats : (r old : Run) → is_better r (Some old) ≡ true → (old.len < r.len) ⊎ ((r.len ≡ old.len) × (r.first < old.first))
 beats r old h = elim (or_cases (nat_lt old.len r.len) (nat_eq r.len old.len && nat_lt r.first old.first) h) [
-    inl e ↦ inl (ltb-true old.len r.len e)
+  | inl e ↦ inl (ltb-true old.len r.len e)
   | inr e ↦ (let p = and_parts (nat_eq r.len old.len) (nat_lt r.first old.first) e in inr (eqb-true r.len old.len p.0, ltb-true r.first old.first p.1))
-  ]
+]
 
 -- it isn't
 loses : (r old : Run) → is_better r (Some old) ≡ false → (r.len ≤ old.len) × (r.len ≡ old.len → old.first ≤ r.first)
 loses r old h =
-    let p = or_parts (nat_lt old.len r.len) (nat_eq r.len old.len && nat_lt r.first old.first) h in
-    (ltb-false old.len r.len p.0, λ e. elim (cases_lt r.first old.first) [
-        inl l ↦ absurd (true≢false (sym (and_from (nat_eq r.len old.len) (nat_lt r.first old.first) (eq-eqb r.len old.len e) (lt-ltb r.first old.first l)) ∙ p.1))
-      | inr l ↦ l
-      ])
+    let p = or_parts (nat_lt old.len r.len) (nat_eq r.len old.len && nat_lt r.first old.first) h in (
+      ltb-false old.len r.len p.0,
+      λ e. elim (cases_lt r.first old.first) [
+        | inl l ↦ absurd (true≢false (sym (and_from (nat_eq r.len old.len) (nat_lt r.first old.first) (eq-eqb r.len old.len e) (lt-ltb r.first old.first l)) ∙ p.1))
+        | inr l ↦ l
+      ],
+    )
 
 module _ (near : Reg → ℕ → Bool) (count : ℕ) (rs : List Reg) where
   pub none-yet : IsBestRun near count rs 0 None
@@ -50,48 +52,48 @@ module _ (near : Reg → ℕ → Bool) (count : ℕ) (rs : List Reg) where
 
   found : (k : ℕ) (b : Run) (r : Reg) → slice_get rs k ≡ Some r → IsLongest (near r) count count b.first b.len → b.register ≡ r → Behind k b → IsBest near count rs (k + 1) b
   found k b r at h named behind = record {
-      place = k;
-      before = omega arith;
-      register = at ∙ ap Some (sym named);
-      within = h.within;
-      run = (let P : Reg → Type 0 = λ q. IsRun (near q) b.first b.len in subst P (sym named) h.run);
-      longest = longest;
-      earliest = earliest;
-      foremost = foremost;
-    }
+    place = k;
+    before = omega arith;
+    register = at ∙ ap Some (sym named);
+    within = h.within;
+    run = (let P : Reg → Type 0 = λ q. IsRun (near q) b.first b.len in subst P (sym named) h.run);
+    longest = longest;
+    earliest = earliest;
+    foremost = foremost;
+  }
     where
       here : (j f l : ℕ) (q : Reg) → k ≤ j → j < k + 1 → slice_get rs j ≡ Some q → IsRun (near q) f l → IsRun (near r) f l
       here j f l q a z e run = let s : j ≡ k = omega arith in let P : Reg → Type 0 = λ q. IsRun (near q) f l in subst P (same-register rs j k q r s e at) run
 
       longest : (j f l : ℕ) (q : Reg) → j < k + 1 → slice_get rs j ≡ Some q → IsWithin count f l → IsRun (near q) f l → l ≤ b.len
       longest j f l q z e w run = elim (cases_lt j k) [
-          inl early ↦ elim (behind j f l q early e w run) [ inl less ↦ omega arith | inr same ↦ omega (arith, same.0) ]
+        | inl early ↦ elim (behind j f l q early e w run) [ inl less ↦ omega arith | inr same ↦ omega (arith, same.0) ]
         | inr last ↦ h.longest f l w w.inside (here j f l q last z e run)
-        ]
+      ]
 
       earliest : (j f : ℕ) (q : Reg) → j < k + 1 → slice_get rs j ≡ Some q → IsWithin count f b.len → IsRun (near q) f b.len → b.first ≤ f
       earliest j f q z e w run = elim (cases_lt j k) [
-          inl early ↦ elim (behind j f b.len q early e w run) [ inl less ↦ absurd (omega arith) | inr same ↦ omega (arith, same.1) ]
+        | inl early ↦ elim (behind j f b.len q early e w run) [ inl less ↦ absurd (omega arith) | inr same ↦ omega (arith, same.1) ]
         | inr last ↦ h.earliest f w w.inside (here j f b.len q last z e run)
-        ]
+      ]
 
       foremost : (j : ℕ) (q : Reg) → j < k + 1 → slice_get rs j ≡ Some q → IsRun (near q) b.first b.len → k ≤ j
       foremost j q z e run = elim (cases_lt j k) [
-          inl early ↦ elim (behind j b.first b.len q early e h.within run) [ inl less ↦ absurd (omega arith) | inr same ↦ absurd (omega (arith, same.1)) ]
+        | inl early ↦ elim (behind j b.first b.len q early e h.within run) [ inl less ↦ absurd (omega arith) | inr same ↦ absurd (omega (arith, same.1)) ]
         | inr last ↦ last
-        ]
+      ]
 
   kept : (k : ℕ) (b old : Run) (r : Reg) → slice_get rs k ≡ Some r → IsLongest (near r) count count b.first b.len → IsBest near count rs k old → is_better b (Some old) ≡ false → IsBest near count rs (k + 1) old
   kept k b old r at h was worse = record {
-      place = was.place;
-      before = (let p = was.before in omega arith);
-      register = was.register;
-      within = was.within;
-      run = was.run;
-      longest = longest;
-      earliest = earliest;
-      foremost = foremost;
-    }
+    place = was.place;
+    before = (let p = was.before in omega arith);
+    register = was.register;
+    within = was.within;
+    run = was.run;
+    longest = longest;
+    earliest = earliest;
+    foremost = foremost;
+  }
     where
       less : (b.len ≤ old.len) × (b.len ≡ old.len → old.first ≤ b.first)
       less = loses b old worse
@@ -101,13 +103,13 @@ module _ (near : Reg → ℕ → Bool) (count : ℕ) (rs : List Reg) where
 
       longest : (j f l : ℕ) (q : Reg) → j < k + 1 → slice_get rs j ≡ Some q → IsWithin count f l → IsRun (near q) f l → l ≤ old.len
       longest j f l q z e w run = elim (cases_lt j k) [
-          inl early ↦ was.longest j f l q early e w run
+        | inl early ↦ was.longest j f l q early e w run
         | inr last ↦ (let m = h.longest f l w w.inside (here j f l q last z e run) in omega (arith, less.0))
-        ]
+      ]
 
       earliest : (j f : ℕ) (q : Reg) → j < k + 1 → slice_get rs j ≡ Some q → IsWithin count f old.len → IsRun (near q) f old.len → old.first ≤ f
       earliest j f q z e w run = elim (cases_lt j k) [
-          inl early ↦ was.earliest j f q early e w run
+        | inl early ↦ was.earliest j f q early e w run
         | inr last ↦
             (let own = here j f old.len q last z e run in
             let m = h.longest f old.len w w.inside own in
@@ -117,7 +119,7 @@ module _ (near : Reg → ℕ → Bool) (count : ℕ) (rs : List Reg) where
             let w2 = subst W (sym same) w in
             let first = h.earliest f w2 w2.inside (subst P (sym same) own) in
             omega (arith, less.1 same))
-        ]
+      ]
 
       foremost : (j : ℕ) (q : Reg) → j < k + 1 → slice_get rs j ≡ Some q → IsRun (near q) old.first old.len → was.place ≤ j
       foremost j q z e run = elim (cases_lt j k) [ inl early ↦ was.foremost j q early e run | inr last ↦ (let p = was.before in omega arith) ]
@@ -132,15 +134,15 @@ module _ (near : Reg → ℕ → Bool) (count : ℕ) (rs : List Reg) where
       go : (o : Option Run) → IsBestRun near count rs k o → IsBestRun near count rs (k + 1) o
       go None was = λ j f l q z e w run. elim (cases_lt j k) [ inl early ↦ was j f l q early e w run | inr now ↦ last j f l q now z e w run ]
       go (Some b) was = record {
-          place = was.place;
-          before = (let p = was.before in omega arith);
-          register = was.register;
-          within = was.within;
-          run = was.run;
-          longest = λ j f l q z e w run. elim (cases_lt j k) [ inl early ↦ was.longest j f l q early e w run | inr now ↦ absurd (last j f l q now z e w run) ];
-          earliest = λ j f q z e w run. elim (cases_lt j k) [ inl early ↦ was.earliest j f q early e w run | inr now ↦ absurd (last j f b.len q now z e w run) ];
-          foremost = λ j q z e run. elim (cases_lt j k) [ inl early ↦ was.foremost j q early e run | inr now ↦ absurd (last j b.first b.len q now z e was.within run) ];
-        }
+        place = was.place;
+        before = (let p = was.before in omega arith);
+        register = was.register;
+        within = was.within;
+        run = was.run;
+        longest = λ j f l q z e w run. elim (cases_lt j k) [ inl early ↦ was.longest j f l q early e w run | inr now ↦ absurd (last j f l q now z e w run) ];
+        earliest = λ j f q z e w run. elim (cases_lt j k) [ inl early ↦ was.earliest j f q early e w run | inr now ↦ absurd (last j f b.len q now z e w run) ];
+        foremost = λ j q z e run. elim (cases_lt j k) [ inl early ↦ was.foremost j q early e run | inr now ↦ absurd (last j b.first b.len q now z e was.within run) ];
+      }
 
   -- one more run
   met : (k : ℕ) (best : Option Run) (b : Run) (r : Reg) → slice_get rs k ≡ Some r → IsLongest (near r) count count b.first b.len → b.register ≡ r → IsBestRun near count rs k best → IsBestRun near count rs (k + 1) (better_of best (Some b))
@@ -149,17 +151,17 @@ module _ (near : Reg → ℕ → Bool) (count : ℕ) (rs : List Reg) where
     where
       behind : is_better b (Some old) ≡ true → Behind k b
       behind e j f l q z g w run = elim (beats b old e) [
-          inl more ↦ (let m = was.longest j f l q z g w run in inl (omega arith))
+        | inl more ↦ (let m = was.longest j f l q z g w run in inl (omega arith))
         | inr same ↦ (let m = was.longest j f l q z g w run in elim (cases_lt l b.len) [
-              inl less ↦ inl less
-            | inr long ↦
-                (let t : l ≡ old.len = omega (arith, same.0) in
-                let W : ℕ → Type 0 = λ n. IsWithin count f n in
-                let P : ℕ → Type 0 = λ n. IsRun (near q) f n in
-                let first = was.earliest j f q z g (subst W t w) (subst P t run) in
-                inr (t ∙ sym same.0, omega (arith, same.1)))
-            ])
-        ]
+          | inl less ↦ inl less
+          | inr long ↦
+              (let t : l ≡ old.len = omega (arith, same.0) in
+              let W : ℕ → Type 0 = λ n. IsWithin count f n in
+              let P : ℕ → Type 0 = λ n. IsRun (near q) f n in
+              let first = was.earliest j f q z g (subst W t w) (subst P t run) in
+              inr (t ∙ sym same.0, omega (arith, same.1)))
+        ])
+      ]
 
       go : (c : Bool) → is_better b (Some old) ≡ c → IsBestRun near count rs (k + 1) (cond c (Some b) (Some old))
       go true e = found k b r at h named (behind e)
@@ -178,14 +180,14 @@ module _ (near : Reg → ℕ → Bool) (count : ℕ) (rs : List Reg) where
   pub all-seen : (k : ℕ) (best : Option Run) → length rs ≤ k → IsBestRun near count rs k best → IsBestRun near count rs (length rs) best
   all-seen k None h was = λ j f l q z e w run. was j f l q (omega arith) e w run
   all-seen k (Some b) h was = record {
-      place = was.place;
-      before = get-within rs was.place b.register was.register;
-      register = was.register;
-      within = was.within;
-      run = was.run;
-      longest = λ j f l q z e w run. was.longest j f l q (omega arith) e w run;
-      earliest = λ j f q z e w run. was.earliest j f q (omega arith) e w run;
-      foremost = λ j q z e run. was.foremost j q (omega arith) e run;
-    }
+    place = was.place;
+    before = get-within rs was.place b.register was.register;
+    register = was.register;
+    within = was.within;
+    run = was.run;
+    longest = λ j f l q z e w run. was.longest j f l q (omega arith) e w run;
+    earliest = λ j f q z e w run. was.earliest j f q (omega arith) e w run;
+    foremost = λ j q z e run. was.foremost j q (omega arith) e run;
+  }
 
 pub ruleset bests = (none-yet, better-next, all-seen)

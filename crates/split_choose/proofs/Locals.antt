@@ -31,17 +31,16 @@ use Rattle.split_choose.proofs.Sought.{IsSought, best-sought, none-sought, get-s
 use Rattle.split_choose.proofs.Nearby.{runs-told, near-is}
 
 module _ (t : Target) (f : Function) (v : ℕ) (view : View) (ps : List TouchedPlace) (same : ps ≡ map (placed f.blocks) (touched_places t f v view)) where
-
   pub too-few-places : length ps < 3 → None ≡ local_offer t f v view
   too-few-places h = elim (cases_lt (length (touched_places t f v view)) 2) [
-      inl few ↦ sym (ap (λ b. cond b (found_run t f v view) None) (and_left (is_dividable t f v view) (not (list_any (live_at t f v view) (borders t f v view))) (lt-leb 2 (length (touched_places t f v view)) few)))
+    | inl few ↦ sym (ap (λ b. cond b (found_run t f v view) None) (and_left (is_dividable t f v view) (not (list_any (live_at t f v view) (borders t f v view))) (lt-leb 2 (length (touched_places t f v view)) few)))
     | inr two ↦
         (let m = as-many t f v view ps same in
         let one : length (touched_places t f v view) - 1 ≡ 1 = omega arith in
         let R : ℕ → Option (Reg × List Mark) = λ n. option_map (λ r. (r.1, run_marks t f v view r.0)) (find (clear_along t f v view) (flat_map (λ r. map (λ p. (r, p)) (domain t (class_of f v))) (flat_map (run_ends t f v view) (runs_up_to t f v view n (touched_places t f v view))))) in
         let none : found_run t f v view ≡ None = ap R one in
         sym (ap (λ o. cond (is_dividable t f v view && not (list_any (live_at t f v view) (borders t f v view))) o None) none ∙ either (is_dividable t f v view && not (list_any (live_at t f v view) (borders t f v view)))))
-    ]
+  ]
     where
       either : (b : Bool) → ◌≡◌ {A = Option (Reg × List Mark)} (cond b None None) None
       either true = refl
@@ -79,7 +78,7 @@ module _ (t : Target) (f : Function) (v : ℕ) (view : View) (ps : List TouchedP
 -- what is asked of two neighbours
 pub near-told : (m : Matrix) (v : ℕ) (parents freqs : List ℕ) (places : List TouchedPlace) (spans : List Span) (r : Reg) (k : ℕ) (free : Bool) → IsLocal m v parents freqs places spans → 1 ≤ k → k < length places
     → ((p q : Touched) → slice_get (touched_places m.live.target m.live.func v (view_of m v parents)) (k - 1) ≡ Some p → slice_get (touched_places m.live.target m.live.func v (view_of m v parents)) k ≡ Some q → k ≡ k - 1 + 1
-        → free ≡ clear_along m.live.target m.live.func v (view_of m v parents) ((p, q), r))
+    → free ≡ clear_along m.live.target m.live.func v (view_of m v parents) ((p, q), r))
     → near_in m v parents r (k - 1) ≡ free
 near-told m v parents freqs places spans r k free loc some less told =
     let many = as-many m.live.target m.live.func v (view_of m v parents) places loc.same in
@@ -100,12 +99,12 @@ module _ (m : Matrix) (v : ℕ) (parents freqs : List ℕ) (places : List Touche
 
   pub split-found : (l : LiveFunc) (b : Run) (sum last : ℕ) (labels : List Mark) → l ≡ m.live → best ≡ Some b → length places < 18446744073709551616 → sum ≡ min (b.first + b.len) 18446744073709551615 → last ≡ sum - 1
       → ((w : ℕ) (view : View) (p q : Touched) → FindsPlaces l.target l.func l.table w → places ≡ map (placed l.func.blocks) (touched_places l.target l.func w view)
-          → slice_get (touched_places l.target l.func w view) b.first ≡ Some p → slice_get (touched_places l.target l.func w view) last ≡ Some q → labels ≡ run_marks l.target l.func w view (p, q))
+      → slice_get (touched_places l.target l.func w view) b.first ≡ Some p → slice_get (touched_places l.target l.func w view) last ≡ Some q → labels ≡ run_marks l.target l.func w view (p, q))
       → Some (b.register, labels) ≡ found_run m.live.target m.live.func v (view_of m v parents)
   split-found l b sum last labels same e fits one two marks =
       let B : Option Run → Type 0 = λ o. IsBestRun (near_in m v parents) (length places) (registers_of m v) (length (registers_of m v)) o in
       let L : LiveFunc → Type 0 = λ n. (w : ℕ) (view : View) (p q : Touched) → FindsPlaces n.target n.func n.table w → places ≡ map (placed n.func.blocks) (touched_places n.target n.func w view)
-          → slice_get (touched_places n.target n.func w view) b.first ≡ Some p → slice_get (touched_places n.target n.func w view) last ≡ Some q → labels ≡ run_marks n.target n.func w view (p, q) in
+      → slice_get (touched_places n.target n.func w view) b.first ≡ Some p → slice_get (touched_places n.target n.func w view) last ≡ Some q → labels ≡ run_marks n.target n.func w view (p, q) in
       let told = subst L same marks in
       run-found m.live.target m.live.func v (view_of m v parents) places loc.same m.live.table loc.finds b sum last labels (subst B e h) fits one two (λ p q. told v (view_of m v parents) p q loc.finds loc.same)
 

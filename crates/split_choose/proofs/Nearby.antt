@@ -63,15 +63,15 @@ module _ (t : Target) (f : Function) (x : Table) (v : ℕ) (view : View) (finds 
 
   entries : (k i : ℕ) (p q : Touched) → k ≤ i → slice_get places k ≡ Some p → slice_get places i ≡ Some q → rank (Entry p.first) ≤ rank (Entry q.first)
   entries k i p q le e g = elim (cases_lt k i) [
-      inl less ↦ (let a = (at-place k p e).long in let b = turn-behind rank all 0 places k i p q turns less e g in omega (arith, a, b))
+    | inl less ↦ (let a = (at-place k p e).long in let b = turn-behind rank all 0 places k i p q turns less e g in omega (arith, a, b))
     | inr most ↦ (let h : k ≡ i = omega arith in let P : Touched → Type 0 = λ y. rank (Entry p.first) ≤ rank (Entry y.first) in subst P (same-place k i p q h e g) (omega arith))
-    ]
+  ]
 
   exits : (k i : ℕ) (p q : Touched) → k ≤ i → slice_get places k ≡ Some p → slice_get places i ≡ Some q → rank (Exit p.last) ≤ rank (Exit q.last)
   exits k i p q le e g = elim (cases_lt k i) [
-      inl less ↦ (let a = (at-place i q g).long in let b = turn-behind rank all 0 places k i p q turns less e g in omega (arith, a, b))
+    | inl less ↦ (let a = (at-place i q g).long in let b = turn-behind rank all 0 places k i p q turns less e g in omega (arith, a, b))
     | inr most ↦ (let h : k ≡ i = omega arith in let P : Touched → Type 0 = λ y. rank (Exit p.last) ≤ rank (Exit y.last) in subst P (same-place k i p q h e g) (omega arith))
-    ]
+  ]
 
   -- all points from one place's entry to another's exit
   abbrev Clear : Reg → Touched → Touched → Type 0
@@ -98,7 +98,7 @@ module _ (t : Target) (f : Function) (x : Table) (v : ℕ) (view : View) (finds 
   clear-from k i p q r le e g h =
       sym (along-is k i p q r le e g)
       ∙ all-filter (is_between p q) (clashes_not t f v view r) all (λ z m d. (let s = and_parts (nat_le (rank (Entry p.first)) (rank z)) (nat_le (rank z) (rank (Exit q.last))) d in
-          h z m (leb-true (rank (Entry p.first)) (rank z) s.0) (leb-true (rank z) (rank (Exit q.last)) s.1)))
+      h z m (leb-true (rank (Entry p.first)) (rank z) s.0) (leb-true (rank z) (rank (Exit q.last)) s.1)))
 
   pub near-is : (k : ℕ) (p q : Touched) (r : Reg) → slice_get places k ≡ Some p → slice_get places (k + 1) ≡ Some q → is_near t f v view r k ≡ clear_along t f v view ((p, q), r)
   near-is k p q r e g = ap (λ o. of_both (λ d. clear_along t f v view (d, r)) o (slice_get places (k + 1))) e ∙ ap (λ o. of_both (λ d. clear_along t f v view (d, r)) (Some p) o) g
@@ -112,10 +112,10 @@ module _ (t : Target) (f : Function) (x : Table) (v : ℕ) (view : View) (finds 
       let next : k + suc (suc l) ≡ k + suc l + 1 = omega arith in
       let last : slice_get places (k + suc l + 1) ≡ Some q = ap (slice_get places) (sym next) ∙ g in
       elim (cases_lt (rank (Exit mid.0.last)) (rank z)) [
-        inl behind ↦
-          (let inner = (at-place (k + suc l) mid.0 mid.1).long in
-          clear-to (k + suc l) (k + suc l + 1) mid.0 q r (omega arith) mid.1 last (sym (near-is (k + suc l) mid.0 q r mid.1 last) ∙ run.along (k + suc l) (omega arith) (omega arith)) z m (omega (arith, inner, behind)) high)
-      | inr before ↦ run-clear (suc l) k p mid.0 r (omega arith) e mid.1 (record { along = λ i a b. run.along i a (omega arith) }) z m low before
+        | inl behind ↦
+            (let inner = (at-place (k + suc l) mid.0 mid.1).long in
+            clear-to (k + suc l) (k + suc l + 1) mid.0 q r (omega arith) mid.1 last (sym (near-is (k + suc l) mid.0 q r mid.1 last) ∙ run.along (k + suc l) (omega arith) (omega arith)) z m (omega (arith, inner, behind)) high)
+        | inr before ↦ run-clear (suc l) k p mid.0 r (omega arith) e mid.1 (record { along = λ i a b. run.along i a (omega arith) }) z m low before
       ]
 
   clear-run : (k l : ℕ) (p q : Touched) (r : Reg) → 1 ≤ l → slice_get places k ≡ Some p → slice_get places (k + l) ≡ Some q → Clear r p q → IsRun (is_near t f v view r) k (suc l)

@@ -76,7 +76,7 @@ module _ (t : Target) (f : Function) (v : ℕ) (view : View) (rs : List Reg) (te
       → over (flat_map (run_ends t f v view) (runs_of t f v view (suc l) qs)) ≡ None
   level-none l [] h = refl
   level-none l (x ∷ qs) h = elim (cases_lt l (length (x ∷ qs))) [
-      inl inside ↦
+    | inl inside ↦
         (let e = get-some (x ∷ qs) l inside in
         let z : 0 + l ≡ l = omega arith in
         ap over (first-run l x qs e.0 e.1)
@@ -84,7 +84,7 @@ module _ (t : Target) (f : Function) (v : ℕ) (view : View) (rs : List Reg) (te
         ∙ (none-first _ _ (find-none test (x, e.0) rs (λ j r g. h 0 j x e.0 r refl (ap (slice_get (x ∷ qs)) z ∙ e.1) g))
         ∙ level-none l qs (λ k j p q r a b g. (let s : suc k + l ≡ suc (k + l) = omega arith in h (suc k) j p q r a (ap (slice_get (x ∷ qs)) s ∙ b) g)))))
     | inr short ↦ ap (λ ds. over (flat_map (run_ends t f v view) ds)) (no-run l (x ∷ qs) short)
-    ]
+  ]
 
   level-some : (l : ℕ) (qs : List Touched) (k : ℕ) (p q : Touched) (place : ℕ) (r : Reg) → slice_get qs k ≡ Some p → slice_get qs (k + l) ≡ Some q → slice_get rs place ≡ Some r → test ((p, q), r) ≡ true
       → ((j : ℕ) (d : Reg) → slice_get rs j ≡ Some d → test ((p, q), d) ≡ true → place ≤ j)
@@ -108,12 +108,12 @@ module _ (t : Target) (f : Function) (v : ℕ) (view : View) (rs : List Reg) (te
       let e = get-some (x ∷ qs) l (omega arith) in
       let z : 0 + l ≡ l = omega arith in
       let first : (j : ℕ) (d : Reg) → slice_get rs j ≡ Some d → test ((x, e.0), d) ≡ false =
-          λ j d g. false_from_ne_true (test ((x, e.0), d)) (λ h. (let m : suc k ≤ 0 = earliest 0 j x e.0 d refl (ap (slice_get (x ∷ qs)) z ∙ e.1) g h in omega arith)) in
+      λ j d g. false_from_ne_true (test ((x, e.0), d)) (λ h. (let m : suc k ≤ 0 = earliest 0 j x e.0 d refl (ap (slice_get (x ∷ qs)) z ∙ e.1) g h in omega arith)) in
       ap over (first-run l x qs e.0 e.1)
       ∙ (over-cons (x, e.0) (flat_map (run_ends t f v view) (runs_of t f v view (suc l) qs))
       ∙ (none-first _ _ (find-none test (x, e.0) rs first)
       ∙ level-some l qs k p q place r start last at holds foremost
-          (λ i j a b d g h w y. (let s : suc i + l ≡ suc (i + l) = omega arith in let m : suc k ≤ suc i = earliest (suc i) j a b d g (ap (slice_get (x ∷ qs)) s ∙ h) w y in omega arith))))
+      (λ i j a b d g h w y. (let s : suc i + l ≡ suc (i + l) = omega arith in let m : suc k ≤ suc i = earliest (suc i) j a b d g (ap (slice_get (x ∷ qs)) s ∙ h) w y in omega arith))))
 
   -- all runs
 
@@ -143,7 +143,7 @@ module _ (t : Target) (f : Function) (v : ℕ) (view : View) (rs : List Reg) (te
         → over (flat_map (run_ends t f v view) (runs_up_to t f v view n ps)) ≡ Some ((p, q), r)
     all-some zero l k p q place r many few start end at holds foremost earliest longest = absurd (omega arith)
     all-some (suc n) l k p q place r many few start end at holds foremost earliest longest = elim (cases_lt l n) [
-        inl more ↦
+      | inl more ↦
           (up-to n (omega arith)
           ∙ (none-first _ _ (level-none n ps (λ i j a b d g h w. false_from_ne_true (test ((a, b), d)) (λ y. (let m = longest n i j a b d (omega arith) g h w y in omega arith))))
           ∙ all-some n l k p q place r many more start end at holds foremost earliest (λ m i j a b d x. longest m i j a b d (omega arith))))
@@ -152,7 +152,7 @@ module _ (t : Target) (f : Function) (v : ℕ) (view : View) (rs : List Reg) (te
           let S : ℕ → Type 0 = λ m. over (flat_map (run_ends t f v view) (runs_of t f v view (suc m) ps)) ≡ Some ((p, q), r) in
           up-to n (omega arith)
           ∙ some-first _ _ ((p, q), r) (subst S (sym same) (level-some l ps k p q place r start end at holds foremost earliest)))
-      ]
+    ]
 
     -- the tests are those of runs
     pub record AreTold (near : Reg → ℕ → Bool) : Type 0 where
@@ -171,16 +171,16 @@ module _ (t : Target) (f : Function) (v : ℕ) (view : View) (rs : List Reg) (te
 
     pub best-sought : (near : Reg → ℕ → Bool) (b : Run) → AreTold near → IsBest near (length ps) rs (length rs) b → IsSought b
     best-sought near b told h = record {
-        first = p.0;
-        last = q.0;
-        begins = p.1;
-        ends = ap (slice_get ps) shift ∙ q.1;
-        found = all-some (length ps - 1) l b.first p.0 q.0 h.place b.register (omega arith) (omega arith) p.1 q.1 h.register
-            (told.clear b.first l p.0 q.0 b.register (omega arith) p.1 q.1 (subst (IsRun (near b.register) b.first) (sym long) h.run))
-            (λ j d g w. h.foremost j d (get-within rs j d g) g (subst (IsRun (near d) b.first) long (told.run b.first l p.0 q.0 d (omega arith) p.1 q.1 w)))
-            (λ i j a c d g x w y. h.earliest j i d (get-within rs j d w) w (subst (IsWithin (length ps) i) long (within-of i l c (omega arith) (omega arith) x)) (subst (IsRun (near d) i) long (told.run i l a c d (omega arith) g x y)))
-            longest;
-      }
+      first = p.0;
+      last = q.0;
+      begins = p.1;
+      ends = ap (slice_get ps) shift ∙ q.1;
+      found = all-some (length ps - 1) l b.first p.0 q.0 h.place b.register (omega arith) (omega arith) p.1 q.1 h.register
+          (told.clear b.first l p.0 q.0 b.register (omega arith) p.1 q.1 (subst (IsRun (near b.register) b.first) (sym long) h.run))
+          (λ j d g w. h.foremost j d (get-within rs j d g) g (subst (IsRun (near d) b.first) long (told.run b.first l p.0 q.0 d (omega arith) p.1 q.1 w)))
+          (λ i j a c d g x w y. h.earliest j i d (get-within rs j d w) w (subst (IsWithin (length ps) i) long (within-of i l c (omega arith) (omega arith) x)) (subst (IsRun (near d) i) long (told.run i l a c d (omega arith) g x y)))
+          longest;
+    }
       where
         l : ℕ
         l = b.len - 1

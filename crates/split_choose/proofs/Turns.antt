@@ -111,7 +111,7 @@ module _ (rank : Point → ℕ) (all : List Point) where
         let low = r.0 in
         subst (InTurn n) (sym (append_assoc (map (single b) (touching t f v view b)) (end_place t f v view b (terminators t f v view b)) rest))
         (turn-from (suc (rank (Start b.number))) n _ (omega (arith, low)) (instrs-turn b b.instrs (suc (rank (Start b.number))) (flat_map block_points bs) rest p.0 r.1 (λ x m. sub x (there m))
-            (λ m s. blocks-turn bs m p.1 s (λ x k. sub x (there (among-right x (instr_points b.instrs) (flat_map block_points bs) k))))))
+        (λ m s. blocks-turn bs m p.1 s (λ x k. sub x (there (among-right x (instr_points b.instrs) (flat_map block_points bs) k))))))
 
     pub places-turn : list_all (λ b. ends_in_terminators t b.instrs) f.blocks ≡ true → AreRanked rank 0 (flat_map block_points f.blocks) → ((x : Point) → Among x (flat_map block_points f.blocks) → Among x all) → InTurn 0 (touched_places t f v view)
     places-turn h r sub = blocks-turn f.blocks 0 h r sub

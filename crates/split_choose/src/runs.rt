@@ -90,7 +90,7 @@ fn best_split(view: View<'_>) -> Result<Option<(Reg, Labels)>, AllocError>
 fn best_run(view: View<'_>) -> Result<Option<Run>, AllocError>
     ensures { IfOk result (λ best. (parents freqs : List ℕ) → IsLocal view.entry.m.now view.entry.v parents freqs view.entry.places.now view.entry.spans.now
         → IsBestRun (near_in view.entry.m.now view.entry.v parents) (length view.entry.places.now)
-            (registers_of view.entry.m.now view.entry.v) (length (registers_of view.entry.m.now view.entry.v)) best) }
+        (registers_of view.entry.m.now view.entry.v) (length (registers_of view.entry.m.now view.entry.v)) best) }
 {
     let live = view.m.live();
     let domain = domain_of(view.alloc, live.target(), class_of(live, view.v))?;

@@ -22,5 +22,5 @@ returns c parents finds points =
     c.in_ok-split.split (omega arith)
     (border-at c.args.m.now c.args.v parents finds _ c.live-live.ensures c.is_live_at_border.result c.is_live_at_border.ensures ∙ c.if-is_live_at_border.false)
     (c.in_ok-split.ensures parents _
-        (local-at c.args.m.now c.args.v parents finds _ c.live-live.ensures points _ c.in_ok-touched.touched.items _ _ c.in_ok-places.places.items _ c.in_ok-spans.spans.items _ c.is_live_at_border.result
-            c.in_ok-touched.ensures c.as_slice.ensures.value c.as_slice-2.ensures.value c.in_ok-places.ensures c.as_slice-3.ensures.value c.is_live_at_border.ensures c.if-is_live_at_border.false c.in_ok-spans.ensures c.as_slice-4.ensures.value))
+    (local-at c.args.m.now c.args.v parents finds _ c.live-live.ensures points _ c.in_ok-touched.touched.items _ _ c.in_ok-places.places.items _ c.in_ok-spans.spans.items _ c.is_live_at_border.result
+    c.in_ok-touched.ensures c.as_slice.ensures.value c.as_slice-2.ensures.value c.in_ok-places.ensures c.as_slice-3.ensures.value c.is_live_at_border.ensures c.if-is_live_at_border.false c.in_ok-spans.ensures c.as_slice-4.ensures.value))

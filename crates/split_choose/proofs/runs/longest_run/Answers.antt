@@ -13,20 +13,20 @@ near c parents freqs loc =
 tail : (c : goal.Joined-is_longer) (parents freqs : List ℕ) → IsLocal c.args.view.m.now c.args.view.v parents freqs c.args.view.places.now c.args.view.spans.now → 2 ≤ length c.args.view.places.now
     → IsTail (near_in c.args.view.m.now c.args.view.v parents c.args.register) (length c.args.view.places.now) (c.places.k + 1) c.if-is_free_between.len
 tail c parents freqs loc h = elim c.if-is_free_between.branch [
-      then-is_free_between w ↦
-          tail-step (near_in c.args.view.m.now c.args.view.v parents c.args.register) (length c.args.view.places.now) c.places.k c.places.len w.saturating_add.result c.saturating_sub-most.result c.if-is_free_between.len (omega arith)
-          (c.places.invariant.len parents freqs loc h) (omega arith) (near c parents freqs loc ∙ w.if-is_free_between.true) w.saturating_add.ensures c.places.invariant.most (w.len-is ∙ w.min-len.ensures)
-    | else-is_free_between w ↦
-          subst (IsTail (near_in c.args.view.m.now c.args.view.v parents c.args.register) (length c.args.view.places.now) (c.places.k + 1)) (sym w.len-is)
-          (tail-far (near_in c.args.view.m.now c.args.view.v parents c.args.register) (length c.args.view.places.now) c.places.k h (omega arith) (near c parents freqs loc ∙ w.if-is_free_between.false))
-    ]
+  | then-is_free_between w ↦
+      tail-step (near_in c.args.view.m.now c.args.view.v parents c.args.register) (length c.args.view.places.now) c.places.k c.places.len w.saturating_add.result c.saturating_sub-most.result c.if-is_free_between.len (omega arith)
+      (c.places.invariant.len parents freqs loc h) (omega arith) (near c parents freqs loc ∙ w.if-is_free_between.true) w.saturating_add.ensures c.places.invariant.most (w.len-is ∙ w.min-len.ensures)
+  | else-is_free_between w ↦
+      subst (IsTail (near_in c.args.view.m.now c.args.view.v parents c.args.register) (length c.args.view.places.now) (c.places.k + 1)) (sym w.len-is)
+      (tail-far (near_in c.args.view.m.now c.args.view.v parents c.args.register) (length c.args.view.places.now) c.places.k h (omega arith) (near c parents freqs loc ∙ w.if-is_free_between.false))
+]
 
 pub places-init : goal.places-init
 places-init c = record {
-    most = c.saturating_sub-most.ensures;
-    len = λ parents freqs loc h. tail-first (near_in c.args.view.m.now c.args.view.v parents c.args.register) (length c.args.view.places.now) h;
-    best = λ parents freqs loc. none-yet (near_in c.args.view.m.now c.args.view.v parents c.args.register) (length c.args.view.places.now) c.args.register;
-  }
+  most = c.saturating_sub-most.ensures;
+  len = λ parents freqs loc h. tail-first (near_in c.args.view.m.now c.args.view.v parents c.args.register) (length c.args.view.places.now) h;
+  best = λ parents freqs loc. none-yet (near_in c.args.view.m.now c.args.view.v parents c.args.register) (length c.args.view.places.now) c.args.register;
+}
 
 pub places-preserved : goal.places-preserved
 places-preserved c =
@@ -35,13 +35,13 @@ places-preserved c =
       most = c.places.invariant.most;
       len = tail c;
       best = λ parents freqs loc. elim c.if-is_longer.branch [
-          then-is_longer w ↦
-              best-longer (near_in c.args.view.m.now c.args.view.v parents c.args.register) (length c.args.view.places.now) c.args.register c.places.k c.if-is_free_between.len w.saturating_add-then-is_longer.result w.saturating_sub.result c.places.best c.if-is_longer.best (omega arith)
-              (tail c parents freqs loc many) (omega arith) (c.places.invariant.best parents freqs loc) (sym c.is_longer.ensures ∙ w.if-is_longer.true) w.saturating_add-then-is_longer.ensures w.saturating_sub.ensures w.best-is
+        | then-is_longer w ↦
+            best-longer (near_in c.args.view.m.now c.args.view.v parents c.args.register) (length c.args.view.places.now) c.args.register c.places.k c.if-is_free_between.len w.saturating_add-then-is_longer.result w.saturating_sub.result c.places.best c.if-is_longer.best (omega arith)
+            (tail c parents freqs loc many) (omega arith) (c.places.invariant.best parents freqs loc) (sym c.is_longer.ensures ∙ w.if-is_longer.true) w.saturating_add-then-is_longer.ensures w.saturating_sub.ensures w.best-is
         | else-is_longer w ↦
-              best-kept (near_in c.args.view.m.now c.args.view.v parents c.args.register) (length c.args.view.places.now) c.args.register c.places.k c.if-is_free_between.len c.places.best c.if-is_longer.best
-              (tail c parents freqs loc many) (c.places.invariant.best parents freqs loc) (sym c.is_longer.ensures ∙ w.if-is_longer.false) w.best-is
-        ];
+            best-kept (near_in c.args.view.m.now c.args.view.v parents c.args.register) (length c.args.view.places.now) c.args.register c.places.k c.if-is_free_between.len c.places.best c.if-is_longer.best
+            (tail c parents freqs loc many) (c.places.invariant.best parents freqs loc) (sym c.is_longer.ensures ∙ w.if-is_longer.false) w.best-is
+      ];
     }
 
 pub returns : goal.returns
