@@ -13,6 +13,13 @@ pub mod Labels
 pub mod Bordering
 pub mod Split
 pub mod Running
+pub mod Longest
+pub mod Best
+pub mod Sought
+pub mod Apart
+pub mod Turns
+pub mod Nearby
+pub mod Locals
 pub mod Clear
 pub mod Alone
 pub mod Flags

@@ -6,6 +6,7 @@ pub mod Places
 pub mod Marks
 pub mod Blocks
 pub mod Runs
+pub mod LongRuns
 pub mod Spans
 pub mod Parts
 pub mod Spanned

@@ -1,16 +1,17 @@
 //! Local splits: a run of places for which some register is free.
 
-ghost use Rattle.std.specs.Prelude.{◌≡◌, ◌+◌, ◌-◌, ◌++◌, [], ℕ, List, true, false, cond, map, take, drop, IfOk, OnOk, Option, Some, slice_get};
+ghost use Rattle.std.specs.Prelude.{◌≡◌, ◌+◌, ◌-◌, ◌++◌, [], ℕ, List, true, false, cond, map, take, drop, length, IfOk, OnOk, Option, Some, slice_get};
 ghost use Rattle.std.specs.List.{list_all, list_any};
 ghost use Rattle.mir_func.specs.declared.func.Block.{Block};
 ghost use Rattle.live_lanes.specs.Table.{entry_rank, exit_rank};
 ghost use Rattle.live_lanes.specs.Touching.{AreTouched};
 ghost use Rattle.live_lanes.specs.Tells.{touching_ids};
 ghost use Rattle.interference.specs.Clashes.{IsOrdered};
-ghost use Rattle.split_choose.specs.Offers.{View as OfferView, Touched, first_id, at_start, touched_places, live_at, borders, clashes_not, clear_along, run_marks};
+ghost use Rattle.split_choose.specs.Offers.{View as OfferView, Touched, first_id, at_start, touched_places, live_at, borders, clashes_not, clear_along, run_marks, local_offer};
 ghost use Rattle.split_choose.specs.Seen.{view_of, FindsPlaces, FindsPoints};
 ghost use Rattle.split_choose.specs.Spanned.{is_rank_in, AreSpansOf};
 ghost use Rattle.split_choose.specs.Clearing.{cut, points_between, is_part_clear, is_clear_between};
+ghost use Rattle.split_choose.specs.LongRuns.{IsLocal, IsLongestRun, IsBestRun, is_longer, is_better, better_of, near_in, registers_of, found_run};
 ghost use Rattle.split_choose.specs.Places.{placed};
 ghost use Rattle.split_choose.specs.Marks.{marks_in};
 ghost use Rattle.split_choose.specs.Runs.{IsBehind};
@@ -47,26 +48,36 @@ struct View<'a> {
 
 /// The local split that is offered to a range, with its register and its labels: label 1 along the
 /// run. None exactly where none is offered.
-pub fn local(alloc: Global, m: &Matrix, v: u32) -> Result<Option<(Reg, Labels)>, AllocError> {
+pub fn local(alloc: Global, m: &Matrix, v: u32) -> Result<Option<(Reg, Labels)>, AllocError>
+    ensures { IfOk result (λ q. (parents : List ℕ) → FindsPlaces m.now.live.target m.now.live.func m.now.live.table v → FindsPoints m.now
+        → q ≡ local_offer m.now.live.target m.now.live.func v (view_of m.now v parents)) }
+{
     let live = m.live();
     let touched = live.touched(alloc, v)?;
     let places = places_of(alloc, live, touched.as_slice())?;
-    if places.len() < 3 || is_live_at_border(live, v) {
+    if places.len() < 3 {
+        return Ok(None);
+    }
+    if is_live_at_border(live, v) {
         return Ok(None);
     }
     let even = Freqs::new(alloc);
     let spans = spans_of(alloc, live, v, &even, touched.as_slice())?;
-    best_split(View {
+    let split = best_split(View {
         alloc,
         m,
         v,
         places: places.as_slice(),
         spans: spans.as_slice(),
-    })
+    })?;
+    Ok(split)
 }
 
 /// The split along the longest run.
-fn best_split(view: View<'_>) -> Result<Option<(Reg, Labels)>, AllocError> {
+fn best_split(view: View<'_>) -> Result<Option<(Reg, Labels)>, AllocError>
+    ensures { IfOk result (λ q. (parents freqs : List ℕ) → IsLocal view.entry.m.now view.entry.v parents freqs view.entry.places.now view.entry.spans.now
+        → q ≡ found_run view.entry.m.now.live.target view.entry.m.now.live.func view.entry.v (view_of view.entry.m.now view.entry.v parents)) }
+{
     let Some(run) = best_run(view)? else {
         return Ok(None);
     };
@@ -76,21 +87,42 @@ fn best_split(view: View<'_>) -> Result<Option<(Reg, Labels)>, AllocError> {
 }
 
 /// The longest run, the earliest at a tie, and then the first in class order.
-fn best_run(view: View<'_>) -> Result<Option<Run>, AllocError> {
+fn best_run(view: View<'_>) -> Result<Option<Run>, AllocError>
+    ensures { IfOk result (λ best. (parents freqs : List ℕ) → IsLocal view.entry.m.now view.entry.v parents freqs view.entry.places.now view.entry.spans.now
+        → IsBestRun (near_in view.entry.m.now view.entry.v parents) (length view.entry.places.now)
+        (registers_of view.entry.m.now view.entry.v) (length (registers_of view.entry.m.now view.entry.v)) best) }
+{
     let live = view.m.live();
-    let mut best: Option<Run> = None;
     let domain = domain_of(view.alloc, live.target(), class_of(live, view.v))?;
-    'registers: for register in domain.as_slice() {
-        if let Some(run) = longest_run(view, *register) {
-            if is_better(run, best) {
-                best = Some(run);
-            }
-        }
-    }
-    Ok(best)
+    Ok(best_of(view, domain.as_slice()))
 }
 
-fn is_better(run: Run, best: Option<Run>) -> bool {
+/// The best run of these registers.
+fn best_of(view: View<'_>, registers: &[Reg]) -> Option<Run>
+    ensures { (parents freqs : List ℕ) → IsLocal view.entry.m.now view.entry.v parents freqs view.entry.places.now view.entry.spans.now
+        → IsBestRun (near_in view.entry.m.now view.entry.v parents) (length view.entry.places.now) registers.now (length registers.now) result }
+{
+    let mut best: Option<Run> = None;
+    'registers: for register in registers {
+        best = better_of(best, longest_run(view, *register));
+    }
+    best
+}
+
+/// The better of the best run and another one, if there is one.
+fn better_of(best: Option<Run>, other: Option<Run>) -> Option<Run>
+    ensures { result ≡ better_of best other }
+{
+    match other {
+        Some(run) if is_better(run, best) => Some(run),
+        _ => best,
+    }
+}
+
+/// Whether a run is longer than the best, or as long and earlier.
+fn is_better(run: Run, best: Option<Run>) -> bool
+    ensures { result ≡ is_better run best }
+{
     match best {
         Some(old) => run.len > old.len || (run.len == old.len && run.first < old.first),
         None => true,
@@ -98,7 +130,9 @@ fn is_better(run: Run, best: Option<Run>) -> bool {
 }
 
 /// Whether a run of a length is longer than the best, or the first of two or more places.
-fn is_longer(len: usize, best: Option<Run>) -> bool {
+fn is_longer(len: usize, best: Option<Run>) -> bool
+    ensures { result ≡ is_longer len best }
+{
     match best {
         Some(old) => len > old.len,
         None => len >= 2,
@@ -107,7 +141,10 @@ fn is_longer(len: usize, best: Option<Run>) -> bool {
 
 /// The longest run of two or more places, but not all of them, along which a register is free, and
 /// the earliest of these.
-fn longest_run(view: View<'_>, register: Reg) -> Option<Run> {
+fn longest_run(view: View<'_>, register: Reg) -> Option<Run>
+    ensures { (parents freqs : List ℕ) → IsLocal view.entry.m.now view.entry.v parents freqs view.entry.places.now view.entry.spans.now
+        → IsLongestRun (near_in view.entry.m.now view.entry.v parents register) (length view.entry.places.now) (length view.entry.places.now) register result }
+{
     let most = view.places.len().saturating_sub(1);
     let mut best: Option<Run> = None;
     let mut len = 1usize;
