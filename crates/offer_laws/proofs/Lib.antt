@@ -1,0 +1,4 @@
+pub mod Places
+pub mod Begun
+pub mod Turns
+pub mod Pieces
