@@ -249,9 +249,10 @@ impl Cell {
 }
 
 impl Row {
-    /// The place of the cell of a block, where there is one.
-    pub fn find(&self, block: u32) -> Option<usize> {
-        let place = self.place(block);
+    /// The place of the cell of a block, where there is one. It is looked for at a place and behind it
+    /// first.
+    pub fn find(&self, near: usize, block: u32) -> Option<usize> {
+        let place = self.place_near(near, block);
         match self.cells.get(place) {
             Some(cell) if cell.block == block => Some(place),
             _ => None,
@@ -265,7 +266,7 @@ impl Row {
             None => true,
         };
         if is_last {
-            let _ = self.make(alloc, block)?;
+            let _ = self.make(alloc, self.cells.len(), block)?;
         }
         Ok(())
     }

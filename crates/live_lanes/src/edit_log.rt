@@ -4,6 +4,7 @@ ghost use Rattle.std.specs.Prelude.{◌≡◌, ℕ, Some, slice_get};
 ghost use Rattle.live_lanes.specs.Ordered.{ids_of, AreRising};
 
 use crate::cell_edit::CellEdit;
+use crate::edit_update::Seat;
 use crate::lanes::Lanes;
 use crate::row::{Cause, End, Row};
 use crate::table::{Spot, Table};
@@ -179,7 +180,7 @@ impl Table {
         let Some(row) = self.rows.rows.get_mut(mended.lane as usize) else {
             return Ok(CellEdit::Nothing);
         };
-        let place = row.make(alloc, mended.block)?;
+        let place = row.make(alloc, 0, mended.block)?;
         row.edit(alloc, place, edit)
     }
 
@@ -208,37 +209,40 @@ impl Table {
         }
     }
 
-    /// Gives a piece a cause, where it isn't live. Answers whether it does.
+    /// Gives a piece a cause, where it isn't live. Answers the piece, if it does, with the place at
+    /// which its cell is now.
     pub fn give_cause(
         &mut self,
-        spot: Spot,
+        seat: Seat,
         cause: Cause,
         log: &mut Log,
-    ) -> Result<bool, AllocError> {
+    ) -> Result<Option<Seat>, AllocError> {
         log.reserve()?;
         let alloc = self.rows.alloc;
+        let spot = seat.spot;
         let Some(row) = self.rows.rows.get_mut(spot.lane as usize) else {
-            return Ok(false);
+            return Ok(None);
         };
-        let place = row.make(alloc, spot.block)?;
+        let place = row.make(alloc, seat.place, spot.block)?;
         let start = match row.cells.get(place) {
             Some(cell) if cell.cause_of(spot.index) == Cause::None => cell.start_of(spot.index),
-            _ => return Ok(false),
+            _ => return Ok(None),
         };
         let back = row.edit(alloc, place, CellEdit::SetCause(spot.index, cause))?;
         log.add_cell(mended_from(spot, start), back)?;
-        Ok(true)
+        Ok(Some(Seat { spot, place }))
     }
 
     /// Gives a live piece a reading that needs no other lane as its cause, or none. Answers whether
     /// it has none then.
-    pub fn take_cause(&mut self, spot: Spot, log: &mut Log) -> Result<bool, AllocError> {
+    pub fn take_cause(&mut self, seat: Seat, log: &mut Log) -> Result<bool, AllocError> {
         log.reserve()?;
         let alloc = self.rows.alloc;
+        let spot = seat.spot;
         let Some(row) = self.rows.rows.get_mut(spot.lane as usize) else {
             return Ok(false);
         };
-        let Some(place) = row.find(spot.block) else {
+        let Some(place) = row.find(seat.place, spot.block) else {
             return Ok(false);
         };
         let Some(cell) = row.cells.get(place) else {
@@ -273,14 +277,6 @@ impl Table {
         };
         let back = row.edit(alloc, place, CellEdit::SetEnd(spot.index, end))?;
         log.add_cell(mended_from(spot, start), back)
-    }
-
-    /// Why a piece is live.
-    pub fn cause_of(&self, spot: Spot) -> Cause {
-        match self.rows.cell(spot.lane, spot.block) {
-            Some(cell) => cell.cause_of(spot.index),
-            None => Cause::None,
-        }
     }
 
     /// The place of an instruction among those of the block at a position.

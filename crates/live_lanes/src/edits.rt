@@ -44,6 +44,22 @@ struct Progress {
     gone: Lanes,
 }
 
+/// So many of the touches before are looked at for one of the same lane.
+const BEFORE: usize = 8;
+
+impl Progress {
+    /// Where the cell of a lane in a block is likely to be found: where it was when it was touched
+    /// last, if that was just before.
+    fn place_in(&self, lane: u32, block: u32) -> usize {
+        let touched = self.touched.iter().rev().take(BEFORE);
+        match touched.into_iter().find(|touch| touch.lane == lane) {
+            Some(touch) if touch.block == block => touch.place,
+            Some(touch) => touch.place.saturating_sub(1),
+            None => 0,
+        }
+    }
+}
+
 impl LiveFunc {
     /// Puts a COPY of a register into a gap, and answers its id.
     pub fn copy_at(&mut self, gap: Gap, to: RegOp, from: RegOp) -> Result<u32, AllocError> {
@@ -437,17 +453,20 @@ impl Table {
         act: &Act,
         progress: &mut Progress,
     ) -> Result<(), AllocError> {
+        let lane = act.lane;
+        let near = progress.place_in(lane, block);
+        let place = self.make_cell(lane, near, block)?;
         progress.touched.push(Touch {
-            lane: act.lane,
+            lane,
             block,
+            place,
             id,
         })?;
         let mended = Mended {
-            lane: act.lane,
+            lane,
             block,
             start: Some(id),
         };
-        let place = self.make_cell(act.lane, block)?;
         let edit = self.reading_edit(place, id, act);
         self.edit_cell(mended, place, edit, &mut progress.log)?;
         let edit = self.writing_edit(place, id, act)?;
@@ -455,10 +474,10 @@ impl Table {
     }
 
     /// The place of a lane's cell of a block, which is made where there is none.
-    fn make_cell(&mut self, lane: u32, block: u32) -> Result<usize, AllocError> {
+    fn make_cell(&mut self, lane: u32, near: usize, block: u32) -> Result<usize, AllocError> {
         let alloc = self.rows.alloc;
         match self.rows.rows.get_mut(lane as usize) {
-            Some(row) => row.make(alloc, block),
+            Some(row) => row.make(alloc, near, block),
             None => Ok(0),
         }
     }

@@ -9,7 +9,7 @@ ghost use Rattle.live_lanes.specs.Table.{rises_from, seen_cell};
 
 use crate::flow::{Ways, successors, terminators};
 use crate::order::Order;
-use crate::row::{Cause, Cell, End, Piece, Reading, exit_rank, rank};
+use crate::row::{Cause, Cell, End, Piece, Reading, exit_rank, is_never, rank};
 use crate::table::Rows;
 use slot_index::Slots;
 
@@ -45,11 +45,12 @@ fn last_exit(slots: &Slots, cell: &Cell, index: usize, terminators: &[u32]) -> E
 }
 
 impl Rows {
-    /// Whether a lane is live at the start of one of these blocks.
-    fn has_live(&self, lane: u32, blocks: &[u32]) -> bool
+    /// Whether a lane is live at the start of one of these blocks. Their cells are looked for at a
+    /// place and behind it first.
+    fn has_live(&self, lane: u32, near: usize, blocks: &[u32]) -> bool
         ensures { result ≡ has_live (causes self.now.rows.items) lane blocks.now }
     {
-        blocks.iter().any(|next| self.is_live_in(lane, *next))
+        blocks.iter().any(|next| self.is_live_in(lane, near, *next))
     }
 
     /// Whether a reading counts: what it is moved into is live behind the instruction.
@@ -76,13 +77,24 @@ impl Rows {
     }
 
     /// Whether a piece with this cause is live because the lane is at the start of a block that
-    /// follows, or a lane is live at the start of one anyway.
-    fn leads_on(&self, flow: &[Ways], lane: u32, block: u32, cause: Cause) -> bool
+    /// follows, or a lane is live at the start of one anyway. Its own cell stands at a place.
+    fn leads_on(
+        &self,
+        flow: &[Ways],
+        lane: u32,
+        place: usize,
+        block: u32,
+        cause: Cause,
+    ) -> bool
         ensures { result ≡ leads_on flow.now (causes self.now.rows.items) lane block cause }
     {
         match cause {
             Cause::Follower(_) => true,
-            _ => self.has_live(lane, successors(flow, block)),
+            _ => {
+                // (the block that follows in layout mostly has the cell before)
+                let near = place.saturating_sub(1);
+                self.has_live(lane, near, successors(flow, block))
+            }
         }
     }
 
@@ -92,6 +104,7 @@ impl Rows {
         order: &Order,
         flow: &[Ways],
         lane: u32,
+        place: usize,
         cell: &Cell,
         index: usize,
         piece: &Piece,
@@ -99,18 +112,15 @@ impl Rows {
         ensures { rises_from order.now.slots 0 (seen_cell cell.now).segments ≡ true
             → result ≡ last_exit order.now.slots flow.now (causes self.now.rows.items) (shape (seen_cell cell.now)) lane cell.now.block index piece.now.cause }
     {
-        let ids = terminators(flow, cell.block);
-        let is_last = index == cell.segments.len();
-        if !is_last && ids.is_empty() {
+        let exit = if index == cell.segments.len() {
+            End::Last
+        } else {
+            last_exit(&order.slots, cell, index, terminators(flow, cell.block))
+        };
+        if is_never(exit) || !self.leads_on(flow, lane, place, cell.block, piece.cause) {
             return End::Never;
         }
-        if !self.leads_on(flow, lane, cell.block, piece.cause) {
-            return End::Never;
-        }
-        if is_last {
-            return End::Last;
-        }
-        last_exit(&order.slots, cell, index, ids)
+        exit
     }
 
     /// Up to where the lane is live in a live piece.
@@ -119,6 +129,7 @@ impl Rows {
         order: &Order,
         flow: &[Ways],
         lane: u32,
+        place: usize,
         cell: &Cell,
         index: usize,
         piece: &Piece,
@@ -129,7 +140,7 @@ impl Rows {
         if cell.is_read_last && index == cell.segments.len() {
             return End::Last;
         }
-        let exit = self.exit_of(order, flow, lane, cell, index, piece);
+        let exit = self.exit_of(order, flow, lane, place, cell, index, piece);
         let entry = self.last_entry(order, cell.block, piece.readings.as_slice());
         later(&order.slots, exit, entry)
     }
@@ -148,7 +159,7 @@ impl Rows {
         if !piece.is_live() {
             return End::Never;
         }
-        self.end_of(order, flow, lane, cell, index, piece)
+        self.end_of(order, flow, lane, place, cell, index, piece)
     }
 
     fn set_end(&mut self, lane: u32, place: usize, index: usize, end: End)

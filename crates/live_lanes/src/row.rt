@@ -125,7 +125,7 @@ pub(crate) fn rank(slots: &Slots, end: End) -> u128
 }
 
 /// Whether an end is none.
-fn is_never(end: End) -> bool
+pub(crate) fn is_never(end: End) -> bool
     ensures { result ≡ is_never end }
 {
     matches!(end, End::Never)
@@ -181,11 +181,49 @@ impl Row {
         self.cells.as_slice().partition_point(|c| c.block > block)
     }
 
+    /// Whether a place is that of a block's cell, or where it would stand.
+    fn is_place(&self, at: usize, block: u32) -> bool
+        ensures within { result ≡ true → at ≤ length self.now.cells.items }
+        ensures place { result ≡ true → at ≡ leading (is_before block) self.now.cells.items }
+    {
+        let count = self.cells.len();
+        if at > count {
+            return false;
+        }
+        if at > 0 && self.cells[at - 1].block <= block {
+            return false;
+        }
+        at == count || self.cells[at].block <= block
+    }
+
+    /// The place of a block's cell, or where it would stand, which is looked for at this place and
+    /// behind it first.
+    pub fn place_near(&self, near: usize, block: u32) -> usize
+        ensures within { result ≤ length self.now.cells.items }
+        ensures place { result ≡ leading (is_before block) self.now.cells.items }
+    {
+        if self.is_place(near, block) {
+            return near;
+        }
+        let behind = near.saturating_add(1);
+        if self.is_place(behind, block) {
+            return behind;
+        }
+        self.place(block)
+    }
+
     /// The cell of a block.
     pub fn cell(&self, block: u32) -> Option<&Cell>
         ensures { option_copied result ≡ find_cell block self.now.cells.items }
     {
         self.cell_at(self.place(block), block)
+    }
+
+    /// The cell of a block, which is looked for at a place and behind it first.
+    pub fn cell_near(&self, near: usize, block: u32) -> Option<&Cell>
+        ensures { option_copied result ≡ find_cell block self.now.cells.items }
+    {
+        self.cell_at(self.place_near(near, block), block)
     }
 
     /// The cell of a block, where this is its place or where it would stand.
@@ -211,14 +249,15 @@ impl Row {
         self.cell_at(at, block).is_some()
     }
 
-    /// The place of a block's cell, which is made where there is none.
-    pub fn make(&mut self, alloc: Global, block: u32) -> Result<usize, AllocError>
+    /// The place of a block's cell, which is made where there is none. It is looked for at a place and
+    /// behind it first.
+    pub fn make(&mut self, alloc: Global, near: usize, block: u32) -> Result<usize, AllocError>
         ensures within { IfOk result (λ at. at < length self.new.cells.items) }
         ensures there { IfOk result (λ at. slice_get self.new.cells.items at
             ≡ find_cell block self.new.cells.items) }
         ensures same { (b : ℕ) → seen_in self.new.cells.items b ≡ seen_in self.old.cells.items b }
     {
-        let at = self.place(block);
+        let at = self.place_near(near, block);
         if self.has_at(at, block) {
             return Ok(at);
         }
@@ -233,7 +272,7 @@ impl Row {
         ensures { OnOk result ((b : ℕ) → seen_in self.new.cells.items b
             ≡ cond (nat_eq block b) (read_at_end (seen_in self.old.cells.items block)) (seen_in self.old.cells.items b)) }
     {
-        let place = self.make(alloc, block)?;
+        let place = self.make(alloc, 0, block)?;
         self.cells[place].is_read_last = true;
         Ok(())
     }
@@ -248,7 +287,7 @@ impl Row {
         ensures { OnOk result ((b : ℕ) → seen_in self.new.cells.items b
             ≡ cond (nat_eq block b) (with_reading reading (seen_in self.old.cells.items block)) (seen_in self.old.cells.items b)) }
     {
-        let place = self.make(alloc, block)?;
+        let place = self.make(alloc, 0, block)?;
         self.cells[place].add_reading(reading)
     }
 
@@ -264,7 +303,7 @@ impl Row {
         ensures { OnOk result ((b : ℕ) → seen_in self.new.cells.items b
             ≡ cond (nat_eq block b) (with_segment start early from (seen_in self.old.cells.items block)) (seen_in self.old.cells.items b)) }
     {
-        let place = self.make(alloc, block)?;
+        let place = self.make(alloc, 0, block)?;
         self.cells[place].add_segment(alloc, start, early, from)
     }
 
@@ -281,7 +320,7 @@ impl Row {
         ensures { IfOk result (λ index. IsTrue (rises_from slots.now 0 (seen_in self.old.cells.items block).segments)
             → IsRaised slots.now self.old.cells.items self.new.cells.items block at cause index) }
     {
-        let place = self.make(alloc, block)?;
+        let place = self.make(alloc, 0, block)?;
         let index = self.cells[place].piece_at(slots, at);
         if self.cells[place].is_live(index) {
             return Ok(None);

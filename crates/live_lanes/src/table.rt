@@ -82,11 +82,22 @@ impl Rows {
         }
     }
 
-    /// Whether a lane is live at the start of a block.
-    pub fn is_live_in(&self, lane: u32, block: u32) -> bool
+    /// The cell of a lane in a block, where it has one. It is looked for at a place and behind it first.
+    pub fn cell_near(&self, lane: u32, near: usize, block: u32) -> Option<&Cell>
+        ensures { seen (option_copied result) ≡ rows_seen self.now.rows.items lane block }
+    {
+        match self.rows.as_slice().get(lane as usize) {
+            Some(row) => row.cell_near(near, block),
+            None => None,
+        }
+    }
+
+    /// Whether a lane is live at the start of a block. Its cell is looked for at a place and behind it
+    /// first.
+    pub fn is_live_in(&self, lane: u32, near: usize, block: u32) -> bool
         ensures { result ≡ is_live (causes self.now.rows.items lane block 0) }
     {
-        match self.cell(lane, block) {
+        match self.cell_near(lane, near, block) {
             Some(cell) => cell.is_live(0),
             None => false,
         }
@@ -136,7 +147,7 @@ impl Table {
         ensures { result ≡ marked_at self.now.rows.rows.items (Some lane) (get nat_cmp self.now.order.positions number) }
     {
         match self.order.position(number) {
-            Some(position) => self.rows.is_live_in(lane, position),
+            Some(position) => self.rows.is_live_in(lane, 0, position),
             None => false,
         }
     }

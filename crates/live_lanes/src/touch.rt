@@ -405,7 +405,7 @@ impl Rows {
         ensures { result ≡ some_below (λ l. is_live (causes self.now.rows.items l block 0)) own.first own.count }
     {
         'lanes: for k in 0..own.count {
-            if self.is_live_in(own.first + k, block) {
+            if self.is_live_in(own.first + k, 0, block) {
                 return true;
             }
         }
