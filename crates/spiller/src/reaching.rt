@@ -37,7 +37,7 @@ struct Reached {
 /// The walk from one definition.
 #[derive(Drop)]
 struct Walk {
-    /// The lanes reached at the start of each block.
+    /// The lanes reached at the start of each block; all of them where none is live.
     starts: Vec<u32>,
     work: Vec<Reached>,
     /// The readings reached.
@@ -73,19 +73,9 @@ impl Walk {
             return Ok(());
         }
         'successors: for next in view.live.successors(position) {
-            if self.is_new(*next, lanes) && view.live.is_live_into(view.v, *next) {
-                self.enter(*next, lanes)?;
-            }
+            self.enter(*next, lanes)?;
         }
         Ok(())
-    }
-
-    /// Whether some of these lanes haven't reached the start of a block yet.
-    fn is_new(&self, position: u32, lanes: u32) -> bool {
-        match self.starts.get(position as usize) {
-            Some(there) => lanes & !*there != 0,
-            None => false,
-        }
     }
 
     fn enter(&mut self, position: u32, lanes: u32) -> Result<(), AllocError> {
@@ -112,17 +102,30 @@ fn events_at(blocks: &[Events], position: u32) -> &[Event] {
     }
 }
 
-/// The readings that the definition of lanes by an event reaches, in order, each once.
+/// What a walk has reached at the start of each of so many blocks before it begins: nothing where the
+/// range is live, and all where it isn't, so that no walk goes there.
+pub(crate) fn unreached(view: View<'_>, count: usize) -> Result<Vec<u32>, AllocError> {
+    let mut starts = Vec::with_capacity(view.alloc, count)?;
+    'positions: for position in 0..u32::try_from(count).unwrap_or(u32::MAX) {
+        let is_live = view.live.is_live_into(view.v, position);
+        starts.push(if is_live { 0 } else { u32::MAX })?;
+    }
+    Ok(starts)
+}
+
+/// The readings that the definition of lanes by an event reaches, in order, each once, where
+/// `unreached` gives these lanes.
 pub(crate) fn readings_reached(
     alloc: Global,
     view: View<'_>,
+    starts: &[u32],
     blocks: &[Events],
     position: u32,
     place: usize,
     lanes: u32,
 ) -> Result<Vec<usize>, AllocError> {
     let mut walk = Walk {
-        starts: Vec::from_elem(alloc, 0u32, blocks.len())?,
+        starts: Vec::from_slice(alloc, starts)?,
         work: Vec::new(alloc),
         readings: Vec::new(alloc),
     };

@@ -3,7 +3,7 @@
 
 use crate::kinds::{effect_of, is_terminator, is_within, regs_of};
 use crate::plan::View;
-use crate::reaching::{Event, Events, ReadLanes, readings_reached};
+use crate::reaching::{Event, Events, ReadLanes, readings_reached, unreached};
 use crate::roles::{Tie, operand_class, register_at, role_of, tie_of};
 use mir_func::{Instr, Loc, Operand, RegOp};
 use std::alloc::{AllocError, Global};
@@ -299,10 +299,11 @@ fn key_of(
 
 /// The readings that each definition reaches.
 fn reaches_of(view: View<'_>, blocks: &[Events]) -> Result<Vec<Reach>, AllocError> {
+    let starts = unreached(view, blocks.len())?;
     let mut reaches = Vec::new(view.alloc);
     let mut position = 0u32;
     'blocks: for events in blocks {
-        add_reaches(view, blocks, events, position, &mut reaches)?;
+        add_reaches(view, starts.as_slice(), blocks, events, position, &mut reaches)?;
         position = position.saturating_add(1);
     }
     Ok(reaches)
@@ -310,6 +311,7 @@ fn reaches_of(view: View<'_>, blocks: &[Events]) -> Result<Vec<Reach>, AllocErro
 
 fn add_reaches(
     view: View<'_>,
+    starts: &[u32],
     blocks: &[Events],
     events: &Events,
     position: u32,
@@ -321,6 +323,7 @@ fn add_reaches(
             let readings = readings_reached(
                 view.alloc,
                 view,
+                starts,
                 blocks,
                 position,
                 place,
