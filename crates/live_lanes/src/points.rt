@@ -1,7 +1,7 @@
 //! The points of a range: those at which some lane of it is live or occupied.
 
-ghost use Rattle.std.specs.Prelude.{◌≡◌, ◌<◌, ◌-◌, ◌||◌, ℕ, Bool, true, length, nat_lt, slice_get};
-ghost use Rattle.live_lanes.specs.Table.{rises_from, seen_cell, unseen, seen_in};
+ghost use Rattle.std.specs.Prelude.{◌≡◌, ◌<◌, ◌≤◌, ◌-◌, ◌||◌, ℕ, Bool, true, length, nat_lt, slice_get};
+ghost use Rattle.live_lanes.specs.Table.{entry_rank, exit_rank, leading, rises_from, seen_cell, unseen, seen_in};
 ghost use Rattle.live_lanes.specs.Entered.{rows_seen};
 ghost use Rattle.live_lanes.specs.Ordered.{ids_of, AreRising};
 ghost use Rattle.live_lanes.specs.Looks.{InOrder};
@@ -194,8 +194,28 @@ impl Table {
         }
         let slots = &self.order.slots;
         let entries = instrs.partition_point(|i| entry_rank(slots, i.get().id) < at);
-        let exits = instrs.partition_point(|i| exit_rank(slots, i.get().id) < at);
+        let exits = self.exits_below(instrs, entries, at);
         (entries as u64) + (exits as u64) + 1
+    }
+
+    /// How many exits of a block lie before a rank, before which that many entries do. The ranks
+    /// rise along the block, so that only the exit of the last of these instructions may not.
+    fn exits_below(&self, instrs: &[Boxed<Instr>], entries: usize, at: u128) -> usize
+        requires { entries ≤ length instrs.now }
+        ensures bound { result ≤ entries }
+        ensures exits { AreRising self.now.order.slots 0 (ids_of instrs.now)
+            → entries ≡ leading (λ i. nat_lt (entry_rank self.now.order.slots i.id) at) instrs.now
+            → result ≡ leading (λ i. nat_lt (exit_rank self.now.order.slots i.id) at) instrs.now }
+    {
+        if entries == 0 {
+            return 0;
+        }
+        let last = entries - 1;
+        if exit_rank(&self.order.slots, instrs[last].get().id) < at {
+            entries
+        } else {
+            last
+        }
     }
 
     /// How many points of a block lie from one rank on up to before another one.
