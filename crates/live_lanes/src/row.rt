@@ -181,11 +181,49 @@ impl Row {
         self.cells.as_slice().partition_point(|c| c.block > block)
     }
 
+    /// Whether a place is that of a block's cell, or where it would stand.
+    fn is_place(&self, at: usize, block: u32) -> bool
+        ensures within { result ≡ true → at ≤ length self.now.cells.items }
+        ensures place { result ≡ true → at ≡ leading (is_before block) self.now.cells.items }
+    {
+        let count = self.cells.len();
+        if at > count {
+            return false;
+        }
+        if at > 0 && self.cells[at - 1].block <= block {
+            return false;
+        }
+        at == count || self.cells[at].block <= block
+    }
+
+    /// The place of a block's cell, or where it would stand, which is looked for at this place and
+    /// behind it first.
+    pub fn place_near(&self, near: usize, block: u32) -> usize
+        ensures within { result ≤ length self.now.cells.items }
+        ensures place { result ≡ leading (is_before block) self.now.cells.items }
+    {
+        if self.is_place(near, block) {
+            return near;
+        }
+        let behind = near.saturating_add(1);
+        if self.is_place(behind, block) {
+            return behind;
+        }
+        self.place(block)
+    }
+
     /// The cell of a block.
     pub fn cell(&self, block: u32) -> Option<&Cell>
         ensures { option_copied result ≡ find_cell block self.now.cells.items }
     {
         self.cell_at(self.place(block), block)
+    }
+
+    /// The cell of a block, which is looked for at a place and behind it first.
+    pub fn cell_near(&self, near: usize, block: u32) -> Option<&Cell>
+        ensures { option_copied result ≡ find_cell block self.now.cells.items }
+    {
+        self.cell_at(self.place_near(near, block), block)
     }
 
     /// The cell of a block, where this is its place or where it would stand.

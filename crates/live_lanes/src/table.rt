@@ -82,6 +82,16 @@ impl Rows {
         }
     }
 
+    /// The cell of a lane in a block, where it has one. It is looked for at a place and behind it first.
+    pub fn cell_near(&self, lane: u32, near: usize, block: u32) -> Option<&Cell>
+        ensures { seen (option_copied result) ≡ rows_seen self.now.rows.items lane block }
+    {
+        match self.rows.as_slice().get(lane as usize) {
+            Some(row) => row.cell_near(near, block),
+            None => None,
+        }
+    }
+
     /// Whether a lane is live at the start of a block.
     pub fn is_live_in(&self, lane: u32, block: u32) -> bool
         ensures { result ≡ is_live (causes self.now.rows.items lane block 0) }
