@@ -27,6 +27,7 @@ pub mod Bounded
 pub mod Risen
 pub mod Dead
 pub mod Computed
+pub mod Edges
 pub mod Ending
 pub mod Lasting
 pub mod Right
