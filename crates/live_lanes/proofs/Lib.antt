@@ -20,6 +20,7 @@ pub mod Ordered
 pub mod Stepped
 pub mod Gathered
 pub mod Filled
+pub mod Backward
 pub mod Flowing
 pub mod Marks
 pub mod Coded
