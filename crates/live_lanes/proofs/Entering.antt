@@ -5,9 +5,7 @@ use Rattle.live_lanes.specs.declared.row.Row.{Row}
 use Rattle.live_lanes.specs.Table.{Seen, unseen, seen_in}
 use Rattle.live_lanes.specs.Entered.{rows_seen}
 use Rattle.live_law.specs.declared.writing.Writing.{Writing}
-use Rattle.mir_func.specs.declared.func.Block.{Block}
-use Rattle.live_lanes.specs.Coded.{Doing, entries}
-use Rattle.live_lanes.specs.Entering.{enter_all, at_spot, Entering, Enters, EnteredStep, reads_entered, moves_entered, writes_entered, lasts_entered, end_entered, ends_entered, step_entered, block_entered, blocks_entered}
+use Rattle.live_lanes.specs.Entering.{enter_all, at_spot, Entering, Enters, EnteredStep, reads_entered, moves_entered, writes_entered, lasts_entered, end_entered, ends_entered, step_entered}
 use Rattle.live_lanes.proofs.Rows.{rows-set, row-of}
 
 -- nothing is entered
@@ -88,28 +86,6 @@ instr-enters place block d r0 r1 r2 r3 r4 reads moves writes ends e m f g a b c 
     let xy = enters-both r0 r1 r2 (reads_entered block d.0.id d.0.reads) (moves_entered block d.0.id d.0.writes) x y in
     let xyz = enters-both r0 r2 r3 (λ l b v. moves_entered block d.0.id d.0.writes l b (reads_entered block d.0.id d.0.reads l b v)) (writes_entered block d.0.id d.0.writes) xy z in
     enters-both r0 r3 r4 (λ l b v. writes_entered block d.0.id d.0.writes l b (moves_entered block d.0.id d.0.writes l b (reads_entered block d.0.id d.0.reads l b v))) (ends_entered place d.1) xyz w
-
-blocks-snoc : (doing : Doing) (place : ℕ → Option ℕ) (n : ℕ) (bs : List Block) (k : ℕ) (c : Block) (l b : ℕ) (v : Seen) → k < length bs → c ≡ get_or bs k c → blocks_entered place n (entries doing (take (suc k) bs)) l b v ≡ block_entered place (n + k) (map doing c.instrs) l b (blocks_entered place n (entries doing (take k bs)) l b v)
-blocks-snoc doing place n [] k c l b v h e = absurd (omega arith)
-blocks-snoc doing place n (d ∷ bs) zero c l b v h e = let z : n ≡ n + 0 = omega arith in ap (λ x. block_entered place n (map doing x.instrs) l b v) (sym e) ∙ ap (λ m. block_entered place m (map doing c.instrs) l b v) z
-blocks-snoc doing place n (d ∷ bs) (suc k) c l b v h e = let z : suc n + k ≡ n + suc k = omega arith in blocks-snoc doing place (suc n) bs k c l b (block_entered place n (map doing d.instrs) l b v) (omega arith) e ∙ ap (λ m. block_entered place m (map doing c.instrs) l b (blocks_entered place (suc n) (entries doing (take k bs)) l b (block_entered place n (map doing d.instrs) l b v))) z
-
--- one more block
-pub enters-block : (doing : Doing) (place : ℕ → Option ℕ) (old mid new : List Row) (bs : List Block) (k : ℕ) (c : Block) → k < length bs → c ≡ get_or bs k c → Enters old mid (blocks_entered place 0 (entries doing (take k bs))) → Enters mid new (block_entered place k (map doing c.instrs)) → Enters old new (blocks_entered place 0 (entries doing (take (k + 1) bs)))
-enters-block doing place old mid new bs k c h e x y =
-    let z : 0 + k ≡ k = omega arith in
-    enters-as old new (λ l b v. block_entered place k (map doing c.instrs) l b (blocks_entered place 0 (entries doing (take k bs)) l b v)) (blocks_entered place 0 (entries doing (take (k + 1) bs)))
-    (λ l b v. sym (ap (λ n. blocks_entered place 0 (entries doing (take n bs)) l b v) (add-one k) ∙ blocks-snoc doing place 0 bs k c l b v h e ∙ ap (λ m. block_entered place m (map doing c.instrs) l b (blocks_entered place 0 (entries doing (take k bs)) l b v)) z))
-    (enters-both old mid new (blocks_entered place 0 (entries doing (take k bs))) (block_entered place k (map doing c.instrs)) x y)
-
-take-past : {X : Type 0} (xs : List X) (k : ℕ) → length xs ≤ k → take k xs ≡ xs
-take-past [] zero h = refl
-take-past [] (suc k) h = refl
-take-past (x ∷ xs) zero h = absurd (omega arith)
-take-past (x ∷ xs) (suc k) h = ap (λ ys. x ∷ ys) (take-past xs k (omega arith))
-
-pub enters-blocks : (doing : Doing) (place : ℕ → Option ℕ) (old new : List Row) (bs : List Block) (k : ℕ) → length bs ≤ k → Enters old new (blocks_entered place 0 (entries doing (take k bs))) → Enters old new (blocks_entered place 0 (entries doing bs))
-enters-blocks doing place old new bs k h x = subst (λ cs. Enters old new (blocks_entered place 0 (entries doing cs))) (take-past bs k h) x
 
 -- what a phi reads at the end of a block
 pub end-some : (place : ℕ → Option ℕ) (old new : List Row) (r : ℕ × List ℕ) (p : ℕ) (lanes : List ℕ) → place r.0 ≡ Some p → lanes ≡ r.1 → Enters old new (lasts_entered p lanes) → Enters old new (λ l b v. end_entered place l b r v)

@@ -14,7 +14,7 @@ use Rattle.live_lanes.proofs.Gathered.{pieces, added, pieces-more, bare, IsFresh
 
 -- a lane that phis read at the block's end, if they do
 
-abbrev mark : Bool → Seen → Seen
+abbrev pub mark : Bool → Seen → Seen
 mark t v = cond t (read_at_end v) v
 
 mark-mark : (t u : Bool) (v : Seen) → mark u (mark t v) ≡ mark (t || u) v
@@ -155,7 +155,7 @@ module _ (place : ℕ → Option ℕ) (l b : ℕ) where
             go true f = let same : e.0.id ≡ id = eqb-true e.0.id id f in absurd (let z : has id (map (λ x. x.id) (steps_in es)) ≡ false = ap (λ k. has k (map (λ x. x.id) (steps_in es))) (sym same) ∙ none in cc)
             go false f = fresh-step l id e.0 v f (fresh id (ap (λ t. cond t true (has id (map (λ x. x.id) (steps_in es)))) f ∙ m))
 
-  past : (n : ℕ) (ess : List (List EnteredStep)) (v : Seen) → b < n → blocks_entered place n ess l b v ≡ mark (list_any (list_any reads_last) ess) v
+  pub past : (n : ℕ) (ess : List (List EnteredStep)) (v : Seen) → b < n → blocks_entered place n ess l b v ≡ mark (list_any (list_any reads_last) ess) v
   past n [] v h = refl
   past n (es ∷ ess) v h = ap (λ u. blocks_entered place (suc n) ess l b u) (block-away n (ne_eqb n b (λ e. omega arith)) es v) ∙ past (suc n) ess (mark (list_any reads_last es) v) (omega arith) ∙ mark-mark (list_any reads_last es) (list_any (list_any reads_last) ess) v
 

@@ -20,6 +20,7 @@ pub mod Ordered
 pub mod Stepped
 pub mod Gathered
 pub mod Filled
+pub mod Backward
 pub mod Flowing
 pub mod Marks
 pub mod Coded
@@ -27,6 +28,7 @@ pub mod Bounded
 pub mod Risen
 pub mod Dead
 pub mod Computed
+pub mod Edges
 pub mod Ending
 pub mod Lasting
 pub mod Right

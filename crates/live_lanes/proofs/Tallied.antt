@@ -41,12 +41,6 @@ module _ (slots : Numbers) where
       let y = rising-le 0 is i j d r w h in
       lt-ltb (entry_rank slots (get_or is i d).id) at (omega arith)
 
-  pub exits-parted : (at : ℕ) (is : List Instr) → AreRising slots 0 (ids_of is) → IsPartitionedBy (λ i. nat_lt (exit_rank slots i.id) at) is
-  exits-parted at is r i j d w h e =
-      let x = ltb-true (exit_rank slots (get_or is j d).id) at e in
-      let y = rising-le 0 is i j d r w h in
-      lt-ltb (exit_rank slots (get_or is i d).id) at (omega arith)
-
   -- how many instructions in a row have their entry before a rank, and how many their exit
   abbrev entries : ℕ → List Instr → ℕ
   entries at is = leading (λ i. nat_lt (entry_rank slots i.id) at) is
@@ -111,7 +105,59 @@ module _ (slots : Numbers) where
           let b = past (omega arith) in
           omega (arith, b, entries-cons false e, exits-cons false f, below-cons false false e f)
 
-  -- the points before a rank, found by two searches
+  -- without an entry before a rank there is no exit before it
+  pub exits-none : (at : ℕ) (is : List Instr) → 0 ≡ entries at is → 0 ≡ exits at is
+  exits-none at [] e = refl
+  exits-none at (i ∷ is) e = go (nat_lt (entry_rank slots i.id) at) refl
+    where
+      go : (u : Bool) → nat_lt (entry_rank slots i.id) at ≡ u → 0 ≡ exits at (i ∷ is)
+      go true f = absurd (let z : entries at (i ∷ is) ≡ suc (entries at is) = ap (λ b. cond b (suc (entries at is)) 0) f in omega (arith, z, e))
+      go false f =
+          let x = ltb-false (entry_rank slots i.id) at f in
+          sym (ap (λ b. cond b (suc (exits at is)) 0) (lt-false (exit_rank slots i.id) at (omega arith)))
+
+  -- where more than one entry lies before a rank, the first exit does, and the others are counted without it
+  exits-pop : (at n k : ℕ) (i : Instr) (is : List Instr) → AreRising slots n (ids_of (i ∷ is)) → suc (suc k) ≡ entries at (i ∷ is) → (suc k ≡ entries at is) × (exits at (i ∷ is) ≡ suc (exits at is))
+  exits-pop at n k i is r e = go (nat_lt (entry_rank slots i.id) at) refl
+    where
+      go : (u : Bool) → nat_lt (entry_rank slots i.id) at ≡ u → (suc k ≡ entries at is) × (exits at (i ∷ is) ≡ suc (exits at is))
+      go false f = absurd (let z : entries at (i ∷ is) ≡ 0 = ap (λ b. cond b (suc (entries at is)) 0) f in omega (arith, z, e))
+      go true f =
+          let z : entries at (i ∷ is) ≡ suc (entries at is) = ap (λ b. cond b (suc (entries at is)) 0) f in
+          let more : suc k ≡ entries at is = omega (arith, z, e) in
+          (more, leave more (nat_lt (exit_rank slots i.id) at) refl)
+        where
+          leave : suc k ≡ entries at is → (w : Bool) → nat_lt (exit_rank slots i.id) at ≡ w → exits at (i ∷ is) ≡ suc (exits at is)
+          leave more true g = ap (λ b. cond b (suc (exits at is)) 0) g
+          leave more false g =
+              let x = ltb-false (exit_rank slots i.id) at g in
+              let none = no-entries at (number_of slots i.id) is r.2 (omega arith) in
+              absurd (omega (arith, none, more))
+
+  -- the last of these exits lies before the rank, and so do all
+  pub exits-all : (at n k : ℕ) (is : List Instr) (d : Instr) → AreRising slots n (ids_of is) → suc k ≡ entries at is → exit_rank slots (get_or is k d).id < at → suc k ≡ exits at is
+  exits-all at n k [] d r e h = absurd (omega (arith, e))
+  exits-all at n zero (i ∷ is) d r e h =
+      let enters : nat_lt (entry_rank slots i.id) at ≡ true = lt-ltb (entry_rank slots i.id) at (omega arith) in
+      let leaves : exits at (i ∷ is) ≡ suc (exits at is) = ap (λ b. cond b (suc (exits at is)) 0) (lt-ltb (exit_rank slots i.id) at h) in
+      let z : entries at (i ∷ is) ≡ suc (entries at is) = ap (λ b. cond b (suc (entries at is)) 0) enters in
+      let none = exits-none at is (omega (arith, z, e)) in
+      omega (arith, leaves, none)
+  exits-all at n (suc k) (i ∷ is) d r e h =
+      let pop = exits-pop at n k i is r e in
+      let ih = exits-all at (number_of slots i.id) k is d r.2 pop.0 h in
+      omega (arith, pop.1, ih)
+
+  -- it doesn't, and all others do
+  pub exits-less : (at n k : ℕ) (is : List Instr) (d : Instr) → AreRising slots n (ids_of is) → suc k ≡ entries at is → at ≤ exit_rank slots (get_or is k d).id → k ≡ exits at is
+  exits-less at n k [] d r e h = absurd (omega (arith, e))
+  exits-less at n zero (i ∷ is) d r e h = sym (ap (λ b. cond b (suc (exits at is)) 0) (lt-false (exit_rank slots i.id) at h))
+  exits-less at n (suc k) (i ∷ is) d r e h =
+      let pop = exits-pop at n k i is r e in
+      let ih = exits-less at (number_of slots i.id) k is d r.2 pop.0 h in
+      omega (arith, pop.1, ih)
+
+  -- the points before a rank
   pub counted-below : (at : ℕ) (is : List Instr) → AreRising slots 0 (ids_of is) → (at ≡ 0 → ⊥) → entries at is + exits at is + 1 ≡ passing slots (λ x. nat_lt x at) (ids_of is)
   counted-below at is r ne =
       let first : one (nat_lt 0 at) ≡ 1 = ap one (lt-ltb 0 at (omega (arith, ne))) in

@@ -175,7 +175,8 @@ impl Rows {
         Ok(())
     }
 
-    /// Enters what the instructions of these blocks do.
+    /// Enters what the instructions of these blocks do. A row holds its cells from the last block to the
+    /// first, so the blocks are gone through from the last: then a new cell mostly comes at the end of its row.
     fn add_blocks(
         &mut self,
         reader: &Reader<'_>,
@@ -187,7 +188,7 @@ impl Rows {
         let Ok(count) = u32::try_from(blocks.len()) else {
             return Err(AllocError);
         };
-        'positions: for position in 0..count {
+        'positions: for position in (0..count).rev() {
             let block = &blocks[position as usize];
             self.add_instrs(reader, order, position, block.instrs.as_slice())?;
         }

@@ -1,7 +1,7 @@
 //! The points of a range: those at which some lane of it is live or occupied.
 
-ghost use Rattle.std.specs.Prelude.{◌≡◌, ◌<◌, ◌-◌, ◌||◌, ℕ, Bool, true, length, nat_lt, slice_get};
-ghost use Rattle.live_lanes.specs.Table.{rises_from, seen_cell, unseen, seen_in};
+ghost use Rattle.std.specs.Prelude.{◌≡◌, ◌<◌, ◌≤◌, ◌-◌, ◌||◌, ℕ, Bool, true, length, nat_le, nat_lt, slice_get};
+ghost use Rattle.live_lanes.specs.Table.{entry_rank, exit_rank, leading, rises_from, seen_cell, unseen, seen_in};
 ghost use Rattle.live_lanes.specs.Entered.{rows_seen};
 ghost use Rattle.live_lanes.specs.Ordered.{ids_of, AreRising};
 ghost use Rattle.live_lanes.specs.Looks.{InOrder};
@@ -121,14 +121,37 @@ impl Cell {
 }
 
 impl Row {
-    /// The last block before a position that has a cell.
-    fn last_before(&self, bound: usize) -> Option<u32>
+    /// Whether a place is behind the cells of the blocks from a position on, and those alone.
+    fn is_place_before(&self, at: usize, bound: usize) -> bool
+        ensures { result ≡ true → at ≡ leading (λ c. nat_le bound c.block) self.now.cells.items }
+    {
+        let count = self.cells.len();
+        if at > count {
+            return false;
+        }
+        if at > 0 && (self.cells[at - 1].block as usize) < bound {
+            return false;
+        }
+        at == count || (self.cells[at].block as usize) < bound
+    }
+
+    /// The place behind the cells of the blocks from a position on, which may be this one.
+    fn place_before(&self, near: usize, bound: usize) -> usize
+        ensures { result ≡ leading (λ c. nat_le bound c.block) self.now.cells.items }
+    {
+        if self.is_place_before(near, bound) {
+            return near;
+        }
+        self.cells
+            .as_slice()
+            .partition_point(|c| c.block as usize >= bound)
+    }
+
+    /// The last block before a position that has a cell, which is looked for at a place first.
+    fn last_before(&self, near: usize, bound: usize) -> Option<u32>
         ensures { IsLastBefore (λ b. seen_in self.now.cells.items b ≡ unseen) bound result }
     {
-        let at = self
-            .cells
-            .as_slice()
-            .partition_point(|c| c.block as usize >= bound);
+        let at = self.place_before(near, bound);
         if at >= self.cells.len() {
             return None;
         }
@@ -150,8 +173,9 @@ fn later(one: Option<u32>, other: Option<u32>) -> Option<u32>
 }
 
 impl Table {
-    /// What holds of the lanes of a range in a block from the point of this rank on.
-    fn span(&self, own: Lanes, block: u32, at: u128) -> Span
+    /// What holds of the lanes of a range in a block from the point of this rank on. The cells of
+    /// the block are looked for at a place and behind it first.
+    fn span(&self, own: Lanes, near: usize, block: u32, at: u128) -> Span
         requires { at < 340282366920938463463374607431768211455 }
         ensures further { at < result.end }
         ensures span { InOrder self.now → IsSpan (any_held self.now.order.slots self.now.rows.rows.items own.first own.count block) at result }
@@ -161,18 +185,18 @@ impl Table {
             end: u128::MAX,
         };
         'lanes: for k in 0..own.count {
-            span = self.lane_span(own.first + k, block, at).with(span);
+            span = self.lane_span(own.first + k, near, block, at).with(span);
         }
         span
     }
 
     /// The same of one lane.
-    fn lane_span(&self, lane: u32, block: u32, at: u128) -> Span
+    fn lane_span(&self, lane: u32, near: usize, block: u32, at: u128) -> Span
         requires { at < 340282366920938463463374607431768211455 }
         ensures further { at < result.end }
         ensures span { InOrder self.now → IsSpan (held_at self.now.order.slots (rows_seen self.now.rows.rows.items lane block)) at result }
     {
-        match self.rows.cell(lane, block) {
+        match self.rows.cell_near(lane, near, block) {
             Some(cell) => cell.span(&self.order.slots, at),
             None => Span {
                 is_held: false,
@@ -194,8 +218,28 @@ impl Table {
         }
         let slots = &self.order.slots;
         let entries = instrs.partition_point(|i| entry_rank(slots, i.get().id) < at);
-        let exits = instrs.partition_point(|i| exit_rank(slots, i.get().id) < at);
+        let exits = self.exits_below(instrs, entries, at);
         (entries as u64) + (exits as u64) + 1
+    }
+
+    /// How many exits of a block lie before a rank, before which that many entries do. The ranks
+    /// rise along the block, so that only the exit of the last of these instructions may not.
+    fn exits_below(&self, instrs: &[Boxed<Instr>], entries: usize, at: u128) -> usize
+        requires { entries ≤ length instrs.now }
+        ensures bound { result ≤ entries }
+        ensures exits { AreRising self.now.order.slots 0 (ids_of instrs.now)
+            → entries ≡ leading (λ i. nat_lt (entry_rank self.now.order.slots i.id) at) instrs.now
+            → result ≡ leading (λ i. nat_lt (exit_rank self.now.order.slots i.id) at) instrs.now }
+    {
+        if entries == 0 {
+            return 0;
+        }
+        let last = entries - 1;
+        if exit_rank(&self.order.slots, instrs[last].get().id) < at {
+            entries
+        } else {
+            last
+        }
     }
 
     /// How many points of a block lie from one rank on up to before another one.
@@ -209,15 +253,16 @@ impl Table {
         before.saturating_sub(self.points_below(instrs, first))
     }
 
-    /// The number of points in a block at which some of the lanes is live or occupied.
-    fn points_in(&self, instrs: &[Boxed<Instr>], own: Lanes, block: u32) -> u64
+    /// The number of points in a block at which some of the lanes is live or occupied. The cells of
+    /// the block are looked for at a place and behind it first.
+    fn points_in(&self, instrs: &[Boxed<Instr>], own: Lanes, near: usize, block: u32) -> u64
         ensures { InOrder self.now → AreRising self.now.order.slots 0 (ids_of instrs.now)
             → result ≡ passing self.now.order.slots (any_held self.now.order.slots self.now.rows.rows.items own.first own.count block) (ids_of instrs.now) }
     {
         let mut count = 0u64;
         let mut at = 0u128;
         'spans: while at < u128::MAX {
-            let span = self.span(own, block, at);
+            let span = self.span(own, near, block, at);
             if span.is_held {
                 count = count.saturating_add(self.points_between(instrs, at, span.end));
             }
@@ -226,14 +271,15 @@ impl Table {
         count
     }
 
-    /// The last block before a position in which one of the lanes has a cell.
-    fn last_before(&self, own: Lanes, bound: usize) -> Option<u32>
+    /// The last block before a position in which one of the lanes has a cell. It is looked for at a
+    /// place in each row first.
+    fn last_before(&self, own: Lanes, near: usize, bound: usize) -> Option<u32>
         ensures { IsLastBefore (AreUnseen self.now.rows.rows.items own.first own.count) bound result }
     {
         let mut last = None;
         'lanes: for k in 0..own.count {
             if let Some(lane) = own.lane(k) {
-                last = later(self.rows.last_before(lane, bound), last);
+                last = later(self.rows.last_before(lane, near, bound), last);
             }
         }
         last
@@ -241,12 +287,13 @@ impl Table {
 }
 
 impl Rows {
-    /// The last block before a position in which the lane has a cell.
-    fn last_before(&self, lane: u32, bound: usize) -> Option<u32>
+    /// The last block before a position in which the lane has a cell, which is looked for at a place
+    /// first.
+    fn last_before(&self, lane: u32, near: usize, bound: usize) -> Option<u32>
         ensures { IsLastBefore (λ b. rows_seen self.now.rows.items lane b ≡ unseen) bound result }
     {
         match self.rows.as_slice().get(lane as usize) {
-            Some(row) => row.last_before(bound),
+            Some(row) => row.last_before(near, bound),
             None => None,
         }
     }
@@ -264,7 +311,9 @@ impl Table {
         self.points_of(blocks, self.counted_lanes(own))
     }
 
-    /// The number of points at which one of these lanes is live or occupied.
+    /// The number of points at which one of these lanes is live or occupied. A row has its cells
+    /// from the last block to the first, so that a lane alone has those of the blocks that are
+    /// counted place by place.
     fn points_of(&self, blocks: &[Block], own: Lanes) -> u64
         ensures { InOrder self.now → AreRanked self.now.order.slots blocks.now
             → sum_below (block_held self.now blocks.now own.first own.count) (length blocks.now) < 18446744073709551616
@@ -272,16 +321,18 @@ impl Table {
     {
         let mut total = 0u64;
         let mut bound = blocks.len();
-        'layout: while let Some(block) = self.last_before(own, bound) {
-            total = total.saturating_add(self.points_at(blocks, own, block));
+        let mut near = 0usize;
+        'layout: while let Some(block) = self.last_before(own, near, bound) {
+            total = total.saturating_add(self.points_at(blocks, own, near, block));
             bound = block as usize;
+            near = near.saturating_add(1);
         }
         total
     }
 
     /// The number of points in the block at a position at which some of the lanes is live or
-    /// occupied.
-    fn points_at(&self, blocks: &[Block], own: Lanes, block: u32) -> u64
+    /// occupied. The cells of the block are looked for at a place and behind it first.
+    fn points_at(&self, blocks: &[Block], own: Lanes, near: usize, block: u32) -> u64
         ensures { InOrder self.now → AreRanked self.now.order.slots blocks.now
             → result ≡ block_held self.now blocks.now own.first own.count block }
     {
@@ -290,7 +341,7 @@ impl Table {
             return 0;
         }
         let here = &blocks[at];
-        self.points_in(here.instrs.as_slice(), own, block)
+        self.points_in(here.instrs.as_slice(), own, near, block)
     }
 }
 

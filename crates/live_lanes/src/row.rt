@@ -272,7 +272,8 @@ impl Row {
         ensures { OnOk result ((b : ℕ) → seen_in self.new.cells.items b
             ≡ cond (nat_eq block b) (read_at_end (seen_in self.old.cells.items block)) (seen_in self.old.cells.items b)) }
     {
-        let place = self.make(alloc, 0, block)?;
+        let near = self.cells.len().saturating_sub(1);
+        let place = self.make(alloc, near, block)?;
         self.cells[place].is_read_last = true;
         Ok(())
     }
@@ -287,7 +288,8 @@ impl Row {
         ensures { OnOk result ((b : ℕ) → seen_in self.new.cells.items b
             ≡ cond (nat_eq block b) (with_reading reading (seen_in self.old.cells.items block)) (seen_in self.old.cells.items b)) }
     {
-        let place = self.make(alloc, 0, block)?;
+        let near = self.cells.len().saturating_sub(1);
+        let place = self.make(alloc, near, block)?;
         self.cells[place].add_reading(reading)
     }
 
@@ -303,7 +305,8 @@ impl Row {
         ensures { OnOk result ((b : ℕ) → seen_in self.new.cells.items b
             ≡ cond (nat_eq block b) (with_segment start early from (seen_in self.old.cells.items block)) (seen_in self.old.cells.items b)) }
     {
-        let place = self.make(alloc, 0, block)?;
+        let near = self.cells.len().saturating_sub(1);
+        let place = self.make(alloc, near, block)?;
         self.cells[place].add_segment(alloc, start, early, from)
     }
 
@@ -320,7 +323,8 @@ impl Row {
         ensures { IfOk result (λ index. IsTrue (rises_from slots.now 0 (seen_in self.old.cells.items block).segments)
             → IsRaised slots.now self.old.cells.items self.new.cells.items block at cause index) }
     {
-        let place = self.make(alloc, 0, block)?;
+        let near = self.cells.len().saturating_sub(1);
+        let place = self.make(alloc, near, block)?;
         let index = self.cells[place].piece_at(slots, at);
         if self.cells[place].is_live(index) {
             return Ok(None);

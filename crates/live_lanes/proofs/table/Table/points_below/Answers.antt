@@ -4,7 +4,7 @@ use Rattle.mir_func.specs.declared.func.Instr.{Instr}
 use Rattle.std.proofs.lemmas.List.Sorted.{IsPartitionPoint-from_clause}
 use Rattle.live_lanes.specs.Table.{entry_rank, exit_rank, leading}
 use Rattle.live_lanes.proofs.Cells.{partition-leading}
-use Rattle.live_lanes.proofs.Tallied.{entries-parted, exits-parted, counted-all, counted-below, counted-none}
+use Rattle.live_lanes.proofs.Tallied.{entries-parted, counted-all, counted-below, counted-none}
 use Rattle.live_lanes.proofs.table.Table.points_below.Goals as goal
 
 pub returns-then-at-eq0 : goal.returns-then-at-eq0
@@ -20,7 +20,6 @@ returns c = λ r.
     let entering : Instr → Bool = λ i. nat_lt (entry_rank slots i.id) c.args.at in
     let leaving : Instr → Bool = λ i. nat_lt (exit_rank slots i.id) c.args.at in
     let a = IsPartitionPoint-from_clause entering is c.partition_point-entries.result c.partition_point-entries.ensures.partitioned (entries-parted slots c.args.at is r) (λ a r f h. search rules) in
-    let b = IsPartitionPoint-from_clause leaving is c.partition_point-exits.result c.partition_point-exits.ensures.partitioned (exits-parted slots c.args.at is r) (λ a r f h. search rules) in
     let x : c.partition_point-entries.result ≡ leading entering is = partition-leading entering is c.partition_point-entries.result c.partition_point-entries.ensures.bound a.0 a.1 in
-    let y : c.partition_point-exits.result ≡ leading leaving is = partition-leading leaving is c.partition_point-exits.result c.partition_point-exits.ensures.bound b.0 b.1 in
-    ap (λ n. n + c.partition_point-exits.result + 1) x ∙ ap (λ n. leading entering is + n + 1) y ∙ counted-below slots c.args.at is r c.if-at-eq0.false
+    let y : c.exits_below-exits.result ≡ leading leaving is = c.exits_below-exits.ensures.exits r x in
+    ap (λ n. n + c.exits_below-exits.result + 1) x ∙ ap (λ n. leading entering is + n + 1) y ∙ counted-below slots c.args.at is r c.if-at-eq0.false
