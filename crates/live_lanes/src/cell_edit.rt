@@ -266,7 +266,8 @@ impl Row {
             None => true,
         };
         if is_last {
-            let _ = self.make(alloc, self.cells.len(), block)?;
+            let behind = self.cells.len();
+            let _ = self.make(alloc, behind, block)?;
         }
         Ok(())
     }
