@@ -77,7 +77,8 @@ impl Table {
 
     /// The cell of a piece.
     fn cell_of(&self, seat: Seat) -> Option<&Cell> {
-        self.rows.cell_near(seat.spot.lane, seat.place, seat.spot.block)
+        self.rows
+            .cell_near(seat.spot.lane, seat.place, seat.spot.block)
     }
 
     /// Adds the pieces of a lane on both sides of an instruction that was changed.

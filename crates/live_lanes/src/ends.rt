@@ -78,14 +78,7 @@ impl Rows {
 
     /// Whether a piece with this cause is live because the lane is at the start of a block that
     /// follows, or a lane is live at the start of one anyway. Its own cell stands at a place.
-    fn leads_on(
-        &self,
-        flow: &[Ways],
-        lane: u32,
-        place: usize,
-        block: u32,
-        cause: Cause,
-    ) -> bool
+    fn leads_on(&self, flow: &[Ways], lane: u32, place: usize, block: u32, cause: Cause) -> bool
         ensures { result ≡ leads_on flow.now (causes self.now.rows.items) lane block cause }
     {
         match cause {

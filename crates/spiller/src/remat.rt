@@ -303,7 +303,14 @@ fn reaches_of(view: View<'_>, blocks: &[Events]) -> Result<Vec<Reach>, AllocErro
     let mut reaches = Vec::new(view.alloc);
     let mut position = 0u32;
     'blocks: for events in blocks {
-        add_reaches(view, starts.as_slice(), blocks, events, position, &mut reaches)?;
+        add_reaches(
+            view,
+            starts.as_slice(),
+            blocks,
+            events,
+            position,
+            &mut reaches,
+        )?;
         position = position.saturating_add(1);
     }
     Ok(reaches)
