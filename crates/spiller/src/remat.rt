@@ -74,7 +74,7 @@ impl Remat {
     }
 }
 
-/// A definition and the readings that it reaches.
+/// A definition and the readings that it reaches, some of them several times.
 #[derive(Drop)]
 struct Reach {
     id: u32,
@@ -356,10 +356,9 @@ fn note_definitions(readings: &mut Vec<Reading>, reaches: &[Reach]) {
 fn note_definition(readings: &mut Vec<Reading>, reach: &Reach) {
     'readings: for k in &reach.readings {
         if let Some(reading) = readings.get_mut(*k) {
-            if reading.def.is_some() {
-                reading.has_several = true;
-            } else {
-                reading.def = Some(reach.id);
+            match reading.def {
+                None => reading.def = Some(reach.id),
+                Some(id) => reading.has_several |= id != reach.id,
             }
         }
     }
