@@ -1,5 +1,6 @@
 //! The end of a run in physical form.
 
+use crate::live_units::LiveUnits;
 use crate::physical::rewrite_assigned;
 use interference::Matrix;
 use mir_func::Func;
@@ -33,7 +34,15 @@ fn numbers_of(alloc: Global, slots: &[Slot]) -> Result<Vec<(u32, ClassId)>, Allo
 pub fn rewrite(alloc: Global, target: &Target, a: Allocated) -> Result<Func, AllocError> {
     let Allocated { matrix, slots } = a;
     let registers = registers_of(alloc, &matrix)?;
+    let live = LiveUnits::of(alloc, matrix.live(), registers.as_slice())?;
     let given = numbers_of(alloc, slots.made())?;
     let f = matrix.into_live().into_func();
-    rewrite_assigned(alloc, target, f, registers.as_slice(), given.as_slice())
+    rewrite_assigned(
+        alloc,
+        target,
+        f,
+        &live,
+        registers.as_slice(),
+        given.as_slice(),
+    )
 }

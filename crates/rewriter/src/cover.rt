@@ -2,7 +2,7 @@
 
 ghost use Rattle.std.specs.Prelude.{◌≡◌, IfOk, map, take};
 
-use live_lanes::LiveFunc;
+use crate::live_units::LiveUnits;
 use mir_func::Block;
 use std::alloc::{AllocError, Global};
 use target_base::registers::units_at;
@@ -57,20 +57,6 @@ fn chosen(target: &Target, live: &[bool], holders: &[Reg]) -> Option<Reg> {
     }
 }
 
-/// Which units are live at the start of the block of that number.
-fn live_units(
-    alloc: Global,
-    live: &LiveFunc,
-    block: u32,
-    units: usize,
-) -> Result<Vec<bool>, AllocError> {
-    let mut made = Vec::new(alloc);
-    'units: for u in 0..units.min(0x10000) {
-        made.push(live.unit_at(Unit(u as u16), block))?;
-    }
-    Ok(made)
-}
-
 /// Sets the flag of a register.
 fn mark(flags: &mut [bool], r: Option<Reg>) {
     if let Some(r) = r {
@@ -80,24 +66,18 @@ fn mark(flags: &mut [bool], r: Option<Reg>) {
     }
 }
 
-/// The registers that stand for the units which are live at the start of the block of that number, in
-/// target order.
+/// The registers that stand for the units which are live, in target order.
 fn cover(
     alloc: Global,
     target: &Target,
     holders: &[Vec<Reg>],
-    live: &LiveFunc,
-    block: u32,
+    live: &[bool],
 ) -> Result<Regs, AllocError> {
-    let units = live_units(alloc, live, block, holders.len())?;
     let mut flags = vec![in alloc; false; target.regs.len()]?;
-    'units: for u in 0..units.len() {
-        if units[u] {
+    'units: for u in 0..live.len() {
+        if live[u] {
             if let Some(rs) = holders.get(u) {
-                mark(
-                    flags.as_mut_slice(),
-                    chosen(target, units.as_slice(), rs.as_slice()),
-                );
+                mark(flags.as_mut_slice(), chosen(target, live, rs.as_slice()));
             }
         }
     }
@@ -131,7 +111,7 @@ fn first_liveins(alloc: Global, blocks: &[Block]) -> Result<Vec<Regs>, AllocErro
 pub fn all_liveins(
     alloc: Global,
     target: &Target,
-    live: &LiveFunc,
+    live: &LiveUnits,
     blocks: &[Block],
 ) -> Result<Vec<Regs>, AllocError>
     ensures { IfOk result (λ made. take 1 made.items ≡ map (λ b. b.liveins) (take 1 blocks.now)) }
@@ -139,7 +119,7 @@ pub fn all_liveins(
     let holders = all_holders(alloc, target)?;
     let mut made = first_liveins(alloc, blocks)?;
     'layout: for k in 1..blocks.len() {
-        let regs = cover(alloc, target, holders.as_slice(), live, blocks[k].number)?;
+        let regs = cover(alloc, target, holders.as_slice(), live.at(k))?;
         made.push(regs)?;
     }
     Ok(made)

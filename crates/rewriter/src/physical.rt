@@ -6,8 +6,8 @@ ghost use Rattle.rewriter.specs.Physical.{physical_block, with_liveins, slot_fra
 
 use crate::cover::all_liveins;
 use crate::head::with_slots;
+use crate::live_units::LiveUnits;
 use crate::operands::physical_instrs;
-use live_lanes::LiveFunc;
 use mir_func::{Block, Blocks, Frames, Func};
 use phi_elim::ids::number_blocks;
 use std::alloc::{AllocError, Global};
@@ -73,19 +73,28 @@ fn put_all_liveins(alloc: Global, liveins: &[Regs], blocks: &mut Blocks) -> Resu
 }
 
 /// The live-ins of each block of a function, in layout order.
-fn liveins_of(alloc: Global, target: &Target, f: &Func) -> Result<Vec<Regs>, AllocError>
+fn liveins_of(
+    alloc: Global,
+    target: &Target,
+    live: &LiveUnits,
+    f: &Func,
+) -> Result<Vec<Regs>, AllocError>
     ensures { IfOk result (λ made. take 1 made.items ≡ map (λ b. b.liveins) (take 1 f.now.blocks)) }
 {
-    let live = LiveFunc::compute(alloc, target, f.copy(alloc)?)?;
-    all_liveins(alloc, target, &live, f.blocks.as_slice())
+    all_liveins(alloc, target, live, f.blocks.as_slice())
 }
 
 /// The function with its live-ins: each block behind the first lists the registers that stand for the
 /// units which are live at its start.
-fn with_covers(alloc: Global, target: &Target, f: Func) -> Result<Func, AllocError>
+fn with_covers(
+    alloc: Global,
+    target: &Target,
+    live: &LiveUnits,
+    f: Func,
+) -> Result<Func, AllocError>
     ensures { IfOk result (HasLiveins f) }
 {
-    let liveins = liveins_of(alloc, target, &f)?;
+    let liveins = liveins_of(alloc, target, live, &f)?;
     let Func {
         name,
         head,
@@ -108,11 +117,13 @@ fn with_covers(alloc: Global, target: &Target, f: Func) -> Result<Func, AllocErr
 /// The function with each range in the register that it is assigned, and with its slots: operands
 /// become physical and `renamable`, a COPY of a register to itself goes, the slots are declared, each
 /// block behind the first lists the registers that stand for the units which are live at its start,
-/// and ids are given anew.
+/// and ids are given anew. Which units are live there is told; `LiveUnits::of` finds it for these
+/// registers.
 pub fn rewrite_assigned(
     alloc: Global,
     target: &Target,
     f: Func,
+    live: &LiveUnits,
     registers: &[Option<Reg>],
     slots: &[(u32, ClassId)],
 ) -> Result<Func, AllocError>
@@ -121,6 +132,7 @@ pub fn rewrite_assigned(
     with_covers(
         alloc,
         target,
+        live,
         without_ranges(alloc, target, f, registers, slots)?,
     )
 }
