@@ -113,8 +113,8 @@ pub(crate) fn unreached(view: View<'_>, count: usize) -> Result<Vec<u32>, AllocE
     Ok(starts)
 }
 
-/// The readings that the definition of lanes by an event reaches, some of them several times, where
-/// `unreached` gives what is reached at the start.
+/// The readings that the definition of lanes by an event reaches, in order, each once, where
+/// `unreached` gives these lanes.
 pub(crate) fn readings_reached(
     alloc: Global,
     view: View<'_>,
@@ -142,6 +142,8 @@ pub(crate) fn readings_reached(
         let left = walk.pass(events_at(blocks, at.position), at.lanes)?;
         walk.leave(view, at.position, left)?;
     }
-    let Walk { readings, .. } = walk;
+    let Walk { mut readings, .. } = walk;
+    readings.sort_unstable();
+    readings.dedup();
     Ok(readings)
 }

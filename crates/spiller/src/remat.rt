@@ -74,7 +74,7 @@ impl Remat {
     }
 }
 
-/// A definition and the readings that it reaches, some of them several times.
+/// A definition and the readings that it reaches.
 #[derive(Drop)]
 struct Reach {
     id: u32,
@@ -356,9 +356,10 @@ fn note_definitions(readings: &mut Vec<Reading>, reaches: &[Reach]) {
 fn note_definition(readings: &mut Vec<Reading>, reach: &Reach) {
     'readings: for k in &reach.readings {
         if let Some(reading) = readings.get_mut(*k) {
-            match reading.def {
-                None => reading.def = Some(reach.id),
-                Some(id) => reading.has_several |= id != reach.id,
+            if reading.def.is_some() {
+                reading.has_several = true;
+            } else {
+                reading.def = Some(reach.id);
             }
         }
     }
