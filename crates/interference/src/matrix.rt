@@ -582,12 +582,17 @@ impl Matrix {
     }
 
     /// Does edits as `edit_all` does, which is done sooner where these edit each instruction that
-    /// touches an unassigned range.
-    pub fn edit_all_of(&mut self, edits: Vec<Edit>, v: u32) -> Result<(), AllocError> {
+    /// touches an unassigned range. These are given, as `LiveFunc::touched` answers them.
+    pub fn edit_all_of(
+        &mut self,
+        edits: Vec<Edit>,
+        v: u32,
+        touched: &[u32],
+    ) -> Result<(), AllocError> {
         if self.register_of(v).is_some() {
             return self.edit_all(edits);
         }
-        let changes = self.live.begin_edits_of(edits, v)?;
+        let changes = self.live.begin_edits_of(edits, v, touched)?;
         self.settle(changes)
     }
 

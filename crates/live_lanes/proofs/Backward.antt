@@ -1,5 +1,5 @@
 -- Entering the blocks from the last to the first gives what entering them from the first to the last gives.
-use Rattle.std.proofs.Common.{◌≡◌, ◌<◌, ℕ, suc, Bool, true, false, cond, ◌&&◌, length, List, [], ◌∷◌, drop, map, Option, None, Some, refl, sym, ap, ◌∙◌, subst, arith, get_or, eqb-true}
+use Rattle.std.proofs.Common.{◌≡◌, ◌<◌, ℕ, suc, Bool, true, false, cond, ◌&&◌, length, List, [], ◌∷◌, drop, map, Option, None, Some, refl, sym, ap, ◌∙◌, arith, get_or, eqb-true}
 use Rattle.std.proofs.Math.Seq.{drop-cons}
 use Rattle.std.specs.Prelude.{nat_eq}
 use Rattle.std.specs.List.{list_any}

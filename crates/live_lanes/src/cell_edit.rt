@@ -25,8 +25,8 @@ pub(crate) enum CellEdit {
     Join(usize),
     /// The writing that begins a piece: whether it is early, and the lane that it moves.
     SetWriting(usize, bool, Option<u32>),
-    /// Why a piece is live.
-    SetCause(usize, Cause),
+    /// Why a piece is live, and up to where.
+    SetLife(usize, Cause, End),
     /// Up to where a piece is live.
     SetEnd(usize, End),
 }
@@ -234,10 +234,11 @@ impl Cell {
             CellEdit::Begin(index, segment) => self.begin(index, segment)?,
             CellEdit::Join(index) => self.join(alloc, index)?,
             CellEdit::SetWriting(index, early, from) => self.set_writing(index, early, from),
-            CellEdit::SetCause(index, cause) => {
-                let old = self.cause_of(index);
+            CellEdit::SetLife(index, cause, end) => {
+                let back = CellEdit::SetLife(index, self.cause_of(index), self.end_of(index));
                 self.set_cause(index, cause);
-                CellEdit::SetCause(index, old)
+                self.set_end(index, end);
+                back
             }
             CellEdit::SetEnd(index, end) => {
                 let old = self.end_of(index);
@@ -266,8 +267,7 @@ impl Row {
             None => true,
         };
         if is_last {
-            let behind = self.cells.len();
-            let _ = self.make(alloc, behind, block)?;
+            let _ = self.make_behind(alloc, block)?;
         }
         Ok(())
     }

@@ -4,7 +4,7 @@ ghost use Rattle.std.specs.Prelude.{◌≡◌, ℕ, Some, slice_get};
 ghost use Rattle.live_lanes.specs.Ordered.{ids_of, AreRising};
 
 use crate::cell_edit::CellEdit;
-use crate::edit_update::Seat;
+use crate::edit_update::Located;
 use crate::lanes::Lanes;
 use crate::row::{Cause, End, Row};
 use crate::table::{Spot, Table};
@@ -34,8 +34,6 @@ enum Undo {
     Put(u32, u32),
     /// An instruction of the block at a position had the opcode and the operands that were kept last.
     Replaced(u32, u32),
-    /// An instruction of the block at a position is to go.
-    Erased(u32, u32),
     /// It was taken back.
     Done(Option<Mended>),
 }
@@ -54,20 +52,29 @@ pub(crate) struct Log {
     /// What instructions were, in the order of the entries that say that they were replaced. It
     /// stands apart, since it is much larger than an entry.
     formers: Vec<Former>,
+    /// The instructions that are to go, each with the position of its block.
+    erased: Vec<(u32, u32)>,
 }
 
 impl Log {
-    /// No changes, with room for so many.
-    pub fn new(alloc: Global, room: usize) -> Result<Log, AllocError> {
+    /// No changes, with room for those of so many edits: mostly an edit leads to fewer entries than
+    /// there is room for.
+    pub fn new(alloc: Global, edits: usize) -> Result<Log, AllocError> {
         Ok(Log {
-            entries: Vec::with_capacity(alloc, room)?,
-            formers: Vec::new(alloc),
+            entries: Vec::with_capacity(alloc, edits.saturating_mul(16))?,
+            formers: Vec::with_capacity(alloc, edits)?,
+            erased: Vec::new(alloc),
         })
     }
 
     /// Makes room for one more entry.
     pub fn reserve(&mut self) -> Result<(), AllocError> {
         self.entries.reserve(1)
+    }
+
+    /// Makes room for so many more entries.
+    pub fn reserve_more(&mut self, count: usize) -> Result<(), AllocError> {
+        self.entries.reserve(count)
     }
 
     /// Makes room for one more entry that says that an instruction was replaced.
@@ -97,7 +104,8 @@ impl Log {
 
     /// Notes that the instruction of an id is to go from the block at a position.
     pub fn add_erased(&mut self, block: u32, id: u32) -> Result<(), AllocError> {
-        self.add(Undo::Erased(block, id))
+        self.erased.push((block, id))?;
+        Ok(())
     }
 
     /// Notes the opcode and the operands that the instruction of an id had before.
@@ -126,14 +134,6 @@ impl Log {
         }
     }
 
-    /// The instruction that an entry says is to go, and the position of its block.
-    fn erased(&self, k: usize) -> Option<(u32, u32)> {
-        match self.entries.get(k) {
-            Some(Undo::Erased(block, id)) => Some((*block, *id)),
-            _ => None,
-        }
-    }
-
     /// Takes out what takes the change of an entry back.
     fn take(&mut self, k: usize) -> Undo {
         let mended = self.mended(k);
@@ -145,7 +145,7 @@ impl Log {
 }
 
 /// The piece at a spot, which begins with this instruction or with its block.
-fn mended_from(spot: Spot, start: Option<u32>) -> Mended {
+pub(crate) fn mended_from(spot: Spot, start: Option<u32>) -> Mended {
     Mended {
         lane: spot.lane,
         block: spot.block,
@@ -209,40 +209,16 @@ impl Table {
         }
     }
 
-    /// Gives a piece a cause, where it isn't live. Answers the piece, if it does, with the place at
-    /// which its cell is now.
-    pub fn give_cause(
-        &mut self,
-        seat: Seat,
-        cause: Cause,
-        log: &mut Log,
-    ) -> Result<Option<Seat>, AllocError> {
-        log.reserve()?;
-        let alloc = self.rows.alloc;
-        let spot = seat.spot;
-        let Some(row) = self.rows.rows.get_mut(spot.lane as usize) else {
-            return Ok(None);
-        };
-        let place = row.make(alloc, seat.place, spot.block)?;
-        let start = match row.cells.get(place) {
-            Some(cell) if cell.cause_of(spot.index) == Cause::None => cell.start_of(spot.index),
-            _ => return Ok(None),
-        };
-        let back = row.edit(alloc, place, CellEdit::SetCause(spot.index, cause))?;
-        log.add_cell(mended_from(spot, start), back)?;
-        Ok(Some(Seat { spot, place }))
-    }
-
     /// Gives a live piece a reading that needs no other lane as its cause, or none. Answers whether
     /// it has none then.
-    pub fn take_cause(&mut self, seat: Seat, log: &mut Log) -> Result<bool, AllocError> {
+    pub fn take_cause(&mut self, located: Located, log: &mut Log) -> Result<bool, AllocError> {
         log.reserve()?;
         let alloc = self.rows.alloc;
-        let spot = seat.spot;
+        let spot = located.spot;
         let Some(row) = self.rows.rows.get_mut(spot.lane as usize) else {
             return Ok(false);
         };
-        let Some(place) = row.find(seat.place, spot.block) else {
+        let Some(place) = row.find(located.place, spot.block) else {
             return Ok(false);
         };
         let Some(cell) = row.cells.get(place) else {
@@ -252,8 +228,12 @@ impl Table {
         if cell.cause_of(spot.index) == cause {
             return Ok(false);
         }
+        let end = match cause {
+            Cause::None => End::Never,
+            _ => cell.end_of(spot.index),
+        };
         let start = cell.start_of(spot.index);
-        let back = row.edit(alloc, place, CellEdit::SetCause(spot.index, cause))?;
+        let back = row.edit(alloc, place, CellEdit::SetLife(spot.index, cause, end))?;
         log.add_cell(mended_from(spot, start), back)?;
         Ok(cause == Cause::None)
     }
@@ -331,7 +311,6 @@ impl Table {
                     self.put_former(func, block, id, former);
                 }
             }
-            Undo::Erased(_, _) => {}
             Undo::Done(_) => {}
         }
     }
@@ -347,14 +326,13 @@ impl Table {
 
     /// Lets the instructions go that a log says are to go.
     pub fn finish(&mut self, func: &mut Func, log: &Log) {
-        'entries: for k in 0..log.len() {
-            if let Some((block, id)) = log.erased(k) {
-                let place = self.place_in(func, block, id);
-                if self.stands_at(func, block, place, id) {
-                    let _ = func.remove_at(block as usize, place);
-                }
-                self.forget(id);
+        'erased: for erased in log.erased.as_slice() {
+            let (block, id) = *erased;
+            let place = self.place_in(func, block, id);
+            if self.stands_at(func, block, place, id) {
+                let _ = func.remove_at(block as usize, place);
             }
+            self.forget(id);
         }
     }
 }

@@ -24,7 +24,7 @@ pub(crate) struct Touch {
 /// A piece, and where its cell was found among those of the lane: it is there still, or a little
 /// behind where cells came before it.
 #[derive(Clone, Copy, PartialEq, Eq)]
-pub(crate) struct Seat {
+pub(crate) struct Located {
     pub spot: Spot,
     pub place: usize,
 }
@@ -32,8 +32,48 @@ pub(crate) struct Seat {
 /// A piece is live for a cause.
 #[derive(Clone, Copy, PartialEq, Eq)]
 pub(crate) struct Need {
-    seat: Seat,
-    cause: Cause,
+    pub located: Located,
+    pub cause: Cause,
+}
+
+/// How far the cells that were looked for last had moved behind the places where they had been found,
+/// for some lanes: the cell of a block nearby has mostly moved as far.
+#[derive(Clone, Copy)]
+struct Moves {
+    lanes: [u32; LANES],
+    moved: [usize; LANES],
+}
+
+/// So many lanes are told apart by the last digits of their numbers.
+const LANES: usize = 8;
+
+impl Moves {
+    /// No cell was looked for.
+    fn new() -> Moves {
+        Moves {
+            lanes: [u32::MAX; LANES],
+            moved: [0; LANES],
+        }
+    }
+
+    /// A place at which or behind which a piece's cell is likely to be found. (Pieces come mostly
+    /// from the first block to the last, and a row has its cells the other way round, so that the
+    /// next one may have moved a little less far.)
+    fn near(&self, located: Located) -> usize {
+        let at = located.spot.lane as usize % LANES;
+        if self.lanes[at] == located.spot.lane && self.moved[at] > 0 {
+            located.place.saturating_add(self.moved[at] - 1)
+        } else {
+            located.place
+        }
+    }
+
+    /// Notes where a piece's cell was found.
+    fn note(&mut self, located: Located, place: usize) {
+        let at = located.spot.lane as usize % LANES;
+        self.lanes[at] = located.spot.lane;
+        self.moved[at] = place.saturating_sub(located.place);
+    }
 }
 
 /// Whether an end lies in a piece of a cell.
@@ -46,15 +86,15 @@ fn lies_in(order: &slot_index::Slots, cell: &Cell, index: usize, end: End) -> bo
 const NEAR: usize = 12;
 
 /// Adds a piece, unless it is among those that were added last.
-fn add_new(seats: &mut Vec<Seat>, seat: Seat) -> Result<(), AllocError> {
-    let spot = seat.spot;
-    let is_there = seats.iter().rev().take(NEAR).any(|near| {
+pub(crate) fn add_new(pieces: &mut Vec<Located>, located: Located) -> Result<(), AllocError> {
+    let spot = located.spot;
+    let is_there = pieces.iter().rev().take(NEAR).any(|near| {
         near.spot.block == spot.block
             && near.spot.lane == spot.lane
             && near.spot.index == spot.index
     });
     if !is_there {
-        seats.push(seat)?;
+        pieces.push(located)?;
     }
     Ok(())
 }
@@ -62,7 +102,7 @@ fn add_new(seats: &mut Vec<Seat>, seat: Seat) -> Result<(), AllocError> {
 impl Table {
     /// The piece of a lane that an end lies in. Where the lane has none in the block, it is the one
     /// that would begin with the block.
-    fn seat_at(&self, lane: u32, block: u32, end: End) -> Seat {
+    fn located_at(&self, lane: u32, block: u32, end: End) -> Located {
         let place = match self.rows.rows.get(lane as usize) {
             Some(row) => row.place_near(0, block),
             None => 0,
@@ -72,17 +112,17 @@ impl Table {
             None => 0,
         };
         let spot = Spot { lane, block, index };
-        Seat { spot, place }
+        Located { spot, place }
     }
 
     /// The cell of a piece.
-    fn cell_of(&self, seat: Seat) -> Option<&Cell> {
+    fn cell_of(&self, located: Located) -> Option<&Cell> {
         self.rows
-            .cell_near(seat.spot.lane, seat.place, seat.spot.block)
+            .cell_near(located.spot.lane, located.place, located.spot.block)
     }
 
     /// Adds the pieces of a lane on both sides of an instruction that was changed.
-    fn add_sides(&self, touch: &Touch, seats: &mut Vec<Seat>) -> Result<(), AllocError> {
+    fn add_sides(&self, touch: &Touch, pieces: &mut Vec<Located>) -> Result<(), AllocError> {
         let Touch {
             lane,
             block,
@@ -97,22 +137,22 @@ impl Table {
         let behind = cell.piece_at(slots, exit_rank(slots, id));
         let index = before;
         let spot = Spot { lane, block, index };
-        add_new(seats, Seat { spot, place })?;
+        add_new(pieces, Located { spot, place })?;
         if behind == before {
             return Ok(());
         }
         let index = behind;
         let spot = Spot { lane, block, index };
-        add_new(seats, Seat { spot, place })
+        add_new(pieces, Located { spot, place })
     }
 
     /// The pieces on both sides of the instructions that were changed.
-    fn suspects(&self, touched: &[Touch]) -> Result<Vec<Seat>, AllocError> {
-        let mut seats = Vec::new(self.rows.alloc);
+    fn suspects(&self, touched: &[Touch]) -> Result<Vec<Located>, AllocError> {
+        let mut pieces = Vec::new(self.rows.alloc);
         'touched: for touch in touched {
-            self.add_sides(touch, &mut seats)?;
+            self.add_sides(touch, &mut pieces)?;
         }
-        Ok(seats)
+        Ok(pieces)
     }
 
     /// The ids of the instructions that were changed, in order.
@@ -142,7 +182,7 @@ impl Table {
         self.ask(suspects.as_slice(), &mut reasons)?;
         self.ask(others, &mut reasons)?;
         let risen = self.rise(reasons.as_slice(), &mut around, log)?;
-        // Those that came alive have no end, and get theirs last.
+        // Those that came alive and have no end get theirs last.
         self.end_again(suspects.as_slice(), false, log)?;
         self.end_again(others, false, log)?;
         self.end_again(around.as_slice(), false, log)?;
@@ -152,14 +192,14 @@ impl Table {
     /// Looks at the causes of pieces again, and answers those that fell.
     fn look_again(
         &mut self,
-        suspects: &[Seat],
+        suspects: &[Located],
         ids: &[u32],
         log: &mut Log,
-    ) -> Result<Vec<Seat>, AllocError> {
+    ) -> Result<Vec<Located>, AllocError> {
         let mut fallen = Vec::new(self.rows.alloc);
-        'suspects: for seat in suspects {
-            if !self.has_standing_cause(*seat, ids) {
-                self.lose_cause(*seat, &mut fallen, log)?;
+        'suspects: for located in suspects {
+            if !self.has_standing_cause(*located, ids) {
+                self.lose_cause(*located, &mut fallen, log)?;
             }
         }
         Ok(fallen)
@@ -167,11 +207,11 @@ impl Table {
 
     /// Whether a piece isn't live, or its cause holds as before, where these instructions, in order
     /// of their ids, were changed.
-    fn has_standing_cause(&self, seat: Seat, ids: &[u32]) -> bool {
-        let Some(cell) = self.cell_of(seat) else {
+    fn has_standing_cause(&self, located: Located, ids: &[u32]) -> bool {
+        let Some(cell) = self.cell_of(located) else {
             return true;
         };
-        let spot = seat.spot;
+        let spot = located.spot;
         match cell.cause_of(spot.index) {
             Cause::None => true,
             Cause::Phi => false,
@@ -195,12 +235,12 @@ impl Table {
     /// Gives a piece a reading that needs no other lane as its cause, or lets it fall.
     fn lose_cause(
         &mut self,
-        seat: Seat,
-        fallen: &mut Vec<Seat>,
+        located: Located,
+        fallen: &mut Vec<Located>,
         log: &mut Log,
     ) -> Result<(), AllocError> {
-        if self.take_cause(seat, log)? {
-            fallen.push(seat)?;
+        if self.take_cause(located, log)? {
+            fallen.push(located)?;
         }
         Ok(())
     }
@@ -209,17 +249,17 @@ impl Table {
     /// that they kept live are added to those around.
     fn fall(
         &mut self,
-        fallen: &mut Vec<Seat>,
-        around: &mut Vec<Seat>,
+        fallen: &mut Vec<Located>,
+        around: &mut Vec<Located>,
         log: &mut Log,
     ) -> Result<(), AllocError> {
         let mut needs = Vec::new(self.rows.alloc);
         'fallen: for k in 0..usize::MAX {
-            let Some(seat) = fallen.get(k).copied() else {
+            let Some(located) = fallen.get(k).copied() else {
                 break;
             };
             needs.clear();
-            self.add_needs(seat, &mut needs)?;
+            self.add_needs(located, &mut needs)?;
             self.lose_all(needs.as_slice(), fallen, around, log)?;
         }
         Ok(())
@@ -228,39 +268,39 @@ impl Table {
     fn lose_all(
         &mut self,
         needs: &[Need],
-        fallen: &mut Vec<Seat>,
-        around: &mut Vec<Seat>,
+        fallen: &mut Vec<Located>,
+        around: &mut Vec<Located>,
         log: &mut Log,
     ) -> Result<(), AllocError> {
         'needs: for need in needs {
-            if self.cause_at(need.seat) == need.cause {
-                self.lose_cause(need.seat, fallen, log)?;
+            if self.cause_at(need.located) == need.cause {
+                self.lose_cause(need.located, fallen, log)?;
             }
-            add_new(around, need.seat)?;
+            add_new(around, need.located)?;
         }
         Ok(())
     }
 
     /// Why a piece is live.
-    fn cause_at(&self, seat: Seat) -> Cause {
-        match self.cell_of(seat) {
-            Some(cell) => cell.cause_of(seat.spot.index),
+    fn cause_at(&self, located: Located) -> Cause {
+        match self.cell_of(located) {
+            Some(cell) => cell.cause_of(located.spot.index),
             None => Cause::None,
         }
     }
 
     /// Adds where a lane is live because a piece is.
-    fn add_needs(&self, seat: Seat, needs: &mut Vec<Need>) -> Result<(), AllocError> {
-        let spot = seat.spot;
+    pub fn add_needs(&self, located: Located, needs: &mut Vec<Need>) -> Result<(), AllocError> {
+        let spot = located.spot;
         if spot.index == 0 {
-            return self.add_exits_before(seat, needs);
+            return self.add_exits_before(located, needs);
         }
-        let Some(cell) = self.cell_of(seat) else {
+        let Some(cell) = self.cell_of(located) else {
             return Ok(());
         };
         if let Some((id, lane)) = cell.moved(spot.index) {
             needs.push(Need {
-                seat: self.seat_at(lane, spot.block, End::Entry(id)),
+                located: self.located_at(lane, spot.block, End::Entry(id)),
                 cause: Cause::Reading(id),
             })?;
         }
@@ -268,12 +308,12 @@ impl Table {
     }
 
     /// Adds the exits of the blocks before a piece's, which begins with its block.
-    fn add_exits_before(&self, seat: Seat, needs: &mut Vec<Need>) -> Result<(), AllocError> {
-        let Some(row) = self.rows.rows.get(seat.spot.lane as usize) else {
+    fn add_exits_before(&self, located: Located, needs: &mut Vec<Need>) -> Result<(), AllocError> {
+        let Some(row) = self.rows.rows.get(located.spot.lane as usize) else {
             return Ok(());
         };
-        'predecessors: for before in predecessors(self.flow.as_slice(), seat.spot.block) {
-            self.add_exits(row, seat, *before, needs)?;
+        'predecessors: for before in predecessors(self.flow.as_slice(), located.spot.block) {
+            self.add_exits(row, located, *before, needs)?;
         }
         Ok(())
     }
@@ -282,13 +322,13 @@ impl Table {
     fn add_exits(
         &self,
         row: &Row,
-        seat: Seat,
+        located: Located,
         block: u32,
         needs: &mut Vec<Need>,
     ) -> Result<(), AllocError> {
-        let lane = seat.spot.lane;
-        let cause = Cause::Follower(seat.spot.block);
-        let place = row.place_near(seat.place.saturating_add(1), block);
+        let lane = located.spot.lane;
+        let cause = Cause::Follower(located.spot.block);
+        let place = row.place_near(located.place.saturating_add(1), block);
         let cell = match row.cells.get(place) {
             Some(cell) if cell.block == block => Some(cell),
             _ => None,
@@ -298,10 +338,10 @@ impl Table {
             None => 0,
         };
         let spot = Spot { lane, block, index };
-        let seat = Seat { spot, place };
-        needs.push(Need { seat, cause })?;
+        let located = Located { spot, place };
+        needs.push(Need { located, cause })?;
         match cell {
-            Some(cell) if index > 0 => self.add_inner_exits(seat, cell, cause, needs),
+            Some(cell) if index > 0 => self.add_inner_exits(located, cell, cause, needs),
             _ => Ok(()),
         }
     }
@@ -309,7 +349,7 @@ impl Table {
     /// Adds the pieces before the last one in which the exits of terminators lie.
     fn add_inner_exits(
         &self,
-        last: Seat,
+        last: Located,
         cell: &Cell,
         cause: Cause,
         needs: &mut Vec<Need>,
@@ -321,30 +361,33 @@ impl Table {
             if index < cell.segments.len() {
                 let spot = Spot { lane, block, index };
                 let place = last.place;
-                let seat = Seat { spot, place };
-                needs.push(Need { seat, cause })?;
+                let located = Located { spot, place };
+                needs.push(Need { located, cause })?;
             }
         }
         Ok(())
     }
 
     /// Adds the pieces that aren't live and have a reason to be, with this.
-    fn ask(&self, seats: &[Seat], reasons: &mut Vec<Need>) -> Result<(), AllocError> {
-        'seats: for seat in seats {
-            let cause = self.reason(*seat);
+    fn ask(&self, pieces: &[Located], reasons: &mut Vec<Need>) -> Result<(), AllocError> {
+        'pieces: for located in pieces {
+            let cause = self.reason(*located);
             if cause != Cause::None {
-                reasons.push(Need { seat: *seat, cause })?;
+                reasons.push(Need {
+                    located: *located,
+                    cause,
+                })?;
             }
         }
         Ok(())
     }
 
     /// Why a piece that isn't live has to be.
-    fn reason(&self, seat: Seat) -> Cause {
-        let Some(cell) = self.cell_of(seat) else {
+    fn reason(&self, located: Located) -> Cause {
+        let Some(cell) = self.cell_of(located) else {
             return Cause::None;
         };
-        let spot = seat.spot;
+        let spot = located.spot;
         if cell.is_live(spot.index) {
             return Cause::None;
         }
@@ -352,19 +395,19 @@ impl Table {
         if certain != Cause::None {
             return certain;
         }
-        match self.live_follower(cell, seat) {
+        match self.live_follower(cell, located) {
             Some(next) => Cause::Follower(next),
             None => self.live_reading(cell, spot),
         }
     }
 
     /// A block to which a path leads from a piece, and at whose start the lane is live.
-    fn live_follower(&self, cell: &Cell, seat: Seat) -> Option<u32> {
-        let spot = seat.spot;
+    fn live_follower(&self, cell: &Cell, located: Located) -> Option<u32> {
+        let spot = located.spot;
         if !self.has_exit(cell, spot.index) {
             return None;
         }
-        let near = seat.place.saturating_sub(1);
+        let near = located.place.saturating_sub(1);
         successors(self.flow.as_slice(), spot.block)
             .iter()
             .find(|next| self.rows.is_live_in(spot.lane, near, **next))
@@ -396,90 +439,54 @@ impl Table {
         }
     }
 
-    /// Lets pieces come alive for their reasons, and all that leads to them, the nearest first.
-    /// Answers them. The pieces that lead to them and are live already are added to those around.
-    fn rise(
-        &mut self,
-        reasons: &[Need],
-        around: &mut Vec<Seat>,
-        log: &mut Log,
-    ) -> Result<Vec<Seat>, AllocError> {
-        let mut risen = Vec::new(self.rows.alloc);
-        self.meet_all(reasons, &mut risen, around, log)?;
-        let mut needs = Vec::new(self.rows.alloc);
-        'risen: for k in 0..usize::MAX {
-            let Some(seat) = risen.get(k).copied() else {
-                break;
-            };
-            needs.clear();
-            self.add_needs(seat, &mut needs)?;
-            self.meet_all(needs.as_slice(), &mut risen, around, log)?;
-        }
-        Ok(risen)
-    }
-
-    /// Lets a piece come alive, where it isn't, and adds it.
-    fn rise_at(
-        &mut self,
-        need: &Need,
-        risen: &mut Vec<Seat>,
-        around: &mut Vec<Seat>,
-        log: &mut Log,
-    ) -> Result<(), AllocError> {
-        match self.give_cause(need.seat, need.cause, log)? {
-            Some(seat) => {
-                risen.push(seat)?;
-                Ok(())
-            }
-            None => add_new(around, need.seat),
-        }
-    }
-
-    fn meet_all(
-        &mut self,
-        needs: &[Need],
-        risen: &mut Vec<Seat>,
-        around: &mut Vec<Seat>,
-        log: &mut Log,
-    ) -> Result<(), AllocError> {
-        'needs: for need in needs {
-            self.rise_at(need, risen, around, log)?;
-        }
-        Ok(())
-    }
-
     /// Gives pieces their ends anew, those that have no end yet too where this is said.
     fn end_again(
         &mut self,
-        seats: &[Seat],
+        pieces: &[Located],
         is_last: bool,
         log: &mut Log,
     ) -> Result<(), AllocError> {
-        'seats: for seat in seats {
-            if let Some((place, end)) = self.new_end(*seat, is_last) {
-                self.set_end(seat.spot, place, end, log)?;
+        let mut moves = Moves::new();
+        'pieces: for located in pieces {
+            if let Some(place) = self.place_again(*located, &mut moves) {
+                self.end_piece(located.spot, place, is_last, log)?;
             }
         }
         Ok(())
     }
 
-    /// Up to where a piece is live now, where this is another end than it has, and the place of its
-    /// cell.
-    fn new_end(&self, seat: Seat, is_last: bool) -> Option<(usize, End)> {
-        let spot = seat.spot;
+    /// The place of a piece's cell, after other cells may have come before it.
+    fn place_again(&self, located: Located, moves: &mut Moves) -> Option<usize> {
+        let row = self.rows.rows.get(located.spot.lane as usize)?;
+        let place = row.find(moves.near(located), located.spot.block)?;
+        moves.note(located, place);
+        Some(place)
+    }
+
+    /// Gives the piece at a spot its end anew, by the place of its cell.
+    fn end_piece(
+        &mut self,
+        spot: Spot,
+        place: usize,
+        is_last: bool,
+        log: &mut Log,
+    ) -> Result<(), AllocError> {
+        match self.new_end(spot, place, is_last) {
+            Some(end) => self.set_end(spot, place, end, log),
+            None => Ok(()),
+        }
+    }
+
+    /// Up to where the piece at a spot is live now, where this is another end than it has.
+    fn new_end(&self, spot: Spot, place: usize, is_last: bool) -> Option<End> {
         let row = self.rows.rows.get(spot.lane as usize)?;
-        let place = row.find(seat.place, spot.block)?;
         let cell = row.cells.get(place)?;
         let piece = cell.piece(spot.index)?;
         if !is_last && piece.is_live() && piece.end == End::Never {
             return None;
         }
         let end = self.end_now(spot, place, cell, piece);
-        if end == piece.end {
-            None
-        } else {
-            Some((place, end))
-        }
+        if end == piece.end { None } else { Some(end) }
     }
 
     /// Up to where a piece is live, by the readings and exits that count.

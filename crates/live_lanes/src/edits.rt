@@ -6,8 +6,9 @@ use crate::edit_log::{Log, Mended};
 use crate::edit_update::Touch;
 use crate::effects::{Reader, Tables};
 use crate::enter::slot_of;
-use crate::lanes::{Lanes, has_lane, no_lanes};
+use crate::lanes::{Lanes, has_lane, lanes_of_slot, no_lanes};
 use crate::live::LiveFunc;
+use crate::new_cells::NewCell;
 use crate::row::{Cause, Cell, End, Piece, Reading, Row, Segment, entry_rank};
 use crate::table::Table;
 use mir_func::{Func, Gap, Loc, Op, Operand, Operands, RegOp};
@@ -108,34 +109,33 @@ impl LiveFunc {
     }
 
     /// Does edits as `begin_edits` does, which is done sooner where these edit each instruction that
-    /// touches a range. The pieces of that range aren't among those that are said to be changed.
-    pub fn begin_edits_of(&mut self, edits: Vec<Edit>, v: u32) -> Result<Changes, AllocError> {
+    /// touches a range, which are given as `touched` answers them. The pieces of that range aren't
+    /// among those that are said to be changed.
+    pub fn begin_edits_of(
+        &mut self,
+        edits: Vec<Edit>,
+        v: u32,
+        touched: &[u32],
+    ) -> Result<Changes, AllocError> {
         let own = self.table.lanes.of_range(v);
-        if self.table.is_read_last(own) || !self.is_edited_whole(edits.as_slice(), v)? {
+        if self.table.is_read_last(own) || !self.are_edited(edits.as_slice(), touched)? {
             return self.begin(edits, no_lanes());
         }
         self.begin(edits, own)
     }
 
-    /// Whether each instruction that touches a range is replaced or erased.
-    fn is_edited_whole(&self, edits: &[Edit], v: u32) -> Result<bool, AllocError> {
-        let alloc = self.table.rows.alloc;
-        let ids = changed_ids(alloc, edits)?;
-        let touched = self.touched(alloc, v)?;
-        Ok(
-            touched
-                .as_slice()
-                .iter()
-                .all(|id| ids.binary_search(id).is_ok()),
-        )
+    /// Whether each of these instructions is replaced or erased.
+    fn are_edited(&self, edits: &[Edit], touched: &[u32]) -> Result<bool, AllocError> {
+        let ids = changed_ids(self.table.rows.alloc, edits)?;
+        Ok(touched.iter().all(|id| ids.binary_search(id).is_ok()))
     }
 
     fn begin(&mut self, edits: Vec<Edit>, gone: Lanes) -> Result<Changes, AllocError> {
         let alloc = self.table.rows.alloc;
-        let room = edits.len().saturating_mul(8).min(1 << 20);
+        let count = edits.len().min(1 << 16);
         let mut progress = Progress {
-            log: Log::new(alloc, room)?,
-            touched: Vec::new(alloc),
+            log: Log::new(alloc, count)?,
+            touched: Vec::with_capacity(alloc, count.saturating_mul(4))?,
             gone,
         };
         let outcome = self.try_edits(edits, &mut progress);

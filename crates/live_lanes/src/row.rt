@@ -138,6 +138,9 @@ pub(crate) fn reaches(slots: &Slots, end: End, at: u128) -> bool
     !is_never(end) && at <= rank(slots, end)
 }
 
+/// Between cells of blocks that are at most so far apart, those of the blocks between are made too.
+const NEAR: u32 = 4;
+
 /// Makes room for one element in a list that has none, and for no more: most lanes have one cell, and
 /// most pieces one reading.
 pub(crate) fn make_first_room<T>(list: &mut Vec<T>) -> Result<(), AllocError>
@@ -267,13 +270,62 @@ impl Row {
 }
 
 impl Row {
+    /// Puts in a cell of a block that has none.
+    pub fn put(&mut self, cell: Cell) -> Result<(), AllocError> {
+        let block = cell.block;
+        let at = self.place_near(self.cells.len(), block);
+        if self.has_at(at, block) {
+            return Ok(());
+        }
+        insert_one(&mut self.cells, at, cell)
+    }
+
+    /// Makes cells for the blocks between the last one that has a cell and this one, where these are
+    /// few: a lane that is named on both sides of them is mostly live all through them, and so no
+    /// cell has to be put between others for it.
+    fn fill(&mut self, alloc: Global, block: u32) -> Result<(), AllocError>
+        ensures { (b : ℕ) → seen_in self.new.cells.items b ≡ seen_in self.old.cells.items b }
+    {
+        let bound = self.last_block();
+        if bound <= block || bound - block > NEAR {
+            return Ok(());
+        }
+        'between: for between in (block + 1..bound).rev() {
+            let behind = self.cells.len();
+            let _ = self.make(alloc, behind, between)?;
+        }
+        Ok(())
+    }
+
+    /// The block of the last cell; 0 where there is none.
+    fn last_block(&self) -> u32 {
+        match self.cells.last() {
+            Some(cell) => cell.block,
+            None => 0,
+        }
+    }
+
+    /// The place of a block's cell, which is made where there is none, with those of the few blocks
+    /// behind it up to the last cell.
+    pub fn make_behind(&mut self, alloc: Global, block: u32) -> Result<usize, AllocError>
+        ensures within { IfOk result (λ at. at < length self.new.cells.items) }
+        ensures there { IfOk result (λ at. slice_get self.new.cells.items at
+            ≡ find_cell block self.new.cells.items) }
+        ensures same { (b : ℕ) → seen_in self.new.cells.items b ≡ seen_in self.old.cells.items b }
+    {
+        self.fill(alloc, block)?;
+        let near = self.cells.len().saturating_sub(1);
+        self.make(alloc, near, block)
+    }
+}
+
+impl Row {
     /// Notes that a phi reads the lane at the end of a block.
     pub fn read_last(&mut self, alloc: Global, block: u32) -> Result<(), AllocError>
         ensures { OnOk result ((b : ℕ) → seen_in self.new.cells.items b
             ≡ cond (nat_eq block b) (read_at_end (seen_in self.old.cells.items block)) (seen_in self.old.cells.items b)) }
     {
-        let near = self.cells.len().saturating_sub(1);
-        let place = self.make(alloc, near, block)?;
+        let place = self.make_behind(alloc, block)?;
         self.cells[place].is_read_last = true;
         Ok(())
     }
@@ -288,8 +340,7 @@ impl Row {
         ensures { OnOk result ((b : ℕ) → seen_in self.new.cells.items b
             ≡ cond (nat_eq block b) (with_reading reading (seen_in self.old.cells.items block)) (seen_in self.old.cells.items b)) }
     {
-        let near = self.cells.len().saturating_sub(1);
-        let place = self.make(alloc, near, block)?;
+        let place = self.make_behind(alloc, block)?;
         self.cells[place].add_reading(reading)
     }
 
@@ -305,8 +356,7 @@ impl Row {
         ensures { OnOk result ((b : ℕ) → seen_in self.new.cells.items b
             ≡ cond (nat_eq block b) (with_segment start early from (seen_in self.old.cells.items block)) (seen_in self.old.cells.items b)) }
     {
-        let near = self.cells.len().saturating_sub(1);
-        let place = self.make(alloc, near, block)?;
+        let place = self.make_behind(alloc, block)?;
         self.cells[place].add_segment(alloc, start, early, from)
     }
 
@@ -454,7 +504,7 @@ impl Segment {
 
 impl Cell {
     /// A cell without readings and writings.
-    fn new(alloc: Global, block: u32) -> Cell
+    pub fn new(alloc: Global, block: u32) -> Cell
         ensures block { result.block ≡ block }
         ensures unseen { seen_cell result ≡ unseen }
     {

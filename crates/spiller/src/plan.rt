@@ -31,17 +31,17 @@ pub(crate) struct Plan {
 }
 
 impl Plan {
-    /// No edits of a function.
-    pub fn new(view: View<'_>) -> Plan {
+    /// No edits of a function, with room for so many.
+    pub fn new(view: View<'_>, room: usize) -> Result<Plan, AllocError> {
         let f = view.live.func();
-        Plan {
+        Ok(Plan {
             alloc: view.alloc,
-            edits: Vec::new(view.alloc),
+            edits: Vec::with_capacity(view.alloc, room)?,
             tinies: Tinies::new(view.alloc),
             classes: Vec::new(view.alloc),
             next_range: u32::try_from(f.classes.len()).unwrap_or(u32::MAX),
             next_id: f.next_id,
-        }
+        })
     }
 
     /// The id of the instruction that is put next.

@@ -35,7 +35,7 @@ pub fn spill(
         return Err(RunStop::Ranges);
     }
     make_ranges(m, slots, classes.as_slice())?;
-    m.edit_all_of(edits, v)?;
+    m.edit_all_of(edits, v, touched.as_slice())?;
     Ok(tinies)
 }
 
@@ -65,7 +65,8 @@ fn planned(
         class: class_of(live.func(), v).unwrap_or(ClassId(0)),
     };
     let remat = plan_remat(view, touched)?;
-    let mut plan = Plan::new(view);
+    // (a place is changed in three steps at most: a reload, the instruction, a store)
+    let mut plan = Plan::new(view, touched.len().saturating_mul(3))?;
     let mut last = None;
     'touched: for id in touched {
         last = change_touched(view, *id, last, &remat, slots, &mut plan)?;

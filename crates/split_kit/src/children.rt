@@ -38,7 +38,7 @@ pub fn split(
         children: children.as_slice(),
     };
     let edits = edits_of(view, touched.as_slice(), labels.as_slice())?;
-    m.edit_all_of(edits, v)?;
+    m.edit_all_of(edits, v, touched.as_slice())?;
     Ok(children)
 }
 
@@ -69,13 +69,18 @@ fn fresh_all(
     Ok(children)
 }
 
-/// The edits that split a range, block by block.
+/// The edits that split a range, block by block. A block with neither marks nor instructions that
+/// touch the range needs none.
 fn edits_of(view: View<'_>, touched: &[u32], marks: &[Mark]) -> Result<Vec<Edit>, AllocError> {
-    let mut edits = Vec::new(view.alloc);
+    let room = touched.len().saturating_add(marks.len());
+    let mut edits = Vec::with_capacity(view.alloc, room)?;
     let placed = placed_marks(view, marks)?;
     let mut marks_left = placed.as_slice();
     let mut touched_left = touched;
-    'blocks: for position in 0..block_count(view.live) {
+    'blocks: for _ in 0..room {
+        let Some(position) = next_block(view.live, touched_left, marks_left) else {
+            break;
+        };
         let (here, rest) = parted(marks_left, marks_in(marks_left, position));
         marks_left = rest;
         let (own, others) = parted(touched_left, touched_in(view.live, touched_left, position));
@@ -85,8 +90,15 @@ fn edits_of(view: View<'_>, touched: &[u32], marks: &[Mark]) -> Result<Vec<Edit>
     Ok(edits)
 }
 
-fn block_count(live: &LiveFunc) -> u32 {
-    u32::try_from(live.func().blocks.len()).unwrap_or(u32::MAX)
+/// The position of the first block in layout in which one of these instructions or marks stands.
+fn next_block(live: &LiveFunc, touched: &[u32], marks: &[Placed]) -> Option<u32> {
+    let touched = touched.first().map(|id| live.position_of(*id));
+    let marked = marks.first().map(|placed| placed.position);
+    match (touched, marked) {
+        (Some(a), Some(b)) => Some(a.min(b)),
+        (a, None) => a,
+        (None, b) => b,
+    }
 }
 
 /// A mark, and the position of its block.
@@ -96,15 +108,18 @@ struct Placed {
     mark: Mark,
 }
 
-/// Marks with the positions of their blocks, up to the first whose block isn't there.
+/// Marks with the positions of their blocks, up to the first whose block isn't there or stands
+/// before that of the mark before it.
 fn placed_marks(view: View<'_>, marks: &[Mark]) -> Result<Vec<Placed>, AllocError> {
     let mut placed = Vec::with_capacity(view.alloc, marks.len())?;
+    let mut last = 0u32;
     'marks: for mark in marks {
-        let Some(position) = view.live.block_position(mark.block) else {
-            break;
-        };
+        match view.live.block_position(mark.block) {
+            Some(position) if position >= last => last = position,
+            _ => break,
+        }
         placed.push(Placed {
-            position,
+            position: last,
             mark: *mark,
         })?;
     }
