@@ -119,8 +119,7 @@ impl Run {
         self.slots.adopt(child, parent)?;
         let depth = self.depth(parent).saturating_add(1);
         self.set_depth(child, depth);
-        let touched = self.matrix.live().touched(self.alloc, child)?;
-        if touched.is_empty() {
+        if !self.matrix.live().is_touched(child) {
             return Ok(());
         }
         self.enqueue(child)

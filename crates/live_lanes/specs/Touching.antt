@@ -1,5 +1,5 @@
 -- Which instructions name a range, by the table, and where instructions are found.
-use Rattle.std.specs.Prelude.{◌≡◌, ℕ, zero, suc, ◌+◌, ◌-◌, ◌*◌, length, Bool, false, ◌||◌, nat_eq, List, map, Option, None, Some, find, slice_get, slice_index}
+use Rattle.std.specs.Prelude.{◌≡◌, ℕ, zero, suc, ◌+◌, ◌-◌, ◌*◌, length, Bool, false, ◌||◌, nat_eq, nat_lt, List, map, Option, None, Some, find, slice_get, slice_index}
 use Rattle.std.specs.Ordering.{nat_cmp}
 use Rattle.std.specs.List.{list_any}
 use Rattle.std.specs.List.Sorted.{IsStrictlySortedBy}
@@ -54,6 +54,14 @@ some_lane x v test = some_of test (slice_get x.lanes.ranges.items v)
 -- the instruction reads or writes a lane of the range
 abbrev pub names_range : Table → ℕ → ℕ → Bool
 names_range x v id = some_lane x v (names_lane id x.rows.rows.items)
+
+-- some instruction reads or writes the lane in the cell
+abbrev pub is_touched : Cell → Bool
+is_touched c = nat_lt 0 (length c.first.readings.items) || nat_lt 0 (length c.segments.items)
+
+-- some instruction reads or writes the lane
+abbrev pub touches_lane : List Row → ℕ → Bool
+touches_lane rows l = list_any is_touched (cells_of rows l)
 
 -- the piece of these that the instruction begins
 abbrev pub begun_by : ℕ → List Begun → Option Begun

@@ -155,16 +155,32 @@ impl Table {
         Ok(pieces)
     }
 
-    /// The ids of the instructions that were changed, in order.
+    /// The ids of the instructions that were changed, in layout order. (Edits mostly come so.)
     fn touched_ids(&self, touched: &[Touch]) -> Result<Vec<u32>, AllocError> {
+        let slots = &self.order.slots;
         let mut ids = Vec::new(self.rows.alloc);
+        let mut is_mixed = false;
+        let mut last = 0u64;
         'touched: for touch in touched {
-            if ids.last() != Some(&touch.id) {
+            let number = slots.number(touch.id);
+            if number != last {
+                is_mixed |= number < last;
                 ids.push(touch.id)?;
+                last = number;
             }
         }
-        ids.sort_unstable();
+        if is_mixed {
+            ids.sort_unstable_by_key(|id| slots.number(*id));
+        }
         Ok(ids)
+    }
+
+    /// Whether one of these instructions, which are in layout order, is that of an id.
+    fn is_among(&self, ids: &[u32], id: u32) -> bool {
+        let slots = &self.order.slots;
+        let at = slots.number(id);
+        let place = ids.partition_point(|other| slots.number(*other) < at);
+        ids.get(place) == Some(&id)
     }
 
     /// Brings the pieces up to date where instructions do something else to them.
@@ -205,8 +221,8 @@ impl Table {
         Ok(fallen)
     }
 
-    /// Whether a piece isn't live, or its cause holds as before, where these instructions, in order
-    /// of their ids, were changed.
+    /// Whether a piece isn't live, or its cause holds as before, where these instructions, in layout
+    /// order, were changed.
     fn has_standing_cause(&self, located: Located, ids: &[u32]) -> bool {
         let Some(cell) = self.cell_of(located) else {
             return true;
@@ -216,7 +232,7 @@ impl Table {
             Cause::None => true,
             Cause::Phi => false,
             Cause::Reading(id) => {
-                ids.binary_search(&id).is_err()
+                !self.is_among(ids, id)
                     && lies_in(&self.order.slots, cell, spot.index, End::Entry(id))
             }
             Cause::Follower(_) => self.has_exit(cell, spot.index),

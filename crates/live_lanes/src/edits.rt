@@ -109,7 +109,7 @@ impl LiveFunc {
     }
 
     /// Does edits as `begin_edits` does, which is done sooner where these edit each instruction that
-    /// touches a range, which are given as `touched` answers them. The pieces of that range aren't
+    /// touches a range, in the order in which these are given, that of `touched`. The pieces of that range aren't
     /// among those that are said to be changed.
     pub fn begin_edits_of(
         &mut self,
@@ -118,16 +118,10 @@ impl LiveFunc {
         touched: &[u32],
     ) -> Result<Changes, AllocError> {
         let own = self.table.lanes.of_range(v);
-        if self.table.is_read_last(own) || !self.are_edited(edits.as_slice(), touched)? {
+        if self.table.is_read_last(own) || !are_edited(edits.as_slice(), touched) {
             return self.begin(edits, no_lanes());
         }
         self.begin(edits, own)
-    }
-
-    /// Whether each of these instructions is replaced or erased.
-    fn are_edited(&self, edits: &[Edit], touched: &[u32]) -> Result<bool, AllocError> {
-        let ids = changed_ids(self.table.rows.alloc, edits)?;
-        Ok(touched.iter().all(|id| ids.binary_search(id).is_ok()))
     }
 
     fn begin(&mut self, edits: Vec<Edit>, gone: Lanes) -> Result<Changes, AllocError> {
@@ -307,16 +301,16 @@ fn changed_id(edit: &Edit) -> Option<u32> {
     }
 }
 
-/// The instructions that edits replace or erase, in order of their ids.
-fn changed_ids(alloc: Global, edits: &[Edit]) -> Result<Vec<u32>, AllocError> {
-    let mut ids = Vec::new(alloc);
+/// Whether edits replace or erase each of these instructions, in the same order.
+fn are_edited(edits: &[Edit], touched: &[u32]) -> bool {
+    let mut found = 0usize;
     'edits: for edit in edits {
-        if let Some(id) = changed_id(edit) {
-            ids.push(id)?;
+        let next = touched.get(found).copied();
+        if next.is_some() && next == changed_id(edit) {
+            found = found.saturating_add(1);
         }
     }
-    ids.sort_unstable();
-    Ok(ids)
+    found >= touched.len()
 }
 
 /// The instruction that stands in layout before a place of the block at a position.

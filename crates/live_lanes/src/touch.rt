@@ -16,7 +16,7 @@ ghost use Rattle.lane_effects.specs.Numbered.{number_in};
 ghost use Rattle.lane_effects.specs.declared.owner.Owner.TheVariants as owners;
 ghost use Rattle.live_lanes.specs.Lasting.{reading_counts, shapes};
 ghost use Rattle.live_lanes.specs.Table.{begun, readings_in, rises_from, seen_cell};
-ghost use Rattle.live_lanes.specs.Touching.{ReadsInOrder, reading_ids, reads_lane, reads_seen, begun_at, begun_by, is_early, leaves_block, some_lane, AreTouched, FindsInstrs, InLine, Meets, layout_key, names_cell, names_lane, names_segment, reads_in, some_below};
+ghost use Rattle.live_lanes.specs.Touching.{ReadsInOrder, reading_ids, reads_lane, reads_seen, begun_at, begun_by, is_early, leaves_block, some_lane, AreTouched, FindsInstrs, InLine, Meets, layout_key, names_cell, names_lane, names_segment, reads_in, some_below, is_touched, touches_lane};
 
 use crate::flow::successors;
 use crate::live::LiveFunc;
@@ -236,6 +236,15 @@ impl LiveFunc {
         Ok(found.in_order(&self.table.order.slots))
     }
 
+    /// Whether some instruction touches a range.
+    pub fn is_touched(&self, v: u32) -> bool
+        ensures { result ≡ some_lane self.now.table v (touches_lane self.now.table.rows.rows.items) }
+    {
+        self.table
+            .rows
+            .is_some_touched(self.table.lanes.of_range(v))
+    }
+
     /// The instruction of an id.
     pub fn instr(&self, id: u32) -> Option<&Instr>
         ensures { FindsInstrs self.now.table self.now.func.blocks → (p j : ℕ) (b : Block) (i : Instr) → slice_get self.now.func.blocks p ≡ Some b
@@ -329,6 +338,36 @@ impl LiveFunc {
         self.table
             .rows
             .is_some_live_in(self.table.lanes.of_range(v), position)
+    }
+}
+
+impl Cell {
+    /// Whether some instruction reads or writes the lane here.
+    fn is_touched(&self) -> bool
+        ensures { result ≡ is_touched self.now }
+    {
+        self.first.readings.len() > 0 || self.segments.len() > 0
+    }
+}
+
+impl Rows {
+    /// Whether some instruction reads or writes a lane.
+    fn is_touched(&self, lane: u32) -> bool
+        ensures { result ≡ touches_lane self.now.rows.items lane }
+    {
+        self.cells(lane).iter().any(|cell| cell.is_touched())
+    }
+
+    /// Whether some instruction reads or writes one of these lanes.
+    fn is_some_touched(&self, own: Lanes) -> bool
+        ensures { result ≡ some_below (touches_lane self.now.rows.items) own.first own.count }
+    {
+        'lanes: for k in 0..own.count {
+            if self.is_touched(own.first + k) {
+                return true;
+            }
+        }
+        false
     }
 }
 
