@@ -35,12 +35,50 @@ fn is_quiet_for(view: View<'_>, v: u32) -> bool {
     (0..view.live.lane_count(v)).all(|k| is_quiet_along(view, Lane { range: v, k }))
 }
 
-/// Whether the join is quiet at the writings of a lane.
+/// Whether the join is quiet at the writings of a lane. In a block in which the other lane has no
+/// cell it is neither live nor written, so that the blocks of the lane that has fewer are looked at.
 fn is_quiet_along(view: View<'_>, lane: Lane) -> bool {
-    let Some(number) = view.live.lane_of(lane.range, lane.k as usize) else {
+    let live = view.live;
+    let (Some(own), Some(other)) = (
+        number_of(live, Some(lane)),
+        number_of(live, partner(view, lane)),
+    ) else {
         return true;
     };
-    (0..view.live.cell_count(number)).all(|place| is_quiet_in(view, lane, number, place))
+    if live.cell_count(other) < live.cell_count(own) {
+        return (0..live.cell_count(other)).all(|k| match beside(live, own, other, k) {
+            Some(place) => is_quiet_in(view, lane, own, place),
+            None => true,
+        });
+    }
+    (0..live.cell_count(own)).all(|place| is_quiet_in(view, lane, own, place))
+}
+
+/// The number of a lane, where there is one.
+fn number_of(live: &LiveFunc, lane: Option<Lane>) -> Option<u32> {
+    let lane = lane?;
+    live.lane_of(lane.range, lane.k as usize)
+}
+
+/// The place of a lane's cell in the block of the cell of another lane at a place.
+fn beside(live: &LiveFunc, own: u32, other: u32, k: usize) -> Option<usize> {
+    let block = live.cell_block(other, k)?;
+    let (mut low, mut high) = (0usize, live.cell_count(own));
+    'halves: for _ in 0..usize::BITS {
+        if low >= high {
+            break;
+        }
+        let middle = low + (high - low) / 2;
+        match live.cell_block(own, middle) {
+            Some(there) if there > block => low = middle + 1,
+            _ => high = middle,
+        }
+    }
+    if live.cell_block(own, low) == Some(block) {
+        Some(low)
+    } else {
+        None
+    }
 }
 
 /// Whether the join is quiet at the writings of a lane in one of its blocks.

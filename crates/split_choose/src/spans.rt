@@ -150,7 +150,8 @@ fn positions_of(alloc: Global, live: &LiveFunc, v: u32) -> Result<Vec<u32>, Allo
     ensures all { IfOk result (λ ps. (k : ℕ) → list_any (nat_eq k) ps.items ≡ list_any (nat_eq k) (range_positions live.now.table v (lanes_count (slice_get live.now.table.lanes.ranges.items v)))) }
 {
     let mut positions = all_positions(alloc, live, v)?;
-    positions.sort_unstable();
+    // (those of each lane fall, and a stable sort merges such runs)
+    positions.sort()?;
     positions.dedup();
     Ok(positions)
 }

@@ -11,12 +11,12 @@ use Rattle.split_choose.proofs.spans.positions_of.Goals as goal
 
 pub returns-clause-order : goal.returns-clause-order
 returns-clause-order c =
-    let was = c.sort_unstable.new.self.items in
+    let was = c.sort.new.self.items in
     let left : c.dedup.new.self.items ≡ dedup eqb was = dedup_is eqb was c.dedup.new.self.items c.dedup.ensures.filtered in
-    subst (IsStrictlySortedBy nat_cmp) (sym left) (sorted_from_strictly_increasing (dedup eqb was) (IsStrictlyIncreasing-dedup was c.sort_unstable.ensures.sorted))
+    subst (IsStrictlySortedBy nat_cmp) (sym left) (sorted_from_strictly_increasing (dedup eqb was) (IsStrictlyIncreasing-dedup was c.in_ok-sort.ensures.sorted))
 
 pub returns-clause-all : goal.returns-clause-all
 returns-clause-all c = λ k.
-    let was = c.sort_unstable.new.self.items in
+    let was = c.sort.new.self.items in
     let left : c.dedup.new.self.items ≡ dedup eqb was = dedup_is eqb was c.dedup.new.self.items c.dedup.ensures.filtered in
-    ap (list_any (nat_eq k)) left ∙ (any-dedup was k ∙ (sym (list_any-IsPermutation (nat_eq k) c.in_ok-positions.positions.items was c.sort_unstable.ensures.permutation) ∙ ap (list_any (nat_eq k)) c.in_ok-positions.ensures))
+    ap (list_any (nat_eq k)) left ∙ (any-dedup was k ∙ (sym (list_any-IsPermutation (nat_eq k) c.in_ok-positions.positions.items was c.sort.ensures.permutation) ∙ ap (list_any (nat_eq k)) c.in_ok-positions.ensures))
