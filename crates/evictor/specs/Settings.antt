@@ -8,6 +8,7 @@ use Rattle.live_lanes.specs.declared.table.Table.{Table}
 use Rattle.interference.specs.declared.matrix.Matrix.{Matrix}
 use Rattle.evictor.specs.declared.ranks.Ranks.{Ranks}
 use Rattle.evictor.specs.declared.choice.Eviction.{Eviction}
+use Rattle.evictor.specs.declared.choice.Weighed.{Weighed}
 use Rattle.live_lanes.specs.Held.{range_held}
 use Rattle.live_lanes.specs.Looks.{InOrder}
 use Rattle.interference.specs.Clashes.{is_fixed, is_in_way}
@@ -40,6 +41,14 @@ pub record Weighs (x : Table) (f : Function) (freqs : List ℕ) : Type 0 where
   pub tells : TellsInstrs f x
   pub points : (w : ℕ) → range_held x f.blocks w < 2 ^ 64
   pub uses : (w : ℕ) → 1024 * use_sum f.blocks freqs w < 2 ^ 128
+
+-- a range with its weight
+abbrev pub weighed : ℕ → ℕ → Weighed
+weighed w n = record { range = w; weight = n }
+
+-- that is the weight of the range
+abbrev pub IsWeighed : Matrix → List ℕ → Weighed → Type 0
+IsWeighed m freqs k = k.weight ≡ weight_in m freqs k.range
 
 -- the weight that those in the way must have less of; none where the range is a tiny
 abbrev pub limit : Setting → Option ℕ

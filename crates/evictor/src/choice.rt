@@ -1,6 +1,6 @@
 //! The cheapest eviction.
 
-ghost use Rattle.std.specs.Prelude.{◌≡◌, ◌<◌, ◌+◌, ◌^◌, ◌&&◌, ℕ, true, false, not, nat_lt, map, length, option_map, IfOk};
+ghost use Rattle.std.specs.Prelude.{◌≡◌, ◌<◌, ◌+◌, ◌^◌, ◌&&◌, ℕ, true, false, not, nat_lt, map, length, option_map, is_none, IfOk, IfSome};
 ghost use Rattle.std.specs.List.{list_all};
 ghost use Rattle.interference.specs.Clashes.{IsOrdered, is_fixed};
 ghost use Rattle.evictor.specs.Best.{best_with};
@@ -8,7 +8,7 @@ ghost use Rattle.evictor.specs.Settings.{ranking_of};
 ghost use Rattle.evictor.specs.Hints.{assignment_of, copies_count};
 ghost use Rattle.evictor.specs.Candidates.{candidates};
 ghost use Rattle.evictor.specs.Cheapest.{is_tiny, cascade, number, weight, clashers, may_lose, qualifies, cheapest_of};
-ghost use Rattle.evictor.specs.Settings.{Weighs, weight_in, setting_of, limit, is_within, cost_within, eviction_of, eviction_at, costs_less, answer_of};
+ghost use Rattle.evictor.specs.Settings.{Weighs, weight_in, setting_of, limit, is_within, cost_within, eviction_of, eviction_at, costs_less, answer_of, weighed, IsWeighed};
 
 use crate::hints::candidates;
 use crate::ranks::Ranks;
@@ -30,6 +30,22 @@ struct View<'a> {
     number: u32,
     /// Its weight, which those in the way must have less of; none where they need not.
     weight: Option<u128>,
+}
+
+/// A range and its weight, which was found before.
+#[derive(Clone, Copy)]
+struct Weighed {
+    range: u32,
+    weight: u128,
+}
+
+/// What is known of the ranges in the way in a register when one of them was looked at.
+#[derive(Clone, Copy)]
+struct Way {
+    /// Whether it may not lose its register.
+    is_kept: bool,
+    /// Its weight, where that was found and it may.
+    known: Option<Weighed>,
 }
 
 /// A register and the ranges in the way there.
@@ -121,15 +137,34 @@ fn weight_of(view: View<'_>, w: u32) -> Result<u128, AllocError>
     Ok(own)
 }
 
-/// The greatest weight of ranges in the way; none where one of them is too heavy.
+/// The same, which may be known.
+fn weight_or(view: View<'_>, w: u32, known: Option<Weighed>) -> Result<u128, AllocError>
+    ensures { IfOk result (λ own. Weighs view.entry.m.now.live.table view.entry.m.now.live.func view.entry.freqs.now
+        → IfSome known (IsWeighed view.entry.m.now view.entry.freqs.now) → own ≡ weight_in view.entry.m.now view.entry.freqs.now w) }
+{
+    if let Some(known) = known {
+        if known.range == w {
+            return Ok(known.weight);
+        }
+    }
+    let own = weight_of(view, w)?;
+    Ok(own)
+}
+
+/// The greatest weight of ranges in the way, one of which may be known; none where one of them is too
+/// heavy.
 #[tactic(auto, using(crate::proofs::Evicted::costs))]
-fn cost_of(view: View<'_>, victims: &[u32]) -> Result<Option<u128>, AllocError>
+fn cost_of(
+    view: View<'_>,
+    victims: &[u32],
+    known: Option<Weighed>,
+) -> Result<Option<u128>, AllocError>
     ensures { IfOk result (λ cost. Weighs view.entry.m.now.live.table view.entry.m.now.live.func view.entry.freqs.now
-        → cost ≡ cost_within view.entry.weight (map (weight_in view.entry.m.now view.entry.freqs.now) victims.now)) }
+        → IfSome known (IsWeighed view.entry.m.now view.entry.freqs.now) → cost ≡ cost_within view.entry.weight (map (weight_in view.entry.m.now view.entry.freqs.now) victims.now)) }
 {
     let mut cost = 0u128;
     'victims: for w in victims {
-        let own = weight_of(view, *w)?;
+        let own = weight_or(view, *w, known)?;
         if !is_within(view.weight, own) {
             return Ok(None);
         }
@@ -153,8 +188,14 @@ fn evicted(r: Reg, victims: Numbers, cost: Option<u128>) -> Option<Eviction>
 }
 
 /// The eviction of these ranges, which are those in the way in a register, where they may be evicted.
-fn evicting(view: View<'_>, r: Reg, victims: Numbers) -> Result<Option<Eviction>, AllocError>
+fn evicting(
+    view: View<'_>,
+    r: Reg,
+    victims: Numbers,
+    known: Option<Weighed>,
+) -> Result<Option<Eviction>, AllocError>
     ensures { IfOk result (λ found. Weighs view.entry.m.now.live.table view.entry.m.now.live.func view.entry.freqs.now
+        → IfSome known (IsWeighed view.entry.m.now view.entry.freqs.now)
         → view.entry.number ≡ number (ranking_of view.entry.ranks.now) view.entry.range
         → view.entry.weight ≡ limit (setting_of view.entry.m.now view.entry.freqs.now view.entry.ranks.now view.entry.range)
         → is_fixed view.entry.m.now view.entry.range r ≡ false
@@ -164,37 +205,64 @@ fn evicting(view: View<'_>, r: Reg, victims: Numbers) -> Result<Option<Eviction>
     if !all_may_lose(view, victims.as_slice()) {
         return Ok(None);
     }
-    let cost = cost_of(view, victims.as_slice())?;
+    let cost = cost_of(view, victims.as_slice(), known)?;
     Ok(evicted(r, victims, cost))
 }
 
-/// Whether a range in the way may not lose its register.
-fn keeps_register(view: View<'_>, w: u32) -> Result<bool, AllocError>
-    ensures { IfOk result (λ keeps. Weighs view.entry.m.now.live.table view.entry.m.now.live.func view.entry.freqs.now
+/// The weight of a range in the way, where it may lose its register.
+fn lost_weight(view: View<'_>, w: u32) -> Result<Option<u128>, AllocError>
+    ensures keeps { IfOk result (λ own. Weighs view.entry.m.now.live.table view.entry.m.now.live.func view.entry.freqs.now
         → view.entry.number ≡ number (ranking_of view.entry.ranks.now) view.entry.range
         → view.entry.weight ≡ limit (setting_of view.entry.m.now view.entry.freqs.now view.entry.ranks.now view.entry.range)
-        → keeps ≡ not (may_lose (setting_of view.entry.m.now view.entry.freqs.now view.entry.ranks.now view.entry.range) w)) }
+        → is_none own ≡ not (may_lose (setting_of view.entry.m.now view.entry.freqs.now view.entry.ranks.now view.entry.range) w)) }
+    ensures weight { IfOk result (λ own. Weighs view.entry.m.now.live.table view.entry.m.now.live.func view.entry.freqs.now
+        → IfSome own (λ n. n ≡ weight_in view.entry.m.now view.entry.freqs.now w)) }
 {
     if !may_lose(view, w) {
-        return Ok(true);
+        return Ok(None);
     }
     let own = weight_of(view, w)?;
-    Ok(!is_within(view.weight, own))
+    if is_within(view.weight, own) {
+        return Ok(Some(own));
+    }
+    Ok(None)
 }
 
-/// Whether the range in the way that is found first may not lose its register. Mostly that settles
-/// it, before all those in the way are found.
-fn is_kept_out(view: View<'_>, r: Reg) -> Result<bool, AllocError>
-    ensures { IfOk result (λ kept. IsOrdered view.entry.m.now → Weighs view.entry.m.now.live.table view.entry.m.now.live.func view.entry.freqs.now
+/// What is known of a range in the way that may lose its register at this weight, or may not.
+fn way_of(range: u32, lost: Option<u128>) -> Way
+    ensures kept { result.is_kept ≡ is_none lost }
+    ensures known { result.known ≡ option_map (weighed range) lost }
+{
+    match lost {
+        None => Way {
+            is_kept: true,
+            known: None,
+        },
+        Some(weight) => Way {
+            is_kept: false,
+            known: Some(Weighed { range, weight }),
+        },
+    }
+}
+
+/// What is known of the range in the way that is found first. That it may not lose its register
+/// mostly settles it, before all those in the way are found.
+fn look(view: View<'_>, r: Reg) -> Result<Way, AllocError>
+    ensures kept { IfOk result (λ way. IsOrdered view.entry.m.now → Weighs view.entry.m.now.live.table view.entry.m.now.live.func view.entry.freqs.now
         → view.entry.number ≡ number (ranking_of view.entry.ranks.now) view.entry.range
         → view.entry.weight ≡ limit (setting_of view.entry.m.now view.entry.freqs.now view.entry.ranks.now view.entry.range)
-        → kept ≡ true → qualifies (setting_of view.entry.m.now view.entry.freqs.now view.entry.ranks.now view.entry.range) r ≡ false) }
+        → way.is_kept ≡ true → qualifies (setting_of view.entry.m.now view.entry.freqs.now view.entry.ranks.now view.entry.range) r ≡ false) }
+    ensures known { IfOk result (λ way. Weighs view.entry.m.now.live.table view.entry.m.now.live.func view.entry.freqs.now
+        → IfSome way.known (IsWeighed view.entry.m.now view.entry.freqs.now)) }
 {
     match view.m.some_clasher(view.range, r) {
-        None => Ok(false),
+        None => Ok(Way {
+            is_kept: false,
+            known: None,
+        }),
         Some(w) => {
-            let keeps = keeps_register(view, w)?;
-            Ok(keeps)
+            let lost = lost_weight(view, w)?;
+            Ok(way_of(w, lost))
         }
     }
 }
@@ -206,13 +274,14 @@ fn eviction_at(view: View<'_>, r: Reg) -> Result<Option<Eviction>, AllocError>
         → view.entry.weight ≡ limit (setting_of view.entry.m.now view.entry.freqs.now view.entry.ranks.now view.entry.range)
         → found ≡ eviction_at (setting_of view.entry.m.now view.entry.freqs.now view.entry.ranks.now view.entry.range) r) }
 {
-    if is_kept_out(view, r)? {
+    let way = look(view, r)?;
+    if way.is_kept {
         return Ok(None);
     }
     match view.m.clashers(view.range, r)? {
         Clash::Fixed => Ok(None),
         Clash::Ranges(victims) => {
-            let found = evicting(view, r, victims)?;
+            let found = evicting(view, r, victims, way.known)?;
             Ok(found)
         }
     }
