@@ -8,3 +8,4 @@ pub mod Naming
 pub mod Sequence
 pub mod Stepped
 pub mod Touched
+pub mod IsTouched

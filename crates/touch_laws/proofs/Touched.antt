@@ -42,7 +42,7 @@ use Rattle.touch_laws.proofs.Stepped.{step-forth, step-back, steps-there, steps-
 
 -- lanes in a row
 
-below-forth : (test : ℕ → Bool) (low n : ℕ) → some_below test low n ≡ true → (j : ℕ) × (j < n) × (test (low + j) ≡ true)
+pub below-forth : (test : ℕ → Bool) (low n : ℕ) → some_below test low n ≡ true → (j : ℕ) × (j < n) × (test (low + j) ≡ true)
 below-forth test low zero e = absurd (cc)
 below-forth test low (suc n) e = go (or-cases (test (low + n)) (some_below test low n) e) (below-forth test low n)
   where
@@ -50,7 +50,7 @@ below-forth test low (suc n) e = go (or-cases (test (low + n)) (some_below test 
     go (inl f) ih = (n, omega arith, f)
     go (inr f) ih = let z = ih f in let l = z.1 in (z.0, omega (arith, l), z.2)
 
-below-back : (test : ℕ → Bool) (low n j : ℕ) → j < n → test (low + j) ≡ true → some_below test low n ≡ true
+pub below-back : (test : ℕ → Bool) (low n j : ℕ) → j < n → test (low + j) ≡ true → some_below test low n ≡ true
 below-back test low zero j h e = absurd (omega arith)
 below-back test low (suc n) j h e = go (nat_lt j n) refl (below-back test low n j)
   where

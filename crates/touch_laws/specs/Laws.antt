@@ -1,5 +1,5 @@
 -- What the table of live lanes tells of the instructions that name a range.
-use Rattle.std.specs.Prelude.{◌≡◌, ◌⊎◌, ℕ, Bool, true, false, List, Some, None, is_some, slice_get}
+use Rattle.std.specs.Prelude.{◌≡◌, ◌⊎◌, ℕ, nat_lt, length, Bool, true, false, List, Some, None, is_some, slice_get}
 use Rattle.std.specs.List.{list_all}
 use Rattle.target_base.specs.declared.types.Target.{Target}
 use Rattle.target_base.specs.Rules.{is_phi}
@@ -21,6 +21,7 @@ use Rattle.effect_laws.specs.Coded.{KeepsRules, IsNumbered}
 use Rattle.live_lanes.specs.declared.table.Table.{Table}
 use Rattle.live_lanes.specs.Doing.{IsComputed}
 use Rattle.live_lanes.specs.Tells.{TellsInstrs}
+use Rattle.live_lanes.specs.Touching.{AreTouched, some_lane, touches_lane}
 
 -- the opcode isn't an excluded one
 abbrev pub is_known : Target → Instr → Bool
@@ -55,3 +56,7 @@ abbrev pub TouchedLaw : Type 0
 TouchedLaw =
     (t : Target) (f : Function) (x : Table) → IsComputed t f x → KeepsRules t f → ((b : Block) (j : ℕ) (i : Instr) → Member b f.blocks → slice_get b.instrs j ≡ Some i → V8 t b j i ≡ true)
     → has_no_phis t f.blocks ≡ true → are_known t f.blocks ≡ true → TellsInstrs f x
+
+-- where these are the instructions that touch the range, a lane of it is touched exactly where there is one
+abbrev pub IsTouchedLaw : Type 0
+IsTouchedLaw = (x : Table) (v : ℕ) (ids : List ℕ) → AreTouched x v ids → some_lane x v (touches_lane x.rows.rows.items) ≡ nat_lt 0 (length ids)

@@ -1,7 +1,7 @@
 //! Laws of the instructions that touch a range: which they are by the table of live lanes.
 #![tactic(auto)]
 
-ghost use Rattle.touch_laws.specs.Laws.{KnownLaw, NamingLaw, TouchedLaw};
+ghost use Rattle.touch_laws.specs.Laws.{IsTouchedLaw, KnownLaw, NamingLaw, TouchedLaw};
 
 /// A valid function has no excluded opcode.
 pub fn known_law()
@@ -17,4 +17,9 @@ pub fn naming_law()
 /// of them stands.
 pub fn touched_law()
     ensures { TouchedLaw }
+{}
+
+/// A range is touched exactly where the list of the instructions that touch it isn't empty.
+pub fn is_touched_law()
+    ensures { IsTouchedLaw }
 {}
