@@ -88,6 +88,6 @@ computed t f num got slots flow entered grown ended places laid single numbered 
     let of-grown : IsTableOf (lane_code t f num) slots flow grown = record { entered = λ l b. z.0 l b ∙ table.entered l b; numbered = table.numbered; ways = table.ways; matched = table.matched; few = subst (λ n. n < 4294967296) (sym z.2) table.few } in
     ended-told (lane_code t f num) slots flow grown ended of-grown (outward t (doing_of t f num) (λ n. place_of n f.blocks) f.blocks slots flow entered made) z.1 keeps ends
 
-pub is-computed : (t : Target) (f : Function) (x : Table) → NumbersAll t f x.lanes → ((n : ℕ) → get nat_cmp x.order.positions n ≡ place_of n f.blocks) → AreHomes f.blocks x.order.block_of.items → ids x.order.slots ≡ all_ids f.blocks → IsNumbered x.order.slots → ((id : ℕ) → has id (all_ids f.blocks) ≡ true → id < 4294967296) → length (all_points f) < 18446744073709551616
+pub is-computed : (t : Target) (f : Function) (x : Table) → NumbersAll t f x.lanes → ((n : ℕ) → get nat_cmp x.order.positions n ≡ place_of n f.blocks) → AreHomes f.blocks x.order.block_of.items → AreWays t (get nat_cmp x.order.positions) f.blocks x.flow.items → ids x.order.slots ≡ all_ids f.blocks → IsNumbered x.order.slots → ((id : ℕ) → has id (all_ids f.blocks) ≡ true → id < 4294967296) → length (all_points f) < 18446744073709551616
     → (AllMatched (lane_code t f (number_in x.lanes)) → Told (lane_code t f (number_in x.lanes)) x.order.slots x.flow.items x.rows.rows.items) → IsComputed t f x
-is-computed t f x numbers positions homes layout numbered short few told = record { numbers = numbers; positions = positions; homes = homes; layout = layout; numbered = numbered; short = short; few = few; table = λ m. (told m).table; grown = λ m. (told m).grown; ended = λ m. (told m).ended }
+is-computed t f x numbers positions homes ways layout numbered short few told = record { numbers = numbers; positions = positions; homes = homes; ways = subst (λ g. AreWays t g f.blocks x.flow.items) (fun_ext positions) ways; layout = layout; numbered = numbered; short = short; few = few; table = λ m. (told m).table; grown = λ m. (told m).grown; ended = λ m. (told m).ended }

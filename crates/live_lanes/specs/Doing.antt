@@ -19,6 +19,7 @@ use Rattle.live_lanes.specs.Entered.{causes, IsTableOf}
 use Rattle.live_lanes.specs.Ends.{AreEnds}
 use Rattle.live_lanes.specs.Entering.{EnteredStep}
 use Rattle.live_lanes.specs.Ordered.{all_ids, place_of, AreHomes}
+use Rattle.live_lanes.specs.Flowing.{AreWays}
 use Rattle.live_lanes.specs.Coded.{code_of}
 use Rattle.live_lanes.specs.Laws.{AllMatched}
 
@@ -31,11 +32,12 @@ doing_of t f num i =
 abbrev pub lane_code : Target → Function → Numbering → Code
 lane_code t f num = code_of (doing_of t f num) (λ n. place_of n f.blocks) f.blocks
 
--- the table tells of the function, whose points can be counted in 64 bits, which lanes are live where blocks and writings begin, and up to where
+-- the table tells of the function, whose points can be counted in 64 bits, the ways between its blocks, which lanes are live where blocks and writings begin, and up to where
 pub record IsComputed (t : Target) (f : Function) (x : Table) : Type 0 where
   pub numbers : NumbersAll t f x.lanes
   pub positions : (n : ℕ) → get nat_cmp x.order.positions n ≡ place_of n f.blocks
   pub homes : AreHomes f.blocks x.order.block_of.items
+  pub ways : AreWays t (λ n. place_of n f.blocks) f.blocks x.flow.items
   pub layout : ids x.order.slots ≡ all_ids f.blocks
   pub numbered : IsNumbered x.order.slots
   pub short : (id : ℕ) → has id (all_ids f.blocks) ≡ true → id < 4294967296

@@ -173,7 +173,8 @@ impl LiveFunc {
         self.table.rows.cells(lane).len()
     }
 
-    /// The position of one of the blocks in which a lane is named or live, the last one first.
+    /// The position of the block of one of a lane's cells, the last one first: a lane has one where it
+    /// is named or live, and perhaps in blocks between.
     pub fn cell_block(&self, lane: u32, place: usize) -> Option<u32>
         ensures { result ≡ option_map (λ c. c.block) (slice_get (cells_of self.now.table.rows.rows.items lane) place) }
     {

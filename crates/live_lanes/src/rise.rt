@@ -166,13 +166,13 @@ impl Table {
         'values: for cell in rising.through.values() {
             cells.push(*cell)?;
         }
-        log.reserve_more(count)?;
-        self.make_all(cells.as_slice())?;
-        note_through(cells.as_slice(), log)
+        note_through(cells.as_slice(), log)?;
+        self.make_all(cells.as_slice())
     }
 }
 
-/// Notes what takes such cells back.
+/// Notes what takes such cells back, before they are made: of one that isn't made then, nothing is
+/// taken back.
 fn note_through(cells: &[NewCell], log: &mut Log) -> Result<(), AllocError> {
     'cells: for cell in cells {
         let mended = Mended {

@@ -13,7 +13,7 @@ returns c =
     let flow = c.in_ok-flow.flow.items in
     let grown = c.grow.new.self.rows.items in
     let ended = c.end_all.new.self.rows.items in
-    is-computed c.args.target.now c.args.func.now (record { lanes = c.in_ok-lanes.lanes; order = order; flow = c.in_ok-flow.flow; rows = c.end_all.new.self }) c.in_ok-lanes.ensures c.in_ok-order.ensures.positions c.in_ok-order.ensures.homes c.in_ok-order.ensures.ids c.in_ok-order.ensures.numbered c.in_ok-order.ensures.short c.in_ok-order.ensures.few (λ matched.
+    is-computed c.args.target.now c.args.func.now (record { lanes = c.in_ok-lanes.lanes; order = order; flow = c.in_ok-flow.flow; rows = c.end_all.new.self }) c.in_ok-lanes.ensures c.in_ok-order.ensures.positions c.in_ok-order.ensures.homes c.in_ok-flow.ensures c.in_ok-order.ensures.ids c.in_ok-order.ensures.numbered c.in_ok-order.ensures.short c.in_ok-order.ensures.few (λ matched.
     computed c.args.target.now c.args.func.now (number_in c.in_ok-lanes.lanes) (get nat_cmp order.positions) order.slots flow c.in_ok-rows.rows.rows.items grown ended
     c.in_ok-order.ensures.positions c.in_ok-order.ensures.ids c.in_ok-order.ensures.single c.in_ok-order.ensures.numbered c.in_ok-order.ensures.small c.in_ok-flow.ensures c.in_ok-rows.ensures.few (c.in_ok-rows.ensures.seen c.in_ok-lanes.ensures.table) (subst (λ xs. GrowsAll order.slots xs c.in_ok-rows.rows.rows.items grown) c.as_slice.ensures.value c.in_ok-grow.ensures) c.end_all.ensures.keeps
     (subst (λ xs. AllRise order.slots grown → length grown < 4294967296 → (l b n : ℕ) → Lasts order.slots xs grown ended l b n) c.as_slice-2.ensures.value c.end_all.ensures.ended) matched)
