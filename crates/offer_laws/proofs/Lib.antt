@@ -1,4 +1,5 @@
 pub mod Places
+pub mod Ways
 pub mod Begun
 pub mod Turns
 pub mod Pieces

@@ -15,7 +15,7 @@ use Rattle.live_lanes.specs.Table.{descends}
 use Rattle.live_lanes.specs.Entered.{causes, cells_of, rows_seen}
 use Rattle.live_lanes.specs.Doing.{IsComputed}
 use Rattle.touch_laws.specs.Laws.{are_known}
-use Rattle.split_choose.specs.Seen.{FindsPlaces, begins_here, ends_in_turn, reads_here}
+use Rattle.split_choose.specs.Seen.{FindsPlaces, FindsWays, begins_here, ends_in_turn, reads_here}
 
 -- Where places are asked for, a computed table finds them: of a function without phis and excluded opcodes whose terminators stand
 -- last in their blocks. Its blocks have numbers of their own by the rules that it keeps.
@@ -38,3 +38,8 @@ abbrev pub PiecesFoundLaw : Type 0
 PiecesFoundLaw =
     (t : Target) (f : Function) (x : Table) → IsComputed t f x → KeepsRules t f → ((b : Block) (j : ℕ) (i : Instr) → Member b f.blocks → slice_get b.instrs j ≡ Some i → V8 t b j i ≡ true)
     → FindsPieces f x
+
+-- The ways of a computed table are those of the blocks, and each edge leads to one of them by the rules that the function keeps.
+abbrev pub WaysFoundLaw : Type 0
+WaysFoundLaw =
+    (t : Target) (f : Function) (x : Table) → IsComputed t f x → KeepsRules t f → length f.blocks < 2147483648 → FindsWays f x

@@ -1,7 +1,7 @@
 //! Laws of what splits ask of a table of live lanes: a computed one has it.
 #![tactic(auto)]
 
-ghost use Rattle.offer_laws.specs.Laws.{PiecesFoundLaw, PlacesFoundLaw};
+ghost use Rattle.offer_laws.specs.Laws.{PiecesFoundLaw, PlacesFoundLaw, WaysFoundLaw};
 
 /// In a computed table places are found: points stand in order, instructions are found, those that
 /// touch a range are named, and blocks end in their terminators.
@@ -12,4 +12,10 @@ pub fn places_found_law()
 /// In a computed table the pieces of lanes begin and are read in their blocks, and end in turn.
 pub fn pieces_found_law()
     ensures { PiecesFoundLaw }
+{}
+
+/// In a computed table the ways between blocks are those of the function, and each edge leads to a
+/// block.
+pub fn ways_found_law()
+    ensures { WaysFoundLaw }
 {}
