@@ -4,19 +4,30 @@ use Rattle.std.specs.Prelude.{◌||◌, nat_lt, slice_get}
 use Rattle.std.specs.List.{list_any}
 use Rattle.std.proofs.lemmas.Bool.{ltb-false}
 use Rattle.std.proofs.lemmas.List.Folds.{list_any-append}
+use Rattle.target_base.specs.declared.types.Reg.{Reg}
 use Rattle.live_lanes.specs.Looks.{InOrder}
 use Rattle.live_lanes.proofs.Held.{or-none}
 use Rattle.interference.specs.declared.held.HeldList.{HeldList}
 use Rattle.interference.specs.declared.matrix.AllHeld.{AllHeld}
 use Rattle.interference.specs.declared.matrix.UnitHeld.{UnitHeld}
 use Rattle.interference.specs.declared.matrix.Matrix.{Matrix}
-use Rattle.interference.specs.Clashes.{IsOrdered, AreApart, AreKnown, part_of, held_of_some, list_in}
+use Rattle.interference.specs.Clashes.{IsOrdered, AreApart, AreKnown, register_in, part_of, held_of_some, list_in}
 use Rattle.interference.specs.Parts.{has_parts, has_lists}
 use Rattle.std.specs.Prelude.{flat_map}
 
 -- one more that doesn't pass
 pub none_more : {X : Type 0} (p : X → Bool) (xs ys : List X) (x : X) → ys ≡ xs ++ x ∷ [] → list_any p xs ≡ false → p x ≡ false → list_any p ys ≡ false
 none_more p xs ys x e was here = ap (list_any p) e ∙ list_any-append p xs (x ∷ []) ∙ or-none (list_any p xs) (p x || false) was (or-none (p x) false here refl)
+
+-- one more range has no register either
+pub no-more : (rs all : List (Option Reg)) → all ≡ rs ++ None ∷ [] → ((v : ℕ) → register_in rs v ≡ None) → (v : ℕ) → register_in all v ≡ None
+no-more rs all e none v = ap (λ xs. register_in xs v) e ∙ go rs none v
+  where
+    go : (xs : List (Option Reg)) → ((v : ℕ) → register_in xs v ≡ None) → (v : ℕ) → register_in (xs ++ None ∷ []) v ≡ None
+    go [] h zero = refl
+    go [] h (suc v) = refl
+    go (x ∷ xs) h zero = h 0
+    go (x ∷ xs) h (suc v) = go xs (λ w. h (suc w)) v
 
 pub no_parts : (h : HeldList) → h.parts.items ≡ [] → has_parts h ≡ false
 no_parts h e = ap (λ ps. nat_lt 0 (length ps)) e

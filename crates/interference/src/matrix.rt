@@ -1,6 +1,6 @@
 //! The matrix: a function, the register of each assigned range, and what the ranges hold.
 
-ghost use Rattle.std.specs.Prelude.{◌≡◌, ◌<◌, ◌≤◌, ◌*◌, ℕ, true, false, not, ◌&&◌, ◌||◌, nat_eq, length, IfOk, IfSome, option_copied, slice_get, slice_index};
+ghost use Rattle.std.specs.Prelude.{◌≡◌, ◌<◌, ◌≤◌, ◌*◌, ℕ, true, false, not, ◌&&◌, ◌||◌, nat_eq, length, IfOk, IfSome, option_copied, slice_get, slice_index, None};
 ghost use Rattle.std.specs.List.{list_any};
 ghost use Rattle.std.specs.Ordering.{nat_cmp};
 ghost use Rattle.std.specs.BTreeMap.{get};
@@ -235,15 +235,28 @@ fn add_extents(
     Ok(())
 }
 
+/// No register for any of so many ranges.
+fn no_registers(alloc: Global, count: usize) -> Result<Vec<Option<Reg>>, AllocError>
+    ensures count { IfOk result (λ r. length r.items ≡ count) }
+    ensures none { IfOk result (λ r. (v : ℕ) → register_in r.items v ≡ None) }
+{
+    let mut registers = Vec::with_capacity(alloc, count)?;
+    'ranges: for _ in 0..count {
+        registers.push(None)?;
+    }
+    Ok(registers)
+}
+
 impl Matrix {
     /// A function without phis, with no range assigned.
     pub fn new(alloc: Global, f: LiveFunc) -> Result<Matrix, AllocError>
         ensures live { IfOk result (λ m. m.live ≡ f) }
+        ensures none { IfOk result (λ m. (v : ℕ) → register_in m.registers.items v ≡ None) }
         ensures ordered { IfOk result (λ m. InOrder f.table → IsOrdered m) }
     {
         let units = f.target().units.len();
         let held = AllHeld::new(alloc, units, f.func().blocks.len())?;
-        let registers = Vec::from_elem(alloc, None, f.func().classes.len())?;
+        let registers = no_registers(alloc, f.func().classes.len())?;
         Ok(Matrix {
             alloc,
             live: f,
