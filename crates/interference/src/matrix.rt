@@ -241,7 +241,7 @@ fn no_registers(alloc: Global, count: usize) -> Result<Vec<Option<Reg>>, AllocEr
     ensures none { IfOk result (λ r. (v : ℕ) → register_in r.items v ≡ None) }
 {
     let mut registers = Vec::with_capacity(alloc, count)?;
-    'ranges: for _ in 0..count {
+    'each: for _ in 0..count {
         registers.push(None)?;
     }
     Ok(registers)
