@@ -1,30 +1,26 @@
--- What offers of splits ask of a matrix is what the meaning of the function says.
-use Rattle.std.specs.Prelude.{◌≡◌, ◌<◌, ℕ, false, List, Option, length}
+-- What offers of splits ask of a table is what the meaning of the function says.
+use Rattle.std.specs.Prelude.{◌≡◌, ℕ, true, Some, slice_get}
 use Rattle.target_base.specs.declared.types.Target.{Target}
-use Rattle.target_base.specs.declared.types.Reg.{Reg}
-use Rattle.target_base.specs.declared.types.Unit.{Unit as UnitNumber}
-use Rattle.meaning.specs.declared.types.Lane.TheVariants.{UnitLane}
+use Rattle.meaning.specs.Live.{Among as Member}
+use Rattle.mir_func.specs.declared.func.Block.{Block}
+use Rattle.mir_func.specs.declared.func.Instr.{Instr}
 use Rattle.mir_func.specs.Value.{Function}
-use Rattle.mir_meaning.specs.Points.{RangePoint, Tests}
-use Rattle.mir_meaning.specs.Registers.{is_reserved}
-use Rattle.live_lanes.specs.Ways.{successors}
-use Rattle.interference.specs.declared.matrix.Matrix.{Matrix}
-use Rattle.split_choose.specs.Offers.{OneBundle, RangeLive, HeldByOthers, View, TestsPoints}
-use Rattle.split_choose.specs.Bundles.{AreBundles}
-use Rattle.split_choose.specs.Seen.{view_of}
-use Rattle.clash_laws.specs.Facts.{IsExact}
+use Rattle.mir_meaning.specs.Points.{RangePoint}
+use Rattle.mir_meaning.specs.Rules.{V8}
+use Rattle.effect_laws.specs.Coded.{KeepsRules}
+use Rattle.live_lanes.specs.declared.table.Table.{Table}
+use Rattle.live_lanes.specs.Doing.{IsComputed}
+use Rattle.split_choose.specs.Offers.{RangeLive, TestsPoints}
+use Rattle.split_choose.specs.Seen.{seen_live, seen_point}
 
--- The tests tell of a range of the function, at each of its points, whether the range is live there, whether it has a lane there, and
--- of each unit that isn't reserved whether something else holds it; and which borders are of one bundle. (No candidate of a range has a
--- reserved unit, so offers never ask for one.)
-pub record ShowsUnreserved (t : Target) (f : Function) (registers : List (Option Reg)) (v : ℕ) (view : View) : Type 0 where
-  pub live : TestsPoints f (RangeLive t f v) view.live
-  pub is_point : TestsPoints f (RangePoint t f v) view.is_point
-  pub held : (u : UnitNumber) → is_reserved t (UnitLane u.0) ≡ false → TestsPoints f (λ p. HeldByOthers t f registers v (u, p)) (λ p. view.held (u, p))
-  pub one_bundle : Tests (OneBundle f.blocks) view.one_bundle
+-- a computed table tells of each range at which points of the function some lane of it is live
+abbrev pub LiveShownLaw : Type 0
+LiveShownLaw =
+    (t : Target) (f : Function) (x : Table) → IsComputed t f x → KeepsRules t f → ((b : Block) (j : ℕ) (i : Instr) → Member b f.blocks → slice_get b.instrs j ≡ Some i → V8 t b j i ≡ true)
+    → (v : ℕ) → TestsPoints f (RangeLive t f v) (seen_live x f.blocks v)
 
--- an exact matrix tells so of each range, where the bundles are linked along the ways of its table
-abbrev pub ShownLaw : Type 0
-ShownLaw =
-    (m : Matrix) → IsExact m → length m.live.func.blocks < 2147483648 → (parents : List ℕ) → AreBundles (successors m.live.table.flow.items) parents
-    → (v : ℕ) → ShowsUnreserved m.live.target m.live.func m.registers.items v (view_of m v parents)
+-- and at which it has a lane
+abbrev pub PointsShownLaw : Type 0
+PointsShownLaw =
+    (t : Target) (f : Function) (x : Table) → IsComputed t f x → KeepsRules t f → ((b : Block) (j : ℕ) (i : Instr) → Member b f.blocks → slice_get b.instrs j ≡ Some i → V8 t b j i ≡ true)
+    → (v : ℕ) → TestsPoints f (RangePoint t f v) (seen_point x f.blocks v)

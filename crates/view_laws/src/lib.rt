@@ -1,12 +1,14 @@
-//! A law of what offers of splits ask: an exact matrix tells of it what the meaning of the function
-//! says.
+//! Laws of what offers of splits ask: it is what the meaning of the function says.
 #![tactic(auto)]
 
-ghost use Rattle.view_laws.specs.Laws.{ShownLaw};
+ghost use Rattle.view_laws.specs.Laws.{LiveShownLaw, PointsShownLaw};
 
-/// A matrix whose table is computed and whose lists are what ranges hold tells of each range where it
-/// is live and has points, where something else holds a unit that isn't reserved, and which borders
-/// are of one bundle.
-pub fn shown_law()
-    ensures { ShownLaw }
+/// A computed table tells of each range at which points of the function some lane of it is live.
+pub fn live_shown_law()
+    ensures { LiveShownLaw }
+{}
+
+/// And at which points some lane of it is live or occupied.
+pub fn points_shown_law()
+    ensures { PointsShownLaw }
 {}
