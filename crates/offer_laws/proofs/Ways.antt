@@ -16,16 +16,16 @@ use Rattle.offer_laws.proofs.Places.{all-there}
 -- a number that some block has is found
 found-number : (n : ℕ) (bs : List Block) → has_number (block_numbers bs) n ≡ true → is_found (place_of n bs) ≡ true
 found-number n [] e = absurd (cc)
-found-number n (b ∷ bs) e = go (nat_eq b.number n) refl (nat_eq n b.number) refl e
+found-number n (b ∷ bs) e = go (nat_eq b.number n) refl (nat_eq n b.number) refl e (found-number n bs)
   where
     up : (o : Option ℕ) → is_found o ≡ true → is_found (option_map (λ x. suc x) o) ≡ true
     up None h = h
     up (Some k) h = refl
 
-    go : (q : Bool) → nat_eq b.number n ≡ q → (p : Bool) → nat_eq n b.number ≡ p → (p || has_number (block_numbers bs) n) ≡ true → is_found (cond {A = Option ℕ} q (Some 0) (option_map (λ x. suc x) (place_of n bs))) ≡ true
-    go true f p g h = refl
-    go false f true g h = absurd (let z = eq-eqb b.number n (sym (eqb-true n b.number g)) in cc)
-    go false f false g h = up (place_of n bs) (found-number n bs h)
+    go : (q : Bool) → nat_eq b.number n ≡ q → (p : Bool) → nat_eq n b.number ≡ p → (p || has_number (block_numbers bs) n) ≡ true → (has_number (block_numbers bs) n ≡ true → is_found (place_of n bs) ≡ true) → is_found (cond {A = Option ℕ} q (Some 0) (option_map (λ x. suc x) (place_of n bs))) ≡ true
+    go true f p g h ih = refl
+    go false f true g h ih = absurd (let z = eq-eqb b.number n (sym (eqb-true n b.number g)) in cc)
+    go false f false g h ih = up (place_of n bs) (ih h)
 
 -- so do the edges to such
 edges-found : (bs : List Block) (es : List Edge) (more : List ℕ) → list_all (has_number (block_numbers bs)) (map (λ e. e.block) es ++ more) ≡ true → list_all (λ e. is_found (place_of e.block bs)) es ≡ true
