@@ -25,7 +25,7 @@ all-there p [] h = refl
 all-there p (x ∷ xs) h = and_from (p x) (list_all p xs) (h 0 x refl) (all-there p xs (λ k y e. h (suc k) y e))
 
 -- the first block of a number is the only one
-placed-first : (bs : List Block) → Apart (block_numbers bs) → ArePlaced bs
+pub placed-first : (bs : List Block) → Apart (block_numbers bs) → ArePlaced bs
 placed-first [] apart k c e = absurd (cc)
 placed-first (b ∷ bs) apart zero c e = let same = some-same b c e in ap (λ q. cond {A = Option ℕ} q (Some 0) (option_map (λ x. suc x) (place_of c.number bs))) (eq-eqb b.number c.number (ap (λ x. x.number) same))
 placed-first (b ∷ bs) apart (suc k) c e = go (nat_eq b.number c.number) refl (placed-first bs apart.1 k c e)

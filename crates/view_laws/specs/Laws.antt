@@ -1,16 +1,18 @@
 -- What offers of splits ask of a table is what the meaning of the function says.
-use Rattle.std.specs.Prelude.{◌≡◌, ℕ, true, Some, slice_get}
+use Rattle.std.specs.Prelude.{◌≡◌, ◌<◌, ℕ, true, List, Some, length, slice_get}
 use Rattle.target_base.specs.declared.types.Target.{Target}
 use Rattle.meaning.specs.Live.{Among as Member}
 use Rattle.mir_func.specs.declared.func.Block.{Block}
 use Rattle.mir_func.specs.declared.func.Instr.{Instr}
 use Rattle.mir_func.specs.Value.{Function}
-use Rattle.mir_meaning.specs.Points.{RangePoint}
+use Rattle.mir_meaning.specs.Points.{RangePoint, Tests}
 use Rattle.mir_meaning.specs.Rules.{V8}
 use Rattle.effect_laws.specs.Coded.{KeepsRules}
 use Rattle.live_lanes.specs.declared.table.Table.{Table}
 use Rattle.live_lanes.specs.Doing.{IsComputed}
-use Rattle.split_choose.specs.Offers.{RangeLive, TestsPoints}
+use Rattle.live_lanes.specs.Ways.{successors}
+use Rattle.split_choose.specs.Bundles.{AreBundles, are_joined}
+use Rattle.split_choose.specs.Offers.{OneBundle, RangeLive, TestsPoints}
 use Rattle.split_choose.specs.Seen.{seen_live, seen_point}
 
 -- a computed table tells of each range at which points of the function some lane of it is live
@@ -24,3 +26,9 @@ abbrev pub PointsShownLaw : Type 0
 PointsShownLaw =
     (t : Target) (f : Function) (x : Table) → IsComputed t f x → KeepsRules t f → ((b : Block) (j : ℕ) (i : Instr) → Member b f.blocks → slice_get b.instrs j ≡ Some i → V8 t b j i ≡ true)
     → (v : ℕ) → TestsPoints f (RangePoint t f v) (seen_point x f.blocks v)
+
+-- borders that are linked along the ways of a computed table are of one bundle, and no others are
+abbrev pub BundlesShownLaw : Type 0
+BundlesShownLaw =
+    (t : Target) (f : Function) (x : Table) → IsComputed t f x → KeepsRules t f → length f.blocks < 2147483648
+    → (parents : List ℕ) → AreBundles (successors x.flow.items) parents → Tests (OneBundle f.blocks) (are_joined f.blocks parents)

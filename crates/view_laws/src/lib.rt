@@ -1,7 +1,7 @@
 //! Laws of what offers of splits ask: it is what the meaning of the function says.
 #![tactic(auto)]
 
-ghost use Rattle.view_laws.specs.Laws.{LiveShownLaw, PointsShownLaw};
+ghost use Rattle.view_laws.specs.Laws.{BundlesShownLaw, LiveShownLaw, PointsShownLaw};
 
 /// A computed table tells of each range at which points of the function some lane of it is live.
 pub fn live_shown_law()
@@ -11,4 +11,9 @@ pub fn live_shown_law()
 /// And at which points some lane of it is live or occupied.
 pub fn points_shown_law()
     ensures { PointsShownLaw }
+{}
+
+/// And which borders of blocks are of one edge bundle.
+pub fn bundles_shown_law()
+    ensures { BundlesShownLaw }
 {}
