@@ -1,19 +1,24 @@
--- What offers of splits ask of a table is what the meaning of the function says.
-use Rattle.std.specs.Prelude.{◌≡◌, ◌<◌, ℕ, true, List, Some, length, slice_get}
+-- What offers of splits ask of a table and of a matrix is what the meaning of the function says.
+use Rattle.std.specs.Prelude.{◌≡◌, ◌<◌, ℕ, true, false, List, Some, length, slice_get}
 use Rattle.target_base.specs.declared.types.Target.{Target}
+use Rattle.target_base.specs.declared.types.Unit.{Unit as UnitNumber}
+use Rattle.meaning.specs.declared.types.Lane.TheVariants.{UnitLane}
 use Rattle.meaning.specs.Live.{Among as Member}
 use Rattle.mir_func.specs.declared.func.Block.{Block}
 use Rattle.mir_func.specs.declared.func.Instr.{Instr}
 use Rattle.mir_func.specs.Value.{Function}
 use Rattle.mir_meaning.specs.Points.{RangePoint, Tests}
+use Rattle.mir_meaning.specs.Registers.{is_reserved}
 use Rattle.mir_meaning.specs.Rules.{V8}
 use Rattle.effect_laws.specs.Coded.{KeepsRules}
 use Rattle.live_lanes.specs.declared.table.Table.{Table}
 use Rattle.live_lanes.specs.Doing.{IsComputed}
 use Rattle.live_lanes.specs.Ways.{successors}
+use Rattle.interference.specs.declared.matrix.Matrix.{Matrix}
 use Rattle.split_choose.specs.Bundles.{AreBundles, are_joined}
-use Rattle.split_choose.specs.Offers.{OneBundle, RangeLive, TestsPoints}
-use Rattle.split_choose.specs.Seen.{seen_live, seen_point}
+use Rattle.split_choose.specs.Offers.{OneBundle, RangeLive, HeldByOthers, TestsPoints}
+use Rattle.split_choose.specs.Seen.{seen_live, seen_point, seen_held}
+use Rattle.clash_laws.specs.Facts.{IsExact}
 
 -- a computed table tells of each range at which points of the function some lane of it is live
 abbrev pub LiveShownLaw : Type 0
@@ -32,3 +37,10 @@ abbrev pub BundlesShownLaw : Type 0
 BundlesShownLaw =
     (t : Target) (f : Function) (x : Table) → IsComputed t f x → KeepsRules t f → length f.blocks < 2147483648
     → (parents : List ℕ) → AreBundles (successors x.flow.items) parents → Tests (OneBundle f.blocks) (are_joined f.blocks parents)
+
+-- An exact matrix tells of each unit of the target that isn't reserved at which points something else than the range holds it. (Past the
+-- numbers of the target's units the rows of the table are those of other lanes.)
+abbrev pub HeldShownLaw : Type 0
+HeldShownLaw =
+    (m : Matrix) → IsExact m → (v : ℕ) (u : UnitNumber) → u.0 < length m.live.target.units → is_reserved m.live.target (UnitLane u.0) ≡ false
+    → TestsPoints m.live.func (λ p. HeldByOthers m.live.target m.live.func m.registers.items v (u, p)) (λ p. seen_held m v (u, p))

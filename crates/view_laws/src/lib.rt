@@ -1,7 +1,7 @@
 //! Laws of what offers of splits ask: it is what the meaning of the function says.
 #![tactic(auto)]
 
-ghost use Rattle.view_laws.specs.Laws.{BundlesShownLaw, LiveShownLaw, PointsShownLaw};
+ghost use Rattle.view_laws.specs.Laws.{BundlesShownLaw, HeldShownLaw, LiveShownLaw, PointsShownLaw};
 
 /// A computed table tells of each range at which points of the function some lane of it is live.
 pub fn live_shown_law()
@@ -16,4 +16,10 @@ pub fn points_shown_law()
 /// And which borders of blocks are of one edge bundle.
 pub fn bundles_shown_law()
     ensures { BundlesShownLaw }
+{}
+
+/// A matrix whose table is computed and whose lists are what ranges hold tells of each unit of the
+/// target that isn't reserved at which points something else than the range holds it.
+pub fn held_shown_law()
+    ensures { HeldShownLaw }
 {}
