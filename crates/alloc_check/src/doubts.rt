@@ -10,7 +10,7 @@ ghost use Rattle.mir_meaning.specs.Valid.{listed_units};
 
 use crate::alike::are_partners;
 use mir_func::{Block, Func, Instr, Place};
-use mir_items::counted::{effect_of, is_silent};
+use instr_effects::items::counted::{effect_of, is_silent};
 use target_base::registers::units_at;
 use target_base::{Boxed, Target, Unit};
 

@@ -8,12 +8,12 @@ ghost use Rattle.alloc_check.specs.Bare.{bare_item, first_bare, second_bare, ite
 use crate::rests::same_rest;
 use meaning::{Reads, Rest, Row, Ways, Writes};
 use mir_func::{Block, Func, Instr};
-use mir_items::counted::{
+use instr_effects::items::counted::{
     effect_of, is_early_clobber, is_silent, reads_of, rest_of, roles_of, values,
 };
-use mir_items::results::counted_writes;
-use mir_items::silent::push_silent_writes;
-use mir_items::ways::{falls_through, is_terminator, push_phis, target_of};
+use instr_effects::items::results::counted_writes;
+use instr_effects::items::silent::push_silent_writes;
+use instr_effects::items::ways::{falls_through, is_terminator, push_phis, target_of};
 use std::alloc::{AllocError, Global};
 use target_base::{List, Target};
 

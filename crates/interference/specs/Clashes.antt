@@ -5,8 +5,8 @@ use Rattle.target_base.specs.declared.types.Reg.{Reg}
 use Rattle.target_base.specs.declared.types.Unit.{Unit as UnitNumber}
 use Rattle.target_base.specs.Registers.{units_of}
 use Rattle.mir_meaning.specs.Registers.{numbers}
-use Rattle.lane_effects.specs.Numbered.{number_in}
-use Rattle.lane_effects.specs.declared.owner.Owner.TheVariants as owners
+use Rattle.instr_effects.specs.Numbered.{number_in}
+use Rattle.instr_effects.specs.declared.owner.Owner.TheVariants as owners
 use Rattle.std.specs.Global.{Global}
 use Rattle.live_lanes.specs.declared.extent.Stretch.{Stretch}
 use Rattle.live_lanes.specs.declared.row.Cell.{Cell}

@@ -3,7 +3,7 @@ use Rattle.std.proofs.Common.{◌≡◌, ◌<◌, ℕ, suc, Bool, true, false, c
 use Rattle.std.proofs.Math.Seq.{drop-cons}
 use Rattle.std.specs.Prelude.{nat_eq}
 use Rattle.std.specs.List.{list_any}
-use Rattle.live_law.specs.declared.writing.Writing.{Writing}
+use Rattle.mir_meaning.specs.declared.writing.Writing.{Writing}
 use Rattle.mir_func.specs.declared.func.Block.{Block}
 use Rattle.live_lanes.specs.declared.row.Reading.{Reading}
 use Rattle.live_lanes.specs.declared.row.Row.{Row}

@@ -9,13 +9,13 @@ use Rattle.mir_func.specs.declared.func.RegOp.{RegOp}
 use Rattle.mir_func.specs.declared.func.Block.{Block}
 use Rattle.mir_func.specs.declared.func.Instr.{Instr}
 use Rattle.mir_func.specs.Value.{Function}
-use Rattle.lane_effects.specs.declared.acts.Act.{Act}
-use Rattle.lane_effects.specs.declared.lanes.LaneTable.{LaneTable}
-use Rattle.lane_effects.specs.declared.owner.Owner.{Owner}
-use Rattle.lane_effects.specs.Acts.{acts_of, read_owners, use_owners, entered_reads, entered_writes}
-use Rattle.lane_effects.specs.Ends.{end_uses}
-use Rattle.lane_effects.specs.Numbered.{number_in, IsTable}
-use Rattle.lane_effects.specs.Steps.{Numbering, writing, act_writings, is_unnumbered, act_readings, phi_read_of}
+use Rattle.instr_effects.specs.declared.acts.Act.{Act}
+use Rattle.instr_effects.specs.declared.lanes.LaneTable.{LaneTable}
+use Rattle.instr_effects.specs.declared.owner.Owner.{Owner}
+use Rattle.instr_effects.specs.Acts.{acts_of, read_owners, use_owners, entered_reads, entered_writes}
+use Rattle.instr_effects.specs.Ends.{end_uses}
+use Rattle.instr_effects.specs.Numbered.{number_in, IsTable}
+use Rattle.instr_effects.specs.Steps.{Numbering, writing, act_writings, is_unnumbered, act_readings, phi_read_of}
 use Rattle.live_lanes.specs.declared.row.Row.{Row}
 use Rattle.live_lanes.specs.Paths.{has, is_some_number}
 use Rattle.live_lanes.specs.Table.{Seen, unseen, seen_in, with_reading, with_segment, read_at_end}

@@ -8,13 +8,13 @@ use Rattle.slot_index.specs.Renewed.{low_end}
 use Rattle.mir_func.specs.declared.func.Block.{Block}
 use Rattle.mir_func.specs.Value.{Function}
 use Rattle.mir_meaning.specs.Points.{all_points}
-use Rattle.lane_effects.specs.Steps.{Numbering}
+use Rattle.instr_effects.specs.Steps.{Numbering}
 use Rattle.live_lanes.specs.declared.flow.Ways.{Ways}
 use Rattle.live_lanes.specs.declared.row.Row.{Row}
 use Rattle.live_lanes.specs.declared.table.Table.{Table}
 use Rattle.std.specs.Ordering.{nat_cmp}
 use Rattle.std.specs.BTreeMap.{get}
-use Rattle.lane_effects.specs.Numbered.{number_in, NumbersAll}
+use Rattle.instr_effects.specs.Numbered.{number_in, NumbersAll}
 use Rattle.live_lanes.specs.Graph.{is_live, IsGrown}
 use Rattle.live_lanes.specs.Table.{Numbers, unseen, cause_in}
 use Rattle.live_lanes.specs.Entered.{rows_seen, causes, IsTableOf}

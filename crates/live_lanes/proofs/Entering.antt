@@ -4,7 +4,7 @@ use Rattle.std.specs.Prelude.{nat_eq}
 use Rattle.live_lanes.specs.declared.row.Row.{Row}
 use Rattle.live_lanes.specs.Table.{Seen, unseen, seen_in}
 use Rattle.live_lanes.specs.Entered.{rows_seen}
-use Rattle.live_law.specs.declared.writing.Writing.{Writing}
+use Rattle.mir_meaning.specs.declared.writing.Writing.{Writing}
 use Rattle.live_lanes.specs.Entering.{enter_all, at_spot, Entering, Enters, EnteredStep, reads_entered, moves_entered, writes_entered, lasts_entered, end_entered, ends_entered, step_entered}
 use Rattle.live_lanes.proofs.Rows.{rows-set, row-of}
 

@@ -7,9 +7,9 @@ use Rattle.std.proofs.lemmas.Bool.{ltb-true, ltb-false, lt-ltb, leb-true, leb-fa
 use Rattle.std.proofs.lemmas.Option.{slice_get-map}
 use Rattle.slot_index.specs.Order.{number_of}
 use Rattle.mir_meaning.specs.Registers.{numbers}
-use Rattle.lane_effects.specs.declared.row.Lanes.{Lanes}
-use Rattle.lane_effects.specs.Row.{lane_in}
-use Rattle.lane_effects.specs.Numbers.{row_number_in}
+use Rattle.instr_effects.specs.declared.row.Lanes.{Lanes}
+use Rattle.instr_effects.specs.Row.{lane_in}
+use Rattle.instr_effects.specs.Numbers.{row_number_in}
 use Rattle.live_lanes.specs.declared.extent.Extent.{Extent}
 use Rattle.live_lanes.specs.declared.extent.Stretch.{Stretch}
 use Rattle.live_lanes.specs.declared.row.Segment.{Segment}

@@ -3,7 +3,7 @@ use Rattle.std.proofs.Common.{◌≡◌, ◌<◌, ℕ, suc, Bool, true, false, c
 use Rattle.std.specs.Prelude.{nat_eq}
 use Rattle.std.specs.List.{list_any}
 use Rattle.std.proofs.lemmas.Bool.{ne_eqb}
-use Rattle.live_law.specs.declared.writing.Writing.{Writing}
+use Rattle.mir_meaning.specs.declared.writing.Writing.{Writing}
 use Rattle.live_lanes.specs.Paths.{Step, has, Use, Unused, Certain, Into, use_of, writing_of}
 use Rattle.live_lanes.specs.Table.{Seen, unseen, is_none, with_reading, with_segment, read_at_end}
 use Rattle.live_lanes.specs.Entered.{reading, readings_until, starts}

@@ -1,7 +1,7 @@
 -- The pieces of the first instructions of a block, and of one more.
 use Rattle.std.proofs.Common.{◌≡◌, ℕ, Bool, true, false, cond, List, [], ◌∷◌, ◌++◌, Option, Some, None, map, refl, sym, ap, ◌∙◌, append-nil, append_assoc}
 use Rattle.std.specs.Prelude.{nat_eq}
-use Rattle.live_law.specs.declared.writing.Writing.{Writing}
+use Rattle.mir_meaning.specs.declared.writing.Writing.{Writing}
 use Rattle.live_lanes.specs.declared.row.Reading.{Reading}
 use Rattle.live_lanes.specs.Paths.{Step, Use, Unused, Certain, Into, use_of, writing_of, is_present, is_written}
 use Rattle.live_lanes.specs.Table.{Begun, Seen, ends_with, changed_last, is_none, starts_last, new_begun}

@@ -2,7 +2,7 @@
 use Rattle.std.proofs.Common.{◌≡◌, ◌<◌, ◌≤◌, ℕ, suc, Bool, true, false, cond, ◌&&◌, leb, ltb, List, [], ◌∷◌, ◌++◌, ◌⊎◌, Option, None, Some, refl, sym, ap, ◌∙◌, subst, inl, inr, arith, map, append_assoc, append-nil}
 use Rattle.std.proofs.lemmas.Bool.{ltb-true, le-leb, lt-ltb, lt-leb}
 use Rattle.slot_index.specs.Order.{number_of}
-use Rattle.live_law.specs.declared.writing.Writing.{Writing}
+use Rattle.mir_meaning.specs.declared.writing.Writing.{Writing}
 use Rattle.live_lanes.specs.Paths.{Among, here, there, Step, Code, steps_of, writing_of, is_present}
 use Rattle.live_lanes.specs.Graph.{writes_in}
 use Rattle.live_lanes.specs.Table.{Numbers, entry_rank, exit_rank, leading, Begun, rises_from, piece_at}

@@ -5,7 +5,7 @@ use mathlib.Core.List.{reverse_aux}
 use Rattle.std.specs.List.{find}
 use Rattle.std.proofs.lemmas.List.{length-map}
 use Rattle.std.proofs.lemmas.Option.{slice_get-get_or, slice_get_cases}
-use Rattle.live_law.specs.declared.writing.Writing.{Writing}
+use Rattle.mir_meaning.specs.declared.writing.Writing.{Writing}
 use Rattle.live_lanes.specs.declared.row.Cause.{Cause}
 use Rattle.live_lanes.specs.declared.row.Cause.TheVariants as why
 use Rattle.live_lanes.specs.declared.row.Cell.{Cell}

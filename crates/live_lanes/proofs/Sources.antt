@@ -2,7 +2,7 @@
 use Rattle.std.proofs.Common.{◌≡◌, ◌<◌, ◌≤◌, ℕ, zero, suc, true, cond, length, List, [], ◌∷◌, ◌++◌, ◌⊎◌, Option, None, Some, refl, sym, ap, ◌∙◌, subst, inl, inr, arith, map, get_or, append-nil}
 use Rattle.std.specs.Prelude.{slice_get, option_map}
 use Rattle.std.proofs.lemmas.Option.{slice_get_cases}
-use Rattle.live_law.specs.declared.writing.Writing.{Writing}
+use Rattle.mir_meaning.specs.declared.writing.Writing.{Writing}
 use Rattle.live_lanes.specs.declared.flow.Ways.{Ways}
 use Rattle.live_lanes.specs.declared.row.Cause.TheVariants as why
 use Rattle.live_lanes.specs.declared.row.Reading.{Reading}

@@ -4,9 +4,9 @@ use Rattle.std.specs.Prelude.{nat_eq, nat_lt, slice_get, min, ◌||◌}
 use Rattle.std.proofs.lemmas.Bool.{eqb-true, eq-eqb, lt-ltb, ltb-true, ltb-false}
 use Rattle.std.proofs.lemmas.Option.{slice_get-get_or, slice_get_past}
 use Rattle.mir_func.specs.declared.func.Block.{Block}
-use Rattle.lane_effects.specs.declared.row.Lanes.{Lanes}
-use Rattle.lane_effects.specs.Row.{lane_in}
-use Rattle.lane_effects.specs.Numbers.{row_number_in}
+use Rattle.instr_effects.specs.declared.row.Lanes.{Lanes}
+use Rattle.instr_effects.specs.Row.{lane_in}
+use Rattle.instr_effects.specs.Numbers.{row_number_in}
 use Rattle.live_lanes.specs.declared.row.Row.{Row}
 use Rattle.live_lanes.specs.declared.table.Table.{Table}
 use Rattle.live_lanes.specs.Table.{Numbers, unseen, entry_rank, exit_rank}

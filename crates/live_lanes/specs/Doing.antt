@@ -8,10 +8,10 @@ use Rattle.mir_func.specs.declared.func.Instr.{Instr}
 use Rattle.mir_func.specs.Value.{Function}
 use Rattle.mir_meaning.specs.Binding.{does, is_terminator}
 use Rattle.mir_meaning.specs.Points.{all_points}
-use Rattle.lane_effects.specs.Acts.{acts_of, read_owners, entered_reads, entered_writes}
-use Rattle.lane_effects.specs.Ends.{end_uses}
-use Rattle.lane_effects.specs.Numbered.{number_in, NumbersAll}
-use Rattle.lane_effects.specs.Steps.{Numbering, act_readings, act_writings, phi_read_of}
+use Rattle.instr_effects.specs.Acts.{acts_of, read_owners, entered_reads, entered_writes}
+use Rattle.instr_effects.specs.Ends.{end_uses}
+use Rattle.instr_effects.specs.Numbered.{number_in, NumbersAll}
+use Rattle.instr_effects.specs.Steps.{Numbering, act_readings, act_writings, phi_read_of}
 use Rattle.live_lanes.specs.declared.table.Table.{Table}
 use Rattle.live_lanes.specs.Paths.{has, Code}
 use Rattle.live_lanes.specs.Graph.{IsGrown}

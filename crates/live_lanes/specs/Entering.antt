@@ -1,7 +1,7 @@
 -- Entering instructions into rows one after the other.
 use Rattle.std.specs.Prelude.{◌≡◌, ◌<◌, ℕ, suc, Bool, false, cond, ◌&&◌, nat_eq, List, [], ◌∷◌, Option, None, Some, length, map}
 use Rattle.std.specs.List.{list_any}
-use Rattle.live_law.specs.declared.writing.Writing.{Writing}
+use Rattle.mir_meaning.specs.declared.writing.Writing.{Writing}
 use Rattle.live_lanes.specs.declared.row.Row.{Row}
 use Rattle.live_lanes.specs.Paths.{Step, has}
 use Rattle.live_lanes.specs.Table.{Seen, with_reading, with_segment, read_at_end}

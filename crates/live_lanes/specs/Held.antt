@@ -2,7 +2,7 @@
 use Rattle.std.specs.Prelude.{◌≡◌, ◌<◌, ◌≤◌, ℕ, zero, suc, ◌+◌, Bool, false, cond, ◌&&◌, ◌||◌, nat_eq, List, [], ◌∷◌, Option, None, Some, slice_get, length, max}
 use Rattle.std.specs.List.{list_any}
 use Rattle.mir_func.specs.declared.func.Block.{Block}
-use Rattle.lane_effects.specs.declared.row.Lanes.{Lanes}
+use Rattle.instr_effects.specs.declared.row.Lanes.{Lanes}
 use Rattle.live_lanes.specs.declared.points.Span.{Span}
 use Rattle.live_lanes.specs.declared.row.Row.{Row}
 use Rattle.live_lanes.specs.declared.table.Table.{Table}

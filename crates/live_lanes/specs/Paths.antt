@@ -1,6 +1,6 @@
 -- A function by what its instructions do to lanes, which go by numbers, and which lanes are live in it.
 use Rattle.std.specs.Prelude.{◌≡◌, ℕ, Bool, true, false, cond, nat_eq, List, [], ◌∷◌, Option, None, Some, slice_get}
-use Rattle.live_law.specs.declared.writing.Writing.{Writing}
+use Rattle.mir_meaning.specs.declared.writing.Writing.{Writing}
 
 -- x is one of them
 pub data Among {A : Type 0} (x : A) : List A → Type 0 where

@@ -2,7 +2,7 @@
 
 use crate::flow::desc_of;
 use crate::lanes::{LaneTable, Lanes, lanes_of_slot};
-use lane_effects::Writing;
+use instr_effects::Writing;
 use mir_func::{Instr, Loc, Operand, RegOp};
 use std::alloc::{AllocError, Global};
 use target_base::{Effect, IndexId, MaskId, OpcodeDesc, Reg, Role, Target, Unit};

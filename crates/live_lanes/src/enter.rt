@@ -1,8 +1,8 @@
 //! What the instructions of a function do, entered into the pieces of its lanes.
 
 ghost use Rattle.std.specs.Prelude.{◌≡◌, ◌<◌, ℕ, length, OnOk, IfOk, map};
-ghost use Rattle.lane_effects.specs.Numbered.{IsTable, number_in};
-ghost use Rattle.lane_effects.specs.Steps.{seen_read};
+ghost use Rattle.instr_effects.specs.Numbered.{IsTable, number_in};
+ghost use Rattle.instr_effects.specs.Steps.{seen_read};
 ghost use Rattle.live_lanes.specs.Entered.{rows_seen};
 ghost use Rattle.live_lanes.specs.Coded.{entries};
 ghost use Rattle.live_lanes.specs.Doing.{doing_of};
@@ -15,7 +15,7 @@ use crate::lanes::LaneTable;
 use crate::order::Order;
 use crate::row::Reading;
 use crate::table::Rows;
-use lane_effects::{PhiRead, Reader, Writing};
+use instr_effects::{PhiRead, Reader, Writing};
 use mir_func::{Block, Func, Instr, Operand};
 use std::alloc::{AllocError, Global};
 use target_base::{Boxed, Target};

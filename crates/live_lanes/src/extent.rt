@@ -2,8 +2,8 @@
 //! ranges.
 
 ghost use Rattle.std.specs.Prelude.{◌≡◌, ◌≤◌, true, Some, length, slice_get, option_map};
-ghost use Rattle.lane_effects.specs.Numbered.{number_in};
-ghost use Rattle.lane_effects.specs.declared.owner.Owner.TheVariants as owners;
+ghost use Rattle.instr_effects.specs.Numbered.{number_in};
+ghost use Rattle.instr_effects.specs.declared.owner.Owner.TheVariants as owners;
 ghost use Rattle.live_lanes.specs.Table.{entry_rank, exit_rank, rises_from, seen_cell};
 ghost use Rattle.live_lanes.specs.Entered.{cells_of, piece_count};
 ghost use Rattle.live_lanes.specs.Looks.{InOrder};

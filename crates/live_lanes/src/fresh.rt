@@ -4,7 +4,7 @@ ghost use Rattle.std.specs.Prelude.{◌≡◌, ◌<◌, ◌^◌, ◌++◌, ◌�
 
 use crate::lanes::drop_range;
 use crate::live::LiveFunc;
-use lane_effects::registers::class_lanes;
+use instr_effects::registers::class_lanes;
 use std::alloc::AllocError;
 use target_base::ClassId;
 

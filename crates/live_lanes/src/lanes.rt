@@ -1,9 +1,9 @@
 //! Numbers for lanes, as they come and go with edits.
 
-pub(crate) use lane_effects::lanes::LaneTable;
-pub(crate) use lane_effects::numbers::LANES_OF_A_SLOT;
-pub(crate) use lane_effects::owner::Owner;
-pub(crate) use lane_effects::row::Lanes;
+pub(crate) use instr_effects::lanes::LaneTable;
+pub(crate) use instr_effects::numbers::LANES_OF_A_SLOT;
+pub(crate) use instr_effects::owner::Owner;
+pub(crate) use instr_effects::row::Lanes;
 
 /// No lanes.
 pub(crate) fn no_lanes() -> Lanes {

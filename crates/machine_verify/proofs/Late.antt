@@ -24,19 +24,19 @@ use Rattle.mir_meaning.specs.Binding.{class_of}
 use Rattle.mir_meaning.specs.Points.{Start, LiveAt}
 use Rattle.mir_meaning.specs.Registers.{numbers, is_reserved_unit}
 use Rattle.mir_meaning.specs.Valid.{Fault, IsValid, LiveFault, LiveInto, V13, V13_before, V14, fault_at, first, later, liveins_fit, names_virtual, shape_fault, start}
-use Rattle.lane_effects.specs.declared.row.Lanes.{Lanes}
-use Rattle.lane_effects.specs.Numbered.{number_in, counts}
-use Rattle.lane_effects.specs.Numbers.{row_number_in}
-use Rattle.lane_effects.specs.Stepping.{tag_of}
-use Rattle.lane_effects.proofs.Tables.{slice-numbers}
-use Rattle.effect_laws.specs.Shaped.{is_proper}
-use Rattle.effect_laws.proofs.Lists.{any-in}
-use Rattle.effect_laws.proofs.Shapes.{numbers-in}
-use Rattle.effect_laws.proofs.Valid.{valid-law, ends}
+use Rattle.instr_effects.specs.declared.row.Lanes.{Lanes}
+use Rattle.instr_effects.specs.Numbered.{number_in, counts}
+use Rattle.instr_effects.specs.Numbers.{row_number_in}
+use Rattle.instr_effects.specs.Stepping.{tag_of}
+use Rattle.instr_effects.proofs.Tables.{slice-numbers}
+use Rattle.live_laws.specs.Effects.Shaped.{is_proper}
+use Rattle.live_laws.proofs.Effects.Lists.{any-in}
+use Rattle.live_laws.proofs.Effects.Shapes.{numbers-in}
+use Rattle.live_laws.proofs.Effects.Valid.{valid-law, ends}
 use Rattle.live_lanes.specs.declared.table.Table.{Table}
 use Rattle.live_lanes.specs.Doing.{IsComputed}
 use Rattle.live_lanes.specs.Marks.{marked_at}
-use Rattle.live_exact.proofs.Computed.{computed-law}
+use Rattle.live_laws.proofs.Exact.Computed.{computed-law}
 use Rattle.machine_verify.specs.Liveins.{is_set}
 use Rattle.machine_verify.specs.Lives.{FitsTarget, unit_lives, lane_lives, flags_of, lane_count, register_lives, some_register_lives, block_fits, starts_fit, later_fault, first_late}
 

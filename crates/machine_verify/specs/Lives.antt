@@ -13,9 +13,9 @@ use Rattle.mir_meaning.specs.Binding.{class_of}
 use Rattle.mir_meaning.specs.Registers.{numbers}
 use Rattle.mir_meaning.specs.Valid.{Fault, fault_at, liveins_fit, names_virtual}
 use Rattle.target_base.specs.Rules.{regs_of_some}
-use Rattle.lane_effects.specs.declared.owner.Owner.TheVariants as owners
-use Rattle.lane_effects.specs.Numbered.{number_in}
-use Rattle.effect_laws.specs.Shaped.{AreClasses}
+use Rattle.instr_effects.specs.declared.owner.Owner.TheVariants as owners
+use Rattle.instr_effects.specs.Numbered.{number_in}
+use Rattle.live_laws.specs.Effects.Shaped.{AreClasses}
 use Rattle.live_lanes.specs.declared.table.Table.{Table}
 use Rattle.live_lanes.specs.Marks.{marked_at}
 use Rattle.machine_verify.specs.Liveins.{is_set}

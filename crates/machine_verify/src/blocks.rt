@@ -12,8 +12,8 @@ use crate::numbers::{NumberSet, lists_once};
 use crate::operands::operands_fit;
 use crate::words::{desc_of, is_branch};
 use mir_func::{Block, Edge, Func, Instr, Operand};
-use mir_items::counted::effect_of;
-use mir_items::ways::falls_through;
+use instr_effects::items::counted::effect_of;
+use instr_effects::items::ways::falls_through;
 use std::alloc::{AllocError, Global};
 use target_base::{Boxed, Target};
 

@@ -17,7 +17,7 @@ use crate::numbers::are_distinct;
 use crate::parts::BoundOperand;
 use crate::words::{asked_class, puts_together};
 use mir_func::{Func, Loc, Operand, RegOp};
-use mir_items::lanes::{class_of, lanes_at, push_operand_widths};
+use instr_effects::items::lanes::{class_of, lanes_at, push_operand_widths};
 use std::alloc::{AllocError, Global};
 use target_base::classes::{are_within, find_home, hold_subs, holds, regs_at};
 use target_base::{ClassId, Effect, IndexId, List, Numbers, Reg, Role, Target};

@@ -6,7 +6,7 @@ ghost use Rattle.mir_meaning.specs.Registers.{is_reserved_unit};
 ghost use Rattle.mir_meaning.specs.Rules.{has_lanes_at, has_lanes, index_fits, has_class};
 
 use mir_func::{Func, Loc, RegOp};
-use mir_items::lanes::{class_of, lanes_at};
+use instr_effects::items::lanes::{class_of, lanes_at};
 use target_base::classes::{have_subs, regs_at};
 use target_base::{ClassId, IndexId, Target};
 

@@ -15,8 +15,8 @@ use crate::words::{
     takes_role,
 };
 use mir_func::{Func, Operand, RegOp};
-use mir_items::counted::{immediate_of, is_silent};
-use mir_items::lanes::{lanes_at, push_operand_widths};
+use instr_effects::items::counted::{immediate_of, is_silent};
+use instr_effects::items::lanes::{lanes_at, push_operand_widths};
 use std::alloc::{AllocError, Global};
 use target_base::{Effect, List, OpcodeDesc, Role, Target};
 

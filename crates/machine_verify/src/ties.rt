@@ -18,7 +18,7 @@ use crate::parts::BoundOperand;
 use crate::words::{is_early, is_slot, is_tied, is_virtual, same_index, same_loc};
 use meaning::Lane;
 use mir_func::{Func, Loc, Operand, RegOp};
-use mir_items::lanes::{Lanes, push_operand_lanes};
+use instr_effects::items::lanes::{Lanes, push_operand_lanes};
 use mir_meaning::Form;
 use std::alloc::{AllocError, Global};
 use target_base::{List, Target};

@@ -14,7 +14,7 @@ use crate::search::{fault_at, shape_fault};
 use crate::stop::{Invalid, VerifyStop};
 use live_lanes::LiveFunc;
 use mir_func::{Block, Func, Valid};
-use mir_items::lanes::{class_of, class_units};
+use instr_effects::items::lanes::{class_of, class_units};
 use mir_meaning::Form;
 use std::alloc::{AllocError, Global};
 use target_base::{Target, Unit};

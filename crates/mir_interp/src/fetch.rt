@@ -13,7 +13,7 @@ use crate::store::Store;
 use crate::types::Lanes;
 use crate::world::World;
 use meaning::{Constant, Reads, Source, Widths};
-use mir_items::counted::low_bits;
+use instr_effects::items::counted::low_bits;
 use std::alloc::AllocError;
 use target_base::Bytes;
 

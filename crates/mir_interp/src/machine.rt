@@ -28,7 +28,7 @@ use crate::types::{End, Events, Lanes, Outcome};
 use crate::world::World;
 use meaning::{Fill, Lane, Reads, Rest, Source, Write};
 use mir_func::Func;
-use mir_items::counted::low_bits;
+use instr_effects::items::counted::low_bits;
 use std::alloc::{AllocError, Global};
 use std::collections::HashMap;
 use target_base::classes::width_of;

@@ -4,7 +4,7 @@ ghost use Rattle.std.specs.Prelude.{◌≡◌, ◌+◌, ◌-◌, ◌*◌, ◌/�
 ghost use Rattle.meaning.specs.Perform.{cut, shifted_signed, widened, biased};
 
 use crate::types::Lanes;
-use mir_items::counted::{low_bits, ones};
+use instr_effects::items::counted::{low_bits, ones};
 use std::alloc::{AllocError, Global};
 use target_base::List;
 

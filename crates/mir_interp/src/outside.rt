@@ -11,7 +11,7 @@ use crate::memory::Memory;
 use crate::numbers::put_above;
 use crate::types::Lanes;
 use crate::world::World;
-use mir_items::counted::low_bits;
+use instr_effects::items::counted::low_bits;
 use std::alloc::{AllocError, Global};
 
 /// What lies outside the lanes.

@@ -21,7 +21,7 @@ use crate::store::Store;
 use crate::types::{End, Event, Events, Lanes};
 use crate::world::World;
 use meaning::{Reads, Rest};
-use mir_items::counted::{low_bits, residue, total};
+use instr_effects::items::counted::{low_bits, residue, total};
 use std::alloc::{AllocError, Global};
 use target_base::{Copied, Effect, List};
 

@@ -10,12 +10,12 @@ ghost use Rattle.mir_interp.specs.Decoded.{edge_of, item_of_step, code_of_steps,
 
 use meaning::{Reads, Rest, Writes};
 use mir_func::{Block, Func, Instr};
-use mir_items::counted::{
+use instr_effects::items::counted::{
     effect_of, is_early_clobber, is_silent, reads_of, rest_of, roles_of, values,
 };
-use mir_items::results::counted_writes;
-use mir_items::silent::push_silent_writes;
-use mir_items::ways::{falls_through, push_phis, target_of};
+use instr_effects::items::results::counted_writes;
+use instr_effects::items::silent::push_silent_writes;
+use instr_effects::items::ways::{falls_through, push_phis, target_of};
 use std::alloc::{AllocError, Global};
 use std::collections::HashMap;
 use target_base::{Boxed, Effect, List, Target};

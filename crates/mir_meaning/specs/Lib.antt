@@ -8,3 +8,5 @@ pub mod Valid
 pub mod Places
 pub mod Agreement
 pub mod Renaming
+pub mod Paths
+pub mod Stands

@@ -11,3 +11,7 @@ pub enum Form {
     /// What the allocator answers: physical registers and spill slots alone.
     Allocated,
 }
+
+mod writing;
+
+pub use writing::Writing;

@@ -1,3 +1,4 @@
 pub mod Print
 pub mod BodyLines
 pub mod Document
+pub mod Laws

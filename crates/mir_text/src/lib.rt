@@ -1,6 +1,7 @@
 //! The text of functions: printing it and reading it.
 #![tactic(auto)]
 
+pub mod text_laws;
 pub mod doc;
 pub mod document;
 pub mod print;

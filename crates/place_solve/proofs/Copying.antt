@@ -20,8 +20,8 @@ use Rattle.mir_meaning.specs.Codes.{instrs_of}
 use Rattle.mir_meaning.specs.Points.{Point, Entry, Exit}
 use Rattle.mir_meaning.specs.Rules.{same_loc, readings, untied_readings}
 use Rattle.mir_meaning.specs.Places.{Needs, before_terminators, copied_at, defines_and_reads, input_copies, phi_copies, phi_point}
-use Rattle.lane_effects.specs.Ends.{first_pair, pairs_of}
-use Rattle.lane_effects.proofs.Pairs.{first_step, pairs_long}
+use Rattle.instr_effects.specs.Ends.{first_pair, pairs_of}
+use Rattle.instr_effects.proofs.Pairs.{first_step, pairs_long}
 use Rattle.phi_elim.proofs.Walks.{drop_all}
 use Rattle.two_address.specs.Classes.{first_role, roles_behind}
 use Rattle.two_address.specs.Ties.{first_of, reads_besides}

@@ -41,13 +41,13 @@ use Rattle.mir_meaning.specs.Items.{constant_bits, constant_lanes, constant_of, 
 use Rattle.mir_meaning.specs.Points.{point_item}
 use Rattle.mir_meaning.specs.Registers.{located_lanes, located_widths, operand_lanes, operand_widths, undefined_lanes}
 use Rattle.mir_meaning.specs.Rules.{V1, explicit_fit, fits_role, implicit_fit, is_definition, is_virtual, operands_fit}
-use Rattle.lane_effects.specs.Acts.{is_call}
-use Rattle.lane_effects.proofs.Members.{member-none, member-elim, left-in, in-either, filter-of, filter-in}
-use Rattle.effect_laws.proofs.FlagsOf.{uniform-constant}
-use Rattle.effect_laws.proofs.Lists.{all-of}
-use Rattle.effect_laws.proofs.Blocks.{slice-member}
-use Rattle.effect_laws.proofs.Moved.{moved-of, undefined-lane}
-use Rattle.effect_laws.proofs.Silent.{map-long}
+use Rattle.instr_effects.specs.Acts.{is_call}
+use Rattle.instr_effects.proofs.Members.{member-none, member-elim, left-in, in-either, filter-of, filter-in}
+use Rattle.live_laws.proofs.Effects.FlagsOf.{uniform-constant}
+use Rattle.live_laws.proofs.Effects.Lists.{all-of}
+use Rattle.live_laws.proofs.Effects.Blocks.{slice-member}
+use Rattle.live_laws.proofs.Effects.Moved.{moved-of, undefined-lane}
+use Rattle.live_laws.proofs.Effects.Silent.{map-long}
 use Rattle.place_solve.specs.Around.{has_unit, keeps_unit, defines, defines_explicitly, clobbers, writes, writes_early}
 use Rattle.place_solve.proofs.Solved.{units-within}
 use Rattle.place_solve.proofs.Writes.{IsExact, any-of, both, either-true, or-left, unit-of, unit-in, no-other, defined-of, defined-in, explicit-of, explicit-in}

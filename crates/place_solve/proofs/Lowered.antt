@@ -20,13 +20,13 @@ use Rattle.mir_meaning.specs.Codes.{instrs_of}
 use Rattle.mir_meaning.specs.Points.{Point, Start, Entry, Exit}
 use Rattle.mir_meaning.specs.Rules.{V5, block_numbers, block_of, is_virtual, named_blocks, readings, same_index, same_loc, successors_of, untied_readings}
 use Rattle.mir_meaning.specs.Places.{Needs, Admits, before_terminators, copied_at, copy_variable, defines_and_reads, effect_copies, input_copies, lowering_places, phi_copies, phi_point, tied_copies}
-use Rattle.lane_effects.specs.Ends.{pairs_of, pairs_behind}
-use Rattle.lane_effects.proofs.Members.{member-none, member-elim, either-elim, flat-in, map-of, right-in}
-use Rattle.effect_laws.specs.Coded.{KeepsRules}
-use Rattle.effect_laws.proofs.Blocks.{member-slice, number-there, slice-member}
-use Rattle.effect_laws.proofs.Lists.{all-of}
-use Rattle.effect_laws.proofs.Phis.{pair-named}
-use Rattle.effect_laws.proofs.Valid.{valid-law, ends}
+use Rattle.instr_effects.specs.Ends.{pairs_of, pairs_behind}
+use Rattle.instr_effects.proofs.Members.{member-none, member-elim, either-elim, flat-in, map-of, right-in}
+use Rattle.live_laws.specs.Effects.Coded.{KeepsRules}
+use Rattle.live_laws.proofs.Effects.Blocks.{member-slice, number-there, slice-member}
+use Rattle.live_laws.proofs.Effects.Lists.{all-of}
+use Rattle.live_laws.proofs.Effects.Phis.{pair-named}
+use Rattle.live_laws.proofs.Effects.Valid.{valid-law, ends}
 use Rattle.place_solve.specs.Laws.{LoweredLaw}
 use Rattle.place_solve.specs.Told.{copy_solved, IsPoint, Seated}
 use Rattle.place_solve.proofs.Stands.{seated}

@@ -18,20 +18,20 @@ use Rattle.mir_func.specs.declared.func.Instr.{Instr}
 use Rattle.mir_func.specs.Value.{Function}
 use Rattle.mir_meaning.specs.Binding.{effect_of}
 use Rattle.mir_meaning.specs.Codes.{block_end, blocks_code}
-use Rattle.lane_effects.specs.Numbered.{number_in}
+use Rattle.instr_effects.specs.Numbered.{number_in}
 use Rattle.mir_meaning.specs.Registers.{is_reserved, is_reserved_unit}
 use Rattle.mir_meaning.specs.Points.{Point, Entry, Exit, OccupiedAt, Tests, AtFirst, point_item, points_of, from_instr, block_rest}
 use Rattle.mir_meaning.specs.Places.{AtEntry, AtExit, Admits, place_of, entries_of}
 use Rattle.mir_meaning.specs.Rules.{V8}
-use Rattle.lane_effects.proofs.Members.{member-none, member-elim, map-of, map-in}
-use Rattle.lane_effects.proofs.Plain.{filled-cases}
-use Rattle.effect_laws.specs.Coded.{KeepsRules}
-use Rattle.effect_laws.proofs.Blocks.{slice-member}
-use Rattle.effect_laws.proofs.Lists.{any-in}
+use Rattle.instr_effects.proofs.Members.{member-none, member-elim, map-of, map-in}
+use Rattle.instr_effects.proofs.Plain.{filled-cases}
+use Rattle.live_laws.specs.Effects.Coded.{KeepsRules}
+use Rattle.live_laws.proofs.Effects.Blocks.{slice-member}
+use Rattle.live_laws.proofs.Effects.Lists.{any-in}
 use Rattle.live_lanes.specs.declared.table.Table.{Table}
 use Rattle.live_lanes.specs.Doing.{IsComputed}
 use Rattle.live_lanes.specs.Looks.{entry_at, exit_at}
-use Rattle.live_exact.proofs.Spots.{Spot, spot, drop-at}
+use Rattle.live_laws.proofs.Exact.Spots.{Spot, spot, drop-at}
 use Rattle.place_solve.specs.declared.around.Around.{Around}
 use Rattle.place_solve.specs.declared.around.Around.TheVariants as arounds
 use Rattle.place_solve.specs.Around.{entry_tests, exit_tests, is_taken, is_left, enters, leaves, writes, writes_early, entry_of, exit_of}

@@ -23,11 +23,11 @@ use Rattle.mir_meaning.specs.Registers.{is_reserved_unit}
 use Rattle.mir_meaning.specs.Points.{Entry, Exit, OccupiedAt, Tests, point_item}
 use Rattle.mir_meaning.specs.Places.{Variable as Need, Needs, AtEntry, AtExit, Admits, copy_place, copy_variables, each_once, instr_place, instr_variables, moves_alone, operand_variables, own_places, place_of, solutions}
 use Rattle.mir_meaning.specs.Rules.{V8, is_lowered_away}
-use Rattle.lane_effects.proofs.Members.{member-none, member-elim}
-use Rattle.effect_laws.specs.Coded.{KeepsRules}
-use Rattle.effect_laws.proofs.Blocks.{slice-member, member-slice}
-use Rattle.effect_laws.proofs.Lists.{any-in}
-use Rattle.effect_laws.proofs.Valid.{valid-law, ends}
+use Rattle.instr_effects.proofs.Members.{member-none, member-elim}
+use Rattle.live_laws.specs.Effects.Coded.{KeepsRules}
+use Rattle.live_laws.proofs.Effects.Blocks.{slice-member, member-slice}
+use Rattle.live_laws.proofs.Effects.Lists.{any-in}
+use Rattle.live_laws.proofs.Effects.Valid.{valid-law, ends}
 use Rattle.live_lanes.specs.declared.table.Table.{Table}
 use Rattle.live_lanes.specs.Doing.{IsComputed}
 use Rattle.place_solve.specs.declared.around.Around.{Around}
@@ -40,7 +40,7 @@ use Rattle.place_solve.proofs.Told.{copy-told}
 use Rattle.target_base.proofs.Tests.{first_of_both, second_of_both}
 use Rattle.place_solve.proofs.Owned.{at-entry, at-exit, of-entry, of-exit, entered, left, exact-of, place-told}
 use Rattle.place_solve.proofs.Writes.{IsExact, any-of, both, either-true, or-left, or-right}
-use Rattle.live_exact.proofs.Spots.{drop-at}
+use Rattle.live_laws.proofs.Exact.Spots.{drop-at}
 use Rattle.place_solve.proofs.Crowds.{single_is}
 use Rattle.place_solve.proofs.Given.{is_given, exact-given}
 use Rattle.place_solve.proofs.Stands.{known-effect, seated}

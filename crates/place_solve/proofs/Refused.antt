@@ -15,10 +15,10 @@ use Rattle.mir_meaning.specs.Binding.{does, is_terminator}
 use Rattle.mir_meaning.specs.Rules.{is_lowered_away}
 use Rattle.mir_meaning.specs.Valid.{IsValid}
 use Rattle.mir_meaning.specs.Places.{Needs, Admits, FirstPlace, PlacesServe, StandsAt, instr_place, lowering_places, own_places, place_of, places_at}
-use Rattle.lane_effects.proofs.Members.{member-none, member-elim, either-elim, left-in, right-in}
-use Rattle.effect_laws.specs.Shaped.{AreClasses}
-use Rattle.effect_laws.proofs.Lists.{all-of}
-use Rattle.effect_laws.proofs.Valid.{valid-law, ends}
+use Rattle.instr_effects.proofs.Members.{member-none, member-elim, either-elim, left-in, right-in}
+use Rattle.live_laws.specs.Effects.Shaped.{AreClasses}
+use Rattle.live_laws.proofs.Effects.Lists.{all-of}
+use Rattle.live_laws.proofs.Effects.Valid.{valid-law, ends}
 use Rattle.live_lanes.specs.declared.table.Table.{Table}
 use Rattle.live_lanes.specs.Doing.{IsComputed}
 use Rattle.live_lanes.specs.Looks.{InOrder}

@@ -17,8 +17,8 @@ use Rattle.target_base.specs.Storage.{is_among, is_unreserved, units_in}
 use Rattle.target_base.proofs.Sound.{regs_sound}
 use Rattle.target_base.proofs.Tests.{first_of_both, second_of_both, each_passes}
 use Rattle.meaning.specs.Live.{Among as Member, here, there}
-use Rattle.lane_effects.proofs.Members.{member-none}
-use Rattle.effect_laws.proofs.Lists.{all-of}
+use Rattle.instr_effects.proofs.Members.{member-none}
+use Rattle.live_laws.proofs.Effects.Lists.{all-of}
 use Rattle.mir_meaning.specs.Places.{Kind as Use, Variable as Need, all_apart, avoids_units, choices, domain, holds_any, is_defining, reaches_back, solutions}
 use Rattle.live_lanes.specs.declared.table.Table.{Table}
 use Rattle.place_solve.specs.declared.around.Around.{Around}

@@ -14,7 +14,7 @@ use Rattle.mir_meaning.specs.declared.Form.{Form}
 use Rattle.mir_meaning.specs.Binding.{known_opcode}
 use Rattle.mir_meaning.specs.Points.{has_instr}
 use Rattle.mir_meaning.specs.Valid.{block_fault, blocks_fault, fault_at, fault_in, instr_fault, instrs_fault, least, shape_fault}
-use Rattle.effect_laws.specs.Coded.{one_on, spot_in}
+use Rattle.live_laws.specs.Effects.Coded.{one_on, spot_in}
 use Rattle.place_solve.specs.Told.{Seated}
 
 same : {X : Type 0} (x y : X) → Some x ≡ Some y → x ≡ y

@@ -32,23 +32,23 @@ use Rattle.mir_meaning.specs.Registers.{is_reserved, is_reserved_unit, numbers}
 use Rattle.mir_meaning.specs.Points.{Point, Start, Entry, Exit, LiveAt, Tests, AtFirst, point_item, points_of, from_instr}
 use Rattle.mir_meaning.specs.Places.{Variable as Need, Needs, AtEntry, AtExit, Admits, UnitsOf, copy_place, solutions}
 use Rattle.mir_meaning.specs.Rules.{V8}
-use Rattle.lane_effects.proofs.Members.{member-none, member-elim, flat-of, map-of}
-use Rattle.lane_effects.proofs.Plain.{filled-cases, moved-same}
-use Rattle.lane_effects.specs.declared.owner.Owner.TheVariants as owners
-use Rattle.lane_effects.specs.Numbered.{number_in}
-use Rattle.effect_laws.specs.Coded.{KeepsRules, IsNumbered}
-use Rattle.effect_laws.proofs.Phis.{phi-write, phi-source}
-use Rattle.effect_laws.proofs.Silent.{use-lane}
-use Rattle.effect_laws.proofs.Tabled.{table-law}
+use Rattle.instr_effects.proofs.Members.{member-none, member-elim, flat-of, map-of}
+use Rattle.instr_effects.proofs.Plain.{filled-cases, moved-same}
+use Rattle.instr_effects.specs.declared.owner.Owner.TheVariants as owners
+use Rattle.instr_effects.specs.Numbered.{number_in}
+use Rattle.live_laws.specs.Effects.Coded.{KeepsRules, IsNumbered}
+use Rattle.live_laws.proofs.Effects.Phis.{phi-write, phi-source}
+use Rattle.live_laws.proofs.Effects.Silent.{use-lane}
+use Rattle.live_laws.proofs.Effects.Tabled.{table-law}
 use Rattle.live_lanes.specs.Marks.{marked_at}
 use Rattle.live_lanes.specs.Looks.{entry_at, exit_at}
 use Rattle.live_lanes.specs.declared.table.Table.{Table}
 use Rattle.live_lanes.specs.Doing.{IsComputed}
-use Rattle.live_exact.specs.Laws.{TellsInside}
-use Rattle.live_exact.proofs.Computed.{computed-law}
-use Rattle.live_exact.proofs.Inside.{inside-law}
-use Rattle.live_exact.proofs.Quiet.{is_range_lane, phi-virtual}
-use Rattle.live_exact.proofs.Spots.{spot, drop-at}
+use Rattle.live_laws.specs.Exact.Laws.{TellsInside}
+use Rattle.live_laws.proofs.Exact.Computed.{computed-law}
+use Rattle.live_laws.proofs.Exact.Inside.{inside-law}
+use Rattle.live_laws.proofs.Exact.Quiet.{is_range_lane, phi-virtual}
+use Rattle.live_laws.proofs.Exact.Spots.{spot, drop-at}
 use Rattle.place_solve.specs.Around.{at_entry, entry_of, exit_of, takes_part}
 use Rattle.place_solve.specs.Laws.{CopyLaw}
 use Rattle.place_solve.specs.Told.{is_solved, around_of, IsPoint}

@@ -34,21 +34,21 @@ use Rattle.mir_meaning.specs.Items.{all_lanes, computed, counted_writes, defined
 use Rattle.mir_meaning.specs.Points.{point_item}
 use Rattle.mir_meaning.specs.Codes.{effect_item, item_of, target_of, way, ways_out}
 use Rattle.mir_meaning.specs.Registers.{is_reserved, is_reserved_unit, located_lanes, numbers, operand_lanes, range_widths, undefined_lanes, whole_lanes}
-use Rattle.lane_effects.specs.Acts.{silent_acts, call_writes, counted_acts, effect_acts, entered_writes, is_call, unpreserved}
-use Rattle.lane_effects.specs.Steps.{Numbering}
-use Rattle.lane_effects.specs.Stepping.{tag_of}
-use Rattle.lane_effects.specs.declared.owner.Owner.TheVariants as owners
-use Rattle.lane_effects.proofs.CountedSteps.{counted-law}
-use Rattle.effect_laws.specs.Shaped.{is_proper}
-use Rattle.lane_effects.proofs.Members.{member-none, member-elim, left-in, right-in, in-either, flat-of, flat-in, filter-of, filter-in, map-of, map-in}
-use Rattle.effect_laws.specs.Coded.{KeepsRules, IsNumbered}
-use Rattle.effect_laws.proofs.Blocks.{filtered-of, filtered-in}
-use Rattle.effect_laws.proofs.Flags.{Wrote}
-use Rattle.effect_laws.proofs.FlagsOf.{uniform-implicit, uniform-results}
-use Rattle.effect_laws.proofs.Instrs.{same-law}
-use Rattle.effect_laws.proofs.Lists.{any-in}
-use Rattle.effect_laws.proofs.Moved.{undefined-lane, undefined-in}
-use Rattle.effect_laws.proofs.Shapes.{numbers-in}
+use Rattle.instr_effects.specs.Acts.{silent_acts, call_writes, counted_acts, effect_acts, entered_writes, is_call, unpreserved}
+use Rattle.instr_effects.specs.Steps.{Numbering}
+use Rattle.instr_effects.specs.Stepping.{tag_of}
+use Rattle.instr_effects.specs.declared.owner.Owner.TheVariants as owners
+use Rattle.instr_effects.proofs.CountedSteps.{counted-law}
+use Rattle.live_laws.specs.Effects.Shaped.{is_proper}
+use Rattle.instr_effects.proofs.Members.{member-none, member-elim, left-in, right-in, in-either, flat-of, flat-in, filter-of, filter-in, map-of, map-in}
+use Rattle.live_laws.specs.Effects.Coded.{KeepsRules, IsNumbered}
+use Rattle.live_laws.proofs.Effects.Blocks.{filtered-of, filtered-in}
+use Rattle.live_laws.proofs.Effects.Flags.{Wrote}
+use Rattle.live_laws.proofs.Effects.FlagsOf.{uniform-implicit, uniform-results}
+use Rattle.live_laws.proofs.Effects.Instrs.{same-law}
+use Rattle.live_laws.proofs.Effects.Lists.{any-in}
+use Rattle.live_laws.proofs.Effects.Moved.{undefined-lane, undefined-in}
+use Rattle.live_laws.proofs.Effects.Shapes.{numbers-in}
 use Rattle.place_solve.specs.Around.{has_unit, keeps_unit, defines, defines_explicitly, clobbers, writes, writes_early}
 use Rattle.place_solve.proofs.Units.{units_any}
 

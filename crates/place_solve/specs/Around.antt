@@ -15,9 +15,9 @@ use Rattle.mir_func.specs.declared.func.Instr.{Instr}
 use Rattle.target_base.specs.Numbers.{unit_number}
 use Rattle.mir_meaning.specs.Registers.{is_reserved_unit}
 use Rattle.mir_meaning.specs.Binding.{does, roles_of, is_early_clobber}
-use Rattle.lane_effects.specs.Acts.{is_call, mask_regs}
-use Rattle.lane_effects.specs.declared.owner.Owner.TheVariants as owners
-use Rattle.lane_effects.specs.Numbered.{number_in}
+use Rattle.instr_effects.specs.Acts.{is_call, mask_regs}
+use Rattle.instr_effects.specs.declared.owner.Owner.TheVariants as owners
+use Rattle.instr_effects.specs.Numbered.{number_in}
 use Rattle.live_lanes.specs.declared.table.Table.{Table}
 use Rattle.live_lanes.specs.Marks.{marked_at}
 use Rattle.live_lanes.specs.Looks.{entry_at, exit_at}

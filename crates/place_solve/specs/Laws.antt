@@ -13,7 +13,7 @@ use Rattle.mir_meaning.specs.Points.{Point}
 use Rattle.place_solve.specs.declared.around.Around.TheVariants as arounds
 use Rattle.mir_meaning.specs.Places.{Variable as Need, Needs, Admits, copy_place, lowering_places, own_places, place_of}
 use Rattle.mir_meaning.specs.Rules.{V8}
-use Rattle.effect_laws.specs.Coded.{KeepsRules}
+use Rattle.live_laws.specs.Effects.Coded.{KeepsRules}
 use Rattle.live_lanes.specs.declared.table.Table.{Table}
 use Rattle.live_lanes.specs.Doing.{IsComputed}
 use Rattle.place_solve.specs.Own.{own_instrs}

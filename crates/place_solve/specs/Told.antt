@@ -6,7 +6,7 @@ use Rattle.target_base.specs.Rules.{is_copy}
 use Rattle.mir_func.specs.Value.{id_total}
 use Rattle.mir_meaning.specs.declared.Form.TheVariants as forms
 use Rattle.mir_meaning.specs.Valid.{shape_fault}
-use Rattle.effect_laws.specs.Shaped.{AreClasses}
+use Rattle.live_laws.specs.Effects.Shaped.{AreClasses}
 use Rattle.place_solve.specs.Own.{own_instrs, place_variables}
 use Rattle.target_base.specs.declared.types.Target.{Target}
 use Rattle.mir_func.specs.declared.func.Block.{Block}
@@ -17,7 +17,7 @@ use Rattle.mir_func.specs.Value.{Function}
 use Rattle.mir_meaning.specs.Binding.{does}
 use Rattle.mir_meaning.specs.Points.{Point, Start, Entry, Exit}
 use Rattle.mir_meaning.specs.Places.{Variable as Need, Needs, Admits, FirstPlace, StandsAt, lowering_places, own_places, solutions}
-use Rattle.effect_laws.specs.Coded.{spot_in}
+use Rattle.live_laws.specs.Effects.Coded.{spot_in}
 use Rattle.live_lanes.specs.declared.table.Table.{Table}
 use Rattle.place_solve.specs.declared.around.Around.{Around}
 use Rattle.place_solve.specs.declared.around.Around.TheVariants as arounds

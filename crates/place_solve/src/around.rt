@@ -5,11 +5,11 @@ ghost use Rattle.target_base.specs.Registers.{units_of};
 ghost use Rattle.std.specs.List.{list_any};
 ghost use Rattle.target_base.specs.Storage.{is_among};
 ghost use Rattle.mir_meaning.specs.Binding.{is_early_clobber, roles_of};
-ghost use Rattle.lane_effects.specs.Acts.{mask_regs};
+ghost use Rattle.instr_effects.specs.Acts.{mask_regs};
 ghost use Rattle.live_lanes.specs.Looks.{InOrder};
 ghost use Rattle.place_solve.specs.Around.{has_unit, keeps_unit, defines, defines_explicitly, clobbers, writes, writes_early, is_taken, is_left, entry_tests, exit_tests, at_entry, at_exit};
 
-use lane_effects::registers::mask_regs;
+use instr_effects::registers::mask_regs;
 use live_lanes::LiveFunc;
 use mir_func::{Instr, Loc, Operand, RegOp};
 use phi_elim::reading::effect_of;

@@ -7,7 +7,7 @@ ghost use Rattle.mir_meaning.specs.Rules.{is_lowered_away};
 ghost use Rattle.mir_meaning.specs.Places.{Admits, FirstPlace, PlacesServe, TooMany};
 ghost use Rattle.mir_meaning.specs.declared.Form.TheVariants as forms;
 ghost use Rattle.mir_meaning.specs.Valid.{IsValid};
-ghost use Rattle.effect_laws.specs.Shaped.{AreClasses};
+ghost use Rattle.live_laws.specs.Effects.Shaped.{AreClasses};
 ghost use Rattle.live_lanes.specs.Looks.{InOrder};
 ghost use Rattle.place_solve.specs.Own as own;
 ghost use Rattle.place_solve.specs.Told as told;

@@ -3,7 +3,7 @@
 ghost use Rattle.std.specs.Prelude.{◌≡◌, ◌++◌, ◌∷◌, ◌||◌, [], IfOk, not};
 ghost use Rattle.std.specs.List.{list_all, list_any};
 ghost use Rattle.target_base.specs.Rules.{is_phi, is_reg_sequence, is_insert_subreg};
-ghost use Rattle.lane_effects.specs.Ends.{first_pair, pairs_of};
+ghost use Rattle.instr_effects.specs.Ends.{first_pair, pairs_of};
 ghost use Rattle.mir_func.specs.declared.func.Operand.TheVariants as operands;
 ghost use Rattle.mir_meaning.specs.Binding.{as_register, bound, explicit_bound, explicit_operands, explicit_roles, registers, tied_uses};
 ghost use Rattle.mir_meaning.specs.Codes.{instrs_of};
@@ -21,7 +21,7 @@ use crate::search::first_choice;
 use crate::variables::{
     copy_variable, from_explicit, is_implicit_operand, is_tied_operand, left_behind,
 };
-use lane_effects::registers::register_at;
+use instr_effects::registers::register_at;
 use live_lanes::LiveFunc;
 use mir_func::{Func, Instr, Loc, Operand, RegOp};
 use phi_elim::reading::{effect_of, is_terminator};

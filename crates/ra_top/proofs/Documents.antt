@@ -2,17 +2,17 @@
 use Rattle.std.proofs.Common.{◌≡◌, ◌⊎◌, ℕ, ◌<◌, List, [], ◌∷◌, ◌++◌, Option, Some, None, true, refl, ap, sym, subst, inl, inr, arith, length, length-append}
 use Rattle.std.specs.Prelude.{IfSome}
 use Rattle.target_base.specs.declared.types.Target.{Target}
-use Rattle.devices.specs.Pieces.{is_whole, NoneWhole, held_most, lines_of}
-use Rattle.devices.specs.Unread.{Taken, IsRest}
-use Rattle.answers.specs.declared.answer.Job.{Job}
+use Rattle.ra_top.specs.Devices.Pieces.{is_whole, NoneWhole, held_most, lines_of}
+use Rattle.ra_top.specs.Devices.Unread.{Taken, IsRest}
+use Rattle.ra_top.specs.declared.commands.answer.Job.{Job}
 use Rattle.ra_top.specs.declared.ending.Step.{Step}
 use Rattle.ra_top.specs.declared.ending.Step.TheVariants as steps
-use Rattle.answers.specs.declared.spot.Spot.{Spot}
-use Rattle.answers.specs.declared.status.Status.{Status}
-use Rattle.answers.specs.declared.status.Status.TheVariants as status
-use Rattle.answers.specs.declared.answer.Job.TheVariants as jobs
-use Rattle.answers.specs.Documents.{end_status}
-use Rattle.devices.specs.Device.{WritesAll}
+use Rattle.ra_top.specs.declared.commands.spot.Spot.{Spot}
+use Rattle.ra_top.specs.declared.commands.status.Status.{Status}
+use Rattle.ra_top.specs.declared.commands.status.Status.TheVariants as status
+use Rattle.ra_top.specs.declared.commands.answer.Job.TheVariants as jobs
+use Rattle.ra_top.specs.Commands.Documents.{end_status}
+use Rattle.ra_top.specs.Devices.Device.{WritesAll}
 use Rattle.ra_top.proofs.Nothing.{writes_none}
 use Rattle.ra_top.specs.Due.{IsHeld}
 use Rattle.ra_top.specs.Steps.{AfterPiece, EndsAtPiece, EndsHere, AfterDocument, Moves, IsEnded, Finishes, IsFinished}

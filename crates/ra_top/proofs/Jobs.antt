@@ -2,10 +2,10 @@
 use Rattle.std.proofs.Common.{◌≡◌, ℕ, List, Bool, false, Option, refl, sym, subst, inl, inr, codes}
 use Rattle.std.specs.Prelude.{IfSome}
 use Rattle.target_base.specs.declared.types.Target.{Target}
-use Rattle.commands.specs.Words.{is_word}
-use Rattle.answers.specs.declared.answer.Job.{Job}
-use Rattle.answers.specs.declared.status.Status.{Status}
-use Rattle.answers.specs.Status.{line_of}
+use Rattle.ra_top.specs.Words.Words.{is_word}
+use Rattle.ra_top.specs.declared.commands.answer.Job.{Job}
+use Rattle.ra_top.specs.declared.commands.status.Status.{Status}
+use Rattle.ra_top.specs.Commands.Status.{line_of}
 use Rattle.ra_top.specs.Told.{IsTold, NamesTarget, Streamed, TargetVerdict, DoesJobAll}
 
 -- the documents were treated, and the line was told

@@ -5,3 +5,8 @@ pub mod Starts
 pub mod Verdicts
 pub mod Jobs
 pub mod Watched
+pub mod DeviceLemmas
+pub mod WordLemmas
+pub mod CommandLemmas
+pub mod ReportLemmas
+pub mod GeneratorLemmas

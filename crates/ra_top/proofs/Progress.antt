@@ -3,13 +3,13 @@ use Rattle.std.proofs.Common.{◌≡◌, ℕ, List, [], ◌∷◌, ◌++◌, Opt
 use Rattle.std.specs.Prelude.{IfSome}
 use Rattle.std.proofs.lemmas.Grind.{flat_map-append}
 use Rattle.target_base.specs.declared.types.Target.{Target}
-use Rattle.devices.specs.Device.{WritesAll}
-use Rattle.devices.proofs.Written.{part_after, all_after}
-use Rattle.answers.specs.declared.answer.Job.{Job}
-use Rattle.answers.specs.declared.spot.Spot.{Spot}
-use Rattle.answers.specs.declared.status.Status.{Status}
-use Rattle.answers.specs.declared.status.Status.TheVariants as status
-use Rattle.answers.specs.Spot.{first_spot, after}
+use Rattle.ra_top.specs.Devices.Device.{WritesAll}
+use Rattle.ra_top.proofs.DeviceLemmas.Written.{part_after, all_after}
+use Rattle.ra_top.specs.declared.commands.answer.Job.{Job}
+use Rattle.ra_top.specs.declared.commands.spot.Spot.{Spot}
+use Rattle.ra_top.specs.declared.commands.status.Status.{Status}
+use Rattle.ra_top.specs.declared.commands.status.Status.TheVariants as status
+use Rattle.ra_top.specs.Commands.Spot.{first_spot, after}
 use Rattle.ra_top.specs.Due.{Treatment, output, Treated}
 use Rattle.ra_top.specs.Told.{Streamed}
 use Rattle.ra_top.specs.Steps.{EndsHere, GoesOn}

@@ -2,13 +2,13 @@
 use Rattle.std.proofs.Common.{◌≡◌, ℕ, List, [], Option, Some, None, false, refl, sym, ◌∙◌, subst, inl, inr, arith}
 use Rattle.std.specs.Prelude.{IfSome, codes}
 use Rattle.target_base.specs.declared.types.Target.{Target}
-use Rattle.devices.specs.Pieces.{is_whole, NoneWhole, lines_of}
-use Rattle.commands.specs.Words.{Asked, Alloc, VerifySource, VerifyAllocated, Run, Intervals, Trace, Gen}
-use Rattle.answers.specs.declared.answer.Job.{Job}
-use Rattle.answers.specs.declared.answer.Job.TheVariants as jobs
-use Rattle.answers.specs.declared.status.Status.{Status}
-use Rattle.answers.specs.declared.status.Status.TheVariants as status
-use Rattle.answers.specs.Status.{line_of}
+use Rattle.ra_top.specs.Devices.Pieces.{is_whole, NoneWhole, lines_of}
+use Rattle.ra_top.specs.Words.Words.{Asked, Alloc, VerifySource, VerifyAllocated, Run, Intervals, Trace, Gen}
+use Rattle.ra_top.specs.declared.commands.answer.Job.{Job}
+use Rattle.ra_top.specs.declared.commands.answer.Job.TheVariants as jobs
+use Rattle.ra_top.specs.declared.commands.status.Status.{Status}
+use Rattle.ra_top.specs.declared.commands.status.Status.TheVariants as status
+use Rattle.ra_top.specs.Commands.Status.{line_of}
 use Rattle.ra_top.specs.Told.{Begun, CutOff, Streamed, IsTold, TargetVerdict, DoesJob, DoesAll}
 use Rattle.mir_meaning.specs.declared.Form.TheVariants as forms
 use Rattle.ra_top.proofs.Nothing.{writes_none}

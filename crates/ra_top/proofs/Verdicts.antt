@@ -4,9 +4,9 @@ use Rattle.std.specs.Prelude.{IfSome, IfOk, IfErr, Result, Ok, Err}
 use Rattle.target_base.specs.declared.types.Target.{Target}
 use Rattle.ra_top.specs.declared.ending.Ending.{Ending}
 use Rattle.std.proofs.lemmas.List.{take_all}
-use Rattle.guarded_alloc.specs.declared.stop.LimitName.TheVariants as limits
-use Rattle.answers.specs.declared.status.Status.{Status}
-use Rattle.answers.specs.declared.status.Status.TheVariants as status
+use Rattle.pipeline.specs.declared.guarded.stop.LimitName.TheVariants as limits
+use Rattle.ra_top.specs.declared.commands.status.Status.{Status}
+use Rattle.ra_top.specs.declared.commands.status.Status.TheVariants as status
 use Rattle.ra_top.specs.Told.{target_most, IsTargetOf, TargetVerdict, HasStatusCause}
 use Rattle.ra_top.specs.Steps.{HasTargetCause, NamesNoDevice, NamesNone}
 

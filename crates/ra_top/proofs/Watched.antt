@@ -5,20 +5,20 @@ use Rattle.target_base.specs.declared.types.Target.{Target}
 use Rattle.watchers.specs.declared.steps.Step.{Step as RunStep}
 use Rattle.mir_text.specs.declared.doc.Doc.{Doc}
 use Rattle.mir_text.specs.declared.doc.Doc.TheVariants as docs
-use Rattle.devices.specs.Device.{WritesPart, WritesAll}
-use Rattle.devices.proofs.Written.{part_after, part_before, all_after}
-use Rattle.commands.specs.Words.{Asked, Alloc, VerifySource, VerifyAllocated, Run, Intervals, Trace, Gen, is_word}
+use Rattle.ra_top.specs.Devices.Device.{WritesPart, WritesAll}
+use Rattle.ra_top.proofs.DeviceLemmas.Written.{part_after, part_before, all_after}
+use Rattle.ra_top.specs.Words.Words.{Asked, Alloc, VerifySource, VerifyAllocated, Run, Intervals, Trace, Gen, is_word}
 use Rattle.target_base.specs.Mini.{mini_target}
-use Rattle.guarded_alloc.specs.Told.{ToldRun, ToldPart}
-use Rattle.guarded_alloc.proofs.Told.{part_of_none, part_of_run}
-use Rattle.answers.specs.declared.answer.Job.{Job}
-use Rattle.answers.specs.declared.answer.Job.TheVariants as jobs
-use Rattle.answers.specs.declared.spot.Spot.{Spot}
-use Rattle.answers.specs.declared.status.Status.{Status}
-use Rattle.answers.specs.declared.status.Status.TheVariants as status
-use Rattle.answers.specs.Documents.{IsTextOf, IsLastTextOf}
-use Rattle.answers.specs.Told.{ToldRuns}
-use Rattle.answers.proofs.Watched.{no_runs, runs_joined, runs_then_part, part_of_runs}
+use Rattle.pipeline.specs.Guarded.Told.{ToldRun, ToldPart}
+use Rattle.pipeline.proofs.GuardLemmas.Told.{part_of_none, part_of_run}
+use Rattle.ra_top.specs.declared.commands.answer.Job.{Job}
+use Rattle.ra_top.specs.declared.commands.answer.Job.TheVariants as jobs
+use Rattle.ra_top.specs.declared.commands.spot.Spot.{Spot}
+use Rattle.ra_top.specs.declared.commands.status.Status.{Status}
+use Rattle.ra_top.specs.declared.commands.status.Status.TheVariants as status
+use Rattle.ra_top.specs.Commands.Documents.{IsTextOf, IsLastTextOf}
+use Rattle.ra_top.specs.Commands.Told.{ToldRuns}
+use Rattle.ra_top.proofs.CommandLemmas.Watched.{no_runs, runs_joined, runs_then_part, part_of_runs}
 use Rattle.ra_top.specs.declared.ending.Step.{Step}
 use Rattle.ra_top.specs.declared.ending.Step.TheVariants as steps
 use Rattle.ra_top.specs.Told.{IsDueText, NamesTarget}

@@ -2,14 +2,14 @@
 use Rattle.std.specs.Prelude.{◌≡◌, ◌⊎◌, ℕ, ◌<◌, true, List, [], ◌∷◌, ◌++◌, length}
 use Rattle.std.specs.List.{flat_map}
 use Rattle.target_base.specs.declared.types.Target.{Target}
-use Rattle.devices.specs.Pieces.{is_whole, NoneWhole, held_most}
-use Rattle.answers.specs.declared.answer.Job.{Job}
-use Rattle.answers.specs.declared.spot.Spot.{Spot}
-use Rattle.answers.specs.declared.status.Status.{Status}
-use Rattle.answers.specs.declared.status.Status.TheVariants as status
-use Rattle.answers.specs.Spot.{first_spot, after}
-use Rattle.answers.specs.Answer.{IsText, IsLast, Refuses}
-use Rattle.answers.specs.Documents.{end_status, IsEndText}
+use Rattle.ra_top.specs.Devices.Pieces.{is_whole, NoneWhole, held_most}
+use Rattle.ra_top.specs.declared.commands.answer.Job.{Job}
+use Rattle.ra_top.specs.declared.commands.spot.Spot.{Spot}
+use Rattle.ra_top.specs.declared.commands.status.Status.{Status}
+use Rattle.ra_top.specs.declared.commands.status.Status.TheVariants as status
+use Rattle.ra_top.specs.Commands.Spot.{first_spot, after}
+use Rattle.ra_top.specs.Commands.Answer.{IsText, IsLast, Refuses}
+use Rattle.ra_top.specs.Commands.Documents.{end_status, IsEndText}
 
 -- a text is the first piece, or its first 4,194,305 bytes, of a file of which the rest follows on it
 pub record IsHeld (text rest : List ℕ) : Type 0 where

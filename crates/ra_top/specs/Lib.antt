@@ -2,3 +2,8 @@ pub mod Due
 pub mod Told
 pub mod Watched
 pub mod Steps
+pub mod Devices
+pub mod Words
+pub mod Commands
+pub mod Report
+pub mod Generator

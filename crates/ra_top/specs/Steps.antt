@@ -3,17 +3,17 @@ use Rattle.std.specs.Prelude.{◌≡◌, ◌<◌, ◌≤◌, ◌+◌, ℕ, List,
 use Rattle.std.specs.Fmt.{decimal}
 use Rattle.target_base.specs.declared.types.Target.{Target}
 use Rattle.target_desc.specs.declared.fault.TargetFault.{TargetFault}
-use Rattle.devices.specs.Device.{WritesPart, WritesAll}
-use Rattle.answers.specs.declared.answer.Job.{Job}
+use Rattle.ra_top.specs.Devices.Device.{WritesPart, WritesAll}
+use Rattle.ra_top.specs.declared.commands.answer.Job.{Job}
 use Rattle.ra_top.specs.declared.ending.Ending.{Ending}
 use Rattle.ra_top.specs.declared.ending.Step.{Step}
 use Rattle.ra_top.specs.declared.ending.Step.TheVariants as steps
-use Rattle.answers.specs.declared.spot.Spot.{Spot}
-use Rattle.answers.specs.declared.status.Status.{Status}
-use Rattle.answers.specs.declared.status.Status.TheVariants as status
-use Rattle.answers.specs.Spot.{after, file_most}
-use Rattle.answers.specs.Answer.{IsText, IsLast, Refuses}
-use Rattle.answers.specs.Documents.{IsEndText, end_status}
+use Rattle.ra_top.specs.declared.commands.spot.Spot.{Spot}
+use Rattle.ra_top.specs.declared.commands.status.Status.{Status}
+use Rattle.ra_top.specs.declared.commands.status.Status.TheVariants as status
+use Rattle.ra_top.specs.Commands.Spot.{after, file_most}
+use Rattle.ra_top.specs.Commands.Answer.{IsText, IsLast, Refuses}
+use Rattle.ra_top.specs.Commands.Documents.{IsEndText, end_status}
 use Rattle.ra_top.specs.Due.{IsHeld, AtEnd}
 use Rattle.ra_top.specs.Told.{HasStatusCause, IsUnfinished, IsDueText, IsNextText}
 

@@ -7,21 +7,21 @@ use Rattle.target_base.specs.Mini.{mini_target}
 use Rattle.target_desc.specs.Reading.{spelled}
 use Rattle.target_desc.specs.Ending.{parts_of}
 use Rattle.mir_meaning.specs.declared.Form.TheVariants as forms
-use Rattle.devices.specs.Device.{Rose, WritesPart, WritesAll}
-use Rattle.devices.specs.Pieces.{is_whole, NoneWhole}
-use Rattle.commands.specs.Words.{Asked, Alloc, VerifySource, VerifyAllocated, Run, Intervals, Trace, Gen, is_word}
-use Rattle.answers.specs.declared.answer.Job.{Job}
-use Rattle.answers.specs.declared.answer.Job.TheVariants as jobs
-use Rattle.answers.specs.declared.spot.Spot.{Spot}
-use Rattle.guarded_alloc.specs.declared.stop.LimitName.TheVariants as limits
-use Rattle.answers.specs.declared.status.Status.{Status}
-use Rattle.answers.specs.declared.status.Status.TheVariants as status
-use Rattle.answers.specs.Spot.{first_spot}
-use Rattle.answers.specs.Status.{line_of}
-use Rattle.answers.specs.Answer.{IsText, IsLast}
-use Rattle.answers.specs.Documents.{IsEndText}
-use Rattle.answers.specs.Generated.{GenRefuses}
-use Rattle.gen_text.specs.Generated.{IsGenText}
+use Rattle.ra_top.specs.Devices.Device.{Rose, WritesPart, WritesAll}
+use Rattle.ra_top.specs.Devices.Pieces.{is_whole, NoneWhole}
+use Rattle.ra_top.specs.Words.Words.{Asked, Alloc, VerifySource, VerifyAllocated, Run, Intervals, Trace, Gen, is_word}
+use Rattle.ra_top.specs.declared.commands.answer.Job.{Job}
+use Rattle.ra_top.specs.declared.commands.answer.Job.TheVariants as jobs
+use Rattle.ra_top.specs.declared.commands.spot.Spot.{Spot}
+use Rattle.pipeline.specs.declared.guarded.stop.LimitName.TheVariants as limits
+use Rattle.ra_top.specs.declared.commands.status.Status.{Status}
+use Rattle.ra_top.specs.declared.commands.status.Status.TheVariants as status
+use Rattle.ra_top.specs.Commands.Spot.{first_spot}
+use Rattle.ra_top.specs.Commands.Status.{line_of}
+use Rattle.ra_top.specs.Commands.Answer.{IsText, IsLast}
+use Rattle.ra_top.specs.Commands.Documents.{IsEndText}
+use Rattle.ra_top.specs.Commands.Generated.{GenRefuses}
+use Rattle.ra_top.specs.Report.Summary.Generated.{IsGenText}
 use Rattle.ra_top.specs.Due.{IsHeld, Treatment, output, Treated, Due}
 
 -- which faults rose for a status

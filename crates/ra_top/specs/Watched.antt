@@ -3,14 +3,14 @@ use Rattle.std.specs.Prelude.{◌≡◌, ◌⊎◌, ℕ, Bool, true, false, List
 use Rattle.target_base.specs.declared.types.Target.{Target}
 use Rattle.target_base.specs.Mini.{mini_target}
 use Rattle.watchers.specs.declared.steps.Step.{Step as RunStep}
-use Rattle.devices.specs.Device.{WritesPart, WritesAll}
-use Rattle.commands.specs.Words.{Asked, Alloc, Trace, Gen, is_word}
-use Rattle.guarded_alloc.specs.Told.{ToldRun, ToldPart}
-use Rattle.answers.specs.declared.answer.Job.{Job}
-use Rattle.answers.specs.declared.answer.Job.TheVariants as jobs
-use Rattle.answers.specs.declared.status.Status.{Status}
-use Rattle.answers.specs.declared.status.Status.TheVariants as status
-use Rattle.answers.specs.Told.{ToldRuns}
+use Rattle.ra_top.specs.Devices.Device.{WritesPart, WritesAll}
+use Rattle.ra_top.specs.Words.Words.{Asked, Alloc, Trace, Gen, is_word}
+use Rattle.pipeline.specs.Guarded.Told.{ToldRun, ToldPart}
+use Rattle.ra_top.specs.declared.commands.answer.Job.{Job}
+use Rattle.ra_top.specs.declared.commands.answer.Job.TheVariants as jobs
+use Rattle.ra_top.specs.declared.commands.status.Status.{Status}
+use Rattle.ra_top.specs.declared.commands.status.Status.TheVariants as status
+use Rattle.ra_top.specs.Commands.Told.{ToldRuns}
 use Rattle.ra_top.specs.declared.ending.Step.{Step}
 use Rattle.ra_top.specs.declared.ending.Step.TheVariants as steps
 use Rattle.ra_top.specs.Told.{NamesTarget}

@@ -1,6 +1,6 @@
 //! How a run over a file ends.
 
-use answers::Status;
+use crate::commands::Status;
 use target_base::Bytes;
 
 /// How a run ends: its status, and the detail of its line.

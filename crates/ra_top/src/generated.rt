@@ -7,9 +7,9 @@ ghost use Rattle.ra_top.specs.Watched.{ToldGen};
 
 use crate::ending::Ending;
 use crate::stream::ends;
-use answers::{Answer, Status, gen_answer};
-use devices::Sink;
-use devices::moves::write_all;
+use crate::commands::{Answer, Status, gen_answer};
+use crate::devices::Sink;
+use crate::devices::moves::write_all;
 use std::alloc::Global;
 use target_base::Bytes;
 use watchers::Watcher;

@@ -1,22 +1,22 @@
 //! The top call.
 
 ghost use Rattle.std.specs.Prelude.{◌≡◌, ℕ, List, IfSome, false, true};
-ghost use Rattle.commands.specs.Words.{bytes_of, command_of};
-ghost use Rattle.answers.specs.Status.{line_of};
-ghost use Rattle.answers.specs.Documents.{tells};
+ghost use Rattle.ra_top.specs.Words.Words.{bytes_of, command_of};
+ghost use Rattle.ra_top.specs.Commands.Status.{line_of};
+ghost use Rattle.ra_top.specs.Commands.Documents.{tells};
 ghost use Rattle.target_base.specs.Mini.{mini_target};
 ghost use Rattle.ra_top.specs.Told.{HasStatusCause, DoesAll, DoesJobAll, asks_anything, tells_words, IsTold, Streamed};
-ghost use Rattle.answers.specs.Told.{lines_of};
+ghost use Rattle.ra_top.specs.Commands.Told.{lines_of};
 ghost use Rattle.ra_top.specs.Watched.{ToldAs, ToldJob, ToldWords, is_trace, asks_trace, WritesLines};
 
 use crate::ending::Ending;
 use crate::generated::generate;
 use crate::stream::{ends, stream};
 use crate::target::read_target_file;
-use answers::status::write_line;
-use answers::{Job, Status};
-use commands::{Command, read_words};
-use devices::{Files, Sink};
+use crate::commands::status::write_line;
+use crate::commands::{Job, Status};
+use crate::words::{Command, read_words};
+use crate::devices::{Files, Sink};
 use mir_meaning::Form;
 use std::alloc::Global;
 use target_base::{Target, mini};

@@ -1,18 +1,18 @@
 //! Documents of a file in turn, one at a time.
 
 ghost use Rattle.std.specs.Prelude.{◌≡◌, ◌≤◌, ◌<◌, ◌+◌, ◌++◌, ℕ, List, length, IfSome, [], Some, false, true};
-ghost use Rattle.devices.specs.Pieces.{held_most};
-ghost use Rattle.answers.specs.Spot.{file_most, after};
+ghost use Rattle.ra_top.specs.Devices.Pieces.{held_most};
+ghost use Rattle.ra_top.specs.Commands.Spot.{file_most, after};
 ghost use Rattle.ra_top.specs.Told.{HasStatusCause, Streamed};
 ghost use Rattle.ra_top.specs.Steps.{HasStepCause, AfterPiece, AfterDocument, Moves, Advances, IsFinished};
-ghost use Rattle.answers.specs.Documents.{tells, end_status};
-ghost use Rattle.answers.specs.Told.{lines_of};
+ghost use Rattle.ra_top.specs.Commands.Documents.{tells, end_status};
+ghost use Rattle.ra_top.specs.Commands.Told.{lines_of};
 ghost use Rattle.ra_top.specs.Watched.{ToldAs, ToldStep, is_trace, WritesLines, TracesStep};
 
 use crate::ending::{Ending, Step};
-use answers::{Answer, Job, Spot, Status, answer_at, end_status, end_text};
-use devices::moves::{ReadStop, write_all};
-use devices::{Chunk, Files, Pieces, Sink, read_piece};
+use crate::commands::{Answer, Job, Spot, Status, answer_at, end_status, end_text};
+use crate::devices::moves::{ReadStop, write_all};
+use crate::devices::{Chunk, Files, Pieces, Sink, read_piece};
 use std::alloc::Global;
 use target_base::{Bytes, Target};
 use watchers::Watcher;

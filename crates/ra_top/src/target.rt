@@ -8,9 +8,9 @@ ghost use Rattle.ra_top.specs.Watched.{IsUndone};
 
 use crate::ending::Ending;
 use crate::stream::ends;
-use answers::{LimitName, Status};
-use devices::Files;
-use devices::moves::{ReadStop, read_file};
+use crate::commands::{LimitName, Status};
+use crate::devices::Files;
+use crate::devices::moves::{ReadStop, read_file};
 use std::alloc::{AllocError, Global};
 use target_base::{Bytes, Target};
 use target_desc::{TargetFault, TargetStop, read_target};

@@ -7,7 +7,7 @@ use Rattle.meaning.specs.declared.types.Source.{Source}
 use Rattle.meaning.specs.declared.types.Source.TheVariants.{FromLane}
 use Rattle.meaning.specs.Code.{Edge, Item, Code, found}
 use Rattle.meaning.specs.Live.{Among, reads_of, exits_of, in_order, Writing, KeptAfter}
-use Rattle.live_law.specs.Stands.{Reaches as Fills}
+use Rattle.mir_meaning.specs.Stands.{Reaches as Fills}
 use Rattle.mir_func.specs.Value.{Function}
 use Rattle.mir_meaning.specs.Registers.{is_reserved}
 use Rattle.mir_meaning.specs.Points.{Exit, LiveAt, AtFirst, Tests, points_of, from_instr}

@@ -4,8 +4,8 @@ use Rattle.std.specs.Prelude.{nat_lt, slice_get, option_map}
 use Rattle.std.specs.List.{list_any}
 use Rattle.std.proofs.lemmas.Bool.{or_from, or_left, or_parts, or_right, lt-ltb, ltb-true, cases_lt, true≢false}
 use Rattle.std.proofs.lemmas.List.{take_all}
-use Rattle.lane_effects.specs.declared.row.Lanes.{Lanes}
-use Rattle.lane_effects.specs.Numbers.{row_number_in}
+use Rattle.instr_effects.specs.declared.row.Lanes.{Lanes}
+use Rattle.instr_effects.specs.Numbers.{row_number_in}
 use Rattle.live_lanes.specs.declared.row.Cell.{Cell}
 use Rattle.live_lanes.specs.Extents.{lanes_count}
 use Rattle.live_lanes.specs.Touching.{some_below, some_of}

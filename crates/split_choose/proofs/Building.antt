@@ -10,8 +10,8 @@ use Rattle.std.proofs.lemmas.List.{map-append, take_all}
 use Rattle.std.proofs.lemmas.List.Elements.{filter_map-append}
 use Rattle.std.proofs.lemmas.Grind.{flat_map-append}
 use Rattle.mir_meaning.specs.Registers.{numbers}
-use Rattle.lane_effects.specs.Numbered.{number_in}
-use Rattle.lane_effects.specs.declared.owner.Owner.TheVariants as owners
+use Rattle.instr_effects.specs.Numbered.{number_in}
+use Rattle.instr_effects.specs.declared.owner.Owner.TheVariants as owners
 use Rattle.live_lanes.specs.declared.extent.Extent.{Extent}
 use Rattle.live_lanes.specs.declared.extent.Stretch.{Stretch}
 use Rattle.live_lanes.specs.declared.row.Cell.{Cell}

@@ -7,8 +7,8 @@ use Rattle.std.proofs.lemmas.List.{map-append, take_all}
 use Rattle.std.proofs.lemmas.List.Kept.{Contains-dedup_nat, Contains-from_dedup}
 use Rattle.std.proofs.lemmas.Grind.{flat_map-append}
 use Rattle.mir_meaning.specs.Registers.{numbers}
-use Rattle.lane_effects.specs.Numbered.{number_in}
-use Rattle.lane_effects.specs.declared.owner.Owner.TheVariants as owners
+use Rattle.instr_effects.specs.Numbered.{number_in}
+use Rattle.instr_effects.specs.declared.owner.Owner.TheVariants as owners
 use Rattle.live_lanes.specs.declared.row.Cell.{Cell}
 use Rattle.live_lanes.specs.declared.table.Table.{Table}
 use Rattle.split_choose.specs.Built.{lane_positions, range_positions}

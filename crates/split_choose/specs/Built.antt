@@ -8,8 +8,8 @@ use Rattle.mir_func.specs.declared.func.Instr.{Instr}
 use Rattle.mir_meaning.specs.Registers.{numbers}
 use Rattle.mir_meaning.specs.Binding.{does, is_terminator}
 use Rattle.block_freq.specs.Weights.{naming}
-use Rattle.lane_effects.specs.Numbered.{number_in}
-use Rattle.lane_effects.specs.declared.owner.Owner.TheVariants as owners
+use Rattle.instr_effects.specs.Numbered.{number_in}
+use Rattle.instr_effects.specs.declared.owner.Owner.TheVariants as owners
 use Rattle.live_lanes.specs.declared.extent.Stretch.{Stretch}
 use Rattle.live_lanes.specs.declared.live.LiveFunc.{LiveFunc}
 use Rattle.live_lanes.specs.declared.row.Cell.{Cell}

@@ -2,8 +2,8 @@
 
 ghost use Rattle.std.specs.Prelude.{◌≡◌, ℕ, List, true, map, OnOk, IfOk, Some, slice_get, option_map};
 ghost use Rattle.std.specs.List.{list_all};
-ghost use Rattle.lane_effects.specs.Numbered.{number_in};
-ghost use Rattle.lane_effects.specs.declared.owner.Owner.TheVariants as owners;
+ghost use Rattle.instr_effects.specs.Numbered.{number_in};
+ghost use Rattle.instr_effects.specs.declared.owner.Owner.TheVariants as owners;
 ghost use Rattle.live_lanes.specs.Looks.{InOrder};
 ghost use Rattle.live_lanes.specs.Entered.{cells_of};
 ghost use Rattle.live_lanes.specs.Touching.{some_lane};

@@ -1,7 +1,7 @@
 use Rattle.std.proofs.Common.{◌≡◌, length}
 use Rattle.std.specs.List.{list_all}
 use Rattle.live_lanes.specs.Looks.{InOrder}
-use Rattle.lane_effects.specs.Ends.{pairs_of}
+use Rattle.instr_effects.specs.Ends.{pairs_of}
 use Rattle.place_solve.specs.Copies.{pair_fits}
 use Rattle.place_solve.proofs.copies.pairs_admit.Given as goal
 

@@ -1,6 +1,6 @@
 use Rattle.std.proofs.Common.{subst}
 use Rattle.target_base.specs.Mini.{mini_target}
-use Rattle.answers.specs.Told.{ToldOne}
+use Rattle.ra_top.specs.Commands.Told.{ToldOne}
 use Rattle.ra_top.proofs.Watched.{gen_run}
 use Rattle.ra_top.proofs.generated.generate.Goals as goal
 

@@ -1,5 +1,5 @@
 use Rattle.std.proofs.Common.{◌∙◌}
-use Rattle.answers.specs.declared.status.Status.TheVariants as status
+use Rattle.ra_top.specs.declared.commands.status.Status.TheVariants as status
 use Rattle.ra_top.proofs.Starts.{memory_told}
 use Rattle.ra_top.proofs.Watched.{undone, words_untold}
 use Rattle.ra_top.proofs.run.top.Goals as goal

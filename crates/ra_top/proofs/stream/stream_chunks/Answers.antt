@@ -1,7 +1,7 @@
 use Rattle.std.proofs.Common.{◌≤◌, ◌+◌, [], refl, sym, subst, ◌∙◌, arith}
-use Rattle.devices.proofs.Written.{all_after}
-use Rattle.answers.specs.Spot.{file_most}
-use Rattle.answers.proofs.Watched.{no_runs, runs_joined}
+use Rattle.ra_top.proofs.DeviceLemmas.Written.{all_after}
+use Rattle.ra_top.specs.Commands.Spot.{file_most}
+use Rattle.ra_top.proofs.CommandLemmas.Watched.{no_runs, runs_joined}
 use Rattle.ra_top.proofs.Nothing.{writes_none}
 use Rattle.ra_top.proofs.Watched.{as_behind, lines_behind}
 use Rattle.ra_top.proofs.Progress.{begins, goes_on, run_stops}

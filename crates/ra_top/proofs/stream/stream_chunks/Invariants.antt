@@ -1,8 +1,8 @@
 use Rattle.std.proofs.Common.{◌≡◌, ℕ, ◌≤◌, ◌+◌, ◌-◌, List, [], false, true}
-use Rattle.devices.specs.Device.{WritesAll}
-use Rattle.answers.specs.Documents.{tells}
-use Rattle.answers.specs.Told.{ToldRuns}
-use Rattle.answers.specs.Spot.{file_most}
+use Rattle.ra_top.specs.Devices.Device.{WritesAll}
+use Rattle.ra_top.specs.Commands.Documents.{tells}
+use Rattle.ra_top.specs.Commands.Told.{ToldRuns}
+use Rattle.ra_top.specs.Commands.Spot.{file_most}
 use Rattle.ra_top.specs.Watched.{is_trace}
 use Rattle.ra_top.proofs.Progress.{Progresses}
 use Rattle.ra_top.proofs.stream.stream_chunks.Given as goal

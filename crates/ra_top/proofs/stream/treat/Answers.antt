@@ -1,5 +1,5 @@
 use Rattle.std.proofs.Common.{subst}
-use Rattle.answers.specs.Told.{ToldAnswer}
+use Rattle.ra_top.specs.Commands.Told.{ToldAnswer}
 use Rattle.ra_top.proofs.Watched.{as_runs}
 use Rattle.ra_top.proofs.stream.treat.Goals as goal
 

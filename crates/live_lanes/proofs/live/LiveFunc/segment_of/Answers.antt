@@ -1,7 +1,7 @@
 use Rattle.std.proofs.Common.{◌≡◌, ◌∙◌, None, Some, ap, subst, sym, option_copied}
 use Rattle.std.specs.Prelude.{IsTrue}
-use Rattle.lane_effects.specs.Numbered.{number_in}
-use Rattle.lane_effects.specs.declared.owner.Owner.TheVariants as owners
+use Rattle.instr_effects.specs.Numbered.{number_in}
+use Rattle.instr_effects.specs.declared.owner.Owner.TheVariants as owners
 use Rattle.live_lanes.specs.Table.{Seen, rises_from, seen_cell, unseen}
 use Rattle.live_lanes.specs.Entered.{rows_seen}
 use Rattle.live_lanes.specs.Touching.{begun_at, begun_by}

@@ -1,7 +1,7 @@
 use Rattle.std.proofs.Common.{◌≡◌, ◌<◌, ◌-◌, suc, length, drop, map, subst, arith}
 use Rattle.std.specs.Ordering.{nat_cmp}
 use Rattle.std.specs.BTreeMap.{get}
-use Rattle.lane_effects.specs.Numbered.{number_in}
+use Rattle.instr_effects.specs.Numbered.{number_in}
 use Rattle.live_lanes.specs.Coded.{entries}
 use Rattle.live_lanes.specs.Doing.{doing_of}
 use Rattle.live_lanes.specs.Entering.{Enters, block_entered, blocks_entered}

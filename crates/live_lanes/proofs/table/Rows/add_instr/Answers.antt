@@ -1,8 +1,8 @@
 use Rattle.std.proofs.Common.{ap, map, ◌∙◌}
 use Rattle.std.specs.Ordering.{nat_cmp}
 use Rattle.std.specs.BTreeMap.{get}
-use Rattle.lane_effects.specs.Numbered.{number_in}
-use Rattle.lane_effects.specs.Steps.{seen_read}
+use Rattle.instr_effects.specs.Numbered.{number_in}
+use Rattle.instr_effects.specs.Steps.{seen_read}
 use Rattle.live_lanes.specs.Doing.{doing_of}
 use Rattle.live_lanes.proofs.Raised.{on-ok}
 use Rattle.live_lanes.proofs.Entering.{instr-enters}

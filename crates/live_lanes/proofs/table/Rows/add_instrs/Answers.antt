@@ -1,7 +1,7 @@
 use Rattle.std.proofs.Common.{arith, refl}
 use Rattle.std.specs.Ordering.{nat_cmp}
 use Rattle.std.specs.BTreeMap.{get}
-use Rattle.lane_effects.specs.Numbered.{number_in}
+use Rattle.instr_effects.specs.Numbered.{number_in}
 use Rattle.live_lanes.specs.Doing.{doing_of}
 use Rattle.live_lanes.specs.Entering.{step_entered}
 use Rattle.live_lanes.proofs.Entering.{enters-none, enters-item, enters-mapped}

@@ -1,7 +1,7 @@
 use Rattle.std.proofs.Common.{sym}
 use Rattle.std.specs.Ordering.{nat_cmp}
 use Rattle.std.specs.BTreeMap.{get}
-use Rattle.lane_effects.specs.Steps.{seen_read}
+use Rattle.instr_effects.specs.Steps.{seen_read}
 use Rattle.live_lanes.proofs.Raised.{on-ok}
 use Rattle.live_lanes.proofs.Entering.{end-some, end-none}
 use Rattle.live_lanes.proofs.table.Rows.add_phi_read.Goals as goal

@@ -2,7 +2,7 @@ use Rattle.std.proofs.Common.{arith, refl}
 use Rattle.std.specs.Ordering.{nat_cmp}
 use Rattle.std.specs.BTreeMap.{get}
 use Rattle.live_lanes.specs.Entering.{end_entered}
-use Rattle.lane_effects.specs.Steps.{seen_read}
+use Rattle.instr_effects.specs.Steps.{seen_read}
 use Rattle.live_lanes.proofs.Entering.{enters-none, enters-item, enters-mapped}
 use Rattle.live_lanes.proofs.table.Rows.add_phi_reads.Goals as goal
 

@@ -2,7 +2,7 @@ use Rattle.std.proofs.Common.{take}
 use Rattle.std.specs.Ordering.{nat_cmp}
 use Rattle.std.specs.BTreeMap.{get}
 use Rattle.live_lanes.specs.Entering.{Enters, enter_all, end_entered}
-use Rattle.lane_effects.specs.Steps.{seen_read}
+use Rattle.instr_effects.specs.Steps.{seen_read}
 use Rattle.live_lanes.proofs.table.Rows.add_phi_reads.Given as goal
 
 abbrev pub invariant-reads : goal.invariant-reads

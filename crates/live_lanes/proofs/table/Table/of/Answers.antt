@@ -2,7 +2,7 @@ use Rattle.std.proofs.Common.{◌≡◌, ◌<◌, ℕ, length, subst}
 use Rattle.live_lanes.specs.Growth.{GrowsAll}
 use Rattle.std.specs.Ordering.{nat_cmp}
 use Rattle.std.specs.BTreeMap.{get}
-use Rattle.lane_effects.specs.Numbered.{number_in}
+use Rattle.instr_effects.specs.Numbered.{number_in}
 use Rattle.live_lanes.specs.Lasting.{AllRise, Lasts}
 use Rattle.live_lanes.proofs.Computed.{computed, is-computed}
 use Rattle.live_lanes.proofs.table.Table.of.Goals as goal

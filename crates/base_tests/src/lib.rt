@@ -1,7 +1,0 @@
-//! Tests of target_base, mir_func and slot_index: each public call once, over the built-in target.
-#![tactic(auto)]
-
-#[cfg(test)]
-mod edits;
-#[cfg(test)]
-mod look_ups;

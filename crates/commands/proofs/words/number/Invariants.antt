@@ -1,9 +1,0 @@
-use Rattle.std.proofs.Common.{◌≡◌, ◌<◌, ◌^◌, drop}
-use Rattle.commands.specs.Words.{number_of, number_behind}
-use Rattle.commands.proofs.words.number.Given as goal
-
-abbrev pub invariant-loop-b : goal.invariant-loop-b
-invariant-loop-b l = record {
-  value : number_behind l.n (drop l.b-index l.digits) ≡ number_of l.digits;
-  within : l.n < 10 ^ l.b-index;
-}

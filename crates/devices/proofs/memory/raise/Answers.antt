@@ -1,5 +1,0 @@
-use Rattle.devices.proofs.Calls.{raised_rose}
-use Rattle.devices.proofs.memory.raise.Goals as goal
-
-pub returns-clause-cause : goal.returns-clause-cause
-returns-clause-cause c = rw c.saturating_add.ensures (raised_rose c.args.count c.ranges.count.fits)

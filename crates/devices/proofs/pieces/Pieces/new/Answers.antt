@@ -1,5 +1,0 @@
-use Rattle.devices.proofs.Steps.{scan_of_none}
-use Rattle.devices.proofs.pieces.Pieces.new.Goals as goal
-
-pub invariant_of-result : goal.invariant_of-result
-invariant_of-result c = scan_of_none _ _ c.new.ensures.items c.new-2.ensures

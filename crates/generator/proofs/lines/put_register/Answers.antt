@@ -1,8 +1,0 @@
-use Rattle.std.proofs.Common.{codes}
-use Rattle.std.specs.Fmt.{decimal}
-use Rattle.generator.proofs.Joined.{two_numbers}
-use Rattle.generator.proofs.lines.put_register.Goals as goal
-
-pub returns : goal.returns
-returns c =
-    two_numbers c.put.result c.args.out.now c.put_numbered.new.out c.put_numbered-2.new.out c.put.new.out (codes "    %") (decimal c.args.v) (codes ":gr32 = MOV32ri ") (decimal c.args.n) (codes "\n") c.in_ok-put_numbered.ensures c.in_ok-put_numbered-2.ensures c.put.ensures

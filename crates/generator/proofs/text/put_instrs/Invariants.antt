@@ -1,6 +1,0 @@
-use Rattle.std.proofs.Common.{◌≡◌, ◌++◌}
-use Rattle.generator.specs.Text.{instr_lines, behind_instrs}
-use Rattle.generator.proofs.text.put_instrs.Given as goal
-
-abbrev pub invariant-instrs : goal.invariant-instrs
-invariant-instrs l = (l.out ≡ l.fn.out ++ instr_lines l._k l.fn.source.x) × (l.source.x ≡ behind_instrs l._k l.fn.source.x)

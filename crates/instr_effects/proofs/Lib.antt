@@ -1,0 +1,12 @@
+pub mod Loops
+pub mod Tables
+pub mod Pairs
+pub mod Operands
+pub mod Writes
+pub mod Readings
+pub mod Known
+pub mod Masks
+pub mod Members
+pub mod Plain
+pub mod CountedSteps
+pub mod ItemLemmas

@@ -1,0 +1,67 @@
+-- The pairs of a phi, one after the other.
+use Rattle.std.proofs.Common.{◌≡◌, ◌≤◌, ℕ, true, false, cond, List, [], ◌∷◌, ◌++◌, Some, None, map, drop, length, refl, sym, ap, ◌∙◌, append_assoc, append-nil, arith}
+use Rattle.std.specs.Prelude.{option_map}
+use Rattle.target_base.specs.declared.types.OpcodeDesc.{OpcodeDesc}
+use Rattle.target_base.specs.declared.types.Target.{Target}
+use Rattle.target_base.specs.Rules.{is_phi}
+use Rattle.mir_func.specs.declared.func.RegOp.{RegOp}
+use Rattle.mir_func.specs.declared.func.Operand.{Operand}
+use Rattle.mir_func.specs.declared.func.Operand.TheVariants as operands
+use Rattle.mir_func.specs.declared.func.Instr.{Instr}
+use Rattle.mir_meaning.specs.Binding.{known_opcode, passes}
+use Rattle.instr_effects.specs.Acts.{register_at}
+use Rattle.instr_effects.specs.Ends.{pairs_of, pairs_behind, end_uses, first_pair}
+
+-- a pair that stands first is the first of the pairs
+pub first_step : (os : List Operand) (p : RegOp × ℕ) → first_pair os ≡ Some p → pairs_of os ≡ p ∷ pairs_of (drop 2 os)
+first_step [] p e = absurd (cc)
+first_step (operands.Reg s ∷ []) p e = absurd (cc)
+first_step (operands.Reg s ∷ operands.Block n ∷ os) p e = ap (λ q. q ∷ pairs_of os) (some-same (s, n) p e)
+  where
+    some-same : (x y : RegOp × ℕ) → Some x ≡ Some y → x ≡ y
+    some-same x y e = cc
+first_step (operands.Reg s ∷ o ∷ os) p e = absurd (cc)
+first_step (o ∷ os) p e = absurd (cc)
+
+pub pairs_long : (os : List Operand) (p : RegOp × ℕ) → first_pair os ≡ Some p → 2 ≤ length os
+pairs_long [] p e = absurd (cc)
+pairs_long (operands.Reg s ∷ []) p e = absurd (cc)
+pairs_long (operands.Reg s ∷ o ∷ os) p e = omega arith
+pairs_long (o ∷ os) p e = absurd (cc)
+
+no_first : (os : List Operand) → first_pair os ≡ None → pairs_of os ≡ []
+no_first [] e = refl
+no_first (operands.Reg s ∷ []) e = refl
+no_first (operands.Reg s ∷ operands.Block n ∷ os) e = absurd (cc)
+no_first (operands.Reg s ∷ o ∷ os) e = refl
+no_first (o ∷ os) e = refl
+
+-- a read pair goes from the pairs to what is read
+pub pairs_step : {Y : Type 0} (g : RegOp × ℕ → Y) (done : List Y) (all os : List Operand) (p : RegOp × ℕ) (y : Y) → first_pair os ≡ Some p → y ≡ g p → done ++ map g (pairs_of os) ≡ map g (pairs_of all) → (done ++ y ∷ []) ++ map g (pairs_of (drop 2 os)) ≡ map g (pairs_of all)
+pairs_step g done all os p y e f so = append_assoc done (y ∷ []) (map g (pairs_of (drop 2 os))) ∙ ap (λ z. done ++ z ∷ map g (pairs_of (drop 2 os))) f ∙ ap (λ t. done ++ map g t) (sym (first_step os p e)) ∙ so
+
+pub pairs_none : {Y : Type 0} (g : RegOp × ℕ → Y) (done : List Y) (all os : List Operand) → first_pair os ≡ None → done ++ map g (pairs_of os) ≡ map g (pairs_of all) → done ≡ map g (pairs_of all)
+pairs_none g done all os e so = sym (ap (λ t. done ++ map g t) (no_first os e) ∙ append-nil done) ∙ so
+
+pub behind_some : (os : List Operand) (s : RegOp) → register_at os 0 ≡ Some s → pairs_behind os ≡ pairs_of (drop 1 os)
+behind_some [] s e = absurd (cc)
+behind_some (operands.Reg d ∷ os) s e = refl
+behind_some (o ∷ os) s e = absurd (cc)
+
+pub behind_long : (os : List Operand) (s : RegOp) → register_at os 0 ≡ Some s → 1 ≤ length os
+behind_long [] s e = absurd (cc)
+behind_long (o ∷ os) s e = omega arith
+
+pub behind_none : (os : List Operand) → register_at os 0 ≡ None → pairs_behind os ≡ []
+behind_none [] e = refl
+behind_none (operands.Reg d ∷ os) e = absurd (cc)
+behind_none (o ∷ os) e = refl
+
+pub no_uses : (t : Target) (i : Instr) → known_opcode t i.op ≡ None → end_uses t i ≡ []
+no_uses t i e = ap (λ q. cond (passes is_phi (option_map (λ (d : OpcodeDesc). d.effect) q)) (pairs_behind i.operands) []) e
+
+pub phi_uses : (t : Target) (i : Instr) (d : OpcodeDesc) → known_opcode t i.op ≡ Some d → is_phi d.effect ≡ true → end_uses t i ≡ pairs_behind i.operands
+phi_uses t i d e h = ap (λ q. cond (passes is_phi (option_map (λ (x : OpcodeDesc). x.effect) q)) (pairs_behind i.operands) []) e ∙ ap (λ b. cond b (pairs_behind i.operands) []) h
+
+pub other_uses : (t : Target) (i : Instr) (d : OpcodeDesc) → known_opcode t i.op ≡ Some d → is_phi d.effect ≡ false → end_uses t i ≡ []
+other_uses t i d e h = ap (λ q. cond (passes is_phi (option_map (λ (x : OpcodeDesc). x.effect) q)) (pairs_behind i.operands) []) e ∙ ap (λ b. cond b (pairs_behind i.operands) []) h

@@ -1,0 +1,9 @@
+use Rattle.std.proofs.Common.{◌≡◌, ◌++◌, ◌+◌, ◌≤◌, ◌∷◌, [], take, drop, map, length, flat_map, sum}
+use Rattle.mir_meaning.specs.Codes.{phi_pair}
+use Rattle.instr_effects.proofs.items.ways.push_phi_pair.Given as goal
+
+abbrev pub invariant-loop-rest : goal.invariant-loop-rest
+invariant-loop-rest l = (l.out ≡ l.initial.out) × (phi_pair l.t l.f l.n l.d l.rest ≡ phi_pair l.t l.f l.n l.d l.initial.rest)
+
+abbrev pub decreases-loop-rest : goal.decreases-loop-rest
+decreases-loop-rest l = length l.rest

@@ -1,0 +1,7 @@
+use Rattle.std.proofs.Common.{◌≡◌, map}
+use Rattle.mir_meaning.specs.Registers.{numbers}
+use Rattle.instr_effects.specs.declared.owner.Owner.TheVariants as owners
+use Rattle.instr_effects.proofs.numbers.first_units.Given as goal
+
+abbrev pub invariant-lanes : goal.invariant-lanes
+invariant-lanes l = l.lanes.items ≡ map (owners.Unit) (numbers 0 l.u)

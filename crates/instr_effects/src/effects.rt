@@ -1,0 +1,220 @@
+//! What an instruction reads and writes, by the numbers of lanes.
+
+ghost use Rattle.std.specs.Prelude.{◌≡◌, ◌++◌, IfOk, map, filter_map, option_and_then};
+ghost use Rattle.target_base.specs.Rules.{is_phi};
+ghost use Rattle.instr_effects.specs.Acts.{acts_of, read_owners, entered_reads, entered_writes};
+ghost use Rattle.instr_effects.specs.Ends.{pairs_of, pairs_behind, end_uses, as_block, block_at, first_pair};
+ghost use Rattle.instr_effects.specs.Numbered.{number_in};
+ghost use Rattle.instr_effects.specs.Steps.{act_writing, act_writings, act_reading, act_readings, phi_read_of, seen_read};
+
+use crate::acts::Act;
+use crate::lanes::LaneTable;
+use crate::owner::Owner;
+use crate::registers::{LaneReader, desc_of, register_at};
+use mir_meaning::Writing;
+use mir_func::{Func, Instr, Operand, RegOp};
+use std::alloc::{AllocError, Global};
+use target_base::{Effect, Target};
+
+/// What an instruction does to lanes that aren't reserved. Of two writings of a lane, or two moves
+/// of a lane, the first counts.
+#[derive(Drop)]
+pub struct Effects {
+    /// The lanes that it reads whatever is live behind it.
+    pub reads: Vec<u32>,
+    /// The lanes that it writes.
+    pub writes: Vec<Writing>,
+}
+
+/// The lanes that a phi reads at the end of a block before it.
+#[derive(Drop)]
+pub struct PhiRead {
+    /// The number of that block.
+    pub block: u32,
+    /// The lanes.
+    pub lanes: Vec<u32>,
+}
+
+impl LaneTable {
+    /// What an act writes, where its lane isn't reserved.
+    fn writing(&self, act: &Act) -> Option<Writing>
+        ensures { result ≡ act_writing (number_in self.now) act.now }
+    {
+        let lane = self.number(act.lane)?;
+        Some(Writing {
+            lane,
+            from: self.source(act.from),
+            early: act.early,
+        })
+    }
+
+    /// The number of a lane that is moved, if one is.
+    fn source(&self, from: Option<Owner>) -> Option<u32>
+        ensures { result ≡ option_and_then (number_in self.now) from }
+    {
+        match from {
+            Some(owner) => self.number(owner),
+            None => None,
+        }
+    }
+
+    /// What an act reads whose lane is reserved.
+    fn reading(&self, act: &Act) -> Option<u32>
+        ensures { result ≡ act_reading (number_in self.now) act.now }
+    {
+        match self.number(act.lane) {
+            Some(_) => None,
+            None => self.source(act.from),
+        }
+    }
+
+    /// The numbers of these lanes, without those that have none.
+    fn numbers(&self, alloc: Global, owners: &[Owner]) -> Result<Vec<u32>, AllocError>
+        ensures { IfOk result (λ v. v.items ≡ filter_map (number_in self.now) owners.now) }
+    {
+        owners.iter().filter_map(|o| self.number(*o)).collect(alloc)
+    }
+
+    /// What these acts write.
+    fn writings(&self, alloc: Global, acts: &[Act]) -> Result<Vec<Writing>, AllocError>
+        ensures { IfOk result (λ v. v.items ≡ act_writings (number_in self.now) acts.now) }
+    {
+        acts.iter().filter_map(|a| self.writing(a)).collect(alloc)
+    }
+
+    /// What these acts read whose lanes are reserved.
+    fn readings(&self, alloc: Global, acts: &[Act]) -> Result<Vec<u32>, AllocError>
+        ensures { IfOk result (λ v. v.items ≡ act_readings (number_in self.now) acts.now) }
+    {
+        acts.iter().filter_map(|a| self.reading(a)).collect(alloc)
+    }
+}
+
+/// What the effects of instructions are read from.
+#[derive(Clone, Copy)]
+pub struct Reader<'a> {
+    /// Where lists are made.
+    pub alloc: Global,
+    /// The target.
+    pub target: &'a Target,
+    /// The function.
+    pub func: &'a Func,
+    /// The numbers of its lanes.
+    pub lanes: &'a LaneTable,
+}
+
+impl<'a> Reader<'a> {
+    fn names(self) -> LaneReader<'a>
+        ensures target { result.target.now ≡ self.entry.target.now }
+        ensures func { result.func.now ≡ self.entry.func.now }
+    {
+        LaneReader {
+            alloc: self.alloc,
+            target: self.target,
+            func: self.func,
+        }
+    }
+
+    /// What an instruction does to lanes.
+    pub fn effects(self, instr: &Instr) -> Result<Effects, AllocError>
+        ensures reads { IfOk result (λ e. e.reads.items ≡ filter_map (number_in self.entry.lanes.now) (read_owners (entered_reads self.entry.target.now self.entry.func.now instr.now)) ++ act_readings (number_in self.entry.lanes.now) (acts_of (entered_writes self.entry.target.now self.entry.func.now instr.now))) }
+        ensures writes { IfOk result (λ e. e.writes.items ≡ act_writings (number_in self.entry.lanes.now) (acts_of (entered_writes self.entry.target.now self.entry.func.now instr.now))) }
+    {
+        let acts = self.names().acts(instr)?;
+        let mut reads = self.lanes.numbers(self.alloc, acts.reads.as_slice())?;
+        let kept = self.lanes.readings(self.alloc, acts.writes.as_slice())?;
+        reads.extend_from_slice(kept.as_slice())?;
+        let writes = self.lanes.writings(self.alloc, acts.writes.as_slice())?;
+        Ok(Effects { reads, writes })
+    }
+
+    /// What a use of a phi reads at the end of a block before the phi's.
+    fn phi_read(self, op: &RegOp, block: u32) -> Result<PhiRead, AllocError>
+        ensures { IfOk result (λ r. seen_read r ≡ phi_read_of self.entry.target.now self.entry.func.now (number_in self.entry.lanes.now) (op.now, block)) }
+    {
+        let mut owners = Vec::new(self.alloc);
+        self.names().read(op, &mut owners)?;
+        let lanes = self.lanes.numbers(self.alloc, owners.as_slice())?;
+        Ok(PhiRead { block, lanes })
+    }
+
+    /// What pairs of a use and a block read at the ends of these blocks.
+    #[tactic(auto, using(crate::proofs::Pairs::pairs_step, crate::proofs::Pairs::pairs_none, crate::proofs::Pairs::pairs_long))]
+    fn pair_reads(self, operands: &[Operand]) -> Result<Vec<PhiRead>, AllocError>
+        ensures { IfOk result (λ rs. map seen_read rs.items ≡ map (phi_read_of self.entry.target.now self.entry.func.now (number_in self.entry.lanes.now)) (pairs_of operands.now)) }
+    {
+        let mut reads = Vec::new(self.alloc);
+        let mut rest = operands;
+        'pairs: while let Some((op, block)) = first_pair(rest) {
+            reads.push(self.phi_read(&op, block)?)?;
+            rest = &rest[2..];
+        }
+        Ok(reads)
+    }
+
+    /// What the uses of a phi read at the ends of the blocks before the phi's.
+    #[tactic(auto, using(crate::proofs::Pairs::behind_some, crate::proofs::Pairs::behind_long, crate::proofs::Pairs::behind_none))]
+    fn uses_at_ends(self, operands: &[Operand]) -> Result<Vec<PhiRead>, AllocError>
+        ensures { IfOk result (λ rs. map seen_read rs.items ≡ map (phi_read_of self.entry.target.now self.entry.func.now (number_in self.entry.lanes.now)) (pairs_behind operands.now)) }
+    {
+        match register_at(operands, 0) {
+            Some(_) => Ok(self.pair_reads(&operands[1..])?),
+            None => Ok(Vec::new(self.alloc)),
+        }
+    }
+
+    /// What a phi reads at the ends of the blocks before its own; nothing for other instructions.
+    #[tactic(auto, using(crate::proofs::Pairs::no_uses, crate::proofs::Pairs::phi_uses, crate::proofs::Pairs::other_uses))]
+    pub fn phi_reads(self, instr: &Instr) -> Result<Vec<PhiRead>, AllocError>
+        ensures { IfOk result (λ rs. map seen_read rs.items ≡ map (phi_read_of self.entry.target.now self.entry.func.now (number_in self.entry.lanes.now)) (end_uses self.entry.target.now instr.now)) }
+    {
+        let Some(desc) = desc_of(self.target, instr) else {
+            return Ok(Vec::new(self.alloc));
+        };
+        if is_phi(desc.effect) {
+            Ok(self.uses_at_ends(instr.operands.as_slice())?)
+        } else {
+            Ok(Vec::new(self.alloc))
+        }
+    }
+}
+
+/// Whether an effect is that of a phi.
+fn is_phi(effect: Effect) -> bool
+    ensures { result ≡ is_phi effect }
+{
+    matches!(effect, Effect::Phi)
+}
+
+/// The block that an operand names, where it names one.
+fn as_block(operand: &Operand) -> Option<u32>
+    ensures { result ≡ as_block operand.now }
+{
+    match operand {
+        Operand::Block(number) => Some(*number),
+        _ => None,
+    }
+}
+
+/// The block at a place, if one is.
+fn block_at(operands: &[Operand], place: usize) -> Option<u32>
+    ensures { result ≡ block_at operands.now place }
+{
+    match operands.get(place) {
+        Some(operand) => as_block(operand),
+        None => None,
+    }
+}
+
+/// The use and the block that stand first, if they do.
+fn first_pair(operands: &[Operand]) -> Option<(RegOp, u32)>
+    ensures { result ≡ first_pair operands.now }
+{
+    match register_at(operands, 0) {
+        Some(op) => match block_at(operands, 1) {
+            Some(block) => Some((op, block)),
+            None => None,
+        },
+        None => None,
+    }
+}

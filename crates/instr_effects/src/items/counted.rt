@@ -1,0 +1,607 @@
+//! What a counted instruction reads, writes and does.
+
+ghost use Rattle.std.specs.Prelude.{◌≡◌, ◌+◌, ◌<◌, ◌≤◌, ◌-◌, ◌^◌, ◌%◌, ◌++◌, ◌∷◌, [], length, map, filter, filter_map, flat_map, OnOk, IfOk, IfSome, None, Some, option_to_list, cond, not, sum, nat_abs, IsTrue};
+ghost use Rattle.target_base.specs.Registers.{units_of};
+ghost use Rattle.target_base.specs.Roles.{is_implicit, is_silent};
+ghost use Rattle.meaning.specs.Environment.{residue, constant_source};
+ghost use Rattle.meaning.specs.declared.types.Constant.TheVariants.{Immediate};
+ghost use Rattle.meaning.specs.Perform.{condition_lane};
+ghost use Rattle.mir_meaning.specs.Binding.{effect_of, roles_of, implicit_roles, takes_role, is_early_clobber, is_implicit_operand, explicit_operands, implicit_registers, registers};
+ghost use Rattle.mir_meaning.specs.Registers.{operand_lanes, operand_widths, use_sources, undefined_lanes, is_reserved};
+ghost use Rattle.mir_meaning.specs.Items.{value_of, use_value, constant_value, computes_with_immediates, has_base, first_width, immediate_of, symbol_of, is_flags, pick, flag_value, implicit_values, values, explicit_definitions, implicit_definitions, result_writes, unreserved, all_lanes, answered, preserves, clobbered, kept, implicit_writes, counted_writes, lane_width, result_widths, read_widths, called_symbol, rest_of};
+ghost use Rattle.std.specs.List.{list_any};
+ghost use Rattle.target_base.specs.Storage.{is_among};
+ghost use Rattle.target_base.specs.declared.types.Effect.TheVariants as effects;
+ghost use Rattle.std.specs.Bool.{beq};
+ghost use Rattle.meaning.specs.declared.types.Source.TheVariants.{Bits};
+
+use crate::items::lanes::{Sources, push_operand_widths, use_sources};
+use crate::items::results::result_widths;
+use meaning::{Constant, Reads, Rest, Source, Widths};
+use mir_func::{Func, Instr, Loc, Op, Operand, RegOp};
+use std::alloc::{AllocError, Global};
+use target_base::{Bytes, Copied, Effect, List, Numbers, Role, Target};
+
+/// Operands that are read: the sources of each, and their widths.
+pub type Values = List<(Sources, Numbers)>;
+
+/// What the instruction's opcode computes; None where it is an excluded one.
+pub fn effect_of(t: &Target, i: &Instr) -> Option<Effect>
+    ensures { result ≡ effect_of t.now i.now }
+{
+    match &i.op {
+        Op::Excluded(_) => None,
+        Op::Known(o) => match t.opcodes.as_slice().get(o.0 as usize) {
+            None => None,
+            Some(d) => Some(d.effect),
+        },
+    }
+}
+
+/// The roles of the instruction's opcode; none where it is an excluded one.
+pub fn roles_of<'a>(t: &'a Target, i: &Instr) -> &'a [Role]
+    ensures { result.now ≡ roles_of t.now i.now }
+{
+    match &i.op {
+        Op::Excluded(_) => &[],
+        Op::Known(o) => match t.opcodes.as_slice().get(o.0 as usize) {
+            None => &[],
+            Some(d) => d.roles.as_slice(),
+        },
+    }
+}
+
+/// Whether an opcode's definition is an early-clobber one.
+pub fn is_early_clobber(roles: &[Role]) -> bool
+    ensures { result ≡ is_early_clobber roles.now }
+{
+    match roles.first() {
+        Some(Role::Early(_)) => true,
+        _ => false,
+    }
+}
+
+/// Whether an instruction of this effect counts for nothing in a run.
+pub fn is_silent(e: Effect) -> bool
+    ensures { result ≡ is_silent e }
+{
+    match e {
+        Effect::Copy
+        | Effect::Phi
+        | Effect::ImplicitDef
+        | Effect::RegSequence
+        | Effect::InsertSubreg
+        | Effect::Const
+        | Effect::Addr
+        | Effect::Spill
+        | Effect::Reload => true,
+        _ => false,
+    }
+}
+
+/// Whether an immediate operand of this effect is read as a register is.
+pub fn computes_with_immediates(e: Effect) -> bool
+    ensures { result ≡ computes_with_immediates e }
+{
+    match e {
+        Effect::Add
+        | Effect::Sub
+        | Effect::Mul
+        | Effect::And
+        | Effect::Or
+        | Effect::Xor
+        | Effect::Shl
+        | Effect::Shr
+        | Effect::Sar
+        | Effect::Udiv
+        | Effect::Urem
+        | Effect::Madd
+        | Effect::Neg
+        | Effect::Not
+        | Effect::Cmp => true,
+        _ => false,
+    }
+}
+
+/// Whether the effect is a load or a store.
+fn has_base(e: Effect) -> bool
+    ensures { result ≡ has_base e }
+{
+    match e {
+        Effect::Load(_) | Effect::Store(_) => true,
+        _ => false,
+    }
+}
+
+/// Whether a role is an implicit one.
+fn is_implicit(r: Role) -> bool
+    ensures { result ≡ is_implicit r }
+{
+    match r {
+        Role::ImpDef(_) | Role::ImpRead(_) => true,
+        _ => false,
+    }
+}
+
+/// Whether an implicit operand is what the role names.
+fn takes_role(o: &RegOp, r: Role) -> bool
+    ensures { result ≡ takes_role o.now r }
+{
+    match (r, o.loc) {
+        (Role::ImpDef(q), Loc::Fixed(p)) => o.def && q.0 == p.0,
+        (Role::ImpRead(q), Loc::Fixed(p)) => !o.def && q.0 == p.0,
+        _ => false,
+    }
+}
+
+/// Whether an operand is what the first implicit role names: the flags of a comparison or of a
+/// conditional jump.
+pub(crate) fn is_flags(roles: &[Role], o: &RegOp) -> bool
+    ensures { result ≡ is_flags (implicit_roles roles.now) o.now }
+{
+    for r in roles {
+        if is_implicit(*r) {
+            return takes_role(o, *r);
+        }
+    }
+    false
+}
+
+/// The lower bits of a number, as many as w.
+pub fn low_bits(n: u128, w: u32) -> u128
+    ensures { result ≡ n % 2 ^ w }
+{
+    if w >= 128 { n } else { n % (1 << w) }
+}
+
+/// The greatest number of so many bits.
+pub fn ones(w: u32) -> u128
+    requires { w ≤ 128 }
+    ensures { result ≡ 2 ^ w - 1 }
+{
+    if w >= 128 { u128::MAX } else { (1 << w) - 1 }
+}
+
+/// A signed number modulo 2^w.
+pub fn residue(z: i128, w: u32) -> u128
+    requires { w ≤ 128 }
+    ensures { result ≡ residue z w }
+{
+    if z >= 0 {
+        low_bits(z.unsigned_abs(), w)
+    } else {
+        ones(w) - low_bits(z.unsigned_abs() - 1, w)
+    }
+}
+
+/// The first immediate operand, or 0.
+pub fn immediate_of(operands: &[Operand]) -> i128
+    ensures { result ≡ immediate_of operands.now }
+{
+    for o in operands {
+        if let Operand::Imm(z) = o {
+            return *z;
+        }
+    }
+    0
+}
+
+/// The first symbol operand, or nothing.
+fn symbol_of(operands: &[Operand]) -> &[u8]
+    ensures { result.now ≡ symbol_of operands.now }
+{
+    for o in operands {
+        if let Operand::Symbol(name) = o {
+            return name.as_slice();
+        }
+    }
+    &[]
+}
+
+/// The sum of widths that fit 128 bits.
+pub fn total(widths: &[u32]) -> Option<u32>
+    ensures { IfSome result (λ n. (n ≡ sum widths.now) × (n ≤ 128)) }
+{
+    let mut total: u32 = 0;
+    for w in widths {
+        if *w > 128 - total {
+            return None;
+        }
+        total += *w;
+    }
+    Some(total)
+}
+
+/// The bits of a register operand. Want of memory stands for more than 128, which no register has.
+fn bits_of(alloc: Global, t: &Target, f: &Func, o: &RegOp) -> Result<u32, AllocError>
+    ensures { IfOk result (λ n. (n ≡ sum (operand_widths t.now f.now o.now)) × (n ≤ 128)) }
+{
+    let mut widths = List::new(alloc);
+    push_operand_widths(&mut widths, t, f, o)?;
+    total(widths.as_slice()).ok_or(AllocError)
+}
+
+/// The bits of the first register operand.
+fn first_width(alloc: Global, t: &Target, f: &Func, operands: &[Operand]) -> Result<u32, AllocError>
+    ensures { IfOk result (λ n. (n ≡ first_width t.now f.now (registers operands.now)) × (n ≤ 128)) }
+{
+    for o in operands {
+        if let Operand::Reg(r) = o {
+            return bits_of(alloc, t, f, r);
+        }
+    }
+    Ok(0)
+}
+
+/// A use with its widths.
+fn use_value(
+    alloc: Global,
+    t: &Target,
+    f: &Func,
+    o: &RegOp,
+) -> Result<(Sources, Numbers), AllocError>
+    ensures { IfOk result (λ v. v ≡ use_value t.now f.now o.now) }
+{
+    let mut widths = List::new(alloc);
+    push_operand_widths(&mut widths, t, f, o)?;
+    Ok((use_sources(alloc, t, f, o)?, widths))
+}
+
+/// A list of one element.
+pub(crate) fn one<T: Drop>(alloc: Global, x: T) -> Result<List<T>, AllocError>
+    ensures { IfOk result (λ made. made ≡ x ∷ []) }
+{
+    let mut made = List::new(alloc);
+    made.push(x)?;
+    Ok(made)
+}
+
+/// An immediate at so many bits.
+fn immediate_value(alloc: Global, z: i128, w: u32) -> Result<(Sources, Numbers), AllocError>
+    requires { w ≤ 128 }
+    ensures { IfOk result (λ v. v ≡ constant_value (Immediate (residue z w)) w) }
+{
+    let number = Constant::Immediate(low_bits(residue(z, w), w));
+    Ok((one(alloc, Source::Bits(number, 0, w))?, one(alloc, w)?))
+}
+
+/// An address, which has 64 bits.
+fn address_value(alloc: Global, address: Constant) -> Result<(Sources, Numbers), AllocError>
+    requires { constant_source address 0 64 ≡ Bits address 0 64 }
+    ensures { IfOk result (λ v. v ≡ constant_value address 64) }
+{
+    Ok((one(alloc, Source::Bits(address, 0, 64))?, one(alloc, 64)?))
+}
+
+/// What an explicit operand gives to read, if anything.
+fn value_of(
+    alloc: Global,
+    t: &Target,
+    f: &Func,
+    e: Effect,
+    w: u32,
+    o: &Operand,
+) -> Result<Option<(Sources, Numbers)>, AllocError>
+    requires { w ≤ 128 }
+    ensures { IfOk result (λ v. v ≡ value_of t.now f.now e w o.now) }
+{
+    match o {
+        Operand::Reg(r) => {
+            if r.def {
+                Ok(None)
+            } else {
+                Ok(Some(use_value(alloc, t, f, r)?))
+            }
+        }
+        Operand::Imm(z) => {
+            if computes_with_immediates(e) {
+                Ok(Some(immediate_value(alloc, *z, w)?))
+            } else {
+                Ok(None)
+            }
+        }
+        Operand::Stack(n) => base_of(alloc, e, Constant::StackAddress(*n)),
+        Operand::FixedStack(n) => base_of(alloc, e, Constant::FixedStackAddress(*n)),
+        Operand::Symbol(name) => base_of(alloc, e, Constant::SymbolAddress(name.copied(alloc)?)),
+        _ => Ok(None),
+    }
+}
+
+/// An address as the base of a load or a store; other effects don't read it.
+fn base_of(
+    alloc: Global,
+    e: Effect,
+    address: Constant,
+) -> Result<Option<(Sources, Numbers)>, AllocError>
+    requires { constant_source address 0 64 ≡ Bits address 0 64 }
+    ensures { IfOk result (λ v. v ≡ cond (has_base e) (Some (constant_value address 64)) None) }
+{
+    if has_base(e) {
+        Ok(Some(address_value(alloc, address)?))
+    } else {
+        Ok(None)
+    }
+}
+
+/// Whether an operand is a register operand that is marked implicit.
+fn is_implicit_operand(o: &Operand) -> bool
+    ensures { result ≡ is_implicit_operand o.now }
+{
+    match o {
+        Operand::Reg(r) => r.implicit,
+        _ => false,
+    }
+}
+
+/// Appends what the explicit operands give to read.
+fn push_explicit(
+    out: &mut Values,
+    alloc: Global,
+    t: &Target,
+    f: &Func,
+    e: Effect,
+    w: u32,
+    operands: &[Operand],
+) -> Result<(), AllocError>
+    requires { w ≤ 128 }
+    ensures { OnOk result (out.new ≡ out.old ++ filter_map (value_of t.now f.now e w) (explicit_operands operands.now)) }
+{
+    for o in operands {
+        if !is_implicit_operand(o) {
+            push_some(out, value_of(alloc, t, f, e, w, o)?)?;
+        }
+    }
+    Ok(())
+}
+
+/// Appends a value, if there is one.
+fn push_some(out: &mut Values, v: Option<(Sources, Numbers)>) -> Result<(), AllocError>
+    ensures { OnOk result (out.new ≡ out.old ++ option_to_list v) }
+{
+    match v {
+        None => Ok(()),
+        Some(v) => out.push(v),
+    }
+}
+
+/// A list of the element at a place alone, or an empty list.
+fn picked<T: Copied>(alloc: Global, k: usize, items: &[T]) -> Result<List<T>, AllocError>
+    ensures { IfOk result (λ made. made ≡ pick k items.now) }
+{
+    if k >= items.len() {
+        return Ok(List::new(alloc));
+    }
+    let x = items[k].copied(alloc)?;
+    let made = one(alloc, x)?;
+    Ok(made)
+}
+
+/// The place, among three flags, of the one that a condition reads.
+fn condition_lane(c: u128) -> usize
+    ensures { result ≡ condition_lane c }
+{
+    if c < 4 {
+        2
+    } else if c < 6 {
+        0
+    } else {
+        1
+    }
+}
+
+/// The flag that a conditional jump reads.
+fn flag_value(
+    alloc: Global,
+    t: &Target,
+    f: &Func,
+    c: i128,
+    o: &RegOp,
+) -> Result<(Sources, Numbers), AllocError>
+    ensures { IfOk result (λ v. v ≡ flag_value t.now f.now c o.now) }
+{
+    let k = condition_lane(c.unsigned_abs());
+    let mut widths = List::new(alloc);
+    push_operand_widths(&mut widths, t, f, o)?;
+    let sources = use_sources(alloc, t, f, o)?;
+    Ok((
+        picked(alloc, k, sources.as_slice())?,
+        picked(alloc, k, widths.as_slice())?,
+    ))
+}
+
+/// Appends the flags that a conditional jump reads.
+fn push_flags(
+    out: &mut Values,
+    alloc: Global,
+    t: &Target,
+    f: &Func,
+    c: i128,
+    roles: &[Role],
+    operands: &[RegOp],
+) -> Result<(), AllocError>
+    ensures { OnOk result (out.new ≡ out.old ++ map (flag_value t.now f.now c) (filter (is_flags (implicit_roles roles.now)) operands.now)) }
+{
+    for o in operands {
+        if is_flags(roles, o) {
+            out.push(flag_value(alloc, t, f, c, o)?)?;
+        }
+    }
+    Ok(())
+}
+
+/// Appends what a conditional jump reads besides flags.
+fn push_others(
+    out: &mut Values,
+    alloc: Global,
+    t: &Target,
+    f: &Func,
+    roles: &[Role],
+    operands: &[RegOp],
+) -> Result<(), AllocError>
+    ensures { OnOk result (out.new ≡ out.old ++ map (use_value t.now f.now) (filter (λ o. not (is_flags (implicit_roles roles.now) o)) operands.now)) }
+{
+    for o in operands {
+        if !is_flags(roles, o) {
+            out.push(use_value(alloc, t, f, o)?)?;
+        }
+    }
+    Ok(())
+}
+
+/// Appends uses.
+fn push_uses(
+    out: &mut Values,
+    alloc: Global,
+    t: &Target,
+    f: &Func,
+    operands: &[RegOp],
+) -> Result<(), AllocError>
+    ensures { OnOk result (out.new ≡ out.old ++ map (use_value t.now f.now) operands.now) }
+{
+    for o in operands {
+        out.push(use_value(alloc, t, f, o)?)?;
+    }
+    Ok(())
+}
+
+/// Appends what is read implicitly.
+fn push_implicit(
+    out: &mut Values,
+    alloc: Global,
+    t: &Target,
+    f: &Func,
+    e: Effect,
+    c: i128,
+    roles: &[Role],
+    operands: &[RegOp],
+) -> Result<(), AllocError>
+    ensures { OnOk result (out.new ≡ out.old ++ implicit_values t.now f.now e c (implicit_roles roles.now) operands.now) }
+{
+    match e {
+        Effect::Jcc => {
+            push_flags(out, alloc, t, f, c, roles, operands)?;
+            push_others(out, alloc, t, f, roles, operands)
+        }
+        _ => push_uses(out, alloc, t, f, operands),
+    }
+}
+
+/// The implicit register operands that are definitions, or those that are uses.
+fn implicit_of(alloc: Global, operands: &[Operand], def: bool) -> Result<List<RegOp>, AllocError>
+    ensures { IfOk result (λ made. made ≡ filter (λ o. beq o.def def) (implicit_registers operands.now)) }
+{
+    let mut made = List::new(alloc);
+    for o in operands {
+        if let Operand::Reg(r) = o {
+            if r.implicit && r.def == def {
+                made.push(*r)?;
+            }
+        }
+    }
+    Ok(made)
+}
+
+/// All that a counted instruction reads, operand by operand.
+pub fn values(
+    alloc: Global,
+    t: &Target,
+    f: &Func,
+    e: Effect,
+    i: &Instr,
+) -> Result<Values, AllocError>
+    ensures { IfOk result (λ made. made ≡ values t.now f.now e i.now) }
+{
+    let operands = i.operands.as_slice();
+    let mut made = List::new(alloc);
+    let w = first_width(alloc, t, f, operands)?;
+    push_explicit(&mut made, alloc, t, f, e, w, operands)?;
+    let uses = implicit_of(alloc, operands, false)?;
+    let c = immediate_of(operands);
+    push_implicit(
+        &mut made,
+        alloc,
+        t,
+        f,
+        e,
+        c,
+        roles_of(t, i),
+        uses.as_slice(),
+    )?;
+    Ok(made)
+}
+
+/// The sources of values.
+pub fn reads_of(alloc: Global, values: &[(Sources, Numbers)]) -> Result<Reads, AllocError>
+    ensures { IfOk result (λ made. made ≡ map (λ v. v.0) values.now) }
+{
+    let mut made = List::new(alloc);
+    for v in values {
+        made.push(v.0.copied(alloc)?)?;
+    }
+    Ok(made)
+}
+
+/// The widths that an operation goes by: those of what it reads, but for a marker.
+fn read_widths(
+    alloc: Global,
+    e: Effect,
+    values: &[(Sources, Numbers)],
+) -> Result<Widths, AllocError>
+    ensures { IfOk result (λ made. made ≡ read_widths e values.now) }
+{
+    match e {
+        Effect::Marker => Ok(List::new(alloc)),
+        _ => widths_of(alloc, values),
+    }
+}
+
+/// The widths of values.
+fn widths_of(alloc: Global, values: &[(Sources, Numbers)]) -> Result<Widths, AllocError>
+    ensures { IfOk result (λ made. made ≡ map (λ v. v.1) values.now) }
+{
+    let mut made = List::new(alloc);
+    for v in values {
+        made.push(v.1.copied(alloc)?)?;
+    }
+    Ok(made)
+}
+
+/// The symbol that a call names; nothing for other effects.
+fn called_symbol(alloc: Global, e: Effect, operands: &[Operand]) -> Result<Bytes, AllocError>
+    ensures { IfOk result (λ made. made ≡ called_symbol e operands.now) }
+{
+    match e {
+        Effect::Call => Bytes::from_slice(alloc, symbol_of(operands)),
+        _ => Ok(List::new(alloc)),
+    }
+}
+
+/// All of a counted instruction that names no register. The values are those that it reads.
+pub fn rest_of(
+    alloc: Global,
+    t: &Target,
+    f: &Func,
+    e: Effect,
+    i: &Instr,
+    read: &[(Sources, Numbers)],
+) -> Result<Rest, AllocError>
+    requires { read.now ≡ values t.now f.now e i.now }
+    ensures { IfOk result (λ made. made ≡ rest_of t.now f.now e i.now) }
+{
+    let operands = i.operands.as_slice();
+    let widths = read_widths(alloc, e, read)?;
+    let result = result_widths(alloc, t, f, e, operands)?;
+    let symbol = called_symbol(alloc, e, operands)?;
+    let immediate = if computes_with_immediates(e) {
+        0
+    } else {
+        immediate_of(operands)
+    };
+    Ok(Rest {
+        effect: e,
+        widths,
+        result,
+        immediate,
+        symbol,
+    })
+}

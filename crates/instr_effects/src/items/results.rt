@@ -1,0 +1,387 @@
+//! What a counted instruction writes.
+
+ghost use Rattle.std.specs.Prelude.{◌≡◌, ◌+◌, ◌<◌, ◌≤◌, ◌-◌, ◌^◌, ◌%◌, ◌++◌, ◌∷◌, [], length, map, filter, filter_map, flat_map, OnOk, IfOk, IfSome, None, Some, option_to_list, cond, not, sum, nat_abs, IsTrue};
+ghost use Rattle.target_base.specs.Registers.{units_of};
+ghost use Rattle.target_base.specs.Roles.{is_implicit, is_silent};
+ghost use Rattle.meaning.specs.Environment.{residue, constant_source};
+ghost use Rattle.meaning.specs.declared.types.Constant.TheVariants.{Immediate};
+ghost use Rattle.meaning.specs.Perform.{condition_lane};
+ghost use Rattle.mir_meaning.specs.Binding.{effect_of, roles_of, implicit_roles, takes_role, is_early_clobber, is_implicit_operand, explicit_operands, implicit_registers, registers};
+ghost use Rattle.mir_meaning.specs.Registers.{numbers, operand_lanes, operand_widths, use_sources, undefined_lanes, is_reserved};
+ghost use Rattle.mir_meaning.specs.Items.{value_of, use_value, constant_value, computes_with_immediates, has_base, first_width, immediate_of, symbol_of, is_flags, pick, flag_value, implicit_values, values, explicit_definitions, implicit_definitions, result_writes, unreserved, all_lanes, answered, preserves, clobbered, kept, implicit_writes, counted_writes, lane_width, result_widths, read_widths, called_symbol, rest_of};
+ghost use Rattle.std.specs.List.{list_any};
+ghost use Rattle.target_base.specs.Storage.{is_among};
+ghost use Rattle.target_base.specs.Numbers.{unit_number};
+ghost use Rattle.meaning.specs.declared.types.Lane.TheVariants.{UnitLane};
+ghost use Rattle.target_base.specs.declared.types.Effect.TheVariants as effects;
+ghost use Rattle.std.specs.Bool.{beq};
+ghost use Rattle.meaning.specs.declared.types.Source.TheVariants.{Bits};
+
+use crate::items::counted::{is_early_clobber, is_flags, roles_of};
+use crate::items::lanes::{Lanes, push_operand_lanes, push_operand_widths, push_undefined_lanes};
+use crate::items::writes::{push_computed, push_undefined};
+use meaning::{Lane, Write, Writes};
+use mir_func::{Func, Instr, Operand, RegOp};
+use std::alloc::{AllocError, Global};
+use target_base::registers::units_at;
+use target_base::{Copied, Effect, List, Numbers, Reg, Role, Target, Unit};
+
+/// The register operands of an instruction that are definitions, explicit ones or implicit ones.
+fn definitions(
+    alloc: Global,
+    operands: &[Operand],
+    implicit: bool,
+) -> Result<List<RegOp>, AllocError>
+    ensures { IfOk result (λ made. made ≡ cond implicit (implicit_definitions operands.now) (explicit_definitions operands.now)) }
+{
+    let mut made = List::new(alloc);
+    for o in operands {
+        if let Operand::Reg(r) = o {
+            if r.def && r.implicit == implicit {
+                made.push(*r)?;
+            }
+        }
+    }
+    Ok(made)
+}
+
+/// Appends the writes of an explicit definition.
+fn push_result(
+    out: &mut Writes,
+    alloc: Global,
+    t: &Target,
+    f: &Func,
+    early: bool,
+    d: &RegOp,
+) -> Result<(), AllocError>
+    ensures { OnOk result (out.new ≡ out.old ++ result_writes t.now f.now early d.now) }
+{
+    let mut lanes = List::new(alloc);
+    push_operand_lanes(&mut lanes, t, f, d)?;
+    push_computed(out, early, lanes.as_slice())?;
+    let mut others = List::new(alloc);
+    push_undefined_lanes(&mut others, t, f, d)?;
+    push_undefined(out, early, others.as_slice())
+}
+
+/// Appends the writes of explicit definitions.
+fn push_results(
+    out: &mut Writes,
+    alloc: Global,
+    t: &Target,
+    f: &Func,
+    early: bool,
+    operands: &[RegOp],
+) -> Result<(), AllocError>
+    ensures { OnOk result (out.new ≡ out.old ++ flat_map (result_writes t.now f.now early) operands.now) }
+{
+    for d in operands {
+        push_result(out, alloc, t, f, early, d)?;
+    }
+    Ok(())
+}
+
+/// Whether a list holds a unit.
+fn is_among(us: &[Unit], u: Unit) -> bool
+    ensures { result ≡ is_among us.now u }
+{
+    us.iter().any(|v| v.0 == u.0)
+}
+
+/// Whether a lane is a reserved unit.
+fn is_reserved(t: &Target, l: Lane) -> bool
+    ensures { result ≡ is_reserved t.now l }
+{
+    match l {
+        Lane::UnitLane(u) => has_number(t.reserved.as_slice(), u),
+        _ => false,
+    }
+}
+
+/// Whether a list holds the unit of a number.
+fn has_number(us: &[Unit], u: u32) -> bool
+    ensures { result ≡ is_among us.now (unit_number u) }
+{
+    for v in us {
+        if v.0 as u32 == u {
+            return true;
+        }
+    }
+    false
+}
+
+/// Appends the lanes that aren't reserved.
+fn push_unreserved(out: &mut Lanes, t: &Target, lanes: &[Lane]) -> Result<(), AllocError>
+    ensures { OnOk result (out.new ≡ out.old ++ unreserved t.now lanes.now) }
+{
+    for l in lanes {
+        if !is_reserved(t, *l) {
+            out.push(*l)?;
+        }
+    }
+    Ok(())
+}
+
+/// Appends the lanes of several register operands.
+fn push_all_lanes(
+    out: &mut Lanes,
+    t: &Target,
+    f: &Func,
+    operands: &[RegOp],
+) -> Result<(), AllocError>
+    ensures { OnOk result (out.new ≡ out.old ++ all_lanes t.now f.now operands.now) }
+{
+    for o in operands {
+        push_operand_lanes(out, t, f, o)?;
+    }
+    Ok(())
+}
+
+/// The unreserved lanes of implicit definitions.
+fn implicit_lanes(
+    alloc: Global,
+    t: &Target,
+    f: &Func,
+    operands: &[Operand],
+) -> Result<Lanes, AllocError>
+    ensures { IfOk result (λ made. made ≡ answered t.now f.now operands.now) }
+{
+    let definitions = definitions(alloc, operands, true)?;
+    let mut lanes = List::new(alloc);
+    push_all_lanes(&mut lanes, t, f, definitions.as_slice())?;
+    let mut made = List::new(alloc);
+    push_unreserved(&mut made, t, lanes.as_slice())?;
+    Ok(made)
+}
+
+/// Whether some register of a mask has a unit.
+fn mask_has(t: &Target, regs: &[Reg], u: Unit) -> bool
+    ensures { result ≡ is_among (flat_map (units_of t.now) regs.now) u }
+{
+    for r in regs {
+        if is_among(units_at(t.regs.as_slice(), *r), u) {
+            return true;
+        }
+    }
+    false
+}
+
+/// Whether an operand is a mask that preserves a unit.
+fn preserves(t: &Target, u: Unit, o: &Operand) -> bool
+    ensures { result ≡ preserves t.now u.0 o.now }
+{
+    match o {
+        Operand::Mask(k) => match t.masks.as_slice().get(k.0 as usize) {
+            None => false,
+            Some(d) => mask_has(t, d.regs.as_slice(), u),
+        },
+        _ => false,
+    }
+}
+
+/// Whether an operand among these is a mask that preserves a unit.
+fn is_preserved(t: &Target, u: Unit, operands: &[Operand]) -> bool
+    ensures { result ≡ list_any (preserves t.now u.0) operands.now }
+{
+    for o in operands {
+        if preserves(t, u, o) {
+            return true;
+        }
+    }
+    false
+}
+
+/// The units outside the mask of a call.
+fn unpreserved(alloc: Global, t: &Target, operands: &[Operand]) -> Result<Lanes, AllocError>
+    ensures { IfOk result (λ made. made ≡ map UnitLane (filter (λ u. not (list_any (preserves t.now u) operands.now)) (numbers 0 (length t.now.units)))) }
+{
+    let mut made = List::new(alloc);
+    for u in 0..t.units.len() as u16 {
+        if !is_preserved(t, Unit(u), operands) {
+            made.push(Lane::UnitLane(u as u32))?;
+        }
+    }
+    Ok(made)
+}
+
+/// The unreserved units outside the mask of a call.
+fn clobbered(alloc: Global, t: &Target, operands: &[Operand]) -> Result<Lanes, AllocError>
+    ensures { IfOk result (λ made. made ≡ clobbered t.now operands.now) }
+{
+    let units = unpreserved(alloc, t, operands)?;
+    let mut made = List::new(alloc);
+    push_unreserved(&mut made, t, units.as_slice())?;
+    Ok(made)
+}
+
+/// The flags that an instruction defines.
+fn flag_lanes(
+    alloc: Global,
+    t: &Target,
+    f: &Func,
+    roles: &[Role],
+    operands: &[RegOp],
+) -> Result<Lanes, AllocError>
+    ensures { IfOk result (λ made. made ≡ all_lanes t.now f.now (filter (is_flags (implicit_roles roles.now)) operands.now)) }
+{
+    let mut made = List::new(alloc);
+    for o in operands {
+        if is_flags(roles, o) {
+            push_operand_lanes(&mut made, t, f, o)?;
+        }
+    }
+    Ok(made)
+}
+
+/// Appends the writes of lanes that aren't reserved.
+fn push_kept(
+    out: &mut Writes,
+    alloc: Global,
+    t: &Target,
+    writes: &[Write],
+) -> Result<(), AllocError>
+    ensures { OnOk result (out.new ≡ out.old ++ kept t.now writes.now) }
+{
+    for w in writes {
+        if !is_reserved(t, w.lane) {
+            out.push(w.copied(alloc)?)?;
+        }
+    }
+    Ok(())
+}
+
+/// What a comparison writes implicitly: its flags have values, the others are Undef.
+fn push_compared(
+    out: &mut Writes,
+    alloc: Global,
+    t: &Target,
+    f: &Func,
+    roles: &[Role],
+    operands: &[Operand],
+) -> Result<(), AllocError>
+    ensures { OnOk result (out.new ≡ out.old ++ implicit_writes t.now f.now effects.Cmp (implicit_roles roles.now) operands.now) }
+{
+    let definitions = definitions(alloc, operands, true)?;
+    let flags = flag_lanes(alloc, t, f, roles, definitions.as_slice())?;
+    let mut all = List::new(alloc);
+    push_all_lanes(&mut all, t, f, definitions.as_slice())?;
+    let mut writes = List::new(alloc);
+    push_computed(&mut writes, false, flags.as_slice())?;
+    push_undefined(&mut writes, false, all.as_slice())?;
+    push_kept(out, alloc, t, writes.as_slice())
+}
+
+/// Appends what implicit definitions write.
+fn push_implicit_writes(
+    out: &mut Writes,
+    alloc: Global,
+    t: &Target,
+    f: &Func,
+    e: Effect,
+    roles: &[Role],
+    operands: &[Operand],
+) -> Result<(), AllocError>
+    ensures { OnOk result (out.new ≡ out.old ++ implicit_writes t.now f.now e (implicit_roles roles.now) operands.now) }
+{
+    match e {
+        Effect::Cmp => push_compared(out, alloc, t, f, roles, operands),
+        Effect::Call => {
+            let answered = implicit_lanes(alloc, t, f, operands)?;
+            push_computed(out, false, answered.as_slice())?;
+            let clobbered = clobbered(alloc, t, operands)?;
+            push_undefined(out, false, clobbered.as_slice())
+        }
+        _ => {
+            let lanes = implicit_lanes(alloc, t, f, operands)?;
+            push_undefined(out, false, lanes.as_slice())
+        }
+    }
+}
+
+/// All that a counted instruction writes.
+pub fn counted_writes(
+    alloc: Global,
+    t: &Target,
+    f: &Func,
+    e: Effect,
+    i: &Instr,
+) -> Result<Writes, AllocError>
+    ensures { IfOk result (λ made. made ≡ counted_writes t.now f.now e i.now) }
+{
+    let operands = i.operands.as_slice();
+    let roles = roles_of(t, i);
+    let results = definitions(alloc, operands, false)?;
+    let mut made = List::new(alloc);
+    push_results(
+        &mut made,
+        alloc,
+        t,
+        f,
+        is_early_clobber(roles),
+        results.as_slice(),
+    )?;
+    push_implicit_writes(&mut made, alloc, t, f, e, roles, operands)?;
+    Ok(made)
+}
+
+/// The widths of lanes that are units.
+fn lane_widths(alloc: Global, t: &Target, lanes: &[Lane]) -> Result<Numbers, AllocError>
+    ensures { IfOk result (λ made. made ≡ map (lane_width t.now) lanes.now) }
+{
+    let mut made = List::new(alloc);
+    for l in lanes {
+        made.push(lane_width(t, *l))?;
+    }
+    Ok(made)
+}
+
+/// The width of a unit's lane.
+fn lane_width(t: &Target, l: Lane) -> u32
+    ensures { result ≡ lane_width t.now l }
+{
+    match l {
+        Lane::UnitLane(u) => match t.units.as_slice().get(u as usize) {
+            None => 0,
+            Some(d) => d.width as u32,
+        },
+        _ => 0,
+    }
+}
+
+/// The widths of explicit definitions.
+fn definition_widths(
+    alloc: Global,
+    t: &Target,
+    f: &Func,
+    operands: &[RegOp],
+) -> Result<Numbers, AllocError>
+    ensures { IfOk result (λ made. made ≡ flat_map (operand_widths t.now f.now) operands.now) }
+{
+    let mut made = List::new(alloc);
+    for d in operands {
+        push_operand_widths(&mut made, t, f, d)?;
+    }
+    Ok(made)
+}
+
+/// The lane widths of what is computed.
+pub(crate) fn result_widths(
+    alloc: Global,
+    t: &Target,
+    f: &Func,
+    e: Effect,
+    operands: &[Operand],
+) -> Result<Numbers, AllocError>
+    ensures { IfOk result (λ made. made ≡ result_widths t.now f.now e operands.now) }
+{
+    match e {
+        Effect::Call => {
+            let lanes = implicit_lanes(alloc, t, f, operands)?;
+            lane_widths(alloc, t, lanes.as_slice())
+        }
+        _ => {
+            let results = definitions(alloc, operands, false)?;
+            definition_widths(alloc, t, f, results.as_slice())
+        }
+    }
+}

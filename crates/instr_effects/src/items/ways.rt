@@ -1,0 +1,169 @@
+//! Ways into blocks, and what phis write on them.
+
+ghost use Rattle.std.specs.Prelude.{◌≡◌, ◌++◌, OnOk, flat_map, not};
+ghost use Rattle.mir_meaning.specs.Binding.{does, ends_control, is_terminator};
+ghost use Rattle.mir_meaning.specs.Codes.{phi_pair, phi_operands, phi_writes, instrs_of, way, target_of, falls_through};
+
+use crate::items::counted::effect_of;
+use crate::items::lanes::use_sources;
+use crate::items::writes::push_defined;
+use meaning::Writes;
+use mir_func::{Block, Func, Instr, Operand, RegOp};
+use std::alloc::{AllocError, Global};
+use target_base::{Boxed, Effect, Target};
+
+/// Appends what a phi writes where its block is entered from block n.
+fn push_phi_pair(
+    out: &mut Writes,
+    alloc: Global,
+    t: &Target,
+    f: &Func,
+    n: u32,
+    d: &RegOp,
+    operands: &[Operand],
+) -> Result<(), AllocError>
+    ensures { OnOk result (out.new ≡ out.old ++ phi_pair t.now f.now n d.now operands.now) }
+{
+    let mut rest = operands;
+    while let [Operand::Reg(s), Operand::Block(m), more @ ..] = rest {
+        if *m == n {
+            let sources = use_sources(alloc, t, f, s)?;
+            return push_defined(out, alloc, t, f, false, d, sources.as_slice());
+        }
+        rest = more;
+    }
+    Ok(())
+}
+
+/// Appends a phi's writing, by its operands.
+fn push_phi_operands(
+    out: &mut Writes,
+    alloc: Global,
+    t: &Target,
+    f: &Func,
+    n: u32,
+    operands: &[Operand],
+) -> Result<(), AllocError>
+    ensures { OnOk result (out.new ≡ out.old ++ phi_operands t.now f.now n operands.now) }
+{
+    match operands {
+        [Operand::Reg(d), pairs @ ..] => push_phi_pair(out, alloc, t, f, n, d, pairs),
+        _ => Ok(()),
+    }
+}
+
+/// Appends what an instruction of a block writes on the way in from block n: phis alone do.
+fn push_phi_writes(
+    out: &mut Writes,
+    alloc: Global,
+    t: &Target,
+    f: &Func,
+    n: u32,
+    i: &Instr,
+) -> Result<(), AllocError>
+    ensures { OnOk result (out.new ≡ out.old ++ phi_writes t.now f.now n i.now) }
+{
+    match effect_of(t, i) {
+        Some(Effect::Phi) => push_phi_operands(out, alloc, t, f, n, i.operands.as_slice()),
+        _ => Ok(()),
+    }
+}
+
+/// The instructions of the first block of that number.
+fn instrs_of(blocks: &[Block], m: u32) -> &[Boxed<Instr>]
+    ensures { result.now ≡ instrs_of blocks.now m }
+{
+    for b in blocks {
+        if b.number == m {
+            return b.instrs.as_slice();
+        }
+    }
+    &[]
+}
+
+fn push_all_phis(
+    out: &mut Writes,
+    alloc: Global,
+    t: &Target,
+    f: &Func,
+    n: u32,
+    instrs: &[Boxed<Instr>],
+) -> Result<(), AllocError>
+    ensures { OnOk result (out.new ≡ out.old ++ flat_map (phi_writes t.now f.now n) instrs.now) }
+{
+    for i in instrs {
+        let i = i.get();
+        push_phi_writes(out, alloc, t, f, n, i)?;
+    }
+    Ok(())
+}
+
+/// Appends all that the phis of block m write, at once, on the way in from block n.
+pub fn push_phis(
+    out: &mut Writes,
+    alloc: Global,
+    t: &Target,
+    f: &Func,
+    n: u32,
+    m: u32,
+) -> Result<(), AllocError>
+    ensures { OnOk result (out.new ≡ out.old ++ (way t.now f.now n m).phis) }
+{
+    push_all_phis(out, alloc, t, f, n, instrs_of(f.blocks.as_slice(), m))
+}
+
+/// The block that the operands name first.
+pub fn target_of(operands: &[Operand]) -> Option<u32>
+    ensures { result ≡ target_of operands.now }
+{
+    for o in operands {
+        if let Operand::Block(n) = o {
+            return Some(*n);
+        }
+    }
+    None
+}
+
+/// Whether control doesn't go on behind an instruction of this effect.
+pub fn ends_control(e: Effect) -> bool
+    ensures { result ≡ ends_control e }
+{
+    match e {
+        Effect::Jump | Effect::Ret => true,
+        _ => false,
+    }
+}
+
+/// Whether the effect is that of a jump, a conditional branch or a return.
+pub fn is_terminator(e: Effect) -> bool
+    ensures { result ≡ is_terminator e }
+{
+    match e {
+        Effect::Jump | Effect::Ret | Effect::Jcc | Effect::Jnz => true,
+        _ => false,
+    }
+}
+
+/// Whether control goes on behind an instruction.
+fn goes_on(t: &Target, i: &Instr) -> bool
+    ensures { result ≡ not (does ends_control t.now i.now) }
+{
+    match effect_of(t, i) {
+        None => true,
+        Some(e) => !ends_control(e),
+    }
+}
+
+/// Whether control goes on behind the last of these instructions.
+pub fn falls_through(t: &Target, instrs: &[Boxed<Instr>]) -> bool
+    ensures { result ≡ falls_through t.now instrs.now }
+{
+    let mut rest = instrs;
+    while let [i, more @ ..] = rest {
+        if more.is_empty() {
+            return goes_on(t, i.get());
+        }
+        rest = more;
+    }
+    true
+}

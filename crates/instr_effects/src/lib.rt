@@ -1,0 +1,25 @@
+//! What an instruction does: which lanes it reads, writes and moves, by the numbers of lanes and as
+//! values, said once for liveness, edits, verifiers, the checker and the interpreter.
+#![tactic(auto)]
+
+pub mod items;
+pub mod acts;
+pub mod counted;
+pub mod effects;
+pub mod lanes;
+pub mod laws;
+pub mod numbers;
+pub mod owner;
+pub mod registers;
+pub mod row;
+pub mod silent;
+pub mod whole;
+
+pub use acts::{Act, Acts};
+pub use effects::{Effects, PhiRead, Reader};
+pub use lanes::LaneTable;
+pub use mir_meaning::Writing;
+pub use owner::Owner;
+pub use registers::LaneReader;
+pub use row::Lanes;
+pub use whole::lanes_of;

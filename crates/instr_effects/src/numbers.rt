@@ -1,0 +1,193 @@
+//! The numbers of lanes in a table.
+
+ghost use Rattle.std.specs.Prelude.{◌≡◌, ℕ, [], ◌∷◌, ◌++◌, length, map, slice_get, None, IfOk, OnOk};
+ghost use Rattle.std.specs.Ordering.{nat_cmp};
+ghost use Rattle.std.specs.BTreeMap.{get};
+ghost use Rattle.mir_meaning.specs.Registers.{numbers, is_reserved_unit};
+ghost use Rattle.instr_effects.specs.Row.{lane_in};
+ghost use Rattle.instr_effects.specs.Numbers.{unit_number_in, row_number_in};
+ghost use Rattle.instr_effects.specs.Numbered.{number_in, IsTable, HasSlot, reserved_units, counts};
+ghost use Rattle.instr_effects.specs.declared.owner.Owner.TheVariants as owners;
+
+use crate::lanes::LaneTable;
+use crate::owner::Owner;
+use crate::registers::{first_owners, first_slots};
+use crate::row::{Lanes, no_lanes};
+use std::alloc::{AllocError, Global};
+use std::collections::BTreeMap;
+use target_base::Target;
+
+/// More lanes than a register has.
+pub const LANES_OF_A_SLOT: usize = 32;
+
+impl LaneTable {
+    /// The number of lanes.
+    pub fn len(&self) -> usize
+        ensures { result ≡ length self.now.owners.items }
+    {
+        self.owners.len()
+    }
+
+    /// The lanes of a range; none where there is no such range.
+    pub fn of_range(&self, v: u32) -> Lanes
+        ensures { (k : ℕ) → lane_in result.first result.count k ≡ row_number_in (slice_get self.now.ranges.items v) k }
+    {
+        match self.ranges.get(v as usize) {
+            Some(lanes) => *lanes,
+            None => no_lanes(),
+        }
+    }
+
+    /// A unit by its number, where it isn't reserved.
+    fn unit(&self, u: u32) -> Option<u32>
+        ensures { result ≡ unit_number_in self.now.reserved.items u }
+    {
+        match self.reserved.get(u as usize) {
+            Some(is_reserved) => { if *is_reserved { None } else { Some(u) } }
+            None => None,
+        }
+    }
+
+    /// The number of a lane of a range.
+    fn range(&self, v: u32, k: u32) -> Option<u32>
+        ensures { result ≡ row_number_in (slice_get self.now.ranges.items v) k }
+    {
+        self.of_range(v).lane(k)
+    }
+
+    /// The number of a lane of a slot, where the slot has numbers.
+    fn slot(&self, s: u32, k: u32) -> Option<u32>
+        ensures { result ≡ row_number_in (get nat_cmp self.now.slots s) k }
+    {
+        match self.slots.get(&s) {
+            Some(first) => first.lane(k),
+            None => None,
+        }
+    }
+
+    /// The number of a lane, where it has one; reserved units have none.
+    pub fn number(&self, owner: Owner) -> Option<u32>
+        ensures { result ≡ number_in self.now owner }
+    {
+        match owner {
+            Owner::Unit(u) => self.unit(u),
+            Owner::Range(v, k) => self.range(v, k),
+            Owner::Slot(s, k) => self.slot(s, k),
+        }
+    }
+}
+
+/// Whether a unit is reserved.
+fn is_reserved(target: &Target, u: u32) -> bool
+    ensures { result ≡ is_reserved_unit target.now u }
+{
+    target.reserved.as_slice().iter().any(|r| r.0 as u32 == u)
+}
+
+/// So many lanes from a number on.
+fn lanes_at(first: usize, count: usize) -> Result<Lanes, AllocError>
+    ensures first { IfOk result (λ x. x.first ≡ first) }
+    ensures count { IfOk result (λ x. x.count ≡ count) }
+{
+    let (Ok(first), Ok(count)) = (u32::try_from(first), u32::try_from(count)) else {
+        return Err(AllocError);
+    };
+    if first.checked_add(count).is_none() {
+        return Err(AllocError);
+    }
+    Ok(Lanes { first, count })
+}
+
+/// The first units as lanes.
+#[tactic(auto, using(crate::proofs::Loops::numbered_more))]
+fn first_units(alloc: Global, count: usize) -> Result<Vec<Owner>, AllocError>
+    ensures { IfOk result (λ x. x.items ≡ map owners.Unit (numbers 0 count)) }
+{
+    let Ok(limit) = u32::try_from(count) else {
+        return Err(AllocError);
+    };
+    let mut lanes = Vec::new(alloc);
+    'lanes: for u in 0..limit {
+        lanes.push(Owner::Unit(u))?;
+    }
+    Ok(lanes)
+}
+
+/// Which units are reserved.
+#[tactic(auto, using(crate::proofs::Loops::numbered_more))]
+fn reserved_units(alloc: Global, target: &Target) -> Result<Vec<bool>, AllocError>
+    ensures { IfOk result (λ x. x.items ≡ reserved_units target.now) }
+{
+    let Ok(limit) = u32::try_from(target.units.len()) else {
+        return Err(AllocError);
+    };
+    let mut units = Vec::new(alloc);
+    'units: for u in 0..limit {
+        units.push(is_reserved(target, u))?;
+    }
+    Ok(units)
+}
+
+impl LaneTable {
+    /// Numbers for the units, which come before all other lanes.
+    pub fn of_units(alloc: Global, target: &Target) -> Result<LaneTable, AllocError>
+        ensures table { IfOk result (λ t. IsTable t) }
+        ensures reserved { IfOk result (λ t. t.reserved.items ≡ reserved_units target.now) }
+        ensures ranges { IfOk result (λ t. t.ranges.items ≡ []) }
+    {
+        let owners = first_units(alloc, target.units.len())?;
+        let reserved = reserved_units(alloc, target)?;
+        Ok(LaneTable {
+            owners,
+            reserved,
+            ranges: Vec::new(alloc),
+            slots: BTreeMap::new(alloc),
+        })
+    }
+
+    /// Numbers the lanes of the next range.
+    pub fn add_range(&mut self, alloc: Global, count: usize) -> Result<(), AllocError>
+        ensures table { OnOk result (IsTable self.old → IsTable self.new) }
+        ensures reserved { self.new.reserved ≡ self.old.reserved }
+        ensures ranges { OnOk result (counts self.new.ranges.items ≡ counts self.old.ranges.items ++ count ∷ []) }
+        ensures slots { self.new.slots ≡ self.old.slots }
+    {
+        let Ok(v) = u32::try_from(self.ranges.len()) else {
+            return Err(AllocError);
+        };
+        let own = first_owners(alloc, v, count)?;
+        let lanes = lanes_at(self.owners.len(), count)?;
+        self.owners.extend_from_slice(own.as_slice())?;
+        self.ranges.push(lanes)?;
+        Ok(())
+    }
+
+    /// Numbers the lanes of a slot that has no numbers yet.
+    fn new_slot(&mut self, alloc: Global, slot: u32) -> Result<(), AllocError>
+        ensures table { OnOk result (get nat_cmp self.old.slots slot ≡ None → IsTable self.old → IsTable self.new) }
+        ensures reserved { self.new.reserved ≡ self.old.reserved }
+        ensures ranges { self.new.ranges ≡ self.old.ranges }
+        ensures numbered { OnOk result (HasSlot self.new slot) }
+        ensures kept { OnOk result ((s : ℕ) → HasSlot self.old s → HasSlot self.new s) }
+    {
+        let own = first_slots(alloc, slot, LANES_OF_A_SLOT)?;
+        let lanes = lanes_at(self.owners.len(), LANES_OF_A_SLOT)?;
+        self.owners.extend_from_slice(own.as_slice())?;
+        self.slots.insert(slot, lanes)?;
+        Ok(())
+    }
+
+    /// Numbers the lanes of a slot where it has no numbers yet.
+    pub fn add_slot(&mut self, alloc: Global, slot: u32) -> Result<(), AllocError>
+        ensures table { OnOk result (IsTable self.old → IsTable self.new) }
+        ensures reserved { self.new.reserved ≡ self.old.reserved }
+        ensures ranges { self.new.ranges ≡ self.old.ranges }
+        ensures numbered { OnOk result (HasSlot self.new slot) }
+        ensures kept { OnOk result ((s : ℕ) → HasSlot self.old s → HasSlot self.new s) }
+    {
+        if self.slots.contains_key(&slot) {
+            return Ok(());
+        }
+        self.new_slot(alloc, slot)
+    }
+}

@@ -1,0 +1,286 @@
+//! What operands name: registers, their units and lanes, and the lanes that an index picks.
+
+ghost use Rattle.std.specs.Prelude.{◌≡◌, IfOk, length, map, filter, not, ◌&&◌, slice_get, option_copied};
+ghost use Rattle.target_base.specs.Registers.{units_of, lanes_of, widths_of};
+ghost use Rattle.mir_meaning.specs.Binding.{known_opcode, registers, as_register};
+ghost use Rattle.mir_meaning.specs.Registers.{range_widths, numbers};
+ghost use Rattle.instr_effects.specs.Owners.{operand_owners, located_owners};
+ghost use Rattle.instr_effects.specs.Acts.{register_at, as_slot, slot_at, mask_regs};
+ghost use Rattle.instr_effects.specs.declared.owner.Owner.TheVariants as owners;
+ghost use Rattle.mir_func.specs.declared.func.Loc.TheVariants as locs;
+
+use crate::owner::Owner;
+use mir_func::{Func, Instr, Loc, Op, Operand, RegOp};
+use std::alloc::{AllocError, Global};
+use target_base::{ClassId, IndexId, MaskId, OpcodeDesc, Reg, Target, Unit};
+
+/// The description of an instruction's opcode; none for an excluded one.
+pub fn desc_of<'a>(target: &'a Target, instr: &Instr) -> Option<&'a OpcodeDesc>
+    ensures { option_copied result ≡ known_opcode target.now instr.now.op }
+{
+    match &instr.op {
+        Op::Known(op) => target.opcodes.as_slice().get(op.0 as usize),
+        Op::Excluded(_) => None,
+    }
+}
+
+/// The units of a register; none where there is no such register.
+pub fn units_at(target: &Target, r: Reg) -> &[Unit]
+    ensures { result.now ≡ units_of target.now r }
+{
+    match target.regs.as_slice().get(r.0 as usize) {
+        Some(desc) => desc.units.as_slice(),
+        None => &[],
+    }
+}
+
+/// The lanes that an index picks; none where there is no such index.
+pub fn index_lanes(target: &Target, index: IndexId) -> &[u8]
+    ensures { result.now ≡ lanes_of target.now index }
+{
+    match target.indexes.as_slice().get(index.0 as usize) {
+        Some(desc) => desc.lanes.as_slice(),
+        None => &[],
+    }
+}
+
+/// The number of lanes of a class; none where there is no such class.
+pub fn class_lanes(target: &Target, class: ClassId) -> usize
+    ensures { result ≡ length (widths_of target.now class) }
+{
+    let Some(desc) = target.classes.as_slice().get(class.0 as usize) else {
+        return 0;
+    };
+    match desc.regs.as_slice().first() {
+        Some(r) => units_at(target, *r).len(),
+        None => 0,
+    }
+}
+
+/// The number of lanes of a virtual register; none where it has no class.
+pub fn lane_count(target: &Target, func: &Func, v: u32) -> usize
+    ensures { result ≡ length (range_widths target.now func.now v) }
+{
+    match func.classes.as_slice().get(v as usize) {
+        Some(Some(class)) => class_lanes(target, *class),
+        _ => 0,
+    }
+}
+
+/// The operand as a register operand, where it is one.
+fn as_register(operand: &Operand) -> Option<RegOp>
+    ensures { result ≡ as_register operand.now }
+{
+    match operand {
+        Operand::Reg(op) => Some(*op),
+        _ => None,
+    }
+}
+
+/// The register operand at a place, if one is.
+pub fn register_at(operands: &[Operand], place: usize) -> Option<RegOp>
+    ensures { result ≡ register_at operands.now place }
+{
+    match operands.get(place) {
+        Some(operand) => as_register(operand),
+        None => None,
+    }
+}
+
+/// The operand at a place, if there is one.
+pub fn operand_at(operands: &[Operand], place: usize) -> Option<&Operand>
+    ensures { option_copied result ≡ slice_get operands.now place }
+{
+    operands.get(place)
+}
+
+/// The operand as a frame object, where it is one.
+fn as_slot(operand: &Operand) -> Option<u32>
+    ensures { result ≡ as_slot operand.now }
+{
+    match operand {
+        Operand::Stack(slot) => Some(*slot),
+        _ => None,
+    }
+}
+
+/// The frame object at a place, if one is.
+pub fn slot_at(operands: &[Operand], place: usize) -> Option<u32>
+    ensures { result ≡ slot_at operands.now place }
+{
+    match operands.get(place) {
+        Some(operand) => as_slot(operand),
+        None => None,
+    }
+}
+
+/// The registers of a mask; none where there is no such mask.
+pub fn mask_regs(target: &Target, mask: MaskId) -> &[Reg]
+    ensures { result.now ≡ mask_regs target.now mask }
+{
+    match target.masks.as_slice().get(mask.0 as usize) {
+        Some(desc) => desc.regs.as_slice(),
+        None => &[],
+    }
+}
+
+/// The register operands, in order.
+pub fn registers(alloc: Global, operands: &[Operand]) -> Result<Vec<RegOp>, AllocError>
+    ensures { IfOk result (λ v. v.items ≡ registers operands.now) }
+{
+    operands
+        .iter()
+        .filter_map(|o| as_register(o))
+        .collect(alloc)
+}
+
+/// The explicit definitions among register operands, in order.
+pub fn explicit_definitions(alloc: Global, all: &[RegOp]) -> Result<Vec<RegOp>, AllocError>
+    ensures { IfOk result (λ v. v.items ≡ filter (λ o. o.def && not o.implicit) all.now) }
+{
+    all.iter()
+        .filter(|o| o.def && !o.implicit)
+        .copied()
+        .collect(alloc)
+}
+
+/// The implicit definitions among register operands, in order.
+pub fn implicit_definitions(alloc: Global, all: &[RegOp]) -> Result<Vec<RegOp>, AllocError>
+    ensures { IfOk result (λ v. v.items ≡ filter (λ o. o.def) (filter (λ o. o.implicit) all.now)) }
+{
+    all.iter()
+        .filter(|o| o.implicit)
+        .filter(|o| o.def)
+        .copied()
+        .collect(alloc)
+}
+
+/// The uses among register operands, in order.
+pub fn uses(alloc: Global, all: &[RegOp]) -> Result<Vec<RegOp>, AllocError>
+    ensures { IfOk result (λ v. v.items ≡ filter (λ o. not o.def) all.now) }
+{
+    all.iter().filter(|o| !o.def).copied().collect(alloc)
+}
+
+/// The explicit uses among register operands, in order.
+pub fn explicit_uses(alloc: Global, all: &[RegOp]) -> Result<Vec<RegOp>, AllocError>
+    ensures { IfOk result (λ v. v.items ≡ filter (λ o. not o.def && not o.implicit) all.now) }
+{
+    all.iter()
+        .filter(|o| !o.def && !o.implicit)
+        .copied()
+        .collect(alloc)
+}
+
+/// The implicit uses among register operands, in order.
+pub fn implicit_uses(alloc: Global, all: &[RegOp]) -> Result<Vec<RegOp>, AllocError>
+    ensures { IfOk result (λ v. v.items ≡ filter (λ o. not o.def) (filter (λ o. o.implicit) all.now)) }
+{
+    all.iter()
+        .filter(|o| o.implicit)
+        .filter(|o| !o.def)
+        .copied()
+        .collect(alloc)
+}
+
+/// The lanes of these units.
+fn unit_owners(alloc: Global, units: &[Unit]) -> Result<Vec<Owner>, AllocError>
+    ensures { IfOk result (λ v. v.items ≡ map (λ u. owners.Unit u.0) units.now) }
+{
+    units.iter().map(|u| Owner::Unit(u.0 as u32)).collect(alloc)
+}
+
+/// The lanes of a virtual register that an index picks.
+fn picked_owners(alloc: Global, v: u32, picked: &[u8]) -> Result<Vec<Owner>, AllocError>
+    ensures { IfOk result (λ x. x.items ≡ map (owners.Range v) picked.now) }
+{
+    picked
+        .iter()
+        .map(|k| Owner::Range(v, *k as u32))
+        .collect(alloc)
+}
+
+/// The lanes of a slot that an index picks.
+pub fn picked_slots(alloc: Global, s: u32, picked: &[u8]) -> Result<Vec<Owner>, AllocError>
+    ensures { IfOk result (λ x. x.items ≡ map (owners.Slot s) picked.now) }
+{
+    picked
+        .iter()
+        .map(|k| Owner::Slot(s, *k as u32))
+        .collect(alloc)
+}
+
+/// The first lanes of a virtual register.
+#[tactic(auto, using(crate::proofs::Loops::numbered_more))]
+pub(crate) fn first_owners(alloc: Global, v: u32, count: usize) -> Result<Vec<Owner>, AllocError>
+    ensures { IfOk result (λ x. x.items ≡ map (owners.Range v) (numbers 0 count)) }
+{
+    let Ok(limit) = u32::try_from(count) else {
+        return Err(AllocError);
+    };
+    let mut lanes = Vec::new(alloc);
+    'lanes: for k in 0..limit {
+        lanes.push(Owner::Range(v, k))?;
+    }
+    Ok(lanes)
+}
+
+/// The first lanes of a slot.
+#[tactic(auto, using(crate::proofs::Loops::numbered_more))]
+pub fn first_slots(alloc: Global, s: u32, count: usize) -> Result<Vec<Owner>, AllocError>
+    ensures { IfOk result (λ x. x.items ≡ map (owners.Slot s) (numbers 0 count)) }
+{
+    let Ok(limit) = u32::try_from(count) else {
+        return Err(AllocError);
+    };
+    let mut lanes = Vec::new(alloc);
+    'lanes: for k in 0..limit {
+        lanes.push(Owner::Slot(s, k))?;
+    }
+    Ok(lanes)
+}
+
+/// A target and a function, in which operands name lanes.
+#[derive(Clone, Copy)]
+pub struct LaneReader<'a> {
+    /// Where lists are made.
+    pub alloc: Global,
+    /// The target.
+    pub target: &'a Target,
+    /// The function.
+    pub func: &'a Func,
+}
+
+impl<'a> LaneReader<'a> {
+    /// The lanes of a virtual register, or those that an index picks.
+    #[tactic(auto, using(crate::proofs::Operands::range_owners))]
+    fn range_lanes(self, v: u32, index: Option<IndexId>) -> Result<Vec<Owner>, AllocError>
+        ensures { IfOk result (λ x. x.items ≡ located_owners self.entry.target.now self.entry.func.now (locs.Virtual v) index) }
+    {
+        match index {
+            None => {
+                let count = lane_count(self.target, self.func, v);
+                Ok(first_owners(self.alloc, v, count)?)
+            }
+            Some(x) => Ok(picked_owners(self.alloc, v, index_lanes(self.target, x))?),
+        }
+    }
+
+    /// The lanes of a location, reserved units among them.
+    #[tactic(auto, using(crate::proofs::Operands::fixed_owners))]
+    pub fn located(self, loc: Loc, index: Option<IndexId>) -> Result<Vec<Owner>, AllocError>
+        ensures { IfOk result (λ x. x.items ≡ located_owners self.entry.target.now self.entry.func.now loc index) }
+    {
+        match loc {
+            Loc::Fixed(r) => Ok(unit_owners(self.alloc, units_at(self.target, r))?),
+            Loc::Virtual(v) => Ok(self.range_lanes(v, index)?),
+        }
+    }
+
+    /// The lanes of a register operand, reserved units among them.
+    pub fn lanes(self, op: &RegOp) -> Result<Vec<Owner>, AllocError>
+        ensures { IfOk result (λ x. x.items ≡ operand_owners self.entry.target.now self.entry.func.now op.now) }
+    {
+        self.located(op.loc, op.index)
+    }
+}

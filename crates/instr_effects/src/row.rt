@@ -1,0 +1,34 @@
+//! Lanes with numbers in a row.
+
+ghost use Rattle.std.specs.Prelude.{◌≡◌, ◌<◌, ◌+◌};
+ghost use Rattle.instr_effects.specs.Row.{lane_in};
+
+/// The lanes of a virtual register or of a slot, which have numbers in a row.
+#[derive(Clone, Copy)]
+pub struct Lanes {
+    /// The number of lane 0.
+    pub first: u32,
+    /// How many lanes there are.
+    pub count: u32,
+    ghost fits: { first + count < 4294967296 },
+}
+
+impl Lanes {
+    /// The number of lane `k`, where there is one.
+    pub fn lane(self, k: u32) -> Option<u32>
+        ensures { result ≡ lane_in self.first self.count k }
+    {
+        if k < self.count {
+            Some(self.first + k)
+        } else {
+            None
+        }
+    }
+}
+
+/// No lanes.
+pub(crate) fn no_lanes() -> Lanes
+    ensures { result.count ≡ 0 }
+{
+    Lanes { first: 0, count: 0 }
+}

@@ -1,6 +1,0 @@
-use Rattle.std.proofs.Common.{◌≡◌, ◌++◌, drop}
-use Rattle.interval_text.specs.Lines.{block_lines}
-use Rattle.interval_text.proofs.text.put_blocks.Given as goal
-
-abbrev pub invariant-layout : goal.invariant-layout
-invariant-layout l = l.out ++ block_lines (drop l.k l.freqs) (drop l.k l.blocks) ≡ l.fn.out ++ block_lines l.freqs l.blocks

@@ -1,5 +1,0 @@
-use Rattle.lane_effects.proofs.Plain.{plain-law}
-use Rattle.lane_effects.proofs.laws.plain_law.Goals as goal
-
-pub returns : goal.returns
-returns c = plain-law

@@ -1,0 +1,4 @@
+pub mod Effects
+pub mod Exact
+pub mod Touch
+pub mod Places

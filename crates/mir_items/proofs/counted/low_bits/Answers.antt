@@ -1,6 +1,0 @@
-use Rattle.std.proofs.Common.{arith, sym}
-use Rattle.mir_items.proofs.Residues.{whole}
-use Rattle.mir_items.proofs.counted.low_bits.Goals as goal
-
-pub returns-then-w-ge128 : goal.returns-then-w-ge128
-returns-then-w-ge128 c = sym (whole c.args.n c.args.w (omega arith) c.if-w-ge128.true)

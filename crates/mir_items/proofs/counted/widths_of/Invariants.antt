@@ -1,5 +1,0 @@
-use Rattle.std.proofs.Common.{◌≡◌, ◌++◌, map, drop}
-use Rattle.mir_items.proofs.counted.widths_of.Given as goal
-
-abbrev pub invariant-loop-v : goal.invariant-loop-v
-invariant-loop-v l = l.made ++ map (λ v. v.1) (drop l.v-index l.values) ≡ map (λ v. v.1) l.values

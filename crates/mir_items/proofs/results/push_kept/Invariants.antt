@@ -1,6 +1,0 @@
-use Rattle.std.proofs.Common.{◌≡◌, ◌++◌, drop}
-use Rattle.mir_meaning.specs.Items.{kept}
-use Rattle.mir_items.proofs.results.push_kept.Given as goal
-
-abbrev pub invariant-loop-w : goal.invariant-loop-w
-invariant-loop-w l = l.out ++ kept l.t (drop l.w-index l.writes) ≡ l.initial.out ++ kept l.t l.writes

@@ -1,6 +1,0 @@
-use Rattle.std.proofs.Common.{◌≡◌, ◌++◌, ◌+◌, ◌≤◌, ◌∷◌, [], take, drop, map, length, flat_map, sum}
-use Rattle.mir_meaning.specs.Items.{constant_bits}
-use Rattle.mir_items.proofs.silent.constant_bits.Given as goal
-
-abbrev pub invariant-loop-w : goal.invariant-loop-w
-invariant-loop-w l = (l.made ++ constant_bits l.c l.low (drop l.w-index l.widths) ≡ constant_bits l.c 0 l.widths) × (l.low ≤ 128)

@@ -1,6 +1,0 @@
-use Rattle.std.proofs.Common.{◌≡◌, ◌++◌, ◌+◌, ◌≤◌, ◌∷◌, [], take, drop, map, length, flat_map, sum}
-use Rattle.meaning.specs.declared.types.Source.TheVariants.{FromLane}
-use Rattle.mir_items.proofs.silent.sources_of.Given as goal
-
-abbrev pub invariant-loop-l : goal.invariant-loop-l
-invariant-loop-l l = l.made ++ map FromLane (drop l.l-index l.lanes) ≡ map FromLane l.lanes

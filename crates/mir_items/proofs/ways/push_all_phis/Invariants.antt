@@ -1,6 +1,0 @@
-use Rattle.std.proofs.Common.{◌≡◌, ◌++◌, ◌+◌, ◌≤◌, ◌∷◌, [], take, drop, map, length, flat_map, sum}
-use Rattle.mir_meaning.specs.Codes.{phi_writes}
-use Rattle.mir_items.proofs.ways.push_all_phis.Given as goal
-
-abbrev pub invariant-loop-i : goal.invariant-loop-i
-invariant-loop-i l = l.out ++ flat_map (phi_writes l.t l.f l.n) (drop l.i-index l.instrs) ≡ l.initial.out ++ flat_map (phi_writes l.t l.f l.n) l.instrs

@@ -1,1 +1,0 @@
--- Definitions stand in mir_meaning.

@@ -1,0 +1,32 @@
+-- What a refusal for a place says of all places.
+use Rattle.std.specs.Prelude.{◌≡◌}
+use Rattle.std.proofs.Common.{subst, sym}
+use Rattle.target_base.specs.declared.types.Target.{Target}
+use Rattle.mir_func.specs.Value.{Function}
+use Rattle.mir_meaning.specs.declared.Form.TheVariants as forms
+use Rattle.mir_meaning.specs.Valid.{IsValid}
+use Rattle.mir_meaning.specs.Places.{FirstPlace, TooMany}
+use Rattle.live_laws.specs.Effects.Shaped.{AreClasses}
+use Rattle.place_solve.specs.Own.{HasFew, IfVariables, IfUnassignable}
+use Rattle.place_solve.specs.declared.check.PlaceStop.{PlaceStop}
+use Rattle.place_solve.specs.declared.check.PlaceStop.TheVariants as places
+use Rattle.pipeline.specs.declared.passes.stop.RegisterStop.{RegisterStop}
+use Rattle.pipeline.specs.Passes.Stops.{AdmitsNone, FirstRefused, SaysOfPlaces, refusal_of}
+
+pub first_of :
+    (t : Target) (f : Function) (stop : PlaceStop) → IfUnassignable (λ x. HasFew t f) stop → IfUnassignable (λ x. AreClasses t f → IsValid t forms.Source f → FirstPlace t f (AdmitsNone t f) x) stop
+    → IfUnassignable (FirstRefused t f) stop
+first_of t f (places.Unassignable x) few first = (few, first)
+first_of t f (places.Variables x) few first = tt
+first_of t f (places.Memory e) few first = tt
+
+pub says : (t : Target) (f : Function) (stop : PlaceStop) → IfVariables (FirstPlace t f TooMany) stop → IfUnassignable (FirstRefused t f) stop → SaysOfPlaces t f (refusal_of stop)
+says t f (places.Unassignable x) many first = first
+says t f (places.Variables x) many first = many
+says t f (places.Memory e) many first = tt
+
+-- the refusal that is made of that of a place
+pub says_made :
+    (t : Target) (f : Function) (stop : PlaceStop) (e : RegisterStop) → e ≡ refusal_of stop → IfVariables (FirstPlace t f TooMany) stop → IfUnassignable (λ x. HasFew t f) stop
+    → IfUnassignable (λ x. AreClasses t f → IsValid t forms.Source f → FirstPlace t f (AdmitsNone t f) x) stop → SaysOfPlaces t f e
+says_made t f stop e is many few first = subst (SaysOfPlaces t f) (sym is) (says t f stop many (first_of t f stop few first))

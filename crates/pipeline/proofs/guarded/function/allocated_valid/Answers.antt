@@ -1,0 +1,13 @@
+use Rattle.pipeline.proofs.GuardLemmas.Told.{part_of_run, on_err}
+use Rattle.pipeline.proofs.guarded.function.allocated_valid.Goals as goal
+
+-- the run had come to its end
+pub returns-in_err-made-clause-part : goal.returns-in_err-made-clause-part
+returns-in_err-made-clause-part g c =
+    on_err c.from_residual.result (part_of_run (g.W.Watcher.next c.args.target.now) c.args.number c.args.watchers.now.items c.with_registers.new.watchers.items c.in-Ok.ensures.told)
+
+pub returns-clause-part : goal.returns-clause-part
+returns-clause-part g c = part_of_run (g.W.Watcher.next c.args.target.now) c.args.number c.args.watchers.now.items c.with_registers.new.watchers.items c.in-Ok.ensures.told
+
+pub returns-in-Err-clause-err : goal.returns-in-Err-clause-err
+returns-in-Err-clause-err g c = c.refused.ensures.late c.args.target.now c.args.source.func c.in-Err.ensures.places

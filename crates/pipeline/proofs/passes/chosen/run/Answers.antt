@@ -1,0 +1,14 @@
+use Rattle.std.proofs.Common.{◌∷◌}
+use Rattle.watchers.specs.declared.steps.Step.TheVariants.{Begin}
+use Rattle.watchers.proofs.Told.{on_err}
+use Rattle.greedy_core.proofs.Told.{untold, all_told}
+use Rattle.pipeline.proofs.passes.chosen.run.Goals as goal
+
+pub returns-in_err-live-clause-part : goal.returns-in_err-live-clause-part
+returns-in_err-live-clause-part g c = on_err c.from_residual.result (untold (g.W.Watcher.next c.args.target.now) c.args.watchers.now.items)
+
+-- the run had come to its end
+pub returns-in_err-rewrite-clause-part : goal.returns-in_err-rewrite-clause-part
+returns-in_err-rewrite-clause-part g c =
+    on_err c.from_residual-in_err-rewrite.result
+    (all_told (g.W.Watcher.next c.args.target.now) c.args.watchers.now.items c.allocate.new.watchers.items (Begin c.args.number ∷ c.in_ok-done.ensures.told.0) c.in_ok-done.ensures.told.1)

@@ -1,0 +1,88 @@
+-- What comes of a function, and why one is refused.
+use Rattle.std.specs.Prelude.{◌≡◌, ◌≤◌, ◌<◌, ℕ, Bool, true, false, List, [], length, Some, None}
+use Rattle.target_base.specs.declared.types.Target.{Target}
+use Rattle.mir_func.specs.Value.{Function}
+use Rattle.mir_meaning.specs.declared.Form.TheVariants as forms
+use Rattle.mir_func.specs.declared.func.Place.{Place}
+use Rattle.mir_meaning.specs.Places.{FirstPlace, TooMany, PlacesServe}
+use Rattle.mir_meaning.specs.Valid.{IsValid, FirstFault}
+use Rattle.place_solve.specs.Own.{HasFew}
+use Rattle.machine_verify.specs.Faults.{fault_of}
+use Rattle.alloc_check.specs.Verdict.{IsRight}
+use Rattle.mir_text.specs.declared.doc.Doc.TheVariants as docs
+use Rattle.mir_text.specs.Print.{print_doc}
+use Rattle.mir_text.specs.Document.{Spells}
+use Rattle.pipeline.specs.Passes.Stops.{AdmitsNone, AllServe, FirstRefused}
+use Rattle.pipeline.specs.declared.guarded.stop.FunctionStop.{FunctionStop}
+use Rattle.pipeline.specs.declared.guarded.stop.FunctionStop.TheVariants as stops
+use Rattle.pipeline.specs.declared.guarded.stop.LimitName.{LimitName}
+use Rattle.pipeline.specs.declared.guarded.stop.LimitName.TheVariants as limits
+use Rattle.pipeline.specs.Guarded.Limits.{passed_limit}
+
+-- the function lies within the limits, and is valid as a source
+pub record IsTaken (t : Target) (f : Function) : Type 0 where
+  pub fits : passed_limit f ≡ None
+  pub valid : IsValid t forms.Source f
+
+-- A text is what is printed of a function alone; it spells g, and where it is longer than a document may be that is read,
+-- it is what is printed of g. (`renamable` is printed and no reader keeps it.)
+pub record IsTextFor (t : Target) (g : Function) (text : List ℕ) : Type 0 where
+  pub func : Function
+  pub printed : text ≡ print_doc t (docs.Function [] func)
+  pub spells : length text ≤ 4194304 → Spells t false 1 text (docs.Function [] g)
+  pub long : 4194304 < length text → func ≡ g
+
+-- what the guard lets through for f: a function of its name that is right for it
+pub record IsGuarded (t : Target) (f g : Function) : Type 0 where
+  pub right : IsRight t f g
+  pub named : g.name ≡ f.name
+
+-- some place has too many variables
+abbrev pub HasMany : Target → Function → Type 0
+HasMany t f = (name : Place) × FirstPlace t f TooMany name
+
+-- g is an allocation of f, a function within the limits that is valid as a source, and each place of which has few enough
+-- variables and admits a choice: the checker of allocations said Yes to both
+pub record Allocates (t : Target) (f g : Function) : Type 0 where
+  pub taken : IsTaken t f
+  pub serve : PlacesServe t f
+  pub guarded : IsGuarded t f g
+
+-- the limit l is that of the variables of a place, and some place passes it; or it is that of range numbers, and all places serve
+abbrev pub IsLateLimit : Target → Function → LimitName → Type 0
+IsLateLimit t f limits.Variables = HasMany t f
+IsLateLimit t f limits.Ranges = AllServe t f
+IsLateLimit t f l = ⊥
+
+-- a refusal of the function, whose name this is, that comes once it is taken
+abbrev pub IsOnceTaken : Target → Function → List ℕ → FunctionStop → Type 0
+IsOnceTaken t f name (stops.Limit l) = IsLateLimit t f l
+IsOnceTaken t f name (stops.Unassignable n x) = (n ≡ name) × FirstRefused t f x
+IsOnceTaken t f name (stops.Invalid n x) = ⊥
+IsOnceTaken t f name stops.NotYet = AllServe t f
+IsOnceTaken t f name (stops.Memory e) = Unit {0}
+
+-- The limit l is the reason: of blocks, instructions and virtual registers the first one that the function passes; a later
+-- limit only where the function is taken: that of variables where some place has too many, that of ranges where all places
+-- have few enough and admit a choice.
+abbrev pub IfLimited : Target → Function → LimitName → Type 0
+IfLimited t f limits.Variables = IsTaken t f × HasMany t f
+IfLimited t f limits.Ranges = IsTaken t f × PlacesServe t f
+IfLimited t f l = passed_limit f ≡ Some l
+
+-- Why a function is refused: a limit that it passes; within the limits, its first fault; where neither is due and no place
+-- has too many variables, the first place that admits no choice; and as not yet allocated only where all places serve.
+abbrev pub IfRefused : Target → Function → FunctionStop → Type 0
+IfRefused t f (stops.Limit l) = IfLimited t f l
+IfRefused t f (stops.Invalid name x) = (passed_limit f ≡ None) × (name ≡ f.name) × FirstFault t forms.Source f (fault_of x)
+IfRefused t f (stops.Unassignable name x) = IsTaken t f × (name ≡ f.name) × HasFew t f × FirstPlace t f (AdmitsNone t f) x
+IfRefused t f stops.NotYet = IsTaken t f × PlacesServe t f
+IfRefused t f (stops.Memory e) = Unit {0}
+
+-- the refusal comes before the run of the allocator, of which watchers are told
+abbrev pub comes_before_run : FunctionStop → Bool
+comes_before_run (stops.Limit limits.Ranges) = false
+comes_before_run (stops.Limit l) = true
+comes_before_run (stops.Invalid name x) = true
+comes_before_run (stops.Unassignable name x) = true
+comes_before_run stop = false

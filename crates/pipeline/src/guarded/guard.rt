@@ -1,0 +1,35 @@
+//! The guard: what is handed out of a function is only what the checker of allocations said Yes to, as
+//! it is read of the text that is printed.
+
+ghost use Rattle.std.specs.Prelude.{IfOk, IfSome};
+ghost use Rattle.pipeline.specs.Guarded.Function.{IsGuarded, IsTextFor};
+
+use crate::guarded::spelled::{Allocation, printed, same_text};
+use alloc_check::{Verdict, check_pair};
+use mir_func::{Func, Valid};
+use std::alloc::{AllocError, Global};
+use target_base::Target;
+
+/// The allocated function with its text, where it has the source's name and the checker says Yes to
+/// what the text spells beside the source.
+#[tactic(auto, using(crate::proofs::GuardLemmas::Texts::same_texts))]
+pub(crate) fn guarded(
+    alloc: Global,
+    target: &Target,
+    source: &Valid,
+    allocated: Func,
+) -> Result<Option<Allocation>, AllocError>
+    ensures right { IfOk result (λ made. IfSome made (λ a. IsGuarded target.now source.now.func a.func)) }
+    ensures text { IfOk result (λ made. IfSome made (λ a. IsTextFor target.now a.func a.text)) }
+{
+    let Some(made) = printed(alloc, target, allocated)? else {
+        return Ok(None);
+    };
+    if !same_text(made.func.name.as_slice(), source.func.name.as_slice()) {
+        return Ok(None);
+    }
+    match check_pair(alloc, target, source, &made.func)? {
+        Verdict::Yes => Ok(Some(made)),
+        Verdict::No(_) => Ok(None),
+    }
+}

@@ -1,0 +1,16 @@
+//! A function allocated under guard: its limits, its validity and its places are tested, its registers
+//! chosen, and the checker of allocations is asked before it is handed out.
+
+pub mod function;
+mod guard;
+pub mod limits;
+pub mod spelled;
+pub mod stop;
+pub mod valid;
+
+pub use crate::guarded::function::allocated;
+pub use crate::passes::Watcher;
+pub use crate::guarded::limits::passed_limit;
+pub use crate::guarded::spelled::Allocation;
+pub use crate::guarded::stop::{FunctionStop, LimitName};
+pub use crate::guarded::valid::{verify_allocated, verify_source};

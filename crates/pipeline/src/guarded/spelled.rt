@@ -1,0 +1,82 @@
+//! What is printed of an allocated function is read again before the checker is asked: so what was
+//! checked is what the text says.
+
+ghost use Rattle.std.specs.Prelude.{◌≡◌, ◌≤◌, false, [], length, IfOk, IfSome};
+ghost use Rattle.target_base.specs.Storage.{same_numbers};
+ghost use Rattle.mir_text.specs.declared.doc.Doc.TheVariants as docs;
+ghost use Rattle.mir_text.specs.Document.{Spells};
+ghost use Rattle.pipeline.specs.Guarded.Function.{IsTextFor};
+
+use mir_func::Func;
+use mir_text::{Doc, TextStop, print_doc, read_doc};
+use std::alloc::{AllocError, Global};
+use target_base::{Bytes, Target};
+
+/// The most bytes of a document that can be read.
+const MOST_BYTES: usize = 4_194_304;
+
+/// An allocated function and its text.
+#[derive(Drop)]
+pub struct Allocation {
+    /// The function, as its text spells it: `renamable` is printed, and no reader keeps it.
+    pub func: Func,
+    /// What is printed of the function alone.
+    pub text: Bytes,
+}
+
+/// Whether two texts are one.
+pub(crate) fn same_text(a: &[u8], b: &[u8]) -> bool
+    ensures { result ≡ same_numbers a.now b.now }
+{
+    a == b
+}
+
+/// The function of a document that has no lines before it.
+fn function_alone(doc: Doc) -> Option<Func>
+    ensures { IfSome result (λ f. doc ≡ docs.Function [] f) }
+{
+    match doc {
+        Doc::Function(before, f) => {
+            if before.as_slice().is_empty() {
+                Some(f)
+            } else {
+                None
+            }
+        }
+        _ => None,
+    }
+}
+
+/// The function that a text spells alone, if it spells one.
+fn read_alone(alloc: Global, target: &Target, text: &[u8]) -> Result<Option<Func>, AllocError>
+    requires { length text.now ≤ 4194304 }
+    ensures { IfOk result (λ made. IfSome made (λ f. Spells target.now false 1 text.now (docs.Function [] f))) }
+{
+    match read_doc(alloc, target, false, 1, text) {
+        Ok(doc) => Ok(function_alone(doc)),
+        Err(TextStop::Fault(_)) => Ok(None),
+        Err(TextStop::Memory(e)) => Err(e),
+    }
+}
+
+/// What is printed of a function, with the function that this spells: the function itself where the
+/// text is longer than a document may be that is read. None where it spells none.
+pub(crate) fn printed(
+    alloc: Global,
+    target: &Target,
+    f: Func,
+) -> Result<Option<Allocation>, AllocError>
+    ensures { IfOk result (λ made. IfSome made (λ a. IsTextFor target.now a.func a.text)) }
+{
+    let doc = Doc::Function(Bytes::new(alloc), f);
+    let text = print_doc(alloc, target, &doc)?;
+    let func = if text.as_slice().len() > MOST_BYTES {
+        function_alone(doc)
+    } else {
+        read_alone(alloc, target, text.as_slice())?
+    };
+    match func {
+        Some(func) => Ok(Some(Allocation { func, text })),
+        None => Ok(None),
+    }
+}

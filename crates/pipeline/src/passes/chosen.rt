@@ -1,0 +1,66 @@
+//! The registers of a function.
+
+ghost use Rattle.std.specs.Prelude.{◌≡◌, ◌∷◌, List, true, false, IfErr, OnOk, OnErr};
+ghost use Rattle.watchers.specs.declared.steps.Step.{Step};
+ghost use Rattle.watchers.specs.declared.steps.Step.TheVariants.{Begin};
+ghost use Rattle.watchers.specs.Told.{AllTold, PartTold};
+ghost use Rattle.pipeline.specs.Passes.Stops.{comes_of_a_place, AllServe, SaysOfPlaces};
+
+use crate::passes::ready::{Prepared, prepare};
+use crate::passes::stop::RegisterStop;
+use greedy_core::{Policy, Watcher, allocate};
+use mir_func::{Func, Valid};
+use place_solve::check_places;
+use rewriter::rewrite;
+use std::alloc::Global;
+use target_base::Target;
+
+/// The function in physical form, with the registers that the run of the greedy allocator chooses. Its
+/// number is that in its file, with which the run begins; each watcher is told every step of the run.
+/// Refused are, in this order, a function one of whose places has too many variables, one of whose
+/// places admits no choice, and one whose run passes the limit of range numbers. The watchers are told
+/// nothing where a place is refused, and a first part of the run after any other refusal.
+pub fn with_registers<W: Watcher>(
+    alloc: Global,
+    target: &Target,
+    source: &Valid,
+    number: u32,
+    watchers: &mut Vec<W>,
+) -> Result<Func, RegisterStop>
+    ensures places { IfErr result (SaysOfPlaces target.now source.now.func) }
+    ensures serve { OnOk result (AllServe target.now source.now.func) }
+    ensures untold { IfErr result (λ stop. comes_of_a_place stop ≡ true → watchers.new ≡ watchers.old) }
+    ensures told { OnOk result ((steps : List Step) × AllTold (W.next target.now) (Begin number ∷ steps) watchers.old.items watchers.new.items) }
+    ensures part { OnErr result ((steps : List Step) × PartTold (W.next target.now) steps watchers.old.items watchers.new.items) }
+{
+    check_places(alloc, target, source)?;
+    let copy = Valid {
+        func: source.func.copy(alloc)?,
+    };
+    run(alloc, target, copy, number, watchers)
+}
+
+/// The same without a look at the places.
+fn run<W: Watcher>(
+    alloc: Global,
+    target: &Target,
+    source: Valid,
+    number: u32,
+    watchers: &mut Vec<W>,
+) -> Result<Func, RegisterStop>
+    ensures late { IfErr result (λ stop. comes_of_a_place stop ≡ false) }
+    ensures told { OnOk result ((steps : List Step) × AllTold (W.next target.now) (Begin number ∷ steps) watchers.old.items watchers.new.items) }
+    ensures part { OnErr result ((steps : List Step) × PartTold (W.next target.now) steps watchers.old.items watchers.new.items) }
+{
+    let Prepared { live, freqs } = prepare(alloc, target, source)?;
+    let done = allocate(
+        alloc,
+        target,
+        live,
+        &freqs,
+        Policy::Greedy,
+        number,
+        watchers,
+    )?;
+    Ok(rewrite(alloc, target, done)?)
+}

@@ -1,0 +1,91 @@
+//! What a command answers at a piece of a file.
+
+ghost use Rattle.std.specs.Prelude.{◌≡◌, ◌==◌, ◌≤◌, ◌+◌, IfOk, OnErr, length, Some, None, false};
+ghost use Rattle.pipeline.specs.Guarded.Told.{ToldPart};
+ghost use Rattle.ra_top.specs.Commands.Told.{ToldAnswer};
+ghost use Rattle.ra_top.specs.Commands.Spot.{file_most, length_fault};
+ghost use Rattle.ra_top.specs.Commands.Answer.{IsAnswer};
+ghost use Rattle.ra_top.specs.Commands.Documents.{end_status, IsEndText, tells};
+
+use crate::commands::documents::at_document;
+use crate::commands::spot::Spot;
+use crate::commands::status::Status;
+use crate::commands::words::digits;
+use mir_meaning::Form;
+use mir_text::{TextStop, read_doc};
+use std::alloc::{AllocError, Global};
+use target_base::{Bytes, Target};
+use watchers::Watcher;
+
+/// What is done with each document of a file.
+#[derive(Clone, Copy)]
+pub enum Job<'a> {
+    /// It is written with its function allocated.
+    Alloc,
+    /// A line says of each function that it is valid in a form.
+    Verify(Form),
+    /// The first function of a name is run through N counted instructions in the environment of SEED.
+    Run(&'a str, u64, u64),
+    /// Of each function it is written what is live where once it is made ready for the allocator's run.
+    Intervals,
+    /// Each function is allocated for the watchers, whose lines are written at the end.
+    Trace,
+}
+
+/// What is answered at a piece.
+#[derive(Drop)]
+pub enum Answer {
+    /// The text that is written for it; the run goes on.
+    Text(Bytes),
+    /// The text that is written for it; the run ends.
+    Last(Bytes),
+    /// It is refused by a status, with the detail of its line.
+    Refused(Status, Bytes),
+}
+
+/// How a run ends where its file does.
+pub fn end_status(job: Job) -> Status
+    ensures { result ≡ end_status job.entry }
+{
+    match job {
+        Job::Alloc => Status::Done,
+        Job::Verify(_) => Status::Done,
+        Job::Run(_, _, _) => Status::Usage,
+        Job::Intervals => Status::Done,
+        Job::Trace => Status::Done,
+    }
+}
+
+/// What is answered at a piece that begins at a spot; it may be 4,194,305 bytes long, which are the
+/// first ones of a longer piece. `number` is that of the next function that is allocated, and rises
+/// with it. The commands `alloc` and `trace` tell the watchers; the others leave them as they were. Each
+/// watcher is told all steps of the function's run, and a first part of them where it is refused.
+#[tactic(auto, using(crate::proofs::CommandLemmas::Read::doc_fits))]
+pub fn answer_at<W: Watcher>(
+    alloc: Global,
+    job: Job,
+    target: &Target,
+    spot: Spot,
+    piece: &[u8],
+    number: &mut u32,
+    watchers: &mut Vec<W>,
+) -> Result<Answer, AllocError>
+    requires line { spot.line ≤ spot.offset + 1 }
+    requires within { spot.offset ≤ file_most }
+    ensures answer { IfOk result (λ a. IsAnswer job.entry target.now spot piece.now a) }
+    ensures leaves { tells job.entry ≡ false → watchers.new ≡ watchers.old }
+    ensures told { IfOk result (ToldAnswer (W.next target.now) number.old number.new watchers.old.items watchers.new.items) }
+    ensures part { OnErr result (ToldPart (W.next target.now) watchers.old.items watchers.new.items) }
+{
+    if let Some(limit) = spot.length_fault(piece.len()) {
+        return Ok(Answer::Refused(Status::Limit(limit), Bytes::new(alloc)));
+    }
+    match read_doc(alloc, target, spot.offset == 0, spot.line, piece) {
+        Err(TextStop::Memory(e)) => Err(e),
+        Err(TextStop::Fault(fault)) => {
+            let detail = digits(alloc, fault.line)?;
+            Ok(Answer::Refused(Status::Text(fault), detail))
+        }
+        Ok(doc) => at_document(alloc, job, target, doc, number, watchers),
+    }
+}

@@ -1,0 +1,152 @@
+//! What each command answers at a document.
+
+ghost use Rattle.std.specs.Prelude.{◌≡◌, ◌++◌, IfOk, OnErr, codes, false};
+ghost use Rattle.machine_verify.specs.Lives.{FitsTarget};
+ghost use Rattle.pipeline.specs.Guarded.Function.{IfRefused};
+ghost use Rattle.pipeline.specs.Guarded.Told.{ToldPart};
+ghost use Rattle.ra_top.specs.Commands.Told as watched;
+ghost use Rattle.ra_top.specs.Commands.Told.{next_number, ToldAnswer, ToldOne, IsEndOf};
+ghost use Rattle.ra_top.specs.Commands.Documents.{DocFits, IsDocAnswer, IsFunctionAnswer, IsAllocAnswer, IsAllocRefusal, IsEndText, tells, text_of_lines};
+
+use crate::commands::answer::{Answer, Job};
+use crate::commands::intervals::intervals_of;
+use crate::commands::run::at_named;
+use crate::commands::status::Status;
+use crate::commands::told::lines_of;
+use crate::commands::trace::traced;
+use crate::commands::verify::verified_function;
+use crate::commands::words::{invalid_words, unassignable_words};
+use pipeline::guarded::{FunctionStop, allocated};
+use mir_func::Func;
+use mir_text::Doc;
+use std::alloc::{AllocError, Global};
+use target_base::{Bytes, Target};
+use watchers::Watcher;
+
+/// Refuses a function, for the cause that it isn't allocated.
+pub(crate) fn refused(alloc: Global, stop: FunctionStop) -> Result<Answer, AllocError>
+    ensures { IfOk result (IsAllocRefusal stop) }
+{
+    match stop {
+        FunctionStop::Limit(limit) => {
+            Ok(Answer::Refused(Status::Limit(limit), Bytes::new(alloc)))
+        }
+        FunctionStop::Invalid(name, invalid) => {
+            let detail = invalid_words(alloc, name.as_slice(), invalid)?;
+            Ok(Answer::Refused(Status::Invalid(invalid), detail))
+        }
+        FunctionStop::Unassignable(name, place) => {
+            let detail = unassignable_words(alloc, name.as_slice(), place)?;
+            Ok(Answer::Refused(Status::Unassignable(place), detail))
+        }
+        FunctionStop::NotYet => Ok(Answer::Refused(Status::NotYet, Bytes::new(alloc))),
+        FunctionStop::Memory(e) => Err(e),
+    }
+}
+
+/// The command `alloc` at a function document: the lines before it, and its function of a number.
+fn allocated_function<W: Watcher>(
+    alloc: Global,
+    target: &Target,
+    before: Bytes,
+    f: Func,
+    number: u32,
+    watchers: &mut Vec<W>,
+) -> Result<Answer, AllocError>
+    requires { FitsTarget target.now f }
+    ensures answer { IfOk result (IsAllocAnswer target.now before f) }
+    ensures told { IfOk result (ToldOne (W.next target.now) number watchers.old.items watchers.new.items) }
+    ensures part { OnErr result (ToldPart (W.next target.now) watchers.old.items watchers.new.items) }
+{
+    match allocated(alloc, target, f, number, watchers) {
+        Ok(made) => {
+            let mut text = before;
+            text.extend(made.text.as_slice())?;
+            Ok(Answer::Text(text))
+        }
+        Err(stop) => refused(alloc, stop),
+    }
+}
+
+/// The number of the next function, which rises. At its greatest value it stands.
+fn next(number: &mut u32) -> u32
+    ensures now { result ≡ number.old }
+    ensures next { number.new ≡ next_number number.old }
+{
+    let now = *number;
+    *number = now.saturating_add(1);
+    now
+}
+
+/// What is answered at a function document.
+fn at_function<W: Watcher>(
+    alloc: Global,
+    job: Job,
+    target: &Target,
+    before: Bytes,
+    f: Func,
+    number: &mut u32,
+    watchers: &mut Vec<W>,
+) -> Result<Answer, AllocError>
+    requires { FitsTarget target.now f }
+    ensures answer { IfOk result (IsFunctionAnswer job.entry target.now before f) }
+    ensures leaves { tells job.entry ≡ false → watchers.new ≡ watchers.old }
+    ensures told { IfOk result (ToldAnswer (W.next target.now) number.old number.new watchers.old.items watchers.new.items) }
+    ensures part { OnErr result (ToldPart (W.next target.now) watchers.old.items watchers.new.items) }
+{
+    match job {
+        Job::Alloc => allocated_function(alloc, target, before, f, next(number), watchers),
+        Job::Verify(form) => verified_function(alloc, target, form, f),
+        Job::Run(name, n, seed) => at_named(alloc, target, name, n, seed, f),
+        Job::Intervals => intervals_of(alloc, target, f),
+        Job::Trace => traced(alloc, target, f, next(number), watchers),
+    }
+}
+
+/// What is answered at a document that is no function: `alloc` writes its bytes, and the other
+/// commands nothing.
+fn at_lines(alloc: Global, job: Job, lines: Bytes) -> Bytes
+    ensures { result ≡ text_of_lines job.entry lines }
+{
+    match job {
+        Job::Alloc => lines,
+        Job::Verify(_) => Bytes::new(alloc),
+        Job::Run(_, _, _) => Bytes::new(alloc),
+        Job::Intervals => Bytes::new(alloc),
+        Job::Trace => Bytes::new(alloc),
+    }
+}
+
+/// What is answered at a document.
+pub fn at_document<W: Watcher>(
+    alloc: Global,
+    job: Job,
+    target: &Target,
+    doc: Doc,
+    number: &mut u32,
+    watchers: &mut Vec<W>,
+) -> Result<Answer, AllocError>
+    requires { DocFits target.now doc }
+    ensures answer { IfOk result (IsDocAnswer job.entry target.now doc) }
+    ensures leaves { tells job.entry ≡ false → watchers.new ≡ watchers.old }
+    ensures told { IfOk result (ToldAnswer (W.next target.now) number.old number.new watchers.old.items watchers.new.items) }
+    ensures part { OnErr result (ToldPart (W.next target.now) watchers.old.items watchers.new.items) }
+{
+    match doc {
+        Doc::Function(before, f) => at_function(alloc, job, target, before, f, number, watchers),
+        Doc::Ir(lines) => Ok(Answer::Text(at_lines(alloc, job, lines))),
+        Doc::Rest(lines) => Ok(Answer::Text(at_lines(alloc, job, lines))),
+    }
+}
+
+/// What is written where the file ends: the lines of the watchers for `trace`, and nothing for the
+/// other commands.
+pub fn end_text<W: Watcher>(alloc: Global, job: Job, watchers: &[W]) -> Result<Bytes, AllocError>
+    ensures text { IfOk result (IsEndText job.entry) }
+    ensures lines { IfOk result (IsEndOf (watched.lines_of W.count W.text watchers.now) job.entry) }
+{
+    match job {
+        Job::Trace => lines_of(alloc, watchers),
+        _ => Ok(Bytes::new(alloc)),
+    }
+}

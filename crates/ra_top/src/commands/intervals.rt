@@ -1,0 +1,77 @@
+//! The command `intervals` at a function.
+
+ghost use Rattle.std.specs.Prelude.{◌≡◌, IfOk};
+ghost use Rattle.target_base.specs.declared.types.Target.{Target as TargetValue};
+ghost use Rattle.mir_func.specs.Value.{Function};
+ghost use Rattle.mir_meaning.specs.Places.{FirstPlace, TooMany};
+ghost use Rattle.place_solve.specs.Own.{IfVariables, IfUnassignable};
+ghost use Rattle.pipeline.specs.Passes.Stops.{FirstRefused};
+ghost use Rattle.machine_verify.specs.Lives.{FitsTarget};
+ghost use Rattle.ra_top.specs.Commands.Documents.{IsIntervalsAnswer, IsLiveAnswer, IsPlaceRefusal};
+
+use crate::commands::answer::Answer;
+use crate::commands::status::Status;
+use crate::commands::words::{invalid_words, unassignable_words};
+use pipeline::passes::prepare;
+use pipeline::guarded::{LimitName, passed_limit, verify_source};
+use crate::report::intervals::text_of_intervals;
+use machine_verify::VerifyStop;
+use mir_func::{Func, Valid};
+use place_solve::{PlaceStop, check_places};
+use std::alloc::{AllocError, Global};
+use target_base::{Bytes, Copied, Target};
+
+/// Refuses a valid function of a name for one of its places.
+fn refused(alloc: Global, name: &[u8], stop: PlaceStop) -> Result<Answer, AllocError>
+    ensures { (t : TargetValue) → (f : Function) → IfVariables (FirstPlace t f TooMany) stop → IfUnassignable (FirstRefused t f) stop → IfOk result (IsPlaceRefusal t f name.now) }
+{
+    match stop {
+        PlaceStop::Variables(_) => Ok(Answer::Refused(
+            Status::Limit(LimitName::Variables),
+            Bytes::new(alloc),
+        )),
+        PlaceStop::Unassignable(place) => {
+            let detail = unassignable_words(alloc, name, place)?;
+            Ok(Answer::Refused(Status::Unassignable(place), detail))
+        }
+        PlaceStop::Memory(e) => Err(e),
+    }
+}
+
+/// What is live where in a valid function of a name, once it is made ready for the allocator's run.
+fn intervals_of_valid(
+    alloc: Global,
+    target: &Target,
+    name: &[u8],
+    source: Valid,
+) -> Result<Answer, AllocError>
+    ensures { IfOk result (IsLiveAnswer target.now source.func name.now) }
+{
+    match check_places(alloc, target, &source) {
+        Ok(()) => {
+            let prepared = prepare(alloc, target, source)?;
+            let text = text_of_intervals(alloc, target, name, &prepared)?;
+            Ok(Answer::Text(text))
+        }
+        Err(stop) => refused(alloc, name, stop),
+    }
+}
+
+/// What is live where in a function once it is made ready for the allocator's run.
+pub(crate) fn intervals_of(alloc: Global, target: &Target, f: Func) -> Result<Answer, AllocError>
+    requires { FitsTarget target.now f }
+    ensures { IfOk result (IsIntervalsAnswer target.now f) }
+{
+    if let Some(limit) = passed_limit(&f) {
+        return Ok(Answer::Refused(Status::Limit(limit), Bytes::new(alloc)));
+    }
+    let name = f.name.copied(alloc)?;
+    match verify_source(alloc, target, f) {
+        Ok(source) => intervals_of_valid(alloc, target, name.as_slice(), source),
+        Err(VerifyStop::Invalid(invalid)) => {
+            let detail = invalid_words(alloc, name.as_slice(), invalid)?;
+            Ok(Answer::Refused(Status::Invalid(invalid), detail))
+        }
+        Err(VerifyStop::Memory(e)) => Err(e),
+    }
+}

@@ -1,0 +1,20 @@
+//! What each command answers at a document of a file: the text that is written for it, or why the run
+//! ends there.
+
+pub mod answer;
+pub mod documents;
+pub mod generated;
+mod intervals;
+mod run;
+pub mod spot;
+pub mod status;
+mod told;
+mod trace;
+mod verify;
+mod words;
+
+pub use crate::commands::answer::{Answer, Job, answer_at, end_status};
+pub use crate::commands::documents::end_text;
+pub use crate::commands::generated::gen_answer;
+pub use crate::commands::spot::Spot;
+pub use crate::commands::status::{LimitName, Status};

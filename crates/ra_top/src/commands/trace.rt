@@ -1,0 +1,90 @@
+//! The command `trace` at a function.
+
+ghost use Rattle.std.specs.Prelude.{◌≡◌, IfOk, OnErr};
+ghost use Rattle.target_base.specs.declared.types.Target.{Target as TargetValue};
+ghost use Rattle.mir_func.specs.Value.{Function};
+ghost use Rattle.machine_verify.specs.Lives.{FitsTarget};
+ghost use Rattle.pipeline.specs.Passes.Stops.{SaysOfPlaces};
+ghost use Rattle.ra_top.specs.Commands.Documents.{IsTraceAnswer, IsTakenAnswer, IsTakenRefusal};
+ghost use Rattle.pipeline.specs.Guarded.Told.{ToldPart};
+ghost use Rattle.ra_top.specs.Commands.Told.{ToldOne};
+
+use crate::commands::answer::Answer;
+use crate::commands::status::Status;
+use crate::commands::words::{invalid_words, unassignable_words};
+use pipeline::passes::{RegisterStop, with_registers};
+use pipeline::guarded::{LimitName, passed_limit, verify_source};
+use machine_verify::VerifyStop;
+use mir_func::{Func, Valid};
+use std::alloc::{AllocError, Global};
+use target_base::{Bytes, Copied, Target};
+use watchers::Watcher;
+
+/// Refuses a valid function of a name, for the cause that its ranges get no registers.
+fn refused(alloc: Global, name: &[u8], stop: RegisterStop) -> Result<Answer, AllocError>
+    ensures { (t : TargetValue) → (f : Function) → SaysOfPlaces t f stop → IfOk result (IsTakenRefusal t f name.now) }
+{
+    match stop {
+        RegisterStop::Variables(_) => Ok(Answer::Refused(
+            Status::Limit(LimitName::Variables),
+            Bytes::new(alloc),
+        )),
+        RegisterStop::Unassignable(place) => {
+            let detail = unassignable_words(alloc, name, place)?;
+            Ok(Answer::Refused(Status::Unassignable(place), detail))
+        }
+        RegisterStop::Ranges => Ok(Answer::Refused(
+            Status::Limit(LimitName::Ranges),
+            Bytes::new(alloc),
+        )),
+        RegisterStop::Unfinished => Ok(Answer::Refused(Status::NotYet, Bytes::new(alloc))),
+        RegisterStop::Memory(e) => Err(e),
+    }
+}
+
+/// Allocates a valid function for the watchers. Nothing is written of it, so that the checker of
+/// allocations isn't asked.
+fn traced_valid<W: Watcher>(
+    alloc: Global,
+    target: &Target,
+    name: &[u8],
+    source: &Valid,
+    number: u32,
+    watchers: &mut Vec<W>,
+) -> Result<Answer, AllocError>
+    ensures answer { IfOk result (IsTakenAnswer target.now source.now.func name.now) }
+    ensures told { IfOk result (ToldOne (W.next target.now) number watchers.old.items watchers.new.items) }
+    ensures part { OnErr result (ToldPart (W.next target.now) watchers.old.items watchers.new.items) }
+{
+    if let Err(stop) = with_registers(alloc, target, source, number, watchers) {
+        return refused(alloc, name, stop);
+    }
+    Ok(Answer::Text(Bytes::new(alloc)))
+}
+
+/// Allocates a function of a number for the watchers.
+pub(crate) fn traced<W: Watcher>(
+    alloc: Global,
+    target: &Target,
+    f: Func,
+    number: u32,
+    watchers: &mut Vec<W>,
+) -> Result<Answer, AllocError>
+    requires { FitsTarget target.now f }
+    ensures answer { IfOk result (IsTraceAnswer target.now f) }
+    ensures told { IfOk result (ToldOne (W.next target.now) number watchers.old.items watchers.new.items) }
+    ensures part { OnErr result (ToldPart (W.next target.now) watchers.old.items watchers.new.items) }
+{
+    if let Some(limit) = passed_limit(&f) {
+        return Ok(Answer::Refused(Status::Limit(limit), Bytes::new(alloc)));
+    }
+    let name = f.name.copied(alloc)?;
+    match verify_source(alloc, target, f) {
+        Ok(source) => traced_valid(alloc, target, name.as_slice(), &source, number, watchers),
+        Err(VerifyStop::Invalid(invalid)) => {
+            let detail = invalid_words(alloc, name.as_slice(), invalid)?;
+            Ok(Answer::Refused(Status::Invalid(invalid), detail))
+        }
+        Err(VerifyStop::Memory(e)) => Err(e),
+    }
+}

@@ -1,0 +1,96 @@
+//! The lines of instructions.
+
+ghost use Rattle.std.specs.Prelude.{◌≡◌, ◌++◌, OnOk};
+ghost use Rattle.std.specs.Fmt.{decimal};
+ghost use Rattle.ra_top.specs.Generator.Text.{register_line, operation_line, move_line, store_line, instr_line, jump_lines};
+
+use crate::generator::source::{Jump, Numbers};
+use std::alloc::AllocError;
+use target_base::Bytes;
+
+/// Adds a text.
+pub(crate) fn put(out: &mut Bytes, text: &str) -> Result<(), AllocError>
+    ensures { OnOk result (out.new ≡ out.old ++ text.now) }
+{
+    out.extend(text.as_bytes())
+}
+
+/// Adds the decimal digits of a number.
+fn put_number(out: &mut Bytes, n: u64) -> Result<(), AllocError>
+    ensures { OnOk result (out.new ≡ out.old ++ decimal n) }
+{
+    let text = n.to_string(out.allocator())?;
+    put(out, text.as_str())
+}
+
+/// Adds a text with a number behind it.
+pub(crate) fn put_numbered(out: &mut Bytes, text: &str, n: u64) -> Result<(), AllocError>
+    ensures { OnOk result (out.new ≡ out.old ++ (text.now ++ decimal n)) }
+{
+    put(out, text)?;
+    put_number(out, n)
+}
+
+/// Adds an instruction that gives a register a number.
+pub(crate) fn put_register(out: &mut Bytes, v: u64, n: u64) -> Result<(), AllocError>
+    ensures { OnOk result (out.new ≡ out.old ++ register_line v n) }
+{
+    put_numbered(out, "    %", v)?;
+    put_numbered(out, ":gr32 = MOV32ri ", n)?;
+    put(out, "\n")
+}
+
+/// Adds an instruction of two registers.
+fn put_operation(out: &mut Bytes, name: &str, d: u64, a: u64, c: u64) -> Result<(), AllocError>
+    ensures { OnOk result (out.new ≡ out.old ++ operation_line name.now d a c) }
+{
+    put_numbered(out, "    %", d)?;
+    put(out, " = ")?;
+    put(out, name)?;
+    put_numbered(out, " %", a)?;
+    put_numbered(out, ", %", c)?;
+    put(out, ", implicit-def $eflags\n")
+}
+
+/// Adds an instruction of one operand.
+fn put_move(out: &mut Bytes, name: &str, d: u64, a: u64) -> Result<(), AllocError>
+    ensures { OnOk result (out.new ≡ out.old ++ move_line name.now d a) }
+{
+    put_numbered(out, "    %", d)?;
+    put(out, " = ")?;
+    put_numbered(out, name, a)?;
+    put(out, "\n")
+}
+
+/// Adds a store.
+fn put_store(out: &mut Bytes, a: u64, c: u64) -> Result<(), AllocError>
+    ensures { OnOk result (out.new ≡ out.old ++ store_line a c) }
+{
+    put_numbered(out, "    STORE32mr %", a)?;
+    put_numbered(out, ", 0, %", c)?;
+    put(out, "\n")
+}
+
+/// Adds an instruction of a block.
+pub(crate) fn put_instr(out: &mut Bytes, of: Numbers) -> Result<(), AllocError>
+    ensures { OnOk result (out.new ≡ out.old ++ instr_line of) }
+{
+    match of.kind {
+        0 => put_operation(out, "ADD32rr", of.d, of.a, of.c),
+        1 => put_operation(out, "SUB32rr", of.d, of.a, of.c),
+        2 => put_operation(out, "XOR32rr", of.d, of.a, of.c),
+        3 => put_move(out, "MOV32ri ", of.d, of.a),
+        4 => put_move(out, "COPY %", of.d, of.a),
+        _ => put_store(out, of.a, of.c),
+    }
+}
+
+/// Adds a comparison and the jump that it decides.
+pub(crate) fn put_jump(out: &mut Bytes, of: Jump) -> Result<(), AllocError>
+    ensures { OnOk result (out.new ≡ out.old ++ jump_lines of) }
+{
+    put_numbered(out, "    CMP32rr %", of.a)?;
+    put_numbered(out, ", %", of.c)?;
+    put_numbered(out, ", implicit-def $eflags\n    JCC %bb.", of.to)?;
+    put(out, ", 5, implicit $eflags\n")
+}

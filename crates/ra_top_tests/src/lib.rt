@@ -1,9 +1,0 @@
-//! Tests of the top call and of the files and sinks in memory.
-#![tactic(auto)]
-
-#[cfg(test)]
-mod failing;
-#[cfg(test)]
-mod hostile;
-#[cfg(test)]
-mod rows;

@@ -1,0 +1,4 @@
+//! Tests of the text of functions.
+
+#[cfg(test)]
+mod tests;

@@ -1,0 +1,15 @@
+//! Tests that cross crates: what no contract says, over rows from outside.
+#![tactic(auto)]
+
+#[cfg(test)]
+mod base;
+#[cfg(test)]
+mod function_texts;
+#[cfg(test)]
+mod live;
+#[cfg(test)]
+mod target_texts;
+#[cfg(test)]
+mod top;
+#[cfg(test)]
+mod verifiers;

@@ -1,0 +1,8 @@
+//! Tests of the top call and of the files and sinks in memory.
+
+#[cfg(test)]
+mod failing;
+#[cfg(test)]
+mod hostile;
+#[cfg(test)]
+mod rows;
