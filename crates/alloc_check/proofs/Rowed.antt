@@ -10,7 +10,7 @@ use Rattle.meaning.specs.Code.{BlockStart, BlockEnd, Silent, Counted, Code}
 use Rattle.mir_func.specs.declared.func.Instr.{Instr}
 use Rattle.mir_func.specs.declared.func.Block.{Block}
 use Rattle.mir_func.specs.Value.{Function}
-use Rattle.mir_meaning.specs.Binding.{effect_of, roles_of, is_early_clobber, is_terminator}
+use Rattle.mir_func.specs.Binding.{effect_of, roles_of, is_early_clobber, is_terminator}
 use Rattle.mir_meaning.specs.Items.{silent_reads, silent_writes, rest_of, values, counted_writes}
 use Rattle.mir_meaning.specs.Codes.{item_of, effect_item, blocks_code, code_of, block_end, way, ways_out, target_of}
 use Rattle.alloc_check.specs.Bare.{bare, bare_item, first_bare, second_bare, items, blocks_bare, block_bare, Grown}

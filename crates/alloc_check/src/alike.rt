@@ -3,7 +3,7 @@
 
 ghost use Rattle.std.specs.Prelude.{◌≡◌, ◌∷◌, [], MatchOption};
 ghost use Rattle.mir_meaning.specs.Agreement.{same_op, undef_alike, register_alike, operand_alike, implicit_alike, all_alike, are_partners};
-ghost use Rattle.mir_meaning.specs.Binding.{is_implicit_operand, explicit_operands, implicit_registers};
+ghost use Rattle.mir_func.specs.Binding.{is_implicit_operand, explicit_operands, implicit_registers};
 ghost use Rattle.mir_meaning.specs.Rules.{is_virtual, same_loc};
 
 use crate::facts::same_bytes;

@@ -3,12 +3,11 @@
 ghost use Rattle.std.specs.Prelude.{◌≡◌, IsTrue, true};
 ghost use Rattle.target_base.specs.Storage.{is_among};
 ghost use Rattle.target_base.specs.Numbers.{unit_number};
-ghost use Rattle.target_base.specs.Registers.{units_of};
+ghost use Rattle.target_base.specs.Registers.{units_of, is_reserved_unit};
 ghost use Rattle.std.specs.List.{list_any};
 ghost use Rattle.meaning.specs.Facts.{all_known, known_at_start};
 ghost use Rattle.meaning.specs.declared.types.Lane.TheVariants.{UnitLane};
 ghost use Rattle.meaning.specs.declared.types.Source.TheVariants.{FromLane};
-ghost use Rattle.mir_meaning.specs.Registers.{is_reserved_unit};
 ghost use Rattle.mir_meaning.specs.Codes.{is_given, given_of};
 
 use crate::facts::{Fact, same_source};

@@ -19,7 +19,7 @@ use Rattle.mir_func.specs.declared.func.Operand.TheVariants as operands
 use Rattle.mir_func.specs.declared.func.Instr.{Instr}
 use Rattle.mir_func.specs.declared.func.Block.{Block}
 use Rattle.mir_func.specs.Value.{Function}
-use Rattle.mir_meaning.specs.Binding.{class_of, does}
+use Rattle.mir_func.specs.Binding.{class_of, does}
 use Rattle.mir_meaning.specs.Registers.{operand_lanes, is_reserved}
 use Rattle.mir_meaning.specs.Points.{is_range, points_of}
 use Rattle.mir_meaning.specs.Renaming.{renamed_instr}

@@ -11,7 +11,7 @@ use Rattle.mir_func.specs.declared.func.RegOp.{RegOp}
 use Rattle.mir_func.specs.declared.func.Instr.{Instr}
 use Rattle.mir_func.specs.declared.func.Block.{Block}
 use Rattle.mir_func.specs.Value.{Function}
-use Rattle.mir_meaning.specs.Binding.{registers}
+use Rattle.mir_func.specs.Binding.{registers}
 use Rattle.mir_meaning.specs.Points.{is_range}
 use Rattle.coalescer.specs.declared.joins.Join.{Join}
 use Rattle.coalescer.specs.Fold.{IsQuiet, composed, copy_sides, registers_of, is_narrower, folded}

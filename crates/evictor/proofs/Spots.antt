@@ -13,7 +13,7 @@ use Rattle.mir_func.specs.declared.func.Operand.TheVariants as operands
 use Rattle.mir_func.specs.declared.func.Instr.{Instr}
 use Rattle.mir_func.specs.declared.func.Block.{Block}
 use Rattle.mir_func.specs.Value.{Function}
-use Rattle.mir_meaning.specs.Binding.{registers}
+use Rattle.mir_func.specs.Binding.{registers}
 use Rattle.mir_meaning.specs.Points.{is_range, counts, touches}
 use Rattle.block_freq.specs.Weights.{names, naming, block_uses, use_sum}
 use Rattle.live_lanes.specs.declared.table.Table.{Table}

@@ -12,7 +12,7 @@ use Rattle.mir_func.specs.declared.func.Operand.TheVariants as operands
 use Rattle.mir_func.specs.declared.func.Instr.{Instr}
 use Rattle.mir_func.specs.declared.func.Block.{Block}
 use Rattle.mir_func.specs.Value.{Function}
-use Rattle.mir_meaning.specs.Binding.{does, class_of}
+use Rattle.mir_func.specs.Binding.{does, class_of}
 use Rattle.mir_meaning.specs.Points.{is_range}
 use Rattle.mir_meaning.specs.Places.{domain}
 

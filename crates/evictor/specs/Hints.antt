@@ -8,7 +8,7 @@ use Rattle.target_base.specs.Rules.{is_copy}
 use Rattle.mir_func.specs.declared.func.Instr.{Instr}
 use Rattle.mir_func.specs.declared.func.Block.{Block}
 use Rattle.mir_func.specs.Value.{Function}
-use Rattle.mir_meaning.specs.Binding.{does, registers}
+use Rattle.mir_func.specs.Binding.{does, registers}
 use Rattle.mir_meaning.specs.Points.{counts}
 use Rattle.interference.specs.declared.matrix.Matrix.{Matrix}
 use Rattle.interference.specs.Clashes.{register_in}

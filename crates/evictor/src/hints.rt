@@ -5,7 +5,7 @@ ghost use Rattle.std.specs.Option.{option_to_list};
 ghost use Rattle.target_base.specs.Rules.{is_copy, regs_of_some};
 ghost use Rattle.target_base.specs.Storage.{is_unreserved, is_among, holds_reg};
 ghost use Rattle.mir_func.specs.declared.func.Instr.{Instr as Instruction};
-ghost use Rattle.mir_meaning.specs.Binding.{does, class_of};
+ghost use Rattle.mir_func.specs.Binding.{does, class_of};
 ghost use Rattle.mir_meaning.specs.Points.{is_range};
 ghost use Rattle.mir_meaning.specs.Places.{domain};
 ghost use Rattle.live_lanes.specs.Touching.{FindsInstrs};

@@ -8,7 +8,7 @@ use Rattle.mir_func.specs.declared.func.Block.{Block}
 use Rattle.mir_func.specs.Value.{Function}
 use Rattle.mir_func.specs.Edits.{update}
 use Rattle.meaning.specs.Live.{Among}
-use Rattle.mir_meaning.specs.Binding.{registers}
+use Rattle.mir_func.specs.Binding.{registers}
 use Rattle.mir_meaning.specs.Points.{Point, Start, Entry, Exit, RangePoint, Tests, is_range, touches, block_points, all_points}
 
 -- how far a range has come: it waits for a register for the first time, or lost one; it is to be split or spilled;

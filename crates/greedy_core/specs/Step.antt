@@ -9,7 +9,7 @@ use Rattle.mir_func.specs.declared.func.Block.{Block}
 use Rattle.mir_func.specs.Value.{Function}
 use Rattle.mir_func.specs.Edits.{instr_place}
 use Rattle.meaning.specs.Live.{Among}
-use Rattle.mir_meaning.specs.Binding.{class_of, does, is_terminator}
+use Rattle.mir_func.specs.Binding.{class_of, does, is_terminator}
 use Rattle.mir_meaning.specs.Registers.{numbers, has_number}
 use Rattle.mir_meaning.specs.Points.{Entry, RangesClash, UnitClash, Tests, has_instr}
 use Rattle.mir_meaning.specs.Places.{Copying, Needs, Variable, variable, place_of, copy_place, solutions, UnitsOf}

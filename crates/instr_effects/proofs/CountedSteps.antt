@@ -31,9 +31,9 @@ use Rattle.mir_func.specs.declared.func.Operand.TheVariants as operands
 use Rattle.mir_func.specs.declared.func.Instr.{Instr}
 use Rattle.mir_func.specs.declared.func.Block.{Block}
 use Rattle.mir_func.specs.Value.{Function}
-use Rattle.mir_meaning.specs.Binding.{registers, explicit_operands, implicit_registers, implicit_roles, roles_of, is_early_clobber, effect_of, passes, is_terminator}
+use Rattle.mir_func.specs.Binding.{registers, explicit_operands, implicit_registers, implicit_roles, roles_of, is_early_clobber, effect_of, passes, is_terminator, immediate_of}
 use Rattle.mir_meaning.specs.Registers.{numbers, operand_lanes, located_lanes, whole_lanes, undefined_lanes, use_sources, range_widths, is_reserved}
-use Rattle.mir_meaning.specs.Items.{write, undefined, computed, Value, value_of, values, use_value, flag_value, constant_value, computes_with_immediates, has_base, implicit_values, is_flags, pick, first_width, immediate_of, result_writes, counted_writes, implicit_writes, explicit_definitions, implicit_definitions, all_lanes, answered, unreserved, clobbered, kept, preserves, rest_of, defined_undef, silent_reads, silent_writes}
+use Rattle.mir_meaning.specs.Items.{write, undefined, computed, Value, value_of, values, use_value, flag_value, constant_value, computes_with_immediates, has_base, implicit_values, is_flags, pick, first_width, result_writes, counted_writes, implicit_writes, explicit_definitions, implicit_definitions, all_lanes, answered, unreserved, clobbered, kept, preserves, rest_of, defined_undef, silent_reads, silent_writes}
 use Rattle.mir_meaning.specs.Codes.{item_of, effect_item, way, ways_out, target_of}
 use Rattle.mir_meaning.specs.Points.{point_item}
 use Rattle.mir_meaning.specs.Stands.{Tags}

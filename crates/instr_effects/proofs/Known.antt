@@ -8,7 +8,7 @@ use Rattle.target_base.specs.declared.types.Target.{Target}
 use Rattle.target_base.specs.Roles.{is_silent}
 use Rattle.mir_func.specs.declared.func.Instr.{Instr}
 use Rattle.mir_func.specs.Value.{Function}
-use Rattle.mir_meaning.specs.Binding.{known_opcode, roles_of}
+use Rattle.mir_func.specs.Binding.{known_opcode, roles_of}
 use Rattle.mir_meaning.specs.Items.{silent_reads, values}
 use Rattle.instr_effects.specs.Acts.{acts_of, read_owners, effect_owners, effect_acts, effect_reads, counted_owners, entered_reads, entered_writes}
 use Rattle.instr_effects.proofs.Readings.{counted-read}

@@ -7,11 +7,10 @@ use Rattle.target_base.specs.declared.types.MaskDesc.{MaskDesc}
 use Rattle.target_base.specs.declared.types.Unit.{Unit as UnitNumber}
 use Rattle.target_base.specs.declared.types.Target.{Target}
 use Rattle.target_base.specs.Numbers.{unit_number}
-use Rattle.target_base.specs.Registers.{units_of}
+use Rattle.target_base.specs.Registers.{units_of, mask_regs}
 use Rattle.target_base.specs.Storage.{is_among}
 use Rattle.mir_func.specs.declared.func.Operand.TheVariants as operands
 use Rattle.mir_meaning.specs.Items.{mask_units, preserves}
-use Rattle.instr_effects.specs.Acts.{mask_regs}
 use Rattle.mir_meaning.specs.Registers.{numbers}
 
 any-join : {X : Type 0} (p : X → Bool) (xs ys : List X) → list_any p (xs ++ ys) ≡ (list_any p xs || list_any p ys)

@@ -8,8 +8,7 @@ use Rattle.mir_func.specs.declared.func.RegOp.{RegOp}
 use Rattle.mir_func.specs.declared.func.Operand.{Operand}
 use Rattle.mir_func.specs.declared.func.Operand.TheVariants as operands
 use Rattle.mir_func.specs.declared.func.Instr.{Instr}
-use Rattle.mir_meaning.specs.Binding.{known_opcode, passes}
-use Rattle.instr_effects.specs.Acts.{register_at}
+use Rattle.mir_func.specs.Binding.{known_opcode, passes, register_at}
 use Rattle.instr_effects.specs.Ends.{pairs_of, pairs_behind, end_uses, first_pair}
 
 -- a pair that stands first is the first of the pairs

@@ -4,7 +4,8 @@ use Rattle.std.specs.Prelude.{nat_eq, nat_lt, slice_get}
 use Rattle.std.proofs.lemmas.Bool.{ltb-true, eqb-false}
 use Rattle.std.proofs.lemmas.Option.{slice_get_within, get_or_from_slice_get}
 use Rattle.target_base.specs.declared.types.Target.{Target}
-use Rattle.mir_meaning.specs.Registers.{numbers, is_reserved_unit}
+use Rattle.mir_meaning.specs.Registers.{numbers}
+use Rattle.target_base.specs.Registers.{is_reserved_unit}
 use Rattle.instr_effects.specs.declared.owner.Owner.{Owner}
 use Rattle.instr_effects.specs.declared.owner.Owner.TheVariants as owners
 use Rattle.instr_effects.specs.declared.row.Lanes.{Lanes}

@@ -17,10 +17,10 @@ use Rattle.mir_func.specs.declared.func.Operand.{Operand}
 use Rattle.mir_func.specs.declared.func.Operand.TheVariants as operands
 use Rattle.mir_func.specs.declared.func.Instr.{Instr}
 use Rattle.mir_func.specs.Value.{Function}
-use Rattle.mir_meaning.specs.Binding.{as_register, registers, implicit_registers, effect_of, roles_of, is_early_clobber, takes_role}
+use Rattle.mir_func.specs.Binding.{as_register, registers, implicit_registers, effect_of, roles_of, is_early_clobber, takes_role, immediate_of}
 use Rattle.mir_meaning.specs.Registers.{numbers, operand_lanes, undefined_lanes, use_sources}
 use Rattle.meaning.specs.Perform.{condition_lane}
-use Rattle.mir_meaning.specs.Items.{immediate_of, moved, undefined, silent_reads, silent_writes, values, result_writes, explicit_definitions, implicit_definitions, all_lanes, preserves, defined_undef, lanes_beside, pick}
+use Rattle.mir_meaning.specs.Items.{moved, undefined, silent_reads, silent_writes, values, result_writes, explicit_definitions, implicit_definitions, all_lanes, preserves, defined_undef, lanes_beside, pick}
 use Rattle.instr_effects.specs.declared.acts.Act.{Act}
 use Rattle.instr_effects.specs.declared.owner.Owner.{Owner}
 use Rattle.instr_effects.specs.Owners.{owner_of, fill_owner, owners_read, operand_owners}
@@ -59,19 +59,6 @@ abbrev pub slot_numbers : Target → ℕ → Operand → List ℕ
 slot_numbers t n (operands.Index x) = lanes_of t x
 slot_numbers t n _ = numbers 0 n
 
--- the register operand at a place, if one is
-abbrev pub register_at : List Operand → ℕ → Option RegOp
-register_at os k = option_and_then as_register (slice_get os k)
-
--- the operand as a spill slot or another frame object, where it is one
-abbrev pub as_slot : Operand → Option ℕ
-as_slot (operands.Stack s) = Some s
-as_slot _ = None
-
--- the slot at a place, if one is
-abbrev pub slot_at : List Operand → ℕ → Option ℕ
-slot_at os k = option_and_then as_slot (slice_get os k)
-
 -- an immediate or an address
 abbrev pub is_constant : Operand → Bool
 is_constant (operands.Imm z) = true
@@ -89,10 +76,6 @@ filled_whole t f _ = []
 abbrev pub stored : Target → Function → List Operand → Writes
 stored t f (operands.Reg o ∷ operands.Stack s ∷ k ∷ os) = moved false (lanes_beside t f o s k) (use_sources t f o)
 stored t f _ = []
-
--- the registers of a mask
-abbrev pub mask_regs : Target → MaskId → List Reg
-mask_regs t k = elim (slice_get t.masks k.0) [ None ↦ [] | Some d ↦ d.regs ]
 
 -- the units outside the masks, which a call makes undefined
 abbrev pub unpreserved : Target → List Operand → List ℕ
@@ -176,7 +159,3 @@ counted_owners t f e rs os =
 abbrev pub effect_owners : Target → Function → Effect → List Role → List Operand → List Owner
 effect_owners t f e rs os = cond (is_silent e) (read_owners (silent_reads t f e os)) (counted_owners t f e rs os)
 
--- the operand as an immediate, where it is one
-abbrev pub as_immediate : Operand → Option ℤ
-as_immediate (operands.Imm z) = Some z
-as_immediate _ = None

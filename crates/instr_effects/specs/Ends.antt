@@ -6,8 +6,7 @@ use Rattle.mir_func.specs.declared.func.RegOp.{RegOp}
 use Rattle.mir_func.specs.declared.func.Operand.{Operand}
 use Rattle.mir_func.specs.declared.func.Operand.TheVariants as operands
 use Rattle.mir_func.specs.declared.func.Instr.{Instr}
-use Rattle.mir_meaning.specs.Binding.{does}
-use Rattle.instr_effects.specs.Acts.{register_at}
+use Rattle.mir_func.specs.Binding.{does, register_at}
 
 -- the uses of a phi, each with the block at whose end it reads
 abbrev pub pairs_of : List Operand → List (RegOp × ℕ)

@@ -10,7 +10,7 @@ use Rattle.target_base.specs.Roles.{is_silent}
 use Rattle.mir_func.specs.declared.func.Block.{Block}
 use Rattle.mir_func.specs.declared.func.Instr.{Instr}
 use Rattle.mir_func.specs.Value.{Function}
-use Rattle.mir_meaning.specs.Binding.{effect_of}
+use Rattle.mir_func.specs.Binding.{effect_of}
 use Rattle.mir_meaning.specs.Registers.{is_reserved}
 use Rattle.mir_meaning.specs.Points.{point_item}
 use Rattle.mir_meaning.specs.Stands.{Tags, IsTagging, IsStep}

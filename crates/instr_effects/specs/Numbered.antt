@@ -4,16 +4,16 @@ use Rattle.std.specs.Ordering.{nat_cmp}
 use Rattle.std.specs.BTreeMap.{get}
 use Rattle.target_base.specs.declared.types.ClassId.{ClassId}
 use Rattle.target_base.specs.declared.types.Target.{Target}
-use Rattle.target_base.specs.Registers.{widths_of_some}
+use Rattle.target_base.specs.Registers.{widths_of_some, is_reserved_unit}
 use Rattle.mir_func.specs.declared.func.Instr.{Instr}
 use Rattle.mir_func.specs.declared.func.Block.{Block}
 use Rattle.mir_func.specs.Value.{Function}
-use Rattle.mir_meaning.specs.Registers.{numbers, is_reserved_unit}
+use Rattle.mir_meaning.specs.Registers.{numbers}
 use Rattle.instr_effects.specs.declared.lanes.LaneTable.{LaneTable}
 use Rattle.instr_effects.specs.declared.owner.Owner.{Owner}
 use Rattle.instr_effects.specs.declared.owner.Owner.TheVariants as owners
 use Rattle.instr_effects.specs.declared.row.Lanes.{Lanes}
-use Rattle.instr_effects.specs.Acts.{slot_at}
+use Rattle.mir_func.specs.Binding.{slot_at}
 use Rattle.instr_effects.specs.Numbers.{owner_number}
 
 -- the number of a lane, where it has one; reserved units have none

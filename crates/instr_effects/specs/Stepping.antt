@@ -4,7 +4,7 @@ use Rattle.target_base.specs.declared.types.Target.{Target}
 use Rattle.mir_func.specs.declared.func.RegOp.{RegOp}
 use Rattle.mir_func.specs.declared.func.Instr.{Instr}
 use Rattle.mir_func.specs.Value.{Function}
-use Rattle.mir_meaning.specs.Binding.{registers}
+use Rattle.mir_func.specs.Binding.{registers}
 use Rattle.mir_meaning.specs.Registers.{operand_lanes, undefined_lanes, is_reserved}
 use Rattle.meaning.specs.declared.types.Lane.{Lane}
 use Rattle.meaning.specs.declared.types.Lane.TheVariants.{UnitLane}

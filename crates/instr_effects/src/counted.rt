@@ -7,9 +7,9 @@ ghost use Rattle.target_base.specs.Roles.{is_implicit};
 ghost use Rattle.target_base.specs.Registers.{units_of};
 ghost use Rattle.target_base.specs.Storage.{is_among};
 ghost use Rattle.meaning.specs.Perform.{condition_lane};
-ghost use Rattle.mir_meaning.specs.Binding.{is_early_clobber, takes_role};
-ghost use Rattle.mir_meaning.specs.Items.{immediate_of, preserves};
-ghost use Rattle.instr_effects.specs.Acts.{plain, acts_of, counted_acts, call_writes, unpreserved, is_call, as_immediate, tested_role, takes_some, flag_owners, implicit_owners, counted_owners};
+ghost use Rattle.mir_func.specs.Binding.{is_early_clobber, takes_role, as_immediate, immediate_of};
+ghost use Rattle.mir_meaning.specs.Items.{preserves};
+ghost use Rattle.instr_effects.specs.Acts.{plain, acts_of, counted_acts, call_writes, unpreserved, is_call, tested_role, takes_some, flag_owners, implicit_owners, counted_owners};
 ghost use Rattle.instr_effects.specs.declared.owner.Owner.TheVariants as owners;
 
 use crate::acts::Act;

@@ -3,7 +3,8 @@
 ghost use Rattle.std.specs.Prelude.{◌≡◌, ℕ, [], ◌∷◌, ◌++◌, length, map, slice_get, None, IfOk, OnOk};
 ghost use Rattle.std.specs.Ordering.{nat_cmp};
 ghost use Rattle.std.specs.BTreeMap.{get};
-ghost use Rattle.mir_meaning.specs.Registers.{numbers, is_reserved_unit};
+ghost use Rattle.mir_meaning.specs.Registers.{numbers};
+ghost use Rattle.target_base.specs.Registers.{is_reserved_unit};
 ghost use Rattle.instr_effects.specs.Row.{lane_in};
 ghost use Rattle.instr_effects.specs.Numbers.{unit_number_in, row_number_in};
 ghost use Rattle.instr_effects.specs.Numbered.{number_in, IsTable, HasSlot, reserved_units, counts};

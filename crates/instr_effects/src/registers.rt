@@ -1,11 +1,10 @@
 //! What operands name: registers, their units and lanes, and the lanes that an index picks.
 
 ghost use Rattle.std.specs.Prelude.{◌≡◌, IfOk, length, map, filter, not, ◌&&◌, slice_get, option_copied};
-ghost use Rattle.target_base.specs.Registers.{units_of, lanes_of, widths_of};
-ghost use Rattle.mir_meaning.specs.Binding.{known_opcode, registers, as_register};
+ghost use Rattle.target_base.specs.Registers.{units_of, lanes_of, widths_of, mask_regs};
+ghost use Rattle.mir_func.specs.Binding.{known_opcode, registers, as_register, register_at, as_slot, slot_at};
 ghost use Rattle.mir_meaning.specs.Registers.{range_widths, numbers};
 ghost use Rattle.instr_effects.specs.Owners.{operand_owners, located_owners};
-ghost use Rattle.instr_effects.specs.Acts.{register_at, as_slot, slot_at, mask_regs};
 ghost use Rattle.instr_effects.specs.declared.owner.Owner.TheVariants as owners;
 ghost use Rattle.mir_func.specs.declared.func.Loc.TheVariants as locs;
 

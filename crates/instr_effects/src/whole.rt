@@ -3,7 +3,7 @@
 ghost use Rattle.std.specs.Prelude.{◌≡◌, ℕ, ◌++◌, length, slice_get, Some, IfOk, OnOk};
 ghost use Rattle.target_base.specs.Registers.{widths_of_some};
 ghost use Rattle.mir_func.specs.declared.func.Block.{Block};
-ghost use Rattle.instr_effects.specs.Acts.{slot_at};
+ghost use Rattle.mir_func.specs.Binding.{slot_at};
 ghost use Rattle.instr_effects.specs.Numbered.{IsTable, HasSlot, HasSlotsOf, NumbersAll, counts, class_counts};
 
 use crate::lanes::LaneTable;

@@ -6,7 +6,7 @@ use Rattle.target_base.specs.declared.types.Target.{Target}
 use Rattle.slot_index.specs.Order.{ids, IsNumbered}
 use Rattle.mir_func.specs.declared.func.Instr.{Instr}
 use Rattle.mir_func.specs.Value.{Function}
-use Rattle.mir_meaning.specs.Binding.{does, is_terminator}
+use Rattle.mir_func.specs.Binding.{does, is_terminator}
 use Rattle.mir_meaning.specs.Points.{all_points}
 use Rattle.instr_effects.specs.Acts.{acts_of, read_owners, entered_reads, entered_writes}
 use Rattle.instr_effects.specs.Ends.{end_uses}

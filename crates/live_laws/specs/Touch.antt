@@ -8,7 +8,7 @@ use Rattle.mir_func.specs.declared.func.Block.{Block}
 use Rattle.mir_func.specs.declared.func.Instr.{Instr}
 use Rattle.mir_func.specs.Value.{Function}
 use Rattle.mir_meaning.specs.declared.Form.{Form}
-use Rattle.mir_meaning.specs.Binding.{effect_of, does}
+use Rattle.mir_func.specs.Binding.{effect_of, does}
 use Rattle.mir_meaning.specs.Points.{touches, has_no_phis}
 use Rattle.mir_meaning.specs.Rules.{V8}
 use Rattle.mir_meaning.specs.Valid.{shape_fault}

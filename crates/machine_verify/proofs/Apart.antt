@@ -11,7 +11,7 @@ use Rattle.mir_func.specs.declared.func.Operand.{Operand}
 use Rattle.mir_func.specs.declared.func.Operand.TheVariants as operands
 use Rattle.target_base.specs.declared.types.Role.{Role}
 use Rattle.target_base.specs.Roles.{is_tied}
-use Rattle.mir_meaning.specs.Binding.{Bound, passes}
+use Rattle.mir_func.specs.Binding.{Bound, passes}
 use Rattle.mir_meaning.specs.Rules.{untied_readings}
 use Rattle.machine_verify.specs.Ties.{untied_reading}
 

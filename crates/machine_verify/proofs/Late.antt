@@ -10,7 +10,7 @@ use Rattle.std.proofs.lemmas.Bool.Decides.{nat_tests}
 use Rattle.std.proofs.lemmas.Option.{slice_get_within}
 use Rattle.target_base.specs.declared.types.ClassId.{ClassId}
 use Rattle.target_base.specs.declared.types.Target.{Target}
-use Rattle.target_base.specs.Registers.{widths_of_some}
+use Rattle.target_base.specs.Registers.{widths_of_some, is_reserved_unit}
 use Rattle.target_base.specs.Rules.{regs_of_some}
 use Rattle.target_base.specs.Storage.{class_units, unit_width}
 use Rattle.meaning.specs.declared.types.Lane.{Lane}
@@ -20,9 +20,9 @@ use Rattle.mir_func.specs.declared.func.Block.{Block}
 use Rattle.mir_func.specs.Value.{Function}
 use Rattle.mir_meaning.specs.declared.Form.{Form}
 use Rattle.mir_meaning.specs.declared.Form.TheVariants as forms
-use Rattle.mir_meaning.specs.Binding.{class_of}
+use Rattle.mir_func.specs.Binding.{class_of}
 use Rattle.mir_meaning.specs.Points.{Start, LiveAt}
-use Rattle.mir_meaning.specs.Registers.{numbers, is_reserved_unit}
+use Rattle.mir_meaning.specs.Registers.{numbers}
 use Rattle.mir_meaning.specs.Valid.{Fault, IsValid, LiveFault, LiveInto, V13, V13_before, V14, fault_at, first, later, liveins_fit, names_virtual, shape_fault, start}
 use Rattle.instr_effects.specs.declared.row.Lanes.{Lanes}
 use Rattle.instr_effects.specs.Numbered.{number_in, counts}

@@ -8,7 +8,7 @@ use Rattle.target_base.specs.declared.types.Reg.{Reg}
 use Rattle.target_base.specs.declared.types.Target.{Target}
 use Rattle.target_base.specs.Storage.{same_numbers}
 use Rattle.target_base.proofs.Sound.{regs_count}
-use Rattle.mir_meaning.specs.Binding.{passes}
+use Rattle.mir_func.specs.Binding.{passes}
 use Rattle.mir_meaning.specs.Registers.{numbers}
 use Rattle.mir_meaning.specs.Valid.{cover, unreserved_registers}
 use Rattle.target_base.specs.Storage.{is_unreserved}

@@ -13,7 +13,7 @@ use Rattle.mir_func.specs.declared.func.Instr.{Instr}
 use Rattle.mir_func.specs.Value.{Function}
 use Rattle.mir_meaning.specs.declared.Form.{Form}
 use Rattle.mir_meaning.specs.declared.Form.TheVariants as forms
-use Rattle.mir_meaning.specs.Binding.{known_opcode, does, is_terminator}
+use Rattle.mir_func.specs.Binding.{known_opcode, does, is_terminator}
 use Rattle.mir_meaning.specs.Rules.{V1, V2, V3, V4, V7, V8, predecessors, block_numbers}
 use Rattle.mir_meaning.specs.Valid.{Fault, first_failing, fault_at, instr_fault, instrs_fault, fault_in, block_fault, blocks_fault, least}
 use Rattle.machine_verify.specs.declared.asked.Before.{Before}

@@ -9,7 +9,7 @@ use Rattle.mir_func.specs.Value.{Function}
 use Rattle.mir_func.specs.declared.func.Block.{Block}
 use Rattle.mir_meaning.specs.declared.Form.{Form}
 use Rattle.mir_meaning.specs.declared.Form.TheVariants as forms
-use Rattle.mir_meaning.specs.Binding.{class_of}
+use Rattle.mir_func.specs.Binding.{class_of}
 use Rattle.mir_meaning.specs.Registers.{numbers}
 use Rattle.mir_meaning.specs.Valid.{Fault, fault_at, liveins_fit, names_virtual}
 use Rattle.target_base.specs.Rules.{regs_of_some}

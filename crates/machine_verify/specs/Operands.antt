@@ -6,7 +6,7 @@ use Rattle.target_base.specs.declared.types.Target.{Target}
 use Rattle.mir_func.specs.declared.func.Operand.{Operand}
 use Rattle.mir_func.specs.declared.func.Operand.TheVariants as operands
 use Rattle.mir_func.specs.Value.{Function}
-use Rattle.mir_meaning.specs.Binding.{explicit_roles, explicit_operands, implicit_registers}
+use Rattle.mir_func.specs.Binding.{explicit_roles, explicit_operands, implicit_registers}
 use Rattle.mir_func.specs.declared.func.RegOp.{RegOp}
 use Rattle.mir_meaning.specs.Rules.{fits_role, is_virtual_use, implicit_last, explicit_fit, implicit_fit, values_fit, same_widths, at_index}
 

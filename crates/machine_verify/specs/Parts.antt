@@ -1,7 +1,7 @@
 -- Operands with their roles, as code holds them.
 use Rattle.std.specs.Prelude.{List, [], ◌∷◌, Option, Some, None, cond, map}
 use Rattle.target_base.specs.declared.types.Role.{Role}
-use Rattle.mir_meaning.specs.Binding.{Bound, takes_many}
+use Rattle.mir_func.specs.Binding.{Bound, takes_many}
 use Rattle.machine_verify.specs.declared.parts.BoundOperand.{BoundOperand}
 
 -- the operand with its role

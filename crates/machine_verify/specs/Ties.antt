@@ -8,7 +8,7 @@ use Rattle.mir_func.specs.declared.func.RegOp.{RegOp}
 use Rattle.mir_func.specs.declared.func.Operand.TheVariants as operands
 use Rattle.mir_func.specs.Value.{Function}
 use Rattle.mir_meaning.specs.declared.Form.{Form}
-use Rattle.mir_meaning.specs.Binding.{Bound, passes}
+use Rattle.mir_func.specs.Binding.{Bound, passes}
 use Rattle.mir_meaning.specs.Rules.{tie_fits, undef_fits, no_two_share, clashing_lanes, early_fits}
 use Rattle.machine_verify.specs.declared.numbers.NumberSet.{NumberSet}
 use Rattle.machine_verify.specs.Sets.{has}

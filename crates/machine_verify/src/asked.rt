@@ -1,7 +1,7 @@
 //! The rules of an instruction, one by one and together.
 
 ghost use Rattle.std.specs.Prelude.{◌≡◌, ◌&&◌, not, flat_map, Some, IfOk};
-ghost use Rattle.mir_meaning.specs.Binding as binding;
+ghost use Rattle.mir_func.specs.Binding as binding;
 ghost use Rattle.mir_meaning.specs.Rules as rules;
 ghost use Rattle.mir_meaning.specs.Valid as valid;
 ghost use Rattle.machine_verify.specs.Sets.{HoldsSlots};

@@ -2,7 +2,7 @@
 
 ghost use Rattle.std.specs.Prelude.{◌≡◌, ◌<◌, ◌++◌, ◌&&◌, not, map, flat_map, length, drop, suc, option_to_list, IfOk, OnOk};
 ghost use Rattle.std.specs.List.{list_all, list_any};
-ghost use Rattle.mir_meaning.specs.Binding as binding;
+ghost use Rattle.mir_func.specs.Binding as binding;
 ghost use Rattle.mir_meaning.specs.Codes as layout;
 ghost use Rattle.mir_meaning.specs.Registers.{has_number};
 ghost use Rattle.mir_meaning.specs.Rules as rules;

@@ -5,7 +5,7 @@ ghost use Rattle.std.specs.Prelude.{◌≡◌, ◌++◌, ◌&&◌, ◌||◌, not
 ghost use Rattle.std.specs.List.{list_all};
 ghost use Rattle.target_base.specs.Registers.{regs_of, lanes_of, home_of};
 ghost use Rattle.target_base.specs.Storage.{same_numbers};
-ghost use Rattle.mir_meaning.specs.Binding as binding;
+ghost use Rattle.mir_func.specs.Binding as binding;
 ghost use Rattle.mir_meaning.specs.Registers as registers;
 ghost use Rattle.mir_meaning.specs.Rules as rules;
 ghost use Rattle.target_base.specs.declared.types.Effect.TheVariants as effects;

@@ -1,8 +1,7 @@
 //! The lanes of operands, where they are known.
 
 ghost use Rattle.std.specs.Prelude.{◌≡◌};
-ghost use Rattle.target_base.specs.Registers.{fits};
-ghost use Rattle.mir_meaning.specs.Registers.{is_reserved_unit};
+ghost use Rattle.target_base.specs.Registers.{fits, is_reserved_unit};
 ghost use Rattle.mir_meaning.specs.Rules.{has_lanes_at, has_lanes, index_fits, has_class};
 
 use mir_func::{Func, Loc, RegOp};

@@ -3,11 +3,11 @@
 
 ghost use Rattle.std.specs.Prelude.{◌≡◌, ◌||◌, ◌++◌, ◌∷◌, [], true, not, map, filter, find, flat_map, length, nat_eq, IfOk, OnOk};
 ghost use Rattle.std.specs.List.{list_all, list_any};
-ghost use Rattle.target_base.specs.Registers.{units_of};
+ghost use Rattle.target_base.specs.Registers.{units_of, is_reserved_unit};
 ghost use Rattle.target_base.specs.Storage.{is_unreserved, is_among, same_numbers};
-ghost use Rattle.mir_meaning.specs.Registers.{has_number, is_reserved_unit, numbers};
+ghost use Rattle.mir_meaning.specs.Registers.{has_number, numbers};
 ghost use Rattle.mir_meaning.specs.Rules.{is_virtual};
-ghost use Rattle.mir_meaning.specs.Binding.{registers};
+ghost use Rattle.mir_func.specs.Binding.{registers};
 ghost use Rattle.mir_meaning.specs.Valid as valid;
 ghost use Rattle.machine_verify.specs.Liveins.{is_set, wanted, wanted_at, chosen_of, standing, register_numbers};
 

@@ -2,7 +2,7 @@
 
 ghost use Rattle.std.specs.Prelude.{◌≡◌, ◌&&◌, ◌==◌, not, length, filter, count_by, is_none, IfOk};
 ghost use Rattle.std.specs.List.{list_all};
-ghost use Rattle.mir_meaning.specs.Binding as binding;
+ghost use Rattle.mir_func.specs.Binding as binding;
 ghost use Rattle.mir_meaning.specs.Rules as rules;
 ghost use Rattle.mir_meaning.specs.Registers as registers;
 ghost use Rattle.target_base.specs.Roles as roles;

@@ -1,7 +1,7 @@
 //! The operands of an instruction with the roles that they take.
 
 ghost use Rattle.std.specs.Prelude.{◌≡◌, ◌++◌, ◌∷◌, map, drop, filter, find, length, IfOk};
-ghost use Rattle.mir_meaning.specs.Binding as binding;
+ghost use Rattle.mir_func.specs.Binding as binding;
 ghost use Rattle.machine_verify.specs.Parts.{seen, seen_all, first_role, after_first};
 
 use crate::words::{is_implicit, is_implicit_operand, takes_many, takes_role};

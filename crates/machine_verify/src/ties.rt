@@ -3,7 +3,7 @@
 ghost use Rattle.std.specs.Prelude.{◌≡◌, ◌&&◌, map, filter, nat_eq, option_to_list, IfOk};
 ghost use Rattle.std.specs.List.{list_all, list_any};
 ghost use Rattle.meaning.specs.Lanes.{same_lane};
-ghost use Rattle.mir_meaning.specs.Binding as binding;
+ghost use Rattle.mir_func.specs.Binding as binding;
 ghost use Rattle.mir_meaning.specs.Items.{unreserved};
 ghost use Rattle.mir_meaning.specs.Registers.{is_reserved};
 ghost use Rattle.mir_meaning.specs.Rules as rules;

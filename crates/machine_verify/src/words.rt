@@ -3,7 +3,7 @@
 ghost use Rattle.std.specs.Prelude.{◌≡◌, option_copied};
 ghost use Rattle.target_base.specs.Roles as roles;
 ghost use Rattle.target_base.specs.Rules as rules;
-ghost use Rattle.mir_meaning.specs.Binding as binding;
+ghost use Rattle.mir_func.specs.Binding as binding;
 ghost use Rattle.mir_meaning.specs.Rules as tests;
 
 use mir_func::{Loc, Op, Operand, RegOp};

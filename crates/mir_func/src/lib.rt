@@ -3,6 +3,8 @@
 
 mod at;
 pub mod func;
+pub mod opcodes;
+pub mod operands;
 pub mod short;
 
 pub use func::{

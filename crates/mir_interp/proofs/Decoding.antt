@@ -6,7 +6,7 @@ use Rattle.mir_func.specs.declared.func.Instr.{Instr}
 use Rattle.mir_func.specs.declared.func.Block.{Block}
 use Rattle.mir_func.specs.Value.{Function}
 use Rattle.meaning.specs.Code.{Silent}
-use Rattle.mir_meaning.specs.Binding.{effect_of}
+use Rattle.mir_func.specs.Binding.{effect_of}
 use Rattle.mir_meaning.specs.Codes.{item_of, effect_item}
 
 pub item_none : (t : Target) (f : Function) (b : Block) (i : Instr) → effect_of t i ≡ None → item_of t f b i ≡ Silent [] []

@@ -7,7 +7,7 @@ use Rattle.meaning.specs.Code.{Silent, BlockStart}
 use Rattle.mir_func.specs.declared.func.Instr.{Instr}
 use Rattle.mir_func.specs.declared.func.Block.{Block}
 use Rattle.mir_func.specs.Value.{Function}
-use Rattle.mir_meaning.specs.Binding.{does}
+use Rattle.mir_func.specs.Binding.{does}
 use Rattle.mir_meaning.specs.Items.{defined_undef}
 use Rattle.mir_meaning.specs.Codes.{item_of, block_end, blocks_code, code_of}
 use Rattle.mir_meaning.specs.Points.{point_item, points_of, has_no_phis, LawOfPoints}

@@ -23,7 +23,7 @@ use Rattle.mir_func.specs.declared.func.Instr.{Instr}
 use Rattle.mir_func.specs.declared.func.Block.{Block}
 use Rattle.mir_func.specs.Value.{Function}
 use Rattle.mir_meaning.specs.declared.Form.TheVariants as forms
-use Rattle.mir_meaning.specs.Binding.{does, explicit_operands, implicit_registers}
+use Rattle.mir_func.specs.Binding.{does, explicit_operands, implicit_registers}
 use Rattle.mir_meaning.specs.Registers.{has_number}
 use Rattle.mir_meaning.specs.Codes.{meaning_of}
 use Rattle.mir_meaning.specs.Rules.{is_virtual, same_loc, successors_of}

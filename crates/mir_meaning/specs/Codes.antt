@@ -5,7 +5,7 @@ use Rattle.target_base.specs.declared.types.Effect.{Effect}
 use Rattle.target_base.specs.declared.types.Target.{Target}
 use Rattle.target_base.specs.Storage.{unit_width, is_among}
 use Rattle.target_base.specs.Numbers.{unit_number}
-use Rattle.target_base.specs.Registers.{units_of}
+use Rattle.target_base.specs.Registers.{units_of, is_reserved_unit}
 use Rattle.target_base.specs.Roles.{is_silent}
 use Rattle.target_base.specs.Rules.{is_phi}
 use Rattle.meaning.specs.Lanes.{Writes}
@@ -17,8 +17,8 @@ use Rattle.mir_func.specs.declared.func.Operand.TheVariants as operands
 use Rattle.mir_func.specs.declared.func.Instr.{Instr}
 use Rattle.mir_func.specs.declared.func.Block.{Block}
 use Rattle.mir_func.specs.Value.{Function}
-use Rattle.mir_meaning.specs.Binding.{effect_of, does, is_terminator, ends_control, roles_of, is_early_clobber}
-use Rattle.mir_meaning.specs.Registers.{use_sources, is_reserved_unit}
+use Rattle.mir_func.specs.Binding.{effect_of, does, is_terminator, ends_control, roles_of, is_early_clobber}
+use Rattle.mir_meaning.specs.Registers.{use_sources}
 use Rattle.mir_meaning.specs.Items.{defined, silent_writes, silent_reads, rest_of, values, counted_writes}
 
 -- what a phi writes where its block is entered from block n

@@ -29,7 +29,7 @@ use Rattle.mir_func.specs.declared.func.Operand.{Operand}
 use Rattle.mir_func.specs.declared.func.Operand.TheVariants as operands
 use Rattle.mir_func.specs.declared.func.Instr.{Instr}
 use Rattle.mir_func.specs.Value.{Function}
-use Rattle.mir_meaning.specs.Binding.{explicit_operands, implicit_registers, registers, takes_role, roles_of, implicit_roles, is_early_clobber}
+use Rattle.mir_func.specs.Binding.{explicit_operands, implicit_registers, registers, takes_role, roles_of, implicit_roles, is_early_clobber, immediate_of}
 use Rattle.mir_meaning.specs.Registers.{numbers, operand_lanes, operand_widths, use_sources, undefined_lanes, located_lanes, slot_lane_numbers, slot_lanes, is_reserved}
 
 -- a write of a lane
@@ -183,12 +183,6 @@ value_of t f e w _ = None
 abbrev pub first_width : Target → Function → List RegOp → ℕ
 first_width t f [] = 0
 first_width t f (o ∷ os) = sum (operand_widths t f o)
-
--- the immediate operand, or 0
-abbrev pub immediate_of : List Operand → ℤ
-immediate_of [] = pos 0
-immediate_of (operands.Imm z ∷ os) = z
-immediate_of (_ ∷ os) = immediate_of os
 
 -- the symbol operand, or nothing
 abbrev pub symbol_of : List Operand → List ℕ

@@ -1,4 +1,3 @@
-pub mod Binding
 pub mod Registers
 pub mod Items
 pub mod Codes

@@ -17,7 +17,7 @@ use Rattle.mir_func.specs.declared.func.Instr.{Instr}
 use Rattle.mir_func.specs.declared.func.Block.{Block}
 use Rattle.mir_func.specs.Value.{Function}
 use Rattle.mir_func.specs.Edits.{instr_place}
-use Rattle.mir_meaning.specs.Binding.{does, registers}
+use Rattle.mir_func.specs.Binding.{does, registers}
 use Rattle.mir_meaning.specs.Registers.{is_reserved}
 use Rattle.mir_meaning.specs.Items.{defined_undef}
 use Rattle.mir_meaning.specs.Codes.{item_of, block_end, blocks_code, code_of}

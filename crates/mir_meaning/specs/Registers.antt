@@ -4,9 +4,8 @@ use Rattle.std.specs.List.{list_any}
 use Rattle.target_base.specs.declared.types.Unit.{Unit as UnitNumber}
 use Rattle.target_base.specs.declared.types.IndexId.{IndexId}
 use Rattle.target_base.specs.declared.types.Target.{Target}
-use Rattle.target_base.specs.Storage.{widths, is_among}
-use Rattle.target_base.specs.Numbers.{unit_number}
-use Rattle.target_base.specs.Registers.{units_of, lanes_of, widths_of_some}
+use Rattle.target_base.specs.Storage.{widths}
+use Rattle.target_base.specs.Registers.{units_of, lanes_of, widths_of_some, is_reserved_unit}
 use Rattle.meaning.specs.declared.types.Lane.{Lane}
 use Rattle.meaning.specs.declared.types.Lane.TheVariants.{VirtualLane, UnitLane, SlotLane}
 use Rattle.meaning.specs.declared.types.Source.{Source}
@@ -17,7 +16,7 @@ use Rattle.mir_func.specs.declared.func.RegOp.{RegOp}
 use Rattle.mir_func.specs.declared.func.Operand.{Operand}
 use Rattle.mir_func.specs.declared.func.Operand.TheVariants as operands
 use Rattle.mir_func.specs.Value.{Function}
-use Rattle.mir_meaning.specs.Binding.{class_of}
+use Rattle.mir_func.specs.Binding.{class_of}
 
 -- so many numbers from n on
 abbrev pub numbers : ℕ → ℕ → List ℕ
@@ -83,10 +82,6 @@ abbrev pub slot_lanes : ℕ → List ℕ → List ℕ → List Lane
 slot_lanes s [] ws = []
 slot_lanes s (k ∷ ks) [] = []
 slot_lanes s (k ∷ ks) (w ∷ ws) = SlotLane s k w ∷ slot_lanes s ks ws
-
--- the unit, by its number, is reserved
-abbrev pub is_reserved_unit : Target → ℕ → Bool
-is_reserved_unit t u = is_among t.reserved (unit_number u)
 
 -- Reserved units take no part in liveness.
 abbrev pub is_reserved : Target → Lane → Bool

@@ -28,9 +28,9 @@ use Rattle.mir_func.specs.declared.func.Block.{Block}
 use Rattle.mir_func.specs.Value.{Function}
 use Rattle.mir_meaning.specs.declared.Form.{Form}
 use Rattle.mir_meaning.specs.declared.Form.TheVariants as forms
-use Rattle.mir_meaning.specs.Binding.{known_opcode, does, passes, is_terminator, is_branch, is_implicit_operand, explicit_operands, registers, implicit_registers, takes_role, takes_many, Bound, explicit_roles, implicit_roles, bound, is_early, tied_pair, class_of, asked_class}
+use Rattle.mir_func.specs.Binding.{known_opcode, does, passes, is_terminator, is_branch, is_implicit_operand, explicit_operands, registers, implicit_registers, takes_role, takes_many, Bound, explicit_roles, implicit_roles, bound, is_early, tied_pair, class_of, asked_class, immediate_of}
 use Rattle.mir_meaning.specs.Registers.{has_number, operand_lanes, operand_widths}
-use Rattle.mir_meaning.specs.Items.{unreserved, immediate_of}
+use Rattle.mir_meaning.specs.Items.{unreserved}
 use Rattle.mir_meaning.specs.Codes.{falls_through, fallen_into}
 
 -- what operands are

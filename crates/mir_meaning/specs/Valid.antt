@@ -6,7 +6,7 @@ use Rattle.std.specs.Option.{option_or}
 use Rattle.target_base.specs.declared.types.Reg.{Reg}
 use Rattle.target_base.specs.declared.types.Target.{Target}
 use Rattle.target_base.specs.Numbers.{reg_number, unit_number}
-use Rattle.target_base.specs.Registers.{units_of}
+use Rattle.target_base.specs.Registers.{units_of, is_reserved_unit}
 use Rattle.target_base.specs.Storage.{is_among, is_unreserved, same_numbers}
 use Rattle.meaning.specs.declared.types.Lane.TheVariants.{VirtualLane, UnitLane}
 use Rattle.mir_func.specs.declared.func.Place.{Place}
@@ -15,8 +15,8 @@ use Rattle.mir_func.specs.declared.func.Block.{Block}
 use Rattle.mir_func.specs.Value.{Function}
 use Rattle.mir_meaning.specs.declared.Form.{Form}
 use Rattle.mir_meaning.specs.declared.Form.TheVariants as forms
-use Rattle.mir_meaning.specs.Binding.{known_opcode, passes, registers}
-use Rattle.mir_meaning.specs.Registers.{numbers, has_number, is_reserved_unit}
+use Rattle.mir_func.specs.Binding.{known_opcode, passes, registers}
+use Rattle.mir_meaning.specs.Registers.{numbers, has_number}
 use Rattle.mir_meaning.specs.Points.{Start, LiveAt, Tests}
 use Rattle.mir_meaning.specs.Rules.{V1, V2, V3, V4, V5, V6, V7, V8, V9, V10, V11, V12, V15, V15_frame, V16, is_virtual}
 

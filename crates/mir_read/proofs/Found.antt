@@ -4,7 +4,7 @@ use Rattle.std.specs.Prelude.{is_some, ◌||◌}
 use Rattle.std.proofs.lemmas.List.{drop_more, take_more, drop_all, take_all}
 use Rattle.target_base.specs.declared.types.Target.{Target}
 use Rattle.mir_func.specs.declared.func.Instr.{Instr}
-use Rattle.mir_meaning.specs.Binding.{does, ends_control}
+use Rattle.mir_func.specs.Binding.{does, ends_control}
 use Rattle.mir_meaning.specs.Codes.{falls_through}
 use Rattle.mir_lines.specs.Bytes.{behind_word}
 use Rattle.mir_read.specs.Keys.{contains}

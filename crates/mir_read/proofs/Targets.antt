@@ -6,7 +6,7 @@ use Rattle.std.proofs.lemmas.List.Sums.{sum_by-cons}
 use Rattle.target_base.specs.declared.types.Target.{Target}
 use Rattle.mir_func.specs.declared.func.Operand.{Operand}
 use Rattle.mir_func.specs.declared.func.Instr.{Instr}
-use Rattle.mir_meaning.specs.Binding.{does, is_branch}
+use Rattle.mir_func.specs.Binding.{does, is_branch}
 use Rattle.mir_meaning.specs.Rules.{block_of as block_in, branch_targets}
 use Rattle.mir_read.specs.Names.{with_number}
 use Rattle.mir_read.specs.Body.{with_numbers, targets_of, operand_count}

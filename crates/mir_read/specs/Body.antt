@@ -10,7 +10,7 @@ use Rattle.mir_func.specs.declared.func.Instr.{Instr}
 use Rattle.mir_lines.specs.declared.raw.RawHeader.{RawHeader}
 use Rattle.mir_read.specs.declared.body.Opened.{Opened}
 use Rattle.mir_meaning.specs.Codes.{falls_through}
-use Rattle.mir_meaning.specs.Binding.{does, is_branch}
+use Rattle.mir_func.specs.Binding.{does, is_branch}
 use Rattle.mir_meaning.specs.Rules.{named_blocks, branch_targets}
 use Rattle.mir_read.specs.Names.{with_number}
 use Rattle.mir_read.specs.Resolving.{equal_shares}

@@ -1,7 +1,7 @@
 //! The blocks of a function, as they are read line by line.
 
 ghost use Rattle.std.specs.Prelude.{◌≡◌, ◌<◌, ◌≤◌, ◌+◌, ◌++◌, ◌∷◌, [], length, IfOk, OnOk, IsTrue, Some, None, option_map};
-ghost use Rattle.mir_meaning.specs.Binding.{effect_of, does, is_branch, ends_control};
+ghost use Rattle.mir_func.specs.Binding.{effect_of, does, is_branch, ends_control};
 ghost use Rattle.mir_meaning.specs.Codes.{falls_through};
 ghost use Rattle.mir_meaning.specs.Rules.{block_of as block_in, named_blocks, branch_targets};
 ghost use Rattle.mir_read.specs.Body.{BodyValue, no_blocks, is_begun, with_numbers, targets_of, fallen, due_blocks, edges_or_due, regs_or_none, block_of, closed, opened_by, with_header, lacks_successors, lacks_liveins, takes_successors, takes_liveins, with_edges, with_regs, with_successors, with_liveins, with_instr, operand_count, operands_of};

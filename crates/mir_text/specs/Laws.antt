@@ -4,7 +4,7 @@ use Rattle.target_base.specs.declared.types.ClassId.{ClassId}
 use Rattle.target_base.specs.declared.types.Target.{Target}
 use Rattle.target_base.specs.Registers.{IsClass}
 use Rattle.mir_func.specs.Value.{Function}
-use Rattle.mir_meaning.specs.Binding.{class_of}
+use Rattle.mir_func.specs.Binding.{class_of}
 use Rattle.mir_text.specs.declared.doc.Doc.TheVariants as docs
 use Rattle.mir_text.specs.BodyLines.{IsFunctionWithin}
 use Rattle.mir_text.specs.Document.{Spells}

@@ -13,7 +13,7 @@ use Rattle.mir_func.specs.declared.func.RegOp.{RegOp}
 use Rattle.mir_func.specs.declared.func.Instr.{Instr}
 use Rattle.mir_func.specs.declared.func.Block.{Block}
 use Rattle.mir_func.specs.Value.{Function, IsFunction, id_count, id_total}
-use Rattle.mir_meaning.specs.Binding.{does, is_terminator}
+use Rattle.mir_func.specs.Binding.{does, is_terminator}
 use Rattle.phi_elim.specs.declared.arrivals.Arrival.{Arrival}
 use Rattle.phi_elim.specs.Moves.{copy_of, undefining, move_of, whole_definition, source_of}
 use Rattle.phi_elim.specs.Numbered.{numbered, blocks_numbered, instr_count}

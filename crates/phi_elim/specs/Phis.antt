@@ -15,7 +15,7 @@ use Rattle.mir_func.specs.declared.func.Instr.{Instr}
 use Rattle.mir_func.specs.declared.func.Block.{Block}
 use Rattle.mir_func.specs.Value.{Function}
 use Rattle.mir_func.specs.Edits.{block_place}
-use Rattle.mir_meaning.specs.Binding.{does, is_terminator, class_of}
+use Rattle.mir_func.specs.Binding.{does, is_terminator, class_of}
 use Rattle.phi_elim.specs.declared.arrivals.Arrival.{Arrival}
 use Rattle.phi_elim.specs.Moves.{copy_op, whole_definition, whole_use, move_of}
 use Rattle.phi_elim.specs.Numbered.{with_new_ids}

@@ -3,7 +3,7 @@
 ghost use Rattle.std.specs.Prelude.{◌≡◌, length, ◌≤◌};
 ghost use Rattle.std.specs.List.{position, position_or_len};
 ghost use Rattle.target_base.specs.Rules.{is_phi};
-ghost use Rattle.mir_meaning.specs.Binding.{effect_of, does, is_terminator};
+ghost use Rattle.mir_func.specs.Binding.{effect_of, does, is_terminator};
 
 use mir_func::{Instr, Op};
 use target_base::{Boxed, Effect, Target};

@@ -15,7 +15,7 @@ use Rattle.mir_func.specs.declared.func.Operand.{Operand}
 use Rattle.mir_func.specs.declared.func.Operand.TheVariants as operands
 use Rattle.mir_func.specs.declared.func.Instr.{Instr}
 use Rattle.mir_func.specs.Value.{Function}
-use Rattle.mir_meaning.specs.Binding.{Bound, as_register, bound, does, explicit_bound, explicit_operands, explicit_roles, implicit_bound, implicit_registers, implicit_roles, is_implicit_operand, is_terminator, passes, registers, roles_of, takes_role, tied_uses}
+use Rattle.mir_func.specs.Binding.{Bound, as_register, bound, does, explicit_bound, explicit_operands, explicit_roles, implicit_bound, implicit_registers, implicit_roles, is_implicit_operand, is_terminator, passes, registers, roles_of, takes_role, tied_uses}
 use Rattle.mir_meaning.specs.Codes.{instrs_of}
 use Rattle.mir_meaning.specs.Points.{Point, Entry, Exit}
 use Rattle.mir_meaning.specs.Rules.{same_loc, readings, untied_readings}

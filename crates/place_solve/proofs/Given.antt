@@ -35,7 +35,7 @@ use Rattle.mir_func.specs.declared.func.Op.TheVariants as ops
 use Rattle.mir_func.specs.declared.func.Instr.{Instr}
 use Rattle.mir_func.specs.declared.func.Block.{Block}
 use Rattle.mir_func.specs.Value.{Function}
-use Rattle.mir_meaning.specs.Binding.{does, effect_of, explicit_operands, explicit_roles, implicit_registers, is_early_clobber, is_terminator, known_opcode, passes, registers, roles_of, takes_many}
+use Rattle.mir_func.specs.Binding.{does, effect_of, explicit_operands, explicit_roles, implicit_registers, is_early_clobber, is_terminator, known_opcode, passes, registers, roles_of, takes_many}
 use Rattle.mir_meaning.specs.Codes.{effect_item, item_of, target_of, way, ways_out}
 use Rattle.mir_meaning.specs.Items.{constant_bits, constant_lanes, constant_of, counted_writes, defined_undef, given_constant, moved, rest_of, silent_reads, silent_writes, undefined, values, write}
 use Rattle.mir_meaning.specs.Points.{point_item}

@@ -10,7 +10,7 @@ use Rattle.target_base.specs.Storage.{widths, class_units}
 use Rattle.target_base.specs.Registers.{widths_of_some}
 use Rattle.target_base.specs.Rules.{regs_of_some}
 use Rattle.mir_func.specs.Value.{Function}
-use Rattle.mir_meaning.specs.Binding.{class_of}
+use Rattle.mir_func.specs.Binding.{class_of}
 use Rattle.mir_meaning.specs.Registers.{range_widths}
 use Rattle.phi_elim.proofs.Walks.{drop_all}
 use Rattle.place_solve.specs.Choice.{width_at}

@@ -14,7 +14,7 @@ use Rattle.mir_func.specs.declared.func.Instr.{Instr}
 use Rattle.mir_func.specs.declared.func.Block.{Block}
 use Rattle.mir_func.specs.Value.{Function, id_total}
 use Rattle.mir_meaning.specs.declared.Form.TheVariants as forms
-use Rattle.mir_meaning.specs.Binding.{bound, does, effect_of, is_terminator, registers, tied_pair}
+use Rattle.mir_func.specs.Binding.{bound, does, effect_of, is_terminator, registers, tied_pair}
 use Rattle.mir_meaning.specs.Registers.{has_number, operand_widths}
 use Rattle.mir_meaning.specs.Codes.{instrs_of}
 use Rattle.mir_meaning.specs.Points.{Point, Start, Entry, Exit}

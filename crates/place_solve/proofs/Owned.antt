@@ -16,10 +16,11 @@ use Rattle.meaning.specs.Live.{Among as Member, here as first, there as later, L
 use Rattle.mir_func.specs.declared.func.Block.{Block}
 use Rattle.mir_func.specs.declared.func.Instr.{Instr}
 use Rattle.mir_func.specs.Value.{Function}
-use Rattle.mir_meaning.specs.Binding.{effect_of}
+use Rattle.mir_func.specs.Binding.{effect_of}
 use Rattle.mir_meaning.specs.Codes.{block_end, blocks_code}
 use Rattle.instr_effects.specs.Numbered.{number_in}
-use Rattle.mir_meaning.specs.Registers.{is_reserved, is_reserved_unit}
+use Rattle.mir_meaning.specs.Registers.{is_reserved}
+use Rattle.target_base.specs.Registers.{is_reserved_unit}
 use Rattle.mir_meaning.specs.Points.{Point, Entry, Exit, OccupiedAt, Tests, AtFirst, point_item, points_of, from_instr, block_rest}
 use Rattle.mir_meaning.specs.Places.{AtEntry, AtExit, Admits, place_of, entries_of}
 use Rattle.mir_meaning.specs.Rules.{V8}

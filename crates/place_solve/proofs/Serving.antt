@@ -11,7 +11,7 @@ use Rattle.target_base.specs.Numbers.{unit_number}
 use Rattle.target_base.specs.Rules.{is_copy}
 use Rattle.mir_func.specs.declared.func.Instr.{Instr}
 use Rattle.mir_func.specs.Value.{Function}
-use Rattle.mir_meaning.specs.Binding.{does}
+use Rattle.mir_func.specs.Binding.{does}
 use Rattle.mir_meaning.specs.Places.{Variable as Need, solutions}
 use Rattle.live_lanes.specs.declared.table.Table.{Table}
 use Rattle.place_solve.specs.declared.around.Around.{Around}

@@ -11,7 +11,7 @@ use Rattle.mir_func.specs.declared.func.Instr.{Instr}
 use Rattle.mir_func.specs.Edits.{instr_place}
 use Rattle.mir_func.specs.Value.{Function, id_count, id_total}
 use Rattle.mir_meaning.specs.declared.Form.{Form}
-use Rattle.mir_meaning.specs.Binding.{known_opcode}
+use Rattle.mir_func.specs.Binding.{known_opcode}
 use Rattle.mir_meaning.specs.Points.{has_instr}
 use Rattle.mir_meaning.specs.Valid.{block_fault, blocks_fault, fault_at, fault_in, instr_fault, instrs_fault, least, shape_fault}
 use Rattle.live_laws.specs.Effects.Coded.{one_on, spot_in}

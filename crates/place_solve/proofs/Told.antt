@@ -25,10 +25,11 @@ use Rattle.meaning.specs.Live.{Among as Member, here as first, there as later, L
 use Rattle.mir_func.specs.declared.func.Block.{Block}
 use Rattle.mir_func.specs.declared.func.Instr.{Instr}
 use Rattle.mir_func.specs.Value.{Function}
-use Rattle.mir_meaning.specs.Binding.{does, effect_of, is_early_clobber, is_terminator, passes, roles_of}
+use Rattle.mir_func.specs.Binding.{does, effect_of, is_early_clobber, is_terminator, passes, roles_of}
 use Rattle.mir_meaning.specs.Codes.{block_end, blocks_code, effect_item, instrs_of, item_of, phi_writes, target_of, way, ways_out}
 use Rattle.mir_meaning.specs.Items.{counted_writes, defined_undef, rest_of, silent_reads, silent_writes, values}
-use Rattle.mir_meaning.specs.Registers.{is_reserved, is_reserved_unit, numbers}
+use Rattle.mir_meaning.specs.Registers.{is_reserved, numbers}
+use Rattle.target_base.specs.Registers.{is_reserved_unit}
 use Rattle.mir_meaning.specs.Points.{Point, Start, Entry, Exit, LiveAt, Tests, AtFirst, point_item, points_of, from_instr}
 use Rattle.mir_meaning.specs.Places.{Variable as Need, Needs, AtEntry, AtExit, Admits, UnitsOf, copy_place, solutions}
 use Rattle.mir_meaning.specs.Rules.{V8}

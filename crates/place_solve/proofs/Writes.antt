@@ -9,7 +9,7 @@ use Rattle.target_base.specs.declared.types.MaskDesc.{MaskDesc}
 use Rattle.target_base.specs.declared.types.Unit.{Unit as UnitNumber}
 use Rattle.target_base.specs.declared.types.Target.{Target}
 use Rattle.target_base.specs.Numbers.{unit_number}
-use Rattle.target_base.specs.Registers.{units_of, lanes_of}
+use Rattle.target_base.specs.Registers.{units_of, lanes_of, is_reserved_unit}
 use Rattle.target_base.specs.Roles.{is_silent}
 use Rattle.target_base.specs.Rules.{is_phi}
 use Rattle.target_base.specs.Storage.{is_among}
@@ -29,11 +29,11 @@ use Rattle.mir_func.specs.declared.func.Operand.TheVariants as operands
 use Rattle.mir_func.specs.declared.func.Instr.{Instr}
 use Rattle.mir_func.specs.declared.func.Block.{Block}
 use Rattle.mir_func.specs.Value.{Function}
-use Rattle.mir_meaning.specs.Binding.{as_register, does, effect_of, implicit_registers, implicit_roles, is_early_clobber, is_terminator, passes, registers, roles_of}
+use Rattle.mir_func.specs.Binding.{as_register, does, effect_of, implicit_registers, implicit_roles, is_early_clobber, is_terminator, passes, registers, roles_of}
 use Rattle.mir_meaning.specs.Items.{all_lanes, computed, counted_writes, defined_undef, rest_of, silent_reads, silent_writes, values, explicit_definitions, implicit_definitions, implicit_writes, preserves, result_writes, undefined, write}
 use Rattle.mir_meaning.specs.Points.{point_item}
 use Rattle.mir_meaning.specs.Codes.{effect_item, item_of, target_of, way, ways_out}
-use Rattle.mir_meaning.specs.Registers.{is_reserved, is_reserved_unit, located_lanes, numbers, operand_lanes, range_widths, undefined_lanes, whole_lanes}
+use Rattle.mir_meaning.specs.Registers.{is_reserved, located_lanes, numbers, operand_lanes, range_widths, undefined_lanes, whole_lanes}
 use Rattle.instr_effects.specs.Acts.{silent_acts, call_writes, counted_acts, effect_acts, entered_writes, is_call, unpreserved}
 use Rattle.instr_effects.specs.Steps.{Numbering}
 use Rattle.instr_effects.specs.Stepping.{tag_of}

@@ -5,7 +5,7 @@ use Rattle.std.specs.Ordering.{nat_cmp}
 use Rattle.std.specs.BTreeMap.{get}
 use Rattle.target_base.specs.declared.types.Unit.{Unit as UnitNumber}
 use Rattle.target_base.specs.declared.types.Target.{Target}
-use Rattle.target_base.specs.Registers.{units_of}
+use Rattle.target_base.specs.Registers.{units_of, mask_regs, is_reserved_unit}
 use Rattle.target_base.specs.Storage.{is_among}
 use Rattle.mir_func.specs.declared.func.Loc.{Loc}
 use Rattle.mir_func.specs.declared.func.Loc.TheVariants.{Virtual, Fixed}
@@ -13,9 +13,8 @@ use Rattle.mir_func.specs.declared.func.Operand.{Operand}
 use Rattle.mir_func.specs.declared.func.Operand.TheVariants as operands
 use Rattle.mir_func.specs.declared.func.Instr.{Instr}
 use Rattle.target_base.specs.Numbers.{unit_number}
-use Rattle.mir_meaning.specs.Registers.{is_reserved_unit}
-use Rattle.mir_meaning.specs.Binding.{does, roles_of, is_early_clobber}
-use Rattle.instr_effects.specs.Acts.{is_call, mask_regs}
+use Rattle.mir_func.specs.Binding.{does, roles_of, is_early_clobber}
+use Rattle.instr_effects.specs.Acts.{is_call}
 use Rattle.instr_effects.specs.declared.owner.Owner.TheVariants as owners
 use Rattle.instr_effects.specs.Numbered.{number_in}
 use Rattle.live_lanes.specs.declared.table.Table.{Table}

@@ -7,7 +7,7 @@ use Rattle.target_base.specs.Rules.{is_spill}
 use Rattle.mir_func.specs.declared.func.Instr.{Instr}
 use Rattle.mir_func.specs.Value.{Function}
 use Rattle.target_base.specs.Numbers.{unit_number}
-use Rattle.mir_meaning.specs.Binding.{class_of, does, is_terminator}
+use Rattle.mir_func.specs.Binding.{class_of, does, is_terminator}
 use Rattle.mir_meaning.specs.Places.{Copying, Variable as Need, solutions, variable}
 use Rattle.interference.specs.declared.tiny.Tiny.{Tiny}
 use Rattle.live_lanes.specs.declared.table.Table.{Table}

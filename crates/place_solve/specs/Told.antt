@@ -14,7 +14,7 @@ use Rattle.mir_func.specs.declared.func.Place.{Place}
 use Rattle.mir_func.specs.declared.func.Instr.{Instr}
 use Rattle.meaning.specs.Live.{Among}
 use Rattle.mir_func.specs.Value.{Function}
-use Rattle.mir_meaning.specs.Binding.{does}
+use Rattle.mir_func.specs.Binding.{does}
 use Rattle.mir_meaning.specs.Points.{Point, Start, Entry, Exit}
 use Rattle.mir_meaning.specs.Places.{Variable as Need, Needs, Admits, FirstPlace, StandsAt, lowering_places, own_places, solutions}
 use Rattle.live_laws.specs.Effects.Coded.{spot_in}

@@ -1,11 +1,10 @@
 //! The units that are in use around a place.
 
 ghost use Rattle.std.specs.Prelude.{◌≡◌};
-ghost use Rattle.target_base.specs.Registers.{units_of};
+ghost use Rattle.target_base.specs.Registers.{units_of, mask_regs};
 ghost use Rattle.std.specs.List.{list_any};
 ghost use Rattle.target_base.specs.Storage.{is_among};
-ghost use Rattle.mir_meaning.specs.Binding.{is_early_clobber, roles_of};
-ghost use Rattle.instr_effects.specs.Acts.{mask_regs};
+ghost use Rattle.mir_func.specs.Binding.{is_early_clobber, roles_of};
 ghost use Rattle.live_lanes.specs.Looks.{InOrder};
 ghost use Rattle.place_solve.specs.Around.{has_unit, keeps_unit, defines, defines_explicitly, clobbers, writes, writes_early, is_taken, is_left, entry_tests, exit_tests, at_entry, at_exit};
 

@@ -2,7 +2,7 @@
 
 ghost use Rattle.std.specs.Prelude.{◌≡◌, ◌<◌, ◌^◌, length, IfOk, OnOk, IfErr, None, true};
 ghost use Rattle.std.specs.List.{list_any};
-ghost use Rattle.mir_meaning.specs.Binding.{does, is_terminator};
+ghost use Rattle.mir_func.specs.Binding.{does, is_terminator};
 ghost use Rattle.mir_meaning.specs.Rules.{is_lowered_away};
 ghost use Rattle.mir_meaning.specs.Places.{Admits, FirstPlace, PlacesServe, TooMany};
 ghost use Rattle.mir_meaning.specs.declared.Form.TheVariants as forms;

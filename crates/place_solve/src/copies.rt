@@ -5,7 +5,7 @@ ghost use Rattle.std.specs.List.{list_all, list_any};
 ghost use Rattle.target_base.specs.Rules.{is_phi, is_reg_sequence, is_insert_subreg};
 ghost use Rattle.instr_effects.specs.Ends.{first_pair, pairs_of};
 ghost use Rattle.mir_func.specs.declared.func.Operand.TheVariants as operands;
-ghost use Rattle.mir_meaning.specs.Binding.{as_register, bound, explicit_bound, explicit_operands, explicit_roles, registers, tied_uses};
+ghost use Rattle.mir_func.specs.Binding.{as_register, bound, explicit_bound, explicit_operands, explicit_roles, registers, tied_uses};
 ghost use Rattle.mir_meaning.specs.Codes.{instrs_of};
 ghost use Rattle.mir_meaning.specs.Points.{Start, Entry};
 ghost use Rattle.mir_meaning.specs.Places.{before_terminators, copied_at, defines_and_reads, effect_copies, input_copies, phi_copies, phi_point, tied_copies};

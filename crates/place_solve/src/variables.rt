@@ -4,7 +4,7 @@ ghost use Rattle.std.specs.Prelude.{◌≡◌, [], OnOk, IfOk, map, flat_map, op
 ghost use Rattle.std.specs.List.{list_any, filter_map};
 ghost use Rattle.target_base.specs.Roles.{is_implicit, is_tied};
 ghost use Rattle.target_base.specs.Rules.{is_copy};
-ghost use Rattle.mir_meaning.specs.Binding.{passes, does, is_early, is_implicit_operand, operand_class, explicit_operands, explicit_roles, explicit_bound};
+ghost use Rattle.mir_func.specs.Binding.{passes, does, is_early, is_implicit_operand, operand_class, explicit_operands, explicit_roles, explicit_bound};
 ghost use Rattle.mir_meaning.specs.Registers.{operand_widths};
 ghost use Rattle.mir_meaning.specs.Places as places;
 ghost use Rattle.place_solve.specs.Choice.{use_of, need_of};

@@ -14,7 +14,7 @@ use Rattle.mir_func.specs.declared.func.Operand.TheVariants as operands
 use Rattle.mir_func.specs.declared.func.Instr.{Instr}
 use Rattle.mir_func.specs.declared.func.Block.{Block}
 use Rattle.mir_func.specs.Value.{Function}
-use Rattle.mir_meaning.specs.Binding.{does}
+use Rattle.mir_func.specs.Binding.{does}
 use Rattle.phi_elim.specs.Numbered.{blocks_numbered, instr_count}
 use Rattle.mir_meaning.specs.Rules.{same_loc}
 

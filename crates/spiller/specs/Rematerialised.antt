@@ -18,7 +18,7 @@ use Rattle.mir_func.specs.declared.func.Operand.{Operand}
 use Rattle.mir_func.specs.declared.func.Operand.TheVariants as operands
 use Rattle.mir_func.specs.declared.func.Instr.{Instr}
 use Rattle.mir_func.specs.declared.func.Block.{Block}
-use Rattle.mir_meaning.specs.Binding.{effect_of, does, is_terminator, roles_of, tied_pair}
+use Rattle.mir_func.specs.Binding.{effect_of, does, is_terminator, roles_of, tied_pair}
 use Rattle.mir_meaning.specs.Places.{Variable, is_defining, same_use, each_once, operand_variables}
 use Rattle.spiller.specs.Setting.{Spilling, is_own, own_lanes}
 

@@ -14,7 +14,7 @@ use Rattle.mir_func.specs.declared.func.Operand.TheVariants as operands
 use Rattle.mir_func.specs.declared.func.Instr.{Instr}
 use Rattle.mir_func.specs.declared.func.Block.{Block}
 use Rattle.mir_func.specs.Value.{Function}
-use Rattle.mir_meaning.specs.Binding.{Bound, effect_of, passes, explicit_bound, explicit_roles, roles_of, operand_class}
+use Rattle.mir_func.specs.Binding.{Bound, effect_of, passes, explicit_bound, explicit_roles, roles_of, operand_class}
 use Rattle.mir_meaning.specs.Registers.{numbers, operand_widths, slot_lane_numbers}
 use Rattle.mir_meaning.specs.Places.{Variable, Using, variable, is_defining, same_use}
 use Rattle.spiller.specs.Reaching.{Facts, AreFacts}

@@ -10,7 +10,7 @@ use Rattle.mir_func.specs.declared.func.Operand.{Operand}
 use Rattle.mir_func.specs.declared.func.Operand.TheVariants as operands
 use Rattle.mir_func.specs.declared.func.Instr.{Instr}
 use Rattle.mir_func.specs.declared.func.Block.{Block}
-use Rattle.mir_meaning.specs.Binding.{does, is_terminator, registers}
+use Rattle.mir_func.specs.Binding.{does, is_terminator, registers}
 use Rattle.mir_meaning.specs.Points.{is_range, counts, touches}
 use Rattle.block_freq.specs.Weights.{names, naming}
 use Rattle.split_choose.specs.Regions.{capped}

@@ -7,7 +7,7 @@ use Rattle.std.proofs.lemmas.List.{take_more, take_all}
 use Rattle.target_base.specs.declared.types.Target.{Target}
 use Rattle.mir_func.specs.declared.func.Block.{Block}
 use Rattle.mir_func.specs.Value.{Function}
-use Rattle.mir_meaning.specs.Binding.{does, is_terminator}
+use Rattle.mir_func.specs.Binding.{does, is_terminator}
 use Rattle.live_lanes.specs.declared.labels.Mark.{Mark}
 use Rattle.split_choose.specs.declared.spans.Span.{Span}
 use Rattle.split_choose.specs.declared.regions.Inside.{Inside as Where}

@@ -5,7 +5,7 @@ use Rattle.std.proofs.lemmas.Bool.{le-leb, lt-leb}
 use Rattle.target_base.specs.declared.types.Reg.{Reg}
 use Rattle.meaning.specs.Live.{Among}
 use Rattle.mir_func.specs.declared.func.Block.{Block}
-use Rattle.mir_meaning.specs.Binding.{class_of}
+use Rattle.mir_func.specs.Binding.{class_of}
 use Rattle.mir_meaning.specs.Places.{domain}
 use Rattle.live_lanes.specs.Touching.{AreTouched}
 use Rattle.interference.specs.declared.matrix.Matrix.{Matrix}

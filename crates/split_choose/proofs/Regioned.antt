@@ -5,7 +5,7 @@ use Rattle.target_base.specs.declared.types.Target.{Target}
 use Rattle.target_base.specs.declared.types.Reg.{Reg}
 use Rattle.mir_func.specs.declared.func.Block.{Block}
 use Rattle.mir_func.specs.Value.{Function}
-use Rattle.mir_meaning.specs.Binding.{class_of}
+use Rattle.mir_func.specs.Binding.{class_of}
 use Rattle.mir_meaning.specs.Places.{domain}
 use Rattle.block_freq.specs.Weights.{use_sum}
 use Rattle.split_choose.specs.declared.spans.Span.{Span}

@@ -7,7 +7,7 @@ use Rattle.std.specs.List.Sorted.{IsStrictlySortedBy}
 use Rattle.std.proofs.lemmas.Bool.{cases_eq, eq-eqb, ne_eqb, and_parts, and_from, or_right, or_left, ltb-true, lt-ltb}
 use Rattle.meaning.specs.Live.{Among, here, there}
 use Rattle.mir_func.specs.declared.func.Block.{Block}
-use Rattle.mir_meaning.specs.Binding.{does, is_terminator}
+use Rattle.mir_func.specs.Binding.{does, is_terminator}
 use Rattle.block_freq.specs.Weights.{naming}
 use Rattle.live_lanes.specs.declared.extent.Stretch.{Stretch}
 use Rattle.live_lanes.specs.declared.live.LiveFunc.{LiveFunc}

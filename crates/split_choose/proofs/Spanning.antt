@@ -10,7 +10,7 @@ use Rattle.meaning.specs.Live.{Among, here, there}
 use Rattle.instr_effects.specs.declared.row.Lanes.{Lanes}
 use Rattle.mir_func.specs.declared.func.Instr.{Instr}
 use Rattle.mir_func.specs.declared.func.Block.{Block}
-use Rattle.mir_meaning.specs.Binding.{does, is_terminator}
+use Rattle.mir_func.specs.Binding.{does, is_terminator}
 use Rattle.block_freq.specs.Weights.{naming}
 use Rattle.mir_meaning.specs.Points.{Point, Start, Entry, Exit, block_points}
 use Rattle.live_lanes.specs.declared.extent.Stretch.{Stretch}

@@ -8,7 +8,7 @@ use Rattle.target_base.specs.declared.types.Target.{Target}
 use Rattle.mir_func.specs.declared.func.Instr.{Instr}
 use Rattle.mir_func.specs.declared.func.Block.{Block}
 use Rattle.mir_func.specs.Value.{Function}
-use Rattle.mir_meaning.specs.Binding.{does, is_terminator}
+use Rattle.mir_func.specs.Binding.{does, is_terminator}
 use Rattle.mir_meaning.specs.Points.{Point, Start, Entry, Exit, touches, block_points}
 use Rattle.split_choose.specs.Offers.{View, Touched, last_id, touching, terminators, end_place, touched_places}
 use Rattle.split_choose.specs.Seen.{ends_in_terminators}

@@ -11,7 +11,7 @@ use Rattle.mir_func.specs.declared.func.Operand.TheVariants as operands
 use Rattle.mir_func.specs.declared.func.Instr.{Instr}
 use Rattle.mir_func.specs.declared.func.Block.{Block}
 use Rattle.mir_func.specs.Value.{Function}
-use Rattle.mir_meaning.specs.Binding.{registers, as_register}
+use Rattle.mir_func.specs.Binding.{registers, as_register}
 use Rattle.mir_meaning.specs.Points.{is_range, counts, touches}
 use Rattle.block_freq.specs.Weights.{names, naming}
 use Rattle.live_lanes.specs.declared.row.Reading.{Reading}

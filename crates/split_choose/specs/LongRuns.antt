@@ -4,7 +4,7 @@ use Rattle.std.specs.List.{list_any}
 use Rattle.target_base.specs.declared.types.Reg.{Reg}
 use Rattle.target_base.specs.declared.types.Target.{Target}
 use Rattle.mir_func.specs.Value.{Function}
-use Rattle.mir_meaning.specs.Binding.{class_of}
+use Rattle.mir_func.specs.Binding.{class_of}
 use Rattle.mir_meaning.specs.Places.{domain}
 use Rattle.live_lanes.specs.declared.labels.Mark.{Mark}
 use Rattle.live_lanes.specs.Touching.{AreTouched}

@@ -12,7 +12,7 @@ use Rattle.mir_func.specs.declared.func.Instr.{Instr}
 use Rattle.mir_func.specs.declared.func.Block.{Block}
 use Rattle.mir_func.specs.Value.{Function}
 use Rattle.mir_func.specs.Edits.{block_place, instr_place}
-use Rattle.mir_meaning.specs.Binding.{class_of, does, is_terminator}
+use Rattle.mir_func.specs.Binding.{class_of, does, is_terminator}
 use Rattle.mir_meaning.specs.Points.{Point, Start, Entry, Exit, LiveAt, OccupiedAt, RangePoint, HeldIn, Tests, touches, block_points, all_points}
 use Rattle.mir_meaning.specs.Places.{domain}
 use Rattle.block_freq.specs.Weights.{naming, use_sum}

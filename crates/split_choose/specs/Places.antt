@@ -6,7 +6,7 @@ use Rattle.target_base.specs.declared.types.Target.{Target}
 use Rattle.mir_func.specs.declared.func.Instr.{Instr}
 use Rattle.mir_func.specs.declared.func.Block.{Block}
 use Rattle.mir_func.specs.Edits.{block_place}
-use Rattle.mir_meaning.specs.Binding.{does, is_terminator}
+use Rattle.mir_func.specs.Binding.{does, is_terminator}
 use Rattle.split_choose.specs.declared.places.TouchedPlace.{TouchedPlace}
 use Rattle.split_choose.specs.Seen.{ends_in_terminators}
 use Rattle.split_choose.specs.Offers.{Touched, first_id, last_id}

@@ -5,7 +5,7 @@ ghost use Rattle.std.specs.List.{list_all};
 ghost use Rattle.mir_func.specs.declared.func.Block.{Block};
 ghost use Rattle.mir_func.specs.declared.func.Instr.{Instr};
 ghost use Rattle.mir_func.specs.Edits.{block_place};
-ghost use Rattle.mir_meaning.specs.Binding.{does, is_terminator};
+ghost use Rattle.mir_func.specs.Binding.{does, is_terminator};
 ghost use Rattle.mir_meaning.specs.Points.{is_range};
 ghost use Rattle.block_freq.specs.Weights.{names, naming};
 ghost use Rattle.live_lanes.specs.Touching.{FindsInstrs};

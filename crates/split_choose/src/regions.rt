@@ -3,7 +3,7 @@
 ghost use Rattle.std.specs.Prelude.{◌≡◌, ◌<◌, ◌≤◌, ◌*◌, ◌++◌, ◌∷◌, [], List, ℕ, Bool, true, false, filter, map, length, slice_get, slice_index_or, slice_set, cond, replicate, option_map, Some, IfOk, OnOk};
 ghost use Rattle.std.specs.List.{sum_by, list_any, list_all};
 ghost use Rattle.target_base.specs.Storage.{is_unreserved, is_among};
-ghost use Rattle.mir_meaning.specs.Binding.{class_of};
+ghost use Rattle.mir_func.specs.Binding.{class_of};
 ghost use Rattle.mir_meaning.specs.Places.{domain};
 ghost use Rattle.split_choose.specs.declared.spans.Span.{Span as BlockSpan};
 ghost use Rattle.split_choose.specs.declared.regions.Inside.{Inside as Where};

@@ -11,7 +11,7 @@ use Rattle.mir_func.specs.declared.func.Instr.{Instr}
 use Rattle.mir_func.specs.declared.func.Block.{Block}
 use Rattle.mir_func.specs.Value.{Function}
 use Rattle.mir_func.specs.Edits.{made}
-use Rattle.mir_meaning.specs.Binding.{class_of}
+use Rattle.mir_func.specs.Binding.{class_of}
 use Rattle.mir_meaning.specs.Registers.{numbers}
 use Rattle.mir_meaning.specs.Points.{Point, Start, Entry, Exit, LiveAt, Tests, is_range}
 use Rattle.mir_meaning.specs.Renaming.{renamed_instr}

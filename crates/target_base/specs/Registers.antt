@@ -5,9 +5,10 @@ use Rattle.target_base.specs.declared.types.Reg.{Reg}
 use Rattle.target_base.specs.declared.types.ClassId.{ClassId}
 use Rattle.target_base.specs.declared.types.IndexId.{IndexId}
 use Rattle.target_base.specs.declared.types.OpId.{OpId}
+use Rattle.target_base.specs.declared.types.MaskId.{MaskId}
 use Rattle.target_base.specs.declared.types.IndexDesc.{IndexDesc}
 use Rattle.target_base.specs.declared.types.Target.{Target}
-use Rattle.target_base.specs.Numbers.{class_number, reg_number}
+use Rattle.target_base.specs.Numbers.{class_number, reg_number, unit_number}
 use Rattle.target_base.specs.Storage as storage
 use Rattle.target_base.specs.Rules as rules
 
@@ -91,3 +92,11 @@ spill_place t c = position (rules.spills t.classes (regs_of t c)) t.opcodes
 -- the place of the first reload opcode for all registers of a class
 abbrev pub reload_place : Target → ClassId → Option ℕ
 reload_place t c = position (rules.reloads t.classes (regs_of t c)) t.opcodes
+
+-- the registers of a mask
+abbrev pub mask_regs : Target → MaskId → List Reg
+mask_regs t k = elim (slice_get t.masks k.0) [ None ↦ [] | Some d ↦ d.regs ]
+
+-- the unit, by its number, is reserved
+abbrev pub is_reserved_unit : Target → ℕ → Bool
+is_reserved_unit t u = storage.is_among t.reserved (unit_number u)

@@ -122,6 +122,19 @@ impl Target {
     }
 }
 
+impl Target {
+    /// The units of the first register of a class, which give the class's lanes their widths; none
+    /// without a class.
+    pub fn class_units(&self, class: Option<ClassId>) -> &[Unit]
+        ensures { result.now ≡ class_units self.now.regs (regs_of_some self.now.classes class) }
+    {
+        first_units(
+            self.regs.as_slice(),
+            regs_at(self.classes.as_slice(), class),
+        )
+    }
+}
+
 /// Whether the lanes pick the units of a register, of each register of the list.
 pub fn have_subs(regs: &[RegDesc], lanes: &[u8], rs: &[Reg]) -> bool
     ensures { result ≡ lanes_fit regs.now lanes.now rs.now }

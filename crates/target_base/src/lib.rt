@@ -7,6 +7,7 @@ pub mod builtin;
 pub mod classes;
 pub mod list;
 pub mod registers;
+pub mod roles;
 pub mod types;
 
 pub use boxed::{Boxed, BoxedList};

@@ -1,10 +1,11 @@
 //! Questions about a target's registers. None of them takes memory.
 
 ghost use Rattle.std.specs.Prelude.{◌≡◌, ◌<◌, ◌↔◌, IsTrue, length, slice_get, Some, IfSome};
-ghost use Rattle.target_base.specs.Registers.{IsReg, IsIndex, IsClass, units_of, lanes_of, regs_of, Alias, sub_of};
-ghost use Rattle.target_base.specs.Storage.{is_picked, is_unit, reg_units, sub_place};
+ghost use Rattle.target_base.specs.Numbers.{unit_number};
+ghost use Rattle.target_base.specs.Registers.{IsReg, IsIndex, IsClass, units_of, lanes_of, regs_of, mask_regs, is_reserved_unit, Alias, sub_of};
+ghost use Rattle.target_base.specs.Storage.{is_among, is_picked, is_unit, is_unreserved, reg_units, sub_place};
 
-use crate::types::{ClassId, IndexId, Reg, RegDesc, Target, Unit};
+use crate::types::{ClassId, IndexId, MaskId, Reg, RegDesc, Target, Unit};
 
 impl Target {
     /// The version of the target's text, 1 or 2.
@@ -70,6 +71,71 @@ impl Target {
             Some(place) => Some(Reg(place as u16)),
         }
     }
+}
+
+// The same of numbers that the target may not have.
+impl Target {
+    /// The units of a register, lane by lane; none where the target has no such register.
+    pub fn units_at(&self, r: Reg) -> &[Unit]
+        ensures { result.now ≡ units_of self.now r }
+    {
+        units_at(self.regs.as_slice(), r)
+    }
+
+    /// The lanes that an index picks, in order; none where the target has no such index.
+    pub fn lanes_at(&self, i: IndexId) -> &[u8]
+        ensures { result.now ≡ lanes_of self.now i }
+    {
+        match self.indexes.as_slice().get(i.0 as usize) {
+            None => &[],
+            Some(d) => d.lanes.as_slice(),
+        }
+    }
+
+    /// The registers that a call mask preserves; none where the target has no such mask.
+    pub fn mask_regs(&self, m: MaskId) -> &[Reg]
+        ensures { result.now ≡ mask_regs self.now m }
+    {
+        match self.masks.as_slice().get(m.0 as usize) {
+            None => &[],
+            Some(d) => d.regs.as_slice(),
+        }
+    }
+
+    /// Whether the unit of a number is reserved.
+    pub fn is_reserved_unit(&self, n: u32) -> bool
+        ensures { result ≡ is_reserved_unit self.now n }
+    {
+        has_unit_number(self.reserved.as_slice(), n)
+    }
+
+    /// Whether none of a register's units is reserved.
+    pub fn is_unreserved(&self, r: Reg) -> bool
+        ensures { result ≡ is_unreserved self.now.reserved self.now.regs r }
+    {
+        is_unreserved(self.reserved.as_slice(), self.regs.as_slice(), r)
+    }
+}
+
+/// Whether the list holds a unit.
+pub fn has_unit(us: &[Unit], u: Unit) -> bool
+    ensures { result ≡ is_among us.now u }
+{
+    us.iter().any(|v| v.0 == u.0)
+}
+
+/// Whether the list holds the unit of a number.
+pub fn has_unit_number(us: &[Unit], n: u32) -> bool
+    ensures { result ≡ is_among us.now (unit_number n) }
+{
+    us.iter().any(|v| v.0 as u32 == n)
+}
+
+/// Whether none of a register's units is among these reserved ones.
+pub fn is_unreserved(reserved: &[Unit], regs: &[RegDesc], r: Reg) -> bool
+    ensures { result ≡ is_unreserved reserved.now regs.now r }
+{
+    units_at(regs, r).iter().all(|u| !has_unit(reserved, *u))
 }
 
 /// The units of a register of a list, lane by lane; none where the list is too short.

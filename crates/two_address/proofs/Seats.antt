@@ -7,7 +7,7 @@ use Rattle.target_base.specs.declared.types.Reg.{Reg}
 use Rattle.mir_func.specs.declared.func.Loc.{Loc}
 use Rattle.mir_func.specs.declared.func.RegOp.{RegOp}
 use Rattle.mir_func.specs.declared.func.Operand.{Operand}
-use Rattle.mir_meaning.specs.Binding.{Bound, explicit_bound}
+use Rattle.mir_func.specs.Binding.{Bound, explicit_bound}
 use Rattle.phi_elim.proofs.Walks.{drop_all}
 use Rattle.two_address.specs.Classes.{first_role, roles_behind}
 use Rattle.two_address.specs.Ties.{first_of, defined_by, definition_of, tied_operand, tied_use, reads_besides}

@@ -12,7 +12,7 @@ use Rattle.mir_func.specs.declared.func.Loc.{Loc}
 use Rattle.mir_func.specs.declared.func.Loc.TheVariants.{Virtual, Fixed}
 use Rattle.mir_func.specs.declared.func.RegOp.{RegOp}
 use Rattle.mir_func.specs.declared.func.Instr.{Instr}
-use Rattle.mir_meaning.specs.Binding.{Bound, explicit_bound, roles_of, moving_class, asked_class, takes_many}
+use Rattle.mir_func.specs.Binding.{Bound, explicit_bound, roles_of, moving_class, asked_class, takes_many}
 use Rattle.phi_elim.specs.Phis.{located_class}
 
 -- the first of these roles

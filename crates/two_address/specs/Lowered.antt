@@ -12,7 +12,7 @@ use Rattle.mir_func.specs.declared.func.Operand.TheVariants as operands
 use Rattle.mir_func.specs.declared.func.Instr.{Instr}
 use Rattle.mir_func.specs.declared.func.Block.{Block}
 use Rattle.mir_func.specs.Value.{Function}
-use Rattle.mir_meaning.specs.Binding.{does, roles_of, as_register}
+use Rattle.mir_func.specs.Binding.{does, roles_of, as_register}
 use Rattle.phi_elim.specs.Numbered.{with_new_ids}
 use Rattle.phi_elim.specs.Phis.{all_instrs, located_class, phis_lowered}
 use Rattle.two_address.specs.declared.forms.Form.{Form}

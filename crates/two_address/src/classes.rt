@@ -3,7 +3,7 @@
 ghost use Rattle.std.specs.Prelude.{◌≡◌};
 ghost use Rattle.target_base.specs.Registers.{lanes_of, regs_of, part_of, class_of_widths, widths_of_some};
 ghost use Rattle.target_base.specs.Storage.{is_unreserved, is_among, part_place, alike_place};
-ghost use Rattle.mir_meaning.specs.Binding.{roles_of, asked_class, moving_class, takes_many};
+ghost use Rattle.mir_func.specs.Binding.{roles_of, asked_class, moving_class, takes_many};
 ghost use Rattle.two_address.specs.Classes.{class_asked, first_register, first_role, roles_behind};
 
 use mir_func::{Instr, Op, RegOp};

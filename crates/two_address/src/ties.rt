@@ -3,7 +3,7 @@
 ghost use Rattle.std.specs.Prelude.{◌≡◌, ◌++◌, ◌∷◌, OnOk, IfOk, map};
 ghost use Rattle.std.specs.List.{list_any};
 ghost use Rattle.target_base.specs.Roles.{is_tied};
-ghost use Rattle.mir_meaning.specs.Binding.{passes, explicit_bound};
+ghost use Rattle.mir_func.specs.Binding.{passes, explicit_bound};
 ghost use Rattle.mir_meaning.specs.Rules.{is_virtual, is_definition, same_loc, same_index};
 ghost use Rattle.two_address.specs.Classes.{seated};
 ghost use Rattle.two_address.specs.Ties.{defined_by, definition_of, tied_operand, tied_use, reads_besides, use_of, undef_use_of, untied, tie_of, tie_between, tie_in, copies, defined_aside, or_kept, undef_fixed, defined_use, retied, retied_operand, undefined_whole, undefined_first, with_operands, tied_lowered, first_role_class, copy_lowered};

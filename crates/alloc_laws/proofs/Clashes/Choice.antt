@@ -12,7 +12,7 @@ use Rattle.meaning.specs.Live.{Among as Member, here as first, there as later}
 use Rattle.mir_func.specs.declared.func.Instr.{Instr}
 use Rattle.mir_func.specs.declared.func.Loc.{Loc}
 use Rattle.mir_func.specs.Value.{Function}
-use Rattle.mir_meaning.specs.Binding.{does, class_of}
+use Rattle.mir_func.specs.Binding.{does, class_of}
 use Rattle.mir_meaning.specs.Places.{domain}
 use Rattle.instr_effects.proofs.Members.{member-none, member-elim, flat-of, map-of, filter-of}
 use Rattle.live_laws.proofs.Effects.Blocks.{filtered-of}

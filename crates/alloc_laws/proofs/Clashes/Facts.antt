@@ -4,14 +4,14 @@ use Rattle.std.specs.Prelude.{◌||◌, Decides, is_some, nat_eq, nat_le, nat_lt
 use Rattle.std.specs.List.{list_any}
 use Rattle.std.proofs.lemmas.Bool.{leb-true, leb-false, le-leb, ltb-true}
 use Rattle.std.proofs.lemmas.List.{length-map}
-use Rattle.mir_meaning.specs.Registers.{numbers, is_reserved_unit}
+use Rattle.mir_meaning.specs.Registers.{numbers}
+use Rattle.target_base.specs.Registers.{is_reserved_unit, units_of}
 use Rattle.std.proofs.lemmas.Option.{slice_get_within, get_or_from_slice_get}
 use Rattle.target_base.specs.declared.types.Reg.{Reg}
 use Rattle.target_base.specs.declared.types.RegDesc.{RegDesc}
 use Rattle.target_base.specs.declared.types.Unit.{Unit as UnitNumber}
 use Rattle.target_base.specs.declared.types.Target.{Target}
 use Rattle.target_base.specs.Numbers.{unit_number}
-use Rattle.target_base.specs.Registers.{units_of}
 use Rattle.target_base.specs.Storage.{units_in, is_among, is_unreserved}
 use Rattle.target_base.specs.Rules.{is_reg_desc}
 use Rattle.target_base.proofs.Tests.{first_of_both, second_of_both, each_passes}

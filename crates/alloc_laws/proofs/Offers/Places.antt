@@ -7,7 +7,7 @@ use Rattle.target_base.specs.declared.types.Target.{Target}
 use Rattle.meaning.specs.Live.{Among as Member}
 use Rattle.mir_func.specs.declared.func.Block.{Block}
 use Rattle.mir_func.specs.declared.func.Instr.{Instr}
-use Rattle.mir_meaning.specs.Binding.{does, is_terminator}
+use Rattle.mir_func.specs.Binding.{does, is_terminator}
 use Rattle.mir_meaning.specs.Rules.{V8, block_numbers}
 use Rattle.instr_effects.proofs.Members.{map-in}
 use Rattle.live_laws.proofs.Effects.Moved.{Apart}

@@ -6,14 +6,14 @@ use Rattle.target_base.specs.declared.types.Reg.{Reg}
 use Rattle.target_base.specs.declared.types.Unit.{Unit as UnitNumber}
 use Rattle.target_base.specs.declared.types.Target.{Target}
 use Rattle.target_base.specs.Numbers.{unit_number}
-use Rattle.target_base.specs.Registers.{units_of}
+use Rattle.target_base.specs.Registers.{units_of, is_reserved_unit}
 use Rattle.meaning.specs.declared.types.Lane.TheVariants.{VirtualLane, UnitLane}
 use Rattle.meaning.specs.Live.{Among as Member}
 use Rattle.mir_func.specs.declared.func.Block.{Block}
 use Rattle.mir_func.specs.declared.func.Instr.{Instr}
 use Rattle.mir_func.specs.Value.{Function}
 use Rattle.mir_meaning.specs.Points.{Point, Start, Entry, Exit, OccupiedAt, HeldIn, block_points, all_points}
-use Rattle.mir_meaning.specs.Registers.{is_reserved, is_reserved_unit}
+use Rattle.mir_meaning.specs.Registers.{is_reserved}
 use Rattle.mir_meaning.specs.Rules.{V8}
 use Rattle.instr_effects.specs.declared.owner.Owner.TheVariants as owners
 use Rattle.instr_effects.specs.Numbers.{unit_number_in}

@@ -6,7 +6,7 @@ ghost use Rattle.target_base.specs.Rules.{regs_of_some};
 ghost use Rattle.target_base.specs.Registers.{units_of, lanes_of, widths_of_some};
 ghost use Rattle.meaning.specs.declared.types.Lane.TheVariants.{VirtualLane};
 ghost use Rattle.meaning.specs.declared.types.Source.TheVariants.{FromLane, Undef};
-ghost use Rattle.mir_meaning.specs.Binding.{class_of};
+ghost use Rattle.mir_func.specs.Binding.{class_of};
 ghost use Rattle.mir_meaning.specs.Registers.{numbers, range_widths, range_lanes, unit_lanes, operand_lanes, operand_widths, use_sources, whole_lanes, undefined_lanes, located_lanes};
 ghost use Rattle.meaning.specs.Lanes.{Writes};
 ghost use Rattle.mir_meaning.specs.Items.{write, moved, undefined, computed};

@@ -1,7 +1,7 @@
 //! Ways into blocks, and what phis write on them.
 
 ghost use Rattle.std.specs.Prelude.{◌≡◌, ◌++◌, OnOk, flat_map, not};
-ghost use Rattle.mir_meaning.specs.Binding.{does, ends_control, is_terminator};
+ghost use Rattle.mir_func.specs.Binding.{does, ends_control, is_terminator};
 ghost use Rattle.mir_meaning.specs.Codes.{phi_pair, phi_operands, phi_writes, instrs_of, way, target_of, falls_through};
 
 use crate::items::counted::effect_of;

@@ -12,7 +12,7 @@ use Rattle.meaning.specs.Live.{Among as Member, here as first, there as later}
 use Rattle.mir_func.specs.declared.func.Instr.{Instr}
 use Rattle.mir_func.specs.declared.func.Block.{Block}
 use Rattle.mir_func.specs.Value.{Function}
-use Rattle.mir_meaning.specs.Binding.{effect_of, does, is_terminator, roles_of, is_early_clobber}
+use Rattle.mir_func.specs.Binding.{effect_of, does, is_terminator, roles_of, is_early_clobber}
 use Rattle.mir_meaning.specs.Registers.{has_number}
 use Rattle.mir_meaning.specs.Items.{silent_reads, silent_writes, rest_of, values, counted_writes, defined_undef}
 use Rattle.mir_meaning.specs.Codes.{item_of, effect_item, block_end, blocks_code, way, ways_out, target_of}

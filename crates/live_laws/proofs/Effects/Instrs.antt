@@ -23,7 +23,7 @@ use Rattle.mir_func.specs.declared.func.Operand.TheVariants as operands
 use Rattle.mir_func.specs.declared.func.Instr.{Instr}
 use Rattle.mir_func.specs.declared.func.Block.{Block}
 use Rattle.mir_func.specs.Value.{Function}
-use Rattle.mir_meaning.specs.Binding.{registers, effect_of, roles_of, implicit_roles, is_early_clobber, does, passes, is_terminator}
+use Rattle.mir_func.specs.Binding.{registers, effect_of, roles_of, implicit_roles, is_early_clobber, does, passes, is_terminator}
 use Rattle.mir_meaning.specs.Registers.{numbers, located_lanes, operand_lanes, operand_widths, undefined_lanes, use_sources, is_reserved, slot_lane_numbers}
 use Rattle.mir_meaning.specs.Items.{parts, result_writes, all_lanes, explicit_definitions, implicit_definitions, implicit_writes, silent_reads, silent_writes, rest_of, values, counted_writes, moved, undefined, copied, reloaded, spilled, sequenced, inserted, defined_undef, given_constant, lanes_beside, at_all_widths, uses}
 use Rattle.mir_meaning.specs.Codes.{item_of, effect_item, ways_out, way, target_of}

@@ -20,7 +20,7 @@ use Rattle.mir_func.specs.declared.func.Operand.TheVariants as operands
 use Rattle.mir_func.specs.declared.func.Instr.{Instr}
 use Rattle.mir_func.specs.declared.func.Block.{Block}
 use Rattle.mir_func.specs.Value.{Function}
-use Rattle.mir_meaning.specs.Binding.{registers, does}
+use Rattle.mir_func.specs.Binding.{registers, does}
 use Rattle.mir_meaning.specs.Registers.{operand_lanes, undefined_lanes, use_sources}
 use Rattle.mir_meaning.specs.Items.{write, moved, undefined, defined, defined_undef}
 use Rattle.mir_meaning.specs.Codes.{item_of, phi_pair, phi_operands, phi_writes, instrs_of}

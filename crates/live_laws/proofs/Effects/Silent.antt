@@ -21,7 +21,7 @@ use Rattle.mir_func.specs.declared.func.RegOp.{RegOp}
 use Rattle.mir_func.specs.declared.func.Operand.{Operand}
 use Rattle.mir_func.specs.declared.func.Operand.TheVariants as operands
 use Rattle.mir_func.specs.Value.{Function}
-use Rattle.mir_meaning.specs.Binding.{registers}
+use Rattle.mir_func.specs.Binding.{registers}
 use Rattle.mir_meaning.specs.Registers.{numbers, operand_lanes, operand_widths, located_lanes, whole_lanes, undefined_lanes, use_sources, range_widths, is_reserved, slot_lanes, slot_lane_numbers}
 use Rattle.mir_meaning.specs.Items.{write, moved, undefined, lanes_beside, at_all_widths}
 use Rattle.mir_meaning.specs.Stands.{Tags}

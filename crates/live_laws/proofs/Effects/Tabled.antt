@@ -15,7 +15,7 @@ use Rattle.target_base.specs.declared.types.RegDesc.{RegDesc}
 use Rattle.target_base.specs.declared.types.Unit.{Unit as UnitNumber}
 use Rattle.target_base.specs.declared.types.UnitDesc.{UnitDesc}
 use Rattle.target_base.specs.declared.types.Target.{Target}
-use Rattle.target_base.specs.Registers.{units_of, lanes_of, lanes_in, regs_of, widths_of, widths_of_some, fits, IsClass}
+use Rattle.target_base.specs.Registers.{units_of, lanes_of, lanes_in, regs_of, widths_of, widths_of_some, fits, IsClass, is_reserved_unit}
 use Rattle.target_base.specs.Storage.{units_in, reg_units, class_units, widths, unit_width, width_in, is_picked, sub_place, lanes_fit}
 use Rattle.target_base.specs.Rules.{is_reg_desc, is_index_desc, most_lanes}
 use Rattle.target_base.proofs.Tests.{first_of_both, second_of_both, each_passes, position_within}
@@ -31,8 +31,8 @@ use Rattle.mir_func.specs.declared.func.Operand.TheVariants as operands
 use Rattle.mir_func.specs.declared.func.Instr.{Instr}
 use Rattle.mir_func.specs.declared.func.Block.{Block}
 use Rattle.mir_func.specs.Value.{Function}
-use Rattle.mir_meaning.specs.Binding.{registers, class_of}
-use Rattle.mir_meaning.specs.Registers.{numbers, range_widths, located_lanes, located_widths, operand_lanes, operand_widths, whole_lanes, undefined_lanes, is_reserved, is_reserved_unit, slot_lanes, slot_lane_numbers}
+use Rattle.mir_func.specs.Binding.{registers, class_of, slot_at}
+use Rattle.mir_meaning.specs.Registers.{numbers, range_widths, located_lanes, located_widths, operand_lanes, operand_widths, whole_lanes, undefined_lanes, is_reserved, slot_lanes, slot_lane_numbers}
 use Rattle.mir_meaning.specs.Rules.{has_class, index_fits}
 use Rattle.instr_effects.specs.declared.lanes.LaneTable.{LaneTable}
 use Rattle.instr_effects.specs.declared.owner.Owner.{Owner}
@@ -41,7 +41,6 @@ use Rattle.instr_effects.specs.Owners.{owner_of}
 use Rattle.instr_effects.specs.Row.{lane_in}
 use Rattle.instr_effects.specs.Numbers.{unit_number_in, row_number_in}
 use Rattle.instr_effects.specs.Numbered.{number_in, NumbersAll}
-use Rattle.instr_effects.specs.Acts.{slot_at}
 use Rattle.instr_effects.specs.Stepping.{tag_of, NamesTagged}
 use Rattle.instr_effects.proofs.Members.{member-none, member-elim, map-of}
 use Rattle.instr_effects.proofs.Tables.{slice-numbers}

@@ -22,7 +22,7 @@ use Rattle.mir_func.specs.declared.func.Operand.TheVariants as operands
 use Rattle.mir_func.specs.declared.func.Instr.{Instr}
 use Rattle.mir_func.specs.declared.func.Block.{Block}
 use Rattle.mir_func.specs.Value.{Function}
-use Rattle.mir_meaning.specs.Binding.{registers, effect_of, does, passes}
+use Rattle.mir_func.specs.Binding.{registers, effect_of, does, passes}
 use Rattle.mir_meaning.specs.Registers.{operand_lanes, operand_widths, use_sources, is_reserved, has_number}
 use Rattle.mir_meaning.specs.Codes.{phi_operands, phi_writes, instrs_of, way, ways_out, block_end, blocks_code}
 use Rattle.mir_meaning.specs.Points.{point_item, points_of}

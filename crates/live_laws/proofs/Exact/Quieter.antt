@@ -9,7 +9,7 @@ use Rattle.target_base.specs.Rules.{is_phi}
 use Rattle.mir_func.specs.declared.func.Instr.{Instr}
 use Rattle.mir_func.specs.declared.func.Block.{Block}
 use Rattle.mir_func.specs.Value.{Function}
-use Rattle.mir_meaning.specs.Binding.{effect_of, does, passes, is_terminator}
+use Rattle.mir_func.specs.Binding.{effect_of, does, passes, is_terminator}
 use Rattle.mir_meaning.specs.Rules.{V8}
 use Rattle.meaning.specs.declared.types.Lane.{Lane}
 use Rattle.meaning.specs.Live.{Among as Member}

@@ -9,7 +9,7 @@ use Rattle.mir_func.specs.declared.func.Block.{Block}
 use Rattle.mir_func.specs.declared.func.Instr.{Instr}
 use Rattle.mir_func.specs.Value.{Function}
 use Rattle.mir_meaning.specs.declared.Form.{Form}
-use Rattle.mir_meaning.specs.Binding.{known_opcode}
+use Rattle.mir_func.specs.Binding.{known_opcode}
 use Rattle.mir_meaning.specs.Rules.{V1, V2, V3, V4, V7, V8, V11, V12, V15}
 use Rattle.mir_meaning.specs.Valid.{first_failing, instr_fault, block_fault, least, fault_at, instrs_fault, fault_in, blocks_fault, shape_fault}
 use Rattle.live_laws.specs.Touch.{is_known, KnownLaw}

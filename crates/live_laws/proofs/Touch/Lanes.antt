@@ -22,7 +22,7 @@ use Rattle.meaning.specs.Live.{Among as Member, here as first}
 use Rattle.mir_func.specs.declared.func.Loc.{Loc}
 use Rattle.mir_func.specs.declared.func.Loc.TheVariants.{Virtual, Fixed}
 use Rattle.mir_func.specs.Value.{Function}
-use Rattle.mir_meaning.specs.Binding.{class_of}
+use Rattle.mir_func.specs.Binding.{class_of}
 use Rattle.mir_meaning.specs.Registers.{numbers, range_widths, located_lanes}
 use Rattle.mir_meaning.specs.Points.{is_range}
 use Rattle.mir_meaning.specs.Rules.{has_class, index_fits}

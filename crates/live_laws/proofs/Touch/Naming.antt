@@ -18,7 +18,7 @@ use Rattle.mir_func.specs.declared.func.Operand.{Operand}
 use Rattle.mir_func.specs.declared.func.Operand.TheVariants as operands
 use Rattle.mir_func.specs.declared.func.Instr.{Instr}
 use Rattle.mir_func.specs.Value.{Function}
-use Rattle.mir_meaning.specs.Binding.{registers, implicit_registers, effect_of, is_early_clobber, passes}
+use Rattle.mir_func.specs.Binding.{registers, implicit_registers, effect_of, is_early_clobber, passes}
 use Rattle.mir_meaning.specs.Registers.{operand_lanes, operand_widths, undefined_lanes, use_sources}
 use Rattle.mir_meaning.specs.Items.{silent_reads, uses, copied, defined_undef, given_constant, reloaded}
 use Rattle.mir_meaning.specs.Points.{is_range, counts, touches}

@@ -9,7 +9,7 @@ use Rattle.meaning.specs.Live.{Among as Member}
 use Rattle.mir_func.specs.declared.func.Block.{Block}
 use Rattle.mir_func.specs.declared.func.Instr.{Instr}
 use Rattle.mir_func.specs.Value.{Function}
-use Rattle.mir_meaning.specs.Binding.{does}
+use Rattle.mir_func.specs.Binding.{does}
 use Rattle.mir_meaning.specs.Points.{touches, has_no_phis}
 use Rattle.mir_meaning.specs.Rules.{V8}
 use Rattle.slot_index.specs.Order.{ids}

@@ -8,7 +8,7 @@ use Rattle.mir_func.specs.declared.func.Block.{Block}
 use Rattle.mir_func.specs.Value.{Function}
 use Rattle.mir_func.specs.Edits.{instr_place}
 use Rattle.mir_meaning.specs.declared.Form.TheVariants as forms
-use Rattle.mir_meaning.specs.Binding.{does, is_terminator}
+use Rattle.mir_func.specs.Binding.{does, is_terminator}
 use Rattle.mir_meaning.specs.Registers.{is_reserved}
 use Rattle.mir_meaning.specs.Points.{has_instr}
 use Rattle.mir_meaning.specs.Rules.{V5, V7}

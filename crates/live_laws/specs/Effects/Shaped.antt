@@ -12,7 +12,7 @@ use Rattle.mir_func.specs.declared.func.Operand.{Operand}
 use Rattle.mir_func.specs.declared.func.Operand.TheVariants as operands
 use Rattle.mir_func.specs.declared.func.Instr.{Instr}
 use Rattle.mir_func.specs.Value.{Function}
-use Rattle.mir_meaning.specs.Binding.{class_of, does}
+use Rattle.mir_func.specs.Binding.{class_of, does}
 use Rattle.mir_meaning.specs.Items.{lanes_beside}
 use Rattle.mir_meaning.specs.Rules.{V1, V2, V3, V4, spills_or_reloads}
 use Rattle.mir_meaning.specs.Stands.{Tags}

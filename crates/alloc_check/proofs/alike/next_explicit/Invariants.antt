@@ -1,5 +1,5 @@
 use Rattle.std.proofs.Common.{◌≡◌, drop}
-use Rattle.mir_meaning.specs.Binding.{explicit_operands}
+use Rattle.mir_func.specs.Binding.{explicit_operands}
 use Rattle.alloc_check.proofs.alike.next_explicit.Given as goal
 
 abbrev pub invariant-loop-k : goal.invariant-loop-k

@@ -1,5 +1,5 @@
 use Rattle.std.proofs.Common.{◌≡◌, drop}
-use Rattle.mir_meaning.specs.Binding.{implicit_registers}
+use Rattle.mir_func.specs.Binding.{implicit_registers}
 use Rattle.alloc_check.proofs.alike.next_implicit.Given as goal
 
 abbrev pub invariant-loop-k : goal.invariant-loop-k

@@ -1,7 +1,7 @@
 use Rattle.std.proofs.Common.{◌≡◌, ◌++◌, [], true, sym, ap, ◌∙◌}
 use Rattle.target_base.specs.Roles.{is_silent}
 use Rattle.meaning.specs.Code.{Silent}
-use Rattle.mir_meaning.specs.Binding.{is_early_clobber, roles_of}
+use Rattle.mir_func.specs.Binding.{is_early_clobber, roles_of}
 use Rattle.mir_meaning.specs.Items.{silent_writes}
 use Rattle.alloc_check.proofs.Rowed.{item-none, item-silent}
 use Rattle.alloc_check.proofs.rows.silent_writes.Goals as goal

@@ -1,7 +1,7 @@
 use Rattle.std.proofs.Common.{◌≡◌, ◌∙◌, ap, arith, length}
 use Rattle.std.specs.Prelude.{Option}
 use Rattle.target_base.specs.declared.types.Reg.{Reg}
-use Rattle.mir_meaning.specs.Binding.{class_of}
+use Rattle.mir_func.specs.Binding.{class_of}
 use Rattle.mir_meaning.specs.Places.{domain}
 use Rattle.evictor.specs.Candidates.{with_first}
 use Rattle.evictor.proofs.Domains.{first_followed, follows_all}

@@ -1,7 +1,7 @@
 use Rattle.std.proofs.Common.{◌≡◌, drop}
 use Rattle.std.specs.Prelude.{◌&&◌, not}
 use Rattle.std.specs.List.{list_any}
-use Rattle.mir_meaning.specs.Binding.{does, is_branch}
+use Rattle.mir_func.specs.Binding.{does, is_branch}
 use Rattle.mir_meaning.specs.Rules.{V1}
 use Rattle.machine_verify.proofs.blocks.some_branch_is_wrong.Given as goal
 

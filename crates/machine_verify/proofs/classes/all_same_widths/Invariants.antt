@@ -1,6 +1,6 @@
 use Rattle.std.proofs.Common.{◌≡◌, drop}
 use Rattle.std.specs.List.{list_all}
-use Rattle.mir_meaning.specs.Binding.{registers}
+use Rattle.mir_func.specs.Binding.{registers}
 use Rattle.mir_meaning.specs.Rules.{same_widths}
 use Rattle.machine_verify.proofs.classes.all_same_widths.Given as goal
 

@@ -1,6 +1,6 @@
 use Rattle.std.proofs.Common.{◌≡◌, length}
 use Rattle.std.specs.List.{list_all}
-use Rattle.mir_meaning.specs.Binding.{explicit_roles, takes_many}
+use Rattle.mir_func.specs.Binding.{explicit_roles, takes_many}
 use Rattle.machine_verify.proofs.operands.are_enough.Given as goal
 
 abbrev pub invariant-roles : goal.invariant-roles

@@ -1,7 +1,7 @@
 use Rattle.std.proofs.Common.{◌≡◌, length}
 use Rattle.std.specs.Prelude.{◌==◌, count_by}
 use Rattle.std.specs.List.{list_all}
-use Rattle.mir_meaning.specs.Binding.{implicit_roles, takes_role}
+use Rattle.mir_func.specs.Binding.{implicit_roles, takes_role}
 use Rattle.mir_meaning.specs.Rules.{same_role}
 use Rattle.machine_verify.proofs.operands.each_stands.Given as goal
 

@@ -1,5 +1,5 @@
 use Rattle.std.proofs.Common.{◌≡◌, drop}
-use Rattle.mir_meaning.specs.Binding.{explicit_roles, explicit_operands}
+use Rattle.mir_func.specs.Binding.{explicit_roles, explicit_operands}
 use Rattle.mir_meaning.specs.Rules.{explicit_fit}
 use Rattle.machine_verify.proofs.operands.explicit_fit.Given as goal
 

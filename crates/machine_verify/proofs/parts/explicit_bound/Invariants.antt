@@ -1,5 +1,5 @@
 use Rattle.std.proofs.Common.{◌≡◌, ◌++◌, drop}
-use Rattle.mir_meaning.specs.Binding.{explicit_bound, explicit_roles, explicit_operands}
+use Rattle.mir_func.specs.Binding.{explicit_bound, explicit_roles, explicit_operands}
 use Rattle.machine_verify.specs.Parts.{seen_all}
 use Rattle.machine_verify.proofs.parts.explicit_bound.Given as goal
 

@@ -1,5 +1,5 @@
 use Rattle.std.proofs.Common.{◌≡◌, ◌++◌, drop}
-use Rattle.mir_meaning.specs.Binding.{implicit_registers}
+use Rattle.mir_func.specs.Binding.{implicit_registers}
 use Rattle.machine_verify.proofs.parts.implicit_registers.Given as goal
 
 abbrev pub invariant-loop-o : goal.invariant-loop-o

@@ -1,6 +1,6 @@
 use Rattle.std.proofs.Common.{◌≡◌, drop}
 use Rattle.std.specs.Prelude.{find}
-use Rattle.mir_meaning.specs.Binding.{implicit_roles, takes_role}
+use Rattle.mir_func.specs.Binding.{implicit_roles, takes_role}
 use Rattle.machine_verify.proofs.parts.implicit_role.Given as goal
 
 abbrev pub invariant-loop-role : goal.invariant-loop-role

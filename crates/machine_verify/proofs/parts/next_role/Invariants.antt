@@ -1,5 +1,5 @@
 use Rattle.std.proofs.Common.{◌≡◌, length}
-use Rattle.mir_meaning.specs.Binding.{explicit_roles}
+use Rattle.mir_func.specs.Binding.{explicit_roles}
 use Rattle.machine_verify.proofs.parts.next_role.Given as goal
 
 abbrev pub invariant-roles : goal.invariant-roles

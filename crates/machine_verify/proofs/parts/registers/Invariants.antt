@@ -1,5 +1,5 @@
 use Rattle.std.proofs.Common.{◌≡◌, ◌++◌, drop}
-use Rattle.mir_meaning.specs.Binding.{registers}
+use Rattle.mir_func.specs.Binding.{registers}
 use Rattle.machine_verify.proofs.parts.registers.Given as goal
 
 abbrev pub invariant-loop-o : goal.invariant-loop-o

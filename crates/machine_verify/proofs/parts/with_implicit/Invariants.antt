@@ -1,5 +1,5 @@
 use Rattle.std.proofs.Common.{◌≡◌, ◌++◌, drop, map}
-use Rattle.mir_meaning.specs.Binding.{implicit_bound, implicit_roles, implicit_registers}
+use Rattle.mir_func.specs.Binding.{implicit_bound, implicit_roles, implicit_registers}
 use Rattle.machine_verify.specs.Parts.{seen_all}
 use Rattle.machine_verify.proofs.parts.with_implicit.Given as goal
 

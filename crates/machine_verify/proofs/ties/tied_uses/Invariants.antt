@@ -1,5 +1,5 @@
 use Rattle.std.proofs.Common.{◌≡◌, ◌++◌, drop}
-use Rattle.mir_meaning.specs.Binding.{tied_uses}
+use Rattle.mir_func.specs.Binding.{tied_uses}
 use Rattle.machine_verify.specs.Parts.{seen_all}
 use Rattle.machine_verify.proofs.ties.tied_uses.Given as goal
 

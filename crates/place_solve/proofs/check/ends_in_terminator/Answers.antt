@@ -1,6 +1,6 @@
 use Rattle.std.proofs.Common.{arith, ap, sym, ◌≡◌, ◌∙◌, ◌<◌, length, true}
 use Rattle.std.proofs.lemmas.Grind.{common_steps}
-use Rattle.mir_meaning.specs.Binding.{does, is_terminator}
+use Rattle.mir_func.specs.Binding.{does, is_terminator}
 use Rattle.place_solve.proofs.Crowds.{last_is_there}
 use Rattle.place_solve.proofs.check.ends_in_terminator.Goals as goal
 

@@ -1,5 +1,5 @@
 use Rattle.std.proofs.Common.{◌≡◌, drop}
-use Rattle.mir_meaning.specs.Binding.{registers}
+use Rattle.mir_func.specs.Binding.{registers}
 use Rattle.place_solve.specs.Choice.{first}
 use Rattle.place_solve.proofs.copies.first_register.Given as goal
 

@@ -1,6 +1,6 @@
 use Rattle.std.proofs.Common.{◌≡◌, drop}
 use Rattle.std.specs.List.{list_any}
-use Rattle.mir_meaning.specs.Binding.{explicit_bound, explicit_operands, explicit_roles}
+use Rattle.mir_func.specs.Binding.{explicit_bound, explicit_operands, explicit_roles}
 use Rattle.two_address.specs.Ties.{reads_besides}
 use Rattle.place_solve.proofs.copies.is_read_untied.Given as goal
 

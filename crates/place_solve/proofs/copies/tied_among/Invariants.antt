@@ -1,5 +1,5 @@
 use Rattle.std.proofs.Common.{◌≡◌, drop}
-use Rattle.mir_meaning.specs.Binding.{explicit_bound, explicit_operands, explicit_roles, tied_uses}
+use Rattle.mir_func.specs.Binding.{explicit_bound, explicit_operands, explicit_roles, tied_uses}
 use Rattle.place_solve.specs.Choice.{first}
 use Rattle.place_solve.proofs.copies.tied_among.Given as goal
 

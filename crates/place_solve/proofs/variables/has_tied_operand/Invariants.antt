@@ -1,6 +1,6 @@
 use Rattle.std.proofs.Common.{◌≡◌, drop}
 use Rattle.std.specs.List.{list_any}
-use Rattle.mir_meaning.specs.Binding.{explicit_bound, explicit_roles, explicit_operands}
+use Rattle.mir_func.specs.Binding.{explicit_bound, explicit_roles, explicit_operands}
 use Rattle.place_solve.specs.Once.{is_tied_bound}
 use Rattle.place_solve.proofs.variables.has_tied_operand.Given as goal
 

@@ -1,6 +1,6 @@
 use Rattle.std.proofs.Common.{◌≡◌, true, drop, ◌≤◌, length}
 use Rattle.std.specs.List.{list_all}
-use Rattle.mir_meaning.specs.Binding.{does, is_terminator}
+use Rattle.mir_func.specs.Binding.{does, is_terminator}
 use Rattle.split_choose.proofs.places.first_terminator.Given as goal
 
 abbrev pub invariant-ends : goal.invariant-ends

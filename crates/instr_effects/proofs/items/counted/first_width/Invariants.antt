@@ -1,6 +1,6 @@
 use Rattle.std.proofs.Common.{◌≡◌, drop}
 use Rattle.mir_meaning.specs.Items.{first_width}
-use Rattle.mir_meaning.specs.Binding.{registers}
+use Rattle.mir_func.specs.Binding.{registers}
 use Rattle.instr_effects.proofs.items.counted.first_width.Given as goal
 
 abbrev pub invariant-loop-o : goal.invariant-loop-o

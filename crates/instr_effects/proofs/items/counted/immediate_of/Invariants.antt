@@ -1,5 +1,5 @@
 use Rattle.std.proofs.Common.{◌≡◌, drop}
-use Rattle.mir_meaning.specs.Items.{immediate_of}
+use Rattle.mir_func.specs.Binding.{immediate_of}
 use Rattle.instr_effects.proofs.items.counted.immediate_of.Given as goal
 
 abbrev pub invariant-loop-o : goal.invariant-loop-o

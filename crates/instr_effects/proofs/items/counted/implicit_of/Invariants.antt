@@ -1,5 +1,5 @@
 use Rattle.std.proofs.Common.{◌≡◌, ◌++◌, drop}
-use Rattle.mir_meaning.specs.Binding.{implicit_registers}
+use Rattle.mir_func.specs.Binding.{implicit_registers}
 use Rattle.std.specs.Prelude.{filter}
 use Rattle.std.specs.Bool.{beq}
 use Rattle.instr_effects.proofs.items.counted.implicit_of.Given as goal

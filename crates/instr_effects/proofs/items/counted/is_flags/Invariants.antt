@@ -1,6 +1,6 @@
 use Rattle.std.proofs.Common.{◌≡◌, drop}
 use Rattle.mir_meaning.specs.Items.{is_flags}
-use Rattle.mir_meaning.specs.Binding.{implicit_roles}
+use Rattle.mir_func.specs.Binding.{implicit_roles}
 use Rattle.instr_effects.proofs.items.counted.is_flags.Given as goal
 
 abbrev pub invariant-loop-r : goal.invariant-loop-r

@@ -1,6 +1,6 @@
 use Rattle.std.proofs.Common.{◌≡◌, ◌++◌, drop}
 use Rattle.mir_meaning.specs.Items.{value_of}
-use Rattle.mir_meaning.specs.Binding.{explicit_operands}
+use Rattle.mir_func.specs.Binding.{explicit_operands}
 use Rattle.std.specs.Prelude.{filter_map}
 use Rattle.instr_effects.proofs.items.counted.push_explicit.Given as goal
 

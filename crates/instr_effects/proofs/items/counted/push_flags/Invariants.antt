@@ -1,6 +1,6 @@
 use Rattle.std.proofs.Common.{◌≡◌, ◌++◌, map, drop}
 use Rattle.mir_meaning.specs.Items.{is_flags, flag_value}
-use Rattle.mir_meaning.specs.Binding.{implicit_roles}
+use Rattle.mir_func.specs.Binding.{implicit_roles}
 use Rattle.std.specs.Prelude.{filter}
 use Rattle.instr_effects.proofs.items.counted.push_flags.Given as goal
 

@@ -1,6 +1,6 @@
 use Rattle.std.proofs.Common.{◌≡◌, ◌++◌, map, drop}
 use Rattle.mir_meaning.specs.Items.{use_value, is_flags}
-use Rattle.mir_meaning.specs.Binding.{implicit_roles}
+use Rattle.mir_func.specs.Binding.{implicit_roles}
 use Rattle.std.specs.Prelude.{filter, not}
 use Rattle.instr_effects.proofs.items.counted.push_others.Given as goal
 

@@ -1,6 +1,6 @@
 use Rattle.std.proofs.Common.{◌≡◌, ◌++◌, drop}
 use Rattle.mir_meaning.specs.Items.{is_flags, all_lanes}
-use Rattle.mir_meaning.specs.Binding.{implicit_roles}
+use Rattle.mir_func.specs.Binding.{implicit_roles}
 use Rattle.std.specs.Prelude.{filter}
 use Rattle.instr_effects.proofs.items.results.flag_lanes.Given as goal
 

@@ -1,7 +1,7 @@
 use Rattle.std.proofs.Common.{◌≡◌, ℕ, ◌<◌, Some}
 use Rattle.std.specs.Prelude.{slice_get}
 use Rattle.mir_func.specs.declared.func.Instr.{Instr}
-use Rattle.instr_effects.specs.Acts.{slot_at}
+use Rattle.mir_func.specs.Binding.{slot_at}
 use Rattle.instr_effects.specs.Numbered.{IsTable, HasSlot}
 use Rattle.instr_effects.proofs.lanes.LaneTable.add_slots_of.Given as goal
 

@@ -1,6 +1,6 @@
 use Rattle.std.proofs.Common.{ap, ◌∙◌, filter, not, ◌&&◌}
 use Rattle.mir_func.specs.declared.func.RegOp.{RegOp}
-use Rattle.mir_meaning.specs.Binding.{is_early_clobber}
+use Rattle.mir_func.specs.Binding.{is_early_clobber}
 use Rattle.instr_effects.proofs.Writes.{counted_joined}
 use Rattle.instr_effects.proofs.registers.LaneReader.write_counted.Goals as goal
 

@@ -1,5 +1,5 @@
 -- How the operands of an instruction meet the roles of its opcode.
-use Rattle.std.specs.Prelude.{ℕ, Bool, true, false, cond, not, ◌&&◌, ◌||◌, ◌==◌, List, [], ◌∷◌, ◌++◌, map, filter, filter_map, find, Option, Some, None, option_map, slice_get}
+use Rattle.std.specs.Prelude.{ℕ, Bool, true, false, cond, not, ◌&&◌, ◌||◌, ◌==◌, List, [], ◌∷◌, ◌++◌, map, filter, filter_map, find, Option, Some, None, option_map, option_and_then, slice_get, ℤ, pos}
 use Rattle.target_base.specs.declared.types.Reg.{Reg}
 use Rattle.target_base.specs.declared.types.ClassId.{ClassId}
 use Rattle.target_base.specs.declared.types.Effect.{Effect}
@@ -173,3 +173,27 @@ any_class t f o (Fixed r) = None
 abbrev pub operand_class : Target → Function → Option Role → RegOp → Option ClassId
 operand_class t f None o = None
 operand_class t f (Some r) o = cond (is_any r) (any_class t f o o.loc) (asked_class r)
+
+-- the register operand at a place, if one is
+abbrev pub register_at : List Operand → ℕ → Option RegOp
+register_at os k = option_and_then as_register (slice_get os k)
+
+-- the operand as a spill slot or another frame object, where it is one
+abbrev pub as_slot : Operand → Option ℕ
+as_slot (operands.Stack s) = Some s
+as_slot _ = None
+
+-- the slot at a place, if one is
+abbrev pub slot_at : List Operand → ℕ → Option ℕ
+slot_at os k = option_and_then as_slot (slice_get os k)
+
+-- the operand as an immediate, where it is one
+abbrev pub as_immediate : Operand → Option ℤ
+as_immediate (operands.Imm z) = Some z
+as_immediate _ = None
+
+-- the immediate operand, or 0
+abbrev pub immediate_of : List Operand → ℤ
+immediate_of [] = pos 0
+immediate_of (operands.Imm z ∷ os) = z
+immediate_of (_ ∷ os) = immediate_of os

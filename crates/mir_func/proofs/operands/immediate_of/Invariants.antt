@@ -1,0 +1,6 @@
+use Rattle.std.proofs.Common.{◌≡◌, drop}
+use Rattle.mir_func.specs.Binding.{immediate_of}
+use Rattle.mir_func.proofs.operands.immediate_of.Given as goal
+
+abbrev pub invariant-loop-o : goal.invariant-loop-o
+invariant-loop-o l = immediate_of (drop l.o-index l.operands) ≡ immediate_of l.operands

@@ -1,0 +1,141 @@
+//! What the opcode of an instruction says of it. None of the questions takes memory.
+
+ghost use Rattle.std.specs.Prelude.{◌≡◌, ◌≤◌, length, option_copied, map, not};
+ghost use Rattle.std.specs.List.{position, position_or_len};
+ghost use Rattle.target_base.specs.Rules.{is_copy, is_phi};
+ghost use Rattle.mir_func.specs.Binding.{known_opcode, effect_of, roles_of, does, is_conditional, ends_control, is_terminator, takes_many, is_early_clobber};
+
+use crate::func::{Instr, Op};
+use target_base::{Boxed, Effect, OpcodeDesc, Role, Target, roles};
+
+/// The description of an opcode; none where it is an excluded one.
+pub fn desc_of<'a>(target: &'a Target, op: &Op) -> Option<&'a OpcodeDesc>
+    ensures { option_copied result ≡ known_opcode target.now op.now }
+{
+    match op {
+        Op::Known(op) => target.opcodes.as_slice().get(op.0 as usize),
+        Op::Excluded(_) => None,
+    }
+}
+
+/// What the instruction's opcode computes; nothing where it is an excluded one.
+pub fn effect_of(target: &Target, i: &Instr) -> Option<Effect>
+    ensures { result ≡ effect_of target.now i.now }
+{
+    match &i.op {
+        Op::Known(op) => match target.opcodes.as_slice().get(op.0 as usize) {
+            None => None,
+            Some(d) => Some(d.effect),
+        },
+        Op::Excluded(_) => None,
+    }
+}
+
+/// The roles of the instruction's opcode; an excluded one has none.
+pub fn roles_of<'a>(target: &'a Target, i: &Instr) -> &'a [Role]
+    ensures { result.now ≡ roles_of target.now i.now }
+{
+    match &i.op {
+        Op::Known(op) => match target.opcodes.as_slice().get(op.0 as usize) {
+            None => &[],
+            Some(d) => d.roles.as_slice(),
+        },
+        Op::Excluded(_) => &[],
+    }
+}
+
+/// Whether control doesn't go on behind an instruction of this effect.
+pub fn ends_control(e: Effect) -> bool
+    ensures { result ≡ ends_control e }
+{
+    match e {
+        Effect::Jump | Effect::Ret => true,
+        _ => false,
+    }
+}
+
+/// Whether the effect is that of a branch which is taken under a condition.
+pub fn is_conditional(e: Effect) -> bool
+    ensures { result ≡ is_conditional e }
+{
+    match e {
+        Effect::Jcc | Effect::Jnz => true,
+        _ => false,
+    }
+}
+
+/// Whether the effect is that of a jump, a conditional branch or a return.
+pub fn ends_block(e: Effect) -> bool
+    ensures { result ≡ is_terminator e }
+{
+    match e {
+        Effect::Jump | Effect::Ret | Effect::Jcc | Effect::Jnz => true,
+        _ => false,
+    }
+}
+
+/// Whether the instruction is a jump, a conditional branch or a return (LLVM's `isTerminator`).
+pub fn is_terminator(target: &Target, i: &Instr) -> bool
+    ensures { result ≡ does is_terminator target.now i.now }
+{
+    match effect_of(target, i) {
+        None => false,
+        Some(e) => ends_block(e),
+    }
+}
+
+/// Whether the instruction is a phi.
+pub fn is_phi(target: &Target, i: &Instr) -> bool
+    ensures { result ≡ does is_phi target.now i.now }
+{
+    match effect_of(target, i) {
+        None => false,
+        Some(e) => roles::is_phi(e),
+    }
+}
+
+/// Whether the instruction is a COPY.
+pub fn is_copy(target: &Target, i: &Instr) -> bool
+    ensures { result ≡ does is_copy target.now i.now }
+{
+    match effect_of(target, i) {
+        None => false,
+        Some(e) => roles::is_copy(e),
+    }
+}
+
+/// The place of the first terminator, if there is one.
+fn find_terminator(target: &Target, instrs: &[Boxed<Instr>]) -> Option<usize>
+    ensures { result ≡ position (does is_terminator target.now) instrs.now }
+{
+    instrs.iter().position(|i| is_terminator(target, i.get()))
+}
+
+/// The place of the first terminator, or the number of instructions.
+#[tactic(auto, using(crate::proofs::Places::places))]
+pub fn first_terminator(target: &Target, instrs: &[Boxed<Instr>]) -> usize
+    ensures value { result ≡ position_or_len (does is_terminator target.now) instrs.now }
+    ensures within { result ≤ length instrs.now }
+{
+    find_terminator(target, instrs).unwrap_or(instrs.len())
+}
+
+/// Whether the role stands for any number of operands.
+pub fn takes_many(role: Role) -> bool
+    ensures { result ≡ takes_many role }
+{
+    match role {
+        Role::Any | Role::Rest => true,
+        _ => false,
+    }
+}
+
+/// Whether an opcode with these roles has an early-clobber definition.
+pub fn is_early_clobber(roles: &[Role]) -> bool
+    ensures { result ≡ is_early_clobber roles.now }
+{
+    match roles.first() {
+        Some(Role::Early(_)) => true,
+        _ => false,
+    }
+}
