@@ -128,7 +128,7 @@ fi
 
 printf '%-18s %6s %8s %8s %8s %8s %8s %8s\n' file lines read trace alloc MB 'trace/r' 'alloc/r'
 for file in "$@"; do
-    reading=$(timed "$reader" "$file")
+    reading=$(timed "$parts" --documents "$file")
     trace=$(timed "$program" trace - "$file")
     alloc=$(timed "$program" alloc - "$file")
     echo "$(basename "$file" .mir) $(wc -l <"$file") $reading $trace $alloc" | awk '{

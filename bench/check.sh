@@ -10,7 +10,6 @@
 # Wanted: for the function of `gen 1` both verifiers in under 0.2 s, the checker in under 0.7 s and 300 MB; no table that
 # grows with the square of registers and slots. docs/PERFORMANCE.md says what is reached.
 . "$(dirname "$(readlink -f "${BASH_SOURCE[0]}")")/common.sh"
-checker=$(LLRA_CRATE=check_pair_bench LLRA_WHERE=1 "$root/llra")
 
 if [ $# -eq 0 ]; then
     python3 - "$work" <<'MAKE'
@@ -44,9 +43,9 @@ fi
 printf '%-14s %6s %9s %8s %8s %8s %8s %8s\n' file lines allocated read source checker MB 'c/read'
 for file in "$@"; do
     "$program" alloc - "$file" >"$work/made"
-    reading=$(timed "$reader" "$file")
+    reading=$(timed "$parts" --documents "$file")
     source=$(timed "$program" verify source - "$file")
-    check=$(timed "$checker" - "$file" "$work/made")
+    check=$(timed "$parts" --pairs - "$file" "$work/made")
     grep -qx yes "$work/out"
     echo "$(basename "$file" .mir) $(wc -l <"$file") $(wc -l <"$work/made") $reading $source $check" | awk '{
         read = $4 > 0.005 ? $4 : 0.005

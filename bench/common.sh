@@ -2,7 +2,7 @@
 set -eu
 root=$(dirname "$(dirname "$(readlink -f "${BASH_SOURCE[0]}")")")
 program=$(LLRA_WHERE=1 "$root/llra")
-reader=$(LLRA_CRATE=read_doc_bench LLRA_WHERE=1 "$root/llra")
+parts=$(LLRA_CRATE=bench_programs LLRA_WHERE=1 "$root/llra")
 work=$(mktemp -d)
 trap 'rm -rf "$work"' EXIT
 

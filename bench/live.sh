@@ -58,7 +58,7 @@ fi
 
 printf '%-18s %6s %8s %8s %8s %8s\n' file lines read verify MB 'verify/r'
 for file in "$@"; do
-    reading=$(timed "$reader" "$file")
+    reading=$(timed "$parts" --documents "$file")
     verify=$(timed "$program" verify source - "$file")
     echo "$(basename "$file" .mir) $(wc -l <"$file") $reading $verify" | awk '{
         read = $3 > 0.005 ? $3 : 0.005

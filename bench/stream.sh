@@ -2,7 +2,7 @@
 # Times reading and printing, and the streaming of long files.
 #
 #   bench/stream.sh     first documents of 1, 2 and 4 MiB, of 4,000, 8,000 and 16,000 instructions with long tails, by the
-#                       program crate read_doc_bench: reading and printing alone; then files of 1,000 and 10,000 documents
+#                       program crate bench_programs: reading and printing alone; then files of 1,000 and 10,000 documents
 #                       (6.4 and 64 MiB) by `verify source`. Each row: processor seconds, the most memory in MB.
 # Wanted: 4 MiB in under 0.4 s and 250 MB; memory that doesn't grow with the documents of a file; growth linear.
 . "$(dirname "$(readlink -f "${BASH_SOURCE[0]}")")/common.sh"
@@ -32,7 +32,7 @@ row() { # LABEL FILE WORD..
 
 for count in 4000 8000 16000; do
     document "$count" 260 >"$work/$count.mir"
-    row "$(stat -c %s "$work/$count.mir") bytes, $count instructions" "$reader" "$work/$count.mir"
+    row "$(stat -c %s "$work/$count.mir") bytes, $count instructions" "$parts" --documents "$work/$count.mir"
 done
 document 100 72 >"$work/one.mir"
 for count in 1000 10000; do

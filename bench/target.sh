@@ -1,12 +1,12 @@
 #!/usr/bin/env bash
-# Times the reading of target files by the program crate read_target_bench, built once by the root script `llra`.
+# Times the reading of target files by the program crate bench_programs, built once by the root script `llra`.
 #
 #   bench/target.sh            a file of 1 MiB of comments, one of 1 MiB of long mask lines, and one of many registers,
 #                              indexes and classes; each line: the name, the bytes, what was read, the seconds
 #   bench/target.sh FILE..     these files
 set -eu
 root=$(dirname "$(dirname "$(readlink -f "${BASH_SOURCE[0]}")")")
-program=$(LLRA_CRATE=read_target_bench LLRA_WHERE=1 "$root/llra")
+program=$(LLRA_CRATE=bench_programs LLRA_WHERE=1 "$root/llra")
 work=$(mktemp -d)
 trap 'rm -rf "$work"' EXIT
 
@@ -42,7 +42,7 @@ MAKE
 fi
 for file in "$@"; do
     begin=$(date +%s%N)
-    answer=$("$program" "$file")
+    answer=$("$program" --targets "$file")
     end=$(date +%s%N)
     printf '%s %s bytes: %s, %s s\n' "$(basename "$file")" "$(stat -c %s "$file")" "$answer" "$(awk "BEGIN { printf \"%.3f\", ($end - $begin) / 1e9 }")"
 done

@@ -4,7 +4,7 @@
 Run: compare_pairs.py MODEL PROGRAM SEED COUNT [TARGET..]
 
 MODEL is the folder of the reference model (the package `llra_ref` and the module `generators`), PROGRAM the
-executable of the program crate `check_pair_bench` (`LLRA_CRATE=check_pair_bench LLRA_WHERE=1 ./llra` prints its
+executable of the program crate `bench_programs` (`LLRA_CRATE=bench_programs LLRA_WHERE=1 ./llra` prints its
 path). For each of COUNT seeds from SEED it makes one function, over the built-in target, its second version, an odd
 one or one of the TARGET files, lets the model allocate it, and asks the checker of the allocation and of five wrong
 edits of it: another register, an instruction lost, put twice or moved, another slot, constant, branch or flag. The
@@ -132,7 +132,7 @@ def asked(folder, text, data, allocated):
     for k, content in enumerate(allocated):
         write(os.path.join(folder, "G%d" % k), content)
         words += ["F", "G%d" % k]
-    done = subprocess.run([PROGRAM] + words, cwd=folder, capture_output=True, timeout=120)
+    done = subprocess.run([PROGRAM, "--pairs"] + words, cwd=folder, capture_output=True, timeout=120)
     return done.stdout.decode().split("\n")[:-1] if done.returncode == 0 else ["status %d" % done.returncode]
 
 

@@ -1,7 +1,7 @@
 """Compares `read_target` with the reference model's reader over mutated target files.
 
 Run: tests/compare_targets.py [COUNT [SEED]], with LLRA_ORACLE naming the folder of the reference model (../shared/oracle
-beside this repository without it). It builds the program crate read_target_bench once by the root script `llra`.
+beside this repository without it). It builds the program crate bench_programs once by the root script `llra`.
 Each target is read by both; the word `ok`, or the line and the kind of the fault, must be equal."""
 import os
 import random
@@ -71,7 +71,7 @@ def expected(data):
 def main():
     count = int(sys.argv[1]) if len(sys.argv) > 1 else 2000
     seed = int(sys.argv[2]) if len(sys.argv) > 2 else 1
-    env = dict(os.environ, LLRA_CRATE="read_target_bench")
+    env = dict(os.environ, LLRA_CRATE="bench_programs")
     program = subprocess.run([os.path.join(ROOT, "llra")], env=dict(env, LLRA_WHERE="1"), check=True,
                              capture_output=True, text=True).stdout.strip()
     texts = [made(k) for k in range(seed, seed + count)]
@@ -85,7 +85,7 @@ def main():
                 f.write(data)
         answers = []
         for k in range(0, count, 500):
-            done = subprocess.run([program] + paths[k:k + 500], check=True, capture_output=True, text=True)
+            done = subprocess.run([program, "--targets"] + paths[k:k + 500], check=True, capture_output=True, text=True)
             answers += done.stdout.split("\n")[:-1]
         for k, (data, answer) in enumerate(zip(texts, answers, strict=True)):
             want = expected(data)
