@@ -2,11 +2,12 @@
 
 ghost use Rattle.std.specs.Prelude.{◌≡◌, ◌≤◌, length, option_copied, map, not};
 ghost use Rattle.std.specs.List.{position, position_or_len};
+ghost use Rattle.target_base.specs.Roles.{is_tied};
 ghost use Rattle.target_base.specs.Rules.{is_copy, is_phi};
-ghost use Rattle.mir_func.specs.Binding.{known_opcode, effect_of, roles_of, does, is_conditional, ends_control, is_terminator, takes_many, is_early_clobber};
+ghost use Rattle.mir_func.specs.Binding.{known_opcode, effect_of, roles_of, passes, does, is_conditional, ends_control, is_branch, is_terminator, takes_many, is_early, is_early_clobber, asked_class};
 
 use crate::func::{Instr, Op};
-use target_base::{Boxed, Effect, OpcodeDesc, Role, Target, roles};
+use target_base::{Boxed, ClassId, Effect, OpcodeDesc, Role, Target, classes, roles};
 
 /// The description of an opcode; none where it is an excluded one.
 pub fn desc_of<'a>(target: &'a Target, op: &Op) -> Option<&'a OpcodeDesc>
@@ -60,6 +61,16 @@ pub fn is_conditional(e: Effect) -> bool
 {
     match e {
         Effect::Jcc | Effect::Jnz => true,
+        _ => false,
+    }
+}
+
+/// Whether the effect is that of a jump or a conditional branch.
+pub fn is_branch(e: Effect) -> bool
+    ensures { result ≡ is_branch e }
+{
+    match e {
+        Effect::Jump | Effect::Jcc | Effect::Jnz => true,
         _ => false,
     }
 }
@@ -137,5 +148,36 @@ pub fn is_early_clobber(roles: &[Role]) -> bool
     match roles.first() {
         Some(Role::Early(_)) => true,
         _ => false,
+    }
+}
+
+/// Whether an operand's role, if it has one, is that of an early-clobber definition.
+pub fn is_early(role: Option<Role>) -> bool
+    ensures { result ≡ passes is_early role }
+{
+    match role {
+        Some(Role::Early(_)) => true,
+        _ => false,
+    }
+}
+
+/// Whether an operand's role, if it has one, is that of a use which shares the register of the
+/// definition.
+pub fn is_tied(role: Option<Role>) -> bool
+    ensures { result ≡ passes is_tied role }
+{
+    match role {
+        Some(Role::Tied(_)) => true,
+        _ => false,
+    }
+}
+
+/// The class that a role asks of a register, if it asks for one.
+pub fn asked_class(role: Role) -> Option<ClassId>
+    ensures { result ≡ asked_class role }
+{
+    match role {
+        Role::Address(k) => Some(k),
+        r => classes::class_of(r),
     }
 }
