@@ -1,8 +1,11 @@
 pub mod Loops
 pub mod Tables
 pub mod Pairs
+pub mod Runs
 pub mod Operands
 pub mod Writes
+pub mod CountedParts
+pub mod SilentParts
 pub mod Readings
 pub mod Known
 pub mod Masks

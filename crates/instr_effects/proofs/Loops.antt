@@ -25,7 +25,7 @@ gathered_more f start now xs i x h e so =
 pub gathered_all : {X Y : Type 0} (f : X → List Y) (start now : List Y) (xs : List X) (i : ℕ) → length xs ≤ i → now ≡ start ++ flat_map f (take i xs) → now ≡ start ++ flat_map f xs
 gathered_all f start now xs i h so = so ∙ ap (λ t. start ++ flat_map f t) (take_all i xs h)
 
-numbers_end : (n k : ℕ) → numbers n (suc k) ≡ numbers n k ++ (n + k) ∷ []
+pub numbers_end : (n k : ℕ) → numbers n (suc k) ≡ numbers n k ++ (n + k) ∷ []
 numbers_end n zero = let e : n ≡ n + 0 = omega arith in ap (λ m. m ∷ []) e
 numbers_end n (suc k) = let e : suc n + k ≡ n + suc k = omega arith in ap (λ t. n ∷ t) (numbers_end (suc n) k) ∙ ap (λ m. n ∷ (numbers (suc n) k ++ m ∷ [])) e
 
@@ -61,7 +61,7 @@ given_more early start now os ss k o s h g e f so =
     ap (λ t. t ++ record { lane = o; from = s; early = early } ∷ []) so ∙ append_assoc start (moved_acts early (take k os) ss) (record { lane = o; from = s; early = early } ∷ [])
     ∙ ap (λ t. start ++ t) (sym (moved_next early os ss k o s h g e f) ∙ ap (λ m. moved_acts early (take m os) ss) n)
 
-get-same : {X : Type 0} (xs : List X) (k : ℕ) (d e : X) → k < length xs → get_or xs k d ≡ get_or xs k e
+pub get-same : {X : Type 0} (xs : List X) (k : ℕ) (d e : X) → k < length xs → get_or xs k d ≡ get_or xs k e
 get-same [] k d e h = absurd (omega arith)
 get-same (x ∷ xs) zero d e h = refl
 get-same (x ∷ xs) (suc k) d e h = get-same xs k d e (omega arith)

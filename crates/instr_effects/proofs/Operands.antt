@@ -51,7 +51,7 @@ other_owners_of t f o = go (o.def && o.undef)
 
 -- the lane of a tested register at a place
 
-picked : (k : ℕ) (b : Bool) (ls : List Lane) → filter_map source_owner (pick k (map (cond b (λ l. Undef) FromLane) ls)) ≡ cond b [] (pick k (map owner_of ls))
+pub picked : (k : ℕ) (b : Bool) (ls : List Lane) → filter_map source_owner (pick k (map (cond b (λ l. Undef) FromLane) ls)) ≡ cond b [] (pick k (map owner_of ls))
 picked k true [] = refl
 picked k false [] = refl
 picked zero true (l ∷ ls) = refl

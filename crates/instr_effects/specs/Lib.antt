@@ -7,3 +7,4 @@ pub mod Steps
 pub mod Stepping
 pub mod Laws
 pub mod Ends
+pub mod Runs

@@ -1,25 +1,27 @@
-//! What counted instructions read and write, lane by lane.
+//! What counted instructions read and write.
 
-ghost use Rattle.std.specs.Prelude.{◌≡◌, ◌++◌, IfOk, OnOk, map, find, filter, flat_map, not, false};
+ghost use Rattle.std.specs.Prelude.{◌≡◌, ◌++◌, OnOk, map, filter, filter_map, find, flat_map, nat_abs, not, false, ◌&&◌, cond, []};
 ghost use Rattle.std.specs.List.{list_any};
 ghost use Rattle.target_base.specs.Numbers.{unit_number};
 ghost use Rattle.target_base.specs.Roles.{is_implicit};
 ghost use Rattle.target_base.specs.Registers.{units_of};
 ghost use Rattle.target_base.specs.Storage.{is_among};
 ghost use Rattle.meaning.specs.Perform.{condition_lane};
-ghost use Rattle.mir_func.specs.Binding.{is_early_clobber, takes_role, as_immediate, immediate_of};
-ghost use Rattle.mir_meaning.specs.Items.{preserves};
-ghost use Rattle.instr_effects.specs.Acts.{plain, acts_of, counted_acts, call_writes, unpreserved, is_call, tested_role, takes_some, flag_owners, implicit_owners, counted_owners};
+ghost use Rattle.mir_func.specs.Binding.{is_early_clobber, as_immediate, immediate_of};
+ghost use Rattle.mir_meaning.specs.Items.{preserves, result_writes};
+ghost use Rattle.instr_effects.specs.Acts.{plain, acts_of, counted_acts, call_writes, unpreserved, is_call, tested_role, takes_some, flag_owners, use_owners, implicit_owners, implicit_uses, counted_owners};
+ghost use Rattle.instr_effects.specs.Numbered.{number_in};
+ghost use Rattle.instr_effects.specs.Owners.{operand_owners};
+ghost use Rattle.instr_effects.specs.Runs.{of_kind, unit_clobbered};
+ghost use Rattle.instr_effects.specs.Steps.{act_writings};
 ghost use Rattle.instr_effects.specs.declared.owner.Owner.TheVariants as owners;
 
-use crate::acts::Act;
-use crate::owner::Owner;
-use crate::registers::{
-    LaneReader, explicit_definitions, explicit_uses, implicit_definitions, implicit_uses,
-    mask_regs, registers, units_at,
-};
+use crate::effects::Reader;
+use crate::registers::{mask_regs, units_at};
+use crate::run::{push_lane, push_writing};
+use mir_meaning::Writing;
 use mir_func::{Loc, Operand, RegOp};
-use std::alloc::{AllocError, Global};
+use std::alloc::AllocError;
 use target_base::{Effect, OpcodeDesc, Reg, Role, Target};
 
 /// Whether an opcode's definition is an early-clobber one.
@@ -122,26 +124,6 @@ fn condition_lane(condition: u128) -> usize
     }
 }
 
-/// Those of these operands that a role names.
-fn named(alloc: Global, ops: &[RegOp], role: Option<Role>) -> Result<Vec<RegOp>, AllocError>
-    ensures { IfOk result (λ v. v.items ≡ filter (takes_some role) ops.now) }
-{
-    ops.iter()
-        .filter(|o| takes_role(o, role))
-        .copied()
-        .collect(alloc)
-}
-
-/// Those of these operands that a role doesn't name.
-fn not_named(alloc: Global, ops: &[RegOp], role: Option<Role>) -> Result<Vec<RegOp>, AllocError>
-    ensures { IfOk result (λ v. v.items ≡ filter (λ o. not (takes_some role o)) ops.now) }
-{
-    ops.iter()
-        .filter(|o| !takes_role(o, role))
-        .copied()
-        .collect(alloc)
-}
-
 /// Whether an effect is a call.
 fn is_call(effect: Effect) -> bool
     ensures { result ≡ is_call effect }
@@ -159,126 +141,266 @@ fn tested_role(effect: Effect, roles: &[Role]) -> Option<Role>
     }
 }
 
-impl<'a> LaneReader<'a> {
+impl<'a> Reader<'a> {
+    /// Adds the writing of a unit, if no mask among the operands preserves it.
+    fn clobber_unit(
+        self,
+        operands: &[Operand],
+        u: u32,
+        writes: &mut Vec<Writing>,
+    ) -> Result<(), AllocError>
+        ensures { OnOk result (writes.new.items ≡ writes.old.items ++ unit_clobbered self.entry.target.now (number_in self.entry.lanes.now) operands.now u) }
+    {
+        if !is_preserved(self.target, operands, u) {
+            push_writing(self.lanes.unit(u), false, writes)?;
+        }
+        Ok(())
+    }
+
     /// Adds the units that no mask among the operands preserves.
-    fn fill_unpreserved(self, operands: &[Operand], writes: &mut Vec<Act>) -> Result<(), AllocError>
-        ensures { OnOk result (writes.new.items ≡ writes.old.items ++ map (λ u. plain false (owners.Unit u)) (unpreserved self.entry.target.now operands.now)) }
+    #[tactic(auto, using(crate::proofs::CountedParts::units_more, crate::proofs::CountedParts::unpreserved_units))]
+    fn clobber_units(
+        self,
+        operands: &[Operand],
+        writes: &mut Vec<Writing>,
+    ) -> Result<(), AllocError>
+        ensures { OnOk result (writes.new.items ≡ writes.old.items ++ act_writings (number_in self.entry.lanes.now) (map (λ u. plain false (owners.Unit u)) (unpreserved self.entry.target.now operands.now))) }
     {
         let Ok(count) = u32::try_from(self.target.units.len()) else {
             return Err(AllocError);
         };
         'units: for u in 0..count {
-            if !is_preserved(self.target, operands, u) {
-                writes.push(Act {
-                    lane: Owner::Unit(u),
-                    from: None,
-                    early: false,
-                })?;
-            }
+            self.clobber_unit(operands, u, writes)?;
         }
         Ok(())
     }
 
     /// Adds the units that a call makes undefined.
-    #[tactic(auto, using(crate::proofs::Writes::no_call, crate::proofs::Writes::call_acts))]
+    #[tactic(auto, using(crate::proofs::CountedParts::no_clobber, crate::proofs::CountedParts::call_clobber))]
     fn clobber(
         self,
         effect: Effect,
         operands: &[Operand],
-        writes: &mut Vec<Act>,
+        writes: &mut Vec<Writing>,
     ) -> Result<(), AllocError>
-        ensures { OnOk result (writes.new.items ≡ writes.old.items ++ acts_of (call_writes self.entry.target.now effect operands.now)) }
+        ensures { OnOk result (writes.new.items ≡ writes.old.items ++ act_writings (number_in self.entry.lanes.now) (acts_of (call_writes self.entry.target.now effect operands.now))) }
     {
         if !is_call(effect) {
             return Ok(());
         }
-        self.fill_unpreserved(operands, writes)?;
+        self.clobber_units(operands, writes)
+    }
+
+    /// Adds what an operand writes, if it is an explicit definition.
+    fn write_explicit(
+        self,
+        operand: &Operand,
+        early: bool,
+        writes: &mut Vec<Writing>,
+    ) -> Result<(), AllocError>
+        ensures { OnOk result (writes.new.items ≡ writes.old.items ++ of_kind (λ o. o.def && not o.implicit) (λ o. act_writings (number_in self.entry.lanes.now) (acts_of (result_writes self.entry.target.now self.entry.func.now early o))) operand.now) }
+    {
+        if let Operand::Reg(op) = operand {
+            if op.def && !op.implicit {
+                self.fill_result(op, early, writes)?;
+            }
+        }
+        Ok(())
+    }
+
+    /// Adds what the explicit definitions write.
+    #[tactic(auto, using(crate::proofs::Loops::gathered_more, crate::proofs::Loops::gathered_all))]
+    fn write_explicits(
+        self,
+        operands: &[Operand],
+        early: bool,
+        writes: &mut Vec<Writing>,
+    ) -> Result<(), AllocError>
+        ensures { OnOk result (writes.new.items ≡ writes.old.items ++ flat_map (of_kind (λ o. o.def && not o.implicit) (λ o. act_writings (number_in self.entry.lanes.now) (acts_of (result_writes self.entry.target.now self.entry.func.now early o)))) operands.now) }
+    {
+        'operands: for operand in operands {
+            self.write_explicit(operand, early, writes)?;
+        }
+        Ok(())
+    }
+
+    /// Adds what an operand writes, if it is an implicit definition.
+    fn write_implicit(self, operand: &Operand, writes: &mut Vec<Writing>) -> Result<(), AllocError>
+        ensures { OnOk result (writes.new.items ≡ writes.old.items ++ of_kind (λ o. o.implicit && o.def) (λ o. act_writings (number_in self.entry.lanes.now) (map (plain false) (operand_owners self.entry.target.now self.entry.func.now o))) operand.now) }
+    {
+        if let Operand::Reg(op) = operand {
+            if op.implicit && op.def {
+                self.fill_register(op, false, writes)?;
+            }
+        }
+        Ok(())
+    }
+
+    /// Adds what the implicit definitions write.
+    #[tactic(auto, using(crate::proofs::Loops::gathered_more, crate::proofs::Loops::gathered_all))]
+    fn write_implicits(
+        self,
+        operands: &[Operand],
+        writes: &mut Vec<Writing>,
+    ) -> Result<(), AllocError>
+        ensures { OnOk result (writes.new.items ≡ writes.old.items ++ flat_map (of_kind (λ o. o.implicit && o.def) (λ o. act_writings (number_in self.entry.lanes.now) (map (plain false) (operand_owners self.entry.target.now self.entry.func.now o)))) operands.now) }
+    {
+        'operands: for operand in operands {
+            self.write_implicit(operand, writes)?;
+        }
         Ok(())
     }
 
     /// Adds what a counted instruction writes.
-    #[tactic(auto, using(crate::proofs::Writes::counted_parts))]
+    #[tactic(auto, using(crate::proofs::CountedParts::unpreserved_units))]
     pub(crate) fn write_counted(
         self,
         desc: &OpcodeDesc,
         operands: &[Operand],
-        writes: &mut Vec<Act>,
+        writes: &mut Vec<Writing>,
     ) -> Result<(), AllocError>
-        ensures { OnOk result (writes.new.items ≡ writes.old.items ++ acts_of (counted_acts self.entry.target.now self.entry.func.now desc.now.effect desc.now.roles operands.now)) }
+        ensures { OnOk result (writes.new.items ≡ writes.old.items ++ act_writings (number_in self.entry.lanes.now) (acts_of (counted_acts self.entry.target.now self.entry.func.now desc.now.effect desc.now.roles operands.now))) }
     {
-        let all = registers(self.alloc, operands)?;
-        let explicit = explicit_definitions(self.alloc, all.as_slice())?;
         let early = is_early_clobber(desc.roles.as_slice());
-        self.fill_results(explicit.as_slice(), early, writes)?;
-        let implicit = implicit_definitions(self.alloc, all.as_slice())?;
-        self.fill_registers(implicit.as_slice(), writes)?;
+        self.write_explicits(operands, early, writes)?;
+        self.write_implicits(operands, writes)?;
         self.clobber(desc.effect, operands, writes)?;
         Ok(())
     }
 
+    /// Adds what an operand reads, if it is an explicit use.
+    fn read_explicit(self, operand: &Operand, reads: &mut Vec<u32>) -> Result<(), AllocError>
+        ensures { OnOk result (reads.new.items ≡ reads.old.items ++ of_kind (λ o. not o.def && not o.implicit) (λ o. filter_map (number_in self.entry.lanes.now) (use_owners self.entry.target.now self.entry.func.now o)) operand.now) }
+    {
+        if let Operand::Reg(op) = operand {
+            if !op.def && !op.implicit {
+                self.read(op, reads)?;
+            }
+        }
+        Ok(())
+    }
+
+    /// Adds what the explicit uses read.
+    #[tactic(auto, using(crate::proofs::Loops::gathered_more, crate::proofs::Loops::gathered_all))]
+    fn read_explicits(self, operands: &[Operand], reads: &mut Vec<u32>) -> Result<(), AllocError>
+        ensures { OnOk result (reads.new.items ≡ reads.old.items ++ flat_map (of_kind (λ o. not o.def && not o.implicit) (λ o. filter_map (number_in self.entry.lanes.now) (use_owners self.entry.target.now self.entry.func.now o))) operands.now) }
+    {
+        'operands: for operand in operands {
+            self.read_explicit(operand, reads)?;
+        }
+        Ok(())
+    }
+
+    /// Adds what an operand reads, if it is an implicit use that no role names.
+    fn read_implicit(
+        self,
+        tested: Option<Role>,
+        operand: &Operand,
+        reads: &mut Vec<u32>,
+    ) -> Result<(), AllocError>
+        ensures { OnOk result (reads.new.items ≡ reads.old.items ++ of_kind (λ o. (o.implicit && not o.def) && not (takes_some tested o)) (λ o. filter_map (number_in self.entry.lanes.now) (use_owners self.entry.target.now self.entry.func.now o)) operand.now) }
+    {
+        if let Operand::Reg(op) = operand {
+            if op.implicit && !op.def && !takes_role(op, tested) {
+                self.read(op, reads)?;
+            }
+        }
+        Ok(())
+    }
+
+    /// Adds what the implicit uses read that no role names.
+    #[tactic(auto, using(crate::proofs::Loops::gathered_more, crate::proofs::Loops::gathered_all))]
+    fn read_implicits(
+        self,
+        tested: Option<Role>,
+        operands: &[Operand],
+        reads: &mut Vec<u32>,
+    ) -> Result<(), AllocError>
+        ensures { OnOk result (reads.new.items ≡ reads.old.items ++ flat_map (of_kind (λ o. (o.implicit && not o.def) && not (takes_some tested o)) (λ o. filter_map (number_in self.entry.lanes.now) (use_owners self.entry.target.now self.entry.func.now o))) operands.now) }
+    {
+        'operands: for operand in operands {
+            self.read_implicit(tested, operand, reads)?;
+        }
+        Ok(())
+    }
+
     /// Adds the lane at a place of a register that is tested.
-    #[tactic(auto, using(crate::proofs::Operands::flag_none, crate::proofs::Operands::flag_some, crate::proofs::Operands::flag_past))]
-    fn read_flag(self, op: &RegOp, place: usize, reads: &mut Vec<Owner>) -> Result<(), AllocError>
-        ensures { OnOk result (reads.new.items ≡ reads.old.items ++ flag_owners self.entry.target.now self.entry.func.now place op.now) }
+    #[tactic(auto, using(crate::proofs::CountedParts::flag_undef, crate::proofs::CountedParts::flag_read))]
+    fn read_flag(self, op: &RegOp, place: usize, reads: &mut Vec<u32>) -> Result<(), AllocError>
+        ensures { OnOk result (reads.new.items ≡ reads.old.items ++ filter_map (number_in self.entry.lanes.now) (flag_owners self.entry.target.now self.entry.func.now place op.now)) }
     {
         if op.undef {
             return Ok(());
         }
-        let lanes = self.lanes(op)?;
-        if place < lanes.len() {
-            reads.push(lanes[place])?;
-        }
-        Ok(())
+        push_lane(self.operand_lanes(op).number(place), reads)
     }
 
-    /// Adds the lanes at a place of the registers that are tested.
-    fn read_flags(
-        self,
-        ops: &[RegOp],
-        place: usize,
-        reads: &mut Vec<Owner>,
-    ) -> Result<(), AllocError>
-        ensures { OnOk result (reads.new.items ≡ reads.old.items ++ flat_map (flag_owners self.entry.target.now self.entry.func.now place) ops.now) }
-    {
-        'ops: for op in ops {
-            self.read_flag(op, place, reads)?;
-        }
-        Ok(())
-    }
-
-    /// Adds what implicit uses read: of the flags that a conditional jump tests, that of its condition.
-    fn read_implicit(
+    /// Adds the lane at a place of an operand, if it is an implicit use that a role names.
+    fn test(
         self,
         tested: Option<Role>,
         place: usize,
-        ops: &[RegOp],
-        reads: &mut Vec<Owner>,
+        operand: &Operand,
+        reads: &mut Vec<u32>,
     ) -> Result<(), AllocError>
-        ensures { OnOk result (reads.new.items ≡ reads.old.items ++ implicit_owners self.entry.target.now self.entry.func.now tested place ops.now) }
+        ensures { OnOk result (reads.new.items ≡ reads.old.items ++ of_kind (λ o. (o.implicit && not o.def) && takes_some tested o) (λ o. filter_map (number_in self.entry.lanes.now) (flag_owners self.entry.target.now self.entry.func.now place o)) operand.now) }
     {
-        let flags = named(self.alloc, ops, tested)?;
-        self.read_flags(flags.as_slice(), place, reads)?;
-        let others = not_named(self.alloc, ops, tested)?;
-        self.read_all(others.as_slice(), reads)?;
+        if let Operand::Reg(op) = operand {
+            if op.implicit && !op.def && takes_role(op, tested) {
+                self.read_flag(op, place, reads)?;
+            }
+        }
         Ok(())
     }
 
+    /// Adds the lanes at a place of the implicit uses that a role names.
+    #[tactic(auto, using(crate::proofs::Loops::gathered_more, crate::proofs::Loops::gathered_all))]
+    fn test_all(
+        self,
+        tested: Option<Role>,
+        place: usize,
+        operands: &[Operand],
+        reads: &mut Vec<u32>,
+    ) -> Result<(), AllocError>
+        ensures { OnOk result (reads.new.items ≡ reads.old.items ++ flat_map (of_kind (λ o. (o.implicit && not o.def) && takes_some tested o) (λ o. filter_map (number_in self.entry.lanes.now) (flag_owners self.entry.target.now self.entry.func.now place o))) operands.now) }
+    {
+        'operands: for operand in operands {
+            self.test(tested, place, operand, reads)?;
+        }
+        Ok(())
+    }
+
+    /// Adds the flag of a conditional jump's condition, of the flags that it tests.
+    #[tactic(auto, using(crate::proofs::CountedParts::untested, crate::proofs::CountedParts::flags_read))]
+    fn read_condition(
+        self,
+        tested: Option<Role>,
+        operands: &[Operand],
+        reads: &mut Vec<u32>,
+    ) -> Result<(), AllocError>
+        ensures { OnOk result (reads.new.items ≡ reads.old.items ++ filter_map (number_in self.entry.lanes.now) (flat_map (flag_owners self.entry.target.now self.entry.func.now (condition_lane (nat_abs (immediate_of operands.now)))) (filter (takes_some tested) (implicit_uses operands.now)))) }
+    {
+        if tested.is_none() {
+            return Ok(());
+        }
+        let place = condition_lane(immediate_of(operands).unsigned_abs());
+        self.test_all(tested, place, operands, reads)
+    }
+
     /// Adds what a counted instruction reads.
+    #[tactic(auto, using(crate::proofs::CountedParts::flags_read))]
     pub(crate) fn read_counted(
         self,
         desc: &OpcodeDesc,
         operands: &[Operand],
-        reads: &mut Vec<Owner>,
+        reads: &mut Vec<u32>,
     ) -> Result<(), AllocError>
-        ensures { OnOk result (reads.new.items ≡ reads.old.items ++ counted_owners self.entry.target.now self.entry.func.now desc.now.effect desc.now.roles operands.now) }
+        ensures { OnOk result (reads.new.items ≡ reads.old.items ++ filter_map (number_in self.entry.lanes.now) (counted_owners self.entry.target.now self.entry.func.now desc.now.effect desc.now.roles operands.now)) }
     {
-        let all = registers(self.alloc, operands)?;
-        let explicit = explicit_uses(self.alloc, all.as_slice())?;
-        self.read_all(explicit.as_slice(), reads)?;
-        let implicit = implicit_uses(self.alloc, all.as_slice())?;
+        self.read_explicits(operands, reads)?;
         let tested = tested_role(desc.effect, desc.roles.as_slice());
-        let place = condition_lane(immediate_of(operands).unsigned_abs());
-        self.read_implicit(tested, place, implicit.as_slice(), reads)?;
+        self.read_condition(tested, operands, reads)?;
+        self.read_implicits(tested, operands, reads)?;
         Ok(())
     }
 }

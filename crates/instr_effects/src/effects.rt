@@ -1,20 +1,20 @@
 //! What an instruction reads and writes, by the numbers of lanes.
 
-ghost use Rattle.std.specs.Prelude.{◌≡◌, ◌++◌, IfOk, map, filter_map, option_and_then};
+ghost use Rattle.std.specs.Prelude.{◌≡◌, ◌++◌, [], IfOk, OnOk, map, filter_map};
 ghost use Rattle.target_base.specs.Rules.{is_phi};
-ghost use Rattle.instr_effects.specs.Acts.{acts_of, read_owners, entered_reads, entered_writes};
+ghost use Rattle.instr_effects.specs.Acts.{acts_of, read_owners, effect_owners, effect_acts, entered_reads, entered_writes};
 ghost use Rattle.instr_effects.specs.Ends.{pairs_of, pairs_behind, end_uses, as_block, block_at, first_pair};
 ghost use Rattle.instr_effects.specs.Numbered.{number_in};
-ghost use Rattle.instr_effects.specs.Steps.{act_writing, act_writings, act_reading, act_readings, phi_read_of, seen_read};
+ghost use Rattle.instr_effects.specs.Steps.{act_writings, act_readings, phi_read_of, seen_read};
 
-use crate::acts::Act;
+use crate::counted::is_early_clobber;
 use crate::lanes::LaneTable;
-use crate::owner::Owner;
-use crate::registers::{LaneReader, desc_of, register_at};
+use crate::registers::{desc_of, register_at};
+use crate::silent::is_silent;
 use mir_meaning::Writing;
 use mir_func::{Func, Instr, Operand, RegOp};
 use std::alloc::{AllocError, Global};
-use target_base::{Effect, Target};
+use target_base::{Effect, OpcodeDesc, Target};
 
 /// What an instruction does to lanes that aren't reserved. Of two writings of a lane, or two moves
 /// of a lane, the first counts.
@@ -35,58 +35,16 @@ pub struct PhiRead {
     pub lanes: Vec<u32>,
 }
 
-impl LaneTable {
-    /// What an act writes, where its lane isn't reserved.
-    fn writing(&self, act: &Act) -> Option<Writing>
-        ensures { result ≡ act_writing (number_in self.now) act.now }
+impl Effects {
+    /// Nothing, with room for what most instructions do.
+    fn new(alloc: Global) -> Result<Effects, AllocError>
+        ensures reads { IfOk result (λ e. e.reads.items ≡ []) }
+        ensures writes { IfOk result (λ e. e.writes.items ≡ []) }
     {
-        let lane = self.number(act.lane)?;
-        Some(Writing {
-            lane,
-            from: self.source(act.from),
-            early: act.early,
+        Ok(Effects {
+            reads: Vec::with_capacity(alloc, 8)?,
+            writes: Vec::with_capacity(alloc, 8)?,
         })
-    }
-
-    /// The number of a lane that is moved, if one is.
-    fn source(&self, from: Option<Owner>) -> Option<u32>
-        ensures { result ≡ option_and_then (number_in self.now) from }
-    {
-        match from {
-            Some(owner) => self.number(owner),
-            None => None,
-        }
-    }
-
-    /// What an act reads whose lane is reserved.
-    fn reading(&self, act: &Act) -> Option<u32>
-        ensures { result ≡ act_reading (number_in self.now) act.now }
-    {
-        match self.number(act.lane) {
-            Some(_) => None,
-            None => self.source(act.from),
-        }
-    }
-
-    /// The numbers of these lanes, without those that have none.
-    fn numbers(&self, alloc: Global, owners: &[Owner]) -> Result<Vec<u32>, AllocError>
-        ensures { IfOk result (λ v. v.items ≡ filter_map (number_in self.now) owners.now) }
-    {
-        owners.iter().filter_map(|o| self.number(*o)).collect(alloc)
-    }
-
-    /// What these acts write.
-    fn writings(&self, alloc: Global, acts: &[Act]) -> Result<Vec<Writing>, AllocError>
-        ensures { IfOk result (λ v. v.items ≡ act_writings (number_in self.now) acts.now) }
-    {
-        acts.iter().filter_map(|a| self.writing(a)).collect(alloc)
-    }
-
-    /// What these acts read whose lanes are reserved.
-    fn readings(&self, alloc: Global, acts: &[Act]) -> Result<Vec<u32>, AllocError>
-        ensures { IfOk result (λ v. v.items ≡ act_readings (number_in self.now) acts.now) }
-    {
-        acts.iter().filter_map(|a| self.reading(a)).collect(alloc)
     }
 }
 
@@ -104,37 +62,48 @@ pub struct Reader<'a> {
 }
 
 impl<'a> Reader<'a> {
-    fn names(self) -> LaneReader<'a>
-        ensures target { result.target.now ≡ self.entry.target.now }
-        ensures func { result.func.now ≡ self.entry.func.now }
+    /// Adds what an instruction with this opcode does to lanes.
+    #[tactic(auto, using(crate::proofs::CountedParts::no_readings))]
+    fn add(
+        self,
+        desc: &OpcodeDesc,
+        operands: &[Operand],
+        effects: &mut Effects,
+    ) -> Result<(), AllocError>
+        ensures reads { OnOk result (effects.new.reads.items ≡ effects.old.reads.items ++ (filter_map (number_in self.entry.lanes.now) (effect_owners self.entry.target.now self.entry.func.now desc.now.effect desc.now.roles operands.now) ++ act_readings (number_in self.entry.lanes.now) (acts_of (effect_acts self.entry.target.now self.entry.func.now desc.now.effect desc.now.roles operands.now)))) }
+        ensures writes { OnOk result (effects.new.writes.items ≡ effects.old.writes.items ++ act_writings (number_in self.entry.lanes.now) (acts_of (effect_acts self.entry.target.now self.entry.func.now desc.now.effect desc.now.roles operands.now))) }
     {
-        LaneReader {
-            alloc: self.alloc,
-            target: self.target,
-            func: self.func,
+        if is_silent(desc.effect) {
+            let early = is_early_clobber(desc.roles.as_slice());
+            self.read_silently(desc.effect, operands, &mut effects.reads)?;
+            self.write_silently(desc.effect, early, operands, effects)?;
+        } else {
+            self.read_counted(desc, operands, &mut effects.reads)?;
+            self.write_counted(desc, operands, &mut effects.writes)?;
         }
+        Ok(())
     }
 
     /// What an instruction does to lanes.
+    #[tactic(auto, using(crate::proofs::Known::reads_known, crate::proofs::Known::reads_unknown, crate::proofs::Known::writes_known, crate::proofs::Known::writes_unknown))]
     pub fn effects(self, instr: &Instr) -> Result<Effects, AllocError>
         ensures reads { IfOk result (λ e. e.reads.items ≡ filter_map (number_in self.entry.lanes.now) (read_owners (entered_reads self.entry.target.now self.entry.func.now instr.now)) ++ act_readings (number_in self.entry.lanes.now) (acts_of (entered_writes self.entry.target.now self.entry.func.now instr.now))) }
         ensures writes { IfOk result (λ e. e.writes.items ≡ act_writings (number_in self.entry.lanes.now) (acts_of (entered_writes self.entry.target.now self.entry.func.now instr.now))) }
     {
-        let acts = self.names().acts(instr)?;
-        let mut reads = self.lanes.numbers(self.alloc, acts.reads.as_slice())?;
-        let kept = self.lanes.readings(self.alloc, acts.writes.as_slice())?;
-        reads.extend_from_slice(kept.as_slice())?;
-        let writes = self.lanes.writings(self.alloc, acts.writes.as_slice())?;
-        Ok(Effects { reads, writes })
+        let mut effects = Effects::new(self.alloc)?;
+        let Some(desc) = desc_of(self.target, instr) else {
+            return Ok(effects);
+        };
+        self.add(desc, instr.operands.as_slice(), &mut effects)?;
+        Ok(effects)
     }
 
     /// What a use of a phi reads at the end of a block before the phi's.
     fn phi_read(self, op: &RegOp, block: u32) -> Result<PhiRead, AllocError>
         ensures { IfOk result (λ r. seen_read r ≡ phi_read_of self.entry.target.now self.entry.func.now (number_in self.entry.lanes.now) (op.now, block)) }
     {
-        let mut owners = Vec::new(self.alloc);
-        self.names().read(op, &mut owners)?;
-        let lanes = self.lanes.numbers(self.alloc, owners.as_slice())?;
+        let mut lanes = Vec::new(self.alloc);
+        self.read(op, &mut lanes)?;
         Ok(PhiRead { block, lanes })
     }
 

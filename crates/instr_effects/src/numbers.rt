@@ -21,6 +21,16 @@ use target_base::Target;
 /// More lanes than a register has.
 pub const LANES_OF_A_SLOT: usize = 32;
 
+/// A unit by its number, where it isn't one of the reserved ones.
+pub(crate) fn unit_number(reserved: &[bool], u: u32) -> Option<u32>
+    ensures { result ≡ unit_number_in reserved.now u }
+{
+    match reserved.get(u as usize) {
+        Some(is_reserved) => { if *is_reserved { None } else { Some(u) } }
+        None => None,
+    }
+}
+
 impl LaneTable {
     /// The number of lanes.
     pub fn len(&self) -> usize
@@ -40,13 +50,10 @@ impl LaneTable {
     }
 
     /// A unit by its number, where it isn't reserved.
-    fn unit(&self, u: u32) -> Option<u32>
+    pub(crate) fn unit(&self, u: u32) -> Option<u32>
         ensures { result ≡ unit_number_in self.now.reserved.items u }
     {
-        match self.reserved.get(u as usize) {
-            Some(is_reserved) => { if *is_reserved { None } else { Some(u) } }
-            None => None,
-        }
+        unit_number(self.reserved.as_slice(), u)
     }
 
     /// The number of a lane of a range.
@@ -56,14 +63,21 @@ impl LaneTable {
         self.of_range(v).lane(k)
     }
 
+    /// The lanes of a slot; none where it has no numbers.
+    pub fn of_slot(&self, s: u32) -> Lanes
+        ensures { (k : ℕ) → lane_in result.first result.count k ≡ row_number_in (get nat_cmp self.now.slots s) k }
+    {
+        match self.slots.get(&s) {
+            Some(lanes) => *lanes,
+            None => no_lanes(),
+        }
+    }
+
     /// The number of a lane of a slot, where the slot has numbers.
     fn slot(&self, s: u32, k: u32) -> Option<u32>
         ensures { result ≡ row_number_in (get nat_cmp self.now.slots s) k }
     {
-        match self.slots.get(&s) {
-            Some(first) => first.lane(k),
-            None => None,
-        }
+        self.of_slot(s).lane(k)
     }
 
     /// The number of a lane, where it has one; reserved units have none.

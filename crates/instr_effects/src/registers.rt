@@ -1,15 +1,13 @@
-//! What operands name: registers, their units and lanes, and the lanes that an index picks.
+//! What operands name: registers, their units, and the lanes that an index picks.
 
-ghost use Rattle.std.specs.Prelude.{◌≡◌, IfOk, length, map, filter, not, ◌&&◌, slice_get, option_copied};
+ghost use Rattle.std.specs.Prelude.{◌≡◌, IfOk, length, map, slice_get, option_copied};
 ghost use Rattle.target_base.specs.Registers.{units_of, lanes_of, widths_of, mask_regs};
-ghost use Rattle.mir_func.specs.Binding.{known_opcode, registers, as_register, register_at, as_slot, slot_at};
+ghost use Rattle.mir_func.specs.Binding.{known_opcode, as_register, register_at, as_slot, slot_at};
 ghost use Rattle.mir_meaning.specs.Registers.{range_widths, numbers};
-ghost use Rattle.instr_effects.specs.Owners.{operand_owners, located_owners};
 ghost use Rattle.instr_effects.specs.declared.owner.Owner.TheVariants as owners;
-ghost use Rattle.mir_func.specs.declared.func.Loc.TheVariants as locs;
 
 use crate::owner::Owner;
-use mir_func::{Func, Instr, Loc, Op, Operand, RegOp};
+use mir_func::{Func, Instr, Op, Operand, RegOp};
 use std::alloc::{AllocError, Global};
 use target_base::{ClassId, IndexId, MaskId, OpcodeDesc, Reg, Target, Unit};
 
@@ -123,92 +121,6 @@ pub fn mask_regs(target: &Target, mask: MaskId) -> &[Reg]
     }
 }
 
-/// The register operands, in order.
-pub fn registers(alloc: Global, operands: &[Operand]) -> Result<Vec<RegOp>, AllocError>
-    ensures { IfOk result (λ v. v.items ≡ registers operands.now) }
-{
-    operands
-        .iter()
-        .filter_map(|o| as_register(o))
-        .collect(alloc)
-}
-
-/// The explicit definitions among register operands, in order.
-pub fn explicit_definitions(alloc: Global, all: &[RegOp]) -> Result<Vec<RegOp>, AllocError>
-    ensures { IfOk result (λ v. v.items ≡ filter (λ o. o.def && not o.implicit) all.now) }
-{
-    all.iter()
-        .filter(|o| o.def && !o.implicit)
-        .copied()
-        .collect(alloc)
-}
-
-/// The implicit definitions among register operands, in order.
-pub fn implicit_definitions(alloc: Global, all: &[RegOp]) -> Result<Vec<RegOp>, AllocError>
-    ensures { IfOk result (λ v. v.items ≡ filter (λ o. o.def) (filter (λ o. o.implicit) all.now)) }
-{
-    all.iter()
-        .filter(|o| o.implicit)
-        .filter(|o| o.def)
-        .copied()
-        .collect(alloc)
-}
-
-/// The uses among register operands, in order.
-pub fn uses(alloc: Global, all: &[RegOp]) -> Result<Vec<RegOp>, AllocError>
-    ensures { IfOk result (λ v. v.items ≡ filter (λ o. not o.def) all.now) }
-{
-    all.iter().filter(|o| !o.def).copied().collect(alloc)
-}
-
-/// The explicit uses among register operands, in order.
-pub fn explicit_uses(alloc: Global, all: &[RegOp]) -> Result<Vec<RegOp>, AllocError>
-    ensures { IfOk result (λ v. v.items ≡ filter (λ o. not o.def && not o.implicit) all.now) }
-{
-    all.iter()
-        .filter(|o| !o.def && !o.implicit)
-        .copied()
-        .collect(alloc)
-}
-
-/// The implicit uses among register operands, in order.
-pub fn implicit_uses(alloc: Global, all: &[RegOp]) -> Result<Vec<RegOp>, AllocError>
-    ensures { IfOk result (λ v. v.items ≡ filter (λ o. not o.def) (filter (λ o. o.implicit) all.now)) }
-{
-    all.iter()
-        .filter(|o| o.implicit)
-        .filter(|o| !o.def)
-        .copied()
-        .collect(alloc)
-}
-
-/// The lanes of these units.
-fn unit_owners(alloc: Global, units: &[Unit]) -> Result<Vec<Owner>, AllocError>
-    ensures { IfOk result (λ v. v.items ≡ map (λ u. owners.Unit u.0) units.now) }
-{
-    units.iter().map(|u| Owner::Unit(u.0 as u32)).collect(alloc)
-}
-
-/// The lanes of a virtual register that an index picks.
-fn picked_owners(alloc: Global, v: u32, picked: &[u8]) -> Result<Vec<Owner>, AllocError>
-    ensures { IfOk result (λ x. x.items ≡ map (owners.Range v) picked.now) }
-{
-    picked
-        .iter()
-        .map(|k| Owner::Range(v, *k as u32))
-        .collect(alloc)
-}
-
-/// The lanes of a slot that an index picks.
-pub fn picked_slots(alloc: Global, s: u32, picked: &[u8]) -> Result<Vec<Owner>, AllocError>
-    ensures { IfOk result (λ x. x.items ≡ map (owners.Slot s) picked.now) }
-{
-    picked
-        .iter()
-        .map(|k| Owner::Slot(s, *k as u32))
-        .collect(alloc)
-}
-
 /// The first lanes of a virtual register.
 #[tactic(auto, using(crate::proofs::Loops::numbered_more))]
 pub(crate) fn first_owners(alloc: Global, v: u32, count: usize) -> Result<Vec<Owner>, AllocError>
@@ -237,49 +149,4 @@ pub fn first_slots(alloc: Global, s: u32, count: usize) -> Result<Vec<Owner>, Al
         lanes.push(Owner::Slot(s, k))?;
     }
     Ok(lanes)
-}
-
-/// A target and a function, in which operands name lanes.
-#[derive(Clone, Copy)]
-pub struct LaneReader<'a> {
-    /// Where lists are made.
-    pub alloc: Global,
-    /// The target.
-    pub target: &'a Target,
-    /// The function.
-    pub func: &'a Func,
-}
-
-impl<'a> LaneReader<'a> {
-    /// The lanes of a virtual register, or those that an index picks.
-    #[tactic(auto, using(crate::proofs::Operands::range_owners))]
-    fn range_lanes(self, v: u32, index: Option<IndexId>) -> Result<Vec<Owner>, AllocError>
-        ensures { IfOk result (λ x. x.items ≡ located_owners self.entry.target.now self.entry.func.now (locs.Virtual v) index) }
-    {
-        match index {
-            None => {
-                let count = lane_count(self.target, self.func, v);
-                Ok(first_owners(self.alloc, v, count)?)
-            }
-            Some(x) => Ok(picked_owners(self.alloc, v, index_lanes(self.target, x))?),
-        }
-    }
-
-    /// The lanes of a location, reserved units among them.
-    #[tactic(auto, using(crate::proofs::Operands::fixed_owners))]
-    pub fn located(self, loc: Loc, index: Option<IndexId>) -> Result<Vec<Owner>, AllocError>
-        ensures { IfOk result (λ x. x.items ≡ located_owners self.entry.target.now self.entry.func.now loc index) }
-    {
-        match loc {
-            Loc::Fixed(r) => Ok(unit_owners(self.alloc, units_at(self.target, r))?),
-            Loc::Virtual(v) => Ok(self.range_lanes(v, index)?),
-        }
-    }
-
-    /// The lanes of a register operand, reserved units among them.
-    pub fn lanes(self, op: &RegOp) -> Result<Vec<Owner>, AllocError>
-        ensures { IfOk result (λ x. x.items ≡ operand_owners self.entry.target.now self.entry.func.now op.now) }
-    {
-        self.located(op.loc, op.index)
-    }
 }

@@ -24,6 +24,17 @@ impl Lanes {
             None
         }
     }
+
+    /// The number of the lane at a place, where there is one.
+    pub fn lane_at(self, place: usize) -> Option<u32>
+        ensures { result ≡ lane_in self.first self.count place }
+    {
+        if place < self.count as usize {
+            Some(self.first + place as u32)
+        } else {
+            None
+        }
+    }
 }
 
 /// No lanes.
