@@ -158,4 +158,3 @@ counted_owners t f e rs os =
 -- the lanes that are read whatever is live behind the instruction
 abbrev pub effect_owners : Target → Function → Effect → List Role → List Operand → List Owner
 effect_owners t f e rs os = cond (is_silent e) (read_owners (silent_reads t f e os)) (counted_owners t f e rs os)
-

@@ -7,7 +7,7 @@ ghost use Rattle.target_base.specs.Roles.{is_implicit};
 ghost use Rattle.target_base.specs.Registers.{units_of};
 ghost use Rattle.target_base.specs.Storage.{is_among};
 ghost use Rattle.meaning.specs.Perform.{condition_lane};
-ghost use Rattle.mir_func.specs.Binding.{is_early_clobber, as_immediate, immediate_of};
+ghost use Rattle.mir_func.specs.Binding.{immediate_of};
 ghost use Rattle.mir_meaning.specs.Items.{preserves, result_writes};
 ghost use Rattle.instr_effects.specs.Acts.{plain, acts_of, counted_acts, call_writes, unpreserved, is_call, tested_role, takes_some, flag_owners, use_owners, implicit_owners, implicit_uses, counted_owners};
 ghost use Rattle.instr_effects.specs.Numbered.{number_in};
@@ -17,32 +17,22 @@ ghost use Rattle.instr_effects.specs.Steps.{act_writings};
 ghost use Rattle.instr_effects.specs.declared.owner.Owner.TheVariants as owners;
 
 use crate::effects::Reader;
-use crate::registers::{mask_regs, units_at};
+use crate::items::counted::condition_lane;
 use crate::run::{push_lane, push_writing};
-use mir_meaning::Writing;
+use mir_func::opcodes::is_early_clobber;
+use mir_func::operands::immediate_of;
 use mir_func::{Loc, Operand, RegOp};
+use mir_meaning::Writing;
 use std::alloc::AllocError;
+use target_base::registers::has_unit_number;
+use target_base::roles::is_implicit;
 use target_base::{Effect, OpcodeDesc, Reg, Role, Target};
-
-/// Whether an opcode's definition is an early-clobber one.
-pub fn is_early_clobber(roles: &[Role]) -> bool
-    ensures { result ≡ is_early_clobber roles.now }
-{
-    matches!(roles.first(), Some(Role::Early(_)))
-}
-
-/// Whether a register has a unit.
-fn has_unit(target: &Target, r: Reg, u: u32) -> bool
-    ensures { result ≡ is_among (units_of target.now r) (unit_number u) }
-{
-    units_at(target, r).iter().any(|v| v.0 as u32 == u)
-}
 
 /// Whether one of these registers has a unit.
 fn have_unit(target: &Target, regs: &[Reg], u: u32) -> bool
     ensures { result ≡ list_any (λ r. is_among (units_of target.now r) (unit_number u)) regs.now }
 {
-    regs.iter().any(|r| has_unit(target, *r, u))
+    regs.iter().any(|r| has_unit_number(target.units_at(*r), u))
 }
 
 /// Whether an operand is a mask that preserves a unit.
@@ -51,7 +41,7 @@ fn preserves(target: &Target, operand: &Operand, u: u32) -> bool
     ensures { result ≡ preserves target.now u operand.now }
 {
     match operand {
-        Operand::Mask(mask) => have_unit(target, mask_regs(target, *mask), u),
+        Operand::Mask(mask) => have_unit(target, target.mask_regs(*mask), u),
         _ => false,
     }
 }
@@ -74,54 +64,11 @@ fn takes_role(op: &RegOp, role: Option<Role>) -> bool
     }
 }
 
-/// Whether a role is implicit.
-fn is_implicit(role: Role) -> bool
-    ensures { result ≡ is_implicit role }
-{
-    matches!(role, Role::ImpDef(_) | Role::ImpRead(_))
-}
-
 /// The first implicit role.
 fn first_implicit(roles: &[Role]) -> Option<Role>
     ensures { result ≡ find is_implicit roles.now }
 {
     roles.iter().copied().find(|r| is_implicit(*r))
-}
-
-/// The operand as an immediate, where it is one.
-fn as_immediate(operand: &Operand) -> Option<i128>
-    ensures { result ≡ as_immediate operand.now }
-{
-    match operand {
-        Operand::Imm(value) => Some(*value),
-        _ => None,
-    }
-}
-
-/// The immediate operand, or 0.
-fn immediate_of(operands: &[Operand]) -> i128
-    ensures { result ≡ immediate_of operands.now }
-{
-    'operands: for operand in operands {
-        match as_immediate(operand) {
-            Some(value) => return value,
-            None => {}
-        }
-    }
-    0
-}
-
-/// The flag that a condition reads, by its place in the register of flags.
-fn condition_lane(condition: u128) -> usize
-    ensures { result ≡ condition_lane condition }
-{
-    if condition < 4 {
-        2
-    } else if condition < 6 {
-        0
-    } else {
-        1
-    }
 }
 
 /// Whether an effect is a call.

@@ -1,20 +1,19 @@
 //! What an instruction reads and writes, by the numbers of lanes.
 
 ghost use Rattle.std.specs.Prelude.{◌≡◌, ◌++◌, [], IfOk, OnOk, map, filter_map};
-ghost use Rattle.target_base.specs.Rules.{is_phi};
 ghost use Rattle.instr_effects.specs.Acts.{acts_of, read_owners, effect_owners, effect_acts, entered_reads, entered_writes};
 ghost use Rattle.instr_effects.specs.Ends.{pairs_of, pairs_behind, end_uses, as_block, block_at, first_pair};
 ghost use Rattle.instr_effects.specs.Numbered.{number_in};
 ghost use Rattle.instr_effects.specs.Steps.{act_writings, act_readings, phi_read_of, seen_read};
 
-use crate::counted::is_early_clobber;
 use crate::lanes::LaneTable;
-use crate::registers::{desc_of, register_at};
-use crate::silent::is_silent;
-use mir_meaning::Writing;
+use mir_func::opcodes::{desc_of, is_early_clobber};
+use mir_func::operands::register_at;
 use mir_func::{Func, Instr, Operand, RegOp};
+use mir_meaning::Writing;
 use std::alloc::{AllocError, Global};
-use target_base::{Effect, OpcodeDesc, Target};
+use target_base::roles::{is_phi, is_silent};
+use target_base::{OpcodeDesc, Target};
 
 /// What an instruction does to lanes that aren't reserved. Of two writings of a lane, or two moves
 /// of a lane, the first counts.
@@ -91,7 +90,7 @@ impl<'a> Reader<'a> {
         ensures writes { IfOk result (λ e. e.writes.items ≡ act_writings (number_in self.entry.lanes.now) (acts_of (entered_writes self.entry.target.now self.entry.func.now instr.now))) }
     {
         let mut effects = Effects::new(self.alloc)?;
-        let Some(desc) = desc_of(self.target, instr) else {
+        let Some(desc) = desc_of(self.target, &instr.op) else {
             return Ok(effects);
         };
         self.add(desc, instr.operands.as_slice(), &mut effects)?;
@@ -137,7 +136,7 @@ impl<'a> Reader<'a> {
     pub fn phi_reads(self, instr: &Instr) -> Result<Vec<PhiRead>, AllocError>
         ensures { IfOk result (λ rs. map seen_read rs.items ≡ map (phi_read_of self.entry.target.now self.entry.func.now (number_in self.entry.lanes.now)) (end_uses self.entry.target.now instr.now)) }
     {
-        let Some(desc) = desc_of(self.target, instr) else {
+        let Some(desc) = desc_of(self.target, &instr.op) else {
             return Ok(Vec::new(self.alloc));
         };
         if is_phi(desc.effect) {
@@ -146,13 +145,6 @@ impl<'a> Reader<'a> {
             Ok(Vec::new(self.alloc))
         }
     }
-}
-
-/// Whether an effect is that of a phi.
-fn is_phi(effect: Effect) -> bool
-    ensures { result ≡ is_phi effect }
-{
-    matches!(effect, Effect::Phi)
 }
 
 /// The block that an operand names, where it names one.

@@ -2,10 +2,10 @@
 //! values, said once for liveness, edits, verifiers, the checker and the interpreter.
 #![tactic(auto)]
 
-pub mod items;
 pub mod acts;
 pub mod counted;
 pub mod effects;
+pub mod items;
 pub mod lanes;
 pub mod laws;
 pub mod numbers;

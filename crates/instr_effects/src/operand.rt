@@ -11,10 +11,10 @@ ghost use Rattle.instr_effects.specs.Runs.{run_numbers, one_writing, one_move, o
 ghost use Rattle.instr_effects.specs.Steps.{act_writings};
 
 use crate::effects::{Effects, Reader};
-use crate::registers::{index_lanes, lane_count, units_at};
+use crate::registers::lane_count;
 use crate::run::{Run, move_lanes, push_lanes, push_writings};
-use mir_meaning::Writing;
 use mir_func::{Loc, RegOp};
+use mir_meaning::Writing;
 use std::alloc::AllocError;
 use target_base::IndexId;
 
@@ -27,7 +27,7 @@ impl<'a> Reader<'a> {
         let own = self.lanes.of_range(v);
         match index {
             None => Run::First(own, lane_count(self.target, self.func, v)),
-            Some(x) => Run::Picked(own, index_lanes(self.target, x)),
+            Some(x) => Run::Picked(own, self.target.lanes_at(x)),
         }
     }
 
@@ -37,7 +37,7 @@ impl<'a> Reader<'a> {
         ensures { run_numbers result ≡ map (number_in self.entry.lanes.now) (located_owners self.entry.target.now self.entry.func.now loc index) }
     {
         match loc {
-            Loc::Fixed(r) => Run::Units(units_at(self.target, r), self.lanes.reserved.as_slice()),
+            Loc::Fixed(r) => Run::Units(self.target.units_at(r), self.lanes.reserved.as_slice()),
             Loc::Virtual(v) => self.range_lanes(v, index),
         }
     }

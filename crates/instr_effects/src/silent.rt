@@ -2,7 +2,6 @@
 
 ghost use Rattle.std.specs.Prelude.{◌≡◌, ◌++◌, OnOk, map, filter_map, flat_map, cond, None, [], not};
 ghost use Rattle.mir_meaning.specs.Rules.{puts_together};
-ghost use Rattle.target_base.specs.Roles.{is_silent};
 ghost use Rattle.mir_meaning.specs.Items.{copied, defined_undef, given_constant, reloaded, silent_reads};
 ghost use Rattle.instr_effects.specs.Acts.{acts_of, read_owners, use_owners, filled_whole, stored, silent_acts, slot_numbers, is_constant};
 ghost use Rattle.instr_effects.specs.Numbered.{number_in};
@@ -12,30 +11,13 @@ ghost use Rattle.instr_effects.specs.Steps.{act_writings, act_readings};
 ghost use Rattle.instr_effects.specs.declared.owner.Owner.TheVariants as owners;
 
 use crate::effects::{Effects, Reader};
-use crate::registers::{index_lanes, operand_at, register_at, slot_at};
+use crate::registers::operand_at;
 use crate::run::{Run, move_lanes};
-use mir_meaning::Writing;
+use mir_func::operands::{register_at, slot_at};
 use mir_func::{Operand, RegOp};
+use mir_meaning::Writing;
 use std::alloc::AllocError;
 use target_base::Effect;
-
-/// Whether an instruction with this effect counts for nothing in a run.
-pub fn is_silent(effect: Effect) -> bool
-    ensures { result ≡ is_silent effect }
-{
-    matches!(
-        effect,
-        Effect::Copy
-            | Effect::Phi
-            | Effect::ImplicitDef
-            | Effect::RegSequence
-            | Effect::InsertSubreg
-            | Effect::Const
-            | Effect::Addr
-            | Effect::Spill
-            | Effect::Reload
-    )
-}
 
 /// Whether an instruction puts a register together from parts.
 fn puts_together(effect: Effect) -> bool
@@ -132,7 +114,7 @@ impl<'a> Reader<'a> {
     {
         let own = self.lanes.of_slot(slot);
         match lanes {
-            Operand::Index(x) => Run::Picked(own, index_lanes(self.target, *x)),
+            Operand::Index(x) => Run::Picked(own, self.target.lanes_at(*x)),
             _ => Run::First(own, count),
         }
     }

@@ -7,7 +7,8 @@ ghost use Rattle.mir_func.specs.Binding.{slot_at};
 ghost use Rattle.instr_effects.specs.Numbered.{IsTable, HasSlot, HasSlotsOf, NumbersAll, counts, class_counts};
 
 use crate::lanes::LaneTable;
-use crate::registers::{class_lanes, slot_at};
+use crate::registers::class_lanes;
+use mir_func::operands::slot_at;
 use mir_func::{Block, Func, Instr};
 use std::alloc::{AllocError, Global};
 use target_base::{Boxed, ClassId, Target};

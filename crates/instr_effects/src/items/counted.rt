@@ -377,7 +377,7 @@ fn picked<T: Copied>(alloc: Global, k: usize, items: &[T]) -> Result<List<T>, Al
 }
 
 /// The place, among three flags, of the one that a condition reads.
-fn condition_lane(c: u128) -> usize
+pub(crate) fn condition_lane(c: u128) -> usize
     ensures { result ≡ condition_lane c }
 {
     if c < 4 {

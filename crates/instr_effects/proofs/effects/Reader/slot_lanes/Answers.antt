@@ -12,7 +12,7 @@ pub returns-in-Index : goal.returns-in-Index
 returns-in-Index c =
     let t = c.args.self.target.now in
     let x = c.of_slot-own.result in
-    ap (map (lane_in x.first x.count)) c.index_lanes.ensures
+    ap (map (lane_in x.first x.count)) c.lanes_at.ensures
     ∙ slot_run x c.args.self.lanes.now c.args.slot c.of_slot-own.ensures (lanes_of t c.in-Index.x)
     ∙ ap (λ o. map (number_in c.args.self.lanes.now) (map (owners.Slot c.args.slot) (slot_numbers t c.args.count o))) (sym c.in-Index.is)
 
