@@ -1,16 +1,13 @@
 //! What a counted instruction reads, writes and does.
 
-ghost use Rattle.std.specs.Prelude.{◌≡◌, ◌+◌, ◌<◌, ◌≤◌, ◌-◌, ◌^◌, ◌%◌, ◌++◌, ◌∷◌, [], length, map, filter, filter_map, flat_map, OnOk, IfOk, IfSome, None, Some, option_to_list, cond, not, sum, nat_abs, IsTrue};
-ghost use Rattle.target_base.specs.Registers.{units_of};
-ghost use Rattle.target_base.specs.Roles.{is_implicit, is_silent};
+ghost use Rattle.std.specs.Prelude.{◌≡◌, ◌+◌, ◌<◌, ◌≤◌, ◌-◌, ◌^◌, ◌%◌, ◌++◌, ◌∷◌, [], map, filter, filter_map, OnOk, IfOk, IfSome, None, Some, option_to_list, cond, not, sum};
+ghost use Rattle.target_base.specs.Roles.{is_implicit};
 ghost use Rattle.meaning.specs.Environment.{residue, constant_source};
 ghost use Rattle.meaning.specs.declared.types.Constant.TheVariants.{Immediate};
 ghost use Rattle.meaning.specs.Perform.{condition_lane};
-ghost use Rattle.mir_func.specs.Binding.{effect_of, roles_of, implicit_roles, takes_role, is_early_clobber, is_implicit_operand, explicit_operands, implicit_registers, registers, immediate_of};
-ghost use Rattle.mir_meaning.specs.Registers.{operand_lanes, operand_widths, use_sources, undefined_lanes, is_reserved};
-ghost use Rattle.mir_meaning.specs.Items.{value_of, use_value, constant_value, computes_with_immediates, has_base, first_width, symbol_of, is_flags, pick, flag_value, implicit_values, values, explicit_definitions, implicit_definitions, result_writes, unreserved, all_lanes, answered, preserves, clobbered, kept, implicit_writes, counted_writes, lane_width, result_widths, read_widths, called_symbol, rest_of};
-ghost use Rattle.std.specs.List.{list_any};
-ghost use Rattle.target_base.specs.Storage.{is_among};
+ghost use Rattle.mir_func.specs.Binding.{roles_of, implicit_roles, takes_role, is_implicit_operand, explicit_operands, implicit_registers, registers, immediate_of};
+ghost use Rattle.mir_meaning.specs.Registers.{operand_widths, use_sources};
+ghost use Rattle.mir_meaning.specs.Items.{value_of, use_value, constant_value, computes_with_immediates, has_base, first_width, symbol_of, is_flags, pick, flag_value, implicit_values, values, result_widths, read_widths, called_symbol, rest_of};
 ghost use Rattle.target_base.specs.declared.types.Effect.TheVariants as effects;
 ghost use Rattle.std.specs.Bool.{beq};
 ghost use Rattle.meaning.specs.declared.types.Source.TheVariants.{Bits};
@@ -18,66 +15,15 @@ ghost use Rattle.meaning.specs.declared.types.Source.TheVariants.{Bits};
 use crate::items::lanes::{Sources, push_operand_widths, use_sources};
 use crate::items::results::result_widths;
 use meaning::{Constant, Reads, Rest, Source, Widths};
-use mir_func::{Func, Instr, Loc, Op, Operand, RegOp};
+use mir_func::opcodes::roles_of;
+use mir_func::operands::{immediate_of, is_implicit_operand, takes_role};
+use mir_func::{Func, Instr, Operand, RegOp};
 use std::alloc::{AllocError, Global};
+use target_base::roles::is_implicit;
 use target_base::{Bytes, Copied, Effect, List, Numbers, Role, Target};
 
 /// Operands that are read: the sources of each, and their widths.
 pub type Values = List<(Sources, Numbers)>;
-
-/// What the instruction's opcode computes; None where it is an excluded one.
-pub fn effect_of(t: &Target, i: &Instr) -> Option<Effect>
-    ensures { result ≡ effect_of t.now i.now }
-{
-    match &i.op {
-        Op::Excluded(_) => None,
-        Op::Known(o) => match t.opcodes.as_slice().get(o.0 as usize) {
-            None => None,
-            Some(d) => Some(d.effect),
-        },
-    }
-}
-
-/// The roles of the instruction's opcode; none where it is an excluded one.
-pub fn roles_of<'a>(t: &'a Target, i: &Instr) -> &'a [Role]
-    ensures { result.now ≡ roles_of t.now i.now }
-{
-    match &i.op {
-        Op::Excluded(_) => &[],
-        Op::Known(o) => match t.opcodes.as_slice().get(o.0 as usize) {
-            None => &[],
-            Some(d) => d.roles.as_slice(),
-        },
-    }
-}
-
-/// Whether an opcode's definition is an early-clobber one.
-pub fn is_early_clobber(roles: &[Role]) -> bool
-    ensures { result ≡ is_early_clobber roles.now }
-{
-    match roles.first() {
-        Some(Role::Early(_)) => true,
-        _ => false,
-    }
-}
-
-/// Whether an instruction of this effect counts for nothing in a run.
-pub fn is_silent(e: Effect) -> bool
-    ensures { result ≡ is_silent e }
-{
-    match e {
-        Effect::Copy
-        | Effect::Phi
-        | Effect::ImplicitDef
-        | Effect::RegSequence
-        | Effect::InsertSubreg
-        | Effect::Const
-        | Effect::Addr
-        | Effect::Spill
-        | Effect::Reload => true,
-        _ => false,
-    }
-}
 
 /// Whether an immediate operand of this effect is read as a register is.
 pub fn computes_with_immediates(e: Effect) -> bool
@@ -109,27 +55,6 @@ fn has_base(e: Effect) -> bool
 {
     match e {
         Effect::Load(_) | Effect::Store(_) => true,
-        _ => false,
-    }
-}
-
-/// Whether a role is an implicit one.
-fn is_implicit(r: Role) -> bool
-    ensures { result ≡ is_implicit r }
-{
-    match r {
-        Role::ImpDef(_) | Role::ImpRead(_) => true,
-        _ => false,
-    }
-}
-
-/// Whether an implicit operand is what the role names.
-fn takes_role(o: &RegOp, r: Role) -> bool
-    ensures { result ≡ takes_role o.now r }
-{
-    match (r, o.loc) {
-        (Role::ImpDef(q), Loc::Fixed(p)) => o.def && q.0 == p.0,
-        (Role::ImpRead(q), Loc::Fixed(p)) => !o.def && q.0 == p.0,
         _ => false,
     }
 }
@@ -172,18 +97,6 @@ pub fn residue(z: i128, w: u32) -> u128
     } else {
         ones(w) - low_bits(z.unsigned_abs() - 1, w)
     }
-}
-
-/// The first immediate operand, or 0.
-pub fn immediate_of(operands: &[Operand]) -> i128
-    ensures { result ≡ immediate_of operands.now }
-{
-    for o in operands {
-        if let Operand::Imm(z) = o {
-            return *z;
-        }
-    }
-    0
 }
 
 /// The first symbol operand, or nothing.
@@ -320,16 +233,6 @@ fn base_of(
         Ok(Some(address_value(alloc, address)?))
     } else {
         Ok(None)
-    }
-}
-
-/// Whether an operand is a register operand that is marked implicit.
-fn is_implicit_operand(o: &Operand) -> bool
-    ensures { result ≡ is_implicit_operand o.now }
-{
-    match o {
-        Operand::Reg(r) => r.implicit,
-        _ => false,
     }
 }
 

@@ -1,45 +1,24 @@
 //! The lanes of register operands, with their widths and as sources.
 
-ghost use Rattle.std.specs.Prelude.{◌≡◌, ◌+◌, ◌<◌, ◌^◌, ◌++◌, ◌∷◌, [], length, map, OnOk, IfOk, cond, slice_index};
-ghost use Rattle.target_base.specs.Storage.{widths, unit_width, class_units, reg_units};
-ghost use Rattle.target_base.specs.Rules.{regs_of_some};
-ghost use Rattle.target_base.specs.Registers.{units_of, lanes_of, widths_of_some};
+ghost use Rattle.std.specs.Prelude.{◌≡◌, ◌+◌, ◌<◌, ◌^◌, ◌++◌, length, map, OnOk, IfOk, cond, slice_index};
+ghost use Rattle.target_base.specs.Storage.{widths, class_units};
 ghost use Rattle.meaning.specs.declared.types.Lane.TheVariants.{VirtualLane};
 ghost use Rattle.meaning.specs.declared.types.Source.TheVariants.{FromLane, Undef};
 ghost use Rattle.mir_func.specs.Binding.{class_of};
-ghost use Rattle.mir_meaning.specs.Registers.{numbers, range_widths, range_lanes, unit_lanes, operand_lanes, operand_widths, use_sources, whole_lanes, undefined_lanes, located_lanes};
-ghost use Rattle.meaning.specs.Lanes.{Writes};
-ghost use Rattle.mir_meaning.specs.Items.{write, moved, undefined, computed};
+ghost use Rattle.mir_meaning.specs.Registers.{numbers, range_widths, range_lanes, unit_lanes, operand_lanes, operand_widths, use_sources, undefined_lanes, located_lanes};
 
-use meaning::{Fill, Lane, Source, Write, Writes};
+use meaning::{Lane, Source};
+use mir_func::operands::class_of;
 use mir_func::{Func, Loc, RegOp};
 use std::alloc::{AllocError, Global};
-use target_base::classes::{first_units, regs_at, width_of};
-use target_base::registers::units_at;
-use target_base::{ClassId, IndexId, List, Numbers, Target, Unit, UnitDesc};
+use target_base::classes::width_of;
+use target_base::{IndexId, List, Numbers, Target, Unit, UnitDesc};
 
 /// Lanes in order.
 pub type Lanes = List<Lane>;
 
 /// Sources in order.
 pub type Sources = List<Source>;
-
-/// The class of a virtual register, where it has one.
-pub fn class_of(f: &Func, v: u32) -> Option<ClassId>
-    ensures { result ≡ class_of f.now v }
-{
-    match f.classes.as_slice().get(v as usize) {
-        None => None,
-        Some(class) => *class,
-    }
-}
-
-/// The units of the first register of a class; none without a class.
-pub fn class_units(t: &Target, class: Option<ClassId>) -> &[Unit]
-    ensures { result.now ≡ class_units t.now.regs (regs_of_some t.now.classes class) }
-{
-    first_units(t.regs.as_slice(), regs_at(t.classes.as_slice(), class))
-}
 
 /// Appends the widths of units.
 pub fn push_widths(out: &mut Numbers, units: &[UnitDesc], us: &[Unit]) -> Result<(), AllocError>
@@ -86,7 +65,7 @@ fn range_units<'a>(t: &'a Target, f: &Func, v: u32) -> &'a [Unit]
     ensures value { widths t.now.units result.now ≡ range_widths t.now f.now v }
     ensures few { length result.now < 2 ^ 32 }
 {
-    class_units(t, class_of(f, v))
+    t.class_units(class_of(f, v))
 }
 
 /// Appends all lanes of a virtual register.
@@ -94,16 +73,6 @@ pub fn push_range_lanes(out: &mut Lanes, t: &Target, f: &Func, v: u32) -> Result
     ensures { OnOk result (out.new ≡ out.old ++ range_lanes t.now f.now v) }
 {
     push_first_lanes(out, v, range_units(t, f, v).len() as u32)
-}
-
-/// The lanes that an index picks; none where there is no such index.
-pub fn lanes_at(t: &Target, x: IndexId) -> &[u8]
-    ensures { result.now ≡ lanes_of t.now x }
-{
-    match t.indexes.as_slice().get(x.0 as usize) {
-        None => &[],
-        Some(d) => d.lanes.as_slice(),
-    }
 }
 
 /// Appends the lanes of a register: those of a virtual one through its index, or the units of a fixed one.
@@ -117,10 +86,10 @@ pub fn push_located_lanes(
     ensures { OnOk result (out.new ≡ out.old ++ located_lanes t.now f.now loc index) }
 {
     match loc {
-        Loc::Fixed(r) => push_unit_lanes(out, units_at(t.regs.as_slice(), r)),
+        Loc::Fixed(r) => push_unit_lanes(out, t.units_at(r)),
         Loc::Virtual(v) => match index {
             None => push_range_lanes(out, t, f, v),
-            Some(x) => push_picked_lanes(out, v, lanes_at(t, x)),
+            Some(x) => push_picked_lanes(out, v, t.lanes_at(x)),
         },
     }
 }
@@ -161,10 +130,10 @@ pub fn push_operand_widths(
 {
     let units = t.units.as_slice();
     match o.loc {
-        Loc::Fixed(r) => push_widths(out, units, units_at(t.regs.as_slice(), r)),
+        Loc::Fixed(r) => push_widths(out, units, t.units_at(r)),
         Loc::Virtual(v) => match o.index {
             None => push_widths(out, units, range_units(t, f, v)),
-            Some(x) => push_picked_widths(out, units, range_units(t, f, v), lanes_at(t, x)),
+            Some(x) => push_picked_widths(out, units, range_units(t, f, v), t.lanes_at(x)),
         },
     }
 }

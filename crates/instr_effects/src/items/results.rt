@@ -1,29 +1,23 @@
 //! What a counted instruction writes.
 
-ghost use Rattle.std.specs.Prelude.{◌≡◌, ◌+◌, ◌<◌, ◌≤◌, ◌-◌, ◌^◌, ◌%◌, ◌++◌, ◌∷◌, [], length, map, filter, filter_map, flat_map, OnOk, IfOk, IfSome, None, Some, option_to_list, cond, not, sum, nat_abs, IsTrue};
+ghost use Rattle.std.specs.Prelude.{◌≡◌, ◌+◌, ◌<◌, ◌-◌, ◌++◌, length, map, filter, flat_map, OnOk, IfOk, None, Some, cond, not};
 ghost use Rattle.target_base.specs.Registers.{units_of};
-ghost use Rattle.target_base.specs.Roles.{is_implicit, is_silent};
-ghost use Rattle.meaning.specs.Environment.{residue, constant_source};
-ghost use Rattle.meaning.specs.declared.types.Constant.TheVariants.{Immediate};
-ghost use Rattle.meaning.specs.Perform.{condition_lane};
-ghost use Rattle.mir_func.specs.Binding.{effect_of, roles_of, implicit_roles, takes_role, is_early_clobber, is_implicit_operand, explicit_operands, implicit_registers, registers, immediate_of};
-ghost use Rattle.mir_meaning.specs.Registers.{numbers, operand_lanes, operand_widths, use_sources, undefined_lanes, is_reserved};
-ghost use Rattle.mir_meaning.specs.Items.{value_of, use_value, constant_value, computes_with_immediates, has_base, first_width, symbol_of, is_flags, pick, flag_value, implicit_values, values, explicit_definitions, implicit_definitions, result_writes, unreserved, all_lanes, answered, preserves, clobbered, kept, implicit_writes, counted_writes, lane_width, result_widths, read_widths, called_symbol, rest_of};
+ghost use Rattle.mir_func.specs.Binding.{roles_of, implicit_roles, is_early_clobber};
+ghost use Rattle.mir_meaning.specs.Registers.{numbers, operand_widths, is_reserved};
+ghost use Rattle.mir_meaning.specs.Items.{is_flags, values, explicit_definitions, implicit_definitions, result_writes, unreserved, all_lanes, answered, preserves, clobbered, kept, implicit_writes, counted_writes, lane_width, result_widths};
 ghost use Rattle.std.specs.List.{list_any};
 ghost use Rattle.target_base.specs.Storage.{is_among};
-ghost use Rattle.target_base.specs.Numbers.{unit_number};
 ghost use Rattle.meaning.specs.declared.types.Lane.TheVariants.{UnitLane};
 ghost use Rattle.target_base.specs.declared.types.Effect.TheVariants as effects;
-ghost use Rattle.std.specs.Bool.{beq};
-ghost use Rattle.meaning.specs.declared.types.Source.TheVariants.{Bits};
 
-use crate::items::counted::{is_early_clobber, is_flags, roles_of};
+use crate::items::counted::is_flags;
 use crate::items::lanes::{Lanes, push_operand_lanes, push_operand_widths, push_undefined_lanes};
 use crate::items::writes::{push_computed, push_undefined};
 use meaning::{Lane, Write, Writes};
+use mir_func::opcodes::{is_early_clobber, roles_of};
 use mir_func::{Func, Instr, Operand, RegOp};
 use std::alloc::{AllocError, Global};
-use target_base::registers::units_at;
+use target_base::registers::has_unit;
 use target_base::{Copied, Effect, List, Numbers, Reg, Role, Target, Unit};
 
 /// The register operands of an instruction that are definitions, explicit ones or implicit ones.
@@ -81,33 +75,14 @@ fn push_results(
     Ok(())
 }
 
-/// Whether a list holds a unit.
-fn is_among(us: &[Unit], u: Unit) -> bool
-    ensures { result ≡ is_among us.now u }
-{
-    us.iter().any(|v| v.0 == u.0)
-}
-
 /// Whether a lane is a reserved unit.
-fn is_reserved(t: &Target, l: Lane) -> bool
+pub fn is_reserved(t: &Target, l: Lane) -> bool
     ensures { result ≡ is_reserved t.now l }
 {
     match l {
-        Lane::UnitLane(u) => has_number(t.reserved.as_slice(), u),
+        Lane::UnitLane(u) => t.is_reserved_unit(u),
         _ => false,
     }
-}
-
-/// Whether a list holds the unit of a number.
-fn has_number(us: &[Unit], u: u32) -> bool
-    ensures { result ≡ is_among us.now (unit_number u) }
-{
-    for v in us {
-        if v.0 as u32 == u {
-            return true;
-        }
-    }
-    false
 }
 
 /// Appends the lanes that aren't reserved.
@@ -159,7 +134,7 @@ fn mask_has(t: &Target, regs: &[Reg], u: Unit) -> bool
     ensures { result ≡ is_among (flat_map (units_of t.now) regs.now) u }
 {
     for r in regs {
-        if is_among(units_at(t.regs.as_slice(), *r), u) {
+        if has_unit(t.units_at(*r), u) {
             return true;
         }
     }
@@ -171,10 +146,7 @@ fn preserves(t: &Target, u: Unit, o: &Operand) -> bool
     ensures { result ≡ preserves t.now u.0 o.now }
 {
     match o {
-        Operand::Mask(k) => match t.masks.as_slice().get(k.0 as usize) {
-            None => false,
-            Some(d) => mask_has(t, d.regs.as_slice(), u),
-        },
+        Operand::Mask(k) => mask_has(t, t.mask_regs(*k), u),
         _ => false,
     }
 }

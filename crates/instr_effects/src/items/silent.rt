@@ -1,16 +1,15 @@
 //! What instructions write that count for nothing in a run: copies, constants, spills and reloads.
 
-ghost use Rattle.std.specs.Prelude.{◌≡◌, false, sum, ◌+◌, ◌*◌, ◌/◌, ◌%◌, ◌^◌, ◌≤◌, ◌++◌, OnOk, IfOk, map, flat_map, length};
-ghost use Rattle.target_base.specs.Registers.{lanes_of};
+ghost use Rattle.std.specs.Prelude.{◌≡◌, false, sum, ◌+◌, ◌*◌, ◌/◌, ◌%◌, ◌^◌, ◌≤◌, ◌++◌, OnOk, IfOk, map};
 ghost use Rattle.meaning.specs.declared.types.Lane.TheVariants.{SlotLane};
 ghost use Rattle.meaning.specs.declared.types.Source.TheVariants.{FromLane};
 ghost use Rattle.meaning.specs.Environment.{constant_source};
 ghost use Rattle.mir_meaning.specs.Registers.{numbers, operand_lanes, use_sources, operand_widths, slot_lane_numbers, slot_lanes};
-ghost use Rattle.mir_meaning.specs.Items.{moved, undefined, copied, defined_undef, parts, sequenced, inserted, constant_bits, constant_lanes, constant_of, given_constant, lanes_beside, at_all_widths, spilled, reloaded, silent_writes};
+ghost use Rattle.mir_meaning.specs.Items.{moved, undefined, copied, defined_undef, parts, sequenced, inserted, constant_bits, constant_lanes, constant_of, given_constant, at_all_widths, spilled, reloaded, silent_writes};
 
 use crate::items::counted::{low_bits, residue};
 use crate::items::lanes::{
-    Lanes, Sources, lanes_at, push_located_lanes, push_operand_lanes, push_operand_widths,
+    Lanes, Sources, push_located_lanes, push_operand_lanes, push_operand_widths,
     push_undefined_lanes, use_sources,
 };
 use crate::items::writes::{number, push_defined, push_moved, push_undefined};
@@ -277,7 +276,7 @@ fn slot_numbers(
     ensures { IfOk result (λ made. made ≡ slot_lane_numbers t.now widths.now o.now) }
 {
     match o {
-        Operand::Index(x) => lane_numbers(alloc, lanes_at(t, *x)),
+        Operand::Index(x) => lane_numbers(alloc, t.lanes_at(*x)),
         _ => first_numbers(alloc, number(widths.len())?),
     }
 }

@@ -1,13 +1,13 @@
 //! Ways into blocks, and what phis write on them.
 
 ghost use Rattle.std.specs.Prelude.{◌≡◌, ◌++◌, OnOk, flat_map, not};
-ghost use Rattle.mir_func.specs.Binding.{does, ends_control, is_terminator};
+ghost use Rattle.mir_func.specs.Binding.{does, ends_control};
 ghost use Rattle.mir_meaning.specs.Codes.{phi_pair, phi_operands, phi_writes, instrs_of, way, target_of, falls_through};
 
-use crate::items::counted::effect_of;
 use crate::items::lanes::use_sources;
 use crate::items::writes::push_defined;
 use meaning::Writes;
+use mir_func::opcodes::{effect_of, ends_control};
 use mir_func::{Block, Func, Instr, Operand, RegOp};
 use std::alloc::{AllocError, Global};
 use target_base::{Boxed, Effect, Target};
@@ -70,7 +70,7 @@ fn push_phi_writes(
 }
 
 /// The instructions of the first block of that number.
-fn instrs_of(blocks: &[Block], m: u32) -> &[Boxed<Instr>]
+pub fn instrs_of(blocks: &[Block], m: u32) -> &[Boxed<Instr>]
     ensures { result.now ≡ instrs_of blocks.now m }
 {
     for b in blocks {
@@ -122,26 +122,6 @@ pub fn target_of(operands: &[Operand]) -> Option<u32>
         }
     }
     None
-}
-
-/// Whether control doesn't go on behind an instruction of this effect.
-pub fn ends_control(e: Effect) -> bool
-    ensures { result ≡ ends_control e }
-{
-    match e {
-        Effect::Jump | Effect::Ret => true,
-        _ => false,
-    }
-}
-
-/// Whether the effect is that of a jump, a conditional branch or a return.
-pub fn is_terminator(e: Effect) -> bool
-    ensures { result ≡ is_terminator e }
-{
-    match e {
-        Effect::Jump | Effect::Ret | Effect::Jcc | Effect::Jnz => true,
-        _ => false,
-    }
 }
 
 /// Whether control goes on behind an instruction.

@@ -1,4 +1,4 @@
-use Rattle.std.proofs.Common.{◌≡◌, ◌++◌, ◌+◌, ◌≤◌, ◌∷◌, [], take, drop, map, length, flat_map, sum}
+use Rattle.std.proofs.Common.{◌≡◌, ◌++◌, drop}
 use Rattle.mir_meaning.specs.Items.{at_all_widths}
 use Rattle.instr_effects.proofs.items.silent.at_all_widths.Given as goal
 

@@ -1,4 +1,4 @@
-use Rattle.std.proofs.Common.{◌≡◌, ◌++◌, ◌+◌, ◌≤◌, ◌∷◌, [], take, drop, map, length, flat_map, sum}
+use Rattle.std.proofs.Common.{◌≡◌, ◌+◌, ◌≤◌, drop, sum}
 use Rattle.instr_effects.proofs.items.silent.bits_in.Given as goal
 
 abbrev pub invariant-loop-w : goal.invariant-loop-w

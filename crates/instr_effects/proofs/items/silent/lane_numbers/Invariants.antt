@@ -1,4 +1,4 @@
-use Rattle.std.proofs.Common.{◌≡◌, ◌++◌, ◌+◌, ◌≤◌, ◌∷◌, [], take, drop, map, length, flat_map, sum}
+use Rattle.std.proofs.Common.{◌≡◌, take}
 use Rattle.instr_effects.proofs.items.silent.lane_numbers.Given as goal
 
 abbrev pub invariant-loop-k : goal.invariant-loop-k

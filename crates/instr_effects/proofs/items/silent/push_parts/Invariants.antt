@@ -1,4 +1,4 @@
-use Rattle.std.proofs.Common.{◌≡◌, ◌++◌, ◌+◌, ◌≤◌, ◌∷◌, [], take, drop, map, length, flat_map, sum}
+use Rattle.std.proofs.Common.{◌≡◌, ◌++◌, length}
 use Rattle.mir_meaning.specs.Items.{parts}
 use Rattle.instr_effects.proofs.items.silent.push_parts.Given as goal
 

@@ -1,4 +1,4 @@
-use Rattle.std.proofs.Common.{◌≡◌, ◌++◌, ◌+◌, ◌≤◌, ◌∷◌, [], take, drop, map, length, flat_map, sum}
+use Rattle.std.proofs.Common.{◌≡◌, ◌++◌, drop, map}
 use Rattle.meaning.specs.declared.types.Source.TheVariants.{FromLane}
 use Rattle.instr_effects.proofs.items.silent.sources_of.Given as goal
 

@@ -1,4 +1,4 @@
-use Rattle.std.proofs.Common.{◌≡◌, ◌++◌, ◌+◌, ◌≤◌, ◌∷◌, [], take, drop, map, length, flat_map, sum}
+use Rattle.std.proofs.Common.{◌≡◌, length}
 use Rattle.mir_meaning.specs.Codes.{falls_through}
 use Rattle.instr_effects.proofs.items.ways.falls_through.Given as goal
 

@@ -1,4 +1,4 @@
-use Rattle.std.proofs.Common.{◌≡◌, ◌++◌, ◌+◌, ◌≤◌, ◌∷◌, [], take, drop, map, length, flat_map, sum}
+use Rattle.std.proofs.Common.{◌≡◌, length}
 use Rattle.mir_meaning.specs.Codes.{phi_pair}
 use Rattle.instr_effects.proofs.items.ways.push_phi_pair.Given as goal
 

@@ -1,4 +1,4 @@
-use Rattle.std.proofs.Common.{◌≡◌, ◌++◌, ◌+◌, ◌≤◌, ◌∷◌, [], take, drop, map, length, flat_map, sum}
+use Rattle.std.proofs.Common.{◌≡◌, drop}
 use Rattle.mir_meaning.specs.Codes.{target_of}
 use Rattle.instr_effects.proofs.items.ways.target_of.Given as goal
 
