@@ -6,7 +6,7 @@ ghost use Rattle.mir_func.specs.Edits.{block_place};
 ghost use Rattle.phi_elim.specs.Phis.{arrival, arrivals_of, arrivals_in, instr_arrivals, phi_number, phi_count, all_instrs};
 ghost use Rattle.phi_elim.specs.Numbered.{instr_count};
 
-use crate::reading::is_phi;
+use mir_func::opcodes::is_phi;
 use mir_func::{Block, Instr, Operand, RegOp};
 use std::alloc::{AllocError, Global};
 use target_base::{Boxed, Target};

@@ -5,7 +5,7 @@ ghost use Rattle.phi_elim.specs.Phis.{from_incoming, in_place, all_in_place, phi
 
 use crate::arrivals::Arrival;
 use crate::moves::{COPY, move_of, whole_definition, whole_use};
-use crate::reading::{first_terminator, is_phi};
+use mir_func::opcodes::{first_terminator, is_phi};
 use mir_func::{Block, Instr, Instrs, Op, Operand, Operands};
 use std::alloc::{AllocError, Global};
 use target_base::{Copied, Target};

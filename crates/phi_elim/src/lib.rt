@@ -7,6 +7,6 @@ mod blocks;
 pub mod ids;
 pub mod moves;
 pub mod phis;
-pub mod reading;
 
+pub use mir_func::opcodes as reading;
 pub use phis::lower_phis;

@@ -9,7 +9,7 @@ use crate::amount::bulk_of;
 use crate::arrivals::{Arrival, all_arrivals};
 use crate::blocks::lower_block;
 use crate::ids::number_blocks;
-use crate::reading::is_phi;
+use mir_func::opcodes::is_phi;
 use mir_func::{Block, Blocks, Classes, Func, Instr, Loc, NoPhi, Operand, Valid};
 use std::alloc::{AllocError, Global};
 use target_base::{Boxed, ClassId, Target};

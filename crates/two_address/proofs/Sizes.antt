@@ -16,7 +16,7 @@ use Rattle.mir_func.specs.declared.func.Op.TheVariants as ops
 use Rattle.mir_func.specs.declared.func.Instr.{Instr}
 use Rattle.mir_func.specs.declared.func.Block.{Block}
 use Rattle.mir_func.specs.Value.{Function, IsFunction}
-use Rattle.mir_func.specs.Binding.{does, explicit_bound, roles_of}
+use Rattle.mir_func.specs.Binding.{does, explicit_bound, roles_of, register_at}
 use Rattle.mir_meaning.specs.Rules.{same_loc}
 use Rattle.phi_elim.specs.Moves.{implicit_def_op, whole_definition, whole_use, source_of, destination_of, copy_of, undefining, move_of}
 use Rattle.phi_elim.specs.Numbered.{instr_count, blocks_numbered}
@@ -31,7 +31,7 @@ use Rattle.two_address.specs.declared.forms.Form.TheVariants as forms
 use Rattle.two_address.specs.Classes.{seated}
 use Rattle.two_address.specs.Ties.{copies, undefined_whole, undefined_first, definition_of, tie_in, with_operands, tied_lowered, copy_lowered}
 use Rattle.two_address.specs.Sequences.{part, parts_of, is_input, built, into_part, at_last, fill_all, beginning, keeping_text, sequence_lowered, insertion_lowered}
-use Rattle.two_address.specs.Lowered.{register_at, virtual_in, part_of_two, copy_form, sequence_form, insertion_form, form_of, form_lowered, instr_lowered, instr_class, next_range, instrs_lowered, classes_made, blocks_lowered, ties_lowered}
+use Rattle.two_address.specs.Lowered.{virtual_in, part_of_two, copy_form, sequence_form, insertion_form, form_of, form_lowered, instr_lowered, instr_class, next_range, instrs_lowered, classes_made, blocks_lowered, ties_lowered}
 use Rattle.two_address.proofs.Steps.{instr_class_small, classes_made_small}
 
 -- instructions and their operands together

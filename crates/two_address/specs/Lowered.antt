@@ -8,11 +8,10 @@ use Rattle.mir_func.specs.declared.func.Loc.{Loc}
 use Rattle.mir_func.specs.declared.func.Loc.TheVariants.{Virtual, Fixed}
 use Rattle.mir_func.specs.declared.func.RegOp.{RegOp}
 use Rattle.mir_func.specs.declared.func.Operand.{Operand}
-use Rattle.mir_func.specs.declared.func.Operand.TheVariants as operands
 use Rattle.mir_func.specs.declared.func.Instr.{Instr}
 use Rattle.mir_func.specs.declared.func.Block.{Block}
 use Rattle.mir_func.specs.Value.{Function}
-use Rattle.mir_func.specs.Binding.{does, roles_of, as_register}
+use Rattle.mir_func.specs.Binding.{does, roles_of, register_at}
 use Rattle.phi_elim.specs.Numbered.{with_new_ids}
 use Rattle.phi_elim.specs.Phis.{all_instrs, located_class, phis_lowered}
 use Rattle.two_address.specs.declared.forms.Form.{Form}
@@ -20,14 +19,6 @@ use Rattle.two_address.specs.declared.forms.Form.TheVariants as forms
 use Rattle.two_address.specs.declared.sequences.Part.{Part}
 use Rattle.two_address.specs.Ties.{definition_of, undefined_first, tie_in, tied_lowered, copy_lowered, first_role_class}
 use Rattle.two_address.specs.Sequences.{part, parts_of, is_input, sequence_lowered, insertion_lowered}
-
--- the k-th operand as a register operand
-abbrev pub register_in : Option Operand → Option RegOp
-register_in None = None
-register_in (Some o) = as_register o
-
-abbrev pub register_at : List Operand → ℕ → Option RegOp
-register_at os k = register_in (slice_get os k)
 
 -- the number of a virtual register
 abbrev pub virtual_loc : Loc → Option ℕ

@@ -2,38 +2,16 @@
 
 ghost use Rattle.std.specs.Prelude.{◌≡◌};
 ghost use Rattle.target_base.specs.Registers.{lanes_of, regs_of, part_of, class_of_widths, widths_of_some};
-ghost use Rattle.target_base.specs.Storage.{is_unreserved, is_among, part_place, alike_place};
-ghost use Rattle.mir_func.specs.Binding.{roles_of, asked_class, moving_class, takes_many};
+ghost use Rattle.target_base.specs.Storage.{part_place, alike_place};
+ghost use Rattle.mir_func.specs.Binding.{asked_class, moving_class};
 ghost use Rattle.two_address.specs.Classes.{class_asked, first_register, first_role, roles_behind};
 
-use mir_func::{Instr, Op, RegOp};
+use mir_func::RegOp;
+use mir_func::opcodes::takes_many;
 use phi_elim::phis::located_class;
 use target_base::classes::{are_alike, class_of, find_part, regs_at};
-use target_base::registers::units_at;
-use target_base::{ClassId, IndexId, Reg, RegDesc, Role, Target, Unit};
-
-/// The roles of an instruction's opcode; an excluded one has none.
-pub fn roles_of<'a>(target: &'a Target, i: &Instr) -> &'a [Role]
-    ensures { result.now ≡ roles_of target.now i.now }
-{
-    match &i.op {
-        Op::Known(o) => match target.opcodes.as_slice().get(o.0 as usize) {
-            None => &[],
-            Some(d) => d.roles.as_slice(),
-        },
-        Op::Excluded(_) => &[],
-    }
-}
-
-/// Whether the role stands for any number of operands.
-fn takes_many(role: Role) -> bool
-    ensures { result ≡ takes_many role }
-{
-    match role {
-        Role::Any | Role::Rest => true,
-        _ => false,
-    }
-}
+use target_base::registers::is_unreserved;
+use target_base::{ClassId, IndexId, Reg, Role, Target};
 
 /// The first of these roles.
 pub fn first_role(roles: &[Role]) -> Option<Role>
@@ -88,23 +66,13 @@ fn moving_class(target: &Target, c: Option<ClassId>, o: RegOp) -> Option<ClassId
     }
 }
 
-/// The lanes that an index picks; none where there is no such index.
-pub fn index_lanes(target: &Target, i: IndexId) -> &[u8]
-    ensures { result.now ≡ lanes_of target.now i }
-{
-    match target.indexes.as_slice().get(i.0 as usize) {
-        None => &[],
-        Some(d) => d.lanes.as_slice(),
-    }
-}
-
 /// The place of the first class that holds what the index picks of each register of the class.
 fn part_place(target: &Target, c: ClassId, i: IndexId) -> Option<usize>
     ensures { result ≡ part_place target.now.regs target.now.classes (lanes_of target.now i) (regs_of target.now c) }
 {
     let classes = target.classes.as_slice();
     let rs = regs_at(classes, Some(c));
-    find_part(target.regs.as_slice(), classes, index_lanes(target, i), rs)
+    find_part(target.regs.as_slice(), classes, target.lanes_at(i), rs)
 }
 
 /// The first class that holds, of each register of the class, the register that the index picks.
@@ -140,20 +108,6 @@ fn alike_class(target: &Target, c: Option<ClassId>) -> Option<ClassId>
         None => None,
         Some(place) => Some(ClassId(place as u16)),
     }
-}
-
-/// Whether the list holds a unit.
-fn is_among(units: &[Unit], u: Unit) -> bool
-    ensures { result ≡ is_among units.now u }
-{
-    units.iter().any(|w| w.0 == u.0)
-}
-
-/// Whether none of a register's units is reserved.
-fn is_unreserved(reserved: &[Unit], regs: &[RegDesc], r: Reg) -> bool
-    ensures { result ≡ is_unreserved reserved.now regs.now r }
-{
-    units_at(regs, r).iter().all(|u| !is_among(reserved, *u))
 }
 
 /// The first unreserved register of a class.

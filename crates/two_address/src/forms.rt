@@ -3,11 +3,12 @@
 ghost use Rattle.std.specs.Prelude.{◌≡◌, slice_get};
 ghost use Rattle.std.specs.Option.{option_to_list};
 ghost use Rattle.target_base.specs.Rules.{is_copy, is_reg_sequence, is_insert_subreg};
-ghost use Rattle.two_address.specs.Lowered.{register_at, virtual_in, copy_form, sequence_form, insertion_form, part_of_two, form_of};
+ghost use Rattle.two_address.specs.Lowered.{virtual_in, copy_form, sequence_form, insertion_form, part_of_two, form_of};
 
 use crate::sequences::{Part, part_of};
+use mir_func::opcodes::effect_of;
+use mir_func::operands::register_at;
 use mir_func::{Instr, Loc, Operand, RegOp};
-use phi_elim::reading::effect_of;
 use target_base::{Effect, Target};
 
 /// The rewriting that an instruction asks for.
@@ -21,16 +22,6 @@ pub enum Form {
     Insertion(u32, RegOp, Part),
     /// Any other instruction.
     Other,
-}
-
-/// The k-th operand as a register operand.
-fn register_at(operands: &[Operand], k: usize) -> Option<RegOp>
-    ensures { result ≡ register_at operands.now k }
-{
-    match operands.get(k) {
-        Some(Operand::Reg(o)) => Some(*o),
-        _ => None,
-    }
 }
 
 /// The number of a virtual register.

@@ -9,12 +9,12 @@ ghost use Rattle.two_address.specs.Sequences.{parts_of, is_input, sequence_lower
 ghost use Rattle.two_address.specs.Ties.{copy_lowered};
 ghost use Rattle.two_address.specs.Lowered.{form_lowered, form_class, instr_lowered, instr_class, next_range, instrs_lowered, classes_made, blocks_lowered, ties_lowered, class_aside, class_if};
 
-use crate::classes::roles_of;
 use crate::forms::{Form, form_of};
 use crate::sequences::{insertion_lowered, is_input, parts_of, sequence_lowered};
 use crate::ties::{
     copy_lowered, definition_of, first_role_class, push_tied, push_undefined, tie_in,
 };
+use mir_func::opcodes::roles_of;
 use mir_func::{Block, Blocks, Func, Instr, Loc, NoPhi, RegOp};
 use phi_elim::amount::bulk_of;
 use phi_elim::ids::number_blocks;

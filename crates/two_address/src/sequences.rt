@@ -8,7 +8,6 @@ ghost use Rattle.mir_func.specs.declared.func.Loc.TheVariants as locs;
 ghost use Rattle.mir_meaning.specs.Registers.{has_number};
 ghost use Rattle.two_address.specs.Sequences.{part, parts_of, is_input, built, into_part, at_last, fill_all, beginning, keeping_text, sequence_lowered, insertion_lowered};
 
-use crate::classes::index_lanes;
 use crate::ties::same_loc;
 use mir_func::{Instr, Loc, Operand, RegOp};
 use phi_elim::moves::{copy_of, move_of, undefining, whole_definition, whole_use};
@@ -84,7 +83,7 @@ fn is_filled(target: &Target, parts: &[Part], lane: usize) -> bool
 {
     parts
         .iter()
-        .any(|p| has_number(index_lanes(target, p.index), lane))
+        .any(|p| has_number(target.lanes_at(p.index), lane))
 }
 
 /// Whether no part fills the lane.

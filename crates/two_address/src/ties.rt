@@ -8,14 +8,15 @@ ghost use Rattle.mir_meaning.specs.Rules.{is_virtual, is_definition, same_loc, s
 ghost use Rattle.two_address.specs.Classes.{seated};
 ghost use Rattle.two_address.specs.Ties.{defined_by, definition_of, tied_operand, tied_use, reads_besides, use_of, undef_use_of, untied, tie_of, tie_between, tie_in, copies, defined_aside, or_kept, undef_fixed, defined_use, retied, retied_operand, undefined_whole, undefined_first, with_operands, tied_lowered, first_role_class, copy_lowered};
 
-use crate::classes::{class_asked, first_register, first_role, roles_behind, roles_of};
+use crate::classes::{class_asked, first_register, first_role, roles_behind};
+use mir_func::opcodes::roles_of;
 use mir_func::{Instr, Loc, Op, Operand, Operands, RegOp};
 use phi_elim::moves::{
     IMPLICIT_DEF, copy_of, destination_of, source_of, undefining, whole_definition, whole_use,
 };
 use std::alloc::{AllocError, Global};
 use target_base::classes::class_of;
-use target_base::{ClassId, Copied, IndexId, Reg, Role, Target};
+use target_base::{ClassId, Copied, IndexId, Reg, Role, Target, roles};
 
 /// A copy that lowering makes.
 #[derive(Clone, Copy)]
@@ -93,8 +94,8 @@ fn is_tied(role: Option<Role>) -> bool
     ensures { result ≡ passes is_tied role }
 {
     match role {
-        Some(Role::Tied(_)) => true,
-        _ => false,
+        None => false,
+        Some(r) => roles::is_tied(r),
     }
 }
 
