@@ -7,6 +7,7 @@ ghost use Rattle.mir_func.specs.Binding.{asked_class, moving_class};
 ghost use Rattle.two_address.specs.Classes.{class_asked, first_register, first_role, roles_behind};
 
 use mir_func::RegOp;
+pub use mir_func::opcodes::roles_of;
 use mir_func::opcodes::takes_many;
 use phi_elim::phis::located_class;
 use target_base::classes::{are_alike, class_of, find_part, regs_at};
@@ -64,6 +65,13 @@ fn moving_class(target: &Target, c: Option<ClassId>, o: RegOp) -> Option<ClassId
         None => None,
         Some(c) => alike_class(target, part_of(target, c, o.index)),
     }
+}
+
+/// The lanes that an index picks; none where there is no such index.
+pub fn index_lanes(target: &Target, i: IndexId) -> &[u8]
+    ensures { result.now ≡ lanes_of target.now i }
+{
+    target.lanes_at(i)
 }
 
 /// The place of the first class that holds what the index picks of each register of the class.
