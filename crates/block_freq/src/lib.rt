@@ -6,4 +6,4 @@ mod freqs;
 mod weights;
 
 pub use freqs::{Freqs, frequencies};
-pub use weights::weight;
+pub use weights::{is_range, operand_count, weight};

@@ -41,37 +41,40 @@ fn add_uses(before: u128, freq: u64, instrs: &[Boxed<Instr>], v: u32) -> u128
     let mut sum = before;
     'instrs: for i in instrs {
         let i = i.get();
-        sum = sum.saturating_add(freq as u128 * naming_of(i, v) as u128);
+        sum = sum.saturating_add(freq as u128 * operand_count(i, v) as u128);
     }
     sum
 }
 
-/// How many operands of the instruction name the range, `undef` uses aside.
-fn naming_of(i: &Instr, v: u32) -> usize
-    ensures { result ≡ naming v i.now }
+/// The number of operands of an instruction that name a range, `undef` uses aside.
+pub fn operand_count(instr: &Instr, v: u32) -> u64
+    ensures { result ≡ naming v instr.now }
 {
-    i.operands.as_slice().iter().filter(|o| names(o, v)).count()
+    let operands = instr.operands.as_slice();
+    operands.iter().filter(|operand| names(operand, v)).count() as u64
 }
 
-/// Whether the operand names the range and isn't an `undef` use.
-fn names(o: &Operand, v: u32) -> bool
-    ensures { result ≡ names v o.now }
+/// Whether an operand names a range and isn't an `undef` use.
+fn names(operand: &Operand, v: u32) -> bool
+    ensures { result ≡ names v operand.now }
 {
-    match o {
-        Operand::Reg(r) => is_range(r.loc, v) && counts(*r),
+    match operand {
+        Operand::Reg(op) => is_range(op, v) && counts(*op),
         _ => false,
     }
 }
 
-fn is_range(loc: Loc, v: u32) -> bool
-    ensures { result ≡ is_range v loc }
+/// Whether an operand is a range.
+pub fn is_range(op: &RegOp, v: u32) -> bool
+    ensures { result ≡ is_range v op.now.loc }
 {
-    match loc {
+    match op.loc {
         Loc::Virtual(w) => v == w,
         Loc::Fixed(_) => false,
     }
 }
 
+/// Whether an operand is a definition or a use that isn't `undef`.
 fn counts(o: RegOp) -> bool
     ensures { result ≡ counts o }
 {
