@@ -1,7 +1,7 @@
 //! The blocks of a function, as they are read line by line.
 
 ghost use Rattle.std.specs.Prelude.{◌≡◌, ◌<◌, ◌≤◌, ◌+◌, ◌++◌, ◌∷◌, [], length, IfOk, OnOk, IsTrue, Some, None, option_map};
-ghost use Rattle.mir_func.specs.Binding.{effect_of, does, is_branch, ends_control};
+ghost use Rattle.mir_func.specs.Binding.{does, is_branch, ends_control};
 ghost use Rattle.mir_meaning.specs.Codes.{falls_through};
 ghost use Rattle.mir_meaning.specs.Rules.{block_of as block_in, named_blocks, branch_targets};
 ghost use Rattle.mir_read.specs.Body.{BodyValue, no_blocks, is_begun, with_numbers, targets_of, fallen, due_blocks, edges_or_due, regs_or_none, block_of, closed, opened_by, with_header, lacks_successors, lacks_liveins, takes_successors, takes_liveins, with_edges, with_regs, with_successors, with_liveins, with_instr, operand_count, operands_of};
@@ -9,7 +9,8 @@ ghost use Rattle.mir_read.specs.Resolving.{equal_shares};
 
 use crate::names::NumberSet;
 use crate::resolve::equal_shares;
-use mir_func::{Block, Blocks, Edges, Instr, Instrs, Op, Operand};
+use mir_func::opcodes::{effect_of, is_conditional};
+use mir_func::{Block, Blocks, Edges, Instr, Instrs, Operand, opcodes};
 use mir_lines::RawHeader;
 use std::alloc::{AllocError, Global};
 use std::marker::Model;
@@ -45,34 +46,24 @@ impl Model for Body {
     ghost invariant = { λ b. (id : ℕ) → id_total id b.done + id_count id b.instrs ≤ (if nat_lt id b.next_id then 1 else 0) };
 }
 
-/// The effect of an instruction's opcode, where it is the target's.
-fn effect_of(target: &Target, i: &Instr) -> Option<Effect>
-    ensures { result ≡ effect_of target.now i.now }
-{
-    match &i.op {
-        Op::Known(o) => match target.opcodes.as_slice().get(o.0 as usize) {
-            None => None,
-            Some(d) => Some(d.effect),
-        },
-        Op::Excluded(_) => None,
-    }
-}
-
+/// Whether an instruction is a jump or a conditional branch.
 fn is_branch(target: &Target, i: &Instr) -> bool
     ensures { result ≡ does is_branch target.now i.now }
 {
     match effect_of(target, i) {
-        Some(Effect::Jump) | Some(Effect::Jcc) | Some(Effect::Jnz) => true,
-        _ => false,
+        None => false,
+        Some(Effect::Jump) => true,
+        Some(e) => is_conditional(e),
     }
 }
 
+/// Whether control doesn't go on behind an instruction.
 fn ends_control(target: &Target, i: &Instr) -> bool
     ensures { result ≡ does ends_control target.now i.now }
 {
     match effect_of(target, i) {
-        Some(Effect::Jump) | Some(Effect::Ret) => true,
-        _ => false,
+        None => false,
+        Some(e) => opcodes::ends_control(e),
     }
 }
 
