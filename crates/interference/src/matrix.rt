@@ -4,7 +4,6 @@ ghost use Rattle.std.specs.Prelude.{◌≡◌, ◌<◌, ◌≤◌, ◌*◌, ℕ,
 ghost use Rattle.std.specs.List.{list_any};
 ghost use Rattle.std.specs.Ordering.{nat_cmp};
 ghost use Rattle.std.specs.BTreeMap.{get};
-ghost use Rattle.target_base.specs.Registers.{units_of};
 ghost use Rattle.instr_effects.specs.Numbered.{number_in};
 ghost use Rattle.instr_effects.specs.declared.owner.Owner.TheVariants as owners;
 ghost use Rattle.live_lanes.specs.Table.{entry_rank, exit_rank};
@@ -20,7 +19,7 @@ use live_lanes::{Changes, Edit, LiveFunc, Mended, Stretch};
 use mir_func::{Gap, Operand, Operands, RegOp};
 use slot_index::Slots;
 use std::alloc::{AllocError, Global};
-use target_base::{ClassId, List, Numbers, OpId, Reg, Target, Unit};
+use target_base::{ClassId, List, Numbers, OpId, Reg, Unit};
 
 /// What a range in a register would clash with.
 #[derive(Drop)]
@@ -83,16 +82,6 @@ fn add_held(
         pieces.push(held)?;
     }
     Ok(())
-}
-
-/// The units of a register; none where there is no such register.
-fn units_at(target: &Target, r: Reg) -> &[Unit]
-    ensures { result.now ≡ units_of target.now r }
-{
-    match target.regs.as_slice().get(r.0 as usize) {
-        Some(desc) => desc.units.as_slice(),
-        None => &[],
-    }
 }
 
 #[tactic(auto, using(crate::proofs::Empty::empties))]
@@ -292,7 +281,7 @@ impl Matrix {
         ensures { IsOrdered self.now → result ≡ is_free self.now v p }
     {
         let mut k = 0usize;
-        'units: for u in units_at(self.live.target(), p) {
+        'units: for u in self.live.target().units_at(p) {
             if self.is_lane_met(v, k, u.0 as u32) {
                 return false;
             }
@@ -352,7 +341,7 @@ impl Matrix {
     {
         let mut marks = Marks::new(self.alloc, self.registers.len())?;
         let mut k = 0usize;
-        'units: for u in units_at(self.live.target(), p) {
+        'units: for u in self.live.target().units_at(p) {
             if !self.mark_lane(v, k, u.0 as u32, &mut marks) {
                 return Ok(Clash::Fixed);
             }
@@ -418,7 +407,7 @@ impl Matrix {
         ensures { IsOrdered self.now → IfSome result (λ w. is_in_way self.now v p w ≡ true) }
     {
         let mut k = 0usize;
-        'units: for u in units_at(self.live.target(), p) {
+        'units: for u in self.live.target().units_at(p) {
             if let Some(w) = self.clasher_of_lane(v, k, u.0 as u32) {
                 return Some(w);
             }
@@ -478,7 +467,7 @@ impl Matrix {
 
     fn add_all(&mut self, v: u32, p: Reg) -> Result<(), AllocError> {
         let mut k = 0usize;
-        'units: for u in units_at(self.live.target(), p) {
+        'units: for u in self.live.target().units_at(p) {
             if let Some(lane) = self.live.lane_of(v, k) {
                 self.held.add_lane(&self.live, v, u.0 as u32, lane)?;
             }
@@ -489,7 +478,7 @@ impl Matrix {
 
     fn remove_all(&mut self, v: u32, p: Reg) {
         let mut k = 0usize;
-        'units: for u in units_at(self.live.target(), p) {
+        'units: for u in self.live.target().units_at(p) {
             if let Some(lane) = self.live.lane_of(v, k) {
                 self.held.remove_lane(&self.live, v, u.0 as u32, lane);
             }
@@ -673,7 +662,7 @@ impl Matrix {
     fn holder(&self, lane: u32) -> Option<(u32, u32)> {
         let (v, k) = self.live.range_of(lane)?;
         let p = self.register_of(v)?;
-        let u = units_at(self.live.target(), p).get(k as usize)?;
+        let u = self.live.target().units_at(p).get(k as usize)?;
         Some((v, u.0 as u32))
     }
 
