@@ -1,10 +1,9 @@
 //! Questions of a target that are answered on every input.
 
-use mir_func::{Instr, Op};
 use target_base::classes::{
     are_alike, are_within, does_reload, does_spill, find_home, find_part, regs_at,
 };
-use target_base::{ClassId, Effect, IndexId, OpId, OpcodeDesc, Reg, Target};
+use target_base::{ClassId, IndexId, OpId, Reg, Target};
 
 /// A place of a list of a target as a number.
 fn number_of(place: usize) -> u16 {
@@ -12,28 +11,19 @@ fn number_of(place: usize) -> u16 {
 }
 
 /// The registers of a class in allocation order; none where there is no such class.
-pub fn regs_of(target: &Target, class: ClassId) -> &[Reg] {
+pub(crate) fn regs_of(target: &Target, class: ClassId) -> &[Reg] {
     regs_at(target.classes.as_slice(), Some(class))
 }
 
-/// The lanes that an index picks, in order; none where there is no such index.
-pub fn lanes_of(target: &Target, index: IndexId) -> &[u8] {
-    match target.indexes.as_slice().get(index.0 as usize) {
-        Some(desc) => desc.lanes.as_slice(),
-        None => &[],
-    }
-}
-
 /// The class of the part of a class that an index picks; without an index the class itself.
-pub fn part(target: &Target, class: ClassId, index: Option<IndexId>) -> ClassId {
+pub(crate) fn part(target: &Target, class: ClassId, index: Option<IndexId>) -> ClassId {
     let Some(index) = index else {
         return class;
     };
-    let lanes = lanes_of(target, index);
     match find_part(
         target.regs.as_slice(),
         target.classes.as_slice(),
-        lanes,
+        target.lanes_at(index),
         regs_of(target, class),
     ) {
         Some(place) => ClassId(number_of(place)),
@@ -42,7 +32,7 @@ pub fn part(target: &Target, class: ClassId, index: Option<IndexId>) -> ClassId 
 }
 
 /// The first class with the lane widths of the part of a class that an index picks.
-pub fn move_of(target: &Target, class: ClassId, index: Option<IndexId>) -> ClassId {
+pub(crate) fn move_of(target: &Target, class: ClassId, index: Option<IndexId>) -> ClassId {
     let part = part(target, class, index);
     let own = regs_of(target, part);
     let (units, regs) = (target.units.as_slice(), target.regs.as_slice());
@@ -58,7 +48,7 @@ pub fn move_of(target: &Target, class: ClassId, index: Option<IndexId>) -> Class
 }
 
 /// The first class that holds a register; class 0 where none does.
-pub fn home(target: &Target, r: Reg) -> ClassId {
+pub(crate) fn home(target: &Target, r: Reg) -> ClassId {
     match find_home(target.classes.as_slice(), r) {
         Some(place) => ClassId(number_of(place)),
         None => ClassId(0),
@@ -66,7 +56,7 @@ pub fn home(target: &Target, r: Reg) -> ClassId {
 }
 
 /// The first spill opcode whose class holds all registers of a class.
-pub fn spill_op(target: &Target, class: ClassId) -> OpId {
+pub(crate) fn spill_op(target: &Target, class: ClassId) -> OpId {
     let (classes, own) = (target.classes.as_slice(), regs_of(target, class));
     let found = target
         .opcodes
@@ -77,7 +67,7 @@ pub fn spill_op(target: &Target, class: ClassId) -> OpId {
 }
 
 /// The first reload opcode whose class holds all registers of a class.
-pub fn reload_op(target: &Target, class: ClassId) -> OpId {
+pub(crate) fn reload_op(target: &Target, class: ClassId) -> OpId {
     let (classes, own) = (target.classes.as_slice(), regs_of(target, class));
     let found = target
         .opcodes
@@ -88,48 +78,15 @@ pub fn reload_op(target: &Target, class: ClassId) -> OpId {
 }
 
 /// Whether all registers of a class lie in another.
-pub fn is_within(target: &Target, class: ClassId, other: ClassId) -> bool {
+pub(crate) fn is_within(target: &Target, class: ClassId, other: ClassId) -> bool {
     are_within(regs_of(target, class), regs_of(target, other))
 }
 
-/// Whether a register shares a reserved unit.
-pub fn is_reserved(target: &Target, r: Reg) -> bool {
-    let reserved = target.reserved.as_slice();
-    match target.regs.as_slice().get(r.0 as usize) {
-        Some(desc) => desc.units.as_slice().iter().any(|u| reserved.contains(u)),
-        None => false,
-    }
-}
-
 /// The first unreserved register of a class; its first one where all are reserved.
-pub fn first_unreserved(target: &Target, class: ClassId) -> Reg {
+pub(crate) fn first_unreserved(target: &Target, class: ClassId) -> Reg {
     let own = regs_of(target, class);
-    match own.iter().find(|r| !is_reserved(target, **r)) {
+    match own.iter().find(|r| target.is_unreserved(**r)) {
         Some(r) => *r,
         None => own.first().copied().unwrap_or(Reg(0)),
     }
-}
-
-/// The description of an instruction's opcode; none for an excluded one.
-pub fn desc_of<'a>(target: &'a Target, instr: &Instr) -> Option<&'a OpcodeDesc> {
-    match &instr.op {
-        Op::Known(op) => target.opcodes.as_slice().get(op.0 as usize),
-        Op::Excluded(_) => None,
-    }
-}
-
-/// What an instruction computes; none for an excluded one.
-pub fn effect_of(target: &Target, instr: &Instr) -> Option<Effect> {
-    match desc_of(target, instr) {
-        Some(desc) => Some(desc.effect),
-        None => None,
-    }
-}
-
-/// Whether an instruction ends its block.
-pub fn is_terminator(target: &Target, instr: &Instr) -> bool {
-    matches!(
-        effect_of(target, instr),
-        Some(Effect::Jump | Effect::Jcc | Effect::Jnz | Effect::Ret)
-    )
 }

@@ -2,12 +2,12 @@
 //! of its own for the moment (LLVM's InlineSpiller, with rematerialisation).
 #![tactic(auto)]
 
-pub mod kinds;
+mod kinds;
 mod places;
 mod plan;
 mod reaching;
 mod remat;
-pub mod roles;
+mod roles;
 pub mod slot_map;
 mod spilled;
 pub mod stop;

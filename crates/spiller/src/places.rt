@@ -1,12 +1,12 @@
 //! How each kind of place changes when its range is spilled.
 
-use crate::kinds::{
-    effect_of, first_unreserved, home, is_terminator, lanes_of, move_of, part, reload_op, spill_op,
-};
+use crate::kinds::{first_unreserved, home, move_of, part, reload_op, spill_op};
 use crate::plan::{Plan, SlotPart, View, plain, repeated, slot_operands, undefined, whole};
 use crate::remat::{Key, Remat};
-use crate::roles::{Tie, class_of, operand_class, register_at, tie_of};
+use crate::roles::{Tie, operand_class, tie_of};
 use crate::slot_map::SlotMap;
+use mir_func::opcodes::{effect_of, is_terminator};
+use mir_func::operands::{class_of, register_at};
 use mir_func::{Instr, Loc, Op, Operand, Operands, RegOp};
 use std::alloc::AllocError;
 use target_base::{Boxed, ClassId, Copied, Effect, IndexId, OpId};
@@ -54,7 +54,7 @@ fn class_beside(view: View<'_>, op: &RegOp) -> ClassId {
 fn have_same_lanes(view: View<'_>, a: Option<IndexId>, b: Option<IndexId>) -> bool {
     match (a, b) {
         (None, None) => true,
-        (Some(a), Some(b)) => lanes_of(view.target, a) == lanes_of(view.target, b),
+        (Some(a), Some(b)) => view.target.lanes_at(a) == view.target.lanes_at(b),
         (None, Some(index)) => picks_all(view, index),
         (Some(index), None) => picks_all(view, index),
     }
@@ -62,7 +62,7 @@ fn have_same_lanes(view: View<'_>, a: Option<IndexId>, b: Option<IndexId>) -> bo
 
 /// Whether an index picks all lanes of the range in order.
 fn picks_all(view: View<'_>, index: IndexId) -> bool {
-    let lanes = lanes_of(view.target, index);
+    let lanes = view.target.lanes_at(index);
     lanes.len() == view.live.lane_count(view.v) as usize
         && (0u8..u8::MAX).zip(lanes).all(|(k, lane)| k == *lane)
 }
@@ -106,7 +106,8 @@ fn change_copy(
     slots: &mut SlotMap,
     plan: &mut Plan,
 ) -> Result<(), AllocError> {
-    let (Some(to), Some(from)) = (register_at(instr, 0), register_at(instr, 1)) else {
+    let operands = instr.operands.as_slice();
+    let (Some(to), Some(from)) = (register_at(operands, 0), register_at(operands, 1)) else {
         return Ok(());
     };
     match (view.is_own(&to), view.is_own(&from)) {
@@ -228,7 +229,7 @@ fn is_own_slot(view: View<'_>, slots: &SlotMap, register: &RegOp, part: SlotPart
 
 /// Whether an index picks the first lanes in order.
 fn is_first_lanes(view: View<'_>, index: IndexId) -> bool {
-    let lanes = lanes_of(view.target, index);
+    let lanes = view.target.lanes_at(index);
     (0u8..u8::MAX).zip(lanes).all(|(k, lane)| k == *lane)
 }
 
@@ -275,7 +276,7 @@ fn change_undefined(
     slots: &mut SlotMap,
     plan: &mut Plan,
 ) -> Result<(), AllocError> {
-    let Some(op) = register_at(instr, 0) else {
+    let Some(op) = register_at(instr.operands.as_slice(), 0) else {
         return Ok(());
     };
     if !view.is_live_behind(op.index, instr.id) {
@@ -394,7 +395,7 @@ impl PlaceWork {
     ) -> Result<(), AllocError> {
         let tie = tie_of(view.target, instr);
         'operands: for place in 0..instr.operands.len() {
-            if let Some(op) = register_at(instr, place) {
+            if let Some(op) = register_at(instr.operands.as_slice(), place) {
                 if is_free_read(view, &op, tie, place) {
                     let class = class_for(view, instr, place);
                     self.read_operand(view, op.index, class, remat, slots, plan)?;
@@ -594,7 +595,7 @@ fn tied_read(view: View<'_>, instr: &Instr, tie: Option<Tie>, place: usize) -> O
     if tie.def != place {
         return None;
     }
-    let read = register_at(instr, tie.read)?;
+    let read = register_at(instr.operands.as_slice(), tie.read)?;
     if view.is_own(&read) { Some(read) } else { None }
 }
 

@@ -188,7 +188,9 @@ impl<'a> View<'a> {
             None => (0..self.live.lane_count(self.v)).any(|k| self
                 .live
                 .live_out(self.v, k as usize, id)),
-            Some(index) => crate::kinds::lanes_of(self.target, index)
+            Some(index) => self
+                .target
+                .lanes_at(index)
                 .iter()
                 .any(|k| self.live.live_out(self.v, *k as usize, id)),
         }
@@ -226,7 +228,7 @@ impl<'a> View<'a> {
                 }
             }
             Some(index) => {
-                'picked: for k in crate::kinds::lanes_of(self.target, index) {
+                'picked: for k in self.target.lanes_at(index) {
                     if *k < 32 {
                         lanes |= 1u32 << *k;
                     }

@@ -1,13 +1,17 @@
 //! Which readings of a range are rematerialised: the instruction that defines it is repeated in
 //! place of a reload.
 
-use crate::kinds::{effect_of, is_terminator, is_within, regs_of};
+use crate::kinds::{is_within, regs_of};
 use crate::plan::View;
 use crate::reaching::{Event, Events, ReadLanes, readings_reached, unreached};
-use crate::roles::{Tie, operand_class, register_at, role_of, tie_of};
+use crate::roles::{Tie, operand_class, role_of, tie_of};
+use mir_func::opcodes::{effect_of, is_terminator, roles_of};
+use mir_func::operands::register_at;
 use mir_func::{Instr, Loc, Operand, RegOp};
 use std::alloc::{AllocError, Global};
-use target_base::{Boxed, ClassId, Effect, IndexId, Reg, Role};
+use target_base::classes::class_of;
+use target_base::roles::is_definition;
+use target_base::{Boxed, ClassId, Effect, IndexId, Reg};
 
 /// What a reading asks of the instruction that is repeated for it.
 #[derive(Clone, Copy, PartialEq, Eq)]
@@ -190,14 +194,14 @@ fn add_move(
     event: &mut Event,
     readings: &mut Vec<Reading>,
 ) -> Result<(), AllocError> {
-    let Some(op) = register_at(instr, source) else {
+    let Some(op) = register_at(instr.operands.as_slice(), source) else {
         return Ok(());
     };
     let lanes = view.lanes_read(instr.id);
     if !view.is_own(&op) || op.undef || lanes == 0 {
         return Ok(());
     }
-    let wish = match (source, op.index, register_at(instr, 0)) {
+    let wish = match (source, op.index, register_at(instr.operands.as_slice(), 0)) {
         (
             1,
             None,
@@ -401,12 +405,14 @@ fn suits(view: View<'_>, instr: &Instr, wish: Wish) -> bool {
 
 /// The class of the definition of an instruction that defines a whole range.
 fn repeated_class(view: View<'_>, instr: &Instr) -> Option<ClassId> {
-    if register_at(instr, 0)?.index.is_some() {
+    if register_at(instr.operands.as_slice(), 0)?.index.is_some() {
         return None;
     }
-    match role_of(crate::kinds::desc_of(view.target, instr)?, 0)? {
-        Role::Def(class) | Role::Early(class) => Some(class),
-        _ => None,
+    let role = role_of(roles_of(view.target, instr), 0)?;
+    if is_definition(role) {
+        class_of(role)
+    } else {
+        None
     }
 }
 

@@ -1,49 +1,39 @@
 //! What the operands of an instruction are for.
 
-use crate::kinds::{desc_of, move_of};
-use mir_func::{Func, Instr, Loc, Operand, RegOp};
-use target_base::{ClassId, OpcodeDesc, Role, Target};
+use crate::kinds::move_of;
+use mir_func::opcodes::{roles_of, takes_many};
+use mir_func::operands::{class_of, register_at};
+use mir_func::{Func, Instr, Loc, RegOp};
+use target_base::roles::{is_definition, is_implicit, is_tied};
+use target_base::{ClassId, Role, Target, classes};
 
 /// The role of the explicit operand at a place.
-pub fn role_of(desc: &OpcodeDesc, place: usize) -> Option<Role> {
+pub(crate) fn role_of(roles: &[Role], place: usize) -> Option<Role> {
     let mut k = 0usize;
-    'roles: for role in desc.roles.as_slice() {
-        match role {
-            Role::Any | Role::Rest => return Some(*role),
-            Role::ImpDef(_) | Role::ImpRead(_) => return None,
-            _ => {
-                if k == place {
-                    return Some(*role);
-                }
-            }
+    'roles: for role in roles {
+        if takes_many(*role) {
+            return Some(*role);
+        }
+        if is_implicit(*role) {
+            return None;
+        }
+        if k == place {
+            return Some(*role);
         }
         k = k.saturating_add(1);
     }
     None
 }
 
-/// The register operand at a place of an instruction.
-pub fn register_at(instr: &Instr, place: usize) -> Option<RegOp> {
-    match instr.operands.as_slice().get(place) {
-        Some(Operand::Reg(op)) => Some(*op),
-        _ => None,
-    }
-}
-
-/// The class of a range; none where it has none.
-pub fn class_of(f: &Func, v: u32) -> Option<ClassId> {
-    f.classes
-        .as_slice()
-        .get(v as usize)
-        .copied()
-        .unwrap_or(None)
-}
-
 /// The operand class of the operand at a place of an instruction; none where it has none.
-pub fn operand_class(target: &Target, f: &Func, instr: &Instr, place: usize) -> Option<ClassId> {
-    match role_of(desc_of(target, instr)?, place)? {
-        Role::Def(c) | Role::Early(c) | Role::Read(c) | Role::Tied(c) | Role::Address(c) => Some(c),
-        Role::Any => match register_at(instr, place)? {
+pub(crate) fn operand_class(
+    target: &Target,
+    f: &Func,
+    instr: &Instr,
+    place: usize,
+) -> Option<ClassId> {
+    match role_of(roles_of(target, instr), place)? {
+        Role::Any => match register_at(instr.operands.as_slice(), place)? {
             RegOp {
                 loc: Loc::Virtual(w),
                 index,
@@ -51,13 +41,14 @@ pub fn operand_class(target: &Target, f: &Func, instr: &Instr, place: usize) -> 
             } => Some(move_of(target, class_of(f, w)?, index)),
             _ => None,
         },
-        _ => None,
+        Role::Address(class) => Some(class),
+        role => classes::class_of(role),
     }
 }
 
 /// The places of a tied use and of the definition whose register it shares.
 #[derive(Clone, Copy, PartialEq, Eq)]
-pub struct Tie {
+pub(crate) struct Tie {
     /// The place of the definition.
     pub def: usize,
     /// The place of the use.
@@ -65,11 +56,9 @@ pub struct Tie {
 }
 
 /// The tie of an instruction, if it has one.
-pub fn tie_of(target: &Target, instr: &Instr) -> Option<Tie> {
-    let roles = desc_of(target, instr)?.roles.as_slice();
-    let read = roles.iter().position(|role| matches!(role, Role::Tied(_)))?;
-    let def = roles
-        .iter()
-        .position(|role| matches!(role, Role::Def(_) | Role::Early(_)))?;
+pub(crate) fn tie_of(target: &Target, instr: &Instr) -> Option<Tie> {
+    let roles = roles_of(target, instr);
+    let read = roles.iter().position(|role| is_tied(*role))?;
+    let def = roles.iter().position(|role| is_definition(*role))?;
     Some(Tie { def, read })
 }

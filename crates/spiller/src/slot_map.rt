@@ -1,6 +1,7 @@
 //! The spill slots of ranges. The ranges that come from one range of the prepared function, its
 //! original, share one slot.
 
+use mir_func::operands::class_of;
 use mir_func::{Func, Instr, Operand};
 use std::alloc::{AllocError, Global};
 use std::collections::{BTreeMap, BTreeSet};
@@ -124,7 +125,7 @@ impl SlotMap {
         let number = self.free_number();
         self.given.push(Slot {
             number,
-            class: class_of(f, original),
+            class: class_of(f, original).unwrap_or(ClassId(0)),
         })?;
         self.slots.insert(original, number)?;
         self.next = number.saturating_add(1);
@@ -139,13 +140,5 @@ impl SlotMap {
             }
         }
         u32::MAX
-    }
-}
-
-/// The class of a range; class 0 where it has none.
-fn class_of(f: &Func, v: u32) -> ClassId {
-    match f.classes.as_slice().get(v as usize) {
-        Some(Some(class)) => *class,
-        _ => ClassId(0),
     }
 }

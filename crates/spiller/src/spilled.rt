@@ -3,10 +3,10 @@
 use crate::places::{change_single, change_terminators, is_at_end};
 use crate::plan::{Plan, View};
 use crate::remat::{Remat, first_terminator, place_id, plan_remat};
-use crate::roles::class_of;
 use crate::slot_map::SlotMap;
 use crate::stop::RunStop;
 use interference::{Matrix, Tinies};
+use mir_func::operands::class_of;
 use std::alloc::{AllocError, Global};
 use target_base::ClassId;
 
