@@ -2,6 +2,7 @@
 
 use interference::Matrix;
 use live_lanes::{Edit, Labels, LiveFunc, Mark, Spot};
+use mir_func::operands::class_of;
 use mir_func::{Gap, Instr, Loc, Op, Operand, Operands, RegOp};
 use std::alloc::{AllocError, Global};
 use target_base::{ClassId, Copied, Numbers, OpId};
@@ -29,7 +30,7 @@ pub fn split(
     labels: &Labels,
 ) -> Result<Numbers, AllocError> {
     let touched = m.live().touched(alloc, v)?;
-    let class = class_of(m.live(), v);
+    let class = class_of(m.live().func(), v).unwrap_or(ClassId(0));
     let children = fresh_all(alloc, m, class, greatest(labels.as_slice()))?;
     let view = View {
         alloc,
@@ -40,14 +41,6 @@ pub fn split(
     let edits = edits_of(view, touched.as_slice(), labels.as_slice())?;
     m.edit_all_of(edits, v, touched.as_slice())?;
     Ok(children)
-}
-
-/// The class of a range; class 0 where it has none.
-fn class_of(live: &LiveFunc, v: u32) -> ClassId {
-    match live.func().classes.as_slice().get(v as usize) {
-        Some(Some(class)) => *class,
-        _ => ClassId(0),
-    }
 }
 
 /// The greatest label.
