@@ -2,11 +2,10 @@
 
 ghost use Rattle.std.specs.Prelude.{◌≡◌, ◌++◌, ◌∷◌, [], ℕ, true, not, filter, length, option_map, IfOk, OnOk};
 ghost use Rattle.std.specs.Option.{option_to_list};
-ghost use Rattle.target_base.specs.Rules.{is_copy, regs_of_some};
-ghost use Rattle.target_base.specs.Storage.{is_unreserved, is_among, holds_reg};
+ghost use Rattle.target_base.specs.Rules.{regs_of_some};
+ghost use Rattle.target_base.specs.Storage.{holds_reg};
 ghost use Rattle.mir_func.specs.declared.func.Instr.{Instr as Instruction};
-ghost use Rattle.mir_func.specs.Binding.{does, class_of};
-ghost use Rattle.mir_meaning.specs.Points.{is_range};
+ghost use Rattle.mir_func.specs.Binding.{class_of};
 ghost use Rattle.mir_meaning.specs.Places.{domain};
 ghost use Rattle.live_lanes.specs.Touching.{FindsInstrs};
 ghost use Rattle.live_lanes.specs.Tells.{TellsInstrs};
@@ -15,56 +14,16 @@ ghost use Rattle.evictor.specs.Best.{best_with};
 ghost use Rattle.evictor.specs.Hints.{assignment_of, copies_count, hint_at, is_more_frequent, is_other, follows};
 ghost use Rattle.evictor.specs.Candidates.{register_of, other_side, if_among, hinted, all_hints, most_frequent, candidates};
 
-use crate::weights::{frequency_at, is_range};
-use block_freq::Freqs;
+use crate::weights::frequency_at;
+use block_freq::{Freqs, is_range};
 use interference::Matrix;
 use live_lanes::LiveFunc;
-use mir_func::{Func, Instr, Loc, Op, Operand};
+use mir_func::opcodes::is_copy;
+use mir_func::operands::class_of;
+use mir_func::{Instr, Loc, Operand};
 use std::alloc::{AllocError, Global};
 use target_base::classes::{holds, regs_at};
-use target_base::registers::units_at;
-use target_base::{ClassId, Effect, Reg, Target, Unit};
-
-/// The class of a range; none where it has none.
-fn class_of(f: &Func, v: u32) -> Option<ClassId>
-    ensures { result ≡ class_of f.now v }
-{
-    match f.classes.as_slice().get(v as usize) {
-        None => None,
-        Some(class) => *class,
-    }
-}
-
-fn has_unit(us: &[Unit], u: Unit) -> bool
-    ensures { result ≡ is_among us.now u }
-{
-    us.iter().any(|v| v.0 == u.0)
-}
-
-/// Whether none of a register's units is reserved.
-fn is_unreserved(target: &Target, r: Reg) -> bool
-    ensures { result ≡ is_unreserved target.now.reserved target.now.regs r }
-{
-    units_at(target.regs.as_slice(), r)
-        .iter()
-        .all(|u| !has_unit(target.reserved.as_slice(), *u))
-}
-
-/// Whether the instruction is a copy.
-fn is_copy(target: &Target, instr: &Instr) -> bool
-    ensures { result ≡ does is_copy target.now instr.now }
-{
-    match &instr.op {
-        Op::Known(op) => match target.opcodes.as_slice().get(op.0 as usize) {
-            None => false,
-            Some(desc) => match desc.effect {
-                Effect::Copy => true,
-                _ => false,
-            },
-        },
-        Op::Excluded(_) => false,
-    }
-}
+use target_base::{ClassId, Reg, Target};
 
 /// The other side of a copy of the whole of a range from or to the whole of a register.
 fn other_side(instr: &Instr, v: u32) -> Option<Loc>
@@ -101,7 +60,7 @@ fn register_of(m: &Matrix, loc: Loc) -> Option<Reg>
 fn is_candidate(target: &Target, class: Option<ClassId>, r: Reg) -> bool
     ensures { result ≡ holds_reg (domain target.now class) r }
 {
-    if !is_unreserved(target, r) {
+    if !target.is_unreserved(r) {
         return false;
     }
     holds(regs_at(target.classes.as_slice(), class), r)
@@ -222,7 +181,7 @@ fn push_other(
 ) -> Result<(), AllocError>
     ensures { OnOk result (found.new.items ≡ found.old.items ++ filter (follows target.now first) (r ∷ [])) }
 {
-    if is_unreserved(target, r) && is_other(first, r) {
+    if target.is_unreserved(r) && is_other(first, r) {
         found.push(r)?;
     }
     Ok(())

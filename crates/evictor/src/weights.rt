@@ -1,52 +1,17 @@
 //! Spill weights: how often a range is used, for the points that it has.
 
 ghost use Rattle.std.specs.Prelude.{◌≡◌, ◌<◌, ◌*◌, ◌-◌, ◌^◌, ℕ, min, slice_index, IfOk};
-ghost use Rattle.mir_meaning.specs.Points.{is_range, counts};
 ghost use Rattle.mir_func.specs.declared.func.Instr.{Instr as Instruction};
-ghost use Rattle.block_freq.specs.Weights.{names, naming, use_sum, weight_of};
+ghost use Rattle.block_freq.specs.Weights.{use_sum, weight_of};
 ghost use Rattle.live_lanes.specs.Held.{range_held};
 ghost use Rattle.live_lanes.specs.Looks.{InOrder};
 ghost use Rattle.live_lanes.specs.Touching.{FindsInstrs};
 ghost use Rattle.live_lanes.specs.Tells.{TellsInstrs};
 ghost use Rattle.evictor.specs.Spots.{IsSpot, uses_at};
 
-use block_freq::Freqs;
+use block_freq::{Freqs, operand_count};
 use live_lanes::LiveFunc;
-use mir_func::{Instr, Loc, Operand, RegOp};
 use std::alloc::{AllocError, Global};
-
-/// The number of operands of an instruction that name a range, `undef` uses aside.
-pub fn operand_count(instr: &Instr, v: u32) -> u64
-    ensures { result ≡ naming v instr.now }
-{
-    let count = instr
-        .operands
-        .as_slice()
-        .iter()
-        .filter(|operand| names(operand, v))
-        .count();
-    count as u64
-}
-
-/// Whether an operand names a range and isn't an `undef` use.
-fn names(operand: &Operand, v: u32) -> bool
-    ensures { result ≡ names v operand.now }
-{
-    match operand {
-        Operand::Reg(op) => is_range(op, v) && (op.def || !op.undef),
-        _ => false,
-    }
-}
-
-/// Whether an operand is a range.
-pub(crate) fn is_range(op: &RegOp, v: u32) -> bool
-    ensures { result ≡ is_range v op.now.loc }
-{
-    match op.loc {
-        Loc::Virtual(w) => w == v,
-        Loc::Fixed(_) => false,
-    }
-}
 
 /// The frequency of the block at a position.
 pub fn frequency_at(freqs: &Freqs, position: u32) -> u64
