@@ -4,12 +4,10 @@ use crate::quiet::is_quiet;
 use block_freq::Freqs;
 use live_lanes::LiveFunc;
 use live_lanes::fold::composed;
+use mir_func::operands::class_of;
 use mir_func::{Block, Instr, Loc, Op, Operand, RegOp};
-use spiller::kinds::{is_within, lanes_of, regs_of};
-use spiller::roles::class_of;
 use std::alloc::{AllocError, Global};
-use target_base::classes::have_subs;
-use target_base::registers::{find_sub, units_at};
+use target_base::classes::{are_within, have_subs, hold_subs, regs_at};
 use target_base::{ClassId, Copied, IndexId, List, OpId, Reg, Target};
 
 /// The opcode COPY of every target.
@@ -155,30 +153,22 @@ fn range_of(op: &RegOp) -> u32 {
     }
 }
 
-fn class_at(live: &LiveFunc, v: u32) -> ClassId {
-    class_of(live.func(), v).unwrap_or(ClassId(0))
+/// The registers of the class of a range, of class 0 where it has none.
+fn regs_of<'a>(target: &'a Target, live: &LiveFunc, v: u32) -> &'a [Reg] {
+    let class = class_of(live.func(), v).unwrap_or(ClassId(0));
+    regs_at(target.classes.as_slice(), Some(class))
 }
 
 fn whole_join(target: &Target, live: &LiveFunc, to: &RegOp, from: &RegOp) -> Option<Join> {
     let (a, b) = (range_of(to), range_of(from));
-    let (own, other) = (class_at(live, a), class_at(live, b));
-    if !is_within(target, own, other) && !is_within(target, other, own) {
+    let (own, other) = (regs_of(target, live, a), regs_of(target, live, b));
+    if !are_within(own, other) && !are_within(other, own) {
         return None;
     }
     Some(Join {
         keep: a.min(b),
         gone: a.max(b),
         index: None,
-    })
-}
-
-/// Whether an index picks of each register of a class one of another class.
-fn picks_within(target: &Target, class: ClassId, index: IndexId, other: ClassId) -> bool {
-    let regs = target.regs.as_slice();
-    let (lanes, others) = (lanes_of(target, index), regs_of(target, other));
-    regs_of(target, class).iter().all(|r| match find_sub(regs, units_at(regs, *r), lanes) {
-        Some(place) => others.contains(&Reg((place & 0xffff) as u16)),
-        None => false,
     })
 }
 
@@ -192,12 +182,13 @@ fn part_join(
     whole: &RegOp,
 ) -> Result<Option<Join>, AllocError> {
     let (keep, gone) = (range_of(part), range_of(whole));
-    let class = class_at(live, keep);
-    if !picks_within(target, class, index, class_at(live, gone)) {
+    let (own, others) = (regs_of(target, live, keep), regs_of(target, live, gone));
+    let (regs, lanes) = (target.regs.as_slice(), target.lanes_at(index));
+    if !hold_subs(regs, lanes, own, others) {
         return Ok(None);
     }
     'touched: for id in live.touched(alloc, gone)?.as_slice() {
-        if !all_compose(target, live, *id, gone, class, index) {
+        if !all_compose(target, live, *id, gone, own, index) {
             return Ok(None);
         }
     }
@@ -208,13 +199,13 @@ fn part_join(
     }))
 }
 
-/// Whether each index of a range in an instruction, composed with another, fits a class.
+/// Whether each index of a range in an instruction, composed with another, fits these registers.
 fn all_compose(
     target: &Target,
     live: &LiveFunc,
     id: u32,
     v: u32,
-    class: ClassId,
+    own: &[Reg],
     outer: IndexId,
 ) -> bool {
     let Some(instr) = live.instr(id) else {
@@ -231,18 +222,14 @@ fn all_compose(
                     index: Some(inner),
                     ..
                 },
-            ) if *w == v => composes(target, class, outer, *inner),
+            ) if *w == v => composes(target, own, outer, *inner),
             _ => true,
         })
 }
 
-fn composes(target: &Target, class: ClassId, outer: IndexId, inner: IndexId) -> bool {
+fn composes(target: &Target, own: &[Reg], outer: IndexId, inner: IndexId) -> bool {
     match composed(target, outer, inner) {
-        Some(index) => have_subs(
-            target.regs.as_slice(),
-            lanes_of(target, index),
-            regs_of(target, class),
-        ),
+        Some(index) => have_subs(target.regs.as_slice(), target.lanes_at(index), own),
         None => false,
     }
 }

@@ -4,7 +4,6 @@
 use crate::joins::Join;
 use live_lanes::LiveFunc;
 use mir_func::{Instr, Loc, Op, Operand, RegOp};
-use spiller::kinds::lanes_of;
 use target_base::{IndexId, OpId, Target};
 
 /// The opcode COPY of every target.
@@ -126,7 +125,7 @@ fn outer_of(view: View<'_>, index: Option<IndexId>, k: u32) -> Option<u32> {
     match index {
         None => Some(k),
         Some(index) => {
-            let lane = lanes_of(view.target, index).get(k as usize)?;
+            let lane = view.target.lanes_at(index).get(k as usize)?;
             Some(*lane as u32)
         }
     }
@@ -137,7 +136,9 @@ fn inner_of(view: View<'_>, index: Option<IndexId>, k: u32) -> Option<u32> {
     match index {
         None => Some(k),
         Some(index) => {
-            let place = lanes_of(view.target, index)
+            let place = view
+                .target
+                .lanes_at(index)
                 .iter()
                 .position(|lane| *lane as u32 == k)?;
             u32::try_from(place).ok()
