@@ -6,8 +6,6 @@ ghost use Rattle.mir_func.specs.declared.func.Block.{Block};
 ghost use Rattle.mir_func.specs.declared.func.Instr.{Instr};
 ghost use Rattle.mir_func.specs.Edits.{block_place};
 ghost use Rattle.mir_func.specs.Binding.{does, is_terminator};
-ghost use Rattle.mir_meaning.specs.Points.{is_range};
-ghost use Rattle.block_freq.specs.Weights.{names, naming};
 ghost use Rattle.live_lanes.specs.Touching.{FindsInstrs};
 ghost use Rattle.live_lanes.specs.Tells.{touching_ids};
 ghost use Rattle.split_choose.specs.Offers.{View, first_id, last_id, touched_places};
@@ -15,8 +13,8 @@ ghost use Rattle.split_choose.specs.Seen.{ends_in_terminators, FindsPlaces};
 ghost use Rattle.split_choose.specs.Places.{joined, is_ended_at, ending, single, place_in, place_at, placed, Site, IsSite, AreSites, site_id};
 
 use live_lanes::LiveFunc;
-use mir_func::{Block, Instr, Loc, Operand, RegOp};
-use phi_elim::reading::is_terminator;
+use mir_func::opcodes::is_terminator;
+use mir_func::{Block, Instr};
 use std::alloc::{AllocError, Global};
 use target_base::{Boxed, Target};
 
@@ -188,37 +186,4 @@ pub(crate) fn places_of(
         add_place(live, *id, &mut places)?;
     }
     Ok(places)
-}
-
-/// Whether an operand is a range.
-fn is_range(op: &RegOp, v: u32) -> bool
-    ensures { result ≡ is_range v op.now.loc }
-{
-    match op.loc {
-        Loc::Virtual(w) => w == v,
-        Loc::Fixed(_) => false,
-    }
-}
-
-/// Whether an operand names a range and isn't an `undef` use.
-fn is_named(operand: &Operand, v: u32) -> bool
-    ensures { result ≡ names v operand.now }
-{
-    match operand {
-        Operand::Reg(op) => is_range(op, v) && (op.def || !op.undef),
-        _ => false,
-    }
-}
-
-/// The number of operands of an instruction that name a range, `undef` uses aside.
-pub(crate) fn operand_count(instr: &Instr, v: u32) -> u64
-    ensures { result ≡ naming v instr.now }
-{
-    let count = instr
-        .operands
-        .as_slice()
-        .iter()
-        .filter(|operand| is_named(operand, v))
-        .count();
-    count as u64
 }

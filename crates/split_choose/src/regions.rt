@@ -2,7 +2,7 @@
 
 ghost use Rattle.std.specs.Prelude.{◌≡◌, ◌<◌, ◌≤◌, ◌*◌, ◌++◌, ◌∷◌, [], List, ℕ, Bool, true, false, filter, map, length, slice_get, slice_index_or, slice_set, cond, replicate, option_map, Some, IfOk, OnOk};
 ghost use Rattle.std.specs.List.{sum_by, list_any, list_all};
-ghost use Rattle.target_base.specs.Storage.{is_unreserved, is_among};
+ghost use Rattle.target_base.specs.Storage.{is_unreserved};
 ghost use Rattle.mir_func.specs.Binding.{class_of};
 ghost use Rattle.mir_meaning.specs.Places.{domain};
 ghost use Rattle.split_choose.specs.declared.spans.Span.{Span as BlockSpan};
@@ -25,10 +25,10 @@ use block_freq::Freqs;
 use interference::Matrix;
 use live_lanes::{Labels, LiveFunc, Mark, Spot};
 use mir_func::Gap;
+use mir_func::operands::class_of;
 use std::alloc::{AllocError, Global};
 use target_base::classes::regs_at;
-use target_base::registers::units_at;
-use target_base::{ClassId, Reg, Target, Unit};
+use target_base::{ClassId, Reg, Target};
 
 /// Where in a block the part in the register lives.
 #[derive(Clone, Copy, PartialEq, Eq)]
@@ -59,36 +59,11 @@ struct View<'a> {
     bundles: &'a Bundles,
 }
 
-/// The class of a range; none where it has none.
-pub(crate) fn class_of(live: &LiveFunc, v: u32) -> Option<ClassId>
-    ensures { result ≡ class_of live.now.func v }
-{
-    match live.func().classes.as_slice().get(v as usize) {
-        None => None,
-        Some(class) => *class,
-    }
-}
-
-fn has_unit(units: &[Unit], u: Unit) -> bool
-    ensures { result ≡ is_among units.now u }
-{
-    units.iter().any(|v| v.0 == u.0)
-}
-
-/// Whether none of a register's units is reserved.
-fn is_unreserved(target: &Target, r: Reg) -> bool
-    ensures { result ≡ is_unreserved target.now.reserved target.now.regs r }
-{
-    units_at(target.regs.as_slice(), r)
-        .iter()
-        .all(|u| !has_unit(target.reserved.as_slice(), *u))
-}
-
 /// Adds a register, if it isn't reserved.
 fn add_unreserved(target: &Target, r: Reg, domain: &mut Vec<Reg>) -> Result<(), AllocError>
     ensures { OnOk result (domain.new.items ≡ domain.old.items ++ filter (is_unreserved target.now.reserved target.now.regs) (r ∷ [])) }
 {
-    if is_unreserved(target, r) {
+    if target.is_unreserved(r) {
         domain.push(r)?;
     }
     Ok(())
@@ -196,7 +171,7 @@ fn best_offer(view: View<'_>) -> Result<Option<Offer>, AllocError>
         (least (parts_of view.entry.m.now view.entry.v parents view.entry.spans.now (domain view.entry.m.now.live.target (class_of view.entry.m.now.live.func view.entry.v)))) best) }
 {
     let live = view.m.live();
-    let domain = domain_of(view.alloc, live.target(), class_of(live, view.v))?;
+    let domain = domain_of(view.alloc, live.target(), class_of(live.func(), view.v))?;
     best_of(view, domain.as_slice())
 }
 

@@ -18,12 +18,13 @@ ghost use Rattle.split_choose.specs.Runs.{IsBehind};
 
 use crate::blocks::is_live_at_border;
 use crate::places::{TouchedPlace, block_at, places_of};
-use crate::regions::{add_mark, class_of, domain_of};
+use crate::regions::{add_mark, domain_of};
 use crate::spans::{Span, find_span, is_alone, spans_of};
 use block_freq::Freqs;
 use interference::Matrix;
 use live_lanes::{Labels, LiveFunc, Stretch};
 use mir_func::Instr;
+use mir_func::operands::class_of;
 use std::alloc::{AllocError, Global};
 use target_base::{Boxed, Reg};
 
@@ -93,7 +94,7 @@ fn best_run(view: View<'_>) -> Result<Option<Run>, AllocError>
         (registers_of view.entry.m.now view.entry.v) (length (registers_of view.entry.m.now view.entry.v)) best) }
 {
     let live = view.m.live();
-    let domain = domain_of(view.alloc, live.target(), class_of(live, view.v))?;
+    let domain = domain_of(view.alloc, live.target(), class_of(live.func(), view.v))?;
     Ok(best_of(view, domain.as_slice()))
 }
 

@@ -5,7 +5,6 @@ ghost use Rattle.std.specs.Prelude.{◌≡◌, ◌<◌, ◌++◌, ◌||◌, ◌�
 ghost use Rattle.std.specs.Ordering.{nat_cmp};
 ghost use Rattle.std.specs.List.{list_any};
 ghost use Rattle.std.specs.List.Sorted.{IsStrictlySortedBy};
-ghost use Rattle.target_base.specs.Registers.{units_of};
 ghost use Rattle.live_lanes.specs.declared.extent.Stretch.{Stretch as StretchValue};
 ghost use Rattle.live_lanes.specs.Entered.{cells_of};
 ghost use Rattle.live_lanes.specs.Extents.{lanes_count};
@@ -20,12 +19,11 @@ ghost use Rattle.split_choose.specs.Spans.{AreStretches, is_held_in, is_alone};
 ghost use Rattle.split_choose.specs.Spanned.{AreSpansOf};
 ghost use Rattle.split_choose.specs.Built.{Told, told, Rise, span_place, blank, cell_stretches, cells_stretches, range_stretches, stretched, with_stretches, counted, used, filled, lane_positions, range_positions};
 
-use crate::places::operand_count;
-use block_freq::Freqs;
+use block_freq::{Freqs, operand_count};
 use interference::Matrix;
 use live_lanes::{LiveFunc, Stretch};
 use mir_func::Instr;
-use phi_elim::reading::is_terminator;
+use mir_func::opcodes::is_terminator;
 use std::alloc::{AllocError, Global};
 use target_base::{Reg, Target, Unit};
 
@@ -295,16 +293,6 @@ pub(crate) fn spans_of(
     Ok(spans)
 }
 
-/// The units of a register; none where there is no such register.
-pub(crate) fn units_at(live: &LiveFunc, r: Reg) -> &[Unit]
-    ensures { result.now ≡ units_of live.now.target r }
-{
-    match live.target().regs.as_slice().get(r.0 as usize) {
-        Some(desc) => desc.units.as_slice(),
-        None => &[],
-    }
-}
-
 /// Whether a unit is held by anything but a range at some of these points.
 #[tactic(auto, using(crate::proofs::Walks::anys))]
 fn is_held_in(m: &Matrix, v: u32, u: Unit, position: u32, stretches: &[Stretch]) -> bool
@@ -323,7 +311,7 @@ fn is_held_in(m: &Matrix, v: u32, u: Unit, position: u32, stretches: &[Stretch])
 pub(crate) fn is_alone(m: &Matrix, v: u32, r: Reg, position: u32, stretches: &[Stretch]) -> bool
     ensures { IsOrdered m.now → AreStretches stretches.now → result ≡ is_alone m.now v r position stretches.now }
 {
-    'units: for u in units_at(m.live(), r) {
+    'units: for u in m.live().target().units_at(r) {
         if is_held_in(m, v, *u, position, stretches) {
             return false;
         }
