@@ -5,27 +5,15 @@ ghost use Rattle.std.specs.Prelude.{◌≡◌, IfOk, map, take};
 use crate::live_units::LiveUnits;
 use mir_func::Block;
 use std::alloc::{AllocError, Global};
-use target_base::registers::units_at;
-use target_base::{Copied, List, Reg, Regs, Target, Unit};
-
-/// Whether the list holds a unit.
-fn holds(units: &[Unit], u: usize) -> bool {
-    units.iter().any(|w| w.0 as usize == u)
-}
-
-/// Whether none of a register's units is reserved.
-fn is_unreserved(target: &Target, r: Reg) -> bool {
-    units_at(target.regs.as_slice(), r)
-        .iter()
-        .all(|u| !holds(target.reserved.as_slice(), u.0 as usize))
-}
+use target_base::registers::has_unit_number;
+use target_base::{Copied, List, Reg, Regs, Target};
 
 /// The unreserved registers that hold a unit, in target order.
-fn holders_of(alloc: Global, target: &Target, u: usize) -> Result<Vec<Reg>, AllocError> {
+fn holders_of(alloc: Global, target: &Target, u: u32) -> Result<Vec<Reg>, AllocError> {
     let mut made = Vec::new(alloc);
     'each: for k in 0..target.regs.len().min(0xffff) {
         let r = Reg(k as u16);
-        if holds(units_at(target.regs.as_slice(), r), u) && is_unreserved(target, r) {
+        if has_unit_number(target.units_at(r), u) && target.is_unreserved(r) {
             made.push(r)?;
         }
     }
@@ -35,15 +23,16 @@ fn holders_of(alloc: Global, target: &Target, u: usize) -> Result<Vec<Reg>, Allo
 /// For each unit the unreserved registers that hold it, in target order.
 pub fn all_holders(alloc: Global, target: &Target) -> Result<Vec<Vec<Reg>>, AllocError> {
     let mut made = Vec::new(alloc);
-    'units: for u in 0..target.units.len() {
-        made.push(holders_of(alloc, target, u)?)?;
+    'units: for u in 0..target.units.len().min(0x10000) {
+        made.push(holders_of(alloc, target, u as u32)?)?;
     }
     Ok(made)
 }
 
 /// Whether each unit of the register is live.
 fn is_whole(target: &Target, live: &[bool], r: Reg) -> bool {
-    units_at(target.regs.as_slice(), r)
+    target
+        .units_at(r)
         .iter()
         .all(|u| live.get(u.0 as usize).copied().unwrap_or(false))
 }

@@ -4,12 +4,11 @@ ghost use Rattle.std.specs.Prelude.{◌≡◌, ◌++◌, ◌∷◌, [], cond, On
 ghost use Rattle.target_base.specs.Registers.{sub_of};
 ghost use Rattle.rewriter.specs.Physical.{register_of, part_of, in_register, physical_at, physical, physical_instr, physical_instrs, moves_nothing, is_identity};
 
+use mir_func::opcodes::is_copy;
 use mir_func::{Instr, Loc, Operand, Operands, RegOp};
-use phi_elim::reading::effect_of;
 use std::alloc::{AllocError, Global};
-use target_base::registers::{find_sub, units_at};
-use target_base::{Boxed, Copied, Effect, IndexId, Reg, Target};
-use two_address::classes::index_lanes;
+use target_base::registers::find_sub;
+use target_base::{Boxed, Copied, IndexId, Reg, Target};
 use two_address::ties::same_loc;
 
 /// The register of a range.
@@ -27,7 +26,7 @@ fn sub_of(target: &Target, r: Reg, x: IndexId) -> Option<Reg>
     ensures { result ≡ sub_of target.now r x }
 {
     let regs = target.regs.as_slice();
-    match find_sub(regs, units_at(regs, r), index_lanes(target, x)) {
+    match find_sub(regs, target.units_at(r), target.lanes_at(x)) {
         None => None,
         Some(place) => Some(Reg(place as u16)),
     }
@@ -139,10 +138,7 @@ fn moves_nothing(operands: &[Operand]) -> bool
 fn is_identity(target: &Target, i: &Instr) -> bool
     ensures { result ≡ is_identity target.now i.now }
 {
-    match effect_of(target, i) {
-        Some(Effect::Copy) => moves_nothing(i.operands.as_slice()),
-        _ => false,
-    }
+    is_copy(target, i) && moves_nothing(i.operands.as_slice())
 }
 
 /// Puts an instruction behind the others, unless it is a COPY of a register to itself.
