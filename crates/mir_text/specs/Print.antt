@@ -12,9 +12,8 @@ use Rattle.target_base.specs.declared.types.ClassDesc.{ClassDesc}
 use Rattle.target_base.specs.declared.types.MaskId.{MaskId}
 use Rattle.target_base.specs.declared.types.MaskDesc.{MaskDesc}
 use Rattle.target_base.specs.declared.types.OpcodeDesc.{OpcodeDesc}
-use Rattle.target_base.specs.declared.types.Role.{Role}
-use Rattle.target_base.specs.declared.types.Role.TheVariants as roles
 use Rattle.mir_func.specs.Value.{Function}
+use Rattle.mir_func.specs.Binding.{known_opcode, is_early_clobber}
 use Rattle.mir_func.specs.declared.func.Loc.{Loc}
 use Rattle.mir_func.specs.declared.func.Loc.TheVariants as locs
 use Rattle.mir_func.specs.declared.func.RegOp.{RegOp}
@@ -68,17 +67,12 @@ op_name t (ops.Excluded name) = name
 
 -- the first role of the opcode is `early`; a definition stands first, so no later role is
 
-abbrev pub is_early_role : Option Role → Bool
-is_early_role (Some (roles.Early k)) = true
-is_early_role r = false
-
 abbrev pub is_early_in : Option OpcodeDesc → Bool
 is_early_in None = false
-is_early_in (Some d) = is_early_role (slice_get d.roles 0)
+is_early_in (Some d) = is_early_clobber d.roles
 
 abbrev pub is_early : Target → Op → Bool
-is_early t (ops.Known o) = is_early_in (slice_get t.opcodes o.0)
-is_early t (ops.Excluded name) = false
+is_early t op = is_early_in (known_opcode t op)
 
 -- a word where a flag is on
 abbrev pub flag : Bool → List ℕ → List ℕ

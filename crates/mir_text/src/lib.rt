@@ -1,11 +1,11 @@
 //! The text of functions: printing it and reading it.
 #![tactic(auto)]
 
-pub mod text_laws;
 pub mod doc;
 pub mod document;
 pub mod print;
 mod reading;
+pub mod text_laws;
 
 pub use doc::{Doc, TextFault, TextKind, TextStop};
 pub use document::read_doc;

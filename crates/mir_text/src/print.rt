@@ -6,9 +6,10 @@ ghost use Rattle.std.specs.Fmt.{decimal, signed_decimal, digit_glyph};
 ghost use Rattle.mir_text.specs.Print.{reg_name, index_name, class_name, mask_name, op_name, is_early, flag, is_explicit_def, def_count, implicit_word, print_index, print_class, print_loc, print_reg, left_behind_loc, left_behind, left_behind_all, print_operand, print_more, print_operands, print_tail, print_parts, print_instr, print_instrs, left_behind_instrs, hex, print_edge, print_successors, print_livein, print_liveins, print_block_name, print_attributes, print_header, print_block, print_blocks, print_lines, print_function, print_doc};
 
 use crate::doc::Doc;
+use mir_func::opcodes::{desc_of, is_early_clobber};
 use mir_func::{Block, Classes, Edge, Func, Instr, Loc, Op, Operand, RegOp};
 use std::alloc::{AllocError, Global};
-use target_base::{Boxed, Bytes, ClassId, Copied, IndexId, List, MaskId, Reg, Role, Target};
+use target_base::{Boxed, Bytes, ClassId, Copied, IndexId, List, MaskId, Reg, Target};
 
 fn put(out: &mut Bytes, text: &str) -> Result<(), AllocError>
     ensures { OnOk result (out.new ≡ out.old ++ text.now) }
@@ -63,7 +64,8 @@ fn index_name(target: &Target, i: IndexId) -> &[u8]
     }
 }
 
-pub(crate) fn class_name(target: &Target, c: ClassId) -> &[u8]
+/// The name of a class, or nothing where the target doesn't have it.
+pub fn class_name(target: &Target, c: ClassId) -> &[u8]
     ensures { result.now ≡ class_name target.now c }
 {
     match target.classes.as_slice().get(c.0 as usize) {
@@ -97,12 +99,9 @@ pub(crate) fn op_name<'a>(target: &'a Target, op: &'a Op) -> &'a [u8]
 fn is_early(target: &Target, op: &Op) -> bool
     ensures { result ≡ is_early target.now op.now }
 {
-    match op {
-        Op::Known(o) => match target.opcodes.as_slice().get(o.0 as usize) {
-            None => false,
-            Some(d) => matches!(d.roles.as_slice().get(0), Some(Role::Early(_))),
-        },
-        Op::Excluded(_) => false,
+    match desc_of(target, op) {
+        None => false,
+        Some(d) => is_early_clobber(d.roles.as_slice()),
     }
 }
 
