@@ -5,11 +5,11 @@ ghost use Rattle.target_base.specs.Mini.{mini_target};
 ghost use Rattle.ra_top.specs.Told.{HasStatusCause, IsWrittenEnd, DoesGen};
 ghost use Rattle.ra_top.specs.Watched.{ToldGen};
 
-use crate::ending::Ending;
-use crate::stream::ends;
 use crate::commands::{Answer, Status, gen_answer};
 use crate::devices::Sink;
 use crate::devices::moves::write_all;
+use crate::ending::Ending;
+use crate::stream::ends;
 use std::alloc::Global;
 use target_base::Bytes;
 use watchers::Watcher;

@@ -3,16 +3,17 @@
 
 pub mod commands;
 pub mod devices;
-pub mod generator;
-pub mod report;
-pub mod words;
 pub mod ending;
 pub mod generated;
+pub mod generator;
+mod numbers;
+pub mod report;
 pub mod run;
 pub mod stream;
 pub mod target;
+pub mod words;
 
 pub use crate::commands::{LimitName, Status};
-pub use crate::words::Command;
 pub use crate::devices::{Failed, Files, MemFiles, MemSink, Pieces, Sink};
+pub use crate::words::Command;
 pub use run::top;

@@ -9,14 +9,14 @@ ghost use Rattle.ra_top.specs.Told.{HasStatusCause, DoesAll, DoesJobAll, asks_an
 ghost use Rattle.ra_top.specs.Commands.Told.{lines_of};
 ghost use Rattle.ra_top.specs.Watched.{ToldAs, ToldJob, ToldWords, is_trace, asks_trace, WritesLines};
 
+use crate::commands::status::write_line;
+use crate::commands::{Job, Status};
+use crate::devices::{Files, Sink};
 use crate::ending::Ending;
 use crate::generated::generate;
 use crate::stream::{ends, stream};
 use crate::target::read_target_file;
-use crate::commands::status::write_line;
-use crate::commands::{Job, Status};
 use crate::words::{Command, read_words};
-use crate::devices::{Files, Sink};
 use mir_meaning::Form;
 use std::alloc::Global;
 use target_base::{Target, mini};

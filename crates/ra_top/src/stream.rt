@@ -9,10 +9,10 @@ ghost use Rattle.ra_top.specs.Commands.Documents.{tells, end_status};
 ghost use Rattle.ra_top.specs.Commands.Told.{lines_of};
 ghost use Rattle.ra_top.specs.Watched.{ToldAs, ToldStep, is_trace, WritesLines, TracesStep};
 
-use crate::ending::{Ending, Step};
 use crate::commands::{Answer, Job, Spot, Status, answer_at, end_status, end_text};
 use crate::devices::moves::{ReadStop, write_all};
 use crate::devices::{Chunk, Files, Pieces, Sink, read_piece};
+use crate::ending::{Ending, Step};
 use std::alloc::Global;
 use target_base::{Bytes, Target};
 use watchers::Watcher;

@@ -1,16 +1,16 @@
 //! Reading a target file.
 
 ghost use Rattle.std.specs.Prelude.{◌≡◌, ℕ, List, IfOk, IfErr, IfSome};
-ghost use Rattle.std.specs.Fmt.{decimal};
 ghost use Rattle.ra_top.specs.Told.{TargetVerdict, IsTargetOf};
 ghost use Rattle.ra_top.specs.Steps.{IsFaultOrMemory, NamesNoDevice, HasTargetCause, NamesNone};
 ghost use Rattle.ra_top.specs.Watched.{IsUndone};
 
-use crate::ending::Ending;
-use crate::stream::ends;
 use crate::commands::{LimitName, Status};
 use crate::devices::Files;
 use crate::devices::moves::{ReadStop, read_file};
+use crate::ending::Ending;
+use crate::numbers::digits;
+use crate::stream::ends;
 use std::alloc::{AllocError, Global};
 use target_base::{Bytes, Target};
 use target_desc::{TargetFault, TargetStop, read_target};
@@ -18,21 +18,13 @@ use target_desc::{TargetFault, TargetStop, read_target};
 /// The most bytes of a target file.
 const TARGET_MOST: u32 = 1_048_576;
 
-/// The digits of a number.
-fn digits(alloc: Global, n: u64) -> Result<Bytes, AllocError>
-    ensures { IfOk result (λ b. b ≡ decimal n) }
-{
-    let text = n.to_string(alloc)?;
-    Bytes::from_slice(alloc, text.as_str().as_bytes())
-}
-
 /// Ends with the fault of a target file.
 fn target_fault(alloc: Global, fault: TargetFault) -> Ending
     ensures told { IsFaultOrMemory fault result.status result.detail }
     ensures fault { NamesNoDevice result.status }
     ensures undone { IsUndone result.status }
 {
-    match digits(alloc, fault.line) {
+    match digits(alloc, fault.line as u128) {
         Err(_) => ends(alloc, Status::Memory),
         Ok(detail) => Ending {
             status: Status::Target(fault),

@@ -10,7 +10,7 @@ ghost use Rattle.ra_top.specs.Commands.Documents.{end_status, IsEndText, tells};
 use crate::commands::documents::at_document;
 use crate::commands::spot::Spot;
 use crate::commands::status::Status;
-use crate::commands::words::digits;
+use crate::numbers::digits;
 use mir_meaning::Form;
 use mir_text::{TextStop, read_doc};
 use std::alloc::{AllocError, Global};
@@ -83,7 +83,7 @@ pub fn answer_at<W: Watcher>(
     match read_doc(alloc, target, spot.offset == 0, spot.line, piece) {
         Err(TextStop::Memory(e)) => Err(e),
         Err(TextStop::Fault(fault)) => {
-            let detail = digits(alloc, fault.line)?;
+            let detail = digits(alloc, fault.line as u128)?;
             Ok(Answer::Refused(Status::Text(fault), detail))
         }
         Ok(doc) => at_document(alloc, job, target, doc, number, watchers),

@@ -12,11 +12,11 @@ ghost use Rattle.ra_top.specs.Commands.Documents.{IsIntervalsAnswer, IsLiveAnswe
 use crate::commands::answer::Answer;
 use crate::commands::status::Status;
 use crate::commands::words::{invalid_words, unassignable_words};
-use pipeline::passes::prepare;
-use pipeline::guarded::{LimitName, passed_limit, verify_source};
 use crate::report::intervals::text_of_intervals;
 use machine_verify::VerifyStop;
 use mir_func::{Func, Valid};
+use pipeline::guarded::{LimitName, passed_limit, verify_source};
+use pipeline::passes::prepare;
 use place_solve::{PlaceStop, check_places};
 use std::alloc::{AllocError, Global};
 use target_base::{Bytes, Copied, Target};

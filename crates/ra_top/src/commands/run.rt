@@ -7,10 +7,10 @@ ghost use Rattle.ra_top.specs.Commands.Documents.{IsRunAnswer, IsNamedAnswer, Is
 use crate::commands::answer::Answer;
 use crate::commands::status::Status;
 use crate::commands::words::invalid_words;
-use pipeline::guarded::{passed_limit, verify_allocated, verify_source};
+use crate::report::run::text_of_run;
 use machine_verify::{Invalid, VerifyStop};
 use mir_func::Func;
-use crate::report::run::text_of_run;
+use pipeline::guarded::{passed_limit, verify_allocated, verify_source};
 use std::alloc::{AllocError, Global};
 use target_base::{Bytes, Target};
 

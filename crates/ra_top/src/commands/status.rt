@@ -7,10 +7,10 @@ ghost use Rattle.ra_top.specs.Commands.Status.{line_of, fault_line, limit_line, 
 
 use crate::devices::moves::write_all;
 use crate::devices::{Failed, Sink};
-pub use pipeline::guarded::LimitName;
 use machine_verify::Invalid;
 use mir_func::Place;
 use mir_text::{TextFault, TextKind};
+pub use pipeline::guarded::LimitName;
 use target_desc::{TargetFault, TargetKind};
 
 /// How the program ends.

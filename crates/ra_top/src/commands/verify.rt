@@ -9,10 +9,10 @@ ghost use Rattle.ra_top.specs.Commands.Documents.{valid_line, IsVerifyAnswer};
 use crate::commands::answer::Answer;
 use crate::commands::status::Status;
 use crate::commands::words::invalid_words;
-use pipeline::guarded::{passed_limit, verify_allocated, verify_source};
 use machine_verify::VerifyStop;
 use mir_func::Func;
 use mir_meaning::Form;
+use pipeline::guarded::{passed_limit, verify_allocated, verify_source};
 use std::alloc::{AllocError, Global};
 use target_base::{Bytes, Copied, Target};
 

@@ -1,29 +1,13 @@
 //! What is said of a function that is refused.
 
-ghost use Rattle.std.specs.Prelude.{◌≡◌, ◌++◌, IfOk, OnOk};
-ghost use Rattle.std.specs.Fmt.{decimal};
+ghost use Rattle.std.specs.Prelude.{◌≡◌, IfOk};
 ghost use Rattle.ra_top.specs.Commands.Status.{place_words, invalid_words, unassignable_words};
 
+use crate::numbers::put_number;
 use machine_verify::Invalid;
 use mir_func::Place;
 use std::alloc::{AllocError, Global};
 use target_base::Bytes;
-
-/// Appends the digits of a number.
-fn put_number(alloc: Global, out: &mut Bytes, n: u64) -> Result<(), AllocError>
-    ensures { OnOk result (out.new ≡ out.old ++ decimal n) }
-{
-    let text = n.to_string(alloc)?;
-    out.extend(text.as_str().as_bytes())
-}
-
-/// The digits of a number.
-pub fn digits(alloc: Global, n: u64) -> Result<Bytes, AllocError>
-    ensures { IfOk result (λ b. b ≡ decimal n) }
-{
-    let text = n.to_string(alloc)?;
-    Bytes::from_slice(alloc, text.as_str().as_bytes())
-}
 
 /// A function's name and a place in it.
 fn place_words(alloc: Global, name: &[u8], place: Place) -> Result<Bytes, AllocError>
@@ -31,9 +15,9 @@ fn place_words(alloc: Global, name: &[u8], place: Place) -> Result<Bytes, AllocE
 {
     let mut out = Bytes::from_slice(alloc, name)?;
     out.extend(b": bb.")?;
-    put_number(alloc, &mut out, place.block as u64)?;
+    put_number(&mut out, place.block as u128)?;
     out.extend(b":")?;
-    put_number(alloc, &mut out, place.at as u64)?;
+    put_number(&mut out, place.at as u128)?;
     Ok(out)
 }
 
@@ -43,7 +27,7 @@ pub fn invalid_words(alloc: Global, name: &[u8], invalid: Invalid) -> Result<Byt
 {
     let mut out = place_words(alloc, name, invalid.place)?;
     out.extend(b": V")?;
-    put_number(alloc, &mut out, invalid.rule as u64)?;
+    put_number(&mut out, invalid.rule as u128)?;
     Ok(out)
 }
 

@@ -1,10 +1,10 @@
 //! The lines of instructions.
 
 ghost use Rattle.std.specs.Prelude.{◌≡◌, ◌++◌, OnOk};
-ghost use Rattle.std.specs.Fmt.{decimal};
 ghost use Rattle.ra_top.specs.Generator.Text.{register_line, operation_line, move_line, store_line, instr_line, jump_lines};
 
 use crate::generator::source::{Jump, Numbers};
+use crate::numbers::put_numbered;
 use std::alloc::AllocError;
 use target_base::Bytes;
 
@@ -15,28 +15,12 @@ pub(crate) fn put(out: &mut Bytes, text: &str) -> Result<(), AllocError>
     out.extend(text.as_bytes())
 }
 
-/// Adds the decimal digits of a number.
-fn put_number(out: &mut Bytes, n: u64) -> Result<(), AllocError>
-    ensures { OnOk result (out.new ≡ out.old ++ decimal n) }
-{
-    let text = n.to_string(out.allocator())?;
-    put(out, text.as_str())
-}
-
-/// Adds a text with a number behind it.
-pub(crate) fn put_numbered(out: &mut Bytes, text: &str, n: u64) -> Result<(), AllocError>
-    ensures { OnOk result (out.new ≡ out.old ++ (text.now ++ decimal n)) }
-{
-    put(out, text)?;
-    put_number(out, n)
-}
-
 /// Adds an instruction that gives a register a number.
 pub(crate) fn put_register(out: &mut Bytes, v: u64, n: u64) -> Result<(), AllocError>
     ensures { OnOk result (out.new ≡ out.old ++ register_line v n) }
 {
-    put_numbered(out, "    %", v)?;
-    put_numbered(out, ":gr32 = MOV32ri ", n)?;
+    put_numbered(out, "    %", v as u128)?;
+    put_numbered(out, ":gr32 = MOV32ri ", n as u128)?;
     put(out, "\n")
 }
 
@@ -44,11 +28,11 @@ pub(crate) fn put_register(out: &mut Bytes, v: u64, n: u64) -> Result<(), AllocE
 fn put_operation(out: &mut Bytes, name: &str, d: u64, a: u64, c: u64) -> Result<(), AllocError>
     ensures { OnOk result (out.new ≡ out.old ++ operation_line name.now d a c) }
 {
-    put_numbered(out, "    %", d)?;
+    put_numbered(out, "    %", d as u128)?;
     put(out, " = ")?;
     put(out, name)?;
-    put_numbered(out, " %", a)?;
-    put_numbered(out, ", %", c)?;
+    put_numbered(out, " %", a as u128)?;
+    put_numbered(out, ", %", c as u128)?;
     put(out, ", implicit-def $eflags\n")
 }
 
@@ -56,9 +40,9 @@ fn put_operation(out: &mut Bytes, name: &str, d: u64, a: u64, c: u64) -> Result<
 fn put_move(out: &mut Bytes, name: &str, d: u64, a: u64) -> Result<(), AllocError>
     ensures { OnOk result (out.new ≡ out.old ++ move_line name.now d a) }
 {
-    put_numbered(out, "    %", d)?;
+    put_numbered(out, "    %", d as u128)?;
     put(out, " = ")?;
-    put_numbered(out, name, a)?;
+    put_numbered(out, name, a as u128)?;
     put(out, "\n")
 }
 
@@ -66,8 +50,8 @@ fn put_move(out: &mut Bytes, name: &str, d: u64, a: u64) -> Result<(), AllocErro
 fn put_store(out: &mut Bytes, a: u64, c: u64) -> Result<(), AllocError>
     ensures { OnOk result (out.new ≡ out.old ++ store_line a c) }
 {
-    put_numbered(out, "    STORE32mr %", a)?;
-    put_numbered(out, ", 0, %", c)?;
+    put_numbered(out, "    STORE32mr %", a as u128)?;
+    put_numbered(out, ", 0, %", c as u128)?;
     put(out, "\n")
 }
 
@@ -89,8 +73,8 @@ pub(crate) fn put_instr(out: &mut Bytes, of: Numbers) -> Result<(), AllocError>
 pub(crate) fn put_jump(out: &mut Bytes, of: Jump) -> Result<(), AllocError>
     ensures { OnOk result (out.new ≡ out.old ++ jump_lines of) }
 {
-    put_numbered(out, "    CMP32rr %", of.a)?;
-    put_numbered(out, ", %", of.c)?;
-    put_numbered(out, ", implicit-def $eflags\n    JCC %bb.", of.to)?;
+    put_numbered(out, "    CMP32rr %", of.a as u128)?;
+    put_numbered(out, ", %", of.c as u128)?;
+    put_numbered(out, ", implicit-def $eflags\n    JCC %bb.", of.to as u128)?;
     put(out, ", 5, implicit $eflags\n")
 }

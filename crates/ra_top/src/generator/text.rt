@@ -3,8 +3,9 @@
 ghost use Rattle.std.specs.Prelude.{◌≡◌, ◌≤◌, ◌++◌, length, OnOk, IfOk};
 ghost use Rattle.ra_top.specs.Generator.Text.{register_lines, behind_registers, instr_lines, behind_instrs, block_lines, behind_block, blocks_lines, behind_blocks, generated_text};
 
-use crate::generator::lines::{put, put_instr, put_jump, put_numbered, put_register};
+use crate::generator::lines::{put, put_instr, put_jump, put_register};
 use crate::generator::source::{BLOCKS, REGISTERS, Source};
+use crate::numbers::put_numbered;
 use std::alloc::{AllocError, Global};
 use target_base::Bytes;
 
@@ -35,7 +36,7 @@ fn put_instrs(out: &mut Bytes, source: &mut Source) -> Result<(), AllocError>
 fn put_block(out: &mut Bytes, b: u64, source: &mut Source) -> Result<(), AllocError>
     ensures { OnOk result ((out.new ≡ out.old ++ block_lines b source.old.x) × (source.new.x ≡ behind_block source.old.x)) }
 {
-    put_numbered(out, "  bb.", b)?;
+    put_numbered(out, "  bb.", b as u128)?;
     put(out, ":\n")?;
     put_instrs(out, source)?;
     put_jump(out, source.jump())

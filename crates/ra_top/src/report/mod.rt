@@ -1,5 +1,5 @@
 //! What the commands print besides functions.
 
-pub mod run;
 pub mod intervals;
+pub mod run;
 pub mod summary;

@@ -2,7 +2,6 @@
 
 ghost use Rattle.std.specs.Prelude.{◌≡◌, ◌++◌, ◌∷◌, [], OnOk, IfOk, map};
 ghost use Rattle.std.specs.List.{flat_map};
-ghost use Rattle.std.specs.Fmt.{decimal};
 ghost use Rattle.meaning.specs.Environment.{Environment};
 ghost use Rattle.meaning.specs.Code.{run};
 ghost use Rattle.mir_meaning.specs.Codes.{meaning_of};
@@ -10,7 +9,7 @@ ghost use Rattle.mir_interp.specs.Stands.{StandsFor, event_of, end_of};
 ghost use Rattle.mir_interp.specs.Seeds.{of_seed};
 ghost use Rattle.ra_top.specs.Report.Run.Printed.{lane_word, lane_words, event_line, event_lines, end_word, end_line, lines_of_run};
 
-use itoa::Buffer;
+use crate::numbers::put_number;
 use mir_func::Func;
 use mir_interp::{End, Env, Event, Outcome, run};
 use std::alloc::{AllocError, Global};
@@ -20,14 +19,6 @@ fn put(out: &mut Bytes, text: &str) -> Result<(), AllocError>
     ensures { OnOk result (out.new ≡ out.old ++ text.now) }
 {
     out.extend(text.as_bytes())
-}
-
-/// Appends a number in decimal.
-fn put_number(out: &mut Bytes, n: u128) -> Result<(), AllocError>
-    ensures { OnOk result (out.new ≡ out.old ++ decimal n) }
-{
-    let mut digits = Buffer::new();
-    put(out, digits.format(n))
 }
 
 /// Appends a lane behind a space.

@@ -1,9 +1,9 @@
 //! Parts of lines, added to a text.
 
 ghost use Rattle.std.specs.Prelude.{◌≡◌, ◌++◌, ◌∷◌, [], OnOk, codes};
-ghost use Rattle.std.specs.Fmt.{decimal};
 ghost use Rattle.ra_top.specs.Report.Intervals.Lines.{function_line, block_line, range_line, lane_head, point_text, segment_text};
 
+use crate::numbers::{put_number, put_numbered};
 use std::alloc::AllocError;
 use target_base::Bytes;
 
@@ -16,22 +16,6 @@ pub struct Point {
     /// `B` at the border of a block, `r` at a reading or a writing, `e` at an early-clobber one, `d`
     /// where only the writing's exit is occupied.
     pub letter: u8,
-}
-
-/// Adds the decimal digits of a number.
-fn put_number(out: &mut Bytes, n: u128) -> Result<(), AllocError>
-    ensures { OnOk result (out.new ≡ out.old ++ decimal n) }
-{
-    let text = n.to_string(out.allocator())?;
-    out.extend(text.as_str().as_bytes())
-}
-
-/// Adds a text with a number behind it.
-fn put_numbered(out: &mut Bytes, text: &str, n: u128) -> Result<(), AllocError>
-    ensures { OnOk result (out.new ≡ out.old ++ (text.now ++ decimal n)) }
-{
-    out.extend(text.as_bytes())?;
-    put_number(out, n)
 }
 
 /// Adds the line of a function.

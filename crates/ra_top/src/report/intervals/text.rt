@@ -9,9 +9,11 @@ use crate::report::intervals::parts::{put_block, put_function, put_range};
 use crate::report::intervals::uses::{Use, uses_of, weight_of};
 use block_freq::Freqs;
 use live_lanes::LiveFunc;
+use mir_func::operands::class_of;
 use mir_func::{Block, Func};
+use mir_text::print::class_name;
 use std::alloc::{AllocError, Global};
-use target_base::{Bytes, ClassId, Target};
+use target_base::{Bytes, Target};
 
 /// Adds the lines of blocks with these frequencies.
 fn put_blocks(out: &mut Bytes, blocks: &[Block], freqs: &[u64]) -> Result<(), AllocError>
@@ -23,19 +25,11 @@ fn put_blocks(out: &mut Bytes, blocks: &[Block], freqs: &[u64]) -> Result<(), Al
     Ok(())
 }
 
-/// The name of a class; none where the target doesn't have it.
-fn class_name(target: &Target, class: ClassId) -> &[u8] {
-    match target.classes.as_slice().get(class.0 as usize) {
-        Some(desc) => desc.name.as_slice(),
-        None => &[],
-    }
-}
-
 /// The name of the class of a range; none where it has none.
 fn name_of_class<'a>(target: &'a Target, f: &Func, v: u32) -> &'a [u8] {
-    match f.classes.as_slice().get(v as usize) {
-        Some(Some(class)) => class_name(target, *class),
-        _ => &[],
+    match class_of(f, v) {
+        Some(class) => class_name(target, class),
+        None => &[],
     }
 }
 

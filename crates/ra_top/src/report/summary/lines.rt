@@ -1,29 +1,13 @@
 //! The lines of a summary.
 
 ghost use Rattle.std.specs.Prelude.{◌≡◌, ◌++◌, OnOk, codes};
-ghost use Rattle.std.specs.Fmt.{decimal};
 ghost use Rattle.ra_top.specs.Report.Summary.Summary.{end_word, seed_line, source_line, allocated_line, run_line};
 
+use crate::numbers::put_numbered;
 use crate::report::summary::counts::{Ran, Size};
 use mir_interp::End;
 use std::alloc::AllocError;
 use target_base::Bytes;
-
-/// Adds the decimal digits of a number.
-fn put_number(out: &mut Bytes, n: u128) -> Result<(), AllocError>
-    ensures { OnOk result (out.new ≡ out.old ++ decimal n) }
-{
-    let text = n.to_string(out.allocator())?;
-    out.extend(text.as_str().as_bytes())
-}
-
-/// Adds a text with a number behind it.
-fn put_numbered(out: &mut Bytes, text: &str, n: u128) -> Result<(), AllocError>
-    ensures { OnOk result (out.new ≡ out.old ++ (text.now ++ decimal n)) }
-{
-    out.extend(text.as_bytes())?;
-    put_number(out, n)
-}
 
 /// The word of an end.
 fn end_word(end: End) -> &'static str

@@ -7,10 +7,10 @@ ghost use Rattle.pipeline.specs.Guarded.Function.{IfRefused};
 ghost use Rattle.pipeline.specs.Guarded.Told.{ToldRun, ToldPart};
 ghost use Rattle.target_base.specs.Mini.{mini_target};
 
-use crate::report::summary::ran::summary;
 use crate::generator::generate;
-use pipeline::guarded::{FunctionStop, Watcher, allocated};
+use crate::report::summary::ran::summary;
 use mir_func::Func;
+use pipeline::guarded::{FunctionStop, Watcher, allocated};
 use std::alloc::Global;
 use target_base::{Bytes, Target, mini};
 
