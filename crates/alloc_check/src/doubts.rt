@@ -9,8 +9,8 @@ ghost use Rattle.mir_meaning.specs.Rules.{successors_of};
 ghost use Rattle.mir_meaning.specs.Valid.{listed_units};
 
 use crate::alike::are_partners;
-use mir_func::{Block, Func, Instr, Place};
 use instr_effects::items::counted::{effect_of, is_silent};
+use mir_func::{Block, Func, Instr, Place};
 use target_base::registers::units_at;
 use target_base::{Boxed, Target, Unit};
 

@@ -6,14 +6,14 @@ ghost use Rattle.mir_meaning.specs.Codes.{item_of, way, target_of, fallen_into};
 ghost use Rattle.alloc_check.specs.Bare.{bare_item, first_bare, second_bare, items, block_bare, Grown, SilentItem, CountedItem, InFirst, InSecond, AreSides, Passed, Stepped};
 
 use crate::rests::same_rest;
-use meaning::{Reads, Rest, Row, Ways, Writes};
-use mir_func::{Block, Func, Instr};
 use instr_effects::items::counted::{
     effect_of, is_early_clobber, is_silent, reads_of, rest_of, roles_of, values,
 };
 use instr_effects::items::results::counted_writes;
 use instr_effects::items::silent::push_silent_writes;
 use instr_effects::items::ways::{falls_through, is_terminator, push_phis, target_of};
+use meaning::{Reads, Rest, Row, Ways, Writes};
+use mir_func::{Block, Func, Instr};
 use std::alloc::{AllocError, Global};
 use target_base::{List, Target};
 

@@ -4,8 +4,8 @@ ghost use Rattle.std.specs.Prelude.{◌≡◌};
 ghost use Rattle.target_base.specs.Registers.{fits, is_reserved_unit};
 ghost use Rattle.mir_meaning.specs.Rules.{has_lanes_at, has_lanes, index_fits, has_class};
 
-use mir_func::{Func, Loc, RegOp};
 use instr_effects::items::lanes::{class_of, lanes_at};
+use mir_func::{Func, Loc, RegOp};
 use target_base::classes::{have_subs, regs_at};
 use target_base::{ClassId, IndexId, Target};
 

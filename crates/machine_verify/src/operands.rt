@@ -14,9 +14,9 @@ use crate::words::{
     is_definition, is_implicit, is_implicit_operand, is_use, is_virtual, same_role, takes_many,
     takes_role,
 };
-use mir_func::{Func, Operand, RegOp};
 use instr_effects::items::counted::{immediate_of, is_silent};
 use instr_effects::items::lanes::{lanes_at, push_operand_widths};
+use mir_func::{Func, Operand, RegOp};
 use std::alloc::{AllocError, Global};
 use target_base::{Effect, List, OpcodeDesc, Role, Target};
 

@@ -12,8 +12,8 @@ use crate::numbers::{put_above, shifted};
 use crate::store::Store;
 use crate::types::Lanes;
 use crate::world::World;
-use meaning::{Constant, Reads, Source, Widths};
 use instr_effects::items::counted::low_bits;
+use meaning::{Constant, Reads, Source, Widths};
 use std::alloc::AllocError;
 use target_base::Bytes;
 

@@ -20,8 +20,8 @@ use crate::outside::Outside;
 use crate::store::Store;
 use crate::types::{End, Event, Events, Lanes};
 use crate::world::World;
-use meaning::{Reads, Rest};
 use instr_effects::items::counted::{low_bits, residue, total};
+use meaning::{Reads, Rest};
 use std::alloc::{AllocError, Global};
 use target_base::{Copied, Effect, List};
 

@@ -6,6 +6,6 @@ mod ready;
 mod stop;
 
 pub use crate::passes::chosen::with_registers;
-pub use greedy_core::Watcher;
 pub use crate::passes::ready::{Prepared, lowered, prepare};
 pub use crate::passes::stop::RegisterStop;
+pub use greedy_core::Watcher;
