@@ -2,6 +2,7 @@ pub mod Loops
 pub mod Tables
 pub mod Pairs
 pub mod Runs
+pub mod LaneActs
 pub mod Operands
 pub mod Writes
 pub mod CountedParts

@@ -8,3 +8,4 @@ pub mod Stepping
 pub mod Laws
 pub mod Ends
 pub mod Runs
+pub mod LaneActs

@@ -6,6 +6,7 @@ pub mod acts;
 pub mod counted;
 pub mod effects;
 pub mod items;
+pub mod lane_acts;
 pub mod lanes;
 pub mod laws;
 pub mod numbers;
@@ -19,6 +20,7 @@ pub mod whole;
 
 pub use acts::Act;
 pub use effects::{Effects, PhiRead, Reader};
+pub use lane_acts::{LaneAct, LaneRead, LaneWrite};
 pub use lanes::LaneTable;
 pub use mir_meaning::Writing;
 pub use owner::Owner;

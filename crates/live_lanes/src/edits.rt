@@ -1,16 +1,16 @@
 //! Edits of a function, after which exactly the lanes that they reach are looked at again.
 
-use crate::acts::{Act, Written, act_on, acts_of, has_act};
 use crate::cell_edit::CellEdit;
 use crate::edit_log::{Log, Mended};
 use crate::edit_update::Touch;
-use crate::effects::{Reader, Tables};
 use crate::enter::slot_of;
-use crate::lanes::{Lanes, has_lane, lanes_of_slot, no_lanes};
+use crate::lanes::{Lanes, has_lane, no_lanes};
 use crate::live::LiveFunc;
 use crate::new_cells::NewCell;
 use crate::row::{Cause, Cell, End, Piece, Reading, Row, Segment, entry_rank};
 use crate::table::Table;
+use instr_effects::lane_acts::{act_on, has_act};
+use instr_effects::{LaneAct, LaneRead, LaneWrite, Reader};
 use mir_func::{Func, Gap, Loc, Op, Operand, Operands, RegOp};
 use slot_index::Slots;
 use std::alloc::{AllocError, Global};
@@ -154,42 +154,34 @@ impl LiveFunc {
     }
 
     fn try_edits(&mut self, edits: Vec<Edit>, progress: &mut Progress) -> Result<(), AllocError> {
-        let tables = Tables::new(self.table.rows.alloc, &self.target)?;
         self.table.take_rows(progress.gone, &mut progress.log)?;
         self.table.make_cells(edits.as_slice())?;
         'edits: for edit in edits {
-            self.try_edit(&tables, edit, progress)?;
+            self.try_edit(edit, progress)?;
         }
         self.table
             .update(progress.touched.as_slice(), &mut progress.log)
     }
 
-    fn try_edit(
-        &mut self,
-        tables: &Tables,
-        edit: Edit,
-        progress: &mut Progress,
-    ) -> Result<(), AllocError> {
+    fn try_edit(&mut self, edit: Edit, progress: &mut Progress) -> Result<(), AllocError> {
         match edit {
-            Edit::Put(gap, op, operands) => self.try_put(tables, gap, op, operands, progress),
-            Edit::Replace(id, op, operands) => {
-                self.try_replace(tables, id, op, operands, progress)
-            }
-            Edit::Erase(id) => self.try_erase(tables, id, progress),
+            Edit::Put(gap, op, operands) => self.try_put(gap, op, operands, progress),
+            Edit::Replace(id, op, operands) => { self.try_replace(id, op, operands, progress) }
+            Edit::Erase(id) => self.try_erase(id, progress),
         }
     }
 
     /// What the instruction at a place of the block at a position does to lanes.
-    fn acts(&self, tables: &Tables, block: u32, place: usize) -> Result<Vec<Act>, AllocError> {
+    fn acts(&self, block: u32, place: usize) -> Result<Vec<LaneAct>, AllocError> {
         let alloc = self.table.rows.alloc;
         let reader = Reader {
             alloc,
             target: &self.target,
-            tables,
+            func: &self.func,
             lanes: &self.table.lanes,
         };
         match self.func.instr_at(block as usize, place) {
-            Some(instr) => acts_of(alloc, reader, instr),
+            Some(instr) => reader.effects(instr)?.acts(alloc),
             None => Ok(Vec::new(alloc)),
         }
     }
@@ -198,19 +190,17 @@ impl LiveFunc {
     /// taken away.
     fn standing_acts(
         &self,
-        tables: &Tables,
         block: u32,
         place: usize,
         gone: Lanes,
-    ) -> Result<Vec<Act>, AllocError> {
-        let mut acts = self.acts(tables, block, place)?;
+    ) -> Result<Vec<LaneAct>, AllocError> {
+        let mut acts = self.acts(block, place)?;
         acts.retain(|act| !has_lane(gone, act.lane));
         Ok(acts)
     }
 
     fn try_put(
         &mut self,
-        tables: &Tables,
         gap: Gap,
         op: OpId,
         operands: Operands,
@@ -226,7 +216,7 @@ impl LiveFunc {
         self.put_into_order(block, place, id)?;
         progress.log.add_put(block, id)?;
         let _ = self.func.insert_at(block as usize, place, op, operands)?;
-        let acts = self.acts(tables, block, place)?;
+        let acts = self.acts(block, place)?;
         self.table.change(block, id, &[], acts.as_slice(), progress)
     }
 
@@ -252,7 +242,6 @@ impl LiveFunc {
 
     fn try_replace(
         &mut self,
-        tables: &Tables,
         id: u32,
         op: OpId,
         operands: Operands,
@@ -264,29 +253,24 @@ impl LiveFunc {
             return Ok(());
         }
         self.table.add_slot(operands.as_slice())?;
-        let old = self.standing_acts(tables, block, place, progress.gone)?;
+        let old = self.standing_acts(block, place, progress.gone)?;
         progress.log.reserve_replaced()?;
         let (old_op, old_operands) = self
             .func
             .change_at(block as usize, place, Op::Known(op), operands);
         progress.log.add_replaced(block, id, old_op, old_operands)?;
-        let new = self.acts(tables, block, place)?;
+        let new = self.acts(block, place)?;
         self.table
             .change(block, id, old.as_slice(), new.as_slice(), progress)
     }
 
-    fn try_erase(
-        &mut self,
-        tables: &Tables,
-        id: u32,
-        progress: &mut Progress,
-    ) -> Result<(), AllocError> {
+    fn try_erase(&mut self, id: u32, progress: &mut Progress) -> Result<(), AllocError> {
         let block = self.table.order.block_of(id);
         let place = self.table.place_in(&self.func, block, id);
         if !self.table.stands_at(&self.func, block, place, id) {
             return progress.log.add_erased(block, id);
         }
-        let old = self.standing_acts(tables, block, place, progress.gone)?;
+        let old = self.standing_acts(block, place, progress.gone)?;
         self.table.change(block, id, old.as_slice(), &[], progress)?;
         progress.log.add_erased(block, id)
     }
@@ -421,8 +405,8 @@ impl Table {
         &mut self,
         block: u32,
         id: u32,
-        old: &[Act],
-        new: &[Act],
+        old: &[LaneAct],
+        new: &[LaneAct],
         progress: &mut Progress,
     ) -> Result<(), AllocError> {
         'old: for act in old {
@@ -444,7 +428,7 @@ impl Table {
         &mut self,
         block: u32,
         id: u32,
-        act: &Act,
+        act: &LaneAct,
         progress: &mut Progress,
     ) -> Result<(), AllocError> {
         let lane = act.lane;
@@ -477,15 +461,15 @@ impl Table {
     }
 
     /// What enters an instruction's reading of a lane into the cell at a place.
-    fn reading_edit(&self, place: usize, id: u32, act: &Act) -> CellEdit {
+    fn reading_edit(&self, place: usize, id: u32, act: &LaneAct) -> CellEdit {
         match self.rows.cells(act.lane).get(place) {
-            Some(cell) => reading_edit(&self.order.slots, cell, id, act.reads),
+            Some(cell) => reading_edit(&self.order.slots, cell, id, act.read),
             None => CellEdit::Nothing,
         }
     }
 
     /// What enters an instruction's writing of a lane into the cell at a place.
-    fn writing_edit(&self, place: usize, id: u32, act: &Act) -> Result<CellEdit, AllocError> {
+    fn writing_edit(&self, place: usize, id: u32, act: &LaneAct) -> Result<CellEdit, AllocError> {
         match self.rows.cells(act.lane).get(place) {
             Some(cell) => writing_edit(self.rows.alloc, &self.order.slots, cell, id, act),
             None => Ok(CellEdit::Nothing),
@@ -494,7 +478,7 @@ impl Table {
 }
 
 /// What makes an instruction's reading this one, or none.
-fn reading_edit(slots: &Slots, cell: &Cell, id: u32, reading: Option<Reading>) -> CellEdit {
+fn reading_edit(slots: &Slots, cell: &Cell, id: u32, read: Option<LaneRead>) -> CellEdit {
     let index = cell.piece_at(slots, entry_rank(slots, id));
     let Some(piece) = cell.piece(index) else {
         return CellEdit::Nothing;
@@ -508,6 +492,7 @@ fn reading_edit(slots: &Slots, cell: &Cell, id: u32, reading: Option<Reading>) -
         Some(r) => r.id == id,
         None => false,
     };
+    let reading = read.map(|r| Reading { id, into: r.into });
     match (reading, is_there) {
         (Some(reading), false) => CellEdit::PutReading(index, place, reading),
         (Some(reading), true) => CellEdit::SetReading(index, place, reading),
@@ -522,7 +507,7 @@ fn writing_edit(
     slots: &Slots,
     cell: &Cell,
     id: u32,
-    act: &Act,
+    act: &LaneAct,
 ) -> Result<CellEdit, AllocError> {
     let at = slots.number(id);
     let place = cell
@@ -534,7 +519,7 @@ fn writing_edit(
         None => false,
     };
     let index = place.saturating_add(1);
-    Ok(match (act.writes, is_there) {
+    Ok(match (act.write, is_there) {
         (Some(written), false) => {
             let readings = readings_behind(alloc, slots, cell, place, id)?;
             CellEdit::Begin(index, Boxed::new(alloc, begun(id, written, readings))?)
@@ -546,7 +531,7 @@ fn writing_edit(
 }
 
 /// A piece that an instruction's writing begins, with these readings. It isn't live.
-fn begun(id: u32, written: Written, readings: Vec<Reading>) -> Segment {
+fn begun(id: u32, written: LaneWrite, readings: Vec<Reading>) -> Segment {
     Segment {
         start: id,
         early: written.early,

@@ -20,14 +20,6 @@ pub(crate) fn owner_of(lanes: &LaneTable, lane: u32) -> Option<Owner> {
     lanes.owners.get(lane as usize).copied()
 }
 
-/// The lanes of a slot; none where it has no numbers.
-pub(crate) fn lanes_of_slot(lanes: &LaneTable, slot: u32) -> Lanes {
-    match lanes.slots.get(&slot) {
-        Some(own) => *own,
-        None => no_lanes(),
-    }
-}
-
 /// Takes the numbers of the last range away.
 pub(crate) fn drop_range(lanes: &mut LaneTable) {
     if let Some(own) = lanes.ranges.pop() {

@@ -2,12 +2,10 @@
 //! of a spill slot, the stretches of points at which it is live or written.
 #![tactic(auto)]
 
-mod acts;
 mod cell_edit;
 mod edit_log;
 mod edit_update;
 pub mod edits;
-mod effects;
 mod ends;
 mod enter;
 pub mod extent;

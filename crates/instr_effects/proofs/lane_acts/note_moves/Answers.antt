@@ -1,0 +1,13 @@
+use Rattle.std.proofs.Common.{arith, ◌<◌, length}
+use Rattle.instr_effects.specs.LaneActs.{act_on, move_at}
+use Rattle.instr_effects.proofs.Loops.{get-same}
+use Rattle.instr_effects.proofs.LaneActs.{reads-next}
+use Rattle.instr_effects.proofs.lane_acts.note_moves.Goals as goal
+
+pub writes-preserved : goal.writes-preserved
+writes-preserved c =
+    let h : c.writes.w-index < length c.args.writes.now = omega arith in
+    record {
+      told = λ k. reads-next (move_at k) (act_on c.args.acts.now.items k) (act_on c.writes.acts.items k) (act_on c.note_move.new.acts.items k) c.args.writes.now c.writes.w-index _ h (get-same c.args.writes.now c.writes.w-index _ _ h) (c.writes.invariant.told k) (c.in_ok-note_move.ensures.told k);
+      once = λ o. c.in_ok-note_move.ensures.once (c.writes.invariant.once o);
+    }
