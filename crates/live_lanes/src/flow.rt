@@ -1,18 +1,18 @@
 //! The ways into and out of each block.
 
-ghost use Rattle.std.specs.Prelude.{◌≡◌, ℕ, [], ◌∷◌, ◌++◌, ◌||◌, nat_eq, length, option_copied, slice_get, IfOk, OnOk, Some};
+ghost use Rattle.std.specs.Prelude.{◌≡◌, ℕ, [], ◌∷◌, ◌++◌, ◌||◌, nat_eq, length, slice_get, IfOk, OnOk, Some};
 ghost use Rattle.std.specs.List.{list_any};
 ghost use Rattle.std.specs.Ordering.{nat_cmp};
 ghost use Rattle.std.specs.BTreeMap.{get};
-ghost use Rattle.mir_func.specs.Binding.{does, is_terminator, known_opcode};
 ghost use Rattle.live_lanes.specs.Paths.{has};
 ghost use Rattle.live_lanes.specs.Ways.{predecessors, successors, terminators};
 ghost use Rattle.live_lanes.specs.Flowing.{terminator_ids, edge_places, Notes, NotesAll, AreOut, AreWays};
 
 use crate::order::Order;
-use mir_func::{Block, Edge, Func, Instr, Op};
+use mir_func::opcodes::is_terminator;
+use mir_func::{Block, Edge, Func, Instr};
 use std::alloc::{AllocError, Global};
-use target_base::{Boxed, Effect, OpcodeDesc, Target};
+use target_base::{Boxed, Target};
 
 /// The ways into a block and out of it, by the positions of blocks in the layout.
 #[derive(Drop)]
@@ -67,36 +67,6 @@ impl Ways {
     }
 }
 
-/// The description of an instruction's opcode; none for an excluded one.
-pub(crate) fn desc_of<'a>(target: &'a Target, instr: &Instr) -> Option<&'a OpcodeDesc>
-    ensures { option_copied result ≡ known_opcode target.now instr.now.op }
-{
-    match &instr.op {
-        Op::Known(op) => target.opcodes.as_slice().get(op.0 as usize),
-        Op::Excluded(_) => None,
-    }
-}
-
-/// Whether paths lead from the exit of an instruction with this effect to the blocks that follow.
-fn is_terminator(effect: Effect) -> bool
-    ensures { result ≡ is_terminator effect }
-{
-    matches!(
-        effect,
-        Effect::Jump | Effect::Jcc | Effect::Jnz | Effect::Ret
-    )
-}
-
-/// Whether paths lead from the exit of an instruction to the successors of its block.
-fn does_leave(target: &Target, instr: &Instr) -> bool
-    ensures { result ≡ does is_terminator target.now instr.now }
-{
-    match desc_of(target, instr) {
-        Some(desc) => is_terminator(desc.effect),
-        None => false,
-    }
-}
-
 /// The ids of a block's terminators.
 fn terminators_of(
     alloc: Global,
@@ -107,7 +77,7 @@ fn terminators_of(
 {
     instrs
         .iter()
-        .filter(|i| does_leave(target, i.get()))
+        .filter(|i| is_terminator(target, i.get()))
         .map(|i| i.get().id)
         .collect(alloc)
 }

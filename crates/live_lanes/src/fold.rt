@@ -2,10 +2,11 @@
 
 use crate::edits::Edit;
 use crate::live::LiveFunc;
+use mir_func::operands::class_of;
 use mir_func::{Loc, Op, Operand, Operands, RegOp};
 use std::alloc::{AllocError, Global};
-use target_base::classes::are_within;
-use target_base::{ClassId, Copied, IndexId, OpId, Reg, Target};
+use target_base::classes::{are_within, regs_at};
+use target_base::{Copied, IndexId, OpId, Reg, Target};
 
 /// The opcode COPY of every target.
 const COPY: OpId = OpId(0);
@@ -16,14 +17,6 @@ struct Fold {
     keep: u32,
     gone: u32,
     index: Option<IndexId>,
-}
-
-/// The lanes that an index picks; none where there is no such index.
-fn lanes_of(target: &Target, index: IndexId) -> &[u8] {
-    match target.indexes.as_slice().get(index.0 as usize) {
-        Some(desc) => desc.lanes.as_slice(),
-        None => &[],
-    }
 }
 
 /// Whether lanes are those that `inner` picks of `outer`'s.
@@ -38,7 +31,7 @@ fn are_composed(lanes: &[u8], outer: &[u8], inner: &[u8]) -> bool {
 /// The first index whose lanes are those that `inner` picks of `outer`'s. None where no index has
 /// them.
 pub fn composed(target: &Target, outer: IndexId, inner: IndexId) -> Option<IndexId> {
-    let (outer, inner) = (lanes_of(target, outer), lanes_of(target, inner));
+    let (outer, inner) = (target.lanes_at(outer), target.lanes_at(inner));
     let place = target
         .indexes
         .as_slice()
@@ -67,11 +60,7 @@ impl LiveFunc {
 
     /// The registers of the class of a range.
     fn regs_of(&self, v: u32) -> &[Reg] {
-        let class = self.func.classes.as_slice().get(v as usize);
-        match class.copied().unwrap_or(None) {
-            Some(class) => regs_of(&self.target, class),
-            None => &[],
-        }
+        regs_at(self.target.classes.as_slice(), class_of(&self.func, v))
     }
 
     /// Gives a range the class of another where that is smaller.
@@ -120,7 +109,7 @@ impl LiveFunc {
     fn have_same_lanes(&self, a: &RegOp, b: &RegOp) -> bool {
         match (a.index, b.index) {
             (None, None) => true,
-            (Some(x), Some(y)) => lanes_of(&self.target, x) == lanes_of(&self.target, y),
+            (Some(x), Some(y)) => self.target.lanes_at(x) == self.target.lanes_at(y),
             (Some(x), None) => self.picks_all(a.loc, x),
             (None, Some(y)) => self.picks_all(a.loc, y),
         }
@@ -131,17 +120,9 @@ impl LiveFunc {
         let Loc::Virtual(v) = loc else {
             return false;
         };
-        let lanes = lanes_of(&self.target, index);
+        let lanes = self.target.lanes_at(index);
         lanes.len() == self.lane_count(v) as usize
             && (0u8..u8::MAX).zip(lanes).all(|(k, lane)| k == *lane)
-    }
-}
-
-/// The registers of a class; none where there is no such class.
-fn regs_of(target: &Target, class: ClassId) -> &[Reg] {
-    match target.classes.as_slice().get(class.0 as usize) {
-        Some(desc) => desc.regs.as_slice(),
-        None => &[],
     }
 }
 
