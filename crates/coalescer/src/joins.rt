@@ -3,7 +3,7 @@
 use crate::quiet::is_quiet;
 use block_freq::Freqs;
 use live_lanes::LiveFunc;
-use live_lanes::fold::composed;
+use live_lanes::edit::fold::composed;
 use mir_func::operands::class_of;
 use mir_func::{Block, Instr, Loc, Op, Operand, RegOp};
 use std::alloc::{AllocError, Global};

@@ -17,7 +17,7 @@ use Rattle.watchers.specs.declared.steps.Kind.{Kind}
 use Rattle.watchers.specs.declared.steps.Kind.TheVariants as kinds
 use Rattle.watchers.specs.declared.steps.Step.{Step}
 use Rattle.watchers.specs.declared.steps.Step.TheVariants as steps
-use Rattle.live_lanes.specs.declared.labels.Mark.{Mark}
+use Rattle.live_lanes.specs.declared.ask.labels.Mark.{Mark}
 use Rattle.split_kit.specs.Split.{parts, Split as SplitInto}
 use Rattle.split_choose.specs.Offers.{Region, PerBlock, Local, first_of}
 use Rattle.greedy_core.specs.State.{Stage, New, Split, Tiny, Range, waiting, State, is_named, Knows, with_ranges, Queued, Highest, taken_out}

@@ -6,8 +6,8 @@ use Rattle.std.specs.List.{list_any}
 use Rattle.std.specs.List.Sorted.{IsPartitionedBy}
 use Rattle.std.proofs.lemmas.Bool.{ltb-true, leb-true, leb-false, le-leb, ne_eqb, eq-eqb, cases_eq}
 use Rattle.std.proofs.lemmas.List.Elements.{filter-append}
-use Rattle.live_lanes.specs.declared.extent.Extent.{Extent}
-use Rattle.live_lanes.specs.declared.extent.Stretch.{Stretch}
+use Rattle.live_lanes.specs.declared.ask.extent.Extent.{Extent}
+use Rattle.live_lanes.specs.declared.ask.extent.Stretch.{Stretch}
 use Rattle.live_lanes.specs.Table.{Numbers, leading, entry_rank, exit_rank, end_rank}
 use Rattle.live_lanes.specs.Extents.{first_rank, last_rank}
 use Rattle.live_lanes.proofs.Held.{or-none, and-none, le-false}

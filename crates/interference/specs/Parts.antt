@@ -1,7 +1,7 @@
 -- The parts of a list of stretches that are held, and places among them.
 use Rattle.std.specs.Prelude.{◌≡◌, ℕ, zero, suc, Bool, true, false, cond, nat_eq, nat_lt, List, [], ◌∷◌, ◌++◌, take, map, Option, None, Some, slice_get, length}
 use Rattle.std.specs.List.{list_any}
-use Rattle.live_lanes.specs.declared.extent.Stretch.{Stretch}
+use Rattle.live_lanes.specs.declared.ask.extent.Stretch.{Stretch}
 use Rattle.live_lanes.specs.Table.{Numbers}
 use Rattle.live_lanes.specs.Extents.{last_rank}
 use Rattle.interference.specs.declared.held.Gap.{Gap}

@@ -9,7 +9,7 @@ use Rattle.mir_func.specs.declared.func.Block.{Block}
 use Rattle.mir_func.specs.Value.{Function}
 use Rattle.mir_meaning.specs.Points.{all_points}
 use Rattle.instr_effects.specs.Steps.{Numbering}
-use Rattle.live_lanes.specs.declared.flow.Ways.{Ways}
+use Rattle.live_lanes.specs.declared.compute.flow.Ways.{Ways}
 use Rattle.live_lanes.specs.declared.row.Row.{Row}
 use Rattle.live_lanes.specs.declared.table.Table.{Table}
 use Rattle.std.specs.Ordering.{nat_cmp}

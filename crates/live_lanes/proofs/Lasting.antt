@@ -1,7 +1,7 @@
 -- Pieces by their shapes, and the last elements that pass a test.
 use Rattle.std.proofs.Common.{◌≡◌, ◌<◌, ◌≤◌, ℕ, zero, suc, Bool, true, false, cond, leb, length, List, [], ◌∷◌, Option, None, Some, refl, sym, ap, ◌∙◌, arith, drop, get_or, map}
 use Rattle.std.specs.Prelude.{slice_get, option_map, nat_le}
-use Rattle.live_lanes.specs.declared.flow.Ways.{Ways}
+use Rattle.live_lanes.specs.declared.compute.flow.Ways.{Ways}
 use Rattle.live_lanes.specs.declared.row.Cause.TheVariants as why
 use Rattle.live_lanes.specs.declared.row.Cell.{Cell}
 use Rattle.live_lanes.specs.declared.row.End.{End}

@@ -3,7 +3,7 @@ use Rattle.std.proofs.Common.{◌≡◌, ◌<◌, ◌≤◌, ℕ, zero, suc, tru
 use Rattle.std.specs.Prelude.{slice_get, option_map}
 use Rattle.std.proofs.lemmas.Option.{slice_get_cases}
 use Rattle.mir_meaning.specs.declared.writing.Writing.{Writing}
-use Rattle.live_lanes.specs.declared.flow.Ways.{Ways}
+use Rattle.live_lanes.specs.declared.compute.flow.Ways.{Ways}
 use Rattle.live_lanes.specs.declared.row.Cause.TheVariants as why
 use Rattle.live_lanes.specs.declared.row.Reading.{Reading}
 use Rattle.live_lanes.specs.declared.row.Row.{Row}

@@ -17,7 +17,7 @@ use Rattle.instr_effects.specs.declared.row.Lanes.{Lanes}
 use Rattle.instr_effects.specs.Row.{lane_in}
 use Rattle.instr_effects.specs.Numbers.{row_number_in}
 use Rattle.live_lanes.specs.declared.table.Table.{Table}
-use Rattle.live_lanes.specs.declared.touch.Found.{Found}
+use Rattle.live_lanes.specs.declared.ask.touch.Found.{Found}
 use Rattle.live_lanes.specs.Table.{Numbers}
 use Rattle.live_lanes.specs.Ends.{row_at}
 use Rattle.live_lanes.specs.Paths.{has}

@@ -4,7 +4,7 @@ use Rattle.target_base.specs.declared.types.Target.{Target}
 use Rattle.mir_func.specs.declared.func.Block.{Block}
 use Rattle.mir_func.specs.declared.func.Instr.{Instr}
 use Rattle.mir_func.specs.Binding.{does, is_terminator}
-use Rattle.live_lanes.specs.declared.flow.Ways.{Ways}
+use Rattle.live_lanes.specs.declared.compute.flow.Ways.{Ways}
 use Rattle.live_lanes.specs.declared.row.Row.{Row}
 use Rattle.live_lanes.specs.Paths.{Body, Code}
 use Rattle.live_lanes.specs.Table.{Numbers, unseen}

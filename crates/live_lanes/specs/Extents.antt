@@ -6,8 +6,8 @@ use Rattle.instr_effects.specs.declared.row.Lanes.{Lanes}
 use Rattle.live_lanes.specs.declared.row.End.{End}
 use Rattle.live_lanes.specs.declared.row.Segment.{Segment}
 use Rattle.live_lanes.specs.declared.row.Cell.{Cell}
-use Rattle.live_lanes.specs.declared.extent.Extent.{Extent}
-use Rattle.live_lanes.specs.declared.extent.Stretch.{Stretch}
+use Rattle.live_lanes.specs.declared.ask.extent.Extent.{Extent}
+use Rattle.live_lanes.specs.declared.ask.extent.Stretch.{Stretch}
 use Rattle.live_lanes.specs.declared.table.Table.{Table}
 use Rattle.live_lanes.specs.Table.{Numbers, Begun, Seen, leading, entry_rank, exit_rank, end_rank}
 use Rattle.live_lanes.specs.Entered.{rows_seen, piece_count}

@@ -3,7 +3,7 @@ use Rattle.std.specs.Prelude.{◌≡◌, ◌<◌, ◌≤◌, ℕ, zero, suc, ◌
 use Rattle.std.specs.List.{list_any}
 use Rattle.mir_func.specs.declared.func.Block.{Block}
 use Rattle.instr_effects.specs.declared.row.Lanes.{Lanes}
-use Rattle.live_lanes.specs.declared.points.Span.{Span}
+use Rattle.live_lanes.specs.declared.ask.points.Span.{Span}
 use Rattle.live_lanes.specs.declared.row.Row.{Row}
 use Rattle.live_lanes.specs.declared.table.Table.{Table}
 use Rattle.live_lanes.specs.Table.{Numbers, Begun, Seen, unseen, entry_rank, exit_rank}

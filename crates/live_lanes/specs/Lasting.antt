@@ -2,7 +2,7 @@
 use Rattle.std.specs.Prelude.{◌≡◌, ℕ, zero, suc, Bool, true, false, cond, ◌&&◌, nat_eq, nat_lt, nat_le, List, [], ◌∷◌, Option, None, Some, length, slice_get}
 use Rattle.std.specs.List.{list_any}
 use Rattle.slot_index.specs.Order.{number_of}
-use Rattle.live_lanes.specs.declared.flow.Ways.{Ways}
+use Rattle.live_lanes.specs.declared.compute.flow.Ways.{Ways}
 use Rattle.live_lanes.specs.declared.row.Cause.{Cause}
 use Rattle.live_lanes.specs.declared.row.Cause.TheVariants as causes
 use Rattle.live_lanes.specs.declared.row.Cell.{Cell}

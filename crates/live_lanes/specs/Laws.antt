@@ -2,7 +2,7 @@
 use Rattle.std.specs.Prelude.{◌≡◌, ◌<◌, length, ℕ, true, Option, List, ◌∷◌, [], ◌++◌, ◌↔◌}
 use Rattle.live_lanes.specs.Paths.{Step, Code, steps_of, is_written, Entry, Exit, Live, IsMatched, Among}
 use Rattle.live_lanes.specs.Graph.{Causes, is_live, writes_in, IsGrown}
-use Rattle.live_lanes.specs.declared.flow.Ways.{Ways}
+use Rattle.live_lanes.specs.declared.compute.flow.Ways.{Ways}
 use Rattle.live_lanes.specs.declared.row.Row.{Row}
 use Rattle.target_base.specs.declared.types.Target.{Target}
 use Rattle.mir_func.specs.declared.func.Block.{Block}

@@ -1,7 +1,7 @@
 -- Which lanes a table tells to be live or occupied, against the code that it is made of.
 use Rattle.std.specs.Prelude.{◌≡◌, ◌⊎◌, ◌↔◌, ℕ, Bool, true, false, List, [], ◌∷◌, ◌++◌, Option, None, Some}
 use Rattle.mir_meaning.specs.declared.writing.Writing.{Writing}
-use Rattle.live_lanes.specs.declared.flow.Ways.{Ways}
+use Rattle.live_lanes.specs.declared.compute.flow.Ways.{Ways}
 use Rattle.live_lanes.specs.declared.row.Row.{Row}
 use Rattle.live_lanes.specs.Paths.{Step, Code, steps_of, writing_of, is_written, Entry, Exit, Live}
 use Rattle.live_lanes.specs.Graph.{IsGrown}

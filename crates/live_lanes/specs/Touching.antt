@@ -12,7 +12,7 @@ use Rattle.live_lanes.specs.declared.row.Segment.{Segment}
 use Rattle.live_lanes.specs.declared.row.Cell.{Cell}
 use Rattle.live_lanes.specs.declared.row.Row.{Row}
 use Rattle.live_lanes.specs.declared.table.Table.{Table}
-use Rattle.live_lanes.specs.declared.touch.Found.{Found}
+use Rattle.live_lanes.specs.declared.ask.touch.Found.{Found}
 use Rattle.live_lanes.specs.Table.{Begun, Numbers, Seen, entry_rank, piece_at, readings_in}
 use Rattle.live_lanes.specs.Entered.{causes, cells_of, rows_seen}
 use Rattle.live_lanes.specs.Graph.{is_live}

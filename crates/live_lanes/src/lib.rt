@@ -2,32 +2,17 @@
 //! of a spill slot, the stretches of points at which it is live or written.
 #![tactic(auto)]
 
-mod cell_edit;
-mod edit_log;
-mod edit_update;
-pub mod edits;
-mod ends;
-mod enter;
-pub mod extent;
-mod flow;
-pub mod fold;
-mod fresh;
-mod grow;
-pub mod labels;
-mod lanes;
+pub mod ask;
+mod compute;
+pub mod edit;
+
 mod laws;
 pub mod live;
-mod new_cells;
 mod order;
-mod points;
-mod rise;
 mod row;
-mod size;
-mod spread;
 mod table;
-mod touch;
 
-pub use edits::{Changes, Edit};
-pub use extent::{Extent, Mended, Stretch};
-pub use labels::{Labels, Mark, Spot};
+pub use edit::edits::{Changes, Edit};
+pub use ask::extent::{Extent, Mended, Stretch};
+pub use ask::labels::{Labels, Mark, Spot};
 pub use live::LiveFunc;

@@ -9,9 +9,9 @@ ghost use Rattle.live_lanes.specs.Marks.{marked_at};
 ghost use Rattle.live_lanes.specs.Doing.{IsComputed};
 ghost use Rattle.live_lanes.specs.Looks.{InOrder, entry_at, exit_at};
 
-use crate::enter::entered;
-use crate::flow::flow_of;
-use crate::lanes::Owner;
+use crate::compute::enter::entered;
+use crate::compute::flow::flow_of;
+use crate::edit::lanes::Owner;
 use crate::order::Order;
 use crate::row::{entry_rank, exit_rank};
 use crate::table::Table;

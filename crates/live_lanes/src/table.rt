@@ -2,8 +2,8 @@
 
 ghost use Rattle.std.specs.Prelude.{◌≡◌, ◌<◌, option_copied, length, slice_get};
 
-use crate::flow::Ways;
-use crate::lanes::LaneTable;
+use crate::compute::flow::Ways;
+use crate::edit::lanes::LaneTable;
 use crate::order::Order;
 use crate::row::{Cell, Row, exit_rank};
 use std::alloc::{AllocError, Global};

@@ -7,8 +7,8 @@ use Rattle.std.proofs.lemmas.Option.{slice_get-map}
 use Rattle.slot_index.specs.Order.{number_of}
 use Rattle.meaning.specs.Live.{Among, here, there}
 use Rattle.mir_meaning.specs.Registers.{numbers}
-use Rattle.live_lanes.specs.declared.extent.Extent.{Extent}
-use Rattle.live_lanes.specs.declared.extent.Stretch.{Stretch}
+use Rattle.live_lanes.specs.declared.ask.extent.Extent.{Extent}
+use Rattle.live_lanes.specs.declared.ask.extent.Stretch.{Stretch}
 use Rattle.live_lanes.specs.declared.row.Segment.{Segment}
 use Rattle.live_lanes.specs.declared.row.Cell.{Cell}
 use Rattle.live_lanes.specs.declared.row.End.{End}

@@ -8,7 +8,7 @@ use Rattle.target_base.specs.declared.types.Target.{Target}
 use Rattle.mir_func.specs.declared.func.Block.{Block}
 use Rattle.mir_func.specs.Value.{Function}
 use Rattle.mir_func.specs.Binding.{does, is_terminator}
-use Rattle.live_lanes.specs.declared.labels.Mark.{Mark}
+use Rattle.live_lanes.specs.declared.ask.labels.Mark.{Mark}
 use Rattle.split_choose.specs.declared.spans.Span.{Span}
 use Rattle.split_choose.specs.declared.regions.Inside.{Inside as Where}
 use Rattle.split_choose.specs.declared.regions.Inside.TheVariants as places

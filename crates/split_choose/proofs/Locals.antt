@@ -8,7 +8,7 @@ use Rattle.target_base.specs.declared.types.Reg.{Reg}
 use Rattle.mir_func.specs.Value.{Function}
 use Rattle.mir_func.specs.Binding.{class_of}
 use Rattle.mir_meaning.specs.Places.{domain}
-use Rattle.live_lanes.specs.declared.labels.Mark.{Mark}
+use Rattle.live_lanes.specs.declared.ask.labels.Mark.{Mark}
 use Rattle.live_lanes.specs.declared.table.Table.{Table}
 use Rattle.split_choose.specs.declared.places.TouchedPlace.{TouchedPlace}
 use Rattle.split_choose.specs.declared.runs.Run.{Run}

@@ -9,7 +9,7 @@ use Rattle.meaning.specs.Live.{Among, here, there}
 use Rattle.mir_func.specs.declared.func.Block.{Block}
 use Rattle.mir_func.specs.Binding.{does, is_terminator}
 use Rattle.block_freq.specs.Weights.{naming}
-use Rattle.live_lanes.specs.declared.extent.Stretch.{Stretch}
+use Rattle.live_lanes.specs.declared.ask.extent.Stretch.{Stretch}
 use Rattle.live_lanes.specs.declared.live.LiveFunc.{LiveFunc}
 use Rattle.live_lanes.specs.declared.table.Table.{Table}
 use Rattle.live_lanes.specs.Extents.{lanes_count}

@@ -4,7 +4,7 @@ use Rattle.std.specs.List.{list_any}
 use Rattle.target_base.specs.declared.types.Target.{Target}
 use Rattle.mir_func.specs.declared.func.Block.{Block}
 use Rattle.mir_func.specs.Binding.{does, is_terminator}
-use Rattle.live_lanes.specs.declared.labels.Mark.{Mark}
+use Rattle.live_lanes.specs.declared.ask.labels.Mark.{Mark}
 use Rattle.live_lanes.specs.declared.table.Table.{Table}
 use Rattle.live_lanes.specs.Graph.{is_live}
 use Rattle.live_lanes.specs.Entered.{causes, cells_of}

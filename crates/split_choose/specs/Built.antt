@@ -10,7 +10,7 @@ use Rattle.mir_func.specs.Binding.{does, is_terminator}
 use Rattle.block_freq.specs.Weights.{naming}
 use Rattle.instr_effects.specs.Numbered.{number_in}
 use Rattle.instr_effects.specs.declared.owner.Owner.TheVariants as owners
-use Rattle.live_lanes.specs.declared.extent.Stretch.{Stretch}
+use Rattle.live_lanes.specs.declared.ask.extent.Stretch.{Stretch}
 use Rattle.live_lanes.specs.declared.live.LiveFunc.{LiveFunc}
 use Rattle.live_lanes.specs.declared.row.Cell.{Cell}
 use Rattle.live_lanes.specs.declared.table.Table.{Table}

@@ -4,7 +4,7 @@ use Rattle.std.specs.List.{list_all}
 use Rattle.target_base.specs.declared.types.Reg.{Reg}
 use Rattle.mir_func.specs.declared.func.Block.{Block}
 use Rattle.mir_meaning.specs.Points.{Point, block_points}
-use Rattle.live_lanes.specs.declared.extent.Stretch.{Stretch}
+use Rattle.live_lanes.specs.declared.ask.extent.Stretch.{Stretch}
 use Rattle.live_lanes.specs.Table.{Numbers}
 use Rattle.interference.specs.declared.matrix.Matrix.{Matrix}
 use Rattle.split_choose.specs.Seen.{rank_of}

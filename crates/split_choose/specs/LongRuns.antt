@@ -6,7 +6,7 @@ use Rattle.target_base.specs.declared.types.Target.{Target}
 use Rattle.mir_func.specs.Value.{Function}
 use Rattle.mir_func.specs.Binding.{class_of}
 use Rattle.mir_meaning.specs.Places.{domain}
-use Rattle.live_lanes.specs.declared.labels.Mark.{Mark}
+use Rattle.live_lanes.specs.declared.ask.labels.Mark.{Mark}
 use Rattle.live_lanes.specs.Touching.{AreTouched}
 use Rattle.live_lanes.specs.Tells.{touching_ids}
 use Rattle.interference.specs.declared.matrix.Matrix.{Matrix}

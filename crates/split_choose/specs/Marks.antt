@@ -1,7 +1,7 @@
 -- Marks in blocks.
 use Rattle.std.specs.Prelude.{ℕ, List, [], ◌∷◌, Option, None, Some}
 use Rattle.mir_func.specs.declared.func.Block.{Block}
-use Rattle.live_lanes.specs.declared.labels.Mark.{Mark}
+use Rattle.live_lanes.specs.declared.ask.labels.Mark.{Mark}
 use Rattle.split_choose.specs.Offers.{at_start, at_gap}
 
 -- the mark at the start of the block of a number, or at a gap in it

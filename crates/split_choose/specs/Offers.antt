@@ -16,8 +16,8 @@ use Rattle.mir_func.specs.Binding.{class_of, does, is_terminator}
 use Rattle.mir_meaning.specs.Points.{Point, Start, Entry, Exit, LiveAt, OccupiedAt, RangePoint, HeldIn, Tests, touches, block_points, all_points}
 use Rattle.mir_meaning.specs.Places.{domain}
 use Rattle.block_freq.specs.Weights.{naming, use_sum}
-use Rattle.live_lanes.specs.declared.labels.Mark.{Mark}
-use Rattle.live_lanes.specs.declared.labels.Spot.TheVariants as spots
+use Rattle.live_lanes.specs.declared.ask.labels.Mark.{Mark}
+use Rattle.live_lanes.specs.declared.ask.labels.Spot.TheVariants as spots
 
 -- the start or the end of a block, by its number
 pub data Border : Type 0 where

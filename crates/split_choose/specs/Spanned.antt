@@ -8,7 +8,7 @@ use Rattle.mir_func.specs.declared.func.Instr.{Instr}
 use Rattle.mir_func.specs.declared.func.Block.{Block}
 use Rattle.mir_func.specs.Binding.{does, is_terminator}
 use Rattle.block_freq.specs.Weights.{naming}
-use Rattle.live_lanes.specs.declared.extent.Stretch.{Stretch}
+use Rattle.live_lanes.specs.declared.ask.extent.Stretch.{Stretch}
 use Rattle.live_lanes.specs.declared.row.Cell.{Cell}
 use Rattle.live_lanes.specs.declared.table.Table.{Table}
 use Rattle.live_lanes.specs.Table.{Numbers, find_cell, entry_rank, exit_rank}

@@ -4,7 +4,7 @@ use Rattle.std.specs.List.{list_all, list_any}
 use Rattle.target_base.specs.declared.types.Unit.{Unit as UnitNumber}
 use Rattle.target_base.specs.declared.types.Reg.{Reg}
 use Rattle.target_base.specs.Registers.{units_of}
-use Rattle.live_lanes.specs.declared.extent.Stretch.{Stretch}
+use Rattle.live_lanes.specs.declared.ask.extent.Stretch.{Stretch}
 use Rattle.split_choose.specs.declared.spans.Span.{Span}
 use Rattle.interference.specs.declared.matrix.Matrix.{Matrix}
 use Rattle.interference.specs.Clashes.{is_held}

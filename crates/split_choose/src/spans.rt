@@ -5,7 +5,7 @@ ghost use Rattle.std.specs.Prelude.{◌≡◌, ◌<◌, ◌++◌, ◌||◌, ◌�
 ghost use Rattle.std.specs.Ordering.{nat_cmp};
 ghost use Rattle.std.specs.List.{list_any};
 ghost use Rattle.std.specs.List.Sorted.{IsStrictlySortedBy};
-ghost use Rattle.live_lanes.specs.declared.extent.Stretch.{Stretch as StretchValue};
+ghost use Rattle.live_lanes.specs.declared.ask.extent.Stretch.{Stretch as StretchValue};
 ghost use Rattle.live_lanes.specs.Entered.{cells_of};
 ghost use Rattle.live_lanes.specs.Extents.{lanes_count};
 ghost use Rattle.live_lanes.specs.Looks.{InOrder};

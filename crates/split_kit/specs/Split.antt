@@ -15,9 +15,9 @@ use Rattle.mir_func.specs.Binding.{class_of}
 use Rattle.mir_meaning.specs.Registers.{numbers}
 use Rattle.mir_meaning.specs.Points.{Point, Start, Entry, Exit, LiveAt, Tests, is_range}
 use Rattle.mir_meaning.specs.Renaming.{renamed_instr}
-use Rattle.live_lanes.specs.declared.labels.Mark.{Mark}
-use Rattle.live_lanes.specs.declared.labels.Spot.{Spot}
-use Rattle.live_lanes.specs.declared.labels.Spot.TheVariants as spots
+use Rattle.live_lanes.specs.declared.ask.labels.Mark.{Mark}
+use Rattle.live_lanes.specs.declared.ask.labels.Spot.{Spot}
+use Rattle.live_lanes.specs.declared.ask.labels.Spot.TheVariants as spots
 
 -- some lane of the range is live at the point
 abbrev pub RangeLive : Target → Function → ℕ → Point → Type 0

@@ -20,7 +20,7 @@ use Rattle.live_laws.specs.Effects.Coded.{KeepsRules}
 use Rattle.live_laws.proofs.Effects.Blocks.{slice-member, slice-map, filtered-of, filtered-in}
 use Rattle.live_laws.proofs.Effects.Lists.{any-in}
 use Rattle.live_laws.proofs.Effects.Shapes.{numbers-in}
-use Rattle.live_lanes.specs.declared.extent.Extent.{Extent}
+use Rattle.live_lanes.specs.declared.ask.extent.Extent.{Extent}
 use Rattle.live_lanes.specs.declared.row.Cell.{Cell}
 use Rattle.live_lanes.specs.declared.row.End.{End}
 use Rattle.live_lanes.specs.declared.row.End.TheVariants as ends

@@ -32,8 +32,8 @@ use Rattle.instr_effects.proofs.Members.{member-none, in-either, left-in, right-
 use Rattle.live_laws.specs.Effects.Coded.{KeepsRules}
 use Rattle.live_laws.proofs.Effects.Blocks.{slice-member, member-slice, slice-map}
 use Rattle.live_laws.proofs.Effects.Lists.{any-in, all-of}
-use Rattle.live_lanes.specs.declared.extent.Extent.{Extent}
-use Rattle.live_lanes.specs.declared.extent.Stretch.{Stretch}
+use Rattle.live_lanes.specs.declared.ask.extent.Extent.{Extent}
+use Rattle.live_lanes.specs.declared.ask.extent.Stretch.{Stretch}
 use Rattle.live_lanes.specs.declared.row.Cell.{Cell}
 use Rattle.live_lanes.specs.declared.row.Row.{Row}
 use Rattle.live_lanes.specs.declared.table.Table.{Table}

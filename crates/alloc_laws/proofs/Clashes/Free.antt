@@ -17,7 +17,7 @@ use Rattle.instr_effects.specs.Steps.{Numbering, writing, act_writing, act_writi
 use Rattle.instr_effects.proofs.Members.{member-none, in-either, flat-of, map-of}
 use Rattle.live_laws.specs.Effects.Coded.{KeepsRules}
 use Rattle.live_laws.proofs.Effects.Blocks.{slice-map, filtered-of}
-use Rattle.live_lanes.specs.declared.extent.Extent.{Extent}
+use Rattle.live_lanes.specs.declared.ask.extent.Extent.{Extent}
 use Rattle.live_lanes.specs.declared.table.Table.{Table}
 use Rattle.live_lanes.specs.Paths as paths
 use Rattle.live_lanes.specs.Paths.{Among, Step, Body, Code, steps_of, last_of, has, Use, Unused, Certain, Into, use_of, move_of, writing_of, is_written, is_some_number}

@@ -6,7 +6,7 @@ use Rattle.std.proofs.lemmas.Bool.{ltb-true, leb-true, leb-false, le-leb, eqb-tr
 use Rattle.slot_index.specs.Order.{number_of}
 use Rattle.live_laws.proofs.Effects.Blocks.{slice-member}
 use Rattle.live_laws.proofs.Effects.Lists.{any-in}
-use Rattle.live_lanes.specs.declared.extent.Extent.{Extent}
+use Rattle.live_lanes.specs.declared.ask.extent.Extent.{Extent}
 use Rattle.live_lanes.specs.declared.row.End.{End}
 use Rattle.live_lanes.specs.declared.row.End.TheVariants as ends
 use Rattle.live_lanes.specs.Table.{Numbers, Begun, Seen, entry_rank, exit_rank, end_rank, end_in, begun_end, is_begun, rises_from, leading, piece_at}

@@ -19,8 +19,8 @@ use Rattle.live_laws.specs.Effects.Shaped.{is_proper}
 use Rattle.live_laws.specs.Effects.Coded.{spot_in, KeepsRules}
 use Rattle.live_laws.proofs.Effects.Blocks.{slice-member, place-block}
 use Rattle.live_laws.proofs.Effects.Lists.{any-in}
-use Rattle.live_lanes.specs.declared.extent.Extent.{Extent}
-use Rattle.live_lanes.specs.declared.extent.Stretch.{Stretch}
+use Rattle.live_lanes.specs.declared.ask.extent.Extent.{Extent}
+use Rattle.live_lanes.specs.declared.ask.extent.Stretch.{Stretch}
 use Rattle.live_lanes.specs.declared.table.Table.{Table}
 use Rattle.live_lanes.specs.Table.{Numbers}
 use Rattle.live_lanes.specs.Doing.{IsComputed}

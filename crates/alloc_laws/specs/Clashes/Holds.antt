@@ -5,7 +5,7 @@ use Rattle.target_base.specs.Registers.{units_of}
 use Rattle.meaning.specs.Live.{Among as Member}
 use Rattle.instr_effects.specs.declared.owner.Owner.TheVariants as owners
 use Rattle.instr_effects.specs.Numbered.{number_in}
-use Rattle.live_lanes.specs.declared.extent.Extent.{Extent}
+use Rattle.live_lanes.specs.declared.ask.extent.Extent.{Extent}
 use Rattle.live_lanes.specs.declared.table.Table.{Table}
 use Rattle.interference.specs.declared.held.Held.{Held}
 use Rattle.interference.specs.declared.matrix.Matrix.{Matrix}

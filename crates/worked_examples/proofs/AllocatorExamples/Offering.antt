@@ -8,7 +8,7 @@ use Rattle.mir_func.specs.Value.{Function}
 use Rattle.mir_meaning.specs.Codes.{item_of}
 use Rattle.mir_meaning.specs.Points.{points_of, point_item}
 use Rattle.worked_examples.specs.MachineCode.Sample.{def, val, fixed, imm, symbol, csr, to_block, implicit, implicit_def, instr, block, function, gr32, eax, ecx, eflags, COPY, STORE32mr, CMP32rr, JCC, CALL, RET}
-use Rattle.live_lanes.specs.declared.labels.Mark.{Mark}
+use Rattle.live_lanes.specs.declared.ask.labels.Mark.{Mark}
 use Rattle.split_choose.specs.Offers.{Border, In, OneBundle, Out, Local, PerBlock, Region, Shows, View, at_gap, at_start, back, edge, itself, onward}
 use Rattle.worked_examples.proofs.MachineCodeLemmas.Everywhere.{is_computed, live_test, point_test, range_live, range_points}
 use Rattle.worked_examples.proofs.AllocatorExamples.Held.{held_by_others, held_test}

@@ -5,8 +5,8 @@ use Rattle.mir_func.specs.Value.{Function}
 use Rattle.mir_meaning.specs.Codes.{item_of}
 use Rattle.mir_meaning.specs.Points.{points_of, point_item}
 use Rattle.worked_examples.specs.MachineCode.Sample.{def, val, fixed, imm, symbol, csr, to_block, implicit, implicit_def, instr, block, function, gr32, eax, ecx, eflags, COPY, STORE32mr, CMP32rr, JCC, CALL, RET}
-use Rattle.live_lanes.specs.declared.labels.Mark.{Mark}
-use Rattle.live_lanes.specs.declared.labels.Spot.TheVariants as spots
+use Rattle.live_lanes.specs.declared.ask.labels.Mark.{Mark}
+use Rattle.live_lanes.specs.declared.ask.labels.Spot.TheVariants as spots
 use Rattle.split_kit.specs.Split.{Split, parts, split_by}
 use Rattle.worked_examples.proofs.MachineCodeLemmas.Everywhere.{is_computed, live_test, range_live}
 

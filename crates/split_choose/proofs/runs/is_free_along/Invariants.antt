@@ -1,7 +1,7 @@
 use Rattle.std.proofs.Common.{◌≡◌, take, true}
 use Rattle.std.specs.List.{list_all}
 use Rattle.interference.specs.Clashes.{IsOrdered}
-use Rattle.live_lanes.specs.declared.extent.Stretch.{Stretch}
+use Rattle.live_lanes.specs.declared.ask.extent.Stretch.{Stretch}
 use Rattle.split_choose.specs.Clearing.{cut, is_part_clear}
 use Rattle.split_choose.proofs.runs.is_free_along.Given as goal
 

@@ -1,5 +1,5 @@
 use Rattle.std.proofs.Common.{◌∙◌, sym, ap, slice_get, Bool}
-use Rattle.live_lanes.specs.declared.extent.Stretch.{Stretch}
+use Rattle.live_lanes.specs.declared.ask.extent.Stretch.{Stretch}
 use Rattle.split_choose.proofs.Building.{already}
 use Rattle.split_choose.proofs.spans.join.Goals as goal
 

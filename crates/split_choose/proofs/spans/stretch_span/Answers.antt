@@ -1,5 +1,5 @@
 use Rattle.std.proofs.Common.{ap, Bool}
-use Rattle.live_lanes.specs.declared.extent.Stretch.{Stretch}
+use Rattle.live_lanes.specs.declared.ask.extent.Stretch.{Stretch}
 use Rattle.split_choose.specs.Built.{told}
 use Rattle.split_choose.proofs.Building.{pointwise}
 use Rattle.split_choose.proofs.spans.stretch_span.Goals as goal

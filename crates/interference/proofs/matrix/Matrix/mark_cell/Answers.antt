@@ -2,7 +2,7 @@ use Rattle.std.proofs.Common.{◌≡◌, ◌<◌, ◌≤◌, ◌+◌, ◌*◌, L
 use Rattle.std.specs.Prelude.{not, ◌||◌, nat_eq, slice_get}
 use Rattle.std.specs.List.{list_any}
 use Rattle.live_lanes.specs.declared.row.Cell.{Cell}
-use Rattle.live_lanes.specs.declared.extent.Stretch.{Stretch}
+use Rattle.live_lanes.specs.declared.ask.extent.Stretch.{Stretch}
 use Rattle.live_lanes.specs.Entered.{cells_of, piece_count}
 use Rattle.live_lanes.specs.Extents.{stretch_of, is_met}
 use Rattle.interference.specs.Clashes.{Points, holds, is_taken_by, is_fixed_at, are_taken, some_cell_points}

@@ -1,4 +1,4 @@
-use Rattle.live_lanes.specs.declared.flow.Ways.{Ways}
+use Rattle.live_lanes.specs.declared.compute.flow.Ways.{Ways}
 use Rattle.std.proofs.Common.{List, []}
 use Rattle.live_lanes.specs.Paths.{Code}
 use Rattle.live_lanes.specs.Table.{Numbers}
