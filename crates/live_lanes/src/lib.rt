@@ -5,14 +5,13 @@
 pub mod ask;
 mod compute;
 pub mod edit;
-
 mod laws;
 pub mod live;
 mod order;
 mod row;
 mod table;
 
-pub use edit::edits::{Changes, Edit};
 pub use ask::extent::{Extent, Mended, Stretch};
 pub use ask::labels::{Labels, Mark, Spot};
+pub use edit::edits::{Changes, Edit};
 pub use live::LiveFunc;

@@ -4,8 +4,8 @@
 //! with it fall the pieces that are live for its sake. What then still has a reason to be live comes
 //! alive again, and all that leads to it. At last the pieces concerned get their ends anew.
 
-use crate::edit::edit_log::Log;
 use crate::compute::flow::{predecessors, successors, terminators};
+use crate::edit::edit_log::Log;
 use crate::row::{Cause, Cell, End, Piece, Reading, Row, entry_rank, exit_rank, rank};
 use crate::table::{Spot, Table};
 use std::alloc::AllocError;

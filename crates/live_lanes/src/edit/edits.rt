@@ -1,12 +1,12 @@
 //! Edits of a function, after which exactly the lanes that they reach are looked at again.
 
+use crate::compute::enter::slot_of;
 use crate::edit::cell_edit::CellEdit;
 use crate::edit::edit_log::{Log, Mended};
 use crate::edit::edit_update::Touch;
-use crate::compute::enter::slot_of;
 use crate::edit::lanes::{Lanes, has_lane, no_lanes};
-use crate::live::LiveFunc;
 use crate::edit::new_cells::NewCell;
+use crate::live::LiveFunc;
 use crate::row::{Cause, Cell, End, Piece, Reading, Row, Segment, entry_rank};
 use crate::table::Table;
 use instr_effects::lane_acts::{act_on, has_act};
