@@ -200,18 +200,6 @@ first-more f (y ∷ ys) x = ap (λ m. option_or (f y) m) (first-more f ys x) ∙
 first-next : {X Y : Type 0} (f : X → Option Y) (xs : List X) (i : ℕ) (x : X) → i < length xs → x ≡ get_or xs i x → option_or (first_of f (take i xs)) (f x) ≡ first_of f (take (i + 1) xs)
 first-next f xs i x h e = sym (first-more f (take i xs) x) ∙ ap (first_of f) (ap (λ y. take i xs ++ y ∷ []) e ∙ sym (take_more xs i x h))
 
-no-read : (a : LaneAct) → a ≡ add_read a None
-no-read a = ap (λ x. record { lane = a.lane; read = x; write = a.write }) (or-none a.read)
-
-no-write : (a : LaneAct) → a ≡ add_write a None
-no-write a = ap (λ x. record { lane = a.lane; read = a.read; write = x }) (or-none a.write)
-
-pub reads_begun : {X : Type 0} (f : X → Option LaneRead) (a : LaneAct) (xs : List X) → a ≡ add_read a (first_of f (take 0 xs))
-reads_begun f a xs = no-read a
-
-pub writes_begun : {X : Type 0} (f : X → Option LaneWrite) (a : LaneAct) (xs : List X) → a ≡ add_write a (first_of f (take 0 xs))
-writes_begun f a xs = no-write a
-
 pub reads-next : {X : Type 0} (f : X → Option LaneRead) (a b c : LaneAct) (xs : List X) (i : ℕ) (x : X) → i < length xs → x ≡ get_or xs i x → b ≡ add_read a (first_of f (take i xs)) → c ≡ add_read b (f x) → c ≡ add_read a (first_of f (take (i + 1) xs))
 reads-next f a b c xs i x h e p q =
     q ∙ ap (λ y. add_read y (f x)) p
@@ -223,9 +211,3 @@ writes-next f a b c xs i x h e p q =
     q ∙ ap (λ y. add_write y (f x)) p
     ∙ ap (λ m. record { lane = a.lane; read = a.read; write = m }) (or-joined a.write (first_of f (take i xs)) (f x))
     ∙ ap (λ m. add_write a m) (first-next f xs i x h e)
-
-pub reads-done : {X : Type 0} (f : X → Option LaneRead) (a b : LaneAct) (xs : List X) (i : ℕ) → length xs ≤ i → b ≡ add_read a (first_of f (take i xs)) → b ≡ add_read a (first_of f xs)
-reads-done f a b xs i h p = p ∙ ap (λ t. add_read a (first_of f t)) (take_all i xs h)
-
-pub writes-done : {X : Type 0} (f : X → Option LaneWrite) (a b : LaneAct) (xs : List X) (i : ℕ) → length xs ≤ i → b ≡ add_write a (first_of f (take i xs)) → b ≡ add_write a (first_of f xs)
-writes-done f a b xs i h p = p ∙ ap (λ t. add_write a (first_of f t)) (take_all i xs h)

@@ -41,42 +41,13 @@ numbered_more f k =
 
 -- lanes that are given sources
 
-moved_next : (early : Bool) (os : List Owner) (ss : List (Option Owner)) (k : ℕ) (o : Owner) (s : Option Owner) → k < length os → k < length ss → o ≡ get_or os k o → s ≡ get_or ss k s → moved_acts early (take (suc k) os) ss ≡ moved_acts early (take k os) ss ++ record { lane = o; from = s; early = early } ∷ []
-moved_next early [] ss k o s h g e f = absurd (omega arith)
-moved_next early (x ∷ os) [] k o s h g e f = absurd (omega arith)
-moved_next early (x ∷ os) (y ∷ ss) zero o s h g e f = ap₂ (λ a b. record { lane = a; from = b; early = early } ∷ []) (sym e) (sym f)
-moved_next early (x ∷ os) (y ∷ ss) (suc k) o s h g e f = ap (λ t. record { lane = x; from = y; early = early } ∷ t) (moved_next early os ss k o s (omega arith) (omega arith) e f)
-
-moved_past : (early : Bool) (os : List Owner) (ss : List (Option Owner)) (k : ℕ) → length ss ≤ k → moved_acts early (take (suc k) os) ss ≡ moved_acts early (take k os) ss
-moved_past early [] ss zero h = refl
-moved_past early [] ss (suc k) h = refl
-moved_past early (x ∷ os) [] zero h = refl
-moved_past early (x ∷ os) [] (suc k) h = refl
-moved_past early (x ∷ os) (y ∷ ss) zero h = absurd (omega arith)
-moved_past early (x ∷ os) (y ∷ ss) (suc k) h = ap (λ t. record { lane = x; from = y; early = early } ∷ t) (moved_past early os ss k (omega arith))
-
-pub given_more : (early : Bool) (start now : List Act) (os : List Owner) (ss : List (Option Owner)) (k : ℕ) (o : Owner) (s : Option Owner) → k < length os → k < length ss → o ≡ get_or os k o → s ≡ get_or ss k s → now ≡ start ++ moved_acts early (take k os) ss → now ++ record { lane = o; from = s; early = early } ∷ [] ≡ start ++ moved_acts early (take (k + 1) os) ss
-given_more early start now os ss k o s h g e f so =
-    let n : suc k ≡ k + 1 = omega arith in
-    ap (λ t. t ++ record { lane = o; from = s; early = early } ∷ []) so ∙ append_assoc start (moved_acts early (take k os) ss) (record { lane = o; from = s; early = early } ∷ [])
-    ∙ ap (λ t. start ++ t) (sym (moved_next early os ss k o s h g e f) ∙ ap (λ m. moved_acts early (take m os) ss) n)
-
 pub get-same : {X : Type 0} (xs : List X) (k : ℕ) (d e : X) → k < length xs → get_or xs k d ≡ get_or xs k e
 get-same [] k d e h = absurd (omega arith)
 get-same (x ∷ xs) zero d e h = refl
 get-same (x ∷ xs) (suc k) d e h = get-same xs k d e (omega arith)
 
-pub given_at : (early : Bool) (start now : List Act) (os : List Owner) (ss : List (Option Owner)) (k : ℕ) (o : Owner) (s : Option Owner) → k < length os → k < length ss → now ≡ start ++ moved_acts early (take k os) ss → now ++ record { lane = get_or os k o; from = get_or ss k s; early = early } ∷ [] ≡ start ++ moved_acts early (take (k + 1) os) ss
-given_at early start now os ss k o s h g so = given_more early start now os ss k (get_or os k o) (get_or ss k s) h g (get-same os k o (get_or os k o) h) (get-same ss k s (get_or ss k s) g) so
-
 pub joined : {X : Type 0} (a b c x y : List X) → b ≡ a ++ x → c ≡ b ++ y → c ≡ a ++ (x ++ y)
 joined a b c x y e f = f ∙ ap (λ t. t ++ y) e ∙ append_assoc a x y
-
-pub given_past : (early : Bool) (start now : List Act) (os : List Owner) (ss : List (Option Owner)) (k : ℕ) → length ss ≤ k → now ≡ start ++ moved_acts early (take k os) ss → now ≡ start ++ moved_acts early (take (k + 1) os) ss
-given_past early start now os ss k h so = let n : suc k ≡ k + 1 = omega arith in so ∙ ap (λ t. start ++ t) (sym (moved_past early os ss k h) ∙ ap (λ m. moved_acts early (take m os) ss) n)
-
-pub given_all : (early : Bool) (start now : List Act) (os : List Owner) (ss : List (Option Owner)) (k : ℕ) → length os ≤ k → now ≡ start ++ moved_acts early (take k os) ss → now ≡ start ++ moved_acts early os ss
-given_all early start now os ss k h so = so ∙ ap (λ t. start ++ moved_acts early t ss) (take_all k os h)
 
 -- the first immediate
 

@@ -14,14 +14,6 @@ use Rattle.instr_effects.specs.Owners.{owner_of, source_owner, operand_owners}
 use Rattle.mir_meaning.specs.Items.{pick}
 use Rattle.instr_effects.specs.Acts.{use_owners, flag_owners}
 
-pub range_owners : (v : ℕ) (ks : List ℕ) → map owner_of (map (VirtualLane v) ks) ≡ map (owners.Range v) ks
-range_owners v [] = refl
-range_owners v (k ∷ ks) = ap (λ t. owners.Range v k ∷ t) (range_owners v ks)
-
-pub fixed_owners : (us : List UnitNumber) → map owner_of (unit_lanes us) ≡ map (λ u. owners.Unit u.0) us
-fixed_owners [] = refl
-fixed_owners (u ∷ us) = ap (λ t. owners.Unit u.0 ∷ t) (fixed_owners us)
-
 read_lanes : (b : Bool) (ls : List Lane) → filter_map source_owner (map (cond b (λ l. Undef) FromLane) ls) ≡ cond b [] (map owner_of ls)
 read_lanes true [] = refl
 read_lanes true (l ∷ ls) = read_lanes true ls
@@ -59,22 +51,6 @@ picked zero false (l ∷ ls) = refl
 picked (suc k) true (l ∷ ls) = picked k true ls
 picked (suc k) false (l ∷ ls) = picked k false ls
 
-pick-at : {X : Type 0} (k : ℕ) (xs : List X) (x : X) → k < length xs → x ≡ get_or xs k x → pick k xs ≡ x ∷ []
-pick-at k [] x h e = absurd (omega arith)
-pick-at zero (y ∷ xs) x h e = ap (λ z. z ∷ []) (sym e)
-pick-at (suc k) (y ∷ xs) x h e = pick-at k xs x (omega arith) e
-
-pick-past : {X : Type 0} (k : ℕ) (xs : List X) → length xs ≤ k → pick k xs ≡ []
-pick-past k [] h = refl
-pick-past zero (y ∷ xs) h = absurd (omega arith)
-pick-past (suc k) (y ∷ xs) h = pick-past k xs (omega arith)
-
 module _ (t : Target) (f : Function) (k : ℕ) (o : RegOp) where
   pub flag_none : o.undef ≡ true → flag_owners t f k o ≡ []
   flag_none e = picked k o.undef (operand_lanes t f o) ∙ ap (λ b. cond b [] (pick k (operand_owners t f o))) e
-
-  pub flag_some : (x : Owner) → o.undef ≡ false → k < length (operand_owners t f o) → x ≡ get_or (operand_owners t f o) k x → flag_owners t f k o ≡ x ∷ []
-  flag_some x e h g = picked k o.undef (operand_lanes t f o) ∙ ap (λ b. cond b [] (pick k (operand_owners t f o))) e ∙ pick-at k (operand_owners t f o) x h g
-
-  pub flag_past : o.undef ≡ false → length (operand_owners t f o) ≤ k → flag_owners t f k o ≡ []
-  flag_past e h = picked k o.undef (operand_lanes t f o) ∙ ap (λ b. cond b [] (pick k (operand_owners t f o))) e ∙ pick-past k (operand_owners t f o) h

@@ -359,25 +359,3 @@ module _ (t : Target) (f : Function) where
   other_silent effects.Spill early os h = absurd (cc)
   other_silent effects.Reload early os h = absurd (cc)
   other_silent e early os h = refl
-
-  pub call_acts : (e : Effect) (os : List Operand) → is_call e ≡ true → acts_of (call_writes t e os) ≡ map (λ u. plain false (owners.Unit u)) (unpreserved t os)
-  call_acts effects.Call os h = acts-units (unpreserved t os)
-  call_acts e os h = absurd (cc)
-
-  pub counted_parts : (e : Effect) (rs : List Role) (os : List Operand) → acts_of (counted_acts t f e rs os) ≡ flat_map (λ o. acts_of (result_writes t f (is_early_clobber rs) o)) (explicit_definitions os) ++ (flat_map (λ o. map (plain false) (operand_owners t f o)) (implicit_definitions os) ++ acts_of (call_writes t e os))
-  counted_parts e rs os = acts-counted t f e rs os
-
-  pub result_parts : (early : Bool) (d : RegOp) (a b c : List Act) (os us : List Owner) → os ≡ operand_owners t f d → us ≡ map owner_of (undefined_lanes t f d) → b ≡ a ++ map (plain early) os → c ≡ b ++ map (plain early) us → c ≡ a ++ acts_of (result_writes t f early d)
-  result_parts early d a b c os us e g h k =
-      k ∙ ap (λ x. x ++ map (plain early) us) h ∙ append_assoc a (map (plain early) os) (map (plain early) us)
-      ∙ ap (λ x. a ++ x) (ap₂ (λ x y. map (plain early) x ++ map (plain early) y) e g ∙ sym (acts-result t f early d))
-
-  pub counted_joined : (e : Effect) (rs : List Role) (os : List Operand) (early : Bool) (a b c d : List Act) (xs ys : List RegOp) → early ≡ is_early_clobber rs → xs ≡ explicit_definitions os → ys ≡ implicit_definitions os → b ≡ a ++ flat_map (λ o. acts_of (result_writes t f early o)) xs → c ≡ b ++ flat_map (λ o. map (plain false) (operand_owners t f o)) ys → d ≡ c ++ acts_of (call_writes t e os) → d ≡ a ++ acts_of (counted_acts t f e rs os)
-  counted_joined e rs os early a b c d xs ys q x y h k l =
-      l ∙ ap (λ z. z ++ acts_of (call_writes t e os)) (k ∙ ap (λ z. z ++ flat_map (λ o. map (plain false) (operand_owners t f o)) ys) h ∙ append_assoc a (flat_map (λ o. acts_of (result_writes t f early o)) xs) (flat_map (λ o. map (plain false) (operand_owners t f o)) ys))
-      ∙ append_assoc a (flat_map (λ o. acts_of (result_writes t f early o)) xs ++ flat_map (λ o. map (plain false) (operand_owners t f o)) ys) (acts_of (call_writes t e os))
-      ∙ ap (λ z. a ++ z) (
-      append_assoc (flat_map (λ o. acts_of (result_writes t f early o)) xs) (flat_map (λ o. map (plain false) (operand_owners t f o)) ys) (acts_of (call_writes t e os))
-      ∙ ap (λ z. flat_map (λ o. acts_of (result_writes t f z o)) xs ++ (flat_map (λ o. map (plain false) (operand_owners t f o)) ys ++ acts_of (call_writes t e os))) q
-      ∙ ap₂ (λ u v. flat_map (λ o. acts_of (result_writes t f (is_early_clobber rs) o)) u ++ (flat_map (λ o. map (plain false) (operand_owners t f o)) v ++ acts_of (call_writes t e os))) x y
-      ∙ sym (acts-counted t f e rs os))
