@@ -4,10 +4,10 @@
 ghost use Rattle.std.specs.Prelude.{◌≡◌};
 ghost use Rattle.std.specs.List.{list_all, list_any};
 ghost use Rattle.target_base.specs.Rules.{spills, reloads, part_is_there, is_complete};
-ghost use Rattle.target_base.specs.Storage.{is_among, is_unreserved};
+ghost use Rattle.target_base.specs.Storage.{is_unreserved};
 
 use target_base::classes::{does_reload, does_spill, find_part, have_subs};
-use target_base::registers::units_at;
+use target_base::registers::is_unreserved;
 use target_base::{ClassDesc, IndexDesc, OpcodeDesc, Reg, RegDesc, Unit};
 
 fn has_spill(classes: &[ClassDesc], rs: &[Reg], opcodes: &[OpcodeDesc]) -> bool
@@ -20,20 +20,6 @@ fn has_reload(classes: &[ClassDesc], rs: &[Reg], opcodes: &[OpcodeDesc]) -> bool
     ensures { result ≡ list_any (reloads classes.now rs.now) opcodes.now }
 {
     opcodes.iter().any(|o| does_reload(classes, rs, o))
-}
-
-/// Whether a unit is among these.
-pub(crate) fn is_among(us: &[Unit], u: Unit) -> bool
-    ensures { result ≡ is_among us.now u }
-{
-    us.iter().any(|v| v.0 == u.0)
-}
-
-/// Whether none of the register's units is reserved.
-fn is_unreserved(reserved: &[Unit], regs: &[RegDesc], r: Reg) -> bool
-    ensures { result ≡ is_unreserved reserved.now regs.now r }
-{
-    units_at(regs, r).iter().all(|u| !is_among(reserved, *u))
 }
 
 fn has_unreserved(reserved: &[Unit], regs: &[RegDesc], rs: &[Reg]) -> bool

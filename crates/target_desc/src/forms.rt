@@ -1,6 +1,6 @@
 //! The forms that a line may have.
 
-ghost use Rattle.std.specs.Prelude.{◌≡◌, IfOk, option_map, codes};
+ghost use Rattle.std.specs.Prelude.{◌≡◌, IfOk, option_map};
 ghost use Rattle.target_desc.specs.Text.{words};
 ghost use Rattle.target_desc.specs.Forms.{names_in, name_list, numbers_in, number_list, two_words, header_of, target_line, unit_of, unit_line, index_line, named_list, named_role, role_of, roles_of, role_list, opcode_line, formed, raw_line};
 

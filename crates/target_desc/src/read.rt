@@ -4,15 +4,13 @@ ghost use Rattle.std.specs.Prelude.{◌≡◌, ◌<◌, IfOk, IsTrue, option_map
 ghost use Rattle.target_desc.specs.Resolving.{is_new};
 ghost use Rattle.std.specs.List.{list_all};
 ghost use Rattle.target_base.specs.Rules.{is_complete};
-ghost use Rattle.target_desc.specs.Text.{words};
-ghost use Rattle.target_desc.specs.Forms.{raw_line};
 ghost use Rattle.target_desc.specs.Drafts.{empty_draft, names_of};
 ghost use Rattle.target_desc.specs.Keeping.{keeps_rules};
 ghost use Rattle.target_desc.specs.Ending.{belongs, reserved_units, reserved_of, is_whole, parts_of, parts_under, ended};
 ghost use Rattle.target_desc.specs.Reading.{ruled, named, laid_out, line_after, spelled, stop_at, GivesLine, Gives};
 
 use crate::add::{added, empty_draft, first_names, noted};
-use crate::complete::{is_among, is_complete};
+use crate::complete::is_complete;
 use crate::draft::{Draft, Line};
 use crate::fault::{LineStop, TargetFault, TargetKind, TargetStop};
 use crate::forms::raw_line;
@@ -22,7 +20,7 @@ use crate::resolve::{is_new, resolved};
 use crate::rules::stands;
 use crate::text::{is_comment, next_part, next_word};
 use std::alloc::{AllocError, Global};
-use target_base::registers::units_at;
+use target_base::registers::{has_unit, units_at};
 use target_base::{ClassDesc, IndexDesc, List, OpcodeDesc, Reg, RegDesc, Target, Unit, UnitList};
 
 /// What the lines so far make: a draft that keeps the rules, and the names that it declares.
@@ -155,7 +153,7 @@ impl Reader {
 fn belongs(regs: &[RegDesc], rs: &[Reg], u: Unit) -> bool
     ensures { result ≡ belongs regs.now rs.now u }
 {
-    rs.iter().any(|r| is_among(units_at(regs, *r), u))
+    rs.iter().any(|r| has_unit(units_at(regs, *r), u))
 }
 
 /// Those of the first `count` units that belong to these registers, by number.

@@ -1,14 +1,15 @@
 //! The roles and widths that an effect asks of an opcode.
 
-ghost use Rattle.std.specs.Prelude.{◌≡◌, ◌<◌, map, length, take, filter, sum, nat_le, nat_eq, not, ◌&&◌, ◌||◌, ◌==◌, ◌%◌, count_by, IfSome};
+ghost use Rattle.std.specs.Prelude.{◌≡◌, ◌<◌, map, length, take, filter, sum, nat_eq, not, ◌&&◌, ◌||◌, ◌==◌, ◌%◌, count_by, IfSome};
 ghost use Rattle.std.specs.List.{list_all};
 ghost use Rattle.target_base.specs.Roles as roles;
 ghost use Rattle.target_base.specs.Storage.{class_units, class_regs, unit_width, widths};
 ghost use Rattle.target_desc.specs.Shapes.{passes, classes_from};
 
-use crate::widths::{regs_at, total_width};
-use target_base::classes::{class_of, first_units, width_of};
+use crate::widths::total_width;
+use target_base::classes::{class_of, first_units, regs_at, width_of};
 use target_base::registers::units_at;
+use target_base::roles::{is_definition, is_implicit, is_silent, is_tied};
 use target_base::{ClassDesc, ClassId, Effect, Reg, RegDesc, Role, Unit, UnitDesc};
 
 /// What an effect asks of one explicit role.
@@ -29,30 +30,11 @@ pub(crate) enum RoleTest {
     Lanes,
 }
 
-fn is_definition(role: Role) -> bool
-    ensures { result ≡ roles.is_definition role }
-{
-    match role {
-        Role::Def(_) => true,
-        Role::Early(_) => true,
-        _ => false,
-    }
-}
-
 fn is_use(role: Role) -> bool
     ensures { result ≡ roles.is_use role }
 {
     match role {
         Role::Read(_) => true,
-        Role::Tied(_) => true,
-        _ => false,
-    }
-}
-
-fn is_tied(role: Role) -> bool
-    ensures { result ≡ roles.is_tied role }
-{
-    match role {
         Role::Tied(_) => true,
         _ => false,
     }
@@ -149,16 +131,6 @@ fn is_lanes(role: Role) -> bool
     }
 }
 
-fn is_implicit(role: Role) -> bool
-    ensures { result ≡ roles.is_implicit role }
-{
-    match role {
-        Role::ImpDef(_) => true,
-        Role::ImpRead(_) => true,
-        _ => false,
-    }
-}
-
 /// Whether a role passes a test.
 fn passes(test: RoleTest, role: Role) -> bool
     ensures { result ≡ passes test role }
@@ -251,24 +223,6 @@ fn fits_shape(effect: Effect, rs: &[Role]) -> bool
     }
 }
 
-/// Whether an effect is silent: its instructions have no implicit operands.
-fn is_silent(effect: Effect) -> bool
-    ensures { result ≡ roles.is_silent effect }
-{
-    match effect {
-        Effect::Copy
-        | Effect::Phi
-        | Effect::ImplicitDef
-        | Effect::RegSequence
-        | Effect::InsertSubreg
-        | Effect::Const
-        | Effect::Addr
-        | Effect::Spill
-        | Effect::Reload => true,
-        _ => false,
-    }
-}
-
 /// How many of the first roles are bound to one width.
 fn bound_roles(effect: Effect) -> usize
     ensures { result ≡ roles.bound_roles effect }
@@ -310,7 +264,7 @@ fn next_class(rs: &[Role]) -> Option<(ClassId, &[Role])>
 fn units_of_class<'a>(regs: &'a [RegDesc], classes: &[ClassDesc], k: ClassId) -> &'a [Unit]
     ensures { result.now ≡ class_units regs.now (class_regs classes.now k) }
 {
-    first_units(regs, regs_at(classes, k))
+    first_units(regs, regs_at(classes, Some(k)))
 }
 
 /// The width of a class in bits.
