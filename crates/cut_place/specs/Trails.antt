@@ -1,0 +1,14 @@
+-- Augmenting paths, followed back from the sink.
+use Rattle.std.specs.Prelude.{◌≡◌, ℕ, ◌+◌, ◌-◌, ◌<◌, ◌≤◌, ◌≢◌, cond, List, [], ◌∷◌, length, slice_index, slice_index_or, slice_set, true}
+use Rattle.cut_place.specs.declared.net.Arc.{Arc}
+use Rattle.cut_place.specs.declared.steps.Step.{Step}
+use Rattle.cut_place.specs.Flows.{arc_at}
+use Rattle.cut_place.specs.Residual.{tail_of, head_of, residual_of}
+
+-- residual arcs, one before the other, from a node back to another: each leaves a node one level
+-- lower and has room for an amount
+abbrev pub IsTrail : List Arc → List ℕ → List ℕ → ℕ → ℕ → List Step → ℕ → Type 0
+IsTrail arcs flow levels amount at [] start = at ≡ start
+IsTrail arcs flow levels amount at (s ∷ steps) start =
+    (s.arc < length arcs) × (head_of arcs s ≡ at) × (slice_index levels (tail_of arcs s) + 1 ≡ slice_index levels at)
+    × (amount ≤ residual_of arcs flow s) × IsTrail arcs flow levels amount (tail_of arcs s) steps start
