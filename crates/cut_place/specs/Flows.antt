@@ -45,3 +45,7 @@ IsBalanced arcs flow value =
 -- no capacity is above 2 ^ 112
 abbrev pub HasSmallCapacities : List Arc → Type 0
 HasSmallCapacities arcs = (k : ℕ) → k < length arcs → (arc_at arcs k).cap ≤ 2 ^ 112
+
+-- both ends of each arc are nodes
+abbrev pub HasEnds : ℕ → List Arc → Type 0
+HasEnds nodes arcs = (k : ℕ) → k < length arcs → ((arc_at arcs k).from < nodes) × ((arc_at arcs k).to < nodes)

@@ -2,6 +2,7 @@
 #![tactic(auto)]
 
 mod net;
+mod paths;
 mod steps;
 
 pub use net::{Arc, Arcs, Cut, Flows, Net};

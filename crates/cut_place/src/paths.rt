@@ -1,0 +1,83 @@
+//! Augmenting paths.
+
+ghost use Rattle.std.specs.Prelude.{◌≡◌, ℕ, ◌+◌, ◌<◌, ◌≤◌, ◌↔◌, IsTrue, IfOk, IfSome, IsSome, List, length, slice_index};
+ghost use Rattle.cut_place.specs.Flows.{HasEnds, HasSmallCapacities, IsBalanced, IsWithin};
+ghost use Rattle.cut_place.specs.Trails.{HasArcs, IsTrail, IsTree, LeadsTo};
+
+use crate::net::Arc;
+use crate::steps::{Step, head, push, residual, tail};
+use std::alloc::{AllocError, Global};
+
+/// The number of the source.
+pub(crate) const SOURCE: usize = 0;
+
+/// The number of the sink.
+pub(crate) const SINK: usize = 1;
+
+/// An augmenting path, followed back from the sink, and what can be sent along it.
+#[derive(Drop)]
+pub(crate) struct Path {
+    /// Its residual arcs, from the sink back to the source.
+    pub(crate) steps: Vec<Step>,
+    /// The least of their residual capacities.
+    pub(crate) amount: u128,
+}
+
+/// Whether a residual arc has room and enters a node from one a level lower.
+fn leads_to(arcs: &[Arc], flow: &[u128], levels: &[usize], at: usize, step: Step) -> bool
+    requires inside { step.arc < length arcs.now }
+    requires within { IsWithin arcs.now flow.now }
+    requires ends { HasEnds (length levels.now) arcs.now }
+    requires at_node { at < length levels.now }
+    ensures { IsTrue result ↔ LeadsTo arcs.now flow.now levels.now at step }
+{
+    let before = levels[tail(arcs, step)];
+    let here = levels[at];
+    let enters = head(arcs, step) == at;
+    let room = residual(arcs, flow, step);
+    enters && room > 0 && before < here && here - before == 1
+}
+
+/// The augmenting path that goes back from the sink by the residual arcs that lead to its nodes.
+pub(crate) fn trace(
+    alloc: Global,
+    arcs: &[Arc],
+    flow: &[u128],
+    levels: &[usize],
+    before: &[Step],
+) -> Result<Option<Path>, AllocError>
+    requires within { IsWithin arcs.now flow.now }
+    requires ends { HasEnds (length levels.now) arcs.now }
+    requires nodes { 2 ≤ length levels.now }
+    requires same_len { length before.now ≡ length levels.now }
+    requires steps { HasArcs arcs.now before.now }
+    ensures trail { IfOk result (λ r. IfSome r (λ p. (1 ≤ p.amount) × IsTrail arcs.now flow.now levels.now p.amount 1 p.steps.items 0)) }
+    ensures found { IsTree arcs.now flow.now levels.now before.now → slice_index levels.now 1 < 4096 → IfOk result (λ r. IsSome r) }
+{
+    let mut steps = Vec::new(alloc);
+    let mut amount = u128::MAX;
+    let mut at = SINK;
+    'back: while at != SOURCE {
+        let step = before[at];
+        if !leads_to(arcs, flow, levels, at, step) {
+            return Ok(None);
+        }
+        amount = amount.min(residual(arcs, flow, step));
+        steps.push(step)?;
+        at = tail(arcs, step);
+    }
+    Ok(Some(Path { steps, amount }))
+}
+
+/// Sends the amount of a path along it. The flow's value grows by as much.
+pub(crate) fn augment(arcs: &[Arc], flow: &mut [u128], path: &Path)
+    requires within { IsWithin arcs.now flow.old }
+    requires small { HasSmallCapacities arcs.now }
+    requires trail { (levels : List ℕ) × IsTrail arcs.now flow.old levels path.now.amount 1 path.now.steps.items 0 }
+    ensures within { IsWithin arcs.now flow.new }
+    ensures balanced { (value : ℕ) → IsBalanced arcs.now flow.old value → IsBalanced arcs.now flow.new (value + path.now.amount) }
+{
+    for step in path.steps.as_slice() {
+        push(arcs, flow, *step, path.amount);
+    }
+}
