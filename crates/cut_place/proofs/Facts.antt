@@ -62,8 +62,8 @@ pub trace_goes_on : (arcs : List Arc) (flow levels : List ℕ) (before : List St
 trace_goes_on arcs flow levels before amount steps at s less f inside leads node some le room = record {
   at_node = node;
   some = some;
-  trail = trail_more arcs flow levels less 1 steps at s (trail_less arcs flow levels amount less 1 steps at le f.trail) inside leads.0 leads.2 room;
-  reached = λ tree sink. let before : get_or levels at 0 < 4096 = f.reached tree sink in let level : get_or levels (tail_of arcs s) 0 + 1 ≡ get_or levels at 0 = leads.2 in omega arith;
+  trail = trail_more arcs flow levels less 1 steps at s (trail_less arcs flow levels amount less 1 steps at le f.trail) inside leads.1 leads.3 room;
+  reached = λ tree sink. let before : get_or levels at 0 < 4096 = f.reached tree sink in let level : get_or levels (tail_of arcs s) 0 + 1 ≡ get_or levels at 0 = leads.3 in omega arith;
 }
 
 pub tail_node : (nodes : ℕ) (arcs : List Arc) (s : Step) → HasEnds nodes arcs → s.arc < length arcs → tail_of arcs s < nodes

@@ -1,3 +1,4 @@
 pub mod Sums
 pub mod Trails
 pub mod Facts
+pub mod Searches

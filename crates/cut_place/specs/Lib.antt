@@ -1,3 +1,5 @@
 pub mod Flows
+pub mod Links
 pub mod Residual
+pub mod Searches
 pub mod Trails

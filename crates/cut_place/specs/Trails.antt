@@ -19,14 +19,10 @@ no_step = record { arc = 0; along = false }
 abbrev pub step_at : List Step → ℕ → Step
 step_at steps k = slice_index_or steps k no_step
 
--- each residual arc is of an arc of the net
-abbrev pub HasArcs : List Arc → List Step → Type 0
-HasArcs arcs steps = (k : ℕ) → k < length steps → (step_at steps k).arc < length arcs
-
 -- a residual arc with room enters a node, from a node one level lower
 abbrev pub LeadsTo : List Arc → List ℕ → List ℕ → ℕ → Step → Type 0
 LeadsTo arcs flow levels at s =
-    (head_of arcs s ≡ at) × (1 ≤ residual_of arcs flow s) × (slice_index levels (tail_of arcs s) + 1 ≡ slice_index levels at)
+    (s.arc < length arcs) × (head_of arcs s ≡ at) × (1 ≤ residual_of arcs flow s) × (slice_index levels (tail_of arcs s) + 1 ≡ slice_index levels at)
 
 -- a residual arc leads to each node that was reached, but for the source
 abbrev pub IsTree : List Arc → List ℕ → List ℕ → List Step → Type 0

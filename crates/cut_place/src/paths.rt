@@ -2,7 +2,7 @@
 
 ghost use Rattle.std.specs.Prelude.{◌≡◌, ℕ, ◌+◌, ◌<◌, ◌≤◌, ◌↔◌, IsTrue, IfOk, IfSome, IsSome, List, length, slice_index};
 ghost use Rattle.cut_place.specs.Flows.{HasEnds, HasSmallCapacities, IsBalanced, IsWithin};
-ghost use Rattle.cut_place.specs.Trails.{HasArcs, IsTrail, IsTree, LeadsTo};
+ghost use Rattle.cut_place.specs.Trails.{IsTrail, IsTree, LeadsTo};
 
 use crate::net::Arc;
 use crate::steps::{Step, head, push, residual, tail};
@@ -25,12 +25,14 @@ pub(crate) struct Path {
 
 /// Whether a residual arc has room and enters a node from one a level lower.
 fn leads_to(arcs: &[Arc], flow: &[u128], levels: &[usize], at: usize, step: Step) -> bool
-    requires inside { step.arc < length arcs.now }
     requires within { IsWithin arcs.now flow.now }
     requires ends { HasEnds (length levels.now) arcs.now }
     requires at_node { at < length levels.now }
     ensures { IsTrue result ↔ LeadsTo arcs.now flow.now levels.now at step }
 {
+    if step.arc >= arcs.len() {
+        return false;
+    }
     let before = levels[tail(arcs, step)];
     let here = levels[at];
     let enters = head(arcs, step) == at;
@@ -50,7 +52,6 @@ pub(crate) fn trace(
     requires ends { HasEnds (length levels.now) arcs.now }
     requires nodes { 2 ≤ length levels.now }
     requires same_len { length before.now ≡ length levels.now }
-    requires steps { HasArcs arcs.now before.now }
     ensures trail { IfOk result (λ r. IfSome r (λ p. (1 ≤ p.amount) × IsTrail arcs.now flow.now levels.now p.amount 1 p.steps.items 0)) }
     ensures found { IsTree arcs.now flow.now levels.now before.now → slice_index levels.now 1 < 4096 → IfOk result (λ r. IsSome r) }
 {

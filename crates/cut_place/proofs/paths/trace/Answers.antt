@@ -9,12 +9,12 @@ use Rattle.cut_place.proofs.paths.trace.Goals as goal
 pub back-preserved : goal.back-preserved
 back-preserved c =
     let s : Step = step_at c.args.before.now c.back.at in
-    let inside : s.arc < length c.args.arcs.now = c.requires.steps c.back.at (omega (arith, c.requires.same_len, c.back.invariant.at_node)) in
     let leads : LeadsTo c.args.arcs.now c.args.flow.now c.args.levels.now c.back.at s = c.if-not-leads_to.ensures.0 refl in
+    let inside : s.arc < length c.args.arcs.now = leads.0 in
     let items : c.push.new.self.items ≡ c.back.steps.items ++ s ∷ [] = grind (arith, common_steps) in
     let room : c.residual.result ≡ residual_of c.args.arcs.now c.args.flow.now s = c.residual.ensures in
     let at : c.tail-at.result ≡ tail_of c.args.arcs.now s = c.tail-at.ensures in
-    let one : 1 ≤ residual_of c.args.arcs.now c.args.flow.now s = leads.1 in
+    let one : 1 ≤ residual_of c.args.arcs.now c.args.flow.now s = leads.2 in
     let some : 1 ≤ c.back.amount = c.back.invariant.some in
     let next : TraceFacts c.args.arcs.now c.args.flow.now c.args.levels.now c.args.before.now c.min-amount.result (c.back.steps.items ++ s ∷ []) (tail_of c.args.arcs.now s) =
         trace_goes_on c.args.arcs.now c.args.flow.now c.args.levels.now c.args.before.now c.back.amount c.back.steps.items c.back.at s c.min-amount.result
