@@ -2,3 +2,4 @@ pub mod Sums
 pub mod Trails
 pub mod Facts
 pub mod Searches
+pub mod Rounds

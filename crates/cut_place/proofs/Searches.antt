@@ -48,11 +48,11 @@ unreached_most (l ∷ levels) =
     omega (arith, most_weight (nat_lt l 4096), unreached_most levels)
 
 -- a node is another, or the same
-data Same (v h : ℕ) : Type 0 where
+pub data Same (v h : ℕ) : Type 0 where
   same : v ≡ h → Same v h
   other : v ≢ h → Same v h
 
-same_or : (v h : ℕ) → Same v h
+pub same_or : (v h : ℕ) → Same v h
 same_or zero zero = same refl
 same_or zero (suc h) = other (λ e. absurd (omega arith))
 same_or (suc v) zero = other (λ e. absurd (omega arith))

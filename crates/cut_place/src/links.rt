@@ -1,6 +1,6 @@
 //! The residual arcs that leave each node, as linked lists.
 
-ghost use Rattle.std.specs.Prelude.{◌≡◌, ◌+◌, ◌*◌, ◌<◌, ◌≤◌, IfOk, OnOk, length};
+ghost use Rattle.std.specs.Prelude.{◌≡◌, ◌+◌, ◌-◌, ◌*◌, ◌/◌, ◌<◌, ◌≤◌, IfOk, OnOk, length};
 ghost use Rattle.cut_place.specs.Flows.{HasEnds};
 ghost use Rattle.cut_place.specs.Links.{HasLinks};
 
@@ -19,8 +19,11 @@ pub(crate) struct Links {
 }
 
 /// The residual arc of a link.
-pub(crate) fn step_of(link: usize) -> Step {
-    let number = link.saturating_sub(1);
+pub(crate) fn step_of(link: usize) -> Step
+    requires { 0 < link }
+    ensures { result.arc ≡ (link - 1) / 2 }
+{
+    let number = link - 1;
     Step {
         arc: number / 2,
         along: number % 2 == 0,

@@ -50,3 +50,112 @@ fn reach(arcs: &[Arc], flow: &[u128], search: &mut Search, step: Step) -> Result
     search.before[to] = step;
     Ok(true)
 }
+
+/// Reaches what the residual arcs of a node's list lead to.
+fn visit(arcs: &[Arc], flow: &[u128], links: &Links, search: &mut Search, node: usize) -> Result<(), AllocError>
+    requires inside { node < length search.old.levels.items }
+    requires within { IsWithin arcs.now flow.now }
+    requires ends { HasEnds (length search.old.levels.items) arcs.now }
+    requires links { HasLinks links.now.first.items links.now.next.items }
+    requires all_linked { length links.now.first.items ≡ length search.old.levels.items }
+    requires places { length links.now.next.items ≡ 2 * length arcs.now }
+    requires search { IsSearch arcs.now flow.now search.old.levels.items search.old.before.items search.old.queue.items }
+    ensures search { OnOk result (IsSearch arcs.now flow.now search.new.levels.items search.new.before.items search.new.queue.items) }
+    ensures nodes { OnOk result (length search.new.levels.items ≡ length search.old.levels.items) }
+{
+    let mut link = links.first[node];
+    'list: while link != 0 {
+        reach(arcs, flow, search, step_of(link))?;
+        link = links.next[link - 1];
+    }
+    Ok(())
+}
+
+/// Visits the nodes that were reached, in order.
+fn spread(arcs: &[Arc], flow: &[u128], links: &Links, search: &mut Search) -> Result<(), AllocError>
+    requires within { IsWithin arcs.now flow.now }
+    requires ends { HasEnds (length search.old.levels.items) arcs.now }
+    requires links { HasLinks links.now.first.items links.now.next.items }
+    requires all_linked { length links.now.first.items ≡ length search.old.levels.items }
+    requires places { length links.now.next.items ≡ 2 * length arcs.now }
+    requires search { IsSearch arcs.now flow.now search.old.levels.items search.old.before.items search.old.queue.items }
+    ensures search { OnOk result (IsSearch arcs.now flow.now search.new.levels.items search.new.before.items search.new.queue.items) }
+    ensures nodes { OnOk result (length search.new.levels.items ≡ length search.old.levels.items) }
+{
+    for i in 0..search.levels.len() {
+        if i >= search.queue.len() {
+            break;
+        }
+        let node = search.queue[i];
+        visit(arcs, flow, links, search, node)?;
+    }
+    Ok(())
+}
+
+/// Goes over every residual arc once. Says whether that reached a node.
+fn close_round(arcs: &[Arc], flow: &[u128], search: &mut Search) -> Result<bool, AllocError>
+    requires within { IsWithin arcs.now flow.now }
+    requires ends { HasEnds (length search.old.levels.items) arcs.now }
+    requires search { IsSearch arcs.now flow.now search.old.levels.items search.old.before.items search.old.queue.items }
+    ensures search { OnOk result (IsSearch arcs.now flow.now search.new.levels.items search.new.before.items search.new.queue.items) }
+    ensures nodes { OnOk result (length search.new.levels.items ≡ length search.old.levels.items) }
+    ensures more { IfOk result (λ r. r ≡ true → unreached search.new.levels.items < unreached search.old.levels.items) }
+    ensures closed { IfOk result (λ r. r ≡ false → IsClosed (reached search.new.levels.items) arcs.now flow.now) }
+{
+    let mut changed = false;
+    for arc in 0..arcs.len() {
+        let forth = reach(arcs, flow, search, Step { arc, along: true })?;
+        let back = reach(arcs, flow, search, Step { arc, along: false })?;
+        changed = changed || forth || back;
+    }
+    Ok(changed)
+}
+
+/// Goes over the residual arcs until all that can be reached is. After a breadth-first search one
+/// round suffices.
+fn close(arcs: &[Arc], flow: &[u128], search: &mut Search) -> Result<(), AllocError>
+    requires within { IsWithin arcs.now flow.now }
+    requires ends { HasEnds (length search.old.levels.items) arcs.now }
+    requires search { IsSearch arcs.now flow.now search.old.levels.items search.old.before.items search.old.queue.items }
+    ensures search { OnOk result (IsSearch arcs.now flow.now search.new.levels.items search.new.before.items search.new.queue.items) }
+    ensures nodes { OnOk result (length search.new.levels.items ≡ length search.old.levels.items) }
+    ensures closed { OnOk result (IsClosed (reached search.new.levels.items) arcs.now flow.now) }
+{
+    'rounds: loop {
+        if !close_round(arcs, flow, search)? {
+            return Ok(());
+        }
+    }
+}
+
+/// Searches the residual net breadth first from the source.
+pub(crate) fn search_from(alloc: Global, arcs: &[Arc], flow: &[u128], links: &Links) -> Result<Search, AllocError>
+    requires within { IsWithin arcs.now flow.now }
+    requires nodes { 2 ≤ length links.now.first.items }
+    requires most { length links.now.first.items ≤ 4096 }
+    requires ends { HasEnds (length links.now.first.items) arcs.now }
+    requires links { HasLinks links.now.first.items links.now.next.items }
+    requires places { length links.now.next.items ≡ 2 * length arcs.now }
+    ensures search { IfOk result (λ r. IsSearch arcs.now flow.now r.levels.items r.before.items r.queue.items) }
+    ensures nodes { IfOk result (λ r. length r.levels.items ≡ length links.now.first.items) }
+    ensures closed { IfOk result (λ r. IsClosed (reached r.levels.items) arcs.now flow.now) }
+{
+    let nodes = links.first.len();
+    let mut levels = Vec::from_elem(alloc, UNREACHED, nodes)?;
+    levels[SOURCE] = 0;
+    let none = Step {
+        arc: 0,
+        along: false,
+    };
+    let before = Vec::from_elem(alloc, none, nodes)?;
+    let mut queue = Vec::new(alloc);
+    queue.push(SOURCE)?;
+    let mut search = Search {
+        levels,
+        before,
+        queue,
+    };
+    spread(arcs, flow, links, &mut search)?;
+    close(arcs, flow, &mut search)?;
+    Ok(search)
+}
