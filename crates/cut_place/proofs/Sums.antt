@@ -1,9 +1,9 @@
 -- Sums of flows and capacities over arcs.
-use Rattle.std.proofs.Common.{◌≡◌, ℕ, ◌+◌, ◌-◌, ◌<◌, ◌≤◌, ◌≢◌, Bool, true, false, cond, not, zero, suc, List, [], ◌∷◌, length, get_or, refl, sym, ◌∙◌, ap, subst, arith}
+use Rattle.std.proofs.Common.{◌≡◌, ℕ, ◌+◌, ◌-◌, ◌<◌, ◌≤◌, ◌≢◌, ◌*◌, ◌^◌, ◌==◌, Bool, true, false, cond, not, zero, suc, List, [], ◌∷◌, length, get_or, refl, sym, ◌∙◌, ap, subst, arith}
 use Rattle.std.proofs.Math.ListN.{set}
 use Rattle.cut_place.specs.declared.net.Arc.{Arc}
 use Rattle.cut_place.specs.declared.steps.Step.{Step}
-use Rattle.cut_place.specs.Flows.{no_arc, arc_at, flow_where, capacity_where, flow_out, flow_in, capacity_leaving, IsWithin, IsBalanced}
+use Rattle.cut_place.specs.Flows.{no_arc, arc_at, flow_where, capacity_where, flow_out, flow_in, capacity_leaving, HasSmallCapacities, IsWithin, IsBalanced}
 use Rattle.cut_place.specs.Residual.{tail_of, head_of, residual_of, pushed}
 
 -- a sum after the flow of one arc is changed
@@ -131,3 +131,23 @@ fits_if_value nodes arcs flow value w b source sink c =
     in let zero_sink : cond (nodes 1) value 0 ≡ 0 = ap (λ s. cond s value 0) sink
     in let all_source : cond (nodes 0) value 0 ≡ value = ap (λ s. cond s value 0) source
     in all_fit nodes arcs flow w.one_each w.below (omega (arith, at, zero_sink, all_source, c))
+
+at_most : (b : Bool) (x : ℕ) → cond b x 0 ≤ x
+at_most true x = omega arith
+at_most false x = omega arith
+
+-- capacities of at most c add up to at most as many c
+capacity_most : (p : Arc → Bool) (c : ℕ) (arcs : List Arc) → ((k : ℕ) → k < length arcs → (arc_at arcs k).cap ≤ c) → capacity_where p arcs ≤ length arcs * c
+capacity_most p c [] h = omega arith
+capacity_most p c (a ∷ arcs) h =
+    let ih : capacity_where p arcs ≤ length arcs * c = capacity_most p c arcs (λ k lt. h (suc k) (omega arith))
+    in let one : cond (p a) a.cap 0 ≤ a.cap = at_most (p a) a.cap
+    in omega (arith, ih, one, h 0 (omega arith))
+
+-- the value of a flow fits
+pub value_fits : (arcs : List Arc) (flow : List ℕ) (value : ℕ) → IsWithin arcs flow → IsBalanced arcs flow value → HasSmallCapacities arcs
+    → length arcs ≤ 16384 → value ≤ 2 ^ 126
+value_fits arcs flow value w b small few =
+    let most : capacity_leaving (λ v. v == 0) arcs ≤ length arcs * 2 ^ 112 = capacity_most _ (2 ^ 112) arcs small
+    in let value_most : value ≤ capacity_leaving (λ v. v == 0) arcs = value_at_most (λ v. v == 0) arcs flow value w b refl refl
+    in omega (arith, most, value_most, few)

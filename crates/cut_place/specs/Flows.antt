@@ -49,3 +49,19 @@ HasSmallCapacities arcs = (k : ℕ) → k < length arcs → (arc_at arcs k).cap 
 -- both ends of each arc are nodes
 abbrev pub HasEnds : ℕ → List Arc → Type 0
 HasEnds nodes arcs = (k : ℕ) → k < length arcs → ((arc_at arcs k).from < nodes) × ((arc_at arcs k).to < nodes)
+
+-- a set of nodes, as flags
+abbrev pub in_set : List Bool → ℕ → Bool
+in_set flags v = slice_index_or flags v false
+
+-- as much flows out of each node as into it, but for the source and the sink
+abbrev pub IsConserved : List Arc → List ℕ → Type 0
+IsConserved arcs flow = (v : ℕ) → v ≢ 0 → v ≢ 1 → flow_out (λ w. w == v) arcs flow ≡ flow_in (λ w. w == v) arcs flow
+
+-- a value leaves the source, less what enters it
+abbrev pub HasValue : List Arc → List ℕ → ℕ → Type 0
+HasValue arcs flow value = flow_out (λ w. w == 0) arcs flow ≡ flow_in (λ w. w == 0) arcs flow + value
+
+-- a set of nodes is a cut: it has the source and not the sink
+abbrev pub IsCut : (ℕ → Bool) → Type 0
+IsCut nodes = (nodes 0 ≡ true) × (nodes 1 ≡ false)

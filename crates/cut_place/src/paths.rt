@@ -1,6 +1,6 @@
 //! Augmenting paths.
 
-ghost use Rattle.std.specs.Prelude.{◌≡◌, ℕ, ◌+◌, ◌<◌, ◌≤◌, ◌↔◌, IsTrue, IfOk, IfSome, IsSome, List, length, slice_index};
+ghost use Rattle.std.specs.Prelude.{◌≡◌, ℕ, ◌+◌, ◌<◌, ◌≤◌, ◌↔◌, IsTrue, IfOk, IfSome, IsSome, OnOk, List, length, slice_index};
 ghost use Rattle.cut_place.specs.Flows.{HasEnds, HasSmallCapacities, IsBalanced, IsWithin};
 ghost use Rattle.cut_place.specs.Trails.{IsTrail, IsTree, LeadsTo};
 
@@ -16,15 +16,15 @@ pub(crate) const SINK: usize = 1;
 
 /// An augmenting path, followed back from the sink, and what can be sent along it.
 #[derive(Drop)]
-pub(crate) struct Path {
+struct Path {
     /// Its residual arcs, from the sink back to the source.
-    pub(crate) steps: Vec<Step>,
+    steps: Vec<Step>,
     /// The least of their residual capacities.
-    pub(crate) amount: u128,
+    amount: u128,
 }
 
 /// Whether a residual arc has room and enters a node from one a level lower.
-fn leads_to(arcs: &[Arc], flow: &[u128], levels: &[usize], at: usize, step: Step) -> bool
+pub(crate) fn leads_to(arcs: &[Arc], flow: &[u128], levels: &[usize], at: usize, step: Step) -> bool
     requires within { IsWithin arcs.now flow.now }
     requires ends { HasEnds (length levels.now) arcs.now }
     requires at_node { at < length levels.now }
@@ -41,7 +41,7 @@ fn leads_to(arcs: &[Arc], flow: &[u128], levels: &[usize], at: usize, step: Step
 }
 
 /// The augmenting path that goes back from the sink by the residual arcs that lead to its nodes.
-pub(crate) fn trace(
+fn trace(
     alloc: Global,
     arcs: &[Arc],
     flow: &[u128],
@@ -71,7 +71,7 @@ pub(crate) fn trace(
 }
 
 /// Sends the amount of a path along it. The flow's value grows by as much.
-pub(crate) fn augment(arcs: &[Arc], flow: &mut [u128], path: &Path)
+fn augment(arcs: &[Arc], flow: &mut [u128], path: &Path)
     requires within { IsWithin arcs.now flow.old }
     requires small { HasSmallCapacities arcs.now }
     requires trail { (levels : List ℕ) × IsTrail arcs.now flow.old levels path.now.amount 1 path.now.steps.items 0 }
@@ -80,5 +80,36 @@ pub(crate) fn augment(arcs: &[Arc], flow: &mut [u128], path: &Path)
 {
     for step in path.steps.as_slice() {
         push(arcs, flow, *step, path.amount);
+    }
+}
+
+/// Augments a flow along the path that the residual arcs before each node make, if they make one.
+/// Gives the flow's value.
+pub(crate) fn send(
+    alloc: Global,
+    arcs: &[Arc],
+    flow: &mut [u128],
+    levels: &[usize],
+    before: &[Step],
+    value: u128,
+) -> Result<u128, AllocError>
+    requires within { IsWithin arcs.now flow.old }
+    requires small { HasSmallCapacities arcs.now }
+    requires few { length arcs.now ≤ 16384 }
+    requires ends { HasEnds (length levels.now) arcs.now }
+    requires nodes { 2 ≤ length levels.now }
+    requires same_len { length before.now ≡ length levels.now }
+    requires balanced { IsBalanced arcs.now flow.old value }
+    ensures within { OnOk result (IsWithin arcs.now flow.new) }
+    ensures balanced { IfOk result (λ v. IsBalanced arcs.now flow.new v) }
+    ensures grows { IfOk result (λ v. value ≤ v) }
+    ensures more { IsTree arcs.now flow.old levels.now before.now → slice_index levels.now 1 < 4096 → IfOk result (λ v. value < v) }
+{
+    match trace(alloc, arcs, flow, levels, before)? {
+        None => Ok(value),
+        Some(path) => {
+            augment(arcs, flow, &path);
+            Ok(value + path.amount)
+        }
     }
 }
