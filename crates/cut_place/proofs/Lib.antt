@@ -3,3 +3,4 @@ pub mod Trails
 pub mod Facts
 pub mod Searches
 pub mod Rounds
+pub mod Cuts

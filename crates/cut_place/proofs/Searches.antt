@@ -11,10 +11,10 @@ use Rattle.cut_place.specs.Trails.{IsTree, LeadsTo, step_at, no_step}
 use Rattle.cut_place.specs.Searches.{reached, unreached, Stays, IsClosed, IsSearch}
 use Rattle.cut_place.proofs.Facts.{tail_node, head_node}
 
-low : (x : ℕ) → x < 4096 → nat_lt x 4096 ≡ true
+pub low : (x : ℕ) → x < 4096 → nat_lt x 4096 ≡ true
 low x h = grind (arith, nat_tests)
 
-high : (x : ℕ) → 4096 ≤ x → nat_lt x 4096 ≡ false
+pub high : (x : ℕ) → 4096 ≤ x → nat_lt x 4096 ≡ false
 high x h = grind (arith, nat_tests)
 
 pub is_low : (x : ℕ) → nat_lt x 4096 ≡ true → x < 4096

@@ -1,22 +1,58 @@
 //! Least cuts, by Dinic's algorithm.
 
-ghost use Rattle.std.specs.Prelude.{◌≡◌, ℕ, ◌<◌, ◌≤◌, Bool, true, false, nat_lt, map, IfOk, length};
+ghost use Rattle.std.specs.Prelude.{◌≡◌, ℕ, ◌<◌, ◌≤◌, ◌^◌, Bool, true, IfOk, OnOk, length, slice_index};
 ghost use Rattle.cut_place.specs.Flows.{HasEnds, HasSmallCapacities, HasValue, IsBalanced, IsConserved, IsCut, IsWithin, capacity_leaving, in_set};
+ghost use Rattle.cut_place.specs.Searches.{IsSearch, reached};
+ghost use Rattle.cut_place.specs.Links.{HasLinks};
 
-use crate::links::make_links;
-use crate::net::{Cut, Net};
+use crate::links::{Links, make_links};
+use crate::net::{Arc, Cut, Net};
 use crate::paths::{SINK, send};
-use crate::search::{UNREACHED, search_from};
+use crate::search::{Search, UNREACHED, search_from};
 use crate::walk::blocking_flow;
 use std::alloc::{AllocError, Global};
 use target_base::{Flags, List};
 
 /// Which nodes were reached.
 fn reached_nodes(alloc: Global, levels: &[usize]) -> Result<Flags, AllocError>
-    ensures { IfOk result (λ r. r ≡ map (λ l. nat_lt l 4096) levels.now) }
+    ensures len { IfOk result (λ r. length r ≡ length levels.now) }
+    ensures flags { IfOk result (λ r. (v : ℕ) → v < length levels.now → in_set r v ≡ reached levels.now v) }
 {
-    let flags = levels.iter().map(|level| *level < UNREACHED).collect(alloc)?;
-    Ok(List::from_vec(flags))
+    let mut flags = List::new(alloc);
+    for level in levels {
+        flags.push(*level < UNREACHED)?;
+    }
+    Ok(flags)
+}
+
+/// Augments a flow along the path by which the sink was reached, and then until the levels are
+/// blocked. Gives the flow's value, which has grown.
+fn phase(
+    alloc: Global,
+    arcs: &[Arc],
+    flow: &mut [u128],
+    links: &Links,
+    search: &Search,
+    value: u128,
+) -> Result<u128, AllocError>
+    requires within { IsWithin arcs.now flow.old }
+    requires small { HasSmallCapacities arcs.now }
+    requires few { length arcs.now ≤ 16384 }
+    requires ends { HasEnds (length search.now.levels.items) arcs.now }
+    requires links { HasLinks links.now.first.items links.now.next.items }
+    requires all_linked { length links.now.first.items ≡ length search.now.levels.items }
+    requires search { IsSearch arcs.now flow.old search.now.levels.items search.now.before.items search.now.queue.items }
+    requires sink { slice_index search.now.levels.items 1 < 4096 }
+    requires balanced { IsBalanced arcs.now flow.old value }
+    ensures within { OnOk result (IsWithin arcs.now flow.new) }
+    ensures balanced { IfOk result (λ v. IsBalanced arcs.now flow.new v) }
+    ensures more { IfOk result (λ v. value < v) }
+    ensures fits { IfOk result (λ v. v ≤ 2 ^ 126) }
+{
+    let levels = search.levels.as_slice();
+    let first = send(alloc, arcs, flow, levels, search.before.as_slice(), value)?;
+    let last = blocking_flow(alloc, arcs, flow, links, levels, first)?;
+    Ok(last)
 }
 
 /// A least cut of a net, and a greatest flow, by Dinic's algorithm (E. A. Dinic, "Algorithm for
@@ -54,7 +90,6 @@ pub fn least_cut(alloc: Global, net: &Net) -> Result<Cut, AllocError>
                 cost: value,
             });
         }
-        value = send(alloc, arcs, flow.as_mut_slice(), levels, search.before.as_slice(), value)?;
-        value = blocking_flow(alloc, arcs, flow.as_mut_slice(), &links, levels, value)?;
+        value = phase(alloc, arcs, flow.as_mut_slice(), &links, &search, value)?;
     }
 }
