@@ -30,7 +30,7 @@ fit_cases false false x c h along against = refl
 pub fits_of_closed : (nodes : ℕ → Bool) (arcs : List Arc) (flow : List ℕ) → IsWithin arcs flow → IsClosed nodes arcs flow → AllFit nodes arcs flow
 fits_of_closed nodes arcs flow w closed k h =
     fit_cases (nodes (arc_at arcs k).from) (nodes (arc_at arcs k).to) (get_or flow k 0) (arc_at arcs k).cap (w.below k h)
-        (closed (record { arc = k; along = true }) h) (closed (record { arc = k; along = false }) h)
+    (closed (record { arc = k; along = true }) h) (closed (record { arc = k; along = false }) h)
 
 along_stays : (f t : Bool) (x c : ℕ) → x ≤ c → cond f x 0 ≡ cond t x 0 + cond (cond f (not t) false) c 0 → f ≡ true → 1 ≤ c - x → t ≡ true
 along_stays f true x c h fit e one = refl
@@ -75,7 +75,7 @@ pub flags_cost : (flags : List Bool) (levels : List ℕ) (arcs : List Arc) (flow
     → value ≡ capacity_leaving (in_set flags) arcs
 flags_cost flags levels arcs flow value f ends w b closed cut =
     value_if_fits (in_set flags) arcs flow value w b cut.0 cut.1
-        (fits_of_closed (in_set flags) arcs flow w (flags_closed flags levels arcs flow f ends closed))
+    (fits_of_closed (in_set flags) arcs flow w (flags_closed flags levels arcs flow f ends closed))
 
 pub flags_least : (arcs : List Arc) (flow : List ℕ) (value : ℕ) → IsWithin arcs flow → IsBalanced arcs flow value
     → (nodes : ℕ → Bool) → IsCut nodes → value ≤ capacity_leaving nodes arcs
@@ -87,8 +87,8 @@ pub flags_smallest : (flags : List Bool) (levels : List ℕ) (before : List Step
 flags_smallest flags levels before queue arcs flow value f w b search nodes cut cost v there =
     let lt : v < length levels = omega (arith, in_len flags v there, f.len)
     in search.sound nodes cut.0
-        (closed_of_fits nodes arcs flow w (fits_if_value nodes arcs flow value w b cut.0 cut.1 cost))
-        v lt (is_low (get_or levels v 0) (sym (f.says v lt) ∙ there))
+    (closed_of_fits nodes arcs flow w (fits_if_value nodes arcs flow value w b cut.0 cut.1 cost))
+    v lt (is_low (get_or levels v 0) (sym (f.says v lt) ∙ there))
 
 abbrev kept : Bool → ℕ → ℕ
 kept b x = cond b x 0

@@ -82,14 +82,14 @@ augment_round arcs first flow new amount steps i lt f e w =
     let front : drop i steps ≡ step_at steps i ∷ drop (i + 1) steps = rw add-one (drop-cons steps i no_step lt)
     in let facts : AugmentFacts arcs first flow amount (step_at steps i ∷ drop (i + 1) steps) = subst (λ (l : List Step). AugmentFacts arcs first flow amount l) front f
     in subst (λ (l : List ℕ). AugmentFacts arcs first l amount (drop (i + 1) steps)) (sym e)
-        (augment_goes_on arcs first flow amount (step_at steps i) (drop (i + 1) steps) facts (subst (λ (l : List ℕ). IsWithin arcs l) e w))
+    (augment_goes_on arcs first flow amount (step_at steps i) (drop (i + 1) steps) facts (subst (λ (l : List ℕ). IsWithin arcs l) e w))
 
 pub round_room : (arcs : List Arc) (first flow : List ℕ) (amount : ℕ) (steps : List Step) (i : ℕ) → i < length steps
     → AugmentFacts arcs first flow amount (drop i steps) → ((step_at steps i).arc < length arcs) × (amount ≤ residual_of arcs flow (step_at steps i))
 round_room arcs first flow amount steps i lt f =
     let front : drop i steps ≡ step_at steps i ∷ drop (i + 1) steps = rw add-one (drop-cons steps i no_step lt)
     in augment_room arcs first flow amount (step_at steps i) (drop (i + 1) steps)
-        (subst (λ (l : List Step). AugmentFacts arcs first flow amount l) front f)
+    (subst (λ (l : List Step). AugmentFacts arcs first flow amount l) front f)
 
 pub augment_done : (arcs : List Arc) (first flow : List ℕ) (amount : ℕ) (steps : List Step) (i : ℕ) → length steps ≤ i
     → AugmentFacts arcs first flow amount (drop i steps)

@@ -47,11 +47,11 @@ module _ (arcs : List Arc) (flow : List ℕ) (n : ℕ) (two : 2 ≤ n) (most : n
   only_source : (v : ℕ) → v < length start → get_or start v 0 < 4096 → v ≡ 0
   only_source v h r =
       elim (same_or v 0) [
-        same e ↦ e
-      | other d ↦
-          let a : get_or start v 0 ≡ get_or big v 0 = get_or-set_other big 0 v 0 0 d
-          in let b : get_or big v 0 ≡ 4096 = get_or-replicate n v far 0 (omega (arith, len, h))
-          in absurd (omega (arith, a, b, r))
+        | same e ↦ e
+        | other d ↦
+            let a : get_or start v 0 ≡ get_or big v 0 = get_or-set_other big 0 v 0 0 d
+            in let b : get_or big v 0 ≡ 4096 = get_or-replicate n v far 0 (omega (arith, len, h))
+            in absurd (omega (arith, a, b, r))
       ]
 
   bound_start : (v : ℕ) → v < length start → get_or start v 0 < 4096 → get_or start v 0 + unreached start < length start

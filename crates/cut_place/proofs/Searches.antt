@@ -112,29 +112,29 @@ module _ (arcs : List Arc) (flow levels : List ℕ) (before : List Step) (queue 
   tree_now : IsTree arcs flow now (set before to s)
   tree_now v h n r =
       elim (same_or v to) [
-        same e ↦ subst (λ (w : ℕ). LeadsTo arcs flow now w (step_at (set before to s) w)) (sym e)
+        | same e ↦ subst (λ (w : ℕ). LeadsTo arcs flow now w (step_at (set before to s) w)) (sym e)
             (subst (λ (p : Step). LeadsTo arcs flow now to p) (sym (get_or-set_same before to s no_step (omega (arith, to_node, f.same)))) leads_new)
-      | other d ↦
-          let was : get_or levels v 0 < 4096 = omega (arith, r, now_other v d)
-          in subst (λ (p : Step). LeadsTo arcs flow now v p) (sym (get_or-set_other before to v s no_step d))
-              (leads_old v (step_at before v) was d (f.tree v (omega (arith, h, length-set levels to (level + 1))) n was))
+        | other d ↦
+            let was : get_or levels v 0 < 4096 = omega (arith, r, now_other v d)
+            in subst (λ (p : Step). LeadsTo arcs flow now v p) (sym (get_or-set_other before to v s no_step d))
+            (leads_old v (step_at before v) was d (f.tree v (omega (arith, h, length-set levels to (level + 1))) n was))
       ]
 
   bound_now : (v : ℕ) → v < length now → get_or now v 0 < 4096 → get_or now v 0 + unreached now < length now
   bound_now v h r =
       elim (same_or v to) [
-        same e ↦ let x : get_or now v 0 ≡ level + 1 = ap (λ w. get_or now w 0) e ∙ now_same
+        | same e ↦ let x : get_or now v 0 ≡ level + 1 = ap (λ w. get_or now w 0) e ∙ now_same
             in omega (arith, x, small, one_reached, length-set levels to (level + 1))
-      | other d ↦
-          let was : get_or levels v 0 + unreached levels < length levels = f.bound v (omega (arith, h, length-set levels to (level + 1))) (omega (arith, r, now_other v d))
-          in omega (arith, was, now_other v d, one_reached, length-set levels to (level + 1))
+        | other d ↦
+            let was : get_or levels v 0 + unreached levels < length levels = f.bound v (omega (arith, h, length-set levels to (level + 1))) (omega (arith, r, now_other v d))
+            in omega (arith, was, now_other v d, one_reached, length-set levels to (level + 1))
       ]
 
   sound_now : (nodes : ℕ → Bool) → nodes 0 ≡ true → IsClosed nodes arcs flow → (v : ℕ) → v < length now → get_or now v 0 < 4096 → nodes v ≡ true
   sound_now nodes zero_in closed v h r =
       elim (same_or v to) [
-        same e ↦ ap nodes e ∙ closed s inside (f.sound nodes zero_in closed (tail_of arcs s) (tail_node (length levels) arcs s ends inside) lo) room
-      | other d ↦ f.sound nodes zero_in closed v (omega (arith, h, length-set levels to (level + 1))) (omega (arith, r, now_other v d))
+        | same e ↦ ap nodes e ∙ closed s inside (f.sound nodes zero_in closed (tail_of arcs s) (tail_node (length levels) arcs s ends inside) lo) room
+        | other d ↦ f.sound nodes zero_in closed v (omega (arith, h, length-set levels to (level + 1))) (omega (arith, r, now_other v d))
       ]
 
   source_now : get_or now 0 0 ≡ 0
@@ -159,11 +159,11 @@ module _ (arcs : List Arc) (flow levels : List ℕ) (before : List Step) (queue 
       → IsSearch arcs flow (set levels h (v + 1)) (set before h s) q
   search_then h v q eh ev eq =
       let one : IsSearch arcs flow (set levels h (v + 1)) (set before h s) (queue ++ h ∷ []) =
-          subst (λ (x : ℕ). IsSearch arcs flow (set levels x (v + 1)) (set before x s) (queue ++ x ∷ [])) (sym eh)
-              (subst (λ (x : ℕ). IsSearch arcs flow (set levels (head_of arcs s) (x + 1)) (set before (head_of arcs s) s) (queue ++ head_of arcs s ∷ [])) (sym ev) search_now)
+      subst (λ (x : ℕ). IsSearch arcs flow (set levels x (v + 1)) (set before x s) (queue ++ x ∷ [])) (sym eh)
+      (subst (λ (x : ℕ). IsSearch arcs flow (set levels (head_of arcs s) (x + 1)) (set before (head_of arcs s) s) (queue ++ head_of arcs s ∷ [])) (sym ev) search_now)
       in subst (λ (x : List ℕ). IsSearch arcs flow (set levels h (v + 1)) (set before h s) x) (sym eq) one
 
   pub fewer_then : (h v : ℕ) → h ≡ head_of arcs s → v ≡ get_or levels (tail_of arcs s) 0 → unreached (set levels h (v + 1)) + 1 ≡ unreached levels
   fewer_then h v eh ev =
       subst (λ (x : ℕ). unreached (set levels x (v + 1)) + 1 ≡ unreached levels) (sym eh)
-          (subst (λ (x : ℕ). unreached (set levels (head_of arcs s) (x + 1)) + 1 ≡ unreached levels) (sym ev) one_reached)
+      (subst (λ (x : ℕ). unreached (set levels (head_of arcs s) (x + 1)) + 1 ≡ unreached levels) (sym ev) one_reached)

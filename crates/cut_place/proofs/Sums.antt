@@ -14,7 +14,7 @@ where_set p (a ∷ arcs) [] k y h e = absurd (omega arith)
 where_set p (a ∷ arcs) (x ∷ flow) zero y h e = omega arith
 where_set p (a ∷ arcs) (x ∷ flow) (suc k) y h e =
     let ih : flow_where p arcs (set flow k y) + cond (p (arc_at arcs k)) (get_or flow k 0) 0 ≡ flow_where p arcs flow + cond (p (arc_at arcs k)) y 0 =
-        where_set p arcs flow k y (omega arith) (omega arith)
+    where_set p arcs flow k y (omega arith) (omega arith)
     in omega arith
 
 cond_add : (b : Bool) (x y : ℕ) → cond b (x + y) 0 ≡ cond b x 0 + cond b y 0
@@ -32,11 +32,21 @@ push_moves : (along : Bool) (nodes : ℕ → Bool) (arcs : List Arc) (flow : Lis
     flow_out nodes arcs new + (cond (nodes (cond along (arc_at arcs k).to (arc_at arcs k).from)) d 0 + flow_in nodes arcs flow)
     ≡ flow_out nodes arcs flow + (cond (nodes (cond along (arc_at arcs k).from (arc_at arcs k).to)) d 0 + flow_in nodes arcs new)
 push_moves true nodes arcs flow k d h e r =
-    omega (arith, where_set (λ a. nodes a.from) arcs flow k (get_or flow k 0 + d) h e, where_set (λ a. nodes a.to) arcs flow k (get_or flow k 0 + d) h e,
-        cond_add (nodes (arc_at arcs k).from) (get_or flow k 0) d, cond_add (nodes (arc_at arcs k).to) (get_or flow k 0) d)
+    omega (
+      arith,
+      where_set (λ a. nodes a.from) arcs flow k (get_or flow k 0 + d) h e,
+      where_set (λ a. nodes a.to) arcs flow k (get_or flow k 0 + d) h e,
+      cond_add (nodes (arc_at arcs k).from) (get_or flow k 0) d,
+      cond_add (nodes (arc_at arcs k).to) (get_or flow k 0) d,
+    )
 push_moves false nodes arcs flow k d h e r =
-    omega (arith, where_set (λ a. nodes a.from) arcs flow k (get_or flow k 0 - d) h e, where_set (λ a. nodes a.to) arcs flow k (get_or flow k 0 - d) h e,
-        cond_sub (nodes (arc_at arcs k).from) (get_or flow k 0) d r, cond_sub (nodes (arc_at arcs k).to) (get_or flow k 0) d r)
+    omega (
+      arith,
+      where_set (λ a. nodes a.from) arcs flow k (get_or flow k 0 - d) h e,
+      where_set (λ a. nodes a.to) arcs flow k (get_or flow k 0 - d) h e,
+      cond_sub (nodes (arc_at arcs k).from) (get_or flow k 0) d r,
+      cond_sub (nodes (arc_at arcs k).to) (get_or flow k 0) d r,
+    )
 
 -- balanced, but for an amount that is on its way from the sink to a node
 abbrev pub IsBalancedAt : List Arc → List ℕ → ℕ → ℕ → ℕ → Type 0
@@ -71,7 +81,7 @@ cross_all nodes [] flow e b = omega arith
 cross_all nodes (a ∷ arcs) [] e b = absurd (omega arith)
 cross_all nodes (a ∷ arcs) (x ∷ flow) e b =
     let ih : flow_out nodes arcs flow ≤ flow_in nodes arcs flow + capacity_leaving nodes arcs =
-        cross_all nodes arcs flow (omega arith) (λ k h. b (suc k) (omega arith))
+    cross_all nodes arcs flow (omega arith) (λ k h. b (suc k) (omega arith))
     in let first : x ≤ a.cap = b 0 (omega arith)
     in omega (arith, ih, cross_one (nodes a.from) (nodes a.to) x a.cap first)
 
@@ -88,7 +98,7 @@ fit_all nodes [] flow e b = omega arith
 fit_all nodes (a ∷ arcs) [] e b = absurd (omega arith)
 fit_all nodes (a ∷ arcs) (x ∷ flow) e b =
     let ih : flow_out nodes arcs flow ≡ flow_in nodes arcs flow + capacity_leaving nodes arcs =
-        fit_all nodes arcs flow (omega arith) (λ k h. b (suc k) (omega arith))
+    fit_all nodes arcs flow (omega arith) (λ k h. b (suc k) (omega arith))
     in omega (arith, ih, b 0 (omega arith))
 
 pub all_fit : (nodes : ℕ → Bool) (arcs : List Arc) (flow : List ℕ) → length flow ≡ length arcs → Below arcs flow
@@ -97,15 +107,15 @@ all_fit nodes [] flow e b s k h = absurd (omega arith)
 all_fit nodes (a ∷ arcs) [] e b s k h = absurd (omega arith)
 all_fit nodes (a ∷ arcs) (x ∷ flow) e b s zero h =
     let rest : flow_out nodes arcs flow ≤ flow_in nodes arcs flow + capacity_leaving nodes arcs =
-        cross_all nodes arcs flow (omega arith) (λ k h. b (suc k) (omega arith))
+    cross_all nodes arcs flow (omega arith) (λ k h. b (suc k) (omega arith))
     in let first : x ≤ a.cap = b 0 (omega arith)
     in omega (arith, rest, s, cross_one (nodes a.from) (nodes a.to) x a.cap first)
 all_fit nodes (a ∷ arcs) (x ∷ flow) e b s (suc k) h =
     let rest : flow_out nodes arcs flow ≤ flow_in nodes arcs flow + capacity_leaving nodes arcs =
-        cross_all nodes arcs flow (omega arith) (λ k h. b (suc k) (omega arith))
+    cross_all nodes arcs flow (omega arith) (λ k h. b (suc k) (omega arith))
     in let first : x ≤ a.cap = b 0 (omega arith)
     in all_fit nodes arcs flow (omega arith) (λ k h. b (suc k) (omega arith))
-        (omega (arith, rest, s, cross_one (nodes a.from) (nodes a.to) x a.cap first)) k (omega arith)
+    (omega (arith, rest, s, cross_one (nodes a.from) (nodes a.to) x a.cap first)) k (omega arith)
 
 -- the value of a balanced flow is at most what the arcs out of a set can carry
 pub value_at_most : (nodes : ℕ → Bool) (arcs : List Arc) (flow : List ℕ) (value : ℕ) → IsWithin arcs flow → IsBalanced arcs flow value

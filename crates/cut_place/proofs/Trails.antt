@@ -39,13 +39,13 @@ apart : (arcs : List Arc) (levels : List ℕ) (s r : Step) → get_or levels (ta
     → get_or levels (head_of arcs r) 0 < get_or levels (head_of arcs s) 0 → r.arc ≢ s.arc
 apart arcs levels s r hs hr lt e =
     let hr2 : get_or levels (cond r.along (arc_at arcs s.arc).from (arc_at arcs s.arc).to) 0 + 1
-            ≡ get_or levels (cond r.along (arc_at arcs s.arc).to (arc_at arcs s.arc).from) 0 =
-        subst (λ (k : ℕ). get_or levels (cond r.along (arc_at arcs k).from (arc_at arcs k).to) 0 + 1
-            ≡ get_or levels (cond r.along (arc_at arcs k).to (arc_at arcs k).from) 0) e hr
+    ≡ get_or levels (cond r.along (arc_at arcs s.arc).to (arc_at arcs s.arc).from) 0 =
+    subst (λ (k : ℕ). get_or levels (cond r.along (arc_at arcs k).from (arc_at arcs k).to) 0 + 1
+    ≡ get_or levels (cond r.along (arc_at arcs k).to (arc_at arcs k).from) 0) e hr
     in let lt2 : get_or levels (cond r.along (arc_at arcs s.arc).to (arc_at arcs s.arc).from) 0 < get_or levels (head_of arcs s) 0 =
-        subst (λ (k : ℕ). get_or levels (cond r.along (arc_at arcs k).to (arc_at arcs k).from) 0 < get_or levels (head_of arcs s) 0) e lt
+    subst (λ (k : ℕ). get_or levels (cond r.along (arc_at arcs k).to (arc_at arcs k).from) 0 < get_or levels (head_of arcs s) 0) e lt
     in let same : get_or levels (head_of arcs s) 0 ≡ get_or levels (cond r.along (arc_at arcs s.arc).to (arc_at arcs s.arc).from) 0 =
-        ends s.along r.along (arc_at arcs s.arc).from (arc_at arcs s.arc).to (λ v. get_or levels v 0) hs hr2
+    ends s.along r.along (arc_at arcs s.arc).from (arc_at arcs s.arc).to (λ v. get_or levels v 0) hs hr2
     in omega (arith, same, lt2)
 
 -- a push along one arc leaves the room of another's
@@ -53,7 +53,7 @@ other_room : (arcs : List Arc) (flow : List ℕ) (s r : Step) (amount : ℕ) →
     → residual_of arcs (pushed flow s amount) r ≡ residual_of arcs flow r
 other_room arcs flow s r amount ne =
     ap (λ (x : ℕ). cond r.along ((arc_at arcs r.arc).cap - x) x)
-        (get_or-set_other flow s.arc r.arc (cond s.along (get_or flow s.arc 0 + amount) (get_or flow s.arc 0 - amount)) 0 ne)
+    (get_or-set_other flow s.arc r.arc (cond s.along (get_or flow s.arc 0 + amount) (get_or flow s.arc 0 - amount)) 0 ne)
 
 -- what is left of a trail after a step of a higher level carries the amount
 pub trail_after : (arcs : List Arc) (flow levels : List ℕ) (amount sent : ℕ) (s : Step) (at : ℕ) (steps : List Step) (start : ℕ)
@@ -63,9 +63,14 @@ trail_after arcs flow levels amount sent s at [] start hs lt t = t
 trail_after arcs flow levels amount sent s at (r ∷ steps) start hs lt t =
     let level : get_or levels (tail_of arcs r) 0 + 1 ≡ get_or levels (head_of arcs r) 0 = t.2 ∙ ap (λ v. get_or levels v 0) (sym t.1)
     in let below : get_or levels (head_of arcs r) 0 < get_or levels (head_of arcs s) 0 =
-        subst (λ (v : ℕ). get_or levels v 0 < get_or levels (head_of arcs s) 0) (sym t.1) lt
+    subst (λ (v : ℕ). get_or levels v 0 < get_or levels (head_of arcs s) 0) (sym t.1) lt
     in let same : residual_of arcs (pushed flow s sent) r ≡ residual_of arcs flow r =
-        other_room arcs flow s r sent (apart arcs levels s r hs level below)
+    other_room arcs flow s r sent (apart arcs levels s r hs level below)
     in let room : amount ≤ residual_of arcs flow r = t.3
-    in (t.0, t.1, t.2, subst (λ (x : ℕ). amount ≤ x) (sym same) room,
-        trail_after arcs flow levels amount sent s (tail_of arcs r) steps start hs (omega arith) t.4)
+    in (
+      t.0,
+      t.1,
+      t.2,
+      subst (λ (x : ℕ). amount ≤ x) (sym same) room,
+      trail_after arcs flow levels amount sent s (tail_of arcs r) steps start hs (omega arith) t.4,
+    )

@@ -52,7 +52,13 @@ fn reach(arcs: &[Arc], flow: &[u128], search: &mut Search, step: Step) -> Result
 }
 
 /// Reaches what the residual arcs of a node's list lead to.
-fn visit(arcs: &[Arc], flow: &[u128], links: &Links, search: &mut Search, node: usize) -> Result<(), AllocError>
+fn visit(
+    arcs: &[Arc],
+    flow: &[u128],
+    links: &Links,
+    search: &mut Search,
+    node: usize,
+) -> Result<(), AllocError>
     requires inside { node < length search.old.levels.items }
     requires within { IsWithin arcs.now flow.now }
     requires ends { HasEnds (length search.old.levels.items) arcs.now }
@@ -129,7 +135,12 @@ fn close(arcs: &[Arc], flow: &[u128], search: &mut Search) -> Result<(), AllocEr
 }
 
 /// Searches the residual net breadth first from the source.
-pub(crate) fn search_from(alloc: Global, arcs: &[Arc], flow: &[u128], links: &Links) -> Result<Search, AllocError>
+pub(crate) fn search_from(
+    alloc: Global,
+    arcs: &[Arc],
+    flow: &[u128],
+    links: &Links,
+) -> Result<Search, AllocError>
     requires within { IsWithin arcs.now flow.now }
     requires nodes { 2 ≤ length links.now.first.items }
     requires most { length links.now.first.items ≤ 4096 }

@@ -58,7 +58,13 @@ fn retreat(links: &Links, walk: &mut Walk, nodes: usize) -> bool
 
 /// One step of a walk: on by the current arc, or to the next arc, or back from a dead end. Says
 /// whether there was one.
-fn advance(arcs: &[Arc], flow: &[u128], levels: &[usize], links: &Links, walk: &mut Walk) -> Result<bool, AllocError>
+fn advance(
+    arcs: &[Arc],
+    flow: &[u128],
+    levels: &[usize],
+    links: &Links,
+    walk: &mut Walk,
+) -> Result<bool, AllocError>
     requires within { IsWithin arcs.now flow.now }
     requires ends { HasEnds (length levels.now) arcs.now }
     requires links { HasLinks links.now.first.items links.now.next.items }

@@ -25,20 +25,20 @@ returns-then-levels-ge-UNREACHED-clause-cost c =
     let w : IsWithin c.args.net.now.arcs c.phases.flow.items = subst (λ a. IsWithin a c.phases.flow.items) c.as_slice-arcs.ensures c.phases.invariant.0 in
     let b : IsBalanced c.args.net.now.arcs c.phases.flow.items c.phases.value = subst (λ a. IsBalanced a c.phases.flow.items c.phases.value) c.as_slice-arcs.ensures c.phases.invariant.1 in
     let closed_here : IsClosed (reached levels) c.as_slice-arcs.result.now c.phases.flow.items =
-        subst (λ (f : List ℕ). IsClosed (reached levels) c.as_slice-arcs.result.now f) c.as_slice.ensures.value c.in_ok-search.ensures.closed in
+    subst (λ (f : List ℕ). IsClosed (reached levels) c.as_slice-arcs.result.now f) c.as_slice.ensures.value c.in_ok-search.ensures.closed in
     let closed : IsClosed (reached levels) c.args.net.now.arcs c.phases.flow.items =
-        subst (λ a. IsClosed (reached levels) a c.phases.flow.items) c.as_slice-arcs.ensures closed_here in
+    subst (λ a. IsClosed (reached levels) a c.phases.flow.items) c.as_slice-arcs.ensures closed_here in
     let flagged : Flagged c.in_ok-reached_nodes.field-0 levels =
-        subst (λ (v : List ℕ). Flagged c.in_ok-reached_nodes.field-0 v) l (record { len = c.in_ok-reached_nodes.ensures.len; says = c.in_ok-reached_nodes.ensures.flags }) in
+    subst (λ (v : List ℕ). Flagged c.in_ok-reached_nodes.field-0 v) l (record { len = c.in_ok-reached_nodes.ensures.len; says = c.in_ok-reached_nodes.ensures.flags }) in
     let nodes : length levels ≡ c.args.net.now.nodes = c.in_ok-search.ensures.nodes ∙ c.in_ok-links.ensures.nodes in
     let ends : HasEnds (length levels) c.args.net.now.arcs = subst (λ (n : ℕ). HasEnds n c.args.net.now.arcs) (sym nodes) c.requires.ends in
     let search_here : IsSearch c.as_slice-arcs.result.now c.phases.flow.items levels c.in_ok-search.search.before.items c.in_ok-search.search.queue.items =
-        subst (λ (f : List ℕ). IsSearch c.as_slice-arcs.result.now f levels c.in_ok-search.search.before.items c.in_ok-search.search.queue.items) c.as_slice.ensures.value c.in_ok-search.ensures.search in
+    subst (λ (f : List ℕ). IsSearch c.as_slice-arcs.result.now f levels c.in_ok-search.search.before.items c.in_ok-search.search.queue.items) c.as_slice.ensures.value c.in_ok-search.ensures.search in
     let search : IsSearch c.args.net.now.arcs c.phases.flow.items levels c.in_ok-search.search.before.items c.in_ok-search.search.queue.items =
-        subst (λ a. IsSearch a c.phases.flow.items levels c.in_ok-search.search.before.items c.in_ok-search.search.queue.items) c.as_slice-arcs.ensures search_here in
+    subst (λ a. IsSearch a c.phases.flow.items levels c.in_ok-search.search.before.items c.in_ok-search.search.queue.items) c.as_slice-arcs.ensures search_here in
     let far : 4096 ≤ get_or levels 1 0 = subst (λ (v : List ℕ). 4096 ≤ get_or v 1 0) l c.if-levels-ge-UNREACHED.true in
     flags_cost c.in_ok-reached_nodes.field-0 levels c.args.net.now.arcs c.phases.flow.items c.phases.value flagged ends w b closed
-        (flags_cut c.in_ok-reached_nodes.field-0 levels c.in_ok-search.search.before.items c.in_ok-search.search.queue.items c.args.net.now.arcs c.phases.flow.items flagged search far)
+    (flags_cut c.in_ok-reached_nodes.field-0 levels c.in_ok-search.search.before.items c.in_ok-search.search.queue.items c.args.net.now.arcs c.phases.flow.items flagged search far)
 
 pub returns-then-levels-ge-UNREACHED-clause-smallest : goal.returns-then-levels-ge-UNREACHED-clause-smallest
 returns-then-levels-ge-UNREACHED-clause-smallest c =
@@ -47,10 +47,10 @@ returns-then-levels-ge-UNREACHED-clause-smallest c =
     let w : IsWithin c.args.net.now.arcs c.phases.flow.items = subst (λ a. IsWithin a c.phases.flow.items) c.as_slice-arcs.ensures c.phases.invariant.0 in
     let b : IsBalanced c.args.net.now.arcs c.phases.flow.items c.phases.value = subst (λ a. IsBalanced a c.phases.flow.items c.phases.value) c.as_slice-arcs.ensures c.phases.invariant.1 in
     let search_here : IsSearch c.as_slice-arcs.result.now c.phases.flow.items levels c.in_ok-search.search.before.items c.in_ok-search.search.queue.items =
-        subst (λ (f : List ℕ). IsSearch c.as_slice-arcs.result.now f levels c.in_ok-search.search.before.items c.in_ok-search.search.queue.items) c.as_slice.ensures.value c.in_ok-search.ensures.search in
+    subst (λ (f : List ℕ). IsSearch c.as_slice-arcs.result.now f levels c.in_ok-search.search.before.items c.in_ok-search.search.queue.items) c.as_slice.ensures.value c.in_ok-search.ensures.search in
     let search : IsSearch c.args.net.now.arcs c.phases.flow.items levels c.in_ok-search.search.before.items c.in_ok-search.search.queue.items =
-        subst (λ a. IsSearch a c.phases.flow.items levels c.in_ok-search.search.before.items c.in_ok-search.search.queue.items) c.as_slice-arcs.ensures search_here in
+    subst (λ a. IsSearch a c.phases.flow.items levels c.in_ok-search.search.before.items c.in_ok-search.search.queue.items) c.as_slice-arcs.ensures search_here in
     let flagged : Flagged c.in_ok-reached_nodes.field-0 levels =
-        subst (λ (v : List ℕ). Flagged c.in_ok-reached_nodes.field-0 v) l (record { len = c.in_ok-reached_nodes.ensures.len; says = c.in_ok-reached_nodes.ensures.flags }) in
+    subst (λ (v : List ℕ). Flagged c.in_ok-reached_nodes.field-0 v) l (record { len = c.in_ok-reached_nodes.ensures.len; says = c.in_ok-reached_nodes.ensures.flags }) in
     flags_smallest c.in_ok-reached_nodes.field-0 levels c.in_ok-search.search.before.items c.in_ok-search.search.queue.items c.args.net.now.arcs c.phases.flow.items c.phases.value
-        flagged w b search
+    flagged w b search

@@ -13,11 +13,11 @@ loop-step-preserved c =
     let items : c.as_slice-step-items.result.now ≡ c.args.path.now.steps.items = c.as_slice-step-items.ensures.value in
     let lt : c.loop-step.step-index < length c.args.path.now.steps.items = omega (arith, ap length items) in
     let e : c.push.new.flow ≡ pushed c.loop-step.flow (step_at c.args.path.now.steps.items c.loop-step.step-index) c.args.path.now.amount =
-        c.push.ensures.pushed ∙ ap (λ (l : List Step). pushed c.loop-step.flow (step_at l c.loop-step.step-index) c.args.path.now.amount) items in
+    c.push.ensures.pushed ∙ ap (λ (l : List Step). pushed c.loop-step.flow (step_at l c.loop-step.step-index) c.args.path.now.amount) items in
     augment_round c.args.arcs.now c.args.flow.now c.loop-step.flow c.push.new.flow c.args.path.now.amount c.args.path.now.steps.items c.loop-step.step-index
-        lt c.loop-step.invariant e c.push.ensures.within
+    lt c.loop-step.invariant e c.push.ensures.within
 
 pub returns-clause-balanced : goal.returns-clause-balanced
 returns-clause-balanced c =
     augment_done c.args.arcs.now c.args.flow.now c.loop-step.flow c.args.path.now.amount c.args.path.now.steps.items c.loop-step.step-index
-        (omega (arith, ap length c.as_slice-step-items.ensures.value)) c.loop-step.invariant
+    (omega (arith, ap length c.as_slice-step-items.ensures.value)) c.loop-step.invariant

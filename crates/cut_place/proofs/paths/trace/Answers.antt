@@ -17,8 +17,8 @@ back-preserved c =
     let one : 1 ≤ residual_of c.args.arcs.now c.args.flow.now s = leads.2 in
     let some : 1 ≤ c.back.amount = c.back.invariant.some in
     let next : TraceFacts c.args.arcs.now c.args.flow.now c.args.levels.now c.args.before.now c.min-amount.result (c.back.steps.items ++ s ∷ []) (tail_of c.args.arcs.now s) =
-        trace_goes_on c.args.arcs.now c.args.flow.now c.args.levels.now c.args.before.now c.back.amount c.back.steps.items c.back.at s c.min-amount.result
-            c.back.invariant inside leads (tail_node _ c.args.arcs.now s c.requires.ends inside)
-            (omega (arith, c.min-amount.ensures, one, some, room)) (omega (arith, c.min-amount.ensures)) (omega (arith, c.min-amount.ensures, room)) in
+    trace_goes_on c.args.arcs.now c.args.flow.now c.args.levels.now c.args.before.now c.back.amount c.back.steps.items c.back.at s c.min-amount.result
+    c.back.invariant inside leads (tail_node _ c.args.arcs.now s c.requires.ends inside)
+    (omega (arith, c.min-amount.ensures, one, some, room)) (omega (arith, c.min-amount.ensures)) (omega (arith, c.min-amount.ensures, room)) in
     subst (λ (l : List Step). TraceFacts c.args.arcs.now c.args.flow.now c.args.levels.now c.args.before.now c.min-amount.result l c.tail-at.result) (sym items)
-        (subst (λ (v : ℕ). TraceFacts c.args.arcs.now c.args.flow.now c.args.levels.now c.args.before.now c.min-amount.result (c.back.steps.items ++ s ∷ []) v) (sym at) next)
+    (subst (λ (v : ℕ). TraceFacts c.args.arcs.now c.args.flow.now c.args.levels.now c.args.before.now c.min-amount.result (c.back.steps.items ++ s ∷ []) v) (sym at) next)

@@ -15,8 +15,8 @@ returns-clause-search c =
     let there : c.index-there.result.now ≡ get_or c.args.search.now.levels.items (head_of c.args.arcs.now c.args.step) 0 = grind (arith, common_steps) in
     let queue : c.push.new.self.items ≡ c.args.search.now.queue.items ++ c.head-to.result ∷ [] = grind (arith, common_steps) in
     search_then c.args.arcs.now c.args.flow.now c.args.search.now.levels.items c.args.search.now.before.items c.args.search.now.queue.items c.args.step
-        c.requires.search c.requires.ends c.requires.inside (omega arith) (omega arith) (omega (arith, c.residual-room.ensures))
-        c.head-to.result c.index-level.result.now c.push.new.self.items to level queue
+    c.requires.search c.requires.ends c.requires.inside (omega arith) (omega arith) (omega (arith, c.residual-room.ensures))
+    c.head-to.result c.index-level.result.now c.push.new.self.items to level queue
 
 pub returns-clause-more : goal.returns-clause-more
 returns-clause-more c _ =
@@ -27,5 +27,5 @@ returns-clause-more c _ =
     let level : c.index-level.result.now ≡ get_or c.args.search.now.levels.items (tail_of c.args.arcs.now c.args.step) 0 = grind (arith, common_steps) in
     let there : c.index-there.result.now ≡ get_or c.args.search.now.levels.items (head_of c.args.arcs.now c.args.step) 0 = grind (arith, common_steps) in
     fewer_then c.args.arcs.now c.args.flow.now c.args.search.now.levels.items c.args.search.now.before.items c.args.search.now.queue.items c.args.step
-        c.requires.search c.requires.ends c.requires.inside (omega arith) (omega arith) (omega (arith, c.residual-room.ensures))
-        c.head-to.result c.index-level.result.now to level
+    c.requires.search c.requires.ends c.requires.inside (omega arith) (omega arith) (omega (arith, c.residual-room.ensures))
+    c.head-to.result c.index-level.result.now to level
