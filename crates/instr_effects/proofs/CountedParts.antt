@@ -14,7 +14,6 @@ use Rattle.mir_func.specs.Value.{Function}
 use Rattle.mir_func.specs.Binding.{as_register, registers, is_early_clobber, immediate_of}
 use Rattle.mir_meaning.specs.Registers.{numbers, operand_lanes, undefined_lanes}
 use Rattle.mir_meaning.specs.Items.{pick, preserves, result_writes, explicit_definitions, implicit_definitions}
-use Rattle.instr_effects.specs.declared.acts.Act.{Act}
 use Rattle.instr_effects.specs.declared.owner.Owner.{Owner}
 use Rattle.instr_effects.specs.declared.owner.Owner.TheVariants as owners
 use Rattle.mir_meaning.specs.declared.writing.Writing.{Writing}
@@ -25,7 +24,7 @@ use Rattle.instr_effects.specs.Runs.{one_lane, one_writing, of_kind, unit_clobbe
 use Rattle.instr_effects.proofs.Loops.{numbers_end}
 use Rattle.instr_effects.proofs.Operands.{picked, flag_none}
 use Rattle.instr_effects.proofs.Writes.{acts-result, acts-counted, acts-units, no_call}
-use Rattle.instr_effects.proofs.Runs.{written, unread}
+use Rattle.instr_effects.proofs.Runs.{unread}
 
 -- what comes of the register operands of a kind
 pub each-flat : {X : Type 0} (p : RegOp → Bool) (g : RegOp → List X) (os : List Operand) → flat_map (of_kind p g) os ≡ flat_map g (filter p (registers os))

@@ -1,10 +1,10 @@
 -- Acts, each on a lane of its own.
-use Rattle.std.proofs.Common.{◌≡◌, ◌≢◌, ◌<◌, ◌≤◌, ℕ, zero, suc, ◌+◌, Bool, true, false, cond, not, ◌&&◌, ◌||◌, List, [], ◌∷◌, ◌++◌, Option, Some, None, length, get_or, take, find, set, refl, sym, ap, ap₂, ◌∙◌, arith, eqb-true, subst}
+use Rattle.std.proofs.Common.{◌≡◌, ◌<◌, ◌≤◌, ℕ, zero, suc, ◌+◌, Bool, true, false, cond, not, ◌&&◌, ◌||◌, List, [], ◌∷◌, ◌++◌, Option, Some, None, length, get_or, take, find, set, refl, sym, ap, ap₂, ◌∙◌, arith, eqb-true, subst}
 use Rattle.std.specs.Prelude.{nat_eq, nat_lt, position, slice_set}
 use Rattle.std.specs.Option.{option_or}
-use Rattle.std.specs.List.{list_any, position_or_len}
+use Rattle.std.specs.List.{position_or_len}
 use Rattle.std.proofs.lemmas.Bool.{eqb-false, ltb-true, ltb-false}
-use Rattle.std.proofs.lemmas.List.{take_more, take_all}
+use Rattle.std.proofs.lemmas.List.{take_more}
 use Rattle.instr_effects.specs.declared.lane_acts.LaneAct.{LaneAct}
 use Rattle.instr_effects.specs.declared.lane_acts.LaneRead.{LaneRead}
 use Rattle.instr_effects.specs.declared.lane_acts.LaneWrite.{LaneWrite}

@@ -1,13 +1,10 @@
 -- Steps and ends of loops that add to a list.
-use Rattle.std.proofs.Common.{◌≡◌, ◌<◌, ◌≤◌, ℕ, zero, suc, ◌+◌, List, [], ◌∷◌, ◌++◌, length, get_or, take, drop, map, flat_map, refl, sym, ap, ◌∙◌, append_assoc, arith, ap₂, Option, Some, None, ℤ, pos, Bool, drop_of_length-le}
+use Rattle.std.proofs.Common.{◌≡◌, ◌<◌, ◌≤◌, ℕ, zero, suc, ◌+◌, List, [], ◌∷◌, ◌++◌, length, get_or, take, drop, map, flat_map, refl, sym, ap, ◌∙◌, append_assoc, arith, Some, None, ℤ, pos, drop_of_length-le}
 use Rattle.std.proofs.lemmas.List.{map_more, flat_map_more, take_more, take_all, at_drop_more}
 use Rattle.mir_meaning.specs.Registers.{numbers}
 use Rattle.mir_func.specs.Binding.{immediate_of, as_immediate}
 use Rattle.mir_func.specs.declared.func.Operand.{Operand}
 use Rattle.mir_func.specs.declared.func.Operand.TheVariants as operands
-use Rattle.instr_effects.specs.declared.acts.Act.{Act}
-use Rattle.instr_effects.specs.declared.owner.Owner.{Owner}
-use Rattle.instr_effects.specs.Acts.{moved_acts}
 
 pub mapped_more : {X Y : Type 0} (f : X → Y) (start now : List Y) (xs : List X) (i : ℕ) (x : X) → i < length xs → x ≡ get_or xs i x → now ≡ start ++ map f (take i xs) → now ++ f x ∷ [] ≡ start ++ map f (take (i + 1) xs)
 mapped_more f start now xs i x h e so =

@@ -1,5 +1,5 @@
 -- Units that masks preserve.
-use Rattle.std.proofs.Common.{◌≡◌, ℕ, zero, suc, ◌+◌, Bool, true, false, cond, ◌||◌, List, [], ◌∷◌, ◌++◌, map, flat_map, filter, refl, sym, ap, ◌∙◌, append_assoc, append-nil, arith}
+use Rattle.std.proofs.Common.{◌≡◌, ℕ, Bool, true, false, ◌||◌, List, [], ◌∷◌, ◌++◌, flat_map, refl, sym, ap, ◌∙◌}
 use Rattle.std.specs.Prelude.{slice_get, Option, Some, None, ◌==◌}
 use Rattle.std.specs.List.{list_any}
 use Rattle.target_base.specs.declared.types.MaskId.{MaskId}
@@ -11,7 +11,6 @@ use Rattle.target_base.specs.Registers.{units_of, mask_regs}
 use Rattle.target_base.specs.Storage.{is_among}
 use Rattle.mir_func.specs.declared.func.Operand.TheVariants as operands
 use Rattle.mir_meaning.specs.Items.{mask_units, preserves}
-use Rattle.mir_meaning.specs.Registers.{numbers}
 
 any-join : {X : Type 0} (p : X → Bool) (xs ys : List X) → list_any p (xs ++ ys) ≡ (list_any p xs || list_any p ys)
 any-join p [] ys = refl

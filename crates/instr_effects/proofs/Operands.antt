@@ -1,15 +1,11 @@
 -- The lanes of operands.
-use Rattle.std.proofs.Common.{◌≡◌, ◌<◌, ◌≤◌, ℕ, zero, suc, get_or, arith, Bool, true, false, cond, ◌&&◌, List, [], ◌∷◌, Some, None, map, filter_map, length, refl, sym, ap, ◌∙◌}
-use Rattle.target_base.specs.declared.types.Unit.{Unit as UnitNumber}
+use Rattle.std.proofs.Common.{◌≡◌, ℕ, zero, suc, Bool, true, false, cond, ◌&&◌, List, [], ◌∷◌, Some, None, map, filter_map, refl, ap, ◌∙◌}
 use Rattle.target_base.specs.declared.types.Target.{Target}
 use Rattle.meaning.specs.declared.types.Lane.{Lane}
-use Rattle.meaning.specs.declared.types.Lane.TheVariants.{VirtualLane}
 use Rattle.meaning.specs.declared.types.Source.TheVariants.{FromLane, Undef}
 use Rattle.mir_func.specs.declared.func.RegOp.{RegOp}
 use Rattle.mir_func.specs.Value.{Function}
-use Rattle.mir_meaning.specs.Registers.{unit_lanes, use_sources, undefined_lanes, whole_lanes, operand_lanes}
-use Rattle.instr_effects.specs.declared.owner.Owner.{Owner}
-use Rattle.instr_effects.specs.declared.owner.Owner.TheVariants as owners
+use Rattle.mir_meaning.specs.Registers.{use_sources, undefined_lanes, whole_lanes, operand_lanes}
 use Rattle.instr_effects.specs.Owners.{owner_of, source_owner, operand_owners}
 use Rattle.mir_meaning.specs.Items.{pick}
 use Rattle.instr_effects.specs.Acts.{use_owners, flag_owners}

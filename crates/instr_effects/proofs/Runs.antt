@@ -1,6 +1,6 @@
 -- The numbers of lanes one after another.
 use Rattle.std.proofs.Common.{◌≡◌, ◌<◌, ◌≤◌, ℕ, zero, suc, ◌+◌, Bool, true, false, cond, List, [], ◌∷◌, ◌++◌, Option, Some, None, map, flat_map, filter_map, length, get_or, take, refl, sym, ap, ap₂, ◌∙◌, arith, min, append-nil}
-use Rattle.std.specs.Prelude.{slice_get, option_and_then, nat_lt, zip}
+use Rattle.std.specs.Prelude.{slice_get, option_and_then, zip}
 use Rattle.std.specs.List.{cons_option}
 use Rattle.std.proofs.lemmas.List.Elements.{filter_map-append}
 use Rattle.std.proofs.lemmas.Slice.Zip.{length-zip, get_or-zip}

@@ -4,7 +4,6 @@ use Rattle.std.specs.Prelude.{slice_get, option_and_then, zip}
 use Rattle.std.specs.BTreeMap.{get}
 use Rattle.std.specs.Ordering.{nat_cmp}
 use Rattle.target_base.specs.declared.types.Effect.{Effect}
-use Rattle.target_base.specs.declared.types.Effect.TheVariants as effects
 use Rattle.target_base.specs.declared.types.Target.{Target}
 use Rattle.mir_func.specs.declared.func.RegOp.{RegOp}
 use Rattle.mir_func.specs.declared.func.Operand.{Operand}
@@ -15,14 +14,13 @@ use Rattle.mir_meaning.specs.Registers.{numbers, use_sources, undefined_lanes}
 use Rattle.mir_meaning.specs.Items.{copied, defined_undef, given_constant, reloaded, result_writes, silent_reads, uses}
 use Rattle.mir_meaning.specs.Rules.{puts_together}
 use Rattle.instr_effects.specs.declared.lanes.LaneTable.{LaneTable}
-use Rattle.instr_effects.specs.declared.owner.Owner.{Owner}
 use Rattle.instr_effects.specs.declared.owner.Owner.TheVariants as owners
 use Rattle.instr_effects.specs.declared.row.Lanes.{Lanes}
 use Rattle.instr_effects.specs.Row.{lane_in}
 use Rattle.instr_effects.specs.Numbers.{row_number_in}
 use Rattle.instr_effects.specs.Numbered.{number_in}
 use Rattle.instr_effects.specs.Owners.{owner_of, source_owner, operand_owners}
-use Rattle.instr_effects.specs.Acts.{plain, acts_of, use_owners, read_owners, is_constant, slot_numbers, filled_whole, stored, silent_acts}
+use Rattle.instr_effects.specs.Acts.{plain, acts_of, use_owners, read_owners, is_constant, slot_numbers, filled_whole, stored}
 use Rattle.mir_func.specs.Binding.{register_at, slot_at}
 use Rattle.mir_meaning.specs.declared.writing.Writing.{Writing}
 use Rattle.instr_effects.specs.Steps.{Numbering, act_writings, act_readings}
@@ -30,7 +28,7 @@ use Rattle.instr_effects.specs.Runs.{one_writing, one_move, one_kept, of_kind}
 use Rattle.instr_effects.proofs.Runs.{moves, kept, somes, no_run, none_given, define_writings, define_readings, unread, map-long, no-number}
 use Rattle.instr_effects.proofs.CountedParts.{each-flat, part-flat, result-unread}
 use Rattle.instr_effects.proofs.Readings.{together_read, other_read}
-use Rattle.instr_effects.proofs.Writes.{copied_none, copied_one, copied_acts, undefined_none, undefined_acts, whole_none, whole_acts, constant_none, constant_one, constant_acts, stored_none, stored_one, stored_two, stored_acts, reloaded_none, reloaded_one, reloaded_two, reloaded_acts, other_silent}
+use Rattle.instr_effects.proofs.Writes.{copied_acts, undefined_none, undefined_acts, whole_none, whole_acts, constant_acts, stored_acts, reloaded_acts}
 
 pub slot_run : (x : Lanes) (tab : LaneTable) (s : ℕ) → ((k : ℕ) → lane_in x.first x.count k ≡ row_number_in (get nat_cmp tab.slots s) k) → (ks : List ℕ) → map (lane_in x.first x.count) ks ≡ map (number_in tab) (map (owners.Slot s) ks)
 slot_run x tab s h [] = refl

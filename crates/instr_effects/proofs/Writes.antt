@@ -1,5 +1,5 @@
 -- What is written, without values.
-use Rattle.std.proofs.Common.{◌≡◌, ℕ, zero, suc, ◌+◌, Bool, true, false, cond, List, [], ◌∷◌, ◌++◌, Option, Some, None, map, flat_map, length, refl, sym, ap, ◌∙◌, append_assoc, arith, ap₂, slice_index, slice_get, sum}
+use Rattle.std.proofs.Common.{◌≡◌, ℕ, zero, suc, ◌+◌, Bool, false, cond, List, [], ◌∷◌, ◌++◌, Option, Some, None, map, flat_map, length, refl, sym, ap, ◌∙◌, arith, ap₂, slice_index, slice_get, sum}
 use Rattle.target_base.specs.declared.types.Effect.{Effect}
 use Rattle.target_base.specs.declared.types.Effect.TheVariants as effects
 use Rattle.target_base.specs.declared.types.Role.{Role}
@@ -26,11 +26,10 @@ use Rattle.target_base.specs.Roles.{is_silent}
 use Rattle.mir_func.specs.Binding.{is_early_clobber, as_register, register_at, as_slot, slot_at}
 use Rattle.mir_meaning.specs.Registers.{numbers, operand_lanes, operand_widths, located_lanes, located_widths, range_widths, undefined_lanes, use_sources, slot_lane_numbers, slot_lanes}
 use Rattle.mir_meaning.specs.Items.{write, moved, undefined, computed, defined, result_writes, all_lanes, constant_bits, constant_lanes, constant_of, lanes_beside, explicit_definitions, implicit_definitions, copied, defined_undef, given_constant, reloaded}
-use Rattle.instr_effects.specs.declared.acts.Act.{Act}
 use Rattle.instr_effects.specs.declared.owner.Owner.{Owner}
 use Rattle.instr_effects.specs.declared.owner.Owner.TheVariants as owners
 use Rattle.instr_effects.specs.Owners.{owner_of, source_owner, operand_owners}
-use Rattle.instr_effects.specs.Acts.{plain, moved_acts, act_of, acts_of, definition_acts, is_constant, slot_numbers, counted_acts, call_writes, is_call, unpreserved, filled_whole, stored, silent_acts}
+use Rattle.instr_effects.specs.Acts.{plain, moved_acts, act_of, acts_of, definition_acts, is_constant, slot_numbers, counted_acts, call_writes, is_call, filled_whole, stored, silent_acts}
 
 map-join : {X Y : Type 0} (f : X → Y) (xs ys : List X) → map f (xs ++ ys) ≡ map f xs ++ map f ys
 map-join f [] ys = refl

@@ -1,7 +1,7 @@
-use Rattle.std.proofs.Common.{◌≡◌, sym, ap, ◌∙◌, ◌++◌, ◌∷◌, [], Some, None}
+use Rattle.std.proofs.Common.{◌≡◌, sym, ap, ◌∙◌, Some, None}
 use Rattle.std.specs.Prelude.{position, slice_set}
 use Rattle.instr_effects.specs.LaneActs.{is_on}
-use Rattle.instr_effects.proofs.LaneActs.{put, set_put, push_put, put-told, put-stands}
+use Rattle.instr_effects.proofs.LaneActs.{set_put, push_put, put-told, put-stands}
 use Rattle.instr_effects.proofs.lane_acts.put_act.Goals as goal
 
 pub returns-in-Some-clause-told : goal.returns-in-Some-clause-told

@@ -1,5 +1,5 @@
-use Rattle.std.proofs.Common.{sym, ap, ap₂, ◌∙◌, ◌++◌, append-nil, cond, filter_map}
-use Rattle.instr_effects.specs.Acts.{acts_of, counted_acts, counted_owners, silent_acts, effect_owners, read_owners}
+use Rattle.std.proofs.Common.{sym, ap, ◌∙◌, ◌++◌, append-nil, cond, filter_map}
+use Rattle.instr_effects.specs.Acts.{acts_of, counted_acts, counted_owners, silent_acts, read_owners}
 use Rattle.mir_func.specs.Binding.{is_early_clobber}
 use Rattle.mir_meaning.specs.Items.{silent_reads}
 use Rattle.instr_effects.specs.Numbered.{number_in}

@@ -1,4 +1,4 @@
-use Rattle.std.proofs.Common.{sym, ap, ◌∙◌, cond, map, None, [], length}
+use Rattle.std.proofs.Common.{sym, ap, ◌∙◌, cond, map, [], length}
 use Rattle.instr_effects.specs.Numbered.{number_in}
 use Rattle.instr_effects.specs.Owners.{operand_owners}
 use Rattle.instr_effects.proofs.Runs.{no-number}

@@ -1,4 +1,4 @@
-use Rattle.std.proofs.Common.{sym, ap, ap₂, ◌∙◌, ◌++◌, append_assoc, flat_map}
+use Rattle.std.proofs.Common.{sym, ap, ◌∙◌, ◌++◌, flat_map}
 use Rattle.instr_effects.specs.Numbered.{number_in}
 use Rattle.instr_effects.specs.Runs.{one_writing}
 use Rattle.instr_effects.proofs.Loops.{joined}

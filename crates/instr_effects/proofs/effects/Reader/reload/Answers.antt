@@ -1,7 +1,5 @@
-use Rattle.std.proofs.Common.{sym, ap, ap₂, ◌∙◌, ◌++◌, ◌≡◌, length, slice_get, Some, flat_map, map}
-use Rattle.std.specs.Prelude.{zip, option_and_then}
+use Rattle.std.proofs.Common.{sym, ap, ◌∙◌, ◌++◌, ◌≡◌, length, slice_get, Some}
 use Rattle.instr_effects.specs.Numbered.{number_in}
-use Rattle.instr_effects.specs.Runs.{one_move, one_kept, run_numbers, one_writing}
 use Rattle.instr_effects.proofs.SilentParts.{filled, left, reload_readings, reload_writings}
 use Rattle.instr_effects.proofs.effects.Reader.reload.Goals as goal
 

@@ -1,7 +1,7 @@
-use Rattle.std.proofs.Common.{sym, ap, ap₂, ◌∙◌, ◌++◌, ◌≡◌, length, slice_get, Some, flat_map, map, false}
-use Rattle.std.specs.Prelude.{zip, option_and_then}
+use Rattle.std.proofs.Common.{sym, ap, ap₂, ◌∙◌, ◌++◌, ◌≡◌, length, slice_get, Some, flat_map, false}
+use Rattle.std.specs.Prelude.{zip}
 use Rattle.instr_effects.specs.Numbered.{number_in}
-use Rattle.instr_effects.specs.Runs.{one_move, one_kept, run_numbers, one_writing}
+use Rattle.instr_effects.specs.Runs.{one_move, one_kept}
 use Rattle.instr_effects.proofs.SilentParts.{store_readings, store_writings}
 use Rattle.instr_effects.proofs.effects.Reader.store.Goals as goal
 

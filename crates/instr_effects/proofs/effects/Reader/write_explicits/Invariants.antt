@@ -1,7 +1,6 @@
-use Rattle.std.proofs.Common.{◌≡◌, ◌++◌, flat_map, filter_map, take, map, not, ◌&&◌, false}
+use Rattle.std.proofs.Common.{◌≡◌, ◌++◌, flat_map, take, not, ◌&&◌}
 use Rattle.mir_meaning.specs.Items.{result_writes}
-use Rattle.instr_effects.specs.Owners.{operand_owners}
-use Rattle.instr_effects.specs.Acts.{plain, acts_of, use_owners, flag_owners, takes_some}
+use Rattle.instr_effects.specs.Acts.{acts_of}
 use Rattle.instr_effects.specs.Numbered.{number_in}
 use Rattle.instr_effects.specs.Steps.{act_writings}
 use Rattle.instr_effects.specs.Runs.{of_kind}
