@@ -1,13 +1,13 @@
 //! Runs.
 
-ghost use Rattle.std.specs.Prelude.{◌≡◌, ◌++◌, ◌∷◌, [], ◌+◌, ◌<◌, ◌≤◌, ℕ, suc, List, Bool, OnOk, IfOk, MatchOption, MatchResult, cond, map, drop, length, None, Some, unwrap_or, nat_eq, option_map, flat_map};
+ghost use Rattle.std.specs.Prelude.{◌≡◌, ◌∷◌, [], ◌+◌, ◌<◌, ◌≤◌, ℕ, suc, List, OnOk, IfOk, map, drop, length, None, Some, unwrap_or, nat_eq, option_map, flat_map};
 ghost use Rattle.target_base.specs.Storage.{unit_width};
 ghost use Rattle.target_base.specs.Registers.{units_of};
 ghost use Rattle.std.specs.HashMap.{get};
-ghost use Rattle.meaning.specs.Environment.{Environment, Value, entry_value};
-ghost use Rattle.meaning.specs.State.{State, fill, values, written, nth};
+ghost use Rattle.meaning.specs.Environment.{Environment, entry_value};
+ghost use Rattle.meaning.specs.State.{fill, values, written, nth};
 ghost use Rattle.meaning.specs.Perform as meaning;
-ghost use Rattle.meaning.specs.Code.{Code, Goes, Edge, walk, runs, run, ended, continued, entered, start_state, found, target_place};
+ghost use Rattle.meaning.specs.Code.{Code, Goes, walk, runs, run, ended, continued, entered, start_state, found, target_place};
 ghost use Rattle.mir_meaning.specs.Codes.{meaning_of, given_of};
 ghost use Rattle.meaning.specs.declared.types.Lane.{Lane};
 ghost use Rattle.mir_interp.specs.Holds.{held_by};
@@ -32,7 +32,6 @@ use mir_func::Func;
 use std::alloc::{AllocError, Global};
 use std::collections::HashMap;
 use target_base::classes::width_of;
-use target_base::registers::units_at;
 use target_base::{List, Reg, Target, Unit};
 
 /// What a fill gives to its lane.
@@ -210,7 +209,7 @@ fn give_all<W: World>(
     ensures { OnOk result ((symbols : List (List ℕ)) (m : ℕ) (env : Environment) → Stands (given_by W.entry W.byte W.frame W.symbol W.answer world.now) symbols m env → (l : Lane) → held_by store.new l ≡ given_units env t.now.units (flat_map (units_of t.now) regs.now) (held_by store.old) l) }
 {
     for r in regs {
-        give(store, world, t, units_at(t.regs.as_slice(), *r))?;
+        give(store, world, t, t.units_at(*r))?;
     }
     Ok(())
 }

@@ -1,23 +1,23 @@
 //! A function as a list of steps, decoded once before it runs.
 
-ghost use Rattle.std.specs.Prelude.{◌≡◌, ◌++◌, ◌∷◌, [], true, false, ◌+◌, ◌<◌, ◌≤◌, ℕ, List, OnOk, IfOk, map, drop, option_map, length, unwrap_or, nat_eq};
+ghost use Rattle.std.specs.Prelude.{◌≡◌, ◌++◌, ◌∷◌, [], true, false, ◌+◌, ◌<◌, ℕ, List, OnOk, IfOk, map, drop, option_map, length, unwrap_or, nat_eq};
 ghost use Rattle.std.specs.HashMap.{get};
 ghost use Rattle.meaning.specs.Code.{found, BlockStart};
 ghost use Rattle.mir_func.specs.declared.func.Block.{Block};
 ghost use Rattle.target_base.specs.Roles.{is_silent};
-ghost use Rattle.mir_meaning.specs.Codes.{way, item_of, effect_item, block_end, blocks_code, code_of, target_of};
+ghost use Rattle.mir_meaning.specs.Codes.{way, item_of, effect_item, block_end, code_of, target_of};
 ghost use Rattle.mir_interp.specs.Decoded.{edge_of, item_of_step, code_of_steps, bare, noted};
 
-use instr_effects::items::counted::{
-    effect_of, is_early_clobber, is_silent, reads_of, rest_of, roles_of, values,
-};
+use instr_effects::items::counted::{reads_of, rest_of, values};
 use instr_effects::items::results::counted_writes;
 use instr_effects::items::silent::push_silent_writes;
 use instr_effects::items::ways::{falls_through, push_phis, target_of};
 use meaning::{Reads, Rest, Writes};
+use mir_func::opcodes::{effect_of, is_early_clobber, roles_of};
 use mir_func::{Block, Func, Instr};
 use std::alloc::{AllocError, Global};
 use std::collections::HashMap;
+use target_base::roles::is_silent;
 use target_base::{Boxed, Effect, List, Target};
 
 /// A way into a block, with what its phis write at once.

@@ -1,7 +1,6 @@
-use Rattle.std.proofs.Common.{◌≡◌, ◌∙◌, sym, ap, arith, drop, [], drop_of_length-le, get_or}
+use Rattle.std.proofs.Common.{◌≡◌, ◌∙◌, sym, ap, arith, drop, [], drop_of_length-le}
 use Rattle.std.specs.Prelude.{flat_map}
 use Rattle.target_base.specs.Numbers.{reg_number}
-use Rattle.target_base.specs.Storage.{reg_units}
 use Rattle.target_base.specs.Registers.{units_of}
 use Rattle.mir_interp.specs.Holds.{held_by}
 use Rattle.mir_interp.specs.Running.{given_units}
@@ -10,7 +9,7 @@ use Rattle.mir_interp.proofs.machine.give_all.Goals as goal
 
 pub loop-r-preserved : goal.loop-r-preserved
 loop-r-preserved g c = λ symbols m env h a.
-    given_flat_next env c.args.t.now c.args.regs.now (held_by c.args.store.now) (held_by c.loop-r.store) (held_by c.give.new.store) c.loop-r.r-index (reg_number 0) c.units_at.result.now (omega arith) (c.units_at.ensures ∙ ap (λ t. reg_units t (get_or c.args.regs.now c.loop-r.r-index (reg_number 0))) c.as_slice.ensures) (c.in_ok-give.ensures symbols m env h) (c.loop-r.invariant symbols m env h) a
+    given_flat_next env c.args.t.now c.args.regs.now (held_by c.args.store.now) (held_by c.loop-r.store) (held_by c.give.new.store) c.loop-r.r-index (reg_number 0) c.units_at.result.now (omega arith) c.units_at.ensures (c.in_ok-give.ensures symbols m env h) (c.loop-r.invariant symbols m env h) a
 
 pub returns : goal.returns
 returns g c = λ symbols m env h a.
