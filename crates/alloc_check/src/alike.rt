@@ -7,6 +7,7 @@ ghost use Rattle.mir_func.specs.Binding.{is_implicit_operand, explicit_operands,
 ghost use Rattle.mir_meaning.specs.Rules.{is_virtual, same_loc};
 
 use crate::facts::same_bytes;
+use mir_func::operands::is_implicit_operand;
 use mir_func::{Instr, Loc, Op, Operand, RegOp};
 
 fn same_op(a: &Op, b: &Op) -> bool
@@ -75,21 +76,12 @@ fn implicit_alike(o: &RegOp, p: &RegOp) -> bool
     o.def == p.def && same_loc(o.loc, p.loc) && undef_alike(o, p)
 }
 
-fn is_implicit(o: &Operand) -> bool
-    ensures { result ≡ is_implicit_operand o.now }
-{
-    match o {
-        Operand::Reg(r) => r.implicit,
-        _ => false,
-    }
-}
-
 /// The first explicit operand, with the operands behind it.
 fn next_explicit(operands: &[Operand]) -> Option<(&Operand, &[Operand])>
     ensures { MatchOption result (explicit_operands operands.now ≡ []) (λ n. explicit_operands operands.now ≡ n.0.now ∷ explicit_operands n.1.now) }
 {
     for k in 0..operands.len() {
-        if !is_implicit(&operands[k]) {
+        if !is_implicit_operand(&operands[k]) {
             return Some((&operands[k], &operands[k + 1..]));
         }
     }
@@ -102,7 +94,7 @@ fn explicit_alike(operands: &[Operand], others: &[Operand]) -> bool
 {
     let mut left = others;
     for o in operands {
-        if !is_implicit(o) {
+        if !is_implicit_operand(o) {
             match next_explicit(left) {
                 None => return false,
                 Some((p, behind)) => {

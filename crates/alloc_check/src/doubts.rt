@@ -9,9 +9,9 @@ ghost use Rattle.mir_meaning.specs.Rules.{successors_of};
 ghost use Rattle.mir_meaning.specs.Valid.{listed_units};
 
 use crate::alike::are_partners;
-use instr_effects::items::counted::{effect_of, is_silent};
+use mir_func::opcodes::effect_of;
 use mir_func::{Block, Func, Instr, Place};
-use target_base::registers::units_at;
+use target_base::roles::is_silent;
 use target_base::{Boxed, Target, Unit};
 
 /// Whether an instruction counts in a run.
@@ -63,7 +63,7 @@ fn lists_unit(t: &Target, b: &Block, n: u32) -> bool
     ensures { result ≡ has_number (listed_units t.now b.now) n }
 {
     for r in b.liveins.as_slice() {
-        if is_among(units_at(t.regs.as_slice(), *r), n) {
+        if is_among(t.units_at(*r), n) {
             return true;
         }
     }
@@ -86,7 +86,7 @@ fn lists_units_of(t: &Target, b: &Block, c: &Block) -> bool
     ensures { result ≡ list_all (has_number (listed_units t.now c.now)) (listed_units t.now b.now) }
 {
     for r in b.liveins.as_slice() {
-        if !lists_all(t, c, units_at(t.regs.as_slice(), *r)) {
+        if !lists_all(t, c, t.units_at(*r)) {
             return false;
         }
     }

@@ -1,20 +1,20 @@
 //! Two functions side by side, as rows.
 
-ghost use Rattle.std.specs.Prelude.{◌≡◌, ◌<◌, ◌≤◌, ◌+◌, ◌++◌, ◌∷◌, [], IsTrue, IfOk, IfSome, OnOk, true, length, option_map, drop, slice_index_or};
+ghost use Rattle.std.specs.Prelude.{◌≡◌, ◌<◌, ◌≤◌, ◌+◌, ◌∷◌, [], IsTrue, IfOk, IfSome, true, length, option_map, drop, slice_index_or};
 ghost use Rattle.meaning.specs.Rows.{first_edge, second_edge, first_target, second_target, first_falls, second_falls};
 ghost use Rattle.mir_meaning.specs.Codes.{item_of, way, target_of, fallen_into};
-ghost use Rattle.alloc_check.specs.Bare.{bare_item, first_bare, second_bare, items, block_bare, Grown, SilentItem, CountedItem, InFirst, InSecond, AreSides, Passed, Stepped};
+ghost use Rattle.alloc_check.specs.Bare.{bare_item, items, block_bare, Grown, SilentItem, CountedItem, InFirst, InSecond, AreSides, Passed, Stepped};
 
 use crate::rests::same_rest;
-use instr_effects::items::counted::{
-    effect_of, is_early_clobber, is_silent, reads_of, rest_of, roles_of, values,
-};
+use instr_effects::items::counted::{reads_of, rest_of, values};
 use instr_effects::items::results::counted_writes;
 use instr_effects::items::silent::push_silent_writes;
-use instr_effects::items::ways::{falls_through, is_terminator, push_phis, target_of};
+use instr_effects::items::ways::{falls_through, push_phis, target_of};
 use meaning::{Reads, Rest, Row, Ways, Writes};
+use mir_func::opcodes::{effect_of, ends_block, is_early_clobber, roles_of};
 use mir_func::{Block, Func, Instr};
 use std::alloc::{AllocError, Global};
+use target_base::roles::is_silent;
 use target_base::{List, Target};
 
 /// Rows in layout order.
@@ -223,7 +223,7 @@ fn exits_at(
     match effect_of(t, i) {
         None => Ok(List::new(alloc)),
         Some(e) => {
-            if is_terminator(e) {
+            if ends_block(e) {
                 exits_of(alloc, t, f, g, b)
             } else {
                 Ok(List::new(alloc))

@@ -13,27 +13,15 @@ ghost use Rattle.mir_meaning.specs.Codes.{is_given, given_of};
 use crate::facts::{Fact, same_source};
 use meaning::{Lane, Source};
 use mir_func::Func;
-use target_base::registers::units_at;
-use target_base::{Reg, Target, Unit};
-
-/// Whether a list has the unit of a number.
-fn has_unit(units: &[Unit], u: u32) -> bool
-    ensures { result ≡ is_among units.now (unit_number u) }
-{
-    for v in units {
-        if v.0 as u32 == u {
-            return true;
-        }
-    }
-    false
-}
+use target_base::registers::has_unit_number;
+use target_base::{Reg, Target};
 
 /// Whether one of the registers has the unit of a number.
 fn have_unit(t: &Target, regs: &[Reg], u: u32) -> bool
     ensures { result ≡ list_any (λ r. is_among (units_of t.now r) (unit_number u)) regs.now }
 {
     for r in regs {
-        if has_unit(units_at(t.regs.as_slice(), *r), u) {
+        if has_unit_number(t.units_at(*r), u) {
             return true;
         }
     }
@@ -45,8 +33,8 @@ fn is_given(t: &Target, f: &Func, u: u32) -> bool
     ensures { result ≡ is_given t.now f.now.blocks u }
 {
     match f.blocks.as_slice() {
-        [] => has_unit(t.reserved.as_slice(), u),
-        [b, ..] => { has_unit(t.reserved.as_slice(), u) || have_unit(t, b.liveins.as_slice(), u) }
+        [] => t.is_reserved_unit(u),
+        [b, ..] => t.is_reserved_unit(u) || have_unit(t, b.liveins.as_slice(), u),
     }
 }
 

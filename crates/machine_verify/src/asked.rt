@@ -13,12 +13,12 @@ use crate::numbers::{NumberSet, lists_once};
 use crate::operands::operands_fit;
 use crate::parts::{BoundOperand, bind, registers};
 use crate::ties::{definitions_fit, slots_fit, ties_fit};
-use crate::words::{desc_of, is_lowered_away, is_phi, spills_or_reloads};
-use instr_effects::items::counted::effect_of;
-use instr_effects::items::ways::is_terminator;
+use crate::words::{is_lowered_away, spills_or_reloads};
+use mir_func::opcodes::{desc_of, effect_of, ends_block};
 use mir_func::{Func, Instr, Operand, RegOp};
 use mir_meaning::Form;
 use std::alloc::{AllocError, Global};
+use target_base::roles::is_phi;
 use target_base::{OpcodeDesc, Target};
 
 /// A function in a form, under a target.
@@ -168,7 +168,7 @@ fn v7(
 fn v8(a: &Asked, terminator: bool) -> bool
     ensures { result ≡ terminators_fit terminator a.now.desc.now.effect }
 {
-    is_terminator(a.desc.effect) || !terminator
+    ends_block(a.desc.effect) || !terminator
 }
 
 /// V11: written ties and early-clobber flags are the opcode's, and a tied pair fits.
@@ -327,7 +327,7 @@ pub(crate) fn after(target: &Target, before: Before, i: &Instr) -> Before
         },
         Some(e) => Before {
             only_phis: before.only_phis && is_phi(e),
-            terminator: before.terminator || is_terminator(e),
+            terminator: before.terminator || ends_block(e),
         },
     }
 }

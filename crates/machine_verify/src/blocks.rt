@@ -10,9 +10,8 @@ ghost use Rattle.machine_verify.specs.Sets.{has};
 
 use crate::numbers::{NumberSet, lists_once};
 use crate::operands::operands_fit;
-use crate::words::{desc_of, is_branch};
-use instr_effects::items::counted::effect_of;
 use instr_effects::items::ways::falls_through;
+use mir_func::opcodes::{desc_of, effect_of, is_branch};
 use mir_func::{Block, Edge, Func, Instr, Operand};
 use std::alloc::{AllocError, Global};
 use target_base::{Boxed, Target};

@@ -15,8 +15,10 @@ ghost use Rattle.machine_verify.specs.Parts.{seen, seen_all};
 use crate::lanes::{has_class, has_lanes, index_fits};
 use crate::numbers::are_distinct;
 use crate::parts::BoundOperand;
-use crate::words::{asked_class, puts_together};
-use instr_effects::items::lanes::{class_of, lanes_at, push_operand_widths};
+use crate::words::puts_together;
+use instr_effects::items::lanes::push_operand_widths;
+use mir_func::opcodes::asked_class;
+use mir_func::operands::class_of;
 use mir_func::{Func, Loc, Operand, RegOp};
 use std::alloc::{AllocError, Global};
 use target_base::classes::{are_within, find_home, hold_subs, holds, regs_at};
@@ -37,7 +39,7 @@ fn lies_in(target: &Target, k: ClassId, c: ClassId, x: Option<IndexId>) -> bool
         None => are_within(regs_of(target, c), regs_of(target, k)),
         Some(i) => hold_subs(
             target.regs.as_slice(),
-            lanes_at(target, i),
+            target.lanes_at(i),
             regs_of(target, c),
             regs_of(target, k),
         ),
@@ -211,7 +213,7 @@ fn picked_lanes(
     let mut made = Vec::new(alloc);
     for o in operands {
         if let Operand::Index(x) = o {
-            push_lanes(&mut made, lanes_at(target, *x))?;
+            push_lanes(&mut made, target.lanes_at(*x))?;
         }
     }
     Ok(made)

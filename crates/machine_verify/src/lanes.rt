@@ -1,20 +1,13 @@
 //! The lanes of operands, where they are known.
 
 ghost use Rattle.std.specs.Prelude.{◌≡◌};
-ghost use Rattle.target_base.specs.Registers.{fits, is_reserved_unit};
+ghost use Rattle.target_base.specs.Registers.{fits};
 ghost use Rattle.mir_meaning.specs.Rules.{has_lanes_at, has_lanes, index_fits, has_class};
 
-use instr_effects::items::lanes::{class_of, lanes_at};
+use mir_func::operands::class_of;
 use mir_func::{Func, Loc, RegOp};
 use target_base::classes::{have_subs, regs_at};
 use target_base::{ClassId, IndexId, Target};
-
-/// Whether the unit of that number is reserved.
-pub(crate) fn is_reserved_unit(target: &Target, u: u32) -> bool
-    ensures { result ≡ is_reserved_unit target.now u }
-{
-    target.reserved.as_slice().iter().any(|v| v.0 as u32 == u)
-}
 
 /// Whether the index picks the units of a register, of each register of the class.
 pub(crate) fn fits(target: &Target, c: ClassId, x: Option<IndexId>) -> bool
@@ -24,7 +17,7 @@ pub(crate) fn fits(target: &Target, c: ClassId, x: Option<IndexId>) -> bool
         None => true,
         Some(i) => have_subs(
             target.regs.as_slice(),
-            lanes_at(target, i),
+            target.lanes_at(i),
             regs_at(target.classes.as_slice(), Some(c)),
         ),
     }

@@ -4,19 +4,17 @@
 ghost use Rattle.std.specs.Prelude.{◌≡◌, ◌||◌, ◌++◌, ◌∷◌, [], true, not, map, filter, find, flat_map, length, nat_eq, IfOk, OnOk};
 ghost use Rattle.std.specs.List.{list_all, list_any};
 ghost use Rattle.target_base.specs.Registers.{units_of, is_reserved_unit};
-ghost use Rattle.target_base.specs.Storage.{is_unreserved, is_among, same_numbers};
+ghost use Rattle.target_base.specs.Storage.{is_unreserved, same_numbers};
 ghost use Rattle.mir_meaning.specs.Registers.{has_number, numbers};
 ghost use Rattle.mir_meaning.specs.Rules.{is_virtual};
 ghost use Rattle.mir_func.specs.Binding.{registers};
 ghost use Rattle.mir_meaning.specs.Valid as valid;
 ghost use Rattle.machine_verify.specs.Liveins.{is_set, wanted, wanted_at, chosen_of, standing, register_numbers};
 
-use crate::lanes::is_reserved_unit;
 use crate::words::is_virtual;
 use mir_func::{Block, Instr, Operand};
 use mir_meaning::Form;
 use std::alloc::{AllocError, Global};
-use target_base::registers::units_at;
 use target_base::{Boxed, Reg, Target, Unit};
 
 /// Whether the unit of that number is set among these flags.
@@ -46,7 +44,7 @@ fn listed_units(alloc: Global, target: &Target, liveins: &[Reg]) -> Result<Vec<u
 {
     let mut made = Vec::new(alloc);
     for r in liveins {
-        push_units(&mut made, units_at(target.regs.as_slice(), *r))?;
+        push_units(&mut made, target.units_at(*r))?;
     }
     Ok(made)
 }
@@ -74,7 +72,7 @@ fn are_listed(count: usize, live: &[bool], listed: &[u32]) -> bool
 fn lists_reserved(target: &Target, listed: &[u32]) -> bool
     ensures { result ≡ list_any (is_reserved_unit target.now) listed.now }
 {
-    listed.iter().any(|u| is_reserved_unit(target, *u))
+    listed.iter().any(|u| target.is_reserved_unit(*u))
 }
 
 /// Whether the block may have live-ins: in version 1 only the first may.
@@ -104,26 +102,11 @@ fn listing_fits(
     Ok(may_list(target, k, b))
 }
 
-/// Whether none of a register's units is reserved.
-fn is_unreserved(target: &Target, r: Reg) -> bool
-    ensures { result ≡ is_unreserved target.now.reserved target.now.regs r }
-{
-    units_at(target.regs.as_slice(), r)
-        .iter()
-        .all(|u| !has_unit(target.reserved.as_slice(), *u))
-}
-
-fn has_unit(us: &[Unit], u: Unit) -> bool
-    ensures { result ≡ is_among us.now u }
-{
-    us.iter().any(|v| v.0 == u.0)
-}
-
 /// Puts a register at the end, unless one of its units is reserved.
 fn push_unreserved(out: &mut Vec<Reg>, target: &Target, r: Reg) -> Result<(), AllocError>
     ensures { OnOk result (out.new.items ≡ out.old.items ++ filter (is_unreserved target.now.reserved target.now.regs) (r ∷ [])) }
 {
-    if is_unreserved(target, r) {
+    if target.is_unreserved(r) {
         out.push(r)?;
     }
     Ok(())
@@ -145,16 +128,15 @@ pub(crate) fn unreserved_registers(alloc: Global, target: &Target) -> Result<Vec
 fn holds_unit(target: &Target, u: usize, r: Reg) -> bool
     ensures { result ≡ valid.holds_unit target.now u r }
 {
-    units_at(target.regs.as_slice(), r)
-        .iter()
-        .any(|v| v.0 as usize == u)
+    target.units_at(r).iter().any(|v| v.0 as usize == u)
 }
 
 /// Whether all of a register's units are live.
 fn is_whole(target: &Target, live: &[bool], r: Reg) -> bool
     ensures { result ≡ list_all (λ w. is_set live.now w.0) (units_of target.now r) }
 {
-    units_at(target.regs.as_slice(), r)
+    target
+        .units_at(r)
         .iter()
         .all(|w| is_set(live, w.0 as usize))
 }

@@ -10,14 +10,13 @@ ghost use Rattle.machine_verify.specs.Operands.{fits_next, reads_virtual, is_blo
 
 use crate::lanes::has_lanes;
 use crate::parts::{implicit_registers, next_role};
-use crate::words::{
-    is_definition, is_implicit, is_implicit_operand, is_use, is_virtual, same_role, takes_many,
-    takes_role,
-};
-use instr_effects::items::counted::{immediate_of, is_silent};
-use instr_effects::items::lanes::{lanes_at, push_operand_widths};
+use crate::words::{is_definition, is_use, is_virtual, same_role};
+use instr_effects::items::lanes::push_operand_widths;
+use mir_func::opcodes::takes_many;
+use mir_func::operands::{immediate_of, is_implicit_operand, takes_role};
 use mir_func::{Func, Operand, RegOp};
 use std::alloc::{AllocError, Global};
+use target_base::roles::{is_implicit, is_silent};
 use target_base::{Effect, List, OpcodeDesc, Role, Target};
 
 /// Whether the operand is of the kind that the role asks for.
@@ -219,7 +218,7 @@ fn lanes_fit(
                 return Ok(true);
             }
             let count = lane_count(alloc, target, f, o)?;
-            Ok(lanes_at(target, *x).len() == count)
+            Ok(target.lanes_at(*x).len() == count)
         }
         _ => Ok(true),
     }

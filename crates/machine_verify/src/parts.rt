@@ -1,13 +1,15 @@
 //! The operands of an instruction with the roles that they take.
 
-ghost use Rattle.std.specs.Prelude.{◌≡◌, ◌++◌, ◌∷◌, map, drop, filter, find, length, IfOk};
+ghost use Rattle.std.specs.Prelude.{◌≡◌, ◌++◌, map, find, IfOk};
 ghost use Rattle.mir_func.specs.Binding as binding;
-ghost use Rattle.machine_verify.specs.Parts.{seen, seen_all, first_role, after_first};
+ghost use Rattle.machine_verify.specs.Parts.{seen_all, first_role, after_first};
 
-use crate::words::{is_implicit, is_implicit_operand, takes_many, takes_role};
+use mir_func::opcodes::takes_many;
+use mir_func::operands::{is_implicit_operand, takes_role};
 use mir_func::{Operand, RegOp};
 use std::alloc::{AllocError, Global};
 use target_base::Role;
+use target_base::roles::is_implicit;
 
 /// An operand with the role that it takes, if it takes one.
 #[derive(Clone, Copy)]

@@ -183,7 +183,7 @@ fn fault_in(q: &Question, known: &Known, k: usize, b: &Block) -> Result<Option<I
 
 /// The first place in layout at which a rule other than V13 and V14 fails, with the least rule
 /// there.
-#[tactic(auto, using(crate::proofs::Searched::blocks_step, crate::proofs::Few::few_instrs))]
+#[tactic(auto, using(crate::proofs::Searched::blocks_step, live_laws::proofs::Few::few_instrs))]
 pub(crate) fn shape_fault(q: &Question) -> Result<Option<Invalid>, AllocError>
     ensures { IfOk result (λ fault. option_map fault_of fault ≡ valid.shape_fault q.now.target.now q.now.form q.now.f.now) }
 {

@@ -12,12 +12,14 @@ ghost use Rattle.machine_verify.specs.Sets.{HoldsSlots, HoldsSlotsAmong};
 ghost use Rattle.machine_verify.specs.Ties.{spill_numbers, first_tie_fits, untied_reading, definitions_fit, slot_fits};
 
 use crate::classes::same_widths;
-use crate::lanes::{has_lanes, is_reserved_unit};
+use crate::lanes::has_lanes;
 use crate::numbers::{NumberSet, set_of};
 use crate::parts::BoundOperand;
-use crate::words::{is_early, is_slot, is_tied, is_virtual, same_index, same_loc};
+use crate::words::{is_slot, is_virtual, same_index, same_loc};
 use instr_effects::items::lanes::{Lanes, push_operand_lanes};
+use instr_effects::items::results::is_reserved;
 use meaning::Lane;
+use mir_func::opcodes::{is_early, is_tied};
 use mir_func::{Func, Loc, Operand, RegOp};
 use mir_meaning::Form;
 use std::alloc::{AllocError, Global};
@@ -166,16 +168,6 @@ fn undefs_fit(form: Form, named: &[RegOp]) -> bool
         }
     }
     true
-}
-
-/// Whether a lane is a reserved unit.
-fn is_reserved(target: &Target, l: Lane) -> bool
-    ensures { result ≡ is_reserved target.now l }
-{
-    match l {
-        Lane::UnitLane(u) => is_reserved_unit(target, u),
-        _ => false,
-    }
 }
 
 /// Those of these lanes that aren't reserved.

@@ -14,6 +14,7 @@ use crate::search::{fault_at, shape_fault};
 use crate::stop::{Invalid, VerifyStop};
 use instr_effects::items::lanes::{class_of, class_units};
 use live_lanes::LiveFunc;
+use mir_func::operands::class_of;
 use mir_func::{Block, Func, Valid};
 use mir_meaning::Form;
 use std::alloc::{AllocError, Global};
@@ -64,7 +65,7 @@ fn register_lives(q: &Question, live: &LiveFunc, v: usize, block: u32) -> bool
 {
     match u32::try_from(v) {
         Ok(number) => {
-            let lanes = class_units(q.target, class_of(q.f, number)).len();
+            let lanes = q.target.class_units(class_of(q.f, number)).len();
             some_lane_lives(live, number, lanes, block)
         }
         Err(_) => false,

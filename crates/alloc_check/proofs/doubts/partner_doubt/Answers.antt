@@ -1,7 +1,7 @@
 use Rattle.std.proofs.Common.{◌<◌, ◌∙◌, List, ap, arith, get_or, length, sym}
 use Rattle.std.proofs.lemmas.List.{get_or_default}
 use Rattle.mir_func.specs.declared.func.Block.{Block}
-use Rattle.machine_verify.proofs.Few.{few_instrs}
+use Rattle.live_laws.proofs.Few.{few_instrs}
 use Rattle.alloc_check.proofs.doubts.partner_doubt.Goals as goal
 
 pub unpaired_in-requires : goal.unpaired_in-requires

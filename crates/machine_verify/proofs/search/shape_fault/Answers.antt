@@ -4,7 +4,7 @@ use Rattle.mir_meaning.specs.Registers.{has_number}
 use Rattle.mir_meaning.specs.Rules.{block_numbers}
 use Rattle.mir_meaning.specs.Valid.{shape_fault}
 use Rattle.machine_verify.specs.Faults.{fault_of}
-use Rattle.machine_verify.proofs.Few.{few_instrs}
+use Rattle.live_laws.proofs.Few.{few_instrs}
 use Rattle.machine_verify.proofs.Searched.{block_found, block_none, seen_more}
 use Rattle.machine_verify.proofs.search.shape_fault.Goals as goal
 
