@@ -1,6 +1,6 @@
 -- The copies that lowering makes of an instruction, one after the other.
 use Rattle.std.proofs.Common.{◌≡◌, ◌∙◌, ◌+◌, ◌<◌, ◌≤◌, ℕ, Bool, true, false, cond, not, ◌&&◌, ◌||◌, List, [], ◌∷◌, ◌++◌, Option, Some, None, is_some, map, find, length, get_or, drop, refl, sym, ap, arith}
-use Rattle.std.specs.Prelude.{filter, nat_eq}
+use Rattle.std.specs.Prelude.{filter}
 use Rattle.std.specs.List.{list_all, list_any, cons_option}
 use Rattle.std.proofs.lemmas.List.{drop_more, append-nil}
 use Rattle.std.proofs.lemmas.List.Elements.{filter-append}
@@ -16,7 +16,6 @@ use Rattle.mir_func.specs.declared.func.Operand.TheVariants as operands
 use Rattle.mir_func.specs.declared.func.Instr.{Instr}
 use Rattle.mir_func.specs.Value.{Function}
 use Rattle.mir_func.specs.Binding.{Bound, as_register, bound, does, explicit_bound, explicit_operands, explicit_roles, implicit_bound, implicit_registers, implicit_roles, is_implicit_operand, is_terminator, passes, registers, roles_of, takes_role, tied_uses}
-use Rattle.mir_meaning.specs.Codes.{instrs_of}
 use Rattle.mir_meaning.specs.Points.{Point, Entry, Exit}
 use Rattle.mir_meaning.specs.Rules.{same_loc, readings, untied_readings}
 use Rattle.mir_meaning.specs.Places.{Needs, before_terminators, copied_at, defines_and_reads, input_copies, phi_copies, phi_point}
@@ -41,23 +40,6 @@ and_false false = refl
 and_true : (b : Bool) → (b && true) ≡ b
 and_true true = refl
 and_true false = refl
-
--- the instructions of the block of a number
-
-pub block_next : (bs : List Block) (k m : ℕ) (b : Block) (total : List Instr) → k < length bs → b ≡ get_or bs k b → nat_eq b.number m ≡ false → instrs_of (drop k bs) m ≡ total → instrs_of (drop (k + 1) bs) m ≡ total
-block_next bs k m b total h at fails was =
-    let d : drop k bs ≡ b ∷ drop (k + 1) bs = rw (← at) at (drop_more bs k b h) in
-    sym (ap (λ q. elim (cond q (Some b) (find (λ c. nat_eq c.number m) (drop (k + 1) bs))) [ None ↦ [] | Some c ↦ c.instrs ]) fails) ∙ sym (ap (λ cs. instrs_of cs m) d) ∙ was
-
-pub block_found : (bs : List Block) (k m : ℕ) (b : Block) (total : List Instr) → k < length bs → b ≡ get_or bs k b → nat_eq b.number m ≡ true → instrs_of (drop k bs) m ≡ total → b.instrs ≡ total
-block_found bs k m b total h at holds was =
-    let d : drop k bs ≡ b ∷ drop (k + 1) bs = rw (← at) at (drop_more bs k b h) in
-    sym (ap (λ q. elim (cond q (Some b) (find (λ c. nat_eq c.number m) (drop (k + 1) bs))) [ None ↦ [] | Some c ↦ c.instrs ]) holds) ∙ sym (ap (λ cs. instrs_of cs m) d) ∙ was
-
-pub block_none : (bs : List Block) (k m : ℕ) (total : List Instr) → length bs ≤ k → instrs_of (drop k bs) m ≡ total → [] ≡ total
-block_none bs k m total h was = sym (ap (λ cs. instrs_of cs m) (drop_all k bs h)) ∙ was
-
-pub ruleset blocks = (block_next, block_found, block_none)
 
 -- the place before the terminators
 

@@ -2,7 +2,6 @@ pub mod Chosen
 pub mod Lanes
 pub mod Once
 pub mod Operands
-pub mod Few
 pub mod Crowds
 pub mod Units
 pub mod Solved

@@ -4,17 +4,13 @@ ghost use Rattle.std.specs.Prelude.{◌≡◌};
 ghost use Rattle.target_base.specs.Registers.{units_of, mask_regs};
 ghost use Rattle.std.specs.List.{list_any};
 ghost use Rattle.target_base.specs.Storage.{is_among};
-ghost use Rattle.mir_func.specs.Binding.{is_early_clobber, roles_of};
 ghost use Rattle.live_lanes.specs.Looks.{InOrder};
 ghost use Rattle.place_solve.specs.Around.{has_unit, keeps_unit, defines, defines_explicitly, clobbers, writes, writes_early, is_taken, is_left, entry_tests, exit_tests, at_entry, at_exit};
 
-use instr_effects::registers::mask_regs;
 use live_lanes::LiveFunc;
+use mir_func::opcodes::{effect_of, is_early_clobber, roles_of};
 use mir_func::{Instr, Loc, Operand, RegOp};
-use phi_elim::reading::effect_of;
-use target_base::registers::units_at;
-use target_base::{Boxed, Effect, MaskId, Reg, Role, Target, Unit};
-use two_address::classes::{first_role, roles_of};
+use target_base::{Boxed, Effect, MaskId, Reg, Target, Unit, registers};
 
 /// Where a place stands.
 #[derive(Clone, Copy)]
@@ -29,22 +25,13 @@ pub enum Around<'a> {
     Start(u32),
 }
 
-/// Whether a register has the unit.
-fn holds(target: &Target, r: Reg, u: Unit) -> bool
-    ensures { result ≡ is_among (units_of target.now r) u }
-{
-    units_at(target.regs.as_slice(), r)
-        .iter()
-        .any(|w| w.0 == u.0)
-}
-
 /// Whether a location is a register that has the unit.
 fn has_unit(target: &Target, o: RegOp, u: Unit) -> bool
     ensures { result ≡ has_unit target.now o.loc u }
 {
     match o.loc {
         Loc::Virtual(_) => false,
-        Loc::Fixed(r) => holds(target, r, u),
+        Loc::Fixed(r) => registers::has_unit(target.units_at(r), u),
     }
 }
 
@@ -52,14 +39,15 @@ fn has_unit(target: &Target, o: RegOp, u: Unit) -> bool
 fn one_holds(target: &Target, regs: &[Reg], u: Unit) -> bool
     ensures { result ≡ list_any (λ r. is_among (units_of target.now r) u) regs.now }
 {
-    regs.iter().any(|r| holds(target, *r, u))
+    regs.iter()
+        .any(|r| registers::has_unit(target.units_at(*r), u))
 }
 
 /// Whether the mask preserves the unit.
 fn preserves(target: &Target, mask: MaskId, u: Unit) -> bool
     ensures { result ≡ list_any (λ r. is_among (units_of target.now r) u) (mask_regs target.now mask) }
 {
-    one_holds(target, mask_regs(target, mask), u)
+    one_holds(target, target.mask_regs(mask), u)
 }
 
 /// Whether the operand is a mask that preserves the unit.
@@ -151,21 +139,11 @@ fn writes(target: &Target, i: &Instr, u: Unit) -> bool
     is_defined(target, i.operands.as_slice(), u) || clobbers(target, i, u)
 }
 
-/// Whether the instruction's definition is an early-clobber one.
-fn is_early_clobber(target: &Target, i: &Instr) -> bool
-    ensures { result ≡ is_early_clobber (roles_of target.now i.now) }
-{
-    match first_role(roles_of(target, i)) {
-        Some(Role::Early(_)) => true,
-        _ => false,
-    }
-}
-
 /// Whether the instruction writes the unit by an early-clobber definition.
 fn writes_early(target: &Target, i: &Instr, u: Unit) -> bool
     ensures { result ≡ writes_early target.now i.now u }
 {
-    is_early_clobber(target, i) && is_defined_explicitly(target, i.operands.as_slice(), u)
+    is_early_clobber(roles_of(target, i)) && is_defined_explicitly(target, i.operands.as_slice(), u)
 }
 
 /// Whether uses may not lie in the unit at an instruction.

@@ -1,6 +1,6 @@
 //! Whether every place of a source admits a choice of registers.
 
-ghost use Rattle.std.specs.Prelude.{◌≡◌, ◌<◌, ◌^◌, length, IfOk, OnOk, IfErr, None, true};
+ghost use Rattle.std.specs.Prelude.{◌≡◌, ◌<◌, ◌^◌, length, IfOk, OnOk, IfErr, true};
 ghost use Rattle.std.specs.List.{list_any};
 ghost use Rattle.mir_func.specs.Binding.{does, is_terminator};
 ghost use Rattle.mir_meaning.specs.Rules.{is_lowered_away};
@@ -17,8 +17,8 @@ use crate::copies::copies_admit;
 use crate::search::first_choice;
 use crate::variables::variables_of;
 use live_lanes::LiveFunc;
+use mir_func::opcodes::{effect_of, is_terminator};
 use mir_func::{Block, Func, Instr, Place, Valid};
-use phi_elim::reading::{effect_of, is_terminator};
 use std::alloc::{AllocError, Global};
 use target_base::{Boxed, Effect, Target};
 use thiserror::Error;

@@ -1,15 +1,14 @@
 //! The places of the copies that lowering makes of an instruction.
 
-ghost use Rattle.std.specs.Prelude.{◌≡◌, ◌++◌, ◌∷◌, ◌||◌, [], IfOk, not};
+ghost use Rattle.std.specs.Prelude.{◌≡◌, ◌++◌, ◌∷◌, [], IfOk};
 ghost use Rattle.std.specs.List.{list_all, list_any};
-ghost use Rattle.target_base.specs.Rules.{is_phi, is_reg_sequence, is_insert_subreg};
+ghost use Rattle.target_base.specs.Rules.{is_reg_sequence, is_insert_subreg};
 ghost use Rattle.instr_effects.specs.Ends.{first_pair, pairs_of};
 ghost use Rattle.mir_func.specs.declared.func.Operand.TheVariants as operands;
-ghost use Rattle.mir_func.specs.Binding.{as_register, bound, explicit_bound, explicit_operands, explicit_roles, registers, tied_uses};
-ghost use Rattle.mir_meaning.specs.Codes.{instrs_of};
+ghost use Rattle.mir_func.specs.Binding.{bound, explicit_bound, explicit_operands, explicit_roles, registers, tied_uses};
 ghost use Rattle.mir_meaning.specs.Points.{Start, Entry};
 ghost use Rattle.mir_meaning.specs.Places.{before_terminators, copied_at, defines_and_reads, effect_copies, input_copies, phi_copies, phi_point, tied_copies};
-ghost use Rattle.mir_meaning.specs.Rules.{is_virtual, same_loc, same_index, readings, untied_readings};
+ghost use Rattle.mir_meaning.specs.Rules.{untied_readings};
 ghost use Rattle.two_address.specs.Ties.{reads_besides};
 ghost use Rattle.live_lanes.specs.Looks.{InOrder};
 ghost use Rattle.place_solve.specs.Choice.{first};
@@ -18,16 +17,15 @@ ghost use Rattle.place_solve.specs.Told.{around_of, copy_solved, copies_solved};
 
 use crate::around::Around;
 use crate::search::first_choice;
-use crate::variables::{
-    copy_variable, from_explicit, is_implicit_operand, is_tied_operand, left_behind,
-};
-use instr_effects::registers::register_at;
+use crate::variables::{copy_variable, is_tied_operand, left_behind};
+use instr_effects::items::ways::instrs_of;
 use live_lanes::LiveFunc;
+use mir_func::opcodes::{effect_of, is_terminator, roles_of};
+use mir_func::operands::{as_register, is_implicit_operand, register_at};
 use mir_func::{Func, Instr, Loc, Operand, RegOp};
-use phi_elim::reading::{effect_of, is_terminator};
 use std::alloc::{AllocError, Global};
+use target_base::roles::is_phi;
 use target_base::{Boxed, Effect, Role, Target};
-use two_address::classes::{first_role, roles_of};
 use two_address::ties::{is_virtual, same_index, same_loc};
 
 /// Whether a copy of lanes of this operand's widths admits a register at a place.
@@ -37,20 +35,6 @@ fn admits(alloc: Global, live: &LiveFunc, around: Around<'_>, o: RegOp) -> Resul
     let v = copy_variable(alloc, live.target(), live.func(), o)?;
     let one = [v];
     Ok(first_choice(alloc, live, around, &one)?.is_some())
-}
-
-/// The instructions of the block of that number.
-#[tactic(auto, using(crate::proofs::Copying::blocks))]
-fn instrs_of(f: &Func, number: u32) -> &[Boxed<Instr>]
-    ensures { result.now ≡ instrs_of f.now.blocks number }
-{
-    let blocks = f.blocks.as_slice();
-    'each: for b in blocks {
-        if b.number == number {
-            return b.instrs.as_slice();
-        }
-    }
-    &[]
 }
 
 /// The place before the first terminator, or behind the last instruction; the start of the block of
@@ -74,7 +58,7 @@ fn before_terminators<'a>(target: &Target, number: u32, instrs: &'a [Boxed<Instr
 fn phi_point<'a>(target: &Target, f: &'a Func, number: u32) -> Around<'a>
     ensures { result ≡ around_of (phi_point target.now f.now number) }
 {
-    before_terminators(target, number, instrs_of(f, number))
+    before_terminators(target, number, instrs_of(f.blocks.as_slice(), number))
 }
 
 /// Whether the copy of a phi's operand admits a register in its block.
@@ -219,16 +203,6 @@ fn built_admits(
         return Ok(true);
     }
     admits(alloc, live, Around::Before(id), d)
-}
-
-/// The operand as a register, where it is one.
-fn as_register(o: &Operand) -> Option<RegOp>
-    ensures { result ≡ as_register o.now }
-{
-    match o {
-        Operand::Reg(r) => Some(*r),
-        _ => None,
-    }
 }
 
 /// The first register among the operands.
@@ -385,13 +359,6 @@ fn tied_admits(alloc: Global, live: &LiveFunc, i: &Instr) -> Result<bool, AllocE
             Some(u) => pair_of_tie_admits(alloc, live, i, d, u),
         },
     }
-}
-
-/// Whether the effect is that of a phi.
-fn is_phi(e: Effect) -> bool
-    ensures { result ≡ is_phi e }
-{
-    matches!(e, Effect::Phi)
 }
 
 /// Whether it is that of a REG_SEQUENCE.

@@ -1,7 +1,6 @@
 //! The first choice of registers that serves.
 
 ghost use Rattle.std.specs.Prelude.{◌≡◌, ◌≤◌, ◌+◌, ◌&&◌, ◌++◌, ◌∷◌, [], IfOk, IfSome, OnOk, Some, filter, map, not, option_map, true, length};
-ghost use Rattle.target_base.specs.Storage.{is_among};
 ghost use Rattle.mir_meaning.specs.Places.{all_apart, is_defining, reaches_back, share_a_unit, solutions};
 ghost use Rattle.live_lanes.specs.Looks.{InOrder};
 ghost use Rattle.place_solve.specs.Around.{at_entry, at_exit, entry_of, exit_of};
@@ -12,23 +11,15 @@ use crate::variables::{Kind, Variable};
 use live_lanes::LiveFunc;
 use std::alloc::{AllocError, Global};
 use target_base::classes::regs_at;
-use target_base::registers::units_at;
+use target_base::registers::has_unit;
 use target_base::{List, Reg, Regs, Target, Unit};
-
-/// Whether the list holds a unit.
-fn holds(units: &[Unit], u: Unit) -> bool
-    ensures { result ≡ is_among units.now u }
-{
-    units.iter().any(|w| w.0 == u.0)
-}
 
 /// Whether two registers share a unit.
 fn share_a_unit(target: &Target, a: Reg, b: Reg) -> bool
     ensures { result ≡ share_a_unit target.now a b }
 {
-    let regs = target.regs.as_slice();
-    let own = units_at(regs, a);
-    units_at(regs, b).iter().any(|u| holds(own, *u))
+    let own = target.units_at(a);
+    target.units_at(b).iter().any(|u| has_unit(own, *u))
 }
 
 /// Whether a variable of this kind may not lie in a unit before or at the place.
@@ -50,7 +41,7 @@ fn clashes_behind(live: &LiveFunc, around: Around<'_>, kind: Kind, u: Unit) -> b
 fn is_free(live: &LiveFunc, around: Around<'_>, kind: Kind, u: Unit) -> bool
     ensures { InOrder live.now.table → result ≡ is_free live.now.target live.now.table around.entry (use_of kind) u }
 {
-    !holds(live.target().reserved.as_slice(), u)
+    !has_unit(live.target().reserved.as_slice(), u)
         && !clashes_before(live, around, kind, u)
         && !clashes_behind(live, around, kind, u)
 }
@@ -60,7 +51,7 @@ fn is_free(live: &LiveFunc, around: Around<'_>, kind: Kind, u: Unit) -> bool
 fn avoids(live: &LiveFunc, around: Around<'_>, kind: Kind, r: Reg) -> bool
     ensures { InOrder live.now.table → result ≡ may_lie live.now.target live.now.table around.entry (use_of kind) r }
 {
-    'each: for u in units_at(live.target().regs.as_slice(), r) {
+    'each: for u in live.target().units_at(r) {
         if !is_free(live, around, kind, *u) {
             return false;
         }

@@ -11,9 +11,9 @@ use crate::search::first_choice;
 use crate::variables::{Kind, Variable, variables_of};
 use interference::{Matrix, Tinies, Tiny};
 use live_lanes::LiveFunc;
-use mir_func::{Block, Func, Instr, Loc};
-use phi_elim::phis::located_class;
-use phi_elim::reading::{effect_of, is_terminator};
+use mir_func::opcodes::{effect_of, is_terminator};
+use mir_func::operands::class_of;
+use mir_func::{Block, Func, Instr};
 use std::alloc::{AllocError, Global};
 use target_base::{Boxed, Effect, List, Reg, Target};
 
@@ -132,7 +132,7 @@ fn stored_variable(f: &Func, range: u32) -> Variable
         kind: Kind::Copying,
         range,
         index: None,
-        class: located_class(f.classes.as_slice(), Loc::Virtual(range)),
+        class: class_of(f, range),
     }
 }
 

@@ -2,20 +2,20 @@
 
 ghost use Rattle.std.specs.Prelude.{◌≡◌, [], OnOk, IfOk, map, flat_map, option_map};
 ghost use Rattle.std.specs.List.{list_any, filter_map};
-ghost use Rattle.target_base.specs.Roles.{is_implicit, is_tied};
-ghost use Rattle.target_base.specs.Rules.{is_copy};
-ghost use Rattle.mir_func.specs.Binding.{passes, does, is_early, is_implicit_operand, operand_class, explicit_operands, explicit_roles, explicit_bound};
+ghost use Rattle.mir_func.specs.Binding.{does, operand_class, explicit_operands, explicit_roles, explicit_bound};
 ghost use Rattle.mir_meaning.specs.Registers.{operand_widths};
 ghost use Rattle.mir_meaning.specs.Places as places;
 ghost use Rattle.place_solve.specs.Choice.{use_of, need_of};
 ghost use Rattle.place_solve.specs.Once as once;
 
 use crate::widths::{class_of_widths, operand_widths};
+use mir_func::opcodes::{effect_of, is_copy, is_early, is_tied, roles_of};
+use mir_func::operands::is_implicit_operand;
 use mir_func::{Func, Instr, Loc, Operand, RegOp};
-use phi_elim::reading::effect_of;
 use std::alloc::{AllocError, Global};
+use target_base::roles::is_implicit;
 use target_base::{Boxed, ClassId, Effect, IndexId, Role, Target};
-use two_address::classes::{class_asked, first_role, roles_behind, roles_of};
+use two_address::classes::{class_asked, first_role, roles_behind};
 use two_address::ties::{is_virtual, same_index};
 
 /// How a variable is used at its place.
@@ -124,24 +124,6 @@ pub fn copy_variable(
     })
 }
 
-fn is_tied(role: Option<Role>) -> bool
-    ensures { result ≡ passes is_tied role }
-{
-    match role {
-        Some(Role::Tied(_)) => true,
-        _ => false,
-    }
-}
-
-fn is_early(role: Option<Role>) -> bool
-    ensures { result ≡ passes is_early role }
-{
-    match role {
-        Some(Role::Early(_)) => true,
-        _ => false,
-    }
-}
-
 /// The class that an operand's role asks of its register.
 #[tactic(auto, using(crate::proofs::Operands::class_is))]
 fn operand_class(target: &Target, f: &Func, role: Option<Role>, o: RegOp) -> Option<ClassId>
@@ -237,26 +219,6 @@ pub(crate) fn from_explicit(roles: &[Role]) -> &[Role]
         }
     }
     &[]
-}
-
-/// Whether the role is one of an implicit operand.
-fn is_implicit(role: Role) -> bool
-    ensures { result ≡ is_implicit role }
-{
-    match role {
-        Role::ImpDef(_) | Role::ImpRead(_) => true,
-        _ => false,
-    }
-}
-
-/// Whether the operand is an implicit register.
-pub(crate) fn is_implicit_operand(o: &Operand) -> bool
-    ensures { result ≡ is_implicit_operand o.now }
-{
-    match o {
-        Operand::Reg(r) => r.implicit,
-        _ => false,
-    }
 }
 
 /// The roles that are left for the operands behind this one: an implicit operand takes none.
@@ -448,16 +410,6 @@ fn add_copy(
         add(variables, v)?;
     }
     Ok(())
-}
-
-/// Whether the instruction is a copy.
-fn is_copy(target: &Target, i: &Instr) -> bool
-    ensures { result ≡ does is_copy target.now i.now }
-{
-    match effect_of(target, i) {
-        Some(Effect::Copy) => true,
-        _ => false,
-    }
 }
 
 /// Whether it is an IMPLICIT_DEF, a store to a slot or a reload.

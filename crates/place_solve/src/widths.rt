@@ -7,24 +7,18 @@ ghost use Rattle.mir_func.specs.declared.func.Loc.TheVariants.{Virtual};
 ghost use Rattle.mir_meaning.specs.Registers.{range_widths, located_widths, operand_widths};
 ghost use Rattle.place_solve.specs.Choice.{width_at};
 
+use mir_func::operands::class_of;
 use mir_func::{Func, Loc, RegOp};
-use phi_elim::phis::located_class;
 use std::alloc::{AllocError, Global};
-use target_base::classes::{first_units, regs_at, width_of};
-use target_base::registers::units_at;
+use target_base::classes::{first_units, width_of};
 use target_base::{ClassId, IndexId, Target, Unit};
-use two_address::classes::index_lanes;
 
 /// The units whose widths the lanes of a virtual register have.
 #[tactic(auto, using(crate::proofs::Lanes::range_units_are))]
 fn range_units<'a>(target: &'a Target, f: &Func, v: u32) -> &'a [Unit]
     ensures { widths target.now.units result.now ≡ range_widths target.now f.now v }
 {
-    let class = located_class(f.classes.as_slice(), Loc::Virtual(v));
-    first_units(
-        target.regs.as_slice(),
-        regs_at(target.classes.as_slice(), class),
-    )
+    target.class_units(class_of(f, v))
 }
 
 /// The widths of all lanes of these units.
@@ -81,7 +75,7 @@ fn picked_widths(
         alloc,
         target,
         range_units(target, f, v),
-        index_lanes(target, index),
+        target.lanes_at(index),
     )?;
     Ok(made)
 }
@@ -119,7 +113,7 @@ pub fn operand_widths(
 {
     match o.loc {
         Loc::Fixed(r) => {
-            let made = all_widths(alloc, target, units_at(target.regs.as_slice(), r))?;
+            let made = all_widths(alloc, target, target.units_at(r))?;
             Ok(made)
         }
         Loc::Virtual(v) => {

@@ -5,7 +5,7 @@ use Rattle.mir_func.specs.declared.func.Instr.{Instr}
 use Rattle.mir_func.specs.declared.func.Block.{Block}
 use Rattle.mir_func.specs.Value.{Function}
 use Rattle.place_solve.specs.Own.{is_crowded, IsFirst}
-use Rattle.place_solve.proofs.Few.{few_instrs}
+use Rattle.live_laws.proofs.Few.{few_instrs}
 use Rattle.place_solve.proofs.Crowds.{none_next, none_all, first_found}
 use Rattle.place_solve.proofs.check.first_crowded.Goals as goal
 

@@ -4,7 +4,7 @@ use Rattle.std.proofs.lemmas.Option.{slice_get_read}
 use Rattle.mir_func.specs.declared.func.Block.{Block}
 use Rattle.mir_func.specs.Value.{Function}
 use Rattle.place_solve.specs.Told.{IsFirstLost}
-use Rattle.place_solve.proofs.Few.{few_instrs}
+use Rattle.live_laws.proofs.Few.{few_instrs}
 use Rattle.place_solve.proofs.Serving.{block_lost, blocks_all, blocks_more}
 use Rattle.place_solve.proofs.check.first_unassignable.Goals as goal
 
