@@ -12,7 +12,6 @@ use crate::asked::Question;
 use crate::liveins::{liveins_fit, names_virtual};
 use crate::search::{fault_at, shape_fault};
 use crate::stop::{Invalid, VerifyStop};
-use instr_effects::items::lanes::{class_of, class_units};
 use live_lanes::LiveFunc;
 use mir_func::operands::class_of;
 use mir_func::{Block, Func, Valid};
