@@ -8,5 +8,4 @@ pub mod ids;
 pub mod moves;
 pub mod phis;
 
-pub use mir_func::opcodes as reading;
 pub use phis::lower_phis;

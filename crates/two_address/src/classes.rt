@@ -3,14 +3,13 @@
 ghost use Rattle.std.specs.Prelude.{◌≡◌};
 ghost use Rattle.target_base.specs.Registers.{lanes_of, regs_of, part_of, class_of_widths, widths_of_some};
 ghost use Rattle.target_base.specs.Storage.{part_place, alike_place};
-ghost use Rattle.mir_func.specs.Binding.{asked_class, moving_class};
+ghost use Rattle.mir_func.specs.Binding.{moving_class};
 ghost use Rattle.two_address.specs.Classes.{class_asked, first_register, first_role, roles_behind};
 
 use mir_func::RegOp;
-pub use mir_func::opcodes::roles_of;
-use mir_func::opcodes::takes_many;
+use mir_func::opcodes::{asked_class, takes_many};
 use phi_elim::phis::located_class;
-use target_base::classes::{are_alike, class_of, find_part, regs_at};
+use target_base::classes::{are_alike, find_part, regs_at};
 use target_base::registers::is_unreserved;
 use target_base::{ClassId, IndexId, Reg, Role, Target};
 
@@ -47,16 +46,6 @@ pub fn class_asked(
     }
 }
 
-/// The class that a role names.
-fn asked_class(role: Role) -> Option<ClassId>
-    ensures { result ≡ asked_class role }
-{
-    match role {
-        Role::Address(k) => Some(k),
-        r => class_of(r),
-    }
-}
-
 /// The first class with the lane widths that the operand has in its class.
 fn moving_class(target: &Target, c: Option<ClassId>, o: RegOp) -> Option<ClassId>
     ensures { result ≡ moving_class target.now c o }
@@ -65,13 +54,6 @@ fn moving_class(target: &Target, c: Option<ClassId>, o: RegOp) -> Option<ClassId
         None => None,
         Some(c) => alike_class(target, part_of(target, c, o.index)),
     }
-}
-
-/// The lanes that an index picks; none where there is no such index.
-pub fn index_lanes(target: &Target, i: IndexId) -> &[u8]
-    ensures { result.now ≡ lanes_of target.now i }
-{
-    target.lanes_at(i)
 }
 
 /// The place of the first class that holds what the index picks of each register of the class.
