@@ -2,6 +2,7 @@
 use Rattle.std.proofs.Common.{◌≡◌, ◌⊎◌, inl, inr, ℕ, zero, suc, Bool, true, false, cond, not, List, [], ◌∷◌, ◌++◌, Option, Some, None, map, filter, flat_map, length, refl, sym, ap, ◌∙◌, subst, arith}
 use Rattle.std.specs.Prelude.{◌&&◌, nat_abs}
 use Rattle.target_base.specs.declared.types.Effect.{Effect}
+use Rattle.target_base.specs.declared.types.Effect.TheVariants as effects
 use Rattle.target_base.specs.declared.types.Role.{Role}
 use Rattle.target_base.specs.declared.types.Role.TheVariants as roles
 use Rattle.target_base.specs.declared.types.Target.{Target}
@@ -25,10 +26,15 @@ use Rattle.instr_effects.specs.Owners.{owner_of, source_owner, operand_owners}
 use Rattle.instr_effects.specs.Acts.{plain, moved_acts, definition_acts, acts_of, use_owners, counted_owners, call_writes, unpreserved, is_call, explicit_uses, implicit_uses, implicit_owners, flag_owners, takes_some, tested_role, is_constant}
 use Rattle.instr_effects.proofs.Members.{member-none, member-elim, left-in, right-in, in-either, flat-of, flat-in, filter-of, filter-in, map-of, map-in}
 use Rattle.instr_effects.proofs.Operands.{given_owners_of}
-use Rattle.instr_effects.proofs.Writes.{acts-result, located-long, call_acts, no_call}
+use Rattle.instr_effects.proofs.Writes.{acts-result, acts-units, located-long, no_call}
 use Rattle.live_laws.proofs.Effects.Blocks.{filtered-of, filtered-in}
 use Rattle.live_laws.proofs.Effects.Silent.{map-long}
 use Rattle.live_laws.proofs.Touch.Exact.{plain-in, plain-of, use-of, use-in, Used, Defined, Exact, given-exact, filled-exact}
+
+-- a call writes the units that its masks don't preserve
+call-acts : (t : Target) (e : Effect) (os : List Operand) → is_call e ≡ true → acts_of (call_writes t e os) ≡ map (λ u. plain false (owners.Unit u)) (unpreserved t os)
+call-acts t effects.Call os h = acts-units (unpreserved t os)
+call-acts t e os h = absurd (cc)
 
 -- operands by their roles
 
@@ -177,7 +183,7 @@ module _ (t : Target) (f : Function) where
       where
         go : (b : Bool) → is_call e ≡ b → ((v k : ℕ) → a.lane ≡ owners.Range v k → ⊥) × (a.from ≡ None)
         go true h =
-            let z = map-of (λ u. plain false (owners.Unit u)) a (unpreserved t os) (subst (Member a) (call_acts t f e os h) m) in
+            let z = map-of (λ u. plain false (owners.Unit u)) a (unpreserved t os) (subst (Member a) (call-acts t e os h) m) in
             (λ v k g. let n : owners.Unit z.0 ≡ owners.Range v k = sym (ap (λ b. b.lane) z.2) ∙ g in cc, ap (λ b. b.from) z.2)
         go false h = absurd (member-none a (subst (Member a) (no_call t e os h) m))
 
