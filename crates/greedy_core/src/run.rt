@@ -20,14 +20,20 @@ use watchers::{Step, Watcher, tell_all};
 /// Which allocator runs.
 #[derive(Clone, Copy, Debug, PartialEq, Eq)]
 pub enum Policy {
-    /// The greedy one.
+    /// The greedy one (LLVM's RegAllocGreedy).
     Greedy,
+    /// The greedy one, with region splits of least cost, which a cut and a flow certify.
+    Cut,
+    /// The basic one (LLVM's RegAllocBasic): a range gets a free register, ousts lighter ranges, or is
+    /// spilled.
+    Basic,
 }
 
 /// The state of a run.
 #[derive(Drop)]
 pub(crate) struct Run {
     pub alloc: Global,
+    pub policy: Policy,
     pub matrix: Matrix,
     /// The edge bundles of the function.
     pub bundles: Bundles,
@@ -58,23 +64,7 @@ pub fn allocate<W: Watcher>(
     ensures told { OnOk result ((steps : List Step) × AllTold (W.next target.now) (Step.Begin number ∷ steps) watchers.old.items watchers.new.items) }
     ensures part { OnErr result ((steps : List Step) × PartTold (W.next target.now) steps watchers.old.items watchers.new.items) }
 {
-    match policy {
-        Policy::Greedy => run_greedy(alloc, target, f, freqs, number, watchers),
-    }
-}
-
-fn run_greedy<W: Watcher>(
-    alloc: Global,
-    target: &Target,
-    f: LiveFunc,
-    freqs: &Freqs,
-    number: u32,
-    watchers: &mut Vec<W>,
-) -> Result<Allocated, RunStop>
-    ensures told { OnOk result ((steps : List Step) × AllTold (W.next target.now) (Step.Begin number ∷ steps) watchers.old.items watchers.new.items) }
-    ensures part { OnErr result ((steps : List Step) × PartTold (W.next target.now) steps watchers.old.items watchers.new.items) }
-{
-    let mut run = Run::new(alloc, f)?;
+    let mut run = Run::new(alloc, policy, f)?;
     tell_all(watchers, target, &Step::Begin(number))?;
     'steps: for _ in 0..u64::MAX {
         let Some(v) = run.queue.pop() else {
@@ -116,20 +106,21 @@ fn named(alloc: Global, f: &Func) -> Result<Vec<bool>, AllocError> {
 }
 
 impl Run {
-    fn new(alloc: Global, f: LiveFunc) -> Result<Run, AllocError> {
+    fn new(alloc: Global, policy: Policy, f: LiveFunc) -> Result<Run, AllocError> {
         let named = named(alloc, f.func())?;
-        let mut run = Run::empty(alloc, f)?;
+        let mut run = Run::empty(alloc, policy, f)?;
         run.add_ranges()?;
         run.enqueue_named(named.as_slice())?;
         Ok(run)
     }
 
     /// A run that knows of no range.
-    fn empty(alloc: Global, f: LiveFunc) -> Result<Run, AllocError> {
+    fn empty(alloc: Global, policy: Policy, f: LiveFunc) -> Result<Run, AllocError> {
         let slots = SlotMap::new(alloc, f.func())?;
         let bundles = Bundles::of(alloc, &f)?;
         Ok(Run {
             alloc,
+            policy,
             bundles,
             matrix: Matrix::new(alloc, f)?,
             slots,

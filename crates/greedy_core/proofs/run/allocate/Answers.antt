@@ -3,7 +3,7 @@ use Rattle.watchers.specs.declared.steps.Step.TheVariants.{Begin}
 use Rattle.watchers.proofs.Told.{on_err}
 use Rattle.watchers.proofs.Runs.{none_told, all_more, part_more}
 use Rattle.greedy_core.proofs.Told.{untold, all_told}
-use Rattle.greedy_core.proofs.run.run_greedy.Goals as goal
+use Rattle.greedy_core.proofs.run.allocate.Goals as goal
 
 pub returns-in_err-run-clause-part : goal.returns-in_err-run-clause-part
 returns-in_err-run-clause-part g c = on_err c.from_residual.result (untold (g.W.Watcher.next c.args.target.now) c.args.watchers.now.items)

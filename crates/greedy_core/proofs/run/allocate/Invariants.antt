@@ -2,7 +2,7 @@ use Rattle.std.proofs.Common.{List, ◌∷◌}
 use Rattle.watchers.specs.declared.steps.Step.{Step}
 use Rattle.watchers.specs.declared.steps.Step.TheVariants.{Begin}
 use Rattle.watchers.specs.Told.{AllTold}
-use Rattle.greedy_core.proofs.run.run_greedy.Given as goal
+use Rattle.greedy_core.proofs.run.allocate.Given as goal
 
 -- the watchers were told the same steps
 abbrev pub invariant-steps : goal.invariant-steps
