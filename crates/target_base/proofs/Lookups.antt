@@ -19,7 +19,7 @@ use Rattle.target_base.specs.declared.types.Role.{Role}
 use Rattle.target_base.specs.declared.types.Target.{Target}
 use Rattle.target_base.specs.Storage.{class_regs, regs_in, sub_place, part_place, is_picked, holds_subs, holds_reg, lanes_fit, same_numbers, class_widths, widths, unit_width, alike_place}
 use Rattle.target_base.specs.Numbers.{class_number}
-use Rattle.target_base.specs.Registers.{lanes_in, lanes_of, regs_of, IsClass, HasIndex, fits, part_of, class_of_widths, widths_of_some, move_class, spill_place, reload_place}
+use Rattle.target_base.specs.Registers.{lanes_in, lanes_of, regs_of, IsClass, HasIndex, fits, part_of, class_of_widths, widths_of_some, move_class}
 use Rattle.target_base.specs.Roles.{first_implicit}
 use Rattle.target_base.specs.Rules.{is_sound, spills, reloads, is_complete, part_is_there, is_found}
 use Rattle.target_base.proofs.Tests.{first_of_both, second_of_both, each_passes, position_within, position_there, position_found}

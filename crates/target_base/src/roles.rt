@@ -36,13 +36,18 @@ pub fn is_implicit(role: Role) -> bool
     }
 }
 
+fn find_implicit(roles: &[Role]) -> Option<Role>
+    ensures { result ≡ find is_implicit roles.now }
+{
+    roles.iter().copied().find(|r| is_implicit(*r))
+}
+
 /// The first role of an implicit operand, if there is one.
-#[tactic(auto, using(crate::proofs::Lookups::first_found))]
 pub fn first_implicit(roles: &[Role]) -> Option<Role>
     ensures found { result ≡ find is_implicit roles.now }
     ensures first { result ≡ first_implicit (filter is_implicit roles.now) }
 {
-    roles.iter().copied().find(|r| is_implicit(*r))
+    find_implicit(roles)
 }
 
 /// Whether an instruction of this effect counts for nothing in a run.

@@ -1,4 +1,4 @@
-use Rattle.std.proofs.Common.{◌≡◌, ◌<◌, ◌≤◌, Some, None, arith, length}
+use Rattle.std.proofs.Common.{◌≡◌, ◌<◌, ◌≤◌, Some, arith, length}
 use Rattle.std.specs.Prelude.{position}
 use Rattle.target_base.specs.Registers.{regs_of}
 use Rattle.target_base.specs.Rules.{spills}
