@@ -1,0 +1,11 @@
+//! Stack slot colouring (LLVM's StackSlotColoring): spill slots that are alike and never hold
+//! something at one time become one.
+#![tactic(auto)]
+
+mod choice;
+mod clashes;
+mod colour;
+mod lines;
+mod renamed;
+
+pub use colour::colour_slots;
