@@ -1,6 +1,8 @@
-//! The run of the greedy allocator (LLVM's RegAllocGreedy), step by step.
+//! The run of an allocator, step by step: of the greedy one (LLVM's RegAllocGreedy) and of the basic
+//! one (LLVM's RegAllocBasic).
 #![tactic(auto)]
 
+mod basic;
 mod divide;
 mod queue;
 mod run;

@@ -14,7 +14,7 @@ use spiller::{Allocated, RunStop, SlotMap};
 use split_choose::Bundles;
 use std::alloc::{AllocError, Global};
 use std::collections::BTreeMap;
-use target_base::{Numbers, Target};
+use target_base::{Copied, Numbers, Target};
 use watchers::{Step, Watcher, tell_all};
 
 /// Which allocator runs.
@@ -34,6 +34,8 @@ pub enum Policy {
 pub(crate) struct Run {
     pub alloc: Global,
     pub policy: Policy,
+    /// The frequencies of blocks, by which ranges weigh.
+    pub freqs: Freqs,
     pub matrix: Matrix,
     /// The edge bundles of the function.
     pub bundles: Bundles,
@@ -64,7 +66,7 @@ pub fn allocate<W: Watcher>(
     ensures told { OnOk result ((steps : List Step) × AllTold (W.next target.now) (Step.Begin number ∷ steps) watchers.old.items watchers.new.items) }
     ensures part { OnErr result ((steps : List Step) × PartTold (W.next target.now) steps watchers.old.items watchers.new.items) }
 {
-    let mut run = Run::new(alloc, policy, f)?;
+    let mut run = Run::new(alloc, policy, f, freqs)?;
     tell_all(watchers, target, &Step::Begin(number))?;
     'steps: for _ in 0..u64::MAX {
         let Some(v) = run.queue.pop() else {
@@ -106,21 +108,22 @@ fn named(alloc: Global, f: &Func) -> Result<Vec<bool>, AllocError> {
 }
 
 impl Run {
-    fn new(alloc: Global, policy: Policy, f: LiveFunc) -> Result<Run, AllocError> {
+    fn new(alloc: Global, policy: Policy, f: LiveFunc, freqs: &Freqs) -> Result<Run, AllocError> {
         let named = named(alloc, f.func())?;
-        let mut run = Run::empty(alloc, policy, f)?;
+        let mut run = Run::empty(alloc, policy, f, freqs)?;
         run.add_ranges()?;
         run.enqueue_named(named.as_slice())?;
         Ok(run)
     }
 
     /// A run that knows of no range.
-    fn empty(alloc: Global, policy: Policy, f: LiveFunc) -> Result<Run, AllocError> {
+    fn empty(alloc: Global, policy: Policy, f: LiveFunc, freqs: &Freqs) -> Result<Run, AllocError> {
         let slots = SlotMap::new(alloc, f.func())?;
         let bundles = Bundles::of(alloc, &f)?;
         Ok(Run {
             alloc,
             policy,
+            freqs: freqs.copied(alloc)?,
             bundles,
             matrix: Matrix::new(alloc, f)?,
             slots,
@@ -196,9 +199,17 @@ impl Run {
         self.queue.add(v, priority)
     }
 
+    /// The priority of a range under the policy.
+    fn priority(&self, v: u32) -> Result<u128, AllocError> {
+        match self.policy {
+            Policy::Greedy | Policy::Cut => Ok(self.greedy_priority(v)? as u128),
+            Policy::Basic => self.basic_priority(v),
+        }
+    }
+
     /// The priority of a range: tinies come first, then ranges of several blocks, the largest first,
     /// then ranges of one block in layout order, then those that are to be split or spilled.
-    fn priority(&self, v: u32) -> Result<u64, AllocError> {
+    fn greedy_priority(&self, v: u32) -> Result<u64, AllocError> {
         let live = self.matrix.live();
         Ok(match self.stage(v) {
             Stage::Tiny => 1 << 31,

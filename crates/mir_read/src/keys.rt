@@ -134,7 +134,7 @@ fn is_body_value(text: &[u8]) -> bool
 
 /// The digits of the number that a line of `registers` or `stack` declares, and the rest.
 #[tactic(auto, unfolding(crate::specs::Keys::declared_number))]
-fn declared_number(line: &[u8]) -> Option<(&[u8], &[u8])>
+pub fn declared_number(line: &[u8]) -> Option<(&[u8], &[u8])>
     ensures value { option_map part_and_rest result ≡ declared_number line.now }
     ensures some { IfSome result (λ p. 0 < length line.now) }
 {
@@ -222,7 +222,7 @@ fn frame_in(line: &[u8], digits: &[u8]) -> Option<(u32, bool)>
 
 /// The frame object that a line of `stack` declares, and whether it is a spill slot.
 #[tactic(auto, unfolding(crate::specs::Keys::declared_frame))]
-fn declared_frame(line: &[u8]) -> Option<(u32, bool)>
+pub fn declared_frame(line: &[u8]) -> Option<(u32, bool)>
     ensures value { result ≡ declared_frame line.now }
     ensures some { IfSome result (λ p. 0 < length line.now) }
 {

@@ -39,7 +39,7 @@ fn find_newline(text: &[u8]) -> Option<usize>
 }
 
 /// The first line of a text that isn't empty, and what stands behind its newline.
-fn next_line(text: &[u8]) -> (&[u8], &[u8])
+pub fn next_line(text: &[u8]) -> (&[u8], &[u8])
     requires { 0 < length text.now }
     ensures whole { lines text.now ≡ result.0.now ∷ lines result.1.now }
     ensures len { length result.0.now + length result.1.now ≤ length text.now }

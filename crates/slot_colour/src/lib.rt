@@ -1,12 +1,11 @@
-//! Colouring of spill slots. (A stand-in, which colours nothing.)
+//! Stack slot colouring (LLVM's StackSlotColoring): spill slots that are alike and never hold
+//! something at one time become one.
 #![tactic(auto)]
 
-use mir_func::Func;
-use std::alloc::{AllocError, Global};
-use target_base::Target;
+mod choice;
+mod clashes;
+mod colour;
+mod lines;
+mod renamed;
 
-/// The function itself.
-pub fn colour_slots(alloc: Global, target: &Target, f: Func) -> Result<Func, AllocError> {
-    let _ = (alloc, target);
-    Ok(f)
-}
+pub use colour::colour_slots;

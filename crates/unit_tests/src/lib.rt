@@ -4,6 +4,8 @@
 #[cfg(test)]
 mod base;
 #[cfg(test)]
+mod colouring;
+#[cfg(test)]
 mod cuts;
 #[cfg(test)]
 mod function_texts;

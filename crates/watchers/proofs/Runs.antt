@@ -1,7 +1,7 @@
 -- Watchers that were told steps are told one more.
-use Rattle.std.proofs.Common.{◌≡◌, ℕ, ◌≤◌, zero, suc, List, [], ◌∷◌, ◌++◌, map, take, drop, length, refl, sym, ◌∙◌, ap, subst, arith}
-use Rattle.std.specs.List.{AllZip}
-use Rattle.std.proofs.lemmas.List.{take_all}
+use Rattle.std.proofs.Common.{◌≡◌, ◌⊎◌, inl, inr, ℕ, ◌≤◌, ◌<◌, zero, suc, List, [], ◌∷◌, ◌++◌, map, take, drop, length, refl, sym, ◌∙◌, ap, subst, arith}
+use Rattle.std.proofs.lemmas.Bool.{cases_lt}
+use Rattle.std.proofs.lemmas.List.{take_all, take-take, length-take}
 use Rattle.watchers.specs.declared.steps.Step.{Step}
 use Rattle.watchers.specs.Told.{told, FirstBecame, AllTold, PartTold}
 
@@ -46,6 +46,20 @@ module _ {W : Type 0} (next : W → Step → W) where
   pub part_more : (old now new : List W) (steps : List Step) (step : Step) → AllTold next steps old now → FirstBecame (λ w. next w step) now new → PartTold next (steps ++ step ∷ []) old new
   part_more old now new steps step all first =
       subst (PartTold next (steps ++ step ∷ []) old) (sym (first.2 ∙ ap (λ l. map (λ w. next w step) (take first.0 l) ++ drop first.0 l) all)) (some_more old steps step first.0)
+
+  -- a first part of some of the first steps is one of all steps
+  part_of : (w v : W) (steps : List Step) (k : ℕ) → IsPart (take k steps) w v → IsPart steps w v
+  part_of w v steps k part = go (cases_lt k part.0)
+    where
+      go : (k < part.0) ⊎ (part.0 ≤ k) → IsPart steps w v
+      go (inl more) = (k, part.1 ∙ ap (told next w) (take_all part.0 (take k steps) (omega (arith, length-take k steps))))
+      go (inr within) = (part.0, part.1 ∙ ap (told next w) (take-take part.0 k steps within))
+
+  pub part_of_all : (old new : List W) (steps : List Step) (k : ℕ) → PartTold next (take k steps) old new → PartTold next steps old new
+  part_of_all [] [] steps k part = tt
+  part_of_all [] (v ∷ new) steps k part = part
+  part_of_all (w ∷ old) [] steps k part = part
+  part_of_all (w ∷ old) (v ∷ new) steps k part = (part_of w v steps k part.0, part_of_all old new steps k part.1)
 
   pub none_told : (old : List W) → AllTold next [] old old
   none_told [] = refl

@@ -2,6 +2,8 @@
 //! ranges.
 
 ghost use Rattle.std.specs.Prelude.{◌≡◌, ◌≤◌, true, Some, length, slice_get, option_map};
+ghost use Rattle.std.specs.Ordering.{nat_cmp};
+ghost use Rattle.std.specs.BTreeMap.{get};
 ghost use Rattle.instr_effects.specs.Numbered.{number_in};
 ghost use Rattle.instr_effects.specs.declared.owner.Owner.TheVariants as owners;
 ghost use Rattle.live_lanes.specs.Table.{entry_rank, exit_rank, rises_from, seen_cell};
@@ -11,7 +13,7 @@ ghost use Rattle.live_lanes.specs.Extents.{lanes_count, extent_in, first_rank, l
 
 pub use crate::edit::edit_log::Mended;
 use crate::edit::edits::Changes;
-use crate::edit::lanes::{Owner, owner_of};
+use crate::edit::lanes::{Lanes, Owner, owner_of};
 use crate::live::LiveFunc;
 use crate::row::{Cell, End, entry_rank, exit_rank, rank};
 use slot_index::Slots;
@@ -156,6 +158,13 @@ impl LiveFunc {
         ensures { result ≡ lanes_count (slice_get self.now.table.lanes.ranges.items v) }
     {
         self.table.lanes.of_range(v).count
+    }
+
+    /// The lanes of a slot, where the slot has numbers for them: where it is stored to or reloaded.
+    pub fn lanes_of_slot(&self, s: u32) -> Option<Lanes>
+        ensures { result ≡ get nat_cmp self.now.table.lanes.slots s }
+    {
+        self.table.lanes.slots.get(&s).copied()
     }
 
     /// The range that a lane belongs to, and the number of the lane in it.

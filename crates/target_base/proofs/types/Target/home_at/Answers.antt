@@ -3,7 +3,7 @@ use Rattle.std.specs.Prelude.{position}
 use Rattle.target_base.specs.Storage.{holds_reg}
 use Rattle.target_base.proofs.Sound.{classes_count}
 use Rattle.target_base.proofs.Lookups.{home_place_within}
-use Rattle.target_base.proofs.types.Target.home.Goals as goal
+use Rattle.target_base.proofs.types.Target.home_at.Goals as goal
 
 pub overflow_cast-result : goal.overflow_cast-result
 overflow_cast-result c =

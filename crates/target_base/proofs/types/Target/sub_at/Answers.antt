@@ -3,7 +3,7 @@ use Rattle.target_base.specs.Storage.{sub_place}
 use Rattle.target_base.specs.Registers.{units_of, lanes_of}
 use Rattle.target_base.proofs.Sound.{regs_count}
 use Rattle.target_base.proofs.Lookups.{sub_place_within}
-use Rattle.target_base.proofs.types.Target.sub_of.Goals as goal
+use Rattle.target_base.proofs.types.Target.sub_at.Goals as goal
 
 pub overflow_cast-result : goal.overflow_cast-result
 overflow_cast-result c =

@@ -1,0 +1,46 @@
+-- Which spill slots clash, and how a table of live lanes tells it.
+use Rattle.std.specs.Prelude.{ℕ, Bool, List, [], Option, Some, None}
+use Rattle.std.specs.List.{list_any}
+use Rattle.std.specs.Ordering.{nat_cmp}
+use Rattle.std.specs.BTreeMap.{get}
+use Rattle.target_base.specs.declared.types.Target.{Target}
+use Rattle.meaning.specs.declared.types.Lane.TheVariants.{SlotLane}
+use Rattle.mir_func.specs.Value.{Function}
+use Rattle.mir_meaning.specs.Points.{Point, OccupiedAt}
+use Rattle.mir_meaning.specs.Registers.{numbers}
+use Rattle.instr_effects.specs.declared.row.Lanes.{Lanes}
+use Rattle.live_lanes.specs.declared.row.Cell.{Cell}
+use Rattle.live_lanes.specs.declared.table.Table.{Table}
+use Rattle.live_lanes.specs.Entered.{cells_of}
+use Rattle.live_lanes.specs.Extents.{cell_extents, stretch_of, is_met}
+
+-- some lane of the slot is live or occupied at the point
+abbrev pub SlotPoint : Target → Function → ℕ → Point → Type 0
+SlotPoint t f s p = (k : ℕ) × (w : ℕ) × OccupiedAt t f p (SlotLane s k w)
+
+-- two slots clash: at one point a lane of each is live or occupied
+abbrev pub SlotsClash : Target → Function → ℕ → ℕ → Type 0
+SlotsClash t f s r = (p : Point) × SlotPoint t f s p × SlotPoint t f r p
+
+-- By a table of live lanes.
+
+-- the numbers of lanes in a row
+abbrev pub lanes_in : Option Lanes → List ℕ
+lanes_in None = []
+lanes_in (Some own) = numbers own.first own.count
+
+-- the numbers of the lanes of a slot
+abbrev pub slot_lanes : Table → ℕ → List ℕ
+slot_lanes x s = lanes_in (get nat_cmp x.lanes.slots s)
+
+-- the lane has a point at which one in that block has one
+abbrev pub is_met_by : Table → ℕ → Cell → Bool
+is_met_by x lane c = list_any (λ e. is_met x lane c.block (stretch_of x.order.slots e)) (cell_extents c)
+
+-- two lanes have a point in common
+abbrev pub do_meet : Table → ℕ → ℕ → Bool
+do_meet x one other = list_any (is_met_by x other) (cells_of x.rows.rows.items one)
+
+-- two slots clash by the table
+abbrev pub is_clash : Table → ℕ → ℕ → Bool
+is_clash x s r = list_any (λ one. list_any (do_meet x one) (slot_lanes x r)) (slot_lanes x s)

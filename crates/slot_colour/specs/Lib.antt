@@ -1,0 +1,3 @@
+pub mod Clashes
+pub mod Lines
+pub mod Colouring

@@ -1,0 +1,121 @@
+//! Which slot each spill slot goes to.
+
+use crate::clashes::is_clash;
+use crate::lines::Declared;
+use live_lanes::LiveFunc;
+use mir_lines::lexer::is;
+use std::alloc::{AllocError, Global};
+use target_base::{Bytes, List};
+
+/// A spill slot that is taken.
+#[derive(Drop)]
+pub(crate) struct Slot {
+    /// Its number.
+    pub number: u32,
+    /// What stands behind its number in the line that declares it.
+    pub text: Bytes,
+    /// The slot that it goes to, as a member of it; a kept slot goes to itself.
+    pub kept: u32,
+}
+
+/// The place of a number in a list that rises.
+fn place_of(numbers: &[u32], n: u32) -> usize {
+    numbers
+        .iter()
+        .position(|x| *x >= n)
+        .unwrap_or(numbers.len())
+}
+
+/// The spill slots among frame objects, by rising number.
+pub(crate) fn spill_slots(alloc: Global, frames: &[(u32, bool)]) -> Result<Vec<u32>, AllocError> {
+    let mut rising: Vec<u32> = Vec::new(alloc);
+    'objects: for object in frames {
+        if object.1 {
+            let at = place_of(rising.as_slice(), object.0);
+            rising.insert(at, object.0)?;
+        }
+    }
+    Ok(rising)
+}
+
+/// What stands behind the number of a frame object in the line that declares it.
+fn text_of(declared: &[Declared], n: u32) -> &[u8] {
+    match declared.iter().find(|d| d.number == n) {
+        None => &[],
+        Some(d) => d.text.as_slice(),
+    }
+}
+
+/// Whether a slot clashes with a member of a kept one.
+fn is_refused(live: &LiveFunc, taken: &[Slot], n: u32, kept: u32) -> bool {
+    'slots: for r in taken {
+        if r.kept == kept && is_clash(live, n, r.number) {
+            return true;
+        }
+    }
+    false
+}
+
+/// Whether a slot, of this text, may become a member of another one: of a kept one that is alike and
+/// with none of whose members it clashes.
+fn may_join(live: &LiveFunc, taken: &[Slot], n: u32, text: &[u8], other: &Slot) -> bool {
+    other.kept == other.number
+        && is(other.text.as_slice(), text)
+        && !is_refused(live, taken, n, other.number)
+}
+
+/// The first kept slot that a slot of this text may join; else the slot itself.
+fn home(live: &LiveFunc, taken: &[Slot], n: u32, text: &[u8]) -> u32 {
+    'slots: for other in taken {
+        if may_join(live, taken, n, text, other) {
+            return other.number;
+        }
+    }
+    n
+}
+
+/// A slot with its text and the slot that it goes to.
+fn placed(
+    alloc: Global,
+    live: &LiveFunc,
+    declared: &[Declared],
+    taken: &[Slot],
+    n: u32,
+) -> Result<Slot, AllocError> {
+    let text = text_of(declared, n);
+    let kept = home(live, taken, n, text);
+    let text = List::from_slice(alloc, text)?;
+    Ok(Slot {
+        number: n,
+        text,
+        kept,
+    })
+}
+
+/// Slots, taken one after another, each with the slot that it goes to.
+pub(crate) fn taken_from(
+    alloc: Global,
+    live: &LiveFunc,
+    declared: &[Declared],
+    slots: &[u32],
+) -> Result<Vec<Slot>, AllocError> {
+    let mut taken = Vec::new(alloc);
+    'slots: for n in slots {
+        let slot = placed(alloc, live, declared, taken.as_slice(), *n)?;
+        taken.push(slot)?;
+    }
+    Ok(taken)
+}
+
+/// The slot that a frame object goes to; any object that isn't taken stays.
+pub(crate) fn home_of(taken: &[Slot], n: u32) -> u32 {
+    match taken.iter().find(|r| r.number == n) {
+        None => n,
+        Some(r) => r.kept,
+    }
+}
+
+/// Whether a slot went to another one.
+pub(crate) fn is_gone(taken: &[Slot], n: u32) -> bool {
+    home_of(taken, n) != n
+}

@@ -1,0 +1,51 @@
+//! The coloured function.
+
+use crate::choice::{Slot, spill_slots, taken_from};
+use crate::lines::{declared_in, kept_in};
+use crate::renamed::{kept_frames, rename_blocks};
+use live_lanes::LiveFunc;
+use mir_func::Func;
+use std::alloc::{AllocError, Global};
+use target_base::Target;
+
+/// The spill slots of a function with the slots that they go to.
+fn chosen(alloc: Global, live: &LiveFunc) -> Result<Vec<Slot>, AllocError> {
+    let f = live.func();
+    let declared = declared_in(alloc, f.head.as_slice())?;
+    let slots = spill_slots(alloc, f.frames.as_slice())?;
+    taken_from(alloc, live, declared.as_slice(), slots.as_slice())
+}
+
+/// The function in which each of these slots went where it goes: members are renamed, and those that
+/// aren't kept leave the frame objects and the key lines.
+fn merged(alloc: Global, taken: &[Slot], f: Func) -> Result<Func, AllocError> {
+    let Func {
+        name,
+        head,
+        classes,
+        frames,
+        mut blocks,
+        next_id,
+    } = f;
+    let head = kept_in(alloc, taken, head.as_slice())?;
+    let frames = kept_frames(alloc, taken, frames.as_slice())?;
+    rename_blocks(taken, &mut blocks);
+    Ok(Func {
+        name,
+        head,
+        classes,
+        frames,
+        blocks,
+        next_id,
+    })
+}
+
+/// The function, which is valid as an allocated one, with fewer spill slots or as many: slots are taken
+/// by rising number, and each becomes a member of the first kept slot whose line in the `stack` key is
+/// equal but for the number and with none of whose members it clashes; else it is kept. Two slots clash
+/// where at one point a lane of each is live or occupied. Each spill slot is declared by one line.
+pub fn colour_slots(alloc: Global, target: &Target, f: Func) -> Result<Func, AllocError> {
+    let live = LiveFunc::compute(alloc, target, f)?;
+    let taken = chosen(alloc, &live)?;
+    merged(alloc, taken.as_slice(), live.into_func())
+}
