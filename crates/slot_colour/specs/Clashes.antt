@@ -1,5 +1,5 @@
 -- Which spill slots clash, and how a table of live lanes tells it.
-use Rattle.std.specs.Prelude.{ℕ, Bool, List, [], Option, Some, None}
+use Rattle.std.specs.Prelude.{ℕ, Bool, false, List, [], Option, Some, None}
 use Rattle.std.specs.List.{list_any}
 use Rattle.std.specs.Ordering.{nat_cmp}
 use Rattle.std.specs.BTreeMap.{get}
@@ -25,9 +25,12 @@ SlotsClash t f s r = (p : Point) × SlotPoint t f s p × SlotPoint t f r p
 -- By a table of live lanes.
 
 -- the numbers of lanes in a row
+abbrev pub numbers_in : Lanes → List ℕ
+numbers_in own = numbers own.first own.count
+
 abbrev pub lanes_in : Option Lanes → List ℕ
 lanes_in None = []
-lanes_in (Some own) = numbers own.first own.count
+lanes_in (Some own) = numbers_in own
 
 -- the numbers of the lanes of a slot
 abbrev pub slot_lanes : Table → ℕ → List ℕ
@@ -36,6 +39,10 @@ slot_lanes x s = lanes_in (get nat_cmp x.lanes.slots s)
 -- the lane has a point at which one in that block has one
 abbrev pub is_met_by : Table → ℕ → Cell → Bool
 is_met_by x lane c = list_any (λ e. is_met x lane c.block (stretch_of x.order.slots e)) (cell_extents c)
+
+abbrev pub are_met_in : Table → ℕ → Option Cell → Bool
+are_met_in x lane None = false
+are_met_in x lane (Some c) = is_met_by x lane c
 
 -- two lanes have a point in common
 abbrev pub do_meet : Table → ℕ → ℕ → Bool
