@@ -4,11 +4,10 @@
 ghost use Rattle.std.specs.Prelude.{◌≡◌, ◌∷◌, [], MatchOption};
 ghost use Rattle.mir_meaning.specs.Agreement.{same_op, undef_alike, register_alike, operand_alike, implicit_alike, all_alike, are_partners};
 ghost use Rattle.mir_func.specs.Binding.{is_implicit_operand, explicit_operands, implicit_registers};
-ghost use Rattle.mir_meaning.specs.Rules.{is_virtual, same_loc};
 
 use crate::facts::same_bytes;
-use mir_func::operands::is_implicit_operand;
-use mir_func::{Instr, Loc, Op, Operand, RegOp};
+use mir_func::operands::{is_implicit_operand, is_virtual, same_loc};
+use mir_func::{Instr, Op, Operand, RegOp};
 
 fn same_op(a: &Op, b: &Op) -> bool
     ensures { result ≡ same_op a.now b.now }
@@ -17,25 +16,6 @@ fn same_op(a: &Op, b: &Op) -> bool
         (Op::Known(x), Op::Known(y)) => x.0 == y.0,
         (Op::Excluded(x), Op::Excluded(y)) => same_bytes(x.as_slice(), y.as_slice()),
         _ => false,
-    }
-}
-
-fn same_loc(a: Loc, b: Loc) -> bool
-    ensures { result ≡ same_loc a b }
-{
-    match (a, b) {
-        (Loc::Virtual(v), Loc::Virtual(w)) => v == w,
-        (Loc::Fixed(r), Loc::Fixed(q)) => r.0 == q.0,
-        _ => false,
-    }
-}
-
-fn is_virtual(loc: Loc) -> bool
-    ensures { result ≡ is_virtual loc }
-{
-    match loc {
-        Loc::Virtual(_) => true,
-        Loc::Fixed(_) => false,
     }
 }
 

@@ -2,8 +2,7 @@
 
 ghost use Rattle.std.specs.Prelude.{◌≡◌};
 ghost use Rattle.std.specs.List.{list_any};
-ghost use Rattle.mir_func.specs.Binding.{registers};
-ghost use Rattle.mir_meaning.specs.Rules.{is_virtual};
+ghost use Rattle.mir_func.specs.Binding.{registers, is_virtual};
 ghost use Rattle.mir_meaning.specs.Valid.{names_virtual};
 
 use mir_func::{Block, Func, Instr, Loc, Operand};

@@ -1,10 +1,9 @@
 //! The edges of a function's flow graph, by places in layout.
 
-ghost use Rattle.std.specs.Prelude.{◌≡◌, ◌++◌, ◌==◌, OnOk, IfOk};
-ghost use Rattle.std.specs.List.{position};
-ghost use Rattle.mir_func.specs.Edits.{block_place};
+ghost use Rattle.std.specs.Prelude.{◌≡◌, ◌++◌, OnOk, IfOk};
 ghost use Rattle.block_freq.specs.Frequencies.{edges_from, all_edges};
 
+use mir_func::func::block_at;
 use mir_func::{Block, Edge};
 use std::alloc::{AllocError, Global};
 
@@ -17,21 +16,6 @@ pub struct BlockEdge {
     pub to: usize,
     /// Its probability in units of 2^-31.
     pub prob: u32,
-}
-
-/// The place of the first block of that number.
-fn find_block(blocks: &[Block], number: u32) -> Option<usize>
-    ensures { result ≡ position (λ b. b.number == number) blocks.now }
-{
-    blocks.iter().position(|b| b.number == number)
-}
-
-/// The place of the first block of that number, or their count.
-#[tactic(auto, using(mir_func::proofs::Places::places))]
-fn place_of(blocks: &[Block], number: u32) -> usize
-    ensures { result ≡ block_place number blocks.now }
-{
-    find_block(blocks, number).unwrap_or(blocks.len())
 }
 
 /// Puts the edges of one block, which stands at `from`, behind the others.
@@ -47,7 +31,7 @@ fn push_edges(
     'successors: for e in successors {
         edges.push(BlockEdge {
             from,
-            to: place_of(blocks, e.block),
+            to: block_at(blocks, e.block),
             prob: e.prob,
         })?;
     }

@@ -3,6 +3,7 @@ pub mod Choosing
 pub mod Clashing
 pub mod Domains
 pub mod Evicted
+pub mod Firsts
 pub mod Hinted
 pub mod Known
 pub mod Ranked

@@ -1,8 +1,8 @@
 //! The cheapest eviction.
 
-ghost use Rattle.std.specs.Prelude.{◌≡◌, ◌<◌, ◌+◌, ◌^◌, ◌&&◌, ℕ, true, false, not, nat_lt, map, length, option_map, is_none, IfOk, IfSome};
+ghost use Rattle.std.specs.Prelude.{◌≡◌, ◌<◌, ◌+◌, ◌^◌, ◌&&◌, ℕ, true, false, not, nat_lt, map, length, find, option_map, is_none, IfOk, IfSome};
 ghost use Rattle.std.specs.List.{list_all};
-ghost use Rattle.interference.specs.Clashes.{IsOrdered, is_fixed};
+ghost use Rattle.interference.specs.Clashes.{IsOrdered, is_fixed, is_free};
 ghost use Rattle.evictor.specs.Best.{best_with};
 ghost use Rattle.evictor.specs.Settings.{ranking_of};
 ghost use Rattle.evictor.specs.Hints.{assignment_of, copies_count};
@@ -18,18 +18,36 @@ use interference::{Clash, Matrix};
 use std::alloc::{AllocError, Global};
 use target_base::{Numbers, Reg};
 
+/// The first of these registers that is free for a range.
+#[tactic(auto, using(crate::proofs::Firsts::firsts))]
+pub fn first_free(m: &Matrix, v: u32, found: &[Reg]) -> Option<Reg>
+    ensures { IsOrdered m.now → result ≡ find (is_free m.now v) found.now }
+{
+    'candidates: for r in found {
+        if m.free(v, *r) {
+            return Some(*r);
+        }
+    }
+    None
+}
+
 /// What an eviction for a range is asked by.
 #[derive(Clone, Copy)]
-struct View<'a> {
-    alloc: Global,
-    m: &'a Matrix,
-    freqs: &'a Freqs,
-    ranks: &'a Ranks,
-    range: u32,
+pub struct View<'a> {
+    /// The allocator of memory.
+    pub alloc: Global,
+    /// The function with what is live in it, and what the assigned ranges hold.
+    pub m: &'a Matrix,
+    /// The frequencies of blocks.
+    pub freqs: &'a Freqs,
+    /// The stages and cascade numbers of ranges.
+    pub ranks: &'a Ranks,
+    /// The range.
+    pub range: u32,
     /// The number that the range compares with the cascades of those in its way.
-    number: u32,
+    pub number: u32,
     /// Its weight, which those in the way must have less of; none where they need not.
-    weight: Option<u128>,
+    pub weight: Option<u128>,
 }
 
 /// A range and its weight, which was found before.
@@ -50,11 +68,13 @@ struct Way {
 
 /// A register and the ranges in the way there.
 #[derive(Drop)]
-struct Eviction {
-    register: Reg,
+pub struct Eviction {
+    /// The register.
+    pub register: Reg,
     /// The greatest weight of these.
-    cost: u128,
-    victims: Numbers,
+    pub cost: u128,
+    /// The ranges in the way, by their numbers.
+    pub victims: Numbers,
 }
 
 /// Whether an eviction costs less than another, or as much with fewer victims.
@@ -268,7 +288,7 @@ fn look(view: View<'_>, r: Reg) -> Result<Way, AllocError>
 }
 
 /// The eviction that gives the range a register, where it may take it.
-fn eviction_at(view: View<'_>, r: Reg) -> Result<Option<Eviction>, AllocError>
+pub fn eviction_at(view: View<'_>, r: Reg) -> Result<Option<Eviction>, AllocError>
     ensures { IfOk result (λ found. IsOrdered view.entry.m.now → Weighs view.entry.m.now.live.table view.entry.m.now.live.func view.entry.freqs.now
         → view.entry.number ≡ number (ranking_of view.entry.ranks.now) view.entry.range
         → view.entry.weight ≡ limit (setting_of view.entry.m.now view.entry.freqs.now view.entry.ranks.now view.entry.range)
@@ -304,6 +324,31 @@ fn limit(
     Ok(Some(own))
 }
 
+/// What an eviction for a range is asked by.
+pub fn view_of<'a>(
+    alloc: Global,
+    m: &'a Matrix,
+    v: u32,
+    freqs: &'a Freqs,
+    ranks: &'a Ranks,
+) -> Result<View<'a>, AllocError>
+    ensures given { IfOk result (λ view. (view.m.now ≡ m.now) × (view.freqs.now ≡ freqs.now) × (view.ranks.now ≡ ranks.now) × (view.range ≡ v)) }
+    ensures number { IfOk result (λ view. ranks.now.greatest + 1 < 2 ^ 32 → view.number ≡ number (ranking_of ranks.now) v) }
+    ensures weight { IfOk result (λ view. Weighs m.now.live.table m.now.live.func freqs.now → view.weight ≡ limit (setting_of m.now freqs.now ranks.now v)) }
+{
+    let number = ranks.number(v);
+    let weight = limit(alloc, m, v, freqs, ranks)?;
+    Ok(View {
+        alloc,
+        m,
+        freqs,
+        ranks,
+        range: v,
+        number,
+        weight,
+    })
+}
+
 /// What `cheapest` answers, where these are the candidates.
 pub fn cheapest_of(
     alloc: Global,
@@ -316,17 +361,7 @@ pub fn cheapest_of(
     ensures { IfOk result (λ answer. IsOrdered m.now → Weighs m.now.live.table m.now.live.func freqs.now → ranks.now.greatest + 1 < 2 ^ 32
         → answer ≡ cheapest_of (setting_of m.now freqs.now ranks.now v) found.now) }
 {
-    let number = ranks.number(v);
-    let weight = limit(alloc, m, v, freqs, ranks)?;
-    let view = View {
-        alloc,
-        m,
-        freqs,
-        ranks,
-        range: v,
-        number,
-        weight,
-    };
+    let view = view_of(alloc, m, v, freqs, ranks)?;
     let mut best: Option<Eviction> = None;
     'candidates: for r in found {
         best = best_with(eviction_at(view, *r)?, best);

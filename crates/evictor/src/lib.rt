@@ -6,7 +6,7 @@ mod hints;
 pub mod ranks;
 pub mod weights;
 
-pub use choice::{cheapest, cheapest_of};
+pub use choice::{Eviction, View, cheapest, cheapest_of, eviction_at, first_free, view_of};
 pub use hints::candidates;
 pub use ranks::{Ranks, Stage, Stages};
 pub use weights::weight;

@@ -1,7 +1,10 @@
-//! The run of the greedy allocator (LLVM's RegAllocGreedy), step by step.
+//! The run of an allocator, step by step: of the greedy one (LLVM's RegAllocGreedy) and of the basic
+//! one (LLVM's RegAllocBasic).
 #![tactic(auto)]
 
+mod basic;
 mod divide;
+mod ledger;
 mod queue;
 mod run;
 mod steps_done;

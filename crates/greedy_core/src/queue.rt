@@ -6,10 +6,10 @@ use std::collections::BTreeSet;
 /// Ranges with their priorities. The highest priority comes first, and the lower number at a tie.
 #[derive(Drop)]
 pub(crate) struct Queue {
-    /// What is left of 2^64 - 1 without the priority, and the range.
-    waiting: BTreeSet<(u64, u32)>,
+    /// What is left of 2^128 - 1 without the priority, and the range.
+    waiting: BTreeSet<(u128, u32)>,
     /// The first of these of each range that waits, by range.
-    keys: Vec<Option<u64>>,
+    keys: Vec<Option<u128>>,
 }
 
 impl Queue {
@@ -21,11 +21,11 @@ impl Queue {
         }
     }
 
-    fn key(&self, v: u32) -> Option<u64> {
+    fn key(&self, v: u32) -> Option<u128> {
         self.keys.get(v as usize).copied().unwrap_or(None)
     }
 
-    fn set_key(&mut self, v: u32, key: Option<u64>) {
+    fn set_key(&mut self, v: u32, key: Option<u128>) {
         if let Some(place) = self.keys.get_mut(v as usize) {
             *place = key;
         }
@@ -41,10 +41,10 @@ impl Queue {
     }
 
     /// Lets a range wait.
-    pub fn add(&mut self, v: u32, priority: u64) -> Result<(), AllocError> {
+    pub fn add(&mut self, v: u32, priority: u128) -> Result<(), AllocError> {
         self.make_room(v)?;
         self.remove(v);
-        let key = u64::MAX - priority;
+        let key = u128::MAX - priority;
         self.waiting.insert((key, v))?;
         self.set_key(v, Some(key));
         Ok(())

@@ -3,7 +3,9 @@
 ghost use Rattle.std.specs.Prelude.{◌∷◌, List, OnOk, OnErr};
 ghost use Rattle.watchers.specs.declared.steps.Step.{Step};
 ghost use Rattle.watchers.specs.Told.{AllTold, PartTold};
+ghost use Rattle.greedy_core.specs.Bounds.{AreBounded};
 
+use crate::ledger::Ledger;
 use crate::queue::Queue;
 use block_freq::Freqs;
 use evictor::{Ranks, Stage, Stages};
@@ -14,7 +16,7 @@ use spiller::{Allocated, RunStop, SlotMap};
 use split_choose::Bundles;
 use std::alloc::{AllocError, Global};
 use std::collections::BTreeMap;
-use target_base::{Numbers, Target};
+use target_base::{Copied, Numbers, Target};
 use watchers::{Step, Watcher, tell_all};
 
 /// Which allocator runs.
@@ -34,6 +36,8 @@ pub enum Policy {
 pub(crate) struct Run {
     pub alloc: Global,
     pub policy: Policy,
+    /// The frequencies of blocks, by which ranges weigh.
+    pub freqs: Freqs,
     pub matrix: Matrix,
     /// The edge bundles of the function.
     pub bundles: Bundles,
@@ -51,7 +55,9 @@ pub(crate) struct Run {
 /// Runs the allocator over a function from its first state to the one in which no range waits.
 /// Each watcher is told every step, in order, from the beginning of the run over the function of
 /// this number. Ranges comes where a step gives more range numbers than the limit allows. After a
-/// refusal each watcher was told a first part of the steps.
+/// refusal each watcher was told a first part of the steps. Each range is spilled at most once, and
+/// tinies are placed at most as often as there are tinies: Unfinished would come before a step that
+/// breaks this.
 pub fn allocate<W: Watcher>(
     alloc: Global,
     target: &Target,
@@ -62,15 +68,17 @@ pub fn allocate<W: Watcher>(
     watchers: &mut Vec<W>,
 ) -> Result<Allocated, RunStop>
     ensures told { OnOk result ((steps : List Step) × AllTold (W.next target.now) (Step.Begin number ∷ steps) watchers.old.items watchers.new.items) }
+    ensures bounds { OnOk result ((steps : List Step) × AllTold (W.next target.now) (Step.Begin number ∷ steps) watchers.old.items watchers.new.items × AreBounded steps) }
     ensures part { OnErr result ((steps : List Step) × PartTold (W.next target.now) steps watchers.old.items watchers.new.items) }
 {
-    let mut run = Run::new(alloc, policy, f)?;
+    let mut run = Run::new(alloc, policy, f, freqs)?;
+    let mut ledger = Ledger::new(alloc);
     tell_all(watchers, target, &Step::Begin(number))?;
     'steps: for _ in 0..u64::MAX {
         let Some(v) = run.queue.pop() else {
             return Ok(run.finished());
         };
-        run.step(target, freqs, v, watchers)?;
+        run.step(target, freqs, v, &mut ledger, watchers)?;
     }
     Err(RunStop::Unfinished)
 }
@@ -106,21 +114,22 @@ fn named(alloc: Global, f: &Func) -> Result<Vec<bool>, AllocError> {
 }
 
 impl Run {
-    fn new(alloc: Global, policy: Policy, f: LiveFunc) -> Result<Run, AllocError> {
+    fn new(alloc: Global, policy: Policy, f: LiveFunc, freqs: &Freqs) -> Result<Run, AllocError> {
         let named = named(alloc, f.func())?;
-        let mut run = Run::empty(alloc, policy, f)?;
+        let mut run = Run::empty(alloc, policy, f, freqs)?;
         run.add_ranges()?;
         run.enqueue_named(named.as_slice())?;
         Ok(run)
     }
 
     /// A run that knows of no range.
-    fn empty(alloc: Global, policy: Policy, f: LiveFunc) -> Result<Run, AllocError> {
+    fn empty(alloc: Global, policy: Policy, f: LiveFunc, freqs: &Freqs) -> Result<Run, AllocError> {
         let slots = SlotMap::new(alloc, f.func())?;
         let bundles = Bundles::of(alloc, &f)?;
         Ok(Run {
             alloc,
             policy,
+            freqs: freqs.copied(alloc)?,
             bundles,
             matrix: Matrix::new(alloc, f)?,
             slots,
@@ -196,9 +205,17 @@ impl Run {
         self.queue.add(v, priority)
     }
 
+    /// The priority of a range under the policy.
+    fn priority(&self, v: u32) -> Result<u128, AllocError> {
+        match self.policy {
+            Policy::Greedy | Policy::Cut => Ok(self.greedy_priority(v)? as u128),
+            Policy::Basic => self.basic_priority(v),
+        }
+    }
+
     /// The priority of a range: tinies come first, then ranges of several blocks, the largest first,
     /// then ranges of one block in layout order, then those that are to be split or spilled.
-    fn priority(&self, v: u32) -> Result<u64, AllocError> {
+    fn greedy_priority(&self, v: u32) -> Result<u64, AllocError> {
         let live = self.matrix.live();
         Ok(match self.stage(v) {
             Stage::Tiny => 1 << 31,

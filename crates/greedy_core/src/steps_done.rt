@@ -1,35 +1,58 @@
 //! The steps of a run: for the range that comes first, the first of them that applies is done.
 
-ghost use Rattle.std.specs.Prelude.{◌≡◌, OnOk, OnErr, map};
+ghost use Rattle.std.specs.Prelude.{◌++◌, List, OnOk, OnErr};
 ghost use Rattle.watchers.specs.declared.steps.Step.{Step};
-ghost use Rattle.watchers.specs.Told.{FirstBecame};
+ghost use Rattle.watchers.specs.Told.{AllTold, PartTold};
+ghost use Rattle.greedy_core.specs.Ledgers.{Records};
 
-use crate::run::Run;
+use crate::ledger::Ledger;
+use crate::run::{Policy, Run};
 use block_freq::Freqs;
-use evictor::{Stage, candidates, cheapest_of};
+use evictor::{Stage, candidates, cheapest_of, first_free};
 use interference::{Clash, Tinies, Tiny};
 use place_solve::solve;
 use spiller::{RunStop, spill};
 use std::alloc::AllocError;
 use std::collections::BTreeSet;
 use target_base::{Numbers, Reg, Target};
-use watchers::{Choices, Step, Watcher, tell_all};
+use watchers::{Choices, Step, Steps, Watcher, tell_steps};
 
 impl Run {
-    /// Does a step for a range, and tells it to all watchers, in order.
+    /// Does a step for a range, and tells all watchers of it, in order.
     pub fn step<W: Watcher>(
         &mut self,
         target: &Target,
         freqs: &Freqs,
         v: u32,
+        ledger: &mut Ledger,
         watchers: &mut Vec<W>,
     ) -> Result<(), RunStop>
-        ensures told { OnOk result ((step : Step) × (watchers.new.items ≡ map (λ w. W.next target.now w step) watchers.old.items)) }
-        ensures part { OnErr result ((step : Step) × FirstBecame (λ w. W.next target.now w step) watchers.old.items watchers.new.items) }
+        ensures told { OnOk result ((steps : List Step) × AllTold (W.next target.now) steps watchers.old.items watchers.new.items
+            × ((done : List Step) → Records ledger.old done → Records ledger.new (done ++ steps))) }
+        ensures part { OnErr result ((steps : List Step) × PartTold (W.next target.now) steps watchers.old.items watchers.new.items) }
     {
-        let done = self.first_step(freqs, v)?;
-        tell_all(watchers, target, &done)?;
+        let done = self.steps(freqs, v)?;
+        ledger.enter_all(&done)?;
+        tell_steps(watchers, target, &done)?;
         Ok(())
+    }
+
+    /// Does what the policy does for a range, and answers what is told of it.
+    fn steps(&mut self, freqs: &Freqs, v: u32) -> Result<Steps, RunStop> {
+        match self.policy {
+            Policy::Greedy | Policy::Cut => {
+                let done = self.first_step(freqs, v)?;
+                Ok(self.alone(done)?)
+            }
+            Policy::Basic => self.basic_steps(v),
+        }
+    }
+
+    /// A step, as the only one that is told.
+    pub fn alone(&self, done: Step) -> Result<Steps, AllocError> {
+        let mut steps = Steps::new(self.alloc);
+        steps.push(done)?;
+        Ok(steps)
     }
 
     /// Does the first step that applies, and answers it.
@@ -47,14 +70,19 @@ impl Run {
     /// Gives a range a free register, or that of cheaper ranges.
     fn step_in_registers(&mut self, freqs: &Freqs, v: u32) -> Result<Option<Step>, AllocError> {
         let found = candidates(self.alloc, &self.matrix, v, freqs)?;
-        if let Some(r) = self.free_register(v, found.as_slice()) {
-            self.matrix.assign(v, r)?;
-            return Ok(Some(Step::Assign(v, r)));
+        if let Some(r) = first_free(&self.matrix, v, found.as_slice()) {
+            return Ok(Some(self.take(v, r)?));
         }
         if self.stage(v) == Stage::Split {
             return Ok(None);
         }
         self.step_by_eviction(freqs, v, found.as_slice())
+    }
+
+    /// Gives a range a free register.
+    pub fn take(&mut self, v: u32, r: Reg) -> Result<Step, AllocError> {
+        self.matrix.assign(v, r)?;
+        Ok(Step::Assign(v, r))
     }
 
     /// Gives a range the register of cheaper ranges.
@@ -68,11 +96,6 @@ impl Run {
             Some((r, victims)) => Ok(Some(self.evict(v, r, victims)?)),
             None => Ok(None),
         }
-    }
-
-    /// The first candidate that is free.
-    fn free_register(&self, v: u32, found: &[Reg]) -> Option<Reg> {
-        found.iter().find(|r| self.matrix.free(v, **r)).copied()
     }
 
     /// Gives a range the register of others, which wait again.
@@ -94,7 +117,7 @@ impl Run {
         }
     }
 
-    fn enqueue_all(&mut self, ranges: &[u32]) -> Result<(), AllocError> {
+    pub fn enqueue_all(&mut self, ranges: &[u32]) -> Result<(), AllocError> {
         'ranges: for w in ranges {
             self.enqueue(*w)?;
         }
@@ -111,18 +134,33 @@ impl Run {
     fn divide_or_spill(&mut self, freqs: &Freqs, v: u32) -> Result<Step, RunStop> {
         match self.divide(freqs, v)? {
             Some(done) => Ok(done),
-            None => self.spill(v),
+            None => self.spill_alone(v),
         }
     }
 
     /// Spills a range. The ranges of its places wait.
-    fn spill(&mut self, v: u32) -> Result<Step, RunStop> {
+    pub fn spill_alone(&mut self, v: u32) -> Result<Step, RunStop> {
+        let done = self.spill(v)?;
+        self.enqueue_tinies(&done)?;
+        Ok(done)
+    }
+
+    /// Spills a range. The ranges of its places are known, and don't wait yet.
+    pub fn spill(&mut self, v: u32) -> Result<Step, RunStop> {
         let tinies = spill(self.alloc, &mut self.matrix, &mut self.slots, v)?;
         let numbers = self.add_tinies(&tinies)?;
         Ok(Step::Spill(v, numbers))
     }
 
-    /// The ranges of places wait. Answers their numbers.
+    /// The ranges that a spill made wait.
+    pub fn enqueue_tinies(&mut self, spilled: &Step) -> Result<(), AllocError> {
+        match spilled {
+            Step::Spill(_, tinies) => self.enqueue_all(tinies.as_slice()),
+            _ => Ok(()),
+        }
+    }
+
+    /// The ranges of places become known. Answers their numbers.
     fn add_tinies(&mut self, tinies: &Tinies) -> Result<Numbers, AllocError> {
         self.add_ranges()?;
         let mut numbers = Numbers::new(self.alloc);
@@ -138,8 +176,7 @@ impl Run {
         if let Some(place) = self.places.get_mut(tiny.range as usize) {
             *place = Some(tiny.at);
         }
-        self.add_to_place(tiny)?;
-        self.enqueue(tiny.range)
+        self.add_to_place(tiny)
     }
 
     fn add_to_place(&mut self, tiny: Tiny) -> Result<(), AllocError> {
@@ -169,7 +206,7 @@ impl Run {
     }
 
     /// Gives the tinies of a place their registers together. The ranges in their way wait again.
-    fn place(&mut self, v: u32) -> Result<Step, RunStop> {
+    pub fn place(&mut self, v: u32) -> Result<Step, RunStop> {
         let tinies = self.tinies_beside(v)?;
         let Some(choices) = solve(self.alloc, &self.matrix, &tinies)? else {
             return Err(RunStop::Unfinished);
@@ -186,7 +223,7 @@ impl Run {
         self.enqueue_all(clashers.as_slice())
     }
 
-    fn unassign_all(&mut self, ranges: &[u32]) {
+    pub fn unassign_all(&mut self, ranges: &[u32]) {
         'ranges: for w in ranges {
             self.matrix.unassign(*w);
         }

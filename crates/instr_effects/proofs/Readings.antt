@@ -16,10 +16,9 @@ use Rattle.mir_func.specs.declared.func.Operand.{Operand}
 use Rattle.mir_func.specs.declared.func.Operand.TheVariants as operands
 use Rattle.mir_func.specs.declared.func.Instr.{Instr}
 use Rattle.mir_func.specs.Value.{Function}
-use Rattle.mir_func.specs.Binding.{registers, explicit_operands, implicit_roles, roles_of, immediate_of}
+use Rattle.mir_func.specs.Binding.{registers, explicit_operands, implicit_roles, roles_of, immediate_of, puts_together}
 use Rattle.mir_meaning.specs.Registers.{use_sources}
 use Rattle.mir_meaning.specs.Items.{Value, value_of, values, use_value, flag_value, constant_value, computes_with_immediates, has_base, implicit_values, is_flags, first_width, silent_reads, uses}
-use Rattle.mir_meaning.specs.Rules.{puts_together}
 use Rattle.instr_effects.specs.Owners.{owners_read}
 use Rattle.instr_effects.specs.Acts.{use_owners, read_owners, explicit_uses, implicit_uses, takes_some, flag_owners, tested_role, implicit_owners, counted_owners}
 

@@ -12,7 +12,6 @@ use Rattle.target_base.specs.declared.types.IndexId.{IndexId}
 use Rattle.mir_func.specs.Value.{Function}
 use Rattle.mir_meaning.specs.Registers.{numbers, use_sources, undefined_lanes}
 use Rattle.mir_meaning.specs.Items.{copied, defined_undef, given_constant, reloaded, result_writes, silent_reads, uses}
-use Rattle.mir_meaning.specs.Rules.{puts_together}
 use Rattle.instr_effects.specs.declared.lanes.LaneTable.{LaneTable}
 use Rattle.instr_effects.specs.declared.owner.Owner.TheVariants as owners
 use Rattle.instr_effects.specs.declared.row.Lanes.{Lanes}
@@ -21,7 +20,7 @@ use Rattle.instr_effects.specs.Numbers.{row_number_in}
 use Rattle.instr_effects.specs.Numbered.{number_in}
 use Rattle.instr_effects.specs.Owners.{owner_of, source_owner, operand_owners}
 use Rattle.instr_effects.specs.Acts.{plain, acts_of, use_owners, read_owners, is_constant, slot_numbers, filled_whole, stored}
-use Rattle.mir_func.specs.Binding.{register_at, slot_at}
+use Rattle.mir_func.specs.Binding.{register_at, slot_at, puts_together}
 use Rattle.mir_meaning.specs.declared.writing.Writing.{Writing}
 use Rattle.instr_effects.specs.Steps.{Numbering, act_writings, act_readings}
 use Rattle.instr_effects.specs.Runs.{one_writing, one_move, one_kept, of_kind}

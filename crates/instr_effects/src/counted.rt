@@ -2,10 +2,7 @@
 
 ghost use Rattle.std.specs.Prelude.{◌≡◌, ◌++◌, OnOk, map, filter, filter_map, find, flat_map, nat_abs, not, false, ◌&&◌, cond, []};
 ghost use Rattle.std.specs.List.{list_any};
-ghost use Rattle.target_base.specs.Numbers.{unit_number};
 ghost use Rattle.target_base.specs.Roles.{is_implicit};
-ghost use Rattle.target_base.specs.Registers.{units_of};
-ghost use Rattle.target_base.specs.Storage.{is_among};
 ghost use Rattle.meaning.specs.Perform.{condition_lane};
 ghost use Rattle.mir_func.specs.Binding.{immediate_of};
 ghost use Rattle.mir_meaning.specs.Items.{preserves, result_writes};
@@ -18,57 +15,24 @@ ghost use Rattle.instr_effects.specs.declared.owner.Owner.TheVariants as owners;
 
 use crate::effects::Reader;
 use crate::items::counted::condition_lane;
+use crate::masks::is_preserved;
 use crate::run::{push_lane, push_writing};
 use mir_func::opcodes::is_early_clobber;
 use mir_func::operands::immediate_of;
-use mir_func::{Loc, Operand, RegOp};
+use mir_func::{Operand, RegOp, operands};
 use mir_meaning::Writing;
 use std::alloc::AllocError;
-use target_base::registers::has_unit_number;
-use target_base::roles::is_implicit;
-use target_base::{Effect, OpcodeDesc, Reg, Role, Target};
-
-/// Whether one of these registers has a unit.
-fn have_unit(target: &Target, regs: &[Reg], u: u32) -> bool
-    ensures { result ≡ list_any (λ r. is_among (units_of target.now r) (unit_number u)) regs.now }
-{
-    regs.iter().any(|r| has_unit_number(target.units_at(*r), u))
-}
-
-/// Whether an operand is a mask that preserves a unit.
-#[tactic(auto, using(crate::proofs::Masks::mask_preserves))]
-fn preserves(target: &Target, operand: &Operand, u: u32) -> bool
-    ensures { result ≡ preserves target.now u operand.now }
-{
-    match operand {
-        Operand::Mask(mask) => have_unit(target, target.mask_regs(*mask), u),
-        _ => false,
-    }
-}
-
-/// Whether a mask among the operands preserves a unit.
-fn is_preserved(target: &Target, operands: &[Operand], u: u32) -> bool
-    ensures { result ≡ list_any (preserves target.now u) operands.now }
-{
-    operands.iter().any(|o| preserves(target, o, u))
-}
+use target_base::roles::{first_implicit, is_implicit};
+use target_base::{Effect, OpcodeDesc, Role, Target};
 
 /// Whether an operand is what a role names.
 fn takes_role(op: &RegOp, role: Option<Role>) -> bool
     ensures { result ≡ takes_some role op.now }
 {
-    match (role, op.loc) {
-        (Some(Role::ImpDef(r)), Loc::Fixed(own)) => op.def && own == r,
-        (Some(Role::ImpRead(r)), Loc::Fixed(own)) => !op.def && own == r,
-        _ => false,
+    match role {
+        None => false,
+        Some(role) => operands::takes_role(op, role),
     }
-}
-
-/// The first implicit role.
-fn first_implicit(roles: &[Role]) -> Option<Role>
-    ensures { result ≡ find is_implicit roles.now }
-{
-    roles.iter().copied().find(|r| is_implicit(*r))
 }
 
 /// Whether an effect is a call.

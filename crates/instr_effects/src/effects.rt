@@ -168,7 +168,7 @@ fn block_at(operands: &[Operand], place: usize) -> Option<u32>
 }
 
 /// The use and the block that stand first, if they do.
-fn first_pair(operands: &[Operand]) -> Option<(RegOp, u32)>
+pub fn first_pair(operands: &[Operand]) -> Option<(RegOp, u32)>
     ensures { result ≡ first_pair operands.now }
 {
     match register_at(operands, 0) {

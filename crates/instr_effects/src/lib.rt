@@ -9,6 +9,7 @@ pub mod items;
 pub mod lane_acts;
 pub mod lanes;
 pub mod laws;
+pub mod masks;
 pub mod numbers;
 pub mod operand;
 pub mod owner;

@@ -92,13 +92,6 @@ impl LaneTable {
     }
 }
 
-/// Whether a unit is reserved.
-fn is_reserved(target: &Target, u: u32) -> bool
-    ensures { result ≡ is_reserved_unit target.now u }
-{
-    target.reserved.as_slice().iter().any(|r| r.0 as u32 == u)
-}
-
 /// So many lanes from a number on.
 fn lanes_at(first: usize, count: usize) -> Result<Lanes, AllocError>
     ensures first { IfOk result (λ x. x.first ≡ first) }
@@ -138,7 +131,7 @@ fn reserved_units(alloc: Global, target: &Target) -> Result<Vec<bool>, AllocErro
     };
     let mut units = Vec::new(alloc);
     'units: for u in 0..limit {
-        units.push(is_reserved(target, u))?;
+        units.push(target.is_reserved_unit(u))?;
     }
     Ok(units)
 }

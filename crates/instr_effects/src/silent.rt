@@ -1,7 +1,7 @@
 //! What silent instructions read and write.
 
 ghost use Rattle.std.specs.Prelude.{◌≡◌, ◌++◌, OnOk, map, filter_map, flat_map, cond, None, [], not};
-ghost use Rattle.mir_meaning.specs.Rules.{puts_together};
+ghost use Rattle.mir_func.specs.Binding.{puts_together};
 ghost use Rattle.mir_meaning.specs.Items.{copied, defined_undef, given_constant, reloaded, silent_reads};
 ghost use Rattle.instr_effects.specs.Acts.{acts_of, read_owners, use_owners, filled_whole, stored, silent_acts, slot_numbers, is_constant};
 ghost use Rattle.instr_effects.specs.Numbered.{number_in};
@@ -13,18 +13,12 @@ ghost use Rattle.instr_effects.specs.declared.owner.Owner.TheVariants as owners;
 use crate::effects::{Effects, Reader};
 use crate::registers::operand_at;
 use crate::run::{Run, move_lanes};
+use mir_func::opcodes::puts_together;
 use mir_func::operands::{register_at, slot_at};
 use mir_func::{Operand, RegOp};
 use mir_meaning::Writing;
 use std::alloc::AllocError;
 use target_base::Effect;
-
-/// Whether an instruction puts a register together from parts.
-fn puts_together(effect: Effect) -> bool
-    ensures { result ≡ puts_together effect }
-{
-    matches!(effect, Effect::RegSequence | Effect::InsertSubreg)
-}
 
 /// Whether an operand is an immediate or an address.
 fn is_constant(operand: &Operand) -> bool

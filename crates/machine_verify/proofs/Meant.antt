@@ -13,9 +13,9 @@ use Rattle.mir_func.specs.declared.func.RegOp.{RegOp}
 use Rattle.mir_func.specs.Value.{Function}
 use Rattle.mir_meaning.specs.declared.Form.{Form}
 use Rattle.mir_meaning.specs.declared.Form.TheVariants as forms
-use Rattle.mir_func.specs.Binding.{Bound, known_opcode, registers, implicit_registers, bound, explicit_bound, explicit_roles, explicit_operands, implicit_bound, implicit_roles, tied_uses, tied_pair, passes, roles_of}
+use Rattle.mir_func.specs.Binding.{Bound, known_opcode, registers, implicit_registers, bound, explicit_bound, explicit_roles, explicit_operands, implicit_bound, implicit_roles, tied_uses, tied_pair, passes, roles_of, puts_together}
 use Rattle.mir_meaning.specs.Registers.{has_number}
-use Rattle.mir_meaning.specs.Rules.{V1, V2, V3, V4, V5, V11, V12, V15, in_operand_class, widths_fit, has_class, index_fits, puts_together, subregs_fit, flags_fit, operands_fit, block_numbers, successors_of, named_blocks, slot_fits, tie_fits, spills_or_reloads}
+use Rattle.mir_meaning.specs.Rules.{V1, V2, V3, V4, V5, V11, V12, V15, in_operand_class, widths_fit, has_class, index_fits, subregs_fit, flags_fit, operands_fit, block_numbers, successors_of, named_blocks, slot_fits, tie_fits, spills_or_reloads}
 use Rattle.machine_verify.specs.declared.asked.Asked.{Asked}
 use Rattle.machine_verify.specs.declared.numbers.NumberSet.{NumberSet}
 use Rattle.machine_verify.specs.Asked.{IsAsked}

@@ -9,8 +9,8 @@ use Rattle.mir_func.specs.declared.func.Instr.{Instr}
 use Rattle.mir_func.specs.Value.{Function}
 use Rattle.mir_meaning.specs.declared.Form.{Form}
 use Rattle.mir_meaning.specs.declared.Form.TheVariants as forms
-use Rattle.mir_func.specs.Binding.{known_opcode, does, is_terminator, registers, bound}
-use Rattle.mir_meaning.specs.Rules.{V1, V2, V3, V4, V11, V12, V15, block_of, lists_once, is_lowered_away}
+use Rattle.mir_func.specs.Binding.{known_opcode, does, is_terminator, registers, bound, is_lowered_away}
+use Rattle.mir_meaning.specs.Rules.{V1, V2, V3, V4, V11, V12, V15, block_of, lists_once}
 use Rattle.mir_meaning.specs.Valid.{first_failing}
 use Rattle.machine_verify.specs.declared.asked.Asked.{Asked}
 use Rattle.machine_verify.specs.declared.asked.Before.{Before}

@@ -15,33 +15,25 @@ ghost use Rattle.machine_verify.specs.Parts.{seen, seen_all};
 use crate::lanes::{has_class, has_lanes, index_fits};
 use crate::numbers::are_distinct;
 use crate::parts::BoundOperand;
-use crate::words::puts_together;
 use instr_effects::items::lanes::push_operand_widths;
-use mir_func::opcodes::asked_class;
+use mir_func::opcodes::{asked_class, puts_together};
 use mir_func::operands::class_of;
 use mir_func::{Func, Loc, Operand, RegOp};
 use std::alloc::{AllocError, Global};
 use target_base::classes::{are_within, find_home, hold_subs, holds, regs_at};
 use target_base::{ClassId, Effect, IndexId, List, Numbers, Reg, Role, Target};
 
-/// The registers of a class; none where there is no such class.
-fn regs_of(target: &Target, c: ClassId) -> &[Reg]
-    ensures { result.now ≡ regs_of target.now c }
-{
-    regs_at(target.classes.as_slice(), Some(c))
-}
-
 /// Whether each register of class `c`, through the index, lies in class `k`.
 fn lies_in(target: &Target, k: ClassId, c: ClassId, x: Option<IndexId>) -> bool
     ensures { result ≡ rules.lies_in target.now k c x }
 {
     match x {
-        None => are_within(regs_of(target, c), regs_of(target, k)),
+        None => are_within(target.regs_in(c), target.regs_in(k)),
         Some(i) => hold_subs(
             target.regs.as_slice(),
             target.lanes_at(i),
-            regs_of(target, c),
-            regs_of(target, k),
+            target.regs_in(c),
+            target.regs_in(k),
         ),
     }
 }
@@ -51,7 +43,7 @@ fn register_lies_in(target: &Target, f: &Func, k: ClassId, o: &RegOp) -> bool
     ensures { result ≡ rules.register_lies_in target.now f.now k o.now.loc o.now.index }
 {
     match o.loc {
-        Loc::Fixed(r) => holds(regs_of(target, k), r),
+        Loc::Fixed(r) => holds(target.regs_in(k), r),
         Loc::Virtual(v) => match class_of(f, v) {
             None => false,
             Some(c) => lies_in(target, k, c, o.index),
@@ -439,7 +431,7 @@ pub(crate) fn have_right_indexes(
     operands: &[Operand],
     named: &[RegOp],
 ) -> bool
-    ensures { result ≡ (list_all (λ o. rules.index_fits target.now f.now o.loc o.index) named.now && (not (rules.puts_together effect) || rules.subregs_fit target.now f.now operands.now)) }
+    ensures { result ≡ (list_all (λ o. rules.index_fits target.now f.now o.loc o.index) named.now && (not (binding.puts_together effect) || rules.subregs_fit target.now f.now operands.now)) }
 {
     if !indexes_fit(target, f, named) {
         return false;

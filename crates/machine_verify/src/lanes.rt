@@ -1,27 +1,11 @@
 //! The lanes of operands, where they are known.
 
 ghost use Rattle.std.specs.Prelude.{◌≡◌};
-ghost use Rattle.target_base.specs.Registers.{fits};
 ghost use Rattle.mir_meaning.specs.Rules.{has_lanes_at, has_lanes, index_fits, has_class};
 
 use mir_func::operands::class_of;
 use mir_func::{Func, Loc, RegOp};
-use target_base::classes::{have_subs, regs_at};
-use target_base::{ClassId, IndexId, Target};
-
-/// Whether the index picks the units of a register, of each register of the class.
-pub(crate) fn fits(target: &Target, c: ClassId, x: Option<IndexId>) -> bool
-    ensures { result ≡ fits target.now c x }
-{
-    match x {
-        None => true,
-        Some(i) => have_subs(
-            target.regs.as_slice(),
-            target.lanes_at(i),
-            regs_at(target.classes.as_slice(), Some(c)),
-        ),
-    }
-}
+use target_base::{IndexId, Target};
 
 /// Whether the register has one class, which the index fits.
 fn has_lanes_at(target: &Target, f: &Func, loc: Loc, x: Option<IndexId>) -> bool
@@ -31,7 +15,7 @@ fn has_lanes_at(target: &Target, f: &Func, loc: Loc, x: Option<IndexId>) -> bool
         Loc::Fixed(_) => true,
         Loc::Virtual(v) => match class_of(f, v) {
             None => false,
-            Some(c) => fits(target, c, x),
+            Some(c) => target.fits_at(c, x),
         },
     }
 }
@@ -51,7 +35,7 @@ pub(crate) fn index_fits(target: &Target, f: &Func, loc: Loc, x: Option<IndexId>
         Loc::Fixed(_) => x.is_none(),
         Loc::Virtual(v) => match class_of(f, v) {
             None => true,
-            Some(c) => fits(target, c, x),
+            Some(c) => target.fits_at(c, x),
         },
     }
 }

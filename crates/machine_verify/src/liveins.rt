@@ -6,12 +6,11 @@ ghost use Rattle.std.specs.List.{list_all, list_any};
 ghost use Rattle.target_base.specs.Registers.{units_of, is_reserved_unit};
 ghost use Rattle.target_base.specs.Storage.{is_unreserved, same_numbers};
 ghost use Rattle.mir_meaning.specs.Registers.{has_number, numbers};
-ghost use Rattle.mir_meaning.specs.Rules.{is_virtual};
-ghost use Rattle.mir_func.specs.Binding.{registers};
+ghost use Rattle.mir_func.specs.Binding.{registers, is_virtual};
 ghost use Rattle.mir_meaning.specs.Valid as valid;
 ghost use Rattle.machine_verify.specs.Liveins.{is_set, wanted, wanted_at, chosen_of, standing, register_numbers};
 
-use crate::words::is_virtual;
+use mir_func::operands::is_virtual;
 use mir_func::{Block, Instr, Operand};
 use mir_meaning::Form;
 use std::alloc::{AllocError, Global};

@@ -10,10 +10,12 @@ ghost use Rattle.machine_verify.specs.Operands.{fits_next, reads_virtual, is_blo
 
 use crate::lanes::has_lanes;
 use crate::parts::{implicit_registers, next_role};
-use crate::words::{is_definition, is_use, is_virtual, same_role};
+use crate::words::same_role;
 use instr_effects::items::lanes::push_operand_widths;
 use mir_func::opcodes::takes_many;
-use mir_func::operands::{immediate_of, is_implicit_operand, takes_role};
+use mir_func::operands::{
+    immediate_of, is_definition, is_implicit_operand, is_use, is_virtual, takes_role,
+};
 use mir_func::{Func, Operand, RegOp};
 use std::alloc::{AllocError, Global};
 use target_base::roles::{is_implicit, is_silent};
@@ -163,7 +165,7 @@ fn each_stands(roles: &[Role], implicit: &[RegOp]) -> bool
 
 /// Whether these are fixed registers of a counted opcode.
 fn may_stand(effect: Effect, implicit: &[RegOp]) -> bool
-    ensures { result ≡ list_all (λ o. not (rules.is_virtual o.loc) && not (roles.is_silent effect)) implicit.now }
+    ensures { result ≡ list_all (λ o. not (binding.is_virtual o.loc) && not (roles.is_silent effect)) implicit.now }
 {
     let is_counted = !is_silent(effect);
     implicit.iter().all(|o| !is_virtual(o.loc) && is_counted)

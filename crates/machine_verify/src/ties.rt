@@ -15,11 +15,12 @@ use crate::classes::same_widths;
 use crate::lanes::has_lanes;
 use crate::numbers::{NumberSet, set_of};
 use crate::parts::BoundOperand;
-use crate::words::{is_slot, is_virtual, same_index, same_loc};
+use crate::words::is_slot;
 use instr_effects::items::lanes::{Lanes, push_operand_lanes};
 use instr_effects::items::results::is_reserved;
 use meaning::Lane;
 use mir_func::opcodes::{is_early, is_tied};
+use mir_func::operands::{is_virtual, same_index, same_loc};
 use mir_func::{Func, Loc, Operand, RegOp};
 use mir_meaning::Form;
 use std::alloc::{AllocError, Global};
@@ -138,7 +139,7 @@ pub(crate) fn ties_fit(
 
 /// Whether an operand other than an `undef` one reads the register.
 fn is_read(named: &[RegOp], loc: Loc) -> bool
-    ensures { result ≡ list_any (λ u. rules.same_loc u.loc loc) (rules.readings named.now) }
+    ensures { result ≡ list_any (λ u. binding.same_loc u.loc loc) (rules.readings named.now) }
 {
     for u in named {
         if !u.def && !u.undef && same_loc(u.loc, loc) {

@@ -1,7 +1,8 @@
 -- How the operands of an instruction meet the roles of its opcode.
-use Rattle.std.specs.Prelude.{ℕ, Bool, true, false, cond, not, ◌&&◌, ◌||◌, ◌==◌, List, [], ◌∷◌, ◌++◌, map, filter, filter_map, find, Option, Some, None, option_map, option_and_then, slice_get, ℤ, pos}
+use Rattle.std.specs.Prelude.{ℕ, Bool, true, false, cond, not, ◌&&◌, ◌||◌, ◌==◌, nat_eq, List, [], ◌∷◌, ◌++◌, map, filter, filter_map, find, Option, Some, None, option_map, option_and_then, slice_get, ℤ, pos}
 use Rattle.target_base.specs.declared.types.Reg.{Reg}
 use Rattle.target_base.specs.declared.types.ClassId.{ClassId}
+use Rattle.target_base.specs.declared.types.IndexId.{IndexId}
 use Rattle.target_base.specs.declared.types.Effect.{Effect}
 use Rattle.target_base.specs.declared.types.Effect.TheVariants as effects
 use Rattle.target_base.specs.declared.types.Role.{Role}
@@ -9,6 +10,7 @@ use Rattle.target_base.specs.declared.types.Role.TheVariants as roles
 use Rattle.target_base.specs.declared.types.OpcodeDesc.{OpcodeDesc}
 use Rattle.target_base.specs.declared.types.Target.{Target}
 use Rattle.target_base.specs.Registers.{move_class}
+use Rattle.target_base.specs.Rules.{is_phi, is_reg_sequence, is_insert_subreg}
 use Rattle.target_base.specs.Roles.{is_implicit, is_tied, is_any, role_class}
 use Rattle.mir_func.specs.declared.func.Loc.{Loc}
 use Rattle.mir_func.specs.declared.func.Loc.TheVariants.{Virtual, Fixed}
@@ -59,10 +61,43 @@ abbrev pub is_branch : Effect → Bool
 is_branch effects.Jump = true
 is_branch e = is_conditional e
 
+-- REG_SEQUENCE and INSERT_SUBREG
+abbrev pub puts_together : Effect → Bool
+puts_together e = is_reg_sequence e || is_insert_subreg e
+
+-- PHI, REG_SEQUENCE and INSERT_SUBREG
+abbrev pub is_lowered_away : Effect → Bool
+is_lowered_away e = is_phi e || puts_together e
+
 -- a register operand that is marked implicit
 abbrev pub is_implicit_operand : Operand → Bool
 is_implicit_operand (operands.Reg o) = o.implicit
 is_implicit_operand _ = false
+
+-- the location is a virtual register
+abbrev pub is_virtual : Loc → Bool
+is_virtual (Virtual v) = true
+is_virtual (Fixed r) = false
+
+-- an explicit definition
+abbrev pub is_definition : RegOp → Bool
+is_definition o = o.def && not o.implicit
+
+-- an explicit use
+abbrev pub is_use : RegOp → Bool
+is_use o = not o.def && not o.implicit
+
+-- the locations are one register
+abbrev pub same_loc : Loc → Loc → Bool
+same_loc (Virtual v) (Virtual w) = nat_eq v w
+same_loc (Fixed r) (Fixed q) = r.0 == q.0
+same_loc a b = false
+
+-- the indexes are one, or both are absent
+abbrev pub same_index : Option IndexId → Option IndexId → Bool
+same_index None None = true
+same_index (Some x) (Some y) = x.0 == y.0
+same_index x y = false
 
 -- the operands that aren't implicit, in order
 abbrev pub explicit_operands : List Operand → List Operand

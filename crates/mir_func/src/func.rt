@@ -215,7 +215,7 @@ fn find_instr(instrs: &[Boxed<Instr>], id: u32) -> Option<usize>
 
 /// The place of the first block of that number, or their count.
 #[tactic(auto, using(crate::proofs::Places::places))]
-fn block_at(blocks: &[Block], number: u32) -> usize
+pub fn block_at(blocks: &[Block], number: u32) -> usize
     ensures { result ≡ block_place number blocks.now }
 {
     find_block(blocks, number).unwrap_or(blocks.len())

@@ -4,7 +4,7 @@ ghost use Rattle.std.specs.Prelude.{◌≡◌, ◌≤◌, length, option_copied,
 ghost use Rattle.std.specs.List.{position, position_or_len};
 ghost use Rattle.target_base.specs.Roles.{is_tied};
 ghost use Rattle.target_base.specs.Rules.{is_copy, is_phi};
-ghost use Rattle.mir_func.specs.Binding.{known_opcode, effect_of, roles_of, passes, does, is_conditional, ends_control, is_branch, is_terminator, takes_many, is_early, is_early_clobber, asked_class};
+ghost use Rattle.mir_func.specs.Binding.{known_opcode, effect_of, roles_of, passes, does, is_conditional, ends_control, is_branch, puts_together, is_lowered_away, is_terminator, takes_many, is_early, is_early_clobber, asked_class};
 
 use crate::func::{Instr, Op};
 use target_base::{Boxed, ClassId, Effect, OpcodeDesc, Role, Target, classes, roles};
@@ -73,6 +73,23 @@ pub fn is_branch(e: Effect) -> bool
         Effect::Jump | Effect::Jcc | Effect::Jnz => true,
         _ => false,
     }
+}
+
+/// Whether the effect is REG_SEQUENCE's or INSERT_SUBREG's.
+pub fn puts_together(e: Effect) -> bool
+    ensures { result ≡ puts_together e }
+{
+    match e {
+        Effect::RegSequence | Effect::InsertSubreg => true,
+        _ => false,
+    }
+}
+
+/// Whether the effect is PHI's, REG_SEQUENCE's or INSERT_SUBREG's, which lowering takes away.
+pub fn is_lowered_away(e: Effect) -> bool
+    ensures { result ≡ is_lowered_away e }
+{
+    roles::is_phi(e) || puts_together(e)
 }
 
 /// Whether the effect is that of a jump, a conditional branch or a return.

@@ -1,10 +1,10 @@
 //! What the operands of an instruction are. None of the questions takes memory.
 
 ghost use Rattle.std.specs.Prelude.{◌≡◌, ◌==◌};
-ghost use Rattle.mir_func.specs.Binding.{as_register, register_at, as_slot, slot_at, as_immediate, immediate_of, is_implicit_operand, same_fixed, takes_role, class_of};
+ghost use Rattle.mir_func.specs.Binding.{as_register, register_at, as_slot, slot_at, as_immediate, immediate_of, is_implicit_operand, same_fixed, takes_role, class_of, is_virtual, is_definition, is_use, same_loc, same_index};
 
 use crate::func::{Func, Loc, Operand, RegOp};
-use target_base::{ClassId, Reg, Role};
+use target_base::{ClassId, IndexId, Reg, Role};
 
 /// The operand as a register operand, where it is one.
 pub fn as_register(operand: &Operand) -> Option<RegOp>
@@ -74,6 +74,52 @@ pub fn is_implicit_operand(o: &Operand) -> bool
 {
     match o {
         Operand::Reg(r) => r.implicit,
+        _ => false,
+    }
+}
+
+/// Whether a location is a virtual register.
+pub fn is_virtual(loc: Loc) -> bool
+    ensures { result ≡ is_virtual loc }
+{
+    match loc {
+        Loc::Virtual(_) => true,
+        Loc::Fixed(_) => false,
+    }
+}
+
+/// Whether an operand is an explicit definition.
+pub fn is_definition(o: &RegOp) -> bool
+    ensures { result ≡ is_definition o.now }
+{
+    o.def && !o.implicit
+}
+
+/// Whether an operand is an explicit use.
+pub fn is_use(o: &RegOp) -> bool
+    ensures { result ≡ is_use o.now }
+{
+    !o.def && !o.implicit
+}
+
+/// Whether two locations are one register.
+pub fn same_loc(a: Loc, b: Loc) -> bool
+    ensures { result ≡ same_loc a b }
+{
+    match (a, b) {
+        (Loc::Virtual(v), Loc::Virtual(w)) => v == w,
+        (Loc::Fixed(r), Loc::Fixed(q)) => r.0 == q.0,
+        _ => false,
+    }
+}
+
+/// Whether two indexes are one, or both are absent.
+pub fn same_index(a: Option<IndexId>, b: Option<IndexId>) -> bool
+    ensures { result ≡ same_index a b }
+{
+    match (a, b) {
+        (None, None) => true,
+        (Some(x), Some(y)) => x.0 == y.0,
         _ => false,
     }
 }

@@ -29,13 +29,12 @@ use Rattle.mir_func.specs.declared.func.Operand.{Operand}
 use Rattle.mir_func.specs.declared.func.Operand.TheVariants as operands
 use Rattle.mir_func.specs.declared.func.Instr.{Instr}
 use Rattle.mir_func.specs.Value.{Function}
-use Rattle.mir_func.specs.Binding.{effect_of, explicit_operands, implicit_registers, implicit_roles, is_early_clobber, is_terminator, passes, registers, roles_of, immediate_of}
+use Rattle.mir_func.specs.Binding.{effect_of, explicit_operands, implicit_registers, implicit_roles, is_early_clobber, is_terminator, passes, registers, roles_of, immediate_of, puts_together}
 use Rattle.mir_meaning.specs.Items.{read_widths, Value, all_lanes, answered, called_symbol, computes_with_immediates, constant_value, counted_writes, explicit_definitions, has_base, implicit_definitions, implicit_writes, kept, lane_width, rest_of, result_widths, result_writes, value_of, values, clobbered, flag_value, implicit_values, is_flags, pick, use_value, first_width, preserves, symbol_of, unreserved, computed, constant_bits, constant_lanes, constant_of, copied, defined, defined_undef, given_constant, lanes_beside, moved, reloaded, silent_reads, silent_writes, spilled, undefined, at_all_widths}
 use Rattle.mir_meaning.specs.Registers.{is_reserved, numbers, located_lanes, located_widths, operand_lanes, operand_widths, unit_lanes, slot_lane_numbers, slot_lanes, undefined_lanes, use_sources}
 use Rattle.mir_meaning.specs.Codes.{effect_item, item_of, target_of, way, ways_out}
 use Rattle.std.specs.List.{cons_option, list_any}
 use Rattle.mir_meaning.specs.Renaming.{IsFixed, KeepsPlaces, LawOfRenaming, Renames, RenamesAll, renamed_instr, renamed_item, renamed_operand}
-use Rattle.mir_meaning.specs.Rules.{puts_together}
 
 map-map : {A B C : Type 0} (g : B → C) (f : A → B) (xs : List A) → map g (map f xs) ≡ map (λ x. g (f x)) xs
 map-map g f [] = refl

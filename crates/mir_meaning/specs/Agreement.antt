@@ -23,10 +23,10 @@ use Rattle.mir_func.specs.declared.func.Instr.{Instr}
 use Rattle.mir_func.specs.declared.func.Block.{Block}
 use Rattle.mir_func.specs.Value.{Function}
 use Rattle.mir_meaning.specs.declared.Form.TheVariants as forms
-use Rattle.mir_func.specs.Binding.{does, explicit_operands, implicit_registers}
+use Rattle.mir_func.specs.Binding.{does, explicit_operands, implicit_registers, is_virtual, same_loc}
 use Rattle.mir_meaning.specs.Registers.{has_number}
 use Rattle.mir_meaning.specs.Codes.{meaning_of}
-use Rattle.mir_meaning.specs.Rules.{is_virtual, same_loc, successors_of}
+use Rattle.mir_meaning.specs.Rules.{successors_of}
 use Rattle.mir_meaning.specs.Valid.{IsValid, FirstFault, listed_units, Fault}
 
 -- the opcodes are one

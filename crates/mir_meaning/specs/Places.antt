@@ -24,10 +24,10 @@ use Rattle.mir_func.specs.declared.func.Place.{Place}
 use Rattle.mir_func.specs.declared.func.Instr.{Instr}
 use Rattle.mir_func.specs.declared.func.Block.{Block}
 use Rattle.mir_func.specs.Value.{Function}
-use Rattle.mir_func.specs.Binding.{effect_of, does, passes, is_terminator, registers, Bound, bound, is_early, tied_pair, operand_class}
+use Rattle.mir_func.specs.Binding.{effect_of, does, passes, is_terminator, registers, Bound, bound, is_early, tied_pair, operand_class, same_loc, same_index, is_lowered_away, is_virtual}
 use Rattle.mir_meaning.specs.Registers.{operand_widths}
 use Rattle.mir_meaning.specs.Points.{Point, Start, Entry, Exit, LiveAt, OccupiedAt, Tests}
-use Rattle.mir_meaning.specs.Rules.{same_loc, same_index, spills_or_reloads, is_lowered_away, readings, untied_readings, is_virtual}
+use Rattle.mir_meaning.specs.Rules.{spills_or_reloads, readings, untied_readings}
 use Rattle.mir_meaning.specs.Codes.{instrs_of}
 
 -- a use; a definition, which may be tied or early-clobber; both sides of a copy

@@ -14,10 +14,9 @@ use Rattle.mir_func.specs.declared.func.Operand.TheVariants as operands
 use Rattle.mir_func.specs.declared.func.Instr.{Instr}
 use Rattle.mir_func.specs.declared.func.Block.{Block}
 use Rattle.mir_func.specs.Value.{Function}
-use Rattle.mir_func.specs.Binding.{does}
+use Rattle.mir_func.specs.Binding.{does, puts_together}
 use Rattle.mir_meaning.specs.Registers.{operand_lanes, operand_widths, undefined_lanes}
 use Rattle.mir_meaning.specs.Codes.{item_of, way, ways_out}
-use Rattle.mir_meaning.specs.Rules.{puts_together}
 
 -- an operand with another register, where it is one
 abbrev pub renamed_operand : (RegOp → RegOp) → Operand → Operand

@@ -14,7 +14,7 @@ use Rattle.target_base.specs.declared.types.Target.{Target}
 use Rattle.target_base.specs.Names.{are_distinct_numbers}
 use Rattle.target_base.specs.Registers.{regs_of, lanes_of, fits, home_of}
 use Rattle.target_base.specs.Roles.{is_silent, is_tied, is_slot}
-use Rattle.target_base.specs.Rules.{is_phi, is_reg_sequence, is_insert_subreg, is_spill, is_reload}
+use Rattle.target_base.specs.Rules.{is_phi, is_spill, is_reload}
 use Rattle.target_base.specs.Storage.{holds_reg, is_within, holds_subs, same_numbers}
 use Rattle.meaning.specs.declared.types.Lane.{Lane}
 use Rattle.meaning.specs.Lanes.{same_lane}
@@ -28,25 +28,12 @@ use Rattle.mir_func.specs.declared.func.Block.{Block}
 use Rattle.mir_func.specs.Value.{Function}
 use Rattle.mir_meaning.specs.declared.Form.{Form}
 use Rattle.mir_meaning.specs.declared.Form.TheVariants as forms
-use Rattle.mir_func.specs.Binding.{known_opcode, does, passes, is_terminator, is_branch, is_implicit_operand, explicit_operands, registers, implicit_registers, takes_role, takes_many, Bound, explicit_roles, implicit_roles, bound, is_early, tied_pair, class_of, asked_class, immediate_of}
+use Rattle.mir_func.specs.Binding.{is_virtual, is_definition, is_use, same_loc, same_index, puts_together, is_lowered_away, known_opcode, does, passes, is_terminator, is_branch, is_implicit_operand, explicit_operands, registers, implicit_registers, takes_role, takes_many, Bound, explicit_roles, implicit_roles, bound, is_early, tied_pair, class_of, asked_class, immediate_of}
 use Rattle.mir_meaning.specs.Registers.{has_number, operand_lanes, operand_widths}
 use Rattle.mir_meaning.specs.Items.{unreserved}
 use Rattle.mir_meaning.specs.Codes.{falls_through, fallen_into}
 
 -- what operands are
-
--- the location is a virtual register
-abbrev pub is_virtual : Loc → Bool
-is_virtual (Virtual v) = true
-is_virtual (Fixed r) = false
-
--- an explicit definition
-abbrev pub is_definition : RegOp → Bool
-is_definition o = o.def && not o.implicit
-
--- an explicit use
-abbrev pub is_use : RegOp → Bool
-is_use o = not o.def && not o.implicit
 
 -- the operand is of the kind that the role asks for
 abbrev pub fits_role : Role → Operand → Bool
@@ -258,10 +245,6 @@ abbrev pub subregs_fit : Target → Function → List Operand → Bool
 subregs_fit t f (operands.Reg d ∷ os) = list_all (λ x. index_fits t f d.loc (Some x)) (flat_map index_of os)
 subregs_fit t f os = true
 
--- REG_SEQUENCE and INSERT_SUBREG
-abbrev pub puts_together : Effect → Bool
-puts_together e = is_reg_sequence e || is_insert_subreg e
-
 -- V4: indexes fit the classes of their registers, and physical registers have none. (Verifier: "Invalid
 -- subregister index for virtual register", "Illegal subregister index for physical register".)
 unfoldable pub V4 : Target → Function → Instr → Bool
@@ -306,10 +289,6 @@ lists_once ms ns = are_distinct_numbers ms && list_all (has_number ns) ms && lis
 abbrev pub phi_stands : Target → Function → ℕ → Block → ℕ → Instr → Bool
 phi_stands t f k b j i = list_all (does is_phi t) (take j b.instrs) && not (nat_eq k 0) && lists_once (named_blocks i) (predecessors f b.number)
 
--- PHI, REG_SEQUENCE and INSERT_SUBREG
-abbrev pub is_lowered_away : Effect → Bool
-is_lowered_away e = is_phi e || puts_together e
-
 -- V7, of instruction j of block k. Allocated: no phi, REG_SEQUENCE or INSERT_SUBREG is left. (Verifier: "Found
 -- PHI instruction after non-PHI", "PHI operand is not in the CFG", "Missing PHI operand", "Found PHI
 -- instruction with NoPHIs property set".)
@@ -342,18 +321,6 @@ V10 t f k b = nat_lt (suc k) (length f.blocks) || not (falls_through t b.instrs)
 abbrev pub flags_fit : Bound → Bool
 flags_fit (r, operands.Reg o) = (not o.early || passes is_early r) && (is_none o.tie || (passes is_tied r && passes (nat_eq 0) o.tie))
 flags_fit (r, o) = true
-
--- the locations are one register
-abbrev pub same_loc : Loc → Loc → Bool
-same_loc (Virtual v) (Virtual w) = nat_eq v w
-same_loc (Fixed r) (Fixed q) = r.0 == q.0
-same_loc a b = false
-
--- the indexes are one, or both are absent
-abbrev pub same_index : Option IndexId → Option IndexId → Bool
-same_index None None = true
-same_index (Some x) (Some y) = x.0 == y.0
-same_index x y = false
 
 -- two virtual operands of equal widths, or one fixed register; allocated: one register
 abbrev pub tie_fits : Target → Form → Function → RegOp → RegOp → Bool

@@ -15,10 +15,10 @@ use Rattle.mir_func.specs.declared.func.Block.{Block}
 use Rattle.mir_func.specs.Value.{Function}
 use Rattle.mir_meaning.specs.declared.Form.{Form}
 use Rattle.mir_meaning.specs.declared.Form.TheVariants as forms
-use Rattle.mir_func.specs.Binding.{known_opcode, passes, registers}
+use Rattle.mir_func.specs.Binding.{known_opcode, passes, registers, is_virtual}
 use Rattle.mir_meaning.specs.Registers.{numbers, has_number}
 use Rattle.mir_meaning.specs.Points.{Start, LiveAt, Tests}
-use Rattle.mir_meaning.specs.Rules.{V1, V2, V3, V4, V5, V6, V7, V8, V9, V10, V11, V12, V15, V15_frame, V16, is_virtual}
+use Rattle.mir_meaning.specs.Rules.{V1, V2, V3, V4, V5, V6, V7, V8, V9, V10, V11, V12, V15, V15_frame, V16}
 
 -- the number of the first rule that doesn't hold
 abbrev pub first_failing : List (ℕ × Bool) → Option ℕ

@@ -9,12 +9,12 @@ ghost use Rattle.mir_read.specs.Resolving.{equal_shares};
 
 use crate::names::NumberSet;
 use crate::resolve::equal_shares;
-use mir_func::opcodes::{effect_of, is_conditional};
+use mir_func::opcodes::effect_of;
 use mir_func::{Block, Blocks, Edges, Instr, Instrs, Operand, opcodes};
 use mir_lines::RawHeader;
 use std::alloc::{AllocError, Global};
 use std::marker::Model;
-use target_base::{Boxed, BoxedList, Effect, List, Regs, Target};
+use target_base::{Boxed, BoxedList, List, Regs, Target};
 
 /// The header of the block that is being read, and the lists that have come behind it.
 #[derive(Drop)]
@@ -52,8 +52,7 @@ fn is_branch(target: &Target, i: &Instr) -> bool
 {
     match effect_of(target, i) {
         None => false,
-        Some(Effect::Jump) => true,
-        Some(e) => is_conditional(e),
+        Some(e) => opcodes::is_branch(e),
     }
 }
 

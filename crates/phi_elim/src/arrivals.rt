@@ -1,11 +1,10 @@
 //! The copies that phis need in the blocks that lead to theirs.
 
-ghost use Rattle.std.specs.Prelude.{◌≡◌, ◌<◌, ◌+◌, ◌^◌, ◌++◌, ◌==◌, OnOk, IfOk, length};
-ghost use Rattle.std.specs.List.{position};
-ghost use Rattle.mir_func.specs.Edits.{block_place};
+ghost use Rattle.std.specs.Prelude.{◌≡◌, ◌<◌, ◌+◌, ◌^◌, ◌++◌, OnOk, IfOk, length};
 ghost use Rattle.phi_elim.specs.Phis.{arrival, arrivals_of, arrivals_in, instr_arrivals, phi_number, phi_count, all_instrs};
 ghost use Rattle.phi_elim.specs.Numbered.{instr_count};
 
+use mir_func::func::block_at;
 use mir_func::opcodes::is_phi;
 use mir_func::{Block, Instr, Operand, RegOp};
 use std::alloc::{AllocError, Global};
@@ -22,21 +21,6 @@ pub struct Arrival {
     pub from: RegOp,
 }
 
-/// The place of the first block of that number.
-fn find_block(blocks: &[Block], number: u32) -> Option<usize>
-    ensures { result ≡ position (λ b. b.number == number) blocks.now }
-{
-    blocks.iter().position(|b| b.number == number)
-}
-
-/// The place of the first block of that number, or their count.
-#[tactic(auto, using(mir_func::proofs::Places::places))]
-fn place_of(blocks: &[Block], number: u32) -> usize
-    ensures { result ≡ block_place number blocks.now }
-{
-    find_block(blocks, number).unwrap_or(blocks.len())
-}
-
 /// Puts the arrival of one pair of a phi, an operand and the block that it comes from, behind the
 /// others.
 fn push_pair(
@@ -50,7 +34,7 @@ fn push_pair(
 {
     if let Operand::Reg(from) = operand {
         if let Operand::Block(number) = block {
-            let at = place_of(blocks, *number);
+            let at = block_at(blocks, *number);
             arrivals.push(Arrival {
                 block: at,
                 to,

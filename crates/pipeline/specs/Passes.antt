@@ -1,1 +1,2 @@
+pub mod Allocators
 pub mod Stops

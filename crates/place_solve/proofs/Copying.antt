@@ -15,9 +15,9 @@ use Rattle.mir_func.specs.declared.func.Operand.{Operand}
 use Rattle.mir_func.specs.declared.func.Operand.TheVariants as operands
 use Rattle.mir_func.specs.declared.func.Instr.{Instr}
 use Rattle.mir_func.specs.Value.{Function}
-use Rattle.mir_func.specs.Binding.{Bound, as_register, bound, does, explicit_bound, explicit_operands, explicit_roles, implicit_bound, implicit_registers, implicit_roles, is_implicit_operand, is_terminator, passes, registers, roles_of, takes_role, tied_uses}
+use Rattle.mir_func.specs.Binding.{Bound, as_register, bound, does, explicit_bound, explicit_operands, explicit_roles, implicit_bound, implicit_registers, implicit_roles, is_implicit_operand, is_terminator, passes, registers, roles_of, takes_role, tied_uses, same_loc}
 use Rattle.mir_meaning.specs.Points.{Point, Entry, Exit}
-use Rattle.mir_meaning.specs.Rules.{same_loc, readings, untied_readings}
+use Rattle.mir_meaning.specs.Rules.{readings, untied_readings}
 use Rattle.mir_meaning.specs.Places.{Needs, before_terminators, copied_at, defines_and_reads, input_copies, phi_copies, phi_point}
 use Rattle.instr_effects.specs.Ends.{first_pair, pairs_of}
 use Rattle.instr_effects.proofs.Pairs.{first_step, pairs_long}
@@ -94,12 +94,6 @@ pub pairs_done : (t : Target) (f : Function) (x : Table) (os : List Operand) (to
 pairs_done t f x os total e was = sym (ap (list_all (pair_fits t f x)) (no_pair os e)) ∙ was
 
 pub ruleset pair_walk = (pair_next, pair_lost, pairs_done, pairs_long)
-
-pub pair_short : (os : List Operand) → length os < 2 → None ≡ first_pair os
-pair_short [] h = refl
-pair_short (operands.Reg s ∷ []) h = refl
-pair_short (o ∷ []) h = refl
-pair_short (a ∷ b ∷ os) h = absurd (omega arith)
 
 -- copies one behind the other
 

@@ -18,9 +18,9 @@ use Rattle.mir_func.specs.declared.func.Instr.{Instr}
 use Rattle.mir_func.specs.declared.func.Block.{Block}
 use Rattle.mir_func.specs.declared.func.Place.{Place}
 use Rattle.mir_func.specs.Value.{Function}
-use Rattle.mir_func.specs.Binding.{does, effect_of, is_terminator, registers, bound, tied_pair}
+use Rattle.mir_func.specs.Binding.{does, effect_of, is_terminator, registers, bound, tied_pair, is_lowered_away, is_virtual, same_loc, same_index}
 use Rattle.mir_meaning.specs.Points.{Point, Entry, Exit}
-use Rattle.mir_meaning.specs.Rules.{is_lowered_away, is_virtual, same_loc, same_index, readings, untied_readings}
+use Rattle.mir_meaning.specs.Rules.{readings, untied_readings}
 use Rattle.mir_meaning.specs.Places.{Needs, Variable as Need, each_once, copy_variables, instr_variables, place_of, copy_place, instr_place, own_places, copied_at, phi_copies, phi_point, defines_and_reads, input_copies, tied_copies, effect_copies, lowering_places, places_at, StandsAt, FirstPlace, TooMany}
 use Rattle.place_solve.specs.declared.variables.Variable.{Variable}
 use Rattle.place_solve.specs.Choice.{need_of}

@@ -35,12 +35,12 @@ use Rattle.mir_func.specs.declared.func.Op.TheVariants as ops
 use Rattle.mir_func.specs.declared.func.Instr.{Instr}
 use Rattle.mir_func.specs.declared.func.Block.{Block}
 use Rattle.mir_func.specs.Value.{Function}
-use Rattle.mir_func.specs.Binding.{does, effect_of, explicit_operands, explicit_roles, implicit_registers, is_early_clobber, is_terminator, known_opcode, passes, registers, roles_of, takes_many}
+use Rattle.mir_func.specs.Binding.{does, effect_of, explicit_operands, explicit_roles, implicit_registers, is_early_clobber, is_terminator, known_opcode, passes, registers, roles_of, takes_many, is_definition, is_virtual}
 use Rattle.mir_meaning.specs.Codes.{effect_item, item_of, target_of, way, ways_out}
 use Rattle.mir_meaning.specs.Items.{constant_bits, constant_lanes, constant_of, counted_writes, defined_undef, given_constant, moved, rest_of, silent_reads, silent_writes, undefined, values, write}
 use Rattle.mir_meaning.specs.Points.{point_item}
 use Rattle.mir_meaning.specs.Registers.{located_lanes, located_widths, operand_lanes, operand_widths, undefined_lanes}
-use Rattle.mir_meaning.specs.Rules.{V1, explicit_fit, fits_role, implicit_fit, is_definition, is_virtual, operands_fit}
+use Rattle.mir_meaning.specs.Rules.{V1, explicit_fit, fits_role, implicit_fit, operands_fit}
 use Rattle.instr_effects.specs.Acts.{is_call}
 use Rattle.instr_effects.proofs.Members.{member-none, member-elim, left-in, in-either, filter-of, filter-in}
 use Rattle.live_laws.proofs.Effects.FlagsOf.{uniform-constant}
@@ -48,7 +48,7 @@ use Rattle.live_laws.proofs.Effects.Lists.{all-of}
 use Rattle.live_laws.proofs.Effects.Blocks.{slice-member}
 use Rattle.live_laws.proofs.Effects.Moved.{moved-of, undefined-lane}
 use Rattle.live_laws.proofs.Effects.Silent.{map-long}
-use Rattle.place_solve.specs.Around.{has_unit, keeps_unit, defines, defines_explicitly, clobbers, writes, writes_early}
+use Rattle.place_solve.specs.Around.{has_unit, defines, defines_explicitly, clobbers, writes, writes_early}
 use Rattle.place_solve.proofs.Solved.{units-within}
 use Rattle.place_solve.proofs.Writes.{IsExact, any-of, both, either-true, or-left, unit-of, unit-in, no-other, defined-of, defined-in, explicit-of, explicit-in}
 
@@ -348,7 +348,7 @@ module _ (t : Target) (f : Function) (i : Instr) (e : Effect) (known : effect_of
     where
       go : (list_any (defines t (unit_number u)) i.operands ≡ true) ⊎ (clobbers t i (unit_number u) ≡ true) → has_unit t d.loc (unit_number u) ≡ true
       go (inl h) = let z = defined-of t f (unit_number u) i.operands h in subst (λ x. has_unit t x.loc (unit_number u) ≡ true) (only z.0 z.1) z.3
-      go (inr h) = absurd (let n : false ≡ true = sym not-call ∙ first_of_both (does is_call t i) (not (list_any (keeps_unit t (unit_number u)) i.operands)) h in cc)
+      go (inr h) = absurd (let n : false ≡ true = sym not-call ∙ first_of_both (does is_call t i) (not (list_any (preserves t u) i.operands)) h in cc)
 
   back : (u : ℕ) → has_unit t d.loc (unit_number u) ≡ true → writes t i (unit_number u) ≡ true
   back u h = or-left (list_any (defines t (unit_number u)) i.operands) (clobbers t i (unit_number u)) (defined-in t f (unit_number u) i.operands d here defining h)

@@ -14,11 +14,11 @@ use Rattle.mir_func.specs.declared.func.Instr.{Instr}
 use Rattle.mir_func.specs.declared.func.Block.{Block}
 use Rattle.mir_func.specs.Value.{Function, id_total}
 use Rattle.mir_meaning.specs.declared.Form.TheVariants as forms
-use Rattle.mir_func.specs.Binding.{bound, does, effect_of, is_terminator, registers, tied_pair}
+use Rattle.mir_func.specs.Binding.{bound, does, effect_of, is_terminator, registers, tied_pair, is_virtual, same_index, same_loc}
 use Rattle.mir_meaning.specs.Registers.{has_number, operand_widths}
 use Rattle.mir_meaning.specs.Codes.{instrs_of}
 use Rattle.mir_meaning.specs.Points.{Point, Start, Entry, Exit}
-use Rattle.mir_meaning.specs.Rules.{V5, block_numbers, block_of, is_virtual, named_blocks, readings, same_index, same_loc, successors_of, untied_readings}
+use Rattle.mir_meaning.specs.Rules.{V5, block_numbers, block_of, named_blocks, readings, successors_of, untied_readings}
 use Rattle.mir_meaning.specs.Places.{Needs, Admits, before_terminators, copied_at, copy_variable, defines_and_reads, effect_copies, input_copies, lowering_places, phi_copies, phi_point, tied_copies}
 use Rattle.instr_effects.specs.Ends.{pairs_of, pairs_behind}
 use Rattle.instr_effects.proofs.Members.{member-none, member-elim, either-elim, flat-in, map-of, right-in}

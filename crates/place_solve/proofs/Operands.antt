@@ -17,9 +17,8 @@ use Rattle.mir_func.specs.declared.func.Operand.{Operand}
 use Rattle.mir_func.specs.declared.func.Operand.TheVariants as operands
 use Rattle.mir_func.specs.declared.func.Instr.{Instr}
 use Rattle.mir_func.specs.Value.{Function}
-use Rattle.mir_func.specs.Binding.{Bound, passes, does, is_early, same_fixed, takes_many, takes_role, is_implicit_operand, explicit_operands, explicit_roles, explicit_bound, implicit_registers, implicit_roles, implicit_bound, roles_of, moving_class, any_class, asked_class, operand_class}
+use Rattle.mir_func.specs.Binding.{Bound, passes, does, is_early, same_fixed, takes_many, takes_role, is_implicit_operand, explicit_operands, explicit_roles, explicit_bound, implicit_registers, implicit_roles, implicit_bound, roles_of, moving_class, any_class, asked_class, operand_class, is_virtual}
 use Rattle.mir_meaning.specs.Registers.{operand_widths}
-use Rattle.mir_meaning.specs.Rules.{is_virtual}
 use Rattle.mir_meaning.specs.Places.{Kind as Use, Using, Defining, Variable as Need, variable, copy_variable, register_variable, operand_variable, operand_variables, has_tied_pair, copy_variables, moves_alone, instr_variables}
 use Rattle.phi_elim.specs.Phis.{located_class}
 use Rattle.phi_elim.proofs.Walks.{drop_all}

@@ -18,11 +18,11 @@ use Rattle.mir_func.specs.declared.func.Block.{Block}
 use Rattle.mir_func.specs.declared.func.Instr.{Instr}
 use Rattle.mir_func.specs.Value.{Function}
 use Rattle.mir_meaning.specs.declared.Form.TheVariants as forms
-use Rattle.mir_func.specs.Binding.{does, effect_of, is_terminator, known_opcode, passes}
+use Rattle.mir_func.specs.Binding.{does, effect_of, is_terminator, known_opcode, passes, is_lowered_away}
 use Rattle.target_base.specs.Registers.{is_reserved_unit}
 use Rattle.mir_meaning.specs.Points.{Entry, Exit, OccupiedAt, Tests, point_item}
 use Rattle.mir_meaning.specs.Places.{Variable as Need, Needs, AtEntry, AtExit, Admits, copy_place, copy_variables, each_once, instr_place, instr_variables, moves_alone, operand_variables, own_places, place_of, solutions}
-use Rattle.mir_meaning.specs.Rules.{V8, is_lowered_away}
+use Rattle.mir_meaning.specs.Rules.{V8}
 use Rattle.instr_effects.proofs.Members.{member-none, member-elim}
 use Rattle.live_laws.specs.Effects.Coded.{KeepsRules}
 use Rattle.live_laws.proofs.Effects.Blocks.{slice-member, member-slice}

@@ -11,8 +11,7 @@ use Rattle.mir_func.specs.declared.func.Instr.{Instr}
 use Rattle.mir_func.specs.declared.func.Place.{Place}
 use Rattle.mir_func.specs.Value.{Function, id_total}
 use Rattle.mir_meaning.specs.declared.Form.TheVariants as forms
-use Rattle.mir_func.specs.Binding.{does, is_terminator}
-use Rattle.mir_meaning.specs.Rules.{is_lowered_away}
+use Rattle.mir_func.specs.Binding.{does, is_terminator, is_lowered_away}
 use Rattle.mir_meaning.specs.Valid.{IsValid}
 use Rattle.mir_meaning.specs.Places.{Needs, Admits, FirstPlace, PlacesServe, StandsAt, instr_place, lowering_places, own_places, place_of, places_at}
 use Rattle.instr_effects.proofs.Members.{member-none, member-elim, either-elim, left-in, right-in}

@@ -5,7 +5,7 @@ use Rattle.std.specs.Ordering.{nat_cmp}
 use Rattle.std.specs.BTreeMap.{get}
 use Rattle.target_base.specs.declared.types.Unit.{Unit as UnitNumber}
 use Rattle.target_base.specs.declared.types.Target.{Target}
-use Rattle.target_base.specs.Registers.{units_of, mask_regs, is_reserved_unit}
+use Rattle.target_base.specs.Registers.{units_of, is_reserved_unit}
 use Rattle.target_base.specs.Storage.{is_among}
 use Rattle.mir_func.specs.declared.func.Loc.{Loc}
 use Rattle.mir_func.specs.declared.func.Loc.TheVariants.{Virtual, Fixed}
@@ -14,6 +14,7 @@ use Rattle.mir_func.specs.declared.func.Operand.TheVariants as operands
 use Rattle.mir_func.specs.declared.func.Instr.{Instr}
 use Rattle.target_base.specs.Numbers.{unit_number}
 use Rattle.mir_func.specs.Binding.{does, roles_of, is_early_clobber}
+use Rattle.mir_meaning.specs.Items.{preserves}
 use Rattle.instr_effects.specs.Acts.{is_call}
 use Rattle.instr_effects.specs.declared.owner.Owner.TheVariants as owners
 use Rattle.instr_effects.specs.Numbered.{number_in}
@@ -38,14 +39,9 @@ unfoldable pub defines_explicitly : Target → UnitNumber → Operand → Bool
 defines_explicitly t u (operands.Reg o) = o.def && not o.implicit && has_unit t o.loc u
 defines_explicitly t u _ = false
 
--- the operand is a mask that preserves the unit
-unfoldable pub keeps_unit : Target → UnitNumber → Operand → Bool
-keeps_unit t u (operands.Mask k) = list_any (λ r. is_among (units_of t r) u) (mask_regs t k)
-keeps_unit t u _ = false
-
 -- the instruction is a call, and none of its masks preserves the unit
 abbrev pub clobbers : Target → Instr → UnitNumber → Bool
-clobbers t i u = does is_call t i && not (list_any (keeps_unit t u) i.operands)
+clobbers t i u = does is_call t i && not (list_any (preserves t u.0) i.operands)
 
 -- the instruction writes the unit
 abbrev pub writes : Target → Instr → UnitNumber → Bool

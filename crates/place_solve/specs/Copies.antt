@@ -8,9 +8,8 @@ use Rattle.mir_func.specs.declared.func.Operand.{Operand}
 use Rattle.mir_func.specs.declared.func.Operand.TheVariants as operands
 use Rattle.mir_func.specs.declared.func.Instr.{Instr}
 use Rattle.mir_func.specs.Value.{Function}
-use Rattle.mir_func.specs.Binding.{as_register, is_implicit_operand, tied_pair}
+use Rattle.mir_func.specs.Binding.{as_register, is_implicit_operand, tied_pair, is_virtual, same_loc, same_index}
 use Rattle.mir_meaning.specs.Registers.{operand_widths}
-use Rattle.mir_meaning.specs.Rules.{is_virtual, same_loc, same_index}
 use Rattle.mir_meaning.specs.Places.{Needs, copy_variable, phi_point, tied_copies}
 use Rattle.live_lanes.specs.declared.table.Table.{Table}
 use Rattle.place_solve.specs.declared.around.Around.{Around}

@@ -8,9 +8,8 @@ use Rattle.mir_func.specs.declared.func.RegOp.{RegOp}
 use Rattle.mir_func.specs.declared.func.Operand.{Operand}
 use Rattle.mir_func.specs.declared.func.Operand.TheVariants as operands
 use Rattle.mir_func.specs.Value.{Function}
-use Rattle.mir_func.specs.Binding.{Bound, passes, is_early, is_implicit_operand, explicit_bound, explicit_roles, explicit_operands}
+use Rattle.mir_func.specs.Binding.{Bound, passes, is_early, is_implicit_operand, explicit_bound, explicit_roles, explicit_operands, is_virtual}
 use Rattle.mir_meaning.specs.Registers.{operand_widths}
-use Rattle.mir_meaning.specs.Rules.{is_virtual}
 use Rattle.mir_meaning.specs.Places.{Using, Defining, Kind as Use, Variable as Need, same_use, copy_variable, operand_variable}
 use Rattle.two_address.specs.Classes.{first_role, roles_behind}
 use Rattle.place_solve.specs.declared.variables.Variable.{Variable}

@@ -5,8 +5,7 @@ use Rattle.target_base.specs.declared.types.Target.{Target}
 use Rattle.mir_func.specs.declared.func.Place.{Place}
 use Rattle.mir_func.specs.declared.func.Instr.{Instr}
 use Rattle.mir_func.specs.Value.{Function}
-use Rattle.mir_func.specs.Binding.{does, is_terminator}
-use Rattle.mir_meaning.specs.Rules.{is_lowered_away}
+use Rattle.mir_func.specs.Binding.{does, is_terminator, is_lowered_away}
 use Rattle.mir_meaning.specs.Places.{Needs, Variable as Need, each_once, instr_variables, StandsAt, FirstPlace, TooMany}
 use Rattle.place_solve.specs.declared.check.PlaceStop.{PlaceStop}
 use Rattle.place_solve.specs.declared.check.PlaceStop.TheVariants as stops

@@ -1,16 +1,15 @@
 //! The units that are in use around a place.
 
 ghost use Rattle.std.specs.Prelude.{◌≡◌};
-ghost use Rattle.target_base.specs.Registers.{units_of, mask_regs};
 ghost use Rattle.std.specs.List.{list_any};
-ghost use Rattle.target_base.specs.Storage.{is_among};
 ghost use Rattle.live_lanes.specs.Looks.{InOrder};
-ghost use Rattle.place_solve.specs.Around.{has_unit, keeps_unit, defines, defines_explicitly, clobbers, writes, writes_early, is_taken, is_left, entry_tests, exit_tests, at_entry, at_exit};
+ghost use Rattle.place_solve.specs.Around.{has_unit, defines, defines_explicitly, clobbers, writes, writes_early, is_taken, is_left, entry_tests, exit_tests, at_entry, at_exit};
 
+use instr_effects::masks::is_preserved;
 use live_lanes::LiveFunc;
 use mir_func::opcodes::{effect_of, is_early_clobber, roles_of};
 use mir_func::{Instr, Loc, Operand, RegOp};
-use target_base::{Boxed, Effect, MaskId, Reg, Target, Unit, registers};
+use target_base::{Boxed, Effect, Target, Unit, registers};
 
 /// Where a place stands.
 #[derive(Clone, Copy)]
@@ -33,45 +32,6 @@ fn has_unit(target: &Target, o: RegOp, u: Unit) -> bool
         Loc::Virtual(_) => false,
         Loc::Fixed(r) => registers::has_unit(target.units_at(r), u),
     }
-}
-
-/// Whether one of the registers has the unit.
-fn one_holds(target: &Target, regs: &[Reg], u: Unit) -> bool
-    ensures { result ≡ list_any (λ r. is_among (units_of target.now r) u) regs.now }
-{
-    regs.iter()
-        .any(|r| registers::has_unit(target.units_at(*r), u))
-}
-
-/// Whether the mask preserves the unit.
-fn preserves(target: &Target, mask: MaskId, u: Unit) -> bool
-    ensures { result ≡ list_any (λ r. is_among (units_of target.now r) u) (mask_regs target.now mask) }
-{
-    one_holds(target, target.mask_regs(mask), u)
-}
-
-/// Whether the operand is a mask that preserves the unit.
-#[tactic(auto, unfolding(crate::specs::Around::keeps_unit))]
-fn is_preserving(target: &Target, o: &Operand, u: Unit) -> bool
-    ensures { result ≡ keeps_unit target.now u o.now }
-{
-    match o {
-        Operand::Mask(m) => preserves(target, *m, u),
-        _ => false,
-    }
-}
-
-/// Whether one of the operands is a mask that preserves the unit.
-#[tactic(auto, using(crate::proofs::Units::anys))]
-fn is_preserved(target: &Target, operands: &[Operand], u: Unit) -> bool
-    ensures { result ≡ list_any (keeps_unit target.now u) operands.now }
-{
-    'each: for o in operands {
-        if is_preserving(target, o, u) {
-            return true;
-        }
-    }
-    false
 }
 
 /// Whether an operand defines the unit.
@@ -127,7 +87,7 @@ fn clobbers(target: &Target, i: &Instr, u: Unit) -> bool
     ensures { result ≡ clobbers target.now i.now u }
 {
     match effect_of(target, i) {
-        Some(Effect::Call) => !is_preserved(target, i.operands.as_slice(), u),
+        Some(Effect::Call) => !is_preserved(target, i.operands.as_slice(), u.0 as u32),
         _ => false,
     }
 }

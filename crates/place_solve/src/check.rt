@@ -2,8 +2,7 @@
 
 ghost use Rattle.std.specs.Prelude.{◌≡◌, ◌<◌, ◌^◌, length, IfOk, OnOk, IfErr, true};
 ghost use Rattle.std.specs.List.{list_any};
-ghost use Rattle.mir_func.specs.Binding.{does, is_terminator};
-ghost use Rattle.mir_meaning.specs.Rules.{is_lowered_away};
+ghost use Rattle.mir_func.specs.Binding.{does, is_terminator, is_lowered_away};
 ghost use Rattle.mir_meaning.specs.Places.{Admits, FirstPlace, PlacesServe, TooMany};
 ghost use Rattle.mir_meaning.specs.declared.Form.TheVariants as forms;
 ghost use Rattle.mir_meaning.specs.Valid.{IsValid};
@@ -18,7 +17,7 @@ use crate::search::first_choice;
 use crate::variables::variables_of;
 use live_lanes::LiveFunc;
 use mir_func::opcodes::{effect_of, is_terminator};
-use mir_func::{Block, Func, Instr, Place, Valid};
+use mir_func::{Block, Func, Instr, Place, Valid, opcodes};
 use std::alloc::{AllocError, Global};
 use target_base::{Boxed, Effect, Target};
 use thiserror::Error;
@@ -56,8 +55,8 @@ fn is_lowered_away(target: &Target, i: &Instr) -> bool
     ensures { result ≡ does is_lowered_away target.now i.now }
 {
     match effect_of(target, i) {
-        Some(Effect::Phi | Effect::RegSequence | Effect::InsertSubreg) => true,
-        _ => false,
+        Some(e) => opcodes::is_lowered_away(e),
+        None => false,
     }
 }
 

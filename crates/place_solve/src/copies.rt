@@ -3,7 +3,7 @@
 ghost use Rattle.std.specs.Prelude.{◌≡◌, ◌++◌, ◌∷◌, [], IfOk};
 ghost use Rattle.std.specs.List.{list_all, list_any};
 ghost use Rattle.target_base.specs.Rules.{is_reg_sequence, is_insert_subreg};
-ghost use Rattle.instr_effects.specs.Ends.{first_pair, pairs_of};
+ghost use Rattle.instr_effects.specs.Ends.{pairs_of};
 ghost use Rattle.mir_func.specs.declared.func.Operand.TheVariants as operands;
 ghost use Rattle.mir_func.specs.Binding.{bound, explicit_bound, explicit_operands, explicit_roles, registers, tied_uses};
 ghost use Rattle.mir_meaning.specs.Points.{Start, Entry};
@@ -18,15 +18,17 @@ ghost use Rattle.place_solve.specs.Told.{around_of, copy_solved, copies_solved};
 use crate::around::Around;
 use crate::search::first_choice;
 use crate::variables::{copy_variable, is_tied_operand, left_behind};
+use instr_effects::effects::first_pair;
 use instr_effects::items::ways::instrs_of;
 use live_lanes::LiveFunc;
 use mir_func::opcodes::{effect_of, is_terminator, roles_of};
-use mir_func::operands::{as_register, is_implicit_operand, register_at};
+use mir_func::operands::{
+    as_register, is_implicit_operand, is_virtual, register_at, same_index, same_loc,
+};
 use mir_func::{Func, Instr, Loc, Operand, RegOp};
 use std::alloc::{AllocError, Global};
 use target_base::roles::is_phi;
 use target_base::{Boxed, Effect, Role, Target};
-use two_address::ties::{is_virtual, same_index, same_loc};
 
 /// Whether a copy of lanes of this operand's widths admits a register at a place.
 fn admits(alloc: Global, live: &LiveFunc, around: Around<'_>, o: RegOp) -> Result<bool, AllocError>
@@ -70,30 +72,6 @@ fn pair_admits(alloc: Global, live: &LiveFunc, o: RegOp, number: u32) -> Result<
     }
     let around = phi_point(live.target(), live.func(), number);
     admits(alloc, live, around, o)
-}
-
-/// The use and the block that these two operands are, if they are such.
-fn pair_of(a: &Operand, b: &Operand) -> Option<(RegOp, u32)>
-    ensures { result ≡ first_pair (a.now ∷ b.now ∷ []) }
-{
-    match a {
-        Operand::Reg(o) => match b {
-            Operand::Block(number) => Some((*o, *number)),
-            _ => None,
-        },
-        _ => None,
-    }
-}
-
-/// The use and the block that stand first, if they do.
-#[tactic(auto, using(crate::proofs::Copying::pair_short))]
-fn first_pair(operands: &[Operand]) -> Option<(RegOp, u32)>
-    ensures { result ≡ first_pair operands.now }
-{
-    match operands {
-        [a, b, ..] => pair_of(a, b),
-        _ => None,
-    }
 }
 
 /// Whether the copies of these uses of a phi admit registers, each in its block.

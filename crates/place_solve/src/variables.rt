@@ -10,13 +10,12 @@ ghost use Rattle.place_solve.specs.Once as once;
 
 use crate::widths::{class_of_widths, operand_widths};
 use mir_func::opcodes::{effect_of, is_copy, is_early, is_tied, roles_of};
-use mir_func::operands::is_implicit_operand;
+use mir_func::operands::{is_implicit_operand, is_virtual, same_index};
 use mir_func::{Func, Instr, Loc, Operand, RegOp};
 use std::alloc::{AllocError, Global};
 use target_base::roles::is_implicit;
 use target_base::{Boxed, ClassId, Effect, IndexId, Role, Target};
 use two_address::classes::{class_asked, first_role, roles_behind};
-use two_address::ties::{is_virtual, same_index};
 
 /// How a variable is used at its place.
 #[derive(Clone, Copy, PartialEq, Eq)]

@@ -28,7 +28,7 @@ pub record Cut (text : List ℕ) (left : Option (List ℕ)) (chunk piece : List 
 abbrev pub Ended : Option (List ℕ) → List ℕ → List ℕ → Type 0
 Ended left chunk piece = (is_whole piece ≡ true) ⊎ ((length piece ≡ held_most) ⊎ IsRest left chunk piece)
 
-nothing : (xs : List ℕ) → length xs ≡ 0 → xs ≡ []
+pub nothing : (xs : List ℕ) → length xs ≡ 0 → xs ≡ []
 nothing [] h = refl
 nothing (x ∷ xs) h = absurd (omega (arith, h))
 
@@ -82,18 +82,18 @@ not_whole : is_whole [] ≡ true → ⊥
 unfolding lines_of
 not_whole e = cc
 
-all_read : (first : Option (List ℕ)) (chunk0 : List ℕ) → Ended first chunk0 [] → IfSome first (λ l. chunk0 ++ l ≡ [])
+pub all_read : (first : Option (List ℕ)) (chunk0 : List ℕ) → Ended first chunk0 [] → IfSome first (λ l. chunk0 ++ l ≡ [])
 all_read first chunk0 (inl w) = absurd (not_whole w)
 all_read first chunk0 (inr (inl m)) = absurd (omega (arith, m))
 all_read first chunk0 (inr (inr is)) = is
 
 -- the status is that of the job at its file's end
 pub finished_as : (job : Job) (old new : Option (List ℕ)) (s : Status) → s ≡ end_status job → IsEnded job old new → Finishes job old new s
-finished_as jobs.Alloc old new s e is = subst (λ x. Finishes jobs.Alloc old new x) (sym e) (refl, is)
+finished_as (jobs.Alloc how) old new s e is = subst (λ x. Finishes (jobs.Alloc how) old new x) (sym e) (refl, is)
 finished_as (jobs.Verify form) old new s e is = subst (λ x. Finishes (jobs.Verify form) old new x) (sym e) (refl, is)
 finished_as (jobs.Run name n seed) old new s e is = subst (λ x. Finishes (jobs.Run name n seed) old new x) (sym e) (refl, is)
 finished_as jobs.Intervals old new s e is = subst (λ x. Finishes jobs.Intervals old new x) (sym e) (refl, is)
-finished_as jobs.Trace old new s e is = subst (λ x. Finishes jobs.Trace old new x) (sym e) (refl, is)
+finished_as (jobs.Trace how) old new s e is = subst (λ x. Finishes (jobs.Trace how) old new x) (sym e) (refl, is)
 
 over_done : (job : Job) (t : Target) (spot : Spot) (text : List ℕ) (left old new : Option (List ℕ)) (detail : List ℕ) → text ≡ [] → status.Done ≡ end_status job → IsEnded job old new → EndsHere job t spot text left old new status.Done detail
 over_done job t spot text left old new detail e ends (out, last, w) = (out, inl (record { nothing = e; ends = ends; last = last }), w)

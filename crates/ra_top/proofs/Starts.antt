@@ -3,7 +3,7 @@ use Rattle.std.proofs.Common.{◌≡◌, ℕ, List, [], Option, Some, None, fals
 use Rattle.std.specs.Prelude.{IfSome, codes}
 use Rattle.target_base.specs.declared.types.Target.{Target}
 use Rattle.ra_top.specs.Devices.Pieces.{is_whole, NoneWhole, lines_of}
-use Rattle.ra_top.specs.Words.Words.{Asked, Alloc, VerifySource, VerifyAllocated, Run, Intervals, Trace, Gen}
+use Rattle.ra_top.specs.Words.Words.{Asked, Alloc, VerifySource, VerifyAllocated, Run, Intervals, Trace, Check, Gen}
 use Rattle.ra_top.specs.declared.commands.answer.Job.{Job}
 use Rattle.ra_top.specs.declared.commands.answer.Job.TheVariants as jobs
 use Rattle.ra_top.specs.declared.commands.status.Status.{Status}
@@ -46,12 +46,13 @@ out_of_memory job t f contents left old = inl (record { named = λ h. refl; file
 -- memory ran out before anything was done, whatever was asked
 pub memory_does : (a : Option Asked) (contents : List ℕ → Option (List ℕ)) (left old : Option (List ℕ)) (f0 f1 : ℕ) (e0 e1 : Option (List ℕ)) → IsTold f0 f1 e0 e1 (line_of status.Memory [] []) → DoesAll a contents left old old f0 f1 e0 e1 status.Memory
 memory_does None contents left old f0 f1 e0 e1 told = record { file = []; detail = []; does = (inr refl, refl); told = told }
-memory_does (Some (Alloc t f)) contents left old f0 f1 e0 e1 told = record { file = t; detail = []; does = out_of_memory jobs.Alloc t f contents left old; told = told }
+memory_does (Some (Alloc how t f)) contents left old f0 f1 e0 e1 told = record { file = t; detail = []; does = out_of_memory (jobs.Alloc how) t f contents left old; told = told }
 memory_does (Some (VerifySource t f)) contents left old f0 f1 e0 e1 told = record { file = t; detail = []; does = out_of_memory (jobs.Verify forms.Source) t f contents left old; told = told }
 memory_does (Some (VerifyAllocated t f)) contents left old f0 f1 e0 e1 told = record { file = t; detail = []; does = out_of_memory (jobs.Verify forms.Allocated) t f contents left old; told = told }
 memory_does (Some (Run t f g n s)) contents left old f0 f1 e0 e1 told = record { file = []; detail = []; does = inl (refl, refl); told = told }
 memory_does (Some (Intervals t f)) contents left old f0 f1 e0 e1 told = record { file = t; detail = []; does = out_of_memory jobs.Intervals t f contents left old; told = told }
-memory_does (Some (Trace t f)) contents left old f0 f1 e0 e1 told = record { file = t; detail = []; does = out_of_memory jobs.Trace t f contents left old; told = told }
+memory_does (Some (Trace how t f)) contents left old f0 f1 e0 e1 told = record { file = t; detail = []; does = out_of_memory (jobs.Trace how) t f contents left old; told = told }
+memory_does (Some (Check t a b)) contents left old f0 f1 e0 e1 told = record { file = t; detail = []; does = inl (record { named = λ h. refl; file_is = refl; verdict = no_verdict (contents t); unwritten = refl }); told = told }
 memory_does (Some (Gen s)) contents left old f0 f1 e0 e1 told = record { file = codes "g"; detail = []; does = (refl, refl); told = told }
 
 -- the same of a line that was told

@@ -7,8 +7,9 @@ use Rattle.mir_text.specs.declared.doc.Doc.{Doc}
 use Rattle.mir_text.specs.declared.doc.Doc.TheVariants as docs
 use Rattle.ra_top.specs.Devices.Device.{WritesPart, WritesAll}
 use Rattle.ra_top.proofs.DeviceLemmas.Written.{part_after, part_before, all_after}
-use Rattle.ra_top.specs.Words.Words.{Asked, Alloc, VerifySource, VerifyAllocated, Run, Intervals, Trace, Gen, is_word}
+use Rattle.ra_top.specs.Words.Words.{Asked, Alloc, VerifySource, VerifyAllocated, Run, Intervals, Trace, Check, Gen, is_word}
 use Rattle.target_base.specs.Mini.{mini_target}
+use Rattle.pipeline.specs.declared.passes.allocator.Allocator.{Allocator}
 use Rattle.pipeline.specs.Guarded.Told.{ToldRun, ToldPart}
 use Rattle.pipeline.proofs.GuardLemmas.Told.{part_of_none, part_of_run}
 use Rattle.ra_top.specs.declared.commands.answer.Job.{Job}
@@ -106,12 +107,13 @@ module _ {W : Type 0} (next : Target → W → RunStep → W) where
   -- memory ran out before anything was told
   pub words_untold : (a : Option Asked) (contents : List ℕ → Option (List ℕ)) (old : List W) (s : Status) → IsUndone s → ToldWords next a contents old old s
   words_untold None contents old s h = refl
-  words_untold (Some (Alloc t f)) contents old s h = inl (h, refl)
+  words_untold (Some (Alloc how t f)) contents old s h = inl (h, refl)
   words_untold (Some (VerifySource t f)) contents old s h = refl
   words_untold (Some (VerifyAllocated t f)) contents old s h = refl
   words_untold (Some (Run t f g n seed)) contents old s h = refl
   words_untold (Some (Intervals t f)) contents old s h = refl
-  words_untold (Some (Trace t f)) contents old s h = inl (h, refl)
+  words_untold (Some (Trace how t f)) contents old s h = inl (h, refl)
+  words_untold (Some (Check t s a)) contents old status h = refl
   words_untold (Some (Gen seed)) contents old s h = gen_part (next mini_target) s old old h (part_of_none (next mini_target) old old refl)
 
 writes_nothing : (old new : Option (List ℕ)) → new ≡ old → WritesAll old new []
@@ -131,41 +133,41 @@ lines_behind status.WriteFault lines old mid new a b = part_after old mid new []
 lines_behind status.Memory lines old mid new a b = all_after old mid new [] [] a b
 lines_behind status.NotYet lines old mid new a b = all_after old mid new [] [] a b
 
-trace_text : (t : Target) (d : Doc) (text : List ℕ) → IsTextOf jobs.Trace t d text → text ≡ []
-trace_text t (docs.Function before f) text is = is.1
-trace_text t (docs.Ir lines) text is = is
-trace_text t (docs.Rest lines) text is = is
+trace_text : (how : Allocator) (t : Target) (d : Doc) (text : List ℕ) → IsTextOf (jobs.Trace how) t d text → text ≡ []
+trace_text how t (docs.Function before f) text is = is.1
+trace_text how t (docs.Ir lines) text is = is
+trace_text how t (docs.Rest lines) text is = is
 
-trace_last : (t : Target) (d : Doc) (text : List ℕ) → IsLastTextOf jobs.Trace t d text → ⊥
-trace_last t (docs.Function before f) text is = is
-trace_last t (docs.Ir lines) text is = is
-trace_last t (docs.Rest lines) text is = is
+trace_last : (how : Allocator) (t : Target) (d : Doc) (text : List ℕ) → IsLastTextOf (jobs.Trace how) t d text → ⊥
+trace_last how t (docs.Function before f) text is = is
+trace_last how t (docs.Ir lines) text is = is
+trace_last how t (docs.Rest lines) text is = is
 
-part_traced : (t : Target) (spot : Spot) (piece lines text : List ℕ) (old new : Option (List ℕ)) → IsDueText jobs.Trace t spot piece text → WritesPart old new text → WritesPart old new lines
-part_traced t spot piece lines text old new (inl is) w = part_before old new [] lines (subst (WritesPart old new) (trace_text t is.doc text is.is) w)
-part_traced t spot piece lines text old new (inr is) w = absurd (trace_last t is.doc text is.is)
+part_traced : (how : Allocator) (t : Target) (spot : Spot) (piece lines text : List ℕ) (old new : Option (List ℕ)) → IsDueText (jobs.Trace how) t spot piece text → WritesPart old new text → WritesPart old new lines
+part_traced how t spot piece lines text old new (inl is) w = part_before old new [] lines (subst (WritesPart old new) (trace_text how t is.doc text is.is) w)
+part_traced how t spot piece lines text old new (inr is) w = absurd (trace_last how t is.doc text is.is)
 
-ends_traced : (t : Target) (spot : Spot) (piece lines : List ℕ) (old new : Option (List ℕ)) (s : Status) (detail : List ℕ) → EndsAtPiece jobs.Trace t spot piece old new s detail → WritesLines lines old new s
-ends_traced t spot piece lines old new status.Done detail e = absurd (trace_last t e.is.doc e.text e.is.is)
-ends_traced t spot piece lines old new status.Usage detail e = writes_nothing old new e.1
-ends_traced t spot piece lines old new (status.Target f) detail e = writes_nothing old new e.1
-ends_traced t spot piece lines old new (status.Text f) detail e = writes_nothing old new e.1
-ends_traced t spot piece lines old new (status.Limit l) detail e = writes_nothing old new e.1
-ends_traced t spot piece lines old new (status.Invalid x) detail e = writes_nothing old new e.1
-ends_traced t spot piece lines old new (status.Unassignable p) detail e = writes_nothing old new e.1
-ends_traced t spot piece lines old new status.ReadFault detail e = absurd e
-ends_traced t spot piece lines old new status.WriteFault detail e = part_traced t spot piece lines e.text old new e.is e.written
-ends_traced t spot piece lines old new status.Memory detail e = writes_nothing old new e
-ends_traced t spot piece lines old new status.NotYet detail e = writes_nothing old new e.1
+ends_traced : (how : Allocator) (t : Target) (spot : Spot) (piece lines : List ℕ) (old new : Option (List ℕ)) (s : Status) (detail : List ℕ) → EndsAtPiece (jobs.Trace how) t spot piece old new s detail → WritesLines lines old new s
+ends_traced how t spot piece lines old new status.Done detail e = absurd (trace_last how t e.is.doc e.text e.is.is)
+ends_traced how t spot piece lines old new status.Usage detail e = writes_nothing old new e.1
+ends_traced how t spot piece lines old new (status.Target f) detail e = writes_nothing old new e.1
+ends_traced how t spot piece lines old new (status.Text f) detail e = writes_nothing old new e.1
+ends_traced how t spot piece lines old new (status.Limit l) detail e = writes_nothing old new e.1
+ends_traced how t spot piece lines old new (status.Invalid x) detail e = writes_nothing old new e.1
+ends_traced how t spot piece lines old new (status.Unassignable p) detail e = writes_nothing old new e.1
+ends_traced how t spot piece lines old new status.ReadFault detail e = absurd e
+ends_traced how t spot piece lines old new status.WriteFault detail e = part_traced how t spot piece lines e.text old new e.is e.written
+ends_traced how t spot piece lines old new status.Memory detail e = writes_nothing old new e
+ends_traced how t spot piece lines old new status.NotYet detail e = writes_nothing old new e.1
 
-step_traced : (t : Target) (spot : Spot) (piece lines : List ℕ) (old new : Option (List ℕ)) (step : Step) → AfterPiece jobs.Trace t spot piece old new step → TracesStep lines old new step
-step_traced t spot piece lines old new steps.More a = subst (WritesAll old new) (trace_text t a.is.doc a.text a.is.is) a.written
-step_traced t spot piece lines old new (steps.End e) a = ends_traced t spot piece lines old new e.status e.detail a
+step_traced : (how : Allocator) (t : Target) (spot : Spot) (piece lines : List ℕ) (old new : Option (List ℕ)) (step : Step) → AfterPiece (jobs.Trace how) t spot piece old new step → TracesStep lines old new step
+step_traced how t spot piece lines old new steps.More a = subst (WritesAll old new) (trace_text how t a.is.doc a.text a.is.is) a.written
+step_traced how t spot piece lines old new (steps.End e) a = ends_traced how t spot piece lines old new e.status e.detail a
 
 -- a piece was treated
 pub piece_traced : (job : Job) (t : Target) (spot : Spot) (piece lines : List ℕ) (old new : Option (List ℕ)) (step : Step) → is_trace job ≡ true → AfterPiece job t spot piece old new step → TracesStep lines old new step
-piece_traced jobs.Alloc t spot piece lines old new step h a = absurd (cc)
+piece_traced (jobs.Alloc how) t spot piece lines old new step h a = absurd (cc)
 piece_traced (jobs.Verify form) t spot piece lines old new step h a = absurd (cc)
 piece_traced (jobs.Run name n seed) t spot piece lines old new step h a = absurd (cc)
 piece_traced jobs.Intervals t spot piece lines old new step h a = absurd (cc)
-piece_traced jobs.Trace t spot piece lines old new step h a = step_traced t spot piece lines old new step a
+piece_traced (jobs.Trace how) t spot piece lines old new step h a = step_traced how t spot piece lines old new step a

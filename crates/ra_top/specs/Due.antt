@@ -1,7 +1,8 @@
 -- What a command writes of a file, and how it ends, devices and memory left aside.
-use Rattle.std.specs.Prelude.{◌≡◌, ◌⊎◌, ℕ, ◌<◌, true, List, [], ◌∷◌, ◌++◌, length}
+use Rattle.std.specs.Prelude.{◌≡◌, ◌⊎◌, ℕ, ◌<◌, true, List, [], ◌∷◌, ◌++◌, length, Option, Some, false}
 use Rattle.std.specs.List.{flat_map}
 use Rattle.target_base.specs.declared.types.Target.{Target}
+use Rattle.ra_top.specs.Devices.Device.{WritesPart, WritesAll}
 use Rattle.ra_top.specs.Devices.Pieces.{is_whole, NoneWhole, held_most}
 use Rattle.ra_top.specs.declared.commands.answer.Job.{Job}
 use Rattle.ra_top.specs.declared.commands.spot.Spot.{Spot}
@@ -16,6 +17,15 @@ pub record IsHeld (text rest : List ℕ) : Type 0 where
   pub filled : 0 < length text
   pub none : NoneWhole text
   pub end : (is_whole text ≡ true) ⊎ ((length text ≡ held_most) ⊎ (rest ≡ []))
+
+-- the text begins with a piece that isn't whole yet, and the rest is left
+pub record IsUnfinished (text : List ℕ) (left : Option (List ℕ)) : Type 0 where
+  pub piece : List ℕ
+  pub rest : List ℕ
+  pub cut : text ≡ piece ++ rest
+  pub left_is : left ≡ Some rest
+  pub none : NoneWhole piece
+  pub open_yet : is_whole piece ≡ false
 
 -- a piece, and the text that is written for it
 pub record Treatment : Type 0 where
@@ -67,3 +77,9 @@ pub record Due (job : Job) (t : Target) (file out : List ℕ) (s : Status) (deta
   pub last : List ℕ
   pub treated : Treated job t first_spot file pieces (AtEnd job t last s detail)
   pub written : out ≡ output pieces ++ last
+
+-- a text was written, or a write failed
+abbrev pub IsWrittenEnd : List ℕ → Option (List ℕ) → Option (List ℕ) → Status → Type 0
+IsWrittenEnd text old new status.Done = WritesAll old new text
+IsWrittenEnd text old new status.WriteFault = WritesPart old new text
+IsWrittenEnd text old new s = ⊥

@@ -1,4 +1,6 @@
 pub mod Due
+pub mod Checked
+pub mod Reading
 pub mod Told
 pub mod Watched
 pub mod Steps

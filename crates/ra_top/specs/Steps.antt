@@ -14,8 +14,8 @@ use Rattle.ra_top.specs.declared.commands.status.Status.TheVariants as status
 use Rattle.ra_top.specs.Commands.Spot.{after, file_most}
 use Rattle.ra_top.specs.Commands.Answer.{IsText, IsLast, Refuses}
 use Rattle.ra_top.specs.Commands.Documents.{IsEndText, end_status}
-use Rattle.ra_top.specs.Due.{IsHeld, AtEnd}
-use Rattle.ra_top.specs.Told.{HasStatusCause, IsUnfinished, IsDueText, IsNextText}
+use Rattle.ra_top.specs.Due.{IsHeld, IsUnfinished, AtEnd}
+use Rattle.ra_top.specs.Told.{HasStatusCause, IsDueText, IsNextText}
 
 -- of a document: its text is written
 pub record IsWritten (job : Job) (t : Target) (spot : Spot) (piece : List ℕ) (old new : Option (List ℕ)) : Type 0 where

@@ -8,8 +8,7 @@ use Rattle.target_desc.specs.Reading.{spelled}
 use Rattle.target_desc.specs.Ending.{parts_of}
 use Rattle.mir_meaning.specs.declared.Form.TheVariants as forms
 use Rattle.ra_top.specs.Devices.Device.{Rose, WritesPart, WritesAll}
-use Rattle.ra_top.specs.Devices.Pieces.{is_whole, NoneWhole}
-use Rattle.ra_top.specs.Words.Words.{Asked, Alloc, VerifySource, VerifyAllocated, Run, Intervals, Trace, Gen, is_word}
+use Rattle.ra_top.specs.Words.Words.{Asked, Alloc, VerifySource, VerifyAllocated, Run, Intervals, Trace, Check, Gen, is_word}
 use Rattle.ra_top.specs.declared.commands.answer.Job.{Job}
 use Rattle.ra_top.specs.declared.commands.answer.Job.TheVariants as jobs
 use Rattle.ra_top.specs.declared.commands.spot.Spot.{Spot}
@@ -22,22 +21,14 @@ use Rattle.ra_top.specs.Commands.Answer.{IsText, IsLast}
 use Rattle.ra_top.specs.Commands.Documents.{IsEndText}
 use Rattle.ra_top.specs.Commands.Generated.{GenRefuses}
 use Rattle.ra_top.specs.Report.Summary.Generated.{IsGenText}
-use Rattle.ra_top.specs.Due.{IsHeld, Treatment, output, Treated, Due}
+use Rattle.ra_top.specs.Due.{IsHeld, IsUnfinished, IsWrittenEnd, Treatment, output, Treated, Due}
+use Rattle.ra_top.specs.Checked.{ChecksFiles}
 
 -- which faults rose for a status
 abbrev pub HasStatusCause : Status → ℕ → ℕ → ℕ → ℕ → Type 0
 HasStatusCause status.ReadFault old new out_old out_new = Rose old new × (out_new ≡ out_old)
 HasStatusCause status.WriteFault old new out_old out_new = (new ≡ old) × Rose out_old out_new
 HasStatusCause s old new out_old out_new = (new ≡ old) × (out_new ≡ out_old)
-
--- the text begins with a piece that isn't whole yet, and the rest is left
-pub record IsUnfinished (text : List ℕ) (left : Option (List ℕ)) : Type 0 where
-  pub piece : List ℕ
-  pub rest : List ℕ
-  pub cut : text ≡ piece ++ rest
-  pub left_is : left ≡ Some rest
-  pub none : NoneWhole piece
-  pub open_yet : is_whole piece ≡ false
 
 -- a text is due for a piece, whether the run goes on or ends with it
 abbrev pub IsDueText : Job → Target → Spot → List ℕ → List ℕ → Type 0
@@ -131,6 +122,17 @@ pub record IsOverTarget (job : Job) (word f : List ℕ) (contents : List ℕ →
 abbrev pub DoesJob : Job → List ℕ → List ℕ → (List ℕ → Option (List ℕ)) → Option (List ℕ) → Option (List ℕ) → Option (List ℕ) → Status → List ℕ → List ℕ → Type 0
 DoesJob job word f contents left old new s file detail = IsTargetRefused word (contents word) old new s file detail ⊎ IsOverTarget job word f contents left old new s file detail
 
+-- the two files of `check` are compared over the target of a word
+pub record ChecksOverTarget (word source allocated : List ℕ) (contents : List ℕ → Option (List ℕ)) (left old new : Option (List ℕ)) (s : Status) (file detail : List ℕ) : Type 0 where
+  pub target : Target
+  pub named : NamesTarget (is_word word (codes "-")) (contents word) target
+  pub checks : ChecksFiles target source allocated contents left old new s file detail
+
+-- what is done for the words of `check`: of a target and of two files
+abbrev pub DoesCheck : List ℕ → List ℕ → List ℕ → (List ℕ → Option (List ℕ)) → Option (List ℕ) → Option (List ℕ) → Option (List ℕ) → Status → List ℕ → List ℕ → Type 0
+DoesCheck word source allocated contents left old new s file detail =
+    IsTargetRefused word (contents word) old new s file detail ⊎ ChecksOverTarget word source allocated contents left old new s file detail
+
 -- whether words ask for anything
 abbrev pub asks_anything : Option Asked → Bool
 asks_anything None = false
@@ -138,8 +140,8 @@ asks_anything (Some asked) = true
 
 -- whether a command tells the watchers
 abbrev pub tells_words : Option Asked → Bool
-tells_words (Some (Alloc t f)) = true
-tells_words (Some (Trace t f)) = true
+tells_words (Some (Alloc how t f)) = true
+tells_words (Some (Trace how t f)) = true
 tells_words (Some (Gen seed)) = true
 tells_words _ = false
 
@@ -147,12 +149,6 @@ tells_words _ = false
 abbrev pub DoesRun : List ℕ → List ℕ → List ℕ → ℕ → ℕ → (List ℕ → Option (List ℕ)) → Option (List ℕ) → Option (List ℕ) → Option (List ℕ) → Status → List ℕ → List ℕ → Type 0
 DoesRun t f g n seed contents left old new s file detail =
     ((s ≡ status.Memory) × (new ≡ old)) ⊎ ((name : Bor (List ℕ)) × (name.now ≡ g) × DoesJob (jobs.Run name n seed) t f contents left old new s file detail)
-
--- a text was written, or a write failed
-abbrev pub IsWrittenEnd : List ℕ → Option (List ℕ) → Option (List ℕ) → Status → Type 0
-IsWrittenEnd text old new status.Done = WritesAll old new text
-IsWrittenEnd text old new status.WriteFault = WritesPart old new text
-IsWrittenEnd text old new s = ⊥
 
 -- what is done for the words of `gen`
 abbrev pub DoesGen : ℕ → Option (List ℕ) → Option (List ℕ) → Status → List ℕ → Type 0
@@ -163,12 +159,13 @@ DoesGen seed old new s detail = GenRefuses seed s detail × (new ≡ old)
 
 abbrev pub Does : Option Asked → (List ℕ → Option (List ℕ)) → Option (List ℕ) → Option (List ℕ) → Option (List ℕ) → Status → List ℕ → List ℕ → Type 0
 Does None contents left old new s file detail = ((s ≡ status.Usage) ⊎ (s ≡ status.Memory)) × (new ≡ old)
-Does (Some (Alloc t f)) contents left old new s file detail = DoesJob jobs.Alloc t f contents left old new s file detail
+Does (Some (Alloc how t f)) contents left old new s file detail = DoesJob (jobs.Alloc how) t f contents left old new s file detail
 Does (Some (VerifySource t f)) contents left old new s file detail = DoesJob (jobs.Verify forms.Source) t f contents left old new s file detail
 Does (Some (VerifyAllocated t f)) contents left old new s file detail = DoesJob (jobs.Verify forms.Allocated) t f contents left old new s file detail
 Does (Some (Run t f g n seed)) contents left old new s file detail = DoesRun t f g n seed contents left old new s file detail
 Does (Some (Intervals t f)) contents left old new s file detail = DoesJob jobs.Intervals t f contents left old new s file detail
-Does (Some (Trace t f)) contents left old new s file detail = DoesJob jobs.Trace t f contents left old new s file detail
+Does (Some (Trace how t f)) contents left old new s file detail = DoesJob (jobs.Trace how) t f contents left old new s file detail
+Does (Some (Check t a b)) contents left old new s file detail = DoesCheck t a b contents left old new s file detail
 Does (Some (Gen seed)) contents left old new s file detail = DoesGen seed old new s detail × (file ≡ codes "g")
 
 -- it is done, and the line is told of it
@@ -183,4 +180,11 @@ pub record DoesJobAll (job : Job) (word f : List ℕ) (contents : List ℕ → O
   pub file : List ℕ
   pub detail : List ℕ
   pub does : DoesJob job word f contents left old new s file detail
+  pub told : IsTold old_faults new_faults err_old err_new (line_of s file detail)
+
+-- the same of `check`
+pub record DoesCheckAll (word source allocated : List ℕ) (contents : List ℕ → Option (List ℕ)) (left old new : Option (List ℕ)) (old_faults new_faults : ℕ) (err_old err_new : Option (List ℕ)) (s : Status) : Type 0 where
+  pub file : List ℕ
+  pub detail : List ℕ
+  pub does : DoesCheck word source allocated contents left old new s file detail
   pub told : IsTold old_faults new_faults err_old err_new (line_of s file detail)

@@ -43,17 +43,17 @@ ToldGen next old new s = ToldPart next old new
 
 -- what the watchers were told for words, with files of these contents
 abbrev pub ToldWords : {W : Type 0} → (Target → W → RunStep → W) → Option Asked → (List ℕ → Option (List ℕ)) → List W → List W → Status → Type 0
-ToldWords next (Some (Alloc t f)) contents old new s = ToldJob next t (contents t) old new s
-ToldWords next (Some (Trace t f)) contents old new s = ToldJob next t (contents t) old new s
+ToldWords next (Some (Alloc how t f)) contents old new s = ToldJob next t (contents t) old new s
+ToldWords next (Some (Trace how t f)) contents old new s = ToldJob next t (contents t) old new s
 ToldWords next (Some (Gen seed)) contents old new s = ToldGen (next mini_target) old new s
 ToldWords next asked contents old new s = new ≡ old
 
 abbrev pub is_trace : Job → Bool
-is_trace jobs.Trace = true
+is_trace (jobs.Trace how) = true
 is_trace job = false
 
 abbrev pub asks_trace : Option Asked → Bool
-asks_trace (Some (Trace t f)) = true
+asks_trace (Some (Trace how t f)) = true
 asks_trace asked = false
 
 -- What `trace` has written by the time that it ends with a status, where these are the lines of the watchers: with Done

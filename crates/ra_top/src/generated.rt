@@ -2,7 +2,8 @@
 
 ghost use Rattle.std.specs.Prelude.{◌≡◌};
 ghost use Rattle.target_base.specs.Mini.{mini_target};
-ghost use Rattle.ra_top.specs.Told.{HasStatusCause, IsWrittenEnd, DoesGen};
+ghost use Rattle.ra_top.specs.Due.{IsWrittenEnd};
+ghost use Rattle.ra_top.specs.Told.{HasStatusCause, DoesGen};
 ghost use Rattle.ra_top.specs.Watched.{ToldGen};
 
 use crate::commands::{Answer, Status, gen_answer};
@@ -15,7 +16,7 @@ use target_base::Bytes;
 use watchers::Watcher;
 
 /// Writes a text.
-fn written<O: Sink>(alloc: Global, text: Bytes, out: &mut O) -> Ending
+pub(crate) fn written<O: Sink>(alloc: Global, text: Bytes, out: &mut O) -> Ending
     ensures does { IsWrittenEnd text (O.written out.old) (O.written out.new) result.status }
     ensures cause { HasStatusCause result.status 0 0 (O.faults out.old) (O.faults out.new) }
 {

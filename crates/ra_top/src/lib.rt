@@ -1,6 +1,7 @@
 //! The top of the program: its words, its files and its output.
 #![tactic(auto)]
 
+pub mod check;
 pub mod commands;
 pub mod devices;
 pub mod ending;

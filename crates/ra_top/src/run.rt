@@ -4,32 +4,32 @@ ghost use Rattle.std.specs.Prelude.{◌≡◌, ℕ, List, IfSome, false, true};
 ghost use Rattle.ra_top.specs.Words.Words.{bytes_of, command_of};
 ghost use Rattle.ra_top.specs.Commands.Status.{line_of};
 ghost use Rattle.ra_top.specs.Commands.Documents.{tells};
-ghost use Rattle.target_base.specs.Mini.{mini_target};
-ghost use Rattle.ra_top.specs.Told.{HasStatusCause, DoesAll, DoesJobAll, asks_anything, tells_words, IsTold, Streamed};
+ghost use Rattle.ra_top.specs.Told.{HasStatusCause, DoesAll, DoesJobAll, DoesCheckAll, asks_anything, tells_words, IsTold, Streamed};
 ghost use Rattle.ra_top.specs.Commands.Told.{lines_of};
 ghost use Rattle.ra_top.specs.Watched.{ToldAs, ToldJob, ToldWords, is_trace, asks_trace, WritesLines};
 
+use crate::check::check;
 use crate::commands::status::write_line;
 use crate::commands::{Job, Status};
 use crate::devices::{Files, Sink};
 use crate::ending::Ending;
 use crate::generated::generate;
 use crate::stream::{ends, stream};
-use crate::target::read_target_file;
+use crate::target::named_target;
 use crate::words::{Command, read_words};
 use mir_meaning::Form;
 use std::alloc::Global;
-use target_base::{Target, mini};
+use target_base::Target;
 use watchers::Watcher;
 
 /// Does all that the program does: reads its words, which are those after its name, treats the
 /// documents of the file that they name one at a time, each before the next is read, and writes a
 /// line that tells the status to `err`, where there is one. The words are refused first, then the
-/// target, then each document in turn. The output of a document is made whole before any of it is
+/// target, then each document in turn; of `check` those of the source file, and then those of the other. The output of a document is made whole before any of it is
 /// written. After the first fault of `files` or `out` it calls neither again; a fault of `err`
-/// changes nothing. `alloc`, `trace` and `gen` tell the watchers each step of each run, in order; the
+/// changes nothing. Every form of `alloc` and of `trace`, and `gen`, tell the watchers each step of each run, in order; the
 /// other commands leave them as they were. With Done each watcher was told all of these steps, and
-/// else a first part of them. With Done `trace` has written the watchers' lines as they then stand.
+/// else a first part of them. With Done a form of `trace` has written the watchers' lines as they then stand.
 pub fn top<F: Files, O: Sink, E: Sink, W: Watcher>(
     alloc: Global,
     words: &[String],
@@ -49,8 +49,9 @@ pub fn top<F: Files, O: Sink, E: Sink, W: Watcher>(
     match read_words(alloc, words) {
         Err(_) => tell(err, ends(alloc, Status::Memory), ""),
         Ok(None) => tell(err, ends(alloc, Status::Usage), ""),
-        Ok(Some(Command::Alloc(target, file))) => {
-            over_file(alloc, Job::Alloc, target, file, files, out, err, watchers)
+        Ok(Some(Command::Alloc(allocator, target, file))) => {
+            let job = Job::Alloc(allocator);
+            over_file(alloc, job, target, file, files, out, err, watchers)
         }
         Ok(Some(Command::VerifySource(target, file))) => {
             over_file(
@@ -92,8 +93,12 @@ pub fn top<F: Files, O: Sink, E: Sink, W: Watcher>(
                 watchers,
             )
         }
-        Ok(Some(Command::Trace(target, file))) => {
-            over_file(alloc, Job::Trace, target, file, files, out, err, watchers)
+        Ok(Some(Command::Trace(allocator, target, file))) => {
+            let job = Job::Trace(allocator);
+            over_file(alloc, job, target, file, files, out, err, watchers)
+        }
+        Ok(Some(Command::Check(target, source, allocated))) => {
+            over_files(alloc, target, source, allocated, files, out, err)
         }
         Ok(Some(Command::Gen(seed))) => {
             let ending = generate(alloc, seed, out, watchers);
@@ -132,11 +137,7 @@ fn over_file<F: Files, O: Sink, E: Sink, W: Watcher>(
     ensures told { ToldJob W.next target.now (F.contents files.old target.now) watchers.old.items watchers.new.items result }
     ensures traced { is_trace job.entry ≡ true → WritesLines (lines_of W.count W.text watchers.new.items) (O.written out.old) (O.written out.new) result }
 {
-    if target == "-" {
-        let ending = over_mini(alloc, job, file, files, out, watchers);
-        return tell(err, ending, file);
-    }
-    match read_target_file(alloc, target, files) {
+    match named_target(alloc, target, files) {
         Err(ending) => tell(err, ending, target),
         Ok(read) => {
             let ending = over_target(alloc, job, &read, file, files, out, watchers);
@@ -145,25 +146,26 @@ fn over_file<F: Files, O: Sink, E: Sink, W: Watcher>(
     }
 }
 
-/// Treats the documents of a file over the built-in target.
-fn over_mini<F: Files, O: Sink, W: Watcher>(
+/// The command `check` over the files of two words and the target of a word.
+fn over_files<F: Files, O: Sink, E: Sink>(
     alloc: Global,
-    job: Job,
-    file: &str,
+    target: &str,
+    source: &str,
+    allocated: &str,
     files: &mut F,
     out: &mut O,
-    watchers: &mut Vec<W>,
-) -> Ending
+    err: &mut E,
+) -> Status
     ensures contents { (n : List ℕ) → F.contents files.new n ≡ F.contents files.old n }
-    ensures streamed { IfSome (F.contents files.old file.now) (λ bytes. Streamed job.entry mini_target bytes (F.left files.new) (O.written out.old) (O.written out.new) result.status result.detail) }
-    ensures cause { HasStatusCause result.status (F.faults files.old) (F.faults files.new) (O.faults out.old) (O.faults out.new) }
-    ensures leaves { tells job.entry ≡ false → watchers.new ≡ watchers.old }
-    ensures told { ToldAs (W.next mini_target) 0 watchers.old.items watchers.new.items result.status }
-    ensures traced { is_trace job.entry ≡ true → WritesLines (lines_of W.count W.text watchers.new.items) (O.written out.old) (O.written out.new) result.status }
+    ensures does { DoesCheckAll target.now source.now allocated.now (F.contents files.old) (F.left files.new) (O.written out.old) (O.written out.new) (E.faults err.old) (E.faults err.new) (E.written err.old) (E.written err.new) result }
+    ensures cause { HasStatusCause result (F.faults files.old) (F.faults files.new) (O.faults out.old) (O.faults out.new) }
 {
-    match mini(alloc) {
-        Ok(target) => over_target(alloc, job, &target, file, files, out, watchers),
-        Err(_) => ends(alloc, Status::Memory),
+    match named_target(alloc, target, files) {
+        Err(ending) => tell(err, ending, target),
+        Ok(read) => {
+            let (ending, file) = check(alloc, &read, source, allocated, files, out);
+            tell(err, ending, file)
+        }
     }
 }
 

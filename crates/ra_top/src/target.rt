@@ -1,7 +1,9 @@
 //! Reading a target file.
 
-ghost use Rattle.std.specs.Prelude.{◌≡◌, ℕ, List, IfOk, IfErr, IfSome};
-ghost use Rattle.ra_top.specs.Told.{TargetVerdict, IsTargetOf};
+ghost use Rattle.std.specs.Prelude.{◌≡◌, ℕ, List, IfOk, IfErr, IfSome, codes, true};
+ghost use Rattle.ra_top.specs.Told.{TargetVerdict, IsTargetOf, NamesTarget};
+ghost use Rattle.ra_top.specs.Words.Words.{is_word};
+ghost use Rattle.ra_top.specs.declared.commands.status.Status.TheVariants as status;
 ghost use Rattle.ra_top.specs.Steps.{IsFaultOrMemory, NamesNoDevice, HasTargetCause, NamesNone};
 ghost use Rattle.ra_top.specs.Watched.{IsUndone};
 
@@ -12,7 +14,7 @@ use crate::ending::Ending;
 use crate::numbers::digits;
 use crate::stream::ends;
 use std::alloc::{AllocError, Global};
-use target_base::{Bytes, Target};
+use target_base::{Bytes, Target, mini};
 use target_desc::{TargetFault, TargetStop, read_target};
 
 /// The most bytes of a target file.
@@ -33,12 +35,26 @@ fn target_fault(alloc: Global, fault: TargetFault) -> Ending
     }
 }
 
+/// The target of a word: that of the file of this name, or the built-in one for `-`; or how a run ends.
+pub fn named_target<F: Files>(alloc: Global, word: &str, files: &mut F) -> Result<Target, Ending>
+    ensures contents { (n : List ℕ) → F.contents files.new n ≡ F.contents files.old n }
+    ensures ok { IfOk result (NamesTarget (is_word word.now (codes "-")) (F.contents files.old word.now)) }
+    ensures named { IfErr result (λ e. is_word word.now (codes "-") ≡ true → e.status ≡ status.Memory) }
+    ensures err { IfErr result (λ e. IfSome (F.contents files.old word.now) (λ bytes. TargetVerdict bytes e.status e.detail)) }
+    ensures cause { HasTargetCause result (F.faults files.old) (F.faults files.new) }
+    ensures undone { IfErr result (λ e. IsUndone e.status) }
+{
+    if word == "-" {
+        return match mini(alloc) {
+            Ok(target) => Ok(target),
+            Err(_) => Err(ends(alloc, Status::Memory)),
+        };
+    }
+    read_target_file(alloc, word, files)
+}
+
 /// Reads the target file of a name, or ends.
-pub fn read_target_file<F: Files>(
-    alloc: Global,
-    name: &str,
-    files: &mut F,
-) -> Result<Target, Ending>
+fn read_target_file<F: Files>(alloc: Global, name: &str, files: &mut F) -> Result<Target, Ending>
     ensures contents { (n : List ℕ) → F.contents files.new n ≡ F.contents files.old n }
     ensures ok { IfOk result (λ t. IfSome (F.contents files.old name.now) (λ bytes. IsTargetOf bytes t)) }
     ensures err { IfErr result (λ e. IfSome (F.contents files.old name.now) (λ bytes. TargetVerdict bytes e.status e.detail)) }

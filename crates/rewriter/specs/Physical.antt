@@ -14,9 +14,8 @@ use Rattle.mir_func.specs.declared.func.Operand.TheVariants as operands
 use Rattle.mir_func.specs.declared.func.Instr.{Instr}
 use Rattle.mir_func.specs.declared.func.Block.{Block}
 use Rattle.mir_func.specs.Value.{Function}
-use Rattle.mir_func.specs.Binding.{does}
+use Rattle.mir_func.specs.Binding.{does, same_loc}
 use Rattle.phi_elim.specs.Numbered.{blocks_numbered, instr_count}
-use Rattle.mir_meaning.specs.Rules.{same_loc}
 
 -- the register of each range number, where it is assigned one
 abbrev pub Assignment : Type 0

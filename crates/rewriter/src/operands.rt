@@ -1,15 +1,13 @@
 //! Instructions in physical form.
 
 ghost use Rattle.std.specs.Prelude.{◌≡◌, ◌++◌, ◌∷◌, [], cond, OnOk, IfOk, map};
-ghost use Rattle.target_base.specs.Registers.{sub_of};
 ghost use Rattle.rewriter.specs.Physical.{register_of, part_of, in_register, physical_at, physical, physical_instr, physical_instrs, moves_nothing, is_identity};
 
 use mir_func::opcodes::is_copy;
+use mir_func::operands::same_loc;
 use mir_func::{Instr, Loc, Operand, Operands, RegOp};
 use std::alloc::{AllocError, Global};
-use target_base::registers::find_sub;
 use target_base::{Boxed, Copied, IndexId, Reg, Target};
-use two_address::ties::same_loc;
 
 /// The register of a range.
 fn register_of(registers: &[Option<Reg>], v: u32) -> Option<Reg>
@@ -21,17 +19,6 @@ fn register_of(registers: &[Option<Reg>], v: u32) -> Option<Reg>
     }
 }
 
-/// The first register with the units that the index picks.
-fn sub_of(target: &Target, r: Reg, x: IndexId) -> Option<Reg>
-    ensures { result ≡ sub_of target.now r x }
-{
-    let regs = target.regs.as_slice();
-    match find_sub(regs, target.units_at(r), target.lanes_at(x)) {
-        None => None,
-        Some(place) => Some(Reg(place as u16)),
-    }
-}
-
 /// The part of a register that an index names; without an index all of it.
 fn part_of(target: &Target, r: Option<Reg>, index: Option<IndexId>) -> Option<Reg>
     ensures { result ≡ part_of target.now r index }
@@ -40,7 +27,7 @@ fn part_of(target: &Target, r: Option<Reg>, index: Option<IndexId>) -> Option<Re
         None => None,
         Some(r) => match index {
             None => Some(r),
-            Some(x) => sub_of(target, r, x),
+            Some(x) => target.sub_at(r, x),
         },
     }
 }

@@ -1,6 +1,6 @@
 //! How each kind of place changes when its range is spilled.
 
-use crate::kinds::{first_unreserved, home, move_of, part, reload_op, spill_op};
+use crate::kinds::{first_unreserved, home, reload_op, spill_op};
 use crate::plan::{Plan, SlotPart, View, plain, repeated, slot_operands, undefined, whole};
 use crate::remat::{Key, Remat};
 use crate::roles::{Tie, operand_class, tie_of};
@@ -45,7 +45,7 @@ fn class_beside(view: View<'_>, op: &RegOp) -> ClassId {
         Loc::Fixed(r) => home(view.target, r),
         Loc::Virtual(w) => {
             let class = class_of(view.live.func(), w).unwrap_or(view.class);
-            part(view.target, class, op.index)
+            view.target.part_at(class, op.index).unwrap_or(class)
         }
     }
 }
@@ -137,7 +137,10 @@ fn change_own_copy(
     }
     let source = own_part(view, slots, from.index)?;
     let goal = own_part(view, slots, to.index)?;
-    let class = move_of(view.target, view.class, to.index);
+    let class = view
+        .target
+        .move_at(view.class, to.index)
+        .unwrap_or(view.class);
     through_tiny(view, instr, source, goal, class, plan)
 }
 
@@ -246,7 +249,10 @@ fn change_store(
     if is_own_slot(view, slots, &register, there) {
         return plan.erase(instr.id);
     }
-    let class = move_of(view.target, view.class, register.index);
+    let class = view
+        .target
+        .move_at(view.class, register.index)
+        .unwrap_or(view.class);
     let own = own_part(view, slots, register.index)?;
     through_tiny(view, instr, own, there, class, plan)
 }
@@ -264,7 +270,10 @@ fn change_reload(
     if is_own_slot(view, slots, &register, there) {
         return plan.erase(instr.id);
     }
-    let class = move_of(view.target, view.class, register.index);
+    let class = view
+        .target
+        .move_at(view.class, register.index)
+        .unwrap_or(view.class);
     let own = own_part(view, slots, register.index)?;
     through_tiny(view, instr, there, own, class, plan)
 }
@@ -282,7 +291,10 @@ fn change_undefined(
     if !view.is_live_behind(op.index, instr.id) {
         return plan.erase(instr.id);
     }
-    let class = part(view.target, view.class, op.index);
+    let class = view
+        .target
+        .part_at(view.class, op.index)
+        .unwrap_or(view.class);
     let r = first_unreserved(view.target, class);
     let own = own_part(view, slots, op.index)?;
     let operands = slot_operands(view.alloc, undefined(r), own)?;

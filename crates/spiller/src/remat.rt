@@ -1,7 +1,7 @@
 //! Which readings of a range are rematerialised: the instruction that defines it is repeated in
 //! place of a reload.
 
-use crate::kinds::{is_within, regs_of};
+use crate::kinds::is_within;
 use crate::plan::View;
 use crate::reaching::{Event, Events, ReadLanes, readings_reached, unreached};
 use crate::roles::{Tie, operand_class, role_of, tie_of};
@@ -399,7 +399,7 @@ fn suits(view: View<'_>, instr: &Instr, wish: Wish) -> bool {
     match wish {
         Wish::Never => false,
         Wish::Class(own) => is_within(view.target, own, class),
-        Wish::Fixed(r) => regs_of(view.target, class).contains(&r),
+        Wish::Fixed(r) => view.target.regs_in(class).contains(&r),
     }
 }
 

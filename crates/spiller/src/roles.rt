@@ -1,6 +1,5 @@
 //! What the operands of an instruction are for.
 
-use crate::kinds::move_of;
 use mir_func::opcodes::{roles_of, takes_many};
 use mir_func::operands::{class_of, register_at};
 use mir_func::{Func, Instr, Loc, RegOp};
@@ -38,7 +37,7 @@ pub(crate) fn operand_class(
                 loc: Loc::Virtual(w),
                 index,
                 ..
-            } => Some(move_of(target, class_of(f, w)?, index)),
+            } => target.move_at(class_of(f, w)?, index),
             _ => None,
         },
         Role::Address(class) => Some(class),

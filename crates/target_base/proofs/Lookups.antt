@@ -1,6 +1,6 @@
 -- What a target's look-ups find, by its rules.
-use Rattle.std.proofs.Common.{◌≡◌, ℕ, ◌<◌, ◌≢◌, List, [], ◌∷◌, length, Some, None, Bool, true, false, refl, ap, sym, ◌∙◌, arith, get_or}
-use Rattle.std.specs.Prelude.{◌&&◌, ◌||◌, not, Option, slice_get, position}
+use Rattle.std.proofs.Common.{subst, ◌≡◌, ℕ, ◌<◌, ◌≢◌, List, [], ◌∷◌, length, Some, None, Bool, true, false, refl, ap, sym, ◌∙◌, arith, get_or}
+use Rattle.std.specs.Prelude.{◌&&◌, ◌||◌, not, Option, slice_get, position, option_map, unwrap_or, IfSome, find, filter, cond}
 use Rattle.std.specs.List.{list_all, list_any}
 use Rattle.std.proofs.lemmas.Option.{slice_get-get_or}
 use Rattle.std.proofs.lemmas.List.{length-map}
@@ -15,8 +15,12 @@ use Rattle.target_base.specs.declared.types.IndexDesc.{IndexDesc}
 use Rattle.target_base.specs.declared.types.ClassDesc.{ClassDesc}
 use Rattle.target_base.specs.declared.types.MaskDesc.{MaskDesc}
 use Rattle.target_base.specs.declared.types.OpcodeDesc.{OpcodeDesc}
+use Rattle.target_base.specs.declared.types.Role.{Role}
+use Rattle.target_base.specs.declared.types.Target.{Target}
 use Rattle.target_base.specs.Storage.{class_regs, regs_in, sub_place, part_place, is_picked, holds_subs, holds_reg, lanes_fit, same_numbers, class_widths, widths, unit_width, alike_place}
-use Rattle.target_base.specs.Registers.{lanes_in}
+use Rattle.target_base.specs.Numbers.{class_number}
+use Rattle.target_base.specs.Registers.{lanes_in, lanes_of, regs_of, IsClass, HasIndex, fits, part_of, class_of_widths, widths_of_some, move_class}
+use Rattle.target_base.specs.Roles.{first_implicit}
 use Rattle.target_base.specs.Rules.{is_sound, spills, reloads, is_complete, part_is_there, is_found}
 use Rattle.target_base.proofs.Tests.{first_of_both, second_of_both, each_passes, position_within, position_there, position_found}
 use Rattle.target_base.proofs.Sound.{complete_sound}
@@ -104,3 +108,47 @@ same_numbers_lengths (m ∷ ms) (n ∷ ns) h = differs _ _ (same_numbers_lengths
 -- lists of other lengths have other widths
 pub widths_lengths : (units : List UnitDesc) (a b : List UnitNumber) → length a ≢ length b → same_numbers (widths units a) (widths units b) ≡ false
 widths_lengths units a b h = same_numbers_lengths (widths units a) (widths units b) (λ e. h (sym (length-map a (unit_width units)) ∙ (e ∙ length-map b (unit_width units))))
+
+-- a value that is there is what is taken
+pub taken_there : {X : Type 0} → (o : Option X) (x r : X) → r ≡ unwrap_or o x → (o ≡ None → ⊥) → o ≡ Some r
+taken_there None x r e h = absurd (h refl)
+taken_there (Some y) x r e h = ap Some (sym e)
+
+-- what holds of a value that is there holds of what is taken
+pub holds_taken : {X : Type 0} (P : X → Type 0) (o : Option X) (x r : X) → r ≡ unwrap_or o x → IfSome o P → (o ≡ None → ⊥) → P r
+holds_taken P None x r e h n = absurd (n refl)
+holds_taken P (Some y) x r e h n = subst P (sym e) h
+
+nothing_mapped : {X Y : Type 0} (f : X → Y) (o : Option X) → option_map f o ≡ None → o ≡ None
+nothing_mapped f None e = refl
+nothing_mapped f (Some x) e = cc
+
+-- a class has a part for each index that fits it
+pub part_found : (t : Target) (k : ClassId) (i : Option IndexId) → IsClass t k → HasIndex t i → fits t k i ≡ true → part_of t k i ≡ None → ⊥
+part_found t k None h g f e = cc
+part_found t k (Some i) h g f e = part_there _ _ _ _ _ _ _ _ _ t.sound k i h g f (nothing_mapped class_number (part_place t.regs t.classes (lanes_of t i) (regs_of t k)) e)
+
+class_there : (t : Target) (o : Option ℕ) → ((k : ℕ) → o ≡ Some k → k < length t.classes) → IfSome (option_map class_number o) (IsClass t)
+class_there t None h = tt
+class_there t (Some k) h = h k refl
+
+pub part_is_class : (t : Target) (k : ClassId) (i : Option IndexId) → IsClass t k → IfSome (part_of t k i) (IsClass t)
+part_is_class t k None h = h
+part_is_class t k (Some i) h = class_there t _ (part_place_within t.regs t.classes (lanes_of t i) (regs_of t k))
+
+alike_found : (t : Target) (o : Option ClassId) → (o ≡ None → ⊥) → IfSome o (IsClass t) → class_of_widths t (widths_of_some t o) ≡ None → ⊥
+alike_found t None n h e = n refl
+alike_found t (Some k) n h e = alike_there t.units t.regs t.classes k h (nothing_mapped class_number (alike_place t.units t.regs t.classes (regs_of t k)) e)
+
+-- and so it has a class that its part is copied through
+pub move_found : (t : Target) (k : ClassId) (i : Option IndexId) → IsClass t k → HasIndex t i → fits t k i ≡ true → move_class t k i ≡ None → ⊥
+move_found t k i h g f e = alike_found t (part_of t k i) (part_found t k i h g f) (part_is_class t k i h) e
+
+-- the first that passes a test is the first of those that do
+pub first_found : (p : Role → Bool) (rs : List Role) → find p rs ≡ first_implicit (filter p rs)
+first_found p [] = refl
+first_found p (r ∷ rs) = go (p r) (first_found p rs)
+  where
+    go : (b : Bool) → find p rs ≡ first_implicit (filter p rs) → cond b (Some r) (find p rs) ≡ first_implicit (cond b (r ∷ filter p rs) (filter p rs))
+    go true h = refl
+    go false h = h

@@ -1,8 +1,8 @@
 //! Questions about a target's classes and their opcodes. None of them takes memory.
 
-ghost use Rattle.std.specs.Prelude.{◌≡◌, Some, position, IsTrue, IfSome};
+ghost use Rattle.std.specs.Prelude.{◌≡◌, Some, position, IsTrue, IfSome, option_map};
 ghost use Rattle.target_base.specs.Numbers.{reg_number};
-ghost use Rattle.target_base.specs.Registers.{IsReg, IsClass, IsOpcode, HasIndex, fits, part_of, move_class, home_of, spill_place, reload_place};
+ghost use Rattle.target_base.specs.Registers.{IsReg, IsClass, IsOpcode, HasIndex, lanes_of, regs_of, fits, part_of, move_class, class_of_widths, widths_of_some, home_of, spill_place, reload_place};
 ghost use Rattle.target_base.specs.Roles.{role_class, first_class};
 ghost use Rattle.target_base.specs.Rules.{regs_of_some, spills, reloads, is_spill, is_reload};
 ghost use Rattle.target_base.specs.Storage.{alike_place, holds_reg, is_within, holds_place, holds_subs, lanes_fit, part_place, same_numbers, widths, class_widths, class_units, unit_width};
@@ -21,10 +21,7 @@ impl Target {
         requires index { HasIndex self.now i }
         ensures { result ≡ fits self.now c i }
     {
-        match i {
-            None => true,
-            Some(i) => have_subs(self.regs.as_slice(), self.lanes_of(i), self.regs_of(c)),
-        }
+        self.fits_at(c, i)
     }
 
     /// The first class that holds, of each register of the class, the register that the index
@@ -36,18 +33,7 @@ impl Target {
         ensures value { part_of self.now c i ≡ Some result }
         ensures there { IsClass self.now result }
     {
-        match i {
-            None => c,
-            Some(i) => match find_part(
-                self.regs.as_slice(),
-                self.classes.as_slice(),
-                self.lanes_of(i),
-                self.regs_of(c),
-            ) {
-                None => c,
-                Some(place) => ClassId(place as u16),
-            },
-        }
+        self.part_at(c, i).unwrap_or(c)
     }
 
     /// The first class with the lane widths of the class's part for the index: the class of a
@@ -59,15 +45,76 @@ impl Target {
         ensures value { move_class self.now c i ≡ Some result }
         ensures there { IsClass self.now result }
     {
-        let part = self.part(c, i);
-        match self.find_alike(self.regs_of(part)) {
-            None => part,
-            Some(place) => ClassId(place as u16),
+        self.move_at(c, i).unwrap_or(c)
+    }
+
+    /// The first class that holds the register. None where no class holds it.
+    pub fn home(&self, r: Reg) -> Option<ClassId>
+        requires { IsReg self.now r }
+        ensures value { result ≡ home_of self.now r }
+        ensures there { IfSome result (IsClass self.now) }
+    {
+        self.home_at(r)
+    }
+
+    /// The first spill opcode whose class holds all registers of the class.
+    pub fn spill_op(&self, c: ClassId) -> OpId
+        requires { IsClass self.now c }
+        ensures value { spill_place self.now c ≡ Some result.0 }
+        ensures there { IsOpcode self.now result }
+    {
+        self.spill_at(c).unwrap_or(OpId(0))
+    }
+
+    /// The first reload opcode whose class holds all registers of the class.
+    pub fn reload_op(&self, c: ClassId) -> OpId
+        requires { IsClass self.now c }
+        ensures value { reload_place self.now c ≡ Some result.0 }
+        ensures there { IsOpcode self.now result }
+    {
+        self.reload_at(c).unwrap_or(OpId(0))
+    }
+}
+
+// The same of numbers that the target may not have.
+impl Target {
+    /// Whether the index picks the units of a register, of each register of the class. Without an
+    /// index it does.
+    pub fn fits_at(&self, c: ClassId, i: Option<IndexId>) -> bool
+        ensures { result ≡ fits self.now c i }
+    {
+        match i {
+            None => true,
+            Some(i) => have_subs(self.regs.as_slice(), self.lanes_at(i), self.regs_in(c)),
+        }
+    }
+
+    /// The place of the first class that holds, of each register of the class, the register that the
+    /// index picks.
+    fn part_place(&self, c: ClassId, i: IndexId) -> Option<usize>
+        ensures { result ≡ part_place self.now.regs self.now.classes (lanes_of self.now i) (regs_of self.now c) }
+    {
+        let (regs, classes) = (self.regs.as_slice(), self.classes.as_slice());
+        find_part(regs, classes, self.lanes_at(i), self.regs_in(c))
+    }
+
+    /// The first class that holds, of each register of the class, the register that the index
+    /// picks; without an index the class itself. None where there is no such class.
+    pub fn part_at(&self, c: ClassId, i: Option<IndexId>) -> Option<ClassId>
+        ensures value { result ≡ part_of self.now c i }
+        ensures there { IsClass self.now c → IfSome result (IsClass self.now) }
+    {
+        match i {
+            None => Some(c),
+            Some(i) => match self.part_place(c, i) {
+                None => None,
+                Some(place) => Some(ClassId(place as u16)),
+            },
         }
     }
 
     /// The place of the first class with the lane widths of these registers' class.
-    fn find_alike(&self, rs: &[Reg]) -> Option<usize>
+    fn alike_place(&self, rs: &[Reg]) -> Option<usize>
         ensures { result ≡ alike_place self.now.units self.now.regs self.now.classes rs.now }
     {
         let (units, regs) = (self.units.as_slice(), self.regs.as_slice());
@@ -77,9 +124,28 @@ impl Target {
             .position(|d| are_alike(units, regs, d.regs.as_slice(), rs))
     }
 
+    /// The first class with the lane widths of this one; without a class the first one without lanes.
+    pub fn alike_at(&self, c: Option<ClassId>) -> Option<ClassId>
+        ensures value { result ≡ class_of_widths self.now (widths_of_some self.now c) }
+        ensures there { IfSome result (IsClass self.now) }
+    {
+        match self.alike_place(regs_at(self.classes.as_slice(), c)) {
+            None => None,
+            Some(place) => Some(ClassId(place as u16)),
+        }
+    }
+
+    /// The first class with the lane widths of the class's part for the index: the class of a
+    /// register that such a part is copied through. None where there is no such class.
+    pub fn move_at(&self, c: ClassId, i: Option<IndexId>) -> Option<ClassId>
+        ensures value { result ≡ move_class self.now c i }
+        ensures there { IfSome result (IsClass self.now) }
+    {
+        self.alike_at(self.part_at(c, i))
+    }
+
     /// The first class that holds the register. None where no class holds it.
-    pub fn home(&self, r: Reg) -> Option<ClassId>
-        requires { IsReg self.now r }
+    pub fn home_at(&self, r: Reg) -> Option<ClassId>
         ensures value { result ≡ home_of self.now r }
         ensures there { IfSome result (IsClass self.now) }
     {
@@ -89,35 +155,27 @@ impl Target {
         }
     }
 
-    /// The first spill opcode whose class holds all registers of the class.
-    pub fn spill_op(&self, c: ClassId) -> OpId
-        requires { IsClass self.now c }
-        ensures value { spill_place self.now c ≡ Some result.0 }
-        ensures there { IsOpcode self.now result }
+    /// The first spill opcode whose class holds all registers of the class. None where none does.
+    pub fn spill_at(&self, c: ClassId) -> Option<OpId>
+        ensures value { option_map (λ o. o.0) result ≡ spill_place self.now c }
+        ensures there { IfSome result (IsOpcode self.now) }
     {
-        match find_spill(
-            self.classes.as_slice(),
-            self.regs_of(c),
-            self.opcodes.as_slice(),
-        ) {
-            None => OpId(0),
-            Some(place) => OpId(place as u16),
+        let (classes, opcodes) = (self.classes.as_slice(), self.opcodes.as_slice());
+        match find_spill(classes, self.regs_in(c), opcodes) {
+            None => None,
+            Some(place) => Some(OpId(place as u16)),
         }
     }
 
-    /// The first reload opcode whose class holds all registers of the class.
-    pub fn reload_op(&self, c: ClassId) -> OpId
-        requires { IsClass self.now c }
-        ensures value { reload_place self.now c ≡ Some result.0 }
-        ensures there { IsOpcode self.now result }
+    /// The first reload opcode whose class holds all registers of the class. None where none does.
+    pub fn reload_at(&self, c: ClassId) -> Option<OpId>
+        ensures value { option_map (λ o. o.0) result ≡ reload_place self.now c }
+        ensures there { IfSome result (IsOpcode self.now) }
     {
-        match find_reload(
-            self.classes.as_slice(),
-            self.regs_of(c),
-            self.opcodes.as_slice(),
-        ) {
-            None => OpId(0),
-            Some(place) => OpId(place as u16),
+        let (classes, opcodes) = (self.classes.as_slice(), self.opcodes.as_slice());
+        match find_reload(classes, self.regs_in(c), opcodes) {
+            None => None,
+            Some(place) => Some(OpId(place as u16)),
         }
     }
 }

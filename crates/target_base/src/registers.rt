@@ -66,10 +66,7 @@ impl Target {
         ensures value { result ≡ sub_of self.now r i }
         ensures there { IfSome result (IsReg self.now) }
     {
-        match find_sub(self.regs.as_slice(), self.units_of(r), self.lanes_of(i)) {
-            None => None,
-            Some(place) => Some(Reg(place as u16)),
-        }
+        self.sub_at(r, i)
     }
 }
 
@@ -89,6 +86,28 @@ impl Target {
         match self.indexes.as_slice().get(i.0 as usize) {
             None => &[],
             Some(d) => d.lanes.as_slice(),
+        }
+    }
+
+    /// The registers of a class in allocation order; none where the target has no such class.
+    pub fn regs_in(&self, c: ClassId) -> &[Reg]
+        ensures { result.now ≡ regs_of self.now c }
+    {
+        match self.classes.as_slice().get(c.0 as usize) {
+            None => &[],
+            Some(d) => d.regs.as_slice(),
+        }
+    }
+
+    /// The first register that has the units which the index picks of `r`, in the index's order.
+    /// None where no register has these units.
+    pub fn sub_at(&self, r: Reg, i: IndexId) -> Option<Reg>
+        ensures value { result ≡ sub_of self.now r i }
+        ensures there { IfSome result (IsReg self.now) }
+    {
+        match find_sub(self.regs.as_slice(), self.units_at(r), self.lanes_at(i)) {
+            None => None,
+            Some(place) => Some(Reg(place as u16)),
         }
     }
 

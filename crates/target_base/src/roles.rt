@@ -1,7 +1,7 @@
 //! What the effects and the roles of opcodes are. None of the questions takes memory.
 
-ghost use Rattle.std.specs.Prelude.{◌≡◌};
-ghost use Rattle.target_base.specs.Roles.{is_definition, is_tied, is_implicit, is_silent};
+ghost use Rattle.std.specs.Prelude.{◌≡◌, find, filter};
+ghost use Rattle.target_base.specs.Roles.{is_definition, is_tied, is_implicit, is_silent, first_implicit};
 ghost use Rattle.target_base.specs.Rules.{is_copy, is_phi};
 
 use crate::types::{Effect, Role};
@@ -34,6 +34,20 @@ pub fn is_implicit(role: Role) -> bool
         Role::ImpDef(_) | Role::ImpRead(_) => true,
         _ => false,
     }
+}
+
+fn find_implicit(roles: &[Role]) -> Option<Role>
+    ensures { result ≡ find is_implicit roles.now }
+{
+    roles.iter().copied().find(|r| is_implicit(*r))
+}
+
+/// The first role of an implicit operand, if there is one.
+pub fn first_implicit(roles: &[Role]) -> Option<Role>
+    ensures found { result ≡ find is_implicit roles.now }
+    ensures first { result ≡ first_implicit (filter is_implicit roles.now) }
+{
+    find_implicit(roles)
 }
 
 /// Whether an instruction of this effect counts for nothing in a run.

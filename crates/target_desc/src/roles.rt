@@ -9,7 +9,7 @@ ghost use Rattle.target_desc.specs.Shapes.{passes, classes_from};
 use crate::widths::total_width;
 use target_base::classes::{class_of, first_units, regs_at, width_of};
 use target_base::registers::units_at;
-use target_base::roles::{is_definition, is_implicit, is_silent, is_tied};
+use target_base::roles::{first_implicit, is_definition, is_implicit, is_silent, is_tied};
 use target_base::{ClassDesc, ClassId, Effect, Reg, RegDesc, Role, Unit, UnitDesc};
 
 /// What an effect asks of one explicit role.
@@ -361,18 +361,6 @@ fn have_effect_widths(
         Effect::Load(_) | Effect::Store(_) => in_bytes(units, regs, classes, rs),
         _ => true,
     }
-}
-
-/// The first implicit role.
-fn first_implicit(rs: &[Role]) -> Option<Role>
-    ensures { result ≡ roles.first_implicit (filter roles.is_implicit rs.now) }
-{
-    for role in rs {
-        if is_implicit(*role) {
-            return Some(*role);
-        }
-    }
-    None
 }
 
 /// Whether a register is three flags of one bit each.

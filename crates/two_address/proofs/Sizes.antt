@@ -16,8 +16,7 @@ use Rattle.mir_func.specs.declared.func.Op.TheVariants as ops
 use Rattle.mir_func.specs.declared.func.Instr.{Instr}
 use Rattle.mir_func.specs.declared.func.Block.{Block}
 use Rattle.mir_func.specs.Value.{Function, IsFunction}
-use Rattle.mir_func.specs.Binding.{does, explicit_bound, roles_of, register_at}
-use Rattle.mir_meaning.specs.Rules.{same_loc}
+use Rattle.mir_func.specs.Binding.{does, explicit_bound, roles_of, register_at, same_loc}
 use Rattle.phi_elim.specs.Moves.{implicit_def_op, whole_definition, whole_use, source_of, destination_of, copy_of, undefining, move_of}
 use Rattle.phi_elim.specs.Numbered.{instr_count, blocks_numbered}
 use Rattle.phi_elim.specs.Bulk.{bulk, operand_count}

@@ -12,7 +12,7 @@ use Rattle.mir_func.specs.declared.func.Operand.{Operand}
 use Rattle.mir_func.specs.declared.func.Operand.TheVariants as operands
 use Rattle.mir_func.specs.declared.func.Instr.{Instr}
 use Rattle.mir_meaning.specs.Registers.{has_number}
-use Rattle.mir_meaning.specs.Rules.{same_loc}
+use Rattle.mir_func.specs.Binding.{same_loc}
 use Rattle.phi_elim.specs.Moves.{whole_definition, whole_use, copy_of, undefining, move_of}
 use Rattle.phi_elim.specs.Phis.{located_class}
 use Rattle.two_address.specs.declared.sequences.Part.{Part}

@@ -13,8 +13,7 @@ use Rattle.mir_func.specs.declared.func.Operand.{Operand}
 use Rattle.mir_func.specs.declared.func.Operand.TheVariants as operands
 use Rattle.mir_func.specs.declared.func.Op.TheVariants as ops
 use Rattle.mir_func.specs.declared.func.Instr.{Instr}
-use Rattle.mir_func.specs.Binding.{Bound, passes}
-use Rattle.mir_meaning.specs.Rules.{is_virtual, is_definition, same_loc, same_index}
+use Rattle.mir_func.specs.Binding.{Bound, passes, is_virtual, is_definition, same_loc, same_index}
 use Rattle.phi_elim.specs.Moves.{implicit_def_op, whole_definition, whole_use, source_of, destination_of, copy_of, undefining}
 use Rattle.two_address.specs.declared.ties.Move.{Move}
 use Rattle.two_address.specs.declared.ties.Tie.{Tie}

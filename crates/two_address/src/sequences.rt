@@ -8,7 +8,7 @@ ghost use Rattle.mir_func.specs.declared.func.Loc.TheVariants as locs;
 ghost use Rattle.mir_meaning.specs.Registers.{has_number};
 ghost use Rattle.two_address.specs.Sequences.{part, parts_of, is_input, built, into_part, at_last, fill_all, beginning, keeping_text, sequence_lowered, insertion_lowered};
 
-use crate::ties::same_loc;
+use mir_func::operands::same_loc;
 use mir_func::{Instr, Loc, Operand, RegOp};
 use phi_elim::moves::{copy_of, move_of, undefining, whole_definition, whole_use};
 use phi_elim::phis::located_class;

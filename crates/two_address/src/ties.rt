@@ -2,21 +2,20 @@
 
 ghost use Rattle.std.specs.Prelude.{◌≡◌, ◌++◌, ◌∷◌, OnOk, IfOk, map};
 ghost use Rattle.std.specs.List.{list_any};
-ghost use Rattle.target_base.specs.Roles.{is_tied};
-ghost use Rattle.mir_func.specs.Binding.{passes, explicit_bound};
-ghost use Rattle.mir_meaning.specs.Rules.{is_virtual, is_definition, same_loc, same_index};
+ghost use Rattle.mir_func.specs.Binding.{explicit_bound};
 ghost use Rattle.two_address.specs.Classes.{seated};
 ghost use Rattle.two_address.specs.Ties.{defined_by, definition_of, tied_operand, tied_use, reads_besides, use_of, undef_use_of, untied, tie_of, tie_between, tie_in, copies, defined_aside, or_kept, undef_fixed, defined_use, retied, retied_operand, undefined_whole, undefined_first, with_operands, tied_lowered, first_role_class, copy_lowered};
 
 use crate::classes::{class_asked, first_register, first_role, roles_behind};
-use mir_func::opcodes::roles_of;
+use mir_func::opcodes::{is_tied, roles_of};
+use mir_func::operands::{is_definition, is_virtual, same_index, same_loc};
 use mir_func::{Instr, Loc, Op, Operand, Operands, RegOp};
 use phi_elim::moves::{
     IMPLICIT_DEF, copy_of, destination_of, source_of, undefining, whole_definition, whole_use,
 };
 use std::alloc::{AllocError, Global};
 use target_base::classes::class_of;
-use target_base::{ClassId, Copied, IndexId, Reg, Role, Target, roles};
+use target_base::{ClassId, Copied, Reg, Role, Target};
 
 /// A copy that lowering makes.
 #[derive(Clone, Copy)]
@@ -40,71 +39,12 @@ pub struct Tie {
     pub after: Option<Move>,
 }
 
-/// Whether it is a virtual register.
-pub fn is_virtual(loc: Loc) -> bool
-    ensures { result ≡ is_virtual loc }
-{
-    match loc {
-        Loc::Virtual(_) => true,
-        Loc::Fixed(_) => false,
-    }
-}
-
-/// Whether the operand is an explicit definition.
-fn is_definition(o: RegOp) -> bool
-    ensures { result ≡ is_definition o }
-{
-    o.def && !o.implicit
-}
-
-/// Whether the locations are one.
-pub fn same_loc(a: Loc, b: Loc) -> bool
-    ensures { result ≡ same_loc a b }
-{
-    match a {
-        Loc::Virtual(v) => match b {
-            Loc::Virtual(w) => v == w,
-            Loc::Fixed(_) => false,
-        },
-        Loc::Fixed(r) => match b {
-            Loc::Virtual(_) => false,
-            Loc::Fixed(q) => r.0 == q.0,
-        },
-    }
-}
-
-/// Whether both are the whole register, or the same part of it.
-pub fn same_index(a: Option<IndexId>, b: Option<IndexId>) -> bool
-    ensures { result ≡ same_index a b }
-{
-    match a {
-        None => match b {
-            None => true,
-            Some(_) => false,
-        },
-        Some(x) => match b {
-            None => false,
-            Some(y) => x.0 == y.0,
-        },
-    }
-}
-
-/// Whether the role is the tied one.
-fn is_tied(role: Option<Role>) -> bool
-    ensures { result ≡ passes is_tied role }
-{
-    match role {
-        None => false,
-        Some(r) => roles::is_tied(r),
-    }
-}
-
 /// The explicit definition that the operand is.
 fn defined_by(o: &Operand) -> Option<RegOp>
     ensures { result ≡ defined_by o.now }
 {
     match o {
-        Operand::Reg(r) => { if is_definition(*r) { Some(*r) } else { None } }
+        Operand::Reg(r) => { if is_definition(r) { Some(*r) } else { None } }
         _ => None,
     }
 }
@@ -325,7 +265,7 @@ fn retied(
 ) -> RegOp
     ensures { result ≡ retied target.now classes.now tie role o }
 {
-    if is_definition(o) {
+    if is_definition(&o) {
         return defined_aside(tie.aside, o);
     }
     if is_tied(role) {

@@ -11,6 +11,6 @@ pub mod trace;
 
 pub use count::CountWatcher;
 pub use pressure::PressureWatcher;
-pub use steps::{Choices, Kind, Step};
-pub use telling::{Watcher, tell_all};
+pub use steps::{Choices, Kind, Step, Steps};
+pub use telling::{Watcher, tell_all, tell_steps};
 pub use trace::TraceWatcher;

@@ -34,3 +34,6 @@ pub enum Step {
     /// The ranges of a place get these registers together.
     Place(Choices),
 }
+
+/// Steps, in order.
+pub type Steps = List<Step>;

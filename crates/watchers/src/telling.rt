@@ -3,9 +3,9 @@
 ghost use Rattle.std.specs.Prelude.{◌≡◌, ℕ, List, OnOk, OnErr, IfOk, map};
 ghost use Rattle.target_base.specs.declared.types.Target.{Target};
 ghost use Rattle.watchers.specs.declared.steps.Step.{Step};
-ghost use Rattle.watchers.specs.Told.{FirstBecame};
+ghost use Rattle.watchers.specs.Told.{FirstBecame, AllTold, PartTold};
 
-use crate::steps::Step;
+use crate::steps::{Step, Steps};
 use std::alloc::{AllocError, Global};
 use target_base::{Bytes, Target};
 
@@ -66,6 +66,21 @@ pub fn tell_all<W: Watcher>(
 {
     'watchers: for watcher in watchers.iter_mut() {
         watcher.tell(target, step)?;
+    }
+    Ok(())
+}
+
+/// Tells steps to all watchers, in order. After a refusal each was told a first part of them.
+pub fn tell_steps<W: Watcher>(
+    watchers: &mut Vec<W>,
+    target: &Target,
+    steps: &Steps,
+) -> Result<(), AllocError>
+    ensures ok { OnOk result (AllTold (W.next target.now) steps.now watchers.old.items watchers.new.items) }
+    ensures err { OnErr result (PartTold (W.next target.now) steps.now watchers.old.items watchers.new.items) }
+{
+    'steps: for step in steps.as_slice() {
+        tell_all(watchers, target, step)?;
     }
     Ok(())
 }

@@ -1,24 +1,22 @@
 //! What a counted instruction writes.
 
 ghost use Rattle.std.specs.Prelude.{◌≡◌, ◌+◌, ◌<◌, ◌-◌, ◌++◌, length, map, filter, flat_map, OnOk, IfOk, None, Some, cond, not};
-ghost use Rattle.target_base.specs.Registers.{units_of};
 ghost use Rattle.mir_func.specs.Binding.{roles_of, implicit_roles, is_early_clobber};
 ghost use Rattle.mir_meaning.specs.Registers.{numbers, operand_widths, is_reserved};
 ghost use Rattle.mir_meaning.specs.Items.{is_flags, values, explicit_definitions, implicit_definitions, result_writes, unreserved, all_lanes, answered, preserves, clobbered, kept, implicit_writes, counted_writes, lane_width, result_widths};
 ghost use Rattle.std.specs.List.{list_any};
-ghost use Rattle.target_base.specs.Storage.{is_among};
 ghost use Rattle.meaning.specs.declared.types.Lane.TheVariants.{UnitLane};
 ghost use Rattle.target_base.specs.declared.types.Effect.TheVariants as effects;
 
 use crate::items::counted::is_flags;
 use crate::items::lanes::{Lanes, push_operand_lanes, push_operand_widths, push_undefined_lanes};
 use crate::items::writes::{push_computed, push_undefined};
+use crate::masks::is_preserved;
 use meaning::{Lane, Write, Writes};
 use mir_func::opcodes::{is_early_clobber, roles_of};
 use mir_func::{Func, Instr, Operand, RegOp};
 use std::alloc::{AllocError, Global};
-use target_base::registers::has_unit;
-use target_base::{Copied, Effect, List, Numbers, Reg, Role, Target, Unit};
+use target_base::{Copied, Effect, List, Numbers, Role, Target};
 
 /// The register operands of an instruction that are definitions, explicit ones or implicit ones.
 fn definitions(
@@ -129,48 +127,14 @@ fn implicit_lanes(
     Ok(made)
 }
 
-/// Whether some register of a mask has a unit.
-fn mask_has(t: &Target, regs: &[Reg], u: Unit) -> bool
-    ensures { result ≡ is_among (flat_map (units_of t.now) regs.now) u }
-{
-    for r in regs {
-        if has_unit(t.units_at(*r), u) {
-            return true;
-        }
-    }
-    false
-}
-
-/// Whether an operand is a mask that preserves a unit.
-fn preserves(t: &Target, u: Unit, o: &Operand) -> bool
-    ensures { result ≡ preserves t.now u.0 o.now }
-{
-    match o {
-        Operand::Mask(k) => mask_has(t, t.mask_regs(*k), u),
-        _ => false,
-    }
-}
-
-/// Whether an operand among these is a mask that preserves a unit.
-fn is_preserved(t: &Target, u: Unit, operands: &[Operand]) -> bool
-    ensures { result ≡ list_any (preserves t.now u.0) operands.now }
-{
-    for o in operands {
-        if preserves(t, u, o) {
-            return true;
-        }
-    }
-    false
-}
-
 /// The units outside the mask of a call.
 fn unpreserved(alloc: Global, t: &Target, operands: &[Operand]) -> Result<Lanes, AllocError>
     ensures { IfOk result (λ made. made ≡ map UnitLane (filter (λ u. not (list_any (preserves t.now u) operands.now)) (numbers 0 (length t.now.units)))) }
 {
     let mut made = List::new(alloc);
-    for u in 0..t.units.len() as u16 {
-        if !is_preserved(t, Unit(u), operands) {
-            made.push(Lane::UnitLane(u as u32))?;
+    for u in 0..t.units.len() as u32 {
+        if !is_preserved(t, operands, u) {
+            made.push(Lane::UnitLane(u))?;
         }
     }
     Ok(made)

@@ -23,12 +23,12 @@ use Rattle.mir_func.specs.declared.func.Operand.TheVariants as operands
 use Rattle.mir_func.specs.declared.func.Instr.{Instr}
 use Rattle.mir_func.specs.declared.func.Block.{Block}
 use Rattle.mir_func.specs.Value.{Function}
-use Rattle.mir_func.specs.Binding.{registers, effect_of, roles_of, implicit_roles, is_early_clobber, does, passes, is_terminator}
+use Rattle.mir_func.specs.Binding.{registers, effect_of, roles_of, implicit_roles, is_early_clobber, does, passes, is_terminator, puts_together}
 use Rattle.mir_meaning.specs.Registers.{numbers, located_lanes, operand_lanes, operand_widths, undefined_lanes, use_sources, is_reserved, slot_lane_numbers}
 use Rattle.mir_meaning.specs.Items.{parts, result_writes, all_lanes, explicit_definitions, implicit_definitions, implicit_writes, silent_reads, silent_writes, rest_of, values, counted_writes, moved, undefined, copied, reloaded, spilled, sequenced, inserted, defined_undef, given_constant, lanes_beside, at_all_widths, uses}
 use Rattle.mir_meaning.specs.Codes.{item_of, effect_item, ways_out, way, target_of}
 use Rattle.mir_meaning.specs.Points.{point_item}
-use Rattle.mir_meaning.specs.Rules.{is_whole_definition, is_virtual_use, result_and, index_pairs, insertion, has_class, has_lanes, lanes_fit, subregs_fit, widths_fit, puts_together, spills_or_reloads}
+use Rattle.mir_meaning.specs.Rules.{is_whole_definition, is_virtual_use, result_and, index_pairs, insertion, has_class, has_lanes, lanes_fit, subregs_fit, widths_fit, spills_or_reloads}
 use Rattle.mir_meaning.specs.Paths.{IsMatched}
 use Rattle.mir_meaning.specs.Stands.{Tags, IsStep}
 use Rattle.instr_effects.specs.Owners.{owner_of}

@@ -26,9 +26,9 @@ use Rattle.mir_func.specs.declared.func.Loc.TheVariants.{Virtual, Fixed}
 use Rattle.mir_func.specs.declared.func.RegOp.{RegOp}
 use Rattle.mir_func.specs.declared.func.Instr.{Instr}
 use Rattle.mir_func.specs.Value.{Function}
-use Rattle.mir_func.specs.Binding.{effect_of, known_opcode, class_of, passes, registers, does}
+use Rattle.mir_func.specs.Binding.{effect_of, known_opcode, class_of, passes, registers, does, puts_together}
 use Rattle.mir_meaning.specs.Registers.{numbers, range_widths, located_lanes, operand_widths}
-use Rattle.mir_meaning.specs.Rules.{V1, V2, V3, V4, operands_fit, widths_fit, has_class, index_fits, has_lanes_at, has_lanes, same_widths, puts_together, subregs_fit}
+use Rattle.mir_meaning.specs.Rules.{V1, V2, V3, V4, operands_fit, widths_fit, has_class, index_fits, has_lanes_at, has_lanes, same_widths, subregs_fit}
 use Rattle.instr_effects.proofs.Members.{member-none, member-elim, map-of, map-in}
 use Rattle.live_laws.specs.Effects.Shaped.{AreClasses, IsShaped}
 use Rattle.live_laws.proofs.Effects.Lists.{all-of}

@@ -22,10 +22,10 @@ use Rattle.mir_func.specs.declared.func.RegOp.{RegOp}
 use Rattle.mir_func.specs.declared.func.Operand.{Operand}
 use Rattle.mir_func.specs.declared.func.Operand.TheVariants as operands
 use Rattle.mir_func.specs.Value.{Function}
-use Rattle.mir_func.specs.Binding.{registers}
+use Rattle.mir_func.specs.Binding.{registers, is_virtual}
 use Rattle.mir_meaning.specs.Registers.{operand_lanes, operand_widths, located_lanes, undefined_lanes, use_sources, is_reserved}
 use Rattle.mir_meaning.specs.Items.{write, moved, undefined, uses, parts, sequenced, inserted, defined_undef, given_constant, constant_lanes, constant_bits, constant_of}
-use Rattle.mir_meaning.specs.Rules.{is_virtual, is_whole_definition, is_virtual_use, index_pairs, index_fits, index_of, has_class}
+use Rattle.mir_meaning.specs.Rules.{is_whole_definition, is_virtual_use, index_pairs, index_fits, index_of, has_class}
 use Rattle.mir_meaning.specs.Stands.{Tags}
 use Rattle.instr_effects.specs.Owners.{fill_owner, source_owner}
 use Rattle.instr_effects.specs.Stepping.{IsPlain}

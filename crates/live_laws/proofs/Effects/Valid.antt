@@ -13,8 +13,8 @@ use Rattle.mir_func.specs.declared.func.Block.{Block}
 use Rattle.mir_func.specs.Value.{Function}
 use Rattle.mir_meaning.specs.declared.Form.{Form}
 use Rattle.mir_meaning.specs.declared.Form.TheVariants as forms
-use Rattle.mir_func.specs.Binding.{known_opcode, effect_of, passes}
-use Rattle.mir_meaning.specs.Rules.{V1, V2, V3, V4, V5, V6, V7, V8, V9, V10, V11, V12, V15, V15_frame, V16, phi_stands, is_lowered_away}
+use Rattle.mir_func.specs.Binding.{known_opcode, effect_of, passes, is_lowered_away}
+use Rattle.mir_meaning.specs.Rules.{V1, V2, V3, V4, V5, V6, V7, V8, V9, V10, V11, V12, V15, V15_frame, V16, phi_stands}
 use Rattle.mir_meaning.specs.Valid.{first_failing, instr_fault, block_fault, least, fault_at, instrs_fault, fault_in, blocks_fault, shape_fault}
 use Rattle.live_laws.specs.Effects.Shaped.{AreClasses}
 use Rattle.live_laws.specs.Effects.Coded.{KeepsRules}

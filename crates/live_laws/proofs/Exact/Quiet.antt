@@ -28,10 +28,10 @@ use Rattle.mir_func.specs.declared.func.Op.{Op}
 use Rattle.mir_func.specs.declared.func.Op.TheVariants as ops
 use Rattle.mir_func.specs.declared.func.Instr.{Instr}
 use Rattle.mir_func.specs.Value.{Function}
-use Rattle.mir_func.specs.Binding.{effect_of, known_opcode, roles_of, is_terminator, is_early_clobber, registers, implicit_registers, explicit_operands, explicit_roles, takes_many}
+use Rattle.mir_func.specs.Binding.{effect_of, known_opcode, roles_of, is_terminator, is_early_clobber, registers, implicit_registers, explicit_operands, explicit_roles, takes_many, is_use, is_virtual}
 use Rattle.mir_meaning.specs.Registers.{numbers, range_widths, located_lanes, operand_lanes}
 use Rattle.mir_meaning.specs.Items.{undefined, result_writes, all_lanes, explicit_definitions, implicit_definitions}
-use Rattle.mir_meaning.specs.Rules.{V1, fits_role, is_use, is_virtual, is_virtual_use, explicit_fit, implicit_fit, result_and, phi_pairs, operands_fit}
+use Rattle.mir_meaning.specs.Rules.{V1, fits_role, is_virtual_use, explicit_fit, implicit_fit, result_and, phi_pairs, operands_fit}
 use Rattle.instr_effects.specs.declared.owner.Owner.{Owner}
 use Rattle.instr_effects.specs.declared.owner.Owner.TheVariants as owners
 use Rattle.instr_effects.specs.Owners.{owner_of}

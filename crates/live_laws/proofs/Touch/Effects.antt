@@ -15,10 +15,10 @@ use Rattle.mir_func.specs.declared.func.RegOp.{RegOp}
 use Rattle.mir_func.specs.declared.func.Operand.{Operand}
 use Rattle.mir_func.specs.declared.func.Operand.TheVariants as operands
 use Rattle.mir_func.specs.Value.{Function}
-use Rattle.mir_func.specs.Binding.{registers, implicit_registers, is_early_clobber, immediate_of}
+use Rattle.mir_func.specs.Binding.{registers, implicit_registers, is_early_clobber, immediate_of, is_definition, is_use, is_virtual}
 use Rattle.mir_meaning.specs.Registers.{numbers, operand_lanes, operand_widths, undefined_lanes, use_sources}
 use Rattle.mir_meaning.specs.Items.{uses, result_writes, explicit_definitions, implicit_definitions, pick}
-use Rattle.mir_meaning.specs.Rules.{fits_role, is_definition, is_use, is_virtual, is_virtual_use, index_pairs}
+use Rattle.mir_meaning.specs.Rules.{fits_role, is_virtual_use, index_pairs}
 use Rattle.instr_effects.specs.declared.acts.Act.{Act}
 use Rattle.instr_effects.specs.declared.owner.Owner.{Owner}
 use Rattle.instr_effects.specs.declared.owner.Owner.TheVariants as owners

@@ -12,7 +12,7 @@ use Rattle.mir_func.specs.declared.func.RegOp.{RegOp}
 use Rattle.mir_func.specs.Value.{Function}
 use Rattle.mir_meaning.specs.Registers.{numbers, range_widths, whole_lanes, undefined_lanes}
 use Rattle.mir_meaning.specs.Points.{is_range}
-use Rattle.mir_meaning.specs.Rules.{is_virtual}
+use Rattle.mir_func.specs.Binding.{is_virtual}
 use Rattle.instr_effects.specs.declared.acts.Act.{Act}
 use Rattle.instr_effects.specs.declared.owner.Owner.{Owner}
 use Rattle.instr_effects.specs.declared.owner.Owner.TheVariants as owners

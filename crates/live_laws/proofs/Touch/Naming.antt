@@ -18,11 +18,11 @@ use Rattle.mir_func.specs.declared.func.Operand.{Operand}
 use Rattle.mir_func.specs.declared.func.Operand.TheVariants as operands
 use Rattle.mir_func.specs.declared.func.Instr.{Instr}
 use Rattle.mir_func.specs.Value.{Function}
-use Rattle.mir_func.specs.Binding.{registers, implicit_registers, effect_of, is_early_clobber, passes}
+use Rattle.mir_func.specs.Binding.{registers, implicit_registers, effect_of, is_early_clobber, passes, is_definition, is_use, is_virtual}
 use Rattle.mir_meaning.specs.Registers.{operand_lanes, operand_widths, undefined_lanes, use_sources}
 use Rattle.mir_meaning.specs.Items.{silent_reads, uses, copied, defined_undef, given_constant, reloaded}
 use Rattle.mir_meaning.specs.Points.{is_range, counts, touches}
-use Rattle.mir_meaning.specs.Rules.{is_definition, is_use, is_virtual, is_virtual_use, is_whole_definition, copy_fits, implicit_def_fits, result_and, index_pairs, insertion, lanes_fit, has_lanes, widths_fit}
+use Rattle.mir_meaning.specs.Rules.{is_virtual_use, is_whole_definition, copy_fits, implicit_def_fits, result_and, index_pairs, insertion, lanes_fit, has_lanes, widths_fit}
 use Rattle.instr_effects.specs.declared.acts.Act.{Act}
 use Rattle.instr_effects.specs.declared.owner.Owner.{Owner}
 use Rattle.instr_effects.specs.declared.owner.Owner.TheVariants as owners

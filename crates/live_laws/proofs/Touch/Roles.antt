@@ -19,8 +19,8 @@ use Rattle.mir_func.specs.declared.func.Op.{Op}
 use Rattle.mir_func.specs.declared.func.Op.TheVariants as ops
 use Rattle.mir_func.specs.declared.func.Instr.{Instr}
 use Rattle.mir_func.specs.Value.{Function}
-use Rattle.mir_func.specs.Binding.{effect_of, explicit_operands, explicit_roles, implicit_registers, known_opcode, takes_many}
-use Rattle.mir_meaning.specs.Rules.{V1, explicit_fit, fits_role, is_virtual, operands_fit, values_fit}
+use Rattle.mir_func.specs.Binding.{effect_of, explicit_operands, explicit_roles, implicit_registers, known_opcode, takes_many, is_virtual}
+use Rattle.mir_meaning.specs.Rules.{V1, explicit_fit, fits_role, operands_fit, values_fit}
 use Rattle.live_laws.proofs.Effects.Lists.{all-of}
 use Rattle.live_laws.proofs.Effects.Blocks.{slice-member}
 

@@ -14,7 +14,7 @@ use crate::guarded::limits::passed_limit;
 use crate::guarded::spelled::Allocation;
 use crate::guarded::stop::{FunctionStop, LimitName};
 use crate::guarded::valid::verify_source;
-use crate::passes::{RegisterStop, Watcher, with_registers};
+use crate::passes::{Allocator, RegisterStop, Watcher, with_registers};
 use machine_verify::VerifyStop;
 use mir_func::{Func, Valid};
 use std::alloc::Global;
@@ -34,26 +34,26 @@ fn refused(name: Bytes, stop: RegisterStop) -> FunctionStop
     }
 }
 
-/// A valid function of this name with its registers chosen, where the guard says Yes to it.
+/// A valid function with its registers chosen, where the guard says Yes to it.
 fn allocated_valid<W: Watcher>(
     alloc: Global,
     target: &Target,
-    name: Bytes,
     source: Valid,
+    allocator: Allocator,
     number: u32,
     watchers: &mut Vec<W>,
 ) -> Result<Allocation, FunctionStop>
     ensures ok { IfOk result (λ a. IsGuarded target.now source.func a.func) }
     ensures text { IfOk result (λ a. IsTextFor target.now a.func a.text) }
     ensures serve { OnOk result (AllServe target.now source.func) }
-    ensures err { IfErr result (IsOnceTaken target.now source.func name) }
+    ensures err { IfErr result (IsOnceTaken target.now source.func source.func.name) }
     ensures untold { IfErr result (λ stop. comes_before_run stop ≡ true → watchers.new ≡ watchers.old) }
     ensures told { OnOk result (ToldRun (W.next target.now) number watchers.old.items watchers.new.items) }
     ensures part { OnErr result (ToldPart (W.next target.now) watchers.old.items watchers.new.items) }
 {
-    let made = match with_registers(alloc, target, &source, number, watchers) {
+    let made = match with_registers(alloc, target, &source, allocator, number, watchers) {
         Ok(made) => made,
-        Err(stop) => return Err(refused(name, stop)),
+        Err(stop) => return Err(refused(source.func.name.copied(alloc)?, stop)),
     };
     match guarded(alloc, target, &source, made)? {
         Some(made) => Ok(made),
@@ -61,9 +61,9 @@ fn allocated_valid<W: Watcher>(
     }
 }
 
-/// The function with its registers chosen and its text, once the checker of allocations has said Yes to
-/// what the text spells. Its
-/// number is that in its file, with which the run begins; each watcher is told every step of the run.
+/// The function with its registers chosen by an allocator and its text, once the checker of allocations
+/// has said Yes to what the text spells: so too where the spill slots were coloured. Its number is that
+/// in its file, with which the run begins; each watcher is told every step of the run.
 /// Refused are, in this order, a function that passes a limit of its blocks, instructions or virtual
 /// registers, one that isn't valid as a source, one a place of which has too many variables, one a
 /// place of which admits no choice of registers, and one whose run passes the limit of range numbers.
@@ -73,6 +73,7 @@ pub fn allocated<W: Watcher>(
     alloc: Global,
     target: &Target,
     f: Func,
+    allocator: Allocator,
     number: u32,
     watchers: &mut Vec<W>,
 ) -> Result<Allocation, FunctionStop>
@@ -89,7 +90,7 @@ pub fn allocated<W: Watcher>(
     }
     let name = f.name.copied(alloc)?;
     match verify_source(alloc, target, f) {
-        Ok(source) => allocated_valid(alloc, target, name, source, number, watchers),
+        Ok(source) => allocated_valid(alloc, target, source, allocator, number, watchers),
         Err(VerifyStop::Invalid(invalid)) => Err(FunctionStop::Invalid(name, invalid)),
         Err(VerifyStop::Memory(e)) => Err(FunctionStop::Memory(e)),
     }

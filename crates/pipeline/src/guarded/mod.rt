@@ -13,4 +13,4 @@ pub use crate::guarded::limits::passed_limit;
 pub use crate::guarded::spelled::Allocation;
 pub use crate::guarded::stop::{FunctionStop, LimitName};
 pub use crate::guarded::valid::{verify_allocated, verify_source};
-pub use crate::passes::Watcher;
+pub use crate::passes::{Allocator, Watcher};

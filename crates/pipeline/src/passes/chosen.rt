@@ -6,17 +6,20 @@ ghost use Rattle.watchers.specs.declared.steps.Step.TheVariants.{Begin};
 ghost use Rattle.watchers.specs.Told.{AllTold, PartTold};
 ghost use Rattle.pipeline.specs.Passes.Stops.{comes_of_a_place, AllServe, SaysOfPlaces};
 
+use crate::passes::allocator::Allocator;
 use crate::passes::ready::{Prepared, prepare};
 use crate::passes::stop::RegisterStop;
-use greedy_core::{Policy, Watcher, allocate};
+use greedy_core::{Watcher, allocate};
 use mir_func::{Func, Valid};
 use place_solve::check_places;
 use rewriter::rewrite;
+use slot_colour::colour_slots;
 use std::alloc::Global;
 use target_base::Target;
 
-/// The function in physical form, with the registers that the run of the greedy allocator chooses. Its
-/// number is that in its file, with which the run begins; each watcher is told every step of the run.
+/// The function in physical form, with the registers that the run of an allocator chooses, and with its
+/// spill slots coloured where the allocator does that. Its number is that in its file, with which the
+/// run begins; each watcher is told every step of the run.
 /// Refused are, in this order, a function one of whose places has too many variables, one of whose
 /// places admits no choice, and one whose run passes the limit of range numbers. The watchers are told
 /// nothing where a place is refused, and a first part of the run after any other refusal.
@@ -24,6 +27,7 @@ pub fn with_registers<W: Watcher>(
     alloc: Global,
     target: &Target,
     source: &Valid,
+    allocator: Allocator,
     number: u32,
     watchers: &mut Vec<W>,
 ) -> Result<Func, RegisterStop>
@@ -37,7 +41,7 @@ pub fn with_registers<W: Watcher>(
     let copy = Valid {
         func: source.func.copy(alloc)?,
     };
-    run(alloc, target, copy, number, watchers)
+    run(alloc, target, copy, allocator, number, watchers)
 }
 
 /// The same without a look at the places.
@@ -45,6 +49,7 @@ fn run<W: Watcher>(
     alloc: Global,
     target: &Target,
     source: Valid,
+    allocator: Allocator,
     number: u32,
     watchers: &mut Vec<W>,
 ) -> Result<Func, RegisterStop>
@@ -58,9 +63,14 @@ fn run<W: Watcher>(
         target,
         live,
         &freqs,
-        Policy::Greedy,
+        allocator.policy(),
         number,
         watchers,
     )?;
-    Ok(rewrite(alloc, target, done)?)
+    let made = rewrite(alloc, target, done)?;
+    if allocator.colours() {
+        Ok(colour_slots(alloc, target, made)?)
+    } else {
+        Ok(made)
+    }
 }

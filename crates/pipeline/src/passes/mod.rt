@@ -1,10 +1,12 @@
 //! The allocator over one valid function: its places are tested, it is lowered and joined, its ranges
 //! get registers and slots, and it is put in physical form.
 
+mod allocator;
 mod chosen;
 mod ready;
 mod stop;
 
+pub use crate::passes::allocator::Allocator;
 pub use crate::passes::chosen::with_registers;
 pub use crate::passes::ready::{Prepared, lowered, prepare};
 pub use crate::passes::stop::RegisterStop;

@@ -77,15 +77,15 @@ IsLiveText name text = (rest : List ℕ) × (text ≡ function_line name ++ rest
 -- what is written for a function document where the run of the program goes on: the printed allocation, that the
 -- function is valid, what is live where in it, or nothing where `run` passes over it or `trace` only tells the watchers
 abbrev pub IsFunctionText : Job → Target → List ℕ → Function → List ℕ → Type 0
-IsFunctionText jobs.Alloc t before f text = IsAllocation t before f text
+IsFunctionText (jobs.Alloc how) t before f text = IsAllocation t before f text
 IsFunctionText (jobs.Verify form) t before f text = IsValidLine t form f text
 IsFunctionText (jobs.Run name n seed) t before f text = (is_named name.now f ≡ false) × (text ≡ [])
 IsFunctionText jobs.Intervals t before f text = IsTaken t f × IsLiveText f.name text
-IsFunctionText jobs.Trace t before f text = IsTaken t f × (text ≡ [])
+IsFunctionText (jobs.Trace how) t before f text = IsTaken t f × (text ≡ [])
 
 -- what is written for a document that is no function: `alloc` writes its bytes, and the other commands nothing
 abbrev pub text_of_lines : Job → List ℕ → List ℕ
-text_of_lines jobs.Alloc lines = lines
+text_of_lines (jobs.Alloc how) lines = lines
 text_of_lines job lines = []
 
 -- what is written for a document where the run of the program goes on
@@ -110,13 +110,13 @@ end_status job = status.Done
 
 -- what is written where the file ends; that it is the lines of the watchers for `trace` is said by `IsEndOf`
 abbrev pub IsEndText : Job → List ℕ → Type 0
-IsEndText jobs.Trace text = Unit {0}
+IsEndText (jobs.Trace how) text = Unit {0}
 IsEndText job text = text ≡ []
 
 -- whether a job tells the watchers
 abbrev pub tells : Job → Bool
-tells jobs.Alloc = true
-tells jobs.Trace = true
+tells (jobs.Alloc how) = true
+tells (jobs.Trace how) = true
 tells job = false
 
 -- why `alloc` refuses a function
@@ -149,11 +149,11 @@ RunRefuses t f _ detail = ⊥
 
 -- why a function is refused
 abbrev pub FunctionRefuses : Job → Target → Function → Status → List ℕ → Type 0
-FunctionRefuses jobs.Alloc t f s detail = AllocRefuses t f s detail
+FunctionRefuses (jobs.Alloc how) t f s detail = AllocRefuses t f s detail
 FunctionRefuses (jobs.Verify form) t f s detail = VerifyRefuses t form f s detail
 FunctionRefuses (jobs.Run name n seed) t f s detail = (is_named name.now f ≡ true) × RunRefuses t f s detail
 FunctionRefuses jobs.Intervals t f s detail = IntervalsRefuses t f s detail
-FunctionRefuses jobs.Trace t f s detail = AllocRefuses t f s detail
+FunctionRefuses (jobs.Trace how) t f s detail = AllocRefuses t f s detail
 
 -- why a document is refused; only functions are
 abbrev pub RefusesDoc : Job → Target → Doc → Status → List ℕ → Type 0

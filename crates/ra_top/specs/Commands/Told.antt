@@ -51,5 +51,5 @@ lines_of count text watchers = flat_map (λ w. first_lines (text w) (count w)) w
 -- what is written where the file ends, where these are the lines of the watchers: `trace` writes them, and the other
 -- commands nothing
 abbrev pub IsEndOf : List ℕ → Job → List ℕ → Type 0
-IsEndOf lines jobs.Trace text = text ≡ lines
+IsEndOf lines (jobs.Trace how) text = text ≡ lines
 IsEndOf lines job text = text ≡ []

@@ -5,6 +5,8 @@ use Rattle.std.specs.Global.{Global}
 use Rattle.std.specs.List.{list_all}
 use Rattle.std.specs.String.{string_bytes}
 use Rattle.std.specs.Cmp.Lexicographic.{pointwise}
+use Rattle.pipeline.specs.declared.passes.allocator.Allocator.{Allocator}
+use Rattle.pipeline.specs.declared.passes.allocator.Allocator.TheVariants as allocators
 use Rattle.ra_top.specs.declared.words.words.Command.{Command}
 use Rattle.ra_top.specs.declared.words.words.Command.TheVariants as commands
 
@@ -44,24 +46,39 @@ number_of word = number_behind 0 word
 
 -- what the words ask for
 pub data Asked : Type 0 where
-  Alloc : List ℕ → List ℕ → Asked
+  Alloc : Allocator → List ℕ → List ℕ → Asked
   VerifySource : List ℕ → List ℕ → Asked
   VerifyAllocated : List ℕ → List ℕ → Asked
   Run : List ℕ → List ℕ → List ℕ → ℕ → ℕ → Asked
   Intervals : List ℕ → List ℕ → Asked
-  Trace : List ℕ → List ℕ → Asked
+  Trace : Allocator → List ℕ → List ℕ → Asked
+  Check : List ℕ → List ℕ → List ℕ → Asked
   Gen : ℕ → Asked
 
--- the commands by their words: TARGET and FILE; NAME, N and SEED of `run`; SEED of `gen`
+-- the allocator of a form of `trace`
+abbrev pub trace_form : List ℕ → Option Allocator
+trace_form form =
+    if is_word form (codes "cut") then Some allocators.Cut
+    else (if is_word form (codes "basic") then Some allocators.Basic else None)
+
+-- the allocator of a form of `alloc`
+abbrev pub alloc_form : List ℕ → Option Allocator
+alloc_form form = if is_word form (codes "colour") then Some allocators.Colour else trace_form form
+
+-- the commands by their words: TARGET and FILE, where `alloc` and `trace` without a form are those of the greedy allocator;
+-- NAME, N and SEED of `run`; SEED of `gen`; TARGET, SOURCE and ALLOCATED of `check`
 abbrev pub asked : List (List ℕ) → Option Asked
 asked (a ∷ s ∷ []) = if is_word a (codes "gen") && is_number s then Some (Gen (number_of s)) else None
 asked (a ∷ t ∷ f ∷ []) =
-    if is_word a (codes "alloc") then Some (Alloc t f)
+    if is_word a (codes "alloc") then Some (Alloc allocators.Greedy t f)
     else (if is_word a (codes "intervals") then Some (Intervals t f)
-    else (if is_word a (codes "trace") then Some (Trace t f) else None))
+    else (if is_word a (codes "trace") then Some (Trace allocators.Greedy t f) else None))
 asked (a ∷ b ∷ t ∷ f ∷ []) =
-    if is_word a (codes "verify") && is_word b (codes "source") then Some (VerifySource t f)
-    else (if is_word a (codes "verify") && is_word b (codes "allocated") then Some (VerifyAllocated t f) else None)
+    if is_word a (codes "alloc") then option_map (λ how. Alloc how t f) (alloc_form b)
+    else (if is_word a (codes "trace") then option_map (λ how. Trace how t f) (trace_form b)
+    else (if is_word a (codes "verify") && is_word b (codes "source") then Some (VerifySource t f)
+    else (if is_word a (codes "verify") && is_word b (codes "allocated") then Some (VerifyAllocated t f)
+    else (if is_word a (codes "check") then Some (Check b t f) else None))))
 asked (a ∷ t ∷ f ∷ g ∷ n ∷ s ∷ []) =
     if is_word a (codes "run") && (is_number n && is_number s) then Some (Run t f g (number_of n) (number_of s)) else None
 asked _ = None
@@ -72,12 +89,13 @@ command_of words = option_and_then asked (plain_words words)
 
 -- a command, by its words
 abbrev pub asks : Command → Asked
-asks (commands.Alloc t f) = Alloc t.now f.now
+asks (commands.Alloc how t f) = Alloc how t.now f.now
 asks (commands.VerifySource t f) = VerifySource t.now f.now
 asks (commands.VerifyAllocated t f) = VerifyAllocated t.now f.now
 asks (commands.Run t f g n s) = Run t.now f.now g.now n s
 asks (commands.Intervals t f) = Intervals t.now f.now
-asks (commands.Trace t f) = Trace t.now f.now
+asks (commands.Trace how t f) = Trace how t.now f.now
+asks (commands.Check t s a) = Check t.now s.now a.now
 asks (commands.Gen s) = Gen s
 
 -- the words that a program was given, by their bytes

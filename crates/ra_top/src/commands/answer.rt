@@ -8,11 +8,12 @@ ghost use Rattle.ra_top.specs.Commands.Answer.{IsAnswer};
 ghost use Rattle.ra_top.specs.Commands.Documents.{end_status, IsEndText, tells};
 
 use crate::commands::documents::at_document;
+use crate::commands::piece::doc_at;
+use crate::commands::refusal::Refusal;
 use crate::commands::spot::Spot;
 use crate::commands::status::Status;
-use crate::numbers::digits;
 use mir_meaning::Form;
-use mir_text::{TextStop, read_doc};
+use pipeline::guarded::Allocator;
 use std::alloc::{AllocError, Global};
 use target_base::{Bytes, Target};
 use watchers::Watcher;
@@ -20,16 +21,16 @@ use watchers::Watcher;
 /// What is done with each document of a file.
 #[derive(Clone, Copy)]
 pub enum Job<'a> {
-    /// It is written with its function allocated.
-    Alloc,
+    /// It is written with its function allocated by this allocator.
+    Alloc(Allocator),
     /// A line says of each function that it is valid in a form.
     Verify(Form),
     /// The first function of a name is run through N counted instructions in the environment of SEED.
     Run(&'a str, u64, u64),
     /// Of each function it is written what is live where once it is made ready for the allocator's run.
     Intervals,
-    /// Each function is allocated for the watchers, whose lines are written at the end.
-    Trace,
+    /// Each function is allocated by this allocator for the watchers, whose lines are written at the end.
+    Trace(Allocator),
 }
 
 /// What is answered at a piece.
@@ -48,11 +49,11 @@ pub fn end_status(job: Job) -> Status
     ensures { result ≡ end_status job.entry }
 {
     match job {
-        Job::Alloc => Status::Done,
+        Job::Alloc(_) => Status::Done,
         Job::Verify(_) => Status::Done,
         Job::Run(_, _, _) => Status::Usage,
         Job::Intervals => Status::Done,
-        Job::Trace => Status::Done,
+        Job::Trace(_) => Status::Done,
     }
 }
 
@@ -60,7 +61,6 @@ pub fn end_status(job: Job) -> Status
 /// first ones of a longer piece. `number` is that of the next function that is allocated, and rises
 /// with it. The commands `alloc` and `trace` tell the watchers; the others leave them as they were. Each
 /// watcher is told all steps of the function's run, and a first part of them where it is refused.
-#[tactic(auto, using(crate::proofs::CommandLemmas::Read::doc_fits))]
 pub fn answer_at<W: Watcher>(
     alloc: Global,
     job: Job,
@@ -77,15 +77,9 @@ pub fn answer_at<W: Watcher>(
     ensures told { IfOk result (ToldAnswer (W.next target.now) number.old number.new watchers.old.items watchers.new.items) }
     ensures part { OnErr result (ToldPart (W.next target.now) watchers.old.items watchers.new.items) }
 {
-    if let Some(limit) = spot.length_fault(piece.len()) {
-        return Ok(Answer::Refused(Status::Limit(limit), Bytes::new(alloc)));
-    }
-    match read_doc(alloc, target, spot.offset == 0, spot.line, piece) {
-        Err(TextStop::Memory(e)) => Err(e),
-        Err(TextStop::Fault(fault)) => {
-            let detail = digits(alloc, fault.line as u128)?;
-            Ok(Answer::Refused(Status::Text(fault), detail))
-        }
+    match doc_at(alloc, target, spot, piece) {
         Ok(doc) => at_document(alloc, job, target, doc, number, watchers),
+        Err(Refusal::By(status, detail)) => Ok(Answer::Refused(status, detail)),
+        Err(Refusal::Memory(e)) => Err(e),
     }
 }

@@ -18,7 +18,7 @@ use crate::commands::verify::verified_function;
 use crate::commands::words::{invalid_words, unassignable_words};
 use mir_func::Func;
 use mir_text::Doc;
-use pipeline::guarded::{FunctionStop, allocated};
+use pipeline::guarded::{Allocator, FunctionStop, allocated};
 use std::alloc::{AllocError, Global};
 use target_base::{Bytes, Target};
 use watchers::Watcher;
@@ -44,12 +44,14 @@ pub(crate) fn refused(alloc: Global, stop: FunctionStop) -> Result<Answer, Alloc
     }
 }
 
-/// The command `alloc` at a function document: the lines before it, and its function of a number.
+/// The command `alloc` at a function document: the lines before it, and its function of a number,
+/// allocated by an allocator.
 fn allocated_function<W: Watcher>(
     alloc: Global,
     target: &Target,
     before: Bytes,
     f: Func,
+    allocator: Allocator,
     number: u32,
     watchers: &mut Vec<W>,
 ) -> Result<Answer, AllocError>
@@ -58,7 +60,7 @@ fn allocated_function<W: Watcher>(
     ensures told { IfOk result (ToldOne (W.next target.now) number watchers.old.items watchers.new.items) }
     ensures part { OnErr result (ToldPart (W.next target.now) watchers.old.items watchers.new.items) }
 {
-    match allocated(alloc, target, f, number, watchers) {
+    match allocated(alloc, target, f, allocator, number, watchers) {
         Ok(made) => {
             let mut text = before;
             text.extend(made.text.as_slice())?;
@@ -95,11 +97,14 @@ fn at_function<W: Watcher>(
     ensures part { OnErr result (ToldPart (W.next target.now) watchers.old.items watchers.new.items) }
 {
     match job {
-        Job::Alloc => allocated_function(alloc, target, before, f, next(number), watchers),
+        Job::Alloc(allocator) => {
+            let number = next(number);
+            allocated_function(alloc, target, before, f, allocator, number, watchers)
+        }
         Job::Verify(form) => verified_function(alloc, target, form, f),
         Job::Run(name, n, seed) => at_named(alloc, target, name, n, seed, f),
         Job::Intervals => intervals_of(alloc, target, f),
-        Job::Trace => traced(alloc, target, f, next(number), watchers),
+        Job::Trace(allocator) => traced(alloc, target, f, allocator, next(number), watchers),
     }
 }
 
@@ -109,11 +114,11 @@ fn at_lines(alloc: Global, job: Job, lines: Bytes) -> Bytes
     ensures { result ≡ text_of_lines job.entry lines }
 {
     match job {
-        Job::Alloc => lines,
+        Job::Alloc(_) => lines,
         Job::Verify(_) => Bytes::new(alloc),
         Job::Run(_, _, _) => Bytes::new(alloc),
         Job::Intervals => Bytes::new(alloc),
-        Job::Trace => Bytes::new(alloc),
+        Job::Trace(_) => Bytes::new(alloc),
     }
 }
 
@@ -146,7 +151,7 @@ pub fn end_text<W: Watcher>(alloc: Global, job: Job, watchers: &[W]) -> Result<B
     ensures lines { IfOk result (IsEndOf (watched.lines_of W.count W.text watchers.now) job.entry) }
 {
     match job {
-        Job::Trace => lines_of(alloc, watchers),
+        Job::Trace(_) => lines_of(alloc, watchers),
         _ => Ok(Bytes::new(alloc)),
     }
 }

@@ -14,7 +14,7 @@ use crate::commands::status::Status;
 use crate::commands::words::{invalid_words, unassignable_words};
 use machine_verify::VerifyStop;
 use mir_func::{Func, Valid};
-use pipeline::guarded::{LimitName, passed_limit, verify_source};
+use pipeline::guarded::{Allocator, LimitName, passed_limit, verify_source};
 use pipeline::passes::{RegisterStop, with_registers};
 use std::alloc::{AllocError, Global};
 use target_base::{Bytes, Copied, Target};
@@ -42,31 +42,32 @@ fn refused(alloc: Global, name: &[u8], stop: RegisterStop) -> Result<Answer, All
     }
 }
 
-/// Allocates a valid function for the watchers. Nothing is written of it, so that the checker of
+/// Allocates a valid function by an allocator for the watchers. Nothing is written of it, so that the checker of
 /// allocations isn't asked.
 fn traced_valid<W: Watcher>(
     alloc: Global,
     target: &Target,
-    name: &[u8],
     source: &Valid,
+    allocator: Allocator,
     number: u32,
     watchers: &mut Vec<W>,
 ) -> Result<Answer, AllocError>
-    ensures answer { IfOk result (IsTakenAnswer target.now source.now.func name.now) }
+    ensures answer { IfOk result (IsTakenAnswer target.now source.now.func source.now.func.name) }
     ensures told { IfOk result (ToldOne (W.next target.now) number watchers.old.items watchers.new.items) }
     ensures part { OnErr result (ToldPart (W.next target.now) watchers.old.items watchers.new.items) }
 {
-    if let Err(stop) = with_registers(alloc, target, source, number, watchers) {
-        return refused(alloc, name, stop);
+    if let Err(stop) = with_registers(alloc, target, source, allocator, number, watchers) {
+        return refused(alloc, source.func.name.as_slice(), stop);
     }
     Ok(Answer::Text(Bytes::new(alloc)))
 }
 
-/// Allocates a function of a number for the watchers.
+/// Allocates a function of a number by an allocator for the watchers.
 pub(crate) fn traced<W: Watcher>(
     alloc: Global,
     target: &Target,
     f: Func,
+    allocator: Allocator,
     number: u32,
     watchers: &mut Vec<W>,
 ) -> Result<Answer, AllocError>
@@ -80,7 +81,7 @@ pub(crate) fn traced<W: Watcher>(
     }
     let name = f.name.copied(alloc)?;
     match verify_source(alloc, target, f) {
-        Ok(source) => traced_valid(alloc, target, name.as_slice(), &source, number, watchers),
+        Ok(source) => traced_valid(alloc, target, &source, allocator, number, watchers),
         Err(VerifyStop::Invalid(invalid)) => {
             let detail = invalid_words(alloc, name.as_slice(), invalid)?;
             Ok(Answer::Refused(Status::Invalid(invalid), detail))

@@ -2,20 +2,21 @@
 
 ghost use Rattle.std.specs.Prelude.{◌≡◌, ◌==◌, ◌≤◌, ◌∷◌, [], ℕ, List, IfOk, option_map, length, nat_le, IsTrue, ◌<◌, ◌^◌};
 ghost use Rattle.std.specs.List.{list_all};
-ghost use Rattle.ra_top.specs.Words.Words.{is_word, is_digit, is_number, number_of, plain_words, asked, asks, command_of, bytes_of, texts_of};
+ghost use Rattle.ra_top.specs.Words.Words.{is_word, is_digit, is_number, number_of, plain_words, trace_form, alloc_form, asked, asks, command_of, bytes_of, texts_of};
 ghost use Rattle.clap.specs.Words.{app_of};
 ghost use Rattle.ra_top.specs.Words.Parser.{parser};
 
 use clap::error::ErrorKind;
 use clap::{Arg, ArgAction, Command as Parser};
+use pipeline::guarded::Allocator;
 use std::alloc::{AllocError, Global};
 
 /// What the program is asked to do. A target is a file's name, or `-` for the built-in target; a file
 /// is its name, or `-` for standard input.
 #[derive(Clone, Copy)]
 pub enum Command<'a> {
-    /// TARGET and FILE: every document, functions allocated.
-    Alloc(&'a str, &'a str),
+    /// TARGET and FILE: every document, functions allocated by this allocator.
+    Alloc(Allocator, &'a str, &'a str),
     /// TARGET and FILE: whether each function is valid before allocation.
     VerifySource(&'a str, &'a str),
     /// TARGET and FILE: whether each function is valid after allocation.
@@ -25,8 +26,11 @@ pub enum Command<'a> {
     Run(&'a str, &'a str, &'a str, u64, u64),
     /// TARGET and FILE: frequencies and live segments.
     Intervals(&'a str, &'a str),
-    /// TARGET and FILE: the steps of the allocator.
-    Trace(&'a str, &'a str),
+    /// TARGET and FILE: the steps of this allocator.
+    Trace(Allocator, &'a str, &'a str),
+    /// TARGET, SOURCE and ALLOCATED: whether each function of the second file is an allocation of its
+    /// partner in the first.
+    Check(&'a str, &'a str, &'a str),
     /// SEED, below 1,000,000,000: a generated function, allocated and run.
     Gen(u64),
 }
@@ -91,24 +95,61 @@ fn of_a_file<'a>(name: &str, target: &'a str, file: &'a str) -> Option<Command<'
     ensures { option_map asks result ≡ asked (name.now ∷ target.now ∷ file.now ∷ []) }
 {
     if name == "alloc" {
-        Some(Command::Alloc(target, file))
+        Some(Command::Alloc(Allocator::Greedy, target, file))
     } else if name == "intervals" {
         Some(Command::Intervals(target, file))
     } else if name == "trace" {
-        Some(Command::Trace(target, file))
+        Some(Command::Trace(Allocator::Greedy, target, file))
     } else {
         None
     }
 }
 
-/// The command `verify` of a form.
-fn verify<'a>(name: &str, form: &str, target: &'a str, file: &'a str) -> Option<Command<'a>>
+/// The allocator of a form of `trace`.
+fn trace_form(form: &str) -> Option<Allocator>
+    ensures { result ≡ trace_form form.now }
+{
+    if form == "cut" {
+        Some(Allocator::Cut)
+    } else if form == "basic" {
+        Some(Allocator::Basic)
+    } else {
+        None
+    }
+}
+
+/// The allocator of a form of `alloc`.
+fn alloc_form(form: &str) -> Option<Allocator>
+    ensures { result ≡ alloc_form form.now }
+{
+    if form == "colour" {
+        Some(Allocator::Colour)
+    } else {
+        trace_form(form)
+    }
+}
+
+/// The command of a name and a form, TARGET and FILE; the three words behind `check` are TARGET, SOURCE
+/// and ALLOCATED.
+fn of_a_form<'a>(name: &str, form: &'a str, target: &'a str, file: &'a str) -> Option<Command<'a>>
     ensures { option_map asks result ≡ asked (name.now ∷ form.now ∷ target.now ∷ file.now ∷ []) }
 {
-    if name == "verify" && form == "source" {
+    if name == "alloc" {
+        match alloc_form(form) {
+            Some(allocator) => Some(Command::Alloc(allocator, target, file)),
+            None => None,
+        }
+    } else if name == "trace" {
+        match trace_form(form) {
+            Some(allocator) => Some(Command::Trace(allocator, target, file)),
+            None => None,
+        }
+    } else if name == "verify" && form == "source" {
         Some(Command::VerifySource(target, file))
     } else if name == "verify" && form == "allocated" {
         Some(Command::VerifyAllocated(target, file))
+    } else if name == "check" {
+        Some(Command::Check(form, target, file))
     } else {
         None
     }
@@ -127,7 +168,7 @@ fn asked<'a>(words: &[&'a str]) -> Option<Command<'a>>
             }
         }
         [name, target, file] => of_a_file(name, target, file),
-        [name, form, target, file] => verify(name, form, target, file),
+        [name, form, target, file] => of_a_form(name, form, target, file),
         [name, target, file, function, n, seed] => {
             if *name == "run" && (is_number(n) && is_number(seed)) {
                 Some(Command::Run(

@@ -1,7 +1,8 @@
 use Rattle.std.proofs.Common.{◌∙◌, ap}
 use Rattle.std.specs.Prelude.{◌&&◌, ◌||◌, not}
 use Rattle.std.specs.List.{list_all}
-use Rattle.mir_meaning.specs.Rules.{index_fits, puts_together, subregs_fit}
+use Rattle.mir_meaning.specs.Rules.{index_fits, subregs_fit}
+use Rattle.mir_func.specs.Binding.{puts_together}
 use Rattle.machine_verify.proofs.Meant.{v4_is}
 use Rattle.machine_verify.proofs.asked.v4.Goals as goal
 

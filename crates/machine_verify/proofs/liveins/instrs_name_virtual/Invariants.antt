@@ -1,7 +1,6 @@
 use Rattle.std.proofs.Common.{◌≡◌, drop}
 use Rattle.std.specs.List.{list_any}
-use Rattle.mir_meaning.specs.Rules.{is_virtual}
-use Rattle.mir_func.specs.Binding.{registers}
+use Rattle.mir_func.specs.Binding.{registers, is_virtual}
 use Rattle.machine_verify.proofs.liveins.instrs_name_virtual.Given as goal
 
 abbrev pub invariant-loop-i : goal.invariant-loop-i

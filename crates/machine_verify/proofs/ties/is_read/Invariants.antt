@@ -1,6 +1,7 @@
 use Rattle.std.proofs.Common.{◌≡◌, drop}
 use Rattle.std.specs.List.{list_any}
-use Rattle.mir_meaning.specs.Rules.{same_loc, readings}
+use Rattle.mir_meaning.specs.Rules.{readings}
+use Rattle.mir_func.specs.Binding.{same_loc}
 use Rattle.machine_verify.proofs.ties.is_read.Given as goal
 
 abbrev pub invariant-loop-u : goal.invariant-loop-u

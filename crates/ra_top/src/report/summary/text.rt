@@ -10,11 +10,11 @@ ghost use Rattle.target_base.specs.Mini.{mini_target};
 use crate::generator::generate;
 use crate::report::summary::ran::summary;
 use mir_func::Func;
-use pipeline::guarded::{FunctionStop, Watcher, allocated};
+use pipeline::guarded::{Allocator, FunctionStop, Watcher, allocated};
 use std::alloc::Global;
 use target_base::{Bytes, Target, mini};
 
-/// The summary of a function, once it is allocated under guard with the number 0.
+/// The summary of a function, once it is allocated under guard by the greedy allocator with the number 0.
 fn text_of<W: Watcher>(
     alloc: Global,
     target: &Target,
@@ -29,7 +29,7 @@ fn text_of<W: Watcher>(
     ensures part { OnErr result (ToldPart (W.next target.now) watchers.old.items watchers.new.items) }
 {
     let copy = source.copy(alloc)?;
-    match allocated(alloc, target, copy, 0, watchers) {
+    match allocated(alloc, target, copy, Allocator::Greedy, 0, watchers) {
         Ok(made) => Ok(summary(alloc, target, seed, source, &made.func)?),
         Err(stop) => Err(stop),
     }

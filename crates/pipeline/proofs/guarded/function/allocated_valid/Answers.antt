@@ -1,3 +1,5 @@
+use Rattle.std.proofs.Common.{subst}
+use Rattle.pipeline.specs.Guarded.Function.{IsOnceTaken}
 use Rattle.pipeline.proofs.GuardLemmas.Told.{part_of_run, on_err}
 use Rattle.pipeline.proofs.guarded.function.allocated_valid.Goals as goal
 
@@ -10,4 +12,6 @@ pub returns-clause-part : goal.returns-clause-part
 returns-clause-part g c = part_of_run (g.W.Watcher.next c.args.target.now) c.args.number c.args.watchers.now.items c.with_registers.new.watchers.items c.in-Ok.ensures.told
 
 pub returns-in-Err-clause-err : goal.returns-in-Err-clause-err
-returns-in-Err-clause-err g c = c.refused.ensures.late c.args.target.now c.args.source.func c.in-Err.ensures.places
+returns-in-Err-clause-err g c =
+    subst (λ n. IsOnceTaken c.args.target.now c.args.source.func n c.refused.result) c.in_ok-copied.ensures
+    (c.refused.ensures.late c.args.target.now c.args.source.func c.in-Err.ensures.places)

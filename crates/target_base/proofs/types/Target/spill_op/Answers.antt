@@ -1,24 +1,17 @@
-use Rattle.std.proofs.Common.{◌≡◌, ◌<◌, ◌≤◌, Some, None, arith, length}
-use Rattle.std.specs.Prelude.{position}
-use Rattle.target_base.specs.Registers.{regs_of}
-use Rattle.target_base.specs.Rules.{spills}
-use Rattle.target_base.proofs.Sound.{opcodes_count}
-use Rattle.target_base.proofs.Lookups.{spill_place_within, spill_there}
+use Rattle.std.proofs.Common.{sym, ◌∙◌, ap}
+use Rattle.std.specs.Prelude.{option_map}
+use Rattle.target_base.specs.Numbers.{op_number}
+use Rattle.target_base.specs.Registers.{IsOpcode}
+use Rattle.target_base.proofs.Lookups.{taken_there, holds_taken, spill_there}
 use Rattle.target_base.proofs.types.Target.spill_op.Goals as goal
 
-pub overflow_cast-result : goal.overflow_cast-result
-overflow_cast-result c =
-    let e : position (spills c.args.self.now.classes (regs_of c.args.self.now c.args.c)) c.args.self.now.opcodes ≡ Some c.in-Some.place = cc in
-    let w : c.in-Some.place < length c.args.self.now.opcodes = spill_place_within c.args.self.now.classes (regs_of c.args.self.now c.args.c) c.args.self.now.opcodes c.in-Some.place e in
-    let n : length c.args.self.now.opcodes ≤ 1024 = opcodes_count _ _ _ _ _ _ _ _ _ c.args.self.now.sound in
-    omega arith
+pub returns-clause-value : goal.returns-clause-value
+returns-clause-value c =
+    let v = sym c.spill_at.ensures.value in
+    v ∙ ap (option_map (λ o. o.0)) (taken_there c.spill_at.result (op_number 0) c.unwrap_or.result c.unwrap_or.ensures (λ e. spill_there _ _ _ _ _ _ _ _ _ c.args.self.now.sound c.args.c c.requires (v ∙ ap (option_map (λ o. o.0)) e)))
 
-pub returns-in-None-clause-value : goal.returns-in-None-clause-value
-returns-in-None-clause-value c =
-    let e : position (spills c.args.self.now.classes (regs_of c.args.self.now c.args.c)) c.args.self.now.opcodes ≡ None = cc in
-    absurd (spill_there _ _ _ _ _ _ _ _ _ c.args.self.now.sound c.args.c c.requires e)
-
-pub returns-in-None-clause-there : goal.returns-in-None-clause-there
-returns-in-None-clause-there c =
-    let e : position (spills c.args.self.now.classes (regs_of c.args.self.now c.args.c)) c.args.self.now.opcodes ≡ None = cc in
-    absurd (spill_there _ _ _ _ _ _ _ _ _ c.args.self.now.sound c.args.c c.requires e)
+pub returns-clause-there : goal.returns-clause-there
+returns-clause-there c =
+    let v = sym c.spill_at.ensures.value in
+    holds_taken (IsOpcode c.args.self.now) c.spill_at.result (op_number 0) c.unwrap_or.result c.unwrap_or.ensures c.spill_at.ensures.there
+    (λ e. spill_there _ _ _ _ _ _ _ _ _ c.args.self.now.sound c.args.c c.requires (v ∙ ap (option_map (λ o. o.0)) e))

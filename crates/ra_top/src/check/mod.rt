@@ -1,0 +1,6 @@
+//! The command `check`: whether each function of a file is an allocation of its partner in another.
+
+mod files;
+mod reading;
+
+pub use crate::check::files::check;

@@ -1,0 +1,83 @@
+//! The documents of a file, for a command that writes nothing while it reads.
+
+ghost use Rattle.std.specs.Prelude.{◌≡◌, ◌≤◌, ◌+◌, ◌++◌, ℕ, List, [], Some, IfOk, IfErr, IfSome};
+ghost use Rattle.ra_top.specs.Commands.Spot.{file_most, first_spot};
+ghost use Rattle.ra_top.specs.Commands.Documents.{DocFits};
+ghost use Rattle.ra_top.specs.Due.{IsUnfinished};
+ghost use Rattle.ra_top.specs.Reading.{HasCauseOf, IfUnbegun, AfterReading, MovesOn};
+ghost use Rattle.ra_top.specs.declared.commands.refusal.Refusal.TheVariants as refusals;
+ghost use Rattle.ra_top.specs.declared.commands.status.Status.TheVariants as status;
+
+use crate::commands::piece::doc_at;
+use crate::commands::{Refusal, Spot, Status};
+use crate::devices::moves::ReadStop;
+use crate::devices::{Chunk, Files, Pieces, read_piece};
+use mir_text::Doc;
+use std::alloc::Global;
+use target_base::{Bytes, Target};
+
+/// How far a file is read.
+#[derive(Drop)]
+pub struct Reading {
+    /// The bytes that were read and aren't taken yet.
+    pub chunk: Chunk,
+    /// The piece that was read last.
+    pub piece: Pieces,
+    /// Where the next document begins.
+    pub spot: Spot,
+}
+
+/// A call of the files failed.
+fn unread(alloc: Global) -> Refusal
+    ensures { result ≡ refusals.By status.ReadFault [] }
+{
+    Refusal::By(Status::ReadFault, Bytes::new(alloc))
+}
+
+/// Begins to read the file of a name.
+pub fn begin<F: Files>(alloc: Global, name: &str, files: &mut F) -> Result<Reading, Refusal>
+    ensures contents { (n : List ℕ) → F.contents files.new n ≡ F.contents files.old n }
+    ensures left { IfSome (F.contents files.old name.now) (λ bytes. F.left files.new ≡ Some bytes) }
+    ensures ok { IfOk result (λ r. (r.spot ≡ first_spot) × (r.chunk ≡ [])) }
+    ensures err { IfErr result IfUnbegun }
+    ensures cause { HasCauseOf (F.faults files.old) (F.faults files.new) result }
+{
+    match files.start(name) {
+        Ok(()) => Ok(Reading {
+            chunk: Chunk::new(alloc)?,
+            piece: Pieces::new(alloc),
+            spot: Spot::first(),
+        }),
+        Err(_) => Err(unread(alloc)),
+    }
+}
+
+/// The next document of a file; None where the file ends. No read is made behind it.
+pub fn next_document<F: Files>(
+    alloc: Global,
+    target: &Target,
+    files: &mut F,
+    reading: &mut Reading,
+) -> Result<Option<Doc>, Refusal>
+    requires line { reading.old.spot.line ≤ reading.old.spot.offset + 1 }
+    requires within { reading.old.spot.offset ≤ file_most }
+    ensures contents { (n : List ℕ) → F.contents files.new n ≡ F.contents files.old n }
+    ensures read { IfSome (F.left files.old) (λ l. AfterReading target.now reading.old.spot reading.new.spot (reading.old.chunk ++ l) (F.left files.new) reading.new.chunk result) }
+    ensures fits { IfOk result (λ doc. IfSome doc (DocFits target.now)) }
+    ensures moves { IfOk result (MovesOn reading.old.spot reading.new.spot) }
+    ensures cause { HasCauseOf (F.faults files.old) (F.faults files.new) result }
+{
+    reading.piece.clear();
+    match read_piece(files, &mut reading.chunk, &mut reading.piece) {
+        Ok(()) => {}
+        Err(ReadStop::Failed) => return Err(unread(alloc)),
+        Err(ReadStop::Memory(e)) => return Err(Refusal::Memory(e)),
+    }
+    let piece = reading.piece.bytes();
+    if piece.is_empty() {
+        return Ok(None);
+    }
+    let doc = doc_at(alloc, target, reading.spot, piece)?;
+    reading.spot = reading.spot.after(piece);
+    Ok(Some(doc))
+}
