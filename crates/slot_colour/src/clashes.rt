@@ -1,17 +1,17 @@
 //! Which spill slots clash: at one point a lane of each is live or occupied.
 
-ghost use Rattle.std.specs.Prelude.{◌≡◌, ◌<◌, slice_get};
+ghost use Rattle.std.specs.Prelude.{◌≡◌, slice_get};
 ghost use Rattle.std.specs.List.{list_any};
 ghost use Rattle.live_lanes.specs.Entered.{cells_of};
 ghost use Rattle.live_lanes.specs.Looks.{InOrder};
-ghost use Rattle.slot_colour.specs.Clashes.{are_met_in, do_meet, numbers_in, is_clash};
+ghost use Rattle.slot_colour.specs.Clashes.{is_met_in, do_meet, numbers_in, is_clash};
 
 use instr_effects::Lanes;
 use live_lanes::LiveFunc;
 
 /// Whether a lane has a point at which another one has one in the block of one of its cells.
 fn is_met_in(live: &LiveFunc, one: u32, place: usize, other: u32) -> bool
-    ensures { InOrder live.now.table → result ≡ are_met_in live.now.table other (slice_get (cells_of live.now.table.rows.rows.items one) place) }
+    ensures { InOrder live.now.table → result ≡ is_met_in live.now.table other (slice_get (cells_of live.now.table.rows.rows.items one) place) }
 {
     let Some(block) = live.cell_block(one, place) else {
         return false;
