@@ -1,3 +1,4 @@
+pub mod BasicStep
 pub mod Bounds
 pub mod Ledgers
 pub mod State
