@@ -16,3 +16,4 @@ pub mod Built
 pub mod Nets
 pub mod BundleNodes
 pub mod Placings
+pub mod Choices
