@@ -1,2 +1,4 @@
+pub mod Bounds
+pub mod Ledgers
 pub mod State
 pub mod Step

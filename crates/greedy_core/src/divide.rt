@@ -1,10 +1,10 @@
 //! The step that splits a range.
 
-use crate::run::Run;
+use crate::run::{Policy, Run};
 use block_freq::Freqs;
 use live_lanes::Labels;
 use spiller::RunStop;
-use split_choose::{local, per_block, region_over};
+use split_choose::{cut_region_over, local, per_block, region_over};
 use split_kit::split;
 use std::alloc::AllocError;
 use target_base::Reg;
@@ -50,9 +50,20 @@ impl Run {
         }
     }
 
-    fn region_offer(&self, freqs: &Freqs, v: u32) -> Result<Option<Offer>, AllocError> {
-        let found = region_over(self.alloc, &self.matrix, v, freqs, &self.bundles)?;
+    /// The region that is offered to a range, with its register.
+    fn found_region(&self, freqs: &Freqs, v: u32) -> Result<Option<(Reg, Labels)>, AllocError> {
+        if self.policy != Policy::Cut {
+            return region_over(self.alloc, &self.matrix, v, freqs, &self.bundles);
+        }
+        let found = cut_region_over(self.alloc, &self.matrix, v, freqs, &self.bundles)?;
         Ok(match found {
+            Some(region) => Some((region.reg, region.labels)),
+            None => None,
+        })
+    }
+
+    fn region_offer(&self, freqs: &Freqs, v: u32) -> Result<Option<Offer>, AllocError> {
+        Ok(match self.found_region(freqs, v)? {
             Some((r, labels)) => Some(Offer {
                 kind: Kind::Region,
                 register: Some(r),

@@ -52,3 +52,5 @@ pub mod Counting
 pub mod Covering
 pub mod Spanned
 pub mod Using
+pub mod Netting
+pub mod Costing

@@ -13,3 +13,6 @@ pub mod Spanned
 pub mod Counted
 pub mod Clearing
 pub mod Built
+pub mod Nets
+pub mod BundleNodes
+pub mod Placings

@@ -3,6 +3,8 @@
 
 mod blocks;
 mod bundles;
+mod cuts;
+mod nets;
 mod places;
 mod regions;
 mod runs;
@@ -10,5 +12,6 @@ mod spans;
 
 pub use blocks::per_block;
 pub use bundles::Bundles;
+pub use cuts::{Region, cut_region, cut_region_over};
 pub use regions::{region, region_over};
 pub use runs::local;

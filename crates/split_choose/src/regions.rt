@@ -51,12 +51,12 @@ struct Offer {
 
 /// What is looked at for each register.
 #[derive(Clone, Copy)]
-struct View<'a> {
-    alloc: Global,
-    m: &'a Matrix,
-    v: u32,
-    spans: &'a [Span],
-    bundles: &'a Bundles,
+pub(crate) struct View<'a> {
+    pub alloc: Global,
+    pub m: &'a Matrix,
+    pub v: u32,
+    pub spans: &'a [Span],
+    pub bundles: &'a Bundles,
 }
 
 /// Adds a register, if it isn't reserved.
@@ -154,7 +154,7 @@ fn labelled(view: View<'_>, offer: &Offer) -> Result<Option<(Reg, Labels)>, Allo
 
 /// What the range costs where it isn't split.
 #[tactic(auto, using(crate::proofs::Sums::uses))]
-fn all_uses(spans: &[Span]) -> u128
+pub(crate) fn all_uses(spans: &[Span]) -> u128
     ensures { result ≡ capped (uses_of spans.now) }
 {
     let mut sum = 0u128;
@@ -194,7 +194,7 @@ fn best_of(view: View<'_>, registers: &[Reg]) -> Result<Option<Offer>, AllocErro
 }
 
 /// Whether a register is clear for the range in each block.
-fn clear_blocks(view: View<'_>, register: Reg) -> Result<Vec<bool>, AllocError>
+pub(crate) fn clear_blocks(view: View<'_>, register: Reg) -> Result<Vec<bool>, AllocError>
     ensures { IfOk result (λ clear. IsOrdered view.entry.m.now → AreSpans view.entry.spans.now
         → clear.items ≡ map (is_clear_in view.entry.m.now view.entry.v register) view.entry.spans.now) }
 {
@@ -228,14 +228,14 @@ fn border_count(live: &LiveFunc) -> usize
 }
 
 /// So many flags that aren't set.
-fn no_flags(alloc: Global, count: usize) -> Result<Vec<bool>, AllocError>
+pub(crate) fn no_flags(alloc: Global, count: usize) -> Result<Vec<bool>, AllocError>
     ensures { IfOk result (λ flags. flags.items ≡ replicate count false) }
 {
     Vec::from_elem(alloc, false, count)
 }
 
 /// The flag at a place.
-fn flag_at(flags: &[bool], place: usize) -> bool
+pub(crate) fn flag_at(flags: &[bool], place: usize) -> bool
     ensures { result ≡ slice_index_or flags.now place false }
 {
     flags.get(place).copied().unwrap_or(false)
@@ -243,7 +243,7 @@ fn flag_at(flags: &[bool], place: usize) -> bool
 
 /// For the border that stands for each bundle, whether the bundle is out: some block that has a
 /// border of it at which the range is live isn't clear.
-fn outside_of(view: View<'_>, clear: &[bool]) -> Result<Vec<bool>, AllocError>
+pub(crate) fn outside_of(view: View<'_>, clear: &[bool]) -> Result<Vec<bool>, AllocError>
     ensures { IfOk result (λ flags. (test : BlockSpan → Bool) → clear.now ≡ map test view.entry.spans.now
         → length view.entry.m.now.live.func.blocks < 2147483648 → ArePositions (length view.entry.m.now.live.func.blocks) view.entry.spans.now
         → AreOut view.entry.bundles.now.parents.items test view.entry.spans.now (2 * length view.entry.m.now.live.func.blocks) flags.items) }

@@ -1,0 +1,209 @@
+//! Region splits at least cost: a least cut says which edge bundles and which insides of blocks
+//! lie in the register.
+
+use crate::bundles::Bundles;
+use crate::nets::{Placing, Row, is_small, placing_of};
+use crate::places::{gap_ids, places_of};
+use crate::regions::{View, add_mark, all_uses, clear_blocks, domain_of, flag_at};
+use crate::spans::spans_of;
+use block_freq::Freqs;
+use cut_place::{Cut, least_cut};
+use interference::Matrix;
+use live_lanes::{Labels, LiveFunc};
+use mir_func::operands::class_of;
+use std::alloc::{AllocError, Global};
+use target_base::Reg;
+
+/// A region at least cost, with what shows that none costs less.
+#[derive(Drop)]
+pub struct Region {
+    pub reg: Reg,
+    /// Label 1 where the part in the register lives.
+    pub labels: Labels,
+    /// A least cut of the register's net, and a greatest flow.
+    pub cut: Cut,
+    /// What the blocks cost that hold no part of the region whatever the cut is.
+    pub base: u128,
+}
+
+/// The least cut of a register's net.
+#[derive(Drop)]
+struct Choice {
+    register: Reg,
+    placing: Placing,
+    cut: Cut,
+    cost: u128,
+}
+
+/// Which parts of a block lie in the register: its start, its inside and its end.
+#[derive(Clone, Copy)]
+struct Sides {
+    start: bool,
+    inside: bool,
+    end: bool,
+}
+
+/// The region split of least cost that is offered to a range, over all ways to place its bundles
+/// and the insides of its blocks. None exactly where none is offered.
+pub fn cut_region(
+    alloc: Global,
+    m: &Matrix,
+    v: u32,
+    freqs: &Freqs,
+) -> Result<Option<Region>, AllocError> {
+    let bundles = Bundles::of(alloc, m.live())?;
+    cut_region_over(alloc, m, v, freqs, &bundles)
+}
+
+/// What `cut_region` answers, where these are the bundles of the function.
+pub fn cut_region_over(
+    alloc: Global,
+    m: &Matrix,
+    v: u32,
+    freqs: &Freqs,
+    bundles: &Bundles,
+) -> Result<Option<Region>, AllocError> {
+    let touched = m.live().touched(alloc, v)?;
+    let places = places_of(alloc, m.live(), touched.as_slice())?;
+    if places.len() < 2 {
+        return Ok(None);
+    }
+    let spans = spans_of(alloc, m.live(), v, freqs, touched.as_slice())?;
+    best_region(View {
+        alloc,
+        m,
+        v,
+        spans: spans.as_slice(),
+        bundles,
+    })
+}
+
+/// The region of least cost that is offered to a range over its blocks.
+fn best_region(view: View<'_>) -> Result<Option<Region>, AllocError> {
+    let live = view.m.live();
+    let domain = domain_of(view.alloc, live.target(), class_of(live.func(), view.v))?;
+    match best_of(view, domain.as_slice())? {
+        Some(choice) => labelled(view, choice),
+        None => Ok(None),
+    }
+}
+
+/// The choice of least cost among those of registers, the first at a tie.
+fn best_of(view: View<'_>, registers: &[Reg]) -> Result<Option<Choice>, AllocError> {
+    let mut bound = all_uses(view.spans);
+    let mut best: Option<Choice> = None;
+    'registers: for register in registers {
+        if let Some(choice) = choice_below(view, *register, bound)? {
+            bound = choice.cost;
+            best = Some(choice);
+        }
+    }
+    Ok(best)
+}
+
+/// The choice of least cost for a register, if it costs less than so much.
+fn choice_below(view: View<'_>, register: Reg, bound: u128) -> Result<Option<Choice>, AllocError> {
+    let clear = clear_blocks(view, register)?;
+    let placing = placing_of(view, clear.as_slice())?;
+    if !is_small(&placing.net) {
+        return Ok(None);
+    }
+    let cut = least_cut(view.alloc, &placing.net)?;
+    let cost = placing.base.saturating_add(cut.cost);
+    if cost >= bound {
+        return Ok(None);
+    }
+    Ok(Some(Choice {
+        register,
+        placing,
+        cut,
+        cost,
+    }))
+}
+
+/// The region of a choice.
+fn labelled(view: View<'_>, choice: Choice) -> Result<Option<Region>, AllocError> {
+    let labels = labels_of(view, &choice)?;
+    let Choice {
+        register,
+        placing,
+        cut,
+        cost: _,
+    } = choice;
+    Ok(Some(Region {
+        reg: register,
+        labels,
+        cut,
+        base: placing.base,
+    }))
+}
+
+/// The labels of a choice.
+fn labels_of(view: View<'_>, choice: &Choice) -> Result<Labels, AllocError> {
+    let mut labels = Labels::new(view.alloc);
+    'rows: for row in choice.placing.rows.as_slice() {
+        let sides = sides_of(choice.cut.inside.as_slice(), *row);
+        add_labels(view.m.live(), *row, sides, &mut labels)?;
+    }
+    Ok(labels)
+}
+
+/// Whether a node is in; without a node what else is.
+fn is_in(inside: &[bool], node: Option<u32>, otherwise: bool) -> bool {
+    match node {
+        Some(node) => flag_at(inside, node as usize),
+        None => otherwise,
+    }
+}
+
+/// Which parts of a block lie in the register. Where the range isn't live at a border, its inside
+/// reaches so far.
+fn sides_of(inside: &[bool], row: Row) -> Sides {
+    let own = is_in(inside, row.inside, false);
+    Sides {
+        start: is_in(inside, row.entry, own),
+        inside: own,
+        end: is_in(inside, row.exit, own),
+    }
+}
+
+/// The label of what is in the register, and of what isn't.
+fn label_of(is_in: bool) -> u16 {
+    if is_in { 1 } else { 0 }
+}
+
+/// Adds a label from a gap on, if it is another one than before.
+fn add_change(
+    live: &LiveFunc,
+    position: u32,
+    before: Option<u32>,
+    change: (bool, bool),
+    labels: &mut Labels,
+) -> Result<(), AllocError> {
+    let (old, new) = change;
+    if old == new {
+        return Ok(());
+    }
+    add_mark(live, position, Some(before), label_of(new), labels)
+}
+
+/// Adds the labels of a block: of its start, from its first gap on, and from the gap before its
+/// terminators on. Where these are one gap, an inside that leads to the block's end has no extent.
+fn add_labels(
+    live: &LiveFunc,
+    row: Row,
+    sides: Sides,
+    labels: &mut Labels,
+) -> Result<(), AllocError> {
+    let (first, end) = gap_ids(live, row.position);
+    if sides.start {
+        add_mark(live, row.position, None, 1, labels)?;
+    }
+    let inside = if row.exit.is_some() && first == end {
+        sides.start
+    } else {
+        sides.inside
+    };
+    add_change(live, row.position, first, (sides.start, inside), labels)?;
+    add_change(live, row.position, end, (inside, sides.end), labels)
+}
