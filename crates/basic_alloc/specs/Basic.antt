@@ -1,6 +1,6 @@
 -- The choice of the basic allocator: the register that a range takes, and the ranges that are ousted from it.
 use Rattle.std.specs.Prelude.{◌≡◌, ℕ, Bool, cond, not, ◌&&◌, ◌||◌, nat_lt, List, [], map, length, find, Option, Some, None}
-use Rattle.std.specs.List.{list_all, is_empty}
+use Rattle.std.specs.List.{list_all, list_any}
 use Rattle.target_base.specs.declared.types.Reg.{Reg}
 use Rattle.target_base.specs.declared.types.Target.{Target}
 use Rattle.mir_func.specs.Value.{Function}
@@ -23,9 +23,14 @@ stages_of n tinies = map (stage_among tinies) (numbers 0 n)
 abbrev pub tiny_ranking : ℕ → List ℕ → Ranking
 tiny_ranking n tinies = record { stages = stages_of n tinies; cascades = []; greatest = 0 }
 
+-- no range has a cascade, as in a run of the basic allocator
+pub record HasNoCascades (k : Ranking) : Type 0 where
+  pub none : (v : ℕ) → cascade k v ≡ 0
+  pub greatest : k.greatest ≡ 0
+
 -- nothing is in the way in a register
 abbrev pub is_free : Setting → Reg → Bool
-is_free s r = not (s.facts.fixed r) && is_empty (clashers s r)
+is_free s r = not (s.facts.fixed r) && not (list_any (s.facts.in_the_way r) (numbers 0 (length s.func.classes)))
 
 -- A range in the way may be ousted: it is no tiny and, unless v is a tiny itself, it weighs less.
 abbrev pub may_be_ousted : Setting → ℕ → Bool

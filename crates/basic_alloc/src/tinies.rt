@@ -1,21 +1,25 @@
 //! What a run of the basic allocator knows of ranges besides their registers: which are tinies.
 
-ghost use Rattle.std.specs.Prelude.{◌≡◌, ◌<◌, ◌^◌, IfOk};
+ghost use Rattle.std.specs.Prelude.{◌≡◌, slice_set, IfOk};
 ghost use Rattle.evictor.specs.Settings.{ranking_of};
-ghost use Rattle.basic_alloc.specs.Basic.{stage_among, stages_of, tiny_ranking};
+ghost use Rattle.evictor.specs.declared.ranks.Stage.TheVariants.{Tiny};
+ghost use Rattle.basic_alloc.specs.Basic.{stages_of, tiny_ranking};
 
 use evictor::{Ranks, Stage, Stages};
 use std::alloc::{AllocError, Global};
 use target_base::{List, Numbers};
 
 /// Gives a range the stage of a tiny; a number that no range has changes nothing.
-fn mark(stages: &mut Vec<Stage>, v: u32) {
+fn mark(stages: &mut Vec<Stage>, v: u32)
+    ensures { stages.new.items ≡ slice_set stages.old.items v Tiny }
+{
     if let Some(place) = stages.get_mut(v as usize) {
         *place = Stage::Tiny;
     }
 }
 
 /// The stages of this many ranges, of which those of these numbers are tinies.
+#[tactic(auto, using(crate::proofs::Staged::staged))]
 fn stages_of(alloc: Global, count: usize, tinies: &[u32]) -> Result<Stages, AllocError>
     ensures { IfOk result (λ stages. stages ≡ stages_of count tinies.now) }
 {

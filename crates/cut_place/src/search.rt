@@ -1,13 +1,13 @@
 //! The search of the residual net from the source.
 
-ghost use Rattle.std.specs.Prelude.{◌≡◌, ◌+◌, ◌*◌, ◌<◌, ◌≤◌, IfOk, OnOk, length, true, false};
+ghost use Rattle.std.specs.Prelude.{◌≡◌, ◌+◌, ◌*◌, ◌<◌, ◌≤◌, IfOk, OnOk, length, slice_index, true, false};
 ghost use Rattle.cut_place.specs.Flows.{HasEnds, IsWithin};
 ghost use Rattle.cut_place.specs.Links.{HasLinks};
 ghost use Rattle.cut_place.specs.Searches.{IsClosed, IsSearch, Stays, reached, unreached};
 
 use crate::links::{Links, step_of};
 use crate::net::Arc;
-use crate::paths::SOURCE;
+use crate::paths::{SINK, SOURCE};
 use crate::steps::{Step, head, residual, tail};
 use std::alloc::{AllocError, Global};
 
@@ -77,7 +77,7 @@ fn visit(
     Ok(())
 }
 
-/// Visits the nodes that were reached, in order.
+/// Visits the nodes that were reached, in order, until the sink is reached.
 fn spread(arcs: &[Arc], flow: &[u128], links: &Links, search: &mut Search) -> Result<(), AllocError>
     requires within { IsWithin arcs.now flow.now }
     requires ends { HasEnds (length search.old.levels.items) arcs.now }
@@ -89,7 +89,7 @@ fn spread(arcs: &[Arc], flow: &[u128], links: &Links, search: &mut Search) -> Re
     ensures nodes { OnOk result (length search.new.levels.items ≡ length search.old.levels.items) }
 {
     for i in 0..search.levels.len() {
-        if i >= search.queue.len() {
+        if i >= search.queue.len() || search.levels[SINK] < UNREACHED {
             break;
         }
         let node = search.queue[i];
@@ -134,7 +134,7 @@ fn close(arcs: &[Arc], flow: &[u128], search: &mut Search) -> Result<(), AllocEr
     }
 }
 
-/// Searches the residual net breadth first from the source.
+/// Searches the residual net breadth first from the source, until the sink is reached.
 pub(crate) fn search_from(
     alloc: Global,
     arcs: &[Arc],
@@ -149,7 +149,7 @@ pub(crate) fn search_from(
     requires places { length links.now.next.items ≡ 2 * length arcs.now }
     ensures search { IfOk result (λ r. IsSearch arcs.now flow.now r.levels.items r.before.items r.queue.items) }
     ensures nodes { IfOk result (λ r. length r.levels.items ≡ length links.now.first.items) }
-    ensures closed { IfOk result (λ r. IsClosed (reached r.levels.items) arcs.now flow.now) }
+    ensures closed { IfOk result (λ r. 4096 ≤ slice_index r.levels.items 1 → IsClosed (reached r.levels.items) arcs.now flow.now) }
 {
     let nodes = links.first.len();
     let mut levels = Vec::from_elem(alloc, UNREACHED, nodes)?;
@@ -167,6 +167,8 @@ pub(crate) fn search_from(
         queue,
     };
     spread(arcs, flow, links, &mut search)?;
-    close(arcs, flow, &mut search)?;
+    if search.levels[SINK] >= UNREACHED {
+        close(arcs, flow, &mut search)?;
+    }
     Ok(search)
 }

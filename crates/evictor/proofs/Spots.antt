@@ -18,7 +18,7 @@ use Rattle.mir_meaning.specs.Points.{is_range, counts, touches}
 use Rattle.block_freq.specs.Weights.{names, naming, block_uses, use_sum}
 use Rattle.live_lanes.specs.declared.table.Table.{Table}
 use Rattle.live_lanes.specs.Ordered.{AreHomes, ids_of}
-use Rattle.live_lanes.specs.Paths.{has}
+use Rattle.mir_meaning.specs.Paths.{has}
 use Rattle.live_lanes.specs.Touching.{AreTouched, FindsInstrs}
 use Rattle.live_lanes.specs.Tells.{touching_ids, TellsTouched}
 use Rattle.evictor.specs.Spots.{IsSpot, uses_at}

@@ -10,7 +10,7 @@ use Rattle.mir_func.specs.Value.{Function}
 use Rattle.block_freq.specs.Weights.{naming, use_sum}
 use Rattle.live_lanes.specs.declared.table.Table.{Table}
 use Rattle.live_lanes.specs.Ordered.{AreHomes, ids_of}
-use Rattle.live_lanes.specs.Paths.{has}
+use Rattle.mir_meaning.specs.Paths.{has}
 use Rattle.live_lanes.specs.Touching.{FindsInstrs}
 use Rattle.evictor.specs.Spots.{IsSpot, uses_at}
 use Rattle.evictor.proofs.Spots.{spots, spot_of, uses_are}

@@ -4,6 +4,7 @@
 
 mod basic;
 mod divide;
+mod ledger;
 mod queue;
 mod run;
 mod steps_done;

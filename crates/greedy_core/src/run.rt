@@ -3,7 +3,9 @@
 ghost use Rattle.std.specs.Prelude.{◌∷◌, List, OnOk, OnErr};
 ghost use Rattle.watchers.specs.declared.steps.Step.{Step};
 ghost use Rattle.watchers.specs.Told.{AllTold, PartTold};
+ghost use Rattle.greedy_core.specs.Bounds.{AreBounded};
 
+use crate::ledger::Ledger;
 use crate::queue::Queue;
 use block_freq::Freqs;
 use evictor::{Ranks, Stage, Stages};
@@ -53,7 +55,9 @@ pub(crate) struct Run {
 /// Runs the allocator over a function from its first state to the one in which no range waits.
 /// Each watcher is told every step, in order, from the beginning of the run over the function of
 /// this number. Ranges comes where a step gives more range numbers than the limit allows. After a
-/// refusal each watcher was told a first part of the steps.
+/// refusal each watcher was told a first part of the steps. Each range is spilled at most once, and
+/// tinies are placed at most as often as there are tinies: Unfinished would come before a step that
+/// breaks this.
 pub fn allocate<W: Watcher>(
     alloc: Global,
     target: &Target,
@@ -64,15 +68,17 @@ pub fn allocate<W: Watcher>(
     watchers: &mut Vec<W>,
 ) -> Result<Allocated, RunStop>
     ensures told { OnOk result ((steps : List Step) × AllTold (W.next target.now) (Step.Begin number ∷ steps) watchers.old.items watchers.new.items) }
+    ensures bounds { OnOk result ((steps : List Step) × AllTold (W.next target.now) (Step.Begin number ∷ steps) watchers.old.items watchers.new.items × AreBounded steps) }
     ensures part { OnErr result ((steps : List Step) × PartTold (W.next target.now) steps watchers.old.items watchers.new.items) }
 {
     let mut run = Run::new(alloc, policy, f, freqs)?;
+    let mut ledger = Ledger::new(alloc);
     tell_all(watchers, target, &Step::Begin(number))?;
     'steps: for _ in 0..u64::MAX {
         let Some(v) = run.queue.pop() else {
             return Ok(run.finished());
         };
-        run.step(target, freqs, v, watchers)?;
+        run.step(target, freqs, v, &mut ledger, watchers)?;
     }
     Err(RunStop::Unfinished)
 }

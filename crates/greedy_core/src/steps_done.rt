@@ -1,9 +1,11 @@
 //! The steps of a run: for the range that comes first, the first of them that applies is done.
 
-ghost use Rattle.std.specs.Prelude.{◌≡◌, OnOk, OnErr, map};
+ghost use Rattle.std.specs.Prelude.{◌++◌, List, OnOk, OnErr};
 ghost use Rattle.watchers.specs.declared.steps.Step.{Step};
-ghost use Rattle.watchers.specs.Told.{FirstBecame};
+ghost use Rattle.watchers.specs.Told.{AllTold, PartTold};
+ghost use Rattle.greedy_core.specs.Ledgers.{Records};
 
+use crate::ledger::Ledger;
 use crate::run::{Policy, Run};
 use block_freq::Freqs;
 use evictor::{Stage, candidates, cheapest_of, first_free};
@@ -16,18 +18,21 @@ use target_base::{Numbers, Reg, Target};
 use watchers::{Choices, Step, Steps, Watcher, tell_steps};
 
 impl Run {
-    /// Does a step for a range, and tells it to all watchers, in order.
+    /// Does a step for a range, and tells all watchers of it, in order.
     pub fn step<W: Watcher>(
         &mut self,
         target: &Target,
         freqs: &Freqs,
         v: u32,
+        ledger: &mut Ledger,
         watchers: &mut Vec<W>,
     ) -> Result<(), RunStop>
-        ensures told { OnOk result ((step : Step) × (watchers.new.items ≡ map (λ w. W.next target.now w step) watchers.old.items)) }
-        ensures part { OnErr result ((step : Step) × FirstBecame (λ w. W.next target.now w step) watchers.old.items watchers.new.items) }
+        ensures told { OnOk result ((steps : List Step) × AllTold (W.next target.now) steps watchers.old.items watchers.new.items
+            × ((done : List Step) → Records ledger.old done → Records ledger.new (done ++ steps))) }
+        ensures part { OnErr result ((steps : List Step) × PartTold (W.next target.now) steps watchers.old.items watchers.new.items) }
     {
         let done = self.steps(freqs, v)?;
+        ledger.enter_all(&done)?;
         tell_steps(watchers, target, &done)?;
         Ok(())
     }

@@ -9,7 +9,7 @@ pub mod CountedParts
 pub mod SilentParts
 pub mod Readings
 pub mod Known
-pub mod Masks
+pub mod MaskUnits
 pub mod Members
 pub mod Plain
 pub mod CountedSteps

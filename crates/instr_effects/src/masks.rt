@@ -19,7 +19,7 @@ fn have_unit(target: &Target, regs: &[Reg], u: u32) -> bool
 }
 
 /// Whether an operand is a mask that preserves a unit.
-#[tactic(auto, using(crate::proofs::Masks::mask_preserves))]
+#[tactic(auto, using(crate::proofs::MaskUnits::mask_preserves))]
 fn preserves(target: &Target, operand: &Operand, u: u32) -> bool
     ensures { result ≡ preserves target.now u operand.now }
 {

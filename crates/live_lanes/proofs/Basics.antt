@@ -1,6 +1,6 @@
 -- Instructions of a block before and behind a point, and the number of the piece there.
 use Rattle.std.proofs.Common.{◌≡◌, ℕ, zero, suc, ◌+◌, Bool, true, false, cond, List, [], ◌∷◌, ◌++◌, ◌⊎◌, refl, sym, ap, ◌∙◌, subst, inl, inr, append_assoc, arith}
-use Rattle.live_lanes.specs.Paths.{Among, here, there, Step, is_written}
+use Rattle.mir_meaning.specs.Paths.{Among, here, there, Step, is_written}
 use Rattle.live_lanes.specs.Graph.{writes_in}
 
 pub none-among : {A : Type 0} (x : A) → Among x [] → ⊥

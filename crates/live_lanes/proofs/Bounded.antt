@@ -17,7 +17,7 @@ use Rattle.instr_effects.specs.Ends.{end_uses}
 use Rattle.instr_effects.specs.Numbered.{number_in, IsTable}
 use Rattle.instr_effects.specs.Steps.{Numbering, writing, act_writings, is_unnumbered, act_readings, phi_read_of}
 use Rattle.live_lanes.specs.declared.row.Row.{Row}
-use Rattle.live_lanes.specs.Paths.{has, is_some_number}
+use Rattle.mir_meaning.specs.Paths.{has, is_some_number}
 use Rattle.live_lanes.specs.Table.{Seen, unseen, seen_in, with_reading, with_segment, read_at_end}
 use Rattle.live_lanes.specs.Entered.{reading, rows_seen}
 use Rattle.live_lanes.specs.Entering.{at_spot, reads_entered, moves_entered, writes_entered, source_entered, ends_entered, is_end_read, step_entered, block_entered, blocks_entered, Enters}

@@ -4,7 +4,7 @@ use Rattle.std.specs.Prelude.{slice_get, nat_eq, not}
 use Rattle.std.proofs.lemmas.Option.{slice_get-get_or}
 use Rattle.live_lanes.specs.declared.row.Cause.{Cause}
 use Rattle.live_lanes.specs.declared.row.Cell.{Cell}
-use Rattle.live_lanes.specs.Paths.{Among, here, there}
+use Rattle.mir_meaning.specs.Paths.{Among, here, there}
 use Rattle.live_lanes.specs.Graph.{is_live}
 use Rattle.live_lanes.specs.Table.{find_cell, descends, Seen, seen, seen_in, seen_cell, cause_in, certain_cause, with_cause}
 use Rattle.live_lanes.specs.Certain.{blocks_of, KeepsCertain, RaisesCertain}

@@ -8,7 +8,7 @@ use Rattle.live_lanes.specs.declared.compute.flow.Ways.{Ways}
 use Rattle.live_lanes.specs.declared.row.Cell.{Cell}
 use Rattle.live_lanes.specs.declared.row.Row.{Row}
 use Rattle.live_lanes.specs.declared.table.Spot.{Spot}
-use Rattle.live_lanes.specs.Paths.{Code}
+use Rattle.mir_meaning.specs.Paths.{Code}
 use Rattle.live_lanes.specs.Graph.{is_live}
 use Rattle.live_lanes.specs.Table.{Numbers, Seen, unseen, find_cell, seen, seen_in, seen_cell, certain_cause, begun, begun_readings, cause_of, is_certain}
 use Rattle.live_lanes.specs.Certain.{blocks_of}

@@ -12,7 +12,7 @@ use Rattle.mir_func.specs.Binding.{does, is_terminator}
 use Rattle.slot_index.specs.Order.{number_of}
 use Rattle.live_lanes.specs.declared.compute.flow.Ways.{Ways}
 use Rattle.live_lanes.specs.declared.row.Row.{Row}
-use Rattle.live_lanes.specs.Paths.{Among, here, there, Step, Body, Code, steps_of, last_of, exits_of, has}
+use Rattle.mir_meaning.specs.Paths.{Among, here, there, Step, Body, Code, steps_of, last_of, exits_of, has}
 use Rattle.live_lanes.specs.Ways.{predecessors, terminators}
 use Rattle.live_lanes.specs.Table.{Numbers}
 use Rattle.live_lanes.specs.Entered.{shape, Rises, readings_until, starts, IsTableOf}

@@ -1,6 +1,7 @@
 -- Each piece with a point where the lane is live is marked live.
 use Rattle.std.proofs.Common.{◌≡◌, ℕ, Bool, true, false, List, [], ◌∷◌, ◌++◌, refl, sym, ap, ◌∙◌, subst, append-nil}
-use Rattle.live_lanes.specs.Paths.{Among, Step, Code, steps_of, last_of, exits_of, Use, Certain, Into, use_of, is_written, Point, Entry, Exit, Live, reads, moves, passes, next, leaps, goes, phi}
+use Rattle.live_lanes.specs.Paths.{Live, reads, moves, passes, next, leaps, goes, phi}
+use Rattle.mir_meaning.specs.Paths.{Among, Step, Code, steps_of, last_of, exits_of, Use, Certain, Into, use_of, is_written, Point, Entry, Exit}
 use Rattle.live_lanes.specs.Graph.{Causes, is_live, writes_in, IsClosed}
 use Rattle.live_lanes.proofs.Basics.{writes-same, step-into}
 

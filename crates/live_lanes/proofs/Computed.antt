@@ -20,7 +20,7 @@ use Rattle.live_lanes.specs.Table.{Numbers, unseen, cause_in}
 use Rattle.live_lanes.specs.Entered.{rows_seen, causes, IsTableOf}
 use Rattle.live_lanes.specs.Ends.{IsEnd, row_end, AreEnds}
 use Rattle.live_lanes.specs.Lasting.{AllRise, Lasts, AreOutward}
-use Rattle.live_lanes.specs.Paths.{has, Code}
+use Rattle.mir_meaning.specs.Paths.{has, Code}
 use Rattle.live_lanes.specs.Entering.{blocks_entered}
 use Rattle.live_lanes.specs.Ordered.{last_id, all_ids, place_of, AreSingle, AreHomes}
 use Rattle.live_lanes.specs.Flowing.{AreWays}

@@ -4,7 +4,8 @@ use Rattle.std.proofs.lemmas.Bool.{leb-true, le-leb}
 use Rattle.slot_index.specs.Order.{number_of}
 use Rattle.live_lanes.specs.declared.row.End.{End}
 use Rattle.live_lanes.specs.declared.row.End.TheVariants as ends
-use Rattle.live_lanes.specs.Paths.{Among, here, there, Step, Code, steps_of, exits_of, Into, use_of, is_present, is_written, Point, Entry, Exit, Live, reads, moves, passes, next, leaps, goes, phi}
+use Rattle.live_lanes.specs.Paths.{Live, reads, moves, passes, next, leaps, goes, phi}
+use Rattle.mir_meaning.specs.Paths.{Among, here, there, Step, Code, steps_of, exits_of, Into, use_of, is_present, is_written, Point, Entry, Exit}
 use Rattle.live_lanes.specs.Graph.{Causes, is_live, writes_in, IsGrown}
 use Rattle.live_lanes.specs.Table.{Numbers, entry_rank, exit_rank, end_rank}
 use Rattle.live_lanes.specs.Entered.{Rises, IsNumbered}

@@ -6,7 +6,7 @@ use Rattle.live_lanes.specs.declared.row.Cause.{Cause}
 use Rattle.live_lanes.specs.declared.row.Cause.TheVariants as why
 use Rattle.live_lanes.specs.declared.row.Row.{Row}
 use Rattle.live_lanes.specs.declared.table.Spot.{Spot}
-use Rattle.live_lanes.specs.Paths.{Among, here, there, Step, Code, steps_of, exits_of}
+use Rattle.mir_meaning.specs.Paths.{Among, here, there, Step, Code, steps_of, exits_of}
 use Rattle.live_lanes.specs.Graph.{Causes, is_live, writes_in, Founded, by_exit, by_end}
 use Rattle.live_lanes.specs.Table.{Numbers, cause_in, exit_rank, end_rank}
 use Rattle.live_lanes.specs.Entered.{start_of, starts, rows_seen, causes, predecessors, terminators, IsTableOf}

@@ -4,7 +4,7 @@ use Rattle.std.specs.Prelude.{nat_eq}
 use Rattle.std.specs.List.{list_any}
 use Rattle.std.proofs.lemmas.Bool.{ne_eqb}
 use Rattle.mir_meaning.specs.declared.writing.Writing.{Writing}
-use Rattle.live_lanes.specs.Paths.{Step, has, Use, Unused, Certain, Into, use_of, writing_of}
+use Rattle.mir_meaning.specs.Paths.{Step, has, Use, Unused, Certain, Into, use_of, writing_of}
 use Rattle.live_lanes.specs.Table.{Seen, unseen, is_none, with_reading, with_segment, read_at_end}
 use Rattle.live_lanes.specs.Entered.{reading, readings_until, starts}
 use Rattle.live_lanes.specs.Entering.{at_spot, reads_entered, moves_entered, writes_entered, source_entered, lasts_entered, end_entered, ends_entered, EnteredStep, step_entered, block_entered, blocks_entered, steps_in, steps_from, is_end_read, is_read_last, AreApart, AllApart}

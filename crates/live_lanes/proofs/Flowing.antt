@@ -9,7 +9,7 @@ use Rattle.target_base.specs.declared.types.Target.{Target}
 use Rattle.mir_func.specs.declared.func.Block.{Block}
 use Rattle.mir_func.specs.declared.func.Edge.{Edge}
 use Rattle.live_lanes.specs.declared.compute.flow.Ways.{Ways}
-use Rattle.live_lanes.specs.Paths.{has}
+use Rattle.mir_meaning.specs.Paths.{has}
 use Rattle.live_lanes.specs.Ways.{predecessors, terminators, successors}
 use Rattle.live_lanes.specs.Flowing.{edge_places, exits_at, terminators_at, terminator_ids, Notes, NotesAll, AreOut, AreWays}
 

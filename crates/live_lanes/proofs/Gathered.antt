@@ -3,7 +3,7 @@ use Rattle.std.proofs.Common.{◌≡◌, ℕ, Bool, true, false, cond, List, [],
 use Rattle.std.specs.Prelude.{nat_eq}
 use Rattle.mir_meaning.specs.declared.writing.Writing.{Writing}
 use Rattle.live_lanes.specs.declared.row.Reading.{Reading}
-use Rattle.live_lanes.specs.Paths.{Step, Use, Unused, Certain, Into, use_of, writing_of, is_present, is_written}
+use Rattle.mir_meaning.specs.Paths.{Step, Use, Unused, Certain, Into, use_of, writing_of, is_present, is_written}
 use Rattle.live_lanes.specs.Table.{Begun, Seen, ends_with, changed_last, is_none, starts_last, new_begun}
 use Rattle.live_lanes.specs.Entered.{Start, Shape, start_of, reading, reading_of, readings_until, starts}
 use Rattle.live_lanes.proofs.Stepped.{last_readings, appended, appended-ends, appended-starts, used, written, begun-ends, begun-starts}

@@ -7,7 +7,7 @@ use Rattle.live_lanes.specs.declared.row.Cause.{Cause}
 use Rattle.live_lanes.specs.declared.row.Cause.TheVariants as why
 use Rattle.live_lanes.specs.declared.row.Row.{Row}
 use Rattle.live_lanes.specs.declared.table.Spot.{Spot}
-use Rattle.live_lanes.specs.Paths.{Among, here, there, Step, Code, steps_of, exits_of}
+use Rattle.mir_meaning.specs.Paths.{Among, here, there, Step, Code, steps_of, exits_of}
 use Rattle.live_lanes.specs.Graph.{Causes, is_live, writes_in, Founded, by_reading, by_move, by_exit, by_end, by_phi}
 use Rattle.live_lanes.specs.Table.{Numbers, Seen, Begun, leading, is_begun, piece_at, cause_in, begun_cause, with_cause, changed_at, begun_with_cause, raised_seen}
 use Rattle.live_lanes.specs.Entered.{start_of, shape, rows_seen, causes, IsTableOf}

@@ -6,7 +6,7 @@ use Rattle.std.proofs.lemmas.List.{get_or-set_same, get_or-set_other}
 use Rattle.mir_func.specs.declared.func.Block.{Block}
 use Rattle.mir_func.specs.declared.func.Instr.{Instr}
 use Rattle.mir_func.specs.Value.{IsFunction, id_total}
-use Rattle.live_lanes.specs.Paths.{has}
+use Rattle.mir_meaning.specs.Paths.{has}
 use Rattle.live_lanes.specs.Ordered.{times, ids_of, all_ids, AreSingle, AreHomes, Settles}
 use Rattle.live_lanes.proofs.Certainty.{lt-cases}
 use Rattle.live_lanes.proofs.Flowing.{has-both}

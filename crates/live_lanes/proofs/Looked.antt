@@ -3,7 +3,8 @@ use Rattle.std.proofs.Common.{◌≡◌, ℕ, true, List, [], ◌∷◌, ◌++�
 use Rattle.std.specs.Prelude.{◌↔◌}
 use Rattle.live_lanes.specs.declared.compute.flow.Ways.{Ways}
 use Rattle.live_lanes.specs.declared.row.Row.{Row}
-use Rattle.live_lanes.specs.Paths.{Step, Code, steps_of, Point, Entry, Exit, Live}
+use Rattle.live_lanes.specs.Paths.{Live}
+use Rattle.mir_meaning.specs.Paths.{Step, Code, steps_of, Point, Entry, Exit}
 use Rattle.live_lanes.specs.Graph.{writes_in}
 use Rattle.live_lanes.specs.Table.{Numbers, entry_rank, exit_rank, piece_at}
 use Rattle.live_lanes.specs.Entered.{rows_seen, causes}

@@ -3,7 +3,7 @@ use Rattle.std.proofs.Common.{◌≡◌, ◌<◌, ◌≤◌, ℕ, suc, Bool, tru
 use Rattle.std.proofs.lemmas.Bool.{ltb-true, le-leb, lt-ltb, lt-leb}
 use Rattle.slot_index.specs.Order.{number_of}
 use Rattle.mir_meaning.specs.declared.writing.Writing.{Writing}
-use Rattle.live_lanes.specs.Paths.{Among, here, there, Step, Code, steps_of, writing_of, is_present}
+use Rattle.mir_meaning.specs.Paths.{Among, here, there, Step, Code, steps_of, writing_of, is_present}
 use Rattle.live_lanes.specs.Graph.{writes_in}
 use Rattle.live_lanes.specs.Table.{Numbers, entry_rank, exit_rank, leading, Begun, rises_from, piece_at}
 use Rattle.live_lanes.specs.Entered.{Start, start_of, starts, readings_until, Rises, IsNumbered}

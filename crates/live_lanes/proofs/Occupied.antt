@@ -9,7 +9,8 @@ use Rattle.live_lanes.specs.declared.compute.flow.Ways.{Ways}
 use Rattle.live_lanes.specs.declared.row.End.{End}
 use Rattle.live_lanes.specs.declared.row.End.TheVariants as ends
 use Rattle.live_lanes.specs.declared.row.Row.{Row}
-use Rattle.live_lanes.specs.Paths.{Step, Code, steps_of, writing_of, is_written, is_present, Entry, Exit, Live}
+use Rattle.live_lanes.specs.Paths.{Live}
+use Rattle.mir_meaning.specs.Paths.{Step, Code, steps_of, writing_of, is_written, is_present, Entry, Exit}
 use Rattle.live_lanes.specs.Graph.{Causes, is_live, writes_in, IsClosed, IsGrown}
 use Rattle.live_lanes.specs.Table.{Numbers, Begun, Seen, entry_rank, exit_rank, end_rank, end_in, is_begun, piece_at}
 use Rattle.live_lanes.specs.Entered.{Start, start_of, starts, readings_until, rows_seen, causes, Rises, IsTableOf}

@@ -8,7 +8,7 @@ use Rattle.mir_func.specs.declared.func.Instr.{Instr}
 use Rattle.mir_func.specs.Binding.{does, is_terminator}
 use Rattle.live_lanes.specs.declared.compute.flow.Ways.{Ways}
 use Rattle.live_lanes.specs.declared.row.Row.{Row}
-use Rattle.live_lanes.specs.Paths.{Among, exits_of, has}
+use Rattle.mir_meaning.specs.Paths.{Among, exits_of, has}
 use Rattle.live_lanes.specs.Ways.{successors}
 use Rattle.live_lanes.specs.Table.{Numbers}
 use Rattle.live_lanes.specs.Ordered.{ids_of, AreRising}

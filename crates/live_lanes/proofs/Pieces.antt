@@ -12,7 +12,7 @@ use Rattle.live_lanes.specs.declared.row.Cell.{Cell}
 use Rattle.live_lanes.specs.declared.row.Reading.{Reading}
 use Rattle.live_lanes.specs.declared.row.Row.{Row}
 use Rattle.live_lanes.specs.declared.table.Spot.{Spot}
-use Rattle.live_lanes.specs.Paths.{Among, here, there, Step, Code, steps_of, last_of, has, Use, Unused, Certain, Into, use_of, writing_of, is_written, is_present}
+use Rattle.mir_meaning.specs.Paths.{Among, here, there, Step, Code, steps_of, last_of, has, Use, Unused, Certain, Into, use_of, writing_of, is_written, is_present}
 use Rattle.live_lanes.specs.Graph.{Causes, is_live, writes_in, Founded, by_reading, by_phi}
 use Rattle.live_lanes.specs.Table.{Seen, seen_in, Begun, begun_readings, readings_in, is_certain, cause_of, certain_cause, cause_in, with_cause, raised_seen}
 use Rattle.live_lanes.specs.Certain.{blocks_of, KeepsCertain, RaisesCertain}

@@ -12,7 +12,7 @@ use Rattle.live_lanes.specs.declared.row.End.{End}
 use Rattle.live_lanes.specs.declared.row.End.TheVariants as ends
 use Rattle.live_lanes.specs.declared.row.Reading.{Reading}
 use Rattle.live_lanes.specs.declared.row.Row.{Row}
-use Rattle.live_lanes.specs.Paths.{Among, here, there, Step, Code, steps_of, last_of, exits_of, has, Use, Unused, Certain, Into, use_of, is_written, is_present}
+use Rattle.mir_meaning.specs.Paths.{Among, here, there, Step, Code, steps_of, last_of, exits_of, has, Use, Unused, Certain, Into, use_of, is_written, is_present}
 use Rattle.live_lanes.specs.Graph.{Causes, is_live, writes_in, Founded, by_reading, by_move, by_exit, by_end, by_phi, IsGrown}
 use Rattle.live_lanes.specs.Ways.{successors, terminators}
 use Rattle.live_lanes.specs.Table.{Numbers, entry_rank, exit_rank, end_rank}

@@ -1,6 +1,7 @@
 -- At the start of each founded piece the lane is live.
 use Rattle.std.proofs.Common.{◌≡◌, ◌≤◌, ℕ, zero, suc, ◌+◌, Bool, true, false, cond, List, [], ◌∷◌, ◌++◌, ◌⊎◌, refl, sym, ap, ◌∙◌, subst, inl, inr, arith, append-nil}
-use Rattle.live_lanes.specs.Paths.{Among, Step, Code, steps_of, last_of, exits_of, Use, Certain, Into, use_of, is_written, Point, Entry, Exit, Live, reads, moves, passes, next, leaps, goes, phi}
+use Rattle.live_lanes.specs.Paths.{Live, reads, moves, passes, next, leaps, goes, phi}
+use Rattle.mir_meaning.specs.Paths.{Among, Step, Code, steps_of, last_of, exits_of, Use, Certain, Into, use_of, is_written, Point, Entry, Exit}
 use Rattle.live_lanes.specs.Graph.{Causes, is_live, writes_in, Founded, by_reading, by_move, by_exit, by_end, by_phi}
 use Rattle.live_lanes.proofs.Basics.{writes-append, writes-head, writes-more, writes-same, writes-one, step-into, written-or-not}
 

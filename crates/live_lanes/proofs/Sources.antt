@@ -8,7 +8,7 @@ use Rattle.live_lanes.specs.declared.row.Cause.TheVariants as why
 use Rattle.live_lanes.specs.declared.row.Reading.{Reading}
 use Rattle.live_lanes.specs.declared.row.Row.{Row}
 use Rattle.live_lanes.specs.declared.table.Spot.{Spot}
-use Rattle.live_lanes.specs.Paths.{Among, Step, Code, steps_of, Use, Unused, Certain, Into, use_of, writing_of, is_written, is_present, IsMatched}
+use Rattle.mir_meaning.specs.Paths.{Among, Step, Code, steps_of, Use, Unused, Certain, Into, use_of, writing_of, is_written, is_present, IsMatched}
 use Rattle.live_lanes.specs.Graph.{is_live, writes_in, Founded, by_reading, by_move}
 use Rattle.live_lanes.specs.Table.{Numbers, Seen, unseen, Begun, moved_at, moved_in, entry_rank}
 use Rattle.live_lanes.specs.Entered.{Start, start_of, shape, starts, readings_until, reading_of, shape_of, rows_seen, causes, IsTableOf}

@@ -5,7 +5,7 @@ use Rattle.mir_meaning.specs.declared.writing.Writing.{Writing}
 use Rattle.live_lanes.specs.declared.row.Cause.{Cause}
 use Rattle.live_lanes.specs.declared.row.End.{End}
 use Rattle.live_lanes.specs.declared.row.Reading.{Reading}
-use Rattle.live_lanes.specs.Paths.{Step, has, Use, Unused, Certain, Into, move_of, use_of, writing_of, is_some_number}
+use Rattle.mir_meaning.specs.Paths.{Step, has, Use, Unused, Certain, Into, move_of, use_of, writing_of, is_some_number}
 use Rattle.live_lanes.specs.Table.{Begun, Seen, last_passes, ends_with, with_last, changed_last, is_none, with_reading, new_begun, starts_last, with_segment}
 use Rattle.live_lanes.specs.Entered.{reading}
 use Rattle.live_lanes.specs.Entering.{at_spot, reads_entered, moves_entered, writes_entered, source_entered}

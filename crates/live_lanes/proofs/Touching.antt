@@ -20,7 +20,7 @@ use Rattle.live_lanes.specs.declared.table.Table.{Table}
 use Rattle.live_lanes.specs.declared.ask.touch.Found.{Found}
 use Rattle.live_lanes.specs.Table.{Numbers}
 use Rattle.live_lanes.specs.Ends.{row_at}
-use Rattle.live_lanes.specs.Paths.{has}
+use Rattle.mir_meaning.specs.Paths.{has}
 use Rattle.live_lanes.specs.Touching.{some_below, some_of, some_lane, names_lane, layout_key, AreTouched, InLine, Meets}
 use Rattle.live_lanes.proofs.Flowing.{has-any, push-has, kept-has, or-assoc, or-false}
 

@@ -10,7 +10,7 @@ use Rattle.live_lanes.specs.declared.row.Cause.TheVariants as why
 use Rattle.live_lanes.specs.declared.row.Reading.{Reading}
 use Rattle.live_lanes.specs.declared.row.Row.{Row}
 use Rattle.live_lanes.specs.declared.table.Spot.{Spot}
-use Rattle.live_lanes.specs.Paths.{Among, here, there, Step, Code, steps_of, last_of, has, Certain, use_of, writing_of, is_present}
+use Rattle.mir_meaning.specs.Paths.{Among, here, there, Step, Code, steps_of, last_of, has, Certain, use_of, writing_of, is_present}
 use Rattle.live_lanes.specs.Graph.{is_live, writes_in, IsClosed, IsGrown}
 use Rattle.live_lanes.specs.Table.{Numbers, is_certain, cause_of}
 use Rattle.live_lanes.specs.Entered.{Start, start_of, shape, starts, readings_until, reading, reading_of, shape_of, rows_seen, causes, IsTableOf}

@@ -1,7 +1,7 @@
 -- Pieces of a row with readings that need no other lane.
 use Rattle.std.specs.Prelude.{◌≡◌, ℕ, true, false, cond, nat_eq, List, map, Some, slice_get}
 use Rattle.live_lanes.specs.declared.row.Cell.{Cell}
-use Rattle.live_lanes.specs.Paths.{Among}
+use Rattle.mir_meaning.specs.Paths.{Among}
 use Rattle.live_lanes.specs.Graph.{is_live}
 use Rattle.live_lanes.specs.Table.{seen_in, cause_in, certain_cause, with_cause}
 

@@ -6,7 +6,7 @@ use Rattle.mir_func.specs.declared.func.Instr.{Instr}
 use Rattle.mir_func.specs.Binding.{does, is_terminator}
 use Rattle.live_lanes.specs.declared.compute.flow.Ways.{Ways}
 use Rattle.live_lanes.specs.declared.row.Row.{Row}
-use Rattle.live_lanes.specs.Paths.{Body, Code}
+use Rattle.mir_meaning.specs.Paths.{Body, Code}
 use Rattle.live_lanes.specs.Table.{Numbers, unseen}
 use Rattle.live_lanes.specs.Entered.{rows_seen}
 use Rattle.live_lanes.specs.Entering.{EnteredStep, blocks_entered}

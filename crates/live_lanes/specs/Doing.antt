@@ -13,7 +13,7 @@ use Rattle.instr_effects.specs.Ends.{end_uses}
 use Rattle.instr_effects.specs.Numbered.{number_in, NumbersAll}
 use Rattle.instr_effects.specs.Steps.{Numbering, act_readings, act_writings, phi_read_of}
 use Rattle.live_lanes.specs.declared.table.Table.{Table}
-use Rattle.live_lanes.specs.Paths.{has, Code}
+use Rattle.mir_meaning.specs.Paths.{has, Code}
 use Rattle.live_lanes.specs.Graph.{IsGrown}
 use Rattle.live_lanes.specs.Entered.{causes, IsTableOf}
 use Rattle.live_lanes.specs.Ends.{AreEnds}

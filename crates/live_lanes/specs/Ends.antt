@@ -3,7 +3,7 @@ use Rattle.std.specs.Prelude.{◌≡◌, ◌⊎◌, ◌≤◌, ℕ, Bool, true, 
 use Rattle.live_lanes.specs.declared.row.End.{End}
 use Rattle.live_lanes.specs.declared.row.End.TheVariants as ends
 use Rattle.live_lanes.specs.declared.row.Row.{Row}
-use Rattle.live_lanes.specs.Paths.{Among, Step, Code, steps_of, last_of, exits_of, Certain, Into, use_of}
+use Rattle.mir_meaning.specs.Paths.{Among, Step, Code, steps_of, last_of, exits_of, Certain, Into, use_of}
 use Rattle.live_lanes.specs.Graph.{Causes, is_live, writes_in}
 use Rattle.live_lanes.specs.Table.{Numbers, end_rank, end_in}
 pub use Rattle.live_lanes.specs.Reach.{reaches, seen_at}

@@ -5,7 +5,7 @@ use Rattle.live_lanes.specs.declared.compute.flow.Ways.{Ways}
 use Rattle.live_lanes.specs.declared.row.Reading.{Reading}
 use Rattle.live_lanes.specs.declared.row.Cell.{Cell}
 use Rattle.live_lanes.specs.declared.row.Row.{Row}
-use Rattle.live_lanes.specs.Paths.{Among, Step, Code, steps_of, last_of, exits_of, has, Use, Unused, Certain, Into, use_of, writing_of, is_written, IsMatched}
+use Rattle.mir_meaning.specs.Paths.{Among, Step, Code, steps_of, last_of, exits_of, has, Use, Unused, Certain, Into, use_of, writing_of, is_written, IsMatched}
 use Rattle.live_lanes.specs.Graph.{Causes}
 pub use Rattle.live_lanes.specs.Ways.{predecessors, terminators, successors}
 use Rattle.live_lanes.specs.Table.{Numbers, Seen, unseen, seen_in, Begun, cause_in}

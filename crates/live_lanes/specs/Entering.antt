@@ -3,7 +3,7 @@ use Rattle.std.specs.Prelude.{◌≡◌, ◌<◌, ℕ, suc, Bool, false, cond, �
 use Rattle.std.specs.List.{list_any}
 use Rattle.mir_meaning.specs.declared.writing.Writing.{Writing}
 use Rattle.live_lanes.specs.declared.row.Row.{Row}
-use Rattle.live_lanes.specs.Paths.{Step, has}
+use Rattle.mir_meaning.specs.Paths.{Step, has}
 use Rattle.live_lanes.specs.Table.{Seen, with_reading, with_segment, read_at_end}
 use Rattle.live_lanes.specs.Entered.{reading, rows_seen}
 

@@ -6,7 +6,7 @@ use Rattle.mir_func.specs.declared.func.Edge.{Edge}
 use Rattle.mir_func.specs.declared.func.Instr.{Instr}
 use Rattle.mir_func.specs.Binding.{does, is_terminator}
 use Rattle.live_lanes.specs.declared.compute.flow.Ways.{Ways}
-use Rattle.live_lanes.specs.Paths.{has}
+use Rattle.mir_meaning.specs.Paths.{has}
 use Rattle.live_lanes.specs.Ways.{predecessors, terminators, successors}
 
 -- the ids of the terminators among instructions

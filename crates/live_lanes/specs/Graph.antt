@@ -3,7 +3,7 @@
 use Rattle.std.specs.Prelude.{◌≡◌, ℕ, zero, suc, ◌+◌, Bool, true, false, cond, List, [], ◌∷◌, ◌++◌}
 use Rattle.live_lanes.specs.declared.row.Cause.{Cause}
 use Rattle.live_lanes.specs.declared.row.Cause.TheVariants as causes
-use Rattle.live_lanes.specs.Paths.{Among, Step, Code, steps_of, last_of, exits_of, Use, Certain, Into, use_of, is_written}
+use Rattle.mir_meaning.specs.Paths.{Among, Step, Code, steps_of, last_of, exits_of, Use, Certain, Into, use_of, is_written}
 
 -- how many of the instructions write the lane: the number of the piece behind them
 abbrev pub writes_in : ℕ → List Step → ℕ

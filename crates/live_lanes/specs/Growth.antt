@@ -4,7 +4,7 @@ use Rattle.live_lanes.specs.declared.compute.flow.Ways.{Ways}
 use Rattle.live_lanes.specs.declared.row.Cause.{Cause}
 use Rattle.live_lanes.specs.declared.row.Row.{Row}
 use Rattle.live_lanes.specs.declared.table.Spot.{Spot}
-use Rattle.live_lanes.specs.Paths.{Among, Step, Code, steps_of, exits_of, Into, use_of}
+use Rattle.mir_meaning.specs.Paths.{Among, Step, Code, steps_of, exits_of, Into, use_of}
 use Rattle.live_lanes.specs.Graph.{Causes, is_live, writes_in, Founded, IsGrown}
 pub use Rattle.live_lanes.specs.Certain.{blocks_of}
 use Rattle.live_lanes.specs.Table.{Numbers, rises_from, piece_at, raised_seen, seen_in, cause_in, certain_cause, with_cause}

@@ -10,7 +10,7 @@ use Rattle.live_lanes.specs.declared.row.End.{End}
 use Rattle.live_lanes.specs.declared.row.End.TheVariants as ends
 use Rattle.live_lanes.specs.declared.row.Reading.{Reading}
 use Rattle.live_lanes.specs.declared.row.Row.{Row}
-use Rattle.live_lanes.specs.Paths.{Among, Code, exits_of}
+use Rattle.mir_meaning.specs.Paths.{Among, Code, exits_of}
 use Rattle.live_lanes.specs.Graph.{Causes, is_live}
 use Rattle.live_lanes.specs.Ways.{successors, terminators}
 use Rattle.live_lanes.specs.Table.{Numbers, exit_rank, end_rank, leading, rises_from, with_end_at}

@@ -1,6 +1,7 @@
 -- What follows from a table of causes that is grown.
 use Rattle.std.specs.Prelude.{◌≡◌, ◌<◌, length, ℕ, true, Option, List, ◌∷◌, [], ◌++◌, ◌↔◌}
-use Rattle.live_lanes.specs.Paths.{Step, Code, steps_of, is_written, Entry, Exit, Live, IsMatched, Among}
+use Rattle.live_lanes.specs.Paths.{Live}
+use Rattle.mir_meaning.specs.Paths.{Step, Code, steps_of, is_written, Entry, Exit, IsMatched, Among}
 use Rattle.live_lanes.specs.Graph.{Causes, is_live, writes_in, IsGrown}
 use Rattle.live_lanes.specs.declared.compute.flow.Ways.{Ways}
 use Rattle.live_lanes.specs.declared.row.Row.{Row}

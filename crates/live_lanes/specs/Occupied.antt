@@ -3,7 +3,8 @@ use Rattle.std.specs.Prelude.{◌≡◌, ◌⊎◌, ◌↔◌, ℕ, Bool, true, 
 use Rattle.mir_meaning.specs.declared.writing.Writing.{Writing}
 use Rattle.live_lanes.specs.declared.compute.flow.Ways.{Ways}
 use Rattle.live_lanes.specs.declared.row.Row.{Row}
-use Rattle.live_lanes.specs.Paths.{Step, Code, steps_of, writing_of, is_written, Entry, Exit, Live}
+use Rattle.live_lanes.specs.Paths.{Live}
+use Rattle.mir_meaning.specs.Paths.{Step, Code, steps_of, writing_of, is_written, Entry, Exit}
 use Rattle.live_lanes.specs.Graph.{IsGrown}
 use Rattle.live_lanes.specs.Table.{Numbers, entry_rank, exit_rank}
 use Rattle.live_lanes.specs.Entered.{rows_seen, causes, IsTableOf}

@@ -20,7 +20,7 @@ use Rattle.live_lanes.specs.Lasting.{reading_counts, shapes}
 use Rattle.live_lanes.specs.Looks.{exit_at}
 use Rattle.live_lanes.specs.Held.{AreRanked}
 use Rattle.live_lanes.specs.Ordered.{AreHomes, AreRising}
-use Rattle.live_lanes.specs.Paths.{has}
+use Rattle.mir_meaning.specs.Paths.{has}
 
 -- the instruction is one of those that read the lane in a piece
 abbrev pub reads_in : ℕ → List Reading → Bool

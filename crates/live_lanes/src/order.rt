@@ -6,7 +6,7 @@ ghost use Rattle.std.specs.BTreeMap.{get};
 ghost use Rattle.slot_index.specs.Order.{ids, Has, IsNumbered, put_after};
 ghost use Rattle.slot_index.specs.Renewed.{low_end};
 ghost use Rattle.mir_meaning.specs.Points.{all_points};
-ghost use Rattle.live_lanes.specs.Paths.{has};
+ghost use Rattle.mir_meaning.specs.Paths.{has};
 ghost use Rattle.live_lanes.specs.Ordered.{ids_of, all_ids, last_id, place_of, placed, AreSingle, AreHomes, AreRising, Settles};
 
 use mir_func::{Block, Func, Instr};

@@ -28,7 +28,7 @@ pub record Cut (text : List ℕ) (left : Option (List ℕ)) (chunk piece : List 
 abbrev pub Ended : Option (List ℕ) → List ℕ → List ℕ → Type 0
 Ended left chunk piece = (is_whole piece ≡ true) ⊎ ((length piece ≡ held_most) ⊎ IsRest left chunk piece)
 
-nothing : (xs : List ℕ) → length xs ≡ 0 → xs ≡ []
+pub nothing : (xs : List ℕ) → length xs ≡ 0 → xs ≡ []
 nothing [] h = refl
 nothing (x ∷ xs) h = absurd (omega (arith, h))
 
@@ -82,7 +82,7 @@ not_whole : is_whole [] ≡ true → ⊥
 unfolding lines_of
 not_whole e = cc
 
-all_read : (first : Option (List ℕ)) (chunk0 : List ℕ) → Ended first chunk0 [] → IfSome first (λ l. chunk0 ++ l ≡ [])
+pub all_read : (first : Option (List ℕ)) (chunk0 : List ℕ) → Ended first chunk0 [] → IfSome first (λ l. chunk0 ++ l ≡ [])
 all_read first chunk0 (inl w) = absurd (not_whole w)
 all_read first chunk0 (inr (inl m)) = absurd (omega (arith, m))
 all_read first chunk0 (inr (inr is)) = is

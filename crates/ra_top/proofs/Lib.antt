@@ -8,5 +8,6 @@ pub mod Watched
 pub mod DeviceLemmas
 pub mod WordLemmas
 pub mod CommandLemmas
+pub mod CheckLemmas
 pub mod ReportLemmas
 pub mod GeneratorLemmas

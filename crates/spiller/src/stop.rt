@@ -9,7 +9,8 @@ use std::alloc::AllocError;
 pub enum RunStop {
     /// More range numbers were given than the limit allows.
     Ranges,
-    /// A loop came to the end of its count, or a place has no solution.
+    /// A loop came to the end of its count, a place has no solution, or a step would break a bound of
+    /// the run.
     Unfinished,
     /// There was no memory.
     Memory(AllocError),

@@ -9,7 +9,7 @@ use Rattle.mir_func.specs.declared.func.Block.{Block}
 use Rattle.mir_meaning.specs.Points.{Point, Start, Entry, Exit, block_points}
 use Rattle.live_lanes.specs.declared.table.Table.{Table}
 use Rattle.live_lanes.specs.Table.{Numbers, entry_rank, exit_rank}
-use Rattle.live_lanes.specs.Paths.{has}
+use Rattle.mir_meaning.specs.Paths.{has}
 use Rattle.live_lanes.specs.Ordered.{ids_of, place_of, AreRising}
 use Rattle.live_lanes.specs.Touching.{FindsInstrs}
 use Rattle.slot_index.specs.Order.{number_of}

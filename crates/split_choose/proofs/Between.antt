@@ -12,7 +12,7 @@ use Rattle.mir_func.specs.declared.func.Block.{Block}
 use Rattle.mir_func.specs.Value.{Function}
 use Rattle.mir_func.specs.Edits.{block_place}
 use Rattle.mir_meaning.specs.Points.{Point, Start, Entry, Exit, block_points, all_points, touches}
-use Rattle.live_lanes.specs.Paths.{has}
+use Rattle.mir_meaning.specs.Paths.{has}
 use Rattle.live_lanes.specs.Table.{Numbers, entry_rank, exit_rank}
 use Rattle.live_lanes.specs.Ordered.{ids_of, AreRising, AreHomes, place_of}
 use Rattle.split_choose.specs.Offers.{View, Touched, touched_places, from_point, to_point}

@@ -7,7 +7,7 @@ use Rattle.meaning.specs.Live.{Among, here, there}
 use Rattle.mir_func.specs.declared.func.Edge.{Edge}
 use Rattle.mir_func.specs.declared.func.Block.{Block}
 use Rattle.mir_meaning.specs.Points.{Tests}
-use Rattle.live_lanes.specs.Paths.{has}
+use Rattle.mir_meaning.specs.Paths.{has}
 use Rattle.live_lanes.specs.Ordered.{place_of}
 use Rattle.live_lanes.specs.Flowing.{edge_places}
 use Rattle.split_choose.specs.Bundles.{start_of, end_of, Linked, itself as alone, edge as way, back as turned, onward as further, root_of, AreBundles}

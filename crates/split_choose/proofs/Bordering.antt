@@ -18,7 +18,7 @@ use Rattle.live_lanes.specs.Ends.{row_at}
 use Rattle.live_lanes.specs.Graph.{is_live}
 use Rattle.live_lanes.specs.Entered.{causes, cells_of, rows_seen}
 use Rattle.live_lanes.specs.Looks.{exit_at}
-use Rattle.live_lanes.specs.Paths.{has}
+use Rattle.mir_meaning.specs.Paths.{has}
 use Rattle.live_lanes.specs.Ordered.{place_of, ids_of}
 use Rattle.live_lanes.specs.Touching.{some_lane, some_of, some_below, leaves_last, leaves_block}
 use Rattle.split_choose.specs.Seen.{seen_live, at_home, FindsPlaces}

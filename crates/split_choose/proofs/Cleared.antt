@@ -18,7 +18,7 @@ use Rattle.live_lanes.specs.declared.row.Segment.{Segment}
 use Rattle.live_lanes.specs.declared.row.End.{End}
 use Rattle.live_lanes.specs.declared.row.End.TheVariants as ends
 use Rattle.live_lanes.specs.declared.table.Table.{Table}
-use Rattle.live_lanes.specs.Paths.{has}
+use Rattle.mir_meaning.specs.Paths.{has}
 use Rattle.live_lanes.specs.Graph.{is_live}
 use Rattle.live_lanes.specs.Table.{Numbers, Seen, seen_cell, unseen, begun, find_cell, end_in, piece_at}
 use Rattle.live_lanes.specs.Entered.{rows_seen, cells_of, causes}

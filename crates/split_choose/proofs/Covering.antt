@@ -18,7 +18,7 @@ use Rattle.live_lanes.specs.declared.row.Cell.{Cell}
 use Rattle.live_lanes.specs.declared.row.Row.{Row}
 use Rattle.live_lanes.specs.declared.table.Table.{Table}
 use Rattle.live_lanes.specs.Table.{Numbers, Begun, Seen, begun, unseen, seen, seen_cell, seen_in, find_cell, is_below, descends, entry_rank, exit_rank, end_rank, rises_from}
-use Rattle.live_lanes.specs.Paths.{has}
+use Rattle.mir_meaning.specs.Paths.{has}
 use Rattle.live_lanes.specs.Reach.{is_never}
 use Rattle.live_lanes.specs.Entered.{cells_of, rows_seen}
 use Rattle.live_lanes.specs.Extents.{lanes_count, segment_extent, extent_in, cell_extents, first_rank, last_rank, stretch_of, is_met_in}

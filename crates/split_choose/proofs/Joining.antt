@@ -4,7 +4,7 @@ use Rattle.std.specs.Prelude.{nat_eq, Decides}
 use Rattle.std.proofs.lemmas.Bool.{cases_eq, cases_lt, eqb-true, eq-eqb, false≢true}
 use Rattle.std.proofs.lemmas.List.{get_or_past, take_more, take_all, get_or_default, length-set}
 use Rattle.mir_meaning.specs.Registers.{numbers}
-use Rattle.live_lanes.specs.Paths.{has}
+use Rattle.mir_meaning.specs.Paths.{has}
 use Rattle.split_choose.specs.Bundles.{start_of, end_of, Linked, itself, edge, back, onward, parent_of, root_of, AreEarlier, IsForest, AreJoined, StayJoined, SameRoots, IsClosed, Joins, AreBundles}
 use Rattle.split_choose.proofs.Roots.{settled, root_falls, set-parent, set-falls, merged-keeps, merged-joins, linked-above, shortened-root, are_bundles}
 

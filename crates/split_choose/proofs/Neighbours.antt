@@ -12,7 +12,7 @@ use Rattle.mir_func.specs.declared.func.Block.{Block}
 use Rattle.mir_func.specs.Value.{Function}
 use Rattle.mir_func.specs.Binding.{does, is_terminator}
 use Rattle.mir_meaning.specs.Points.{touches}
-use Rattle.live_lanes.specs.Paths.{has}
+use Rattle.mir_meaning.specs.Paths.{has}
 use Rattle.live_lanes.specs.Table.{Numbers, entry_rank, exit_rank}
 use Rattle.live_lanes.specs.Ordered.{ids_of, AreRising}
 use Rattle.split_choose.specs.Offers.{View, Touched, last_id, touching, terminators, end_place}

@@ -15,7 +15,7 @@ use Rattle.mir_func.specs.Edits.{block_place}
 use Rattle.mir_func.specs.Binding.{does, is_terminator}
 use Rattle.mir_meaning.specs.Points.{touches}
 use Rattle.live_lanes.specs.declared.table.Table.{Table}
-use Rattle.live_lanes.specs.Paths.{has}
+use Rattle.mir_meaning.specs.Paths.{has}
 use Rattle.live_lanes.specs.Ordered.{ids_of}
 use Rattle.live_lanes.specs.Touching.{FindsInstrs}
 use Rattle.split_choose.specs.declared.places.TouchedPlace.{TouchedPlace}

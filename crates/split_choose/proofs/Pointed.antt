@@ -20,7 +20,7 @@ use Rattle.live_lanes.specs.declared.row.End.{End}
 use Rattle.live_lanes.specs.declared.row.End.TheVariants as ends
 use Rattle.live_lanes.specs.declared.row.Segment.{Segment}
 use Rattle.live_lanes.specs.declared.table.Table.{Table}
-use Rattle.live_lanes.specs.Paths.{has}
+use Rattle.mir_meaning.specs.Paths.{has}
 use Rattle.live_lanes.specs.Graph.{is_live}
 use Rattle.live_lanes.specs.Table.{Numbers, Begun, Seen, unseen, seen, seen_in, seen_cell, begun, find_cell, entry_rank, exit_rank, end_rank, rises_from}
 use Rattle.live_lanes.specs.Entered.{rows_seen, cells_of, causes}

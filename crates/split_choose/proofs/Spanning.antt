@@ -22,7 +22,7 @@ use Rattle.live_lanes.specs.Reach.{seen_at}
 use Rattle.live_lanes.specs.Graph.{is_live}
 use Rattle.live_lanes.specs.Entered.{causes, cells_of, rows_seen}
 use Rattle.live_lanes.specs.Ordered.{place_of, ids_of}
-use Rattle.live_lanes.specs.Paths.{has}
+use Rattle.mir_meaning.specs.Paths.{has}
 use Rattle.live_lanes.specs.Held.{held_at}
 use Rattle.live_lanes.specs.Looks.{exit_at}
 use Rattle.live_lanes.specs.Extents.{is_met_in}

@@ -21,7 +21,7 @@ use Rattle.live_lanes.specs.declared.row.Row.{Row}
 use Rattle.live_lanes.specs.Table.{unseen, seen, seen_in, seen_cell, begun, find_cell}
 use Rattle.live_lanes.specs.Entered.{cells_of, rows_seen}
 use Rattle.live_lanes.specs.Ordered.{ids_of}
-use Rattle.live_lanes.specs.Paths.{has}
+use Rattle.mir_meaning.specs.Paths.{has}
 use Rattle.live_lanes.specs.Touching.{reads_in, names_segment, names_cell, names_lane, names_range, AreTouched}
 use Rattle.live_lanes.specs.Tells.{touching_ids}
 use Rattle.live_lanes.proofs.Cells.{is-found}

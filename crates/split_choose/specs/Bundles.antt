@@ -2,7 +2,7 @@
 use Rattle.std.specs.Prelude.{◌≡◌, ◌<◌, ◌≤◌, ℕ, zero, suc, ◌+◌, ◌*◌, Bool, true, false, nat_eq, Decides, List, length, Option, None, Some, option_map, slice_get, slice_index_or}
 use Rattle.std.specs.List.{list_all}
 use Rattle.mir_func.specs.declared.func.Block.{Block}
-use Rattle.live_lanes.specs.Paths.{has}
+use Rattle.mir_meaning.specs.Paths.{has}
 use Rattle.live_lanes.specs.Ordered.{place_of}
 use Rattle.live_lanes.specs.Flowing.{exits_at}
 use Rattle.split_choose.specs.Offers.{Border, In, Out}

@@ -1,5 +1,5 @@
 -- Watchers that were told steps are told one more.
-use Rattle.std.proofs.Common.{◌≡◌, ◌⊎◌, inl, inr, ℕ, ◌≤◌, ◌<◌, zero, suc, List, [], ◌∷◌, ◌++◌, map, take, drop, length, refl, sym, ◌∙◌, ap, subst, arith}
+use Rattle.std.proofs.Common.{◌≡◌, ◌⊎◌, inl, inr, ℕ, ◌≤◌, ◌<◌, ◌+◌, zero, suc, List, [], ◌∷◌, ◌++◌, map, take, drop, length, refl, sym, ◌∙◌, ap, subst, arith}
 use Rattle.std.proofs.lemmas.Bool.{cases_lt}
 use Rattle.std.proofs.lemmas.List.{take_all, take-take, length-take}
 use Rattle.watchers.specs.declared.steps.Step.{Step}
@@ -46,6 +46,34 @@ module _ {W : Type 0} (next : W → Step → W) where
   pub part_more : (old now new : List W) (steps : List Step) (step : Step) → AllTold next steps old now → FirstBecame (λ w. next w step) now new → PartTold next (steps ++ step ∷ []) old new
   part_more old now new steps step all first =
       subst (PartTold next (steps ++ step ∷ []) old) (sym (first.2 ∙ ap (λ l. map (λ w. next w step) (take first.0 l) ++ drop first.0 l) all)) (some_more old steps step first.0)
+
+  told_on : (w : W) (steps more : List Step) → told next (told next w steps) more ≡ told next w (steps ++ more)
+  told_on w [] more = refl
+  told_on w (s ∷ steps) more = told_on (next w s) steps more
+
+  -- watchers that were told some steps are told others
+  pub all_on : (old : List W) (steps more : List Step) → map (λ w. told next w more) (map (λ w. told next w steps) old) ≡ map (λ w. told next w (steps ++ more)) old
+  all_on [] steps more = refl
+  all_on (w ∷ old) steps more = λ i. told_on w steps more i ∷ all_on old steps more i
+
+  take_on : (steps more : List Step) (k : ℕ) → take (length steps + k) (steps ++ more) ≡ steps ++ take k more
+  take_on [] more k = ap (λ n. take n more) (omega arith)
+  take_on (s ∷ steps) more k =
+      let next : suc (length steps) + k ≡ suc (length steps + k) = omega arith in
+      ap (λ n. take n (s ∷ steps ++ more)) next ∙ ap (λ l. s ∷ l) (take_on steps more k)
+
+  some_on : (old new : List W) (steps more : List Step) → PartTold next more (map (λ w. told next w steps) old) new → PartTold next (steps ++ more) old new
+  some_on [] [] steps more part = tt
+  some_on [] (v ∷ new) steps more part = part
+  some_on (w ∷ old) [] steps more part = part
+  some_on (w ∷ old) (v ∷ new) steps more part = (
+    (length steps + part.0.0, part.0.1 ∙ told_on w steps (take part.0.0 more) ∙ ap (told next w) (sym (take_on steps more part.0.0))),
+    some_on old new steps more part.1,
+  )
+
+  -- the same where they were told a first part of these others
+  pub part_on : (old now new : List W) (steps more : List Step) → AllTold next steps old now → PartTold next more now new → PartTold next (steps ++ more) old new
+  part_on old now new steps more all part = some_on old new steps more (subst (λ ws. PartTold next more ws new) all part)
 
   -- a first part of some of the first steps is one of all steps
   part_of : (w v : W) (steps : List Step) (k : ℕ) → IsPart (take k steps) w v → IsPart steps w v

@@ -26,7 +26,7 @@ use Rattle.live_lanes.specs.declared.row.End.{End}
 use Rattle.live_lanes.specs.declared.row.End.TheVariants as ends
 use Rattle.live_lanes.specs.declared.row.Row.{Row}
 use Rattle.live_lanes.specs.declared.table.Table.{Table}
-use Rattle.live_lanes.specs.Paths.{Among, Step, Body, Code, steps_of, last_of, exits_of, writing_of}
+use Rattle.mir_meaning.specs.Paths.{Among, Step, Body, Code, steps_of, last_of, exits_of, writing_of}
 use Rattle.live_lanes.specs.Table.{Numbers, Begun, Seen, seen, seen_cell, begun, entry_rank, exit_rank, end_rank, end_in, is_begun, rises_from, piece_at, find_cell}
 use Rattle.live_lanes.specs.Entered.{Start as Beginning, start_of, starts, readings_until, rows_seen, cells_of, piece_count, causes, IsTableOf}
 use Rattle.live_lanes.specs.Coded.{Doing, body_at, bodies_from}

@@ -19,8 +19,8 @@ use Rattle.live_laws.specs.Effects.Coded.{KeepsRules}
 use Rattle.live_laws.proofs.Effects.Blocks.{slice-map, filtered-of}
 use Rattle.live_lanes.specs.declared.ask.extent.Extent.{Extent}
 use Rattle.live_lanes.specs.declared.table.Table.{Table}
-use Rattle.live_lanes.specs.Paths as paths
-use Rattle.live_lanes.specs.Paths.{Among, Step, Body, Code, steps_of, last_of, has, Use, Unused, Certain, Into, use_of, move_of, writing_of, is_written, is_some_number}
+use Rattle.mir_meaning.specs.Paths as paths
+use Rattle.mir_meaning.specs.Paths.{Among, Step, Body, Code, steps_of, last_of, has, Use, Unused, Certain, Into, use_of, move_of, writing_of, is_written, is_some_number}
 use Rattle.live_lanes.specs.Graph.{Causes, is_live, Founded, by_reading, by_move, by_exit, by_end, by_phi}
 use Rattle.live_lanes.specs.Entered.{Start as Beginning, start_of, starts, readings_until, rows_seen, causes}
 use Rattle.live_lanes.specs.Ends.{Counts, reads, moves, leaves, goes, phi}

@@ -6,7 +6,7 @@ use Rattle.std.proofs.lemmas.Bool.{and_from}
 use Rattle.std.proofs.lemmas.List.Folds.{list_all-append, list_all-map}
 use Rattle.mir_meaning.specs.declared.writing.Writing.{Writing}
 use Rattle.live_lanes.specs.declared.row.Reading.{Reading}
-use Rattle.live_lanes.specs.Paths.{Step, Use, Unused, Certain, Into, has, use_of, writing_of, is_written}
+use Rattle.mir_meaning.specs.Paths.{Step, Use, Unused, Certain, Into, has, use_of, writing_of, is_written}
 use Rattle.live_lanes.specs.Table.{Begun, Seen}
 use Rattle.live_lanes.specs.Entered.{Start, Shape, start_of, shape, starts, readings_until, reading_of}
 

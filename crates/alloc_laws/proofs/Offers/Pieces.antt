@@ -15,7 +15,7 @@ use Rattle.live_lanes.specs.declared.row.End.{End}
 use Rattle.live_lanes.specs.declared.row.End.TheVariants as ends
 use Rattle.live_lanes.specs.declared.row.Row.{Row}
 use Rattle.live_lanes.specs.declared.table.Table.{Table}
-use Rattle.live_lanes.specs.Paths.{Code, has, steps_of, last_of}
+use Rattle.mir_meaning.specs.Paths.{Code, has, steps_of, last_of}
 use Rattle.live_lanes.specs.Graph.{is_live, IsGrown}
 use Rattle.live_lanes.specs.Table.{Numbers, Begun, Seen, entry_rank, exit_rank, end_rank, end_in, is_begun, piece_at, descends}
 use Rattle.live_lanes.specs.Entered.{start_of, starts, rows_seen, cells_of, causes, IsTableOf}

@@ -10,7 +10,7 @@ ghost use Rattle.live_lanes.specs.Entered.{causes};
 ghost use Rattle.live_lanes.specs.Graph.{is_live};
 ghost use Rattle.live_lanes.specs.Looks.{InOrder, entry_at, exit_at};
 ghost use Rattle.live_lanes.specs.Ordered.{ids_of, AreRising};
-ghost use Rattle.live_lanes.specs.Paths.{has};
+ghost use Rattle.mir_meaning.specs.Paths.{has};
 ghost use Rattle.live_lanes.specs.Ways.{successors as behind};
 ghost use Rattle.instr_effects.specs.Numbered.{number_in};
 ghost use Rattle.instr_effects.specs.declared.owner.Owner.TheVariants as owners;

@@ -4,7 +4,7 @@ ghost use Rattle.std.specs.Prelude.{◌≡◌, ℕ, [], ◌∷◌, ◌++◌, ◌
 ghost use Rattle.std.specs.List.{list_any};
 ghost use Rattle.std.specs.Ordering.{nat_cmp};
 ghost use Rattle.std.specs.BTreeMap.{get};
-ghost use Rattle.live_lanes.specs.Paths.{has};
+ghost use Rattle.mir_meaning.specs.Paths.{has};
 ghost use Rattle.live_lanes.specs.Ways.{predecessors, successors, terminators};
 ghost use Rattle.live_lanes.specs.Flowing.{terminator_ids, edge_places, Notes, NotesAll, AreOut, AreWays};
 

@@ -22,16 +22,11 @@ use Rattle.live_lanes.specs.Ordered.{place_of}
 use Rattle.live_lanes.specs.Flowing.{edge_places}
 use Rattle.live_lanes.specs.Coded.{entries, lanes_at, last_at, body_at, bodies_from}
 use Rattle.live_lanes.specs.Doing.{doing_of, lane_code}
-use Rattle.live_laws.specs.Exact.Same.{step_as, body_as, code_as}
 
 -- the two words for places of blocks
 pub place-same : (n : ℕ) (bs : List Block) → place_of n bs ≡ coded.place_of n bs
 place-same n [] = refl
 place-same n (b ∷ bs) = ap (λ q. cond {A = Option ℕ} (nat_eq b.number n) (Some 0) (option_map (λ x. suc x) q)) (place-same n bs)
-
-writes-same : (ws : List Writing) → map (λ w. record { lane = w.lane; from = w.from; early = w.early }) ws ≡ ws
-writes-same [] = refl
-writes-same (w ∷ ws) = ap (λ xs. w ∷ xs) (writes-same ws)
 
 flat-append : {X Y : Type 0} (g : X → List Y) (xs ys : List X) → flat_map g (xs ++ ys) ≡ flat_map g xs ++ flat_map g ys
 flat-append g [] ys = refl
@@ -107,25 +102,25 @@ module _ (t : Target) (f : Function) (num : Numbering) (rules : KeepsRules t f) 
       ∙ sym (flat-flat (read_at t f num c.number) (end_uses t) b.instrs))
       ∙ sym (flat-flat (read_at t f num c.number) (λ b. flat_map (end_uses t) b.instrs) f.blocks)
 
-  steps-same : (is : List Instr) → map (λ i. (doing_of t f num i).0) is ≡ map step_as (map (instr_step t f num) is)
+  steps-same : (is : List Instr) → map (λ i. (doing_of t f num i).0) is ≡ map (instr_step t f num) is
   steps-same [] = refl
-  steps-same (i ∷ is) = ap (λ ws. record { id = (doing_of t f num i).0.id; reads = (doing_of t f num i).0.reads; writes = ws; leaves = (doing_of t f num i).0.leaves } ∷ map (λ j. (doing_of t f num j).0) is) (sym (writes-same (act_writings num (acts_of (entered_writes t f i))))) ∙ ap (λ ss. step_as (instr_step t f num i) ∷ ss) (steps-same is)
+  steps-same (i ∷ is) = ap (λ ss. instr_step t f num i ∷ ss) (steps-same is)
 
   exits-same : (c : Block) → edge_places place c.successors ≡ exits_from f.blocks c
   exits-same c = ap (λ g. filter_map (λ e. g e.block) c.successors) (fun_ext (λ n. place-same n f.blocks))
 
-  body-same : (n : ℕ) (c : Block) → slice_get f.blocks n ≡ Some c → body_at (doing_of t f num) place f.blocks n c ≡ body_as (body_of t f num c)
+  body-same : (n : ℕ) (c : Block) → slice_get f.blocks n ≡ Some c → body_at (doing_of t f num) place f.blocks n c ≡ body_of t f num c
   body-same n c e =
       ap (λ ss. record { steps = ss; last = last_at place (entries (doing_of t f num) f.blocks) n; exits = edge_places place c.successors }) (steps-same c.instrs)
-      ∙ ap (λ ls. record { steps = map step_as (map (instr_step t f num) c.instrs); last = ls; exits = edge_places place c.successors }) (last-same n c e)
-      ∙ ap (λ xs. record { steps = map step_as (map (instr_step t f num) c.instrs); last = last_reads t f num c.number; exits = xs }) (exits-same c)
+      ∙ ap (λ ls. record { steps = map (instr_step t f num) c.instrs; last = ls; exits = edge_places place c.successors }) (last-same n c e)
+      ∙ ap (λ xs. record { steps = map (instr_step t f num) c.instrs; last = last_reads t f num c.number; exits = xs }) (exits-same c)
 
-  bodies-same : (n : ℕ) (cs : List Block) → ((k : ℕ) (c : Block) → slice_get cs k ≡ Some c → slice_get f.blocks (n + k) ≡ Some c) → bodies_from (doing_of t f num) place f.blocks n cs ≡ map body_as (map (body_of t f num) cs)
+  bodies-same : (n : ℕ) (cs : List Block) → ((k : ℕ) (c : Block) → slice_get cs k ≡ Some c → slice_get f.blocks (n + k) ≡ Some c) → bodies_from (doing_of t f num) place f.blocks n cs ≡ map (body_of t f num) cs
   bodies-same n [] inside = refl
   bodies-same n (c ∷ cs) inside =
       let z : n + 0 ≡ n = omega arith in
       ap (λ x. x ∷ bodies_from (doing_of t f num) place f.blocks (suc n) cs) (body-same n c (ap (slice_get f.blocks) (sym z) ∙ inside 0 c refl))
-      ∙ ap (λ xs. body_as (body_of t f num c) ∷ xs) (bodies-same (suc n) cs (λ k d e. let y : suc n + k ≡ n + suc k = omega arith in ap (slice_get f.blocks) y ∙ inside (suc k) d e))
+      ∙ ap (λ xs. body_of t f num c ∷ xs) (bodies-same (suc n) cs (λ k d e. let y : suc n + k ≡ n + suc k = omega arith in ap (slice_get f.blocks) y ∙ inside (suc k) d e))
 
-  pub code-same : lane_code t f num ≡ code_as (numbered_code t f num)
+  pub code-same : lane_code t f num ≡ numbered_code t f num
   code-same = bodies-same 0 f.blocks (λ k c e. let z : 0 + k ≡ k = omega arith in ap (slice_get f.blocks) z ∙ e)

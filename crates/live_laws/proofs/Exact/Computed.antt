@@ -26,7 +26,7 @@ use Rattle.live_lanes.specs.Entered.{causes}
 use Rattle.live_lanes.specs.Laws.{AllMatched}
 use Rattle.live_lanes.specs.Marks.{marked_at}
 use Rattle.live_lanes.specs.Doing.{lane_code}
-use Rattle.live_laws.specs.Exact.Same.{code_as, IsQuiet}
+use Rattle.live_laws.specs.Exact.Same.{IsQuiet}
 use Rattle.live_laws.specs.Exact.Laws.{ComputedLaw}
 use Rattle.live_laws.proofs.Exact.Starts.{matched, starts}
 use Rattle.live_laws.proofs.Exact.Quieter.{quiet-law}
@@ -55,7 +55,7 @@ computed-law t f x computed rules last l still k b e = go (tag_of num (is_proper
     all : AllMatched (lane_code t f num)
     all = subst AllMatched (sym (code-same t f num rules)) (matched t f num rules numbered quiet)
 
-    grown : IsGrown (code_as (numbered_code t f num)) (causes x.rows.rows.items)
+    grown : IsGrown (numbered_code t f num) (causes x.rows.rows.items)
     grown = subst (λ code. IsGrown code (causes x.rows.rows.items)) (code-same t f num rules) (computed.grown all)
 
     at : get nat_cmp x.order.positions b.number ≡ Some k

@@ -10,7 +10,7 @@ use Rattle.mir_func.specs.Value.{Function}
 use Rattle.mir_meaning.specs.Registers.{is_reserved}
 use Rattle.mir_meaning.specs.Points.{from_instr, AtFirst, Entry, Exit, LiveAt}
 use Rattle.mir_meaning.specs.Rules.{V8}
-use Rattle.mir_meaning.specs.Paths.{Step, Code, steps_of, Live}
+use Rattle.mir_meaning.specs.Paths.{Step, Code, steps_of, Live, has}
 use Rattle.mir_meaning.specs.Paths as law
 use Rattle.instr_effects.specs.Numbered.{number_in}
 use Rattle.instr_effects.specs.Steps.{Numbering}
@@ -22,8 +22,6 @@ use Rattle.live_laws.proofs.Effects.Numbered.{number-law}
 use Rattle.live_laws.proofs.Effects.Tabled.{table-law}
 use Rattle.live_laws.proofs.Effects.Whole.{steps-at, points-are}
 use Rattle.live_lanes.specs.declared.table.Table.{Table}
-use Rattle.live_lanes.specs.Paths as table
-use Rattle.live_lanes.specs.Paths.{has}
 use Rattle.live_lanes.specs.Graph.{IsGrown}
 use Rattle.live_lanes.specs.Table.{entry_rank, exit_rank}
 use Rattle.live_lanes.specs.Entered.{causes, IsTableOf}
@@ -33,11 +31,11 @@ use Rattle.live_lanes.specs.Laws.{AllMatched, TellsLive}
 use Rattle.live_lanes.specs.Doing.{lane_code, IsComputed}
 use Rattle.live_lanes.specs.Looks.{entry_at, exit_at}
 use Rattle.live_lanes.proofs.Looked.{look-law}
-use Rattle.live_laws.specs.Exact.Same.{step_as, code_as, IsQuiet}
+use Rattle.live_laws.specs.Exact.Same.{IsQuiet}
 use Rattle.live_laws.specs.Exact.Laws.{InsideLaw}
 use Rattle.live_laws.proofs.Exact.Coded.{code-same}
 use Rattle.live_laws.proofs.Exact.Quieter.{quiet-law}
-use Rattle.live_laws.proofs.Exact.Same.{steps-same, same-forth, same-back}
+use Rattle.live_laws.proofs.Exact.Same.{same-forth, same-back}
 use Rattle.live_laws.proofs.Exact.Spots.{Spot, spot, drop-at, entry-numbered, exit-numbered}
 use Rattle.live_laws.proofs.Exact.Starts.{matched}
 
@@ -45,10 +43,6 @@ map-get : {X Y : Type 0} (f : X → Y) (xs : List X) (k : ℕ) (x : X) → slice
 map-get f [] k x e = absurd (cc)
 map-get f (y ∷ xs) zero x e = let z : y ≡ x = cc in ap (λ t. Some (f t)) z
 map-get f (y ∷ xs) (suc k) x e = map-get f xs k x e
-
-map-both : (xs ys : List Step) → map step_as (xs ++ ys) ≡ map step_as xs ++ map step_as ys
-map-both [] ys = refl
-map-both (x ∷ xs) ys = ap (λ zs. step_as x ∷ zs) (map-both xs ys)
 
 pub has-id : (is : List Instr) (k : ℕ) (i : Instr) → slice_get is k ≡ Some i → has i.id (ids_of is) ≡ true
 has-id [] k i e = absurd (cc)
@@ -75,8 +69,8 @@ module _ (t : Target) (f : Function) (x : Table) (computed : IsComputed t f x) (
   pub all : AllMatched (lane_code t f num)
   all = subst AllMatched (sym (code-same t f num rules)) (matched t f num rules numbered quiet)
 
-  tells : TellsLive (code_as code) x.order.slots x.rows.rows.items
-  tells = look-law (code_as code) x.order.slots x.flow.items x.rows.rows.items
+  tells : TellsLive code x.order.slots x.rows.rows.items
+  tells = look-law code x.order.slots x.flow.items x.rows.rows.items
       (subst (λ c. IsTableOf c x.order.slots x.flow.items x.rows.rows.items) (code-same t f num rules) (computed.table all))
       (subst (λ c. IsGrown c (causes x.rows.rows.items)) (code-same t f num rules) (computed.grown all))
       (subst (λ c. AreEnds c x.order.slots x.rows.rows.items) (code-same t f num rules) (computed.ended all))
@@ -103,9 +97,6 @@ module _ (t : Target) (f : Function) (x : Table) (computed : IsComputed t f x) (
     pub split : steps_of code p ≡ before ++ step ∷ rest
     split = (drop-at (steps_of code p) k step there).1
 
-    pub split-as : table.steps_of (code_as code) p ≡ map step_as before ++ step_as step ∷ map step_as rest
-    split-as = steps-same code p ∙ ap (map step_as) split ∙ map-both before (step ∷ rest)
-
     pub home : slice_index x.order.block_of.items id ≡ p
     home = computed.homes p s.block id s.place (subst (λ i. has i (ids_of s.block.instrs) ≡ true) s.named (has-id s.block.instrs k s.instr s.there))
 
@@ -113,17 +104,17 @@ module _ (t : Target) (f : Function) (x : Table) (computed : IsComputed t f x) (
 
     entry-told : (n : ℕ) → (entry_at x (Some n) id ≡ true) ↔ Live code p (law.Entry (step ∷ rest)) n
     entry-told n =
-        let z = tells.entry n p (map step_as before) (step_as step) (map step_as rest) split-as in
+        let z = tells.entry n p before step rest split in
         let same : row_at x.order.slots x.rows.rows.items n (slice_index x.order.block_of.items id) (entry_rank x.order.slots id) ≡ row_at x.order.slots x.rows.rows.items n p (entry_rank x.order.slots s.instr.id) = ap (λ b. row_at x.order.slots x.rows.rows.items n b (entry_rank x.order.slots id)) home ∙ ap (λ i. row_at x.order.slots x.rows.rows.items n p (entry_rank x.order.slots i)) (sym s.named) in (
-          (λ h. same-back code quiet (z.0 (sym same ∙ h)) (law.Entry (step ∷ rest)) refl),
+          (λ h. same-back code quiet (z.0 (sym same ∙ h))),
           (λ h. same ∙ z.1 (same-forth code quiet h (before, split))),
         )
 
     exit-told : (n : ℕ) → (exit_at x (Some n) id ≡ true) ↔ Live code p (law.Exit step rest) n
     exit-told n =
-        let z = tells.exit n p (map step_as before) (step_as step) (map step_as rest) split-as in
+        let z = tells.exit n p before step rest split in
         let same : row_at x.order.slots x.rows.rows.items n (slice_index x.order.block_of.items id) (exit_rank x.order.slots id) ≡ row_at x.order.slots x.rows.rows.items n p (exit_rank x.order.slots s.instr.id) = ap (λ b. row_at x.order.slots x.rows.rows.items n b (exit_rank x.order.slots id)) home ∙ ap (λ i. row_at x.order.slots x.rows.rows.items n p (exit_rank x.order.slots i)) (sym s.named) in (
-          (λ h. same-back code quiet (z.0 (sym same ∙ h)) (law.Exit step rest) refl),
+          (λ h. same-back code quiet (z.0 (sym same ∙ h))),
           (λ h. same ∙ z.1 (same-forth code quiet h (before, split))),
         )
 

@@ -1,5 +1,5 @@
 -- A computed table tells of each lane that has a number exactly at which points it is live or occupied.
-use Rattle.std.proofs.Common.{◌≡◌, ◌⊎◌, ℕ, suc, Bool, true, false, cond, List, [], ◌∷◌, Some, None, map, take, drop, inl, inr, refl, sym, ap, ◌∙◌, subst}
+use Rattle.std.proofs.Common.{◌≡◌, ◌⊎◌, ℕ, suc, Bool, true, false, cond, List, [], ◌∷◌, Option, Some, None, map, take, drop, inl, inr, refl, sym, ap, ◌∙◌, subst}
 use Rattle.std.specs.Prelude.{◌↔◌, slice_get, nat_eq}
 use Rattle.target_base.specs.declared.types.Target.{Target}
 use Rattle.meaning.specs.declared.types.Lane.{Lane}
@@ -21,7 +21,6 @@ use Rattle.live_laws.specs.Effects.Coded.{instr_step, is_early, numbered_code, s
 use Rattle.live_laws.proofs.Effects.Numbered.{number-law, occupied-law as occupied-number-law}
 use Rattle.live_laws.proofs.Effects.Whole.{steps-at}
 use Rattle.live_lanes.specs.declared.table.Table.{Table}
-use Rattle.live_lanes.specs.Paths as table
 use Rattle.live_lanes.specs.Graph.{IsGrown}
 use Rattle.live_lanes.specs.Table.{entry_rank, exit_rank}
 use Rattle.live_lanes.specs.Entered.{rows_seen, causes, Rises, IsTableOf}
@@ -31,20 +30,18 @@ use Rattle.live_lanes.specs.Doing.{IsComputed}
 use Rattle.live_lanes.specs.Held.{held_at, AreRanked}
 use Rattle.live_lanes.specs.Occupied.{writes_early, TellsHeld}
 use Rattle.live_lanes.proofs.Occupied.{held-law}
-use Rattle.live_laws.specs.Exact.Same.{step_as, code_as}
 use Rattle.live_laws.specs.Exact.Occupied.{TellsOccupiedLaw}
 use Rattle.live_laws.proofs.Exact.Coded.{code-same}
-use Rattle.live_laws.proofs.Exact.Same.{steps-same, written-same, same-forth, same-back}
-use Rattle.live_laws.proofs.Exact.Inside.{numbered, quiet, all, s, from, split, split-as, inside-law}
+use Rattle.live_laws.proofs.Exact.Same.{same-forth, same-back}
+use Rattle.live_laws.proofs.Exact.Inside.{numbered, quiet, all, s, from, split, inside-law}
 
 -- the first writing of a lane is early in both words
-early-same : (l : ℕ) (ws : List Writing) → writes_early (table.writing_of l (map (λ w. record { lane = w.lane; from = w.from; early = w.early }) ws)) ≡ elim (writing_of l ws) [ None ↦ false | Some w ↦ w.early ]
-early-same l [] = refl
-early-same l (w ∷ ws) = go (nat_eq w.lane l) (early-same l ws)
+early-same : (l : ℕ) (ws : List Writing) → writes_early (writing_of l ws) ≡ elim (writing_of l ws) [ None ↦ false | Some w ↦ w.early ]
+early-same l ws = go (writing_of l ws)
   where
-    go : (u : Bool) → writes_early (table.writing_of l (map (λ v. record { lane = v.lane; from = v.from; early = v.early }) ws)) ≡ elim (writing_of l ws) [ None ↦ false | Some v ↦ v.early ] → writes_early (cond u (Some (record { lane = w.lane; from = w.from; early = w.early })) (table.writing_of l (map (λ v. record { lane = v.lane; from = v.from; early = v.early }) ws))) ≡ elim (cond u (Some w) (writing_of l ws)) [ None ↦ false | Some v ↦ v.early ]
-    go true ih = refl
-    go false ih = ih
+    go : (q : Option Writing) → writes_early q ≡ elim q [ None ↦ false | Some w ↦ w.early ]
+    go None = refl
+    go (Some w) = refl
 
 either : {A B X Y : Type 0} → A ↔ X → B ↔ Y → (A ⊎ B) ↔ (X ⊎ Y)
 either {A} {B} {X} {Y} f g = (there, back)
@@ -70,18 +67,18 @@ module _ (t : Target) (f : Function) (x : Table) (computed : IsComputed t f x) (
   abbrev code : Code
   code = numbered_code t f num
 
-  stands : IsTableOf (code_as code) x.order.slots x.flow.items x.rows.rows.items
+  stands : IsTableOf code x.order.slots x.flow.items x.rows.rows.items
   stands = subst (λ c. IsTableOf c x.order.slots x.flow.items x.rows.rows.items) (code-same t f num rules) (computed.table (all t f x computed rules last))
 
-  rising : (n : ℕ) (is : List Instr) → Rises x.order.slots n (map step_as (map (instr_step t f num) is)) → AreRising x.order.slots n (ids_of is)
+  rising : (n : ℕ) (is : List Instr) → Rises x.order.slots n (map (instr_step t f num) is) → AreRising x.order.slots n (ids_of is)
   rising n [] r = r
   rising n (i ∷ is) r = (r.0, r.1, rising (number_of x.order.slots i.id) is r.2)
 
   pub ranked : AreRanked x.order.slots f.blocks
-  ranked k b e = rising 0 b.instrs (subst (Rises x.order.slots 0) (steps-same code k ∙ ap (map step_as) (steps-at t f num rules (numbered t f x computed rules last) k b e)) (stands.numbered k))
+  ranked k b e = rising 0 b.instrs (subst (Rises x.order.slots 0) (steps-at t f num rules (numbered t f x computed rules last) k b e) (stands.numbered k))
 
-  told : TellsHeld (code_as code) x.order.slots x.rows.rows.items
-  told = held-law (code_as code) x.order.slots x.flow.items x.rows.rows.items stands
+  told : TellsHeld code x.order.slots x.rows.rows.items
+  told = held-law code x.order.slots x.flow.items x.rows.rows.items stands
       (subst (λ c. IsGrown c (causes x.rows.rows.items)) (code-same t f num rules) (computed.grown (all t f x computed rules last)))
       (subst (λ c. AreEnds c x.order.slots x.rows.rows.items) (code-same t f num rules) (computed.ended (all t f x computed rules last)))
 
@@ -90,8 +87,8 @@ module _ (t : Target) (f : Function) (x : Table) (computed : IsComputed t f x) (
     at-start k b e =
         let number = (number-law t f num rules (numbered t f x computed rules last) l n still tagged).start k b e in
         both-ways (told.start n k) (
-          (λ h. same-back code (quiet t f x computed rules last) h (law.Entry (steps_of code k)) (ap table.Entry (steps-same code k))),
-          (λ h. subst (λ ss. table.Live (code_as code) k (table.Entry ss) n) (sym (steps-same code k)) (same-forth code (quiet t f x computed rules last) h ([], refl))),
+          (λ h. same-back code (quiet t f x computed rules last) h),
+          (λ h. same-forth code (quiet t f x computed rules last) h ([], refl)),
         ) number
 
     module _ (id p k : ℕ) (at : spot_in id f.blocks ≡ Some (p, k)) where
@@ -109,14 +106,14 @@ module _ (t : Target) (f : Function) (x : Table) (computed : IsComputed t f x) (
 
       pub at-entry : (held_at x.order.slots (rows_seen x.rows.rows.items n p) (entry_rank x.order.slots id) ≡ true) ↔ OccupiedAt t f (Entry id) l
       at-entry = subst (λ i. (held_at x.order.slots (rows_seen x.rows.rows.items n p) (entry_rank x.order.slots i) ≡ true) ↔ OccupiedAt t f (Entry id) l) named
-          (both-ways (told.entry n p (map step_as before) (step_as step) (map step_as rest) (split-as t f x computed rules last id p k at))
-          (either ((λ h. same-back code (quiet t f x computed rules last) h (law.Entry (step ∷ rest)) refl), (λ h. same-forth code (quiet t f x computed rules last) h (before, split t f x computed rules last id p k at))) (of-same (writes_early (table.writing_of n (step_as step).writes)) (is_early n step) (early-same n step.writes)))
+          (both-ways (told.entry n p before step rest (split t f x computed rules last id p k at))
+          (either ((λ h. same-back code (quiet t f x computed rules last) h), (λ h. same-forth code (quiet t f x computed rules last) h (before, split t f x computed rules last id p k at))) (of-same (writes_early (writing_of n step.writes)) (is_early n step) (early-same n step.writes)))
           ((occupied-number-law t f num rules (numbered t f x computed rules last) l n still tagged).entry id p k step rest at (from t f x computed rules last id p k at)))
 
       pub at-exit : (held_at x.order.slots (rows_seen x.rows.rows.items n p) (exit_rank x.order.slots id) ≡ true) ↔ OccupiedAt t f (Exit id) l
       at-exit = subst (λ i. (held_at x.order.slots (rows_seen x.rows.rows.items n p) (exit_rank x.order.slots i) ≡ true) ↔ OccupiedAt t f (Exit id) l) named
-          (both-ways (told.exit n p (map step_as before) (step_as step) (map step_as rest) (split-as t f x computed rules last id p k at))
-          (either ((λ h. same-back code (quiet t f x computed rules last) h (law.Exit step rest) refl), (λ h. same-forth code (quiet t f x computed rules last) h (before, split t f x computed rules last id p k at))) (of-same (table.is_written n (step_as step)) (is_written n step) (written-same n step)))
+          (both-ways (told.exit n p before step rest (split t f x computed rules last id p k at))
+          (either ((λ h. same-back code (quiet t f x computed rules last) h), (λ h. same-forth code (quiet t f x computed rules last) h (before, split t f x computed rules last id p k at))) ((λ h. h), (λ h. h)))
           ((occupied-number-law t f num rules (numbered t f x computed rules last) l n still tagged).exit id p k step rest at (from t f x computed rules last id p k at)))
 
 pub occupied-law : TellsOccupiedLaw

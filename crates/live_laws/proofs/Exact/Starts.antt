@@ -7,7 +7,7 @@ use Rattle.meaning.specs.Live.{is_slot}
 use Rattle.mir_func.specs.declared.func.Block.{Block}
 use Rattle.mir_func.specs.Value.{Function}
 use Rattle.mir_meaning.specs.Points.{Start, LiveAt}
-use Rattle.mir_meaning.specs.Paths.{Body, Code, steps_of, Entry, IsMatched}
+use Rattle.mir_meaning.specs.Paths.{Among, Step, Body, Code, steps_of, IsMatched}
 use Rattle.instr_effects.specs.Steps.{Numbering}
 use Rattle.instr_effects.specs.Stepping.{tag_of}
 use Rattle.instr_effects.proofs.Members.{map-of}
@@ -17,12 +17,11 @@ use Rattle.live_laws.proofs.Effects.Blocks.{of-among, slice-map, slice-member}
 use Rattle.live_laws.proofs.Effects.Instrs.{matched-law}
 use Rattle.live_laws.proofs.Effects.Whole.{steps-at}
 use Rattle.live_laws.proofs.Effects.Numbered.{number-law}
-use Rattle.live_lanes.specs.Paths as table
 use Rattle.live_lanes.specs.Graph.{Causes, is_live, IsGrown}
 use Rattle.live_lanes.proofs.Grown.{start-law}
-use Rattle.live_laws.specs.Exact.Same.{step_as, code_as, IsQuiet}
+use Rattle.live_laws.specs.Exact.Same.{IsQuiet}
 use Rattle.live_laws.specs.Exact.Laws.{StartsLaw}
-use Rattle.live_laws.proofs.Exact.Same.{of-table, steps-same, matched-as, same-forth, same-back}
+use Rattle.live_laws.proofs.Exact.Same.{same-forth, same-back}
 
 module _ (t : Target) (f : Function) (num : Numbering) (rules : KeepsRules t f) (numbered : IsNumbered t f num) (quiet : IsQuiet (numbered_code t f num)) where
   abbrev code : Code
@@ -32,30 +31,28 @@ module _ (t : Target) (f : Function) (num : Numbering) (rules : KeepsRules t f) 
   steps-none b e = ap (λ (q : Option Body). elim q [ None ↦ [] | Some x ↦ x.steps ]) (slice-map (body_of t f num) f.blocks b ∙ ap (option_map (body_of t f num)) e)
 
   -- each step of the table is matched
-  pub matched : (b : ℕ) (s : table.Step) → table.Among s (table.steps_of (code_as code) b) → table.IsMatched s
+  pub matched : (b : ℕ) (s : Step) → Among s (steps_of code b) → IsMatched s
   matched b s m = go (slice_get f.blocks b) refl
     where
-      none : {x : table.Step} → table.Among x [] → ⊥
+      none : {x : Step} → Among x [] → ⊥
       none m = elim m [ ]
 
-      some : (c : Block) → slice_get f.blocks b ≡ Some c → table.IsMatched s
+      some : (c : Block) → slice_get f.blocks b ≡ Some c → IsMatched s
       some c e =
-          let inside = subst (table.Among s) (steps-same code b ∙ ap (map step_as) (steps-at t f num rules numbered b c e)) m in
-          let y = map-of step_as s (map (instr_step t f num) c.instrs) (of-among s (map step_as (map (instr_step t f num) c.instrs)) (of-table s (map step_as (map (instr_step t f num) c.instrs)) inside)) in
-          let z = map-of (instr_step t f num) y.0 c.instrs y.1 in
-          let known : IsMatched (instr_step t f num z.0) = matched-law t f num rules numbered c z.0 (slice-member f.blocks b c e) z.1 in
-          subst table.IsMatched (sym (y.2 ∙ ap step_as z.2)) (matched-as (instr_step t f num z.0) known)
+          let inside = subst (Among s) (steps-at t f num rules numbered b c e) m in
+          let z = map-of (instr_step t f num) s c.instrs (of-among s (map (instr_step t f num) c.instrs) inside) in
+          subst IsMatched (sym z.2) (matched-law t f num rules numbered c z.0 (slice-member f.blocks b c e) z.1)
 
-      go : (q : Option Block) → slice_get f.blocks b ≡ q → table.IsMatched s
-      go None e = absurd (none (subst (table.Among s) (steps-same code b ∙ ap (map step_as) (steps-none b e)) m))
+      go : (q : Option Block) → slice_get f.blocks b ≡ q → IsMatched s
+      go None e = absurd (none (subst (Among s) (steps-none b e) m))
       go (Some c) e = some c e
 
-  pub starts : (why : Causes) → IsGrown (code_as code) why → (l : Lane) (n : ℕ) → is_slot l ≡ false → tag_of num (is_proper t) l ≡ Some n → (x : ℕ) (b : Block) → slice_get f.blocks x ≡ Some b → (is_live (why n x 0) ≡ true) ↔ LiveAt t f (Start b.number) l
+  pub starts : (why : Causes) → IsGrown code why → (l : Lane) (n : ℕ) → is_slot l ≡ false → tag_of num (is_proper t) l ≡ Some n → (x : ℕ) (b : Block) → slice_get f.blocks x ≡ Some b → (is_live (why n x 0) ≡ true) ↔ LiveAt t f (Start b.number) l
   starts why grown l n still tagged x b e =
-      let law = start-law (code_as code) why matched grown n x in
+      let law = start-law code why matched grown n x in
       let number = (number-law t f num rules numbered l n still tagged).start x b e in (
-        (λ h. number.1 (same-back code quiet (law.0 h) (Entry (steps_of code x)) (ap table.Entry (steps-same code x)))),
-        (λ h. law.1 (subst (λ ss. table.Live (code_as code) x (table.Entry ss) n) (sym (steps-same code x)) (same-forth code quiet (number.0 h) ([], refl)))),
+        (λ h. number.1 (same-back code quiet (law.0 h))),
+        (λ h. law.1 (same-forth code quiet (number.0 h) ([], refl))),
       )
 
 pub starts-law : StartsLaw

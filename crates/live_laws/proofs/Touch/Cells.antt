@@ -11,7 +11,7 @@ use Rattle.live_laws.proofs.Effects.Lists.{any-in}
 use Rattle.live_lanes.specs.declared.row.Segment.{Segment}
 use Rattle.live_lanes.specs.declared.row.Cell.{Cell}
 use Rattle.live_lanes.specs.declared.row.Row.{Row}
-use Rattle.live_lanes.specs.Paths.{Step, Code, steps_of, Use, Unused, Certain, Into, use_of, writing_of, is_written, is_present}
+use Rattle.mir_meaning.specs.Paths.{Step, Code, steps_of, Use, Unused, Certain, Into, use_of, writing_of, is_written, is_present}
 use Rattle.live_lanes.specs.Table.{seen, seen_in, seen_cell, unseen, begun, find_cell, descends, is_below}
 use Rattle.live_lanes.specs.Entered.{Shape, start_of, shape, reading_of, readings_until, starts, rows_seen, IsEntered}
 use Rattle.live_lanes.specs.Touching.{reads_in, names_segment, names_cell, names_lane}

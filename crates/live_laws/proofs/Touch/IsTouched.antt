@@ -9,7 +9,7 @@ use Rattle.live_lanes.specs.declared.row.Reading.{Reading}
 use Rattle.live_lanes.specs.declared.row.Cell.{Cell}
 use Rattle.live_lanes.specs.declared.row.Row.{Row}
 use Rattle.live_lanes.specs.Entered.{cells_of}
-use Rattle.live_lanes.specs.Paths.{has}
+use Rattle.mir_meaning.specs.Paths.{has}
 use Rattle.live_lanes.specs.Touching.{reads_in, names_segment, names_cell, names_lane, some_of, some_lane, is_touched, touches_lane}
 use Rattle.live_laws.specs.Touch.{IsTouchedLaw}
 use Rattle.live_laws.proofs.Touch.Cells.{or-cases, or-left, or-right, any-of}

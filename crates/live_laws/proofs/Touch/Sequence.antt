@@ -14,7 +14,7 @@ use Rattle.meaning.specs.Live.{Among as Member, here as first, there as later}
 use Rattle.mir_func.specs.declared.func.Block.{Block}
 use Rattle.mir_func.specs.declared.func.Instr.{Instr}
 use Rattle.instr_effects.proofs.Members.{member-none, member-elim, filter-of, map-of, map-in}
-use Rattle.live_lanes.specs.Paths.{has}
+use Rattle.mir_meaning.specs.Paths.{has}
 use Rattle.live_lanes.specs.Ordered.{ids_of, all_ids}
 use Rattle.live_lanes.specs.Touching.{layout_key}
 

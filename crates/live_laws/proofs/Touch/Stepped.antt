@@ -14,7 +14,7 @@ use Rattle.instr_effects.specs.Steps.{Numbering, writing, act_writing, act_writi
 use Rattle.instr_effects.proofs.Members.{member-none, member-elim, left-in, right-in, in-either, map-of}
 use Rattle.live_laws.proofs.Effects.Moving.{some-same}
 use Rattle.live_laws.proofs.Effects.Blocks.{filtered-of, filtered-in}
-use Rattle.live_lanes.specs.Paths.{Step, steps_of, has, is_some_number, Certain, Into, move_of, writing_of, is_present}
+use Rattle.mir_meaning.specs.Paths.{Step, steps_of, has, is_some_number, Certain, Into, move_of, writing_of, is_present}
 use Rattle.live_lanes.specs.Coded.{Doing, bodies_from}
 use Rattle.live_lanes.specs.Doing.{doing_of}
 use Rattle.live_laws.specs.Touch.{Names}

@@ -26,7 +26,7 @@ use Rattle.live_laws.proofs.Effects.Blocks.{member-slice}
 use Rattle.live_laws.proofs.Effects.Moving.{some-same}
 use Rattle.live_lanes.specs.declared.row.Row.{Row}
 use Rattle.live_lanes.specs.declared.table.Table.{Table}
-use Rattle.live_lanes.specs.Paths.{Code, steps_of}
+use Rattle.mir_meaning.specs.Paths.{Code, steps_of}
 use Rattle.live_lanes.specs.Entered.{IsEntered}
 use Rattle.live_lanes.specs.Ordered.{place_of, all_ids}
 use Rattle.live_lanes.specs.Doing.{doing_of, lane_code, IsComputed}

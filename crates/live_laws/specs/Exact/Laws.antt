@@ -21,13 +21,13 @@ use Rattle.live_lanes.specs.declared.table.Table.{Table}
 use Rattle.live_lanes.specs.Marks.{marked_at}
 use Rattle.live_lanes.specs.Doing.{IsComputed}
 use Rattle.live_lanes.specs.Looks.{InOrder, entry_at, exit_at}
-use Rattle.live_laws.specs.Exact.Same.{code_as, IsQuiet}
+use Rattle.live_laws.specs.Exact.Same.{IsQuiet}
 
 -- the first piece of a lane in a block is marked live exactly where the lane is live at the block's start
 abbrev pub StartsLaw : Type 0
 StartsLaw =
     (t : Target) (f : Function) (num : Numbering) → KeepsRules t f → IsNumbered t f num → IsQuiet (numbered_code t f num)
-    → (why : Causes) → IsGrown (code_as (numbered_code t f num)) why
+    → (why : Causes) → IsGrown (numbered_code t f num) why
     → (l : Lane) (n : ℕ) → is_slot l ≡ false → tag_of num (is_proper t) l ≡ Some n
     → (x : ℕ) (b : Block) → slice_get f.blocks x ≡ Some b → (is_live (why n x 0) ≡ true) ↔ LiveAt t f (Start b.number) l
 

@@ -1,16 +1,6 @@
--- Blocks over numbered lanes as the table of live lanes sees them.
-use Rattle.std.specs.Prelude.{◌≡◌, ℕ, false, true, List, ◌∷◌, ◌++◌, map}
-use Rattle.mir_meaning.specs.Paths.{Among, Step, Body, Code, steps_of, last_of, is_written}
-use Rattle.live_lanes.specs.Paths.{Step as TableStep, Body as TableBody, Code as TableCode}
-
-abbrev pub step_as : Step → TableStep
-step_as s = record { id = s.id; reads = s.reads; writes = map (λ w. record { lane = w.lane; from = w.from; early = w.early }) s.writes; leaves = s.leaves }
-
-abbrev pub body_as : Body → TableBody
-body_as b = record { steps = map step_as b.steps; last = b.last; exits = b.exits }
-
-abbrev pub code_as : Code → TableCode
-code_as code = map body_as code
+-- Functions of which paths tell the same, with and without ways from terminators to what phis read.
+use Rattle.std.specs.Prelude.{◌≡◌, ℕ, false, true, List, ◌∷◌, ◌++◌}
+use Rattle.mir_meaning.specs.Paths.{Among, Step, Code, steps_of, last_of, is_written}
 
 -- behind a terminator nothing is written that phis read at the end of the block
 abbrev pub IsQuiet : Code → Type 0

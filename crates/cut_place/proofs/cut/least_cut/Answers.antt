@@ -22,10 +22,11 @@ pub returns-then-levels-ge-UNREACHED-clause-cost : goal.returns-then-levels-ge-U
 returns-then-levels-ge-UNREACHED-clause-cost c =
     let levels : List ℕ = c.in_ok-search.search.levels.items in
     let l : c.as_slice-levels.result.now ≡ levels = c.as_slice-levels.ensures.value in
+    let far : 4096 ≤ get_or levels 1 0 = subst (λ (v : List ℕ). 4096 ≤ get_or v 1 0) l c.if-levels-ge-UNREACHED.true in
     let w : IsWithin c.args.net.now.arcs c.phases.flow.items = subst (λ a. IsWithin a c.phases.flow.items) c.as_slice-arcs.ensures c.phases.invariant.0 in
     let b : IsBalanced c.args.net.now.arcs c.phases.flow.items c.phases.value = subst (λ a. IsBalanced a c.phases.flow.items c.phases.value) c.as_slice-arcs.ensures c.phases.invariant.1 in
     let closed_here : IsClosed (reached levels) c.as_slice-arcs.result.now c.phases.flow.items =
-    subst (λ (f : List ℕ). IsClosed (reached levels) c.as_slice-arcs.result.now f) c.as_slice.ensures.value c.in_ok-search.ensures.closed in
+    subst (λ (f : List ℕ). IsClosed (reached levels) c.as_slice-arcs.result.now f) c.as_slice.ensures.value (c.in_ok-search.ensures.closed far) in
     let closed : IsClosed (reached levels) c.args.net.now.arcs c.phases.flow.items =
     subst (λ a. IsClosed (reached levels) a c.phases.flow.items) c.as_slice-arcs.ensures closed_here in
     let flagged : Flagged c.in_ok-reached_nodes.field-0 levels =
@@ -36,7 +37,6 @@ returns-then-levels-ge-UNREACHED-clause-cost c =
     subst (λ (f : List ℕ). IsSearch c.as_slice-arcs.result.now f levels c.in_ok-search.search.before.items c.in_ok-search.search.queue.items) c.as_slice.ensures.value c.in_ok-search.ensures.search in
     let search : IsSearch c.args.net.now.arcs c.phases.flow.items levels c.in_ok-search.search.before.items c.in_ok-search.search.queue.items =
     subst (λ a. IsSearch a c.phases.flow.items levels c.in_ok-search.search.before.items c.in_ok-search.search.queue.items) c.as_slice-arcs.ensures search_here in
-    let far : 4096 ≤ get_or levels 1 0 = subst (λ (v : List ℕ). 4096 ≤ get_or v 1 0) l c.if-levels-ge-UNREACHED.true in
     flags_cost c.in_ok-reached_nodes.field-0 levels c.args.net.now.arcs c.phases.flow.items c.phases.value flagged ends w b closed
     (flags_cut c.in_ok-reached_nodes.field-0 levels c.in_ok-search.search.before.items c.in_ok-search.search.queue.items c.args.net.now.arcs c.phases.flow.items flagged search far)
 

@@ -9,10 +9,12 @@ pub candidates-preserved : goal.candidates-preserved
 candidates-preserved c = λ ordered weighs fits.
     let a = c.args in
     let s = setting_of a.m.now a.freqs.now a.ranks.now a.v in
-    let number = c.number-number.ensures fits in
-    let weight = c.in_ok-weight.ensures weighs in
+    let given = c.in_ok-view.ensures.given in
+    let number = c.in_ok-view.ensures.number fits in
+    let weight = c.in_ok-view.ensures.weight weighs in
+    let is = (rw (given.0, given.1, given.2, given.3) at c.in_ok-eviction_at.ensures) ordered weighs number weight in
     let r = get_or a.found.now c.candidates.r-index (reg_number 0) in
-    c.best_with-best.ensures ∙ best_more s a.found.now c.candidates.r-index r c.in_ok-eviction_at.field-0 c.candidates.best c.candidates-test.true (get_or_default a.found.now c.candidates.r-index (reg_number 0) r c.candidates-test.true) (c.in_ok-eviction_at.ensures ordered weighs number weight) (c.candidates.invariant ordered weighs fits)
+    c.best_with-best.ensures ∙ best_more s a.found.now c.candidates.r-index r c.in_ok-eviction_at.field-0 c.candidates.best c.candidates-test.true (get_or_default a.found.now c.candidates.r-index (reg_number 0) r c.candidates-test.true) is (c.candidates.invariant ordered weighs fits)
 
 pub returns : goal.returns
 returns c = λ ordered weighs fits.

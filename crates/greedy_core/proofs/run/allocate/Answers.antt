@@ -1,7 +1,8 @@
 use Rattle.std.proofs.Common.{[], ◌∷◌, ◌++◌, map, ◌∙◌, ap}
 use Rattle.watchers.specs.declared.steps.Step.TheVariants.{Begin}
+use Rattle.watchers.specs.Told.{told}
 use Rattle.watchers.proofs.Told.{on_err}
-use Rattle.watchers.proofs.Runs.{none_told, all_more, part_more}
+use Rattle.watchers.proofs.Runs.{none_told, all_on, part_more, part_on}
 use Rattle.greedy_core.proofs.Told.{untold, all_told}
 use Rattle.greedy_core.proofs.run.allocate.Goals as goal
 
@@ -20,16 +21,17 @@ returns-in_err-tell_all-clause-part g c =
 pub returns-in_err-step-clause-part : goal.returns-in_err-step-clause-part
 returns-in_err-step-clause-part g c =
     on_err c.from_residual-in_err-step.result (
-      (Begin c.args.number ∷ c.steps.invariant.0) ++ c.in_err-step.ensures.part.0 ∷ [],
-      part_more (g.W.Watcher.next c.args.target.now) c.args.watchers.now.items c.steps.watchers.items c.step.new.watchers.items (Begin c.args.number ∷ c.steps.invariant.0) c.in_err-step.ensures.part.0
+      (Begin c.args.number ∷ c.steps.invariant.0) ++ c.in_err-step.ensures.part.0,
+      part_on (g.W.Watcher.next c.args.target.now) c.args.watchers.now.items c.steps.watchers.items c.step.new.watchers.items (Begin c.args.number ∷ c.steps.invariant.0) c.in_err-step.ensures.part.0
           c.steps.invariant.1 c.in_err-step.ensures.part.1,
     )
 
 pub steps-preserved : goal.steps-preserved
 steps-preserved g c = (
-  c.steps.invariant.0 ++ c.in_ok-step.ensures.told.0 ∷ [],
-  c.in_ok-step.ensures.told.1 ∙ ap (map (λ w. g.W.Watcher.next c.args.target.now w c.in_ok-step.ensures.told.0)) c.steps.invariant.1
-      ∙ all_more (g.W.Watcher.next c.args.target.now) c.args.watchers.now.items (Begin c.args.number ∷ c.steps.invariant.0) c.in_ok-step.ensures.told.0,
+  c.steps.invariant.0 ++ c.in_ok-step.ensures.told.0,
+  c.in_ok-step.ensures.told.1 ∙ ap (map (λ w. told (g.W.Watcher.next c.args.target.now) w c.in_ok-step.ensures.told.0)) c.steps.invariant.1
+      ∙ all_on (g.W.Watcher.next c.args.target.now) c.args.watchers.now.items (Begin c.args.number ∷ c.steps.invariant.0) c.in_ok-step.ensures.told.0,
+  c.in_ok-step.ensures.told.2 c.steps.invariant.0 c.steps.invariant.2,
 )
 
 pub returns-clause-part : goal.returns-clause-part

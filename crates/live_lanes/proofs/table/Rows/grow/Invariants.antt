@@ -1,5 +1,5 @@
 use Rattle.std.proofs.Common.{◌≡◌, ℕ, false, List}
-use Rattle.live_lanes.specs.Paths.{Code}
+use Rattle.mir_meaning.specs.Paths.{Code}
 use Rattle.live_lanes.specs.Graph.{is_live}
 use Rattle.live_lanes.specs.Entered.{causes, IsTableOf}
 use Rattle.live_lanes.proofs.Whole.{SomeGrown}

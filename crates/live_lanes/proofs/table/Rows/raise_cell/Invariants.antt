@@ -1,6 +1,6 @@
 use Rattle.live_lanes.specs.declared.compute.flow.Ways.{Ways}
 use Rattle.std.proofs.Common.{List}
-use Rattle.live_lanes.specs.Paths.{Code}
+use Rattle.mir_meaning.specs.Paths.{Code}
 use Rattle.live_lanes.specs.Table.{Numbers}
 use Rattle.live_lanes.specs.Entered.{IsTableOf}
 use Rattle.live_lanes.specs.Growth.{KeepsBlocks}

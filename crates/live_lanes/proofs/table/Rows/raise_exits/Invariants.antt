@@ -1,6 +1,6 @@
 use Rattle.std.proofs.Common.{◌≡◌, true, List, take}
 use Rattle.live_lanes.specs.declared.compute.flow.Ways.{Ways}
-use Rattle.live_lanes.specs.Paths.{Among, Code, exits_of}
+use Rattle.mir_meaning.specs.Paths.{Among, Code, exits_of}
 use Rattle.live_lanes.specs.Graph.{is_live}
 use Rattle.live_lanes.specs.Entered.{causes, terminators, IsTableOf}
 use Rattle.live_lanes.proofs.Exits.{SomeExits}
