@@ -1,4 +1,3 @@
-use Rattle.std.proofs.Common.{refl}
 use Rattle.slot_colour.proofs.Renaming.{function-renamed}
 use Rattle.slot_colour.proofs.colour.merged.Goals as goal
 

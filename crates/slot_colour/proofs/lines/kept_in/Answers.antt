@@ -1,5 +1,4 @@
 use Rattle.std.proofs.Common.{◌≡◌, ◌++◌, length, ap, sym, ◌∙◌, append-nil}
-use Rattle.mir_text.specs.Document.{lines}
 use Rattle.mir_text.proofs.Lines.{lines_none, nothing}
 use Rattle.slot_colour.specs.Lines.{kept_from}
 use Rattle.slot_colour.specs.Colouring.{is_gone}
