@@ -11,8 +11,8 @@ use Rattle.mir_meaning.specs.Registers.{numbers}
 use Rattle.instr_effects.specs.declared.row.Lanes.{Lanes}
 use Rattle.live_lanes.specs.declared.row.Cell.{Cell}
 use Rattle.live_lanes.specs.declared.table.Table.{Table}
-use Rattle.live_lanes.specs.Entered.{cells_of}
-use Rattle.live_lanes.specs.Extents.{cell_extents, stretch_of, is_met}
+use Rattle.live_lanes.specs.Extents.{is_met}
+use Rattle.interference.specs.Clashes.{Points, some_cell_points, lane_points}
 
 -- some lane of the slot is live or occupied at the point
 abbrev pub SlotPoint : Target → Function → ℕ → Point → Type 0
@@ -25,21 +25,28 @@ SlotsClash t f s r = (p : Point) × SlotPoint t f s p × SlotPoint t f r p
 -- By a table of live lanes.
 
 -- the numbers of lanes in a row
+abbrev pub numbers_in : Lanes → List ℕ
+numbers_in own = numbers own.first own.count
+
 abbrev pub lanes_in : Option Lanes → List ℕ
 lanes_in None = []
-lanes_in (Some own) = numbers own.first own.count
+lanes_in (Some own) = numbers_in own
 
 -- the numbers of the lanes of a slot
 abbrev pub slot_lanes : Table → ℕ → List ℕ
 slot_lanes x s = lanes_in (get nat_cmp x.lanes.slots s)
 
--- the lane has a point at which one in that block has one
-abbrev pub is_met_by : Table → ℕ → Cell → Bool
-is_met_by x lane c = list_any (λ e. is_met x lane c.block (stretch_of x.order.slots e)) (cell_extents c)
+-- the lane is live or occupied at one of these points
+abbrev pub is_met_at : Table → ℕ → Points → Bool
+is_met_at x lane s = is_met x lane s.block s.at
+
+-- the lane has a point in common with another one, in the block of a cell of this one
+abbrev pub is_met_in : Table → ℕ → Option Cell → Bool
+is_met_in x lane o = list_any (is_met_at x lane) (some_cell_points x.order.slots lane o)
 
 -- two lanes have a point in common
 abbrev pub do_meet : Table → ℕ → ℕ → Bool
-do_meet x one other = list_any (is_met_by x other) (cells_of x.rows.rows.items one)
+do_meet x one other = list_any (is_met_at x other) (lane_points x other (Some one))
 
 -- two slots clash by the table
 abbrev pub is_clash : Table → ℕ → ℕ → Bool

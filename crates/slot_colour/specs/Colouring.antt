@@ -1,12 +1,17 @@
 -- Stack slot colouring: slots that are alike and don't clash become one.
-use Rattle.std.specs.Prelude.{ℕ, Bool, true, false, cond, not, ◌&&◌, List, [], ◌∷◌, ◌++◌, map, filter, find, Option, Some, None, nat_eq, nat_lt}
+use Rattle.std.specs.Prelude.{◌≡◌, ℕ, Bool, cond, not, ◌&&◌, List, [], ◌∷◌, ◌++◌, map, filter, find, Option, Some, None, nat_eq, nat_le}
 use Rattle.std.specs.List.{list_any}
+use Rattle.target_base.specs.declared.types.Target.{Target}
 use Rattle.mir_lines.specs.Bytes.{is_word}
 use Rattle.mir_func.specs.declared.func.Operand.{Operand}
 use Rattle.mir_func.specs.declared.func.Operand.TheVariants as operands
 use Rattle.mir_func.specs.declared.func.Instr.{Instr}
 use Rattle.mir_func.specs.declared.func.Block.{Block}
 use Rattle.mir_func.specs.Value.{Function}
+use Rattle.live_lanes.specs.declared.table.Table.{Table}
+use Rattle.live_lanes.specs.Doing.{IsComputed}
+use Rattle.live_lanes.specs.Looks.{InOrder}
+use Rattle.slot_colour.specs.Clashes.{is_clash}
 use Rattle.slot_colour.specs.declared.lines.Declared.{Declared}
 use Rattle.slot_colour.specs.declared.choice.Slot.{Slot}
 use Rattle.slot_colour.specs.Lines.{declared_in, kept_in}
@@ -15,7 +20,7 @@ use Rattle.slot_colour.specs.Lines.{declared_in, kept_in}
 
 abbrev pub put_rising : ℕ → List ℕ → List ℕ
 put_rising n [] = n ∷ []
-put_rising n (x ∷ xs) = cond (nat_lt x n) (x ∷ put_rising n xs) (n ∷ x ∷ xs)
+put_rising n (x ∷ xs) = cond (nat_le n x) (n ∷ x ∷ xs) (x ∷ put_rising n xs)
 
 abbrev pub with_spill : ℕ × Bool → List ℕ → List ℕ
 with_spill object xs = cond object.1 (put_rising object.0 xs) xs
@@ -25,8 +30,8 @@ abbrev pub spills_onto : List ℕ → List (ℕ × Bool) → List ℕ
 spills_onto xs [] = xs
 spills_onto xs (o ∷ os) = spills_onto (with_spill o xs) os
 
-abbrev pub spill_slots : Function → List ℕ
-spill_slots f = spills_onto [] f.frames
+abbrev pub spill_slots : List (ℕ × Bool) → List ℕ
+spill_slots objects = spills_onto [] objects
 
 -- The choice.
 
@@ -38,40 +43,39 @@ text_of_some (Some d) = d.text
 abbrev pub text_of : List Declared → ℕ → List ℕ
 text_of ds n = text_of_some (find (λ d. nat_eq d.number n) ds)
 
--- what the choice is made by: whether two slots clash, and the lines of frame objects
-pub record Setting : Type 0 where
-  pub clash : ℕ → ℕ → Bool
-  pub lines : List Declared
+-- slot r is a member of kept slot k, and slot n clashes with it
+abbrev pub refuses : (ℕ → ℕ → Bool) → ℕ → ℕ → Slot → Bool
+refuses clash n k r = nat_eq r.kept k && clash n r.number
 
--- slot n clashes with a member of a kept slot k
-abbrev pub is_refused : Setting → List Slot → ℕ → ℕ → Bool
-is_refused s taken n k = list_any (λ r. nat_eq r.kept k && s.clash n r.number) taken
+-- slot n clashes with a member of kept slot k
+abbrev pub is_refused : (ℕ → ℕ → Bool) → List Slot → ℕ → ℕ → Bool
+is_refused clash taken n k = list_any (refuses clash n k) taken
 
--- k is a kept slot, which is alike, and with none of whose members slot n clashes: the lines of the two are equal but for
--- the number
-abbrev pub may_join : Setting → List Slot → ℕ → Slot → Bool
-may_join s taken n k = nat_eq k.kept k.number && is_word k.text (text_of s.lines n) && not (is_refused s taken n k.number)
+-- Slot n, of this text, may join slot k: k is a kept one, the two are alike, for their lines are equal but for the number,
+-- and n clashes with no member of k.
+abbrev pub may_join : (ℕ → ℕ → Bool) → List Slot → ℕ → List ℕ → Slot → Bool
+may_join clash taken n text k = nat_eq k.kept k.number && is_word k.text text && not (is_refused clash taken n k.number)
 
 abbrev pub number_or : ℕ → Option Slot → ℕ
 number_or n None = n
 number_or n (Some k) = k.number
 
 -- the first kept slot that slot n may join; else it is kept itself
-abbrev pub home : Setting → List Slot → ℕ → ℕ
-home s taken n = number_or n (find (may_join s taken n) taken)
+abbrev pub home : (ℕ → ℕ → Bool) → List Slot → ℕ → List ℕ → ℕ
+home clash taken n text = number_or n (find (may_join clash taken n text) taken)
 
 -- slot n with its text and the slot that it goes to
-abbrev pub placed : Setting → List Slot → ℕ → Slot
-placed s taken n = record { number = n; text = text_of s.lines n; kept = home s taken n }
+abbrev pub placed : (ℕ → ℕ → Bool) → List Declared → List Slot → ℕ → Slot
+placed clash lines taken n = record { number = n; text = text_of lines n; kept = home clash taken n (text_of lines n) }
 
 -- slots are taken one after another, behind those that are taken
-abbrev pub taken_on : Setting → List Slot → List ℕ → List Slot
-taken_on s taken [] = taken
-taken_on s taken (n ∷ ns) = taken_on s (taken ++ placed s taken n ∷ []) ns
+abbrev pub taken_on : (ℕ → ℕ → Bool) → List Declared → List Slot → List ℕ → List Slot
+taken_on clash lines taken [] = taken
+taken_on clash lines taken (n ∷ ns) = taken_on clash lines (taken ++ placed clash lines taken n ∷ []) ns
 
 -- all spill slots of a function, taken by rising number
-unfoldable pub chosen : Setting → Function → List Slot
-chosen s f = taken_on s [] (spill_slots f)
+abbrev pub chosen : (ℕ → ℕ → Bool) → Function → List Slot
+chosen clash f = taken_on clash (declared_in f.head) [] (spill_slots f.frames)
 
 -- The function after it.
 
@@ -108,4 +112,10 @@ merged taken f = record f {
 
 -- the function coloured, by this test of clashes
 unfoldable pub coloured : (ℕ → ℕ → Bool) → Function → Function
-coloured clash f = merged (chosen (record { clash = clash; lines = declared_in f.head }) f) f
+coloured clash f = merged (chosen clash f) f
+
+-- the answer for a function, by a table of its live lanes whose points stand in order
+pub record IsColoured (t : Target) (f g : Function) : Type 0 where
+  pub table : Table
+  pub computed : IsComputed t f table
+  pub is : InOrder table → g ≡ coloured (is_clash table) f

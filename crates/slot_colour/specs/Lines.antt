@@ -1,5 +1,6 @@
 -- The lines of the `stack` key that declare frame objects.
-use Rattle.std.specs.Prelude.{ℕ, Bool, true, false, cond, not, List, [], ◌∷◌, ◌++◌, Option, Some, None, codes, is_some, nat_eq}
+use Rattle.std.specs.Prelude.{ℕ, Bool, true, false, cond, List, [], ◌∷◌, ◌++◌, Option, Some, None, codes, is_some}
+use Rattle.std.specs.Borrow.{Bor}
 use Rattle.target_base.specs.Names.{is_letter}
 use Rattle.mir_lines.specs.Bytes.{behind_word}
 use Rattle.mir_read.specs.Keys.{declared_number, declared_frame}
@@ -14,6 +15,10 @@ begins_key (b ∷ bs) = is_letter b
 -- the line is one of the `stack` key: it begins this key, or it goes on with it
 abbrev pub is_of_stack : Bool → List ℕ → Bool
 is_of_stack before line = cond (begins_key line) (is_some (behind_word (codes "stack:") line)) before
+
+-- a number that was read, with the text behind it
+abbrev pub declared_of : ℕ × Bor (List ℕ) → Declared
+declared_of p = record { number = p.0; text = p.1.now }
 
 abbrev pub declared_as : Option (ℕ × Bool) → Option (List ℕ × List ℕ) → Option Declared
 declared_as (Some object) (Some parts) = Some (record { number = object.0; text = parts.1 })

@@ -1,5 +1,11 @@
 //! Which slot each spill slot goes to.
 
+ghost use Rattle.std.specs.Prelude.{◌≡◌, ◌≤◌, [], ◌++◌, ◌∷◌, length, nat_le, position, IfOk};
+ghost use Rattle.std.specs.List.{position_or_len};
+ghost use Rattle.live_lanes.specs.Looks.{InOrder};
+ghost use Rattle.slot_colour.specs.Clashes.{is_clash};
+ghost use Rattle.slot_colour.specs.Colouring.{spill_slots, text_of, refuses, is_refused, may_join, home, placed, taken_on, home_of, is_gone};
+
 use crate::clashes::is_clash;
 use crate::lines::Declared;
 use live_lanes::LiveFunc;
@@ -18,16 +24,26 @@ pub(crate) struct Slot {
     pub kept: u32,
 }
 
+/// The first place of a number that isn't less.
+fn find_place(numbers: &[u32], n: u32) -> Option<usize>
+    ensures { result ≡ position (nat_le n) numbers.now }
+{
+    numbers.iter().position(|x| n <= *x)
+}
+
 /// The place of a number in a list that rises.
-fn place_of(numbers: &[u32], n: u32) -> usize {
-    numbers
-        .iter()
-        .position(|x| *x >= n)
-        .unwrap_or(numbers.len())
+#[tactic(auto, using(mir_func::proofs::Places::places))]
+fn place_of(numbers: &[u32], n: u32) -> usize
+    ensures within { result ≤ length numbers.now }
+    ensures place { result ≡ position_or_len (nat_le n) numbers.now }
+{
+    find_place(numbers, n).unwrap_or(numbers.len())
 }
 
 /// The spill slots among frame objects, by rising number.
-pub(crate) fn spill_slots(alloc: Global, frames: &[(u32, bool)]) -> Result<Vec<u32>, AllocError> {
+pub(crate) fn spill_slots(alloc: Global, frames: &[(u32, bool)]) -> Result<Vec<u32>, AllocError>
+    ensures { IfOk result (λ made. made.items ≡ spill_slots frames.now) }
+{
     let mut rising: Vec<u32> = Vec::new(alloc);
     'objects: for object in frames {
         if object.1 {
@@ -39,17 +55,30 @@ pub(crate) fn spill_slots(alloc: Global, frames: &[(u32, bool)]) -> Result<Vec<u
 }
 
 /// What stands behind the number of a frame object in the line that declares it.
-fn text_of(declared: &[Declared], n: u32) -> &[u8] {
-    match declared.iter().find(|d| d.number == n) {
-        None => &[],
-        Some(d) => d.text.as_slice(),
+fn text_of(declared: &[Declared], n: u32) -> &[u8]
+    ensures { result.now ≡ text_of declared.now n }
+{
+    'lines: for d in declared {
+        if d.number == n {
+            return d.text.as_slice();
+        }
     }
+    &[]
+}
+
+/// Whether a slot that is taken is a member of a kept one, and clashes with another slot.
+fn refuses(live: &LiveFunc, r: &Slot, n: u32, kept: u32) -> bool
+    ensures { InOrder live.now.table → result ≡ refuses (is_clash live.now.table) n kept r.now }
+{
+    r.kept == kept && is_clash(live, n, r.number)
 }
 
 /// Whether a slot clashes with a member of a kept one.
-fn is_refused(live: &LiveFunc, taken: &[Slot], n: u32, kept: u32) -> bool {
+fn is_refused(live: &LiveFunc, taken: &[Slot], n: u32, kept: u32) -> bool
+    ensures { InOrder live.now.table → result ≡ is_refused (is_clash live.now.table) taken.now n kept }
+{
     'slots: for r in taken {
-        if r.kept == kept && is_clash(live, n, r.number) {
+        if refuses(live, r, n, kept) {
             return true;
         }
     }
@@ -58,14 +87,18 @@ fn is_refused(live: &LiveFunc, taken: &[Slot], n: u32, kept: u32) -> bool {
 
 /// Whether a slot, of this text, may become a member of another one: of a kept one that is alike and
 /// with none of whose members it clashes.
-fn may_join(live: &LiveFunc, taken: &[Slot], n: u32, text: &[u8], other: &Slot) -> bool {
+fn may_join(live: &LiveFunc, taken: &[Slot], n: u32, text: &[u8], other: &Slot) -> bool
+    ensures { InOrder live.now.table → result ≡ may_join (is_clash live.now.table) taken.now n text.now other.now }
+{
     other.kept == other.number
         && is(other.text.as_slice(), text)
         && !is_refused(live, taken, n, other.number)
 }
 
 /// The first kept slot that a slot of this text may join; else the slot itself.
-fn home(live: &LiveFunc, taken: &[Slot], n: u32, text: &[u8]) -> u32 {
+fn home(live: &LiveFunc, taken: &[Slot], n: u32, text: &[u8]) -> u32
+    ensures { InOrder live.now.table → result ≡ home (is_clash live.now.table) taken.now n text.now }
+{
     'slots: for other in taken {
         if may_join(live, taken, n, text, other) {
             return other.number;
@@ -81,7 +114,9 @@ fn placed(
     declared: &[Declared],
     taken: &[Slot],
     n: u32,
-) -> Result<Slot, AllocError> {
+) -> Result<Slot, AllocError>
+    ensures { InOrder live.now.table → IfOk result (λ made. made ≡ placed (is_clash live.now.table) declared.now taken.now n) }
+{
     let text = text_of(declared, n);
     let kept = home(live, taken, n, text);
     let text = List::from_slice(alloc, text)?;
@@ -98,7 +133,9 @@ pub(crate) fn taken_from(
     live: &LiveFunc,
     declared: &[Declared],
     slots: &[u32],
-) -> Result<Vec<Slot>, AllocError> {
+) -> Result<Vec<Slot>, AllocError>
+    ensures { InOrder live.now.table → IfOk result (λ made. made.items ≡ taken_on (is_clash live.now.table) declared.now [] slots.now) }
+{
     let mut taken = Vec::new(alloc);
     'slots: for n in slots {
         let slot = placed(alloc, live, declared, taken.as_slice(), *n)?;
@@ -108,14 +145,20 @@ pub(crate) fn taken_from(
 }
 
 /// The slot that a frame object goes to; any object that isn't taken stays.
-pub(crate) fn home_of(taken: &[Slot], n: u32) -> u32 {
-    match taken.iter().find(|r| r.number == n) {
-        None => n,
-        Some(r) => r.kept,
+pub(crate) fn home_of(taken: &[Slot], n: u32) -> u32
+    ensures { result ≡ home_of taken.now n }
+{
+    'slots: for r in taken {
+        if r.number == n {
+            return r.kept;
+        }
     }
+    n
 }
 
 /// Whether a slot went to another one.
-pub(crate) fn is_gone(taken: &[Slot], n: u32) -> bool {
+pub(crate) fn is_gone(taken: &[Slot], n: u32) -> bool
+    ensures { result ≡ is_gone taken.now n }
+{
     home_of(taken, n) != n
 }

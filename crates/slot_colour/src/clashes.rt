@@ -1,10 +1,18 @@
 //! Which spill slots clash: at one point a lane of each is live or occupied.
 
+ghost use Rattle.std.specs.Prelude.{◌≡◌, slice_get};
+ghost use Rattle.std.specs.List.{list_any};
+ghost use Rattle.live_lanes.specs.Entered.{cells_of};
+ghost use Rattle.live_lanes.specs.Looks.{InOrder};
+ghost use Rattle.slot_colour.specs.Clashes.{is_met_in, do_meet, numbers_in, is_clash};
+
 use instr_effects::Lanes;
 use live_lanes::LiveFunc;
 
 /// Whether a lane has a point at which another one has one in the block of one of its cells.
-fn is_met_in(live: &LiveFunc, one: u32, place: usize, other: u32) -> bool {
+fn is_met_in(live: &LiveFunc, one: u32, place: usize, other: u32) -> bool
+    ensures { InOrder live.now.table → result ≡ is_met_in live.now.table other (slice_get (cells_of live.now.table.rows.rows.items one) place) }
+{
     let Some(block) = live.cell_block(one, place) else {
         return false;
     };
@@ -19,7 +27,9 @@ fn is_met_in(live: &LiveFunc, one: u32, place: usize, other: u32) -> bool {
 }
 
 /// Whether two lanes have a point in common.
-fn do_meet(live: &LiveFunc, one: u32, other: u32) -> bool {
+fn do_meet(live: &LiveFunc, one: u32, other: u32) -> bool
+    ensures { InOrder live.now.table → result ≡ do_meet live.now.table one other }
+{
     'cells: for place in 0..live.cell_count(one) {
         if is_met_in(live, one, place, other) {
             return true;
@@ -29,7 +39,9 @@ fn do_meet(live: &LiveFunc, one: u32, other: u32) -> bool {
 }
 
 /// Whether a lane has a point in common with one of some lanes.
-fn meets_one(live: &LiveFunc, one: u32, others: Lanes) -> bool {
+fn meets_one(live: &LiveFunc, one: u32, others: Lanes) -> bool
+    ensures { InOrder live.now.table → result ≡ list_any (do_meet live.now.table one) (numbers_in others) }
+{
     if live.cell_count(one) == 0 {
         return false;
     }
@@ -42,7 +54,9 @@ fn meets_one(live: &LiveFunc, one: u32, others: Lanes) -> bool {
 }
 
 /// Whether some of these lanes has a point in common with one of those.
-fn some_meet(live: &LiveFunc, these: Lanes, those: Lanes) -> bool {
+fn some_meet(live: &LiveFunc, these: Lanes, those: Lanes) -> bool
+    ensures { InOrder live.now.table → result ≡ list_any (λ one. list_any (do_meet live.now.table one) (numbers_in those)) (numbers_in these) }
+{
     'lanes: for k in 0..these.count {
         if meets_one(live, these.first + k, those) {
             return true;
@@ -52,7 +66,9 @@ fn some_meet(live: &LiveFunc, these: Lanes, those: Lanes) -> bool {
 }
 
 /// Whether two slots clash.
-pub(crate) fn is_clash(live: &LiveFunc, s: u32, r: u32) -> bool {
+pub(crate) fn is_clash(live: &LiveFunc, s: u32, r: u32) -> bool
+    ensures { InOrder live.now.table → result ≡ is_clash live.now.table s r }
+{
     match live.lanes_of_slot(s) {
         None => false,
         Some(these) => match live.lanes_of_slot(r) {

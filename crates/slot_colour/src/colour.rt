@@ -1,5 +1,10 @@
 //! The coloured function.
 
+ghost use Rattle.std.specs.Prelude.{◌≡◌, IfOk};
+ghost use Rattle.live_lanes.specs.Looks.{InOrder};
+ghost use Rattle.slot_colour.specs.Clashes.{is_clash};
+ghost use Rattle.slot_colour.specs.Colouring.{chosen, merged, IsColoured};
+
 use crate::choice::{Slot, spill_slots, taken_from};
 use crate::lines::{declared_in, kept_in};
 use crate::renamed::{kept_frames, rename_blocks};
@@ -9,7 +14,9 @@ use std::alloc::{AllocError, Global};
 use target_base::Target;
 
 /// The spill slots of a function with the slots that they go to.
-fn chosen(alloc: Global, live: &LiveFunc) -> Result<Vec<Slot>, AllocError> {
+fn chosen(alloc: Global, live: &LiveFunc) -> Result<Vec<Slot>, AllocError>
+    ensures { InOrder live.now.table → IfOk result (λ made. made.items ≡ chosen (is_clash live.now.table) live.now.func) }
+{
     let f = live.func();
     let declared = declared_in(alloc, f.head.as_slice())?;
     let slots = spill_slots(alloc, f.frames.as_slice())?;
@@ -18,7 +25,9 @@ fn chosen(alloc: Global, live: &LiveFunc) -> Result<Vec<Slot>, AllocError> {
 
 /// The function in which each of these slots went where it goes: members are renamed, and those that
 /// aren't kept leave the frame objects and the key lines.
-fn merged(alloc: Global, taken: &[Slot], f: Func) -> Result<Func, AllocError> {
+fn merged(alloc: Global, taken: &[Slot], f: Func) -> Result<Func, AllocError>
+    ensures { IfOk result (λ g. g ≡ merged taken.now f) }
+{
     let Func {
         name,
         head,
@@ -44,7 +53,9 @@ fn merged(alloc: Global, taken: &[Slot], f: Func) -> Result<Func, AllocError> {
 /// by rising number, and each becomes a member of the first kept slot whose line in the `stack` key is
 /// equal but for the number and with none of whose members it clashes; else it is kept. Two slots clash
 /// where at one point a lane of each is live or occupied. Each spill slot is declared by one line.
-pub fn colour_slots(alloc: Global, target: &Target, f: Func) -> Result<Func, AllocError> {
+pub fn colour_slots(alloc: Global, target: &Target, f: Func) -> Result<Func, AllocError>
+    ensures { IfOk result (IsColoured target.now f) }
+{
     let live = LiveFunc::compute(alloc, target, f)?;
     let taken = chosen(alloc, &live)?;
     merged(alloc, taken.as_slice(), live.into_func())

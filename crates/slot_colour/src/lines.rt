@@ -1,8 +1,7 @@
 //! The lines of the `stack` key, each of which declares a frame object.
 
-ghost use Rattle.std.specs.Prelude.{◌≡◌, codes, is_some, IfOk, option_map};
-ghost use Rattle.mir_lines.specs.Bytes.{behind_word};
-ghost use Rattle.slot_colour.specs.Lines.{begins_key, is_of_stack, declared_by, declared_in, kept_in};
+ghost use Rattle.std.specs.Prelude.{◌≡◌, IfOk, option_map};
+ghost use Rattle.slot_colour.specs.Lines.{begins_key, is_of_stack, declared_of, declared_by, declared_in, is_gone as is_gone_line, kept_in};
 ghost use Rattle.slot_colour.specs.Colouring.{is_gone};
 
 use crate::choice::{Slot, is_gone};
@@ -22,7 +21,9 @@ pub(crate) struct Declared {
 }
 
 /// Whether a line begins a key.
-fn begins_key(line: &[u8]) -> bool {
+fn begins_key(line: &[u8]) -> bool
+    ensures { result ≡ begins_key line.now }
+{
     match line.first() {
         None => false,
         Some(b) => is_letter(*b),
@@ -30,7 +31,9 @@ fn begins_key(line: &[u8]) -> bool {
 }
 
 /// Whether a line is one of the `stack` key, where the line before it is one or not.
-fn is_of_stack(before: bool, line: &[u8]) -> bool {
+fn is_of_stack(before: bool, line: &[u8]) -> bool
+    ensures { result ≡ is_of_stack before line.now }
+{
     if begins_key(line) {
         behind_word(line, b"stack:").is_some()
     } else {
@@ -40,7 +43,9 @@ fn is_of_stack(before: bool, line: &[u8]) -> bool {
 
 /// The frame object that a line declares, if it is one of the `stack` key, and what stands behind the
 /// number.
-fn declared_by(is_stack: bool, line: &[u8]) -> Option<(u32, &[u8])> {
+fn declared_by(is_stack: bool, line: &[u8]) -> Option<(u32, &[u8])>
+    ensures { option_map declared_of result ≡ declared_by is_stack line.now }
+{
     if !is_stack {
         return None;
     }
@@ -54,7 +59,9 @@ fn declared_by(is_stack: bool, line: &[u8]) -> Option<(u32, &[u8])> {
 }
 
 /// The frame objects that key lines declare.
-pub(crate) fn declared_in(alloc: Global, head: &[u8]) -> Result<Vec<Declared>, AllocError> {
+pub(crate) fn declared_in(alloc: Global, head: &[u8]) -> Result<Vec<Declared>, AllocError>
+    ensures { IfOk result (λ made. made.items ≡ declared_in head.now) }
+{
     let mut made = Vec::new(alloc);
     let mut is_stack = false;
     let mut rest = head;
@@ -71,7 +78,9 @@ pub(crate) fn declared_in(alloc: Global, head: &[u8]) -> Result<Vec<Declared>, A
 }
 
 /// Whether a line of the `stack` key, or another one, declares a slot that went to another.
-fn is_gone_line(taken: &[Slot], is_stack: bool, line: &[u8]) -> bool {
+fn is_gone_line(taken: &[Slot], is_stack: bool, line: &[u8]) -> bool
+    ensures { result ≡ is_gone_line (is_gone taken.now) (declared_by is_stack line.now) }
+{
     match declared_by(is_stack, line) {
         None => false,
         Some((number, _)) => is_gone(taken, number),
@@ -79,7 +88,9 @@ fn is_gone_line(taken: &[Slot], is_stack: bool, line: &[u8]) -> bool {
 }
 
 /// Key lines without those that declare slots which went to others.
-pub(crate) fn kept_in(alloc: Global, taken: &[Slot], head: &[u8]) -> Result<Bytes, AllocError> {
+pub(crate) fn kept_in(alloc: Global, taken: &[Slot], head: &[u8]) -> Result<Bytes, AllocError>
+    ensures { IfOk result (λ made. made ≡ kept_in (is_gone taken.now) head.now) }
+{
     let mut made = Bytes::new(alloc);
     let mut is_stack = false;
     let mut rest = head;

@@ -1,12 +1,19 @@
 //! A function in which slots go to others.
 
+ghost use Rattle.std.specs.Prelude.{◌≡◌, ◌<◌, length, map, filter, not, slice_set, slice_index_or, IfOk, ℕ};
+ghost use Rattle.mir_func.specs.declared.func.Operand.{Operand};
+ghost use Rattle.slot_colour.specs.Colouring.{is_gone, renamed, renamed_instr, renamed_block};
+
 use crate::choice::{Slot, home_of, is_gone};
 use mir_func::{Block, Blocks, Frames, Instr, Operand, Operands};
 use std::alloc::{AllocError, Global};
 use target_base::List;
 
 /// Names the kept slot in place of its member.
-fn rename_operand(taken: &[Slot], operands: &mut Operands, k: usize) {
+fn rename_operand(taken: &[Slot], operands: &mut Operands, k: usize)
+    requires { k < length operands.old }
+    ensures { (o : Operand) → o ≡ slice_index_or operands.old k o → operands.new ≡ slice_set operands.old k (renamed taken.now o) }
+{
     if let Operand::Stack(n) = operands.get(k) {
         let to = home_of(taken, *n);
         operands.set(k, Operand::Stack(to));
@@ -14,21 +21,27 @@ fn rename_operand(taken: &[Slot], operands: &mut Operands, k: usize) {
 }
 
 /// Names kept slots in place of members in an instruction.
-fn rename_instr(taken: &[Slot], instr: &mut Instr) {
+fn rename_instr(taken: &[Slot], instr: &mut Instr)
+    ensures { instr.new ≡ renamed_instr taken.now instr.old }
+{
     'operands: for k in 0..instr.operands.len() {
         rename_operand(taken, &mut instr.operands, k);
     }
 }
 
 /// Names kept slots in place of members in a block.
-fn rename_block(taken: &[Slot], block: &mut Block) {
+fn rename_block(taken: &[Slot], block: &mut Block)
+    ensures { block.new ≡ renamed_block taken.now block.old }
+{
     'instrs: for k in 0..block.instrs.len() {
         rename_instr(taken, block.instrs.get_mut(k));
     }
 }
 
 /// Names kept slots in place of members in blocks.
-pub(crate) fn rename_blocks(taken: &[Slot], blocks: &mut Blocks) {
+pub(crate) fn rename_blocks(taken: &[Slot], blocks: &mut Blocks)
+    ensures { blocks.new ≡ map (renamed_block taken.now) blocks.old }
+{
     'layout: for k in 0..blocks.len() {
         rename_block(taken, blocks.get_mut(k));
     }
@@ -39,7 +52,9 @@ pub(crate) fn kept_frames(
     alloc: Global,
     taken: &[Slot],
     frames: &[(u32, bool)],
-) -> Result<Frames, AllocError> {
+) -> Result<Frames, AllocError>
+    ensures { IfOk result (λ made. made ≡ filter (λ o. not (is_gone taken.now o.0)) frames.now) }
+{
     let mut made = List::new(alloc);
     'objects: for object in frames {
         if !is_gone(taken, object.0) {
