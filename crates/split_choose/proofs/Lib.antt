@@ -55,3 +55,4 @@ pub mod Using
 pub mod Netting
 pub mod Costing
 pub mod Taking
+pub mod Sizing

@@ -1,6 +1,5 @@
 -- Which choice is taken, register by register.
-use Rattle.std.proofs.Common.{◌≡◌, ◌∙◌, ℕ, zero, suc, ◌+◌, ◌*◌, ◌<◌, ◌≤◌, List, [], ◌∷◌, ◌++◌, Bool, true, false, arith, refl, sym, ap, subst, length, take, get_or, append_assoc, Option, Some, None}
-use Rattle.std.specs.Prelude.{IfSome, IsSome}
+use Rattle.std.proofs.Common.{◌≡◌, ◌∙◌, ℕ, zero, suc, ◌+◌, ◌*◌, ◌<◌, ◌≤◌, List, [], ◌∷◌, ◌++◌, Bool, true, arith, refl, sym, ap, subst, length, take, get_or, append_assoc, Option, Some, None}
 use Rattle.std.proofs.lemmas.List.{take_more, take_all}
 use Rattle.target_base.specs.declared.types.Reg.{Reg}
 use Rattle.interference.specs.declared.matrix.Matrix.{Matrix}

@@ -1,5 +1,5 @@
 -- Which choice of nodes is taken for a range over its blocks, and in which register.
-use Rattle.std.specs.Prelude.{◌≡◌, ◌<◌, ◌≤◌, ℕ, ◌+◌, ◌*◌, Bool, true, List, [], ◌∷◌, ◌++◌, length, Option, Some, None}
+use Rattle.std.specs.Prelude.{◌≡◌, ◌<◌, ◌≤◌, ℕ, ◌+◌, ◌*◌, Bool, List, [], ◌∷◌, ◌++◌, length, Option, Some, None}
 use Rattle.target_base.specs.declared.types.Reg.{Reg}
 use Rattle.interference.specs.declared.matrix.Matrix.{Matrix}
 use Rattle.cut_place.specs.declared.net.Net.{Net}
@@ -8,9 +8,9 @@ use Rattle.split_choose.specs.declared.spans.Span.{Span}
 use Rattle.split_choose.specs.declared.nets.Row.{Row}
 use Rattle.split_choose.specs.declared.cuts.Choice.{Choice}
 use Rattle.split_choose.specs.Spans.{is_clear_in}
-use Rattle.split_choose.specs.Nets.{arcs_of, is_small}
+use Rattle.split_choose.specs.Nets.{arcs_of}
 use Rattle.split_choose.specs.Parts.{IsReady}
-use Rattle.split_choose.specs.Placings.{net_rows, node_count, AreFew, IsPlacing, IsLeastCut, choice_cost}
+use Rattle.split_choose.specs.Placings.{net_rows, node_count, AreFew, AreCheap, IsPlacing, IsLeastCut, choice_cost}
 
 module _ (m : Matrix) (v : ℕ) (parents : List ℕ) (spans : List Span) where
   -- what the blocks have in the net of a register
@@ -57,12 +57,8 @@ module _ (m : Matrix) (v : ℕ) (parents : List ℕ) (spans : List Span) where
   IsBestBelow most rs None = AllCost most rs
   IsBestBelow most rs (Some choice) = IsFirst rs choice × (choice.cost < most)
 
-  -- the net of each register is small enough for its least cut to be asked for
-  abbrev pub AreSmall : Type 0
-  AreSmall = (r : Reg) → is_small (register_net r) ≡ true
-
-  -- few blocks, few nodes, and costs that are far from the greatest number
+  -- few blocks, in none of which much is used
   pub record IsWithin : Type 0 where
     pub ready : IsReady m parents spans
     pub few : AreFew (length m.live.func.blocks) spans
-    pub small : AreSmall
+    pub cheap : AreCheap spans

@@ -17,3 +17,4 @@ pub mod Nets
 pub mod BundleNodes
 pub mod Placings
 pub mod Choices
+pub mod Cuts

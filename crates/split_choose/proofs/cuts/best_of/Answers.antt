@@ -1,4 +1,4 @@
-use Rattle.std.proofs.Common.{ℕ, ◌+◌, Option, Some, sym, subst, take}
+use Rattle.std.proofs.Common.{ℕ, ◌+◌, Option, sym, subst, take}
 use Rattle.split_choose.specs.declared.cuts.Choice.{Choice}
 use Rattle.split_choose.specs.Regions.{capped, uses_of}
 use Rattle.split_choose.proofs.Taking.{Picks, pick_some, pick_none, pick_last}
