@@ -1,5 +1,6 @@
 pub mod Joined
 pub mod Runs
 pub mod Read
+pub mod Refused
 pub mod Watched
 pub mod Taken

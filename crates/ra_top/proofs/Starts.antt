@@ -2,7 +2,6 @@
 use Rattle.std.proofs.Common.{◌≡◌, ℕ, List, [], Option, Some, None, false, refl, sym, ◌∙◌, subst, inl, inr, arith}
 use Rattle.std.specs.Prelude.{IfSome, codes}
 use Rattle.target_base.specs.declared.types.Target.{Target}
-use Rattle.ra_top.specs.Devices.Pieces.{is_whole, NoneWhole, lines_of}
 use Rattle.ra_top.specs.Words.Words.{Asked, Alloc, VerifySource, VerifyAllocated, Run, Intervals, Trace, Check, Gen}
 use Rattle.ra_top.specs.declared.commands.answer.Job.{Job}
 use Rattle.ra_top.specs.declared.commands.answer.Job.TheVariants as jobs
@@ -11,18 +10,11 @@ use Rattle.ra_top.specs.declared.commands.status.Status.TheVariants as status
 use Rattle.ra_top.specs.Commands.Status.{line_of}
 use Rattle.ra_top.specs.Told.{Begun, CutOff, Streamed, IsTold, TargetVerdict, DoesJob, DoesAll}
 use Rattle.mir_meaning.specs.declared.Form.TheVariants as forms
-use Rattle.ra_top.proofs.Nothing.{writes_none}
+use Rattle.ra_top.proofs.Nothing.{writes_none, none_of_nothing, nothing_whole}
 
 nothing_begun : (job : Job) (t : Target) (file : Option (List ℕ)) (old : Option (List ℕ)) → IfSome file (λ f. Begun job t f old old)
 nothing_begun job t None old = tt
 nothing_begun job t (Some f) old = record { pieces = []; treated = tt; written = writes_none old }
-
-none_of_nothing : NoneWhole []
-none_of_nothing j below = absurd (omega arith)
-
-nothing_whole : is_whole [] ≡ false
-unfolding lines_of
-nothing_whole = refl
 
 cut : (job : Job) (t : Target) (f : List ℕ) (left old : Option (List ℕ)) → left ≡ Some f → CutOff job t f left old old
 cut job t f left old is = record {

@@ -101,8 +101,8 @@ module _ {W : Type 0} (next : W → RunStep → W) where
 
 module _ {W : Type 0} (next : Target → W → RunStep → W) where
   -- the documents were treated over a target
-  pub job_told : (b : Bool) (t : Target) (word : List ℕ) (text : Option (List ℕ)) (old new : List W) (s result : Status) → is_word word (codes "-") ≡ b → NamesTarget b text t → result ≡ s → ToldAs (next t) 0 old new s → ToldJob next word text old new result
-  job_told b t word text old new s result is named e told = inr (t, subst (λ x. NamesTarget x text t) (sym is) named, subst (ToldAs (next t) 0 old new) (sym e) told)
+  pub job_told : (t : Target) (word : List ℕ) (text : Option (List ℕ)) (old new : List W) (s result : Status) → NamesTarget (is_word word (codes "-")) text t → result ≡ s → ToldAs (next t) 0 old new s → ToldJob next word text old new result
+  job_told t word text old new s result named e told = inr (t, named, subst (ToldAs (next t) 0 old new) (sym e) told)
 
   -- memory ran out before anything was told
   pub words_untold : (a : Option Asked) (contents : List ℕ → Option (List ℕ)) (old : List W) (s : Status) → IsUndone s → ToldWords next a contents old old s

@@ -25,11 +25,13 @@ use watchers::Watcher;
 /// Does all that the program does: reads its words, which are those after its name, treats the
 /// documents of the file that they name one at a time, each before the next is read, and writes a
 /// line that tells the status to `err`, where there is one. The words are refused first, then the
-/// target, then each document in turn; of `check` those of the source file, and then those of the other. The output of a document is made whole before any of it is
-/// written. After the first fault of `files` or `out` it calls neither again; a fault of `err`
-/// changes nothing. Every form of `alloc` and of `trace`, and `gen`, tell the watchers each step of each run, in order; the
-/// other commands leave them as they were. With Done each watcher was told all of these steps, and
-/// else a first part of them. With Done a form of `trace` has written the watchers' lines as they then stand.
+/// target, then each document in turn; for `check` those of the source file, and then those of the
+/// other. The output of a document is made whole before any of it is written; `check` writes at its
+/// end. After the first fault of `files` or `out` it calls neither again; a fault of `err` changes
+/// nothing. Every form of `alloc` and of `trace`, and `gen`, tell the watchers each step of each run, in
+/// order; the other commands leave them as they were. With Done each watcher was told all of these
+/// steps, and else a first part of them. With Done a form of `trace` has written the watchers' lines as
+/// they then stand.
 pub fn top<F: Files, O: Sink, E: Sink, W: Watcher>(
     alloc: Global,
     words: &[String],

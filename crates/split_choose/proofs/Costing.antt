@@ -1,6 +1,6 @@
 -- What a choice of nodes costs is what its cut of the net costs, and the base.
-use Rattle.std.proofs.Common.{◌≡◌, ◌∙◌, ℕ, ◌+◌, ◌≤◌, List, [], ◌∷◌, ◌++◌, Bool, true, false, cond, arith, refl, sym, ap, Option, Some, None}
-use Rattle.std.specs.Prelude.{not, flat_map}
+use Rattle.std.proofs.Common.{◌≡◌, ◌∙◌, ℕ, ◌+◌, List, [], ◌∷◌, ◌++◌, Bool, true, false, cond, arith, refl, ap, Option, Some, None}
+use Rattle.std.specs.Prelude.{not}
 use Rattle.std.proofs.lemmas.List.Sums.{sum_by-cons}
 use Rattle.cut_place.specs.declared.net.Arc.{Arc}
 use Rattle.cut_place.specs.Flows.{capacity_where, capacity_leaving, IsCut}

@@ -54,3 +54,5 @@ pub mod Spanned
 pub mod Using
 pub mod Netting
 pub mod Costing
+pub mod Taking
+pub mod Sizing

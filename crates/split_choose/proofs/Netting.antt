@@ -1,7 +1,7 @@
 -- The net of a range, block by block.
-use Rattle.std.proofs.Common.{◌≡◌, ◌≢◌, ◌∙◌, ◌⊎◌, inl, inr, ℕ, zero, suc, ◌+◌, ◌*◌, ◌<◌, ◌≤◌, List, [], ◌∷◌, ◌++◌, Bool, true, false, cond, arith, refl, sym, ap, subst, length, take, drop, get_or, map, replicate, append_assoc, drop-cons, rules}
-use Rattle.std.specs.Prelude.{count_by, flat_map, nat_eq, not, ◌&&◌, slice_index_or}
-use Rattle.std.specs.List.{list_any, list_all, sum_by, fold}
+use Rattle.std.proofs.Common.{◌≡◌, ◌∙◌, ℕ, zero, suc, ◌+◌, ◌<◌, ◌≤◌, List, [], ◌∷◌, ◌++◌, Bool, true, false, cond, arith, refl, sym, ap, length, take, drop, get_or, map, replicate, append_assoc, drop-cons}
+use Rattle.std.specs.Prelude.{not, ◌&&◌}
+use Rattle.std.specs.List.{sum_by}
 use Rattle.std.proofs.lemmas.List.{take_more, take_all}
 use Rattle.std.proofs.lemmas.List.Recursion.{is_count_by}
 use Rattle.split_choose.specs.declared.spans.Span.{Span}
@@ -12,21 +12,15 @@ use Rattle.split_choose.specs.Regions.{capped, is_out, AreOut}
 use Rattle.split_choose.specs.Nets.{ranks, set_count, AreFlags, count_below, is_named, is_free, node_of, row_base, base_of, row_of, rows_from}
 use Rattle.split_choose.specs.BundleNodes.{AreNodes}
 use Rattle.split_choose.proofs.Roots.{root_falls}
+use Rattle.split_choose.proofs.Sums.{sum_push, capped_more}
 
 -- sums
-
-fold-push : {X : Type 0} (f : X → ℕ) (a : ℕ) (xs : List X) (x : X) → fold (λ n y. n + f y) a (xs ++ x ∷ []) ≡ fold (λ n y. n + f y) a xs + f x
-fold-push f a [] x = refl
-fold-push f a (y ∷ ys) x = fold-push f (a + f y) ys x
-
-capped_more : (a b c : ℕ) → a ≡ capped b → capped (a + c) ≡ capped (b + c)
-capped_more a b c e = omega arith
 
 pub capped_next : {X : Type 0} (f : X → ℕ) (xs : List X) (k : ℕ) (x : X) (sum here : ℕ) → k < length xs → x ≡ get_or xs k x → here ≡ f x → sum ≡ capped (sum_by f (take k xs)) → capped (sum + here) ≡ capped (sum_by f (take (k + 1) xs))
 capped_next f xs k x sum here h at is was =
     capped_more sum (sum_by f (take k xs)) here was
     ∙ ap (λ n. capped (sum_by f (take k xs) + n)) is
-    ∙ ap capped (sym (ap (sum_by f) (take_more xs k x h ∙ ap (λ y. take k xs ++ y ∷ []) (sym at)) ∙ fold-push f 0 (take k xs) x))
+    ∙ ap capped (sym (ap (sum_by f) (take_more xs k x h ∙ ap (λ y. take k xs ++ y ∷ []) (sym at)) ∙ sum_push f (take k xs) x))
 
 pub capped_last : {X : Type 0} (f : X → ℕ) (xs : List X) (k sum : ℕ) → length xs ≤ k → sum ≡ capped (sum_by f (take k xs)) → sum ≡ capped (sum_by f xs)
 capped_last f xs k sum h was = was ∙ ap (λ ys. capped (sum_by f ys)) (take_all k xs h)

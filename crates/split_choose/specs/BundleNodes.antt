@@ -1,5 +1,5 @@
 -- The numbers of the bundles of a range.
-use Rattle.std.specs.Prelude.{◌≡◌, ◌<◌, ℕ, ◌+◌, Bool, List, length}
+use Rattle.std.specs.Prelude.{◌≡◌, ℕ, ◌+◌, Bool, List}
 use Rattle.split_choose.specs.declared.spans.Span.{Span}
 use Rattle.split_choose.specs.declared.nets.BundleNodes.{BundleNodes}
 use Rattle.split_choose.specs.Regions.{AreOut}

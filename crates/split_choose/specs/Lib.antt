@@ -16,3 +16,5 @@ pub mod Built
 pub mod Nets
 pub mod BundleNodes
 pub mod Placings
+pub mod Choices
+pub mod Cuts

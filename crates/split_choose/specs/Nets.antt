@@ -1,5 +1,5 @@
 -- The net of a range and a register, over the blocks of the range: which nodes and which arcs it has.
-use Rattle.std.specs.Prelude.{◌≡◌, ◌<◌, ◌≤◌, ℕ, zero, suc, ◌+◌, ◌-◌, Bool, true, false, cond, not, ◌&&◌, nat_eq, nat_lt, nat_le, List, [], ◌∷◌, ◌++◌, flat_map, length, Option, Some, None, slice_index_or, count_by}
+use Rattle.std.specs.Prelude.{◌≡◌, ◌<◌, ℕ, zero, suc, ◌+◌, ◌-◌, Bool, true, false, cond, not, ◌&&◌, nat_eq, nat_lt, nat_le, List, [], ◌∷◌, ◌++◌, flat_map, length, Option, Some, None, slice_index_or, count_by}
 use Rattle.std.specs.List.{list_any, list_all, sum_by}
 use Rattle.cut_place.specs.declared.net.Arc.{Arc}
 use Rattle.cut_place.specs.declared.net.Net.{Net}

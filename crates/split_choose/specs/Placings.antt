@@ -1,6 +1,6 @@
 -- The net of a register, as it is built, and its least cut.
-use Rattle.std.specs.Prelude.{◌≡◌, ◌<◌, ◌≤◌, ℕ, ◌+◌, ◌*◌, Bool, true, false, not, cond, List, length, Option, Some, None}
-use Rattle.std.specs.List.{sum_by}
+use Rattle.std.specs.Prelude.{◌≡◌, ◌≤◌, ℕ, ◌+◌, Bool, true, cond, ◌&&◌, nat_le, List, length, Option, Some, None}
+use Rattle.std.specs.List.{list_all, sum_by}
 use Rattle.cut_place.specs.declared.net.Net.{Net}
 use Rattle.cut_place.specs.declared.net.Cut.{Cut}
 use Rattle.cut_place.specs.Flows.{IsWithin, IsConserved, HasValue, IsCut, in_set, capacity_leaving}
@@ -30,6 +30,13 @@ pub record AreFew (blocks : ℕ) (spans : List Span) : Type 0 where
   pub few : blocks ≤ 1024
   pub fewer : length spans ≤ 1024
   pub positions : ArePositions blocks spans
+
+-- in each block frequency and uses are at most 2 ^ 112
+abbrev pub is_cheap : Span → Bool
+is_cheap s = nat_le s.frequency 5192296858534827628530496329220096 && (nat_le s.uses 5192296858534827628530496329220096 && nat_le s.end_uses 5192296858534827628530496329220096)
+
+abbrev pub AreCheap : List Span → Type 0
+AreCheap spans = list_all is_cheap spans ≡ true
 
 -- the cut is a least one, shown so by a flow of its cost, and its inside is contained in that of each other least one
 pub record IsLeastCut (net : Net) (cut : Cut) : Type 0 where

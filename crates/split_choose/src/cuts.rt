@@ -1,13 +1,19 @@
 //! Region splits at least cost: a least cut says which edge bundles and which insides of blocks
 //! lie in the register.
 
+ghost use Rattle.std.specs.Prelude.{◌≡◌, true, IfOk, IfSome, IsSome};
+ghost use Rattle.split_choose.specs.Regions.{capped, uses_of};
+ghost use Rattle.split_choose.specs.Nets.{is_small};
+ghost use Rattle.split_choose.specs.Placings.{IsLeastCut};
+ghost use Rattle.split_choose.specs.Choices.{IsWithin, IsChosenBelow, IsBestBelow};
+
 use crate::bundles::Bundles;
 use crate::nets::{Placing, Row, is_small, placing_of};
 use crate::places::{gap_ids, places_of};
 use crate::regions::{View, add_mark, all_uses, clear_blocks, domain_of, flag_at};
 use crate::spans::spans_of;
 use block_freq::Freqs;
-use cut_place::{Cut, least_cut};
+use cut_place::{Cut, Net, least_cut};
 use interference::Matrix;
 use live_lanes::{Labels, LiveFunc};
 use mir_func::operands::class_of;
@@ -32,6 +38,7 @@ struct Choice {
     register: Reg,
     placing: Placing,
     cut: Cut,
+    /// What the cut costs, and the blocks without an inside.
     cost: u128,
 }
 
@@ -88,8 +95,12 @@ fn best_region(view: View<'_>) -> Result<Option<Region>, AllocError> {
     }
 }
 
-/// The choice of least cost among those of registers, the first at a tie.
-fn best_of(view: View<'_>, registers: &[Reg]) -> Result<Option<Choice>, AllocError> {
+/// The choice of least cost among those of registers, the first at a tie, if it costs less than
+/// the range does.
+fn best_of(view: View<'_>, registers: &[Reg]) -> Result<Option<Choice>, AllocError>
+    ensures { let parents = view.entry.bundles.now.parents.items in let spans = view.entry.spans.now in
+        IfOk result (λ q. IsWithin view.entry.m.now view.entry.v parents spans → IsBestBelow view.entry.m.now view.entry.v parents spans (capped (uses_of spans)) registers.now q) }
+{
     let mut bound = all_uses(view.spans);
     let mut best: Option<Choice> = None;
     'registers: for register in registers {
@@ -101,14 +112,27 @@ fn best_of(view: View<'_>, registers: &[Reg]) -> Result<Option<Choice>, AllocErr
     Ok(best)
 }
 
-/// The choice of least cost for a register, if it costs less than so much.
-fn choice_below(view: View<'_>, register: Reg, bound: u128) -> Result<Option<Choice>, AllocError> {
-    let clear = clear_blocks(view, register)?;
-    let placing = placing_of(view, clear.as_slice())?;
-    if !is_small(&placing.net) {
+/// A least cut of a net, if that is small enough.
+fn cut_of(alloc: Global, net: &Net) -> Result<Option<Cut>, AllocError>
+    ensures { IfOk result (λ q. is_small net.now ≡ true → IfSome q (λ cut. IsLeastCut net.now cut) × IsSome q) }
+{
+    if !is_small(net) {
         return Ok(None);
     }
-    let cut = least_cut(view.alloc, &placing.net)?;
+    let cut = least_cut(alloc, net)?;
+    Ok(Some(cut))
+}
+
+/// The choice of least cost for a register, if it costs less than so much.
+fn choice_below(view: View<'_>, register: Reg, bound: u128) -> Result<Option<Choice>, AllocError>
+    ensures { let parents = view.entry.bundles.now.parents.items in let spans = view.entry.spans.now in
+        IfOk result (λ q. IsWithin view.entry.m.now view.entry.v parents spans → IsChosenBelow view.entry.m.now view.entry.v parents spans bound register q) }
+{
+    let clear = clear_blocks(view, register)?;
+    let placing = placing_of(view, clear.as_slice())?;
+    let Some(cut) = cut_of(view.alloc, &placing.net)? else {
+        return Ok(None);
+    };
     let cost = placing.base.saturating_add(cut.cost);
     if cost >= bound {
         return Ok(None);

@@ -1,10 +1,10 @@
 //! The net of a range and a register: its cuts are the ways to place a region.
 
-ghost use Rattle.std.specs.Prelude.{◌≡◌, ◌<◌, ◌≤◌, ◌+◌, ◌*◌, ◌&&◌, ◌++◌, ◌∷◌, [], List, ℕ, Bool, true, false, not, cond, map, flat_map, length, slice_index_or, Some, None, IfOk, OnOk, ◌↔◌, IsTrue};
+ghost use Rattle.std.specs.Prelude.{◌≡◌, ◌<◌, ◌≤◌, ◌+◌, ◌*◌, ◌&&◌, ◌++◌, ℕ, Bool, true, false, not, cond, map, length, slice_index_or, Some, IfOk, OnOk};
 ghost use Rattle.cut_place.specs.Flows.{HasEnds, HasSmallCapacities};
 ghost use Rattle.split_choose.specs.declared.spans.Span.{Span as BlockSpan};
-ghost use Rattle.split_choose.specs.Bundles.{start_of, end_of, root_of, AreEarlier};
-ghost use Rattle.split_choose.specs.Regions.{capped, ArePositions, AreOut};
+ghost use Rattle.split_choose.specs.Bundles.{AreEarlier};
+ghost use Rattle.split_choose.specs.Regions.{capped, ArePositions};
 ghost use Rattle.std.specs.List.{list_all};
 ghost use Rattle.split_choose.specs.Nets.{ranks, set_count, AreFlags, is_named, node_of, has_inside, node_if, row_of, rows_from, arc_to, arcs_between, inside_uses, row_arcs, arcs_of, row_base, base_of, inside_count, is_small_arc, is_small};
 ghost use Rattle.split_choose.specs.BundleNodes.{AreNodes};

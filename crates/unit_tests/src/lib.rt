@@ -12,6 +12,8 @@ mod function_texts;
 #[cfg(test)]
 mod live;
 #[cfg(test)]
+mod regions;
+#[cfg(test)]
 mod target_texts;
 #[cfg(test)]
 mod top;

@@ -9,9 +9,19 @@ use Rattle.ra_top.specs.declared.commands.refusal.Refusal.TheVariants as refusal
 use Rattle.ra_top.specs.declared.commands.status.Status.{Status}
 use Rattle.ra_top.specs.declared.commands.status.Status.TheVariants as status
 use Rattle.ra_top.specs.Commands.Piece.{IfBy}
-use Rattle.ra_top.specs.Checked.{SourceRefuses, LimitRefuses, IsWithin, IsRead, IsBroken, IsSourceBroken, IsAllocatedBroken, EndsAtSource, EndsAtAllocated}
-use Rattle.ra_top.specs.Reading.{HasReadCause, HasRefusalCause, EndsAs}
-use Rattle.ra_top.specs.Told.{HasStatusCause}
+use Rattle.ra_top.specs.Checked.{SourceRefuses, LimitRefuses, IsWithin, IsRead, IsBroken, IsSourceBroken, IsAllocatedBroken, EndsAtAllocated, ChecksFiles, at_source, at_allocated, behind}
+use Rattle.ra_top.specs.Reading.{EndsAs}
+
+-- the files are told to hold the same
+same_at : (P : List ℕ → Type 0) (now before : List ℕ → Option (List ℕ)) (name : List ℕ) → now name ≡ before name → IfSome (now name) P → IfSome (before name) P
+same_at P now before name same is = subst (λ o. IfSome o P) same is
+
+pub same_contents : (t : Target) (source allocated : List ℕ) (now before : List ℕ → Option (List ℕ)) (left old new : Option (List ℕ)) (s : Status) (file detail : List ℕ) → ((n : List ℕ) → now n ≡ before n) → ChecksFiles t source allocated now left old new s file detail → ChecksFiles t source allocated before left old new s file detail
+same_contents t source allocated now before left old new s file detail same (at_source e) = at_source (record { broken = same_at _ now before source (same source) e.broken; file_is = e.file_is; unwritten = e.unwritten })
+same_contents t source allocated now before left old new s file detail same (at_allocated e) =
+    at_allocated (record { sources = e.sources; read = same_at _ now before source (same source) e.read; broken = same_at _ now before allocated (same allocated) e.broken; file_is = e.file_is; unwritten = e.unwritten })
+same_contents t source allocated now before left old new s file detail same (behind e) =
+    behind (record { sources = e.sources; partners = e.partners; text = e.text; read = same_at _ now before source (same source) e.read; read_behind = same_at _ now before allocated (same allocated) e.read_behind; says = e.says; written = e.written })
 
 -- no function is refused for a device
 pub source_never : (t : Target) (f : Function) (detail : List ℕ) → SourceRefuses t f status.ReadFault detail → ⊥
@@ -29,11 +39,7 @@ broken : (P : Function → Type 0) (R : Function → Status → List ℕ → Typ
 broken P R t first left (refusals.By x words) s detail (e, w) is = subst (λ z. IfSome first (λ file. IsBroken P R t file left z detail)) (sym e) (subst (λ z. IfSome first (λ file. IsBroken P R t file left x z)) (sym w) is)
 broken P R t first left (refusals.Memory e) s detail (m, w) is = subst (λ z. IfSome first (λ file. IsBroken P R t file left z detail)) (sym m) (memory_breaks P R t first left detail)
 
--- the source file is refused, or reading it ends
-pub ends_at_source : (t : Target) (source : List ℕ) (contents : List ℕ → Option (List ℕ)) (left old : Option (List ℕ)) (r : Refusal) (s : Status) (detail : List ℕ) → EndsAs r s detail → IfBy (λ s detail. IfSome (contents source) (λ bytes. IsSourceBroken t bytes left s detail)) r → EndsAtSource t source contents left old old s source detail
-ends_at_source t source contents left old r s detail e is = record { broken = broken (IsTaken t) (SourceRefuses t) t (contents source) left r s detail e is; file_is = refl; unwritten = refl }
-
--- the second file is, where the first was read
+-- the second file is refused, or reading it ends, where the first was read
 pub ends_at_allocated : (t : Target) (source allocated : List ℕ) (contents now : List ℕ → Option (List ℕ)) (left old : Option (List ℕ)) (fs : List Function) (r : Refusal) (s : Status) (detail : List ℕ) → now allocated ≡ contents allocated → IfSome (contents source) (λ bytes. IsRead (IsTaken t) t bytes fs) → EndsAs r s detail → IfBy (λ s detail. IfSome (now allocated) (λ bytes. IsAllocatedBroken t bytes left s detail)) r → EndsAtAllocated t source allocated contents left old old s allocated detail
 ends_at_allocated t source allocated contents now left old fs r s detail same read e is = record {
   sources = fs;
@@ -42,21 +48,3 @@ ends_at_allocated t source allocated contents now left old fs r s detail same re
   file_is = refl;
   unwritten = refl;
 }
-
-status_cause : (s : Status) (detail : List ℕ) (old new out : ℕ) → HasReadCause old new s detail → HasStatusCause s old new out out
-status_cause status.Done detail old new out is = (is, refl)
-status_cause status.Usage detail old new out is = (is, refl)
-status_cause (status.Target f) detail old new out is = (is, refl)
-status_cause (status.Text f) detail old new out is = (is, refl)
-status_cause (status.Limit l) detail old new out is = (is, refl)
-status_cause (status.Invalid x) detail old new out is = (is, refl)
-status_cause (status.Unassignable p) detail old new out is = (is, refl)
-status_cause status.ReadFault detail old new out is = (is, refl)
-status_cause status.WriteFault detail old new out is = absurd is
-status_cause status.Memory detail old new out is = (is, refl)
-status_cause status.NotYet detail old new out is = (is, refl)
-
--- the faults that rose for a refusal
-pub refusal_cause : (r : Refusal) (s : Status) (detail : List ℕ) (old new out : ℕ) → EndsAs r s detail → HasRefusalCause old new r → HasStatusCause s old new out out
-refusal_cause (refusals.By x words) s detail old new out (e, w) is = subst (λ z. HasStatusCause z old new out out) (sym e) (status_cause x words old new out is)
-refusal_cause (refusals.Memory e) s detail old new out (m, w) is = subst (λ z. HasStatusCause z old new out out) (sym m) (is, refl)

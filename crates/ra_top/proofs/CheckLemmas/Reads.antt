@@ -17,7 +17,9 @@ use Rattle.ra_top.specs.Commands.Spot.{first_spot, after}
 use Rattle.ra_top.specs.Commands.Answer.{IsSpelled}
 use Rattle.ra_top.specs.Commands.Piece.{IfBy, IsUnspelled}
 use Rattle.ra_top.specs.Checked.{function_of, functions_of, IfFunction, Reads, IsRead, RefusesFunction, IsRefused, Breaks, IsBroken}
-use Rattle.ra_top.specs.Reading.{Behind, SpellsNone, IsUnread, AfterReading}
+use Rattle.ra_top.specs.Due.{IsUnfinished}
+use Rattle.ra_top.specs.Reading.{IfUnbegun, Behind, SpellsNone, IsUnread}
+use Rattle.ra_top.proofs.Nothing.{none_of_nothing, nothing_whole}
 use Rattle.ra_top.proofs.Documents.{Cut, Ended, cut_of, all_read, nothing}
 
 mapped : (P Q : List ℕ → Type 0) → ((l : List ℕ) → P l → Q l) → (o : Option (List ℕ)) → IfSome o P → IfSome o Q
@@ -150,6 +152,18 @@ module _ (P : Function → Type 0) (t : Target) where
     breaks None spot chunk left now_left fs x r is = told_by None now_left x tt
     breaks (Some file) spot chunk left now_left fs x r is =
         told_by (Some file) now_left x (by_breaks now_left file spot chunk left fs x r (unread_by now_left spot (chunk ++ r.rest) x (subst (λ o. IfSome o (λ l. IfBy (IsUnread t spot (chunk ++ l) now_left) x)) r.left_is is)))
+
+    cut_at_start : (file : List ℕ) (left : Option (List ℕ)) → left ≡ Some file → IsUnfinished file left
+    cut_at_start file left is = record { piece = []; rest = file; cut = refl; left_is = is; none = none_of_nothing; open_yet = nothing_whole }
+
+    unbegun_by : (file : List ℕ) (left : Option (List ℕ)) (x : Refusal) → left ≡ Some file → IfUnbegun x → IfBy (λ s detail. IsBroken P R t file left s detail) x
+    unbegun_by file left (refusals.By s detail) is e = subst (λ z. IsBroken P R t file left z detail) (sym e) (record { documents = []; reads = cut_at_start file left is })
+    unbegun_by file left (refusals.Memory e) is u = tt
+
+    -- the file couldn't be begun
+    pub unbegun : (first left : Option (List ℕ)) (x : Refusal) → IfSome first (λ bytes. left ≡ Some bytes) → IfUnbegun x → IfBy (λ s detail. IfSome first (λ file. IsBroken P R t file left s detail)) x
+    unbegun None left x is e = told_by None left x tt
+    unbegun (Some file) left x is e = told_by (Some file) left x (unbegun_by file left x is e)
 
     function_refused : (spot next : Spot) (text : List ℕ) (left : Option (List ℕ)) (chunk : List ℕ) (d : Doc) (s : Status) (detail : List ℕ) → Behind t spot next text left chunk d → RefusesFunction R d s detail → IsRefused R t spot text s detail
     function_refused spot next text left chunk d s detail b is = record { piece = b.piece; rest = chunk ++ b.rest; cut = b.cut; held = b.held; refused = inr (record { doc = d; spelled = b.spelled; refused = is }) }

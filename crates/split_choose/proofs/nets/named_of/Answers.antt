@@ -1,4 +1,4 @@
-use Rattle.std.proofs.Common.{◌≡◌, ◌∙◌, ap, map, false}
+use Rattle.std.proofs.Common.{◌≡◌, ◌∙◌, map, false}
 use Rattle.std.proofs.lemmas.Result.{IfOk-weaker}
 use Rattle.split_choose.specs.declared.spans.Span.{Span}
 use Rattle.split_choose.proofs.Netting.{no_flags-none}

@@ -2,8 +2,11 @@ use Rattle.ra_top.proofs.CommandLemmas.Taken.{taken_refused, told_refused}
 use Rattle.ra_top.proofs.commands.trace.traced_valid.Goals as goal
 
 pub returns-in-Err-clause-answer : goal.returns-in-Err-clause-answer
-returns-in-Err-clause-answer g c = taken_refused c.args.target.now c.args.source.now.func c.args.name.now c.refused.result (c.refused.ensures c.args.target.now c.args.source.now.func c.in-Err.ensures.places)
+returns-in-Err-clause-answer g c =
+    let f = c.args.source.now.func in
+    taken_refused c.args.target.now f f.name c.refused.result (rw c.as_slice.ensures at c.refused.ensures c.args.target.now f c.in-Err.ensures.places)
 
 pub returns-in-Err-clause-told : goal.returns-in-Err-clause-told
 returns-in-Err-clause-told g c =
-    told_refused (g.W.Watcher.next c.args.target.now) c.args.target.now c.args.source.now.func c.args.name.now c.args.number c.args.watchers.now.items c.with_registers.new.watchers.items c.refused.result (c.refused.ensures c.args.target.now c.args.source.now.func c.in-Err.ensures.places) c.in-Err.ensures.part
+    let f = c.args.source.now.func in
+    told_refused (g.W.Watcher.next c.args.target.now) c.args.target.now f f.name c.args.number c.args.watchers.now.items c.with_registers.new.watchers.items c.refused.result (rw c.as_slice.ensures at c.refused.ensures c.args.target.now f c.in-Err.ensures.places) c.in-Err.ensures.part
