@@ -1,7 +1,7 @@
 //! Laws of clashes: what a table and the stretches that ranges hold tell of them is what the
 //! meaning of the function says.
 
-ghost use Rattle.alloc_laws.specs.Clashes.Facts.{ClashesLaw, EvictionLaw, FactsLaw};
+ghost use Rattle.alloc_laws.specs.Clashes.Facts.{BasicLaw, ClashesLaw, EvictionLaw, FactsLaw};
 ghost use Rattle.alloc_laws.specs.Clashes.Laws.{CoveredLaw, OverlapLaw};
 
 /// The extents of a lane in a computed table cover exactly the points at which it is live or
@@ -30,4 +30,9 @@ pub fn facts_law()
 /// The eviction that is chosen by such a matrix is the cheapest one.
 pub fn eviction_law()
     ensures { EvictionLaw }
+{}
+
+/// What the basic allocator chooses by it is its choice.
+pub fn basic_law()
+    ensures { BasicLaw }
 {}

@@ -1,3 +1,3 @@
-pub mod Firsts
 pub mod Rising
 pub mod Meeting
+pub mod Renaming

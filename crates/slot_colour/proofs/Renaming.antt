@@ -1,7 +1,7 @@
 -- A function whose slots went to others.
-use Rattle.std.proofs.Common.{◌≡◌, ◌≤◌, ℕ, ◌+◌, Bool, true, false, cond, not, List, [], ◌∷◌, map, length, eqb, refl, arith}
-use Rattle.std.specs.List.{filter, sum_by, count_by}
-use Rattle.std.proofs.lemmas.List.{length-map}
+use Rattle.std.proofs.Common.{◌≡◌, ◌<◌, ℕ, ◌+◌, cond, List, [], ◌∷◌, ◌++◌, map, length, take, drop, get_or, set, eqb, refl, ap, ◌∙◌, arith, length-append, length-drop}
+use Rattle.std.proofs.lemmas.List.{length-map, length-take, get_or_default}
+use Rattle.std.proofs.lemmas.List.Edits.{map_over_more}
 use Rattle.std.proofs.lemmas.List.Sums.{sum_by-cons}
 use Rattle.mir_func.specs.declared.func.Block.{Block}
 use Rattle.mir_func.specs.declared.func.Instr.{Instr}
@@ -21,6 +21,20 @@ module _ (taken : List Slot) (x : ℕ) where
   ids : (bs : List Block) → id_total x (map (renamed_block taken) bs) ≡ id_total x bs
   ids [] = refl
   ids (b ∷ bs) = omega (arith, sum_by-cons (λ d. id_count x d.instrs) b bs, sum_by-cons (λ d. id_count x d.instrs) (renamed_block taken b) (map (renamed_block taken) bs), ids-in b.instrs, ids bs)
+
+as-long : {X : Type 0} (f : X → X) (xs ys : List X) (k : ℕ) → k < length xs → ys ≡ map f (take k xs) ++ drop k xs → length ys ≡ length xs
+as-long f xs ys k h was =
+    let long = ap (λ l. length l) was in
+    omega (arith, h, long, length-append (map f (take k xs)) (drop k xs), length-map (take k xs) f, length-take k xs, length-drop k xs)
+
+-- one element more that is changed, whatever stood there
+pub changed-more : {X : Type 0} (f : X → X) (xs ys zs : List X) (k : ℕ) → k < length xs → ys ≡ map f (take k xs) ++ drop k xs → ((x : X) → x ≡ get_or ys k x → zs ≡ set ys k (f x)) → zs ≡ map f (take (k + 1) xs) ++ drop (k + 1) xs
+changed-more f xs [] zs k h was made = absurd (omega (arith, h, as-long f xs [] k h was))
+changed-more f xs (y ∷ ys) zs k h was made =
+    let long = as-long f xs (y ∷ ys) k h was in
+    let x = get_or (y ∷ ys) k y in
+    let at : x ≡ get_or (y ∷ ys) k x = get_or_default (y ∷ ys) k y x (omega (arith, h, long)) in
+    made x at ∙ map_over_more f xs (y ∷ ys) k x h was at
 
 -- it is a function
 pub function-renamed : (taken : List Slot) (n : ℕ) (bs : List Block) → IsFunction bs n → IsFunction (map (renamed_block taken) bs) n

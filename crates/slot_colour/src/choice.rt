@@ -1,10 +1,10 @@
 //! Which slot each spill slot goes to.
 
-ghost use Rattle.std.specs.Prelude.{◌≡◌, ◌≤◌, [], ◌++◌, ◌∷◌, length, nat_le, position, IfOk};
+ghost use Rattle.std.specs.Prelude.{◌≡◌, ◌≤◌, [], ◌++◌, ◌∷◌, length, nat_le, position, IfOk, OnOk};
 ghost use Rattle.std.specs.List.{position_or_len};
 ghost use Rattle.live_lanes.specs.Looks.{InOrder};
 ghost use Rattle.slot_colour.specs.Clashes.{is_clash};
-ghost use Rattle.slot_colour.specs.Colouring.{spill_slots, text_of, refuses, is_refused, may_join, home, placed, taken_on, home_of, is_gone};
+ghost use Rattle.slot_colour.specs.Colouring.{with_spill, spill_slots, text_of, refuses, is_refused, may_join, home, placed, taken_on, home_of, is_gone};
 
 use crate::clashes::is_clash;
 use crate::lines::Declared;
@@ -40,16 +40,25 @@ fn place_of(numbers: &[u32], n: u32) -> usize
     find_place(numbers, n).unwrap_or(numbers.len())
 }
 
+/// Puts a frame object that is a spill slot into a list that rises.
+#[tactic(auto, using(crate::proofs::Rising::insert_rising))]
+fn put_spill(rising: &mut Vec<u32>, object: (u32, bool)) -> Result<(), AllocError>
+    ensures { OnOk result (rising.new.items ≡ with_spill object rising.old.items) }
+{
+    if object.1 {
+        let at = place_of(rising.as_slice(), object.0);
+        rising.insert(at, object.0)?;
+    }
+    Ok(())
+}
+
 /// The spill slots among frame objects, by rising number.
 pub(crate) fn spill_slots(alloc: Global, frames: &[(u32, bool)]) -> Result<Vec<u32>, AllocError>
     ensures { IfOk result (λ made. made.items ≡ spill_slots frames.now) }
 {
     let mut rising: Vec<u32> = Vec::new(alloc);
     'objects: for object in frames {
-        if object.1 {
-            let at = place_of(rising.as_slice(), object.0);
-            rising.insert(at, object.0)?;
-        }
+        put_spill(&mut rising, *object)?;
     }
     Ok(rising)
 }

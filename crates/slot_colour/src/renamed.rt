@@ -5,7 +5,7 @@ ghost use Rattle.mir_func.specs.declared.func.Operand.{Operand};
 ghost use Rattle.slot_colour.specs.Colouring.{is_gone, renamed, renamed_instr, renamed_block};
 
 use crate::choice::{Slot, home_of, is_gone};
-use mir_func::{Block, Blocks, Frames, Instr, Operand, Operands};
+use mir_func::{Block, Blocks, Frames, Instr, Instrs, Operand, Operands};
 use std::alloc::{AllocError, Global};
 use target_base::List;
 
@@ -20,12 +20,28 @@ fn rename_operand(taken: &[Slot], operands: &mut Operands, k: usize)
     }
 }
 
+/// Names kept slots in place of members among operands.
+fn rename_operands(taken: &[Slot], operands: &mut Operands)
+    ensures { operands.new ≡ map (renamed taken.now) operands.old }
+{
+    'operands: for k in 0..operands.len() {
+        rename_operand(taken, operands, k);
+    }
+}
+
 /// Names kept slots in place of members in an instruction.
 fn rename_instr(taken: &[Slot], instr: &mut Instr)
     ensures { instr.new ≡ renamed_instr taken.now instr.old }
 {
-    'operands: for k in 0..instr.operands.len() {
-        rename_operand(taken, &mut instr.operands, k);
+    rename_operands(taken, &mut instr.operands);
+}
+
+/// Names kept slots in place of members in instructions.
+fn rename_instrs(taken: &[Slot], instrs: &mut Instrs)
+    ensures { instrs.new ≡ map (renamed_instr taken.now) instrs.old }
+{
+    'instrs: for k in 0..instrs.len() {
+        rename_instr(taken, instrs.get_mut(k));
     }
 }
 
@@ -33,9 +49,7 @@ fn rename_instr(taken: &[Slot], instr: &mut Instr)
 fn rename_block(taken: &[Slot], block: &mut Block)
     ensures { block.new ≡ renamed_block taken.now block.old }
 {
-    'instrs: for k in 0..block.instrs.len() {
-        rename_instr(taken, block.instrs.get_mut(k));
-    }
+    rename_instrs(taken, &mut block.instrs);
 }
 
 /// Names kept slots in place of members in blocks.

@@ -20,10 +20,10 @@ use Rattle.live_lanes.proofs.Cells.{both-left}
 use Rattle.evictor.specs.Candidates.{Assignment, register_of, other_side, if_among, hinted, block_hints, all_hints, most_frequent, with_first, candidates}
 use Rattle.evictor.specs.Cheapest.{Setting, clashers, may_lose, qualifies, first_cheapest, cheapest_of}
 use Rattle.evictor.specs.Hints.{assignment_of}
-use Rattle.evictor.specs.Settings.{setting_of}
+use Rattle.evictor.specs.Settings.{setting_of, facts_of}
 use Rattle.evictor.proofs.Domains.{domain_holds}
-use Rattle.alloc_laws.specs.Clashes.Facts.{EvictionLaw}
-use Rattle.alloc_laws.proofs.Clashes.Facts.{is_exact, unreserved-same, told_facts, are-facts}
+use Rattle.alloc_laws.specs.Clashes.Facts.{EvictionLaw, BasicLaw}
+use Rattle.alloc_laws.proofs.Clashes.Facts.{is_exact, unreserved-same, told_facts, are-facts, facts-law}
 
 found-in : {X : Type 0} (p : X → Bool) (xs : List X) (y : X) → find p xs ≡ Some y → Member y xs
 found-in p [] y e = absurd (cc)
@@ -100,3 +100,6 @@ eviction-law m exact v none freqs k answer e =
       are_facts = are-facts m exact v none;
       answered = e ∙ same-choice (setting_of m freqs k v) (is_exact m exact.computed exact.rules exact.last v) rs (λ r j. unreserved-same m exact.computed exact.rules exact.last v r (of-candidates m.live.target m.live.func (assignment_of m) freqs v r j));
     }
+
+pub basic-law : BasicLaw
+basic-law m exact v none freqs tinies choice e = record { facts = facts_of m v; are_facts = facts-law m exact v none; chosen = e }

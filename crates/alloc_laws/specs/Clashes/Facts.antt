@@ -16,6 +16,9 @@ use Rattle.evictor.specs.Candidates.{candidates}
 use Rattle.evictor.specs.Cheapest.{UnitInTheWay, InTheWay, AreFacts, IsCheapest, cheapest_of}
 use Rattle.evictor.specs.Hints.{assignment_of}
 use Rattle.evictor.specs.Settings.{ranking_of, facts_of, setting_of}
+use Rattle.basic_alloc.specs.declared.choice.Choice.{Choice}
+use Rattle.basic_alloc.specs.Basic.{choice_of, IsChoice}
+use Rattle.basic_alloc.specs.Settings.{basic_setting}
 use Rattle.alloc_laws.specs.Clashes.Holds.{Holds}
 
 -- The matrix is exact: its table is computed, its function keeps the rules that liveness rests on, terminators stand last in their
@@ -46,3 +49,10 @@ EvictionLaw =
     (m : Matrix) → IsExact m → (v : ℕ) → register_in m.registers.items v ≡ None → (freqs : List ℕ) (k : Ranks) (answer : Option (Reg × List ℕ))
     → answer ≡ cheapest_of (setting_of m freqs k v) (candidates m.live.target m.live.func (assignment_of m) freqs v)
     → IsCheapest m.live.target m.live.func (assignment_of m) freqs (ranking_of k) v answer
+
+-- and what the basic allocator chooses by it is its choice
+abbrev pub BasicLaw : Type 0
+BasicLaw =
+    (m : Matrix) → IsExact m → (v : ℕ) → register_in m.registers.items v ≡ None → (freqs tinies : List ℕ) (choice : Choice)
+    → choice ≡ choice_of (basic_setting m freqs tinies v) (candidates m.live.target m.live.func (assignment_of m) freqs v)
+    → IsChoice m.live.target m.live.func (assignment_of m) freqs tinies v choice
