@@ -48,7 +48,7 @@ use Rattle.live_laws.proofs.Effects.Lists.{all-of}
 use Rattle.live_laws.proofs.Effects.Blocks.{slice-member}
 use Rattle.live_laws.proofs.Effects.Moved.{moved-of, undefined-lane}
 use Rattle.live_laws.proofs.Effects.Silent.{map-long}
-use Rattle.place_solve.specs.Around.{has_unit, defines, defines_explicitly, clobbers, writes, writes_early}
+use Rattle.place_solve.specs.Around.{has_unit, keeps_unit, defines, defines_explicitly, clobbers, writes, writes_early}
 use Rattle.place_solve.proofs.Solved.{units-within}
 use Rattle.place_solve.proofs.Writes.{IsExact, any-of, both, either-true, or-left, unit-of, unit-in, no-other, defined-of, defined-in, explicit-of, explicit-in}
 
@@ -348,7 +348,7 @@ module _ (t : Target) (f : Function) (i : Instr) (e : Effect) (known : effect_of
     where
       go : (list_any (defines t (unit_number u)) i.operands ≡ true) ⊎ (clobbers t i (unit_number u) ≡ true) → has_unit t d.loc (unit_number u) ≡ true
       go (inl h) = let z = defined-of t f (unit_number u) i.operands h in subst (λ x. has_unit t x.loc (unit_number u) ≡ true) (only z.0 z.1) z.3
-      go (inr h) = absurd (let n : false ≡ true = sym not-call ∙ first_of_both (does is_call t i) (not (list_any (preserves t u) i.operands)) h in cc)
+      go (inr h) = absurd (let n : false ≡ true = sym not-call ∙ first_of_both (does is_call t i) (not (list_any (keeps_unit t (unit_number u)) i.operands)) h in cc)
 
   back : (u : ℕ) → has_unit t d.loc (unit_number u) ≡ true → writes t i (unit_number u) ≡ true
   back u h = or-left (list_any (defines t (unit_number u)) i.operands) (clobbers t i (unit_number u)) (defined-in t f (unit_number u) i.operands d here defining h)

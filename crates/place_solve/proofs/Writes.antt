@@ -49,7 +49,7 @@ use Rattle.live_laws.proofs.Effects.Instrs.{same-law}
 use Rattle.live_laws.proofs.Effects.Lists.{any-in}
 use Rattle.live_laws.proofs.Effects.Moved.{undefined-lane, undefined-in}
 use Rattle.live_laws.proofs.Effects.Shapes.{numbers-in}
-use Rattle.place_solve.specs.Around.{has_unit, defines, defines_explicitly, clobbers, writes, writes_early}
+use Rattle.place_solve.specs.Around.{has_unit, keeps_unit, defines, defines_explicitly, clobbers, writes, writes_early}
 use Rattle.place_solve.proofs.Units.{units_any}
 
 pub any-of : {X : Type 0} (p : X → Bool) (xs : List X) → list_any p xs ≡ true → (x : X) × Member x xs × (p x ≡ true)
@@ -173,6 +173,12 @@ module _ (t : Target) (f : Function) where
       let z = filter-of (λ o. o.def && not o.implicit) d (registers os) m in
       any-in (defines_explicitly t u) (operands.Reg d) os (register-of os d z.0) (both (d.def && not d.implicit) (has_unit t d.loc u) z.1 h)
 
+  -- masks
+
+  kept-same : (u : ℕ) (o : Operand) → keeps_unit t (unit_number u) o ≡ preserves t u o
+  unfolding keeps_unit
+  kept-same u o = refl
+
   not-phi : (e : Effect) → is_silent e ≡ false → is_phi e ≡ false
   not-phi effects.Phi h = absurd (cc)
   not-phi e h = refl
@@ -234,8 +240,8 @@ module _ (t : Target) (f : Function) where
             let z = map-of UnitLane w.lane (unpreserved t os) (undefined-lane false w (map UnitLane (unpreserved t os)) k) in
             let same : u ≡ z.0 = unit-same u z.0 (sym h ∙ z.2) in
             let y = filter-of (λ v. not (list_any (preserves t v) os)) z.0 (numbers 0 (length t.units)) z.1 in
-            let n : not (list_any (preserves t u) os) ≡ true = ap not (any-alike (preserves t u) (preserves t u) (λ o. refl) os) ∙ ap (λ v. not (list_any (preserves t v) os)) same ∙ y.1 in
-            or-right (list_any (defines t (unit_number u)) os) (clobbers t i (unit_number u)) (both (does is_call t i) (not (list_any (preserves t u) os)) (calls ∙ sym (ap is_call g)) n)
+            let n : not (list_any (keeps_unit t (unit_number u)) os) ≡ true = ap not (any-alike (keeps_unit t (unit_number u)) (preserves t u) (kept-same u) os) ∙ ap (λ v. not (list_any (preserves t v) os)) same ∙ y.1 in
+            or-right (list_any (defines t (unit_number u)) os) (clobbers t i (unit_number u)) (both (does is_call t i) (not (list_any (keeps_unit t (unit_number u)) os)) (calls ∙ sym (ap is_call g)) n)
         call x g k = absurd (member-none w k)
 
         rest : Member w Y ⊎ Member w (call_writes t e os) → writes t i (unit_number u) ≡ true
@@ -269,8 +275,8 @@ module _ (t : Target) (f : Function) where
         go : (list_any (defines t (unit_number u)) os ≡ true) ⊎ (clobbers t i (unit_number u) ≡ true) → Wrote (UnitLane u) (X ++ (Y ++ call_writes t e os))
         go (inl h) = let z = defined-of (unit_number u) os h in implicit z.0 z.1 z.2 z.3 z.0.implicit refl
         go (inr h) =
-            let c : e ≡ effects.Call = call-is e (sym calls ∙ first_of_both (does is_call t i) (not (list_any (preserves t u) os)) h) in
-            let n : not (list_any (preserves t u) os) ≡ true = sym (ap not (any-alike (preserves t u) (preserves t u) (λ o. refl) os)) ∙ second_of_both (does is_call t i) (not (list_any (preserves t u) os)) h in
+            let c : e ≡ effects.Call = call-is e (sym calls ∙ first_of_both (does is_call t i) (not (list_any (keeps_unit t (unit_number u)) os)) h) in
+            let n : not (list_any (preserves t u) os) ≡ true = sym (ap not (any-alike (keeps_unit t (unit_number u)) (preserves t u) (kept-same u) os)) ∙ second_of_both (does is_call t i) (not (list_any (keeps_unit t (unit_number u)) os)) h in
             let m : Member u (unpreserved t os) = filter-in (λ v. not (list_any (preserves t v) os)) u (numbers 0 (length t.units)) (numbers-in u 0 (length t.units) (omega arith) (omega (arith, few))) n in
             let z = undefined-in false (UnitLane u) (map UnitLane (unpreserved t os)) (map-in UnitLane u (unpreserved t os) m) in
             let k : Member z.0 (call_writes t e os) = subst (λ x. Member z.0 (call_writes t x os)) (sym c) z.1 in

@@ -39,9 +39,13 @@ unfoldable pub defines_explicitly : Target → UnitNumber → Operand → Bool
 defines_explicitly t u (operands.Reg o) = o.def && not o.implicit && has_unit t o.loc u
 defines_explicitly t u _ = false
 
+-- the operand is a mask that preserves the unit
+unfoldable pub keeps_unit : Target → UnitNumber → Operand → Bool
+keeps_unit t u = preserves t u.0
+
 -- the instruction is a call, and none of its masks preserves the unit
 abbrev pub clobbers : Target → Instr → UnitNumber → Bool
-clobbers t i u = does is_call t i && not (list_any (preserves t u.0) i.operands)
+clobbers t i u = does is_call t i && not (list_any (keeps_unit t u) i.operands)
 
 -- the instruction writes the unit
 abbrev pub writes : Target → Instr → UnitNumber → Bool

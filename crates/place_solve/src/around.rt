@@ -3,7 +3,7 @@
 ghost use Rattle.std.specs.Prelude.{◌≡◌};
 ghost use Rattle.std.specs.List.{list_any};
 ghost use Rattle.live_lanes.specs.Looks.{InOrder};
-ghost use Rattle.place_solve.specs.Around.{has_unit, defines, defines_explicitly, clobbers, writes, writes_early, is_taken, is_left, entry_tests, exit_tests, at_entry, at_exit};
+ghost use Rattle.place_solve.specs.Around.{has_unit, keeps_unit, defines, defines_explicitly, clobbers, writes, writes_early, is_taken, is_left, entry_tests, exit_tests, at_entry, at_exit};
 
 use instr_effects::masks::is_preserved;
 use live_lanes::LiveFunc;
@@ -82,12 +82,20 @@ fn is_defined_explicitly(target: &Target, operands: &[Operand], u: Unit) -> bool
     false
 }
 
+/// Whether one of the operands is a mask that preserves the unit.
+#[tactic(auto, unfolding(crate::specs::Around::keeps_unit))]
+fn is_kept(target: &Target, operands: &[Operand], u: Unit) -> bool
+    ensures { result ≡ list_any (keeps_unit target.now u) operands.now }
+{
+    is_preserved(target, operands, u.0 as u32)
+}
+
 /// Whether the instruction is a call that makes the unit undefined.
 fn clobbers(target: &Target, i: &Instr, u: Unit) -> bool
     ensures { result ≡ clobbers target.now i.now u }
 {
     match effect_of(target, i) {
-        Some(Effect::Call) => !is_preserved(target, i.operands.as_slice(), u.0 as u32),
+        Some(Effect::Call) => !is_kept(target, i.operands.as_slice(), u),
         _ => false,
     }
 }
