@@ -53,3 +53,8 @@ meets-none x one e [] = refl
 meets-none x one e (other ∷ others) =
     let none : do_meet x one other ≡ false = ap (λ cs. list_any (is_met_at x other) (flat_map (cell_points x.order.slots other) cs)) (no-cells (cells_of x.rows.rows.items one) e) in
     meets-none x one e others ∙ ap (λ b. b || list_any (do_meet x one) others) (sym none)
+
+-- nor does one of no lanes
+pub meets-no-others : (x : Table) (ones : List ℕ) → false ≡ list_any (λ one. list_any (do_meet x one) []) ones
+meets-no-others x [] = refl
+meets-no-others x (one ∷ ones) = meets-no-others x ones
