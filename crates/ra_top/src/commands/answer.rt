@@ -61,6 +61,7 @@ pub fn end_status(job: Job) -> Status
 /// first ones of a longer piece. `number` is that of the next function that is allocated, and rises
 /// with it. The commands `alloc` and `trace` tell the watchers; the others leave them as they were. Each
 /// watcher is told all steps of the function's run, and a first part of them where it is refused.
+#[tactic(auto, using(crate::proofs::CommandLemmas::Refused::unspelled))]
 pub fn answer_at<W: Watcher>(
     alloc: Global,
     job: Job,

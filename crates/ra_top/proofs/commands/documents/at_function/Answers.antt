@@ -10,16 +10,16 @@ returns-in-Alloc-clause-told g c =
     let next = g.W.Watcher.next c.args.target.now in
     let old = c.args.watchers.now.items in
     let new = c.allocated_function.new.watchers.items in
-    answer_of_one next c.allocated_function.result c.args.number.now c.next.new.number old new c.next.ensures.next
-    (subst (λ n. IfOk c.allocated_function.result (ToldOne next n old new)) c.next.ensures.now c.allocated_function.ensures.told)
+    answer_of_one next c.allocated_function.result c.args.number.now c.next-number.new.number old new c.next-number.ensures.next
+    (subst (λ n. IfOk c.allocated_function.result (ToldOne next n old new)) c.next-number.ensures.now c.allocated_function.ensures.told)
 
 pub returns-in-Trace-clause-told : goal.returns-in-Trace-clause-told
 returns-in-Trace-clause-told g c =
     let next = g.W.Watcher.next c.args.target.now in
     let old = c.args.watchers.now.items in
     let new = c.traced.new.watchers.items in
-    answer_of_one next c.traced.result c.args.number.now c.next-in-Trace.new.number old new c.next-in-Trace.ensures.next
-    (subst (λ n. IfOk c.traced.result (ToldOne next n old new)) c.next-in-Trace.ensures.now c.traced.ensures.told)
+    answer_of_one next c.traced.result c.args.number.now c.next.new.number old new c.next.ensures.next
+    (subst (λ n. IfOk c.traced.result (ToldOne next n old new)) c.next.ensures.now c.traced.ensures.told)
 
 pub returns-in-Verify-clause-told : goal.returns-in-Verify-clause-told
 returns-in-Verify-clause-told g c = answer_of_none (g.W.Watcher.next c.args.target.now) c.verified_function.result c.args.number.now c.args.number.now c.args.watchers.now.items c.args.watchers.now.items refl refl
