@@ -1,3 +1,4 @@
 pub mod Rising
 pub mod Meeting
+pub mod Taking
 pub mod Renaming

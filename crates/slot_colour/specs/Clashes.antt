@@ -49,5 +49,5 @@ abbrev pub do_meet : Table → ℕ → ℕ → Bool
 do_meet x one other = list_any (is_met_at x other) (lane_points x other (Some one))
 
 -- two slots clash by the table
-abbrev pub is_clash : Table → ℕ → ℕ → Bool
+unfoldable pub is_clash : Table → ℕ → ℕ → Bool
 is_clash x s r = list_any (λ one. list_any (do_meet x one) (slot_lanes x r)) (slot_lanes x s)

@@ -66,6 +66,7 @@ fn some_meet(live: &LiveFunc, these: Lanes, those: Lanes) -> bool
 }
 
 /// Whether two slots clash.
+#[tactic(auto, unfolding(crate::specs::Clashes::is_clash))]
 pub(crate) fn is_clash(live: &LiveFunc, s: u32, r: u32) -> bool
     ensures { InOrder live.now.table → result ≡ is_clash live.now.table s r }
 {
