@@ -117,6 +117,7 @@ impl Run {
         }
     }
 
+    /// Lets ranges wait, one after another, each at its own stage.
     pub fn enqueue_all(&mut self, ranges: &[u32]) -> Result<(), AllocError> {
         'ranges: for w in ranges {
             self.enqueue(*w)?;
@@ -223,6 +224,7 @@ impl Run {
         self.enqueue_all(clashers.as_slice())
     }
 
+    /// Takes ranges out of their registers. One that has none stays as it is.
     pub fn unassign_all(&mut self, ranges: &[u32]) {
         'ranges: for w in ranges {
             self.matrix.unassign(*w);
