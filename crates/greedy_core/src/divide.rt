@@ -1,7 +1,6 @@
 //! The step that splits a range.
 
 use crate::run::{Policy, Run};
-use block_freq::Freqs;
 use live_lanes::Labels;
 use spiller::RunStop;
 use split_choose::{cut_region_over, local, per_block, region_over};
@@ -37,11 +36,11 @@ impl Run {
     }
 
     /// The split that is offered to a range: region before block before local.
-    fn offer(&self, freqs: &Freqs, v: u32) -> Result<Option<Offer>, AllocError> {
+    fn offer(&self, v: u32) -> Result<Option<Offer>, AllocError> {
         if self.depth(v) >= MOST_DEPTH {
             return Ok(None);
         }
-        if let Some(offer) = self.region_offer(freqs, v)? {
+        if let Some(offer) = self.region_offer(v)? {
             return Ok(Some(offer));
         }
         match self.block_offer(v)? {
@@ -51,19 +50,19 @@ impl Run {
     }
 
     /// The region that is offered to a range, with its register.
-    fn found_region(&self, freqs: &Freqs, v: u32) -> Result<Option<(Reg, Labels)>, AllocError> {
+    fn found_region(&self, v: u32) -> Result<Option<(Reg, Labels)>, AllocError> {
         if self.policy != Policy::Cut {
-            return region_over(self.alloc, &self.matrix, v, freqs, &self.bundles);
+            return region_over(self.alloc, &self.matrix, v, &self.freqs, &self.bundles);
         }
-        let found = cut_region_over(self.alloc, &self.matrix, v, freqs, &self.bundles)?;
+        let found = cut_region_over(self.alloc, &self.matrix, v, &self.freqs, &self.bundles)?;
         Ok(match found {
             Some(region) => Some((region.reg, region.labels)),
             None => None,
         })
     }
 
-    fn region_offer(&self, freqs: &Freqs, v: u32) -> Result<Option<Offer>, AllocError> {
-        Ok(match self.found_region(freqs, v)? {
+    fn region_offer(&self, v: u32) -> Result<Option<Offer>, AllocError> {
+        Ok(match self.found_region(v)? {
             Some((r, labels)) => Some(Offer {
                 kind: Kind::Region,
                 register: Some(r),
@@ -96,8 +95,8 @@ impl Run {
     }
 
     /// Splits a range where that is offered. Its parts wait.
-    pub fn divide(&mut self, freqs: &Freqs, v: u32) -> Result<Option<Step>, RunStop> {
-        match self.offer(freqs, v)? {
+    pub fn divide(&mut self, v: u32) -> Result<Option<Step>, RunStop> {
+        match self.offer(v)? {
             Some(offer) => Ok(Some(self.divide_as(v, offer)?)),
             None => Ok(None),
         }

@@ -78,7 +78,7 @@ pub fn allocate<W: Watcher>(
         let Some(v) = run.queue.pop() else {
             return Ok(run.finished());
         };
-        run.step(target, freqs, v, &mut ledger, watchers)?;
+        run.step(target, v, &mut ledger, watchers)?;
     }
     Err(RunStop::Unfinished)
 }

@@ -7,7 +7,6 @@ ghost use Rattle.greedy_core.specs.Ledgers.{Records};
 
 use crate::ledger::Ledger;
 use crate::run::{Policy, Run};
-use block_freq::Freqs;
 use evictor::{Stage, candidates, cheapest_of, first_free};
 use interference::{Clash, Tinies, Tiny};
 use place_solve::solve;
@@ -22,7 +21,6 @@ impl Run {
     pub fn step<W: Watcher>(
         &mut self,
         target: &Target,
-        freqs: &Freqs,
         v: u32,
         ledger: &mut Ledger,
         watchers: &mut Vec<W>,
@@ -31,17 +29,17 @@ impl Run {
             × ((done : List Step) → Records ledger.old done → Records ledger.new (done ++ steps))) }
         ensures part { OnErr result ((steps : List Step) × PartTold (W.next target.now) steps watchers.old.items watchers.new.items) }
     {
-        let done = self.steps(freqs, v)?;
+        let done = self.steps(v)?;
         ledger.enter_all(&done)?;
         tell_steps(watchers, target, &done)?;
         Ok(())
     }
 
     /// Does what the policy does for a range, and answers what is told of it.
-    fn steps(&mut self, freqs: &Freqs, v: u32) -> Result<Steps, RunStop> {
+    fn steps(&mut self, v: u32) -> Result<Steps, RunStop> {
         match self.policy {
             Policy::Greedy | Policy::Cut => {
-                let done = self.first_step(freqs, v)?;
+                let done = self.first_step(v)?;
                 Ok(self.alone(done)?)
             }
             Policy::Basic => self.basic_steps(v),
@@ -56,27 +54,27 @@ impl Run {
     }
 
     /// Does the first step that applies, and answers it.
-    fn first_step(&mut self, freqs: &Freqs, v: u32) -> Result<Step, RunStop> {
-        if let Some(done) = self.step_in_registers(freqs, v)? {
+    fn first_step(&mut self, v: u32) -> Result<Step, RunStop> {
+        if let Some(done) = self.step_in_registers(v)? {
             return Ok(done);
         }
         match self.stage(v) {
             Stage::New => Ok(self.defer(v)?),
-            Stage::Split => self.divide_or_spill(freqs, v),
+            Stage::Split => self.divide_or_spill(v),
             Stage::Tiny => self.place(v),
         }
     }
 
     /// Gives a range a free register, or that of cheaper ranges.
-    fn step_in_registers(&mut self, freqs: &Freqs, v: u32) -> Result<Option<Step>, AllocError> {
-        let found = candidates(self.alloc, &self.matrix, v, freqs)?;
+    fn step_in_registers(&mut self, v: u32) -> Result<Option<Step>, AllocError> {
+        let found = candidates(self.alloc, &self.matrix, v, &self.freqs)?;
         if let Some(r) = first_free(&self.matrix, v, found.as_slice()) {
             return Ok(Some(self.take(v, r)?));
         }
         if self.stage(v) == Stage::Split {
             return Ok(None);
         }
-        self.step_by_eviction(freqs, v, found.as_slice())
+        self.step_by_eviction(v, found.as_slice())
     }
 
     /// Gives a range a free register.
@@ -88,11 +86,10 @@ impl Run {
     /// Gives a range the register of cheaper ranges.
     fn step_by_eviction(
         &mut self,
-        freqs: &Freqs,
         v: u32,
         found: &[Reg],
     ) -> Result<Option<Step>, AllocError> {
-        match cheapest_of(self.alloc, &self.matrix, v, freqs, &self.ranks, found)? {
+        match cheapest_of(self.alloc, &self.matrix, v, &self.freqs, &self.ranks, found)? {
             Some((r, victims)) => Ok(Some(self.evict(v, r, victims)?)),
             None => Ok(None),
         }
@@ -132,8 +129,8 @@ impl Run {
         Ok(Step::Defer(v))
     }
 
-    fn divide_or_spill(&mut self, freqs: &Freqs, v: u32) -> Result<Step, RunStop> {
-        match self.divide(freqs, v)? {
+    fn divide_or_spill(&mut self, v: u32) -> Result<Step, RunStop> {
+        match self.divide(v)? {
             Some(done) => Ok(done),
             None => self.spill_alone(v),
         }
