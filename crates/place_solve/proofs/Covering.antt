@@ -131,20 +131,20 @@ units_short t (n ∷ ns) (rs ∷ left) units e h =
     begun_all t n ns rs rs left same
     ∙ cases (must_hold t units n rs)
     (λ must.
-        let parts = both (reaches_back n.kind) (list_all (holds_one t units) rs) must in
-        let counted = rw must at h in
-        let more : length units < 1 + holders t units ns left = omega (arith, counted) in
-        nothing_of (holds_one t units) (begun t (n ∷ ns) (rs ∷ left)) (λ r some.
-            let one = held t units r some in
-            let kept = holders_kept t (n, r) units (one.front ++ one.back) (λ m q back beside holds. others_held t one.front one.back one.unit q (rw one.parts at holds) (not_held t n m r q one.unit parts.0 back one.holds beside)) ns left in
-            let fewer : length units ≡ length (one.front ++ one.back) + 1 = omega (arith, ap length one.parts, length-append one.front (one.unit ∷ one.back), length-append one.front one.back) in
-            ap (map (λ qs. r ∷ qs)) (units_short t ns (after r) (one.front ++ one.back) (fits r) (omega (arith, more, kept, fewer)))) rs parts.1)
+    let parts = both (reaches_back n.kind) (list_all (holds_one t units) rs) must in
+    let counted = rw must at h in
+    let more : length units < 1 + holders t units ns left = omega (arith, counted) in
+    nothing_of (holds_one t units) (begun t (n ∷ ns) (rs ∷ left)) (λ r some.
+    let one = held t units r some in
+    let kept = holders_kept t (n, r) units (one.front ++ one.back) (λ m q back beside holds. others_held t one.front one.back one.unit q (rw one.parts at holds) (not_held t n m r q one.unit parts.0 back one.holds beside)) ns left in
+    let fewer : length units ≡ length (one.front ++ one.back) + 1 = omega (arith, ap length one.parts, length-append one.front (one.unit ∷ one.back), length-append one.front one.back) in
+    ap (map (λ qs. r ∷ qs)) (units_short t ns (after r) (one.front ++ one.back) (fits r) (omega (arith, more, kept, fewer)))) rs parts.1)
     (λ free.
-        let counted = rw free at h in
-        let more : length units < holders t units ns left = omega (arith, counted) in
-        nothing_of (λ r. true) (begun t (n ∷ ns) (rs ∷ left)) (λ r some.
-            let kept = holders_kept t (n, r) units units (λ m q back beside holds. holds) ns left in
-            ap (map (λ qs. r ∷ qs)) (units_short t ns (after r) units (fits r) (omega (arith, more, kept)))) rs (list_all_true rs))
+    let counted = rw free at h in
+    let more : length units < holders t units ns left = omega (arith, counted) in
+    nothing_of (λ r. true) (begun t (n ∷ ns) (rs ∷ left)) (λ r some.
+    let kept = holders_kept t (n, r) units units (λ m q back beside holds. holds) ns left in
+    ap (map (λ qs. r ∷ qs)) (units_short t ns (after r) units (fits r) (omega (arith, more, kept)))) rs (list_all_true rs))
 
 -- the variables are counted one after the other
 
