@@ -1,7 +1,7 @@
 -- A search that chooses one register at a time finds the first choice.
-use Rattle.std.proofs.Common.{◌≡◌, ℕ, ◌+◌, ◌<◌, ◌≤◌, Bool, true, false, cond, not, ◌&&◌, List, [], ◌∷◌, ◌++◌, map, length, get_or, take, drop, Some, None, refl, ap, sym, ◌∙◌, arith, append_assoc, length-append}
+use Rattle.std.proofs.Common.{◌≡◌, ℕ, ◌+◌, ◌<◌, ◌≤◌, Bool, true, false, cond, not, ◌&&◌, List, [], ◌∷◌, ◌++◌, map, length, get_or, take, drop, Some, None, refl, ap, sym, ◌∙◌, arith, append_assoc}
 use Rattle.std.specs.List.{zip, list_all, flat_map, filter}
-use Rattle.std.proofs.lemmas.List.{get_or_default, drop_more, append-nil, take_more, take_all, get_or-map, take-append-drop, length-map, drop_at, take_at}
+use Rattle.std.proofs.lemmas.List.{get_or_default, drop_more, append-nil, take_more, get_or-map, take-append-drop, length-map}
 use Rattle.std.proofs.lemmas.List.Concat.{flat_map-append}
 use Rattle.std.proofs.lemmas.List.Elements.{filter-append}
 use Rattle.target_base.specs.declared.types.Reg.{Reg}
@@ -9,7 +9,7 @@ use Rattle.target_base.specs.declared.types.Target.{Target}
 use Rattle.mir_meaning.specs.Places.{Kind as Use, Variable as Need, all_apart, choices}
 use Rattle.phi_elim.proofs.Walks.{drop_all}
 use Rattle.place_solve.specs.declared.variables.Variable.{Variable}
-use Rattle.place_solve.specs.Choice.{use_of, need_of, seats, stands_beside, fits, completions, first, Found}
+use Rattle.place_solve.specs.Choice.{use_of, need_of, seats, stands_beside, fits, completions, first}
 
 and_parts : (a b : Bool) → (a && b) ≡ true → (a ≡ true) × (b ≡ true)
 and_parts true b e = (refl, e)
@@ -70,7 +70,7 @@ zip-split vs [] rest h = rw (zip-nil vs) refl
 zip-split [] (d ∷ ds) rest h = absurd (omega arith)
 zip-split (v ∷ vs) (d ∷ ds) rest h = ap (λ s. (v, d) ∷ s) (zip-split vs ds rest (omega arith))
 
-dropped : (n : ℕ) (vs : List Variable) (v : Variable) → n < length vs → v ≡ get_or vs n v → drop n (map need_of vs) ≡ need_of v ∷ drop (n + 1) (map need_of vs)
+pub dropped : (n : ℕ) (vs : List Variable) (v : Variable) → n < length vs → v ≡ get_or vs n v → drop n (map need_of vs) ≡ need_of v ∷ drop (n + 1) (map need_of vs)
 dropped n vs v h at =
     let l : n < length (map need_of vs) = omega (arith, length-map vs need_of) in
     let g = get_or-map need_of vs n v (need_of v) h in
@@ -91,7 +91,7 @@ mapped_if : {X Y : Type 0} (b : Bool) (g : X → Y) (x : X) (ys : List Y) (xs : 
 mapped_if true g x ys xs e = ap (λ s. g x ∷ s) e
 mapped_if false g x ys xs e = e
 
-filter_map_of : {X Y : Type 0} (p : Y → Bool) (g : X → Y) (xs : List X) → filter p (map g xs) ≡ map g (filter (λ x. p (g x)) xs)
+pub filter_map_of : {X Y : Type 0} (p : Y → Bool) (g : X → Y) (xs : List X) → filter p (map g xs) ≡ map g (filter (λ x. p (g x)) xs)
 filter_map_of p g [] = refl
 filter_map_of p g (x ∷ xs) = mapped_if (p (g x)) g x (filter p (map g xs)) (filter (λ y. p (g y)) xs) (filter_map_of p g xs)
 
@@ -121,18 +121,14 @@ none_if_broken t vs done os v r h at broken =
     λ qs. rw (append_assoc done (r ∷ []) qs, seats_more vs done v r qs h at) (apart_broken t (seats vs done) (need_of v, r) (zip (drop (length done + 1) (map need_of vs)) qs) broken) in
     rw (filter_none (λ qs. all_apart t (seats vs ((done ++ r ∷ []) ++ qs))) (choices os) each) refl
 
-first_is_none : {X : Type 0} (xs : List X) → first xs ≡ None → xs ≡ []
+pub first_is_none : {X : Type 0} (xs : List X) → first xs ≡ None → xs ≡ []
 first_is_none [] e = refl
 first_is_none (x ∷ xs) e = absurd (cc)
-
-pub none_if_not_found : (t : Target) (vs : List Variable) (done : List Reg) (os : List (List Reg)) (r : Reg) → first (completions t vs (done ++ r ∷ []) os) ≡ None → with_next t vs done os r ≡ []
-unfolding with_next
-none_if_not_found t vs done os r e = rw (first_is_none (completions t vs (done ++ r ∷ []) os) e) refl
 
 pub tried_more : {X Y : Type 0} (g : X → List Y) (xs : List X) (i : ℕ) (x : X) → i < length xs → x ≡ get_or xs i x → flat_map g (take i xs) ≡ [] → g x ≡ [] → flat_map g (take (i + 1) xs) ≡ []
 tried_more g xs i x h at was none = rw (take_more xs i x h, ← at, flat_map-append g (take i xs) (x ∷ []), was, none) refl
 
-first_mapped : (r : Reg) (q : List Reg) (cs rest : List (List Reg)) → first cs ≡ Some q → first (map (λ qs. r ∷ qs) cs ++ rest) ≡ Some (r ∷ q)
+pub first_mapped : (r : Reg) (q : List Reg) (cs rest : List (List Reg)) → first cs ≡ Some q → first (map (λ qs. r ∷ qs) cs ++ rest) ≡ Some (r ∷ q)
 first_mapped r q [] rest e = absurd (cc)
 first_mapped r q (c ∷ cs) rest e = let same : c ≡ q = cc in ap (λ s. Some (r ∷ s)) same
 
@@ -140,23 +136,10 @@ pub found_with : (t : Target) (vs : List Variable) (done : List Reg) (os : List 
 unfolding with_next
 found_with t vs done os r q rest found = first_mapped r q (completions t vs (done ++ r ∷ []) os) rest found
 
-split_at : {X : Type 0} (xs : List X) (i : ℕ) (x : X) → i < length xs → x ≡ get_or xs i x → xs ≡ take i xs ++ x ∷ drop (i + 1) xs
+pub split_at : {X : Type 0} (xs : List X) (i : ℕ) (x : X) → i < length xs → x ≡ get_or xs i x → xs ≡ take i xs ++ x ∷ drop (i + 1) xs
 split_at xs i x h at =
     let d : drop i xs ≡ x ∷ drop (i + 1) xs = rw (← at) at (drop_more xs i x h) in
     sym (take-append-drop i xs) ∙ ap (λ s. take i xs ++ s) d
-
-pub found_next : (t : Target) (vs : List Variable) (done rs : List Reg) (os : List (List Reg)) (i : ℕ) (r : Reg) (q : List Reg) → i < length rs → r ≡ get_or rs i r → flat_map (with_next t vs done os) (take i rs) ≡ [] → first (completions t vs (done ++ r ∷ []) os) ≡ Some q → first (completions t vs done (rs ∷ os)) ≡ Some (r ∷ q)
-unfolding with_next
-found_next t vs done rs os i r q h at was found =
-    let whole : flat_map (with_next t vs done os) rs ≡ flat_map (with_next t vs done os) (take i rs) ++ (with_next t vs done os r ++ flat_map (with_next t vs done os) (drop (i + 1) rs)) =
-    ap (flat_map (with_next t vs done os)) (split_at rs i r h at) ∙ flat_map-append (with_next t vs done os) (take i rs) (r ∷ drop (i + 1) rs) in
-    let all = comp_step t vs done rs os ∙ (whole ∙ ap (λ s. s ++ (with_next t vs done os r ++ flat_map (with_next t vs done os) (drop (i + 1) rs))) was) in
-    ap first all ∙ first_mapped r q (completions t vs (done ++ r ∷ []) os) (flat_map (with_next t vs done os) (drop (i + 1) rs)) found
-
-pub none_left : (t : Target) (vs : List Variable) (done rs : List Reg) (os : List (List Reg)) (i : ℕ) → length rs ≤ i → flat_map (with_next t vs done os) (take i rs) ≡ [] → first (completions t vs done (rs ∷ os)) ≡ None
-none_left t vs done rs os i h was =
-    let e = rw (take_all i rs h) at was in
-    ap first (comp_step t vs done rs os ∙ e)
 
 pub nothing_left : (t : Target) (vs : List Variable) (done : List Reg) → all_apart t (seats vs done) ≡ true → first (completions t vs done []) ≡ Some []
 nothing_left t vs done h = rw (append-nil done, h) refl
@@ -191,63 +174,5 @@ fit_lost t vs cs k u r d e lost total h g is holds was =
 pub fit_all : (t : Target) (vs : List Variable) (cs : List Reg) (k : ℕ) (u : Use) (r : Reg) (total : Bool) → length cs ≤ k → list_all (stands_beside t u r) (zip (drop k (map need_of vs)) (drop k cs)) ≡ total → true ≡ total
 fit_all t vs cs k u r total h was = rw (drop_all k cs h, zip-nil (drop k (map need_of vs))) at was
 
--- the steps of the search, where n registers are chosen and the i-th option of the next variable is tried
-
-pub broken_more : (t : Target) (vs : List Variable) (os : List (List Reg)) (done cs here : List Reg) (n i : ℕ) (d : Variable) (e : Reg) → n ≡ length done → n < length vs → i < length here → cs ≡ done → fits t (seats vs cs) (use_of (get_or vs n d).kind) (get_or here i e) ≡ false → flat_map (with_next t vs done os) (take i here) ≡ [] → flat_map (with_next t vs done os) (take (i + 1) here) ≡ []
-broken_more t vs os done cs here n i d e is h g same broken was =
-    let at : get_or vs n d ≡ get_or vs (length done) (get_or vs n d) = rw (← is) (get_or_default vs n d (get_or vs n d) h) in
-    let fails = rw same at broken in
-    tried_more (with_next t vs done os) here i (get_or here i e) g (get_or_default here i e (get_or here i e) g) was
-    (none_if_broken t vs done os (get_or vs n d) (get_or here i e) (omega arith) at fails)
-
-pub apart_next : (t : Target) (vs : List Variable) (cs new done : List Reg) (n : ℕ) (d : Variable) (r : Reg) → n ≡ length done → n < length vs → cs ≡ done → all_apart t (seats vs done) ≡ true → fits t (seats vs cs) (use_of (get_or vs n d).kind) r ≡ true → new ≡ cs ++ r ∷ [] → all_apart t (seats vs new) ≡ true
-apart_next t vs cs new done n d r is h same apart holds made =
-    let at : get_or vs n d ≡ get_or vs (length done) (get_or vs n d) = rw (← is) (get_or_default vs n d (get_or vs n d) h) in
-    let stands = rw same at holds in
-    rw (made, same, seats_push vs done (get_or vs n d) r (omega arith) at) (apart_kept t (seats vs done) (need_of (get_or vs n d), r) apart stands)
-
-length_pushed : (done pushed : List Reg) (r : Reg) → pushed ≡ done ++ r ∷ [] → length pushed ≡ length done + 1
-length_pushed done pushed r e = omega (arith, ap length e, length-append done (r ∷ []))
-
-here_first : (options : List (List Reg)) (here : List Reg) (n : ℕ) → n < length options → here ≡ get_or options n here → drop n options ≡ here ∷ drop (n + 1) options
-here_first options here n h at = rw (← at) at (drop_more options n here h)
-
-pub found_up : (t : Target) (vs : List Variable) (options : List (List Reg)) (done here pushed new : List Reg) (n i : ℕ) (r : Reg) → n ≡ length done → n < length options → here ≡ get_or options n here → i < length here → r ≡ get_or here i r → pushed ≡ done ++ r ∷ [] → flat_map (with_next t vs done (drop (n + 1) options)) (take i here) ≡ [] → Found t vs options pushed new true → Found t vs options done new true
-found_up t vs options done here pushed new n i r is h here_is g at made was found =
-    let lp : length pushed ≡ n + 1 = omega (arith, length_pushed done pushed r made) in
-    let q = drop (n + 1) new in
-    let f : first (completions t vs (done ++ r ∷ []) (drop (n + 1) options)) ≡ Some q = rw (lp, made) at found.choice in
-    let up = found_next t vs done here (drop (n + 1) options) i r q g at was f in
-    let whole : new ≡ done ++ r ∷ q = rw (lp, made, append_assoc done (r ∷ []) q) at (found.before refl) in
-    let rest : drop (length done) new ≡ r ∷ q = ap (drop (length done)) whole ∙ drop_at done (r ∷ q) (length done) refl in
-    let opts : drop (length done) options ≡ here ∷ drop (n + 1) options = rw (← is) (here_first options here n h here_is) in
-    record {
-      choice = rw (opts, rest) up;
-      before = λ e. rw rest whole;
-      kept = λ e. absurd (cc);
-    }
-
-pub lost_more : (t : Target) (vs : List Variable) (options : List (List Reg)) (done here pushed new cut : List Reg) (n i : ℕ) (r : Reg) → n ≡ length done → i < length here → r ≡ get_or here i r → pushed ≡ done ++ r ∷ [] → cut ≡ take n new → flat_map (with_next t vs done (drop (n + 1) options)) (take i here) ≡ [] → Found t vs options pushed new false → (cut ≡ done) × (flat_map (with_next t vs done (drop (n + 1) options)) (take (i + 1) here) ≡ [])
-lost_more t vs options done here pushed new cut n i r is g at made cut_is was lost =
-    let lp : length pushed ≡ n + 1 = omega (arith, length_pushed done pushed r made) in
-    let f : first (completions t vs (done ++ r ∷ []) (drop (n + 1) options)) ≡ None = rw (lp, made) at lost.choice in
-    let back : take n new ≡ done = rw (lost.kept refl, made) (take_at done (r ∷ []) n (sym is)) in
-    (cut_is ∙ back, tried_more (with_next t vs done (drop (n + 1) options)) here i r g at was (none_if_not_found t vs done (drop (n + 1) options) r f))
-
-pub not_found : (t : Target) (vs : List Variable) (options : List (List Reg)) (done here cs : List Reg) (n i : ℕ) → n ≡ length done → n < length options → here ≡ get_or options n here → length here ≤ i → cs ≡ done → flat_map (with_next t vs done (drop (n + 1) options)) (take i here) ≡ [] → Found t vs options done cs false
-not_found t vs options done here cs n i is h here_is g same was =
-    let opts : drop (length done) options ≡ here ∷ drop (n + 1) options = rw (← is) (here_first options here n h here_is) in
-    record {
-      choice = rw opts (none_left t vs done here (drop (n + 1) options) i g was);
-      before = λ e. absurd (cc);
-      kept = λ e. same;
-    }
-
 pub nothing_apart : (t : Target) (vs : List Variable) (cs : List Reg) → cs ≡ [] → all_apart t (seats vs cs) ≡ true
 nothing_apart t vs cs e = rw (e, zip-nil (map need_of vs)) refl
-
-pub found_read_up : (t : Target) (vs : List Variable) (options : List (List Reg)) (done here pushed new : List Reg) (n i : ℕ) (e : Reg) → n ≡ length done → n < length options → here ≡ get_or options n here → i < length here → pushed ≡ done ++ get_or here i e ∷ [] → flat_map (with_next t vs done (drop (n + 1) options)) (take i here) ≡ [] → Found t vs options pushed new true → Found t vs options done new true
-found_read_up t vs options done here pushed new n i e is h here_is g made was found = found_up t vs options done here pushed new n i (get_or here i e) is h here_is g (get_or_default here i e (get_or here i e) g) made was found
-
-pub lost_read_more : (t : Target) (vs : List Variable) (options : List (List Reg)) (done here pushed new cut : List Reg) (n i : ℕ) (e : Reg) → n ≡ length done → i < length here → pushed ≡ done ++ get_or here i e ∷ [] → cut ≡ take n new → flat_map (with_next t vs done (drop (n + 1) options)) (take i here) ≡ [] → Found t vs options pushed new false → (cut ≡ done) × (flat_map (with_next t vs done (drop (n + 1) options)) (take (i + 1) here) ≡ [])
-lost_read_more t vs options done here pushed new cut n i e is g made cut_is was lost = lost_more t vs options done here pushed new cut n i (get_or here i e) is g (get_or_default here i e (get_or here i e) g) made cut_is was lost

@@ -1,5 +1,5 @@
 -- The first choice, where each variable's first register that fits and serves leads to it.
-use Rattle.std.proofs.Common.{◌≡◌, ◌∙◌, ℕ, ◌+◌, ◌<◌, ◌≤◌, Bool, true, false, cond, List, [], ◌∷◌, ◌++◌, map, length, get_or, drop, Option, Some, None, refl, ap, sym, arith, append_assoc, length-append}
+use Rattle.std.proofs.Common.{◌≡◌, ◌∙◌, ℕ, ◌+◌, ◌-◌, ◌<◌, ◌≤◌, Bool, true, false, cond, List, [], ◌∷◌, ◌++◌, map, length, get_or, drop, Option, Some, None, refl, ap, sym, arith, append_assoc, length-append}
 use Rattle.std.specs.Prelude.{◌&&◌}
 use Rattle.std.specs.List.{filter}
 use Rattle.std.proofs.lemmas.List.{append-nil, drop_more, get_or_default, get_or-map, length-map}
@@ -11,7 +11,7 @@ use Rattle.mir_meaning.specs.Places.{all_apart}
 use Rattle.live_lanes.specs.declared.table.Table.{Table}
 use Rattle.place_solve.specs.declared.around.Around.{Around}
 use Rattle.place_solve.specs.declared.variables.Variable.{Variable}
-use Rattle.place_solve.specs.Choice.{use_of, need_of, seats, fits, may_lie, options_in, completions, first}
+use Rattle.place_solve.specs.Choice.{use_of, need_of, seats, fits, may_lie, options_in, completions, choices_apart, needs_left, first, first_apart}
 use Rattle.place_solve.proofs.Chosen.{apart_kept, seats_push, comp_step, found_with, none_if_broken, nothing_apart, nothing_left, with_next}
 use Rattle.place_solve.proofs.Solved.{filter_other}
 
@@ -95,3 +95,9 @@ leads_all t vs f done h was =
 pub leads_next : (t : Target) (vs : List Variable) (f : Variable → List Reg) (done shown pushed : List Reg) (n : ℕ) (d : Variable) (answer : Option Reg) (r : Reg) → length done ≡ n → n < length vs → shown ≡ done → pushed ≡ done ++ r ∷ [] → answer ≡ first (filter (fits t (seats vs shown) (use_of (get_or vs n d).kind)) (f (get_or vs n d))) → answer ≡ Some r → Leads t vs (map f vs) done → Leads t vs (map f vs) pushed
 leads_next t vs f done shown pushed n d answer r is h same made told some was =
     leads_more t vs f done pushed n (get_or vs n d) r (sym is) h (get_or_default vs n d (get_or vs n d) h) made (rw same at (sym told ∙ some)) was
+
+-- the first choice of all options, where none is chosen yet
+pub first_of_all : (t : Target) (x : Table) (a : Around) (vs : List Variable) (options : List (List Reg)) → length options ≡ length vs → options ≡ map (options_in t x a) vs → first (choices_apart t (needs_left vs options) options) ≡ first_apart t x a vs
+first_of_all t x a vs options long is =
+    let none : length vs - length options ≡ 0 = omega arith in
+    ap (λ k. first (choices_apart t (drop k (map need_of vs)) options)) none ∙ ap (λ os. first (choices_apart t (map need_of vs) os)) is

@@ -1,5 +1,7 @@
 pub mod Chosen
+pub mod Covering
 pub mod Lanes
+pub mod Narrowing
 pub mod Once
 pub mod Operands
 pub mod Crowds

@@ -31,7 +31,7 @@ filter_alike p q h [] = refl
 filter_alike p q h (x ∷ xs) = ap (λ b. cond b (x ∷ filter p xs) (filter p xs)) (h x) ∙ ap (λ ys. cond (q x) (x ∷ ys) ys) (filter_alike p q h xs)
 
 -- two tests, one after the other
-filter_both : {X : Type 0} (p q : X → Bool) (xs : List X) → filter (λ x. p x && q x) xs ≡ filter q (filter p xs)
+pub filter_both : {X : Type 0} (p q : X → Bool) (xs : List X) → filter (λ x. p x && q x) xs ≡ filter q (filter p xs)
 filter_both p q [] = refl
 filter_both {X} p q (x ∷ xs) = go (p x) (filter_both p q xs)
   where
@@ -66,7 +66,7 @@ module _ (p : Need × Reg → Bool) where
   all_pass : List Need → List Reg → Bool
   all_pass vs rs = list_all p (zip vs rs)
 
-  part : (v : Need) (vs : List Need) (cs : List (List Reg)) (rs : List Reg) → filter (λ qs. list_all p (zip (v ∷ vs) qs)) (flat_map (λ r. map (λ qs. r ∷ qs) cs) rs) ≡ flat_map (λ r. map (λ qs. r ∷ qs) (filter (λ qs. list_all p (zip vs qs)) cs)) (filter (λ r. p (v, r)) rs)
+  pub part : (v : Need) (vs : List Need) (cs : List (List Reg)) (rs : List Reg) → filter (λ qs. list_all p (zip (v ∷ vs) qs)) (flat_map (λ r. map (λ qs. r ∷ qs) cs) rs) ≡ flat_map (λ r. map (λ qs. r ∷ qs) (filter (λ qs. list_all p (zip vs qs)) cs)) (filter (λ r. p (v, r)) rs)
   part v vs cs [] = refl
   part v vs cs (r ∷ rs) =
       filter-append (λ qs. list_all p (zip (v ∷ vs) qs)) (map (λ qs. r ∷ qs) cs) (flat_map (λ q. map (λ qs. q ∷ qs) cs) rs)

@@ -1,6 +1,6 @@
 -- The first choice of registers, one of each variable's list, that keeps apart what must be apart.
-use Rattle.std.specs.Prelude.{◌≡◌, ℕ, Bool, true, false, cond, not, ◌&&◌, List, [], ◌∷◌, ◌++◌, map, filter, length, drop, Option, Some, None, slice_get}
-use Rattle.std.specs.List.{zip, list_all}
+use Rattle.std.specs.Prelude.{◌≡◌, ℕ, Bool, true, false, cond, not, ◌&&◌, List, [], ◌∷◌, ◌++◌, map, filter, length, drop, ◌+◌, ◌-◌, nat_lt, Option, Some, None, slice_get}
+use Rattle.std.specs.List.{zip, list_all, list_any, All}
 use Rattle.target_base.specs.declared.types.Reg.{Reg}
 use Rattle.target_base.specs.declared.types.Target.{Target}
 use Rattle.target_base.specs.declared.types.Unit.{Unit as UnitNumber}
@@ -47,11 +47,44 @@ abbrev pub first : {X : Type 0} → List X → Option X
 first [] = None
 first (x ∷ xs) = Some x
 
--- the answer to a search: the first completion is chosen; or there is none, and what was chosen stays
-pub record Found (t : Target) (vs : List Variable) (options : List (List Reg)) (done new : List Reg) (answer : Bool) : Type 0 where
-  pub choice : first (completions t vs done (drop (length done) options)) ≡ cond answer (Some (drop (length done) new)) None
-  pub before : answer ≡ true → new ≡ done ++ drop (length done) new
-  pub kept : answer ≡ false → new ≡ done
+-- of the registers for each of these variables, those that stand beside one that is chosen
+abbrev pub narrowed : Target → Need × Reg → List Need → List (List Reg) → List (List Reg)
+narrowed t p [] left = left
+narrowed t p (n ∷ ns) [] = []
+narrowed t p (n ∷ ns) (rs ∷ left) = filter (λ r. stands_beside t n.kind r p) rs ∷ narrowed t p ns left
+
+-- the choices, one of each list, that keep these variables apart, in order
+abbrev pub choices_apart : Target → List Need → List (List Reg) → List (List Reg)
+choices_apart t ns left = filter (λ qs. all_apart t (zip ns qs)) (choices left)
+
+-- the last of the variables, as many as there are lists
+abbrev pub needs_left : List Variable → List (List Reg) → List Need
+needs_left vs left = drop (length vs - length left) (map need_of vs)
+
+-- no choice of these lists keeps the variables apart that are left
+abbrev pub IsNogood : Target → List Variable → List (List Reg) → Type 0
+IsNogood t vs left = choices_apart t (needs_left vs left) left ≡ []
+
+abbrev pub AreNogoods : Target → List Variable → List (List (List Reg)) → Type 0
+AreNogoods t vs nogoods = All (IsNogood t vs) nogoods
+
+-- what is remembered once a list of lists is added: those of fewer than three lists aren't
+abbrev pub remembered : List (List (List Reg)) → List (List Reg) → List (List (List Reg))
+remembered nogoods left = cond (nat_lt 2 (length left)) (nogoods ++ left ∷ []) nogoods
+
+-- the register holds one of these units
+abbrev pub holds_one : Target → List UnitNumber → Reg → Bool
+holds_one t units r = list_any (is_among (units_of t r)) units
+
+-- a variable holds its register while uses are read, and each of these registers holds one of the units
+abbrev pub must_hold : Target → List UnitNumber → Need → List Reg → Bool
+must_hold t units n rs = reaches_back n.kind && list_all (holds_one t units) rs
+
+-- how many of these variables do, each with its list
+abbrev pub holders : Target → List UnitNumber → List Need → List (List Reg) → ℕ
+holders t units [] left = 0
+holders t units (n ∷ ns) [] = 0
+holders t units (n ∷ ns) (rs ∷ left) = cond (must_hold t units n rs) 1 0 + holders t units ns left
 
 -- a variable of this kind may lie in the unit at the place
 abbrev pub is_free : Target → Table → Around → Use → UnitNumber → Bool

@@ -4,7 +4,10 @@
 pub mod around;
 mod check;
 mod copies;
+mod cover;
 pub mod laws;
+mod left;
+mod nogoods;
 mod search;
 mod tinies;
 pub mod variables;

@@ -1,26 +1,21 @@
 //! The first choice of registers that serves.
 
-ghost use Rattle.std.specs.Prelude.{◌≡◌, ◌≤◌, ◌+◌, ◌&&◌, ◌++◌, ◌∷◌, [], IfOk, IfSome, OnOk, Some, filter, map, not, option_map, true, length};
-ghost use Rattle.mir_meaning.specs.Places.{all_apart, is_defining, reaches_back, share_a_unit, solutions};
+ghost use Rattle.std.specs.Prelude.{◌≡◌, ◌≤◌, ◌&&◌, ◌++◌, ◌∷◌, [], IfOk, IfSome, OnOk, Some, filter, map, option_map, true, length};
+ghost use Rattle.mir_meaning.specs.Places.{is_defining, reaches_back, solutions};
 ghost use Rattle.live_lanes.specs.Looks.{InOrder};
 ghost use Rattle.place_solve.specs.Around.{at_entry, at_exit, entry_of, exit_of};
-ghost use Rattle.place_solve.specs.Choice.{use_of, need_of, seats, stands_beside, fits, Found, is_free, may_lie, options_in, first, first_apart};
+ghost use Rattle.place_solve.specs.Choice.{use_of, need_of, seats, fits, choices_apart, needs_left, IsNogood, AreNogoods, is_free, may_lie, options_in, first, first_apart};
 
 use crate::around::{Around, is_at_entry, is_at_exit};
+use crate::cover::are_short;
+use crate::left::{clashes, has_none, narrowed};
+use crate::nogoods::Nogoods;
 use crate::variables::{Kind, Variable};
 use live_lanes::LiveFunc;
 use std::alloc::{AllocError, Global};
 use target_base::classes::regs_at;
 use target_base::registers::has_unit;
 use target_base::{List, Reg, Regs, Target, Unit};
-
-/// Whether two registers share a unit.
-fn share_a_unit(target: &Target, a: Reg, b: Reg) -> bool
-    ensures { result ≡ share_a_unit target.now a b }
-{
-    let own = target.units_at(a);
-    target.units_at(b).iter().any(|u| has_unit(own, *u))
-}
 
 /// Whether a variable of this kind may not lie in a unit before or at the place.
 fn clashes_before(live: &LiveFunc, around: Around<'_>, kind: Kind, u: Unit) -> bool
@@ -92,16 +87,8 @@ fn options_of(
     Ok(options)
 }
 
-/// Whether a variable of this kind may not lie in `r` beside `w` in `q`.
-fn clashes(target: &Target, w: Variable, q: Reg, kind: Kind, r: Reg) -> bool
-    ensures { result ≡ not (stands_beside target.now (use_of kind) r (need_of w, q)) }
-{
-    w.kind.must_be_apart(kind) && share_a_unit(target, q, r)
-}
-
 /// Whether a variable of this kind may lie in a register beside those that are chosen for the variables
 /// before it.
-
 fn fits(target: &Target, variables: &[Variable], chosen: &[Reg], kind: Kind, r: Reg) -> bool
     requires { length chosen.now ≤ length variables.now }
     ensures { result ≡ fits target.now (seats variables.now chosen.now) (use_of kind) r }
@@ -114,43 +101,71 @@ fn fits(target: &Target, variables: &[Variable], chosen: &[Reg], kind: Kind, r: 
     true
 }
 
-/// How many registers are chosen.
-fn count_of(chosen: &Vec<Reg>) -> usize
-    ensures { result ≡ length chosen.now.items }
-{
-    chosen.as_slice().len()
-}
-
-/// Chooses registers for the variables behind those that are chosen, of their options: the first choice
-/// that keeps apart what must be apart.
-fn choose(
+/// Whether lists for the last variables are seen to leave no choice. True only where there is none.
+fn is_nogood(
+    alloc: Global,
     target: &Target,
     variables: &[Variable],
-    options: &[Regs],
-    left: usize,
-    chosen: &mut Vec<Reg>,
+    left: &[Regs],
+    nogoods: &Nogoods,
 ) -> Result<bool, AllocError>
-    requires same { length options.now ≡ length variables.now }
-    requires room { length variables.now ≤ length chosen.old.items + left }
-    requires apart { all_apart target.now (seats variables.now chosen.old.items) ≡ true }
-    ensures { IfOk result (Found target.now variables.now options.now chosen.old.items chosen.new.items) }
+    requires few { length left.now ≤ length variables.now }
+    requires known { AreNogoods target.now variables.now nogoods.now.lists }
+    ensures { IfOk result (λ seen. seen ≡ true → IsNogood target.now variables.now left.now) }
 {
-    let k = count_of(chosen);
-    if k >= variables.len() {
+    if has_none(left) {
         return Ok(true);
     }
-    let here = options[k].as_slice();
+    if nogoods.has(left) {
+        return Ok(true);
+    }
+    let k = variables.len() - left.len();
+    let short = are_short(alloc, target, &variables[k..], left)?;
+    Ok(short)
+}
+
+/// A register, and the others behind it.
+fn put_first(r: Reg, others: Vec<Reg>) -> Result<Vec<Reg>, AllocError>
+    ensures { IfOk result (λ all. all.items ≡ r ∷ others.items) }
+{
+    let mut all = others;
+    all.insert(0, r)?;
+    Ok(all)
+}
+
+/// The first choice for the last variables, of the registers that are left for them, that keeps apart
+/// what must be apart. Lists from which there is none are remembered, so that they are searched once.
+fn choose(
+    alloc: Global,
+    target: &Target,
+    variables: &[Variable],
+    left: &[Regs],
+    nogoods: &mut Nogoods,
+) -> Result<Option<Vec<Reg>>, AllocError>
+    requires few { length left.now ≤ length variables.now }
+    requires known { AreNogoods target.now variables.now nogoods.old.lists }
+    ensures first { IfOk result (λ q. option_map (λ v. v.items) q ≡ first (choices_apart target.now (needs_left variables.now left.now) left.now)) }
+    ensures known { OnOk result (AreNogoods target.now variables.now nogoods.new.lists) }
+{
+    if left.is_empty() {
+        return Ok(Some(Vec::new(alloc)));
+    }
+    let k = variables.len() - left.len();
+    let v = variables[k];
+    let here = left[0].as_slice();
     'each: for r in here {
-        if !fits(target, variables, chosen.as_slice(), variables[k].kind, *r) {
+        let behind = narrowed(alloc, target, v, *r, &variables[k + 1..], &left[1..])?;
+        let seen = is_nogood(alloc, target, variables, behind.as_slice(), nogoods)?;
+        if seen {
             continue;
         }
-        chosen.push(*r)?;
-        if choose(target, variables, options, left - 1, chosen)? {
-            return Ok(true);
+        let found = choose(alloc, target, variables, behind.as_slice(), nogoods)?;
+        match found {
+            Some(others) => return Ok(Some(put_first(*r, others)?)),
+            None => nogoods.add(behind)?,
         }
-        chosen.truncate(k);
     }
-    Ok(false)
+    Ok(None)
 }
 
 /// The options of each variable.
@@ -237,18 +252,15 @@ fn choice_of_all(
     ensures { IfOk result (λ q. InOrder live.now.table → option_map (λ v. v.items) q ≡ first_apart live.now.target live.now.table around.entry variables.now) }
 {
     let options = all_options(alloc, live, around, variables)?;
-    let mut chosen = Vec::new(alloc);
-    if choose(
+    let mut nogoods = Nogoods::new(alloc)?;
+    let found = choose(
+        alloc,
         live.target(),
         variables,
         options.as_slice(),
-        variables.len(),
-        &mut chosen,
-    )? {
-        Ok(Some(chosen))
-    } else {
-        Ok(None)
-    }
+        &mut nogoods,
+    )?;
+    Ok(found)
 }
 
 /// The first choice of registers for the variables, in their order and in allocation order, that
