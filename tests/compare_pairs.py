@@ -41,16 +41,6 @@ def replaced(line, pattern, choose):
 R = random.Random(0)
 
 
-def fitting(target, line, name):
-    """The registers that may stand for one of a name in a line. A marker's operands may have any number of lanes; that
-    the partner of one has as many is asked by the program alone, so there only such registers are taken."""
-    all_of = {b"$" + d[0]: d for d in target.regs}
-    marker = any(o.effect == "marker" and re.search(rb"\b" + re.escape(o.name) + rb"\b", line) for o in target.ops)
-    if not marker or name not in all_of:
-        return list(all_of)
-    return [n for n, d in all_of.items() if len(d[1]) == len(all_of[name][1])]
-
-
 def edited(text, target):
     """An allocated function with one wrong edit, or None."""
     lines = text.split(b"\n")
@@ -59,7 +49,7 @@ def edited(text, target):
         return None
     k, kind = R.choice(body), R.randrange(9)
     if kind < 3:
-        line = replaced(lines[k], rb"\$\w+", lambda m: R.choice(fitting(target, lines[k], m[0])))
+        line = replaced(lines[k], rb"\$\w+", lambda m: b"$" + R.choice(target.regs)[0])
     elif kind == 3:
         del lines[k]
         return b"\n".join(lines)

@@ -1,12 +1,16 @@
 -- A bare code runs as the code does.
 use Rattle.std.proofs.Common.{◌≡◌, ◌∷◌, ◌∙◌, ℕ, zero, suc, Bool, true, false, cond, [], Option, Some, None, refl, sym, ap, subst}
 use Rattle.std.specs.Prelude.{nat_eq}
-use Rattle.meaning.specs.Code.{BlockStart, BlockEnd, Silent, Counted, Code, Edge, Function, Goes, found, target_place, walk, runs, run, extended, continued, entered, start_state}
+use Rattle.target_base.specs.declared.types.Effect.{Effect}
+use Rattle.target_base.specs.declared.types.Effect.TheVariants as effects
+use Rattle.meaning.specs.declared.types.Rest.{Rest}
+use Rattle.meaning.specs.Code.{BlockStart, BlockEnd, Silent, Counted, Code, Edge, Function, Goes, Run, found, target_place, walk, runs, run, extended, continued, entered, start_state}
 use Rattle.meaning.specs.Environment.{Environment}
+use Rattle.meaning.specs.Lanes.{Reads}
 use Rattle.meaning.specs.State.{State, values, written}
-use Rattle.meaning.specs.Perform.{Outside, perform}
+use Rattle.meaning.specs.Perform.{Outside, Performed, perform}
 use Rattle.meaning.specs.Refines.{Refines, IsDefined, Does}
-use Rattle.alloc_check.specs.Bare.{bare}
+use Rattle.alloc_check.specs.Bare.{bare, used_reads}
 
 bare-choice : (b : Bool) (p q : Code) → bare (cond b p q) ≡ cond b (bare p) (bare q)
 bare-choice true p q = refl
@@ -23,6 +27,17 @@ target-bare : (code : Code) (target : Option Edge) → target_place (bare code) 
 target-bare code None = refl
 target-bare code (Some e) = found-bare e.block code
 
+abbrev with_effect : Rest → Effect → Rest
+with_effect r e = record { effect = e; widths = r.widths; result = r.result; immediate = r.immediate; symbol = r.symbol }
+
+-- a marker does the same whatever it reads
+performs-used :
+    (r : Rest) (env : Environment) (s : State) (o : Outside) (reads : Reads) (e : Effect) →
+    perform (with_effect r e) env o (values env s (used_reads e reads)) ≡ perform (with_effect r e) env o (values env s reads)
+unfolding perform
+performs-used r env s o reads effects.Marker = refl
+performs-used r env s o reads _ = refl
+
 module _ (env : Environment) (code : Code) where
   walk-bare : (next next' : Goes) → ((p : Code) (s : State) (o : Outside) → next' (bare p) s o ≡ next p s o) → (p : Code) (s : State) (o : Outside) → walk env (bare code) next' (bare p) s o ≡ walk env code next p s o
   walk-bare next next' h [] s o = refl
@@ -31,13 +46,17 @@ module _ (env : Environment) (code : Code) where
   walk-bare next next' h (BlockEnd None exits ∷ p) s o = refl
   walk-bare next next' h (Silent reads ws ∷ p) s o = walk-bare next next' h p (written env [] ws s) o
   walk-bare next next' h (Counted r reads ws target exits ∷ p) s o =
+      let does : Performed → Run = λ did.
+      let after = written env did.results ws s in
+      extended did (continued did.control (next' (bare p) after did.outside) (next' (target_place (bare code) target) (entered env target after) did.outside)) in
       let did = perform r env o (values env s reads) in
       let after = written env did.results ws s in
       let one : next' (bare p) after did.outside ≡ next p after did.outside = h p after did.outside in
       let two : next' (target_place (bare code) target) (entered env target after) did.outside ≡ next (target_place code target) (entered env target after) did.outside =
       ap (λ q. next' q (entered env target after) did.outside) (target-bare code target) ∙ h (target_place code target) (entered env target after) did.outside in
-      ap (λ x. extended did (continued did.control x (next' (target_place (bare code) target) (entered env target after) did.outside))) one
-      ∙ ap (λ y. extended did (continued did.control (next p after did.outside) y)) two
+      ap does (performs-used r env s o reads r.effect)
+      ∙ (ap (λ x. extended did (continued did.control x (next' (target_place (bare code) target) (entered env target after) did.outside))) one
+      ∙ ap (λ y. extended did (continued did.control (next p after did.outside) y)) two)
 
   runs-bare : (n : ℕ) (p : Code) (s : State) (o : Outside) → runs env (bare code) n (bare p) s o ≡ runs env code n p s o
   runs-bare zero p s o = refl

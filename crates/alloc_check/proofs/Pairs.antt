@@ -1,6 +1,8 @@
 -- Instructions put among the rows.
 use Rattle.std.proofs.Common.{◌≡◌, ◌∷◌, ◌++◌, ◌∙◌, ◌<◌, ◌≤◌, ◌+◌, ℕ, true, cond, List, [], Option, Some, None, option_map, refl, sym, ap, append_assoc, drop, get_or, length, drop_of_length-le}
-use Rattle.std.proofs.lemmas.List.{at_drop_more, append-nil}
+use Rattle.std.proofs.lemmas.List.{at_drop_more, at_drop_all, append-nil}
+use Rattle.target_base.specs.declared.types.Effect.{Effect}
+use Rattle.target_base.specs.declared.types.Effect.TheVariants as effects
 use Rattle.target_base.specs.declared.types.Target.{Target}
 use Rattle.meaning.specs.declared.types.Rest.{Rest}
 use Rattle.meaning.specs.declared.types.Row.{Row}
@@ -13,7 +15,7 @@ use Rattle.mir_func.specs.declared.func.Instr.{Instr}
 use Rattle.mir_func.specs.declared.func.Block.{Block}
 use Rattle.mir_func.specs.Value.{Function}
 use Rattle.mir_meaning.specs.Codes.{code_of, item_of, way, target_of, fallen_into, falls_through, first_number, block_end}
-use Rattle.alloc_check.specs.Bare.{bare, bare_item, first_bare, second_bare, items, blocks_bare, block_bare, Grown, SilentItem, CountedItem}
+use Rattle.alloc_check.specs.Bare.{bare, bare_item, first_bare, second_bare, items, blocks_bare, block_bare, used_reads, shared_reads, needed_reads, Grown, SilentItem, CountedItem}
 use Rattle.alloc_check.proofs.Rowed.{grown-row, blocks-more, code-bare}
 
 pub in-first : (t : Target) (f : Function) (b : Block) (i : Instr) (old new : List Row) (ws : Writes) → SilentItem t f b i (Some ws) → new ≡ old ++ FirstSilent [] ws ∷ [] → Grown old (bare_item (item_of t f b i) ∷ []) [] new
@@ -26,18 +28,35 @@ in-second t f b i old new ws s e =
     let g = grown-row old new (SecondSilent [] ws) e in
     record { first = g.first; second = g.second ∙ ap (λ x. second_bare old ++ x ∷ []) (sym s) }
 
+-- what is needed is used alike
+pub needed-used : (e : Effect) (reads others asked : Reads) → asked ≡ needed_reads e reads others → used_reads e asked ≡ used_reads e reads
+needed-used effects.Marker reads others asked h = refl
+needed-used e reads others asked h = ap (used_reads e) h
+
+shared-none : (reads : Reads) → shared_reads reads [] ≡ []
+shared-none [] = refl
+shared-none (ss ∷ reads) = refl
+
+-- where the partner has no operand more, nothing more is shared
+pub shared-end : (reads others made : Reads) (k : ℕ) → length others ≤ k → made ++ shared_reads (drop k reads) (drop k others) ≡ shared_reads reads others → made ≡ shared_reads reads others
+shared-end reads others made k le h = sym (append-nil made) ∙ (ap (λ r. made ++ r) (sym (at_drop_all (λ o. shared_reads (drop k reads) o) others k le ∙ shared-none (drop k reads))) ∙ h)
+
 pub in-both :
-    (t : Target) (f g : Function) (b c : Block) (i x : Instr) (old new : List Row) (r r' : Rest) (reads reads' : Reads) (ws ws' : Writes) (target : Option Ways) (exits : List Ways) →
-    CountedItem t f b i r reads ws → CountedItem t g c x r' reads' ws' → r ≡ r' → target_of i.operands ≡ target_of x.operands → b.number ≡ c.number →
+    (t : Target) (f g : Function) (b c : Block) (i x : Instr) (old new : List Row) (r r' : Rest) (reads reads' asked asked' : Reads) (ws ws' : Writes) (target : Option Ways) (exits : List Ways) →
+    CountedItem t f b i r reads ws → CountedItem t g c x r' reads' ws' → r ≡ r' → used_reads r.effect asked ≡ used_reads r.effect reads → used_reads r.effect asked' ≡ used_reads r.effect reads' →
+    target_of i.operands ≡ target_of x.operands → b.number ≡ c.number →
     first_target target ≡ option_map (way t f b.number) (target_of i.operands) → second_target target ≡ option_map (way t g b.number) (target_of i.operands) →
-    new ≡ old ++ BothCounted r reads reads' ws ws' target exits ∷ [] → Grown old (bare_item (item_of t f b i) ∷ []) (bare_item (item_of t g c x) ∷ []) new
-in-both t f g b c i x old new r r' reads reads' ws ws' target exits one two same goal number to to' e =
-    let grown = grown-row old new (BothCounted r reads reads' ws ws' target exits) e in
-    let left : bare_item (item_of t f b i) ≡ Counted r reads ws (first_target target) [] = one ∙ ap (λ w. Counted r reads ws w []) (sym to) in
-    let right : bare_item (item_of t g c x) ≡ Counted r reads' ws' (second_target target) [] =
-    two ∙ (ap (λ m. Counted r' reads' ws' (option_map (way t g m) (target_of x.operands)) []) (sym number)
-    ∙ (ap (λ o. Counted r' reads' ws' (option_map (way t g b.number) o) []) (sym goal)
-    ∙ (ap (λ w. Counted r' reads' ws' w []) (sym to') ∙ ap (λ q. Counted q reads' ws' (second_target target) []) (sym same)))) in
+    new ≡ old ++ BothCounted r asked asked' ws ws' target exits ∷ [] → Grown old (bare_item (item_of t f b i) ∷ []) (bare_item (item_of t g c x) ∷ []) new
+in-both t f g b c i x old new r r' reads reads' asked asked' ws ws' target exits one two same used used' goal number to to' e =
+    let grown = grown-row old new (BothCounted r asked asked' ws ws' target exits) e in
+    let left : bare_item (item_of t f b i) ≡ Counted r (used_reads r.effect asked) ws (first_target target) [] =
+    one ∙ (ap (λ w. bare_item (Counted r reads ws w [])) (sym to) ∙ ap (λ rs. Counted r rs ws (first_target target) []) (sym used)) in
+    let right : bare_item (item_of t g c x) ≡ Counted r (used_reads r.effect asked') ws' (second_target target) [] =
+    two ∙ (ap (λ m. bare_item (Counted r' reads' ws' (option_map (way t g m) (target_of x.operands)) [])) (sym number)
+    ∙ (ap (λ o. bare_item (Counted r' reads' ws' (option_map (way t g b.number) o) [])) (sym goal)
+    ∙ (ap (λ w. bare_item (Counted r' reads' ws' w [])) (sym to')
+    ∙ (ap (λ q. bare_item (Counted q reads' ws' (second_target target) [])) (sym same)
+    ∙ ap (λ rs. Counted r rs ws' (second_target target) []) (sym used'))))) in
     record { first = grown.first ∙ ap (λ y. first_bare old ++ y ∷ []) (sym left); second = grown.second ∙ ap (λ y. second_bare old ++ y ∷ []) (sym right) }
 
 -- an instruction of a list, and those behind it

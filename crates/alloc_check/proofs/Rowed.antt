@@ -50,7 +50,7 @@ item-silent t f b i e h s =
     ap (λ o. bare_item (elim o [ None ↦ Silent [] [] | Some x ↦ effect_item t f b i x ])) h
     ∙ ap (λ y. bare_item (cond y (Silent (silent_reads t f e i.operands) (silent_writes t f e (is_early_clobber (roles_of t i)) i.operands)) (Counted (rest_of t f e i) (map (λ v. v.0) (values t f e i)) (counted_writes t f e i) (option_map (way t f b.number) (target_of i.operands)) (cond (is_terminator e) (ways_out t f b) [])))) s
 
-pub item-counted : (t : Target) (f : Function) (b : Block) (i : Instr) (e : Effect) → effect_of t i ≡ Some e → is_silent e ≡ false → bare_item (item_of t f b i) ≡ Counted (rest_of t f e i) (map (λ v. v.0) (values t f e i)) (counted_writes t f e i) (option_map (way t f b.number) (target_of i.operands)) []
+pub item-counted : (t : Target) (f : Function) (b : Block) (i : Instr) (e : Effect) → effect_of t i ≡ Some e → is_silent e ≡ false → bare_item (item_of t f b i) ≡ bare_item (Counted (rest_of t f e i) (map (λ v. v.0) (values t f e i)) (counted_writes t f e i) (option_map (way t f b.number) (target_of i.operands)) [])
 unfolding item_of
 item-counted t f b i e h s =
     ap (λ o. bare_item (elim o [ None ↦ Silent [] [] | Some x ↦ effect_item t f b i x ])) h

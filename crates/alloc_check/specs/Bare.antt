@@ -1,6 +1,9 @@
--- A code without what only liveness looks at: the ways out, and what silent instructions read.
-use Rattle.std.specs.Prelude.{◌≡◌, ℕ, Bool, true, List, [], ◌∷◌, ◌++◌, false, Option, Some, None, option_map, ◌≤◌, length, drop}
+-- A code without what no run looks at: the ways out, and what silent instructions and markers read.
+use Rattle.std.specs.Prelude.{◌≡◌, ℕ, Bool, true, List, [], ◌∷◌, ◌++◌, false, Option, Some, None, option_map, ◌≤◌, length, take, drop}
+use Rattle.target_base.specs.declared.types.Effect.{Effect}
+use Rattle.target_base.specs.declared.types.Effect.TheVariants as effects
 use Rattle.target_base.specs.declared.types.Target.{Target}
+use Rattle.meaning.specs.declared.types.Source.{Source}
 use Rattle.meaning.specs.declared.types.Row.{Row}
 use Rattle.meaning.specs.declared.types.Rest.{Rest}
 use Rattle.meaning.specs.Lanes.{Writes, Reads}
@@ -11,11 +14,16 @@ use Rattle.mir_func.specs.declared.func.Block.{Block}
 use Rattle.mir_func.specs.Value.{Function}
 use Rattle.mir_meaning.specs.Codes.{item_of, blocks_code, code_of, block_end, way, target_of}
 
+-- the reads that a run looks at: a marker does nothing with what it reads
+abbrev pub used_reads : Effect → Reads → Reads
+used_reads effects.Marker reads = []
+used_reads _ reads = reads
+
 abbrev pub bare_item : Item → Item
 bare_item (BlockStart n) = BlockStart n
 bare_item (BlockEnd falls exits) = BlockEnd falls []
 bare_item (Silent reads ws) = Silent [] ws
-bare_item (Counted r reads ws target exits) = Counted r reads ws target []
+bare_item (Counted r reads ws target exits) = Counted r (used_reads r.effect reads) ws target []
 
 abbrev pub bare : Code → Code
 bare [] = []
@@ -58,7 +66,19 @@ SilentItem t f b i (Some ws) = bare_item (item_of t f b i) ≡ Silent [] ws
 
 -- a counted instruction, but for where it goes
 abbrev pub CountedItem : Target → Function → Block → Instr → Rest → Reads → Writes → Type 0
-CountedItem t f b i r reads ws = bare_item (item_of t f b i) ≡ Counted r reads ws (option_map (way t f b.number) (target_of i.operands)) []
+CountedItem t f b i r reads ws = bare_item (item_of t f b i) ≡ bare_item (Counted r reads ws (option_map (way t f b.number) (target_of i.operands)) [])
+
+-- operand by operand the sources at whose places the partner's operand has one
+abbrev pub shared_reads : Reads → Reads → Reads
+shared_reads [] others = []
+shared_reads (ss ∷ reads) [] = []
+shared_reads (ss ∷ reads) (ts ∷ others) = take (length ts) ss ∷ shared_reads reads others
+
+-- What a counted instruction reads of which facts are needed, beside what its partner reads: a marker's operand may have
+-- got a register with another number of lanes, and then those are compared that both have.
+abbrev pub needed_reads : Effect → Reads → Reads → Reads
+needed_reads effects.Marker reads others = shared_reads reads others
+needed_reads _ reads others = reads
 
 -- where the instruction is silent, it is now among the rows, in the first function
 abbrev pub InFirst : Target → Function → Block → Instr → List Row → List Row → Bool → Type 0

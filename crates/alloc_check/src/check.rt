@@ -124,7 +124,7 @@ fn compared(
         return Ok(Verdict::No(place));
     }
     match rows_of(alloc, target, source, allocated)? {
-        None => Ok(Verdict::No(entry_place(source))),
+        None => Ok(Verdict::No(counted_place(target, source, 0))),
         Some(rows) => judged(alloc, target, source, allocated, rows.as_slice()),
     }
 }

@@ -1,21 +1,21 @@
 //! Two functions side by side, as rows.
 
-ghost use Rattle.std.specs.Prelude.{◌≡◌, ◌<◌, ◌≤◌, ◌+◌, ◌∷◌, [], IsTrue, IfOk, IfSome, true, length, option_map, drop, slice_index_or};
+ghost use Rattle.std.specs.Prelude.{◌≡◌, ◌<◌, ◌≤◌, ◌+◌, ◌∷◌, [], IsTrue, IfOk, IfSome, true, length, option_map, take, drop, slice_index_or};
 ghost use Rattle.meaning.specs.Rows.{first_edge, second_edge, first_target, second_target, first_falls, second_falls};
 ghost use Rattle.mir_meaning.specs.Codes.{item_of, way, target_of, fallen_into};
-ghost use Rattle.alloc_check.specs.Bare.{bare_item, items, block_bare, Grown, SilentItem, CountedItem, InFirst, InSecond, AreSides, Passed, Stepped};
+ghost use Rattle.alloc_check.specs.Bare.{bare_item, items, block_bare, shared_reads, needed_reads, Grown, SilentItem, CountedItem, InFirst, InSecond, AreSides, Passed, Stepped};
 
 use crate::rests::same_rest;
 use instr_effects::items::counted::{reads_of, rest_of, values};
 use instr_effects::items::results::counted_writes;
 use instr_effects::items::silent::push_silent_writes;
 use instr_effects::items::ways::{falls_through, push_phis, target_of};
-use meaning::{Reads, Rest, Row, Ways, Writes};
+use meaning::{Reads, Rest, Row, Source, Ways, Writes};
 use mir_func::opcodes::{effect_of, ends_block, is_early_clobber, roles_of};
 use mir_func::{Block, Func, Instr};
 use std::alloc::{AllocError, Global};
 use target_base::roles::is_silent;
-use target_base::{List, Target};
+use target_base::{Copied, Effect, List, Target};
 
 /// Rows in layout order.
 pub type Rows = List<Row>;
@@ -242,6 +242,64 @@ fn same_number(a: Option<u32>, b: Option<u32>) -> bool
     }
 }
 
+/// Sources that are equal to these.
+fn copies_of(alloc: Global, sources: &[Source]) -> Result<List<Source>, AllocError>
+    ensures { IfOk result (λ made. made ≡ sources.now) }
+{
+    let mut made = List::new(alloc);
+    for s in sources {
+        made.push(s.copied(alloc)?)?;
+    }
+    Ok(made)
+}
+
+/// The first sources, at most so many.
+fn first_sources(alloc: Global, sources: &[Source], most: usize) -> Result<List<Source>, AllocError>
+    ensures { IfOk result (λ made. made ≡ take most sources.now) }
+{
+    if most < sources.len() {
+        return copies_of(alloc, &sources[..most]);
+    }
+    copies_of(alloc, sources)
+}
+
+/// Operand by operand the sources at whose places the partner's operand has one.
+fn shared_reads(
+    alloc: Global,
+    reads: &[List<Source>],
+    others: &[List<Source>],
+) -> Result<Reads, AllocError>
+    ensures { IfOk result (λ made. made ≡ shared_reads reads.now others.now) }
+{
+    let mut made = List::new(alloc);
+    for k in 0..reads.len() {
+        if k >= others.len() {
+            return Ok(made);
+        }
+        made.push(first_sources(alloc, reads[k].as_slice(), others[k].len())?)?;
+    }
+    Ok(made)
+}
+
+/// What each of a pair of counted instructions reads of which facts are needed.
+fn needed_reads(
+    alloc: Global,
+    e: Effect,
+    left: Reads,
+    right: Reads,
+) -> Result<(Reads, Reads), AllocError>
+    ensures { IfOk result (λ made. (made.0 ≡ needed_reads e left right) × (made.1 ≡ needed_reads e right left)) }
+{
+    match e {
+        Effect::Marker => {
+            let first = shared_reads(alloc, left.as_slice(), right.as_slice())?;
+            let second = shared_reads(alloc, right.as_slice(), left.as_slice())?;
+            Ok((first, second))
+        }
+        _ => Ok((left, right)),
+    }
+}
+
 /// Puts a pair of counted instructions of two blocks among the rows. False where they aren't one.
 fn push_pair(
     rows: &mut Rows,
@@ -273,10 +331,11 @@ fn push_pair(
     }
     let way = target_way(alloc, t, f, g, b.number, target)?;
     let exits = exits_at(alloc, t, f, g, b, i)?;
+    let needed = needed_reads(alloc, left.rest.effect, left.reads, right.reads)?;
     rows.push(Row::BothCounted(
         left.rest,
-        left.reads,
-        right.reads,
+        needed.0,
+        needed.1,
         left.writes,
         right.writes,
         way,

@@ -3,6 +3,7 @@ use Rattle.target_base.specs.Roles.{is_silent}
 use Rattle.meaning.specs.Code.{Counted}
 use Rattle.mir_meaning.specs.Items.{values, counted_writes}
 use Rattle.mir_meaning.specs.Codes.{way, target_of}
+use Rattle.alloc_check.specs.Bare.{bare_item}
 use Rattle.alloc_check.proofs.Rowed.{item-counted}
 use Rattle.alloc_check.proofs.rows.counted_item.Goals as goal
 
@@ -18,6 +19,6 @@ returns-in_ok-writes-in-Some c =
     let reads : c.in_ok-reads-in-Some.reads ≡ map (λ v. v.0) (values t f e i) =
     c.in_ok-reads-in-Some.ensures ∙ ap (map (λ v. v.0)) (c.as_slice-in-Some.ensures ∙ c.in_ok-read-in-Some.ensures) in
     item-counted t f b i e (sym c.in-Some.ensures) s
-    ∙ (ap (λ r. Counted r (map (λ v. v.0) (values t f e i)) (counted_writes t f e i) to []) (sym c.in_ok-rest-in-Some.ensures)
-    ∙ (ap (λ rs. Counted c.in_ok-rest-in-Some.rest rs (counted_writes t f e i) to []) (sym reads)
-    ∙ ap (λ ws. Counted c.in_ok-rest-in-Some.rest c.in_ok-reads-in-Some.reads ws to []) (sym c.in_ok-writes-in-Some.ensures)))
+    ∙ (ap (λ r. bare_item (Counted r (map (λ v. v.0) (values t f e i)) (counted_writes t f e i) to [])) (sym c.in_ok-rest-in-Some.ensures)
+    ∙ (ap (λ rs. bare_item (Counted c.in_ok-rest-in-Some.rest rs (counted_writes t f e i) to [])) (sym reads)
+    ∙ ap (λ ws. bare_item (Counted c.in_ok-rest-in-Some.rest c.in_ok-reads-in-Some.reads ws to [])) (sym c.in_ok-writes-in-Some.ensures)))
