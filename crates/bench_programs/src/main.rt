@@ -5,21 +5,30 @@
 //!   are printed of each: reading and printing alone;
 //! - `--pairs TARGET SOURCE ALLOCATED ..` asks the checker of allocations: of each pair of a source and an allocated
 //!   function, a document each, it prints `yes`, `no` and a place, or why the pair isn't asked (TARGET `-`: the
-//!   built-in target).
+//!   built-in target);
+//! - `--region TARGET FILE WORD..` makes the function of a document ready as before a run of the allocator; then a word
+//!   `V=R` assigns the range V to the register R, and a word `V` prints the region of least cost of the range V, by the
+//!   lines that the module `regions` says;
+//! - `--cut NODES ARCS SEED ROUNDS` makes a random net with so many nodes (2 to 4,096) and at most so many arcs (at most
+//!   16,384), finds a least cut of it so many times, and prints `cost` and what it costs. bench/cut.cc makes the same
+//!   net and prints the same.
 #![tactic(auto)]
 
+mod cuts;
+mod documents;
+mod regions;
+
+use crate::cuts::{MOST_ARCS, MOST_NODES, cost_of_cut};
+use crate::documents::{LONGEST, function_of, source_of, target_of};
+use crate::regions::{Prepared, answer_range, prepared_of};
 use alloc_check::{Verdict, check_pair};
 use anyhow::{Context, Result, bail};
-use machine_verify::{VerifyStop, verify_source};
-use mir_func::{Func, Valid};
+use mir_func::Func;
 use mir_text::{Doc, TextStop, print_doc, read_doc};
 use std::rt::HostRuntime;
 use std::{env, fs};
 use target_base::{Target, mini};
 use target_desc::{TargetStop, read_target};
-
-/// The most bytes of a document.
-const LONGEST: usize = 4_194_304;
 
 /// What the next word is.
 #[derive(Drop)]
@@ -36,6 +45,14 @@ enum Asked {
     Source(Target),
     /// The allocated function of the source in this file.
     Allocated(Target, String),
+    /// The target of a function whose regions are asked for.
+    RegionTarget,
+    /// The function over the target.
+    RegionFile(Target),
+    /// A range of the function.
+    Range(Prepared),
+    /// The numbers that ask for a least cut, of which these are known.
+    Number(Vec<u64>),
 }
 
 /// Reads a target file, and prints whether it is one.
@@ -67,42 +84,6 @@ fn tell_document(rt: &HostRuntime, path: &str) -> Result<()> {
     Ok(())
 }
 
-/// The target of a word.
-fn target_of(rt: &HostRuntime, word: &str) -> Result<Target> {
-    if word == "-" {
-        return Ok(mini(rt.alloc())?);
-    }
-    let bytes = fs::read(rt, word).context("reading the target")?;
-    match read_target(rt.alloc(), bytes.as_slice()) {
-        Ok(target) => Ok(target),
-        Err(TargetStop::Fault(_)) => bail!("no target"),
-        Err(TargetStop::Memory(_)) => bail!("out of memory"),
-    }
-}
-
-/// The function of a document; None where the file holds none.
-fn function_of(rt: &HostRuntime, target: &Target, path: &str) -> Result<Option<Func>> {
-    let bytes = fs::read(rt, path).context("reading a function")?;
-    if bytes.len() > LONGEST {
-        bail!("the document is too long");
-    }
-    match read_doc(rt.alloc(), target, true, 1, bytes.as_slice()) {
-        Ok(Doc::Function(_, f)) => Ok(Some(f)),
-        Ok(_) => Ok(None),
-        Err(TextStop::Fault(_)) => Ok(None),
-        Err(TextStop::Memory(_)) => bail!("out of memory"),
-    }
-}
-
-/// The source where it is valid.
-fn source_of(rt: &HostRuntime, target: &Target, f: Func) -> Result<Option<Valid>> {
-    match verify_source(rt.alloc(), target, f) {
-        Ok(source) => Ok(Some(source)),
-        Err(VerifyStop::Invalid(_)) => Ok(None),
-        Err(VerifyStop::Memory(_)) => bail!("out of memory"),
-    }
-}
-
 /// Prints the verdict on two functions.
 fn tell_verdict(rt: &HostRuntime, target: &Target, f: Func, g: &Func) -> Result<()> {
     let Some(source) = source_of(rt, target, f)? else {
@@ -129,12 +110,34 @@ fn tell_pair(rt: &HostRuntime, target: &Target, source: &str, allocated: &str) -
     }
 }
 
+/// Prints what a least cut of the random net of these numbers costs.
+fn tell_cut(rt: &HostRuntime, nodes: u64, arcs: u64, seed: u64, rounds: u64) -> Result<()> {
+    if nodes < 2 || nodes > MOST_NODES || arcs > MOST_ARCS {
+        bail!("a net has 2 to 4,096 nodes and at most 16,384 arcs");
+    }
+    let cost = cost_of_cut(rt.alloc(), nodes as u32, arcs as u32, seed, rounds)?;
+    println!(rt; "cost {cost}")?;
+    Ok(())
+}
+
+/// Adds a number of those that ask for a least cut. With the fourth it prints what that costs.
+fn add_number(rt: &HostRuntime, mut numbers: Vec<u64>, word: &str) -> Result<Asked> {
+    numbers.push(word.parse::<u64>().context("reading a number")?)?;
+    if let [nodes, arcs, seed, rounds] = numbers.as_slice() {
+        tell_cut(rt, *nodes, *arcs, *seed, *rounds)?;
+        return Ok(Asked::Group);
+    }
+    Ok(Asked::Number(numbers))
+}
+
 /// What a word that begins a group asks.
-fn group_of(word: &str) -> Option<Asked> {
+fn group_of(rt: &HostRuntime, word: &str) -> Option<Asked> {
     match word {
         "--targets" => Some(Asked::TargetFile),
         "--documents" => Some(Asked::Document),
         "--pairs" => Some(Asked::PairTarget),
+        "--region" => Some(Asked::RegionTarget),
+        "--cut" => Some(Asked::Number(Vec::new(rt.alloc()))),
         _ => None,
     }
 }
@@ -142,7 +145,9 @@ fn group_of(word: &str) -> Option<Asked> {
 /// Answers a word, and what the word behind it is.
 fn answered(rt: &HostRuntime, asked: Asked, word: String) -> Result<Asked> {
     match asked {
-        Asked::Group => bail!("the first word is --targets, --documents or --pairs"),
+        Asked::Group => bail!(
+            "a group begins with --targets, --documents, --pairs, --region or --cut"
+        ),
         Asked::TargetFile => {
             tell_target(rt, word.as_str())?;
             Ok(Asked::TargetFile)
@@ -157,13 +162,20 @@ fn answered(rt: &HostRuntime, asked: Asked, word: String) -> Result<Asked> {
             tell_pair(rt, &target, source.as_str(), word.as_str())?;
             Ok(Asked::Source(target))
         }
+        Asked::RegionTarget => Ok(Asked::RegionFile(target_of(rt, word.as_str())?)),
+        Asked::RegionFile(target) => Ok(Asked::Range(prepared_of(rt, &target, word.as_str())?)),
+        Asked::Range(mut prepared) => {
+            answer_range(rt, &mut prepared, word.as_str())?;
+            Ok(Asked::Range(prepared))
+        }
+        Asked::Number(numbers) => add_number(rt, numbers, word.as_str()),
     }
 }
 
 fn main(rt: HostRuntime) -> Result<()> {
     let mut asked = Asked::Group;
     for word in env::args(&rt)?.skip(1) {
-        asked = match group_of(word.as_str()) {
+        asked = match group_of(&rt, word.as_str()) {
             Some(group) => group,
             None => answered(&rt, asked, word)?,
         };

@@ -4,3 +4,4 @@ pub mod Facts
 pub mod Searches
 pub mod Rounds
 pub mod Cuts
+pub mod Adjacency

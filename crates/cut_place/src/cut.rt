@@ -39,8 +39,8 @@ fn phase(
     requires small { HasSmallCapacities arcs.now }
     requires few { length arcs.now ≤ 16384 }
     requires ends { HasEnds (length search.now.levels.items) arcs.now }
-    requires links { HasLinks links.now.first.items links.now.next.items }
-    requires all_linked { length links.now.first.items ≡ length search.now.levels.items }
+    requires links { HasLinks links.now.nodes (length arcs.now) links.now.starts.items links.now.all.items }
+    requires all_linked { links.now.nodes ≡ length search.now.levels.items }
     requires search { IsSearch arcs.now flow.old search.now.levels.items search.now.before.items search.now.queue.items }
     requires sink { slice_index search.now.levels.items 1 < 4096 }
     requires balanced { IsBalanced arcs.now flow.old value }
@@ -50,7 +50,15 @@ fn phase(
     ensures fits { IfOk result (λ v. v ≤ 2 ^ 126) }
 {
     let levels = search.levels.as_slice();
-    let first = send(alloc, arcs, flow, levels, search.before.as_slice(), value)?;
+    let mut steps = Vec::new(alloc);
+    let first = send(
+        arcs,
+        flow,
+        levels,
+        search.before.as_slice(),
+        value,
+        &mut steps,
+    )?;
     let last = blocking_flow(alloc, arcs, flow, links, levels, first)?;
     Ok(last)
 }

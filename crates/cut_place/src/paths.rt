@@ -6,22 +6,13 @@ ghost use Rattle.cut_place.specs.Trails.{IsTrail, IsTree, LeadsTo};
 
 use crate::net::Arc;
 use crate::steps::{Step, head, push, residual, tail};
-use std::alloc::{AllocError, Global};
+use std::alloc::AllocError;
 
 /// The number of the source.
 pub(crate) const SOURCE: usize = 0;
 
 /// The number of the sink.
 pub(crate) const SINK: usize = 1;
-
-/// An augmenting path, followed back from the sink, and what can be sent along it.
-#[derive(Drop)]
-struct Path {
-    /// Its residual arcs, from the sink back to the source.
-    steps: Vec<Step>,
-    /// The least of their residual capacities.
-    amount: u128,
-}
 
 /// Whether a residual arc has room and enters a node from one a level lower.
 pub(crate) fn leads_to(arcs: &[Arc], flow: &[u128], levels: &[usize], at: usize, step: Step) -> bool
@@ -40,22 +31,23 @@ pub(crate) fn leads_to(arcs: &[Arc], flow: &[u128], levels: &[usize], at: usize,
     enters && room > 0 && before < here && here - before == 1
 }
 
-/// The augmenting path that goes back from the sink by the residual arcs that lead to its nodes.
+/// Follows the augmenting path back from the sink, by the residual arcs that lead to its nodes.
+/// Gives the least of their residual capacities; None where they don't make a path.
 fn trace(
-    alloc: Global,
     arcs: &[Arc],
     flow: &[u128],
     levels: &[usize],
     before: &[Step],
-) -> Result<Option<Path>, AllocError>
+    steps: &mut Vec<Step>,
+) -> Result<Option<u128>, AllocError>
     requires within { IsWithin arcs.now flow.now }
     requires ends { HasEnds (length levels.now) arcs.now }
     requires nodes { 2 ≤ length levels.now }
     requires same_len { length before.now ≡ length levels.now }
-    ensures trail { IfOk result (λ r. IfSome r (λ p. (1 ≤ p.amount) × IsTrail arcs.now flow.now levels.now p.amount 1 p.steps.items 0)) }
+    ensures trail { IfOk result (λ r. IfSome r (λ amount. (1 ≤ amount) × IsTrail arcs.now flow.now levels.now amount 1 steps.new.items 0)) }
     ensures found { IsTree arcs.now flow.now levels.now before.now → slice_index levels.now 1 < 4096 → IfOk result (λ r. IsSome r) }
 {
-    let mut steps = Vec::new(alloc);
+    steps.clear();
     let mut amount = u128::MAX;
     let mut at = SINK;
     'back: while at != SOURCE {
@@ -67,31 +59,31 @@ fn trace(
         steps.push(step)?;
         at = tail(arcs, step);
     }
-    Ok(Some(Path { steps, amount }))
+    Ok(Some(amount))
 }
 
-/// Sends the amount of a path along it. The flow's value grows by as much.
-fn augment(arcs: &[Arc], flow: &mut [u128], path: &Path)
+/// Sends an amount along a path.
+fn augment(arcs: &[Arc], flow: &mut [u128], steps: &[Step], amount: u128)
     requires within { IsWithin arcs.now flow.old }
     requires small { HasSmallCapacities arcs.now }
-    requires trail { (levels : List ℕ) × IsTrail arcs.now flow.old levels path.now.amount 1 path.now.steps.items 0 }
+    requires trail { (levels : List ℕ) × IsTrail arcs.now flow.old levels amount 1 steps.now 0 }
     ensures within { IsWithin arcs.now flow.new }
-    ensures balanced { (value : ℕ) → IsBalanced arcs.now flow.old value → IsBalanced arcs.now flow.new (value + path.now.amount) }
+    ensures balanced { (value : ℕ) → IsBalanced arcs.now flow.old value → IsBalanced arcs.now flow.new (value + amount) }
 {
-    for step in path.steps.as_slice() {
-        push(arcs, flow, *step, path.amount);
+    for step in steps {
+        push(arcs, flow, *step, amount);
     }
 }
 
 /// Augments a flow along the path that the residual arcs before each node make, if they make one.
-/// Gives the flow's value.
+/// Gives the flow's value. The steps are room for the path, used again from call to call.
 pub(crate) fn send(
-    alloc: Global,
     arcs: &[Arc],
     flow: &mut [u128],
     levels: &[usize],
     before: &[Step],
     value: u128,
+    steps: &mut Vec<Step>,
 ) -> Result<u128, AllocError>
     requires within { IsWithin arcs.now flow.old }
     requires small { HasSmallCapacities arcs.now }
@@ -105,11 +97,11 @@ pub(crate) fn send(
     ensures grows { IfOk result (λ v. value ≤ v) }
     ensures more { IsTree arcs.now flow.old levels.now before.now → slice_index levels.now 1 < 4096 → IfOk result (λ v. value < v) }
 {
-    match trace(alloc, arcs, flow, levels, before)? {
+    match trace(arcs, flow, levels, before, steps)? {
         None => Ok(value),
-        Some(path) => {
-            augment(arcs, flow, &path);
-            Ok(value + path.amount)
+        Some(amount) => {
+            augment(arcs, flow, steps.as_slice(), amount);
+            Ok(value + amount)
         }
     }
 }

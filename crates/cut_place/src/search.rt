@@ -5,7 +5,7 @@ ghost use Rattle.cut_place.specs.Flows.{HasEnds, IsWithin};
 ghost use Rattle.cut_place.specs.Links.{HasLinks};
 ghost use Rattle.cut_place.specs.Searches.{IsClosed, IsSearch, Stays, reached, unreached};
 
-use crate::links::{Links, step_of};
+use crate::links::{Link, Links};
 use crate::net::Arc;
 use crate::paths::{SINK, SOURCE};
 use crate::steps::{Step, head, residual, tail};
@@ -37,12 +37,15 @@ fn reach(arcs: &[Arc], flow: &[u128], search: &mut Search, step: Step) -> Result
     ensures same { IfOk result (λ r. r ≡ false → search.new.levels.items ≡ search.old.levels.items) }
     ensures stays { IfOk result (λ r. r ≡ false → Stays (reached search.old.levels.items) arcs.now flow.now step) }
 {
+    let room = residual(arcs, flow, step);
+    if room == 0 {
+        return Ok(false);
+    }
     let from = tail(arcs, step);
     let to = head(arcs, step);
-    let room = residual(arcs, flow, step);
     let level = search.levels[from];
     let there = search.levels[to];
-    if level >= UNREACHED || there < UNREACHED || room == 0 {
+    if level >= UNREACHED || there < UNREACHED {
         return Ok(false);
     }
     search.queue.push(to)?;
@@ -51,7 +54,25 @@ fn reach(arcs: &[Arc], flow: &[u128], search: &mut Search, step: Step) -> Result
     Ok(true)
 }
 
-/// Reaches what the residual arcs of a node's list lead to.
+/// Reaches the node that a link leads to, if it wasn't reached yet. Most are, and then nothing else
+/// of the link is read.
+fn follow(arcs: &[Arc], flow: &[u128], search: &mut Search, link: Link) -> Result<(), AllocError>
+    requires inside { link.step.arc < length arcs.now }
+    requires to { link.to < length search.old.levels.items }
+    requires within { IsWithin arcs.now flow.now }
+    requires ends { HasEnds (length search.old.levels.items) arcs.now }
+    requires search { IsSearch arcs.now flow.now search.old.levels.items search.old.before.items search.old.queue.items }
+    ensures search { OnOk result (IsSearch arcs.now flow.now search.new.levels.items search.new.before.items search.new.queue.items) }
+    ensures nodes { OnOk result (length search.new.levels.items ≡ length search.old.levels.items) }
+{
+    if search.levels[link.to] < UNREACHED {
+        return Ok(());
+    }
+    reach(arcs, flow, search, link.step)?;
+    Ok(())
+}
+
+/// Reaches what the links of a node lead to.
 fn visit(
     arcs: &[Arc],
     flow: &[u128],
@@ -62,17 +83,15 @@ fn visit(
     requires inside { node < length search.old.levels.items }
     requires within { IsWithin arcs.now flow.now }
     requires ends { HasEnds (length search.old.levels.items) arcs.now }
-    requires links { HasLinks links.now.first.items links.now.next.items }
-    requires all_linked { length links.now.first.items ≡ length search.old.levels.items }
-    requires places { length links.now.next.items ≡ 2 * length arcs.now }
+    requires links { HasLinks links.now.nodes (length arcs.now) links.now.starts.items links.now.all.items }
+    requires all_linked { links.now.nodes ≡ length search.old.levels.items }
     requires search { IsSearch arcs.now flow.now search.old.levels.items search.old.before.items search.old.queue.items }
     ensures search { OnOk result (IsSearch arcs.now flow.now search.new.levels.items search.new.before.items search.new.queue.items) }
     ensures nodes { OnOk result (length search.new.levels.items ≡ length search.old.levels.items) }
 {
-    let mut link = links.first[node];
-    'list: while link != 0 {
-        reach(arcs, flow, search, step_of(link))?;
-        link = links.next[link - 1];
+    let all = links.all.as_slice();
+    for place in links.starts[node]..links.starts[node + 1] {
+        follow(arcs, flow, search, all[place])?;
     }
     Ok(())
 }
@@ -81,9 +100,8 @@ fn visit(
 fn spread(arcs: &[Arc], flow: &[u128], links: &Links, search: &mut Search) -> Result<(), AllocError>
     requires within { IsWithin arcs.now flow.now }
     requires ends { HasEnds (length search.old.levels.items) arcs.now }
-    requires links { HasLinks links.now.first.items links.now.next.items }
-    requires all_linked { length links.now.first.items ≡ length search.old.levels.items }
-    requires places { length links.now.next.items ≡ 2 * length arcs.now }
+    requires links { HasLinks links.now.nodes (length arcs.now) links.now.starts.items links.now.all.items }
+    requires all_linked { links.now.nodes ≡ length search.old.levels.items }
     requires search { IsSearch arcs.now flow.now search.old.levels.items search.old.before.items search.old.queue.items }
     ensures search { OnOk result (IsSearch arcs.now flow.now search.new.levels.items search.new.before.items search.new.queue.items) }
     ensures nodes { OnOk result (length search.new.levels.items ≡ length search.old.levels.items) }
@@ -142,16 +160,15 @@ pub(crate) fn search_from(
     links: &Links,
 ) -> Result<Search, AllocError>
     requires within { IsWithin arcs.now flow.now }
-    requires nodes { 2 ≤ length links.now.first.items }
-    requires most { length links.now.first.items ≤ 4096 }
-    requires ends { HasEnds (length links.now.first.items) arcs.now }
-    requires links { HasLinks links.now.first.items links.now.next.items }
-    requires places { length links.now.next.items ≡ 2 * length arcs.now }
+    requires nodes { 2 ≤ links.now.nodes }
+    requires most { links.now.nodes ≤ 4096 }
+    requires ends { HasEnds links.now.nodes arcs.now }
+    requires links { HasLinks links.now.nodes (length arcs.now) links.now.starts.items links.now.all.items }
     ensures search { IfOk result (λ r. IsSearch arcs.now flow.now r.levels.items r.before.items r.queue.items) }
-    ensures nodes { IfOk result (λ r. length r.levels.items ≡ length links.now.first.items) }
+    ensures nodes { IfOk result (λ r. length r.levels.items ≡ links.now.nodes) }
     ensures closed { IfOk result (λ r. 4096 ≤ slice_index r.levels.items 1 → IsClosed (reached r.levels.items) arcs.now flow.now) }
 {
-    let nodes = links.first.len();
+    let nodes = links.nodes;
     let mut levels = Vec::from_elem(alloc, UNREACHED, nodes)?;
     levels[SOURCE] = 0;
     let none = Step {

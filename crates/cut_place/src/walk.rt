@@ -1,13 +1,13 @@
 //! Blocking flows, by a depth-first walk with current arcs.
 
-ghost use Rattle.std.specs.Prelude.{◌≡◌, ◌*◌, ◌<◌, ◌≤◌, IfOk, OnOk, length};
+ghost use Rattle.std.specs.Prelude.{◌≡◌, ◌+◌, ◌<◌, ◌≤◌, IfOk, OnOk, length};
 ghost use Rattle.cut_place.specs.Flows.{HasEnds, HasSmallCapacities, IsBalanced, IsWithin};
 ghost use Rattle.cut_place.specs.Links.{HasLinks, IsWalk};
 
-use crate::links::{Links, step_of};
+use crate::links::Links;
 use crate::net::Arc;
-use crate::paths::{SINK, SOURCE, leads_to, send};
-use crate::steps::{Step, tail};
+use crate::paths::{SINK, SOURCE, send};
+use crate::steps::{Step, residual};
 use std::alloc::{AllocError, Global};
 
 /// The most steps of a walk: 4,096 nodes times 32,768 residual arcs. By Dinic's bound on a phase no
@@ -17,7 +17,7 @@ const STEPS: usize = 134_217_728;
 /// A walk back from the sink, level by level.
 #[derive(Drop)]
 struct Walk {
-    /// Of each node, the link of its current arc.
+    /// Of each node, the place of its current link.
     current: Vec<usize>,
     /// Of each node on the way, the residual arc that leads to it.
     before: Vec<Step>,
@@ -27,37 +27,74 @@ struct Walk {
     at: usize,
 }
 
-/// Goes on to the next arc of the node where the walk is.
-fn skip(links: &Links, walk: &mut Walk, nodes: usize)
-    requires links { HasLinks links.now.first.items links.now.next.items }
-    requires walk { IsWalk nodes (length links.now.next.items) walk.old.current.items (length walk.old.before.items) walk.old.stack.items walk.old.at }
-    ensures { IsWalk nodes (length links.now.next.items) walk.new.current.items (length walk.new.before.items) walk.new.stack.items walk.new.at }
+/// The residual arc of the same arc the other way.
+fn reverse_of(step: Step) -> Step
+    ensures { result.arc ≡ step.arc }
+{
+    Step {
+        arc: step.arc,
+        along: !step.along,
+    }
+}
+
+/// Goes on to the next link of the node where the walk is.
+fn skip(links: &Links, walk: &mut Walk)
+    requires each { length links.now.starts.items ≡ links.now.nodes + 1 }
+    requires walk { IsWalk links.now.nodes walk.old.current.items (length walk.old.before.items) walk.old.stack.items walk.old.at }
+    ensures { IsWalk links.now.nodes walk.new.current.items (length walk.new.before.items) walk.new.stack.items walk.new.at }
 {
     let at = walk.at;
-    let link = walk.current[at];
-    if link > 0 && at < nodes {
-        walk.current[at] = links.next[link - 1];
+    let place = walk.current[at];
+    if place < links.starts[at + 1] {
+        walk.current[at] = place + 1;
     }
 }
 
 /// Goes back one node from a dead end. Says whether there was one.
-fn retreat(links: &Links, walk: &mut Walk, nodes: usize) -> bool
-    requires links { HasLinks links.now.first.items links.now.next.items }
-    requires walk { IsWalk nodes (length links.now.next.items) walk.old.current.items (length walk.old.before.items) walk.old.stack.items walk.old.at }
-    ensures { IsWalk nodes (length links.now.next.items) walk.new.current.items (length walk.new.before.items) walk.new.stack.items walk.new.at }
+fn retreat(links: &Links, walk: &mut Walk) -> bool
+    requires each { length links.now.starts.items ≡ links.now.nodes + 1 }
+    requires walk { IsWalk links.now.nodes walk.old.current.items (length walk.old.before.items) walk.old.stack.items walk.old.at }
+    ensures { IsWalk links.now.nodes walk.new.current.items (length walk.new.before.items) walk.new.stack.items walk.new.at }
 {
     match walk.stack.pop() {
         None => false,
         Some(node) => {
             walk.at = node;
-            skip(links, walk, nodes);
+            skip(links, walk);
             true
         }
     }
 }
 
-/// One step of a walk: on by the current arc, or to the next arc, or back from a dead end. Says
-/// whether there was one.
+/// Looks among a node's links, from a place on, for one by which the node is entered with room from
+/// a level lower. Gives its place, or that behind the node's links.
+fn find_entry(
+    arcs: &[Arc],
+    flow: &[u128],
+    levels: &[usize],
+    links: &Links,
+    at: usize,
+    from: usize,
+) -> usize
+    requires within { IsWithin arcs.now flow.now }
+    requires links { HasLinks links.now.nodes (length arcs.now) links.now.starts.items links.now.all.items }
+    requires all_linked { links.now.nodes ≡ length levels.now }
+    requires at_node { at < length levels.now }
+{
+    let all = links.all.as_slice();
+    let below = levels[at].saturating_sub(1);
+    let end = links.starts[at + 1];
+    for place in from..end {
+        let link = all[place];
+        if levels[link.to] == below && residual(arcs, flow, reverse_of(link.step)) > 0 {
+            return place;
+        }
+    }
+    end
+}
+
+/// One step of a walk: on to a node a level lower, or back from a dead end. Says whether there was
+/// one.
 fn advance(
     arcs: &[Arc],
     flow: &[u128],
@@ -66,28 +103,21 @@ fn advance(
     walk: &mut Walk,
 ) -> Result<bool, AllocError>
     requires within { IsWithin arcs.now flow.now }
-    requires ends { HasEnds (length levels.now) arcs.now }
-    requires links { HasLinks links.now.first.items links.now.next.items }
-    requires walk { IsWalk (length levels.now) (length links.now.next.items) walk.old.current.items (length walk.old.before.items) walk.old.stack.items walk.old.at }
-    ensures { OnOk result (IsWalk (length levels.now) (length links.now.next.items) walk.new.current.items (length walk.new.before.items) walk.new.stack.items walk.new.at) }
+    requires links { HasLinks links.now.nodes (length arcs.now) links.now.starts.items links.now.all.items }
+    requires all_linked { links.now.nodes ≡ length levels.now }
+    requires walk { IsWalk links.now.nodes walk.old.current.items (length walk.old.before.items) walk.old.stack.items walk.old.at }
+    ensures { OnOk result (IsWalk links.now.nodes walk.new.current.items (length walk.new.before.items) walk.new.stack.items walk.new.at) }
 {
     let at = walk.at;
-    let link = walk.current[at];
-    if link == 0 {
-        return Ok(retreat(links, walk, levels.len()));
+    let place = find_entry(arcs, flow, levels, links, at, walk.current[at]);
+    walk.current[at] = place;
+    if place >= links.starts[at + 1] {
+        return Ok(retreat(links, walk));
     }
-    let out = step_of(link);
-    let step = Step {
-        arc: out.arc,
-        along: !out.along,
-    };
-    if !leads_to(arcs, flow, levels, at, step) {
-        skip(links, walk, levels.len());
-        return Ok(true);
-    }
+    let link = links.all[place];
     walk.stack.push(at)?;
-    walk.before[at] = step;
-    walk.at = tail(arcs, step);
+    walk.before[at] = reverse_of(link.step);
+    walk.at = link.to;
     Ok(true)
 }
 
@@ -105,8 +135,8 @@ pub(crate) fn blocking_flow(
     requires few { length arcs.now ≤ 16384 }
     requires ends { HasEnds (length levels.now) arcs.now }
     requires nodes { 2 ≤ length levels.now }
-    requires links { HasLinks links.now.first.items links.now.next.items }
-    requires all_linked { length links.now.first.items ≡ length levels.now }
+    requires links { HasLinks links.now.nodes (length arcs.now) links.now.starts.items links.now.all.items }
+    requires all_linked { links.now.nodes ≡ length levels.now }
     requires balanced { IsBalanced arcs.now flow.old value }
     ensures within { OnOk result (IsWithin arcs.now flow.new) }
     ensures balanced { IfOk result (λ v. IsBalanced arcs.now flow.new v) }
@@ -117,17 +147,25 @@ pub(crate) fn blocking_flow(
         along: false,
     };
     let mut walk = Walk {
-        current: Vec::from_slice(alloc, links.first.as_slice())?,
+        current: Vec::from_slice(alloc, links.starts.as_slice())?,
         before: Vec::from_elem(alloc, none, levels.len())?,
         stack: Vec::new(alloc),
         at: SINK,
     };
+    let mut steps = Vec::new(alloc);
     'steps: for _ in 0..STEPS {
         if !advance(arcs, flow, levels, links, &mut walk)? {
             break;
         }
         if walk.at == SOURCE {
-            value = send(alloc, arcs, flow, levels, walk.before.as_slice(), value)?;
+            value = send(
+                arcs,
+                flow,
+                levels,
+                walk.before.as_slice(),
+                value,
+                &mut steps,
+            )?;
             walk.stack.clear();
             walk.at = SINK;
         }

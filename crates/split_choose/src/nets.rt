@@ -34,7 +34,7 @@ const MOST_CAPACITY: u128 = 5_192_296_858_534_827_628_530_496_329_220_096;
 
 /// What a block of the range has in the net of a register.
 #[derive(Clone, Copy)]
-pub(crate) struct Row {
+pub struct Row {
     /// The block's position in the layout.
     pub position: u32,
     /// The nodes of its start and its end, where the range is live there.
@@ -52,7 +52,7 @@ pub(crate) struct Row {
 
 /// The net of a register.
 #[derive(Drop)]
-pub(crate) struct Placing {
+pub struct Placing {
     /// What each block has.
     pub rows: Vec<Row>,
     pub net: Net,

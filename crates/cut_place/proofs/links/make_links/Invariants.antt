@@ -1,7 +1,8 @@
-use Rattle.std.proofs.Common.{◌≡◌, ℕ, ◌*◌, length}
-use Rattle.cut_place.specs.Links.{HasLinks}
+use Rattle.std.proofs.Common.{◌≡◌, ℕ, ◌<◌, ◌≤◌, length}
+use Rattle.cut_place.specs.Links.{AreLinks}
+use Rattle.cut_place.proofs.Adjacency.{AreWithin}
 use Rattle.cut_place.proofs.links.make_links.Given as goal
 
-abbrev pub invariant-loop-arc : goal.invariant-loop-arc
-invariant-loop-arc l =
-    HasLinks l.links.first.items l.links.next.items × (length l.links.first.items ≡ l.nodes) × (length l.links.next.items ≡ 2 * l.arc-index)
+abbrev pub invariant-loop-first : goal.invariant-loop-first
+invariant-loop-first l =
+    AreLinks l.nodes (length l.arcs) l.all.items × (length l.starts.items ≡ l.first-index) × AreWithin l.starts.items (length l.all.items)

@@ -4,7 +4,7 @@ use Rattle.cut_place.proofs.paths.send.Goals as goal
 
 pub overflow_add-result : goal.overflow_add-result
 overflow_add-result c =
-    let most : c.args.value + c.in-Some.path.amount ≤ 2 ^ 126 =
-    value_fits c.args.arcs.now c.augment.new.flow (c.args.value + c.in-Some.path.amount) c.augment.ensures.within
+    let most : c.args.value + c.in-Some.amount ≤ 2 ^ 126 =
+    value_fits c.args.arcs.now c.augment.new.flow (c.args.value + c.in-Some.amount) c.augment.ensures.within
     (c.augment.ensures.balanced c.args.value c.requires.balanced) c.requires.small c.requires.few
     in omega (arith, most)

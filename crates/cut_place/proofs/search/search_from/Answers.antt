@@ -9,10 +9,9 @@ use Rattle.cut_place.proofs.search.search_from.Goals as goal
 
 pub spread-requires-clause-search : goal.spread-requires-clause-search
 spread-requires-clause-search c =
-    let n : ℕ = length c.args.links.now.first.items in
+    let n : ℕ = c.args.links.now.nodes in
     let far : ℕ = 4096 in
     let zero_list : List ℕ = 0 ∷ [] in
-    let len : c.len-nodes.result ≡ n = grind (arith, common_steps) in
     let levels : c.in_ok-levels.levels.items ≡ replicate n far = grind (arith, common_steps) in
     let before : c.in_ok-before.before.items ≡ replicate n no_step = grind (arith, common_steps) in
     let queue : c.push.new.self.items ≡ zero_list = grind (arith, common_steps) in

@@ -1,11 +1,8 @@
-use Rattle.std.proofs.Common.{◌≡◌, ℕ, ◌≤◌, length}
+use Rattle.std.proofs.Common.{◌≡◌, ℕ, length}
 use Rattle.cut_place.specs.Searches.{IsSearch}
 use Rattle.cut_place.proofs.search.visit.Given as goal
 
-abbrev pub invariant-list : goal.invariant-list
-invariant-list l =
+abbrev pub invariant-loop-place : goal.invariant-loop-place
+invariant-loop-place l =
     IsSearch l.arcs l.flow l.search.levels.items l.search.before.items l.search.queue.items
-    × (length l.search.levels.items ≡ length l.initial.search.levels.items) × (l.link ≤ length l.links.next.items)
-
-abbrev pub decreases-list : goal.decreases-list
-decreases-list l = l.link
+    × (length l.search.levels.items ≡ length l.initial.search.levels.items)

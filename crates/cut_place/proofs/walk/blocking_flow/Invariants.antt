@@ -6,4 +6,4 @@ use Rattle.cut_place.proofs.walk.blocking_flow.Given as goal
 abbrev pub invariant-steps : goal.invariant-steps
 invariant-steps l =
     IsWithin l.arcs l.flow × IsBalanced l.arcs l.flow l.value × (l.fn.value ≤ l.value)
-    × IsWalk (length l.levels) (length l.links.next.items) l.walk.current.items (length l.walk.before.items) l.walk.stack.items l.walk.at
+    × IsWalk l.links.nodes l.walk.current.items (length l.walk.before.items) l.walk.stack.items l.walk.at
