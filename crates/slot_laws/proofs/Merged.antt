@@ -123,7 +123,7 @@ module _ (t : Target) (T : List Slot) (f : Function) where
 
 -- without phis, ways into blocks write nothing
 
-abbrev edge : ℕ → Writes → Edge
+abbrev pub edge : ℕ → Writes → Edge
 edge n ws = record { block = n; phis = ws }
 
 module _ (t : Target) where
