@@ -101,7 +101,7 @@ bare-item (Silent reads ws) p h l = l
 bare-item (Counted r reads ws target exits) p h l = (h.0, h.1, l)
 
 module _ (t : Target) (f : Function) (rules : (n : ℕ) (b : Block) → slice_get f.blocks n ≡ Some b → AllRules t f n b) where
-  rules-at : (b : Block) (i : Instr) → Member b f.blocks → Member i b.instrs → (n : ℕ) × (j : ℕ) × InstrRules t f n b j i
+  pub rules-at : (b : Block) (i : Instr) → Member b f.blocks → Member i b.instrs → (n : ℕ) × (j : ℕ) × InstrRules t f n b j i
   rules-at b i mb mi = let n = member-slice b f.blocks mb in let j = member-slice i b.instrs mi in (n.0, j.0, (rules n.0 b n.1).instrs j.0 i j.1)
 
   pub rule-one : (b : Block) (i : Instr) → Member b f.blocks → Member i b.instrs → V1 t f i ≡ true
