@@ -42,7 +42,7 @@ use Rattle.slot_laws.proofs.Alike.{lanes-alike, widths-alike, undefined-alike, u
 use Rattle.slot_laws.proofs.Chosen.{found-in}
 use Rattle.slot_laws.proofs.Still.{StillReads, merged_lane, lanes-stay, sources-stay, writes-stay, reads-stay, lanes-still, undefined-lanes-still, uses-still, silent-still, counted-still, counted-reads-still}
 
-map-append : {A B : Type 0} (f : A → B) (xs ys : List A) → map f (xs ++ ys) ≡ map f xs ++ map f ys
+pub map-append : {A B : Type 0} (f : A → B) (xs ys : List A) → map f (xs ++ ys) ≡ map f xs ++ map f ys
 map-append f [] ys = refl
 map-append f (x ∷ xs) ys = ap (λ zs. f x ∷ zs) (map-append f xs ys)
 
@@ -154,7 +154,7 @@ module _ (t : Target) where
     no-phis-stay [] = refl
     no-phis-stay (b ∷ bs) = λ k. phis-stay b.instrs k && no-phis-stay bs k
 
-    falls-stay : (is : List Instr) → falls_through t (map (renamed_instr T) is) ≡ falls_through t is
+    pub falls-stay : (is : List Instr) → falls_through t (map (renamed_instr T) is) ≡ falls_through t is
     falls-stay [] = refl
     falls-stay (i ∷ []) = refl
     falls-stay (i ∷ j ∷ is) = falls-stay (j ∷ is)
@@ -166,7 +166,7 @@ module _ (t : Target) where
     pub fallen-stays : (b : Block) (bs : List Block) → fallen_into t (renamed_block T b) (map (renamed_block T) bs) ≡ fallen_into t b bs
     fallen-stays b bs = λ k. cond (falls-stay b.instrs k) (first-stays bs k) None
 
-map-alike : {A B : Type 0} (f g : A → B) → ((x : A) → f x ≡ g x) → (xs : List A) → map f xs ≡ map g xs
+pub map-alike : {A B : Type 0} (f g : A → B) → ((x : A) → f x ≡ g x) → (xs : List A) → map f xs ≡ map g xs
 map-alike f g e [] = refl
 map-alike f g e (x ∷ xs) = λ k. e x k ∷ map-alike f g e xs k
 
@@ -183,7 +183,7 @@ module _ (t : Target) (T : List Slot) (f : Function) (none : has_no_phis t f.blo
   abbrev to : Lane → Lane
   to = merged_lane (home_of T)
 
-  none-merged : has_no_phis t made.blocks ≡ true
+  pub none-merged : has_no_phis t made.blocks ≡ true
   none-merged = no-phis-stay t T f.blocks ∙ none
 
   way-same : (n k : ℕ) → way t made n k ≡ way t f n k
