@@ -22,16 +22,15 @@ use Rattle.mir_func.specs.Value.{Function}
 use Rattle.mir_func.specs.Binding.{registers}
 use Rattle.mir_meaning.specs.Registers.{located_lanes, located_widths, operand_lanes, operand_widths, undefined_lanes, use_sources, whole_lanes}
 use Rattle.mir_meaning.specs.Renaming.{IsFixed, Renames, RenamesAll, renamed_instr, renamed_item, renamed_operand}
-use Rattle.slot_colour.specs.declared.choice.Slot.{Slot}
-use Rattle.slot_colour.specs.Colouring.{merged}
+use Rattle.slot_laws.specs.Homes.{function_moved}
 
 map-itself : {X : Type 0} (xs : List X) → map (λ x. x) xs ≡ xs
 map-itself [] = refl
 map-itself (x ∷ xs) = ap (λ ys. x ∷ ys) (map-itself xs)
 
-module _ (t : Target) (T : List Slot) (f : Function) where
+module _ (t : Target) (home : ℕ → ℕ) (head : List ℕ) (f : Function) where
   abbrev g : Function
-  g = merged T f
+  g = function_moved home head f
 
   pub lanes-alike : (o : RegOp) → operand_lanes t g o ≡ operand_lanes t f o
   lanes-alike o = at o.loc o.index

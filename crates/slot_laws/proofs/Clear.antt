@@ -4,7 +4,6 @@ use Rattle.std.specs.Prelude.{nat_lt, slice_get}
 use Rattle.std.proofs.lemmas.Bool.{cases_eq, le-ltb, lt-ltb}
 use Rattle.std.proofs.lemmas.List.Sums.{sum_by-cons}
 use Rattle.std.proofs.lemmas.Option.{slice_get_within}
-use Rattle.target_base.specs.Names.{are_distinct_numbers}
 use Rattle.target_base.specs.declared.types.Target.{Target}
 use Rattle.meaning.specs.declared.types.Lane.{Lane}
 use Rattle.meaning.specs.declared.types.Lane.TheVariants.{VirtualLane, UnitLane, SlotLane}
@@ -23,10 +22,7 @@ use Rattle.mir_meaning.specs.Codes.{block_end, blocks_code}
 use Rattle.mir_meaning.specs.Points.{AtFirst, Entry, Exit, OccupiedAt, block_rest, from_instr, has_instr, point_item, points_of}
 use Rattle.instr_effects.proofs.Members.{member-none}
 use Rattle.live_laws.proofs.Effects.Moving.{some-same}
-use Rattle.slot_colour.specs.Clashes.{SlotsClash}
-use Rattle.slot_colour.specs.Colouring.{chosen, home_of}
-use Rattle.slot_laws.specs.Colours.{TellsClashes, spill_numbers}
-use Rattle.slot_laws.proofs.Chosen.{home-apart}
+use Rattle.slot_laws.specs.Homes.{AreHomes}
 use Rattle.slot_laws.proofs.Still.{merged_lane}
 
 -- where the instruction of an id stands
@@ -150,11 +146,8 @@ module _ (reserved : Lane → Bool) (h : ℕ → ℕ) (code : Code) where
   all-quiet [] q = tt
   all-quiet (i ∷ p) q = (quiet-at i p q.0, all-quiet p q.1)
 
--- the slots of a function by a test that tells their clashes
-module _ (t : Target) (f : Function) (clash : ℕ → ℕ → Bool) (function : IsFunction f.blocks f.next_id) (distinct : are_distinct_numbers (spill_numbers f.frames) ≡ true) (tells : TellsClashes t f clash) where
-  abbrev h : ℕ → ℕ
-  h = home_of (chosen clash f)
-
+-- the slots of a function, which go to others without a clash
+module _ (t : Target) (f : Function) (h : ℕ → ℕ) (function : IsFunction f.blocks f.next_id) (homes : AreHomes t f h) where
   abbrev R : Lane → Bool
   R = is_reserved t
 
@@ -164,18 +157,6 @@ module _ (t : Target) (f : Function) (clash : ℕ → ℕ → Bool) (function : 
       go : (b : Bool) → id_total x f.blocks ≤ cond b 1 0 → id_total x f.blocks ≤ 1
       go true e = e
       go false e = omega (arith, e)
-
-  -- slots that clash don't go to one
-  one-slot : (r s : ℕ) → SlotsClash t f r s → h r ≡ h s → r ≡ s
-  one-slot r s c e = go (cases_eq r s)
-    where
-      no : (r ≡ s → ⊥) → (clash r s ≡ false) ⊎ (clash s r ≡ false) → ⊥
-      no d (inl k) = let y : clash r s ≡ true = tells r s c in cc
-      no d (inr k) = let y : clash s r ≡ true = tells s r (c.0, c.2, c.1) in cc
-
-      go : (r ≡ s) ⊎ (r ≡ s → ⊥) → r ≡ s
-      go (inl g) = g
-      go (inr d) = absurd (no d (home-apart clash f distinct r s d e))
 
   module _ (pre : List Block) (b : Block) (after : List Block) (whole : pre ++ b ∷ after ≡ f.blocks) where
     abbrev tail : Code
@@ -195,15 +176,11 @@ module _ (t : Target) (f : Function) (clash : ℕ → ℕ → Bool) (function : 
 
       at-exit : (r j y s l x : ℕ) → OccupiedAfter R (points_of t f) item rest (SlotLane r j y) → OccupiedAfter R (points_of t f) item rest (SlotLane s l x) → h r ≡ h s → r ≡ s
       at-exit r j y s l x o u e =
-          one-slot r s
-          (Exit i.id, (j, y, subst (AtFirst (λ a p. OccupiedAfter R (points_of t f) a p (SlotLane r j y))) (sym stands) o), (l, x, subst (AtFirst (λ a p. OccupiedAfter R (points_of t f) a p (SlotLane s l x))) (sym stands) u))
-          e
+          homes.apart r s (Exit i.id) j y l x (subst (AtFirst (λ a p. OccupiedAfter R (points_of t f) a p (SlotLane r j y))) (sym stands) o) (subst (AtFirst (λ a p. OccupiedAfter R (points_of t f) a p (SlotLane s l x))) (sym stands) u) e
 
       at-entry : (r j y s l x : ℕ) → OccupiedBefore R (points_of t f) item rest (SlotLane r j y) → OccupiedBefore R (points_of t f) item rest (SlotLane s l x) → h r ≡ h s → r ≡ s
       at-entry r j y s l x o u e =
-          one-slot r s
-          (Entry i.id, (j, y, subst (AtFirst (λ a p. OccupiedBefore R (points_of t f) a p (SlotLane r j y))) (sym stands) o), (l, x, subst (AtFirst (λ a p. OccupiedBefore R (points_of t f) a p (SlotLane s l x))) (sym stands) u))
-          e
+          homes.apart r s (Entry i.id) j y l x (subst (AtFirst (λ a p. OccupiedBefore R (points_of t f) a p (SlotLane r j y))) (sym stands) o) (subst (AtFirst (λ a p. OccupiedBefore R (points_of t f) a p (SlotLane s l x))) (sym stands) u) e
 
       quiet-item : QuietSlots R h (points_of t f) item rest
       quiet-item = record {

@@ -2,8 +2,8 @@
 use Rattle.std.proofs.Common.{◌≡◌, ◌≤◌, ℕ, Bool, true, false, cond, not, List, [], ◌∷◌, arith}
 use Rattle.std.specs.Prelude.{count_by, filter}
 use Rattle.std.proofs.lemmas.List.Sums.{sum_by-cons}
-use Rattle.slot_colour.specs.Colouring.{chosen, is_gone, coloured}
-use Rattle.slot_laws.specs.Colours.{FewerSlots}
+use Rattle.slot_laws.specs.Homes.{MovingKeepsCount, goes}
+
 
 module _ {X : Type 0} (p q : X → Bool) where
   weight : X → ℕ
@@ -18,6 +18,5 @@ module _ {X : Type 0} (p q : X → Bool) where
       go true ih = omega (arith, ih, sum_by-cons weight x xs, sum_by-cons weight x (filter q xs))
       go false ih = omega (arith, ih, sum_by-cons weight x xs)
 
-pub fewer-slots : FewerSlots
-unfolding coloured
-fewer-slots clash f = kept-count (λ (o : ℕ × Bool). o.1) (λ (o : ℕ × Bool). not (is_gone (chosen clash f) o.0)) f.frames
+pub moving-keeps-count : MovingKeepsCount
+moving-keeps-count home head f = kept-count (λ (o : ℕ × Bool). o.1) (λ (o : ℕ × Bool). not (goes home o.0)) f.frames

@@ -33,11 +33,10 @@ use Rattle.mir_meaning.specs.Items.{unreserved}
 use Rattle.mir_meaning.specs.Rules.{V1, V2, V3, V4, V7, V8, V11, V12, V15, clashing_lanes, copy_fits, early_fits, explicit_fit, flags_fit, has_class, has_home, has_lanes, has_lanes_at, implicit_fit, implicit_last, in_operand_class, index_fits, is_condition, is_spill_slot, lanes_fit, no_two_share, operands_fit, register_lies_in, same_widths, share_a_lane, slot_fits, subregs_fit, tie_fits, undef_fits, untied_readings, values_fit, widths_fit}
 use Rattle.instr_effects.proofs.Members.{filter-in, filter-of}
 use Rattle.live_laws.proofs.Effects.Lists.{any-in}
-use Rattle.slot_colour.specs.declared.choice.Slot.{Slot}
-use Rattle.slot_colour.specs.Colouring.{home_of, is_gone, merged, renamed, renamed_block, renamed_instr}
+use Rattle.slot_laws.specs.Homes.{block_moved, function_moved, instr_moved, goes, slot_moved}
 use Rattle.slot_laws.proofs.Alike.{lanes-alike, widths-alike}
 use Rattle.slot_laws.proofs.Merged.{map-alike}
-use Rattle.slot_laws.proofs.Operands.{all-alike, all-map, any-alike, any-map, bound-renamed, copy-fits, explicit-fits, explicit-renamed, immediate-stays, implicit-stay, last-fits, registers-stay, renamed_bound, take-map, tied-stay, undef-fits, untied-stay}
+use Rattle.slot_laws.proofs.Operands.{all-alike, all-map, any-alike, any-map, bound-renamed, copy-fits, explicit-fits, explicit-renamed, immediate-stays, implicit-stay, last-fits, registers-stay, bound_moved, take-map, tied-stay, undef-fits, untied-stay}
 use Rattle.slot_laws.proofs.Ruled.{InstrRules}
 
 -- what a list has that passes a test
@@ -49,9 +48,9 @@ any-of {X} p (x ∷ xs) e = go (p x) refl e (any-of p xs)
     go true g k ih = (x, first, g)
     go false g k ih = let z = ih k in (z.0, later z.1, z.2)
 
-module _ (t : Target) (T : List Slot) (f : Function) where
+module _ (t : Target) (home : ℕ → ℕ) (head : List ℕ) (f : Function) where
   abbrev g : Function
-  g = merged T f
+  g = function_moved home head f
 
   -- the lanes of registers are those that they were
 
@@ -63,42 +62,42 @@ module _ (t : Target) (T : List Slot) (f : Function) where
       at (Fixed r) x = refl
 
   clashing-alike : (o : RegOp) → clashing_lanes t g o ≡ clashing_lanes t f o
-  clashing-alike o = λ k. cond (known-lanes o k) (unreserved t (lanes-alike t T f o k)) []
+  clashing-alike o = λ k. cond (known-lanes o k) (unreserved t (lanes-alike t home head f o k)) []
 
   widths-same : (a b : RegOp) → same_widths t g a b ≡ same_widths t f a b
-  widths-same a b = λ k. not (known-lanes a k && known-lanes b k) || same_numbers (widths-alike t T f a k) (widths-alike t T f b k)
+  widths-same a b = λ k. not (known-lanes a k && known-lanes b k) || same_numbers (widths-alike t home head f a k) (widths-alike t home head f b k)
 
   -- rule 1
 
-  lanes-fit : (os : List Operand) → lanes_fit t g (map (renamed T) os) ≡ lanes_fit t f os
+  lanes-fit : (os : List Operand) → lanes_fit t g (map (slot_moved home) os) ≡ lanes_fit t f os
   lanes-fit (operands.Reg o ∷ s ∷ operands.Imm z ∷ os) = refl
-  lanes-fit (operands.Reg o ∷ s ∷ operands.Index x ∷ os) = λ k. not (known-lanes o k) || length (lanes_of t x) == length (widths-alike t T f o k)
+  lanes-fit (operands.Reg o ∷ s ∷ operands.Index x ∷ os) = λ k. not (known-lanes o k) || length (lanes_of t x) == length (widths-alike t home head f o k)
   lanes-fit _ = refl
 
-  values-fit : (e : Effect) (os : List Operand) → values_fit t g e (map (renamed T) os) ≡ values_fit t f e os
-  values-fit effects.Jcc os = ap is_condition (immediate-stays T os)
+  values-fit : (e : Effect) (os : List Operand) → values_fit t g e (map (slot_moved home) os) ≡ values_fit t f e os
+  values-fit effects.Jcc os = ap is_condition (immediate-stays home os)
   values-fit effects.Spill os = lanes-fit os
   values-fit effects.Reload os = lanes-fit os
   values-fit _ os = refl
 
-  operands-fit : (d : OpcodeDesc) (os : List Operand) (e : Effect) → is_lowered_away e ≡ false → operands_fit t g d (map (renamed T) os) e ≡ operands_fit t f d os e
-  operands-fit d os effects.Copy l = copy-fits T os
-  operands-fit d os effects.ImplicitDef l = undef-fits T os
+  operands-fit : (d : OpcodeDesc) (os : List Operand) (e : Effect) → is_lowered_away e ≡ false → operands_fit t g d (map (slot_moved home) os) e ≡ operands_fit t f d os e
+  operands-fit d os effects.Copy l = copy-fits home os
+  operands-fit d os effects.ImplicitDef l = undef-fits home os
   operands-fit d os effects.Phi l = absurd (cc)
   operands-fit d os effects.RegSequence l = absurd (cc)
   operands-fit d os effects.InsertSubreg l = absurd (cc)
   operands-fit d os e l =
-      λ k. last-fits T os k
-      && (ap (explicit_fit (explicit_roles d.roles)) (explicit-renamed T os) ∙ explicit-fits T (explicit_roles d.roles) (explicit_operands os)) k
-      && implicit_fit d (implicit-stay T os k)
+      λ k. last-fits home os k
+      && (ap (explicit_fit (explicit_roles d.roles)) (explicit-renamed home os) ∙ explicit-fits home (explicit_roles d.roles) (explicit_operands os)) k
+      && implicit_fit d (implicit-stay home os k)
       && values-fit e os k
 
   module _ (i : Instr) (low : does is_lowered_away t i ≡ false) where
-    one-same : V1 t g (renamed_instr T i) ≡ V1 t f i
+    one-same : V1 t g (instr_moved home i) ≡ V1 t f i
     unfolding V1
     one-same = go (known_opcode t i.op) low
       where
-        go : (q : Option OpcodeDesc) → passes is_lowered_away (option_map (λ d. d.effect) q) ≡ false → elim q as (λ x. Bool) [ None ↦ true | Some d ↦ operands_fit t g d (map (renamed T) i.operands) d.effect ] ≡ elim q as (λ x. Bool) [ None ↦ true | Some d ↦ operands_fit t f d i.operands d.effect ]
+        go : (q : Option OpcodeDesc) → passes is_lowered_away (option_map (λ d. d.effect) q) ≡ false → elim q as (λ x. Bool) [ None ↦ true | Some d ↦ operands_fit t g d (map (slot_moved home) i.operands) d.effect ] ≡ elim q as (λ x. Bool) [ None ↦ true | Some d ↦ operands_fit t f d i.operands d.effect ]
         go None l = refl
         go (Some d) l = operands-fit d i.operands d.effect l
 
@@ -108,12 +107,12 @@ module _ (t : Target) (T : List Slot) (f : Function) where
   lies k (Virtual v) x = refl
   lies k (Fixed r) x = refl
 
-  in-class : (b : Bound) → in_operand_class t g (renamed_bound T b) ≡ in_operand_class t f b
+  in-class : (b : Bound) → in_operand_class t g (bound_moved home b) ≡ in_operand_class t f b
   in-class (r, operands.Reg o) =
       λ k. not (known-lanes o k) || all-alike (λ c. register_lies_in t f c o.loc o.index) (λ c. register_lies_in t g c o.loc o.index) (λ c. lies c o.loc o.index) (option_to_list (option_and_then asked_class r)) k
   in-class (r, _) = refl
 
-  fit-widths : (e : Effect) (os : List Operand) → is_lowered_away e ≡ false → widths_fit t g e (map (renamed T) os) ≡ widths_fit t f e os
+  fit-widths : (e : Effect) (os : List Operand) → is_lowered_away e ≡ false → widths_fit t g e (map (slot_moved home) os) ≡ widths_fit t f e os
   fit-widths effects.Copy (operands.Reg d ∷ operands.Reg s ∷ os) l = λ k. widths-same d s k && has_home t d.loc s.loc && has_home t s.loc d.loc
   fit-widths effects.Phi os l = absurd (cc)
   fit-widths effects.RegSequence os l = absurd (cc)
@@ -121,13 +120,13 @@ module _ (t : Target) (T : List Slot) (f : Function) where
   fit-widths _ os l = refl
 
   module _ (i : Instr) (low : does is_lowered_away t i ≡ false) where
-    two-same : V2 t g (renamed_instr T i) ≡ V2 t f i
+    two-same : V2 t g (instr_moved home i) ≡ V2 t f i
     unfolding V2
     two-same =
-        ap (λ bs. list_all (in_operand_class t g) bs && elim (known_opcode t i.op) as (λ x. Bool) [ None ↦ true | Some d ↦ widths_fit t g d.effect (map (renamed T) i.operands) ]) (bound-renamed T t i)
-        ∙ (λ k. all-map (in_operand_class t f) (in_operand_class t g) (renamed_bound T) in-class (bound t i) k && go (known_opcode t i.op) low k)
+        ap (λ bs. list_all (in_operand_class t g) bs && elim (known_opcode t i.op) as (λ x. Bool) [ None ↦ true | Some d ↦ widths_fit t g d.effect (map (slot_moved home) i.operands) ]) (bound-renamed home t i)
+        ∙ (λ k. all-map (in_operand_class t f) (in_operand_class t g) (bound_moved home) in-class (bound t i) k && go (known_opcode t i.op) low k)
       where
-        go : (q : Option OpcodeDesc) → passes is_lowered_away (option_map (λ d. d.effect) q) ≡ false → elim q as (λ x. Bool) [ None ↦ true | Some d ↦ widths_fit t g d.effect (map (renamed T) i.operands) ] ≡ elim q as (λ x. Bool) [ None ↦ true | Some d ↦ widths_fit t f d.effect i.operands ]
+        go : (q : Option OpcodeDesc) → passes is_lowered_away (option_map (λ d. d.effect) q) ≡ false → elim q as (λ x. Bool) [ None ↦ true | Some d ↦ widths_fit t g d.effect (map (slot_moved home) i.operands) ] ≡ elim q as (λ x. Bool) [ None ↦ true | Some d ↦ widths_fit t f d.effect i.operands ]
         go None l = refl
         go (Some d) l = fit-widths d.effect i.operands l
 
@@ -141,27 +140,27 @@ module _ (t : Target) (T : List Slot) (f : Function) where
   index-same (Virtual v) x = refl
   index-same (Fixed r) x = refl
 
-  three-same : (i : Instr) → V3 g (renamed_instr T i) ≡ V3 f i
+  three-same : (i : Instr) → V3 g (instr_moved home i) ≡ V3 f i
   unfolding V3
-  three-same i = ap (list_all (λ (o : RegOp). has_class g o.loc)) (registers-stay T i.operands) ∙ all-alike (λ (o : RegOp). has_class f o.loc) (λ (o : RegOp). has_class g o.loc) (λ o. class-same o.loc) (registers i.operands)
+  three-same i = ap (list_all (λ (o : RegOp). has_class g o.loc)) (registers-stay home i.operands) ∙ all-alike (λ (o : RegOp). has_class f o.loc) (λ (o : RegOp). has_class g o.loc) (λ o. class-same o.loc) (registers i.operands)
 
-  four-kept : (i : Instr) → does puts_together t i ≡ false → V4 t f i ≡ true → V4 t g (renamed_instr T i) ≡ true
+  four-kept : (i : Instr) → does puts_together t i ≡ false → V4 t f i ≡ true → V4 t g (instr_moved home i) ≡ true
   unfolding V4
   four-kept i n e =
-      let all : list_all (λ (o : RegOp). index_fits t g o.loc o.index) (registers (map (renamed T) i.operands)) ≡ true =
-      ap (list_all (λ (o : RegOp). index_fits t g o.loc o.index)) (registers-stay T i.operands) ∙ all-alike (λ (o : RegOp). index_fits t f o.loc o.index) (λ (o : RegOp). index_fits t g o.loc o.index) (λ o. index-same o.loc o.index) (registers i.operands) ∙ first_of_both _ _ e in
-      λ k. all k && (not (n k) || subregs_fit t g (map (renamed T) i.operands))
+      let all : list_all (λ (o : RegOp). index_fits t g o.loc o.index) (registers (map (slot_moved home) i.operands)) ≡ true =
+      ap (list_all (λ (o : RegOp). index_fits t g o.loc o.index)) (registers-stay home i.operands) ∙ all-alike (λ (o : RegOp). index_fits t f o.loc o.index) (λ (o : RegOp). index_fits t g o.loc o.index) (λ o. index-same o.loc o.index) (registers i.operands) ∙ first_of_both _ _ e in
+      λ k. all k && (not (n k) || subregs_fit t g (map (slot_moved home) i.operands))
 
   -- rule 8
 
-  eight-kept : (b : Block) (j : ℕ) (i : Instr) → V8 t b j i ≡ true → V8 t (renamed_block T b) j (renamed_instr T i) ≡ true
+  eight-kept : (b : Block) (j : ℕ) (i : Instr) → V8 t b j i ≡ true → V8 t (block_moved home b) j (instr_moved home i) ≡ true
   unfolding V8
   eight-kept b j i e =
-      (λ k. does is_terminator t i || not ((ap (list_any (does is_terminator t)) (take-map (renamed_instr T) j b.instrs) ∙ any-map (does is_terminator t) (does is_terminator t) (renamed_instr T) (λ x. refl) (take j b.instrs)) k)) ∙ e
+      (λ k. does is_terminator t i || not ((ap (list_any (does is_terminator t)) (take-map (instr_moved home) j b.instrs) ∙ any-map (does is_terminator t) (does is_terminator t) (instr_moved home) (λ x. refl) (take j b.instrs)) k)) ∙ e
 
   -- rule 11
 
-  flags-same : (b : Bound) → flags_fit (renamed_bound T b) ≡ flags_fit b
+  flags-same : (b : Bound) → flags_fit (bound_moved home b) ≡ flags_fit b
   flags-same (r, operands.Reg o) = refl
   flags-same (r, _) = refl
 
@@ -174,49 +173,49 @@ module _ (t : Target) (T : List Slot) (f : Function) where
   tied-is q i (d ∷ ds) [] e k = rw (k, e) refl
   tied-is q i (d ∷ ds) (u ∷ us) e k = rw (k, e) refl
 
-  eleven-same : (i : Instr) → V11 t forms.Allocated g (renamed_instr T i) ≡ V11 t forms.Allocated f i
+  eleven-same : (i : Instr) → V11 t forms.Allocated g (instr_moved home i) ≡ V11 t forms.Allocated f i
   unfolding V11
   eleven-same i =
-      λ k. (ap (list_all flags_fit) (bound-renamed T t i) ∙ all-map flags_fit flags_fit (renamed_bound T) flags-same (bound t i)) k
-      && (sym (tied-is g (renamed_instr T i) (registers i.operands) (tied_uses (bound t i)) (registers-stay T i.operands) (ap tied_uses (bound-renamed T t i) ∙ tied-stay T (bound t i))) ∙ tied-is f i (registers i.operands) (tied_uses (bound t i)) refl refl) k
+      λ k. (ap (list_all flags_fit) (bound-renamed home t i) ∙ all-map flags_fit flags_fit (bound_moved home) flags-same (bound t i)) k
+      && (sym (tied-is g (instr_moved home i) (registers i.operands) (tied_uses (bound t i)) (registers-stay home i.operands) (ap tied_uses (bound-renamed home t i) ∙ tied-stay home (bound t i))) ∙ tied-is f i (registers i.operands) (tied_uses (bound t i)) refl refl) k
 
   -- rule 12
 
-  early-same : (bs : List Bound) (b : Bound) → early_fits t g (map (renamed_bound T) bs) (renamed_bound T b) ≡ early_fits t f bs b
+  early-same : (bs : List Bound) (b : Bound) → early_fits t g (map (bound_moved home) bs) (bound_moved home b) ≡ early_fits t f bs b
   early-same bs (r, operands.Reg d) =
       λ k. not (passes is_early r)
-      || not ((ap (list_any (λ (u : RegOp). share_a_lane (clashing_lanes t g d) (clashing_lanes t g u))) (untied-stay T bs)
+      || not ((ap (list_any (λ (u : RegOp). share_a_lane (clashing_lanes t g d) (clashing_lanes t g u))) (untied-stay home bs)
       ∙ any-alike (λ (u : RegOp). share_a_lane (clashing_lanes t f d) (clashing_lanes t f u)) (λ (u : RegOp). share_a_lane (clashing_lanes t g d) (clashing_lanes t g u)) (λ u. λ j. share_a_lane (clashing-alike d j) (clashing-alike u j)) (untied_readings bs)) k)
   early-same bs (r, _) = refl
 
-  twelve-same : (i : Instr) → V12 t forms.Allocated g (renamed_instr T i) ≡ V12 t forms.Allocated f i
+  twelve-same : (i : Instr) → V12 t forms.Allocated g (instr_moved home i) ≡ V12 t forms.Allocated f i
   unfolding V12
   twelve-same i =
       let os = registers i.operands in
-      (λ k. list_all (undef_fits forms.Allocated (registers-stay T i.operands k)) (filter (λ (o : RegOp). o.def) (registers-stay T i.operands k))
-      && no_two_share (map (clashing_lanes t g) (filter (λ (o : RegOp). o.def) (registers-stay T i.operands k)))
-      && list_all (early_fits t g (bound-renamed T t i k)) (bound-renamed T t i k))
+      (λ k. list_all (undef_fits forms.Allocated (registers-stay home i.operands k)) (filter (λ (o : RegOp). o.def) (registers-stay home i.operands k))
+      && no_two_share (map (clashing_lanes t g) (filter (λ (o : RegOp). o.def) (registers-stay home i.operands k)))
+      && list_all (early_fits t g (bound-renamed home t i k)) (bound-renamed home t i k))
       ∙ (λ k. list_all (undef_fits forms.Allocated os) (filter (λ (o : RegOp). o.def) os)
       && no_two_share (map-alike (clashing_lanes t g) (clashing_lanes t f) clashing-alike (filter (λ (o : RegOp). o.def) os) k)
-      && all-map (early_fits t f (bound t i)) (early_fits t g (map (renamed_bound T) (bound t i))) (renamed_bound T) (early-same (bound t i)) (bound t i) k)
+      && all-map (early_fits t f (bound t i)) (early_fits t g (map (bound_moved home) (bound t i))) (bound_moved home) (early-same (bound t i)) (bound t i) k)
 
   -- rule 15: spill slots go to spill slots, and other frame objects stay
 
-  module _ (homes : (n : ℕ) → home_of T (home_of T n) ≡ home_of T n) (stays : (n : ℕ) → is_spill_slot f n ≡ false → home_of T n ≡ n) (spills : (n : ℕ) → is_spill_slot f n ≡ true → is_spill_slot f (home_of T n) ≡ true) where
+  module _ (homes : (n : ℕ) → home (home n) ≡ home n) (stays : (n : ℕ) → is_spill_slot f n ≡ false → home n ≡ n) (spills : (n : ℕ) → is_spill_slot f n ≡ true → is_spill_slot f (home n) ≡ true) where
     abbrev has : ℕ → ℕ × Bool → Bool
     has n o = nat_eq o.0 n && o.1
 
     abbrev keeps : ℕ × Bool → Bool
-    keeps o = not (is_gone T o.0)
+    keeps o = not (goes home o.0)
 
     -- a home that was a spill slot is one
-    kept-spill : (n : ℕ) → is_spill_slot f (home_of T n) ≡ true → is_spill_slot g (home_of T n) ≡ true
+    kept-spill : (n : ℕ) → is_spill_slot f (home n) ≡ true → is_spill_slot g (home n) ≡ true
     kept-spill n e =
-        let z = any-of (has (home_of T n)) f.frames e in
-        let same : z.0.0 ≡ home_of T n = eqb-true z.0.0 (home_of T n) (first_of_both _ _ z.2) in
-        let here : home_of T z.0.0 ≡ z.0.0 = ap (home_of T) same ∙ homes n ∙ sym same in
-        let kept : keeps z.0 ≡ true = ap (λ b. not (not b)) (eq-eqb (home_of T z.0.0) z.0.0 here) in
-        any-in (has (home_of T n)) z.0 (filter keeps f.frames) (filter-in keeps z.0 f.frames z.1 kept) z.2
+        let z = any-of (has (home n)) f.frames e in
+        let same : z.0.0 ≡ home n = eqb-true z.0.0 (home n) (first_of_both _ _ z.2) in
+        let here : home z.0.0 ≡ z.0.0 = ap (home) same ∙ homes n ∙ sym same in
+        let kept : keeps z.0 ≡ true = ap (λ b. not (not b)) (eq-eqb (home z.0.0) z.0.0 here) in
+        any-in (has (home n)) z.0 (filter keeps f.frames) (filter-in keeps z.0 f.frames z.1 kept) z.2
 
     -- no other is one
     was-spill : (n : ℕ) → is_spill_slot g n ≡ true → is_spill_slot f n ≡ true
@@ -224,35 +223,35 @@ module _ (t : Target) (T : List Slot) (f : Function) where
         let z = any-of (has n) (filter keeps f.frames) e in
         any-in (has n) z.0 f.frames (filter-of keeps z.0 f.frames z.1).0 z.2
 
-    home-same : (n : ℕ) → is_spill_slot g (home_of T n) ≡ is_spill_slot f n
+    home-same : (n : ℕ) → is_spill_slot g (home n) ≡ is_spill_slot f n
     home-same n = go (is_spill_slot f n) refl
       where
         none : (b : Bool) → is_spill_slot g n ≡ b → is_spill_slot f n ≡ false → is_spill_slot g n ≡ false
         none true h e = absurd (let k : is_spill_slot f n ≡ true = was-spill n h in cc)
         none false h e = h
 
-        go : (b : Bool) → is_spill_slot f n ≡ b → is_spill_slot g (home_of T n) ≡ is_spill_slot f n
+        go : (b : Bool) → is_spill_slot f n ≡ b → is_spill_slot g (home n) ≡ is_spill_slot f n
         go true e = kept-spill n (spills n e) ∙ sym e
         go false e = ap (is_spill_slot g) (stays n e) ∙ none (is_spill_slot g n) refl e ∙ sym e
 
-    slot-same : (b : Bound) → slot_fits g (renamed_bound T b) ≡ slot_fits f b
+    slot-same : (b : Bound) → slot_fits g (bound_moved home b) ≡ slot_fits f b
     slot-same (r, operands.Stack n) = ap (beq (passes is_slot r)) (home-same n)
     slot-same (r, _) = refl
 
-    fifteen-same : (i : Instr) → V15 t forms.Allocated g (renamed_instr T i) ≡ V15 t forms.Allocated f i
+    fifteen-same : (i : Instr) → V15 t forms.Allocated g (instr_moved home i) ≡ V15 t forms.Allocated f i
     unfolding V15
-    fifteen-same i = ap (list_all (slot_fits g)) (bound-renamed T t i) ∙ all-map (slot_fits f) (slot_fits g) (renamed_bound T) slot-same (bound t i)
+    fifteen-same i = ap (list_all (slot_fits g)) (bound-renamed home t i) ∙ all-map (slot_fits f) (slot_fits g) (bound_moved home) slot-same (bound t i)
 
     apart : (q : Option Effect) → passes is_lowered_away q ≡ false → passes puts_together q ≡ false
     apart None e = refl
     apart (Some x) e = (or_parts (is_phi x) (puts_together x) e).1
 
-    seven-kept : (k : ℕ) (b : Block) (j : ℕ) (i : Instr) → V7 t forms.Allocated f k b j i ≡ true → V7 t forms.Allocated g k (renamed_block T b) j (renamed_instr T i) ≡ true
+    seven-kept : (k : ℕ) (b : Block) (j : ℕ) (i : Instr) → V7 t forms.Allocated f k b j i ≡ true → V7 t forms.Allocated g k (block_moved home b) j (instr_moved home i) ≡ true
     unfolding V7
     seven-kept k b j i e = e
 
     -- all rules of an instruction
-    pub instr-obeys : (k : ℕ) (b : Block) (j : ℕ) (i : Instr) → does is_lowered_away t i ≡ false → InstrRules t f k b j i → InstrRules t g k (renamed_block T b) j (renamed_instr T i)
+    pub instr-obeys : (k : ℕ) (b : Block) (j : ℕ) (i : Instr) → does is_lowered_away t i ≡ false → InstrRules t f k b j i → InstrRules t g k (block_moved home b) j (instr_moved home i)
     instr-obeys k b j i low r = record {
       known = r.known;
       one = one-same i low ∙ r.one;

@@ -1,4 +1,4 @@
--- The coloured function does what the function does.
+-- A function whose slots went to others does what it did.
 use Rattle.std.proofs.Common.{◌≡◌, ℕ, Bool, true, false, cond, List, [], ◌∷◌, Option, Some, None, map, refl, sym, ap, ◌∙◌, subst}
 use Rattle.std.specs.Prelude.{option_map, slice_get}
 use Rattle.std.specs.List.{list_any}
@@ -30,10 +30,8 @@ use Rattle.mir_meaning.specs.Renaming.{IsFixed}
 use Rattle.mir_meaning.specs.Rules.{spills_or_reloads}
 use Rattle.mir_meaning.specs.Valid.{names_virtual}
 use Rattle.mir_meaning.proofs.Points.{points_are_code}
-use Rattle.slot_colour.specs.declared.choice.Slot.{Slot}
-use Rattle.slot_colour.specs.Colouring.{chosen, home_of, merged, renamed, renamed_block, coloured}
-use Rattle.slot_laws.specs.Colours.{ColouringRefines, IsColourable, TellsClashes}
-use Rattle.slot_laws.proofs.Chosen.{any-none, home-stays}
+use Rattle.slot_laws.specs.Homes.{AreHomes, IsAllocated, MovingRefines, block_moved, function_moved, slot_moved}
+use Rattle.slot_laws.proofs.Lists.{any-none}
 use Rattle.slot_laws.proofs.Clear.{all-quiet, points-quiet}
 use Rattle.slot_laws.proofs.Laid.{code-bare, code-laid, lowered, no-phis, rules-at}
 use Rattle.slot_laws.proofs.Merged.{IsPlain, PlainBlocks, code-merged, folded-renamed, renamed_code}
@@ -57,46 +55,43 @@ only t h (VirtualLane v k) e = refl
 only t h (UnitLane u) e = refl
 only t h (SlotLane s k w) e = absurd (cc)
 
-module _ (t : Target) (f : Function) (clash : ℕ → ℕ → Bool) (colourable : IsColourable t f) where
-  abbrev T : List Slot
-  T = chosen clash f
-
+module _ (t : Target) (home : ℕ → ℕ) (head : List ℕ) (f : Function) (allocated : IsAllocated t f) (homes : AreHomes t f home) where
   abbrev g : Function
-  g = merged T f
+  g = function_moved home head f
 
   abbrev m : Lane → Lane
-  m = merged_lane (home_of T)
+  m = merged_lane home
 
   pub rules : (n : ℕ) (b : Block) → slice_get f.blocks n ≡ Some b → AllRules t f n b
-  rules = all-rules t f colourable.valid.shape
+  rules = all-rules t f allocated.valid.shape
 
   pub none : has_no_phis t f.blocks ≡ true
   none = no-phis t f rules
 
   pub fixed : (b : Block) (i : Instr) → Member b f.blocks → Member i b.instrs → (o : RegOp) → Member o (registers i.operands) → IsFixed o.loc
   fixed b i mb mi o mo =
-      let one : names_virtual b ≡ false = any-none names_virtual b f.blocks mb colourable.valid.starts in
+      let one : names_virtual b ≡ false = any-none names_virtual b f.blocks mb allocated.valid.starts in
       let two : list_any (λ (p : RegOp). is_virtual p.loc) (registers i.operands) ≡ false = any-none (λ (x : Instr). list_any (λ (p : RegOp). is_virtual p.loc) (registers x.operands)) i b.instrs mi one in
       fixed-loc o.loc (any-none (λ (p : RegOp). is_virtual p.loc) o (registers i.operands) mo two)
 
-  pub plain-instr : (b : Block) (i : Instr) → Member b f.blocks → Member i b.instrs → IsPlain t T i
+  pub plain-instr : (b : Block) (i : Instr) → Member b f.blocks → Member i b.instrs → IsPlain t home i
   plain-instr b i mb mi =
       let r = (rules-at t f rules b i mb mi).2 in
       let known : effect_of t i ≡ Some r.known.0.effect = ap (option_map (λ (d : OpcodeDesc). d.effect)) r.known.1 in
       let low = lowered t f rules b i mb mi in
       record {
         lowered = low;
-        stays = λ s. instr-stays T t f i r.known.0.effect known r.one r.fifteen (sym (ap (passes spills_or_reloads) known) ∙ s) (sym (ap (passes is_lowered_away) known) ∙ low) (home-stays clash f colourable.once);
+        stays = λ s. instr-stays home t f i r.known.0.effect known r.one r.fifteen (sym (ap (passes spills_or_reloads) known) ∙ s) (sym (ap (passes is_lowered_away) known) ∙ low) homes.stays;
         fixed = fixed b i mb mi;
       }
 
-  pub plain : PlainBlocks t T f none f.blocks
+  pub plain : PlainBlocks t home head f none f.blocks
   plain b mb i mi = plain-instr b i mb mi
 
-  pub merged-code : code_of t g ≡ renamed_code t T f none (code_of t f)
-  merged-code = code-merged t T f none plain
+  pub merged-code : code_of t g ≡ renamed_code t home head f none (code_of t f)
+  merged-code = code-merged t home head f none plain
 
-  given-blocks : (u : ℕ) (bs : List Block) → is_given t (map (renamed_block T) bs) u ≡ is_given t bs u
+  given-blocks : (u : ℕ) (bs : List Block) → is_given t (map (block_moved home) bs) u ≡ is_given t bs u
   given-blocks u [] = refl
   given-blocks u (b ∷ bs) = refl
 
@@ -111,20 +106,18 @@ module _ (t : Target) (f : Function) (clash : ℕ → ℕ → Bool) (colourable 
   folded : Folded m (code_of t f) (code_of t g)
   folded = subst (Folded m (code_of t f)) (sym merged-code) (folded-renamed m (code_of t f))
 
-  module _ (tells : TellsClashes t f clash) where
-    quiet : Quiet (is_reserved t) (code_of t f) m (code_of t f)
-    quiet = subst (λ c. Quiet (is_reserved t) c m c) (points_are_code t f none) (all-quiet (is_reserved t) (home_of T) (points_of t f) (points_of t f) (points-quiet t f clash colourable.function colourable.once tells))
+  quiet : Quiet (is_reserved t) (code_of t f) m (code_of t f)
+  quiet = subst (λ c. Quiet (is_reserved t) c m c) (points_are_code t f none) (all-quiet (is_reserved t) home (points_of t f) (points_of t f) (points-quiet t f home allocated.function homes))
 
-    folds : Folds (is_reserved t) m (meaning_of t f) (meaning_of t g)
-    unfolding meaning_of
-    folds = record {
-      fits = record { starts = λ env l k. starts env l; laid_out = code-laid t f rules; no_phis = code-bare t f rules };
-      fixes = fixes t (home_of T);
-      only = only t (home_of T);
-      quiet = quiet;
-      folded = folded;
-    }
+  folds : Folds (is_reserved t) m (meaning_of t f) (meaning_of t g)
+  unfolding meaning_of
+  folds = record {
+    fits = record { starts = λ env l k. starts env l; laid_out = code-laid t f rules; no_phis = code-bare t f rules };
+    fixes = fixes t home;
+    only = only t home;
+    quiet = quiet;
+    folded = folded;
+  }
 
-pub colouring-refines : ColouringRefines
-unfolding coloured
-colouring-refines t f clash colourable tells = law_of_folds (is_reserved t) (merged_lane (home_of (chosen clash f))) (meaning_of t f) (meaning_of t (merged (chosen clash f) f)) (folds t f clash colourable tells)
+pub moving-refines : MovingRefines
+moving-refines t home head f allocated homes = law_of_folds (is_reserved t) (merged_lane home) (meaning_of t f) (meaning_of t (function_moved home head f)) (folds t home head f allocated homes)

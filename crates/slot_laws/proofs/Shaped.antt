@@ -26,8 +26,7 @@ use Rattle.instr_effects.proofs.Members.{member-none, member-elim, left-in, filt
 use Rattle.live_laws.proofs.Effects.Lists.{all-of}
 use Rattle.live_laws.proofs.Effects.Moving.{some-same}
 use Rattle.live_laws.proofs.Touch.Roles.{has_roles, met, fit, shape}
-use Rattle.slot_colour.specs.declared.choice.Slot.{Slot}
-use Rattle.slot_colour.specs.Colouring.{home_of, renamed}
+use Rattle.slot_laws.specs.Homes.{slot_moved}
 
 -- roles that an effect lacks
 
@@ -126,29 +125,29 @@ module _ (t : Target) (f : Function) (i : Instr) (e : Effect) (known : effect_of
 
 -- operands that stay
 
-module _ (T : List Slot) where
-  operands-stay : (os : List Operand) → ((n : ℕ) → Member (operands.Stack n) os → home_of T n ≡ n) → map (renamed T) os ≡ os
+module _ (home : ℕ → ℕ) where
+  operands-stay : (os : List Operand) → ((n : ℕ) → Member (operands.Stack n) os → home n ≡ n) → map (slot_moved home) os ≡ os
   operands-stay [] g = refl
   operands-stay (operands.Stack n ∷ os) g = λ k. operands.Stack (g n first k) ∷ operands-stay os (λ j m. g j (later m)) k
   operands-stay (o ∷ os) g = ap (λ ys. o ∷ ys) (operands-stay os (λ j m. g j (later m)))
 
-  copy-stays : (os : List Operand) → copy_fits os ≡ true → map (renamed T) os ≡ os
+  copy-stays : (os : List Operand) → copy_fits os ≡ true → map (slot_moved home) os ≡ os
   copy-stays (operands.Reg d ∷ operands.Reg s ∷ []) e = refl
   copy-stays _ e = absurd (cc)
 
-  undef-stays : (os : List Operand) → implicit_def_fits os ≡ true → map (renamed T) os ≡ os
+  undef-stays : (os : List Operand) → implicit_def_fits os ≡ true → map (slot_moved home) os ≡ os
   undef-stays (operands.Reg d ∷ []) e = refl
   undef-stays _ e = absurd (cc)
 
-  module _ (t : Target) (f : Function) (i : Instr) (e : Effect) (known : effect_of t i ≡ Some e) (rule : V1 t f i ≡ true) (slots : V15 t forms.Allocated f i ≡ true) (other : spills_or_reloads e ≡ false) (lowered : is_lowered_away e ≡ false) (stays : (n : ℕ) → is_spill_slot f n ≡ false → home_of T n ≡ n) where
+  module _ (t : Target) (f : Function) (i : Instr) (e : Effect) (known : effect_of t i ≡ Some e) (rule : V1 t f i ≡ true) (slots : V15 t forms.Allocated f i ≡ true) (other : spills_or_reloads e ≡ false) (lowered : is_lowered_away e ≡ false) (stays : (n : ℕ) → is_spill_slot f n ≡ false → home n ≡ n) where
     -- all operands of an instruction but a store to a slot or a reload stay
-    pub instr-stays : map (renamed T) i.operands ≡ i.operands
+    pub instr-stays : map (slot_moved home) i.operands ≡ i.operands
     instr-stays = go e refl
       where
-        some : has_roles e ≡ true → map (renamed T) i.operands ≡ i.operands
+        some : has_roles e ≡ true → map (slot_moved home) i.operands ≡ i.operands
         some s = operands-stay i.operands (λ n m. stays n (unspilled t f i e known rule slots other n s m))
 
-        go : (x : Effect) → e ≡ x → map (renamed T) i.operands ≡ i.operands
+        go : (x : Effect) → e ≡ x → map (slot_moved home) i.operands ≡ i.operands
         go effects.Copy g = copy-stays i.operands (subst (λ x. operands_fit t f (met t f i e known rule).0 i.operands x ≡ true) g (met t f i e known rule).3)
         go effects.ImplicitDef g = undef-stays i.operands (subst (λ x. operands_fit t f (met t f i e known rule).0 i.operands x ≡ true) g (met t f i e known rule).3)
         go effects.Phi g = absurd (let h : is_lowered_away e ≡ true = ap is_lowered_away g in cc)

@@ -17,32 +17,8 @@ use Rattle.slot_colour.specs.declared.lines.Declared.{Declared}
 use Rattle.slot_colour.specs.declared.choice.Slot.{Slot}
 use Rattle.slot_colour.specs.Lines.{declared_in}
 use Rattle.slot_colour.specs.Colouring.{put_rising, spills_onto, spill_slots, text_of, refuses, is_refused, may_join, number_or, home, placed, taken_on, chosen, kept_or, home_of}
-use Rattle.slot_laws.specs.Colours.{spill_numbers}
-
--- lists
-
--- an element that is found is in the list and passes
-pub found-in : {X : Type 0} (p : X → Bool) (xs : List X) (x : X) → find p xs ≡ Some x → Member x xs × (p x ≡ true)
-found-in p [] x e = absurd (cc)
-found-in {X} p (y ∷ xs) x e = go (p y) refl e (found-in p xs x)
-  where
-    go : (b : Bool) → p y ≡ b → cond b (Some y) (find p xs) ≡ Some x → (find p xs ≡ Some x → Member x xs × (p x ≡ true)) → Member x (y ∷ xs) × (p x ≡ true)
-    go true h g ih = let same : y ≡ x = some-same y x g in (subst (λ z. Member z (y ∷ xs)) same first, ap p (sym same) ∙ h)
-    go false h g ih = let z = ih g in (later z.0, z.1)
-
--- where none is found, none passes
-pub none-found : {X : Type 0} (p : X → Bool) (xs : List X) (x : X) → find p xs ≡ None → Member x xs → p x ≡ true → ⊥
-none-found p [] x e m h = member-none x m
-none-found {X} p (y ∷ xs) x e m h = go (p y) refl e (none-found p xs x)
-  where
-    go : (b : Bool) → p y ≡ b → cond b (Some y) (find p xs) ≡ None → (find p xs ≡ None → Member x xs → p x ≡ true → ⊥) → ⊥
-    go true g k ih = cc
-    go false g k ih = member-elim x y xs (λ s. let t : p x ≡ p y = ap p s in cc) (λ j. ih k j h) m
-
--- what none passes, this one doesn't
-pub any-none : {X : Type 0} (p : X → Bool) (x : X) (xs : List X) → Member x xs → list_any p xs ≡ false → p x ≡ false
-any-none p x [] m e = absurd (member-none x m)
-any-none p x (y ∷ xs) m e = let z = or_parts (p y) (list_any p xs) e in member-elim x y xs (λ s. ap p s ∙ z.0) (λ k. any-none p x xs k z.1) m
+use Rattle.slot_colour.specs.Kept.{spill_numbers}
+use Rattle.slot_laws.proofs.Lists.{any-none, found-in, none-found}
 
 -- one of a list, or the last one behind it
 last-elim : {X P : Type 0} (x y : X) (xs : List X) → (Member x xs → P) → (x ≡ y → P) → Member x (xs ++ y ∷ []) → P
