@@ -1,16 +1,15 @@
 -- Where slots that clash aren't made one, no instruction writes a slot whose home another slot has that is live then.
-use Rattle.std.proofs.Common.{◌≡◌, ◌⊎◌, ◌≤◌, ◌<◌, ℕ, zero, suc, ◌+◌, Bool, true, false, cond, not, List, [], ◌∷◌, ◌++◌, Option, Some, None, map, length, drop, inl, inr, refl, sym, ap, ◌∙◌, subst, arith, eqb, ltb, eq-eqb, le_refl, append_assoc}
+use Rattle.std.proofs.Common.{◌≡◌, ◌⊎◌, ◌≤◌, ℕ, zero, suc, ◌+◌, Bool, true, false, cond, not, List, [], ◌∷◌, ◌++◌, Some, map, length, drop, inl, inr, refl, sym, ap, ◌∙◌, subst, arith, eqb, eq-eqb, le_refl, append_assoc}
 use Rattle.std.specs.Prelude.{nat_lt, slice_get}
-use Rattle.std.proofs.lemmas.Bool.{cases_eq, le-ltb, lt-ltb}
+use Rattle.std.proofs.lemmas.Bool.{le-ltb, lt-ltb}
 use Rattle.std.proofs.lemmas.List.Sums.{sum_by-cons}
 use Rattle.std.proofs.lemmas.Option.{slice_get_within}
 use Rattle.target_base.specs.declared.types.Target.{Target}
 use Rattle.meaning.specs.declared.types.Lane.{Lane}
 use Rattle.meaning.specs.declared.types.Lane.TheVariants.{VirtualLane, UnitLane, SlotLane}
 use Rattle.meaning.specs.declared.types.Write.{Write}
-use Rattle.meaning.specs.Code.{Item, BlockStart, BlockEnd, Code}
-use Rattle.meaning.specs.Lanes.{same_lane}
-use Rattle.meaning.specs.Live.{Among as Member, here as first, there as later, writes_of, Live, LiveAfter, Writing, WritingEarly, OccupiedBefore, OccupiedAfter}
+use Rattle.meaning.specs.Code.{Item, BlockStart, Code}
+use Rattle.meaning.specs.Live.{Among as Member, writes_of, Live, LiveAfter, Writing, WritingEarly, OccupiedBefore, OccupiedAfter}
 use Rattle.meaning.specs.Fold.{Quiet, QuietAt}
 use Rattle.laws.proofs.Quiet.{same-false}
 use Rattle.mir_func.specs.declared.func.Instr.{Instr}
@@ -19,7 +18,7 @@ use Rattle.mir_func.specs.Value.{Function, IsFunction, id_count, id_total}
 use Rattle.mir_func.specs.Edits.{instr_place}
 use Rattle.mir_meaning.specs.Registers.{is_reserved}
 use Rattle.mir_meaning.specs.Codes.{block_end, blocks_code}
-use Rattle.mir_meaning.specs.Points.{AtFirst, Entry, Exit, OccupiedAt, block_rest, from_instr, has_instr, point_item, points_of}
+use Rattle.mir_meaning.specs.Points.{AtFirst, Entry, Exit, block_rest, from_instr, has_instr, point_item, points_of}
 use Rattle.instr_effects.proofs.Members.{member-none}
 use Rattle.live_laws.proofs.Effects.Moving.{some-same}
 use Rattle.slot_laws.specs.Homes.{AreHomes}

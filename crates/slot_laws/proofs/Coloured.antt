@@ -1,11 +1,11 @@
 -- A valid function whose slots went to others is valid.
-use Rattle.std.proofs.Common.{◌≡◌, ◌↔◌, ℕ, zero, suc, Bool, true, false, cond, not, ◌&&◌, ◌||◌, List, [], ◌∷◌, ◌++◌, Option, Some, None, map, filter, take, drop, length, refl, sym, ap, ◌∙◌, subst}
-use Rattle.std.specs.Prelude.{nat_eq, nat_lt, option_map, option_to_list, slice_get, flat_map, Decides}
+use Rattle.std.proofs.Common.{◌≡◌, ◌↔◌, ℕ, zero, suc, Bool, true, false, not, ◌&&◌, ◌||◌, List, [], ◌∷◌, ◌++◌, Option, Some, None, map, filter, take, drop, length, refl, sym, ap, ◌∙◌, subst}
+use Rattle.std.specs.Prelude.{nat_eq, nat_lt, option_map, option_to_list, slice_get, flat_map}
 use Rattle.std.specs.List.{list_all, list_any}
 use Rattle.std.proofs.lemmas.Bool.{and_right}
 use Rattle.target_base.specs.declared.types.Target.{Target}
 use Rattle.meaning.specs.declared.types.Lane.TheVariants.{UnitLane}
-use Rattle.meaning.specs.Code.{Code, found}
+use Rattle.meaning.specs.Code.{found}
 use Rattle.meaning.specs.Layout.{NoPhis}
 use Rattle.meaning.specs.Live.{Among as Member, Live}
 use Rattle.mir_func.specs.declared.func.RegOp.{RegOp}
@@ -15,15 +15,15 @@ use Rattle.mir_func.specs.Value.{Function}
 use Rattle.mir_func.specs.Binding.{does, is_branch, is_virtual, registers}
 use Rattle.mir_meaning.specs.declared.Form.TheVariants as forms
 use Rattle.mir_meaning.specs.Registers.{has_number, is_reserved}
-use Rattle.mir_meaning.specs.Codes.{code_of, fallen_into, falls_through}
-use Rattle.mir_meaning.specs.Points.{LiveAt, Start, Tests, points_of}
-use Rattle.mir_meaning.specs.Rules.{V1, V5, V6, V9, V10, V16, block_numbers, branch_targets, lists_once, named_blocks, predecessors, successors_of}
-use Rattle.mir_meaning.specs.Valid.{IsValid, LiveInto, V13, V13_before, V14, liveins_fit, names_virtual, shape_fault}
+use Rattle.mir_meaning.specs.Codes.{fallen_into}
+use Rattle.mir_meaning.specs.Points.{LiveAt, Start, points_of}
+use Rattle.mir_meaning.specs.Rules.{V1, V5, V6, V9, V10, V16, block_numbers, branch_targets, lists_once, named_blocks, successors_of}
+use Rattle.mir_meaning.specs.Valid.{IsValid, LiveInto, V13, V13_before, liveins_fit, names_virtual, shape_fault}
 use Rattle.mir_meaning.proofs.Points.{points_are_code}
 use Rattle.live_laws.proofs.Effects.Blocks.{slice-map, slice-member}
 use Rattle.live_laws.proofs.Effects.Moving.{some-same}
 use Rattle.slot_laws.specs.Homes.{AreHomes, IsAllocated, MovingKeepsValid, block_moved, function_moved, instr_moved}
-use Rattle.slot_laws.proofs.Clear.{AllQuiet, points-quiet}
+use Rattle.slot_laws.proofs.Clear.{points-quiet}
 use Rattle.slot_laws.proofs.Laid.{code-bare, lowered, none-of, rule-one}
 use Rattle.slot_laws.proofs.Living.{units-live}
 use Rattle.slot_laws.proofs.Merged.{fallen-stays, falls-stay, none-merged, renamed_code}

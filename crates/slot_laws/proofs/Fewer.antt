@@ -1,9 +1,8 @@
 -- A filter keeps no more elements that pass a test.
-use Rattle.std.proofs.Common.{◌≡◌, ◌≤◌, ℕ, Bool, true, false, cond, not, List, [], ◌∷◌, arith}
+use Rattle.std.proofs.Common.{◌≤◌, ℕ, Bool, true, false, cond, not, List, [], ◌∷◌, arith}
 use Rattle.std.specs.Prelude.{count_by, filter}
 use Rattle.std.proofs.lemmas.List.Sums.{sum_by-cons}
 use Rattle.slot_laws.specs.Homes.{MovingKeepsCount, goes}
-
 
 module _ {X : Type 0} (p q : X → Bool) where
   weight : X → ℕ

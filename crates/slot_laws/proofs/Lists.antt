@@ -1,5 +1,5 @@
 -- Lists and tests.
-use Rattle.std.proofs.Common.{◌≡◌, Bool, true, false, cond, List, [], ◌∷◌, Option, Some, None, refl, sym, ap, ◌∙◌, subst}
+use Rattle.std.proofs.Common.{◌≡◌, Bool, true, false, cond, List, [], ◌∷◌, Some, None, refl, sym, ap, ◌∙◌, subst}
 use Rattle.std.specs.Prelude.{find}
 use Rattle.std.specs.List.{list_any}
 use Rattle.std.proofs.lemmas.Bool.{or_parts}
@@ -29,4 +29,3 @@ none-found {X} p (y ∷ xs) x e m h = go (p y) refl e (none-found p xs x)
 pub any-none : {X : Type 0} (p : X → Bool) (x : X) (xs : List X) → Member x xs → list_any p xs ≡ false → p x ≡ false
 any-none p x [] m e = absurd (member-none x m)
 any-none p x (y ∷ xs) m e = let z = or_parts (p y) (list_any p xs) e in member-elim x y xs (λ s. ap p s ∙ z.0) (λ k. any-none p x xs k z.1) m
-

@@ -1,8 +1,8 @@
 -- The code of a function whose slots went to others is its code with the lanes of these slots renamed.
-use Rattle.std.proofs.Common.{◌≡◌, ◌⊎◌, ℕ, suc, Bool, true, false, cond, not, ◌&&◌, ◌||◌, List, [], ◌∷◌, ◌++◌, Option, Some, None, map, flat_map, inl, inr, refl, sym, ap, ◌∙◌, subst}
+use Rattle.std.proofs.Common.{◌≡◌, ℕ, Bool, true, false, cond, not, ◌&&◌, List, [], ◌∷◌, ◌++◌, Option, Some, None, map, flat_map, refl, sym, ap, ◌∙◌}
 use Rattle.std.specs.Prelude.{option_map, nat_eq, find}
-use Rattle.std.specs.List.{list_all, list_any}
-use Rattle.std.proofs.lemmas.Bool.{or_parts, not-true}
+use Rattle.std.specs.List.{list_all}
+use Rattle.std.proofs.lemmas.Bool.{or_parts}
 use Rattle.target_base.specs.declared.types.Effect.{Effect}
 use Rattle.target_base.specs.declared.types.Effect.TheVariants as effects
 use Rattle.target_base.specs.declared.types.UnitDesc.{UnitDesc}
@@ -14,12 +14,12 @@ use Rattle.meaning.specs.declared.types.Lane.TheVariants.{SlotLane}
 use Rattle.meaning.specs.declared.types.Source.{Source}
 use Rattle.meaning.specs.declared.types.Source.TheVariants.{FromLane, Undef}
 use Rattle.meaning.specs.declared.types.Fill.TheVariants.{Moved}
-use Rattle.meaning.specs.Lanes.{Writes, Reads}
+use Rattle.meaning.specs.Lanes.{Writes}
 use Rattle.meaning.specs.Code.{Edge, Item, BlockStart, BlockEnd, Silent, Counted, Code}
 use Rattle.meaning.specs.Live.{Among as Member, here as first, there as later}
 use Rattle.meaning.specs.Fold.{Folded}
 use Rattle.meaning.specs.Fold as fold
-use Rattle.meaning.specs.Matched.{image, renamed as renamed_writes, renamed_write, renamed_reads}
+use Rattle.meaning.specs.Matched.{image, renamed as renamed_writes, renamed_write}
 use Rattle.mir_func.specs.declared.func.RegOp.{RegOp}
 use Rattle.mir_func.specs.declared.func.Operand.{Operand}
 use Rattle.mir_func.specs.declared.func.Operand.TheVariants as operands
@@ -27,9 +27,9 @@ use Rattle.mir_func.specs.declared.func.Instr.{Instr}
 use Rattle.mir_func.specs.declared.func.Block.{Block}
 use Rattle.mir_func.specs.Value.{Function}
 use Rattle.mir_func.specs.Binding.{effect_of, does, is_early_clobber, is_lowered_away, is_terminator, passes, puts_together, registers, roles_of}
-use Rattle.mir_meaning.specs.Registers.{numbers, operand_lanes, operand_widths, undefined_lanes, use_sources, slot_lane_numbers, slot_lanes}
-use Rattle.mir_meaning.specs.Items.{write, moved, undefined, defined, at_all_widths, lanes_beside, spilled, reloaded, silent_reads, silent_writes, rest_of, values, counted_writes}
-use Rattle.mir_meaning.specs.Codes.{block_end, blocks_code, code_of, effect_item, fallen_into, falls_through, first_number, instrs_of, item_of, phi_operands, phi_writes, target_of, way, ways_out}
+use Rattle.mir_meaning.specs.Registers.{operand_lanes, operand_widths, undefined_lanes, use_sources, slot_lane_numbers, slot_lanes}
+use Rattle.mir_meaning.specs.Items.{write, moved, undefined, at_all_widths, lanes_beside, spilled, reloaded, silent_reads, silent_writes, rest_of, values, counted_writes}
+use Rattle.mir_meaning.specs.Codes.{block_end, blocks_code, code_of, effect_item, fallen_into, falls_through, first_number, item_of, phi_operands, phi_writes, target_of, way, ways_out}
 use Rattle.mir_meaning.specs.Points.{has_no_phis}
 use Rattle.mir_meaning.specs.Renaming.{IsFixed, renamed_item}
 use Rattle.mir_meaning.specs.Rules.{spills_or_reloads}

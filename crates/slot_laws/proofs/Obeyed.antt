@@ -1,22 +1,20 @@
 -- The rules of an instruction hold where its slots went to others.
-use Rattle.std.proofs.Common.{◌≡◌, ◌⊎◌, ℕ, zero, suc, Bool, true, false, cond, not, ◌&&◌, ◌||◌, List, [], ◌∷◌, ◌++◌, Option, Some, None, map, filter, take, length, inl, inr, refl, sym, ap, ◌∙◌, subst}
+use Rattle.std.proofs.Common.{◌≡◌, ℕ, Bool, true, false, cond, not, ◌&&◌, ◌||◌, List, [], ◌∷◌, Option, Some, None, map, filter, take, length, refl, sym, ap, ◌∙◌}
 use Rattle.std.specs.Prelude.{◌==◌, nat_eq, option_map, option_to_list, option_and_then}
 use Rattle.std.specs.Bool.{beq}
 use Rattle.std.specs.List.{list_all, list_any}
-use Rattle.std.proofs.lemmas.Bool.{and_from, eqb-true, eq-eqb, or_parts}
+use Rattle.std.proofs.lemmas.Bool.{eqb-true, eq-eqb, or_parts}
 use Rattle.target_base.specs.declared.types.ClassId.{ClassId}
 use Rattle.target_base.specs.declared.types.Effect.{Effect}
 use Rattle.target_base.specs.declared.types.Effect.TheVariants as effects
 use Rattle.target_base.specs.declared.types.IndexId.{IndexId}
 use Rattle.target_base.specs.declared.types.OpcodeDesc.{OpcodeDesc}
-use Rattle.target_base.specs.declared.types.Role.{Role}
 use Rattle.target_base.specs.declared.types.Target.{Target}
 use Rattle.target_base.specs.Registers.{lanes_of}
 use Rattle.target_base.specs.Roles.{is_slot}
 use Rattle.target_base.specs.Rules.{is_phi}
 use Rattle.target_base.specs.Storage.{same_numbers}
-use Rattle.target_base.proofs.Tests.{first_of_both, second_of_both}
-use Rattle.meaning.specs.declared.types.Lane.{Lane}
+use Rattle.target_base.proofs.Tests.{first_of_both}
 use Rattle.meaning.specs.Live.{Among as Member, here as first, there as later}
 use Rattle.mir_func.specs.declared.func.Loc.{Loc}
 use Rattle.mir_func.specs.declared.func.Loc.TheVariants.{Virtual, Fixed}
@@ -26,11 +24,10 @@ use Rattle.mir_func.specs.declared.func.Operand.TheVariants as operands
 use Rattle.mir_func.specs.declared.func.Instr.{Instr}
 use Rattle.mir_func.specs.declared.func.Block.{Block}
 use Rattle.mir_func.specs.Value.{Function}
-use Rattle.mir_func.specs.Binding.{Bound, asked_class, bound, does, effect_of, explicit_operands, explicit_roles, implicit_registers, is_early, is_lowered_away, is_terminator, known_opcode, passes, puts_together, registers, same_index, same_loc, tied_pair, tied_uses}
+use Rattle.mir_func.specs.Binding.{Bound, asked_class, bound, does, effect_of, explicit_operands, explicit_roles, is_early, is_lowered_away, is_terminator, known_opcode, passes, puts_together, registers, same_index, same_loc, tied_pair, tied_uses}
 use Rattle.mir_meaning.specs.declared.Form.TheVariants as forms
-use Rattle.mir_meaning.specs.Registers.{operand_lanes, operand_widths}
 use Rattle.mir_meaning.specs.Items.{unreserved}
-use Rattle.mir_meaning.specs.Rules.{V1, V2, V3, V4, V7, V8, V11, V12, V15, clashing_lanes, copy_fits, early_fits, explicit_fit, flags_fit, has_class, has_home, has_lanes, has_lanes_at, implicit_fit, implicit_last, in_operand_class, index_fits, is_condition, is_spill_slot, lanes_fit, no_two_share, operands_fit, register_lies_in, same_widths, share_a_lane, slot_fits, subregs_fit, tie_fits, undef_fits, untied_readings, values_fit, widths_fit}
+use Rattle.mir_meaning.specs.Rules.{V1, V2, V3, V4, V7, V8, V11, V12, V15, clashing_lanes, early_fits, explicit_fit, flags_fit, has_class, has_home, has_lanes, has_lanes_at, implicit_fit, in_operand_class, index_fits, is_condition, is_spill_slot, lanes_fit, no_two_share, operands_fit, register_lies_in, same_widths, share_a_lane, slot_fits, subregs_fit, tie_fits, undef_fits, untied_readings, values_fit, widths_fit}
 use Rattle.instr_effects.proofs.Members.{filter-in, filter-of}
 use Rattle.live_laws.proofs.Effects.Lists.{any-in}
 use Rattle.slot_laws.specs.Homes.{block_moved, function_moved, instr_moved, goes, slot_moved}

@@ -1,10 +1,9 @@
 -- Operands that name other slots are registers, blocks and indexes as before, and meet the same roles.
-use Rattle.std.proofs.Common.{◌≡◌, ℕ, zero, suc, Bool, true, false, cond, not, ◌&&◌, ◌||◌, List, [], ◌∷◌, ◌++◌, Option, Some, None, map, filter, take, drop, length, refl, sym, ap, ◌∙◌}
+use Rattle.std.proofs.Common.{◌≡◌, ℕ, zero, suc, Bool, true, false, cond, not, ◌&&◌, ◌||◌, List, [], ◌∷◌, ◌++◌, Some, None, map, filter, take, drop, length, refl, sym, ap, ◌∙◌}
 use Rattle.std.specs.Prelude.{flat_map}
 use Rattle.std.specs.List.{list_all, list_any}
 use Rattle.target_base.specs.declared.types.Role.{Role}
 use Rattle.target_base.specs.declared.types.Role.TheVariants as roles
-use Rattle.target_base.specs.declared.types.IndexId.{IndexId}
 use Rattle.target_base.specs.declared.types.Target.{Target}
 use Rattle.target_base.specs.Roles.{is_tied}
 use Rattle.mir_func.specs.declared.func.RegOp.{RegOp}
@@ -12,7 +11,7 @@ use Rattle.mir_func.specs.declared.func.Operand.{Operand}
 use Rattle.mir_func.specs.declared.func.Operand.TheVariants as operands
 use Rattle.mir_func.specs.declared.func.Instr.{Instr}
 use Rattle.mir_func.specs.Binding.{Bound, bound, explicit_bound, explicit_operands, explicit_roles, implicit_bound, implicit_registers, implicit_roles, immediate_of, is_implicit_operand, passes, registers, roles_of, takes_many, tied_uses}
-use Rattle.mir_meaning.specs.Rules.{block_of, copy_fits, explicit_fit, fits_role, implicit_def_fits, implicit_last, index_of, named_blocks, readings, untied_readings}
+use Rattle.mir_meaning.specs.Rules.{block_of, copy_fits, explicit_fit, fits_role, implicit_def_fits, implicit_last, named_blocks, readings, untied_readings}
 use Rattle.slot_laws.specs.Homes.{instr_moved, slot_moved}
 use Rattle.slot_laws.proofs.Merged.{map-append}
 

@@ -1,20 +1,17 @@
 -- A function whose slots went to others does what it did.
-use Rattle.std.proofs.Common.{◌≡◌, ℕ, Bool, true, false, cond, List, [], ◌∷◌, Option, Some, None, map, refl, sym, ap, ◌∙◌, subst}
+use Rattle.std.proofs.Common.{◌≡◌, ℕ, true, false, cond, List, [], ◌∷◌, Some, None, map, refl, sym, ap, ◌∙◌, subst}
 use Rattle.std.specs.Prelude.{option_map, slice_get}
 use Rattle.std.specs.List.{list_any}
-use Rattle.target_base.specs.declared.types.Effect.{Effect}
 use Rattle.target_base.specs.declared.types.OpcodeDesc.{OpcodeDesc}
 use Rattle.target_base.specs.declared.types.Target.{Target}
 use Rattle.target_base.specs.Numbers.{unit_number}
 use Rattle.target_base.specs.Storage.{unit_width}
 use Rattle.meaning.specs.declared.types.Lane.{Lane}
 use Rattle.meaning.specs.declared.types.Lane.TheVariants.{VirtualLane, UnitLane, SlotLane}
-use Rattle.meaning.specs.Code.{Code, Given, entry_lane, start_state}
+use Rattle.meaning.specs.Code.{entry_lane, start_state}
 use Rattle.meaning.specs.Environment.{Environment}
 use Rattle.meaning.specs.Fold.{Folded, Folds, Quiet}
-use Rattle.meaning.specs.Live.{Among as Member, here as first, there as later}
-use Rattle.meaning.specs.Matched.{Fits}
-use Rattle.meaning.specs.Refines.{Refines}
+use Rattle.meaning.specs.Live.{Among as Member}
 use Rattle.laws.proofs.Quiet.{law_of_folds}
 use Rattle.mir_func.specs.declared.func.Loc.{Loc}
 use Rattle.mir_func.specs.declared.func.Loc.TheVariants.{Virtual, Fixed}
@@ -22,7 +19,7 @@ use Rattle.mir_func.specs.declared.func.RegOp.{RegOp}
 use Rattle.mir_func.specs.declared.func.Instr.{Instr}
 use Rattle.mir_func.specs.declared.func.Block.{Block}
 use Rattle.mir_func.specs.Value.{Function}
-use Rattle.mir_func.specs.Binding.{effect_of, does, is_lowered_away, is_virtual, passes, registers}
+use Rattle.mir_func.specs.Binding.{effect_of, is_lowered_away, is_virtual, passes, registers}
 use Rattle.mir_meaning.specs.Registers.{is_reserved}
 use Rattle.mir_meaning.specs.Codes.{code_of, given_of, is_given, meaning_of}
 use Rattle.mir_meaning.specs.Points.{has_no_phis, points_of}
@@ -30,7 +27,7 @@ use Rattle.mir_meaning.specs.Renaming.{IsFixed}
 use Rattle.mir_meaning.specs.Rules.{spills_or_reloads}
 use Rattle.mir_meaning.specs.Valid.{names_virtual}
 use Rattle.mir_meaning.proofs.Points.{points_are_code}
-use Rattle.slot_laws.specs.Homes.{AreHomes, IsAllocated, MovingRefines, block_moved, function_moved, slot_moved}
+use Rattle.slot_laws.specs.Homes.{AreHomes, IsAllocated, MovingRefines, block_moved, function_moved}
 use Rattle.slot_laws.proofs.Lists.{any-none}
 use Rattle.slot_laws.proofs.Clear.{all-quiet, points-quiet}
 use Rattle.slot_laws.proofs.Laid.{code-bare, code-laid, lowered, no-phis, rules-at}

@@ -1,8 +1,8 @@
 -- Which operands name frame objects and blocks, by the roles of their opcodes.
-use Rattle.std.proofs.Common.{◌≡◌, ◌⊎◌, ℕ, Bool, true, false, cond, not, ◌&&◌, ◌||◌, List, [], ◌∷◌, ◌++◌, Option, Some, None, map, filter, inl, inr, refl, sym, ap, ◌∙◌, subst}
-use Rattle.std.specs.Prelude.{option_map, nat_eq, flat_map}
+use Rattle.std.proofs.Common.{◌≡◌, ℕ, Bool, true, false, cond, not, List, [], ◌∷◌, Option, Some, None, map, refl, sym, ap, ◌∙◌, subst}
+use Rattle.std.specs.Prelude.{flat_map}
 use Rattle.std.specs.Bool.{beq}
-use Rattle.std.specs.List.{list_all, list_any}
+use Rattle.std.specs.List.{list_any}
 use Rattle.std.proofs.lemmas.Bool.{or_parts, not-true}
 use Rattle.target_base.specs.declared.types.Effect.{Effect}
 use Rattle.target_base.specs.declared.types.Effect.TheVariants as effects
@@ -13,12 +13,11 @@ use Rattle.target_base.specs.declared.types.Target.{Target}
 use Rattle.target_base.specs.Roles.{is_implicit, is_slot, explicit_shape, shape_fits, has_shape}
 use Rattle.target_base.proofs.Tests.{first_of_both, second_of_both}
 use Rattle.meaning.specs.Live.{Among as Member, here as first, there as later}
-use Rattle.mir_func.specs.declared.func.RegOp.{RegOp}
 use Rattle.mir_func.specs.declared.func.Operand.{Operand}
 use Rattle.mir_func.specs.declared.func.Operand.TheVariants as operands
 use Rattle.mir_func.specs.declared.func.Instr.{Instr}
 use Rattle.mir_func.specs.Value.{Function}
-use Rattle.mir_func.specs.Binding.{Bound, effect_of, known_opcode, passes, bound, explicit_bound, explicit_operands, explicit_roles, implicit_bound, implicit_roles, implicit_registers, is_implicit_operand, is_branch, is_lowered_away, roles_of, takes_many}
+use Rattle.mir_func.specs.Binding.{Bound, effect_of, passes, bound, explicit_bound, explicit_operands, explicit_roles, implicit_bound, implicit_roles, implicit_registers, is_implicit_operand, is_branch, is_lowered_away, roles_of, takes_many}
 use Rattle.mir_meaning.specs.declared.Form.TheVariants as forms
 use Rattle.mir_meaning.specs.Codes.{target_of}
 use Rattle.mir_meaning.specs.Rules.{V1, V15, explicit_fit, fits_role, is_spill_slot, slot_fits, spills_or_reloads, copy_fits, implicit_def_fits, operands_fit, block_of, named_blocks}

@@ -1,15 +1,12 @@
 -- What a map of slots leaves where it is: lanes of registers, and all that instructions other than stores to slots and
 -- reloads read and write.
-use Rattle.std.proofs.Common.{◌≡◌, ◌⊎◌, ℕ, suc, ◌+◌, Bool, true, false, cond, not, ◌&&◌, List, [], ◌∷◌, ◌++◌, Option, Some, None, map, filter, flat_map, inl, inr, refl, sym, ap, ◌∙◌, subst, length}
-use Rattle.std.specs.Prelude.{ℤ, zero, nat_abs, nat_lt}
+use Rattle.std.proofs.Common.{◌≡◌, ℕ, suc, ◌+◌, Bool, true, false, cond, not, List, [], ◌∷◌, ◌++◌, Option, Some, None, map, filter, flat_map, refl, sym, ap, ◌∙◌, subst, length}
+use Rattle.std.specs.Prelude.{ℤ, zero, nat_abs}
 use Rattle.std.specs.List.{list_any, filter_map}
 use Rattle.target_base.specs.declared.types.Effect.{Effect}
 use Rattle.target_base.specs.declared.types.Effect.TheVariants as effects
-use Rattle.target_base.specs.declared.types.IndexId.{IndexId}
 use Rattle.target_base.specs.declared.types.Role.{Role}
-use Rattle.target_base.specs.declared.types.Unit.{Unit as UnitNumber}
 use Rattle.target_base.specs.declared.types.Target.{Target}
-use Rattle.target_base.specs.Registers.{units_of, lanes_of}
 use Rattle.target_base.specs.Rules.{is_spill, is_reload}
 use Rattle.meaning.specs.declared.types.Lane.{Lane}
 use Rattle.meaning.specs.declared.types.Lane.TheVariants.{VirtualLane, UnitLane, SlotLane}
