@@ -1,17 +1,15 @@
 -- Which slots the choice makes one.
-use Rattle.std.proofs.Common.{◌≡◌, ◌⊎◌, ℕ, Bool, true, false, cond, not, ◌&&◌, ◌||◌, List, [], ◌∷◌, ◌++◌, Option, Some, None, map, filter, inl, inr, refl, sym, ap, ◌∙◌, subst, eqb-true, eq-eqb}
+use Rattle.std.proofs.Common.{◌≡◌, ◌⊎◌, ℕ, Bool, true, false, cond, ◌&&◌, List, [], ◌∷◌, ◌++◌, Option, Some, None, filter, inl, inr, refl, sym, ap, ◌∙◌, subst, eqb-true, eq-eqb}
 use Rattle.std.specs.Prelude.{find, nat_eq, nat_le}
 use Rattle.std.specs.List.{list_any}
-use Rattle.std.proofs.lemmas.Bool.{and_from, not-true, or_parts}
+use Rattle.std.proofs.lemmas.Bool.{and_from, not-true}
 use Rattle.target_base.specs.Names.{are_distinct_numbers}
 use Rattle.target_base.proofs.Tests.{first_of_both, second_of_both}
 use Rattle.meaning.specs.Live.{Among as Member, here as first, there as later}
 use Rattle.mir_func.specs.Value.{Function}
-use Rattle.mir_lines.specs.Bytes.{is_word}
 use Rattle.mir_meaning.specs.Rules.{is_spill_slot}
 use Rattle.instr_effects.proofs.Members.{member-none, member-elim, left-in, right-in, either-elim, map-of, filter-of}
 use Rattle.live_laws.proofs.Effects.Moved.{Apart}
-use Rattle.live_laws.proofs.Effects.Moving.{some-same}
 use Rattle.live_laws.proofs.Effects.Lists.{any-in, distinct-apart}
 use Rattle.slot_colour.specs.declared.lines.Declared.{Declared}
 use Rattle.slot_colour.specs.declared.choice.Slot.{Slot}

@@ -1,5 +1,5 @@
 -- Colouring moves slots to homes.
-use Rattle.std.proofs.Common.{◌≡◌, ◌≤◌, ◌⊎◌, ℕ, Bool, true, false, not, List, [], ◌∷◌, map, filter, inl, inr, refl, sym, ap, subst}
+use Rattle.std.proofs.Common.{◌≡◌, ◌≤◌, ◌⊎◌, ℕ, Bool, true, false, not, List, [], ◌∷◌, map, filter, inl, inr, refl, sym, subst}
 use Rattle.std.proofs.lemmas.Bool.{cases_eq}
 use Rattle.target_base.specs.declared.types.Target.{Target}
 use Rattle.mir_func.specs.declared.func.Operand.{Operand}
@@ -7,7 +7,7 @@ use Rattle.mir_func.specs.declared.func.Operand.TheVariants as operands
 use Rattle.mir_func.specs.declared.func.Instr.{Instr}
 use Rattle.mir_func.specs.declared.func.Block.{Block}
 use Rattle.mir_func.specs.Value.{Function}
-use Rattle.slot_laws.specs.Homes.{AreHomes, IsAllocated, block_moved, function_moved, instr_moved, slot_moved, spill_count}
+use Rattle.slot_laws.specs.Homes.{AreHomes, block_moved, function_moved, instr_moved, slot_moved, spill_count}
 use Rattle.slot_laws.proofs.Coloured.{moving-keeps-valid}
 use Rattle.slot_laws.proofs.Fewer.{moving-keeps-count}
 use Rattle.slot_laws.proofs.Refined.{moving-refines}
