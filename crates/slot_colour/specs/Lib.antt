@@ -1,3 +1,4 @@
 pub mod Clashes
 pub mod Lines
 pub mod Colouring
+pub mod Kept

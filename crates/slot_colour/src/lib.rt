@@ -2,6 +2,7 @@
 //! something at one time become one.
 #![tactic(auto)]
 
+pub mod answer_laws;
 mod choice;
 mod clashes;
 mod colour;

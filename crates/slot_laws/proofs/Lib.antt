@@ -1,0 +1,14 @@
+pub mod Lists
+pub mod Fewer
+pub mod Still
+pub mod Shaped
+pub mod Alike
+pub mod Merged
+pub mod Operands
+pub mod Ruled
+pub mod Laid
+pub mod Clear
+pub mod Refined
+pub mod Living
+pub mod Obeyed
+pub mod Coloured
