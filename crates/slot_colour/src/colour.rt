@@ -1,7 +1,10 @@
 //! The coloured function.
 
 ghost use Rattle.std.specs.Prelude.{◌≡◌, IfOk};
+ghost use Rattle.mir_meaning.specs.declared.Form.TheVariants as forms;
+ghost use Rattle.mir_meaning.specs.Valid.{IsValid};
 ghost use Rattle.live_lanes.specs.Looks.{InOrder};
+ghost use Rattle.live_laws.specs.Effects.Shaped.{AreClasses};
 ghost use Rattle.slot_colour.specs.Clashes.{is_clash};
 ghost use Rattle.slot_colour.specs.Colouring.{chosen, merged, IsColoured};
 
@@ -54,7 +57,7 @@ fn merged(alloc: Global, taken: &[Slot], f: Func) -> Result<Func, AllocError>
 /// equal but for the number and with none of whose members it clashes; else it is kept. Two slots clash
 /// where at one point a lane of each is live or occupied. Each spill slot is declared by one line.
 pub fn colour_slots(alloc: Global, target: &Target, f: Func) -> Result<Func, AllocError>
-    ensures { IfOk result (IsColoured target.now f) }
+    ensures { AreClasses target.now f → IsValid target.now forms.Allocated f → IfOk result (IsColoured target.now f) }
 {
     let live = LiveFunc::compute(alloc, target, f)?;
     let taken = chosen(alloc, &live)?;

@@ -5,6 +5,7 @@
 mod choice;
 mod clashes;
 mod colour;
+pub mod laws;
 mod lines;
 mod renamed;
 
