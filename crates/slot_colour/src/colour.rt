@@ -1,9 +1,14 @@
 //! The coloured function.
 
 ghost use Rattle.std.specs.Prelude.{◌≡◌, IfOk};
+ghost use Rattle.mir_func.specs.Value.{IsFunction};
+ghost use Rattle.mir_meaning.specs.declared.Form.TheVariants as forms;
+ghost use Rattle.mir_meaning.specs.Valid.{IsValid};
 ghost use Rattle.live_lanes.specs.Looks.{InOrder};
+ghost use Rattle.live_laws.specs.Effects.Shaped.{AreClasses};
 ghost use Rattle.slot_colour.specs.Clashes.{is_clash};
 ghost use Rattle.slot_colour.specs.Colouring.{chosen, merged, IsColoured};
+ghost use Rattle.slot_colour.specs.Kept.{AreOnce, IsKept};
 
 use crate::choice::{Slot, spill_slots, taken_from};
 use crate::lines::{declared_in, kept_in};
@@ -52,9 +57,11 @@ fn merged(alloc: Global, taken: &[Slot], f: Func) -> Result<Func, AllocError>
 /// The function, which is valid as an allocated one, with fewer spill slots or as many: slots are taken
 /// by rising number, and each becomes a member of the first kept slot whose line in the `stack` key is
 /// equal but for the number and with none of whose members it clashes; else it is kept. Two slots clash
-/// where at one point a lane of each is live or occupied. Each spill slot is declared by one line.
+/// where at one point a lane of each is live or occupied. Where no spill slot is declared twice, the
+/// answer has no more spill slots, is valid, and does what the function does.
 pub fn colour_slots(alloc: Global, target: &Target, f: Func) -> Result<Func, AllocError>
-    ensures { IfOk result (IsColoured target.now f) }
+    ensures { AreClasses target.now f → IsValid target.now forms.Allocated f
+        → IfOk result (λ g. IsColoured target.now f g × (IsFunction f.blocks f.next_id → AreOnce f → IsKept target.now f g)) }
 {
     let live = LiveFunc::compute(alloc, target, f)?;
     let taken = chosen(alloc, &live)?;
