@@ -1,6 +1,6 @@
 -- Things that stand at some places of a list, in the order of these places.
 use Rattle.std.proofs.Common.{◌≡◌, ◌∙◌, ◌⊎◌, inl, inr, ℕ, zero, suc, ◌+◌, ◌<◌, ◌≤◌, List, [], ◌∷◌, ◌++◌, Bool, true, false, refl, sym, ap, subst, length, get_or, map, arith, Option, None, Some}
-use Rattle.std.specs.Prelude.{◌||◌, slice_get, flat_map, zip, nat_eq, nat_lt}
+use Rattle.std.specs.Prelude.{◌||◌, slice_get, flat_map, zip, filter, count_by, cond, nat_eq, nat_lt}
 use Rattle.std.specs.Ordering.{nat_cmp}
 use Rattle.std.specs.List.{list_any, sum_by}
 use Rattle.std.specs.List.Sorted.{IsStrictlySortedBy}
@@ -182,3 +182,40 @@ module _ {Y : Type 0} (pos : Y → ℕ) where
             let rest = ih more b in
             let z = same k x y r in
             ap (sum_by g) e ∙ (sum_by-cons g y more ∙ (let q : g y + sum_by g more ≡ h (weight k, x) + sum_by h (zip ws xs) = omega (arith, rest, z) in q ∙ sym whole))
+
+    pub along-zip : {Z : Type 0} (g : Y → List Z) (h : ℕ × X → List Z) (weight : ℕ → ℕ) → ((k : ℕ) (x : X) (y : Y) → R k x y → g y ≡ h (weight k, x)) → ((k : ℕ) (x : X) → N k x → h (weight k, x) ≡ [])
+        → (k : ℕ) (ws : List ℕ) (xs : List X) (ys : List Y) → length ws ≡ length xs → ((j : ℕ) → j < length xs → get_or ws j 0 ≡ weight (k + j)) → Along k xs ys → flat_map g ys ≡ flat_map h (zip ws xs)
+    along-zip g h weight same none k [] [] ys l w a = ap (flat_map g) a
+    along-zip g h weight same none k (v ∷ ws) [] ys l w a = absurd (omega (arith, l))
+    along-zip g h weight same none k [] (x ∷ xs) ys l w a = absurd (omega (arith, l))
+    along-zip {Z} g h weight same none k (v ∷ ws) (x ∷ xs) ys l w a = go a (λ zs b. along-zip g h weight same none (suc k) ws xs zs shorter later b)
+      where
+        here-weight : v ≡ weight k
+        here-weight = let e : k + 0 ≡ k = omega arith in w 0 (omega arith) ∙ ap weight e
+
+        later : (j : ℕ) → j < length xs → get_or ws j 0 ≡ weight (suc k + j)
+        later j lt = let e : k + suc j ≡ suc k + j = omega arith in w (suc j) (omega arith) ∙ ap weight e
+
+        shorter : length ws ≡ length xs
+        shorter = omega (arith, l)
+
+        whole : h (v, x) ++ flat_map h (zip ws xs) ≡ h (weight k, x) ++ flat_map h (zip ws xs)
+        whole = ap (λ u. h (u, x) ++ flat_map h (zip ws xs)) here-weight
+
+        go : Along k (x ∷ xs) ys → ((ys : List Y) → Along (suc k) xs ys → flat_map g ys ≡ flat_map h (zip ws xs)) → flat_map g ys ≡ h (v, x) ++ flat_map h (zip ws xs)
+        go (inl (n, b)) ih = ih ys b ∙ sym (whole ∙ ap (λ c. c ++ flat_map h (zip ws xs)) (none k x n))
+        go (inr (y, more, e, r, b)) ih = ap (flat_map g) e ∙ (ap (λ c. c ++ flat_map g more) (same k x y r) ∙ (ap (λ c. h (weight k, x) ++ c) (ih more b) ∙ sym whole))
+
+    pub along-count : (g : Y → Bool) (h : X → Bool) → ((k : ℕ) (x : X) (y : Y) → R k x y → g y ≡ h x) → ((k : ℕ) (x : X) → N k x → h x ≡ false)
+        → (k : ℕ) (xs : List X) (ys : List Y) → Along k xs ys → count_by g ys ≡ length (filter h xs)
+    along-count g h same none k [] ys a = ap (count_by g) a
+    along-count g h same none k (x ∷ xs) ys a = go a (along-count g h same none (suc k) xs)
+      where
+        counted : (b : Bool) (n : ℕ) → n ≡ length (filter h xs) → cond b 1 0 + n ≡ length (cond b (x ∷ filter h xs) (filter h xs))
+        counted true n e = omega (arith, e)
+        counted false n e = omega (arith, e)
+
+        go : Along k (x ∷ xs) ys → ((ys : List Y) → Along (suc k) xs ys → count_by g ys ≡ length (filter h xs)) → count_by g ys ≡ length (filter h (x ∷ xs))
+        go (inl (n, b)) ih = ih ys b ∙ sym (ap (λ c. length (cond c (x ∷ filter h xs) (filter h xs))) (none k x n))
+        go (inr (y, rest, e, r, b)) ih =
+            ap (count_by g) e ∙ (sum_by-cons (λ z. cond (g z) 1 0) y rest ∙ (ap (λ c. cond c 1 0 + count_by g rest) (same k x y r) ∙ counted (h x) (count_by g rest) (ih rest b)))

@@ -124,7 +124,7 @@ find-one n (c ∷ bs) (suc k) b e s h =
     ∙ find-one n bs k b e s (λ j d at ne. h (suc j) d at (λ z. ne (omega arith)))
 
 -- no other block has the number of this one
-others : (bs : List Block) → ArePlaced bs → (k : ℕ) (b : Block) → slice_get bs k ≡ Some b → (j : ℕ) (c : Block) → slice_get bs j ≡ Some c → (j ≡ k → ⊥) → nat_eq c.number b.number ≡ false
+pub others : (bs : List Block) → ArePlaced bs → (k : ℕ) (b : Block) → slice_get bs k ≡ Some b → (j : ℕ) (c : Block) → slice_get bs j ≡ Some c → (j ≡ k → ⊥) → nat_eq c.number b.number ≡ false
 others bs placed k b at j c got ne = ne_eqb c.number b.number (λ e. ne (some-same j k (sym (placed j c got) ∙ (ap (λ n. place_of n bs) e ∙ placed k b at))))
 
 module _ (t : Target) (f : Function) (v : ℕ) (view : View) (ps : List ℕ) (placed : ArePlaced f.blocks) (one : (x y : Border) → view.one_bundle (x, y) ≡ are_joined f.blocks ps (x, y)) where
@@ -137,12 +137,12 @@ module _ (t : Target) (f : Function) (v : ℕ) (view : View) (ps : List ℕ) (pl
   pub live-out : (k : ℕ) (b : Block) → slice_get f.blocks k ≡ Some b → live_at t f v view (Out b.number) ≡ view.live (end_point b)
   live-out k b at = ap (λ (o : Option Block). elim o [ None ↦ false | Some c ↦ view.live (end_point c) ]) (find-one b.number f.blocks k b at (eq-eqb b.number b.number refl) (others f.blocks placed k b at))
 
-  joined-in : (x : Border) (i k : ℕ) (b : Block) → border_place f.blocks x ≡ Some i → slice_get f.blocks k ≡ Some b → view.one_bundle (x, In b.number) ≡ nat_eq (root_of ps (start_of k)) (root_of ps i)
+  pub joined-in : (x : Border) (i k : ℕ) (b : Block) → border_place f.blocks x ≡ Some i → slice_get f.blocks k ≡ Some b → view.one_bundle (x, In b.number) ≡ nat_eq (root_of ps (start_of k)) (root_of ps i)
   joined-in x i k b is at =
       one x (In b.number) ∙ (ap (λ (o : Option ℕ). elim o [ None ↦ same_border x (In b.number) | Some j ↦ same_root ps j (border_place f.blocks (In b.number)) ]) is
       ∙ (ap (λ (o : Option ℕ). same_root ps i (option_map start_of o)) (placed k b at) ∙ nat_eq-turn (root_of ps i) (root_of ps (start_of k))))
 
-  joined-out : (x : Border) (i k : ℕ) (b : Block) → border_place f.blocks x ≡ Some i → slice_get f.blocks k ≡ Some b → view.one_bundle (x, Out b.number) ≡ nat_eq (root_of ps (end_of k)) (root_of ps i)
+  pub joined-out : (x : Border) (i k : ℕ) (b : Block) → border_place f.blocks x ≡ Some i → slice_get f.blocks k ≡ Some b → view.one_bundle (x, Out b.number) ≡ nat_eq (root_of ps (end_of k)) (root_of ps i)
   joined-out x i k b is at =
       one x (Out b.number) ∙ (ap (λ (o : Option ℕ). elim o [ None ↦ same_border x (Out b.number) | Some j ↦ same_root ps j (border_place f.blocks (Out b.number)) ]) is
       ∙ (ap (λ (o : Option ℕ). same_root ps i (option_map end_of o)) (placed k b at) ∙ nat_eq-turn (root_of ps i) (root_of ps (end_of k))))

@@ -18,7 +18,7 @@ use Rattle.split_choose.specs.Seen.{ends_in_terminators}
 use Rattle.split_choose.specs.Parts.{marks_there, marks_of}
 use Rattle.split_choose.proofs.Walks.{mapped-at}
 
-all-got : {X : Type 0} (g : X → Bool) (xs : List X) (j : ℕ) (x : X) → list_all g xs ≡ true → slice_get xs j ≡ Some x → g x ≡ true
+pub all-got : {X : Type 0} (g : X → Bool) (xs : List X) (j : ℕ) (x : X) → list_all g xs ≡ true → slice_get xs j ≡ Some x → g x ≡ true
 all-got g [] j x h e = absurd (cc)
 all-got g (y ∷ xs) zero x h e = let same : y ≡ x = cc in ap g (sym same) ∙ (and_parts (g y) (list_all g xs) h).0
 all-got g (y ∷ xs) (suc j) x h e = all-got g xs j x (and_parts (g y) (list_all g xs) h).1 e

@@ -56,3 +56,16 @@ pub mod Netting
 pub mod Costing
 pub mod Taking
 pub mod Sizing
+pub mod Picking
+pub mod FirstBorders
+pub mod BlockRows
+pub mod BlockCosts
+pub mod ChoiceNodes
+pub mod SameBundle
+pub mod BlockMarks
+pub mod RegisterNet
+pub mod Smallness
+pub mod CutOffers
+pub mod CutChosen
+pub mod Marking
+pub mod SmallestChoice

@@ -23,17 +23,17 @@ use Rattle.split_choose.proofs.Telling.{IsTold, IsUntold}
 use Rattle.split_choose.proofs.Along.{Along, along-sum}
 use Rattle.split_choose.proofs.Insides.{inside-is, untold-inside}
 
-capped-fits : (n : ℕ) → n ≤ 340282366920938463463374607431768211455 → capped n ≡ n
+pub capped-fits : (n : ℕ) → n ≤ 340282366920938463463374607431768211455 → capped n ≡ n
 capped-fits n h = omega arith
 
 -- sums
 
-sum-times : {X : Type 0} (c : ℕ) (g : X → ℕ) (xs : List X) → sum_by (λ x. c * g x) xs ≡ c * sum_by g xs
+pub sum-times : {X : Type 0} (c : ℕ) (g : X → ℕ) (xs : List X) → sum_by (λ x. c * g x) xs ≡ c * sum_by g xs
 sum-times c g [] = let z : 0 ≡ c * 0 = omega arith in z
 sum-times c g (x ∷ xs) =
     sum_by-cons (λ y. c * g y) x xs ∙ (ap (λ n. c * g x + n) (sum-times c g xs) ∙ (sym (mul-add c (g x) (sum_by g xs)) ∙ ap (λ n. c * n) (sym (sum_by-cons g x xs))))
 
-sum-filter : {X : Type 0} (p : X → Bool) (g : X → ℕ) (xs : List X) → sum_by g (filter p xs) ≤ sum_by g xs
+pub sum-filter : {X : Type 0} (p : X → Bool) (g : X → ℕ) (xs : List X) → sum_by g (filter p xs) ≤ sum_by g xs
 sum-filter p g [] = omega arith
 sum-filter p g (x ∷ xs) = go (p x) (sum-filter p g xs)
   where
@@ -41,7 +41,7 @@ sum-filter p g (x ∷ xs) = go (p x) (sum-filter p g xs)
     go true h = let a = sum_by-cons g x (filter p xs) in let z = sum_by-cons g x xs in omega (arith, a, z, h)
     go false h = let z = sum_by-cons g x xs in omega (arith, z, h)
 
-weight-below : (ws : List ℕ) (k : ℕ) → get_or ws k 0 ≤ sum_by (λ n. n) ws
+pub weight-below : (ws : List ℕ) (k : ℕ) → get_or ws k 0 ≤ sum_by (λ n. n) ws
 weight-below [] k = omega arith
 weight-below (w ∷ ws) zero = let a = sum_by-cons (λ (n : ℕ). n) w ws in omega (arith, a)
 weight-below (w ∷ ws) (suc k) = let a = sum_by-cons (λ (n : ℕ). n) w ws in let b = weight-below ws k in omega (arith, a, b)
@@ -58,7 +58,7 @@ pair-below h (w ∷ ws) (y ∷ xs) (suc k) x l at =
     let shorter : length ws ≡ length xs = omega (arith, l) in
     let b = pair-below h ws xs k x shorter at in omega (arith, a, b)
 
-sum-within : {X : Type 0} (g h : ℕ × X → ℕ) → ((w : ℕ) (x : X) → g (w, x) ≤ w + h (w, x)) → (ws : List ℕ) (xs : List X) → sum_by g (zip ws xs) ≤ sum_by (λ n. n) ws + sum_by h (zip ws xs)
+pub sum-within : {X : Type 0} (g h : ℕ × X → ℕ) → ((w : ℕ) (x : X) → g (w, x) ≤ w + h (w, x)) → (ws : List ℕ) (xs : List X) → sum_by g (zip ws xs) ≤ sum_by (λ n. n) ws + sum_by h (zip ws xs)
 sum-within g h below [] xs = omega arith
 sum-within g h below (w ∷ ws) [] = omega arith
 sum-within g h below (w ∷ ws) (x ∷ xs) =
@@ -69,10 +69,10 @@ sum-within g h below (w ∷ ws) (x ∷ xs) =
     let q = below w x in omega (arith, a, b, c, r, q)
 
 module _ (t : Target) (f : Function) (v : ℕ) (view : View) where
-  uses-are : (w : ℕ) (b : Block) → block_uses v (w, b) ≡ w * operands_in t f v view b.instrs
+  pub uses-are : (w : ℕ) (b : Block) → block_uses v (w, b) ≡ w * operands_in t f v view b.instrs
   uses-are w b = sum-times w (naming v) b.instrs
 
-  ends-below : (w : ℕ) (b : Block) → w * operands_in t f v view (terminators t f v view b) ≤ w * operands_in t f v view b.instrs
+  pub ends-below : (w : ℕ) (b : Block) → w * operands_in t f v view (terminators t f v view b) ≤ w * operands_in t f v view b.instrs
   ends-below w b = mul-le-mul_left w (sum-filter (does is_terminator t) (naming v) b.instrs)
 
   cost-below : (i : Inside) (w : ℕ) (b : Block) → w * inside_cost t f v view b i ≤ w + w * operands_in t f v view b.instrs
@@ -103,12 +103,12 @@ module _ (t : Target) (f : Function) (v : ℕ) (view : View) where
         let h = counted.fits in omega (arith, a, c, d, h)
 
     module _ (spans : List Span) (k : ℕ) (b : Block) (s : Span) (told : IsTold t f v view freqs spans k b s) where
-      told-uses : s.uses ≡ slice_index_or freqs k 0 * operands_in t f v view b.instrs
+      pub told-uses : s.uses ≡ slice_index_or freqs k 0 * operands_in t f v view b.instrs
       told-uses =
           let h = share-fits k b told.at in
           told.uses ∙ (ap (λ n. capped (n * operands_in t f v view b.instrs)) told.frequency ∙ capped-fits (slice_index_or freqs k 0 * operands_in t f v view b.instrs) (omega (arith, h)))
 
-      told-ends : s.end_uses ≡ slice_index_or freqs k 0 * operands_in t f v view (terminators t f v view b)
+      pub told-ends : s.end_uses ≡ slice_index_or freqs k 0 * operands_in t f v view (terminators t f v view b)
       told-ends =
           let h = share-fits k b told.at in
           let e = ends-below (slice_index_or freqs k 0) b in
@@ -128,7 +128,7 @@ module _ (t : Target) (f : Function) (v : ℕ) (view : View) where
       told-cost wheres.End = told.frequency ∙ (let z : slice_index_or freqs k 0 ≡ slice_index_or freqs k 0 * 1 = omega arith in z)
 
     module _ (spans : List Span) (all : Along (λ (s : Span). s.position) (IsTold t f v view freqs spans) (IsUntold t f v view) 0 f.blocks spans) where
-      weights : (j : ℕ) → j < length f.blocks → get_or freqs j 0 ≡ slice_index_or freqs (0 + j) 0
+      pub weights : (j : ℕ) → j < length f.blocks → get_or freqs j 0 ≡ slice_index_or freqs (0 + j) 0
       weights j h = let e : j ≡ 0 + j = omega arith in ap (λ n. get_or freqs n 0) e
 
       pub uses-is : capped (uses_of spans) ≡ use_sum f.blocks freqs v

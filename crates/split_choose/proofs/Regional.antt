@@ -34,7 +34,7 @@ module _ (m : Matrix) (v : ℕ) (parents freqs : List ℕ) (finds : FindsPlaces 
       let many = as-many m.live.target m.live.func v (view_of m v parents) ps same in
       none-divides m.live.target m.live.func v (view_of m v parents) freqs (lt-leb 2 (length (touched_places m.live.target m.live.func v (view_of m v parents))) (omega (arith, many, h)))
 
-  divides : (ps : List TouchedPlace) → ps ≡ map (placed m.live.func.blocks) (touched_places m.live.target m.live.func v (view_of m v parents)) → 2 ≤ length ps → is_dividable m.live.target m.live.func v (view_of m v parents) ≡ true
+  pub divides : (ps : List TouchedPlace) → ps ≡ map (placed m.live.func.blocks) (touched_places m.live.target m.live.func v (view_of m v parents)) → 2 ≤ length ps → is_dividable m.live.target m.live.func v (view_of m v parents) ≡ true
   divides ps same h =
       let many = as-many m.live.target m.live.func v (view_of m v parents) ps same in
       le-leb 2 (length (touched_places m.live.target m.live.func v (view_of m v parents))) (omega (arith, many, h))
@@ -51,7 +51,7 @@ module _ (m : Matrix) (v : ℕ) (parents freqs : List ℕ) (finds : FindsPlaces 
 
     module _ (ids : List ℕ) (touched : AreTouched m.live.table v ids) where
       -- block by block there is a span, or nothing of the range
-      spans-along : Along (λ (s : Span). s.position) (IsTold m.live.target m.live.func v (view_of m v parents) freqs spans) (IsUntold m.live.target m.live.func v (view_of m v parents)) 0 m.live.func.blocks spans
+      pub spans-along : Along (λ (s : Span). s.position) (IsTold m.live.target m.live.func v (view_of m v parents) freqs spans) (IsUntold m.live.target m.live.func v (view_of m v parents)) 0 m.live.func.blocks spans
       spans-along =
           along (λ (s : Span). s.position) (IsTold m.live.target m.live.func v (view_of m v parents) freqs spans) (IsUntold m.live.target m.live.func v (view_of m v parents)) 0 m.live.func.blocks spans
           (rising (λ (s : Span). s.position) spans are.order)
@@ -73,7 +73,7 @@ module _ (m : Matrix) (v : ℕ) (parents freqs : List ℕ) (finds : FindsPlaces 
               inr (subst P e (untold m v parents freqs finds j b at none (unused m v finds points ids touched j b at none)))
 
       -- the register is clear in a span just where it is in its block
-      clear-is : (r : Reg) (s : Span) (b : Block) → Among s spans → slice_get m.live.func.blocks s.position ≡ Some b → is_clear_in m v r s ≡ is_clear m.live.target m.live.func v (view_of m v parents) r b
+      pub clear-is : (r : Reg) (s : Span) (b : Block) → Among s spans → slice_get m.live.func.blocks s.position ≡ Some b → is_clear_in m v r s ≡ is_clear m.live.target m.live.func v (view_of m v parents) r b
       clear-is r s b w at = go (are.each s w)
         where
           some-same : {Z : Type 0} (y z : Z) → Some y ≡ Some z → y ≡ z

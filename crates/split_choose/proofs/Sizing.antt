@@ -18,7 +18,7 @@ use Rattle.split_choose.proofs.Netting.{count-within, rows-length}
 
 -- what passes a test below a number is counted there
 
-more-below : (test : ℕ → Bool) (k n : ℕ) → k < n → test k ≡ true → count_below test k < count_below test n
+pub more-below : (test : ℕ → Bool) (k n : ℕ) → k < n → test k ≡ true → count_below test k < count_below test n
 more-below test k zero h is = absurd (omega arith)
 more-below test k (suc n) h is = go (cases_lt k n) (λ lt. more-below test k n lt is)
   where

@@ -87,6 +87,11 @@ module _ (t : Target) (f : Function) (v : ℕ) (view : View) (p : Reg) where
   abbrev pub base_cost : List ℕ → ℕ
   base_cost freqs = sum_by (λ b. cond (has_inside b.1) 0 (b.0 * operands_in t f v view b.1.instrs)) (zip freqs f.blocks)
 
+  -- the nodes: the bundles at one of whose borders the range is live, and the insides
+  abbrev pub is_node : Node → Bool
+  is_node (Bundle x) = list_any (λ y. view.one_bundle (x, y) && live_at t f v view y) (borders t f v view)
+  is_node (Inner n) = list_any (λ b. nat_eq b.number n && has_inside b) f.blocks
+
   -- the first border of each bundle, in layout, an entry before an exit
   abbrev pub first_borders : List Border → List Border
   first_borders [] = []
@@ -94,7 +99,7 @@ module _ (t : Target) (f : Function) (v : ℕ) (view : View) (p : Reg) where
 
   -- those of the bundles that have a node of their own: the range is live at a border of each, and it needn't be out
   abbrev pub bundle_nodes : List Border
-  bundle_nodes = filter (λ x. is_in t f v view p x && list_any (λ y. view.one_bundle (x, y) && live_at t f v view y) (borders t f v view)) (first_borders (borders t f v view))
+  bundle_nodes = filter (λ x. is_in t f v view p x && is_node (Bundle x)) (first_borders (borders t f v view))
 
   abbrev pub inside_nodes : List Block
   inside_nodes = filter has_inside f.blocks
@@ -144,16 +149,25 @@ module _ (t : Target) (f : Function) (v : ℕ) (view : View) (p : Reg) where
       ++ change_at b.number (first_id b.instrs) (in_start choice b) (from_first_gap choice b)
       ++ change_at b.number (before_terminators t f v view b) (from_first_gap choice b) (in_end choice b)
 
-  -- a region of the register: its cut is a least one of the net, shown so by a flow of its cost, and its labels are those of the nodes in it
+  -- each choice for the register costs at least so much
+  abbrev pub CostsAtLeast : List ℕ → ℕ → Type 0
+  CostsAtLeast freqs bound = (choice : Choice) → IsChoice choice → bound ≤ cost_of freqs choice
+
+  -- the nodes that are in by the cut of a region
+  abbrev pub choice_of : Region → Choice
+  choice_of region node = in_set region.cut.inside (number_of node)
+
+  -- A region of the register: its cut is a least one of the net, shown so by a flow of its cost. Its nodes are a choice of that cost and the base, no choice
+  -- costs less, what is in it is in each choice of that cost, and its labels are those of these nodes.
   pub record IsRegion (freqs : List ℕ) (region : Region) : Type 0 where
     pub register : region.reg ≡ p
     pub cut : IsLeastCut (net_of freqs) region.cut
     pub base : region.base ≡ base_cost freqs
-    pub labels : region.labels ≡ flat_map (choice_marks (λ n. in_set region.cut.inside (number_of n))) f.blocks
-
-  -- each choice for the register costs at least so much
-  abbrev pub CostsAtLeast : List ℕ → ℕ → Type 0
-  CostsAtLeast freqs bound = (choice : Choice) → IsChoice choice → bound ≤ cost_of freqs choice
+    pub choice : IsChoice (choice_of region)
+    pub cost : cost_of freqs (choice_of region) ≡ region.base + region.cut.cost
+    pub least : CostsAtLeast freqs (region.base + region.cut.cost)
+    pub smallest : (other : Choice) → IsChoice other → cost_of freqs other ≡ region.base + region.cut.cost → (node : Node) → is_node node ≡ true → choice_of region node ≡ true → other node ≡ true
+    pub labels : region.labels ≡ flat_map (choice_marks (choice_of region)) f.blocks
 
 module _ (t : Target) (f : Function) (v : ℕ) (view : View) (freqs : List ℕ) where
   -- all these registers' choices do

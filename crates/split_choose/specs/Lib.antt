@@ -18,3 +18,4 @@ pub mod BundleNodes
 pub mod Placings
 pub mod Choices
 pub mod Cuts
+pub mod Labelled
