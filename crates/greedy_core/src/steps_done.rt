@@ -84,11 +84,7 @@ impl Run {
     }
 
     /// Gives a range the register of cheaper ranges.
-    fn step_by_eviction(
-        &mut self,
-        v: u32,
-        found: &[Reg],
-    ) -> Result<Option<Step>, AllocError> {
+    fn step_by_eviction(&mut self, v: u32, found: &[Reg]) -> Result<Option<Step>, AllocError> {
         match cheapest_of(self.alloc, &self.matrix, v, &self.freqs, &self.ranks, found)? {
             Some((r, victims)) => Ok(Some(self.evict(v, r, victims)?)),
             None => Ok(None),

@@ -23,13 +23,13 @@ returns c = λ classes valid.
     IfOk-weaker c.merged.result (λ (g : Function). g ≡ merged c.as_slice.result.now c.into_func.result)
     (λ (g : Function). IsColoured c.args.target.now c.args.f g × (IsFunction c.args.f.blocks c.args.f.next_id → AreOnce c.args.f → IsKept c.args.target.now c.args.f g))
     (λ g e.
-      let coloured-so : IsColoured c.args.target.now c.args.f g = record {
-        clash = is_clash live.table;
-        tells = clash-law c.args.target.now c.args.f live.table computed rules last;
-        is =
-            e ∙ ap (λ ts. merged ts c.into_func.result) (c.as_slice.ensures.value ∙ c.in_ok-taken.ensures ordered)
-            ∙ ap (λ (h : Function). merged (chosen (is_clash live.table) live.func) h) (c.into_func.ensures ∙ same)
-            ∙ ap (λ (h : Function). merged (chosen (is_clash live.table) h) c.args.f) same;
-      } in
-      (coloured-so, λ function once. kept-of c.args.target.now c.args.f g coloured-so (record { function = function; valid = valid }) once))
+    let coloured-so : IsColoured c.args.target.now c.args.f g = record {
+      clash = is_clash live.table;
+      tells = clash-law c.args.target.now c.args.f live.table computed rules last;
+      is =
+          e ∙ ap (λ ts. merged ts c.into_func.result) (c.as_slice.ensures.value ∙ c.in_ok-taken.ensures ordered)
+          ∙ ap (λ (h : Function). merged (chosen (is_clash live.table) live.func) h) (c.into_func.ensures ∙ same)
+          ∙ ap (λ (h : Function). merged (chosen (is_clash live.table) h) c.args.f) same;
+    } in
+    (coloured-so, λ function once. kept-of c.args.target.now c.args.f g coloured-so (record { function = function; valid = valid }) once))
     c.merged.ensures
