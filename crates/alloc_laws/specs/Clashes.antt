@@ -1,4 +1,2 @@
-pub mod Covered
-pub mod Laws
 pub mod Holds
 pub mod Facts

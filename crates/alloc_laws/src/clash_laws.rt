@@ -2,19 +2,6 @@
 //! meaning of the function says.
 
 ghost use Rattle.alloc_laws.specs.Clashes.Facts.{BasicLaw, ClashesLaw, EvictionLaw, FactsLaw};
-ghost use Rattle.alloc_laws.specs.Clashes.Laws.{CoveredLaw, OverlapLaw};
-
-/// The extents of a lane in a computed table cover exactly the points at which it is live or
-/// occupied.
-pub fn covered_law()
-    ensures { CoveredLaw }
-{}
-
-/// Two stretches of numbers that begin at points of one block meet exactly where they have a point
-/// in common.
-pub fn overlap_law()
-    ensures { OverlapLaw }
-{}
 
 /// A matrix whose table is computed and whose lists are what ranges hold tells exactly with which
 /// units and with which assigned ranges a range in an unreserved register would clash.

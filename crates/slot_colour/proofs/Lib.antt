@@ -4,3 +4,6 @@ pub mod Renaming
 pub mod Taken
 pub mod Chosen
 pub mod Homes
+pub mod Stored
+pub mod Numbered
+pub mod Clashing

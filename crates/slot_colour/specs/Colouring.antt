@@ -8,10 +8,7 @@ use Rattle.mir_func.specs.declared.func.Operand.TheVariants as operands
 use Rattle.mir_func.specs.declared.func.Instr.{Instr}
 use Rattle.mir_func.specs.declared.func.Block.{Block}
 use Rattle.mir_func.specs.Value.{Function}
-use Rattle.live_lanes.specs.declared.table.Table.{Table}
-use Rattle.live_lanes.specs.Doing.{IsComputed}
-use Rattle.live_lanes.specs.Looks.{InOrder}
-use Rattle.slot_colour.specs.Clashes.{is_clash}
+use Rattle.slot_colour.specs.Clashes.{TellsClashes}
 use Rattle.slot_colour.specs.declared.lines.Declared.{Declared}
 use Rattle.slot_colour.specs.declared.choice.Slot.{Slot}
 use Rattle.slot_colour.specs.Lines.{declared_in, kept_in}
@@ -114,8 +111,8 @@ merged taken f = record f {
 unfoldable pub coloured : (ℕ → ℕ → Bool) → Function → Function
 coloured clash f = merged (chosen clash f) f
 
--- the answer for a function, by a table of its live lanes whose points stand in order
+-- the answer for a function: it is coloured by a test that tells which slots clash
 pub record IsColoured (t : Target) (f g : Function) : Type 0 where
-  pub table : Table
-  pub computed : IsComputed t f table
-  pub is : InOrder table → g ≡ coloured (is_clash table) f
+  pub clash : ℕ → ℕ → Bool
+  pub tells : TellsClashes t f clash
+  pub is : g ≡ coloured clash f

@@ -6,6 +6,7 @@ pub mod answer_laws;
 mod choice;
 mod clashes;
 mod colour;
+pub mod laws;
 mod lines;
 mod renamed;
 

@@ -30,19 +30,18 @@ use Rattle.instr_effects.specs.Numbered.{number_in, reserved_units}
 use Rattle.instr_effects.proofs.Tables.{slice-numbers}
 use Rattle.instr_effects.proofs.Members.{member-none, in-either, left-in, right-in, flat-of, flat-in, map-of, map-in}
 use Rattle.live_laws.specs.Effects.Coded.{KeepsRules}
-use Rattle.live_laws.proofs.Effects.Blocks.{slice-member, member-slice, slice-map}
+use Rattle.live_laws.proofs.Effects.Blocks.{slice-member, slice-map}
 use Rattle.live_laws.proofs.Effects.Lists.{any-in, all-of}
 use Rattle.live_lanes.specs.declared.ask.extent.Extent.{Extent}
 use Rattle.live_lanes.specs.declared.ask.extent.Stretch.{Stretch}
 use Rattle.live_lanes.specs.declared.row.Cell.{Cell}
-use Rattle.live_lanes.specs.declared.row.Row.{Row}
 use Rattle.live_lanes.specs.declared.table.Table.{Table}
 use Rattle.live_lanes.specs.Table.{Numbers, find_cell}
 use Rattle.live_lanes.specs.Doing.{IsComputed}
 use Rattle.live_lanes.specs.Entered.{cells_of}
 use Rattle.live_lanes.specs.Extents.{cell_extents, first_rank, last_rank, stretch_of, is_met}
 use Rattle.live_lanes.specs.Held.{range_held}
-use Rattle.live_lanes.proofs.Cells.{both, both-left, both-right, is-found, found-block}
+use Rattle.live_lanes.proofs.Cells.{both, both-left, both-right, found-block}
 use Rattle.live_laws.proofs.Exact.Everywhere.{numbered-at}
 use Rattle.live_laws.proofs.Exact.Pointed.{points-law}
 use Rattle.interference.specs.declared.held.Held.{Held}
@@ -50,13 +49,14 @@ use Rattle.interference.specs.declared.matrix.Matrix.{Matrix}
 use Rattle.interference.specs.Clashes.{Points, register_in, holds, touches, is_taken_by, cell_points, lane_points, range_points, points_in, is_fixed_at, is_taken_at, is_fixed, is_in_way}
 use Rattle.evictor.specs.Cheapest.{UnitInTheWay, InTheWay, Facts, AreFacts}
 use Rattle.evictor.specs.Hints.{assignment_of}
-use Rattle.alloc_laws.specs.Clashes.Covered.{some_extents, extents_in, rank_of, LiesIn}
+use Rattle.point_laws.specs.Covered.{some_extents, extents_in, rank_of, LiesIn}
 use Rattle.alloc_laws.specs.Clashes.Holds.{lane_extents, IsIn, Holds}
 use Rattle.alloc_laws.specs.Clashes.Facts.{IsExact, ClashesLaw, FactsLaw}
 use Rattle.alloc_laws.proofs.Clashes.Free.{no-pieces}
-use Rattle.alloc_laws.proofs.Clashes.Pieces.{any-of}
-use Rattle.alloc_laws.proofs.Clashes.Covered.{piece-there}
-use Rattle.alloc_laws.proofs.Clashes.Points.{Placed, held, held-is, placed, held-extent, common, met-of, met-in, covers-all}
+use Rattle.point_laws.proofs.Pieces.{any-of}
+use Rattle.point_laws.proofs.Cells.{cell-found, found-member}
+use Rattle.point_laws.proofs.Covered.{piece-there}
+use Rattle.point_laws.proofs.Points.{Placed, held, held-is, placed, held-extent, common, met-of, met-in, covers-all}
 
 -- the extents of a lane, over its cells
 
@@ -67,22 +67,6 @@ module _ (x : Table) where
   abbrev lane_at : ℕ → List Cell
   lane_at n = cells_of x.rows.rows.items n
 
-  -- a cell of a row is found by its block
-  cell-found : (n : ℕ) (c : Cell) → Member c (lane_at n) → find_cell c.block (lane_at n) ≡ Some c
-  cell-found n c m = go (slice_get x.rows.rows.items n) m
-    where
-      go : (o : Option Row) → Member c (elim o [ None ↦ [] | Some r ↦ r.cells.items ]) → find_cell c.block (elim o [ None ↦ [] | Some r ↦ r.cells.items ]) ≡ Some c
-      go None j = absurd (member-none c j)
-      go (Some r) j = let k = member-slice c r.cells.items j in is-found r.cells.items k.0 c r.sorted k.1
-
-  found-member : (p : ℕ) (cs : List Cell) (c : Cell) → find_cell p cs ≡ Some c → Member c cs
-  found-member p [] c e = absurd (cc)
-  found-member p (d ∷ cs) c e = go (nat_eq d.block p) e (found-member p cs c)
-    where
-      go : (u : Bool) → cond u (Some d) (find_cell p cs) ≡ Some c → (find_cell p cs ≡ Some c → Member c cs) → Member c (d ∷ cs)
-      go true g ih = let same : d ≡ c = cc in subst (λ z. Member z (d ∷ cs)) same first
-      go false g ih = later (ih g)
-
   abbrev point_of : ℕ → ℕ → Extent → Points
   point_of u p e = record { unit = u; block = p; at = stretch_of slots e }
 
@@ -91,7 +75,7 @@ module _ (x : Table) where
   lane-of u n s m =
       let c = flat-of (cell_points slots u) s (lane_at n) m in
       let e = map-of (point_of u c.0.block) s (cell_extents c.0) c.2 in
-      (c.0.block, e.0, subst (λ o. Member e.0 (some_extents o)) (sym (cell-found n c.0 c.1)) e.1, e.2)
+      (c.0.block, e.0, subst (λ o. Member e.0 (some_extents o)) (sym (cell-found x.rows.rows.items n c.0 c.1)) e.1, e.2)
 
   lane-in : (u n p : ℕ) (e : Extent) → Member e (extents_in x n p) → Member (point_of u p e) (flat_map (cell_points slots u) (lane_at n))
   lane-in u n p e m = go (find_cell p (lane_at n)) refl m

@@ -34,9 +34,9 @@ use Rattle.live_lanes.specs.Reach.{is_never}
 use Rattle.live_lanes.specs.Ends.{row_end}
 use Rattle.live_lanes.proofs.Basics.{none-among, among-append}
 use Rattle.live_lanes.proofs.Numbered.{among-cases}
-use Rattle.alloc_laws.proofs.Clashes.Covered.{no-body, the-body, some_steps}
+use Rattle.point_laws.proofs.Covered.{no-body, the-body, some_steps}
 use Rattle.live_laws.proofs.Exact.Inside.{all}
-use Rattle.alloc_laws.proofs.Clashes.Pieces.{IsPiece, at_start, at_writing}
+use Rattle.point_laws.proofs.Pieces.{IsPiece, at_start, at_writing}
 
 listed : {X : Type 0} (x : X) (xs : List X) → Among x xs → Member x xs
 listed x [] a = absurd (none-among x a)

@@ -40,9 +40,9 @@ use Rattle.alloc_laws.specs.Clashes.Holds.{lane_extents, IsIn, Holds}
 use Rattle.alloc_laws.specs.Clashes.Facts.{IsExact}
 use Rattle.split_choose.specs.Offers.{HeldByOthers, TestsPoints}
 use Rattle.split_choose.specs.Seen.{home_of, rank_of, at_home, only, seen_held}
-use Rattle.alloc_laws.specs.Clashes.Covered.{extents_in, rank_of as covered_rank}
-use Rattle.alloc_laws.proofs.Clashes.Pieces.{any-of}
-use Rattle.alloc_laws.proofs.Clashes.Points.{Placed, held, held-is, held-extent, extent-held, met-of, met-in, points-of}
+use Rattle.point_laws.specs.Covered.{extents_in, rank_of as covered_rank}
+use Rattle.point_laws.proofs.Pieces.{any-of}
+use Rattle.point_laws.proofs.Points.{Placed, held, held-is, held-extent, extent-held, met-of, met-in, points-of}
 
 either-of : (a b : Bool) → (a || b) ≡ true → (a ≡ true) ⊎ (b ≡ true)
 either-of true b e = inl refl

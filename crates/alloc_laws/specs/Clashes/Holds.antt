@@ -10,7 +10,7 @@ use Rattle.live_lanes.specs.declared.table.Table.{Table}
 use Rattle.interference.specs.declared.held.Held.{Held}
 use Rattle.interference.specs.declared.matrix.Matrix.{Matrix}
 use Rattle.interference.specs.Clashes.{register_in, holds}
-use Rattle.alloc_laws.specs.Clashes.Covered.{extents_in}
+use Rattle.point_laws.specs.Covered.{extents_in}
 
 -- the extents of a lane, if there is one, in the block at a position
 abbrev pub lane_extents : Table → Option ℕ → ℕ → List Extent

@@ -1,22 +1,21 @@
-use Rattle.std.proofs.Common.{◌≡◌, ap, ◌∙◌}
+use Rattle.std.proofs.Common.{sym, subst}
 use Rattle.std.proofs.lemmas.Result.{IfOk-weaker}
-use Rattle.mir_func.specs.Value.{Function}
-use Rattle.slot_colour.specs.Clashes.{is_clash}
-use Rattle.slot_colour.specs.Colouring.{chosen, merged, coloured, IsColoured}
+use Rattle.mir_func.specs.Value.{Function, IsFunction}
+use Rattle.slot_laws.specs.Homes.{IsAllocated}
+use Rattle.slot_colour.specs.Colouring.{IsColoured}
+use Rattle.slot_colour.specs.Kept.{IsKept}
+use Rattle.slot_colour.proofs.Homes.{keeps-all}
 use Rattle.slot_colour.proofs.colour.colour_slots.Goals as goal
 
 pub returns : goal.returns
-unfolding coloured
 returns c =
-    let live = c.in_ok-live.live in
-    let same = c.in_ok-live.ensures.parts.1 in
-    IfOk-weaker c.merged.result (λ (g : Function). g ≡ merged c.as_slice.result.now c.into_func.result) (IsColoured c.args.target.now c.args.f)
-    (λ g e. record {
-      table = live.table;
-      computed = c.in_ok-live.ensures.exact;
-      is = λ ordered.
-          e ∙ ap (λ ts. merged ts c.into_func.result) (c.as_slice.ensures.value ∙ c.in_ok-taken.ensures ordered)
-          ∙ ap (λ (h : Function). merged (chosen (is_clash live.table) live.func) h) (c.into_func.ensures ∙ same)
-          ∙ ap (λ (h : Function). merged (chosen (is_clash live.table) h) c.args.f) same;
-    })
-    c.merged.ensures
+    let t = c.args.target.now in
+    let f = c.args.f in
+    record {
+      is = c.coloured.ensures;
+      kept = λ classes valid once.
+          let allocated : IsAllocated t f = record { function = subst (λ (g : Function). IsFunction g.blocks g.next_id) c.f.view_is c.f.invariant; valid = valid } in
+          IfOk-weaker c.coloured.result (IsColoured t f) (IsKept t f)
+          (λ g x. subst (IsKept t f) (sym x.is) (keeps-all t f x.clash allocated once (λ s r k. (x.tells s r).1 k)))
+          (c.coloured.ensures classes valid);
+    }

@@ -12,7 +12,7 @@ use Rattle.live_lanes.specs.declared.ask.extent.Stretch.{Stretch}
 use Rattle.live_lanes.specs.declared.table.Table.{Table}
 use Rattle.live_lanes.specs.Table.{Numbers}
 use Rattle.live_lanes.specs.Doing.{IsComputed}
-use Rattle.alloc_laws.specs.Clashes.Covered.{AreCovered, IsRank, LiesIn, rank_of}
+use Rattle.point_laws.specs.Covered.{AreCovered, IsRank, LiesIn, rank_of}
 
 -- a computed table's extents cover the points at which lanes are live or occupied
 abbrev pub CoveredLaw : Type 0

@@ -7,8 +7,8 @@ use Rattle.mir_func.specs.declared.func.Block.{Block}
 use Rattle.mir_meaning.specs.Points.{Point, block_points}
 use Rattle.live_lanes.specs.declared.ask.extent.Stretch.{Stretch}
 use Rattle.live_lanes.specs.Table.{Numbers}
-use Rattle.alloc_laws.specs.Clashes.Covered.{IsRank, LiesIn, rank_of}
-use Rattle.alloc_laws.specs.Clashes.Laws.{OverlapLaw}
+use Rattle.point_laws.specs.Covered.{IsRank, LiesIn, rank_of}
+use Rattle.point_laws.specs.Laws.{OverlapLaw}
 
 module _ (slots : Numbers) (b : Block) (s r : Stretch) where
   abbrev Shared : Type 0

@@ -40,9 +40,9 @@ use Rattle.live_lanes.proofs.Basics.{none-among}
 use Rattle.live_lanes.proofs.Held.{number-le}
 use Rattle.live_lanes.proofs.Numbered.{entry-piece, exit-piece, last-piece}
 use Rattle.live_laws.proofs.Exact.Inside.{all, inside-law}
-use Rattle.alloc_laws.specs.Clashes.Covered.{some_extents, extents_in, covers, IsRank}
-use Rattle.alloc_laws.specs.Clashes.Laws.{CoveredLaw}
-use Rattle.alloc_laws.proofs.Clashes.Pieces.{from_start, from_writing, IsPiece, at_start, at_writing, any-of, leading-ends, piece-held, held-piece}
+use Rattle.point_laws.specs.Covered.{some_extents, extents_in, covers, IsRank}
+use Rattle.point_laws.specs.Laws.{CoveredLaw}
+use Rattle.point_laws.proofs.Pieces.{from_start, from_writing, IsPiece, at_start, at_writing, any-of, leading-ends, piece-held, held-piece}
 
 -- the extents of a cell are those of its pieces
 

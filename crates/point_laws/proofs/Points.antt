@@ -35,10 +35,10 @@ use Rattle.live_laws.proofs.Exact.Coded.{place-same}
 use Rattle.live_laws.proofs.Exact.Everywhere.{spot-at, no-start, no-entry, no-exit}
 use Rattle.live_laws.proofs.Exact.Occupied.{occupied-law}
 use Rattle.live_laws.proofs.Exact.Spots.{Spot, spot}
-use Rattle.alloc_laws.specs.Clashes.Covered.{extents_in, covers, rank_of, IsRank, AreCovered, LiesIn}
-use Rattle.alloc_laws.proofs.Clashes.Covered.{covered-law}
-use Rattle.alloc_laws.proofs.Clashes.Overlap.{meet}
-use Rattle.alloc_laws.proofs.Clashes.Pieces.{any-of}
+use Rattle.point_laws.specs.Covered.{extents_in, covers, rank_of, IsRank, AreCovered, LiesIn}
+use Rattle.point_laws.proofs.Covered.{covered-law}
+use Rattle.point_laws.proofs.Overlap.{meet}
+use Rattle.point_laws.proofs.Pieces.{any-of}
 
 -- a number of a row that passes a test
 pub number-of : (test : ℕ → Bool) (a n : ℕ) → list_any test (numbers a n) ≡ true → (x : ℕ) × (a ≤ x) × (x < a + n) × (test x ≡ true)

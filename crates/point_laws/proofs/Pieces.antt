@@ -14,7 +14,7 @@ use Rattle.live_lanes.specs.Reach.{is_never, reaches, seen_at}
 use Rattle.live_lanes.specs.Held.{writes_at, held_at, hold_rank}
 use Rattle.live_lanes.proofs.Cells.{both, both-left, both-right}
 use Rattle.live_lanes.proofs.Held.{or-left, or-right, le-false, number-le, piece-more, piece-none, reached}
-use Rattle.alloc_laws.specs.Clashes.Covered.{covers}
+use Rattle.point_laws.specs.Covered.{covers}
 
 -- the points of the piece that begins with the block
 abbrev pub from_start : End → Extent
