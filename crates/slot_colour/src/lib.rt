@@ -4,9 +4,9 @@
 
 pub mod answer_laws;
 mod choice;
+pub mod clash_laws;
 mod clashes;
 mod colour;
-pub mod laws;
 mod lines;
 mod renamed;
 
