@@ -7,13 +7,13 @@ use Rattle.mir_func.specs.declared.func.Operand.TheVariants as operands
 use Rattle.mir_func.specs.declared.func.Instr.{Instr}
 use Rattle.mir_func.specs.declared.func.Block.{Block}
 use Rattle.mir_func.specs.Value.{Function}
-use Rattle.slot_laws.specs.Homes.{AreHomes, IsAllocated, block_moved, function_moved, instr_moved, slot_moved, spill_count}
+use Rattle.slot_laws.specs.Homes.{AreHomes, block_moved, function_moved, instr_moved, slot_moved, spill_count}
 use Rattle.slot_laws.proofs.Coloured.{moving-keeps-valid}
 use Rattle.slot_laws.proofs.Fewer.{moving-keeps-count}
 use Rattle.slot_laws.proofs.Refined.{moving-refines}
 use Rattle.slot_colour.specs.declared.choice.Slot.{Slot}
 use Rattle.slot_colour.specs.Lines.{kept_in}
-use Rattle.slot_colour.specs.Colouring.{chosen, coloured, home_of, is_gone, merged, renamed, renamed_block, renamed_instr, IsColoured}
+use Rattle.slot_colour.specs.Colouring.{chosen, coloured, home_of, is_gone, merged, renamed, renamed_block, renamed_instr}
 use Rattle.slot_colour.specs.Kept.{AreOnce, IsKept, KeepsAll, KeepsCount, NoticesClashes}
 use Rattle.slot_colour.proofs.Chosen.{home-apart, home-home, home-spills, home-stays}
 
@@ -71,7 +71,3 @@ keeps-all t f clash allocated once notices =
       forth = both.0;
       back = both.1;
     })
-
--- what is coloured by a test that tells which slots clash keeps all of the function
-pub kept-of : (t : Target) (f g : Function) → IsColoured t f g → IsAllocated t f → AreOnce f → IsKept t f g
-kept-of t f g is allocated once = subst (IsKept t f) (sym is.is) (keeps-all t f is.clash allocated once (λ s r w. (is.tells s r).1 w))

@@ -1,7 +1,6 @@
 //! The coloured function.
 
 ghost use Rattle.std.specs.Prelude.{◌≡◌, IfOk};
-ghost use Rattle.mir_func.specs.Value.{IsFunction};
 ghost use Rattle.mir_meaning.specs.declared.Form.TheVariants as forms;
 ghost use Rattle.mir_meaning.specs.Valid.{IsValid};
 ghost use Rattle.live_lanes.specs.Looks.{InOrder};
@@ -54,16 +53,25 @@ fn merged(alloc: Global, taken: &[Slot], f: Func) -> Result<Func, AllocError>
     })
 }
 
-/// The function, which is valid as an allocated one, with fewer spill slots or as many: slots are taken
-/// by rising number, and each becomes a member of the first kept slot whose line in the `stack` key is
-/// equal but for the number and with none of whose members it clashes; else it is kept. Two slots clash
-/// where at one point a lane of each is live or occupied. Where no spill slot is declared twice, the
-/// answer has no more spill slots, is valid, and does what the function does.
-pub fn colour_slots(alloc: Global, target: &Target, f: Func) -> Result<Func, AllocError>
-    ensures { AreClasses target.now f → IsValid target.now forms.Allocated f
-        → IfOk result (λ g. IsColoured target.now f g × (IsFunction f.blocks f.next_id → AreOnce f → IsKept target.now f g)) }
+/// The function coloured by the clashes that the table of its live lanes tells.
+fn coloured(alloc: Global, target: &Target, f: Func) -> Result<Func, AllocError>
+    ensures { AreClasses target.now f → IsValid target.now forms.Allocated f → IfOk result (IsColoured target.now f) }
 {
     let live = LiveFunc::compute(alloc, target, f)?;
     let taken = chosen(alloc, &live)?;
     merged(alloc, taken.as_slice(), live.into_func())
+}
+
+/// The function, which is valid as an allocated one, with fewer spill slots or as many: slots are taken
+/// by rising number, and each becomes a member of the first kept slot whose line in the `stack` key is
+/// equal but for the number and with none of whose members it clashes; else it is kept. Two slots clash
+/// where at one point a lane of each is live or occupied. Where each spill slot is declared by one line,
+/// what is answered is valid as an allocated function and does what the function did.
+pub fn colour_slots(alloc: Global, target: &Target, f: Func) -> Result<Func, AllocError>
+    ensures is { AreClasses target.now f → IsValid target.now forms.Allocated f → IfOk result (IsColoured target.now f) }
+    ensures kept { AreClasses target.now f → IsValid target.now forms.Allocated f → AreOnce f → IfOk result (IsKept target.now f) }
+{
+    // that ids are distinct is known once a field is read
+    let _next = f.next_id;
+    coloured(alloc, target, f)
 }

@@ -1,35 +1,21 @@
-use Rattle.std.proofs.Common.{◌≡◌, ap, ◌∙◌}
+use Rattle.std.proofs.Common.{sym, subst}
 use Rattle.std.proofs.lemmas.Result.{IfOk-weaker}
 use Rattle.mir_func.specs.Value.{Function, IsFunction}
-use Rattle.mir_meaning.specs.declared.Form.TheVariants as forms
-use Rattle.live_laws.proofs.Effects.Valid.{valid-law, ends}
-use Rattle.live_laws.proofs.Exact.Inside.{inside-law}
-use Rattle.slot_colour.specs.Clashes.{is_clash}
-use Rattle.slot_colour.specs.Colouring.{chosen, merged, coloured, IsColoured}
-use Rattle.slot_colour.specs.Kept.{AreOnce, IsKept}
-use Rattle.slot_colour.proofs.Clashing.{clash-law}
-use Rattle.slot_colour.proofs.Homes.{kept-of}
+use Rattle.slot_laws.specs.Homes.{IsAllocated}
+use Rattle.slot_colour.specs.Colouring.{IsColoured}
+use Rattle.slot_colour.specs.Kept.{IsKept}
+use Rattle.slot_colour.proofs.Homes.{keeps-all}
 use Rattle.slot_colour.proofs.colour.colour_slots.Goals as goal
 
 pub returns : goal.returns
-unfolding coloured
-returns c = λ classes valid.
-    let live = c.in_ok-live.live in
-    let same = c.in_ok-live.ensures.parts.1 in
-    let computed = c.in_ok-live.ensures.exact in
-    let rules = valid-law c.args.target.now forms.Allocated c.args.f valid.shape classes in
-    let last = ends c.args.target.now forms.Allocated c.args.f valid.shape in
-    let ordered = (inside-law c.args.target.now c.args.f live.table computed rules last).ordered in
-    IfOk-weaker c.merged.result (λ (g : Function). g ≡ merged c.as_slice.result.now c.into_func.result)
-    (λ (g : Function). IsColoured c.args.target.now c.args.f g × (IsFunction c.args.f.blocks c.args.f.next_id → AreOnce c.args.f → IsKept c.args.target.now c.args.f g))
-    (λ g e.
-    let coloured-so : IsColoured c.args.target.now c.args.f g = record {
-      clash = is_clash live.table;
-      tells = clash-law c.args.target.now c.args.f live.table computed rules last;
-      is =
-          e ∙ ap (λ ts. merged ts c.into_func.result) (c.as_slice.ensures.value ∙ c.in_ok-taken.ensures ordered)
-          ∙ ap (λ (h : Function). merged (chosen (is_clash live.table) live.func) h) (c.into_func.ensures ∙ same)
-          ∙ ap (λ (h : Function). merged (chosen (is_clash live.table) h) c.args.f) same;
-    } in
-    (coloured-so, λ function once. kept-of c.args.target.now c.args.f g coloured-so (record { function = function; valid = valid }) once))
-    c.merged.ensures
+returns c =
+    let t = c.args.target.now in
+    let f = c.args.f in
+    record {
+      is = c.coloured.ensures;
+      kept = λ classes valid once.
+          let allocated : IsAllocated t f = record { function = subst (λ (g : Function). IsFunction g.blocks g.next_id) c.f.view_is c.f.invariant; valid = valid } in
+          IfOk-weaker c.coloured.result (IsColoured t f) (IsKept t f)
+          (λ g x. subst (IsKept t f) (sym x.is) (keeps-all t f x.clash allocated once (λ s r k. (x.tells s r).1 k)))
+          (c.coloured.ensures classes valid);
+    }
