@@ -5,7 +5,9 @@
 //!   are printed of each: reading and printing alone;
 //! - `--pairs TARGET SOURCE ALLOCATED ..` asks the checker of allocations: of each pair of a source and an allocated
 //!   function, a document each, it prints `yes`, `no` and a place, or why the pair isn't asked (TARGET `-`: the
-//!   built-in target).
+//!   built-in target);
+//! - `--texts TARGET SOURCE ALLOCATED ..` prints of each such pair, without asking more, whether the allocated function
+//!   keeps the text of the source: `kept` or `lost`.
 #![tactic(auto)]
 
 use alloc_check::{Verdict, check_pair};
@@ -13,6 +15,7 @@ use anyhow::{Context, Result, bail};
 use machine_verify::{VerifyStop, verify_source};
 use mir_func::{Func, Valid};
 use mir_text::{Doc, TextStop, print_doc, read_doc};
+use source_text::keeps_text;
 use std::rt::HostRuntime;
 use std::{env, fs};
 use target_base::{Target, mini};
@@ -20,6 +23,15 @@ use target_desc::{TargetStop, read_target};
 
 /// The most bytes of a document.
 const LONGEST: usize = 4_194_304;
+
+/// What is asked of a pair of functions.
+#[derive(Clone, Copy, Debug, PartialEq, Eq)]
+enum Question {
+    /// The verdict of the checker of allocations.
+    Verdict,
+    /// Whether the text of the source is kept.
+    Text,
+}
 
 /// What the next word is.
 #[derive(Drop)]
@@ -31,11 +43,11 @@ enum Asked {
     /// A document's file.
     Document,
     /// The target of pairs.
-    PairTarget,
+    PairTarget(Question),
     /// A source over the target.
-    Source(Target),
+    Source(Question, Target),
     /// The allocated function of the source in this file.
-    Allocated(Target, String),
+    Allocated(Question, Target, String),
 }
 
 /// Reads a target file, and prints whether it is one.
@@ -116,12 +128,31 @@ fn tell_verdict(rt: &HostRuntime, target: &Target, f: Func, g: &Func) -> Result<
     Ok(())
 }
 
-/// Prints the verdict on the functions of two files.
-fn tell_pair(rt: &HostRuntime, target: &Target, source: &str, allocated: &str) -> Result<()> {
+/// Prints whether the second function keeps the text of the first.
+fn tell_text(rt: &HostRuntime, target: &Target, f: &Func, g: &Func) -> Result<()> {
+    if keeps_text(rt.alloc(), target, f, g)? {
+        println!(rt; "kept")?;
+    } else {
+        println!(rt; "lost")?;
+    }
+    Ok(())
+}
+
+/// Prints what is asked of the functions of two files.
+fn tell_pair(
+    rt: &HostRuntime,
+    question: Question,
+    target: &Target,
+    source: &str,
+    allocated: &str,
+) -> Result<()> {
     let f = function_of(rt, target, source)?;
     let g = function_of(rt, target, allocated)?;
     match (f, g) {
-        (Some(f), Some(g)) => tell_verdict(rt, target, f, &g),
+        (Some(f), Some(g)) => match question {
+            Question::Verdict => tell_verdict(rt, target, f, &g),
+            Question::Text => tell_text(rt, target, &f, &g),
+        },
         _ => {
             println!(rt; "no functions")?;
             Ok(())
@@ -134,7 +165,8 @@ fn group_of(word: &str) -> Option<Asked> {
     match word {
         "--targets" => Some(Asked::TargetFile),
         "--documents" => Some(Asked::Document),
-        "--pairs" => Some(Asked::PairTarget),
+        "--pairs" => Some(Asked::PairTarget(Question::Verdict)),
+        "--texts" => Some(Asked::PairTarget(Question::Text)),
         _ => None,
     }
 }
@@ -142,7 +174,7 @@ fn group_of(word: &str) -> Option<Asked> {
 /// Answers a word, and what the word behind it is.
 fn answered(rt: &HostRuntime, asked: Asked, word: String) -> Result<Asked> {
     match asked {
-        Asked::Group => bail!("the first word is --targets, --documents or --pairs"),
+        Asked::Group => bail!("the first word is --targets, --documents, --pairs or --texts"),
         Asked::TargetFile => {
             tell_target(rt, word.as_str())?;
             Ok(Asked::TargetFile)
@@ -151,11 +183,13 @@ fn answered(rt: &HostRuntime, asked: Asked, word: String) -> Result<Asked> {
             tell_document(rt, word.as_str())?;
             Ok(Asked::Document)
         }
-        Asked::PairTarget => Ok(Asked::Source(target_of(rt, word.as_str())?)),
-        Asked::Source(target) => Ok(Asked::Allocated(target, word)),
-        Asked::Allocated(target, source) => {
-            tell_pair(rt, &target, source.as_str(), word.as_str())?;
-            Ok(Asked::Source(target))
+        Asked::PairTarget(question) => {
+            Ok(Asked::Source(question, target_of(rt, word.as_str())?))
+        }
+        Asked::Source(question, target) => Ok(Asked::Allocated(question, target, word)),
+        Asked::Allocated(question, target, source) => {
+            tell_pair(rt, question, &target, source.as_str(), word.as_str())?;
+            Ok(Asked::Source(question, target))
         }
     }
 }
