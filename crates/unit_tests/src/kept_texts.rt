@@ -118,14 +118,13 @@ fn with(alloc: Global, text: &[u8], old: &[u8], new: &[u8]) -> Result<Vec<u8>, A
 }
 
 /// What PHI_ALLOCATED may not be: what stands in it, and what stands in its place.
-const CHANGES: [(&[u8], &[u8]); 22] = [
+const CHANGES: [(&[u8], &[u8]); 21] = [
     (
         b"stack:\n  - { id: 0, type: spill-slot, size: 4, alignment: 4 }\n",
         b"stack: []\n",
     ),
     (b"size: 4, alignment: 4", b"size: 3, alignment: 4"),
     (b"size: 4, alignment: 4", b"size: 2, alignment: 2"),
-    (b"size: 4, alignment: 4", b"size: 8, alignment: 8"),
     (b"size: 4, alignment: 4", b"size: 4, alignment: 8"),
     (b"id: 0, type: spill-slot", b"id: 00, type: spill-slot"),
     (b"type: spill-slot", b"name: '', type: spill-slot"),
@@ -161,8 +160,9 @@ const CHANGES: [(&[u8], &[u8]); 22] = [
     (b"  bb.2:\n    RET", b"  bb.2:\n    RET :: (tail)"),
 ];
 
-/// What else it may be.
-const FREE_CHANGES: [(&[u8], &[u8]); 4] = [
+/// What else it may be: a slot may be that of a wider class.
+const FREE_CHANGES: [(&[u8], &[u8]); 5] = [
+    (b"size: 4, alignment: 4", b"size: 8, alignment: 8"),
     (b", debug-location !2", b""),
     (
         b"SPILL32 $ecx, %stack.0, 0",
