@@ -5,3 +5,4 @@ pub mod Keys
 pub mod Slots
 pub mod Stored
 pub mod Keeps
+pub mod Laws

@@ -7,6 +7,7 @@ mod frames;
 mod instructions;
 mod keeps;
 mod keys;
+pub mod laws;
 mod slots;
 mod stored;
 
