@@ -1,6 +1,6 @@
 -- The key lines in which new slots are found.
 use Rattle.std.proofs.Common.{◌≡◌, ℕ, ◌-◌, Bool, true, false, List, [], ◌∷◌, ◌++◌, Option, Some, None, length, take, drop, map, refl, ap, sym, ◌∙◌, append_assoc, append-nil}
-use Rattle.std.specs.Prelude.{flat_map, option_and_then, if◌then◌else◌}
+use Rattle.std.specs.Prelude.{flat_map, if◌then◌else◌}
 use Rattle.std.proofs.lemmas.List.{take-append-drop}
 use Rattle.std.proofs.lemmas.Option.{none-some, same_Some, option_and_then_some, some_pair_parts}
 use Rattle.std.proofs.lemmas.Slice.Eq.{bytes_eq-Decides}
@@ -9,10 +9,9 @@ use Rattle.target_base.specs.declared.types.Target.{Target}
 use Rattle.mir_lines.specs.Bytes.{is_word, behind_word, before_word}
 use Rattle.mir_text.specs.Document.{lines}
 use Rattle.source_text.specs.Frames.{Object}
-use Rattle.source_text.specs.Keys.{parts_of, between, added}
-use Rattle.source_text.specs.Slots.{bytes_of, line_start, line_end, size_of, sizes_of, size_or, first_size, declared_slot, slots_behind, slots_in}
+use Rattle.source_text.specs.Keys.{parts_of}
+use Rattle.source_text.specs.Slots.{bytes_of, line_start, line_end, size_of, sizes_of, size_or, first_size, declared_slot, slots_behind}
 use Rattle.source_text.specs.Laws.{LawOfParts, line_of, AreDeclared, LawOfLines}
-use Rattle.source_text.specs.declared.slots.Size.{Size}
 use Rattle.source_text.specs.declared.slots.Slot.{Slot}
 
 behind-is : (word text rest : List ℕ) → behind_word word text ≡ Some rest → text ≡ word ++ rest

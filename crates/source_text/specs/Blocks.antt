@@ -1,5 +1,5 @@
 -- Which blocks of an allocated function keep what is printed of the source's.
-use Rattle.std.specs.Prelude.{Bool, true, false, ◌&&◌, ◌==◌, nat_eq, List, [], ◌∷◌}
+use Rattle.std.specs.Prelude.{Bool, true, false, ◌&&◌, nat_eq, List, [], ◌∷◌}
 use Rattle.target_base.specs.declared.types.Reg.{Reg}
 use Rattle.target_base.specs.declared.types.Target.{Target}
 use Rattle.target_base.specs.Storage.{same_numbers}

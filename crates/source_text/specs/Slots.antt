@@ -1,5 +1,5 @@
 -- The lines that declare new spill slots.
-use Rattle.std.specs.Prelude.{ℕ, Bool, cond, nat_le, ◌+◌, ◌/◌, sum, List, [], ◌∷◌, ◌++◌, map, Option, Some, None, option_and_then, codes}
+use Rattle.std.specs.Prelude.{ℕ, cond, nat_le, ◌+◌, ◌/◌, sum, List, [], ◌∷◌, ◌++◌, map, Option, Some, None, option_and_then, codes}
 use Rattle.std.specs.Fmt.{decimal}
 use Rattle.std.specs.Borrow.{Bor}
 use Rattle.target_base.specs.declared.types.ClassDesc.{ClassDesc}
