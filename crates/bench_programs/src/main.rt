@@ -6,6 +6,8 @@
 //! - `--pairs TARGET SOURCE ALLOCATED ..` asks the checker of allocations: of each pair of a source and an allocated
 //!   function, a document each, it prints `yes`, `no` and a place, or why the pair isn't asked (TARGET `-`: the
 //!   built-in target);
+//! - `--texts TARGET SOURCE ALLOCATED ..` prints of each such pair, without asking more, whether the allocated function
+//!   keeps the text of the source: `kept` or `lost`;
 //! - `--region TARGET FILE WORD..` makes the function of a document ready as before a run of the allocator; then a word
 //!   `V=R` assigns the range V to the register R, and a word `V` prints the region of least cost of the range V, by the
 //!   lines that the module `regions` says;
@@ -25,10 +27,20 @@ use alloc_check::{Verdict, check_pair};
 use anyhow::{Context, Result, bail};
 use mir_func::Func;
 use mir_text::{Doc, TextStop, print_doc, read_doc};
+use source_text::keeps_text;
 use std::rt::HostRuntime;
 use std::{env, fs};
 use target_base::{Target, mini};
 use target_desc::{TargetStop, read_target};
+
+/// What is asked of a pair of functions.
+#[derive(Clone, Copy, Debug, PartialEq, Eq)]
+enum Question {
+    /// The verdict of the checker of allocations.
+    Verdict,
+    /// Whether the text of the source is kept.
+    Text,
+}
 
 /// What the next word is.
 #[derive(Drop)]
@@ -40,11 +52,11 @@ enum Asked {
     /// A document's file.
     Document,
     /// The target of pairs.
-    PairTarget,
+    PairTarget(Question),
     /// A source over the target.
-    Source(Target),
+    Source(Question, Target),
     /// The allocated function of the source in this file.
-    Allocated(Target, String),
+    Allocated(Question, Target, String),
     /// The target of a function whose regions are asked for.
     RegionTarget,
     /// The function over the target.
@@ -97,12 +109,31 @@ fn tell_verdict(rt: &HostRuntime, target: &Target, f: Func, g: &Func) -> Result<
     Ok(())
 }
 
-/// Prints the verdict on the functions of two files.
-fn tell_pair(rt: &HostRuntime, target: &Target, source: &str, allocated: &str) -> Result<()> {
+/// Prints whether the second function keeps the text of the first.
+fn tell_text(rt: &HostRuntime, target: &Target, f: &Func, g: &Func) -> Result<()> {
+    if keeps_text(rt.alloc(), target, f, g)? {
+        println!(rt; "kept")?;
+    } else {
+        println!(rt; "lost")?;
+    }
+    Ok(())
+}
+
+/// Prints what is asked of the functions of two files.
+fn tell_pair(
+    rt: &HostRuntime,
+    question: Question,
+    target: &Target,
+    source: &str,
+    allocated: &str,
+) -> Result<()> {
     let f = function_of(rt, target, source)?;
     let g = function_of(rt, target, allocated)?;
     match (f, g) {
-        (Some(f), Some(g)) => tell_verdict(rt, target, f, &g),
+        (Some(f), Some(g)) => match question {
+            Question::Verdict => tell_verdict(rt, target, f, &g),
+            Question::Text => tell_text(rt, target, &f, &g),
+        },
         _ => {
             println!(rt; "no functions")?;
             Ok(())
@@ -135,7 +166,8 @@ fn group_of(rt: &HostRuntime, word: &str) -> Option<Asked> {
     match word {
         "--targets" => Some(Asked::TargetFile),
         "--documents" => Some(Asked::Document),
-        "--pairs" => Some(Asked::PairTarget),
+        "--pairs" => Some(Asked::PairTarget(Question::Verdict)),
+        "--texts" => Some(Asked::PairTarget(Question::Text)),
         "--region" => Some(Asked::RegionTarget),
         "--cut" => Some(Asked::Number(Vec::new(rt.alloc()))),
         _ => None,
@@ -146,7 +178,7 @@ fn group_of(rt: &HostRuntime, word: &str) -> Option<Asked> {
 fn answered(rt: &HostRuntime, asked: Asked, word: String) -> Result<Asked> {
     match asked {
         Asked::Group => bail!(
-            "a group begins with --targets, --documents, --pairs, --region or --cut"
+            "a group begins with --targets, --documents, --pairs, --texts, --region or --cut"
         ),
         Asked::TargetFile => {
             tell_target(rt, word.as_str())?;
@@ -156,11 +188,13 @@ fn answered(rt: &HostRuntime, asked: Asked, word: String) -> Result<Asked> {
             tell_document(rt, word.as_str())?;
             Ok(Asked::Document)
         }
-        Asked::PairTarget => Ok(Asked::Source(target_of(rt, word.as_str())?)),
-        Asked::Source(target) => Ok(Asked::Allocated(target, word)),
-        Asked::Allocated(target, source) => {
-            tell_pair(rt, &target, source.as_str(), word.as_str())?;
-            Ok(Asked::Source(target))
+        Asked::PairTarget(question) => {
+            Ok(Asked::Source(question, target_of(rt, word.as_str())?))
+        }
+        Asked::Source(question, target) => Ok(Asked::Allocated(question, target, word)),
+        Asked::Allocated(question, target, source) => {
+            tell_pair(rt, question, &target, source.as_str(), word.as_str())?;
+            Ok(Asked::Source(question, target))
         }
         Asked::RegionTarget => Ok(Asked::RegionFile(target_of(rt, word.as_str())?)),
         Asked::RegionFile(target) => Ok(Asked::Range(prepared_of(rt, &target, word.as_str())?)),

@@ -10,6 +10,8 @@ mod cuts;
 #[cfg(test)]
 mod function_texts;
 #[cfg(test)]
+mod kept_texts;
+#[cfg(test)]
 mod live;
 #[cfg(test)]
 mod regions;

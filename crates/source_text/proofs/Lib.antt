@@ -1,0 +1,3 @@
+pub mod Short
+pub mod Ends
+pub mod Spelled

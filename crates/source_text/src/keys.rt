@@ -1,0 +1,249 @@
+//! Where the key lines of a function have lines for new spill slots.
+
+ghost use Rattle.std.specs.Prelude.{◌≡◌, ◌++◌, codes, length, option_map, OnOk, IfOk};
+ghost use Rattle.mir_text.specs.Document.{lines};
+ghost use Rattle.source_text.specs.Keys.{begins_key, begins_stack, opened, before_key, from_key, stack_count, above_in_stack, below_in_stack, above_body, below_body, text_of, parts_of, between, added};
+
+use mir_lines::lexer::{before_word, behind_word, is, is_letter, skip, skip_back};
+use mir_text::document::next_line;
+use std::alloc::{AllocError, Global};
+use target_base::Bytes;
+
+/// Key lines in two parts: what stands above the lines of new slots, and below them.
+#[derive(Drop)]
+pub(crate) struct Parts {
+    /// What stands above.
+    pub above: Bytes,
+    /// What stands below.
+    pub below: Bytes,
+}
+
+/// Whether a line begins a key.
+fn begins_key(line: &[u8]) -> bool
+    ensures { result ≡ begins_key line.now }
+{
+    match line.first() {
+        None => false,
+        Some(b) => is_letter(*b),
+    }
+}
+
+/// Whether a line begins the key `stack`.
+fn begins_stack(line: &[u8]) -> bool
+    ensures { result ≡ begins_stack line.now }
+{
+    behind_word(line, b"stack:").is_some()
+}
+
+/// The first line of the key `stack` without `[]`.
+fn opened(line: &[u8]) -> &[u8]
+    ensures { result.now ≡ opened line.now }
+{
+    match behind_word(line, b"stack:") {
+        None => line,
+        Some(value) => {
+            if is(skip_back(skip(value)), b"[]") {
+                b"stack:"
+            } else {
+                line
+            }
+        }
+    }
+}
+
+/// How often the key `stack` stands among the lines of a text.
+fn stack_count(text: &[u8]) -> usize
+    ensures { result ≡ stack_count (lines text.now) }
+{
+    let mut count = 0usize;
+    let mut rest = text;
+    'lines: while !rest.is_empty() {
+        let (line, behind) = next_line(rest);
+        if begins_stack(line) {
+            count += 1;
+        }
+        rest = behind;
+    }
+    count
+}
+
+/// The number of lines of a text.
+fn line_count(text: &[u8]) -> usize
+    ensures { result ≡ length (lines text.now) }
+{
+    let mut count = 0usize;
+    let mut rest = text;
+    'lines: while !rest.is_empty() {
+        let (_, behind) = next_line(rest);
+        count += 1;
+        rest = behind;
+    }
+    count
+}
+
+/// Puts a line at the end of a text.
+fn push_line(text: &mut Bytes, line: &[u8]) -> Result<(), AllocError>
+    ensures { OnOk result (text.new ≡ text.old ++ (line.now ++ codes "\n")) }
+{
+    text.extend(line)?;
+    text.extend(b"\n")?;
+    Ok(())
+}
+
+/// Puts the lines of one text at the end of another.
+fn push_lines(text: &mut Bytes, more: &[u8]) -> Result<(), AllocError>
+    ensures { OnOk result (text.new ≡ text.old ++ text_of (lines more.now)) }
+{
+    let mut rest = more;
+    'lines: while !rest.is_empty() {
+        let (line, behind) = next_line(rest);
+        push_line(text, line)?;
+        rest = behind;
+    }
+    Ok(())
+}
+
+/// Puts the lines before the next key at the end of a text.
+fn push_before_key(text: &mut Bytes, more: &[u8]) -> Result<(), AllocError>
+    ensures { OnOk result (text.new ≡ text.old ++ text_of (before_key (lines more.now))) }
+{
+    let mut rest = more;
+    'lines: while !rest.is_empty() {
+        let (line, behind) = next_line(rest);
+        if begins_key(line) {
+            return Ok(());
+        }
+        push_line(text, line)?;
+        rest = behind;
+    }
+    Ok(())
+}
+
+/// Puts the lines from the next key on at the end of a text.
+fn push_from_key(text: &mut Bytes, more: &[u8]) -> Result<(), AllocError>
+    ensures { OnOk result (text.new ≡ text.old ++ text_of (from_key (lines more.now))) }
+{
+    let mut rest = more;
+    'lines: while !rest.is_empty() {
+        let (line, behind) = next_line(rest);
+        if begins_key(line) {
+            return push_lines(text, rest);
+        }
+        rest = behind;
+    }
+    Ok(())
+}
+
+/// Puts the lines above those of new slots at the end of a text, where the key `stack` stands.
+fn push_above_in_stack(text: &mut Bytes, head: &[u8]) -> Result<(), AllocError>
+    ensures { OnOk result (text.new ≡ text.old ++ text_of (above_in_stack (lines head.now))) }
+{
+    let mut left = stack_count(head);
+    let mut rest = head;
+    'lines: while !rest.is_empty() {
+        let (line, behind) = next_line(rest);
+        if begins_stack(line) {
+            left -= 1;
+            if left == 0 {
+                push_line(text, opened(line))?;
+                return push_before_key(text, behind);
+            }
+        }
+        push_line(text, line)?;
+        rest = behind;
+    }
+    Ok(())
+}
+
+/// Puts the lines below those of new slots at the end of a text, where the key `stack` stands.
+fn push_below_in_stack(text: &mut Bytes, head: &[u8]) -> Result<(), AllocError>
+    ensures { OnOk result (text.new ≡ text.old ++ text_of (below_in_stack (lines head.now))) }
+{
+    let mut left = stack_count(head);
+    let mut rest = head;
+    'lines: while !rest.is_empty() {
+        let (line, behind) = next_line(rest);
+        if begins_stack(line) {
+            left -= 1;
+            if left == 0 {
+                return push_from_key(text, behind);
+            }
+        }
+        rest = behind;
+    }
+    Ok(())
+}
+
+/// Puts the lines above those of new slots at the end of a text, where no key `stack` stands.
+fn push_above_body(text: &mut Bytes, head: &[u8]) -> Result<(), AllocError>
+    ensures { OnOk result (text.new ≡ text.old ++ text_of (above_body (lines head.now))) }
+{
+    let mut left = line_count(head);
+    let mut rest = head;
+    'lines: while !rest.is_empty() {
+        let (line, behind) = next_line(rest);
+        left -= 1;
+        if left == 0 {
+            return push_line(text, b"stack:");
+        }
+        push_line(text, line)?;
+        rest = behind;
+    }
+    Ok(())
+}
+
+/// Puts the lines below those of new slots at the end of a text, where no key `stack` stands.
+fn push_below_body(text: &mut Bytes, head: &[u8]) -> Result<(), AllocError>
+    ensures { OnOk result (text.new ≡ text.old ++ text_of (below_body (lines head.now))) }
+{
+    let mut left = line_count(head);
+    let mut rest = head;
+    'lines: while !rest.is_empty() {
+        let (line, behind) = next_line(rest);
+        left -= 1;
+        if left == 0 {
+            return push_line(text, line);
+        }
+        rest = behind;
+    }
+    Ok(())
+}
+
+/// Key lines in two parts.
+fn parts_of(alloc: Global, head: &[u8]) -> Result<Parts, AllocError>
+    ensures { IfOk result (λ p. p ≡ parts_of (lines head.now)) }
+{
+    let mut above = Bytes::new(alloc);
+    let mut below = Bytes::new(alloc);
+    if stack_count(head) == 0 {
+        push_above_body(&mut above, head)?;
+        push_below_body(&mut below, head)?;
+    } else {
+        push_above_in_stack(&mut above, head)?;
+        push_below_in_stack(&mut below, head)?;
+    }
+    Ok(Parts { above, below })
+}
+
+/// What stands between two parts in a text.
+fn between<'a>(parts: &Parts, text: &'a [u8]) -> Option<&'a [u8]>
+    ensures { option_map (λ r. r.now) result ≡ between parts.now text.now }
+{
+    match behind_word(text, parts.above.as_slice()) {
+        None => None,
+        Some(rest) => before_word(rest, parts.below.as_slice()),
+    }
+}
+
+/// What key lines have besides those of the source where lines of new slots go; None where the others
+/// aren't the source's.
+pub(crate) fn added<'a>(
+    alloc: Global,
+    source: &[u8],
+    head: &'a [u8],
+) -> Result<Option<&'a [u8]>, AllocError>
+    ensures { IfOk result (λ made. option_map (λ r. r.now) made ≡ added source.now head.now) }
+{
+    let parts = parts_of(alloc, source)?;
+    Ok(between(&parts, head))
+}
