@@ -45,7 +45,7 @@ MAKE
 }
 
 row() { # NAME INSTRUCTIONS COMPARED
-    echo "$1 $2 $3" | awk '{ printf "%-10s %16d %8.2f\n", $1, $2, $2 / $3 }'
+    echo "$1 $2 $3" | awk '{ printf "%-10s %16.0f %8.2f\n", $1, $2, $2 / $3 }'
 }
 
 printf '%-10s %16s %8s\n' what instructions ratio

@@ -34,7 +34,8 @@ for seed in "${@:-1}"; do
         theirs=$(of_one_round "$work/cut" "$nodes" "$arcs" "$seed")
         [ "$cost" = "$(cat "$work/out")" ] || { echo "bench/cut.sh: $cost, and $(cat "$work/out") by bench/cut.cc" >&2; exit 1; }
         echo "$nodes $arcs $seed $ours $theirs ${before:-0}" | awk '{
-            printf "%6d %6d %5d %12d %12d %6.2f %7s\n", $1, $2, $3, $4, $5, $4 / $5, $6 > 0 ? sprintf("%.2f", $4 / $6) : "" }'
+            growth = ($6 > 0) ? sprintf("%.2f", $4 / $6) : ""
+            printf "%6d %6d %5d %12.0f %12.0f %6.2f %7s\n", $1, $2, $3, $4, $5, $4 / $5, growth }'
         before=$ours
     done
 done
