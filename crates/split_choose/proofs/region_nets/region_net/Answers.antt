@@ -31,5 +31,5 @@ returns c =
     → c.as_slice.result.now ≡ touching_ids live.func v → AreSpansOf n v freqs c.in_ok-spans.spans.items in
     let Of : List Span → Type 0 = λ ss. AreSpansOf m v freqs ss in
     let are : AreSpansOf m v freqs spans = subst Of (sym c.as_slice-2.ensures.value) (subst Spans c.live-3.ensures c.in_ok-spans.ensures m refl finds points (c.as_slice.ensures.value ∙ ids)) in
-    (parents, (spans, (bundles, (are, λ few. h (ready m v parents freqs finds points spans are c.in_ok-bundles.ensures.earlier) few))))))
+    (parents, spans, bundles, are, λ few. h (ready m v parents freqs finds points spans are c.in_ok-bundles.ensures.earlier) few)))
     c.net_over.ensures
