@@ -134,7 +134,7 @@ lines_behind status.Memory lines old mid new a b = all_after old mid new [] [] a
 lines_behind status.NotYet lines old mid new a b = all_after old mid new [] [] a b
 
 trace_text : (how : Allocator) (t : Target) (d : Doc) (text : List ℕ) → IsTextOf (jobs.Trace how) t d text → text ≡ []
-trace_text how t (docs.Function before f) text is = is.1
+trace_text how t (docs.Function before f) text is = is.2
 trace_text how t (docs.Ir lines) text is = is
 trace_text how t (docs.Rest lines) text is = is
 

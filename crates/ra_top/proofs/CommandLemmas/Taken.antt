@@ -39,7 +39,7 @@ late t f s name status.WriteFault detail taken classes same named h = absurd h
 late t f s name status.Memory detail taken classes same named h = absurd h
 
 pub traces : {E : Type 0} (t : Target) (f s : Function) (name : List ℕ) (result : Result Answer E) → IsTaken t f → AreClasses t f → s ≡ f → name ≡ f.name → IfOk result (IsTakenAnswer t s name) → IfOk result (IsTraceAnswer t f)
-traces t f s name (Ok (answers.Text text)) taken classes same named h = (taken, h)
+traces t f s name (Ok (answers.Text text)) taken classes same named h = (taken, serving t f s taken classes same h.0, h.1)
 traces t f s name (Ok (answers.Last text)) taken classes same named h = absurd h
 traces t f s name (Ok (answers.Refused x detail)) taken classes same named h = late t f s name x detail taken classes same named h
 traces t f s name (Err e) taken classes same named h = tt
@@ -65,7 +65,7 @@ placed t f s name status.WriteFault detail taken classes same named h = absurd h
 placed t f s name status.Memory detail taken classes same named h = absurd h
 
 pub shows : {E : Type 0} (t : Target) (f s : Function) (name : List ℕ) (result : Result Answer E) → IsTaken t f → AreClasses t f → s ≡ f → name ≡ f.name → IfOk result (IsLiveAnswer t s name) → IfOk result (IsIntervalsAnswer t f)
-shows t f s name (Ok (answers.Text text)) taken classes same named h = (taken, subst (λ n. IsLiveText n text) named h)
+shows t f s name (Ok (answers.Text text)) taken classes same named h = (taken, serving t f s taken classes same h.0, subst (λ n. IsLiveText n text) named h.1)
 shows t f s name (Ok (answers.Last text)) taken classes same named h = absurd h
 shows t f s name (Ok (answers.Refused x detail)) taken classes same named h = placed t f s name x detail taken classes same named h
 shows t f s name (Err e) taken classes same named h = tt

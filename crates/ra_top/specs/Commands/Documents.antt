@@ -7,6 +7,7 @@ use Rattle.mir_meaning.specs.declared.Form.{Form}
 use Rattle.mir_meaning.specs.declared.Form.TheVariants as forms
 use Rattle.mir_meaning.specs.Codes.{meaning_of}
 use Rattle.mir_meaning.specs.Valid.{Fault, IsValid, FirstFault}
+use Rattle.mir_meaning.specs.Places.{PlacesServe}
 use Rattle.meaning.specs.Environment.{Environment}
 use Rattle.meaning.specs.Code.{run}
 use Rattle.mir_interp.specs.Seeds.{of_seed}
@@ -74,14 +75,16 @@ pub record IsRunOf (t : Target) (f : Function) (n seed : ℕ) (text : List ℕ) 
 abbrev pub IsLiveText : List ℕ → List ℕ → Type 0
 IsLiveText name text = (rest : List ℕ) × (text ≡ function_line name ++ rest)
 
--- what is written for a function document where the run of the program goes on: the printed allocation, that the
--- function is valid, what is live where in it, or nothing where `run` passes over it or `trace` only tells the watchers
+-- What is written for a function document where the run of the program goes on: the printed allocation, that the
+-- function is valid, what is live where in it, or nothing where `run` passes over it or `trace` only tells the watchers.
+-- For `intervals` and `trace`, as for `alloc`, the function is taken, and each of its places has few enough variables and
+-- admits a choice of registers.
 abbrev pub IsFunctionText : Job → Target → List ℕ → Function → List ℕ → Type 0
 IsFunctionText (jobs.Alloc how) t before f text = IsAllocation t before f text
 IsFunctionText (jobs.Verify form) t before f text = IsValidLine t form f text
 IsFunctionText (jobs.Run name n seed) t before f text = (is_named name.now f ≡ false) × (text ≡ [])
-IsFunctionText jobs.Intervals t before f text = IsTaken t f × IsLiveText f.name text
-IsFunctionText (jobs.Trace how) t before f text = IsTaken t f × (text ≡ [])
+IsFunctionText jobs.Intervals t before f text = IsTaken t f × PlacesServe t f × IsLiveText f.name text
+IsFunctionText (jobs.Trace how) t before f text = IsTaken t f × PlacesServe t f × (text ≡ [])
 
 -- what is written for a document that is no function: `alloc` writes its bytes, and the other commands nothing
 abbrev pub text_of_lines : Job → List ℕ → List ℕ
@@ -187,12 +190,12 @@ IsVerifyAnswer t form f (answers.Last text) = ⊥
 IsVerifyAnswer t form f (answers.Refused s detail) = VerifyRefuses t form f s detail
 
 abbrev pub IsTraceAnswer : Target → Function → Answer → Type 0
-IsTraceAnswer t f (answers.Text text) = IsTaken t f × (text ≡ [])
+IsTraceAnswer t f (answers.Text text) = IsTaken t f × PlacesServe t f × (text ≡ [])
 IsTraceAnswer t f (answers.Last text) = ⊥
 IsTraceAnswer t f (answers.Refused s detail) = AllocRefuses t f s detail
 
 abbrev pub IsIntervalsAnswer : Target → Function → Answer → Type 0
-IsIntervalsAnswer t f (answers.Text text) = IsTaken t f × IsLiveText f.name text
+IsIntervalsAnswer t f (answers.Text text) = IsTaken t f × PlacesServe t f × IsLiveText f.name text
 IsIntervalsAnswer t f (answers.Last text) = ⊥
 IsIntervalsAnswer t f (answers.Refused s detail) = IntervalsRefuses t f s detail
 
@@ -234,7 +237,7 @@ IsTakenRefusal t f name (answers.Refused s detail) = LateRefuses t f name s deta
 IsTakenRefusal t f name a = ⊥
 
 abbrev pub IsTakenAnswer : Target → Function → List ℕ → Answer → Type 0
-IsTakenAnswer t f name (answers.Text text) = text ≡ []
+IsTakenAnswer t f name (answers.Text text) = AllServe t f × (text ≡ [])
 IsTakenAnswer t f name (answers.Last text) = ⊥
 IsTakenAnswer t f name (answers.Refused s detail) = LateRefuses t f name s detail
 
@@ -249,6 +252,6 @@ IsPlaceRefusal t f name (answers.Refused s detail) = PlaceRefuses t f name s det
 IsPlaceRefusal t f name a = ⊥
 
 abbrev pub IsLiveAnswer : Target → Function → List ℕ → Answer → Type 0
-IsLiveAnswer t f name (answers.Text text) = IsLiveText name text
+IsLiveAnswer t f name (answers.Text text) = AllServe t f × IsLiveText name text
 IsLiveAnswer t f name (answers.Last text) = ⊥
 IsLiveAnswer t f name (answers.Refused s detail) = PlaceRefuses t f name s detail
