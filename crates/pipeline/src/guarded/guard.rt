@@ -1,5 +1,5 @@
-//! The guard: what is handed out of a function is only what the checker of allocations said Yes to, as
-//! it is read of the text that is printed.
+//! The guard: what is handed out of a function is only what the checker of allocations said Yes to and
+//! what keeps the source's text, as it is read of the text that is printed.
 
 ghost use Rattle.std.specs.Prelude.{IfOk, IfSome};
 ghost use Rattle.pipeline.specs.Guarded.Function.{IsGuarded, IsTextFor};
@@ -7,11 +7,13 @@ ghost use Rattle.pipeline.specs.Guarded.Function.{IsGuarded, IsTextFor};
 use crate::guarded::spelled::{Allocation, printed, same_text};
 use alloc_check::{Verdict, check_pair};
 use mir_func::{Func, Valid};
+use source_text::keeps_text;
 use std::alloc::{AllocError, Global};
 use target_base::Target;
 
-/// The allocated function with its text, where it has the source's name and the checker says Yes to
-/// what the text spells beside the source.
+/// The allocated function with its text, where it has the source's name, the checker says Yes to what
+/// the text spells beside the source, and that keeps the source's names, blocks, flags, tails, key lines
+/// and frame objects.
 #[tactic(auto, using(crate::proofs::GuardLemmas::Texts::same_texts))]
 pub(crate) fn guarded(
     alloc: Global,
@@ -29,7 +31,13 @@ pub(crate) fn guarded(
         return Ok(None);
     }
     match check_pair(alloc, target, source, &made.func)? {
-        Verdict::Yes => Ok(Some(made)),
+        Verdict::Yes => {
+            if keeps_text(alloc, target, &source.func, &made.func)? {
+                Ok(Some(made))
+            } else {
+                Ok(None)
+            }
+        }
         Verdict::No(_) => Ok(None),
     }
 }
