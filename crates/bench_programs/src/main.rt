@@ -42,31 +42,6 @@ enum Question {
     Text,
 }
 
-/// What the next word is.
-#[derive(Drop)]
-enum Asked {
-    /// The begin of a group.
-    Group,
-    /// A target file.
-    TargetFile,
-    /// A document's file.
-    Document,
-    /// The target of pairs.
-    PairTarget(Question),
-    /// A source over the target.
-    Source(Question, Target),
-    /// The allocated function of the source in this file.
-    Allocated(Question, Target, String),
-    /// The target of a function whose regions are asked for.
-    RegionTarget,
-    /// The function over the target.
-    RegionFile(Target),
-    /// A range of the function.
-    Range(Prepared),
-    /// The numbers that ask for a least cut, of which these are known.
-    Number(Vec<u64>),
-}
-
 /// Reads a target file, and prints whether it is one.
 fn tell_target(rt: &HostRuntime, path: &str) -> Result<()> {
     let bytes = fs::read(rt, path).context("reading the file")?;
@@ -151,68 +126,136 @@ fn tell_cut(rt: &HostRuntime, nodes: u64, arcs: u64, seed: u64, rounds: u64) -> 
     Ok(())
 }
 
-/// Adds a number of those that ask for a least cut. With the fourth it prints what that costs.
-fn add_number(rt: &HostRuntime, mut numbers: Vec<u64>, word: &str) -> Result<Asked> {
-    numbers.push(word.parse::<u64>().context("reading a number")?)?;
-    if let [nodes, arcs, seed, rounds] = numbers.as_slice() {
-        tell_cut(rt, *nodes, *arcs, *seed, *rounds)?;
-        return Ok(Asked::Group);
-    }
-    Ok(Asked::Number(numbers))
+/// The number that a word spells.
+fn number_of(word: &str) -> Result<u64> {
+    word.parse::<u64>().context("reading a number")
 }
 
-/// What a word that begins a group asks.
-fn group_of(rt: &HostRuntime, word: &str) -> Option<Asked> {
-    match word {
-        "--targets" => Some(Asked::TargetFile),
-        "--documents" => Some(Asked::Document),
-        "--pairs" => Some(Asked::PairTarget(Question::Verdict)),
-        "--texts" => Some(Asked::PairTarget(Question::Text)),
-        "--region" => Some(Asked::RegionTarget),
-        "--cut" => Some(Asked::Number(Vec::new(rt.alloc()))),
-        _ => None,
+/// Answers `--targets`.
+fn answer_targets(rt: &HostRuntime, paths: &[String]) -> Result<()> {
+    for path in paths {
+        tell_target(rt, path.as_str())?;
     }
+    Ok(())
 }
 
-/// Answers a word, and what the word behind it is.
-fn answered(rt: &HostRuntime, asked: Asked, word: String) -> Result<Asked> {
-    match asked {
-        Asked::Group => bail!(
+/// Answers `--documents`.
+fn answer_documents(rt: &HostRuntime, paths: &[String]) -> Result<()> {
+    for path in paths {
+        tell_document(rt, path.as_str())?;
+    }
+    Ok(())
+}
+
+/// Answers a question of each two files in turn.
+fn answer_files(
+    rt: &HostRuntime,
+    question: Question,
+    target: &Target,
+    paths: &[String],
+) -> Result<()> {
+    let mut source: Option<&String> = None;
+    for path in paths {
+        match source {
+            Some(first) => {
+                tell_pair(rt, question, target, first.as_str(), path.as_str())?;
+                source = None;
+            }
+            None => source = Some(path),
+        }
+    }
+    Ok(())
+}
+
+/// Answers `--pairs` and `--texts`.
+fn answer_pairs(rt: &HostRuntime, question: Question, words: &[String]) -> Result<()> {
+    let [target, paths @ ..] = words else {
+        bail!("a target is missing");
+    };
+    let target = target_of(rt, target.as_str())?;
+    answer_files(rt, question, &target, paths)
+}
+
+/// Answers `--region`.
+fn answer_regions(rt: &HostRuntime, words: &[String]) -> Result<()> {
+    let [target, file, asked @ ..] = words else {
+        bail!("a target and a file are missing");
+    };
+    let target = target_of(rt, target.as_str())?;
+    let mut prepared = prepared_of(rt, &target, file.as_str())?;
+    for word in asked {
+        answer_range(rt, &mut prepared, word.as_str())?;
+    }
+    Ok(())
+}
+
+/// Answers `--cut`.
+fn answer_cut(rt: &HostRuntime, words: &[String]) -> Result<()> {
+    let [nodes, arcs, seed, rounds] = words else {
+        bail!("a net is four numbers");
+    };
+    tell_cut(
+        rt,
+        number_of(nodes.as_str())?,
+        number_of(arcs.as_str())?,
+        number_of(seed.as_str())?,
+        number_of(rounds.as_str())?,
+    )
+}
+
+/// Answers a group: the word that begins it, and those behind it.
+fn answer_group(rt: &HostRuntime, kind: &str, words: &[String]) -> Result<()> {
+    match kind {
+        "--targets" => answer_targets(rt, words),
+        "--documents" => answer_documents(rt, words),
+        "--pairs" => answer_pairs(rt, Question::Verdict, words),
+        "--texts" => answer_pairs(rt, Question::Text, words),
+        "--region" => answer_regions(rt, words),
+        "--cut" => answer_cut(rt, words),
+        _ => bail!(
             "a group begins with --targets, --documents, --pairs, --texts, --region or --cut"
         ),
-        Asked::TargetFile => {
-            tell_target(rt, word.as_str())?;
-            Ok(Asked::TargetFile)
-        }
-        Asked::Document => {
-            tell_document(rt, word.as_str())?;
-            Ok(Asked::Document)
-        }
-        Asked::PairTarget(question) => {
-            Ok(Asked::Source(question, target_of(rt, word.as_str())?))
-        }
-        Asked::Source(question, target) => Ok(Asked::Allocated(question, target, word)),
-        Asked::Allocated(question, target, source) => {
-            tell_pair(rt, question, &target, source.as_str(), word.as_str())?;
-            Ok(Asked::Source(question, target))
-        }
-        Asked::RegionTarget => Ok(Asked::RegionFile(target_of(rt, word.as_str())?)),
-        Asked::RegionFile(target) => Ok(Asked::Range(prepared_of(rt, &target, word.as_str())?)),
-        Asked::Range(mut prepared) => {
-            answer_range(rt, &mut prepared, word.as_str())?;
-            Ok(Asked::Range(prepared))
-        }
-        Asked::Number(numbers) => add_number(rt, numbers, word.as_str()),
     }
+}
+
+/// Whether a word begins a group.
+fn begins_group(word: &str) -> bool {
+    word.starts_with("--")
+}
+
+/// The words behind this many, up to the next that begins a group.
+fn words_behind(words: &[String], count: usize) -> &[String] {
+    let (_, behind) = words.split_at(count.min(words.len()));
+    let length = behind
+        .iter()
+        .position(|word| begins_group(word.as_str()))
+        .unwrap_or(behind.len());
+    let (own, _) = behind.split_at(length.min(behind.len()));
+    own
+}
+
+/// Answers all groups in turn. Words before the first aren't looked at.
+fn answer_all(rt: &HostRuntime, words: &[String]) -> Result<()> {
+    let mut count: usize = 0;
+    for word in words {
+        count = count.saturating_add(1);
+        if begins_group(word.as_str()) {
+            answer_group(rt, word.as_str(), words_behind(words, count))?;
+        }
+    }
+    Ok(())
+}
+
+/// The words of the program.
+fn words_of(rt: &HostRuntime) -> Result<Vec<String>> {
+    let mut words = Vec::new(rt.alloc());
+    for word in env::args(rt)?.skip(1) {
+        words.push(word)?;
+    }
+    Ok(words)
 }
 
 fn main(rt: HostRuntime) -> Result<()> {
-    let mut asked = Asked::Group;
-    for word in env::args(&rt)?.skip(1) {
-        asked = match group_of(&rt, word.as_str()) {
-            Some(group) => group,
-            None => answered(&rt, asked, word)?,
-        };
-    }
-    Ok(())
+    let words = words_of(&rt)?;
+    answer_all(&rt, words.as_slice())
 }
