@@ -9,8 +9,8 @@ executable of `llra`. For each of COUNT seeds from SEED it makes one function as
 What a form of `alloc` wrote is then checked beside its source, together with wrong allocations that one edit each makes
 of it: registers swapped in an instruction, a spill or reload of another slot, an instruction dropped or doubled, an
 operand changed. `check` gets them all as one pair of files, so that it pairs too, and must answer what the model does;
-of the unedited pair it must say yes. It prints the first differences and counts, and ends with 1 where there is a
-difference."""
+of the unedited pair it must say yes. FORMS in the environment names other forms to ask in turn, with commas between
+them. It prints the first differences and counts, and ends with 1 where there is a difference."""
 import collections
 import os
 import random
@@ -28,7 +28,7 @@ from llra_ref import cli  # noqa: E402
 from llra_ref.faults import Stop  # noqa: E402
 
 FILES = [open(name, "rb").read() for name in sys.argv[5:]]
-FORMS = ["alloc colour", "alloc cut", "alloc basic", "trace cut", "trace basic"]
+FORMS = os.environ.get("FORMS", "alloc colour,alloc cut,alloc basic,trace cut,trace basic").split(",")
 EDITS = 6
 REGISTER = re.compile(rb"\$[\w.]+")
 

@@ -1,8 +1,11 @@
 -- What single steps of a run leave: words of the code's own clauses. What the top call promises (Told) uses none of them.
-use Rattle.std.specs.Prelude.{◌≡◌, ◌<◌, ◌≤◌, ◌+◌, ℕ, List, ◌++◌, Option, Some, Result, Ok, Err}
+use Rattle.std.specs.Prelude.{◌≡◌, ◌<◌, ◌≤◌, ◌+◌, ℕ, List, [], ◌++◌, Option, Some, IfSome, Result, Ok, Err}
 use Rattle.std.specs.Fmt.{decimal}
 use Rattle.target_base.specs.declared.types.Target.{Target}
 use Rattle.target_desc.specs.declared.fault.TargetFault.{TargetFault}
+use Rattle.mir_text.specs.declared.doc.Doc.{Doc}
+use Rattle.watchers.specs.declared.steps.Step.{Step as RunStep}
+use Rattle.pipeline.specs.Guarded.Told.{ToldPart}
 use Rattle.ra_top.specs.Devices.Device.{WritesPart, WritesAll}
 use Rattle.ra_top.specs.declared.commands.answer.Job.{Job}
 use Rattle.ra_top.specs.declared.ending.Ending.{Ending}
@@ -12,10 +15,13 @@ use Rattle.ra_top.specs.declared.commands.spot.Spot.{Spot}
 use Rattle.ra_top.specs.declared.commands.status.Status.{Status}
 use Rattle.ra_top.specs.declared.commands.status.Status.TheVariants as status
 use Rattle.ra_top.specs.Commands.Spot.{after, file_most}
-use Rattle.ra_top.specs.Commands.Answer.{IsText, IsLast, Refuses}
+use Rattle.ra_top.specs.Commands.Answer.{IsSpelled, IsText, IsLast, Refuses}
+use Rattle.ra_top.specs.Commands.Told.{ToldDoc}
 use Rattle.ra_top.specs.Commands.Documents.{IsEndText, end_status}
 use Rattle.ra_top.specs.Due.{IsHeld, IsUnfinished, AtEnd}
+use Rattle.ra_top.specs.Reading.{Behind}
 use Rattle.ra_top.specs.Told.{HasStatusCause, IsDueText, IsNextText}
+use Rattle.ra_top.specs.Watched.{IsUndone}
 
 -- of a document: its text is written
 pub record IsWritten (job : Job) (t : Target) (spot : Spot) (piece : List ℕ) (old new : Option (List ℕ)) : Type 0 where
@@ -84,6 +90,24 @@ pub record GoesOn (job : Job) (t : Target) (spot next : Spot) (text : List ℕ) 
 abbrev pub AfterDocument : Job → Target → Spot → Spot → List ℕ → Option (List ℕ) → List ℕ → Option (List ℕ) → Option (List ℕ) → Step → Type 0
 AfterDocument job t spot next text left chunk old new steps.More = GoesOn job t spot next text left chunk old new
 AfterDocument job t spot next text left chunk old new (steps.End e) = EndsHere job t spot text left old new e.status e.detail
+
+-- what `alloc` and `trace` told the watchers of a piece that was read; n and m are the number of the next function before
+-- and after
+abbrev pub ToldAtPiece : {W : Type 0} → (W → RunStep → W) → Target → Spot → List ℕ → ℕ → ℕ → List W → List W → Step → Type 0
+ToldAtPiece next t spot piece n m old new steps.More = (d : Doc) × IsSpelled t spot piece d × ToldDoc next d n m old new
+ToldAtPiece next t spot piece n m old new (steps.End e) = IsUndone e.status × ToldPart next old new
+
+-- what they told where a run ends with a status: with Done nothing, and nothing of the file is left
+abbrev pub ToldAtEnd : {W : Type 0} → (W → RunStep → W) → Option (List ℕ) → List ℕ → List W → List W → Status → Type 0
+ToldAtEnd next left chunk old new status.Done = IfSome left (λ l. chunk ++ l ≡ []) × (new ≡ old)
+ToldAtEnd next left chunk old new s = ToldPart next old new
+
+-- what they told of the next document, or where there is none; what is left of the file goes on from a chunk, before and
+-- after
+abbrev pub ToldStep : {W : Type 0} → (W → RunStep → W) → Target → Spot → Spot → Option (List ℕ) → List ℕ → Option (List ℕ) → List ℕ → ℕ → ℕ → List W → List W → Step → Type 0
+ToldStep next t spot behind left chunk now_left now_chunk n m old new steps.More =
+    (d : Doc) × IfSome left (λ l. Behind t spot behind (chunk ++ l) now_left now_chunk d) × ToldDoc next d n m old new
+ToldStep next t spot behind left chunk now_left now_chunk n m old new (steps.End e) = ToldAtEnd next left chunk old new e.status
 
 -- the faults that rose in a step
 abbrev pub HasStepCause : Step → ℕ → ℕ → ℕ → ℕ → Type 0

@@ -6,7 +6,7 @@ ghost use Rattle.ra_top.specs.Commands.Status.{line_of};
 ghost use Rattle.ra_top.specs.Commands.Documents.{tells};
 ghost use Rattle.ra_top.specs.Told.{HasStatusCause, DoesAll, DoesJobAll, DoesCheckAll, asks_anything, tells_words, IsTold, Streamed};
 ghost use Rattle.ra_top.specs.Commands.Told.{lines_of};
-ghost use Rattle.ra_top.specs.Watched.{ToldAs, ToldJob, ToldWords, is_trace, asks_trace, WritesLines};
+ghost use Rattle.ra_top.specs.Watched.{ToldAs, ToldJob, ToldWords, IfTells, is_trace, asks_trace, WritesLines};
 
 use crate::check::check;
 use crate::commands::status::write_line;
@@ -29,9 +29,10 @@ use watchers::Watcher;
 /// other. The output of a document is made whole before any of it is written; `check` writes at its
 /// end. After the first fault of `files` or `out` it calls neither again; a fault of `err` changes
 /// nothing. Every form of `alloc` and of `trace`, and `gen`, tell the watchers each step of each run, in
-/// order; the other commands leave them as they were. With Done each watcher was told all of these
-/// steps, and else a first part of them. With Done a form of `trace` has written the watchers' lines as
-/// they then stand.
+/// order; the other commands leave them as they were. With Done each watcher was told one run for each
+/// function of the file, in order, from the number 0 on, and else a first part of these steps. With
+/// Done a form of `trace` has written the watchers' lines as they then stand.
+#[tactic(auto, using(crate::proofs::Watched::words_told))]
 pub fn top<F: Files, O: Sink, E: Sink, W: Watcher>(
     alloc: Global,
     words: &[String],
@@ -136,7 +137,7 @@ fn over_file<F: Files, O: Sink, E: Sink, W: Watcher>(
     ensures does { DoesJobAll job.entry target.now file.now (F.contents files.old) (F.left files.new) (O.written out.old) (O.written out.new) (E.faults err.old) (E.faults err.new) (E.written err.old) (E.written err.new) result }
     ensures cause { HasStatusCause result (F.faults files.old) (F.faults files.new) (O.faults out.old) (O.faults out.new) }
     ensures leaves { tells job.entry ≡ false → watchers.new ≡ watchers.old }
-    ensures told { ToldJob W.next target.now (F.contents files.old target.now) watchers.old.items watchers.new.items result }
+    ensures told { IfTells job.entry (ToldJob W.next target.now (F.contents files.old target.now) (F.contents files.old file.now) watchers.old.items watchers.new.items result) }
     ensures traced { is_trace job.entry ≡ true → WritesLines (lines_of W.count W.text watchers.new.items) (O.written out.old) (O.written out.new) result }
 {
     match named_target(alloc, target, files) {
@@ -185,7 +186,7 @@ fn over_target<F: Files, O: Sink, W: Watcher>(
     ensures streamed { IfSome (F.contents files.old file.now) (λ bytes. Streamed job.entry target.now bytes (F.left files.new) (O.written out.old) (O.written out.new) result.status result.detail) }
     ensures cause { HasStatusCause result.status (F.faults files.old) (F.faults files.new) (O.faults out.old) (O.faults out.new) }
     ensures leaves { tells job.entry ≡ false → watchers.new ≡ watchers.old }
-    ensures told { ToldAs (W.next target.now) 0 watchers.old.items watchers.new.items result.status }
+    ensures told { tells job.entry ≡ true → ToldAs (W.next target.now) target.now (F.contents files.old file.now) watchers.old.items watchers.new.items result.status }
     ensures traced { is_trace job.entry ≡ true → WritesLines (lines_of W.count W.text watchers.new.items) (O.written out.old) (O.written out.new) result.status }
 {
     match files.start(file) {

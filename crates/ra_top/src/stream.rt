@@ -4,10 +4,10 @@ ghost use Rattle.std.specs.Prelude.{◌≡◌, ◌≤◌, ◌<◌, ◌+◌, ◌+
 ghost use Rattle.ra_top.specs.Devices.Pieces.{held_most};
 ghost use Rattle.ra_top.specs.Commands.Spot.{file_most, after};
 ghost use Rattle.ra_top.specs.Told.{HasStatusCause, Streamed};
-ghost use Rattle.ra_top.specs.Steps.{HasStepCause, AfterPiece, AfterDocument, Moves, Advances, IsFinished};
+ghost use Rattle.ra_top.specs.Steps.{HasStepCause, AfterPiece, AfterDocument, Moves, Advances, IsFinished, ToldAtPiece, ToldStep};
 ghost use Rattle.ra_top.specs.Commands.Documents.{tells, end_status};
 ghost use Rattle.ra_top.specs.Commands.Told.{lines_of};
-ghost use Rattle.ra_top.specs.Watched.{ToldAs, ToldStep, is_trace, WritesLines, TracesStep};
+ghost use Rattle.ra_top.specs.Watched.{ToldAs, is_trace, WritesLines, TracesStep};
 
 use crate::commands::{Answer, Job, Spot, Status, answer_at, end_status, end_text};
 use crate::devices::moves::{ReadStop, write_all};
@@ -46,7 +46,7 @@ fn treat<O: Sink, W: Watcher>(
     ensures moves { Moves spot.old piece.now spot.new result }
     ensures cause { HasStepCause result 0 0 (O.faults out.old) (O.faults out.new) }
     ensures leaves { tells job.entry ≡ false → watchers.new ≡ watchers.old }
-    ensures told { ToldStep (W.next target.now) number.old number.new watchers.old.items watchers.new.items result }
+    ensures told { tells job.entry ≡ true → ToldAtPiece (W.next target.now) target.now spot.old piece.now number.old number.new watchers.old.items watchers.new.items result }
 {
     match answer_at(alloc, job, target, *spot, piece, number, watchers) {
         Err(_) => Step::End(ends(alloc, Status::Memory)),
@@ -100,7 +100,7 @@ fn document<F: Files, O: Sink, W: Watcher>(
     ensures moves { Advances spot.old spot.new result }
     ensures cause { HasStepCause result (F.faults files.old) (F.faults files.new) (O.faults out.old) (O.faults out.new) }
     ensures leaves { tells job.entry ≡ false → watchers.new ≡ watchers.old }
-    ensures told { ToldStep (W.next target.now) number.old number.new watchers.old.items watchers.new.items result }
+    ensures told { tells job.entry ≡ true → ToldStep (W.next target.now) target.now spot.old spot.new (F.left files.old) chunk.old (F.left files.new) chunk.new number.old number.new watchers.old.items watchers.new.items result }
     ensures traced { is_trace job.entry ≡ true → TracesStep (lines_of W.count W.text watchers.new.items) (O.written out.old) (O.written out.new) result }
 {
     piece.clear();
@@ -139,7 +139,7 @@ pub fn stream<F: Files, O: Sink, W: Watcher>(
     ensures streamed { IfSome (F.left files.old) (λ file. Streamed job.entry target.now file (F.left files.new) (O.written out.old) (O.written out.new) result.status result.detail) }
     ensures cause { HasStatusCause result.status (F.faults files.old) (F.faults files.new) (O.faults out.old) (O.faults out.new) }
     ensures leaves { tells job.entry ≡ false → watchers.new ≡ watchers.old }
-    ensures told { ToldAs (W.next target.now) 0 watchers.old.items watchers.new.items result.status }
+    ensures told { tells job.entry ≡ true → ToldAs (W.next target.now) target.now (F.left files.old) watchers.old.items watchers.new.items result.status }
     ensures traced { is_trace job.entry ≡ true → WritesLines (lines_of W.count W.text watchers.new.items) (O.written out.old) (O.written out.new) result.status }
 {
     match Chunk::new(alloc) {
@@ -163,7 +163,7 @@ fn stream_chunks<F: Files, O: Sink, W: Watcher>(
     ensures streamed { IfSome (F.left files.old) (λ file. Streamed job.entry target.now file (F.left files.new) (O.written out.old) (O.written out.new) result.status result.detail) }
     ensures cause { HasStatusCause result.status (F.faults files.old) (F.faults files.new) (O.faults out.old) (O.faults out.new) }
     ensures leaves { tells job.entry ≡ false → watchers.new ≡ watchers.old }
-    ensures told { ToldAs (W.next target.now) 0 watchers.old.items watchers.new.items result.status }
+    ensures told { tells job.entry ≡ true → ToldAs (W.next target.now) target.now (F.left files.old) watchers.old.items watchers.new.items result.status }
     ensures traced { is_trace job.entry ≡ true → WritesLines (lines_of W.count W.text watchers.new.items) (O.written out.old) (O.written out.new) result.status }
 {
     let mut chunk = empty;

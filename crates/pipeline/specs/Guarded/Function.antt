@@ -25,11 +25,13 @@ pub record IsTaken (t : Target) (f : Function) : Type 0 where
   pub fits : passed_limit f ≡ None
   pub valid : IsValid t forms.Source f
 
--- A text is what is printed of a function alone; it spells g, and where it is longer than a document may be that is read,
--- it is what is printed of g. (`renamable` is printed and no reader keeps it.)
+-- A text is what is printed of a function alone with the key lines of g; it spells g, and where it is longer than a document
+-- may be that is read, it is what is printed of g. (`renamable` is printed and no reader keeps it; the keys `registers` and
+-- `liveins`, which a reader drops, aren't there.)
 pub record IsTextFor (t : Target) (g : Function) (text : List ℕ) : Type 0 where
   pub func : Function
   pub printed : text ≡ print_doc t (docs.Function [] func)
+  pub head : func.head ≡ g.head
   pub spells : length text ≤ 4194304 → Spells t false 1 text (docs.Function [] g)
   pub long : 4194304 < length text → func ≡ g
 

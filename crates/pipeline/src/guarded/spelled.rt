@@ -1,7 +1,7 @@
 //! What is printed of an allocated function is read again before the checker is asked: so what was
 //! checked is what the text says.
 
-ghost use Rattle.std.specs.Prelude.{◌≡◌, ◌≤◌, false, [], length, IfOk, IfSome};
+ghost use Rattle.std.specs.Prelude.{◌≡◌, ◌≤◌, true, false, [], length, IfOk, IfSome};
 ghost use Rattle.target_base.specs.Storage.{same_numbers};
 ghost use Rattle.mir_text.specs.declared.doc.Doc.TheVariants as docs;
 ghost use Rattle.mir_text.specs.Document.{Spells};
@@ -47,20 +47,37 @@ fn function_alone(doc: Doc) -> Option<Func>
     }
 }
 
-/// The function that a text spells alone, if it spells one.
-fn read_alone(alloc: Global, target: &Target, text: &[u8]) -> Result<Option<Func>, AllocError>
+/// The function that a text spells alone, if it spells one with these key lines.
+fn read_alone(
+    alloc: Global,
+    target: &Target,
+    text: &[u8],
+    head: &[u8],
+) -> Result<Option<Func>, AllocError>
     requires { length text.now ≤ 4194304 }
-    ensures { IfOk result (λ made. IfSome made (λ f. Spells target.now false 1 text.now (docs.Function [] f))) }
+    ensures spells { IfOk result (λ made. IfSome made (λ f. Spells target.now false 1 text.now (docs.Function [] f))) }
+    ensures head { IfOk result (λ made. IfSome made (λ f. same_numbers f.head head.now ≡ true)) }
 {
     match read_doc(alloc, target, false, 1, text) {
-        Ok(doc) => Ok(function_alone(doc)),
+        Ok(doc) => match function_alone(doc) {
+            Some(f) => {
+                if same_text(f.head.as_slice(), head) {
+                    Ok(Some(f))
+                } else {
+                    Ok(None)
+                }
+            }
+            None => Ok(None),
+        },
         Err(TextStop::Fault(_)) => Ok(None),
         Err(TextStop::Memory(e)) => Err(e),
     }
 }
 
 /// What is printed of a function, with the function that this spells: the function itself where the
-/// text is longer than a document may be that is read. None where it spells none.
+/// text is longer than a document may be that is read. None where it spells none, or one with other
+/// key lines: a reader drops the keys `registers` and `liveins`, which no answer has.
+#[tactic(auto, using(crate::proofs::GuardLemmas::Texts::same_texts))]
 pub(crate) fn printed(
     alloc: Global,
     target: &Target,
@@ -70,10 +87,13 @@ pub(crate) fn printed(
 {
     let doc = Doc::Function(Bytes::new(alloc), f);
     let text = print_doc(alloc, target, &doc)?;
+    let Doc::Function(_, f) = doc else {
+        return Ok(None);
+    };
     let func = if text.as_slice().len() > MOST_BYTES {
-        function_alone(doc)
+        Some(f)
     } else {
-        read_alone(alloc, target, text.as_slice())?
+        read_alone(alloc, target, text.as_slice(), f.head.as_slice())?
     };
     match func {
         Some(func) => Ok(Some(Allocation { func, text })),

@@ -1,58 +1,55 @@
--- Runs that watchers are told one after the other, and what they were told at an answer.
-use Rattle.std.proofs.Common.{◌≡◌, ℕ, List, [], ◌∷◌, ◌++◌, Result, Ok, Err, refl, sym, ◌∙◌, ap, subst, append_assoc, append-nil}
+-- What watchers were told of a document, and of one function behind others.
+use Rattle.std.proofs.Common.{◌≡◌, ℕ, ◌+◌, List, [], ◌∷◌, ◌++◌, length, Result, Ok, Err, sym, ◌∙◌, ap, subst, append_assoc, append-nil, arith}
 use Rattle.std.specs.Prelude.{IfOk}
+use Rattle.target_base.specs.declared.types.Target.{Target}
+use Rattle.mir_func.specs.Value.{Function}
+use Rattle.mir_text.specs.declared.doc.Doc.{Doc}
+use Rattle.mir_text.specs.declared.doc.Doc.TheVariants as docs
 use Rattle.watchers.specs.declared.steps.Step.{Step}
 use Rattle.watchers.specs.declared.steps.Step.TheVariants.{Begin}
 use Rattle.watchers.specs.Told.{AllTold}
-use Rattle.watchers.proofs.Runs.{none_told}
-use Rattle.pipeline.specs.Guarded.Told.{ToldRun, ToldPart}
-use Rattle.pipeline.proofs.GuardLemmas.Told.{all_joined, part_joined, part_of_all, part_of_none}
+use Rattle.pipeline.specs.Guarded.Told.{ToldPart}
+use Rattle.pipeline.proofs.GuardLemmas.Told.{all_joined, part_of_none, part_of_run}
 use Rattle.ra_top.specs.declared.commands.answer.Answer.{Answer}
 use Rattle.ra_top.specs.declared.commands.answer.Answer.TheVariants as answers
-use Rattle.ra_top.specs.Commands.Told.{next_number, steps_of, number_after, ToldRuns, ToldAnswer, ToldOne}
+use Rattle.ra_top.specs.declared.commands.spot.Spot.{Spot}
+use Rattle.ra_top.specs.Commands.Answer.{IsSpelled}
+use Rattle.ra_top.specs.Commands.Told.{steps_of, next_number, ToldDoc, ToldAnswer, ToldPiece, ToldOne}
 
-steps_joined : (n : ℕ) (xs ys : List (List Step)) → steps_of n (xs ++ ys) ≡ steps_of n xs ++ steps_of (number_after n xs) ys
-steps_joined n [] ys = refl
-steps_joined n (x ∷ xs) ys = ap (λ l. (Begin n ∷ x) ++ l) (steps_joined (next_number n) xs ys) ∙ sym (append_assoc (Begin n ∷ x) (steps_of (next_number n) xs) (steps_of (number_after (next_number n) xs) ys))
+steps_joined : (n : ℕ) (xs ys : List (List Step)) → steps_of n (xs ++ ys) ≡ steps_of n xs ++ steps_of (n + length xs) ys
+steps_joined n [] ys = let e : n ≡ n + 0 = omega arith in ap (λ k. steps_of k ys) e
+steps_joined n (x ∷ xs) ys =
+    let e : n + 1 + length xs ≡ n + length (x ∷ xs) = omega arith in
+    ap (λ l. (Begin n ∷ x) ++ l) (steps_joined (n + 1) xs ys ∙ ap (λ k. steps_of (n + 1) xs ++ steps_of k ys) e)
+    ∙ sym (append_assoc (Begin n ∷ x) (steps_of (n + 1) xs) (steps_of (n + length (x ∷ xs)) ys))
 
-number_joined : (n : ℕ) (xs ys : List (List Step)) → number_after n (xs ++ ys) ≡ number_after (number_after n xs) ys
-number_joined n [] ys = refl
-number_joined n (x ∷ xs) ys = number_joined (next_number n) xs ys
+-- the steps of one run more
+pub steps_more : (n : ℕ) (runs : List (List Step)) (run : List Step) → n ≡ length runs → steps_of 0 (runs ++ run ∷ []) ≡ steps_of 0 runs ++ (Begin n ∷ run)
+steps_more n runs run is =
+    let e : 0 + length runs ≡ n = omega (arith, is) in
+    steps_joined 0 runs (run ∷ []) ∙ ap (λ k. steps_of 0 runs ++ steps_of k (run ∷ [])) e ∙ ap (λ l. steps_of 0 runs ++ l) (append-nil (Begin n ∷ run))
 
 module _ {W : Type 0} (next : W → Step → W) where
-  -- no run was told
-  pub no_runs : (n m : ℕ) (old new : List W) → m ≡ n → new ≡ old → ToldRuns next n m old new
-  no_runs n m old new e same = ([], subst (AllTold next [] old) (sym same) (none_told next old), e)
+  -- runs were told, and then one more
+  pub run_more : (n : ℕ) (runs : List (List Step)) (run : List Step) (old now new : List W) → n ≡ length runs → AllTold next (steps_of 0 runs) old now → AllTold next (Begin n ∷ run) now new → AllTold next (steps_of 0 (runs ++ run ∷ [])) old new
+  run_more n runs run old now new is all more =
+      subst (λ l. AllTold next l old new) (sym (steps_more n runs run is)) (all_joined next old now new (steps_of 0 runs) (Begin n ∷ run) all more)
 
-  -- one run was told
-  pub one_run : (n m : ℕ) (old new : List W) → m ≡ next_number n → ToldRun next n old new → ToldRuns next n m old new
-  one_run n m old new e run = (run.0 ∷ [], subst (λ l. AllTold next l old new) (sym (append-nil (Begin n ∷ run.0))) run.1, e)
-
-  -- runs were told, and then others
-  pub runs_joined : (n k m : ℕ) (old now new : List W) → ToldRuns next n k old now → ToldRuns next k m now new → ToldRuns next n m old new
-  runs_joined n k m old now new a b = (
-    a.0 ++ b.0,
-    subst (λ l. AllTold next l old new) (sym (steps_joined n a.0 b.0)) (all_joined next old now new (steps_of n a.0) (steps_of (number_after n a.0) b.0) a.1 (subst (λ j. AllTold next (steps_of j b.0) now new) a.2 b.1)),
-    b.2 ∙ ap (λ j. number_after j b.0) a.2 ∙ sym (number_joined n a.0 b.0),
-  )
-
-  -- runs were told, and then a first part of some steps
-  pub runs_then_part : (n k : ℕ) (old now new : List W) → ToldRuns next n k old now → ToldPart next now new → ToldPart next old new
-  runs_then_part n k old now new a p = (steps_of n a.0 ++ p.0, part_joined next old now new (steps_of n a.0) p.0 a.1 p.1)
-
-  pub part_of_runs : (n m : ℕ) (old new : List W) → ToldRuns next n m old new → ToldPart next old new
-  part_of_runs n m old new a = part_of_all next old new (steps_of n a.0) a.1
+  pub part_of_doc : (d : Doc) (n m : ℕ) (old new : List W) → ToldDoc next d n m old new → ToldPart next old new
+  part_of_doc (docs.Function before f) n m old new told = part_of_run next n old new told.0
+  part_of_doc (docs.Ir lines) n m old new told = part_of_none next old new told.0
+  part_of_doc (docs.Rest lines) n m old new told = part_of_none next old new told.0
 
   -- one function was answered
-  pub answer_of_one : {E : Type 0} (r : Result Answer E) (n m : ℕ) (old new : List W) → m ≡ next_number n → IfOk r (ToldOne next n old new) → IfOk r (ToldAnswer next n m old new)
-  answer_of_one (Ok (answers.Text text)) n m old new e h = one_run n m old new e h
-  answer_of_one (Ok (answers.Last text)) n m old new e h = one_run n m old new e h
-  answer_of_one (Ok (answers.Refused s detail)) n m old new e h = h
-  answer_of_one (Err x) n m old new e h = tt
+  pub answer_of_one : {E : Type 0} (before : List ℕ) (f : Function) (r : Result Answer E) (n m : ℕ) (old new : List W) → m ≡ next_number n → IfOk r (ToldOne next n old new) → IfOk r (ToldAnswer next (docs.Function before f) n m old new)
+  answer_of_one before f (Ok (answers.Text text)) n m old new e h = (h, e)
+  answer_of_one before f (Ok (answers.Last text)) n m old new e h = (h, e)
+  answer_of_one before f (Ok (answers.Refused s detail)) n m old new e h = h
+  answer_of_one before f (Err x) n m old new e h = tt
 
-  -- nobody was told
-  pub answer_of_none : {E : Type 0} (r : Result Answer E) (n m : ℕ) (old new : List W) → m ≡ n → new ≡ old → IfOk r (ToldAnswer next n m old new)
-  answer_of_none (Ok (answers.Text text)) n m old new e same = no_runs n m old new e same
-  answer_of_none (Ok (answers.Last text)) n m old new e same = no_runs n m old new e same
-  answer_of_none (Ok (answers.Refused s detail)) n m old new e same = part_of_none next old new same
-  answer_of_none (Err x) n m old new e same = tt
+  -- the document of a piece was answered
+  pub answer_of_piece : {E : Type 0} (t : Target) (spot : Spot) (piece : List ℕ) (d : Doc) (r : Result Answer E) (n m : ℕ) (old new : List W) → IsSpelled t spot piece d → IfOk r (ToldAnswer next d n m old new) → IfOk r (ToldPiece next t spot piece n m old new)
+  answer_of_piece t spot piece d (Ok (answers.Text text)) n m old new is h = (d, is, h)
+  answer_of_piece t spot piece d (Ok (answers.Last text)) n m old new is h = (d, is, h)
+  answer_of_piece t spot piece d (Ok (answers.Refused s detail)) n m old new is h = h
+  answer_of_piece t spot piece d (Err x) n m old new is h = tt

@@ -1,38 +1,43 @@
 -- What watchers are told of the functions of a file, and the lines that they have to show for it.
 use Rattle.std.specs.Prelude.{◌≡◌, ℕ, ◌+◌, ◌-◌, ◌^◌, min, zero, suc, List, [], ◌∷◌, ◌++◌, codes}
 use Rattle.std.specs.List.{flat_map}
+use Rattle.target_base.specs.declared.types.Target.{Target}
+use Rattle.mir_text.specs.declared.doc.Doc.{Doc}
+use Rattle.mir_text.specs.declared.doc.Doc.TheVariants as docs
 use Rattle.watchers.specs.declared.steps.Step.{Step}
 use Rattle.watchers.specs.declared.steps.Step.TheVariants.{Begin}
-use Rattle.watchers.specs.Told.{AllTold}
 use Rattle.pipeline.specs.Guarded.Told.{ToldRun, ToldPart}
+use Rattle.ra_top.specs.declared.commands.spot.Spot.{Spot}
 use Rattle.ra_top.specs.declared.commands.answer.Job.{Job}
 use Rattle.ra_top.specs.declared.commands.answer.Job.TheVariants as jobs
 use Rattle.ra_top.specs.declared.commands.answer.Answer.{Answer}
 use Rattle.ra_top.specs.declared.commands.answer.Answer.TheVariants as answers
-
--- the number of the next function; the greatest one is given again and again
-abbrev pub next_number : ℕ → ℕ
-next_number n = min (n + 1) (2 ^ 32 - 1)
+use Rattle.ra_top.specs.Commands.Answer.{IsSpelled}
 
 -- the steps of runs, one run after the other, over functions that are numbered from n on: first of each that it begins
 abbrev pub steps_of : ℕ → List (List Step) → List Step
 steps_of n [] = []
-steps_of n (run ∷ runs) = (Begin n ∷ run) ++ steps_of (next_number n) runs
+steps_of n (run ∷ runs) = (Begin n ∷ run) ++ steps_of (n + 1) runs
 
--- the number of the function that follows on these
-abbrev pub number_after : ℕ → List (List Step) → ℕ
-number_after n [] = n
-number_after n (run ∷ runs) = number_after (next_number n) runs
+-- the number behind this one; the greatest is given again and again, and no file has so many functions
+abbrev pub next_number : ℕ → ℕ
+next_number n = min (n + 1) (2 ^ 32 - 1)
 
--- each watcher was told all steps of some runs, over functions that are numbered from n on; m is the number that follows
-abbrev pub ToldRuns : {W : Type 0} → (W → Step → W) → ℕ → ℕ → List W → List W → Type 0
-ToldRuns next n m old new = (runs : List (List Step)) × AllTold next (steps_of n runs) old new × (m ≡ number_after n runs)
+-- What `alloc` and `trace` told the watchers of a document, where n was the number of the next function, and m is it then:
+-- of a function one run over that number, and of another document nothing.
+abbrev pub ToldDoc : {W : Type 0} → (W → Step → W) → Doc → ℕ → ℕ → List W → List W → Type 0
+ToldDoc next (docs.Function before f) n m old new = ToldRun next n old new × (m ≡ next_number n)
+ToldDoc next d n m old new = (new ≡ old) × (m ≡ n)
 
--- what the watchers were told where there is this answer: all steps of some runs, and where it refuses each a first part
--- of one list of steps
-abbrev pub ToldAnswer : {W : Type 0} → (W → Step → W) → ℕ → ℕ → List W → List W → Answer → Type 0
-ToldAnswer next n m old new (answers.Refused s detail) = ToldPart next old new
-ToldAnswer next n m old new a = ToldRuns next n m old new
+-- the same where there is this answer; where it refuses, each watcher was told a first part of one list of steps
+abbrev pub ToldAnswer : {W : Type 0} → (W → Step → W) → Doc → ℕ → ℕ → List W → List W → Answer → Type 0
+ToldAnswer next d n m old new (answers.Refused s detail) = ToldPart next old new
+ToldAnswer next d n m old new a = ToldDoc next d n m old new
+
+-- the same of a piece, of the document that it spells
+abbrev pub ToldPiece : {W : Type 0} → (W → Step → W) → Target → Spot → List ℕ → ℕ → ℕ → List W → List W → Answer → Type 0
+ToldPiece next t spot piece n m old new (answers.Refused s detail) = ToldPart next old new
+ToldPiece next t spot piece n m old new a = (d : Doc) × IsSpelled t spot piece d × ToldDoc next d n m old new
 
 -- the same of the answer for one function of a number
 abbrev pub ToldOne : {W : Type 0} → (W → Step → W) → ℕ → List W → List W → Answer → Type 0

@@ -1,8 +1,8 @@
 //! What a command answers at a piece of a file.
 
-ghost use Rattle.std.specs.Prelude.{◌≡◌, ◌==◌, ◌≤◌, ◌+◌, IfOk, OnErr, length, Some, None, false};
+ghost use Rattle.std.specs.Prelude.{◌≡◌, ◌==◌, ◌≤◌, ◌+◌, IfOk, OnErr, length, Some, None, false, true};
 ghost use Rattle.pipeline.specs.Guarded.Told.{ToldPart};
-ghost use Rattle.ra_top.specs.Commands.Told.{ToldAnswer};
+ghost use Rattle.ra_top.specs.Commands.Told.{ToldPiece};
 ghost use Rattle.ra_top.specs.Commands.Spot.{file_most, length_fault};
 ghost use Rattle.ra_top.specs.Commands.Answer.{IsAnswer};
 ghost use Rattle.ra_top.specs.Commands.Documents.{end_status, IsEndText, tells};
@@ -59,8 +59,9 @@ pub fn end_status(job: Job) -> Status
 
 /// What is answered at a piece that begins at a spot; it may be 4,194,305 bytes long, which are the
 /// first ones of a longer piece. `number` is that of the next function that is allocated, and rises
-/// with it. The commands `alloc` and `trace` tell the watchers; the others leave them as they were. Each
-/// watcher is told all steps of the function's run, and a first part of them where it is refused.
+/// with it. The commands `alloc` and `trace` tell the watchers; the others leave them as they were. Of a
+/// function each watcher is told one run, and a first part of it where it is refused; of another
+/// document nothing.
 #[tactic(auto, using(crate::proofs::CommandLemmas::Refused::unspelled))]
 pub fn answer_at<W: Watcher>(
     alloc: Global,
@@ -75,7 +76,7 @@ pub fn answer_at<W: Watcher>(
     requires within { spot.offset ≤ file_most }
     ensures answer { IfOk result (λ a. IsAnswer job.entry target.now spot piece.now a) }
     ensures leaves { tells job.entry ≡ false → watchers.new ≡ watchers.old }
-    ensures told { IfOk result (ToldAnswer (W.next target.now) number.old number.new watchers.old.items watchers.new.items) }
+    ensures told { tells job.entry ≡ true → IfOk result (ToldPiece (W.next target.now) target.now spot piece.now number.old number.new watchers.old.items watchers.new.items) }
     ensures part { OnErr result (ToldPart (W.next target.now) watchers.old.items watchers.new.items) }
 {
     match doc_at(alloc, target, spot, piece) {

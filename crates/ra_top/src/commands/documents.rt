@@ -1,7 +1,8 @@
 //! What each command answers at a document.
 
-ghost use Rattle.std.specs.Prelude.{◌≡◌, ◌++◌, IfOk, OnErr, codes, false};
+ghost use Rattle.std.specs.Prelude.{◌≡◌, ◌++◌, IfOk, OnErr, codes, false, true};
 ghost use Rattle.machine_verify.specs.Lives.{FitsTarget};
+ghost use Rattle.mir_text.specs.declared.doc.Doc.TheVariants as docs;
 ghost use Rattle.pipeline.specs.Guarded.Function.{IfRefused};
 ghost use Rattle.pipeline.specs.Guarded.Told.{ToldPart};
 ghost use Rattle.ra_top.specs.Commands.Told as watched;
@@ -93,7 +94,7 @@ fn at_function<W: Watcher>(
     requires { FitsTarget target.now f }
     ensures answer { IfOk result (IsFunctionAnswer job.entry target.now before f) }
     ensures leaves { tells job.entry ≡ false → watchers.new ≡ watchers.old }
-    ensures told { IfOk result (ToldAnswer (W.next target.now) number.old number.new watchers.old.items watchers.new.items) }
+    ensures told { tells job.entry ≡ true → IfOk result (ToldAnswer (W.next target.now) (docs.Function before f) number.old number.new watchers.old.items watchers.new.items) }
     ensures part { OnErr result (ToldPart (W.next target.now) watchers.old.items watchers.new.items) }
 {
     match job {
@@ -134,7 +135,7 @@ pub fn at_document<W: Watcher>(
     requires { DocFits target.now doc }
     ensures answer { IfOk result (IsDocAnswer job.entry target.now doc) }
     ensures leaves { tells job.entry ≡ false → watchers.new ≡ watchers.old }
-    ensures told { IfOk result (ToldAnswer (W.next target.now) number.old number.new watchers.old.items watchers.new.items) }
+    ensures told { tells job.entry ≡ true → IfOk result (ToldAnswer (W.next target.now) doc number.old number.new watchers.old.items watchers.new.items) }
     ensures part { OnErr result (ToldPart (W.next target.now) watchers.old.items watchers.new.items) }
 {
     match doc {

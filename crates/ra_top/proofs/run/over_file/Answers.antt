@@ -1,5 +1,7 @@
+use Rattle.std.proofs.Common.{refl, inl}
 use Rattle.ra_top.proofs.Jobs.{does_over_target, does_refused}
-use Rattle.ra_top.proofs.Watched.{job_told}
+use Rattle.ra_top.specs.Watched.{ToldJob}
+use Rattle.ra_top.proofs.Watched.{undone, if_tells, job_told}
 use Rattle.ra_top.proofs.run.over_file.Goals as goal
 
 pub returns-in-Ok-clause-does : goal.returns-in-Ok-clause-does
@@ -8,7 +10,19 @@ returns-in-Ok-clause-does g c =
 
 pub returns-in-Ok-clause-told : goal.returns-in-Ok-clause-told
 returns-in-Ok-clause-told g c =
-    job_told g.W.Watcher.next c.in-Ok.read c.args.target.now (g.F.Files.contents c.args.files.now c.args.target.now) c.args.watchers.now.items c.over_target-ending.new.watchers.items c.over_target-ending.result.status _ c.in-Ok.ensures.ok c.tell-in-Ok.ensures.status c.over_target-ending.ensures.told
+    let text = g.F.Files.contents c.args.files.now c.args.target.now in
+    let file = g.F.Files.contents c.args.files.now c.args.file.now in
+    let old = c.args.watchers.now.items in
+    let new = c.over_target-ending.new.watchers.items in
+    if_tells c.args.job (ToldJob g.W.Watcher.next c.args.target.now text file old new c.tell-in-Ok.result)
+    (λ tells. job_told g.W.Watcher.next c.in-Ok.read c.args.target.now text (g.F.Files.contents c.named_target.new.files c.args.file.now) file old new c.over_target-ending.result.status c.tell-in-Ok.result
+    c.in-Ok.ensures.ok (c.in-Ok.ensures.contents c.args.file.now) c.tell-in-Ok.ensures.status (c.over_target-ending.ensures.told tells))
+
+pub returns-in-Err-clause-told : goal.returns-in-Err-clause-told
+returns-in-Err-clause-told g c =
+    let old = c.args.watchers.now.items in
+    if_tells c.args.job (ToldJob g.W.Watcher.next c.args.target.now (g.F.Files.contents c.args.files.now c.args.target.now) (g.F.Files.contents c.args.files.now c.args.file.now) old old c.tell.result)
+    (λ tells. inl (undone c.tell.result c.in-Err.ending.status c.tell.ensures.status c.in-Err.ensures.undone, refl))
 
 pub returns-in-Err-clause-does : goal.returns-in-Err-clause-does
 returns-in-Err-clause-does g c =

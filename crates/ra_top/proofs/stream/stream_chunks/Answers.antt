@@ -1,9 +1,8 @@
 use Rattle.std.proofs.Common.{◌≤◌, ◌+◌, [], refl, sym, subst, ◌∙◌, arith}
 use Rattle.ra_top.proofs.DeviceLemmas.Written.{all_after}
 use Rattle.ra_top.specs.Commands.Spot.{file_most}
-use Rattle.ra_top.proofs.CommandLemmas.Watched.{no_runs, runs_joined}
 use Rattle.ra_top.proofs.Nothing.{writes_none}
-use Rattle.ra_top.proofs.Watched.{as_behind, lines_behind}
+use Rattle.ra_top.proofs.Watched.{told_none, told_more, told_end, lines_behind}
 use Rattle.ra_top.proofs.Progress.{begins, goes_on, run_stops}
 use Rattle.ra_top.proofs.stream.stream_chunks.Goals as goal
 
@@ -15,7 +14,7 @@ documents-init g c = record {
   line = subst (λ s. s.line ≤ s.offset + 1) (sym c.first-spot.ensures) (omega arith);
   within = subst (λ s. s.offset ≤ file_most) (sym c.first-spot.ensures) (omega arith);
   leaves = λ e. refl;
-  told = no_runs (g.W.Watcher.next c.args.target.now) 0 0 c.args.watchers.now.items c.args.watchers.now.items refl refl;
+  told = λ e. told_none (g.W.Watcher.next c.args.target.now) c.args.target.now (g.F.Files.left c.args.files.now) c.first-spot.result c.args.empty c.args.watchers.now.items c.first-spot.ensures c.requires.empty;
   traced = λ e. writes_none (g.O.Sink.written c.args.out.now);
   progress = begins _ _ _ c.first-spot.result c.args.empty _ c.first-spot.ensures c.requires.empty;
 }
@@ -28,7 +27,10 @@ documents-preserved g c = record {
   line = c.in-More.ensures.moves.1;
   within = c.in-More.ensures.moves.2;
   leaves = λ e. c.in-More.ensures.leaves e ∙ c.documents.invariant.leaves e;
-  told = runs_joined (g.W.Watcher.next c.args.target.now) 0 c.documents.number c.document.new.number c.args.watchers.now.items c.documents.watchers.items c.document.new.watchers.items c.documents.invariant.told c.in-More.ensures.told;
+  told = λ e.
+      let more = c.in-More.ensures.told e in
+      told_more (g.W.Watcher.next c.args.target.now) c.args.target.now (g.F.Files.left c.args.files.now) c.documents.spot c.document.new.spot c.documents.chunk c.document.new.chunk (g.F.Files.left c.documents.files) (g.F.Files.left c.document.new.files) c.documents.number c.document.new.number c.args.watchers.now.items c.documents.watchers.items c.document.new.watchers.items more.0
+      c.in-More.ensures.moves.0 c.documents.invariant.within (c.documents.invariant.told e) more.1 more.2;
   traced = λ e. all_after _ _ _ [] [] (c.documents.invariant.traced e) (c.in-More.ensures.traced e);
   progress = goes_on _ _ _ c.documents.spot c.document.new.spot c.documents.chunk c.document.new.chunk _ _ _ _ _ c.documents.invariant.progress c.in-More.ensures.step;
 }
@@ -37,7 +39,9 @@ pub returns-in-End-clause-streamed : goal.returns-in-End-clause-streamed
 returns-in-End-clause-streamed g c = run_stops _ _ _ c.documents.spot c.documents.chunk _ _ _ _ _ c.in-End.ending.status c.in-End.ending.detail c.documents.invariant.progress c.in-End.ensures.step
 
 pub returns-in-End-clause-told : goal.returns-in-End-clause-told
-returns-in-End-clause-told g c = as_behind (g.W.Watcher.next c.args.target.now) c.in-End.ending.status 0 c.documents.number c.args.watchers.now.items c.documents.watchers.items c.document.new.watchers.items c.documents.invariant.told c.in-End.ensures.told
+returns-in-End-clause-told g c = λ e.
+    told_end (g.W.Watcher.next c.args.target.now) c.args.target.now (g.F.Files.left c.args.files.now) c.documents.spot c.documents.chunk (g.F.Files.left c.documents.files) c.documents.number c.args.watchers.now.items c.documents.watchers.items c.document.new.watchers.items c.in-End.ending.status
+    (c.documents.invariant.told e) (c.in-End.ensures.told e)
 
 pub returns-in-End-clause-traced : goal.returns-in-End-clause-traced
 returns-in-End-clause-traced g c = λ e. lines_behind c.in-End.ending.status _ _ _ _ (c.documents.invariant.traced e) (c.in-End.ensures.traced e)

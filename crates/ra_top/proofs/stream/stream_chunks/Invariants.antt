@@ -1,10 +1,10 @@
 use Rattle.std.proofs.Common.{◌≡◌, ℕ, ◌≤◌, ◌+◌, ◌-◌, List, [], false, true}
 use Rattle.ra_top.specs.Devices.Device.{WritesAll}
 use Rattle.ra_top.specs.Commands.Documents.{tells}
-use Rattle.ra_top.specs.Commands.Told.{ToldRuns}
 use Rattle.ra_top.specs.Commands.Spot.{file_most}
 use Rattle.ra_top.specs.Watched.{is_trace}
 use Rattle.ra_top.proofs.Progress.{Progresses}
+use Rattle.ra_top.proofs.Watched.{ToldSoFar}
 use Rattle.ra_top.proofs.stream.stream_chunks.Given as goal
 
 abbrev pub invariant-documents : goal.invariant-documents
@@ -15,7 +15,7 @@ invariant-documents g l = record {
   line : l.spot.line ≤ l.spot.offset + 1;
   within : l.spot.offset ≤ file_most;
   leaves : tells l.job ≡ false → l.watchers ≡ l.fn.watchers;
-  told : ToldRuns (g.W.Watcher.next l.target) 0 l.number l.fn.watchers.items l.watchers.items;
+  told : tells l.job ≡ true → ToldSoFar (g.W.Watcher.next l.target) l.target (g.F.Files.left l.fn.files) l.spot l.chunk (g.F.Files.left l.files) l.number l.fn.watchers.items l.watchers.items;
   traced : is_trace l.job ≡ true → WritesAll (g.O.Sink.written l.fn.out) (g.O.Sink.written l.out) [];
   progress : Progresses l.job l.target (g.F.Files.left l.fn.files) l.spot l.chunk (g.F.Files.left l.files) (g.O.Sink.written l.fn.out) (g.O.Sink.written l.out);
 }

@@ -2,39 +2,30 @@ use Rattle.std.proofs.Common.{refl, subst}
 use Rattle.std.specs.Prelude.{IfOk}
 use Rattle.pipeline.proofs.GuardLemmas.Told.{part_of_none, on_err}
 use Rattle.ra_top.specs.Commands.Told.{ToldOne}
-use Rattle.ra_top.proofs.CommandLemmas.Watched.{answer_of_one, answer_of_none}
+use Rattle.ra_top.proofs.CommandLemmas.Watched.{answer_of_one}
 use Rattle.ra_top.proofs.commands.documents.at_function.Goals as goal
 
 pub returns-in-Alloc-clause-told : goal.returns-in-Alloc-clause-told
-returns-in-Alloc-clause-told g c =
+returns-in-Alloc-clause-told g c = λ tells.
     let next = g.W.Watcher.next c.args.target.now in
     let old = c.args.watchers.now.items in
     let new = c.allocated_function.new.watchers.items in
-    answer_of_one next c.allocated_function.result c.args.number.now c.next-number.new.number old new c.next-number.ensures.next
+    answer_of_one next c.args.before c.args.f c.allocated_function.result c.args.number.now c.next-number.new.number old new c.next-number.ensures.next
     (subst (λ n. IfOk c.allocated_function.result (ToldOne next n old new)) c.next-number.ensures.now c.allocated_function.ensures.told)
 
 pub returns-in-Trace-clause-told : goal.returns-in-Trace-clause-told
-returns-in-Trace-clause-told g c =
+returns-in-Trace-clause-told g c = λ tells.
     let next = g.W.Watcher.next c.args.target.now in
     let old = c.args.watchers.now.items in
     let new = c.traced.new.watchers.items in
-    answer_of_one next c.traced.result c.args.number.now c.next.new.number old new c.next.ensures.next
+    answer_of_one next c.args.before c.args.f c.traced.result c.args.number.now c.next.new.number old new c.next.ensures.next
     (subst (λ n. IfOk c.traced.result (ToldOne next n old new)) c.next.ensures.now c.traced.ensures.told)
-
-pub returns-in-Verify-clause-told : goal.returns-in-Verify-clause-told
-returns-in-Verify-clause-told g c = answer_of_none (g.W.Watcher.next c.args.target.now) c.verified_function.result c.args.number.now c.args.number.now c.args.watchers.now.items c.args.watchers.now.items refl refl
 
 pub returns-in-Verify-clause-part : goal.returns-in-Verify-clause-part
 returns-in-Verify-clause-part g c = on_err c.verified_function.result (part_of_none (g.W.Watcher.next c.args.target.now) c.args.watchers.now.items c.args.watchers.now.items refl)
 
-pub returns-in-Run-clause-told : goal.returns-in-Run-clause-told
-returns-in-Run-clause-told g c = answer_of_none (g.W.Watcher.next c.args.target.now) c.at_named.result c.args.number.now c.args.number.now c.args.watchers.now.items c.args.watchers.now.items refl refl
-
 pub returns-in-Run-clause-part : goal.returns-in-Run-clause-part
 returns-in-Run-clause-part g c = on_err c.at_named.result (part_of_none (g.W.Watcher.next c.args.target.now) c.args.watchers.now.items c.args.watchers.now.items refl)
-
-pub returns-in-Intervals-clause-told : goal.returns-in-Intervals-clause-told
-returns-in-Intervals-clause-told g c = answer_of_none (g.W.Watcher.next c.args.target.now) c.intervals_of.result c.args.number.now c.args.number.now c.args.watchers.now.items c.args.watchers.now.items refl refl
 
 pub returns-in-Intervals-clause-part : goal.returns-in-Intervals-clause-part
 returns-in-Intervals-clause-part g c = on_err c.intervals_of.result (part_of_none (g.W.Watcher.next c.args.target.now) c.args.watchers.now.items c.args.watchers.now.items refl)
