@@ -87,7 +87,7 @@ pub(crate) fn printed(
 {
     let doc = Doc::Function(Bytes::new(alloc), f);
     let text = print_doc(alloc, target, &doc)?;
-    let Doc::Function(_, f) = doc else {
+    let Some(f) = function_alone(doc) else {
         return Ok(None);
     };
     let func = if text.as_slice().len() > MOST_BYTES {
