@@ -77,7 +77,7 @@ fn read_alone(
 /// What is printed of a function, with the function that this spells: the function itself where the
 /// text is longer than a document may be that is read. None where it spells none, or one with other
 /// key lines: a reader drops the keys `registers` and `liveins`, which no answer has.
-#[tactic(auto, using(crate::proofs::GuardLemmas::Texts::same_texts))]
+#[tactic(auto, using(crate::proofs::GuardLemmas::Texts::texts))]
 pub(crate) fn printed(
     alloc: Global,
     target: &Target,
@@ -90,12 +90,10 @@ pub(crate) fn printed(
     let Some(f) = function_alone(doc) else {
         return Ok(None);
     };
-    let func = if text.as_slice().len() > MOST_BYTES {
-        Some(f)
-    } else {
-        read_alone(alloc, target, text.as_slice(), f.head.as_slice())?
-    };
-    match func {
+    if text.as_slice().len() > MOST_BYTES {
+        return Ok(Some(Allocation { func: f, text }));
+    }
+    match read_alone(alloc, target, text.as_slice(), f.head.as_slice())? {
         Some(func) => Ok(Some(Allocation { func, text })),
         None => Ok(None),
     }
