@@ -11,19 +11,19 @@ use Rattle.meaning.specs.Perform.{condition_lane}
 use Rattle.mir_func.specs.declared.func.RegOp.{RegOp}
 use Rattle.mir_func.specs.declared.func.Operand.{Operand}
 use Rattle.mir_func.specs.Value.{Function}
-use Rattle.mir_func.specs.Binding.{as_register, registers, is_early_clobber, immediate_of}
+use Rattle.mir_func.specs.Binding.{Definition, as_register, registers, definitions, immediate_of}
 use Rattle.mir_meaning.specs.Registers.{numbers, operand_lanes, undefined_lanes}
-use Rattle.mir_meaning.specs.Items.{pick, preserves, result_writes, explicit_definitions, implicit_definitions}
+use Rattle.mir_meaning.specs.Items.{pick, preserves, implicit_definitions}
 use Rattle.instr_effects.specs.declared.owner.Owner.{Owner}
 use Rattle.instr_effects.specs.declared.owner.Owner.TheVariants as owners
 use Rattle.mir_meaning.specs.declared.writing.Writing.{Writing}
 use Rattle.instr_effects.specs.Owners.{owner_of, operand_owners}
-use Rattle.instr_effects.specs.Acts.{plain, acts_of, is_call, unpreserved, call_writes, counted_acts, use_owners, flag_owners, takes_some, tested_role, explicit_uses, implicit_uses, implicit_owners, counted_owners}
+use Rattle.instr_effects.specs.Acts.{plain, acts_of, result_acts, is_call, unpreserved, call_writes, counted_acts, use_owners, flag_owners, takes_some, tested_role, explicit_uses, implicit_uses, implicit_owners, counted_owners}
 use Rattle.instr_effects.specs.Steps.{Numbering, act_writing, act_writings, act_reading, act_readings}
 use Rattle.instr_effects.specs.Runs.{one_lane, one_writing, of_kind, unit_clobbered}
 use Rattle.instr_effects.proofs.Loops.{numbers_end}
 use Rattle.instr_effects.proofs.Operands.{picked, flag_none}
-use Rattle.instr_effects.proofs.Writes.{acts-result, acts-counted, acts-units, no_call}
+use Rattle.instr_effects.proofs.Writes.{acts-counted, acts-units, no_call}
 use Rattle.instr_effects.proofs.Runs.{unread}
 
 -- what comes of the register operands of a kind
@@ -105,52 +105,51 @@ module _ (t : Target) (num : Numbering) (os : List Operand) where
   call-unread e = refl
 
 -- a result that is computed was not moved
-pub result-unread : (t : Target) (f : Function) (num : Numbering) (early : Bool) (o : RegOp) → act_readings num (acts_of (result_writes t f early o)) ≡ []
+pub result-unread : (t : Target) (f : Function) (num : Numbering) (early : Bool) (o : RegOp) → act_readings num (result_acts t f early o) ≡ []
 result-unread t f num early o =
-    ap (act_readings num) (acts-result t f early o)
-    ∙ filter_map-append (act_reading num) (map (plain early) (operand_owners t f o)) (map (plain early) (map owner_of (undefined_lanes t f o)))
+    filter_map-append (act_reading num) (map (plain early) (operand_owners t f o)) (map (plain early) (map owner_of (undefined_lanes t f o)))
     ∙ ap₂ (λ x y. x ++ y) (unread num early (λ l. l) (operand_owners t f o)) (unread num early (λ l. l) (map owner_of (undefined_lanes t f o)))
 
 -- all that is written
 
 module _ (t : Target) (f : Function) (num : Numbering) (e : Effect) (rs : List Role) (os : List Operand) where
-  abbrev explicit-step : Bool → RegOp → List Writing
-  explicit-step early o = act_writings num (acts_of (result_writes t f early o))
+  abbrev explicit-step : Definition → List Writing
+  explicit-step d = act_writings num (result_acts t f d.0 d.1)
 
   abbrev implicit-step : RegOp → List Writing
   implicit-step o = act_writings num (map (plain false) (operand_owners t f o))
 
-  pub counted-writings : act_writings num (acts_of (counted_acts t f e rs os)) ≡ flat_map (of_kind (λ o. o.def && not o.implicit) (explicit-step (is_early_clobber rs))) os ++ (flat_map (of_kind (λ o. o.implicit && o.def) implicit-step) os ++ act_writings num (acts_of (call_writes t e os)))
+  pub counted-writings : act_writings num (acts_of (counted_acts t f e rs os)) ≡ flat_map explicit-step (definitions rs os) ++ (flat_map (of_kind (λ o. o.implicit && o.def) implicit-step) os ++ act_writings num (acts_of (call_writes t e os)))
   counted-writings =
-      let explicit = flat_map (λ o. acts_of (result_writes t f (is_early_clobber rs) o)) (explicit_definitions os) in
+      let explicit = flat_map (λ d. result_acts t f d.0 d.1) (definitions rs os) in
       let implicit = flat_map (λ o. map (plain false) (operand_owners t f o)) (implicit_definitions os) in
       let call = acts_of (call_writes t e os) in
       ap (act_writings num) (acts-counted t f e rs os)
       ∙ filter_map-append (act_writing num) explicit (implicit ++ call)
       ∙ ap (λ x. act_writings num explicit ++ x) (filter_map-append (act_writing num) implicit call)
       ∙ ap₂ (λ x y. x ++ (y ++ act_writings num call))
-      (part-flat (act_writing num) (λ o. acts_of (result_writes t f (is_early_clobber rs) o)) (explicit_definitions os) ∙ sym (each-flat (λ o. o.def && not o.implicit) (explicit-step (is_early_clobber rs)) os))
+      (part-flat (act_writing num) (λ d. result_acts t f d.0 d.1) (definitions rs os))
       (part-flat (act_writing num) (λ o. map (plain false) (operand_owners t f o)) (implicit_definitions os) ∙ ap (flat_map implicit-step) (filter-two (λ (o : RegOp). o.def) (λ (o : RegOp). o.implicit) (registers os)) ∙ sym (each-flat (λ o. o.implicit && o.def) implicit-step os))
 
-  pub written-in-parts : (early : Bool) (start a b c : List Writing) → early ≡ is_early_clobber rs → a ≡ start ++ flat_map (of_kind (λ o. o.def && not o.implicit) (explicit-step early)) os → b ≡ a ++ flat_map (of_kind (λ o. o.implicit && o.def) implicit-step) os → c ≡ b ++ act_writings num (acts_of (call_writes t e os)) → c ≡ start ++ act_writings num (acts_of (counted_acts t f e rs os))
-  written-in-parts early start a b c q x y z =
-      let one = flat_map (of_kind (λ o. o.def && not o.implicit) (explicit-step early)) os in
+  pub written-in-parts : (start a b c : List Writing) → a ≡ start ++ flat_map explicit-step (definitions rs os) → b ≡ a ++ flat_map (of_kind (λ o. o.implicit && o.def) implicit-step) os → c ≡ b ++ act_writings num (acts_of (call_writes t e os)) → c ≡ start ++ act_writings num (acts_of (counted_acts t f e rs os))
+  written-in-parts start a b c x y z =
+      let one = flat_map explicit-step (definitions rs os) in
       let two = flat_map (of_kind (λ o. o.implicit && o.def) implicit-step) os in
       let three = act_writings num (acts_of (call_writes t e os)) in
       z ∙ ap (λ u. u ++ three) (y ∙ ap (λ u. u ++ two) x) ∙ append_assoc (start ++ one) two three ∙ append_assoc start one (two ++ three)
-      ∙ ap (λ u. start ++ u) (ap (λ u. flat_map (of_kind (λ o. o.def && not o.implicit) (explicit-step u)) os ++ (two ++ three)) q ∙ sym counted-writings)
+      ∙ ap (λ u. start ++ u) (sym counted-writings)
 
   -- nothing that is written was moved there
   pub no_readings : act_readings num (acts_of (counted_acts t f e rs os)) ≡ []
   no_readings =
-      let explicit = flat_map (λ o. acts_of (result_writes t f (is_early_clobber rs) o)) (explicit_definitions os) in
+      let explicit = flat_map (λ d. result_acts t f d.0 d.1) (definitions rs os) in
       let implicit = flat_map (λ o. map (plain false) (operand_owners t f o)) (implicit_definitions os) in
       let call = acts_of (call_writes t e os) in
       ap (act_readings num) (acts-counted t f e rs os)
       ∙ filter_map-append (act_reading num) explicit (implicit ++ call)
       ∙ ap (λ x. act_readings num explicit ++ x) (filter_map-append (act_reading num) implicit call)
       ∙ ap₂ (λ x y. x ++ y)
-      (part-flat (act_reading num) (λ o. acts_of (result_writes t f (is_early_clobber rs) o)) (explicit_definitions os) ∙ nothing-flat (λ o. act_readings num (acts_of (result_writes t f (is_early_clobber rs) o))) (result-unread t f num (is_early_clobber rs)) (explicit_definitions os))
+      (part-flat (act_reading num) (λ d. result_acts t f d.0 d.1) (definitions rs os) ∙ nothing-flat (λ d. act_readings num (result_acts t f d.0 d.1)) (λ d. result-unread t f num d.0 d.1) (definitions rs os))
       (ap₂ (λ x y. x ++ y) (part-flat (act_reading num) (λ o. map (plain false) (operand_owners t f o)) (implicit_definitions os) ∙ nothing-flat (λ o. act_readings num (map (plain false) (operand_owners t f o))) (λ o. unread num false (λ l. l) (operand_owners t f o)) (implicit_definitions os)) (call-unread t num os e))
 
 -- all that is read

@@ -1,5 +1,5 @@
 -- A counted instruction is a plain step: it gives its lanes nothing that another lane held.
-use Rattle.std.proofs.Common.{◌≡◌, ◌<◌, ◌⊎◌, ℕ, zero, suc, ◌+◌, Bool, true, false, cond, not, ◌&&◌, List, [], ◌∷◌, ◌++◌, Option, Some, None, map, filter, filter_map, flat_map, length, refl, sym, ap, ◌∙◌, subst, inl, inr, ℤ, nat_abs, arith}
+use Rattle.std.proofs.Common.{◌≡◌, ◌<◌, ◌⊎◌, ℕ, zero, suc, ◌+◌, Bool, true, false, cond, not, ◌&&◌, List, [], ◌∷◌, ◌++◌, Option, Some, None, map, filter, filter_map, length, refl, sym, ap, ◌∙◌, subst, inl, inr, ℤ, nat_abs, arith}
 use Rattle.std.specs.Prelude.{option_map}
 use Rattle.std.specs.List.{cons_option, list_any}
 use Rattle.target_base.specs.declared.types.Effect.{Effect}
@@ -31,9 +31,9 @@ use Rattle.mir_func.specs.declared.func.Operand.TheVariants as operands
 use Rattle.mir_func.specs.declared.func.Instr.{Instr}
 use Rattle.mir_func.specs.declared.func.Block.{Block}
 use Rattle.mir_func.specs.Value.{Function}
-use Rattle.mir_func.specs.Binding.{registers, explicit_operands, implicit_registers, implicit_roles, roles_of, is_early_clobber, effect_of, passes, is_terminator, immediate_of}
+use Rattle.mir_func.specs.Binding.{registers, explicit_operands, implicit_registers, implicit_roles, roles_of, is_early_clobber, Definition, definitions, effect_of, passes, is_terminator, immediate_of}
 use Rattle.mir_meaning.specs.Registers.{numbers, operand_lanes, located_lanes, whole_lanes, undefined_lanes, use_sources, range_widths, is_reserved}
-use Rattle.mir_meaning.specs.Items.{write, undefined, computed, Value, value_of, values, use_value, flag_value, constant_value, computes_with_immediates, has_base, implicit_values, is_flags, pick, first_width, result_writes, counted_writes, implicit_writes, explicit_definitions, implicit_definitions, all_lanes, answered, unreserved, clobbered, kept, preserves, rest_of, defined_undef, silent_reads, silent_writes}
+use Rattle.mir_meaning.specs.Items.{write, undefined, computed, Value, value_of, values, use_value, flag_value, constant_value, computes_with_immediates, has_base, implicit_values, is_flags, pick, first_width, results, counted_writes, implicit_writes, explicit_definitions, implicit_definitions, all_lanes, answered, unreserved, clobbered, kept, preserves, rest_of, defined_undef, silent_reads, silent_writes}
 use Rattle.mir_meaning.specs.Codes.{item_of, effect_item, way, ways_out, target_of}
 use Rattle.mir_meaning.specs.Points.{point_item}
 use Rattle.mir_meaning.specs.Stands.{Tags}
@@ -41,6 +41,7 @@ use Rattle.instr_effects.specs.Owners.{fill_owner}
 use Rattle.instr_effects.specs.Acts.{counted_acts, call_writes, unpreserved, entered_writes, effect_acts, silent_acts}
 use Rattle.instr_effects.specs.Laws.{CountedLaw}
 use Rattle.instr_effects.specs.Stepping.{IsPlain, NamesTagged}
+use Rattle.instr_effects.proofs.Defined.{results-of, definition-of}
 use Rattle.instr_effects.proofs.Members.{member-none, member-cases, member-elim, left-in, right-in, in-either, flat-of, flat-in, filter-of, filter-in, map-of, map-in}
 
 -- the lane is written
@@ -98,14 +99,14 @@ module _ (t : Target) (f : Function) where
   lane-of-less : (p : RegOp → Bool) (os : List RegOp) (l : Lane) → LaneOf (filter p os) l → LaneOf os l
   lane-of-less p os l z = (z.0, (filter-of p z.0 os z.1).0, z.2)
 
-  fills-results : (early : Bool) (ds : List RegOp) → Fills (LaneOf ds) (flat_map (result_writes t f early) ds)
-  fills-results early ds w m =
-      let z = flat-of (result_writes t f early) w ds m in
-      go z.0 z.1 (in-either w (computed early 0 (operand_lanes t f z.0)) (undefined early (undefined_lanes t f z.0)) z.2)
+  fills-results : (n : ℕ) (rs : List Role) (os : List Operand) → Fills (LaneOf (explicit_definitions os)) (results t f n (definitions rs os))
+  fills-results n rs os w m =
+      let z = results-of t f n (definitions rs os) w m in
+      go z.0 z.1 (definition-of rs os z.0 z.2) (in-either w (computed z.0.0 z.1 (operand_lanes t f z.0.1)) (undefined z.0.0 (undefined_lanes t f z.0.1)) z.3)
     where
-      go : (d : RegOp) → Member d ds → Member w (computed early 0 (operand_lanes t f d)) ⊎ Member w (undefined early (undefined_lanes t f d)) → LaneOf ds w.lane × (fill_owner w.fill ≡ None)
-      go d k (inl j) = let y = of-computed early 0 w (operand_lanes t f d) j in ((d, k, inl y.0), y.1)
-      go d k (inr j) = let y = of-undefined early w (undefined_lanes t f d) j in ((d, k, inr y.0), y.1)
+      go : (d : Definition) (k : ℕ) → Member d.1 (explicit_definitions os) → Member w (computed d.0 k (operand_lanes t f d.1)) ⊎ Member w (undefined d.0 (undefined_lanes t f d.1)) → LaneOf (explicit_definitions os) w.lane × (fill_owner w.fill ≡ None)
+      go d k stands (inl j) = let y = of-computed d.0 k w (operand_lanes t f d.1) j in ((d.1, stands, inl y.0), y.1)
+      go d k stands (inr j) = let y = of-undefined d.0 w (undefined_lanes t f d.1) j in ((d.1, stands, inr y.0), y.1)
 
   all-of : (ds : List RegOp) (l : Lane) → Member l (all_lanes t f ds) → LaneOf ds l
   all-of ds l m = let z = flat-of (operand_lanes t f) l ds m in (z.0, z.1, inl z.2)
@@ -146,8 +147,8 @@ module _ (t : Target) (f : Function) where
 
   entered-named : (e : Effect) (rs : List Role) (os : List Operand) → Fills (LaneNamed os) (counted_acts t f e rs os)
   entered-named e rs os =
-      fills-join (LaneNamed os) (flat_map (result_writes t f (is_early_clobber rs)) (explicit_definitions os)) (undefined false (all_lanes t f (implicit_definitions os)) ++ call_writes t e os)
-      (λ w m. let z = fills-results (is_early_clobber rs) (explicit_definitions os) w m in (inl (lane-of-less (λ o. o.def && not o.implicit) (registers os) w.lane z.0), z.1))
+      fills-join (LaneNamed os) (results t f 0 (definitions rs os)) (undefined false (all_lanes t f (implicit_definitions os)) ++ call_writes t e os)
+      (λ w m. let z = fills-results 0 rs os w m in (inl (lane-of-less (λ o. o.def && not o.implicit) (registers os) w.lane z.0), z.1))
       (fills-join (LaneNamed os) (undefined false (all_lanes t f (implicit_definitions os))) (call_writes t e os) (fills-undefined (LaneNamed os) false (all_lanes t f (implicit_definitions os)) (implicit-named os)) (call e))
     where
       call : (e : Effect) → Fills (LaneNamed os) (call_writes t e os)
@@ -318,14 +319,14 @@ module _ (t : Target) (f : Function) where
     E = counted_acts t f e (roles_of t i) i.operands
 
     abbrev X : Writes
-    X = flat_map (result_writes t f (is_early_clobber (roles_of t i))) (explicit_definitions i.operands)
+    X = results t f 0 (definitions (roles_of t i) i.operands)
 
     named-tag : (l : Lane) → LaneNamed i.operands l → is_reserved t l ≡ false → (n : ℕ) × (tag l ≡ Some n)
     named-tag l (inl z) r = names.lanes z.0 l z.1 z.2 r
     named-tag l (inr z) r = let y = names.units z.0 z.1 (ap (is_reserved t) (sym z.2) ∙ r) in (y.0, ap tag z.2 ∙ y.1)
 
     covered-by : (w : Write) → Member w X ⊎ Member w (implicit_writes t f e (implicit_roles (roles_of t i)) i.operands) → LaneIn w.lane E × (fill_owner w.fill ≡ None)
-    covered-by w (inl m) = (lane-left w.lane X (undefined false (all_lanes t f (implicit_definitions i.operands)) ++ call_writes t e i.operands) (w, m, refl), (fills-results (is_early_clobber (roles_of t i)) (explicit_definitions i.operands) w m).1)
+    covered-by w (inl m) = (lane-left w.lane X (undefined false (all_lanes t f (implicit_definitions i.operands)) ++ call_writes t e i.operands) (w, m, refl), (fills-results 0 (roles_of t i) i.operands w m).1)
     covered-by w (inr m) =
         let z = implicit-covered e (implicit_roles (roles_of t i)) i.operands w m in
         (lane-right w.lane X (undefined false (all_lanes t f (implicit_definitions i.operands)) ++ call_writes t e i.operands) (go z.0), z.1)

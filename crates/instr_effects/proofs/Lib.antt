@@ -11,6 +11,7 @@ pub mod Readings
 pub mod Known
 pub mod MaskUnits
 pub mod Members
+pub mod Defined
 pub mod Plain
 pub mod CountedSteps
 pub mod ItemLemmas

@@ -11,7 +11,6 @@ use Rattle.meaning.specs.declared.types.Lane.TheVariants.{VirtualLane}
 use Rattle.mir_func.specs.declared.func.RegOp.{RegOp}
 use Rattle.mir_func.specs.Value.{Function}
 use Rattle.mir_meaning.specs.Registers.{unit_lanes, use_sources, undefined_lanes}
-use Rattle.mir_meaning.specs.Items.{result_writes}
 use Rattle.instr_effects.specs.declared.lanes.LaneTable.{LaneTable}
 use Rattle.instr_effects.specs.declared.acts.Act.{Act}
 use Rattle.instr_effects.specs.declared.owner.Owner.{Owner}
@@ -20,12 +19,11 @@ use Rattle.instr_effects.specs.Owners.{owner_of, source_owner, operand_owners}
 use Rattle.instr_effects.specs.Row.{lane_in}
 use Rattle.instr_effects.specs.Numbers.{unit_number_in, row_number_in}
 use Rattle.instr_effects.specs.Numbered.{number_in}
-use Rattle.instr_effects.specs.Acts.{plain, moved_acts, acts_of, use_owners, definition_acts}
+use Rattle.instr_effects.specs.Acts.{plain, moved_acts, result_acts, use_owners, definition_acts}
 use Rattle.instr_effects.specs.Steps.{Numbering, writing, act_writing, act_writings, act_reading, act_readings, is_unnumbered}
 use Rattle.instr_effects.specs.Runs.{Pair, one_lane, one_writing, one_move, one_kept}
 use Rattle.instr_effects.proofs.Loops.{get-same, gathered_more, gathered_all}
 use Rattle.instr_effects.proofs.Operands.{read_owners_of, given_owners_of}
-use Rattle.instr_effects.proofs.Writes.{acts-result}
 
 pub map_at : {X Y : Type 0} (f : X → Option Y) (xs : List X) (k : ℕ) → get_or (map f xs) k None ≡ elim (slice_get xs k) [ None ↦ None | Some x ↦ f x ]
 map_at f [] k = refl
@@ -185,10 +183,9 @@ module _ (num : Numbering) where
     pub read_none : o.undef ≡ true → filter_map num (use_owners t f o) ≡ []
     read_none e = ap (filter_map num) (read_owners_of t f o ∙ ap (λ b. cond b [] (operand_owners t f o)) e)
 
-    pub result_run : (early : Bool) → act_writings num (acts_of (result_writes t f early o)) ≡ flat_map (one_writing early) (map num (operand_owners t f o)) ++ flat_map (one_writing early) (map num (map owner_of (undefined_lanes t f o)))
+    pub result_run : (early : Bool) → act_writings num (result_acts t f early o) ≡ flat_map (one_writing early) (map num (operand_owners t f o)) ++ flat_map (one_writing early) (map num (map owner_of (undefined_lanes t f o)))
     result_run early =
-        ap (act_writings num) (acts-result t f early o)
-        ∙ filter_map-append (act_writing num) (map (plain early) (operand_owners t f o)) (map (plain early) (map owner_of (undefined_lanes t f o)))
+        filter_map-append (act_writing num) (map (plain early) (operand_owners t f o)) (map (plain early) (map owner_of (undefined_lanes t f o)))
         ∙ ap₂ (λ x y. x ++ y) (written early (operand_owners t f o)) (written early (map owner_of (undefined_lanes t f o)))
 
     pub define_writings : (early : Bool) (ss : List (Option Owner)) → act_writings num (definition_acts t f early o ss) ≡ flat_map (one_move early) (zip (map num (operand_owners t f o)) (map (option_and_then num) ss)) ++ flat_map (one_writing early) (map num (map owner_of (undefined_lanes t f o)))

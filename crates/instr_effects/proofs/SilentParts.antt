@@ -11,7 +11,7 @@ use Rattle.mir_func.specs.declared.func.Operand.TheVariants as operands
 use Rattle.target_base.specs.declared.types.IndexId.{IndexId}
 use Rattle.mir_func.specs.Value.{Function}
 use Rattle.mir_meaning.specs.Registers.{numbers, use_sources, undefined_lanes}
-use Rattle.mir_meaning.specs.Items.{copied, defined_undef, given_constant, reloaded, result_writes, silent_reads, uses}
+use Rattle.mir_meaning.specs.Items.{copied, defined_undef, given_constant, reloaded, silent_reads, uses}
 use Rattle.instr_effects.specs.declared.lanes.LaneTable.{LaneTable}
 use Rattle.instr_effects.specs.declared.owner.Owner.TheVariants as owners
 use Rattle.instr_effects.specs.declared.row.Lanes.{Lanes}
@@ -19,7 +19,7 @@ use Rattle.instr_effects.specs.Row.{lane_in}
 use Rattle.instr_effects.specs.Numbers.{row_number_in}
 use Rattle.instr_effects.specs.Numbered.{number_in}
 use Rattle.instr_effects.specs.Owners.{owner_of, source_owner, operand_owners}
-use Rattle.instr_effects.specs.Acts.{plain, acts_of, use_owners, read_owners, is_constant, slot_numbers, filled_whole, stored}
+use Rattle.instr_effects.specs.Acts.{plain, acts_of, result_acts, use_owners, read_owners, is_constant, slot_numbers, filled_whole, stored}
 use Rattle.mir_func.specs.Binding.{register_at, slot_at, puts_together}
 use Rattle.mir_meaning.specs.declared.writing.Writing.{Writing}
 use Rattle.instr_effects.specs.Steps.{Numbering, act_writings, act_readings}
@@ -56,7 +56,7 @@ module _ (t : Target) (f : Function) (num : Numbering) where
   copy_readings os d s e g = ap (act_readings num) (copied_acts t f os d s e g) ∙ define_readings num t f d false (map source_owner (use_sources t f s))
 
   -- IMPLICIT_DEF
-  pub undefined_writings : (os : List Operand) (d : RegOp) → register_at os 0 ≡ Some d → act_writings num (acts_of (defined_undef t f os)) ≡ act_writings num (acts_of (result_writes t f false d))
+  pub undefined_writings : (os : List Operand) (d : RegOp) → register_at os 0 ≡ Some d → act_writings num (acts_of (defined_undef t f os)) ≡ act_writings num (result_acts t f false d)
   undefined_writings os d e = ap (act_writings num) (undefined_acts t f os d e)
 
   pub undefined_nothing : (os : List Operand) → register_at os 0 ≡ None → act_writings num (acts_of (defined_undef t f os)) ≡ []

@@ -23,13 +23,13 @@ use Rattle.target_base.specs.declared.types.IndexId.{IndexId}
 use Rattle.target_base.specs.Registers.{units_of, lanes_of}
 use Rattle.target_base.specs.Storage.{unit_width}
 use Rattle.target_base.specs.Roles.{is_silent}
-use Rattle.mir_func.specs.Binding.{is_early_clobber, as_register, register_at, as_slot, slot_at}
+use Rattle.mir_func.specs.Binding.{Definition, definitions, as_register, register_at, as_slot, slot_at}
 use Rattle.mir_meaning.specs.Registers.{numbers, operand_lanes, operand_widths, located_lanes, located_widths, range_widths, undefined_lanes, use_sources, slot_lane_numbers, slot_lanes}
-use Rattle.mir_meaning.specs.Items.{write, moved, undefined, computed, defined, result_writes, all_lanes, constant_bits, constant_lanes, constant_of, lanes_beside, explicit_definitions, implicit_definitions, copied, defined_undef, given_constant, reloaded}
+use Rattle.mir_meaning.specs.Items.{write, moved, undefined, computed, defined, result_writes, results, all_lanes, constant_bits, constant_lanes, constant_of, lanes_beside, implicit_definitions, copied, defined_undef, given_constant, reloaded}
 use Rattle.instr_effects.specs.declared.owner.Owner.{Owner}
 use Rattle.instr_effects.specs.declared.owner.Owner.TheVariants as owners
 use Rattle.instr_effects.specs.Owners.{owner_of, source_owner, operand_owners}
-use Rattle.instr_effects.specs.Acts.{plain, moved_acts, act_of, acts_of, definition_acts, is_constant, slot_numbers, counted_acts, call_writes, is_call, filled_whole, stored, silent_acts}
+use Rattle.instr_effects.specs.Acts.{plain, moved_acts, act_of, acts_of, definition_acts, result_acts, is_constant, slot_numbers, counted_acts, call_writes, is_call, filled_whole, stored, silent_acts}
 
 map-join : {X Y : Type 0} (f : X → Y) (xs ys : List X) → map f (xs ++ ys) ≡ map f xs ++ map f ys
 map-join f [] ys = refl
@@ -51,10 +51,11 @@ acts-moved early [] ss = refl
 acts-moved early (l ∷ ls) [] = refl
 acts-moved early (l ∷ ls) (s ∷ ss) = ap (λ t. act_of (write early l (Moved s)) ∷ t) (acts-moved early ls ss)
 
-pub acts-result : (t : Target) (f : Function) (early : Bool) (d : RegOp) → acts_of (result_writes t f early d) ≡ map (plain early) (operand_owners t f d) ++ map (plain early) (map owner_of (undefined_lanes t f d))
-acts-result t f early d =
-    acts-join (computed early 0 (operand_lanes t f d)) (undefined early (undefined_lanes t f d))
-    ∙ ap (λ x. x ++ acts_of (undefined early (undefined_lanes t f d))) (acts-computed early 0 (operand_lanes t f d))
+-- the numbers of what is computed don't count
+pub acts-result : (t : Target) (f : Function) (early : Bool) (n : ℕ) (d : RegOp) → acts_of (result_writes t f early n d) ≡ result_acts t f early d
+acts-result t f early n d =
+    acts-join (computed early n (operand_lanes t f d)) (undefined early (undefined_lanes t f d))
+    ∙ ap (λ x. x ++ acts_of (undefined early (undefined_lanes t f d))) (acts-computed early n (operand_lanes t f d))
     ∙ ap (λ x. map (plain early) (operand_owners t f d) ++ x) (acts-undefined early (undefined_lanes t f d))
 
 pub acts-defined : (t : Target) (f : Function) (early : Bool) (d : RegOp) (ss : List Source) → acts_of (defined t f early d ss) ≡ definition_acts t f early d (map source_owner ss)
@@ -64,12 +65,11 @@ acts-defined t f early d ss =
     ∙ ap (λ x. moved_acts early (operand_owners t f d) (map source_owner ss) ++ x) (acts-undefined early (undefined_lanes t f d))
 
 -- a definition of undefined lanes is entered as one of computed lanes
-pub acts-undef : (t : Target) (f : Function) (d : RegOp) → acts_of (undefined false (operand_lanes t f d ++ undefined_lanes t f d)) ≡ acts_of (result_writes t f false d)
+pub acts-undef : (t : Target) (f : Function) (d : RegOp) → acts_of (undefined false (operand_lanes t f d ++ undefined_lanes t f d)) ≡ result_acts t f false d
 acts-undef t f d =
     acts-undefined false (operand_lanes t f d ++ undefined_lanes t f d)
     ∙ ap (map (plain false)) (map-join owner_of (operand_lanes t f d) (undefined_lanes t f d))
     ∙ map-join (plain false) (operand_owners t f d) (map owner_of (undefined_lanes t f d))
-    ∙ sym (acts-result t f false d)
 
 -- as many widths as lanes
 
@@ -167,9 +167,12 @@ acts-reloaded t f early o s k n e =
 
 -- counted instructions
 
-acts-flat : {X : Type 0} (g : X → Writes) (xs : List X) → acts_of (flat_map g xs) ≡ flat_map (λ x. acts_of (g x)) xs
-acts-flat g [] = refl
-acts-flat g (x ∷ xs) = acts-join (g x) (flat_map g xs) ∙ ap (λ t. acts_of (g x) ++ t) (acts-flat g xs)
+-- each explicit definition writes by its own role
+pub acts-results : (t : Target) (f : Function) (n : ℕ) (ds : List Definition) → acts_of (results t f n ds) ≡ flat_map (λ d. result_acts t f d.0 d.1) ds
+acts-results t f n [] = refl
+acts-results t f n (d ∷ ds) =
+    acts-join (result_writes t f d.0 n d.1) (results t f (n + length (operand_lanes t f d.1)) ds)
+    ∙ ap₂ (λ x y. x ++ y) (acts-result t f d.0 n d.1) (acts-results t f (n + length (operand_lanes t f d.1)) ds)
 
 acts-registers : (t : Target) (f : Function) (ds : List RegOp) → acts_of (undefined false (all_lanes t f ds)) ≡ flat_map (λ o. map (plain false) (operand_owners t f o)) ds
 acts-registers t f [] = refl
@@ -179,10 +182,10 @@ acts-registers t f (d ∷ ds) =
     ∙ map-join (plain false) (operand_owners t f d) (map owner_of (all_lanes t f ds))
     ∙ ap (λ x. map (plain false) (operand_owners t f d) ++ x) (sym (acts-undefined false (all_lanes t f ds)) ∙ acts-registers t f ds)
 
-pub acts-counted : (t : Target) (f : Function) (e : Effect) (rs : List Role) (os : List Operand) → acts_of (counted_acts t f e rs os) ≡ flat_map (λ o. acts_of (result_writes t f (is_early_clobber rs) o)) (explicit_definitions os) ++ (flat_map (λ o. map (plain false) (operand_owners t f o)) (implicit_definitions os) ++ acts_of (call_writes t e os))
+pub acts-counted : (t : Target) (f : Function) (e : Effect) (rs : List Role) (os : List Operand) → acts_of (counted_acts t f e rs os) ≡ flat_map (λ d. result_acts t f d.0 d.1) (definitions rs os) ++ (flat_map (λ o. map (plain false) (operand_owners t f o)) (implicit_definitions os) ++ acts_of (call_writes t e os))
 acts-counted t f e rs os =
-    acts-join (flat_map (result_writes t f (is_early_clobber rs)) (explicit_definitions os)) (undefined false (all_lanes t f (implicit_definitions os)) ++ call_writes t e os)
-    ∙ ap₂ (λ x y. x ++ y) (acts-flat (result_writes t f (is_early_clobber rs)) (explicit_definitions os))
+    acts-join (results t f 0 (definitions rs os)) (undefined false (all_lanes t f (implicit_definitions os)) ++ call_writes t e os)
+    ∙ ap₂ (λ x y. x ++ y) (acts-results t f 0 (definitions rs os))
     (acts-join (undefined false (all_lanes t f (implicit_definitions os))) (call_writes t e os) ∙ ap (λ x. x ++ acts_of (call_writes t e os)) (acts-registers t f (implicit_definitions os)))
 
 pub acts-units : (us : List ℕ) → acts_of (undefined false (map UnitLane us)) ≡ map (λ u. plain false (owners.Unit u)) us
@@ -230,7 +233,7 @@ module _ (t : Target) (f : Function) where
   undefined_none (operands.Reg d ∷ os) e = absurd (cc)
   undefined_none (o ∷ os) e = refl
 
-  pub undefined_acts : (os : List Operand) (d : RegOp) → register_at os 0 ≡ Some d → acts_of (defined_undef t f os) ≡ acts_of (result_writes t f false d)
+  pub undefined_acts : (os : List Operand) (d : RegOp) → register_at os 0 ≡ Some d → acts_of (defined_undef t f os) ≡ result_acts t f false d
   undefined_acts os d e = let z = one-is os d e in ap (λ x. acts_of (defined_undef t f x)) z.1 ∙ acts-undef t f d
 
   pub whole_none : (os : List Operand) → register_at os 0 ≡ None → acts_of (filled_whole t f os) ≡ []

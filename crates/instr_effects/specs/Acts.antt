@@ -17,10 +17,10 @@ use Rattle.mir_func.specs.declared.func.Operand.{Operand}
 use Rattle.mir_func.specs.declared.func.Operand.TheVariants as operands
 use Rattle.mir_func.specs.declared.func.Instr.{Instr}
 use Rattle.mir_func.specs.Value.{Function}
-use Rattle.mir_func.specs.Binding.{as_register, registers, implicit_registers, effect_of, roles_of, is_early_clobber, takes_role, immediate_of}
+use Rattle.mir_func.specs.Binding.{as_register, registers, implicit_registers, effect_of, roles_of, is_early_clobber, definitions, takes_role, immediate_of}
 use Rattle.mir_meaning.specs.Registers.{numbers, operand_lanes, undefined_lanes, use_sources}
 use Rattle.meaning.specs.Perform.{condition_lane}
-use Rattle.mir_meaning.specs.Items.{moved, undefined, silent_reads, silent_writes, values, result_writes, explicit_definitions, implicit_definitions, all_lanes, preserves, defined_undef, lanes_beside, pick}
+use Rattle.mir_meaning.specs.Items.{moved, undefined, silent_reads, silent_writes, values, results, implicit_definitions, all_lanes, preserves, defined_undef, lanes_beside, pick}
 use Rattle.instr_effects.specs.declared.acts.Act.{Act}
 use Rattle.instr_effects.specs.declared.owner.Owner.{Owner}
 use Rattle.instr_effects.specs.Owners.{owner_of, fill_owner, owners_read, operand_owners}
@@ -53,6 +53,10 @@ read_owners rs = flat_map owners_read rs
 -- what a definition writes that is given sources
 abbrev pub definition_acts : Target → Function → Bool → RegOp → List (Option Owner) → List Act
 definition_acts t f early d ss = moved_acts early (operand_owners t f d) ss ++ map (plain early) (map owner_of (undefined_lanes t f d))
+
+-- what an explicit definition writes whose value is computed
+abbrev pub result_acts : Target → Function → Bool → RegOp → List Act
+result_acts t f early d = map (plain early) (operand_owners t f d) ++ map (plain early) (map owner_of (undefined_lanes t f d))
 
 -- the numbers of lanes of a slot that stand beside so many lanes of a register
 abbrev pub slot_numbers : Target → ℕ → Operand → List ℕ
@@ -94,7 +98,7 @@ call_writes t _ os = []
 -- a counted instruction gives its lanes nothing that another lane held
 abbrev pub counted_acts : Target → Function → Effect → List Role → List Operand → Writes
 counted_acts t f e rs os =
-    flat_map (result_writes t f (is_early_clobber rs)) (explicit_definitions os)
+    results t f 0 (definitions rs os)
     ++ (undefined false (all_lanes t f (implicit_definitions os)) ++ call_writes t e os)
 
 -- what is entered of a silent instruction

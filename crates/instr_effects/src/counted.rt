@@ -1,23 +1,23 @@
 //! What counted instructions read and write.
 
-ghost use Rattle.std.specs.Prelude.{◌≡◌, ◌++◌, OnOk, map, filter, filter_map, find, flat_map, nat_abs, not, false, ◌&&◌, cond, []};
+ghost use Rattle.std.specs.Prelude.{◌≡◌, ◌++◌, OnOk, map, filter, filter_map, find, flat_map, nat_abs, not, false, ◌&&◌, cond, [], option_to_list};
 ghost use Rattle.std.specs.List.{list_any};
 ghost use Rattle.target_base.specs.Roles.{is_implicit};
 ghost use Rattle.meaning.specs.Perform.{condition_lane};
-ghost use Rattle.mir_func.specs.Binding.{immediate_of};
-ghost use Rattle.mir_meaning.specs.Items.{preserves, result_writes};
-ghost use Rattle.instr_effects.specs.Acts.{plain, acts_of, counted_acts, call_writes, unpreserved, is_call, tested_role, takes_some, flag_owners, use_owners, implicit_owners, implicit_uses, counted_owners};
+ghost use Rattle.mir_func.specs.Binding.{immediate_of, definitions};
+ghost use Rattle.mir_meaning.specs.Items.{preserves};
+ghost use Rattle.instr_effects.specs.Acts.{plain, acts_of, result_acts, counted_acts, call_writes, unpreserved, is_call, tested_role, takes_some, flag_owners, use_owners, implicit_owners, implicit_uses, counted_owners};
 ghost use Rattle.instr_effects.specs.Numbered.{number_in};
 ghost use Rattle.instr_effects.specs.Owners.{operand_owners};
 ghost use Rattle.instr_effects.specs.Runs.{of_kind, unit_clobbered};
 ghost use Rattle.instr_effects.specs.Steps.{act_writings};
 ghost use Rattle.instr_effects.specs.declared.owner.Owner.TheVariants as owners;
 
+use crate::definitions::{Definition, next_definition};
 use crate::effects::Reader;
 use crate::items::counted::condition_lane;
 use crate::masks::is_preserved;
 use crate::run::{push_lane, push_writing};
-use mir_func::opcodes::is_early_clobber;
 use mir_func::operands::immediate_of;
 use mir_func::{Operand, RegOp, operands};
 use mir_meaning::Writing;
@@ -102,35 +102,35 @@ impl<'a> Reader<'a> {
         self.clobber_units(operands, writes)
     }
 
-    /// Adds what an operand writes, if it is an explicit definition.
+    /// Adds what an explicit definition writes, if there is one.
     fn write_explicit(
         self,
-        operand: &Operand,
-        early: bool,
+        definition: Option<Definition>,
         writes: &mut Vec<Writing>,
     ) -> Result<(), AllocError>
-        ensures { OnOk result (writes.new.items ≡ writes.old.items ++ of_kind (λ o. o.def && not o.implicit) (λ o. act_writings (number_in self.entry.lanes.now) (acts_of (result_writes self.entry.target.now self.entry.func.now early o))) operand.now) }
+        ensures { OnOk result (writes.new.items ≡ writes.old.items ++ flat_map (λ d. act_writings (number_in self.entry.lanes.now) (result_acts self.entry.target.now self.entry.func.now d.0 d.1)) (option_to_list definition)) }
     {
-        if let Operand::Reg(op) = operand {
-            if op.def && !op.implicit {
-                self.fill_result(op, early, writes)?;
-            }
+        if let Some((early, op)) = definition {
+            self.fill_result(&op, early, writes)?;
         }
         Ok(())
     }
 
-    /// Adds what the explicit definitions write.
-    #[tactic(auto, using(crate::proofs::Loops::gathered_more, crate::proofs::Loops::gathered_all))]
+    /// Adds what the explicit definitions write among operands that take these roles.
+    #[tactic(auto, using(crate::proofs::Defined::definitions_at, crate::proofs::Defined::gathered_option, crate::proofs::Defined::gathered_end))]
     fn write_explicits(
         self,
+        roles: &[Role],
         operands: &[Operand],
-        early: bool,
         writes: &mut Vec<Writing>,
     ) -> Result<(), AllocError>
-        ensures { OnOk result (writes.new.items ≡ writes.old.items ++ flat_map (of_kind (λ o. o.def && not o.implicit) (λ o. act_writings (number_in self.entry.lanes.now) (acts_of (result_writes self.entry.target.now self.entry.func.now early o)))) operands.now) }
+        ensures { OnOk result (writes.new.items ≡ writes.old.items ++ flat_map (λ d. act_writings (number_in self.entry.lanes.now) (result_acts self.entry.target.now self.entry.func.now d.0 d.1)) (definitions roles.now operands.now)) }
     {
+        let mut left = roles;
         'operands: for operand in operands {
-            self.write_explicit(operand, early, writes)?;
+            let (definition, behind) = next_definition(left, operand);
+            self.write_explicit(definition, writes)?;
+            left = behind;
         }
         Ok(())
     }
@@ -172,8 +172,7 @@ impl<'a> Reader<'a> {
     ) -> Result<(), AllocError>
         ensures { OnOk result (writes.new.items ≡ writes.old.items ++ act_writings (number_in self.entry.lanes.now) (acts_of (counted_acts self.entry.target.now self.entry.func.now desc.now.effect desc.now.roles operands.now))) }
     {
-        let early = is_early_clobber(desc.roles.as_slice());
-        self.write_explicits(operands, early, writes)?;
+        self.write_explicits(desc.roles.as_slice(), operands, writes)?;
         self.write_implicits(operands, writes)?;
         self.clobber(desc.effect, operands, writes)?;
         Ok(())

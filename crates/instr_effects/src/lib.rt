@@ -4,6 +4,7 @@
 
 pub mod acts;
 pub mod counted;
+mod definitions;
 pub mod effects;
 pub mod items;
 pub mod lane_acts;

@@ -2,10 +2,9 @@
 
 ghost use Rattle.std.specs.Prelude.{◌≡◌, ◌++◌, OnOk, map, filter_map, flat_map, zip, option_and_then, false};
 ghost use Rattle.mir_meaning.specs.Registers.{undefined_lanes, use_sources};
-ghost use Rattle.mir_meaning.specs.Items.{result_writes};
 ghost use Rattle.mir_func.specs.declared.func.Loc.TheVariants as locs;
 ghost use Rattle.instr_effects.specs.Owners.{owner_of, source_owner, operand_owners, located_owners};
-ghost use Rattle.instr_effects.specs.Acts.{plain, acts_of, use_owners};
+ghost use Rattle.instr_effects.specs.Acts.{plain, result_acts, use_owners};
 ghost use Rattle.instr_effects.specs.Numbered.{number_in};
 ghost use Rattle.instr_effects.specs.Runs.{run_numbers, one_writing, one_move, one_kept};
 ghost use Rattle.instr_effects.specs.Steps.{act_writings};
@@ -122,7 +121,7 @@ impl<'a> Reader<'a> {
         early: bool,
         writes: &mut Vec<Writing>,
     ) -> Result<(), AllocError>
-        ensures { OnOk result (writes.new.items ≡ writes.old.items ++ act_writings (number_in self.entry.lanes.now) (acts_of (result_writes self.entry.target.now self.entry.func.now early op.now))) }
+        ensures { OnOk result (writes.new.items ≡ writes.old.items ++ act_writings (number_in self.entry.lanes.now) (result_acts self.entry.target.now self.entry.func.now early op.now)) }
     {
         push_writings(self.operand_lanes(op), early, writes)?;
         push_writings(self.other_lanes(op), early, writes)?;

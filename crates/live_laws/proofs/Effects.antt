@@ -6,6 +6,7 @@ pub mod Shapes
 pub mod Silent
 pub mod Together
 pub mod Flags
+pub mod Definitions
 pub mod FlagsOf
 pub mod Instrs
 pub mod Blocks

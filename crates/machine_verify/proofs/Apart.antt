@@ -1,7 +1,8 @@
--- What is read besides a tied use, and spill slots, one after the other.
+-- Tied pairs, what is read besides tied uses, and spill slots, one after the other.
 use Rattle.std.proofs.Common.{◌≡◌, ◌∙◌, ℕ, List, [], ◌∷◌, ◌++◌, Bool, true, false, refl, ap, cond, arith}
-use Rattle.std.specs.Prelude.{◌&&◌, ◌||◌, nat_eq, Option, option_to_list}
-use Rattle.std.specs.List.{list_any}
+use Rattle.std.specs.Prelude.{◌&&◌, ◌||◌, nat_eq, filter_map, Option, Some, None, option_to_list}
+use Rattle.std.specs.List.{cons_option, list_all, list_any}
+use Rattle.std.specs.Option.{option_map_or}
 use Rattle.std.proofs.lemmas.List.Folds.{list_any-append}
 use Rattle.std.proofs.lemmas.Bool.Decides.{nat_tests}
 use Rattle.mir_func.specs.declared.func.RegOp.{RegOp}
@@ -10,39 +11,46 @@ use Rattle.machine_verify.specs.Ties.{spill_numbers}
 use Rattle.mir_func.specs.declared.func.Operand.{Operand}
 use Rattle.mir_func.specs.declared.func.Operand.TheVariants as operands
 use Rattle.target_base.specs.declared.types.Role.{Role}
-use Rattle.target_base.specs.Roles.{is_tied}
-use Rattle.mir_func.specs.Binding.{Bound, passes}
-use Rattle.mir_meaning.specs.Rules.{untied_readings}
-use Rattle.machine_verify.specs.Ties.{untied_reading}
+use Rattle.mir_func.specs.Binding.{Bound, passes, ties_to}
+use Rattle.mir_meaning.specs.Rules.{readings_besides}
+use Rattle.machine_verify.specs.Ties.{reading_besides}
 
-of_reg : (bs : List Bound) (o : RegOp) (tied def undef : Bool) (r : Option Role) → passes is_tied r ≡ tied → o.def ≡ def → o.undef ≡ undef → untied_readings ((r, operands.Reg o) ∷ bs) ≡ (option_to_list (untied_reading (r, operands.Reg o)) ++ untied_readings bs)
-of_reg bs o true def undef r e g h = rw e refl
-of_reg bs o false true undef r e g h = rw (e, g) refl
-of_reg bs o false false true r e g h = rw (e, g, h) refl
-of_reg bs o false false false r e g h = rw (e, g, h) refl
+-- where all that is made of things passes, what is made of the first does, and what is made of the others
+pub made_step : {X Y : Type 0} (passes_it : Y → Bool) (made : X → Option Y) (x : X) (xs : List X) → list_all passes_it (filter_map made (x ∷ xs)) ≡ (option_map_or passes_it (made x) true && list_all passes_it (filter_map made xs))
+made_step {Y = Y} passes_it made x xs = by (made x)
+  where
+    by : (o : Option Y) → list_all passes_it (cons_option o (filter_map made xs)) ≡ (option_map_or passes_it o true && list_all passes_it (filter_map made xs))
+    by None = refl
+    by (Some y) = refl
 
-pub untied_at : (bs : List Bound) (r : Option Role) (o : Operand) (tied : Bool) → passes is_tied r ≡ tied → untied_readings ((r, o) ∷ bs) ≡ (option_to_list (untied_reading (r, o)) ++ untied_readings bs)
-untied_at bs r (operands.Reg o) tied e = of_reg bs o tied o.def o.undef r e refl refl
-untied_at bs r (operands.Imm z) true e = rw e refl
-untied_at bs r (operands.Imm z) false e = rw e refl
-untied_at bs r (operands.Block n) true e = rw e refl
-untied_at bs r (operands.Block n) false e = rw e refl
-untied_at bs r (operands.Stack n) true e = rw e refl
-untied_at bs r (operands.Stack n) false e = rw e refl
-untied_at bs r (operands.FixedStack n) true e = rw e refl
-untied_at bs r (operands.FixedStack n) false e = rw e refl
-untied_at bs r (operands.Symbol w) true e = rw e refl
-untied_at bs r (operands.Symbol w) false e = rw e refl
-untied_at bs r (operands.Index x) true e = rw e refl
-untied_at bs r (operands.Index x) false e = rw e refl
-untied_at bs r (operands.Mask m) true e = rw e refl
-untied_at bs r (operands.Mask m) false e = rw e refl
+of_reg : (n : ℕ) (bs : List Bound) (o : RegOp) (tied def undef : Bool) (r : Option Role) → passes (ties_to n) r ≡ tied → o.def ≡ def → o.undef ≡ undef → readings_besides n ((r, operands.Reg o) ∷ bs) ≡ (option_to_list (reading_besides n (r, operands.Reg o)) ++ readings_besides n bs)
+of_reg n bs o true def undef r e g h = rw e refl
+of_reg n bs o false true undef r e g h = rw (e, g) refl
+of_reg n bs o false false true r e g h = rw (e, g, h) refl
+of_reg n bs o false false false r e g h = rw (e, g, h) refl
 
-pub untied_step : (b : Bound) (bs : List Bound) → untied_readings (b ∷ bs) ≡ (option_to_list (untied_reading b) ++ untied_readings bs)
-untied_step b bs = untied_at bs b.0 b.1 (passes is_tied b.0) refl
+pub besides_at : (n : ℕ) (bs : List Bound) (r : Option Role) (o : Operand) (tied : Bool) → passes (ties_to n) r ≡ tied → readings_besides n ((r, o) ∷ bs) ≡ (option_to_list (reading_besides n (r, o)) ++ readings_besides n bs)
+besides_at n bs r (operands.Reg o) tied e = of_reg n bs o tied o.def o.undef r e refl refl
+besides_at n bs r (operands.Imm z) true e = rw e refl
+besides_at n bs r (operands.Imm z) false e = rw e refl
+besides_at n bs r (operands.Block m) true e = rw e refl
+besides_at n bs r (operands.Block m) false e = rw e refl
+besides_at n bs r (operands.Stack m) true e = rw e refl
+besides_at n bs r (operands.Stack m) false e = rw e refl
+besides_at n bs r (operands.FixedStack m) true e = rw e refl
+besides_at n bs r (operands.FixedStack m) false e = rw e refl
+besides_at n bs r (operands.Symbol w) true e = rw e refl
+besides_at n bs r (operands.Symbol w) false e = rw e refl
+besides_at n bs r (operands.Index x) true e = rw e refl
+besides_at n bs r (operands.Index x) false e = rw e refl
+besides_at n bs r (operands.Mask m) true e = rw e refl
+besides_at n bs r (operands.Mask m) false e = rw e refl
 
-pub untied_any : (p : RegOp → Bool) (b : Bound) (bs : List Bound) → list_any p (untied_readings (b ∷ bs)) ≡ (list_any p (option_to_list (untied_reading b)) || list_any p (untied_readings bs))
-untied_any p b bs = ap (list_any p) (untied_step b bs) ∙ list_any-append p (option_to_list (untied_reading b)) (untied_readings bs)
+pub besides_step : (n : ℕ) (b : Bound) (bs : List Bound) → readings_besides n (b ∷ bs) ≡ (option_to_list (reading_besides n b) ++ readings_besides n bs)
+besides_step n b bs = besides_at n bs b.0 b.1 (passes (ties_to n) b.0) refl
+
+pub besides_any : (p : RegOp → Bool) (n : ℕ) (b : Bound) (bs : List Bound) → list_any p (readings_besides n (b ∷ bs)) ≡ (list_any p (option_to_list (reading_besides n b)) || list_any p (readings_besides n bs))
+besides_any p n b bs = ap (list_any p) (besides_step n b bs) ∙ list_any-append p (option_to_list (reading_besides n b)) (readings_besides n bs)
 
 same_either_way : (m n : ℕ) → nat_eq m n ≡ nat_eq n m
 same_either_way m n = grind (arith, nat_tests)

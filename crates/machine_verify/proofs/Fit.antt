@@ -5,9 +5,8 @@ use Rattle.std.specs.List.{list_all}
 use Rattle.target_base.specs.declared.types.Role.{Role}
 use Rattle.mir_func.specs.declared.func.Operand.{Operand}
 use Rattle.mir_func.specs.declared.func.Operand.TheVariants as operands
-use Rattle.mir_func.specs.Binding.{takes_many}
+use Rattle.mir_func.specs.Binding.{after_first, first_role, takes_many}
 use Rattle.mir_meaning.specs.Rules.{explicit_fit, phi_pairs, index_pairs}
-use Rattle.machine_verify.specs.Parts.{first_role, after_first}
 use Rattle.std.specs.Prelude.{Option, Some, None}
 use Rattle.target_base.specs.declared.types.Target.{Target}
 use Rattle.mir_func.specs.declared.func.RegOp.{RegOp}

@@ -1,6 +1,6 @@
 -- The rules of an instruction, over its operands as code sorts them, are the rules of the definitions.
-use Rattle.std.proofs.Common.{◌≡◌, ◌∙◌, ℕ, List, [], ◌∷◌, ◌++◌, true, refl, sym, ap, take}
-use Rattle.std.specs.Prelude.{◌&&◌, ◌||◌, not, map, Some, None, flat_map}
+use Rattle.std.proofs.Common.{◌≡◌, ◌∙◌, ℕ, [], ◌++◌, refl, sym, ap, take}
+use Rattle.std.specs.Prelude.{◌&&◌, ◌||◌, not, map, Some, None, flat_map, filter_map}
 use Rattle.std.specs.List.{list_all}
 use Rattle.std.specs.Bool.{beq}
 use Rattle.target_base.specs.declared.types.OpcodeDesc.{OpcodeDesc}
@@ -9,13 +9,12 @@ use Rattle.target_base.specs.declared.types.Target.{Target}
 use Rattle.mir_func.specs.declared.func.Block.{Block}
 use Rattle.mir_func.specs.declared.func.Instr.{Instr}
 use Rattle.mir_func.specs.declared.func.Operand.TheVariants as operands
-use Rattle.mir_func.specs.declared.func.RegOp.{RegOp}
 use Rattle.mir_func.specs.Value.{Function}
 use Rattle.mir_meaning.specs.declared.Form.{Form}
 use Rattle.mir_meaning.specs.declared.Form.TheVariants as forms
-use Rattle.mir_func.specs.Binding.{Bound, known_opcode, registers, implicit_registers, bound, explicit_bound, explicit_roles, explicit_operands, implicit_bound, implicit_roles, tied_uses, tied_pair, passes, roles_of, puts_together}
+use Rattle.mir_func.specs.Binding.{Bound, known_opcode, implicit_registers, bound, explicit_bound, explicit_roles, explicit_operands, implicit_bound, implicit_roles, tied_pair, passes, roles_of, puts_together}
 use Rattle.mir_meaning.specs.Registers.{has_number}
-use Rattle.mir_meaning.specs.Rules.{V1, V2, V3, V4, V5, V11, V12, V15, in_operand_class, widths_fit, has_class, index_fits, subregs_fit, flags_fit, operands_fit, block_numbers, successors_of, named_blocks, slot_fits, tie_fits, spills_or_reloads}
+use Rattle.mir_meaning.specs.Rules.{V1, V2, V3, V4, V5, V11, V12, V15, in_operand_class, widths_fit, has_class, index_fits, subregs_fit, flags_fit, operands_fit, block_numbers, successors_of, named_blocks, slot_fits, spills_or_reloads}
 use Rattle.machine_verify.specs.declared.asked.Asked.{Asked}
 use Rattle.machine_verify.specs.declared.numbers.NumberSet.{NumberSet}
 use Rattle.machine_verify.specs.Asked.{IsAsked}
@@ -40,16 +39,9 @@ pub v4_is : (t : Target) (f : Function) (a : Asked) → IsAsked t a.instr.now a 
 unfolding V4
 v4_is t f a h = rw (h.opcode, h.named) refl
 
-pub tied_is : (t : Target) (form : Form) (f : Function) (i : Instr) (ds us : List RegOp) → registers i.operands ≡ ds → tied_uses (bound t i) ≡ us → ties.first_tie_fits t form f ds us ≡ elim (tied_pair t i) [ None ↦ true | Some p ↦ tie_fits t form f p.0 p.1 ]
-tied_is t form f i [] us e g = rw e refl
-tied_is t form f i (d ∷ ds) [] e g = rw (g, e) refl
-tied_is t form f i (d ∷ ds) (u ∷ us) e g = rw (g, e) refl
-
-pub v11_is : (t : Target) (form : Form) (f : Function) (a : Asked) → IsAsked t a.instr.now a → (list_all flags_fit (seen_all a.bound.items) && ties.first_tie_fits t form f a.named.items (tied_uses (seen_all a.bound.items))) ≡ V11 t form f a.instr.now
+pub v11_is : (t : Target) (form : Form) (f : Function) (a : Asked) → IsAsked t a.instr.now a → (list_all flags_fit (seen_all a.bound.items) && list_all (ties.pair_fits t form f) (filter_map (tied_pair a.instr.now.operands) (seen_all a.bound.items))) ≡ V11 t form f a.instr.now
 unfolding V11
-v11_is t form f a h =
-    let e : ties.first_tie_fits t form f (registers a.instr.now.operands) (tied_uses (bound t a.instr.now)) ≡ elim (tied_pair t a.instr.now) [ None ↦ true | Some p ↦ tie_fits t form f p.0 p.1 ] = tied_is t form f a.instr.now _ _ refl refl in
-    rw (h.bound, h.named, e) refl
+v11_is t form f a h = rw h.bound refl
 
 pub v12_is : (t : Target) (form : Form) (f : Function) (a : Asked) → IsAsked t a.instr.now a → ties.definitions_fit t form f a.named.items (seen_all a.bound.items) ≡ V12 t form f a.instr.now
 unfolding V12

@@ -1,34 +1,37 @@
 -- Ties, definitions and slots, over operands that are sorted.
-use Rattle.std.specs.Prelude.{ℕ, Bool, true, not, ◌&&◌, cond, List, [], ◌∷◌, Option, Some, None, map, filter}
+use Rattle.std.specs.Prelude.{ℕ, Bool, not, ◌&&◌, cond, List, [], ◌∷◌, Option, Some, None, map, filter}
 use Rattle.std.specs.List.{list_all}
 use Rattle.std.specs.Bool.{beq}
 use Rattle.target_base.specs.declared.types.Target.{Target}
-use Rattle.target_base.specs.Roles.{is_tied, is_slot}
+use Rattle.target_base.specs.Roles.{is_slot}
 use Rattle.mir_func.specs.declared.func.RegOp.{RegOp}
 use Rattle.mir_func.specs.declared.func.Operand.TheVariants as operands
 use Rattle.mir_func.specs.Value.{Function}
 use Rattle.mir_meaning.specs.declared.Form.{Form}
-use Rattle.mir_func.specs.Binding.{Bound, passes}
+use Rattle.mir_func.specs.Binding.{Bound, TiedPair, numbered, passes, ties_to}
 use Rattle.mir_meaning.specs.Rules.{tie_fits, undef_fits, no_two_share, clashing_lanes, early_fits}
 use Rattle.machine_verify.specs.declared.numbers.NumberSet.{NumberSet}
 use Rattle.machine_verify.specs.Sets.{has}
 
--- the first register operand and the first tied use fit, if there are such
-abbrev pub first_tie_fits : Target → Form → Function → List RegOp → List RegOp → Bool
-first_tie_fits t form f (d ∷ ds) (u ∷ us) = tie_fits t form f d u
-first_tie_fits t form f ds us = true
+-- the definition and the use that share a register
+abbrev pub sides : TiedPair → RegOp × RegOp
+sides p = (p.definition, p.tied_use)
 
--- what is read besides a tied use
-abbrev pub untied_reading : Bound → Option RegOp
-untied_reading (r, operands.Reg o) = cond (not (passes is_tied r) && not o.def && not o.undef) (Some o) None
-untied_reading (r, o) = None
+-- a tied pair fits
+abbrev pub pair_fits : Target → Form → Function → TiedPair → Bool
+pair_fits t form f p = tie_fits t form f p.definition p.tied_use
+
+-- what is read besides a use that is tied to the definition of that number
+abbrev pub reading_besides : ℕ → Bound → Option RegOp
+reading_besides n (r, operands.Reg o) = cond (not (passes (ties_to n) r) && not o.def && not o.undef) (Some o) None
+reading_besides n (r, o) = None
 
 -- definitions are apart from each other and, where they are early, from uses
 abbrev pub definitions_fit : Target → Form → Function → List RegOp → List Bound → Bool
 definitions_fit t form f named bs =
     list_all (undef_fits form named) (filter (λ o. o.def) named)
     && no_two_share (map (clashing_lanes t f) (filter (λ o. o.def) named))
-    && list_all (early_fits t f bs) bs
+    && list_all (early_fits t f bs) (numbered 0 bs)
 
 -- a `slot` operand names a slot of the set, and no other operand does
 abbrev pub slot_fits : NumberSet → Bound → Bool

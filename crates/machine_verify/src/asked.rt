@@ -171,7 +171,7 @@ fn v8(a: &Asked, terminator: bool) -> bool
     ends_block(a.desc.effect) || !terminator
 }
 
-/// V11: written ties and early-clobber flags are the opcode's, and a tied pair fits.
+/// V11: written ties and early-clobber flags are the opcode's, and each tied pair fits.
 #[tactic(auto, using(crate::proofs::Meant::v11_is))]
 fn v11(q: &Question, a: &Asked) -> Result<bool, AllocError>
     requires { IsAsked q.now.target.now a.now.instr.now a.now }
@@ -182,7 +182,7 @@ fn v11(q: &Question, a: &Asked) -> Result<bool, AllocError>
         q.target,
         q.form,
         q.f,
-        a.named.as_slice(),
+        a.instr.operands.as_slice(),
         a.bound.as_slice(),
     )
 }

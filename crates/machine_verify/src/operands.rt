@@ -9,10 +9,10 @@ ghost use Rattle.target_base.specs.Roles as roles;
 ghost use Rattle.machine_verify.specs.Operands.{fits_next, reads_virtual, is_block, is_index, fits_roles};
 
 use crate::lanes::has_lanes;
-use crate::parts::{implicit_registers, next_role};
+use crate::parts::implicit_registers;
 use crate::words::same_role;
 use instr_effects::items::lanes::push_operand_widths;
-use mir_func::opcodes::takes_many;
+use mir_func::opcodes::{next_role, takes_many};
 use mir_func::operands::{
     immediate_of, is_definition, is_implicit_operand, is_use, is_virtual, takes_role,
 };

@@ -2,9 +2,9 @@
 
 ghost use Rattle.std.specs.Prelude.{◌≡◌, ◌++◌, map, find, IfOk};
 ghost use Rattle.mir_func.specs.Binding as binding;
-ghost use Rattle.machine_verify.specs.Parts.{seen_all, first_role, after_first};
+ghost use Rattle.machine_verify.specs.Parts.{seen_all};
 
-use mir_func::opcodes::takes_many;
+use mir_func::opcodes::next_role;
 use mir_func::operands::{is_implicit_operand, takes_role};
 use mir_func::{Operand, RegOp};
 use std::alloc::{AllocError, Global};
@@ -47,22 +47,6 @@ pub(crate) fn implicit_registers(
         }
     }
     Ok(made)
-}
-
-/// The role that the next explicit operand takes, and the roles that are left behind it.
-pub(crate) fn next_role(roles: &[Role]) -> (Option<Role>, &[Role])
-    ensures role { result.0 ≡ first_role (binding.explicit_roles roles.now) }
-    ensures left { binding.explicit_roles result.1.now ≡ after_first (binding.explicit_roles roles.now) }
-{
-    let mut rest = roles;
-    'roles: while let [role, more @ ..] = rest {
-        if !is_implicit(*role) {
-            let left = if takes_many(*role) { rest } else { more };
-            return (Some(*role), left);
-        }
-        rest = more;
-    }
-    (None, rest)
 }
 
 /// The explicit operands with their roles.

@@ -1,7 +1,8 @@
 //! V11, V12 and V15: ties, definitions that are apart, and spill slots.
 
-ghost use Rattle.std.specs.Prelude.{◌≡◌, ◌&&◌, map, filter, nat_eq, option_to_list, IfOk};
+ghost use Rattle.std.specs.Prelude.{◌≡◌, ◌&&◌, ◌||◌, map, filter, filter_map, length, is_none, option_map, option_to_list, true, IfOk};
 ghost use Rattle.std.specs.List.{list_all, list_any};
+ghost use Rattle.std.specs.Option.{option_map_or};
 ghost use Rattle.meaning.specs.Lanes.{same_lane};
 ghost use Rattle.mir_func.specs.Binding as binding;
 ghost use Rattle.mir_meaning.specs.Items.{unreserved};
@@ -9,7 +10,7 @@ ghost use Rattle.mir_meaning.specs.Registers.{is_reserved};
 ghost use Rattle.mir_meaning.specs.Rules as rules;
 ghost use Rattle.machine_verify.specs.Parts.{seen, seen_all};
 ghost use Rattle.machine_verify.specs.Sets.{HoldsSlots, HoldsSlotsAmong};
-ghost use Rattle.machine_verify.specs.Ties.{spill_numbers, first_tie_fits, untied_reading, definitions_fit, slot_fits};
+ghost use Rattle.machine_verify.specs.Ties.{sides, pair_fits, reading_besides, definitions_fit, slot_fits, spill_numbers};
 
 use crate::classes::same_widths;
 use crate::lanes::has_lanes;
@@ -19,20 +20,20 @@ use crate::words::is_slot;
 use instr_effects::items::lanes::{Lanes, push_operand_lanes};
 use instr_effects::items::results::is_reserved;
 use meaning::Lane;
-use mir_func::opcodes::{is_early, is_tied};
-use mir_func::operands::{is_virtual, same_index, same_loc};
+use mir_func::opcodes::{is_early, tied_number, ties_to};
+use mir_func::operands::{is_virtual, register_at, same_index, same_loc};
 use mir_func::{Func, Loc, Operand, RegOp};
 use mir_meaning::Form;
 use std::alloc::{AllocError, Global};
-use target_base::{List, Target};
+use target_base::{List, Role, Target};
 
-/// Whether the tie that is written is one to operand 0, or none is.
-fn ties_to_first(tie: Option<u8>) -> bool
-    ensures { result ≡ binding.passes (nat_eq 0) tie }
+/// Whether the tie that is written, if one is, is the role's.
+fn written_tie_fits(role: Option<Role>, tie: Option<u8>) -> bool
+    ensures { result ≡ (is_none tie || binding.passes (λ n. binding.passes (binding.ties_to n) role) tie) }
 {
     match tie {
-        None => false,
-        Some(k) => 0 == k,
+        None => true,
+        Some(number) => ties_to(role, number as usize),
     }
 }
 
@@ -41,10 +42,7 @@ fn flags_fit(b: &BoundOperand) -> bool
     ensures { result ≡ rules.flags_fit (seen b.now) }
 {
     match b.operand {
-        Operand::Reg(o) => {
-            (!o.early || is_early(b.role))
-                && (o.tie.is_none() || (is_tied(b.role) && ties_to_first(o.tie)))
-        }
+        Operand::Reg(o) => { (!o.early || is_early(b.role)) && written_tie_fits(b.role, o.tie) }
         _ => true,
     }
 }
@@ -60,19 +58,17 @@ fn all_flags_fit(bound: &[BoundOperand]) -> bool
     true
 }
 
-/// The register operands of the tied role.
-fn tied_uses(alloc: Global, bound: &[BoundOperand]) -> Result<Vec<RegOp>, AllocError>
-    ensures { IfOk result (λ made. made.items ≡ binding.tied_uses (seen_all bound.now)) }
+/// The definition and the use that share a register, where the operand's role is tied.
+fn tied_pair(operands: &[Operand], b: &BoundOperand) -> Option<(RegOp, RegOp)>
+    ensures { result ≡ option_map sides (binding.tied_pair operands.now (seen b.now)) }
 {
-    let mut made = Vec::new(alloc);
-    for b in bound {
-        if is_tied(b.role) {
-            if let Operand::Reg(o) = b.operand {
-                made.push(*o)?;
-            }
-        }
+    match (b.operand, tied_number(b.role)) {
+        (Operand::Reg(u), Some(number)) => match register_at(operands, number) {
+            Some(d) => Some((d, *u)),
+            None => None,
+        },
+        _ => None,
     }
-    Ok(made)
 }
 
 /// Whether a tied pair is two virtual operands of equal widths, or one fixed register; of an
@@ -99,63 +95,74 @@ fn tie_fits(
     }
 }
 
-/// Whether the first definition and the first tied use fit.
-fn first_tie_fits(
+/// Whether the operand, where its role is tied, fits the definition to which it is tied.
+fn pair_fits(
     alloc: Global,
     target: &Target,
     form: Form,
     f: &Func,
-    named: &[RegOp],
-    tied: &[RegOp],
+    operands: &[Operand],
+    b: &BoundOperand,
 ) -> Result<bool, AllocError>
-    ensures { IfOk result (λ is_right. is_right ≡ first_tie_fits target.now form f.now named.now tied.now) }
+    ensures { IfOk result (λ is_right. is_right ≡ option_map_or (pair_fits target.now form f.now) (binding.tied_pair operands.now (seen b.now)) true) }
 {
-    match named {
-        [] => Ok(true),
-        [d, ..] => match tied {
-            [] => Ok(true),
-            [u, ..] => tie_fits(alloc, target, form, f, d, u),
-        },
+    match tied_pair(operands, b) {
+        None => Ok(true),
+        Some((d, u)) => tie_fits(alloc, target, form, f, &d, &u),
     }
 }
 
-/// V11: whether written ties and early-clobber flags are the opcode's, and a tied pair fits.
+#[tactic(auto, using(crate::proofs::Apart::made_step))]
+fn all_pairs_fit(
+    alloc: Global,
+    target: &Target,
+    form: Form,
+    f: &Func,
+    operands: &[Operand],
+    bound: &[BoundOperand],
+) -> Result<bool, AllocError>
+    ensures { IfOk result (λ is_right. is_right ≡ list_all (pair_fits target.now form f.now) (filter_map (binding.tied_pair operands.now) (seen_all bound.now))) }
+{
+    for b in bound {
+        if !pair_fits(alloc, target, form, f, operands, b)? {
+            return Ok(false);
+        }
+    }
+    Ok(true)
+}
+
+/// V11: whether written ties and early-clobber flags are the opcode's, and each tied pair fits.
 pub(crate) fn ties_fit(
     alloc: Global,
     target: &Target,
     form: Form,
     f: &Func,
-    named: &[RegOp],
+    operands: &[Operand],
     bound: &[BoundOperand],
 ) -> Result<bool, AllocError>
-    ensures { IfOk result (λ is_right. is_right ≡ (list_all rules.flags_fit (seen_all bound.now) && first_tie_fits target.now form f.now named.now (binding.tied_uses (seen_all bound.now)))) }
+    ensures { IfOk result (λ is_right. is_right ≡ (list_all rules.flags_fit (seen_all bound.now) && list_all (pair_fits target.now form f.now) (filter_map (binding.tied_pair operands.now) (seen_all bound.now)))) }
 {
     if !all_flags_fit(bound) {
         return Ok(false);
     }
-    let tied = tied_uses(alloc, bound)?;
-    first_tie_fits(alloc, target, form, f, named, tied.as_slice())
+    all_pairs_fit(alloc, target, form, f, operands, bound)
 }
 
-/// Whether an operand other than an `undef` one reads the register.
-fn is_read(named: &[RegOp], loc: Loc) -> bool
-    ensures { result ≡ list_any (λ u. binding.same_loc u.loc loc) (rules.readings named.now) }
+/// How many operands other than `undef` uses name the register.
+fn namings(named: &[RegOp], loc: Loc) -> usize
+    ensures { result ≡ length (filter (λ o. binding.same_loc o.loc loc) (rules.namings named.now)) }
 {
-    for u in named {
-        if !u.def && !u.undef && same_loc(u.loc, loc) {
-            return true;
-        }
-    }
-    false
+    let naming = named.iter().filter(|o| o.def || !o.undef);
+    naming.filter(|o| same_loc(o.loc, loc)).count()
 }
 
-/// Whether an `undef` definition is virtual and its register isn't read; of an allocated function,
-/// whether the definition isn't `undef`.
+/// Whether an `undef` definition is virtual and nothing else names its register; of an allocated
+/// function, whether the definition isn't `undef`.
 fn undef_fits(form: Form, named: &[RegOp], d: &RegOp) -> bool
     ensures { result ≡ rules.undef_fits form named.now d.now }
 {
     match form {
-        Form::Source => !d.undef || (is_virtual(d.loc) && !is_read(named, d.loc)),
+        Form::Source => !d.undef || (is_virtual(d.loc) && namings(named, d.loc) <= 1),
         Form::Allocated => !d.undef,
     }
 }
@@ -258,13 +265,13 @@ fn no_two_share(lists: &[Lanes]) -> bool
     true
 }
 
-/// Whether the operand reads something, and not in a tied role.
-fn untied_reading(b: &BoundOperand) -> Option<RegOp>
-    ensures { result ≡ untied_reading (seen b.now) }
+/// The operand, if it reads something besides a use that is tied to the definition of that number.
+fn reading_besides(number: usize, b: &BoundOperand) -> Option<RegOp>
+    ensures { result ≡ reading_besides number (seen b.now) }
 {
     match b.operand {
         Operand::Reg(o) => {
-            if !is_tied(b.role) && !o.def && !o.undef {
+            if !ties_to(b.role, number) && !o.def && !o.undef {
                 Some(*o)
             } else {
                 None
@@ -274,17 +281,18 @@ fn untied_reading(b: &BoundOperand) -> Option<RegOp>
     }
 }
 
-/// Whether an operand reads one of these lanes, and not in a tied role.
+/// Whether an operand reads one of these lanes, and isn't tied to the definition of that number.
 fn reads_one(
     alloc: Global,
     target: &Target,
     f: &Func,
     lanes: &[Lane],
+    number: usize,
     b: &BoundOperand,
 ) -> Result<bool, AllocError>
-    ensures { IfOk result (λ is_read. is_read ≡ list_any (λ u. rules.share_a_lane lanes.now (rules.clashing_lanes target.now f.now u)) (option_to_list (untied_reading (seen b.now)))) }
+    ensures { IfOk result (λ is_read. is_read ≡ list_any (λ u. rules.share_a_lane lanes.now (rules.clashing_lanes target.now f.now u)) (option_to_list (reading_besides number (seen b.now)))) }
 {
-    match untied_reading(b) {
+    match reading_besides(number, b) {
         None => Ok(false),
         Some(u) => {
             let read = clashing_lanes(alloc, target, f, &u)?;
@@ -293,34 +301,38 @@ fn reads_one(
     }
 }
 
-/// Whether these lanes are among those that are read besides the tied use.
-#[tactic(auto, using(crate::proofs::Apart::untied_any))]
+/// Whether these lanes are among those that are read besides the use that is tied to the
+/// definition of that number.
+#[tactic(auto, using(crate::proofs::Apart::besides_any))]
 fn are_read(
     alloc: Global,
     target: &Target,
     f: &Func,
     lanes: &[Lane],
+    number: usize,
     bound: &[BoundOperand],
 ) -> Result<bool, AllocError>
-    ensures { IfOk result (λ is_read. is_read ≡ list_any (λ u. rules.share_a_lane lanes.now (rules.clashing_lanes target.now f.now u)) (rules.untied_readings (seen_all bound.now))) }
+    ensures { IfOk result (λ is_read. is_read ≡ list_any (λ u. rules.share_a_lane lanes.now (rules.clashing_lanes target.now f.now u)) (rules.readings_besides number (seen_all bound.now))) }
 {
     for b in bound {
-        if reads_one(alloc, target, f, lanes, b)? {
+        if reads_one(alloc, target, f, lanes, number, b)? {
             return Ok(true);
         }
     }
     Ok(false)
 }
 
-/// Whether an early-clobber definition shares nothing with what is read besides its tied use.
+/// Whether an early-clobber definition of that number shares nothing with what is read besides the
+/// use that is tied to it.
 fn early_fits(
     alloc: Global,
     target: &Target,
     f: &Func,
     bound: &[BoundOperand],
+    number: usize,
     b: &BoundOperand,
 ) -> Result<bool, AllocError>
-    ensures { IfOk result (λ is_right. is_right ≡ rules.early_fits target.now f.now (seen_all bound.now) (seen b.now)) }
+    ensures { IfOk result (λ is_right. is_right ≡ rules.early_fits target.now f.now (seen_all bound.now) (number, seen b.now)) }
 {
     match b.operand {
         Operand::Reg(d) => {
@@ -328,7 +340,7 @@ fn early_fits(
                 return Ok(true);
             }
             let lanes = clashing_lanes(alloc, target, f, d)?;
-            let is_read = are_read(alloc, target, f, lanes.as_slice(), bound)?;
+            let is_read = are_read(alloc, target, f, lanes.as_slice(), number, bound)?;
             Ok(!is_read)
         }
         _ => Ok(true),
@@ -341,10 +353,10 @@ fn all_early_fit(
     f: &Func,
     bound: &[BoundOperand],
 ) -> Result<bool, AllocError>
-    ensures { IfOk result (λ is_right. is_right ≡ list_all (rules.early_fits target.now f.now (seen_all bound.now)) (seen_all bound.now)) }
+    ensures { IfOk result (λ is_right. is_right ≡ list_all (rules.early_fits target.now f.now (seen_all bound.now)) (binding.numbered 0 (seen_all bound.now))) }
 {
-    for b in bound {
-        if !early_fits(alloc, target, f, bound, b)? {
+    for (number, b) in bound.iter().enumerate() {
+        if !early_fits(alloc, target, f, bound, number, b)? {
             return Ok(false);
         }
     }

@@ -1,5 +1,5 @@
 -- How the operands of an instruction meet the roles of its opcode.
-use Rattle.std.specs.Prelude.{ℕ, Bool, true, false, cond, not, ◌&&◌, ◌||◌, ◌==◌, nat_eq, List, [], ◌∷◌, ◌++◌, map, filter, filter_map, find, Option, Some, None, option_map, option_and_then, slice_get, ℤ, pos}
+use Rattle.std.specs.Prelude.{ℕ, suc, Bool, true, false, cond, not, ◌&&◌, ◌||◌, ◌==◌, nat_eq, List, [], ◌∷◌, ◌++◌, map, filter, filter_map, find, Option, Some, None, option_map, option_and_then, slice_get, ℤ, pos}
 use Rattle.target_base.specs.declared.types.Reg.{Reg}
 use Rattle.target_base.specs.declared.types.ClassId.{ClassId}
 use Rattle.target_base.specs.declared.types.IndexId.{IndexId}
@@ -112,6 +112,10 @@ as_register _ = None
 abbrev pub registers : List Operand → List RegOp
 registers os = filter_map as_register os
 
+-- the register operand at a place, if one is
+abbrev pub register_at : List Operand → ℕ → Option RegOp
+register_at os k = option_and_then as_register (slice_get os k)
+
 -- the implicit register operands, in order
 abbrev pub implicit_registers : List Operand → List RegOp
 implicit_registers os = filter (λ o. o.implicit) (registers os)
@@ -143,6 +147,16 @@ explicit_bound rs [] = []
 explicit_bound [] (o ∷ os) = (None, o) ∷ explicit_bound [] os
 explicit_bound (r ∷ rs) (o ∷ os) = (Some r, o) ∷ explicit_bound (cond (takes_many r) (r ∷ rs) rs) os
 
+-- the role that the next explicit operand takes
+abbrev pub first_role : List Role → Option Role
+first_role [] = None
+first_role (r ∷ rs) = Some r
+
+-- the roles that are left behind it
+abbrev pub after_first : List Role → List Role
+after_first [] = []
+after_first (r ∷ rs) = cond (takes_many r) (r ∷ rs) rs
+
 -- an implicit operand takes the role that names its register, if there is one
 abbrev pub implicit_bound : List Role → RegOp → Bound
 implicit_bound rs o = (find (takes_role o) rs, operands.Reg o)
@@ -168,22 +182,57 @@ abbrev pub is_early : Role → Bool
 is_early (roles.Early k) = true
 is_early _ = false
 
--- the opcode's definition is an early-clobber one
+-- the first definition of the opcode is an early-clobber one
 abbrev pub is_early_clobber : List Role → Bool
 is_early_clobber (roles.Early k ∷ rs) = true
 is_early_clobber rs = false
 
--- the register operand of the tied role
-abbrev pub tied_uses : List Bound → List RegOp
-tied_uses bs = registers (map (λ b. b.1) (filter (λ b. passes is_tied b.0) bs))
+-- an explicit definition, and whether it is an early-clobber one
+abbrev pub Definition : Type 0
+Definition = Bool × RegOp
 
--- The definition and the use that share a register.
-abbrev pub tied_pair : Target → Instr → Option (RegOp × RegOp)
-tied_pair t i = first_two (registers i.operands) (tied_uses (bound t i))
-  where
-    first_two : List RegOp → List RegOp → Option (RegOp × RegOp)
-    first_two (d ∷ ds) (u ∷ us) = Some (d, u)
-    first_two _ _ = None
+-- the explicit definition that the operand is
+abbrev pub definition_in : Bound → Option Definition
+definition_in (r, operands.Reg o) = cond (is_definition o) (Some (passes is_early r, o)) None
+definition_in (r, o) = None
+
+-- the explicit definitions of operands that take these roles, in order
+abbrev pub definitions : List Role → List Operand → List Definition
+definitions rs os = filter_map definition_in (explicit_bound (explicit_roles rs) (explicit_operands os))
+
+-- the number of the definition to which the role ties its use: its place among the operands
+abbrev pub tied_number : Role → Option ℕ
+tied_number (roles.Tied k) = Some 0
+tied_number _ = None
+
+-- the role ties its use to the definition of that number
+abbrev pub ties_to : ℕ → Role → Bool
+ties_to n r = passes (nat_eq n) (tied_number r)
+
+-- a definition and a use that share a register, with the number of the definition
+pub record TiedPair : Type 0 where
+  pub number : ℕ
+  pub definition : RegOp
+  pub tied_use : RegOp
+
+-- the pair of the definition of a number, if it is there, and a use
+abbrev pub paired_with : List Operand → RegOp → Option ℕ → Option TiedPair
+paired_with os u None = None
+paired_with os u (Some n) = option_map (λ d. record { number = n; definition = d; tied_use = u }) (register_at os n)
+
+-- the tied pair of an operand whose role is tied
+abbrev pub tied_pair : List Operand → Bound → Option TiedPair
+tied_pair os (r, operands.Reg u) = paired_with os u (option_and_then tied_number r)
+tied_pair os (r, o) = None
+
+-- the definitions and uses that share registers, in the order of the uses
+abbrev pub tied_pairs : Target → Instr → List TiedPair
+tied_pairs t i = filter_map (tied_pair i.operands) (bound t i)
+
+-- things with their numbers, from n on
+abbrev pub numbered : {X : Type 0} → ℕ → List X → List (ℕ × X)
+numbered n [] = []
+numbered n (x ∷ xs) = (n, x) ∷ numbered (suc n) xs
 
 -- the class of a range number, where it has just one
 abbrev pub class_of : Function → ℕ → Option ClassId
@@ -208,10 +257,6 @@ any_class t f o (Fixed r) = None
 abbrev pub operand_class : Target → Function → Option Role → RegOp → Option ClassId
 operand_class t f None o = None
 operand_class t f (Some r) o = cond (is_any r) (any_class t f o o.loc) (asked_class r)
-
--- the register operand at a place, if one is
-abbrev pub register_at : List Operand → ℕ → Option RegOp
-register_at os k = option_and_then as_register (slice_get os k)
 
 -- the operand as a spill slot or another frame object, where it is one
 abbrev pub as_slot : Operand → Option ℕ

@@ -1,10 +1,10 @@
 //! What the opcode of an instruction says of it. None of the questions takes memory.
 
-ghost use Rattle.std.specs.Prelude.{◌≡◌, ◌≤◌, length, option_copied, map, not};
+ghost use Rattle.std.specs.Prelude.{◌≡◌, ◌≤◌, length, option_copied, option_and_then, map, not};
 ghost use Rattle.std.specs.List.{position, position_or_len};
 ghost use Rattle.target_base.specs.Roles.{is_tied};
 ghost use Rattle.target_base.specs.Rules.{is_copy, is_phi};
-ghost use Rattle.mir_func.specs.Binding.{known_opcode, effect_of, roles_of, passes, does, is_conditional, ends_control, is_branch, puts_together, is_lowered_away, is_terminator, takes_many, is_early, is_early_clobber, asked_class};
+ghost use Rattle.mir_func.specs.Binding.{known_opcode, effect_of, roles_of, passes, does, is_conditional, ends_control, is_branch, puts_together, is_lowered_away, is_terminator, takes_many, is_early, is_early_clobber, tied_number, ties_to, first_role, after_first, explicit_roles, asked_class};
 
 use crate::func::{Instr, Op};
 use target_base::{Boxed, ClassId, Effect, OpcodeDesc, Role, Target, classes, roles};
@@ -187,6 +187,43 @@ pub fn is_tied(role: Option<Role>) -> bool
         Some(Role::Tied(_)) => true,
         _ => false,
     }
+}
+
+/// The number of the definition to which an operand's role, if it has one, ties its use: the
+/// definition's place among the operands.
+pub fn tied_number(role: Option<Role>) -> Option<usize>
+    ensures { result ≡ option_and_then tied_number role }
+{
+    match role {
+        Some(Role::Tied(_)) => Some(0),
+        _ => None,
+    }
+}
+
+/// Whether an operand's role, if it has one, ties its use to the definition of that number.
+pub fn ties_to(role: Option<Role>, number: usize) -> bool
+    ensures { result ≡ passes (ties_to number) role }
+{
+    match tied_number(role) {
+        Some(n) => number == n,
+        None => false,
+    }
+}
+
+/// The role that the next explicit operand takes, and the roles that are left behind it.
+pub fn next_role(roles: &[Role]) -> (Option<Role>, &[Role])
+    ensures role { result.0 ≡ first_role (explicit_roles roles.now) }
+    ensures left { explicit_roles result.1.now ≡ after_first (explicit_roles roles.now) }
+{
+    let mut rest = roles;
+    'roles: while let [role, more @ ..] = rest {
+        if !roles::is_implicit(*role) {
+            let left = if takes_many(*role) { rest } else { more };
+            return (Some(*role), left);
+        }
+        rest = more;
+    }
+    (None, rest)
 }
 
 /// The class that a role asks of a register, if it asks for one.

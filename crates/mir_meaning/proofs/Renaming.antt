@@ -29,8 +29,9 @@ use Rattle.mir_func.specs.declared.func.Operand.{Operand}
 use Rattle.mir_func.specs.declared.func.Operand.TheVariants as operands
 use Rattle.mir_func.specs.declared.func.Instr.{Instr}
 use Rattle.mir_func.specs.Value.{Function}
-use Rattle.mir_func.specs.Binding.{effect_of, explicit_operands, implicit_registers, implicit_roles, is_early_clobber, is_terminator, passes, registers, roles_of, immediate_of, puts_together}
-use Rattle.mir_meaning.specs.Items.{read_widths, Value, all_lanes, answered, called_symbol, computes_with_immediates, constant_value, counted_writes, explicit_definitions, has_base, implicit_definitions, implicit_writes, kept, lane_width, rest_of, result_widths, result_writes, value_of, values, clobbered, flag_value, implicit_values, is_flags, pick, use_value, first_width, preserves, symbol_of, unreserved, computed, constant_bits, constant_lanes, constant_of, copied, defined, defined_undef, given_constant, lanes_beside, moved, reloaded, silent_reads, silent_writes, spilled, undefined, at_all_widths}
+use Rattle.mir_func.proofs.Bound.{definitions_none, definitions_step, seated_definitions}
+use Rattle.mir_func.specs.Binding.{Definition, after_first, effect_of, explicit_operands, explicit_roles, first_role, implicit_registers, implicit_roles, is_early, is_early_clobber, is_terminator, passes, registers, roles_of, immediate_of, puts_together}
+use Rattle.mir_meaning.specs.Items.{read_widths, Value, all_lanes, answered, called_symbol, computes_with_immediates, constant_value, counted_writes, explicit_definitions, has_base, implicit_definitions, implicit_writes, kept, lane_width, rest_of, result_widths, result_writes, results, value_of, values, clobbered, flag_value, implicit_values, is_flags, pick, use_value, first_width, preserves, symbol_of, unreserved, computed, constant_bits, constant_lanes, constant_of, copied, defined, defined_undef, given_constant, lanes_beside, moved, reloaded, silent_reads, silent_writes, spilled, undefined, at_all_widths}
 use Rattle.mir_meaning.specs.Registers.{is_reserved, numbers, located_lanes, located_widths, operand_lanes, operand_widths, unit_lanes, slot_lane_numbers, slot_lanes, undefined_lanes, use_sources}
 use Rattle.mir_meaning.specs.Codes.{effect_item, item_of, target_of, way, ways_out}
 use Rattle.std.specs.List.{cons_option, list_any}
@@ -39,6 +40,10 @@ use Rattle.mir_meaning.specs.Renaming.{IsFixed, KeepsPlaces, LawOfRenaming, Rena
 map-map : {A B C : Type 0} (g : B → C) (f : A → B) (xs : List A) → map g (map f xs) ≡ map (λ x. g (f x)) xs
 map-map g f [] = refl
 map-map g f (x ∷ xs) = ap (λ ys. g (f x) ∷ ys) (map-map g f xs)
+
+map-length : {A B : Type 0} (f : A → B) (xs : List A) → length (map f xs) ≡ length xs
+map-length f [] = refl
+map-length f (x ∷ xs) = ap suc (map-length f xs)
 
 map-append : {A B : Type 0} (f : A → B) (xs ys : List A) → map f (xs ++ ys) ≡ map f xs ++ map f ys
 map-append f [] ys = refl
@@ -436,24 +441,39 @@ module _ (t : Target) (f g : Function) (m : Lane → Lane) (r : RegOp → RegOp)
 
   -- what is written
 
-  result-renamed : (early : Bool) (o : RegOp) → Renames t f g m r o → result_writes t g early (r o) ≡ renamed m (result_writes t f early o)
-  result-renamed early o h =
-      (λ k. computed early 0 (h.lanes k) ++ undefined early (h.others k))
-      ∙ ((λ k. sym (renamed-computed m early 0 (operand_lanes t f o)) k ++ sym (renamed-undefined m early (undefined_lanes t f o)) k)
-      ∙ sym (renamed-append m (computed early 0 (operand_lanes t f o)) (undefined early (undefined_lanes t f o))))
+  result-renamed : (early : Bool) (n : ℕ) (o : RegOp) → Renames t f g m r o → result_writes t g early n (r o) ≡ renamed m (result_writes t f early n o)
+  result-renamed early n o h =
+      (λ k. computed early n (h.lanes k) ++ undefined early (h.others k))
+      ∙ ((λ k. sym (renamed-computed m early n (operand_lanes t f o)) k ++ sym (renamed-undefined m early (undefined_lanes t f o)) k)
+      ∙ sym (renamed-append m (computed early n (operand_lanes t f o)) (undefined early (undefined_lanes t f o))))
 
-  results-renamed : (early : Bool) (os : List Operand) → RenamesAll t f g m r os → flat_map (result_writes t g early) (explicit_definitions (map (renamed_operand r) os)) ≡ renamed m (flat_map (result_writes t f early) (explicit_definitions os))
-  results-renamed early [] h = refl
-  results-renamed early (operands.Reg o ∷ os) h =
-      (λ k. flat_map (result_writes t g early) (cond (h.0.def k && not (h.0.implicit k)) (r o ∷ explicit_definitions (map (renamed_operand r) os)) (explicit_definitions (map (renamed_operand r) os))))
-      ∙ out (o.def && not o.implicit) (results-renamed early os h.1)
+  lanes-stay : (o : RegOp) → Renames t f g m r o → length (operand_lanes t g (r o)) ≡ length (operand_lanes t f o)
+  lanes-stay o h = ap length h.lanes ∙ map-length m (operand_lanes t f o)
+
+  results-renamed : (qs : List Role) (n : ℕ) (os : List Operand) → RenamesAll t f g m r os → results t g n (seated_definitions qs (map (renamed_operand r) os)) ≡ renamed m (results t f n (seated_definitions qs os))
+  results-renamed qs n [] h = ap (results t g n) (definitions_none qs) ∙ ap (λ ds. renamed m (results t f n ds)) (sym (definitions_none qs))
+  results-renamed qs n (operands.Reg o ∷ os) h =
+      ap (results t g n) (definitions_step qs (operands.Reg (r o)) (map (renamed_operand r) os))
+      ∙ ((λ k. results t g n (behind (r o) (h.0.implicit k) (h.0.def k && not (h.0.implicit k)) (map (renamed_operand r) os)))
+      ∙ (out o.implicit (o.def && not o.implicit) (results-renamed qs n os h.1) (λ k. results-renamed (after_first qs) k os h.1)
+      ∙ ap (λ ds. renamed m (results t f n ds)) (sym (definitions_step qs (operands.Reg o) os))))
     where
-      out :
-          (b : Bool) → flat_map (result_writes t g early) (explicit_definitions (map (renamed_operand r) os)) ≡ renamed m (flat_map (result_writes t f early) (explicit_definitions os)) →
-          flat_map (result_writes t g early) (cond b (r o ∷ explicit_definitions (map (renamed_operand r) os)) (explicit_definitions (map (renamed_operand r) os))) ≡ renamed m (flat_map (result_writes t f early) (cond b (o ∷ explicit_definitions os) (explicit_definitions os)))
-      out true same = (λ k. result-renamed early o h.0 k ++ same k) ∙ sym (renamed-append m (result_writes t f early o) (flat_map (result_writes t f early) (explicit_definitions os)))
-      out false same = same
-  results-renamed early (x ∷ os) h = results-renamed early os h
+      early : Bool
+      early = passes is_early (first_role qs)
+
+      behind : RegOp → Bool → Bool → List Operand → List Definition
+      behind d implicit defines xs = cond implicit (seated_definitions qs xs) (cons_option (cond defines (Some (early, d)) None) (seated_definitions (after_first qs) xs))
+
+      out : (b d : Bool) → results t g n (seated_definitions qs (map (renamed_operand r) os)) ≡ renamed m (results t f n (seated_definitions qs os)) → ((k : ℕ) → results t g k (seated_definitions (after_first qs) (map (renamed_operand r) os)) ≡ renamed m (results t f k (seated_definitions (after_first qs) os))) → results t g n (behind (r o) b d (map (renamed_operand r) os)) ≡ renamed m (results t f n (behind o b d os))
+      out true d same more = same
+      out false true same more =
+          (λ k. result-renamed early n o h.0 k ++ (ap (λ l. results t g (n + l) (seated_definitions (after_first qs) (map (renamed_operand r) os))) (lanes-stay o h.0) ∙ more (n + length (operand_lanes t f o))) k)
+          ∙ sym (renamed-append m (result_writes t f early n o) (results t f (n + length (operand_lanes t f o)) (seated_definitions (after_first qs) os)))
+      out false false same more = more n
+  results-renamed qs n (x ∷ os) h =
+      ap (results t g n) (definitions_step qs x (map (renamed_operand r) os))
+      ∙ (results-renamed (after_first qs) n os h
+      ∙ ap (λ ds. renamed m (results t f n ds)) (sym (definitions_step qs x os)))
 
   result-widths-stay : (os : List Operand) → RenamesAll t f g m r os → flat_map (operand_widths t g) (explicit_definitions (map (renamed_operand r) os)) ≡ flat_map (operand_widths t f) (explicit_definitions os)
   result-widths-stay [] h = refl
@@ -570,11 +590,11 @@ module _ (t : Target) (f g : Function) (m : Lane → Lane) (r : RegOp → RegOp)
   writes-renamed : (e : Effect) (i : Instr) → RenamesAll t f g m r i.operands → counted_writes t g e (renamed_instr r i) ≡ renamed m (counted_writes t f e i)
   writes-renamed e i h =
       let os = i.operands in
-      let early = is_early_clobber (roles_of t i) in
+      let qs = explicit_roles (roles_of t i) in
       let rs = implicit_roles (roles_of t i) in
       let implicit = implicit_writes t f e rs os in
-      (λ k. results-renamed early os h k ++ (implicit-writes-same e rs os h ∙ sym (steady-renamed implicit (implicit-writes-steady e rs os h))) k)
-      ∙ sym (renamed-append m (flat_map (result_writes t f early) (explicit_definitions os)) implicit)
+      (λ k. results-renamed qs 0 os h k ++ (implicit-writes-same e rs os h ∙ sym (steady-renamed implicit (implicit-writes-steady e rs os h))) k)
+      ∙ sym (renamed-append m (results t f 0 (seated_definitions qs os)) implicit)
 
   widths-of-result : (e : Effect) (os : List Operand) → RenamesAll t f g m r os → result_widths t g e (map (renamed_operand r) os) ≡ result_widths t f e os
   widths-of-result effects.Call os h = λ k. map (lane_width t) (unreserved t (all-defined-lanes os h k))

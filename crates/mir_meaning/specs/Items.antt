@@ -29,7 +29,7 @@ use Rattle.mir_func.specs.declared.func.Operand.{Operand}
 use Rattle.mir_func.specs.declared.func.Operand.TheVariants as operands
 use Rattle.mir_func.specs.declared.func.Instr.{Instr}
 use Rattle.mir_func.specs.Value.{Function}
-use Rattle.mir_func.specs.Binding.{explicit_operands, implicit_registers, registers, takes_role, roles_of, implicit_roles, is_early_clobber, immediate_of}
+use Rattle.mir_func.specs.Binding.{explicit_operands, implicit_registers, registers, takes_role, roles_of, implicit_roles, Definition, definitions, immediate_of}
 use Rattle.mir_meaning.specs.Registers.{numbers, operand_lanes, operand_widths, use_sources, undefined_lanes, located_lanes, slot_lane_numbers, slot_lanes, is_reserved}
 
 -- a write of a lane
@@ -261,14 +261,20 @@ implicit_writes t f effects.Cmp rs os =
 implicit_writes t f effects.Call rs os = computed false 0 (answered t f os) ++ undefined false (clobbered t os)
 implicit_writes t f _ rs os = undefined false (unreserved t (all_lanes t f (implicit_definitions os)))
 
--- an explicit definition of a counted instruction: the lanes of the result, and Undef in the others of an `undef` one
-abbrev pub result_writes : Target → Function → Bool → RegOp → Writes
-result_writes t f early d = computed early 0 (operand_lanes t f d) ++ undefined early (undefined_lanes t f d)
+-- an explicit definition of a counted instruction: the lanes of the result from number n on, and Undef in the others of
+-- an `undef` one
+abbrev pub result_writes : Target → Function → Bool → ℕ → RegOp → Writes
+result_writes t f early n d = computed early n (operand_lanes t f d) ++ undefined early (undefined_lanes t f d)
+
+-- what explicit definitions write: the first from number n of the result on, each other from where the one before it ends
+abbrev pub results : Target → Function → ℕ → List Definition → Writes
+results t f n [] = []
+results t f n (d ∷ ds) = result_writes t f d.0 n d.1 ++ results t f (n + length (operand_lanes t f d.1)) ds
 
 -- all that a counted instruction writes
 abbrev pub counted_writes : Target → Function → Effect → Instr → Writes
 counted_writes t f e i =
-    flat_map (result_writes t f (is_early_clobber (roles_of t i))) (explicit_definitions i.operands)
+    results t f 0 (definitions (roles_of t i) i.operands)
     ++ implicit_writes t f e (implicit_roles (roles_of t i)) i.operands
 
 -- the width of a unit's lane

@@ -24,10 +24,10 @@ use Rattle.mir_func.specs.declared.func.Place.{Place}
 use Rattle.mir_func.specs.declared.func.Instr.{Instr}
 use Rattle.mir_func.specs.declared.func.Block.{Block}
 use Rattle.mir_func.specs.Value.{Function}
-use Rattle.mir_func.specs.Binding.{effect_of, does, passes, is_terminator, registers, Bound, bound, is_early, tied_pair, operand_class, same_loc, same_index, is_lowered_away, is_virtual}
+use Rattle.mir_func.specs.Binding.{effect_of, does, passes, is_terminator, registers, Bound, bound, is_early, ties_to, TiedPair, tied_pairs, numbered, operand_class, same_loc, same_index, is_lowered_away, is_virtual}
 use Rattle.mir_meaning.specs.Registers.{operand_widths}
 use Rattle.mir_meaning.specs.Points.{Point, Start, Entry, Exit, LiveAt, OccupiedAt, Tests}
-use Rattle.mir_meaning.specs.Rules.{spills_or_reloads, readings, untied_readings}
+use Rattle.mir_meaning.specs.Rules.{spills_or_reloads, readings, readings_besides}
 use Rattle.mir_meaning.specs.Codes.{instrs_of}
 
 -- a use; a definition, which may be tied or early-clobber; both sides of a copy
@@ -58,24 +58,24 @@ reaches_back _ = true
 
 -- the variable of a register operand; physical registers have none
 abbrev pub register_variable : Target → Function → Bool → Option Role → RegOp → Loc → Option Variable
-register_variable t f has_tie r o (Fixed q) = None
-register_variable t f has_tie r o (Virtual v) =
+register_variable t f is_tied_definition r o (Fixed q) = None
+register_variable t f is_tied_definition r o (Virtual v) =
     cond o.def
-    (Some (variable (Defining has_tie (passes is_early r)) v o.index (operand_class t f r o)))
+    (Some (variable (Defining is_tied_definition (passes is_early r)) v o.index (operand_class t f r o)))
     (cond (o.undef || passes is_tied r) None (Some (variable Using v o.index (operand_class t f r o))))
 
 -- the variable of an operand: each virtual definition, and each virtual use that is neither `undef` nor tied
 abbrev pub operand_variable : Target → Function → Bool → Bound → Option Variable
-operand_variable t f has_tie (r, operands.Reg o) = register_variable t f has_tie r o o.loc
-operand_variable t f has_tie (r, o) = None
+operand_variable t f is_tied_definition (r, operands.Reg o) = register_variable t f is_tied_definition r o o.loc
+operand_variable t f is_tied_definition (r, o) = None
 
--- the opcode ties a use to its definition
-abbrev pub has_tied_pair : Target → Instr → Bool
-has_tied_pair t i = list_any (λ b. passes is_tied b.0) (bound t i)
+-- the opcode ties a use to its definition of that number
+abbrev pub has_tied_use : Target → Instr → ℕ → Bool
+has_tied_use t i n = list_any (λ b. passes (ties_to n) b.0) (bound t i)
 
 -- the variables of an instruction's operands, in order
 abbrev pub operand_variables : Target → Function → Instr → List Variable
-operand_variables t f i = filter_map (operand_variable t f (has_tied_pair t i)) (bound t i)
+operand_variables t f i = filter_map (λ p. operand_variable t f (has_tied_use t i p.0) p.1) (numbered 0 (bound t i))
 
 -- the variable of a copy of lanes of these widths, which has no range of its own
 abbrev pub copy_variable : Target → List ℕ → Variable
@@ -165,17 +165,17 @@ input_copies t f p d inputs overwritten = map (copied_at t f p) (readings inputs
 
 -- the copy before a tied use that isn't its definition's register and index already; and one behind, where that
 -- register is read besides
-abbrev pub tied_copies : Target → Function → Instr → RegOp → RegOp → List Needs
-tied_copies t f i d u =
-    cond (u.undef || not (is_virtual d.loc) || (same_loc d.loc u.loc && same_index d.index u.index)) []
-    (copied_at t f (Entry i.id) d ∷ cond (defines_and_reads d (untied_readings (bound t i))) (copied_at t f (Exit i.id) d ∷ []) [])
+abbrev pub tied_copies : Target → Function → Instr → TiedPair → List Needs
+tied_copies t f i p =
+    cond (p.tied_use.undef || not (is_virtual p.definition.loc) || (same_loc p.definition.loc p.tied_use.loc && same_index p.definition.index p.tied_use.index)) []
+    (copied_at t f (Entry i.id) p.definition ∷ cond (defines_and_reads p.definition (readings_besides p.number (bound t i))) (copied_at t f (Exit i.id) p.definition ∷ []) [])
 
 -- the copies that lowering makes of an instruction, by its effect
 abbrev pub effect_copies : Target → Function → Instr → List Operand → Effect → List Needs
 effect_copies t f i (operands.Reg d ∷ os) effects.Phi = phi_copies t f os ++ (copied_at t f (Entry i.id) d ∷ [])
 effect_copies t f i (operands.Reg d ∷ os) effects.RegSequence = input_copies t f (Entry i.id) d (registers os) (registers os)
 effect_copies t f i (operands.Reg d ∷ o ∷ os) effects.InsertSubreg = input_copies t f (Entry i.id) d (registers (o ∷ os)) (registers os)
-effect_copies t f i os e = elim (tied_pair t i) [ None ↦ [] | Some p ↦ tied_copies t f i p.0 p.1 ]
+effect_copies t f i os e = flat_map (tied_copies t f i) (tied_pairs t i)
 
 -- the places of the copies that lowering makes of an instruction
 abbrev pub lowering_places : Target → Function → Instr → List Needs

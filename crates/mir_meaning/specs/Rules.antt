@@ -1,6 +1,6 @@
 -- The validity rules V1 to V12, V15 and V16: each a test of an instruction or of a block. Beside each stands
 -- what LLVM's machine verifier, its MIR parser or its manual says of the same matter.
-use Rattle.std.specs.Prelude.{option_to_list, option_and_then, ℕ, suc, ℤ, pos, negsuc, Bool, true, false, cond, not, ◌&&◌, ◌||◌, nat_eq, nat_lt, ◌==◌, List, [], ◌∷◌, ◌++◌, map, filter, flat_map, count_by, length, take, drop, codes, Option, Some, None, is_some, is_none}
+use Rattle.std.specs.Prelude.{option_to_list, option_and_then, ℕ, suc, ℤ, pos, negsuc, Bool, true, false, cond, not, ◌&&◌, ◌||◌, nat_eq, nat_le, nat_lt, ◌==◌, List, [], ◌∷◌, ◌++◌, map, filter, flat_map, count_by, length, take, drop, codes, Option, Some, None, is_some, is_none}
 use Rattle.std.specs.List.{list_all, list_any, starts_with}
 use Rattle.std.specs.Bool.{beq}
 use Rattle.target_base.specs.declared.types.ClassId.{ClassId}
@@ -13,7 +13,7 @@ use Rattle.target_base.specs.declared.types.OpcodeDesc.{OpcodeDesc}
 use Rattle.target_base.specs.declared.types.Target.{Target}
 use Rattle.target_base.specs.Names.{are_distinct_numbers}
 use Rattle.target_base.specs.Registers.{regs_of, lanes_of, fits, home_of}
-use Rattle.target_base.specs.Roles.{is_silent, is_tied, is_slot}
+use Rattle.target_base.specs.Roles.{is_silent, is_slot}
 use Rattle.target_base.specs.Rules.{is_phi, is_spill, is_reload}
 use Rattle.target_base.specs.Storage.{holds_reg, is_within, holds_subs, same_numbers}
 use Rattle.meaning.specs.declared.types.Lane.{Lane}
@@ -28,7 +28,7 @@ use Rattle.mir_func.specs.declared.func.Block.{Block}
 use Rattle.mir_func.specs.Value.{Function}
 use Rattle.mir_meaning.specs.declared.Form.{Form}
 use Rattle.mir_meaning.specs.declared.Form.TheVariants as forms
-use Rattle.mir_func.specs.Binding.{is_virtual, is_definition, is_use, same_loc, same_index, puts_together, is_lowered_away, known_opcode, does, passes, is_terminator, is_branch, is_implicit_operand, explicit_operands, registers, implicit_registers, takes_role, takes_many, Bound, explicit_roles, implicit_roles, bound, is_early, tied_pair, class_of, asked_class, immediate_of}
+use Rattle.mir_func.specs.Binding.{is_virtual, is_definition, is_use, same_loc, same_index, puts_together, is_lowered_away, known_opcode, does, passes, is_terminator, is_branch, is_implicit_operand, explicit_operands, registers, implicit_registers, takes_role, takes_many, Bound, explicit_roles, implicit_roles, bound, is_early, ties_to, tied_pairs, numbered, class_of, asked_class, immediate_of}
 use Rattle.mir_meaning.specs.Registers.{has_number, operand_lanes, operand_widths}
 use Rattle.mir_meaning.specs.Items.{unreserved}
 use Rattle.mir_meaning.specs.Codes.{falls_through, fallen_into}
@@ -317,9 +317,9 @@ V9 t f k b =
 unfoldable pub V10 : Target → Function → ℕ → Block → Bool
 V10 t f k b = nat_lt (suc k) (length f.blocks) || not (falls_through t b.instrs)
 
--- ties and `early-clobber` that are written are the opcode's, whose definition is operand 0
+-- ties and `early-clobber` that are written are the opcode's; a tie names its definition by the place among the operands
 abbrev pub flags_fit : Bound → Bool
-flags_fit (r, operands.Reg o) = (not o.early || passes is_early r) && (is_none o.tie || (passes is_tied r && passes (nat_eq 0) o.tie))
+flags_fit (r, operands.Reg o) = (not o.early || passes is_early r) && (is_none o.tie || passes (λ n. passes (ties_to n) r) o.tie)
 flags_fit (r, o) = true
 
 -- two virtual operands of equal widths, or one fixed register; allocated: one register
@@ -327,10 +327,10 @@ abbrev pub tie_fits : Target → Form → Function → RegOp → RegOp → Bool
 tie_fits t forms.Source f d u = cond (is_virtual d.loc && is_virtual u.loc) (same_widths t f d u) (same_loc d.loc u.loc)
 tie_fits t forms.Allocated f d u = same_loc d.loc u.loc && same_index d.index u.index
 
--- V11: written ties and early-clobber flags are the opcode's, and a tied pair fits. (Verifier: "Tied use must
+-- V11: written ties and early-clobber flags are the opcode's, and each tied pair fits. (Verifier: "Tied use must
 -- be a register", "Two-address instruction operands must be identical".)
 unfoldable pub V11 : Target → Form → Function → Instr → Bool
-V11 t form f i = list_all flags_fit (bound t i) && elim (tied_pair t i) [ None ↦ true | Some p ↦ tie_fits t form f p.0 p.1 ]
+V11 t form f i = list_all flags_fit (bound t i) && list_all (λ p. tie_fits t form f p.definition p.tied_use) (tied_pairs t i)
 
 -- the lanes of an operand that count for clashes: none where they aren't known
 abbrev pub clashing_lanes : Target → Function → RegOp → List Lane
@@ -349,19 +349,23 @@ no_two_share (ls ∷ rest) = not (list_any (share_a_lane ls) rest) && no_two_sha
 abbrev pub readings : List RegOp → List RegOp
 readings os = filter (λ o. not o.def && not o.undef) os
 
--- an `undef` definition is virtual, and the instruction doesn't read its register; allocated: there is none
+-- the operands that name something: all but `undef` uses
+abbrev pub namings : List RegOp → List RegOp
+namings os = filter (λ o. o.def || not o.undef) os
+
+-- an `undef` definition is virtual, and nothing else names its register; allocated: there is none
 abbrev pub undef_fits : Form → List RegOp → RegOp → Bool
-undef_fits forms.Source os d = not d.undef || (is_virtual d.loc && not (list_any (λ u. same_loc u.loc d.loc) (readings os)))
+undef_fits forms.Source os d = not d.undef || (is_virtual d.loc && nat_le (length (filter (λ o. same_loc o.loc d.loc) (namings os))) 1)
 undef_fits forms.Allocated os d = not d.undef
 
--- what the instruction reads besides its tied use
-abbrev pub untied_readings : List Bound → List RegOp
-untied_readings bs = readings (registers (map (λ b. b.1) (filter (λ b. not (passes is_tied b.0)) bs)))
+-- what the instruction reads besides a use that is tied to the definition of that number
+abbrev pub readings_besides : ℕ → List Bound → List RegOp
+readings_besides n bs = readings (registers (map (λ b. b.1) (filter (λ b. not (passes (ties_to n) b.0)) bs)))
 
--- an early-clobber definition shares nothing with what is read besides its tied use
-abbrev pub early_fits : Target → Function → List Bound → Bound → Bool
-early_fits t f bs (r, operands.Reg d) = not (passes is_early r) || not (list_any (λ u. share_a_lane (clashing_lanes t f d) (clashing_lanes t f u)) (untied_readings bs))
-early_fits t f bs (r, o) = true
+-- an early-clobber definition of that number shares nothing with what is read besides the use tied to it
+abbrev pub early_fits : Target → Function → List Bound → ℕ × Bound → Bool
+early_fits t f bs (n, (r, operands.Reg d)) = not (passes is_early r) || not (list_any (λ u. share_a_lane (clashing_lanes t f d) (clashing_lanes t f u)) (readings_besides n bs))
+early_fits t f bs (n, (r, o)) = true
 
 -- V12: definitions are apart from each other and, where they are early, from uses. (Manual: "undef" of a
 -- definition marks that the rest of the register isn't read; verifier: "Early clobber def must end at ..".)
@@ -369,7 +373,7 @@ unfoldable pub V12 : Target → Form → Function → Instr → Bool
 V12 t form f i =
     list_all (undef_fits form (registers i.operands)) (filter (λ o. o.def) (registers i.operands))
     && no_two_share (map (clashing_lanes t f) (filter (λ o. o.def) (registers i.operands)))
-    && list_all (early_fits t f (bound t i)) (bound t i)
+    && list_all (early_fits t f (bound t i)) (numbered 0 (bound t i))
 
 -- the frame object of that number is declared a spill slot
 abbrev pub is_spill_slot : Function → ℕ → Bool

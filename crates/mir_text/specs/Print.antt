@@ -1,5 +1,5 @@
 -- The one printed spelling of documents.
-use Rattle.std.specs.Prelude.{ℕ, zero, suc, Bool, true, false, List, [], ◌∷◌, ◌++◌, Option, Some, None, codes, if◌then◌else◌, slice_get, slice_set, take, drop, not, ◌&&◌, ◌==◌, ◌/◌, ◌%◌, ◌+◌, length}
+use Rattle.std.specs.Prelude.{ℕ, zero, suc, Bool, false, List, [], ◌∷◌, ◌++◌, Option, Some, None, codes, if◌then◌else◌, slice_get, slice_set, take, drop, not, ◌&&◌, ◌==◌, ◌/◌, ◌%◌, ◌+◌, length}
 use Rattle.std.specs.List.{join_by}
 use Rattle.std.specs.Fmt.{decimal, signed_decimal, digit_glyph}
 use Rattle.target_base.specs.declared.types.Target.{Target}
@@ -12,8 +12,9 @@ use Rattle.target_base.specs.declared.types.ClassDesc.{ClassDesc}
 use Rattle.target_base.specs.declared.types.MaskId.{MaskId}
 use Rattle.target_base.specs.declared.types.MaskDesc.{MaskDesc}
 use Rattle.target_base.specs.declared.types.OpcodeDesc.{OpcodeDesc}
+use Rattle.target_base.specs.declared.types.Role.{Role}
 use Rattle.mir_func.specs.Value.{Function}
-use Rattle.mir_func.specs.Binding.{known_opcode, is_early_clobber}
+use Rattle.mir_func.specs.Binding.{after_first, explicit_roles, first_role, is_early, passes, roles_of}
 use Rattle.mir_func.specs.declared.func.Loc.{Loc}
 use Rattle.mir_func.specs.declared.func.Loc.TheVariants as locs
 use Rattle.mir_func.specs.declared.func.RegOp.{RegOp}
@@ -64,15 +65,6 @@ op_name_in (Some d) = d.name
 abbrev pub op_name : Target → Op → List ℕ
 op_name t (ops.Known o) = op_name_in (slice_get t.opcodes o.0)
 op_name t (ops.Excluded name) = name
-
--- the first role of the opcode is `early`; a definition stands first, so no later role is
-
-abbrev pub is_early_in : Option OpcodeDesc → Bool
-is_early_in None = false
-is_early_in (Some d) = is_early_clobber d.roles
-
-abbrev pub is_early : Target → Op → Bool
-is_early t op = is_early_in (known_opcode t op)
 
 -- a word where a flag is on
 abbrev pub flag : Bool → List ℕ → List ℕ
@@ -125,7 +117,7 @@ abbrev pub left_behind_all : List (Option ClassId) → List Operand → List (Op
 left_behind_all left [] = left
 left_behind_all left (o ∷ os) = left_behind_all (left_behind left o) os
 
--- an operand; `early` says that it stands first under an opcode whose first role is `early`
+-- an operand; `early` says that it stands in an early-clobber role
 unfoldable pub print_operand : Target → List (Option ClassId) → Bool → Operand → List ℕ
 print_operand t left early (operands.Reg r) = print_reg t left early r
 print_operand t left early (operands.Imm z) = signed_decimal z
@@ -136,31 +128,31 @@ print_operand t left early (operands.Symbol name) = name
 print_operand t left early (operands.Index i) = codes "%subreg." ++ index_name t i
 print_operand t left early (operands.Mask m) = mask_name t m
 
--- operands with commas between them, in order
+-- operands with commas between them, in order, each in the next of these explicit roles
 
-abbrev pub print_more : Target → List (Option ClassId) → List Operand → List ℕ
-print_more t left [] = []
-print_more t left (o ∷ os) = codes ", " ++ (print_operand t left false o ++ print_more t (left_behind left o) os)
+abbrev pub print_more : Target → List (Option ClassId) → List Role → List Operand → List ℕ
+print_more t left rs [] = []
+print_more t left rs (o ∷ os) = codes ", " ++ (print_operand t left (passes is_early (first_role rs)) o ++ print_more t (left_behind left o) (after_first rs) os)
 
-unfoldable pub print_operands : Target → List (Option ClassId) → Bool → List Operand → List ℕ
-print_operands t left early [] = []
-print_operands t left early (o ∷ os) = print_operand t left early o ++ print_more t (left_behind left o) os
+unfoldable pub print_operands : Target → List (Option ClassId) → List Role → List Operand → List ℕ
+print_operands t left rs [] = []
+print_operands t left rs (o ∷ os) = print_operand t left (passes is_early (first_role rs)) o ++ print_more t (left_behind left o) (after_first rs) os
 
 -- a tail that begins with a comma follows at once, any other after a space
 abbrev pub print_tail : List ℕ → List ℕ
 print_tail [] = []
 print_tail (b ∷ bs) = flag (not (b == 44)) (codes " ") ++ b ∷ bs
 
--- the words of an instruction: definitions, flags, opcode, other operands, tail
+-- the words of an instruction: definitions in their roles, flags, opcode, other operands, tail
 unfoldable pub print_parts : Target → List (Option ClassId) → Instr → List Operand → List Operand → List ℕ
 print_parts t left i defs others =
-    print_operands t left (is_early t i.op) defs
+    print_operands t left (explicit_roles (roles_of t i)) defs
     ++ (flag (not (length defs == 0)) (codes " = ")
     ++ (i.flags
     ++ (flag (not (length i.flags == 0)) (codes " ")
     ++ (op_name t i.op
     ++ (flag (not (length others == 0)) (codes " ")
-    ++ (print_operands t (left_behind_all left defs) false others
+    ++ (print_operands t (left_behind_all left defs) [] others
     ++ print_tail i.tail))))))
 
 unfoldable pub print_instr : Target → List (Option ClassId) → Instr → List ℕ

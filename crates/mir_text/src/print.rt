@@ -3,13 +3,14 @@
 ghost use Rattle.std.specs.Prelude.{◌≡◌, ◌<◌, ◌≤◌, ◌++◌, ◌∷◌, [], ◌^◌, OnOk, IfOk, not, codes, take, drop, slice_get, slice_set, None, length, ◌&&◌, false};
 ghost use Rattle.std.specs.List.{join_by, flat_map};
 ghost use Rattle.std.specs.Fmt.{decimal, signed_decimal, digit_glyph};
-ghost use Rattle.mir_text.specs.Print.{reg_name, index_name, class_name, mask_name, op_name, is_early, flag, is_explicit_def, def_count, implicit_word, print_index, print_class, print_loc, print_reg, left_behind_loc, left_behind, left_behind_all, print_operand, print_more, print_operands, print_tail, print_parts, print_instr, print_instrs, left_behind_instrs, hex, print_edge, print_successors, print_livein, print_liveins, print_block_name, print_attributes, print_header, print_block, print_blocks, print_lines, print_function, print_doc};
+ghost use Rattle.mir_func.specs.Binding.{explicit_roles};
+ghost use Rattle.mir_text.specs.Print.{reg_name, index_name, class_name, mask_name, op_name, flag, is_explicit_def, def_count, implicit_word, print_index, print_class, print_loc, print_reg, left_behind_loc, left_behind, left_behind_all, print_operand, print_more, print_operands, print_tail, print_parts, print_instr, print_instrs, left_behind_instrs, hex, print_edge, print_successors, print_livein, print_liveins, print_block_name, print_attributes, print_header, print_block, print_blocks, print_lines, print_function, print_doc};
 
 use crate::doc::Doc;
-use mir_func::opcodes::{desc_of, is_early_clobber};
+use mir_func::opcodes::{is_early, next_role, roles_of};
 use mir_func::{Block, Classes, Edge, Func, Instr, Loc, Op, Operand, RegOp};
 use std::alloc::{AllocError, Global};
-use target_base::{Boxed, Bytes, ClassId, Copied, IndexId, List, MaskId, Reg, Target};
+use target_base::{Boxed, Bytes, ClassId, Copied, IndexId, List, MaskId, Reg, Role, Target};
 
 fn put(out: &mut Bytes, text: &str) -> Result<(), AllocError>
     ensures { OnOk result (out.new ≡ out.old ++ text.now) }
@@ -92,16 +93,6 @@ pub(crate) fn op_name<'a>(target: &'a Target, op: &'a Op) -> &'a [u8]
             Some(d) => d.name.as_slice(),
         },
         Op::Excluded(name) => name.as_slice(),
-    }
-}
-
-/// Whether the opcode's first role is `early`.
-fn is_early(target: &Target, op: &Op) -> bool
-    ensures { result ≡ is_early target.now op.now }
-{
-    match desc_of(target, op) {
-        None => false,
-        Some(d) => is_early_clobber(d.roles.as_slice()),
     }
 }
 
@@ -237,42 +228,47 @@ fn mark_operand(left: &mut Classes, o: &Operand)
     }
 }
 
-/// Appends further operands, with a comma before each.
+/// Appends further operands that take these roles, with a comma before each.
 fn put_more(
     out: &mut Bytes,
     target: &Target,
     left: &mut Classes,
+    roles: &[Role],
     operands: &[Operand],
 ) -> Result<(), AllocError>
-    ensures text { OnOk result (out.new ≡ out.old ++ print_more target.now left.old operands.now) }
+    ensures text { OnOk result (out.new ≡ out.old ++ print_more target.now left.old (explicit_roles roles.now) operands.now) }
     ensures left { OnOk result (left.new ≡ left_behind_all left.old operands.now) }
 {
+    let mut rest = roles;
     for o in operands {
+        let (role, behind) = next_role(rest);
         put(out, ", ")?;
-        put_operand(out, target, left.as_slice(), false, o)?;
+        put_operand(out, target, left.as_slice(), is_early(role), o)?;
         mark_operand(left, o);
+        rest = behind;
     }
     Ok(())
 }
 
-/// Appends operands with commas between them.
+/// Appends operands that take these roles, with commas between them.
 #[tactic(auto, unfolding(crate::specs::Print::print_operands))]
 fn put_operands(
     out: &mut Bytes,
     target: &Target,
     left: &mut Classes,
-    early: bool,
+    roles: &[Role],
     operands: &[Operand],
 ) -> Result<(), AllocError>
-    ensures text { OnOk result (out.new ≡ out.old ++ print_operands target.now left.old early operands.now) }
+    ensures text { OnOk result (out.new ≡ out.old ++ print_operands target.now left.old (explicit_roles roles.now) operands.now) }
     ensures left { OnOk result (left.new ≡ left_behind_all left.old operands.now) }
 {
     match operands {
         [] => Ok(()),
         [first, rest @ ..] => {
-            put_operand(out, target, left.as_slice(), early, first)?;
+            let (role, behind) = next_role(roles);
+            put_operand(out, target, left.as_slice(), is_early(role), first)?;
             mark_operand(left, first);
-            put_more(out, target, left, rest)?;
+            put_more(out, target, left, behind, rest)?;
             Ok(())
         }
     }
@@ -324,13 +320,13 @@ fn put_parts(
     ensures text { OnOk result (out.new ≡ out.old ++ print_parts target.now left.old i.now defs.now others.now) }
     ensures left { OnOk result (left.new ≡ left_behind_all (left_behind_all left.old defs.now) others.now) }
 {
-    put_operands(out, target, left, is_early(target, &i.op), defs)?;
+    put_operands(out, target, left, roles_of(target, i), defs)?;
     put_if(out, !defs.is_empty(), " = ")?;
     out.extend(i.flags.as_slice())?;
     put_if(out, !i.flags.as_slice().is_empty(), " ")?;
     out.extend(op_name(target, &i.op))?;
     put_if(out, !others.is_empty(), " ")?;
-    put_operands(out, target, left, false, others)?;
+    put_operands(out, target, left, &[], others)?;
     put_tail(out, i.tail.as_slice())?;
     Ok(())
 }

@@ -1,41 +1,27 @@
 -- The copies that lowering makes of an instruction, one after the other.
-use Rattle.std.proofs.Common.{◌≡◌, ◌∙◌, ◌+◌, ◌<◌, ◌≤◌, ℕ, Bool, true, false, cond, not, ◌&&◌, ◌||◌, List, [], ◌∷◌, ◌++◌, Option, Some, None, is_some, map, find, length, get_or, drop, refl, sym, ap, arith}
+use Rattle.std.proofs.Common.{◌≡◌, ◌∙◌, ◌+◌, ◌<◌, ◌≤◌, ℕ, Bool, true, false, cond, not, ◌&&◌, ◌||◌, List, [], ◌∷◌, ◌++◌, Option, Some, None, map, length, get_or, drop, refl, sym, ap}
 use Rattle.std.specs.Prelude.{filter}
-use Rattle.std.specs.List.{list_all, list_any, cons_option}
-use Rattle.std.proofs.lemmas.List.{drop_more, append-nil}
-use Rattle.std.proofs.lemmas.List.Elements.{filter-append}
-use Rattle.std.proofs.lemmas.List.Folds.{list_all-append, list_any-append}
-use Rattle.target_base.specs.declared.types.Role.{Role}
+use Rattle.std.specs.List.{list_all, list_any, cons_option, filter_map, flat_map}
+use Rattle.std.proofs.lemmas.List.{drop_more}
+use Rattle.std.proofs.lemmas.List.Folds.{list_all-append}
 use Rattle.target_base.specs.declared.types.Target.{Target}
-use Rattle.target_base.specs.Roles.{is_tied}
-use Rattle.mir_func.specs.declared.func.Block.{Block}
-use Rattle.mir_func.specs.declared.func.Loc.{Loc}
 use Rattle.mir_func.specs.declared.func.RegOp.{RegOp}
 use Rattle.mir_func.specs.declared.func.Operand.{Operand}
 use Rattle.mir_func.specs.declared.func.Operand.TheVariants as operands
 use Rattle.mir_func.specs.declared.func.Instr.{Instr}
 use Rattle.mir_func.specs.Value.{Function}
-use Rattle.mir_func.specs.Binding.{Bound, as_register, bound, does, explicit_bound, explicit_operands, explicit_roles, implicit_bound, implicit_registers, implicit_roles, is_implicit_operand, is_terminator, passes, registers, roles_of, takes_role, tied_uses, same_loc}
+use Rattle.mir_func.specs.Binding.{Bound, TiedPair, bound, does, is_terminator, passes, registers, same_loc, tied_pair, tied_pairs, ties_to}
 use Rattle.mir_meaning.specs.Points.{Point, Entry, Exit}
-use Rattle.mir_meaning.specs.Rules.{readings, untied_readings}
-use Rattle.mir_meaning.specs.Places.{Needs, before_terminators, copied_at, defines_and_reads, input_copies, phi_copies, phi_point}
+use Rattle.mir_meaning.specs.Rules.{readings, readings_besides}
+use Rattle.mir_meaning.specs.Places.{Needs, before_terminators, copied_at, defines_and_reads, input_copies, phi_copies, phi_point, tied_copies}
 use Rattle.instr_effects.specs.Ends.{first_pair, pairs_of}
 use Rattle.instr_effects.proofs.Pairs.{first_step, pairs_long}
 use Rattle.phi_elim.proofs.Walks.{drop_all}
-use Rattle.two_address.specs.Classes.{first_role, roles_behind}
-use Rattle.two_address.specs.Ties.{first_of, reads_besides}
 use Rattle.live_lanes.specs.declared.table.Table.{Table}
 use Rattle.place_solve.specs.declared.around.Around.{Around}
 use Rattle.place_solve.specs.declared.around.Around.TheVariants as arounds
-use Rattle.place_solve.specs.Choice.{first}
-use Rattle.place_solve.specs.Copies.{copy_fits, input_fits, names, pair_fits, reads, reads_implicitly, reads_untied, tied_operand}
-use Rattle.place_solve.specs.Once.{from_explicit, left_behind}
+use Rattle.place_solve.specs.Copies.{copy_fits, input_fits, is_in_place, names, operand_fits, pair_fits, reads, reads_besides, tie_fits}
 use Rattle.place_solve.specs.Told.{around_of, copy_solved}
-use Rattle.place_solve.proofs.Operands.{bound-nil, explicit_one, found_tie}
-
-and_false : (b : Bool) → (b && false) ≡ false
-and_false true = refl
-and_false false = refl
 
 and_true : (b : Bool) → (b && true) ≡ b
 and_true true = refl
@@ -148,147 +134,7 @@ module _ (t : Target) (f : Function) (x : Table) (id : ℕ) (d : RegOp) where
     pub built_more : (b : Bool) → a ≡ true → list_any (names d.loc) overwritten ≡ true → b ≡ copy_fits t f x (arounds.Before id) d → b ≡ list_all (copy_solved t x) (input_copies t f (Entry id) d (registers inputs) (registers overwritten))
     built_more b holds some last = copies_more (copy_solved t x) ins (last-one (defines_and_reads d (registers overwritten))) a b (e ∙ sym (inputs_solved t f x id inputs)) holds (last ∙ one_copy t f x (Entry id) d ∙ sym (ap (λ b. list_all (copy_solved t x) (last-one b)) (sym (named_is d overwritten) ∙ some)))
 
--- the first register
-
-first_registers : (o : Operand) (os : List Operand) → first (registers (o ∷ os)) ≡ first_of (as_register o) (first (registers os))
-first_registers o os = go (as_register o)
-  where
-    go : (q : Option RegOp) → first (cons_option q (registers os)) ≡ first_of q (first (registers os))
-    go None = refl
-    go (Some r) = refl
-
-first_none : (a b : Option RegOp) → is_some a ≡ false → first_of a b ≡ b
-first_none None b h = refl
-first_none (Some x) b h = absurd (cc)
-
-first_some : (a b : Option RegOp) → is_some a ≡ true → first_of a b ≡ a
-first_some None b h = absurd (cc)
-first_some (Some x) b h = refl
-
-register_more : (k : ℕ) (os : List Operand) (o : Operand) (d : Option RegOp) → k < length os → o ≡ get_or os k o → d ≡ as_register o → first (registers (drop k os)) ≡ first_of d (first (registers (drop (k + 1) os)))
-register_more k os o d h at is =
-    let c : drop k os ≡ o ∷ drop (k + 1) os = rw (← at) at (drop_more os k o h) in
-    ap (λ xs. first (registers xs)) c ∙ first_registers o (drop (k + 1) os) ∙ ap (λ q. first_of q (first (registers (drop (k + 1) os)))) (sym is)
-
-pub register_next : (k : ℕ) (os : List Operand) (o : Operand) (d total : Option RegOp) → k < length os → o ≡ get_or os k o → d ≡ as_register o → is_some d ≡ false → first (registers (drop k os)) ≡ total → first (registers (drop (k + 1) os)) ≡ total
-register_next k os o d total h at is none was = sym (register_more k os o d h at is ∙ first_none d (first (registers (drop (k + 1) os))) none) ∙ was
-
-pub register_found : (k : ℕ) (os : List Operand) (o : Operand) (d total : Option RegOp) → k < length os → o ≡ get_or os k o → d ≡ as_register o → is_some d ≡ true → first (registers (drop k os)) ≡ total → d ≡ total
-register_found k os o d total h at is some was = sym (register_more k os o d h at is ∙ first_some d (first (registers (drop (k + 1) os))) some) ∙ was
-
-pub register_none : (k : ℕ) (os : List Operand) (total : Option RegOp) → length os ≤ k → first (registers (drop k os)) ≡ total → None ≡ total
-register_none k os total h was = sym (ap (λ xs. first (registers xs)) (drop_all k os h)) ∙ was
-
-pub ruleset registers_walk = (register_next, register_found, register_none)
-
--- explicit operands with their roles
-
-abbrev seats : List Role → List Operand → List Bound
-seats rs os = explicit_bound (explicit_roles rs) (explicit_operands os)
-
-seats_split : (rs : List Role) (o : Operand) (os : List Operand) (b : Bool) → explicit_bound (explicit_roles rs) (cond (not b) (o ∷ explicit_operands os) (explicit_operands os)) ≡ cond b (seats (cond b rs (roles_behind (from_explicit rs))) os) ((first_role (from_explicit rs), o) ∷ seats (cond b rs (roles_behind (from_explicit rs))) os)
-seats_split rs o os true = refl
-seats_split rs o os false = explicit_one rs o (explicit_operands os)
-
-seats_more : (rs : List Role) (o : Operand) (os : List Operand) → seats rs (o ∷ os) ≡ cond (is_implicit_operand o) (seats (left_behind rs o) os) ((first_role (from_explicit rs), o) ∷ seats (left_behind rs o) os)
-seats_more rs o os = seats_split rs o os (is_implicit_operand o)
-
--- the tied use
-
-first_tied : (rs : List Role) (o : Operand) (os : List Operand) → first (tied_uses (seats rs (o ∷ os))) ≡ first_of (tied_operand rs o) (first (tied_uses (seats (left_behind rs o) os)))
-first_tied rs o os = ap (λ bs. first (tied_uses bs)) (seats_more rs o os) ∙ go (is_implicit_operand o) (seats (left_behind rs o) os)
-  where
-    r : Option Role
-    r = first_role (from_explicit rs)
-
-    at : (c : Bool) (bs : List Bound) → first (registers (map (λ (z : Bound). z.1) (cond c ((first_role (from_explicit rs), o) ∷ bs) bs))) ≡ first_of (cond c (as_register o) None) (first (registers (map (λ (z : Bound). z.1) bs)))
-    at true bs = first_registers o (map (λ (z : Bound). z.1) bs)
-    at false bs = refl
-
-    go : (b : Bool) (bs : List Bound) → first (tied_uses (cond b bs ((first_role (from_explicit rs), o) ∷ bs))) ≡ first_of (cond (cond b false (passes is_tied (first_role (from_explicit rs)))) (as_register o) None) (first (tied_uses bs))
-    go true bs = refl
-    go false bs = at (passes is_tied (first_role (from_explicit rs))) (filter (λ (z : Bound). passes is_tied z.0) bs)
-
-tied_more : (rs next : List Role) (k : ℕ) (os : List Operand) (o : Operand) (d : Option RegOp) → k < length os → o ≡ get_or os k o → d ≡ tied_operand rs o → next ≡ left_behind rs o → first (tied_uses (seats rs (drop k os))) ≡ first_of d (first (tied_uses (seats next (drop (k + 1) os))))
-tied_more rs next k os o d h at is left =
-    let c : drop k os ≡ o ∷ drop (k + 1) os = rw (← at) at (drop_more os k o h) in
-    ap (λ xs. first (tied_uses (seats rs xs))) c ∙ first_tied rs o (drop (k + 1) os)
-    ∙ ap (λ q. first_of q (first (tied_uses (seats (left_behind rs o) (drop (k + 1) os))))) (sym is)
-    ∙ ap (λ qs. first_of d (first (tied_uses (seats qs (drop (k + 1) os))))) (sym left)
-
-pub tied_next : (rs next : List Role) (k : ℕ) (os : List Operand) (o : Operand) (d total : Option RegOp) → k < length os → o ≡ get_or os k o → d ≡ tied_operand rs o → is_some d ≡ false → next ≡ left_behind rs o → first (tied_uses (explicit_bound (explicit_roles rs) (explicit_operands (drop k os)))) ≡ total → first (tied_uses (explicit_bound (explicit_roles next) (explicit_operands (drop (k + 1) os)))) ≡ total
-tied_next rs next k os o d total h at is none left was = sym (tied_more rs next k os o d h at is left ∙ first_none d (first (tied_uses (seats next (drop (k + 1) os)))) none) ∙ was
-
-pub tied_found : (rs : List Role) (k : ℕ) (os : List Operand) (o : Operand) (d total : Option RegOp) → k < length os → o ≡ get_or os k o → d ≡ tied_operand rs o → is_some d ≡ true → first (tied_uses (explicit_bound (explicit_roles rs) (explicit_operands (drop k os)))) ≡ total → d ≡ total
-tied_found rs k os o d total h at is some was = sym (tied_more rs (left_behind rs o) k os o d h at is refl ∙ first_some d (first (tied_uses (seats (left_behind rs o) (drop (k + 1) os)))) some) ∙ was
-
-pub tied_none : (rs : List Role) (k : ℕ) (os : List Operand) (total : Option RegOp) → length os ≤ k → first (tied_uses (explicit_bound (explicit_roles rs) (explicit_operands (drop k os)))) ≡ total → None ≡ total
-tied_none rs k os total h was = sym (ap (λ xs. first (tied_uses (seats rs xs))) (drop_all k os h) ∙ ap (λ bs. first (tied_uses bs)) (bound-nil (explicit_roles rs))) ∙ was
-
-pub ruleset ties_walk = (tied_next, tied_found, tied_none)
-
-none_tied : (rs : List Role) (os : List RegOp) → filter (λ (z : Bound). passes is_tied z.0) (map (implicit_bound rs) os) ≡ []
-none_tied rs [] = refl
-none_tied rs (o ∷ os) = ap (λ b. cond b (implicit_bound rs o ∷ filter (λ (z : Bound). passes is_tied z.0) (map (implicit_bound rs) os)) (filter (λ (z : Bound). passes is_tied z.0) (map (implicit_bound rs) os))) (found_tie o rs) ∙ none_tied rs os
-
--- none but the explicit operands are tied
-pub tied_is : (t : Target) (i : Instr) (rs : List Role) (os : List Operand) (u : Option RegOp) → rs ≡ roles_of t i → os ≡ i.operands → u ≡ first (tied_uses (explicit_bound (explicit_roles rs) (explicit_operands os))) → u ≡ first (tied_uses (bound t i))
-tied_is t i rs os u roles list e =
-    e ∙ ap (λ qs. first (tied_uses (seats qs os))) roles ∙ ap (λ xs. first (tied_uses (seats (roles_of t i) xs))) list
-    ∙ sym (ap (λ (bs : List Bound). first (registers (map (λ (z : Bound). z.1) bs))) (filter-append (λ (z : Bound). passes is_tied z.0) (seats (roles_of t i) i.operands) (map (implicit_bound (implicit_roles (roles_of t i))) (implicit_registers i.operands)) ∙ ap (λ bs. filter (λ (z : Bound). passes is_tied z.0) (seats (roles_of t i) i.operands) ++ bs) (none_tied (implicit_roles (roles_of t i)) (implicit_registers i.operands)) ∙ append-nil (filter (λ (z : Bound). passes is_tied z.0) (seats (roles_of t i) i.operands))))
-
-pub ruleset tied_use_is = (tied_is)
-
--- what is read besides the tied use
-
-besides_is : (l : Loc) (r : Option Role) (o : Operand) → reads_besides l (r, o) ≡ (not (passes is_tied r) && reads l o)
-besides_is l r (operands.Reg o) = go (passes is_tied r)
-  where
-    go : (c : Bool) → (not c && not o.def && not o.undef && same_loc l o.loc) ≡ (not c && (not o.def && not o.undef && same_loc l o.loc))
-    go true = refl
-    go false = refl
-besides_is l r (operands.Imm n) = sym (and_false (not (passes is_tied r)))
-besides_is l r (operands.Block n) = sym (and_false (not (passes is_tied r)))
-besides_is l r (operands.Stack n) = sym (and_false (not (passes is_tied r)))
-besides_is l r (operands.FixedStack n) = sym (and_false (not (passes is_tied r)))
-besides_is l r (operands.Symbol n) = sym (and_false (not (passes is_tied r)))
-besides_is l r (operands.Index n) = sym (and_false (not (passes is_tied r)))
-besides_is l r (operands.Mask n) = sym (and_false (not (passes is_tied r)))
-
-any_read : (l : Loc) (rs : List Role) (o : Operand) (os : List Operand) → list_any (reads_besides l) (seats rs (o ∷ os)) ≡ (reads_untied l rs o || list_any (reads_besides l) (seats (left_behind rs o) os))
-any_read l rs o os = ap (list_any (reads_besides l)) (seats_more rs o os) ∙ go (is_implicit_operand o) (seats (left_behind rs o) os)
-  where
-    go : (b : Bool) (bs : List Bound) → list_any (reads_besides l) (cond b bs ((first_role (from_explicit rs), o) ∷ bs)) ≡ ((not b && not (cond b false (passes is_tied (first_role (from_explicit rs)))) && reads l o) || list_any (reads_besides l) bs)
-    go true bs = refl
-    go false bs = ap (λ c. c || list_any (reads_besides l) bs) (besides_is l (first_role (from_explicit rs)) o)
-
-read_more : (l : Loc) (rs next : List Role) (k : ℕ) (os : List Operand) (o : Operand) (b : Bool) → k < length os → o ≡ get_or os k o → b ≡ reads_untied l rs o → next ≡ left_behind rs o → list_any (reads_besides l) (seats rs (drop k os)) ≡ (b || list_any (reads_besides l) (seats next (drop (k + 1) os)))
-read_more l rs next k os o b h at is left =
-    let c : drop k os ≡ o ∷ drop (k + 1) os = rw (← at) at (drop_more os k o h) in
-    ap (λ xs. list_any (reads_besides l) (seats rs xs)) c ∙ any_read l rs o (drop (k + 1) os)
-    ∙ ap (λ q. q || list_any (reads_besides l) (seats (left_behind rs o) (drop (k + 1) os))) (sym is)
-    ∙ ap (λ qs. b || list_any (reads_besides l) (seats qs (drop (k + 1) os))) (sym left)
-
-pub read_next : (l : Loc) (rs next : List Role) (k : ℕ) (os : List Operand) (o : Operand) (b total : Bool) → k < length os → o ≡ get_or os k o → b ≡ reads_untied l rs o → b ≡ false → next ≡ left_behind rs o → list_any (reads_besides l) (explicit_bound (explicit_roles rs) (explicit_operands (drop k os))) ≡ total → list_any (reads_besides l) (explicit_bound (explicit_roles next) (explicit_operands (drop (k + 1) os))) ≡ total
-read_next l rs next k os o b total h at is fails left was = sym (read_more l rs next k os o b h at is left ∙ ap (λ q. q || list_any (reads_besides l) (seats next (drop (k + 1) os))) fails) ∙ was
-
-pub read_found : (l : Loc) (rs : List Role) (k : ℕ) (os : List Operand) (o : Operand) (b total : Bool) → k < length os → o ≡ get_or os k o → b ≡ reads_untied l rs o → b ≡ true → list_any (reads_besides l) (explicit_bound (explicit_roles rs) (explicit_operands (drop k os))) ≡ total → true ≡ total
-read_found l rs k os o b total h at is holds was = sym (read_more l rs (left_behind rs o) k os o b h at is refl ∙ ap (λ q. q || list_any (reads_besides l) (seats (left_behind rs o) (drop (k + 1) os))) holds) ∙ was
-
-pub read_none : (l : Loc) (rs : List Role) (k : ℕ) (os : List Operand) (total : Bool) → length os ≤ k → list_any (reads_besides l) (explicit_bound (explicit_roles rs) (explicit_operands (drop k os))) ≡ total → false ≡ total
-read_none l rs k os total h was = sym (ap (λ xs. list_any (reads_besides l) (seats rs xs)) (drop_all k os h) ∙ ap (list_any (reads_besides l)) (bound-nil (explicit_roles rs))) ∙ was
-
-pub ruleset reads_walk = (read_next, read_found, read_none)
-
--- implicit operands aren't tied
-implicit_read : (l : Loc) (rs : List Role) (os : List Operand) → list_any (reads_besides l) (map (implicit_bound rs) (implicit_registers os)) ≡ list_any (reads_implicitly l) os
-implicit_read l rs [] = refl
-implicit_read l rs (operands.Reg o ∷ os) = go o.implicit (implicit_read l rs os)
-  where
-    go : (b : Bool) → list_any (reads_besides l) (map (implicit_bound rs) (implicit_registers os)) ≡ list_any (reads_implicitly l) os → list_any (reads_besides l) (map (implicit_bound rs) (cond b (o ∷ implicit_registers os) (implicit_registers os))) ≡ ((b && reads l (operands.Reg o)) || list_any (reads_implicitly l) os)
-    go true ih = ap (λ c. c || list_any (reads_besides l) (map (implicit_bound rs) (implicit_registers os))) (besides_is l (find (takes_role o) rs) (operands.Reg o)) ∙ ap (λ c. (not c && reads l (operands.Reg o)) || list_any (reads_besides l) (map (implicit_bound rs) (implicit_registers os))) (found_tie o rs) ∙ ap (λ c. reads l (operands.Reg o) || c) ih
-    go false ih = ih
-implicit_read l rs (o ∷ os) = implicit_read l rs os
+-- tied pairs
 
 read_first : (d : RegOp) (o : Operand) (os : List Operand) → defines_and_reads d (readings (registers (o ∷ os))) ≡ (reads d.loc o || defines_and_reads d (readings (registers os)))
 read_first d (operands.Reg o) os = go o.def o.undef
@@ -297,28 +143,44 @@ read_first d (operands.Reg o) os = go o.def o.undef
     go true u = refl
     go false true = refl
     go false false = refl
-read_first d (operands.Imm n) os = refl
-read_first d (operands.Block n) os = refl
-read_first d (operands.Stack n) os = refl
-read_first d (operands.FixedStack n) os = refl
-read_first d (operands.Symbol n) os = refl
-read_first d (operands.Index n) os = refl
-read_first d (operands.Mask n) os = refl
+read_first d o os = refl
 
-untied_is : (d : RegOp) (bs : List Bound) → defines_and_reads d (untied_readings bs) ≡ list_any (reads_besides d.loc) bs
-untied_is d [] = refl
-untied_is d ((r, o) ∷ bs) = go (passes is_tied r) (untied_is d bs) ∙ ap (λ c. c || list_any (reads_besides d.loc) bs) (sym (besides_is d.loc r o))
+-- what is read besides the use tied to a definition
+besides_are : (d : RegOp) (n : ℕ) (bs : List Bound) → list_any (reads_besides n d.loc) bs ≡ defines_and_reads d (readings_besides n bs)
+besides_are d n [] = refl
+besides_are d n (b ∷ bs) = go (passes (ties_to n) b.0) (besides_are d n bs)
   where
-    kept : List Bound
-    kept = filter (λ (z : Bound). not (passes is_tied z.0)) bs
+    left : List Bound
+    left = filter (λ c. not (passes (ties_to n) c.0)) bs
 
-    go : (c : Bool) → defines_and_reads d (untied_readings bs) ≡ list_any (reads_besides d.loc) bs → defines_and_reads d (readings (registers (map (λ (z : Bound). z.1) (cond (not c) ((r, o) ∷ filter (λ (z : Bound). not (passes is_tied z.0)) bs) (filter (λ (z : Bound). not (passes is_tied z.0)) bs))))) ≡ ((not c && reads d.loc o) || list_any (reads_besides d.loc) bs)
+    go : (tied : Bool) → list_any (reads_besides n d.loc) bs ≡ defines_and_reads d (readings_besides n bs) → ((not tied && reads d.loc b.1) || list_any (reads_besides n d.loc) bs) ≡ defines_and_reads d (readings (registers (map (λ (c : Bound). c.1) (cond (not tied) (b ∷ left) left))))
     go true ih = ih
-    go false ih = read_first d o (map (λ (z : Bound). z.1) (filter (λ (z : Bound). not (passes is_tied z.0)) bs)) ∙ ap (λ b. reads d.loc o || b) ih
+    go false ih = ap (λ r. reads d.loc b.1 || r) ih ∙ sym (read_first d b.1 (map (λ (c : Bound). c.1) left))
 
-pub read_is : (t : Target) (d : RegOp) (i : Instr) (rs : List Role) (os : List Operand) (a b : Bool) → rs ≡ roles_of t i → os ≡ i.operands → a ≡ list_any (reads_besides d.loc) (explicit_bound (explicit_roles rs) (explicit_operands os)) → b ≡ list_any (reads_implicitly d.loc) os → (a || b) ≡ defines_and_reads d (untied_readings (bound t i))
-read_is t d i rs os a b roles list explicit implicit =
-    let one : a ≡ list_any (reads_besides d.loc) (seats (roles_of t i) i.operands) = explicit ∙ ap (λ qs. list_any (reads_besides d.loc) (seats qs os)) roles ∙ ap (λ xs. list_any (reads_besides d.loc) (seats (roles_of t i) xs)) list in
-    let two : b ≡ list_any (reads_besides d.loc) (map (implicit_bound (implicit_roles (roles_of t i))) (implicit_registers i.operands)) = implicit ∙ ap (list_any (reads_implicitly d.loc)) list ∙ sym (implicit_read d.loc (implicit_roles (roles_of t i)) i.operands) in
-    ap (λ c. c || b) one ∙ ap (λ c. list_any (reads_besides d.loc) (seats (roles_of t i) i.operands) || c) two
-    ∙ sym (untied_is d (bound t i) ∙ list_any-append (reads_besides d.loc) (seats (roles_of t i) i.operands) (map (implicit_bound (implicit_roles (roles_of t i))) (implicit_registers i.operands)))
+module _ (t : Target) (f : Function) (x : Table) (i : Instr) where
+  tie_solved : (p : TiedPair) → tie_fits t f x i.id (bound t i) p ≡ list_all (copy_solved t x) (tied_copies t f i p)
+  tie_solved p =
+      ap (λ r. is_in_place p || (copy_fits t f x (arounds.Before i.id) d && (not r || copy_fits t f x (arounds.Behind i.id) d))) (besides_are d p.number (bound t i))
+      ∙ go (is_in_place p) (defines_and_reads d (readings_besides p.number (bound t i)))
+    where
+      d : RegOp
+      d = p.definition
+
+      go : (there read : Bool) → (there || (copy_fits t f x (arounds.Before i.id) d && (not read || copy_fits t f x (arounds.Behind i.id) d))) ≡ list_all (copy_solved t x) (cond there [] (copied_at t f (Entry i.id) d ∷ cond read (copied_at t f (Exit i.id) d ∷ []) []))
+      go true read = refl
+      go false true = ap (λ b. copy_fits t f x (arounds.Before i.id) d && b) (one_copy t f x (Exit i.id) d)
+      go false false = refl
+
+  ties_solved : (bs : List Bound) → list_all (operand_fits t f x i (bound t i)) bs ≡ list_all (copy_solved t x) (flat_map (tied_copies t f i) (filter_map (tied_pair i.operands) bs))
+  ties_solved [] = refl
+  ties_solved (b ∷ bs) = go (tied_pair i.operands b) (ties_solved bs)
+    where
+      rest : List Needs
+      rest = flat_map (tied_copies t f i) (filter_map (tied_pair i.operands) bs)
+
+      go : (q : Option TiedPair) → list_all (operand_fits t f x i (bound t i)) bs ≡ list_all (copy_solved t x) rest → (elim q [ None ↦ true | Some p ↦ tie_fits t f x i.id (bound t i) p ] && list_all (operand_fits t f x i (bound t i)) bs) ≡ list_all (copy_solved t x) (flat_map (tied_copies t f i) (cons_option q (filter_map (tied_pair i.operands) bs)))
+      go None ih = ih
+      go (Some p) ih = ap (λ b. b && list_all (operand_fits t f x i (bound t i)) bs) (tie_solved p) ∙ ap (λ b. list_all (copy_solved t x) (tied_copies t f i p) && b) ih ∙ sym (list_all-append (copy_solved t x) (tied_copies t f i p) rest)
+
+  pub ties_are : (bs : List Bound) (told : Bool) → bs ≡ bound t i → told ≡ list_all (operand_fits t f x i bs) bs → told ≡ list_all (copy_solved t x) (flat_map (tied_copies t f i) (tied_pairs t i))
+  ties_are bs told is e = e ∙ ap (λ cs. list_all (operand_fits t f x i cs) cs) is ∙ ties_solved (bound t i)

@@ -1,31 +1,29 @@
 -- The own places of instructions, and those of the copies that lowering makes, which have few variables.
-use Rattle.std.proofs.Common.{◌≡◌, ℕ, ◌+◌, ◌-◌, ◌<◌, ◌≤◌, Bool, true, false, cond, not, ◌&&◌, ◌||◌, List, [], ◌∷◌, ◌++◌, map, length, get_or, take, drop, Option, Some, None, refl, ap, sym, ◌∙◌, arith, subst, inl, inr, below_more}
+use Rattle.std.proofs.Common.{◌≡◌, ℕ, ◌+◌, ◌-◌, ◌<◌, ◌≤◌, Bool, true, false, cond, List, [], ◌∷◌, ◌++◌, map, length, get_or, take, drop, Option, Some, None, refl, ap, sym, ◌∙◌, arith, subst, inl, inr, below_more}
 use Rattle.std.specs.Prelude.{slice_get, nat_lt}
 use Rattle.std.proofs.lemmas.Bool.Decides.{nat_tests}
 use Rattle.std.specs.List.{list_any, flat_map}
 use Rattle.std.proofs.lemmas.List.{drop_more, length-map}
 use Rattle.std.proofs.lemmas.List.Folds.{list_any_at}
 use Rattle.std.proofs.lemmas.Option.{slice_get_cases, slice_get_read, slice_get_past, slice_get_within}
-use Rattle.meaning.specs.Live.{Among, here, there}
-use Rattle.target_base.specs.declared.types.Effect.{Effect}
-use Rattle.target_base.specs.declared.types.Effect.TheVariants as effects
+use Rattle.meaning.specs.Live.{Among, here}
 use Rattle.target_base.specs.declared.types.Target.{Target}
 use Rattle.target_base.specs.Rules.{is_copy}
 use Rattle.mir_func.specs.declared.func.RegOp.{RegOp}
 use Rattle.mir_func.specs.declared.func.Operand.{Operand}
-use Rattle.mir_func.specs.declared.func.Operand.TheVariants as operands
 use Rattle.mir_func.specs.declared.func.Instr.{Instr}
 use Rattle.mir_func.specs.declared.func.Block.{Block}
 use Rattle.mir_func.specs.declared.func.Place.{Place}
 use Rattle.mir_func.specs.Value.{Function}
-use Rattle.mir_func.specs.Binding.{does, effect_of, is_terminator, registers, bound, tied_pair, is_lowered_away, is_virtual, same_loc, same_index}
-use Rattle.mir_meaning.specs.Points.{Point, Entry, Exit}
-use Rattle.mir_meaning.specs.Rules.{readings, untied_readings}
-use Rattle.mir_meaning.specs.Places.{Needs, Variable as Need, each_once, copy_variables, instr_variables, place_of, copy_place, instr_place, own_places, copied_at, phi_copies, phi_point, defines_and_reads, input_copies, tied_copies, effect_copies, lowering_places, places_at, StandsAt, FirstPlace, TooMany}
+use Rattle.mir_func.specs.Binding.{does, is_terminator, is_lowered_away}
+use Rattle.mir_meaning.specs.Points.{Entry}
+use Rattle.mir_meaning.specs.Places.{Needs, Variable as Need, each_once, copy_variables, instr_variables, place_of, copy_place, instr_place, own_places, copied_at, lowering_places, places_at, StandsAt, FirstPlace, TooMany}
+use Rattle.instr_effects.proofs.Members.{member-none, member-elim, either-elim, left-in}
 use Rattle.place_solve.specs.declared.variables.Variable.{Variable}
 use Rattle.place_solve.specs.Choice.{need_of}
 use Rattle.place_solve.specs.Once.{virtual_sides, side_variables}
 use Rattle.place_solve.specs.Own.{own_of, own_found, own_instrs, place_variables, is_crowded, IsFirst, HasFew}
+use Rattle.place_solve.proofs.Copied.{lowered}
 use Rattle.place_solve.proofs.Operands.{copies_are}
 
 -- the last of a list is among them
@@ -92,17 +90,13 @@ single_case false t f i e = refl
 pub single_is : (t : Target) (f : Function) (i : Instr) → (instr_place t f i).variables ≡ place_variables t f (i ∷ [])
 single_is t f i = single_case (does is_copy t i) t f i refl
 
-pub among_none : {P : Type 0} (p : Needs) → Among p [] → P
-among_none p h = elim h [ ]
-
-pub among_one : (p q : Needs) → Among p (q ∷ []) → p ≡ q
-among_one p q here = refl
-among_one p q (there h) = among_none p h
+among_one : (p q : Needs) → Among p (q ∷ []) → p ≡ q
+among_one p q m = member-elim p q [] (λ e. e) (λ k. absurd (member-none p k)) m
 
 own_down : (a b c : Bool) (t : Target) (f : Function) (is : List Instr) (i : Instr) (p : Needs) → Among p (cond a (cond b [] (place_of t f is ∷ [])) (cond c [] (instr_place t f i ∷ []))) → p.variables ≡ place_variables t f (cond a (cond b [] is) (cond c [] (i ∷ [])))
-own_down true true c t f is i p h = among_none p h
+own_down true true c t f is i p h = absurd (member-none p h)
 own_down true false c t f is i p h = ap (λ (q : Needs). q.variables) (among_one p (place_of t f is) h)
-own_down false b true t f is i p h = among_none p h
+own_down false b true t f is i p h = absurd (member-none p h)
 own_down false b false t f is i p h = ap (λ (q : Needs). q.variables) (among_one p (instr_place t f i) h) ∙ single_is t f i
 
 -- a place of that list with these variables
@@ -118,180 +112,13 @@ own_up false b true t f is i h = absurd (omega arith)
 own_up false b false t f is i h = record { place = instr_place t f i; among = here; variables = single_is t f i }
 
 -- the places of copies that lowering makes have one variable each
-
-Slim : List Needs → Type 0
-Slim ps = (p : Needs) → Among p ps → TooMany p → ⊥
-
-slim_none : Slim []
-unfolding Slim
-slim_none = λ p h m. among_none p h
-
-slim_copy : (t : Target) (f : Function) (q : Point) (o : RegOp) (ps : List Needs) → Slim ps → Slim (copied_at t f q o ∷ ps)
-unfolding Slim
-slim_copy t f q o ps s = λ p h m. slim_one p h m
-  where
-    slim_one : (p : Needs) → Among p (copied_at t f q o ∷ ps) → TooMany p → ⊥
-    slim_one p here m = omega arith
-    slim_one p (there h) m = s p h m
-
-at_one : (x : Needs) (ps : List Needs) → (TooMany x → ⊥) → ((q : Needs) → Among q ps → TooMany q → ⊥) → (p : Needs) → Among p (x ∷ ps) → TooMany p → ⊥
-at_one x ps a s p here m = a m
-at_one x ps a s p (there h) m = s p h m
-
-slim_push : (x : Needs) (ps : List Needs) → (TooMany x → ⊥) → Slim ps → Slim (x ∷ ps)
-unfolding Slim
-slim_push x ps a s = λ p h m. at_one x ps a s p h m
-
-slim_head : (x : Needs) (ps : List Needs) → Slim (x ∷ ps) → TooMany x → ⊥
-unfolding Slim
-slim_head x ps s m = s x here m
-
-slim_tail : (x : Needs) (ps : List Needs) → Slim (x ∷ ps) → Slim ps
-unfolding Slim
-slim_tail x ps s = λ p h m. s p (there h) m
-
-slim_append : (ps qs : List Needs) → Slim ps → Slim qs → Slim (ps ++ qs)
-slim_append [] qs a b = b
-slim_append (x ∷ ps) qs a b = slim_push x (ps ++ qs) (slim_head x ps a) (slim_append ps qs (slim_tail x ps a) b)
-
-slim_if : (b : Bool) (ps qs : List Needs) → Slim ps → Slim qs → Slim (cond b ps qs)
-slim_if true ps qs a b = a
-slim_if false ps qs a b = b
-
-slim_phi : (t : Target) (f : Function) (os : List Operand) → Slim (phi_copies t f os)
-slim_phi t f [] = slim_none
-slim_phi t f (operands.Reg s ∷ []) = slim_none
-slim_phi t f (operands.Reg s ∷ operands.Block n ∷ os) = slim_if s.undef (phi_copies t f os) (copied_at t f (phi_point t f n) s ∷ phi_copies t f os) (slim_phi t f os) (slim_copy t f (phi_point t f n) s (phi_copies t f os) (slim_phi t f os))
-slim_phi t f (operands.Reg s ∷ operands.Reg o ∷ os) = slim_none
-slim_phi t f (operands.Reg s ∷ operands.Imm n ∷ os) = slim_none
-slim_phi t f (operands.Reg s ∷ operands.Stack n ∷ os) = slim_none
-slim_phi t f (operands.Reg s ∷ operands.FixedStack n ∷ os) = slim_none
-slim_phi t f (operands.Reg s ∷ operands.Symbol n ∷ os) = slim_none
-slim_phi t f (operands.Reg s ∷ operands.Index n ∷ os) = slim_none
-slim_phi t f (operands.Reg s ∷ operands.Mask n ∷ os) = slim_none
-slim_phi t f (operands.Imm n ∷ os) = slim_none
-slim_phi t f (operands.Block n ∷ os) = slim_none
-slim_phi t f (operands.Stack n ∷ os) = slim_none
-slim_phi t f (operands.FixedStack n ∷ os) = slim_none
-slim_phi t f (operands.Symbol n ∷ os) = slim_none
-slim_phi t f (operands.Index n ∷ os) = slim_none
-slim_phi t f (operands.Mask n ∷ os) = slim_none
-
-slim_each : (t : Target) (f : Function) (q : Point) (os : List RegOp) → Slim (map (copied_at t f q) os)
-slim_each t f q [] = slim_none
-slim_each t f q (o ∷ os) = slim_copy t f q o (map (copied_at t f q) os) (slim_each t f q os)
-
-slim_single : (b : Bool) (t : Target) (f : Function) (q : Point) (o : RegOp) → Slim (cond b (copied_at t f q o ∷ []) [])
-slim_single b t f q o = slim_if b (copied_at t f q o ∷ []) [] (slim_copy t f q o [] slim_none) slim_none
-
-slim_inputs : (t : Target) (f : Function) (q : Point) (d : RegOp) (inputs overwritten : List RegOp) → Slim (input_copies t f q d inputs overwritten)
-slim_inputs t f q d inputs overwritten = slim_append (map (copied_at t f q) (readings inputs)) (cond (defines_and_reads d overwritten) (copied_at t f q d ∷ []) []) (slim_each t f q (readings inputs)) (slim_single (defines_and_reads d overwritten) t f q d)
-
-slim_tied : (t : Target) (f : Function) (i : Instr) (d u : RegOp) → Slim (tied_copies t f i d u)
-slim_tied t f i d u =
-    slim_if (u.undef || not (is_virtual d.loc) || (same_loc d.loc u.loc && same_index d.index u.index)) [] (copied_at t f (Entry i.id) d ∷ cond (defines_and_reads d (untied_readings (bound t i))) (copied_at t f (Exit i.id) d ∷ []) []) slim_none
-    (slim_copy t f (Entry i.id) d (cond (defines_and_reads d (untied_readings (bound t i))) (copied_at t f (Exit i.id) d ∷ []) []) (slim_single (defines_and_reads d (untied_readings (bound t i))) t f (Exit i.id) d))
-
-slim_pair : (t : Target) (f : Function) (i : Instr) (q : Option (RegOp × RegOp)) → Slim (elim q [ None ↦ [] | Some p ↦ tied_copies t f i p.0 p.1 ])
-slim_pair t f i None = slim_none
-slim_pair t f i (Some p) = slim_tied t f i p.0 p.1
-
-slim_effect : (t : Target) (f : Function) (i : Instr) (os : List Operand) (e : Effect) → Slim (effect_copies t f i os e)
-slim_effect t f i [] e = slim_pair t f i (tied_pair t i)
-slim_effect t f i (operands.Imm n ∷ os) e = slim_pair t f i (tied_pair t i)
-slim_effect t f i (operands.Block n ∷ os) e = slim_pair t f i (tied_pair t i)
-slim_effect t f i (operands.Stack n ∷ os) e = slim_pair t f i (tied_pair t i)
-slim_effect t f i (operands.FixedStack n ∷ os) e = slim_pair t f i (tied_pair t i)
-slim_effect t f i (operands.Symbol n ∷ os) e = slim_pair t f i (tied_pair t i)
-slim_effect t f i (operands.Index n ∷ os) e = slim_pair t f i (tied_pair t i)
-slim_effect t f i (operands.Mask n ∷ os) e = slim_pair t f i (tied_pair t i)
-slim_effect t f i (operands.Reg d ∷ []) effects.Copy = slim_pair t f i (tied_pair t i)
-slim_effect t f i (operands.Reg d ∷ []) effects.Phi = slim_append (phi_copies t f []) (copied_at t f (Entry i.id) d ∷ []) (slim_phi t f []) (slim_copy t f (Entry i.id) d [] slim_none)
-slim_effect t f i (operands.Reg d ∷ []) effects.ImplicitDef = slim_pair t f i (tied_pair t i)
-slim_effect t f i (operands.Reg d ∷ []) effects.RegSequence = slim_inputs t f (Entry i.id) d (registers []) (registers [])
-slim_effect t f i (operands.Reg d ∷ []) effects.InsertSubreg = slim_pair t f i (tied_pair t i)
-slim_effect t f i (operands.Reg d ∷ []) effects.Const = slim_pair t f i (tied_pair t i)
-slim_effect t f i (operands.Reg d ∷ []) effects.Addr = slim_pair t f i (tied_pair t i)
-slim_effect t f i (operands.Reg d ∷ []) effects.Add = slim_pair t f i (tied_pair t i)
-slim_effect t f i (operands.Reg d ∷ []) effects.Sub = slim_pair t f i (tied_pair t i)
-slim_effect t f i (operands.Reg d ∷ []) effects.Mul = slim_pair t f i (tied_pair t i)
-slim_effect t f i (operands.Reg d ∷ []) effects.And = slim_pair t f i (tied_pair t i)
-slim_effect t f i (operands.Reg d ∷ []) effects.Or = slim_pair t f i (tied_pair t i)
-slim_effect t f i (operands.Reg d ∷ []) effects.Xor = slim_pair t f i (tied_pair t i)
-slim_effect t f i (operands.Reg d ∷ []) effects.Shl = slim_pair t f i (tied_pair t i)
-slim_effect t f i (operands.Reg d ∷ []) effects.Shr = slim_pair t f i (tied_pair t i)
-slim_effect t f i (operands.Reg d ∷ []) effects.Sar = slim_pair t f i (tied_pair t i)
-slim_effect t f i (operands.Reg d ∷ []) effects.Neg = slim_pair t f i (tied_pair t i)
-slim_effect t f i (operands.Reg d ∷ []) effects.Not = slim_pair t f i (tied_pair t i)
-slim_effect t f i (operands.Reg d ∷ []) effects.Udiv = slim_pair t f i (tied_pair t i)
-slim_effect t f i (operands.Reg d ∷ []) effects.Urem = slim_pair t f i (tied_pair t i)
-slim_effect t f i (operands.Reg d ∷ []) effects.Madd = slim_pair t f i (tied_pair t i)
-slim_effect t f i (operands.Reg d ∷ []) effects.Zext = slim_pair t f i (tied_pair t i)
-slim_effect t f i (operands.Reg d ∷ []) effects.Sext = slim_pair t f i (tied_pair t i)
-slim_effect t f i (operands.Reg d ∷ []) effects.Cmp = slim_pair t f i (tied_pair t i)
-slim_effect t f i (operands.Reg d ∷ []) (effects.Load n) = slim_pair t f i (tied_pair t i)
-slim_effect t f i (operands.Reg d ∷ []) (effects.Store n) = slim_pair t f i (tied_pair t i)
-slim_effect t f i (operands.Reg d ∷ []) effects.Jump = slim_pair t f i (tied_pair t i)
-slim_effect t f i (operands.Reg d ∷ []) effects.Jcc = slim_pair t f i (tied_pair t i)
-slim_effect t f i (operands.Reg d ∷ []) effects.Jnz = slim_pair t f i (tied_pair t i)
-slim_effect t f i (operands.Reg d ∷ []) effects.Call = slim_pair t f i (tied_pair t i)
-slim_effect t f i (operands.Reg d ∷ []) effects.Ret = slim_pair t f i (tied_pair t i)
-slim_effect t f i (operands.Reg d ∷ []) effects.Marker = slim_pair t f i (tied_pair t i)
-slim_effect t f i (operands.Reg d ∷ []) effects.Spill = slim_pair t f i (tied_pair t i)
-slim_effect t f i (operands.Reg d ∷ []) effects.Reload = slim_pair t f i (tied_pair t i)
-slim_effect t f i (operands.Reg d ∷ o ∷ os) effects.Copy = slim_pair t f i (tied_pair t i)
-slim_effect t f i (operands.Reg d ∷ o ∷ os) effects.Phi = slim_append (phi_copies t f (o ∷ os)) (copied_at t f (Entry i.id) d ∷ []) (slim_phi t f (o ∷ os)) (slim_copy t f (Entry i.id) d [] slim_none)
-slim_effect t f i (operands.Reg d ∷ o ∷ os) effects.ImplicitDef = slim_pair t f i (tied_pair t i)
-slim_effect t f i (operands.Reg d ∷ o ∷ os) effects.RegSequence = slim_inputs t f (Entry i.id) d (registers (o ∷ os)) (registers (o ∷ os))
-slim_effect t f i (operands.Reg d ∷ o ∷ os) effects.InsertSubreg = slim_inputs t f (Entry i.id) d (registers (o ∷ os)) (registers os)
-slim_effect t f i (operands.Reg d ∷ o ∷ os) effects.Const = slim_pair t f i (tied_pair t i)
-slim_effect t f i (operands.Reg d ∷ o ∷ os) effects.Addr = slim_pair t f i (tied_pair t i)
-slim_effect t f i (operands.Reg d ∷ o ∷ os) effects.Add = slim_pair t f i (tied_pair t i)
-slim_effect t f i (operands.Reg d ∷ o ∷ os) effects.Sub = slim_pair t f i (tied_pair t i)
-slim_effect t f i (operands.Reg d ∷ o ∷ os) effects.Mul = slim_pair t f i (tied_pair t i)
-slim_effect t f i (operands.Reg d ∷ o ∷ os) effects.And = slim_pair t f i (tied_pair t i)
-slim_effect t f i (operands.Reg d ∷ o ∷ os) effects.Or = slim_pair t f i (tied_pair t i)
-slim_effect t f i (operands.Reg d ∷ o ∷ os) effects.Xor = slim_pair t f i (tied_pair t i)
-slim_effect t f i (operands.Reg d ∷ o ∷ os) effects.Shl = slim_pair t f i (tied_pair t i)
-slim_effect t f i (operands.Reg d ∷ o ∷ os) effects.Shr = slim_pair t f i (tied_pair t i)
-slim_effect t f i (operands.Reg d ∷ o ∷ os) effects.Sar = slim_pair t f i (tied_pair t i)
-slim_effect t f i (operands.Reg d ∷ o ∷ os) effects.Neg = slim_pair t f i (tied_pair t i)
-slim_effect t f i (operands.Reg d ∷ o ∷ os) effects.Not = slim_pair t f i (tied_pair t i)
-slim_effect t f i (operands.Reg d ∷ o ∷ os) effects.Udiv = slim_pair t f i (tied_pair t i)
-slim_effect t f i (operands.Reg d ∷ o ∷ os) effects.Urem = slim_pair t f i (tied_pair t i)
-slim_effect t f i (operands.Reg d ∷ o ∷ os) effects.Madd = slim_pair t f i (tied_pair t i)
-slim_effect t f i (operands.Reg d ∷ o ∷ os) effects.Zext = slim_pair t f i (tied_pair t i)
-slim_effect t f i (operands.Reg d ∷ o ∷ os) effects.Sext = slim_pair t f i (tied_pair t i)
-slim_effect t f i (operands.Reg d ∷ o ∷ os) effects.Cmp = slim_pair t f i (tied_pair t i)
-slim_effect t f i (operands.Reg d ∷ o ∷ os) (effects.Load n) = slim_pair t f i (tied_pair t i)
-slim_effect t f i (operands.Reg d ∷ o ∷ os) (effects.Store n) = slim_pair t f i (tied_pair t i)
-slim_effect t f i (operands.Reg d ∷ o ∷ os) effects.Jump = slim_pair t f i (tied_pair t i)
-slim_effect t f i (operands.Reg d ∷ o ∷ os) effects.Jcc = slim_pair t f i (tied_pair t i)
-slim_effect t f i (operands.Reg d ∷ o ∷ os) effects.Jnz = slim_pair t f i (tied_pair t i)
-slim_effect t f i (operands.Reg d ∷ o ∷ os) effects.Call = slim_pair t f i (tied_pair t i)
-slim_effect t f i (operands.Reg d ∷ o ∷ os) effects.Ret = slim_pair t f i (tied_pair t i)
-slim_effect t f i (operands.Reg d ∷ o ∷ os) effects.Marker = slim_pair t f i (tied_pair t i)
-slim_effect t f i (operands.Reg d ∷ o ∷ os) effects.Spill = slim_pair t f i (tied_pair t i)
-slim_effect t f i (operands.Reg d ∷ o ∷ os) effects.Reload = slim_pair t f i (tied_pair t i)
-
-slim_lowered : (t : Target) (f : Function) (i : Instr) (e : Option Effect) → Slim (elim e [ None ↦ [] | Some e ↦ effect_copies t f i i.operands e ])
-slim_lowered t f i None = slim_none
-slim_lowered t f i (Some e) = slim_effect t f i i.operands e
-
-slim_places : (t : Target) (f : Function) (i : Instr) → Slim (lowering_places t f i)
-slim_places t f i = slim_lowered t f i (effect_of t i)
+few_lowered : (t : Target) (f : Function) (i : Instr) (p : Needs) → Among p (lowering_places t f i) → TooMany p → ⊥
+few_lowered t f i p m many =
+    let z = lowered t f (λ q. Unit {0}) i tt tt p (λ o n h. tt) m in
+    let one : TooMany (copied_at t f z.0 z.1) = subst TooMany z.3 many in
+    omega arith
 
 -- places of a block
-
-in_both : {P : Type 0} (ps qs : List Needs) (p : Needs) → Among p (ps ++ qs) → (Among p ps → P) → (Among p qs → P) → P
-in_both [] qs p h f g = g h
-in_both (x ∷ ps) qs p here f g = f here
-in_both (x ∷ ps) qs p (there h) f g = in_both ps qs p h (λ k. f (there k)) g
-
-in_first : (ps qs : List Needs) (p : Needs) → Among p ps → Among p (ps ++ qs)
-in_first [] qs p h = elim h [ ]
-in_first (x ∷ ps) qs p here = here
-in_first (x ∷ ps) qs p (there h) = there (in_first ps qs p h)
 
 few_length : (n : ℕ) → nat_lt 6 n ≡ false → 6 < n → ⊥
 few_length n e h = grind (arith, nat_tests)
@@ -317,11 +144,11 @@ same_block : (f : Function) (k : ℕ) (b c : Block) → slice_get f.blocks k ≡
 same_block f k b c e g = let h : Some c ≡ Some b = sym g ∙ e in cc
 
 stands_few : (t : Target) (f : Function) (k : ℕ) (b : Block) (j : ℕ) (p : Needs) → slice_get f.blocks k ≡ Some b → StandsAt t f k j p → is_crowded t f b.instrs j ≡ false → TooMany p → ⊥
-unfolding places_at Slim
+unfolding places_at
 stands_few t f k b j p at s few many =
     let e : s.block ≡ b = same_block f k b s.block at s.is_block in
     let g : is_crowded t f s.block.instrs j ≡ false = ap (λ (c : Block). is_crowded t f c.instrs j) e ∙ few in
-    in_both (own_places t f s.block j s.instr) (lowering_places t f s.instr) p s.is_place (λ h. own_few t f s.block j s.instr p s.is_instr g h many) (λ h. slim_places t f s.instr p h many)
+    either-elim p (own_places t f s.block j s.instr) (lowering_places t f s.instr) (λ h. own_few t f s.block j s.instr p s.is_instr g h many) (λ h. few_lowered t f s.instr p h many) s.is_place
 
 stands_within : (t : Target) (f : Function) (k : ℕ) (b : Block) (j : ℕ) (p : Needs) → slice_get f.blocks k ≡ Some b → StandsAt t f k j p → j < length b.instrs
 stands_within t f k b j p at s =
@@ -358,7 +185,7 @@ stood t f k b i name at got crowded few block before =
     record {
       k = k;
       place = has.place;
-      stands = record { block = b; instr = i; is_block = at; is_instr = got; is_place = in_first (own_places t f b name.at i) (lowering_places t f i) has.place has.among };
+      stands = record { block = b; instr = i; is_block = at; is_instr = got; is_place = left-in has.place (own_places t f b name.at i) (lowering_places t f i) has.among };
       is_block = block;
       holds = omega arith;
       first = λ l j q s e m. elim e [

@@ -1,7 +1,7 @@
 -- What a constant or an address writes of units, by its operands.
 use Rattle.std.proofs.Common.{◌≡◌, ◌⊎◌, ◌∙◌, ◌<◌, ◌≤◌, ◌+◌, ℕ, zero, suc, Bool, true, false, cond, not, List, [], ◌∷◌, ◌++◌, Option, Some, None, refl, sym, ap, subst, map, drop, length, inl, inr, arith, sum}
-use Rattle.std.specs.Prelude.{◌&&◌, ◌==◌, option_map, slice_get}
-use Rattle.std.specs.List.{list_all, list_any}
+use Rattle.std.specs.Prelude.{◌&&◌, ◌||◌, ◌==◌, option_map, slice_get}
+use Rattle.std.specs.List.{cons_option, filter_map, list_all, list_any}
 use Rattle.std.proofs.Common.{eqb-true}
 use Rattle.target_base.specs.declared.types.Effect.{Effect}
 use Rattle.target_base.specs.declared.types.Effect.TheVariants as effects
@@ -35,22 +35,23 @@ use Rattle.mir_func.specs.declared.func.Op.TheVariants as ops
 use Rattle.mir_func.specs.declared.func.Instr.{Instr}
 use Rattle.mir_func.specs.declared.func.Block.{Block}
 use Rattle.mir_func.specs.Value.{Function}
-use Rattle.mir_func.specs.Binding.{does, effect_of, explicit_operands, explicit_roles, implicit_registers, is_early_clobber, is_terminator, known_opcode, passes, registers, roles_of, takes_many, is_definition, is_virtual}
+use Rattle.mir_func.specs.Binding.{after_first, definition_in, definitions, does, effect_of, explicit_bound, explicit_operands, explicit_roles, first_role, implicit_registers, is_early, is_early_clobber, is_terminator, known_opcode, passes, registers, roles_of, takes_many, is_definition, is_virtual}
+use Rattle.mir_func.proofs.Bound.{bound_none, bound_step}
 use Rattle.mir_meaning.specs.Codes.{effect_item, item_of, target_of, way, ways_out}
 use Rattle.mir_meaning.specs.Items.{constant_bits, constant_lanes, constant_of, counted_writes, defined_undef, given_constant, moved, rest_of, silent_reads, silent_writes, undefined, values, write}
 use Rattle.mir_meaning.specs.Points.{point_item}
 use Rattle.mir_meaning.specs.Registers.{located_lanes, located_widths, operand_lanes, operand_widths, undefined_lanes}
 use Rattle.mir_meaning.specs.Rules.{V1, explicit_fit, fits_role, implicit_fit, operands_fit}
 use Rattle.instr_effects.specs.Acts.{is_call}
-use Rattle.instr_effects.proofs.Members.{member-none, member-elim, left-in, in-either, filter-of, filter-in}
+use Rattle.instr_effects.proofs.Members.{member-none, member-elim, left-in, in-either}
 use Rattle.live_laws.proofs.Effects.FlagsOf.{uniform-constant}
 use Rattle.live_laws.proofs.Effects.Lists.{all-of}
 use Rattle.live_laws.proofs.Effects.Blocks.{slice-member}
 use Rattle.live_laws.proofs.Effects.Moved.{moved-of, undefined-lane}
 use Rattle.live_laws.proofs.Effects.Silent.{map-long}
-use Rattle.place_solve.specs.Around.{has_unit, keeps_unit, defines, defines_explicitly, clobbers, writes, writes_early}
+use Rattle.place_solve.specs.Around.{has_unit, keeps_unit, defines, defines_early, clobbers, writes, writes_early}
 use Rattle.place_solve.proofs.Solved.{units-within}
-use Rattle.place_solve.proofs.Writes.{IsExact, any-of, both, either-true, or-left, unit-of, unit-in, no-other, defined-of, defined-in, explicit-of, explicit-in}
+use Rattle.place_solve.proofs.Writes.{IsExact, any-of, both, either-true, or-left, unit-of, unit-in, no-other, defined-of, defined-in}
 
 -- a constant or an address
 abbrev pub is_given : Effect → Bool
@@ -159,9 +160,13 @@ none-explicit : (rs : List Role) → list_all is_implicit rs ≡ true → explic
 none-explicit [] e = refl
 none-explicit (r ∷ rs) e = ap (λ b. cond (not b) (r ∷ explicit_roles rs) (explicit_roles rs)) (first_of_both (is_implicit r) (list_all is_implicit rs) e) ∙ none-explicit rs (second_of_both (is_implicit r) (list_all is_implicit rs) e)
 
--- a definition and what gives its value
+-- a definition, which takes the first role of all, and what gives its value
 abbrev TwoRoles : List Role → Type 0
-TwoRoles rs = (r : Role) × (q : Role) × (explicit_roles rs ≡ r ∷ q ∷ []) × (is_definition_role r ≡ true) × IsGiving q
+TwoRoles rs = (r : Role) × (q : Role) × (explicit_roles rs ≡ r ∷ q ∷ []) × (is_definition_role r ≡ true) × IsGiving q × (is_early r ≡ is_early_clobber rs)
+
+early-first : (r : Role) (rs : List Role) → is_early r ≡ is_early_clobber (r ∷ rs)
+early-first (roles.Early k) rs = refl
+early-first r rs = refl
 
 two-roles : (test : Role → Bool) → ((r : Role) → test r ≡ true → IsGiving r) → (rs : List Role) → has_shape (is_definition_role ∷ test ∷ []) rs ≡ true → TwoRoles rs
 two-roles test gives [] e = absurd (cc)
@@ -170,7 +175,7 @@ two-roles test gives (r ∷ q ∷ rs) e =
     let d = first_of_both (is_definition_role r) (test q && list_all is_implicit rs) e in
     let rest = second_of_both (is_definition_role r) (test q && list_all is_implicit rs) e in
     let g = gives q (first_of_both (test q) (list_all is_implicit rs) rest) in
-    (r, q, ap (λ b. cond (not b) (r ∷ explicit_roles (q ∷ rs)) (explicit_roles (q ∷ rs))) (definition-explicit r d).0 ∙ ap (λ b. r ∷ cond (not b) (q ∷ explicit_roles rs) (explicit_roles rs)) g.0 ∙ ap (λ ys. r ∷ q ∷ ys) (none-explicit rs (second_of_both (test q) (list_all is_implicit rs) rest)), d, g)
+    (r, q, ap (λ b. cond (not b) (r ∷ explicit_roles (q ∷ rs)) (explicit_roles (q ∷ rs))) (definition-explicit r d).0 ∙ ap (λ b. r ∷ cond (not b) (q ∷ explicit_roles rs) (explicit_roles rs)) g.0 ∙ ap (λ ys. r ∷ q ∷ ys) (none-explicit rs (second_of_both (test q) (list_all is_implicit rs) rest)), d, g, early-first r (q ∷ rs))
 
 roles-of-given : (e : Effect) (rs : List Role) → is_given e ≡ true → shape_fits (explicit_shape e) rs ≡ true → TwoRoles rs
 roles-of-given effects.Const rs g h = two-roles is_immediate immediate-gives rs h
@@ -219,6 +224,19 @@ all-explicit (operands.Symbol x ∷ os) e = ap (λ ys. operands.Symbol x ∷ ys)
 all-explicit (operands.Index x ∷ os) e = ap (λ ys. operands.Index x ∷ ys) (all-explicit os e)
 all-explicit (operands.Mask x ∷ os) e = ap (λ ys. operands.Mask x ∷ ys) (all-explicit os e)
 
+-- the operand is no definition, whatever its role
+not-defined : (c : Operand) (r : Option Role) → IsConstant c → definition_in (r, c) ≡ None
+not-defined (operands.Reg x) r k = absurd (let h = (k 0).1 in cc)
+not-defined c r k = refl
+
+-- a definition and a constant
+one-definition : (qs : List Role) (d : RegOp) (o : Operand) → is_definition d ≡ true → IsConstant o → filter_map definition_in (explicit_bound qs (operands.Reg d ∷ o ∷ [])) ≡ (passes is_early (first_role qs), d) ∷ []
+one-definition qs d o h k =
+    let rs = after_first qs in
+    ap (filter_map definition_in) (bound_step qs (operands.Reg d) (o ∷ []) ∙ ap (λ bs. (first_role qs, operands.Reg d) ∷ bs) (bound_step rs o [] ∙ ap (λ bs. (first_role rs, o) ∷ bs) (bound_none (after_first rs))))
+    ∙ ap (λ b. cons_option (cond b (Some (passes is_early (first_role qs), d)) None) (cons_option (definition_in (first_role rs, o)) [])) h
+    ∙ ap (λ m. (passes is_early (first_role qs), d) ∷ cons_option m []) (not-defined o (first_role rs) k)
+
 no-implicit : (d : OpcodeDesc) (os : List RegOp) → is_silent d.effect ≡ true → list_all (λ o. not (is_virtual o.loc) && not (is_silent d.effect)) os ≡ true → os ≡ []
 no-implicit d [] s e = refl
 no-implicit d (o ∷ os) s e = absurd (let h = second_of_both (not (is_virtual o.loc)) (not (is_silent d.effect)) (first_of_both (not (is_virtual o.loc) && not (is_silent d.effect)) _ e) in cc)
@@ -254,21 +272,34 @@ module _ (t : Target) (f : Function) (i : Instr) (e : Effect) (known : effect_of
   fit-by d effects.Addr h g = (second_of_both _ _ (first_of_both _ _ (first_of_both _ _ g)), second_of_both _ _ (first_of_both _ _ g))
   fit-by d e h g = absurd (cc)
 
-  two : TwoOperands i.operands
-  two =
+  its-roles : TwoRoles (roles_of t i)
+  its-roles =
       let d = met.0 in
       let g : is_given d.effect ≡ true = ap is_given met.2 ∙ given in
-      let fit = fit-by d e given met.3 in
-      let rs = roles-of-given d.effect d.roles g (known-desc t i.op d met.1 g) in
-      let none = no-implicit d (implicit_registers i.operands) (given-silent d.effect g).0 (first_of_both _ _ fit.1) in
-      let whole = all-explicit i.operands none in
-      two-operands rs.0 rs.1 i.operands rs.3 rs.4 (subst (λ os. explicit_fit (rs.0 ∷ rs.1 ∷ []) os ≡ true) whole (subst (λ qs. explicit_fit qs (explicit_operands i.operands) ≡ true) rs.2 fit.0))
+      subst (λ rs. TwoRoles rs) (sym (ap (λ (q : Option OpcodeDesc). elim q [ None ↦ [] | Some x ↦ x.roles ]) met.1)) (roles-of-given d.effect d.roles g (known-desc t i.op d met.1 g))
+
+  whole : explicit_operands i.operands ≡ i.operands
+  whole =
+      let d = met.0 in
+      let g : is_given d.effect ≡ true = ap is_given met.2 ∙ given in
+      all-explicit i.operands (no-implicit d (implicit_registers i.operands) (given-silent d.effect g).0 (first_of_both _ _ (fit-by d e given met.3).1))
+
+  two : TwoOperands i.operands
+  two =
+      let fit : explicit_fit (explicit_roles (roles_of t i)) (explicit_operands i.operands) ≡ true = ap (λ (q : Option OpcodeDesc). explicit_fit (explicit_roles (elim q [ None ↦ [] | Some x ↦ x.roles ])) (explicit_operands i.operands)) met.1 ∙ (fit-by met.0 e given met.3).0 in
+      two-operands its-roles.0 its-roles.1 i.operands its-roles.3 its-roles.4 (subst (λ os. explicit_fit (its-roles.0 ∷ its-roles.1 ∷ []) os ≡ true) whole (subst (λ qs. explicit_fit qs (explicit_operands i.operands) ≡ true) its-roles.2 fit))
 
   abbrev d : RegOp
   d = two.0
 
   abbrev o : Operand
   o = two.1
+
+  alone : definitions (roles_of t i) i.operands ≡ (early, d) ∷ []
+  alone =
+      ap (λ os. filter_map definition_in (explicit_bound (explicit_roles (roles_of t i)) os)) (whole ∙ two.2)
+      ∙ one-definition (explicit_roles (roles_of t i)) d o two.3 two.4
+      ∙ ap (λ b. (b, d) ∷ []) (ap (λ qs. passes is_early (first_role qs)) its-roles.2 ∙ its-roles.5)
 
   abbrev ss : List Source
   ss = constant_lanes t f d (constant_of (sum (operand_widths t f d)) o)
@@ -353,14 +384,12 @@ module _ (t : Target) (f : Function) (i : Instr) (e : Effect) (known : effect_of
   back : (u : ℕ) → has_unit t d.loc (unit_number u) ≡ true → writes t i (unit_number u) ≡ true
   back u h = or-left (list_any (defines t (unit_number u)) i.operands) (clobbers t i (unit_number u)) (defined-in t f (unit_number u) i.operands d here defining h)
 
-  early-forth : (u : ℕ) → writes_early t i (unit_number u) ≡ true → (early ≡ true) × (has_unit t d.loc (unit_number u) ≡ true)
-  early-forth u g =
-      let z = explicit-of t f (unit_number u) i.operands (second_of_both early (list_any (defines_explicitly t (unit_number u)) i.operands) g) in
-      let m = filter-of (λ o. o.def && not o.implicit) z.0 (registers i.operands) z.1 in
-      (first_of_both early (list_any (defines_explicitly t (unit_number u)) i.operands) g, subst (λ x. has_unit t x.loc (unit_number u) ≡ true) (only z.0 m.0) z.2)
-
-  early-back : (u : ℕ) → early ≡ true → has_unit t d.loc (unit_number u) ≡ true → writes_early t i (unit_number u) ≡ true
-  early-back u g h = both early (list_any (defines_explicitly t (unit_number u)) i.operands) g (explicit-in t f (unit_number u) i.operands d (filter-in (λ o. o.def && not o.implicit) d (registers i.operands) here two.3) h)
+  early-is : (u : ℕ) → writes_early t i (unit_number u) ≡ (early && has_unit t d.loc (unit_number u))
+  early-is u = ap (list_any (defines_early t (unit_number u))) alone ∙ or-none (early && has_unit t d.loc (unit_number u))
+    where
+      or-none : (b : Bool) → (b || false) ≡ b
+      or-none true = refl
+      or-none false = refl
 
   unit-few : (u : ℕ) → has_unit t d.loc (unit_number u) ≡ true → u < length t.units
   unit-few u h = go d.loc h
@@ -376,8 +405,11 @@ module _ (t : Target) (f : Function) (i : Instr) (e : Effect) (known : effect_of
       (λ w. back u (lane-of w.0 u (subst (Member w.0) (item-is b) w.1) w.2)),
     );
     early = λ u few free. (
-      (λ g. let h = early-forth u g in let z = lane-in u h.1 in (z.0, subst (Member z.0) (sym (item-is b)) z.1, z.2, early-of z.0 z.1 ∙ h.0)),
-      (λ w. let m = subst (Member w.0) (item-is b) w.1 in early-back u (sym (early-of w.0 m) ∙ w.3) (lane-of w.0 u m w.2)),
+      (λ g.
+          let h = sym (early-is u) ∙ g in
+          let z = lane-in u (second_of_both early (has_unit t d.loc (unit_number u)) h) in
+          (z.0, subst (Member z.0) (sym (item-is b)) z.1, z.2, early-of z.0 z.1 ∙ first_of_both early (has_unit t d.loc (unit_number u)) h)),
+      (λ w. let m = subst (Member w.0) (item-is b) w.1 in early-is u ∙ both early (has_unit t d.loc (unit_number u)) (sym (early-of w.0 m) ∙ w.3) (lane-of w.0 u m w.2)),
     );
     few = λ u free w. unit-few u (lane-of w.0 u (subst (Member w.0) (item-is b) w.1) w.2);
   }

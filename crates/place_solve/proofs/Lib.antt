@@ -4,8 +4,10 @@ pub mod Lanes
 pub mod Narrowing
 pub mod Once
 pub mod Operands
+pub mod Copied
 pub mod Crowds
 pub mod Units
+pub mod Early
 pub mod Solved
 pub mod Firsts
 pub mod Told

@@ -1,9 +1,7 @@
 -- In a valid source each place of a copy that lowering makes is that of a copy at a point of the function, and the
 -- tests of the table tell which admit a choice.
-use Rattle.std.proofs.Common.{◌≡◌, ◌≤◌, ℕ, Bool, true, false, cond, List, [], ◌∷◌, ◌++◌, Option, Some, None, sym, subst, map, flat_map}
-use Rattle.std.specs.Prelude.{◌↔◌, ◌&&◌, ◌||◌, not, slice_get}
-use Rattle.target_base.specs.declared.types.Effect.{Effect}
-use Rattle.target_base.specs.declared.types.Effect.TheVariants as effects
+use Rattle.std.proofs.Common.{◌≡◌, ◌≤◌, ℕ, Bool, true, false, cond, List, [], ◌∷◌, ◌++◌, Some, sym, subst, flat_map}
+use Rattle.std.specs.Prelude.{◌↔◌, slice_get}
 use Rattle.target_base.specs.declared.types.Target.{Target}
 use Rattle.target_base.proofs.Tests.{second_of_both}
 use Rattle.meaning.specs.Live.{Among as Member, here as first, there as later}
@@ -14,14 +12,14 @@ use Rattle.mir_func.specs.declared.func.Instr.{Instr}
 use Rattle.mir_func.specs.declared.func.Block.{Block}
 use Rattle.mir_func.specs.Value.{Function, id_total}
 use Rattle.mir_meaning.specs.declared.Form.TheVariants as forms
-use Rattle.mir_func.specs.Binding.{bound, does, effect_of, is_terminator, registers, tied_pair, is_virtual, same_index, same_loc}
+use Rattle.mir_func.specs.Binding.{does, is_terminator}
 use Rattle.mir_meaning.specs.Registers.{has_number, operand_widths}
 use Rattle.mir_meaning.specs.Codes.{instrs_of}
 use Rattle.mir_meaning.specs.Points.{Point, Start, Entry, Exit}
-use Rattle.mir_meaning.specs.Rules.{V5, block_numbers, block_of, named_blocks, readings, successors_of, untied_readings}
-use Rattle.mir_meaning.specs.Places.{Needs, Admits, before_terminators, copied_at, copy_variable, defines_and_reads, effect_copies, input_copies, lowering_places, phi_copies, phi_point, tied_copies}
-use Rattle.instr_effects.specs.Ends.{pairs_of, pairs_behind}
-use Rattle.instr_effects.proofs.Members.{member-none, member-elim, either-elim, flat-in, map-of, right-in}
+use Rattle.mir_meaning.specs.Rules.{V5, block_numbers, block_of, named_blocks, successors_of}
+use Rattle.mir_meaning.specs.Places.{Needs, Admits, before_terminators, copy_variable, lowering_places, phi_point}
+use Rattle.instr_effects.specs.Ends.{pairs_behind}
+use Rattle.instr_effects.proofs.Members.{member-none, flat-in, map-of, right-in}
 use Rattle.live_laws.specs.Effects.Coded.{KeepsRules}
 use Rattle.live_laws.proofs.Effects.Blocks.{member-slice, number-there, slice-member}
 use Rattle.live_laws.proofs.Effects.Lists.{all-of}
@@ -29,74 +27,11 @@ use Rattle.live_laws.proofs.Effects.Phis.{pair-named}
 use Rattle.live_laws.proofs.Effects.Valid.{valid-law, ends}
 use Rattle.place_solve.specs.Laws.{LoweredLaw}
 use Rattle.place_solve.specs.Told.{copy_solved, IsPoint, Seated}
+use Rattle.place_solve.proofs.Copied.{Copied, lowered}
 use Rattle.place_solve.proofs.Stands.{seated}
 use Rattle.place_solve.proofs.Told.{copy-told, instrs-in}
 
 module _ (t : Target) (f : Function) where
-  -- the place is that of a copy at a point of the function
-  abbrev Copied : Needs → Type 0
-  Copied p = (q : Point) × (o : RegOp) × IsPoint t f q × (p ≡ copied_at t f q o)
-
-  at-point : (q : Point) (o : RegOp) (p : Needs) → IsPoint t f q → p ≡ copied_at t f q o → Copied p
-  at-point q o p s e = (q, o, s, e)
-
-  of-one : (q : Point) (o : RegOp) (p : Needs) → IsPoint t f q → Member p (copied_at t f q o ∷ []) → Copied p
-  of-one q o p s m = member-elim p (copied_at t f q o) [] (λ e. at-point q o p s e) (λ k. absurd (member-none p k)) m
-
-  of-if : (b : Bool) (q : Point) (o : RegOp) (p : Needs) → IsPoint t f q → Member p (cond b (copied_at t f q o ∷ []) []) → Copied p
-  of-if true q o p s m = of-one q o p s m
-  of-if false q o p s m = absurd (member-none p m)
-
-  of-pairs : (os : List Operand) (p : Needs) → ((o : RegOp) (n : ℕ) → Member (o, n) (pairs_of os) → IsPoint t f (phi_point t f n)) → Member p (phi_copies t f os) → Copied p
-  of-pairs [] p h m = absurd (member-none p m)
-  of-pairs (operands.Reg s ∷ operands.Block n ∷ os) p h m = go s.undef m (of-pairs os p (λ o k j. h o k (later j)))
-    where
-      go : (b : Bool) → Member p (cond b (phi_copies t f os) (copied_at t f (phi_point t f n) s ∷ phi_copies t f os)) → (Member p (phi_copies t f os) → Copied p) → Copied p
-      go true k ih = ih k
-      go false k ih = member-elim p (copied_at t f (phi_point t f n) s) (phi_copies t f os) (λ e. at-point (phi_point t f n) s p (h s n first) e) ih k
-  of-pairs os p h m = absurd (member-none p m)
-
-  of-inputs : (q : Point) (d : RegOp) (inputs overwritten : List RegOp) (p : Needs) → IsPoint t f q → Member p (input_copies t f q d inputs overwritten) → Copied p
-  of-inputs q d inputs overwritten p s m =
-      either-elim p (map (copied_at t f q) (readings inputs)) (cond (defines_and_reads d overwritten) (copied_at t f q d ∷ []) [])
-      (λ k. let z = map-of (copied_at t f q) p (readings inputs) k in at-point q z.0 p s z.2)
-      (of-if (defines_and_reads d overwritten) q d p s) m
-
-  module _ (i : Instr) (entry : IsPoint t f (Entry i.id)) (exit : IsPoint t f (Exit i.id)) where
-    of-tied : (d u : RegOp) (p : Needs) → Member p (tied_copies t f i d u) → Copied p
-    of-tied d u p m = go (u.undef || not (is_virtual d.loc) || (same_loc d.loc u.loc && same_index d.index u.index)) m
-      where
-        behind : List Needs
-        behind = cond (defines_and_reads d (untied_readings (bound t i))) (copied_at t f (Exit i.id) d ∷ []) []
-
-        go : (b : Bool) → Member p (cond b [] (copied_at t f (Entry i.id) d ∷ cond (defines_and_reads d (untied_readings (bound t i))) (copied_at t f (Exit i.id) d ∷ []) [])) → Copied p
-        go true k = absurd (member-none p k)
-        go false k =
-            member-elim p (copied_at t f (Entry i.id) d) (cond (defines_and_reads d (untied_readings (bound t i))) (copied_at t f (Exit i.id) d ∷ []) [])
-            (λ e. at-point (Entry i.id) d p entry e) (of-if (defines_and_reads d (untied_readings (bound t i))) (Exit i.id) d p exit) k
-
-    of-tie : (q : Option (RegOp × RegOp)) (p : Needs) → Member p (elim q [ None ↦ [] | Some z ↦ tied_copies t f i z.0 z.1 ]) → Copied p
-    of-tie None p m = absurd (member-none p m)
-    of-tie (Some z) p m = of-tied z.0 z.1 p m
-
-    of-phi : (d : RegOp) (os : List Operand) (p : Needs) → ((o : RegOp) (n : ℕ) → Member (o, n) (pairs_of os) → IsPoint t f (phi_point t f n)) → Member p (phi_copies t f os ++ (copied_at t f (Entry i.id) d ∷ [])) → Copied p
-    of-phi d os p h m = either-elim p (phi_copies t f os) (copied_at t f (Entry i.id) d ∷ []) (of-pairs os p h) (of-one (Entry i.id) d p entry) m
-
-    of-effect : (os : List Operand) (e : Effect) (p : Needs) → ((o : RegOp) (n : ℕ) → Member (o, n) (pairs_behind os) → IsPoint t f (phi_point t f n)) → Member p (effect_copies t f i os e) → Copied p
-    of-effect (operands.Reg d ∷ []) effects.Phi p h m = of-phi d [] p h m
-    of-effect (operands.Reg d ∷ o ∷ os) effects.Phi p h m = of-phi d (o ∷ os) p h m
-    of-effect (operands.Reg d ∷ []) effects.RegSequence p h m = of-inputs (Entry i.id) d (registers []) (registers []) p entry m
-    of-effect (operands.Reg d ∷ o ∷ os) effects.RegSequence p h m = of-inputs (Entry i.id) d (registers (o ∷ os)) (registers (o ∷ os)) p entry m
-    of-effect (operands.Reg d ∷ o ∷ os) effects.InsertSubreg p h m = of-inputs (Entry i.id) d (registers (o ∷ os)) (registers os) p entry m
-    of-effect os e p h m = of-tie (tied_pair t i) p m
-
-    of-lowering : (p : Needs) → ((o : RegOp) (n : ℕ) → Member (o, n) (pairs_behind i.operands) → IsPoint t f (phi_point t f n)) → Member p (lowering_places t f i) → Copied p
-    of-lowering p h m = go (effect_of t i) m
-      where
-        go : (q : Option Effect) → Member p (elim q [ None ↦ [] | Some e ↦ effect_copies t f i i.operands e ]) → Copied p
-        go None k = absurd (member-none p k)
-        go (Some e) k = of-effect i.operands e p h k
-
   -- the points before terminators
   before-point : (q : Point) (is : List Instr) → IsPoint t f q → ((i : Instr) → Member i is → Seated t f i) → IsPoint t f (before_terminators t q is)
   before-point q [] s h = s
@@ -130,11 +65,11 @@ module _ (t : Target) (f : Function) where
         let k = member-slice z.0 f.blocks z.1 in
         before-point (Start n) (instrs_of f.blocks n) (k.0, z.0, k.1, sym z.2) (λ i h. let y = instrs-in f.blocks n i h in seat y.0 i y.1 y.2)
 
-    pub lowered-copy : (k j : ℕ) (b : Block) (i : Instr) → slice_get f.blocks k ≡ Some b → slice_get b.instrs j ≡ Some i → (p : Needs) → Member p (lowering_places t f i) → Copied p
+    pub lowered-copy : (k j : ℕ) (b : Block) (i : Instr) → slice_get f.blocks k ≡ Some b → slice_get b.instrs j ≡ Some i → (p : Needs) → Member p (lowering_places t f i) → Copied t f (IsPoint t f) p
     lowered-copy k j b i e g p m =
         let s = seated t f k j b i once e g in
         let mi = slice-member b.instrs j i g in
-        of-lowering i (s.position, s.place, s.spot) (s.position, s.place, s.spot) p (λ o n h. at-phi n (named-block k b i n e mi (behind-named i.operands (o, n) h))) m
+        lowered t f (IsPoint t f) i (s.position, s.place, s.spot) (s.position, s.place, s.spot) p (λ o n h. at-phi n (named-block k b i n e mi (behind-named i.operands (o, n) h))) m
 
 pub lowered-law : LoweredLaw
 lowered-law t f x computed source k j b i e g p m =

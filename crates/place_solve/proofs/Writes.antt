@@ -1,18 +1,16 @@
 -- What counted instructions write of units, by their operands.
-use Rattle.std.proofs.Common.{◌≡◌, ◌⊎◌, ◌∙◌, ◌<◌, ℕ, suc, Bool, true, false, cond, not, List, [], ◌∷◌, ◌++◌, Option, Some, None, refl, sym, ap, subst, map, flat_map, length, inl, inr, arith, eq-eqb, eqb-true}
-use Rattle.std.specs.Prelude.{◌↔◌, ◌&&◌, ◌||◌, ◌==◌, option_map, slice_get}
+use Rattle.std.proofs.Common.{◌≡◌, ◌⊎◌, ◌∙◌, ◌<◌, ℕ, suc, Bool, true, false, cond, not, List, [], ◌∷◌, ◌++◌, Option, Some, None, refl, sym, ap, subst, map, length, inl, inr, arith, eq-eqb, eqb-true}
+use Rattle.std.specs.Prelude.{◌↔◌, ◌&&◌, ◌||◌, ◌==◌, option_map}
 use Rattle.std.specs.List.{list_any}
 use Rattle.target_base.specs.declared.types.Effect.{Effect}
 use Rattle.target_base.specs.declared.types.Effect.TheVariants as effects
 use Rattle.target_base.specs.declared.types.IndexId.{IndexId}
-use Rattle.target_base.specs.declared.types.MaskDesc.{MaskDesc}
 use Rattle.target_base.specs.declared.types.Unit.{Unit as UnitNumber}
 use Rattle.target_base.specs.declared.types.Target.{Target}
 use Rattle.target_base.specs.Numbers.{unit_number}
 use Rattle.target_base.specs.Registers.{units_of, lanes_of, is_reserved_unit}
 use Rattle.target_base.specs.Roles.{is_silent}
 use Rattle.target_base.specs.Rules.{is_phi}
-use Rattle.target_base.specs.Storage.{is_among}
 use Rattle.target_base.proofs.Tests.{first_of_both, second_of_both}
 use Rattle.meaning.specs.declared.types.Lane.{Lane}
 use Rattle.meaning.specs.declared.types.Lane.TheVariants.{VirtualLane, UnitLane}
@@ -29,8 +27,8 @@ use Rattle.mir_func.specs.declared.func.Operand.TheVariants as operands
 use Rattle.mir_func.specs.declared.func.Instr.{Instr}
 use Rattle.mir_func.specs.declared.func.Block.{Block}
 use Rattle.mir_func.specs.Value.{Function}
-use Rattle.mir_func.specs.Binding.{as_register, does, effect_of, implicit_registers, implicit_roles, is_early_clobber, is_terminator, passes, registers, roles_of}
-use Rattle.mir_meaning.specs.Items.{all_lanes, computed, counted_writes, defined_undef, rest_of, silent_reads, silent_writes, values, explicit_definitions, implicit_definitions, implicit_writes, preserves, result_writes, undefined, write}
+use Rattle.mir_func.specs.Binding.{Definition, as_register, definitions, does, effect_of, implicit_registers, implicit_roles, is_early_clobber, is_terminator, passes, registers, roles_of}
+use Rattle.mir_meaning.specs.Items.{all_lanes, computed, counted_writes, defined_undef, rest_of, silent_reads, silent_writes, values, implicit_definitions, implicit_writes, preserves, results, undefined, write}
 use Rattle.mir_meaning.specs.Points.{point_item}
 use Rattle.mir_meaning.specs.Codes.{effect_item, item_of, target_of, way, ways_out}
 use Rattle.mir_meaning.specs.Registers.{is_reserved, located_lanes, numbers, operand_lanes, range_widths, undefined_lanes, whole_lanes}
@@ -39,18 +37,19 @@ use Rattle.instr_effects.specs.Steps.{Numbering}
 use Rattle.instr_effects.specs.Stepping.{tag_of}
 use Rattle.instr_effects.specs.declared.owner.Owner.TheVariants as owners
 use Rattle.instr_effects.proofs.CountedSteps.{counted-law}
+use Rattle.instr_effects.proofs.Defined.{definition-in, definition-of, results-in, results-of}
 use Rattle.live_laws.specs.Effects.Shaped.{is_proper}
 use Rattle.instr_effects.proofs.Members.{member-none, member-elim, left-in, right-in, in-either, flat-of, flat-in, filter-of, filter-in, map-of, map-in}
 use Rattle.live_laws.specs.Effects.Coded.{KeepsRules, IsNumbered}
 use Rattle.live_laws.proofs.Effects.Blocks.{filtered-of, filtered-in}
 use Rattle.live_laws.proofs.Effects.Flags.{Wrote}
-use Rattle.live_laws.proofs.Effects.FlagsOf.{uniform-implicit, uniform-results}
+use Rattle.live_laws.proofs.Effects.Definitions.{Reaches, result-reaches}
+use Rattle.live_laws.proofs.Effects.FlagsOf.{uniform-implicit}
 use Rattle.live_laws.proofs.Effects.Instrs.{same-law}
 use Rattle.live_laws.proofs.Effects.Lists.{any-in}
 use Rattle.live_laws.proofs.Effects.Moved.{undefined-lane, undefined-in}
 use Rattle.live_laws.proofs.Effects.Shapes.{numbers-in}
-use Rattle.place_solve.specs.Around.{has_unit, keeps_unit, defines, defines_explicitly, clobbers, writes, writes_early}
-use Rattle.place_solve.proofs.Units.{units_any}
+use Rattle.place_solve.specs.Around.{has_unit, keeps_unit, defines, defines_early, clobbers, writes, writes_early}
 
 pub any-of : {X : Type 0} (p : X → Bool) (xs : List X) → list_any p xs ≡ true → (x : X) × Member x xs × (p x ≡ true)
 any-of p [] e = absurd (cc)
@@ -90,10 +89,6 @@ computed-lane b n (l ∷ ls) w m = member-elim w (write b l (Computed n)) (compu
 computed-in : (b : Bool) (n : ℕ) (ls : List Lane) (l : Lane) → Member l ls → (w : Write) × Member w (computed b n ls) × (w.lane ≡ l) × (w.early ≡ b)
 computed-in b n [] l m = absurd (member-none l m)
 computed-in b n (k ∷ ls) l m = member-elim l k ls (λ e. (write b k (Computed n), first, sym e, refl)) (λ j. let z = computed-in b (suc n) ls l j in (z.0, later z.1, z.2, z.3)) m
-
-early-computed : (b : Bool) (n : ℕ) (ls : List Lane) (w : Write) → Member w (computed b n ls) → w.early ≡ b
-early-computed b n [] w m = absurd (member-none w m)
-early-computed b n (l ∷ ls) w m = member-elim w (write b l (Computed n)) (computed b (suc n) ls) (λ e. ap (λ v. v.early) e) (λ k. early-computed b (suc n) ls w k) m
 
 -- register operands
 
@@ -152,27 +147,6 @@ module _ (t : Target) (f : Function) where
   unfolding defines
   defined-in u os d m e h = any-in (defines t u) (operands.Reg d) os (register-of os d m) (both d.def (has_unit t d.loc u) e h)
 
-  pub explicit-of : (u : UnitNumber) (os : List Operand) → list_any (defines_explicitly t u) os ≡ true → (d : RegOp) × Member d (explicit_definitions os) × (has_unit t d.loc u ≡ true)
-  unfolding defines_explicitly
-  explicit-of u os e = let z = any-of (defines_explicitly t u) os e in go z.0 z.1 z.2
-    where
-      go : (o : Operand) → Member o os → defines_explicitly t u o ≡ true → (d : RegOp) × Member d (explicit_definitions os) × (has_unit t d.loc u ≡ true)
-      go (operands.Reg d) m h =
-          (d, filter-in (λ o. o.def && not o.implicit) d (registers os) (filtered-in as_register (operands.Reg d) d os m refl) (first_of_both (d.def && not d.implicit) (has_unit t d.loc u) h), second_of_both (d.def && not d.implicit) (has_unit t d.loc u) h)
-      go (operands.Imm x) m h = absurd (cc)
-      go (operands.Block x) m h = absurd (cc)
-      go (operands.Stack x) m h = absurd (cc)
-      go (operands.FixedStack x) m h = absurd (cc)
-      go (operands.Symbol x) m h = absurd (cc)
-      go (operands.Index x) m h = absurd (cc)
-      go (operands.Mask x) m h = absurd (cc)
-
-  pub explicit-in : (u : UnitNumber) (os : List Operand) (d : RegOp) → Member d (explicit_definitions os) → has_unit t d.loc u ≡ true → list_any (defines_explicitly t u) os ≡ true
-  unfolding defines_explicitly
-  explicit-in u os d m h =
-      let z = filter-of (λ o. o.def && not o.implicit) d (registers os) m in
-      any-in (defines_explicitly t u) (operands.Reg d) os (register-of os d z.0) (both (d.def && not d.implicit) (has_unit t d.loc u) z.1 h)
-
   -- masks
 
   kept-same : (u : ℕ) (o : Operand) → keeps_unit t (unit_number u) o ≡ preserves t u o
@@ -194,8 +168,11 @@ module _ (t : Target) (f : Function) where
     abbrev early : Bool
     early = is_early_clobber (roles_of t i)
 
+    abbrev ds : List Definition
+    ds = definitions (roles_of t i) os
+
     abbrev X : Writes
-    X = flat_map (result_writes t f early) (explicit_definitions os)
+    X = results t f 0 ds
 
     abbrev Y : Writes
     Y = undefined false (all_lanes t f (implicit_definitions os))
@@ -215,19 +192,21 @@ module _ (t : Target) (f : Function) where
         ∙ ap (λ s. writes_of (cond s (Silent (silent_reads t f e os) (silent_writes t f e early os)) (Counted (rest_of t f e i) (map (λ v. v.0) (values t f e i)) (counted_writes t f e i) (option_map (way t f b.number) (target_of os)) (cond (is_terminator e) (ways_out t f b) [])))) counted
 
     -- an explicit definition's lane
-    result-of : (w : Write) (u : ℕ) → Member w X → w.lane ≡ UnitLane u → (d : RegOp) × Member d (explicit_definitions os) × (has_unit t d.loc (unit_number u) ≡ true)
+    result-of : (w : Write) (u : ℕ) → Member w X → w.lane ≡ UnitLane u → (d : Definition) × Member d ds × (has_unit t d.1.loc (unit_number u) ≡ true) × (w.early ≡ d.0)
     result-of w u m e =
-        let z = flat-of (result_writes t f early) w (explicit_definitions os) m in
-        go z.0 z.1 (in-either w (computed early 0 (operand_lanes t f z.0)) (undefined early (undefined_lanes t f z.0)) z.2)
+        let z = results-of t f 0 ds w m in
+        let r = result-reaches t f z.0.0 z.1 z.0.1 w z.3 in
+        (z.0, z.2, unit z.0.1 r.0, r.1)
       where
-        go : (d : RegOp) → Member d (explicit_definitions os) → Member w (computed early 0 (operand_lanes t f d)) ⊎ Member w (undefined early (undefined_lanes t f d)) → (d : RegOp) × Member d (explicit_definitions os) × (has_unit t d.loc (unit_number u) ≡ true)
-        go d k (inl j) = (d, k, unit-of d.loc d.index u (subst (λ l. Member l (operand_lanes t f d)) e (computed-lane early 0 (operand_lanes t f d) w j)))
-        go d k (inr j) = absurd (no-other d u (subst (λ l. Member l (undefined_lanes t f d)) e (undefined-lane early w (undefined_lanes t f d) j)))
+        unit : (d : RegOp) → Reaches t f d w.lane → has_unit t d.loc (unit_number u) ≡ true
+        unit d (inl j) = unit-of d.loc d.index u (subst (λ l. Member l (operand_lanes t f d)) e j)
+        unit d (inr j) = absurd (no-other d u (subst (λ l. Member l (undefined_lanes t f d)) e j))
 
-    result-in : (d : RegOp) (u : ℕ) → Member d (explicit_definitions os) → has_unit t d.loc (unit_number u) ≡ true → (w : Write) × Member w X × (w.lane ≡ UnitLane u) × (w.early ≡ early)
+    result-in : (d : Definition) (u : ℕ) → Member d ds → has_unit t d.1.loc (unit_number u) ≡ true → (w : Write) × Member w X × (w.lane ≡ UnitLane u) × (w.early ≡ d.0)
     result-in d u m h =
-        let z = computed-in early 0 (operand_lanes t f d) (UnitLane u) (unit-in d.loc d.index u h) in
-        (z.0, flat-in (result_writes t f early) z.0 d (explicit_definitions os) m (left-in z.0 (computed early 0 (operand_lanes t f d)) (undefined early (undefined_lanes t f d)) z.1), z.2, z.3)
+        let k = results-in t f 0 ds d m in
+        let z = computed-in d.0 k.0 (operand_lanes t f d.1) (UnitLane u) (unit-in d.1.loc d.1.index u h) in
+        (z.0, k.1 z.0 (left-in z.0 (computed d.0 k.0 (operand_lanes t f d.1)) (undefined d.0 (undefined_lanes t f d.1)) z.1), z.2, z.3)
 
     write-forth : (u : ℕ) → Wrote (UnitLane u) (X ++ (Y ++ call_writes t e os)) → writes t i (unit_number u) ≡ true
     write-forth u (w, m, h) = go (in-either w X (Y ++ call_writes t e os) m)
@@ -255,8 +234,8 @@ module _ (t : Target) (f : Function) where
         go : Member w X ⊎ Member w (Y ++ call_writes t e os) → writes t i (unit_number u) ≡ true
         go (inl k) =
             let z = result-of w u k h in
-            let d = filter-of (λ o. o.def && not o.implicit) z.0 (registers os) z.1 in
-            left (defined-in (unit_number u) os z.0 d.0 (first_of_both z.0.def (not z.0.implicit) d.1) z.2)
+            let d = filter-of (λ o. o.def && not o.implicit) z.0.1 (registers os) (definition-of (roles_of t i) os z.0 z.1) in
+            left (defined-in (unit_number u) os z.0.1 d.0 (first_of_both z.0.1.def (not z.0.1.implicit) d.1) z.2)
         go (inr k) = rest (in-either w Y (call_writes t e os) k)
 
     write-back : (u : ℕ) → u < length t.units → writes t i (unit_number u) ≡ true → Wrote (UnitLane u) (X ++ (Y ++ call_writes t e os))
@@ -268,8 +247,8 @@ module _ (t : Target) (f : Function) where
             let z = undefined-in false (UnitLane u) (all_lanes t f (implicit_definitions os)) (flat-in (operand_lanes t f) (UnitLane u) d (implicit_definitions os) j (unit-in d.loc d.index u h)) in
             (z.0, right-in z.0 X (Y ++ call_writes t e os) (left-in z.0 Y (call_writes t e os) z.1), z.2)
         implicit d m e' h false k =
-            let j = filter-in (λ o. o.def && not o.implicit) d (registers os) m (both d.def (not d.implicit) e' (ap not k)) in
-            let z = result-in d u j h in
+            let j = definition-in (roles_of t i) os d (filter-in (λ o. o.def && not o.implicit) d (registers os) m (both d.def (not d.implicit) e' (ap not k))) in
+            let z = result-in j.0 u j.1 (subst (λ x. has_unit t x.loc (unit_number u) ≡ true) j.2 h) in
             (z.0, left-in z.0 X (Y ++ call_writes t e os) z.1, z.2)
 
         go : (list_any (defines t (unit_number u)) os ≡ true) ⊎ (clobbers t i (unit_number u) ≡ true) → Wrote (UnitLane u) (X ++ (Y ++ call_writes t e os))
@@ -286,18 +265,15 @@ module _ (t : Target) (f : Function) where
     early-forth : (b : Block) (u : ℕ) → WritingEarly (point_item t f b i) (UnitLane u) → writes_early t i (unit_number u) ≡ true
     early-forth b u (w, m, h, g) = go (in-either w X (implicit_writes t f e (implicit_roles (roles_of t i)) os) (subst (Member w) (item-is b) m))
       where
-        flag : Member w X → early ≡ true
-        flag k = sym (uniform-results t f early (explicit_definitions os) w k) ∙ g
-
         go : Member w X ⊎ Member w (implicit_writes t f e (implicit_roles (roles_of t i)) os) → writes_early t i (unit_number u) ≡ true
-        go (inl k) = let z = result-of w u k h in both early (list_any (defines_explicitly t (unit_number u)) os) (flag k) (explicit-in (unit_number u) os z.0 z.1 z.2)
+        go (inl k) = let z = result-of w u k h in any-in (defines_early t (unit_number u)) z.0 ds z.1 (both z.0.0 (has_unit t z.0.1.loc (unit_number u)) (sym z.3 ∙ g) z.2)
         go (inr k) = absurd (let n : false ≡ true = sym (uniform-implicit t f e (implicit_roles (roles_of t i)) os w k) ∙ g in cc)
 
     early-back : (b : Block) (u : ℕ) → writes_early t i (unit_number u) ≡ true → WritingEarly (point_item t f b i) (UnitLane u)
     early-back b u g =
-        let z = explicit-of (unit_number u) os (second_of_both early (list_any (defines_explicitly t (unit_number u)) os) g) in
-        let w = result-in z.0 u z.1 z.2 in
-        (w.0, subst (Member w.0) (sym (item-is b)) (left-in w.0 X (implicit_writes t f e (implicit_roles (roles_of t i)) os) w.1), w.2, w.3 ∙ first_of_both early (list_any (defines_explicitly t (unit_number u)) os) g)
+        let z = any-of (defines_early t (unit_number u)) ds g in
+        let w = result-in z.0 u z.1 (second_of_both z.0.0 (has_unit t z.0.1.loc (unit_number u)) z.2) in
+        (w.0, subst (Member w.0) (sym (item-is b)) (left-in w.0 X (implicit_writes t f e (implicit_roles (roles_of t i)) os) w.1), w.2, w.3 ∙ first_of_both z.0.0 (has_unit t z.0.1.loc (unit_number u)) z.2)
 
     pub early-told : (b : Block) (u : ℕ) → (writes_early t i (unit_number u) ≡ true) ↔ WritingEarly (point_item t f b i) (UnitLane u)
     early-told b u = (early-back b u, early-forth b u)

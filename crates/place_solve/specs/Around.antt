@@ -13,7 +13,7 @@ use Rattle.mir_func.specs.declared.func.Operand.{Operand}
 use Rattle.mir_func.specs.declared.func.Operand.TheVariants as operands
 use Rattle.mir_func.specs.declared.func.Instr.{Instr}
 use Rattle.target_base.specs.Numbers.{unit_number}
-use Rattle.mir_func.specs.Binding.{does, roles_of, is_early_clobber}
+use Rattle.mir_func.specs.Binding.{Definition, definitions, does, roles_of}
 use Rattle.mir_meaning.specs.Items.{preserves}
 use Rattle.instr_effects.specs.Acts.{is_call}
 use Rattle.instr_effects.specs.declared.owner.Owner.TheVariants as owners
@@ -34,10 +34,9 @@ unfoldable pub defines : Target → UnitNumber → Operand → Bool
 defines t u (operands.Reg o) = o.def && has_unit t o.loc u
 defines t u _ = false
 
--- the operand is an explicit definition of the unit
-unfoldable pub defines_explicitly : Target → UnitNumber → Operand → Bool
-defines_explicitly t u (operands.Reg o) = o.def && not o.implicit && has_unit t o.loc u
-defines_explicitly t u _ = false
+-- the definition is an early-clobber one of the unit
+abbrev pub defines_early : Target → UnitNumber → Definition → Bool
+defines_early t u d = d.0 && has_unit t d.1.loc u
 
 -- the operand is a mask that preserves the unit
 unfoldable pub keeps_unit : Target → UnitNumber → Operand → Bool
@@ -53,7 +52,7 @@ writes t i u = list_any (defines t u) i.operands || clobbers t i u
 
 -- the instruction writes the unit by an early-clobber definition
 abbrev pub writes_early : Target → Instr → UnitNumber → Bool
-writes_early t i u = is_early_clobber (roles_of t i) && list_any (defines_explicitly t u) i.operands
+writes_early t i u = list_any (defines_early t u) (definitions (roles_of t i) i.operands)
 
 -- the unit is marked live at the entry of the instruction of that id
 abbrev pub enters : Table → UnitNumber → ℕ → Bool

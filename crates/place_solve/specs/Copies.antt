@@ -1,6 +1,6 @@
 -- The copies that lowering makes of an instruction, and whether they admit registers, by the table of live lanes.
-use Rattle.std.specs.Prelude.{ℕ, Bool, true, false, cond, not, ◌&&◌, ◌||◌, List, [], ◌∷◌, Option, Some, None}
-use Rattle.target_base.specs.declared.types.Role.{Role}
+use Rattle.std.specs.Prelude.{ℕ, Bool, true, false, not, ◌&&◌, ◌||◌, List, [], ◌∷◌, Some, None}
+use Rattle.std.specs.List.{list_any}
 use Rattle.target_base.specs.declared.types.Target.{Target}
 use Rattle.mir_func.specs.declared.func.Loc.{Loc}
 use Rattle.mir_func.specs.declared.func.RegOp.{RegOp}
@@ -8,13 +8,12 @@ use Rattle.mir_func.specs.declared.func.Operand.{Operand}
 use Rattle.mir_func.specs.declared.func.Operand.TheVariants as operands
 use Rattle.mir_func.specs.declared.func.Instr.{Instr}
 use Rattle.mir_func.specs.Value.{Function}
-use Rattle.mir_func.specs.Binding.{as_register, is_implicit_operand, tied_pair, is_virtual, same_loc, same_index}
+use Rattle.mir_func.specs.Binding.{Bound, TiedPair, passes, tied_pair, ties_to, is_virtual, same_loc, same_index}
 use Rattle.mir_meaning.specs.Registers.{operand_widths}
-use Rattle.mir_meaning.specs.Places.{Needs, copy_variable, phi_point, tied_copies}
+use Rattle.mir_meaning.specs.Places.{copy_variable, phi_point}
 use Rattle.live_lanes.specs.declared.table.Table.{Table}
 use Rattle.place_solve.specs.declared.around.Around.{Around}
 use Rattle.place_solve.specs.declared.around.Around.TheVariants as arounds
-use Rattle.place_solve.specs.Once.{is_tied_operand}
 use Rattle.place_solve.specs.Told.{around_of, is_solved}
 
 -- a copy of lanes of this operand's widths admits a register there
@@ -40,22 +39,20 @@ abbrev pub reads : Loc → Operand → Bool
 reads l (operands.Reg o) = not o.def && not o.undef && same_loc l o.loc
 reads l _ = false
 
--- an explicit operand, which takes the first explicit role, reads the location and isn't the tied use
-abbrev pub reads_untied : Loc → List Role → Operand → Bool
-reads_untied l rs o = not (is_implicit_operand o) && not (is_tied_operand rs o) && reads l o
+-- the operand reads the location, and isn't a use tied to the definition of that number
+abbrev pub reads_besides : ℕ → Loc → Bound → Bool
+reads_besides n l b = not (passes (ties_to n) b.0) && reads l b.1
 
--- an implicit operand reads the location
-abbrev pub reads_implicitly : Loc → Operand → Bool
-reads_implicitly l o = is_implicit_operand o && reads l o
+-- nothing is copied for a tied pair
+abbrev pub is_in_place : TiedPair → Bool
+is_in_place p = p.tied_use.undef || not (is_virtual p.definition.loc) || (same_loc p.definition.loc p.tied_use.loc && same_index p.definition.index p.tied_use.index)
 
--- the register that takes the tied role, the first explicit one of these
-abbrev pub tied_operand : List Role → Operand → Option RegOp
-tied_operand rs o = cond (is_tied_operand rs o) (as_register o) None
+-- the copies for a tied pair among these operands of the instruction of that id admit registers
+abbrev pub tie_fits : Target → Function → Table → ℕ → List Bound → TiedPair → Bool
+tie_fits t f x id bs p =
+    is_in_place p
+    || (copy_fits t f x (arounds.Before id) p.definition && (not (list_any (reads_besides p.number p.definition.loc) bs) || copy_fits t f x (arounds.Behind id) p.definition))
 
--- nothing is copied for a definition and its tied use
-abbrev pub is_in_place : RegOp → RegOp → Bool
-is_in_place d u = u.undef || not (is_virtual d.loc) || (same_loc d.loc u.loc && same_index d.index u.index)
-
--- the copies for the tied use of an instruction
-abbrev pub tie_copies : Target → Function → Instr → List Needs
-tie_copies t f i = elim (tied_pair t i) [ None ↦ [] | Some p ↦ tied_copies t f i p.0 p.1 ]
+-- those for an operand that stands among these, where it is a tied use
+abbrev pub operand_fits : Target → Function → Table → Instr → List Bound → Bound → Bool
+operand_fits t f x i bs b = elim (tied_pair i.operands b) [ None ↦ true | Some p ↦ tie_fits t f x i.id bs p ]

@@ -1,17 +1,16 @@
 -- The variables of a place, put one behind the other.
-use Rattle.std.specs.Prelude.{Bool, false, cond, not, ◌&&◌, ◌||◌, List, [], ◌∷◌, ◌++◌, Option, Some, None}
-use Rattle.std.specs.List.{list_any, filter_map}
+use Rattle.std.specs.Prelude.{ℕ, Bool, cond, not, ◌&&◌, ◌||◌, List, [], ◌∷◌, ◌++◌, Option, Some, None}
+use Rattle.std.specs.List.{list_any}
 use Rattle.target_base.specs.declared.types.Role.{Role}
 use Rattle.target_base.specs.declared.types.Target.{Target}
-use Rattle.target_base.specs.Roles.{is_implicit, is_tied}
+use Rattle.target_base.specs.Roles.{is_tied}
 use Rattle.mir_func.specs.declared.func.RegOp.{RegOp}
 use Rattle.mir_func.specs.declared.func.Operand.{Operand}
 use Rattle.mir_func.specs.declared.func.Operand.TheVariants as operands
 use Rattle.mir_func.specs.Value.{Function}
-use Rattle.mir_func.specs.Binding.{Bound, passes, is_early, is_implicit_operand, explicit_bound, explicit_roles, explicit_operands, is_virtual}
+use Rattle.mir_func.specs.Binding.{Bound, passes, is_early, is_virtual, ties_to}
 use Rattle.mir_meaning.specs.Registers.{operand_widths}
 use Rattle.mir_meaning.specs.Places.{Using, Defining, Kind as Use, Variable as Need, same_use, copy_variable, operand_variable}
-use Rattle.two_address.specs.Classes.{first_role, roles_behind}
 use Rattle.place_solve.specs.declared.variables.Variable.{Variable}
 use Rattle.place_solve.specs.Choice.{need_of}
 
@@ -41,26 +40,9 @@ operand_use tied role o = cond o.def (Defining tied (passes is_early role)) Usin
 abbrev pub is_left_out : Option Role → RegOp → Bool
 is_left_out role o = not o.def && (o.undef || passes is_tied role)
 
--- the roles from the first explicit one on
-abbrev pub from_explicit : List Role → List Role
-from_explicit [] = []
-from_explicit (r ∷ rs) = cond (is_implicit r) (from_explicit rs) (r ∷ rs)
-
--- the roles that are left for the operands behind this one
-abbrev pub left_behind : List Role → Operand → List Role
-left_behind rs o = cond (is_implicit_operand o) rs (roles_behind (from_explicit rs))
-
--- the variable of an explicit operand; an implicit one has none here
-abbrev pub explicit_variable : Target → Function → Bool → List Role → Operand → Option Need
-explicit_variable t f tied rs o = cond (is_implicit_operand o) None (operand_variable t f tied (first_role (from_explicit rs), o))
-
--- the variable of an implicit operand
-abbrev pub implicit_variable : Target → Function → Bool → Operand → Option Need
-implicit_variable t f tied o = cond (is_implicit_operand o) (operand_variable t f tied (None, o)) None
-
--- the explicit operand is tied
-abbrev pub is_tied_operand : List Role → Operand → Bool
-is_tied_operand rs o = cond (is_implicit_operand o) false (passes is_tied (first_role (from_explicit rs)))
+-- the variable of a numbered operand that stands among these
+abbrev pub numbered_variable : Target → Function → List Bound → ℕ × Bound → Option Need
+numbered_variable t f bs p = operand_variable t f (list_any (λ b. passes (ties_to p.0) b.0) bs) p.1
 
 -- the definition of a copy between virtual registers
 abbrev pub two_sides : Operand → Operand → Option RegOp
@@ -75,11 +57,3 @@ virtual_sides os = None
 abbrev pub side_variables : Target → Function → Option RegOp → List Need
 side_variables t f None = []
 side_variables t f (Some d) = copy_variable t (operand_widths t f d) ∷ []
-
--- the operand has the tied role
-abbrev pub is_tied_bound : Bound → Bool
-is_tied_bound b = passes is_tied b.0
-
--- the variables of the explicit operands, in order
-abbrev pub explicit_variables : Target → Function → Bool → List Role → List Operand → List Need
-explicit_variables t f tied rs os = filter_map (operand_variable t f tied) (explicit_bound (explicit_roles rs) (explicit_operands os))

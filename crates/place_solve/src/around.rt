@@ -2,14 +2,16 @@
 
 ghost use Rattle.std.specs.Prelude.{◌≡◌};
 ghost use Rattle.std.specs.List.{list_any};
+ghost use Rattle.mir_func.specs.Binding.{passes, definition_in, definitions};
 ghost use Rattle.live_lanes.specs.Looks.{InOrder};
-ghost use Rattle.place_solve.specs.Around.{has_unit, keeps_unit, defines, defines_explicitly, clobbers, writes, writes_early, is_taken, is_left, entry_tests, exit_tests, at_entry, at_exit};
+ghost use Rattle.place_solve.specs.Around.{has_unit, keeps_unit, defines, defines_early, clobbers, writes, writes_early, is_taken, is_left, entry_tests, exit_tests, at_entry, at_exit};
 
 use instr_effects::masks::is_preserved;
 use live_lanes::LiveFunc;
-use mir_func::opcodes::{effect_of, is_early_clobber, roles_of};
+use mir_func::opcodes::{effect_of, is_early, next_role, roles_of};
+use mir_func::operands::{is_definition, is_implicit_operand};
 use mir_func::{Instr, Loc, Operand, RegOp};
-use target_base::{Boxed, Effect, Target, Unit, registers};
+use target_base::{Boxed, Effect, Role, Target, Unit, registers};
 
 /// Where a place stands.
 #[derive(Clone, Copy)]
@@ -45,13 +47,12 @@ fn defines(target: &Target, o: &Operand, u: Unit) -> bool
     }
 }
 
-/// Whether an operand is an explicit definition of the unit.
-#[tactic(auto, unfolding(crate::specs::Around::defines_explicitly))]
-fn defines_explicitly(target: &Target, o: &Operand, u: Unit) -> bool
-    ensures { result ≡ defines_explicitly target.now u o.now }
+/// Whether an operand with this role is an early-clobber definition of the unit.
+fn defines_early(target: &Target, role: Option<Role>, o: &Operand, u: Unit) -> bool
+    ensures { result ≡ passes (defines_early target.now u) (definition_in (role, o.now)) }
 {
     match o {
-        Operand::Reg(r) => r.def && !r.implicit && has_unit(target, *r, u),
+        Operand::Reg(r) => is_definition(r) && is_early(role) && has_unit(target, *r, u),
         _ => false,
     }
 }
@@ -63,19 +64,6 @@ fn is_defined(target: &Target, operands: &[Operand], u: Unit) -> bool
 {
     'each: for o in operands {
         if defines(target, o, u) {
-            return true;
-        }
-    }
-    false
-}
-
-/// Whether one of the operands is an explicit definition of the unit.
-#[tactic(auto, using(crate::proofs::Units::anys))]
-fn is_defined_explicitly(target: &Target, operands: &[Operand], u: Unit) -> bool
-    ensures { result ≡ list_any (defines_explicitly target.now u) operands.now }
-{
-    'each: for o in operands {
-        if defines_explicitly(target, o, u) {
             return true;
         }
     }
@@ -107,11 +95,29 @@ fn writes(target: &Target, i: &Instr, u: Unit) -> bool
     is_defined(target, i.operands.as_slice(), u) || clobbers(target, i, u)
 }
 
+/// Whether one of the operands, which take these roles, is an early-clobber definition of the unit.
+#[tactic(auto, using(crate::proofs::Early::earlies))]
+fn is_defined_early(target: &Target, roles: &[Role], operands: &[Operand], u: Unit) -> bool
+    ensures { result ≡ list_any (defines_early target.now u) (definitions roles.now operands.now) }
+{
+    let mut left = roles;
+    'each: for o in operands {
+        if !is_implicit_operand(o) {
+            let (role, behind) = next_role(left);
+            if defines_early(target, role, o, u) {
+                return true;
+            }
+            left = behind;
+        }
+    }
+    false
+}
+
 /// Whether the instruction writes the unit by an early-clobber definition.
 fn writes_early(target: &Target, i: &Instr, u: Unit) -> bool
     ensures { result ≡ writes_early target.now i.now u }
 {
-    is_early_clobber(roles_of(target, i)) && is_defined_explicitly(target, i.operands.as_slice(), u)
+    is_defined_early(target, roles_of(target, i), i.operands.as_slice(), u)
 }
 
 /// Whether uses may not lie in the unit at an instruction.

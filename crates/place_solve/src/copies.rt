@@ -1,34 +1,31 @@
 //! The places of the copies that lowering makes of an instruction.
 
-ghost use Rattle.std.specs.Prelude.{◌≡◌, ◌++◌, ◌∷◌, [], IfOk};
+ghost use Rattle.std.specs.Prelude.{◌≡◌, ◌++◌, ◌∷◌, [], IfOk, flat_map};
 ghost use Rattle.std.specs.List.{list_all, list_any};
 ghost use Rattle.target_base.specs.Rules.{is_reg_sequence, is_insert_subreg};
 ghost use Rattle.instr_effects.specs.Ends.{pairs_of};
 ghost use Rattle.mir_func.specs.declared.func.Operand.TheVariants as operands;
-ghost use Rattle.mir_func.specs.Binding.{bound, explicit_bound, explicit_operands, explicit_roles, registers, tied_uses};
+ghost use Rattle.mir_func.specs.Binding.{registers, tied_pairs};
+ghost use Rattle.bound_operands.specs.Seen.{seen, seen_all, seen_pair};
 ghost use Rattle.mir_meaning.specs.Points.{Start, Entry};
-ghost use Rattle.mir_meaning.specs.Places.{before_terminators, copied_at, defines_and_reads, effect_copies, input_copies, phi_copies, phi_point, tied_copies};
-ghost use Rattle.mir_meaning.specs.Rules.{untied_readings};
-ghost use Rattle.two_address.specs.Ties.{reads_besides};
+ghost use Rattle.mir_meaning.specs.Places.{before_terminators, copied_at, effect_copies, input_copies, phi_copies, phi_point, tied_copies};
 ghost use Rattle.live_lanes.specs.Looks.{InOrder};
-ghost use Rattle.place_solve.specs.Choice.{first};
 ghost use Rattle.place_solve.specs.Copies as copies;
 ghost use Rattle.place_solve.specs.Told.{around_of, copy_solved, copies_solved};
 
 use crate::around::Around;
 use crate::search::first_choice;
-use crate::variables::{copy_variable, is_tied_operand, left_behind};
+use crate::variables::copy_variable;
+use bound_operands::{BoundOperand, TiedPair, bind, tied_pair};
 use instr_effects::effects::first_pair;
 use instr_effects::items::ways::instrs_of;
 use live_lanes::LiveFunc;
-use mir_func::opcodes::{effect_of, is_terminator, roles_of};
-use mir_func::operands::{
-    as_register, is_implicit_operand, is_virtual, register_at, same_index, same_loc,
-};
+use mir_func::opcodes::{effect_of, is_terminator, roles_of, ties_to};
+use mir_func::operands::{is_virtual, register_at, same_index, same_loc};
 use mir_func::{Func, Instr, Loc, Operand, RegOp};
 use std::alloc::{AllocError, Global};
 use target_base::roles::is_phi;
-use target_base::{Boxed, Effect, Role, Target};
+use target_base::{Boxed, Effect, Target};
 
 /// Whether a copy of lanes of this operand's widths admits a register at a place.
 fn admits(alloc: Global, live: &LiveFunc, around: Around<'_>, o: RegOp) -> Result<bool, AllocError>
@@ -183,55 +180,6 @@ fn built_admits(
     admits(alloc, live, Around::Before(id), d)
 }
 
-/// The first register among the operands.
-#[tactic(auto, using(crate::proofs::Copying::registers_walk))]
-fn first_register(operands: &[Operand]) -> Option<RegOp>
-    ensures { result ≡ first (registers operands.now) }
-{
-    'each: for o in operands {
-        let found = as_register(o);
-        if found.is_some() {
-            return found;
-        }
-    }
-    None
-}
-
-/// The register that takes the tied role, the first explicit one of these.
-fn tied_operand(roles: &[Role], o: &Operand) -> Option<RegOp>
-    ensures { result ≡ copies.tied_operand roles.now o.now }
-{
-    if is_tied_operand(roles, o) {
-        as_register(o)
-    } else {
-        None
-    }
-}
-
-/// The tied use among operands with these roles.
-#[tactic(auto, using(crate::proofs::Copying::ties_walk))]
-fn tied_among(roles: &[Role], operands: &[Operand]) -> Option<RegOp>
-    ensures { result ≡ first (tied_uses (explicit_bound (explicit_roles roles.now) (explicit_operands operands.now))) }
-{
-    let mut left = roles;
-    'each: for o in operands {
-        let found = tied_operand(left, o);
-        if found.is_some() {
-            return found;
-        }
-        left = left_behind(left, o);
-    }
-    None
-}
-
-/// The tied use.
-#[tactic(auto, using(crate::proofs::Copying::tied_use_is))]
-fn tied_use(target: &Target, i: &Instr) -> Option<RegOp>
-    ensures { result ≡ first (tied_uses (bound target.now i.now)) }
-{
-    tied_among(roles_of(target, i), i.operands.as_slice())
-}
-
 /// Whether the operand reads the location.
 fn reads(loc: Loc, o: &Operand) -> bool
     ensures { result ≡ copies.reads loc o.now }
@@ -242,101 +190,89 @@ fn reads(loc: Loc, o: &Operand) -> bool
     }
 }
 
-/// Whether an explicit operand, which takes the first explicit role, reads the location and isn't the
-/// tied use.
-fn reads_untied(loc: Loc, roles: &[Role], o: &Operand) -> bool
-    ensures { result ≡ copies.reads_untied loc roles.now o.now }
+/// Whether an operand besides the use tied to the definition of that number reads the location.
+fn is_read_besides(bound: &[BoundOperand], number: usize, loc: Loc) -> bool
+    ensures { result ≡ list_any (copies.reads_besides number loc) (seen_all bound.now) }
 {
-    !is_implicit_operand(o) && !is_tied_operand(roles, o) && reads(loc, o)
-}
-
-/// Whether an explicit operand besides the tied use reads the location.
-#[tactic(auto, using(crate::proofs::Copying::reads_walk))]
-fn is_read_untied(loc: Loc, roles: &[Role], operands: &[Operand]) -> bool
-    ensures { result ≡ list_any (reads_besides loc) (explicit_bound (explicit_roles roles.now) (explicit_operands operands.now)) }
-{
-    let mut left = roles;
-    'each: for o in operands {
-        if reads_untied(loc, left, o) {
-            return true;
-        }
-        left = left_behind(left, o);
-    }
-    false
-}
-
-/// Whether the operand is an implicit one that reads the location.
-fn reads_implicitly(loc: Loc, o: &Operand) -> bool
-    ensures { result ≡ copies.reads_implicitly loc o.now }
-{
-    is_implicit_operand(o) && reads(loc, o)
-}
-
-/// Whether an implicit operand reads the location.
-#[tactic(auto, using(crate::proofs::Units::anys))]
-fn is_read_implicitly(loc: Loc, operands: &[Operand]) -> bool
-    ensures { result ≡ list_any (copies.reads_implicitly loc) operands.now }
-{
-    'each: for o in operands {
-        if reads_implicitly(loc, o) {
+    for b in bound {
+        if !ties_to(b.role, number) && reads(loc, b.operand) {
             return true;
         }
     }
     false
 }
 
-/// Whether an operand besides the tied use reads the definition's register.
-fn is_read_besides(target: &Target, d: RegOp, i: &Instr) -> bool
-    ensures { result ≡ defines_and_reads d (untied_readings (bound target.now i.now)) }
+/// Whether nothing is copied for a tied pair: the use is `undef` or of the definition's register and
+/// index already, or the definition is a physical register.
+fn is_in_place(p: TiedPair) -> bool
+    ensures { result ≡ copies.is_in_place (seen_pair p) }
 {
-    let operands = i.operands.as_slice();
-    if is_read_untied(d.loc, roles_of(target, i), operands) {
-        return true;
-    }
-    is_read_implicitly(d.loc, operands)
-}
-
-/// Whether nothing is copied for a definition and its tied use: the use is `undef` or of the
-/// definition's register and index already, or the definition is a physical register.
-fn is_in_place(d: RegOp, u: RegOp) -> bool
-    ensures { result ≡ copies.is_in_place d u }
-{
+    let (d, u) = (p.definition, p.tied_use);
     u.undef || !is_virtual(d.loc) || (same_loc(d.loc, u.loc) && same_index(d.index, u.index))
 }
 
-/// Whether the copies for a definition and its tied use admit registers.
-fn pair_of_tie_admits(
+/// Whether the copies for a tied pair among these operands of the instruction of that id admit
+/// registers.
+fn tie_admits(
+    alloc: Global,
+    live: &LiveFunc,
+    id: u32,
+    bound: &[BoundOperand],
+    p: TiedPair,
+) -> Result<bool, AllocError>
+    ensures { IfOk result (λ yes. InOrder live.now.table → yes ≡ copies.tie_fits live.now.target live.now.func live.now.table id (seen_all bound.now) (seen_pair p)) }
+{
+    if is_in_place(p) {
+        return Ok(true);
+    }
+    if !admits(alloc, live, Around::Before(id), p.definition)? {
+        return Ok(false);
+    }
+    if !is_read_besides(bound, p.number, p.definition.loc) {
+        return Ok(true);
+    }
+    admits(alloc, live, Around::Behind(id), p.definition)
+}
+
+/// Whether the copies for an operand admit registers, where it is a tied use.
+fn operand_admits(
     alloc: Global,
     live: &LiveFunc,
     i: &Instr,
-    d: RegOp,
-    u: RegOp,
+    bound: &[BoundOperand],
+    b: BoundOperand<'_>,
 ) -> Result<bool, AllocError>
-    ensures { IfOk result (λ yes. InOrder live.now.table → yes ≡ list_all (copy_solved live.now.target live.now.table) (tied_copies live.now.target live.now.func i.now d u)) }
+    ensures { IfOk result (λ yes. InOrder live.now.table → yes ≡ copies.operand_fits live.now.target live.now.func live.now.table i.now (seen_all bound.now) (seen b.entry)) }
 {
-    if is_in_place(d, u) {
-        return Ok(true);
+    match tied_pair(i.operands.as_slice(), b) {
+        None => Ok(true),
+        Some(p) => tie_admits(alloc, live, i.id, bound, p),
     }
-    if !admits(alloc, live, Around::Before(i.id), d)? {
-        return Ok(false);
-    }
-    if !is_read_besides(live.target(), d, i) {
-        return Ok(true);
-    }
-    admits(alloc, live, Around::Behind(i.id), d)
 }
 
-/// Whether the copies for an instruction's tied use admit registers.
-fn tied_admits(alloc: Global, live: &LiveFunc, i: &Instr) -> Result<bool, AllocError>
-    ensures { IfOk result (λ yes. InOrder live.now.table → yes ≡ list_all (copy_solved live.now.target live.now.table) (copies.tie_copies live.now.target live.now.func i.now)) }
+/// Whether the copies for each tied use among an instruction's operands admit registers.
+fn operands_admit(
+    alloc: Global,
+    live: &LiveFunc,
+    i: &Instr,
+    bound: &[BoundOperand],
+) -> Result<bool, AllocError>
+    ensures { IfOk result (λ yes. InOrder live.now.table → yes ≡ list_all (copies.operand_fits live.now.target live.now.func live.now.table i.now (seen_all bound.now)) (seen_all bound.now)) }
 {
-    match first_register(i.operands.as_slice()) {
-        None => Ok(true),
-        Some(d) => match tied_use(live.target(), i) {
-            None => Ok(true),
-            Some(u) => pair_of_tie_admits(alloc, live, i, d, u),
-        },
+    for b in bound {
+        if !operand_admits(alloc, live, i, bound, *b)? {
+            return Ok(false);
+        }
     }
+    Ok(true)
+}
+
+/// Whether the copies for an instruction's tied uses admit registers.
+fn ties_admit(alloc: Global, live: &LiveFunc, i: &Instr) -> Result<bool, AllocError>
+    ensures { IfOk result (λ yes. InOrder live.now.table → yes ≡ list_all (copy_solved live.now.target live.now.table) (flat_map (tied_copies live.now.target live.now.func i.now) (tied_pairs live.now.target i.now))) }
+{
+    let bound = bind(alloc, roles_of(live.target(), i), i.operands.as_slice())?;
+    operands_admit(alloc, live, i, bound.as_slice())
 }
 
 /// Whether it is that of a REG_SEQUENCE.
@@ -372,12 +308,12 @@ fn result_admits(
         return built_admits(alloc, live, i.id, d, behind, behind);
     }
     if behind.is_empty() {
-        return tied_admits(alloc, live, i);
+        return ties_admit(alloc, live, i);
     }
     if is_insert_subreg(e) {
         return built_admits(alloc, live, i.id, d, behind, &behind[1..]);
     }
-    tied_admits(alloc, live, i)
+    ties_admit(alloc, live, i)
 }
 
 /// Whether each copy that lowering makes of an instruction of this effect admits a register.
@@ -386,7 +322,7 @@ fn effect_admits(alloc: Global, live: &LiveFunc, i: &Instr, e: Effect) -> Result
 {
     let operands = i.operands.as_slice();
     match register_at(operands, 0) {
-        None => tied_admits(alloc, live, i),
+        None => ties_admit(alloc, live, i),
         Some(d) => result_admits(alloc, live, i, e, d, &operands[1..]),
     }
 }

@@ -2,20 +2,21 @@
 
 ghost use Rattle.std.specs.Prelude.{◌≡◌, [], OnOk, IfOk, map, flat_map, option_map};
 ghost use Rattle.std.specs.List.{list_any, filter_map};
-ghost use Rattle.mir_func.specs.Binding.{does, operand_class, explicit_operands, explicit_roles, explicit_bound};
+ghost use Rattle.mir_func.specs.Binding.{does, operand_class, numbered, passes, ties_to};
+ghost use Rattle.bound_operands.specs.Seen.{seen, seen_all};
 ghost use Rattle.mir_meaning.specs.Registers.{operand_widths};
 ghost use Rattle.mir_meaning.specs.Places as places;
 ghost use Rattle.place_solve.specs.Choice.{use_of, need_of};
 ghost use Rattle.place_solve.specs.Once as once;
 
 use crate::widths::{class_of_widths, operand_widths};
-use mir_func::opcodes::{effect_of, is_copy, is_early, is_tied, roles_of};
-use mir_func::operands::{is_implicit_operand, is_virtual, same_index};
+use bound_operands::{BoundOperand, bind};
+use mir_func::opcodes::{effect_of, is_copy, is_early, is_tied, roles_of, ties_to};
+use mir_func::operands::{is_virtual, same_index};
 use mir_func::{Func, Instr, Loc, Operand, RegOp};
 use std::alloc::{AllocError, Global};
-use target_base::roles::is_implicit;
 use target_base::{Boxed, ClassId, Effect, IndexId, Role, Target};
-use two_address::classes::{class_asked, first_role, roles_behind};
+use two_address::classes::class_asked;
 
 /// How a variable is used at its place.
 #[derive(Clone, Copy, PartialEq, Eq)]
@@ -207,149 +208,49 @@ fn add_if(variables: &mut Vec<Variable>, v: Option<Variable>) -> Result<(), Allo
     Ok(())
 }
 
-/// The roles from the first explicit one on.
-#[tactic(auto, using(crate::proofs::Operands::explicits))]
-pub(crate) fn from_explicit(roles: &[Role]) -> &[Role]
-    ensures { result.now ≡ once.from_explicit roles.now }
+/// Whether one of the operands is tied to the definition of that number.
+fn has_tied_use(bound: &[BoundOperand], number: usize) -> bool
+    ensures { result ≡ list_any (λ b. passes (ties_to number) b.0) (seen_all bound.now) }
 {
-    'each: for k in 0..roles.len() {
-        if !is_implicit(roles[k]) {
-            return &roles[k..];
-        }
-    }
-    &[]
-}
-
-/// The roles that are left for the operands behind this one: an implicit operand takes none.
-pub(crate) fn left_behind<'a>(roles: &'a [Role], o: &Operand) -> &'a [Role]
-    ensures { result.now ≡ once.left_behind roles.now o.now }
-{
-    if is_implicit_operand(o) {
-        roles
-    } else {
-        roles_behind(from_explicit(roles))
-    }
-}
-
-/// The variable of an operand with its role.
-fn operand_variable(
-    target: &Target,
-    f: &Func,
-    tied: bool,
-    role: Option<Role>,
-    o: &Operand,
-) -> Option<Variable>
-    ensures { option_map need_of result ≡ places.operand_variable target.now f.now tied (role, o.now) }
-{
-    match o {
-        Operand::Reg(r) => register_variable(target, f, tied, role, *r),
-        _ => None,
-    }
-}
-
-/// The variable of an explicit operand, which takes the first explicit role.
-fn explicit_variable(
-    target: &Target,
-    f: &Func,
-    tied: bool,
-    roles: &[Role],
-    o: &Operand,
-) -> Option<Variable>
-    ensures { option_map need_of result ≡ once.explicit_variable target.now f.now tied roles.now o.now }
-{
-    if is_implicit_operand(o) {
-        None
-    } else {
-        operand_variable(target, f, tied, first_role(from_explicit(roles)), o)
-    }
-}
-
-/// The variable of an implicit operand.
-fn implicit_variable(target: &Target, f: &Func, tied: bool, o: &Operand) -> Option<Variable>
-    ensures { option_map need_of result ≡ once.implicit_variable target.now f.now tied o.now }
-{
-    if is_implicit_operand(o) {
-        operand_variable(target, f, tied, None, o)
-    } else {
-        None
-    }
-}
-
-/// Whether an explicit operand is tied.
-pub(crate) fn is_tied_operand(roles: &[Role], o: &Operand) -> bool
-    ensures { result ≡ once.is_tied_operand roles.now o.now }
-{
-    if is_implicit_operand(o) {
-        false
-    } else {
-        is_tied(first_role(from_explicit(roles)))
-    }
-}
-
-/// Whether one of the explicit operands is tied.
-#[tactic(auto, using(crate::proofs::Operands::ties))]
-fn has_tied_operand(roles: &[Role], operands: &[Operand]) -> bool
-    ensures { result ≡ list_any once.is_tied_bound (explicit_bound (explicit_roles roles.now) (explicit_operands operands.now)) }
-{
-    let mut left = roles;
-    'each: for o in operands {
-        if is_tied_operand(left, o) {
+    for b in bound {
+        if ties_to(b.role, number) {
             return true;
         }
-        left = left_behind(left, o);
     }
     false
 }
 
-/// Whether the opcode ties a use to its definition.
-#[tactic(auto, using(crate::proofs::Operands::has_tie))]
-fn has_tied_pair(target: &Target, i: &Instr) -> bool
-    ensures { result ≡ places.has_tied_pair target.now i.now }
+/// The variable of an operand with its role.
+fn operand_variable(target: &Target, f: &Func, tied: bool, b: BoundOperand<'_>) -> Option<Variable>
+    ensures { option_map need_of result ≡ places.operand_variable target.now f.now tied (seen b.entry) }
 {
-    has_tied_operand(roles_of(target, i), i.operands.as_slice())
-}
-
-/// Puts the variables of the explicit operands behind the others.
-#[tactic(auto, using(crate::proofs::Operands::explicit_walk))]
-fn add_explicit(
-    target: &Target,
-    f: &Func,
-    tied: bool,
-    roles: &[Role],
-    operands: &[Operand],
-    variables: &mut Vec<Variable>,
-) -> Result<(), AllocError>
-    ensures { OnOk result (map need_of variables.new.items ≡ once.all_once (map need_of variables.old.items) (once.explicit_variables target.now f.now tied roles.now operands.now)) }
-{
-    let mut left = roles;
-    'each: for o in operands {
-        add_if(variables, explicit_variable(target, f, tied, left, o))?;
-        left = left_behind(left, o);
+    match b.operand {
+        Operand::Reg(r) => register_variable(target, f, tied, b.role, *r),
+        _ => None,
     }
-    Ok(())
 }
 
-/// Puts the variables of the implicit operands behind the others.
-#[tactic(auto, using(crate::proofs::Operands::implicit_walk))]
-fn add_implicit(
+/// Puts the variables of operands with their roles behind the others.
+#[tactic(auto, using(crate::proofs::Operands::bound_walk))]
+fn add_bound(
     target: &Target,
     f: &Func,
-    tied: bool,
-    operands: &[Operand],
+    bound: &[BoundOperand],
     variables: &mut Vec<Variable>,
 ) -> Result<(), AllocError>
-    ensures { OnOk result (map need_of variables.new.items ≡ once.all_once (map need_of variables.old.items) (filter_map (once.implicit_variable target.now f.now tied) operands.now)) }
+    ensures { OnOk result (map need_of variables.new.items ≡ once.all_once (map need_of variables.old.items) (filter_map (once.numbered_variable target.now f.now (seen_all bound.now)) (numbered 0 (seen_all bound.now)))) }
 {
-    'each: for o in operands {
-        add_if(variables, implicit_variable(target, f, tied, o))?;
+    'each: for k in 0..bound.len() {
+        let tied = has_tied_use(bound, k);
+        add_if(variables, operand_variable(target, f, tied, bound[k]))?;
     }
     Ok(())
 }
 
 /// Puts the variables of an instruction's operands behind the others: those of the explicit operands
 /// come first.
-#[tactic(auto, using(crate::proofs::Operands::operands_added))]
 fn add_operands(
+    alloc: Global,
     target: &Target,
     f: &Func,
     i: &Instr,
@@ -357,10 +258,8 @@ fn add_operands(
 ) -> Result<(), AllocError>
     ensures { OnOk result (map need_of variables.new.items ≡ once.all_once (map need_of variables.old.items) (places.operand_variables target.now f.now i.now)) }
 {
-    let (roles, operands) = (roles_of(target, i), i.operands.as_slice());
-    let tied = has_tied_pair(target, i);
-    add_explicit(target, f, tied, roles, operands, variables)?;
-    add_implicit(target, f, tied, operands, variables)?;
+    let bound = bind(alloc, roles_of(target, i), i.operands.as_slice())?;
+    add_bound(target, f, bound.as_slice(), variables)?;
     Ok(())
 }
 
@@ -440,7 +339,7 @@ pub fn add_variables(
     if moves_alone(target, i) {
         return Ok(());
     }
-    add_operands(target, f, i, variables)?;
+    add_operands(alloc, target, f, i, variables)?;
     Ok(())
 }
 

@@ -24,16 +24,16 @@ use Rattle.mir_func.specs.declared.func.Operand.TheVariants as operands
 use Rattle.mir_func.specs.declared.func.Instr.{Instr}
 use Rattle.mir_func.specs.declared.func.Block.{Block}
 use Rattle.mir_func.specs.Value.{Function}
-use Rattle.mir_func.specs.Binding.{Bound, asked_class, bound, does, effect_of, explicit_operands, explicit_roles, is_early, is_lowered_away, is_terminator, known_opcode, passes, puts_together, registers, same_index, same_loc, tied_pair, tied_uses}
+use Rattle.mir_func.specs.Binding.{Bound, TiedPair, asked_class, bound, does, effect_of, explicit_operands, explicit_roles, is_early, is_lowered_away, is_terminator, known_opcode, numbered, passes, puts_together, registers}
 use Rattle.mir_meaning.specs.declared.Form.TheVariants as forms
 use Rattle.mir_meaning.specs.Items.{unreserved}
-use Rattle.mir_meaning.specs.Rules.{V1, V2, V3, V4, V7, V8, V11, V12, V15, clashing_lanes, early_fits, explicit_fit, flags_fit, has_class, has_home, has_lanes, has_lanes_at, implicit_fit, in_operand_class, index_fits, is_condition, is_spill_slot, lanes_fit, no_two_share, operands_fit, register_lies_in, same_widths, share_a_lane, slot_fits, subregs_fit, tie_fits, undef_fits, untied_readings, values_fit, widths_fit}
+use Rattle.mir_meaning.specs.Rules.{V1, V2, V3, V4, V7, V8, V11, V12, V15, clashing_lanes, early_fits, explicit_fit, flags_fit, has_class, has_home, has_lanes, has_lanes_at, implicit_fit, in_operand_class, index_fits, is_condition, is_spill_slot, lanes_fit, no_two_share, operands_fit, readings_besides, register_lies_in, same_widths, share_a_lane, slot_fits, subregs_fit, tie_fits, undef_fits, values_fit, widths_fit}
 use Rattle.instr_effects.proofs.Members.{filter-in, filter-of}
 use Rattle.live_laws.proofs.Effects.Lists.{any-in}
 use Rattle.slot_laws.specs.Homes.{block_moved, function_moved, instr_moved, goes, slot_moved}
 use Rattle.slot_laws.proofs.Alike.{lanes-alike, widths-alike}
 use Rattle.slot_laws.proofs.Merged.{map-alike}
-use Rattle.slot_laws.proofs.Operands.{all-alike, all-map, any-alike, any-map, bound-renamed, copy-fits, explicit-fits, explicit-renamed, immediate-stays, implicit-stay, last-fits, registers-stay, bound_moved, take-map, tied-stay, undef-fits, untied-stay}
+use Rattle.slot_laws.proofs.Operands.{all-alike, all-map, any-alike, any-map, bound-renamed, copy-fits, explicit-fits, explicit-renamed, immediate-stays, implicit-stay, last-fits, numbered-stay, registers-stay, besides-stay, bound_moved, take-map, ties-stay, undef-fits}
 use Rattle.slot_laws.proofs.Ruled.{InstrRules}
 
 -- what a list has that passes a test
@@ -161,29 +161,20 @@ module _ (t : Target) (home : ℕ → ℕ) (head : List ℕ) (f : Function) wher
   flags-same (r, operands.Reg o) = refl
   flags-same (r, _) = refl
 
-  abbrev first-tie : List RegOp → List RegOp → Bool
-  first-tie (d ∷ ds) (u ∷ us) = same_loc d.loc u.loc && same_index d.index u.index
-  first-tie _ _ = true
-
-  tied-is : (q : Function) (i : Instr) (ds us : List RegOp) → registers i.operands ≡ ds → tied_uses (bound t i) ≡ us → first-tie ds us ≡ elim (tied_pair t i) as (λ x. Bool) [ None ↦ true | Some p ↦ tie_fits t forms.Allocated q p.0 p.1 ]
-  tied-is q i [] us e k = rw e refl
-  tied-is q i (d ∷ ds) [] e k = rw (k, e) refl
-  tied-is q i (d ∷ ds) (u ∷ us) e k = rw (k, e) refl
-
   eleven-same : (i : Instr) → V11 t forms.Allocated g (instr_moved home i) ≡ V11 t forms.Allocated f i
   unfolding V11
   eleven-same i =
       λ k. (ap (list_all flags_fit) (bound-renamed home t i) ∙ all-map flags_fit flags_fit (bound_moved home) flags-same (bound t i)) k
-      && (sym (tied-is g (instr_moved home i) (registers i.operands) (tied_uses (bound t i)) (registers-stay home i.operands) (ap tied_uses (bound-renamed home t i) ∙ tied-stay home (bound t i))) ∙ tied-is f i (registers i.operands) (tied_uses (bound t i)) refl refl) k
+      && ap (list_all (λ (p : TiedPair). tie_fits t forms.Allocated f p.definition p.tied_use)) (ties-stay home t i) k
 
   -- rule 12
 
-  early-same : (bs : List Bound) (b : Bound) → early_fits t g (map (bound_moved home) bs) (bound_moved home b) ≡ early_fits t f bs b
-  early-same bs (r, operands.Reg d) =
+  early-same : (bs : List Bound) (p : ℕ × Bound) → early_fits t g (map (bound_moved home) bs) (p.0, bound_moved home p.1) ≡ early_fits t f bs p
+  early-same bs (n, (r, operands.Reg d)) =
       λ k. not (passes is_early r)
-      || not ((ap (list_any (λ (u : RegOp). share_a_lane (clashing_lanes t g d) (clashing_lanes t g u))) (untied-stay home bs)
-      ∙ any-alike (λ (u : RegOp). share_a_lane (clashing_lanes t f d) (clashing_lanes t f u)) (λ (u : RegOp). share_a_lane (clashing_lanes t g d) (clashing_lanes t g u)) (λ u. λ j. share_a_lane (clashing-alike d j) (clashing-alike u j)) (untied_readings bs)) k)
-  early-same bs (r, _) = refl
+      || not ((ap (list_any (λ (u : RegOp). share_a_lane (clashing_lanes t g d) (clashing_lanes t g u))) (besides-stay home n bs)
+      ∙ any-alike (λ (u : RegOp). share_a_lane (clashing_lanes t f d) (clashing_lanes t f u)) (λ (u : RegOp). share_a_lane (clashing_lanes t g d) (clashing_lanes t g u)) (λ u. λ j. share_a_lane (clashing-alike d j) (clashing-alike u j)) (readings_besides n bs)) k)
+  early-same bs (n, (r, _)) = refl
 
   twelve-same : (i : Instr) → V12 t forms.Allocated g (instr_moved home i) ≡ V12 t forms.Allocated f i
   unfolding V12
@@ -191,10 +182,10 @@ module _ (t : Target) (home : ℕ → ℕ) (head : List ℕ) (f : Function) wher
       let os = registers i.operands in
       (λ k. list_all (undef_fits forms.Allocated (registers-stay home i.operands k)) (filter (λ (o : RegOp). o.def) (registers-stay home i.operands k))
       && no_two_share (map (clashing_lanes t g) (filter (λ (o : RegOp). o.def) (registers-stay home i.operands k)))
-      && list_all (early_fits t g (bound-renamed home t i k)) (bound-renamed home t i k))
+      && list_all (early_fits t g (bound-renamed home t i k)) ((ap (numbered 0) (bound-renamed home t i) ∙ numbered-stay home 0 (bound t i)) k))
       ∙ (λ k. list_all (undef_fits forms.Allocated os) (filter (λ (o : RegOp). o.def) os)
       && no_two_share (map-alike (clashing_lanes t g) (clashing_lanes t f) clashing-alike (filter (λ (o : RegOp). o.def) os) k)
-      && all-map (early_fits t f (bound t i)) (early_fits t g (map (bound_moved home) (bound t i))) (bound_moved home) (early-same (bound t i)) (bound t i) k)
+      && all-map (early_fits t f (bound t i)) (early_fits t g (map (bound_moved home) (bound t i))) (λ (p : ℕ × Bound). (p.0, bound_moved home p.1)) (early-same (bound t i)) (numbered 0 (bound t i)) k)
 
   -- rule 15: spill slots go to spill slots, and other frame objects stay
 

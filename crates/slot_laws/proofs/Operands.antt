@@ -1,17 +1,17 @@
 -- Operands that name other slots are registers, blocks and indexes as before, and meet the same roles.
 use Rattle.std.proofs.Common.{◌≡◌, ℕ, zero, suc, Bool, true, false, cond, not, ◌&&◌, ◌||◌, List, [], ◌∷◌, ◌++◌, Some, None, map, filter, take, drop, length, refl, sym, ap, ◌∙◌}
-use Rattle.std.specs.Prelude.{flat_map}
-use Rattle.std.specs.List.{list_all, list_any}
+use Rattle.std.specs.Prelude.{Option, filter_map, flat_map, option_and_then, option_map, slice_get}
+use Rattle.std.specs.List.{cons_option, list_all, list_any}
+use Rattle.std.proofs.lemmas.Option.{slice_get-map}
 use Rattle.target_base.specs.declared.types.Role.{Role}
 use Rattle.target_base.specs.declared.types.Role.TheVariants as roles
 use Rattle.target_base.specs.declared.types.Target.{Target}
-use Rattle.target_base.specs.Roles.{is_tied}
 use Rattle.mir_func.specs.declared.func.RegOp.{RegOp}
 use Rattle.mir_func.specs.declared.func.Operand.{Operand}
 use Rattle.mir_func.specs.declared.func.Operand.TheVariants as operands
 use Rattle.mir_func.specs.declared.func.Instr.{Instr}
-use Rattle.mir_func.specs.Binding.{Bound, bound, explicit_bound, explicit_operands, explicit_roles, implicit_bound, implicit_registers, implicit_roles, immediate_of, is_implicit_operand, passes, registers, roles_of, takes_many, tied_uses}
-use Rattle.mir_meaning.specs.Rules.{block_of, copy_fits, explicit_fit, fits_role, implicit_def_fits, implicit_last, named_blocks, readings, untied_readings}
+use Rattle.mir_func.specs.Binding.{Bound, as_register, bound, explicit_bound, explicit_operands, explicit_roles, implicit_bound, implicit_registers, implicit_roles, immediate_of, is_implicit_operand, numbered, paired_with, passes, register_at, registers, roles_of, takes_many, tied_number, tied_pair, tied_pairs, ties_to}
+use Rattle.mir_meaning.specs.Rules.{block_of, copy_fits, explicit_fit, fits_role, implicit_def_fits, implicit_last, named_blocks, readings, readings_besides}
 use Rattle.slot_laws.specs.Homes.{instr_moved, slot_moved}
 use Rattle.slot_laws.proofs.Merged.{map-append}
 
@@ -143,14 +143,38 @@ module _ (home : ℕ → ℕ) where
   seconds [] = refl
   seconds (b ∷ bs) = ap (λ os. slot_moved home b.1 ∷ os) (seconds bs)
 
-  pub tied-stay : (bs : List Bound) → tied_uses (map bound_moved bs) ≡ tied_uses bs
-  tied-stay bs =
-      ap (λ (cs : List Bound). registers (map (λ (b : Bound). b.1) cs)) (filter-map (λ (b : Bound). passes is_tied b.0) (λ (b : Bound). passes is_tied b.0) bound_moved (λ b. refl) bs)
-      ∙ ap registers (seconds (filter (λ (b : Bound). passes is_tied b.0) bs))
-      ∙ registers-stay (map (λ (b : Bound). b.1) (filter (λ (b : Bound). passes is_tied b.0) bs))
+  register-same : (o : Operand) → as_register (slot_moved home o) ≡ as_register o
+  register-same (operands.Reg r) = refl
+  register-same _ = refl
 
-  pub untied-stay : (bs : List Bound) → untied_readings (map bound_moved bs) ≡ untied_readings bs
-  untied-stay bs =
-      ap (λ (cs : List Bound). readings (registers (map (λ (b : Bound). b.1) cs))) (filter-map (λ (b : Bound). not (passes is_tied b.0)) (λ (b : Bound). not (passes is_tied b.0)) bound_moved (λ b. refl) bs)
-      ∙ ap (λ os. readings (registers os)) (seconds (filter (λ (b : Bound). not (passes is_tied b.0)) bs))
-      ∙ ap readings (registers-stay (map (λ (b : Bound). b.1) (filter (λ (b : Bound). not (passes is_tied b.0)) bs)))
+  register-at-stays : (os : List Operand) (n : ℕ) → register_at (map (slot_moved home) os) n ≡ register_at os n
+  register-at-stays os n = ap (option_and_then as_register) (slice_get-map (slot_moved home) os n) ∙ at (slice_get os n)
+    where
+      at : (o : Option Operand) → option_and_then as_register (option_map (slot_moved home) o) ≡ option_and_then as_register o
+      at None = refl
+      at (Some o) = register-same o
+
+  paired-stay : (os : List Operand) (u : RegOp) (n : Option ℕ) → paired_with (map (slot_moved home) os) u n ≡ paired_with os u n
+  paired-stay os u None = refl
+  paired-stay os u (Some n) = ap (option_map (λ (d : RegOp). record { number = n; definition = d; tied_use = u })) (register-at-stays os n)
+
+  pair-stays : (os : List Operand) (b : Bound) → tied_pair (map (slot_moved home) os) (bound_moved b) ≡ tied_pair os b
+  pair-stays os (r, operands.Reg u) = paired-stay os u (option_and_then tied_number r)
+  pair-stays os (r, _) = refl
+
+  pairs-stay : (os : List Operand) (bs : List Bound) → filter_map (tied_pair (map (slot_moved home) os)) (map bound_moved bs) ≡ filter_map (tied_pair os) bs
+  pairs-stay os [] = refl
+  pairs-stay os (b ∷ bs) = λ k. cons_option (pair-stays os b k) (pairs-stay os bs k)
+
+  pub ties-stay : (t : Target) (i : Instr) → tied_pairs t (instr_moved home i) ≡ tied_pairs t i
+  ties-stay t i = ap (filter_map (tied_pair (map (slot_moved home) i.operands))) (bound-renamed t i) ∙ pairs-stay i.operands (bound t i)
+
+  pub besides-stay : (n : ℕ) (bs : List Bound) → readings_besides n (map bound_moved bs) ≡ readings_besides n bs
+  besides-stay n bs =
+      ap (λ (cs : List Bound). readings (registers (map (λ (b : Bound). b.1) cs))) (filter-map (λ (b : Bound). not (passes (ties_to n) b.0)) (λ (b : Bound). not (passes (ties_to n) b.0)) bound_moved (λ b. refl) bs)
+      ∙ ap (λ os. readings (registers os)) (seconds (filter (λ (b : Bound). not (passes (ties_to n) b.0)) bs))
+      ∙ ap readings (registers-stay (map (λ (b : Bound). b.1) (filter (λ (b : Bound). not (passes (ties_to n) b.0)) bs)))
+
+  pub numbered-stay : (n : ℕ) (bs : List Bound) → numbered n (map bound_moved bs) ≡ map (λ (p : ℕ × Bound). (p.0, bound_moved p.1)) (numbered n bs)
+  numbered-stay n [] = refl
+  numbered-stay n (b ∷ bs) = ap (λ ps. (n, bound_moved b) ∷ ps) (numbered-stay (suc n) bs)

@@ -1,6 +1,6 @@
 -- What a map of slots leaves where it is: lanes of registers, and all that instructions other than stores to slots and
 -- reloads read and write.
-use Rattle.std.proofs.Common.{◌≡◌, ℕ, suc, ◌+◌, Bool, true, false, cond, not, List, [], ◌∷◌, ◌++◌, Option, Some, None, map, filter, flat_map, refl, sym, ap, ◌∙◌, subst, length}
+use Rattle.std.proofs.Common.{◌≡◌, ℕ, suc, ◌+◌, Bool, true, false, cond, not, List, [], ◌∷◌, ◌++◌, Option, Some, None, map, filter, refl, sym, ap, ◌∙◌, subst, length}
 use Rattle.std.specs.Prelude.{ℤ, zero, nat_abs}
 use Rattle.std.specs.List.{list_any, filter_map}
 use Rattle.target_base.specs.declared.types.Effect.{Effect}
@@ -27,9 +27,9 @@ use Rattle.mir_func.specs.declared.func.Operand.{Operand}
 use Rattle.mir_func.specs.declared.func.Operand.TheVariants as operands
 use Rattle.mir_func.specs.declared.func.Instr.{Instr}
 use Rattle.mir_func.specs.Value.{Function}
-use Rattle.mir_func.specs.Binding.{explicit_operands, implicit_registers, implicit_roles, is_early_clobber, registers, roles_of, immediate_of, puts_together}
+use Rattle.mir_func.specs.Binding.{Definition, definitions, explicit_operands, implicit_registers, implicit_roles, registers, roles_of, immediate_of, puts_together}
 use Rattle.mir_meaning.specs.Registers.{numbers, operand_lanes, operand_widths, undefined_lanes, use_sources, is_reserved}
-use Rattle.mir_meaning.specs.Items.{Value, write, all_lanes, answered, computes_with_immediates, constant_value, counted_writes, explicit_definitions, has_base, implicit_definitions, implicit_writes, kept, result_writes, value_of, values, clobbered, flag_value, implicit_values, is_flags, pick, use_value, first_width, preserves, unreserved, computed, constant_bits, constant_lanes, constant_of, copied, defined, defined_undef, given_constant, moved, silent_writes, undefined}
+use Rattle.mir_meaning.specs.Items.{Value, write, all_lanes, answered, computes_with_immediates, constant_value, counted_writes, has_base, implicit_definitions, implicit_writes, kept, result_writes, results, value_of, values, clobbered, flag_value, implicit_values, is_flags, pick, use_value, first_width, preserves, unreserved, computed, constant_bits, constant_lanes, constant_of, copied, defined, defined_undef, given_constant, moved, silent_writes, undefined}
 use Rattle.instr_effects.proofs.Members.{member-none, member-elim, either-elim, flat-of, filter-of, map-of}
 use Rattle.live_laws.proofs.Effects.Blocks.{filtered-of}
 use Rattle.live_laws.proofs.Effects.Moved.{moved-of, undefined-fill, undefined-lane}
@@ -214,17 +214,19 @@ module _ (t : Target) (f : Function) where
       (undefined-still false (clobbered t os) (unreserved-still gone (units-still (filter (λ u. not (list_any (preserves t u) os)) (numbers 0 (length t.units))))))
   implicit-still _ rs os = undefined-still false (unreserved t (all_lanes t f (implicit_definitions os))) (unreserved-still (all_lanes t f (implicit_definitions os)) (all-still (implicit_definitions os)))
 
-  result-still : (early : Bool) (d : RegOp) → StillWrites (result_writes t f early d)
-  result-still early d =
-      both-still (computed early 0 (operand_lanes t f d)) (undefined early (undefined_lanes t f d)) (computed-still early 0 (operand_lanes t f d) (lanes-still d)) (undefined-still early (undefined_lanes t f d) (undefined-lanes-still d))
+  result-still : (early : Bool) (n : ℕ) (d : RegOp) → StillWrites (result_writes t f early n d)
+  result-still early n d =
+      both-still (computed early n (operand_lanes t f d)) (undefined early (undefined_lanes t f d)) (computed-still early n (operand_lanes t f d) (lanes-still d)) (undefined-still early (undefined_lanes t f d) (undefined-lanes-still d))
 
-  results-still : (early : Bool) (ds : List RegOp) → StillWrites (flat_map (result_writes t f early) ds)
-  results-still early ds w m = let z = flat-of (result_writes t f early) w ds m in result-still early z.0 w z.2
+  results-still : (n : ℕ) (ds : List Definition) → StillWrites (results t f n ds)
+  results-still n [] = none-still
+  results-still n (d ∷ ds) =
+      both-still (result_writes t f d.0 n d.1) (results t f (n + length (operand_lanes t f d.1)) ds) (result-still d.0 n d.1) (results-still (n + length (operand_lanes t f d.1)) ds)
 
   pub counted-still : (e : Effect) (i : Instr) → StillWrites (counted_writes t f e i)
   counted-still e i =
-      both-still (flat_map (result_writes t f (is_early_clobber (roles_of t i))) (explicit_definitions i.operands)) (implicit_writes t f e (implicit_roles (roles_of t i)) i.operands)
-      (results-still (is_early_clobber (roles_of t i)) (explicit_definitions i.operands)) (implicit-still e (implicit_roles (roles_of t i)) i.operands)
+      both-still (results t f 0 (definitions (roles_of t i) i.operands)) (implicit_writes t f e (implicit_roles (roles_of t i)) i.operands)
+      (results-still 0 (definitions (roles_of t i) i.operands)) (implicit-still e (implicit_roles (roles_of t i)) i.operands)
 
   -- what they read
 

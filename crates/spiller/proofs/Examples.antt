@@ -5,7 +5,7 @@ use Rattle.target_base.specs.Mini.{mini_target}
 use Rattle.mir_func.specs.declared.func.Block.{Block}
 use Rattle.mir_func.specs.Value.{Function}
 use Rattle.spiller.specs.Spilled.{spilled, tinies, slots_after}
-use Rattle.spiller.proofs.Sample.{seen, function, block, instr, facts, slots_of, some_class, def, val, part_def, part_val, undef_fixed, fixed_def, fixed, implicit_def, implicit, imm, to_block, subreg, slot, symbol, csr, COPY, IMPLICIT_DEF, MOV32ri, ADD8rr, CMP32rr, STORE32mr, JCC, JNZ32, CALL, RET, NOP, SPILL32, SPILL8, RELOAD32, RELOAD8}
+use Rattle.spiller.proofs.Sample.{seen, seen_over, AreSound, paired_target, function, block, instr, facts, slots_of, some_class, def, val, part_def, part_val, undef_fixed, fixed_def, fixed, implicit_def, implicit, imm, to_block, subreg, slot, symbol, csr, COPY, IMPLICIT_DEF, MOV32ri, ADD8rr, CMP32rr, STORE32mr, JCC, JNZ32, CALL, RET, NOP, SPILL32, SPILL8, SPILL64, RELOAD32, RELOAD8, RELOAD64, LDP, LDPOST}
 
 -- A constant that one definition makes is repeated where it is read; it isn't needed before, and there is no slot.
 abbrev constant_repeated_before : Function
@@ -305,3 +305,85 @@ pub from_its_own_slot :
     ≡ (from_its_own_slot_after, map some_class (0 ∷ 0 ∷ 0 ∷ []), ((2, 4) ∷ []), slots_of (0 ∷ 0 ∷ 2 ∷ []) ((0, 0) ∷ []) [])
 unfolding mini_target spilled tinies slots_after
 from_its_own_slot = refl
+
+-- Two definitions of one range, of its halves: a tiny and a store for each.
+abbrev two_halves_before : Function
+two_halves_before = function 5 (0 ∷ 4 ∷ []) (
+    block 0 [] (2 ∷ []) (
+    instr 0 COPY (def 0 ∷ fixed 2 ∷ []) ∷
+    instr 1 LDP (part_def 1 3 ∷ part_def 1 4 ∷ val 0 ∷ imm 0 ∷ []) ∷
+    instr 2 CALL (symbol ∷ csr ∷ []) ∷
+    instr 3 COPY (fixed_def 16 ∷ val 1 ∷ []) ∷
+    instr 4 RET (implicit 16 ∷ []) ∷ []) ∷ [])
+
+abbrev two_halves_after : List Block
+two_halves_after = (
+    block 0 [] (2 ∷ []) (
+    instr 0 COPY (def 0 ∷ fixed 2 ∷ []) ∷
+    instr 0 LDP (def 2 ∷ def 3 ∷ val 0 ∷ imm 0 ∷ []) ∷
+    instr 0 SPILL32 (val 2 ∷ slot 0 ∷ subreg 3 ∷ []) ∷
+    instr 0 SPILL32 (val 3 ∷ slot 0 ∷ subreg 4 ∷ []) ∷
+    instr 0 CALL (symbol ∷ csr ∷ []) ∷
+    instr 0 RELOAD64 (fixed_def 16 ∷ slot 0 ∷ imm 0 ∷ []) ∷
+    instr 0 RET (implicit 16 ∷ []) ∷ []) ∷ [])
+
+pub two_halves : (sound : AreSound) →
+    seen_over (paired_target sound) two_halves_before (slots_of (0 ∷ 1 ∷ []) [] []) 1 (facts ((1, 0) ∷ (1, 1) ∷ (1, 2) ∷ (1, 3) ∷ (1, 4) ∷ (1, 5) ∷ (2, 0) ∷ (2, 1) ∷ (2, 2) ∷ (2, 3) ∷ (2, 4) ∷ (2, 5) ∷ []) ((1, 0, 3) ∷ (1, 1, 3) ∷ (1, 2, 3) ∷ (1, 3, 3) ∷ (1, 4, 3) ∷ (1, 5, 3) ∷ []))
+    ≡ (two_halves_after, map some_class (0 ∷ 4 ∷ 0 ∷ 0 ∷ []), ((2, 1) ∷ (3, 1) ∷ []), slots_of (0 ∷ 1 ∷ 2 ∷ 3 ∷ []) ((1, 0) ∷ []) [])
+unfolding spilled tinies slots_after
+two_halves sound = refl
+
+-- The use that is tied to one of two definitions is reloaded into that one's tiny, behind the other readings. The other definition isn't live behind, and isn't stored.
+abbrev tied_half_before : Function
+tied_half_before = function 4 (4 ∷ []) (
+    block 0 [] (16 ∷ []) (
+    instr 0 COPY (def 0 ∷ fixed 16 ∷ []) ∷
+    instr 1 LDPOST (part_def 0 3 ∷ part_def 0 4 ∷ part_val 0 3 ∷ part_val 0 4 ∷ []) ∷
+    instr 2 STORE32mr (part_val 0 3 ∷ imm 0 ∷ part_val 0 3 ∷ []) ∷
+    instr 3 RET [] ∷ []) ∷ [])
+
+abbrev tied_half_after : List Block
+tied_half_after = (
+    block 0 [] (16 ∷ []) (
+    instr 0 SPILL64 (fixed 16 ∷ slot 0 ∷ imm 0 ∷ []) ∷
+    instr 0 RELOAD32 (def 1 ∷ slot 0 ∷ subreg 4 ∷ []) ∷
+    instr 0 RELOAD32 (def 2 ∷ slot 0 ∷ subreg 3 ∷ []) ∷
+    instr 0 LDPOST (def 2 ∷ def 3 ∷ val 2 ∷ val 1 ∷ []) ∷
+    instr 0 SPILL32 (val 2 ∷ slot 0 ∷ subreg 3 ∷ []) ∷
+    instr 0 RELOAD32 (def 4 ∷ slot 0 ∷ subreg 3 ∷ []) ∷
+    instr 0 STORE32mr (val 4 ∷ imm 0 ∷ val 4 ∷ []) ∷
+    instr 0 RET [] ∷ []) ∷ [])
+
+pub tied_half : (sound : AreSound) →
+    seen_over (paired_target sound) tied_half_before (slots_of (0 ∷ []) [] []) 0 (facts ((0, 0) ∷ (0, 1) ∷ (0, 2) ∷ (0, 3) ∷ (0, 4) ∷ (0, 5) ∷ (1, 0) ∷ (1, 1) ∷ (1, 2) ∷ []) ((0, 0, 1) ∷ (0, 1, 1) ∷ (0, 2, 1) ∷ (0, 3, 1) ∷ (0, 4, 1) ∷ (0, 5, 1) ∷ (1, 0, 2) ∷ (1, 1, 2) ∷ (1, 2, 2) ∷ []))
+    ≡ (tied_half_after, map some_class (4 ∷ 0 ∷ 0 ∷ 0 ∷ 0 ∷ []), ((1, 3) ∷ (2, 3) ∷ (3, 3) ∷ (4, 6) ∷ []), slots_of (0 ∷ 1 ∷ 2 ∷ 3 ∷ 4 ∷ []) ((0, 0) ∷ []) [])
+unfolding spilled tinies slots_after
+tied_half sound = refl
+
+-- A use that is tied to another range's definition is no matter of this range.
+abbrev tied_beside_before : Function
+tied_beside_before = function 5 (0 ∷ 0 ∷ []) (
+    block 0 [] (0 ∷ 1 ∷ []) (
+    instr 0 COPY (def 0 ∷ fixed 0 ∷ []) ∷
+    instr 1 COPY (def 1 ∷ fixed 1 ∷ []) ∷
+    instr 2 LDPOST (def 1 ∷ def 0 ∷ val 1 ∷ val 0 ∷ []) ∷
+    instr 3 STORE32mr (val 1 ∷ imm 0 ∷ val 0 ∷ []) ∷
+    instr 4 RET [] ∷ []) ∷ [])
+
+abbrev tied_beside_after : List Block
+tied_beside_after = (
+    block 0 [] (0 ∷ 1 ∷ []) (
+    instr 0 SPILL32 (fixed 0 ∷ slot 0 ∷ imm 0 ∷ []) ∷
+    instr 0 COPY (def 1 ∷ fixed 1 ∷ []) ∷
+    instr 0 RELOAD32 (def 2 ∷ slot 0 ∷ imm 0 ∷ []) ∷
+    instr 0 LDPOST (def 1 ∷ def 3 ∷ val 1 ∷ val 2 ∷ []) ∷
+    instr 0 SPILL32 (val 3 ∷ slot 0 ∷ imm 0 ∷ []) ∷
+    instr 0 RELOAD32 (def 4 ∷ slot 0 ∷ imm 0 ∷ []) ∷
+    instr 0 STORE32mr (val 1 ∷ imm 0 ∷ val 4 ∷ []) ∷
+    instr 0 RET [] ∷ []) ∷ [])
+
+pub tied_beside : (sound : AreSound) →
+    seen_over (paired_target sound) tied_beside_before (slots_of (0 ∷ 1 ∷ []) [] []) 0 (facts ((0, 0) ∷ (0, 1) ∷ (0, 2) ∷ (1, 0) ∷ (1, 1) ∷ (1, 2) ∷ (2, 0) ∷ (2, 1) ∷ (2, 2) ∷ []) ((0, 0, 2) ∷ (0, 1, 2) ∷ (0, 2, 2) ∷ (2, 0, 3) ∷ (2, 1, 3) ∷ (2, 2, 3) ∷ []))
+    ≡ (tied_beside_after, map some_class (0 ∷ 0 ∷ 0 ∷ 0 ∷ 0 ∷ []), ((2, 3) ∷ (3, 3) ∷ (4, 6) ∷ []), slots_of (0 ∷ 1 ∷ 2 ∷ 3 ∷ 4 ∷ []) ((0, 0) ∷ []) [])
+unfolding spilled tinies slots_after
+tied_beside sound = refl

@@ -1,6 +1,6 @@
 -- What the paths of reaching definitions say: a place behind which the lane is written is on no path beyond it, and
 -- in worked examples both of two definitions reach the reading, or the second alone.
-use Rattle.std.proofs.Common.{◌≡◌, ◌∷◌, ℕ, Bool, true, false, refl, subst, ap, inl, inr, ⊎_elim, List, [], length, arith}
+use Rattle.std.proofs.Common.{◌≡◌, ◌∷◌, ℕ, Bool, true, false, refl, subst, ap, inl, ⊎_elim, [], length, arith}
 use Rattle.std.specs.Prelude.{◌||◌, nat_eq}
 use Rattle.target_base.specs.Mini.{mini_target}
 use Rattle.meaning.specs.declared.types.Lane.{Lane}
@@ -13,7 +13,7 @@ use Rattle.mir_func.specs.Value.{Function}
 use Rattle.mir_meaning.specs.Codes.{item_of}
 use Rattle.mir_meaning.specs.Points.{point_item, points_of}
 use Rattle.spiller.specs.Reaching.{Leads, stays, passes, leaps, Reaches}
-use Rattle.spiller.proofs.Sample.{function, block, instr, def, val, fixed, imm, COPY, MOV32ri, STORE32mr, RET}
+use Rattle.spiller.proofs.Sample.{function, block, instr, def, val, imm, MOV32ri, STORE32mr, RET}
 use Rattle.spiller.proofs.Examples.{two_reach_before}
 
 -- no path goes on behind an instruction that writes the lane

@@ -1,10 +1,15 @@
 -- Functions over the built-in target, written down shortly, for worked examples.
-use Rattle.std.specs.Prelude.{[], ◌∷◌, ℕ, Bool, true, false, pos, ◌&&◌, nat_eq, List, map, flat_map, Option, Some, None}
+use Rattle.std.specs.Prelude.{◌≡◌, [], ◌∷◌, ◌++◌, ℕ, Bool, true, false, pos, ◌&&◌, nat_eq, List, map, flat_map, codes, Option, Some, None}
 use Rattle.std.specs.List.{list_any, position_or_len}
 use Rattle.target_base.specs.declared.types.ClassId.{ClassId}
 use Rattle.target_base.specs.declared.types.IndexId.{IndexId}
 use Rattle.target_base.specs.Numbers.{reg_number, class_number, index_number, op_number}
-use Rattle.target_base.specs.Mini.{mini_target}
+use Rattle.target_base.specs.declared.types.Effect.TheVariants as effects
+use Rattle.target_base.specs.declared.types.Role.TheVariants as roles
+use Rattle.target_base.specs.declared.types.OpcodeDesc.{OpcodeDesc}
+use Rattle.target_base.specs.declared.types.Target.{Target}
+use Rattle.target_base.specs.Rules.{is_sound}
+use Rattle.target_base.specs.Mini.{mini_target, mini_units, mini_regs, mini_reserved, mini_indexes, mini_classes, mini_masks, mini_opcodes, gr32, op}
 use Rattle.mir_func.specs.declared.func.Loc.{Loc}
 use Rattle.mir_func.specs.declared.func.Loc.TheVariants.{Virtual, Fixed}
 use Rattle.mir_func.specs.declared.func.RegOp.{RegOp}
@@ -111,11 +116,42 @@ abbrev pub without_ids : Block → Block
 without_ids b = record b { instrs = map without_id b.instrs }
 
 -- after a spill: the blocks without ids, the classes, each tiny with the place in layout of the instruction that names its place, and the slots
-abbrev pub seen : Function → Slots → ℕ → Facts → List Block × List (Option ClassId) × List (ℕ × ℕ) × Slots
-seen f slots v facts =
-    let s = setting_of mini_target f slots v facts in
+abbrev pub seen_over : Target → Function → Slots → ℕ → Facts → List Block × List (Option ClassId) × List (ℕ × ℕ) × Slots
+seen_over t f slots v facts =
+    let s = setting_of t f slots v facts in
     let g = spilled s in
     (map without_ids g.blocks, g.classes, map (λ p. (p.0, position_or_len (λ i. nat_eq i.id p.1) (flat_map (λ b. b.instrs) g.blocks))) (tinies s), slots_after slots s)
+
+-- the same over the built-in target
+abbrev pub seen : Function → Slots → ℕ → Facts → List Block × List (Option ClassId) × List (ℕ × ℕ) × Slots
+seen = seen_over mini_target
+
+-- the opcodes of the built-in target, and two with two definitions, of which one has a use tied to its first
+abbrev pub paired_opcodes : List OpcodeDesc
+paired_opcodes =
+    mini_opcodes
+    ++ (op (codes "LDP") (effects.Load 1) (roles.Def gr32 ∷ roles.Def gr32 ∷ roles.Address gr32 ∷ roles.Imm ∷ [])
+    ∷ op (codes "LDPOST") (effects.Load 1) (roles.Early gr32 ∷ roles.Def gr32 ∷ roles.Tied gr32 ∷ roles.Read gr32 ∷ [])
+    ∷ [])
+
+-- a target that has them is sound; the rules of targets don't say so yet
+abbrev pub AreSound : Type 0
+AreSound = is_sound (codes "paired") 1 mini_units mini_regs mini_reserved mini_indexes mini_classes mini_masks paired_opcodes ≡ true
+
+-- a target that has them, as if it were sound; what becomes of a function doesn't hang on that
+abbrev pub paired_target : AreSound → Target
+paired_target sound = record {
+  name = codes "paired";
+  version = 1;
+  units = mini_units;
+  regs = mini_regs;
+  reserved = mini_reserved;
+  indexes = mini_indexes;
+  classes = mini_classes;
+  masks = mini_masks;
+  opcodes = paired_opcodes;
+  sound = sound;
+}
 
 abbrev pub COPY : ℕ
 COPY = 0
@@ -162,5 +198,17 @@ SPILL8 = 47
 abbrev pub RELOAD32 : ℕ
 RELOAD32 = 49
 
+abbrev pub SPILL64 : ℕ
+SPILL64 = 48
+
 abbrev pub RELOAD8 : ℕ
 RELOAD8 = 51
+
+abbrev pub RELOAD64 : ℕ
+RELOAD64 = 52
+
+abbrev pub LDP : ℕ
+LDP = 53
+
+abbrev pub LDPOST : ℕ
+LDPOST = 54

@@ -18,7 +18,7 @@ use Rattle.mir_func.specs.declared.func.Operand.{Operand}
 use Rattle.mir_func.specs.declared.func.Operand.TheVariants as operands
 use Rattle.mir_func.specs.declared.func.Instr.{Instr}
 use Rattle.mir_func.specs.declared.func.Block.{Block}
-use Rattle.mir_func.specs.Binding.{effect_of, does, is_terminator, roles_of, tied_pair}
+use Rattle.mir_func.specs.Binding.{effect_of, does, is_terminator, roles_of, TiedPair, tied_pairs}
 use Rattle.mir_meaning.specs.Places.{Variable, is_defining, same_use, each_once, operand_variables}
 use Rattle.spiller.specs.Setting.{Spilling, is_own, own_lanes}
 
@@ -31,7 +31,7 @@ places_from t (i ∷ is) = cond (does is_terminator t i) ((i ∷ is) ∷ []) ((i
 abbrev pub places_of : Target → Block → List (List Instr)
 places_of t b = places_from t b.instrs
 
--- the range's variables among the operands of an instruction: its readings, tied ones aside, and its definition
+-- the range's variables among the operands of an instruction: its readings, tied ones aside, and its definitions
 abbrev pub own_variables : Spilling → Instr → List Variable
 own_variables s i = filter (λ x. nat_eq x.range s.range) (operand_variables s.target s.func i)
 
@@ -39,9 +39,9 @@ own_variables s i = filter (λ x. nat_eq x.range s.range) (operand_variables s.t
 abbrev pub ways_read : Spilling → List Instr → List Variable
 ways_read s is = filter (λ x. not (is_defining x.kind)) (each_once [] (flat_map (own_variables s) is))
 
--- the instruction's tied use, where it reads the range
-abbrev pub tied_reading : Spilling → Instr → List RegOp
-tied_reading s i = elim (tied_pair s.target i) [ None ↦ [] | Some p ↦ cond (is_own s p.1 && not p.1.undef) (p.1 ∷ []) [] ]
+-- the instruction's tied pairs whose uses read the range
+abbrev pub tied_readings : Spilling → Instr → List TiedPair
+tied_readings s i = filter (λ p. is_own s p.tied_use && not p.tied_use.undef) (tied_pairs s.target i)
 
 -- what a reading asks of an instruction that is to be repeated for it: its class holds all of the reading's, or this
 -- register; or nothing serves
@@ -82,7 +82,7 @@ copy_reading s i d o = reading_of s (i ∷ []) o.index (if_whole o.index (copy_w
 abbrev pub operand_readings : Spilling → List Instr → List Reading
 operand_readings s is =
     map (way_reading s is) (ways_read s is)
-    ++ flat_map (λ i. map (λ o. reading_of s (i ∷ []) o.index Never) (tied_reading s i)) is
+    ++ flat_map (λ i. map (λ p. reading_of s (i ∷ []) p.tied_use.index Never) (tied_readings s i)) is
 
 -- the readings by an instruction; a copy and a store read what they move
 abbrev pub effect_readings : Spilling → Instr → Option Effect → List Operand → List Reading

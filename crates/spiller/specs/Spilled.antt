@@ -1,11 +1,12 @@
 -- The function after a range is spilled: what becomes of each place that touches it.
-use Rattle.std.specs.Prelude.{◌≡◌, ℕ, Bool, false, cond, not, ◌+◌, ◌<◌, ◌&&◌, List, [], ◌∷◌, ◌++◌, map, filter, flat_map, length, Option, Some, None, nat_eq}
-use Rattle.std.specs.List.{list_any, position_or_len, sum_by, zip}
+use Rattle.std.specs.Prelude.{◌≡◌, ℕ, Bool, false, cond, not, ◌+◌, ◌<◌, ◌&&◌, List, [], ◌∷◌, ◌++◌, map, filter, filter_map, find, flat_map, length, Option, Some, None, option_map, option_and_then, nat_eq}
+use Rattle.std.specs.List.{list_any, sum_by, zip}
 use Rattle.target_base.specs.declared.types.ClassId.{ClassId}
+use Rattle.target_base.specs.declared.types.IndexId.{IndexId}
 use Rattle.target_base.specs.declared.types.Effect.{Effect}
 use Rattle.target_base.specs.declared.types.Effect.TheVariants as effects
+use Rattle.target_base.specs.declared.types.Role.{Role}
 use Rattle.target_base.specs.declared.types.Target.{Target}
-use Rattle.target_base.specs.Roles.{is_tied}
 use Rattle.target_base.specs.Storage.{same_numbers}
 use Rattle.mir_func.specs.declared.func.Loc.TheVariants.{Virtual}
 use Rattle.mir_func.specs.declared.func.RegOp.{RegOp}
@@ -14,12 +15,12 @@ use Rattle.mir_func.specs.declared.func.Operand.TheVariants as operands
 use Rattle.mir_func.specs.declared.func.Instr.{Instr}
 use Rattle.mir_func.specs.declared.func.Block.{Block}
 use Rattle.mir_func.specs.Value.{Function}
-use Rattle.mir_func.specs.Binding.{Bound, effect_of, passes, explicit_bound, explicit_roles, roles_of, operand_class}
+use Rattle.mir_func.specs.Binding.{Bound, effect_of, explicit_bound, explicit_roles, roles_of, numbered, tied_number, operand_class}
 use Rattle.mir_meaning.specs.Registers.{numbers, operand_widths, slot_lane_numbers}
-use Rattle.mir_meaning.specs.Places.{Variable, Using, variable, is_defining, same_use}
+use Rattle.mir_meaning.specs.Places.{Variable, Using, variable, same_use}
 use Rattle.spiller.specs.Reaching.{Facts, AreFacts}
 use Rattle.spiller.specs.Setting.{Spilling, is_own, own_class, part_class, moving_class, own_lanes, is_live_behind, plain_use, plain_definition, undef_use, in_own_slot, store, reload, class_beside}
-use Rattle.spiller.specs.Rematerialised.{places_of, own_variables, ways_read, tied_reading, way_reading, copy_reading, repeated_for, repeated, is_needless}
+use Rattle.spiller.specs.Rematerialised.{places_of, ways_read, tied_readings, way_reading, copy_reading, repeated_for, repeated, is_needless}
 use Rattle.spiller.specs.Slots.{Slots, own_slot, with_slot, with_ranges}
 
 -- What becomes of a place: new instructions, its own ones as they are changed, and new ones behind them; and the new
@@ -87,13 +88,39 @@ undefined_change s i o =
     cond (not (is_own s o)) (becomes (i ∷ []))
     (cond (is_live_behind s i o.index) (becomes (in_place_of i (store s.target k (undef_use s.target k) (in_own_slot s o.index)) ∷ [])) (becomes []))
 
--- Any other place has tinies numbered from c on: one for each way of reading the range, then one for its definition,
--- with which a tied use shares it. An instruction has at most one definition of a range, and terminators, which
--- share a place, have none.
+-- Any other place has tinies numbered from c on: one for each way of reading the range, then one for each definition of
+-- it. A use that is tied to a definition of the range shares that one's tiny.
 
--- the definition of the range by an instruction of the place
-abbrev pub definitions_in : Spilling → List Instr → List (Instr × Variable)
-definitions_in s is = flat_map (λ i. map (λ x. (i, x)) (filter (λ x. is_defining x.kind) (own_variables s i))) is
+-- a definition of the range: its instruction, its number among the operands, its index and its operand class
+pub record OwnDefinition : Type 0 where
+  pub by : Instr
+  pub number : ℕ
+  pub index : Option IndexId
+  pub class : Option ClassId
+
+-- the operands of an instruction, each with its number and the role that it takes where it is explicit
+abbrev pub numbered_operands : Target → Instr → List (ℕ × Bound)
+numbered_operands t i = numbered 0 (explicit_bound (explicit_roles (roles_of t i)) i.operands)
+
+-- the definition of the range that an operand is
+abbrev pub own_definition : Spilling → Instr → ℕ × Bound → Option OwnDefinition
+own_definition s i (n, (r, operands.Reg o)) = cond (is_own s o && o.def) (Some (record { by = i; number = n; index = o.index; class = operand_class s.target s.func r o })) None
+own_definition s i (n, (r, o)) = None
+
+-- the definitions of the range by the instructions of a place, in operand order
+abbrev pub definitions_in : Spilling → List Instr → List OwnDefinition
+definitions_in s is = flat_map (λ i. filter_map (own_definition s i) (numbered_operands s.target i)) is
+
+-- the tinies of a place by their numbers: what each stands for
+pub record Seats : Type 0 where
+  pub ways : List (ℕ × Variable)
+  pub definitions : List (ℕ × OwnDefinition)
+
+-- the tinies of a place, numbered from c on
+abbrev pub seats_from : Spilling → ℕ → List Instr → Seats
+seats_from s c is =
+    let ways = ways_read s is in
+    record { ways = numbered c ways; definitions = numbered (c + length ways) (definitions_in s is) }
 
 -- what gives a tiny the value that is read: the repeated instruction, or a reload
 abbrev pub given : Spilling → List Instr → ℕ × Variable → Instr
@@ -102,52 +129,68 @@ given s is p = elim (repeated_for s (way_reading s is p.1)) [
   | Some d ↦ repeated d (plain_definition (Virtual p.0) None)
 ]
 
--- the reload of a tied use into the definition's tiny
-abbrev pub tied_reload : Spilling → ℕ × (Instr × Variable) → List Instr
-tied_reload s p = map (λ o. reload s.target p.1.1.class (plain_definition (Virtual p.0) None) (in_own_slot s o.index)) (tied_reading s p.1.0)
+-- the reload of the use that is tied to a definition, into its tiny
+abbrev pub tied_reload : Spilling → ℕ × OwnDefinition → List Instr
+tied_reload s p =
+    map (λ x. reload s.target p.1.class (plain_definition (Virtual p.0) None) (in_own_slot s x.tied_use.index))
+    (filter (λ x. nat_eq x.number p.1.number) (tied_readings s p.1.by))
 
 -- the store of a definition, where a lane of it is live behind the instruction
-abbrev pub stored : Spilling → ℕ × (Instr × Variable) → List Instr
-stored s p = cond (is_live_behind s p.1.0 p.1.1.index) (store s.target p.1.1.class (plain_use (Virtual p.0) None) (in_own_slot s p.1.1.index) ∷ []) []
+abbrev pub stored : Spilling → ℕ × OwnDefinition → List Instr
+stored s p = cond (is_live_behind s p.1.by p.1.index) (store s.target p.1.class (plain_use (Virtual p.0) None) (in_own_slot s p.1.index) ∷ []) []
 
--- the number of the tiny for an operand's way of reading
-abbrev pub tiny_read : Spilling → ℕ → List Variable → Bound → RegOp → ℕ
-tiny_read s c ways b o = c + position_or_len (same_use (variable Using s.range o.index (operand_class s.target s.func b.0 o))) ways
+-- the tiny of an operand's way of reading
+abbrev pub tiny_read : Spilling → Seats → Option Role → RegOp → Option ℕ
+tiny_read s x r o = option_map (λ p. p.0) (find (λ p. same_use (variable Using s.range o.index (operand_class s.target s.func r o)) p.1) x.ways)
 
--- a register operand with the tiny in place of the range; an `undef` use that isn't tied stays
-abbrev pub seated : Spilling → ℕ → List Variable → Bound → RegOp → RegOp
-seated s c ways b o =
-    let last = Virtual (c + length ways) in
-    cond (not (is_own s o)) o
-    (cond o.def (plain_definition last None)
-    (cond (passes is_tied b.0) (record (plain_use last None) { undef = o.undef })
-    (cond o.undef o (plain_use (Virtual (tiny_read s c ways b o)) None))))
+-- the tiny of the instruction's definition of that number, where this is one of the range
+abbrev pub tiny_defined : Seats → Instr → ℕ → Option ℕ
+tiny_defined x i n = option_map (λ p. p.0) (find (λ p. nat_eq p.1.by.id i.id && nat_eq p.1.number n) x.definitions)
 
--- an operand with the tiny in place of the range
-abbrev pub seated_operand : Spilling → ℕ → List Variable → Bound → Operand
-seated_operand s c ways (r, operands.Reg o) = operands.Reg (seated s c ways (r, operands.Reg o) o)
-seated_operand s c ways (r, o) = o
+-- the tiny of a use: that of the definition to which it is tied, or that of its way of reading, where it isn't `undef`
+abbrev pub tiny_used : Spilling → Seats → Instr → Option Role → RegOp → Option ℕ
+tiny_used s x i r o = elim (option_and_then tied_number r) [
+  | None ↦ cond o.undef None (tiny_read s x r o)
+  | Some n ↦ tiny_defined x i n
+]
+
+-- the tiny of an operand of that number
+abbrev pub tiny_of : Spilling → Seats → Instr → ℕ → Option Role → RegOp → Option ℕ
+tiny_of s x i n r o = cond o.def (tiny_defined x i n) (tiny_used s x i r o)
+
+-- a tiny, defined or used as the operand is
+abbrev pub as_tiny : RegOp → ℕ → RegOp
+as_tiny o c = record (plain_use (Virtual c) None) { def = o.def; undef = not o.def && o.undef }
+
+-- A register operand of that number with its tiny in place of the range. One without a tiny stays; lowering leaves none
+-- behind: `undef` uses that aren't tied are fixed registers, and those that are tied name what their definitions name.
+abbrev pub seated : Spilling → Seats → Instr → ℕ → Option Role → RegOp → RegOp
+seated s x i n r o = cond (is_own s o) (elim (tiny_of s x i n r o) [ None ↦ o | Some c ↦ as_tiny o c ]) o
+
+-- an operand of that number with its tiny in place of the range
+abbrev pub seated_operand : Spilling → Seats → Instr → ℕ × Bound → Operand
+seated_operand s x i (n, (r, operands.Reg o)) = operands.Reg (seated s x i n r o)
+seated_operand s x i (n, (r, o)) = o
 
 -- an instruction with tinies in place of the range
-abbrev pub with_tinies : Spilling → ℕ → List Variable → Instr → Instr
-with_tinies s c ways i = record i { operands = map (seated_operand s c ways) (explicit_bound (explicit_roles (roles_of s.target i)) i.operands) }
+abbrev pub with_tinies : Spilling → Seats → Instr → Instr
+with_tinies s x i = record i { operands = map (seated_operand s x i) (numbered_operands s.target i) }
 
 -- the id of the first of these instructions, which names their place
 abbrev pub place_name : List Instr → ℕ
 place_name [] = 0
 place_name (i ∷ is) = i.id
 
--- What becomes of any other place: reloads or repeated instructions, the place itself with tinies, and stores.
+-- What becomes of any other place: reloads or repeated instructions, the place itself with tinies, and stores. Reloads and
+-- stores stand in the order of their tinies.
 abbrev pub place_change : Spilling → ℕ → List Instr → Change
 place_change s c is =
-    let ways = ways_read s is in
-    let defined = definitions_in s is in
-    let numbered = zip (numbers (c + length ways) (length defined)) defined in
+    let x = seats_from s c is in
     record {
-      tinies = map (λ x. (x.class, place_name is)) (ways ++ map (λ p. p.1) defined);
-      before = map (given s is) (zip (numbers c (length ways)) ways) ++ flat_map (tied_reload s) numbered;
-      own = map (with_tinies s c ways) is;
-      behind = flat_map (stored s) numbered;
+      tinies = map (λ k. (k, place_name is)) (map (λ p. p.1.class) x.ways ++ map (λ p. p.1.class) x.definitions);
+      before = map (given s is) x.ways ++ flat_map (tied_reload s) x.definitions;
+      own = map (with_tinies s x) is;
+      behind = flat_map (stored s) x.definitions;
     }
 
 -- what becomes of one instruction, by its effect; new ids are given from n on, and new range numbers from c on

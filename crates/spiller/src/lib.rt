@@ -8,6 +8,7 @@ mod plan;
 mod reaching;
 mod remat;
 mod roles;
+mod seats;
 pub mod slot_map;
 mod spilled;
 pub mod stop;

@@ -1,8 +1,9 @@
 //! The edits that spill a range, gathered before any of them is done.
 
+use crate::kinds::reload_op;
 use interference::{Tinies, Tiny};
 use live_lanes::{Edit, LiveFunc};
-use mir_func::{Gap, Instr, Loc, Operand, Operands, RegOp};
+use mir_func::{Gap, Instr, Loc, Op, Operand, Operands, RegOp};
 use std::alloc::{AllocError, Global};
 use target_base::{ClassId, Copied, IndexId, OpId, Reg, Target};
 
@@ -26,19 +27,25 @@ pub(crate) struct Plan {
     pub tinies: Tinies,
     /// The classes of the tinies.
     pub classes: Vec<ClassId>,
+    /// The slot of the range.
+    pub slot: u32,
+    /// Whether a store or a reload names it.
+    pub uses_slot: bool,
     next_range: u32,
     next_id: u32,
 }
 
 impl Plan {
-    /// No edits of a function, with room for so many.
-    pub fn new(view: View<'_>, room: usize) -> Result<Plan, AllocError> {
+    /// No edits of a function, with the slot of the range and with room for so many edits.
+    pub fn new(view: View<'_>, slot: u32, room: usize) -> Result<Plan, AllocError> {
         let f = view.live.func();
         Ok(Plan {
             alloc: view.alloc,
             edits: Vec::with_capacity(view.alloc, room)?,
             tinies: Tinies::new(view.alloc),
             classes: Vec::new(view.alloc),
+            slot,
+            uses_slot: false,
             next_range: u32::try_from(f.classes.len()).unwrap_or(u32::MAX),
             next_id: f.next_id,
         })
@@ -54,6 +61,43 @@ impl Plan {
         self.edits.push(Edit::Put(gap, op, operands))?;
         self.next_id = self.next_id.saturating_add(1);
         Ok(())
+    }
+
+    /// Lanes of the slot of the range, for a store or a reload.
+    pub fn own_part(&mut self, index: Option<IndexId>) -> SlotPart {
+        self.uses_slot = true;
+        SlotPart {
+            slot: self.slot,
+            index,
+        }
+    }
+
+    /// Notes that a register of a class is reloaded before an instruction.
+    pub fn put_reload(
+        &mut self,
+        view: View<'_>,
+        at: u32,
+        class: ClassId,
+        register: RegOp,
+        from: SlotPart,
+    ) -> Result<(), AllocError> {
+        let operands = slot_operands(view.alloc, register, from)?;
+        self.put(view.gap_before(at), reload_op(view.target, class), operands)
+    }
+
+    /// Notes that the instruction of a definition is repeated before another, for this register.
+    pub fn put_repeated(
+        &mut self,
+        view: View<'_>,
+        source: u32,
+        at: u32,
+        register: RegOp,
+    ) -> Result<(), AllocError> {
+        let Some(instr) = view.live.instr(source) else {
+            return Ok(());
+        };
+        let operands = repeated(view.alloc, instr, register)?;
+        self.put(view.gap_before(at), op_of(instr), operands)
     }
 
     /// Notes that an instruction becomes another one in its place.
@@ -80,6 +124,14 @@ impl Plan {
     /// The allocator of its lists.
     pub fn alloc(&self) -> Global {
         self.alloc
+    }
+}
+
+/// An opcode of the target; opcode 0 for an excluded one.
+pub(crate) fn op_of(instr: &Instr) -> OpId {
+    match &instr.op {
+        Op::Known(op) => *op,
+        Op::Excluded(_) => OpId(0),
     }
 }
 
@@ -132,12 +184,9 @@ pub(crate) fn slot_operands(
     Ok(operands)
 }
 
-/// The operands of an instruction with another register in the place of its definition.
-pub(crate) fn repeated(
-    alloc: Global,
-    instr: &Instr,
-    register: RegOp,
-) -> Result<Operands, AllocError> {
+/// The operands of a constant or an address with another register in the place of its one definition,
+/// which is its first operand.
+fn repeated(alloc: Global, instr: &Instr, register: RegOp) -> Result<Operands, AllocError> {
     let mut operands = Operands::new(alloc);
     operands.push(Operand::Reg(register))?;
     'operands: for operand in instr.operands.as_slice().iter().skip(1) {

@@ -1,7 +1,7 @@
 //! Which definitions of a range reach which of its readings.
 
 use crate::plan::View;
-use std::alloc::{AllocError, Global};
+use std::alloc::AllocError;
 
 /// What reads the range.
 #[derive(Clone, Copy, PartialEq, Eq)]
@@ -116,7 +116,6 @@ pub(crate) fn unreached(view: View<'_>, count: usize) -> Result<Vec<u32>, AllocE
 /// The readings that the definition of lanes by an event reaches, in order, each once, where
 /// `unreached` gives these lanes.
 pub(crate) fn readings_reached(
-    alloc: Global,
     view: View<'_>,
     starts: &[u32],
     blocks: &[Events],
@@ -125,9 +124,9 @@ pub(crate) fn readings_reached(
     lanes: u32,
 ) -> Result<Vec<usize>, AllocError> {
     let mut walk = Walk {
-        starts: Vec::from_slice(alloc, starts)?,
-        work: Vec::new(alloc),
-        readings: Vec::new(alloc),
+        starts: Vec::from_slice(view.alloc, starts)?,
+        work: Vec::new(view.alloc),
+        readings: Vec::new(view.alloc),
     };
     let behind = match events_at(blocks, position).get(place.saturating_add(1)..) {
         Some(behind) => behind,

@@ -4,14 +4,14 @@
 use crate::kinds::is_within;
 use crate::plan::View;
 use crate::reaching::{Event, Events, ReadLanes, readings_reached, unreached};
-use crate::roles::{Tie, operand_class, role_of, tie_of};
-use mir_func::opcodes::{effect_of, is_terminator, roles_of};
+use crate::roles::{Naming, naming_of, own};
+use mir_func::opcodes::{effect_of, is_terminator, is_tied, next_role, roles_of};
 use mir_func::operands::register_at;
-use mir_func::{Instr, Loc, Operand, RegOp};
+use mir_func::{Instr, Loc, RegOp};
 use std::alloc::{AllocError, Global};
 use target_base::classes::class_of;
 use target_base::roles::is_definition;
-use target_base::{Boxed, ClassId, Effect, IndexId, Reg};
+use target_base::{Boxed, ClassId, Effect, Reg, Role};
 
 /// What a reading asks of the instruction that is repeated for it.
 #[derive(Clone, Copy, PartialEq, Eq)]
@@ -29,8 +29,8 @@ enum Wish {
 pub(crate) struct Key {
     /// The instruction, or the first terminator.
     pub at: u32,
-    /// The index and the operand class; none for the source of a copy or a store and for a tied use.
-    pub triple: Option<(Option<IndexId>, ClassId)>,
+    /// How the operand names the range; none for the source of a copy or a store and for tied uses.
+    pub naming: Option<Naming>,
 }
 
 /// A reading of the range.
@@ -216,7 +216,7 @@ fn add_move(
     };
     let key = Key {
         at: instr.id,
-        triple: None,
+        naming: None,
     };
     add_reading(key, wish, lanes, event, readings)
 }
@@ -247,13 +247,6 @@ pub(crate) fn first_terminator(view: View<'_>, instrs: &[Boxed<Instr>]) -> usize
     instrs.len().saturating_sub(count)
 }
 
-fn is_tied_read(tie: Option<Tie>, place: usize) -> bool {
-    match tie {
-        Some(tie) => tie.read == place,
-        None => false,
-    }
-}
-
 /// Adds the readings of the operands of another instruction.
 fn add_operands(
     view: View<'_>,
@@ -261,44 +254,41 @@ fn add_operands(
     event: &mut Event,
     readings: &mut Vec<Reading>,
 ) -> Result<(), AllocError> {
-    let tie = tie_of(view.target, instr);
     let at = place_id(view, instr);
-    let mut place = 0usize;
+    let mut roles = roles_of(view.target, instr);
     'operands: for operand in instr.operands.as_slice() {
-        if let Operand::Reg(op) = operand {
-            if view.is_own(op) && !op.def && !op.undef {
-                let (key, wish) = key_of(view, instr, op, place, at, tie);
+        let (role, behind) = next_role(roles);
+        roles = behind;
+        if let Some(op) = own(view, operand) {
+            if !op.def && !op.undef {
+                let (key, wish) = key_of(view, instr, at, role, &op);
                 add_reading(key, wish, view.lanes_named(op.index), event, readings)?;
             }
         }
-        place = place.saturating_add(1);
     }
     Ok(())
 }
 
-fn key_of(
-    view: View<'_>,
-    instr: &Instr,
-    op: &RegOp,
-    place: usize,
-    at: u32,
-    tie: Option<Tie>,
-) -> (Key, Wish) {
-    if is_tied_read(tie, place) {
+/// How a place reads the range by an operand of an instruction, and what that asks. Nothing serves for
+/// tied uses.
+fn key_of(view: View<'_>, instr: &Instr, at: u32, role: Option<Role>, op: &RegOp) -> (Key, Wish) {
+    if is_tied(role) {
         let key = Key {
             at: instr.id,
-            triple: None,
+            naming: None,
         };
         return (key, Wish::Never);
     }
-    let class = operand_class(view.target, view.live.func(), instr, place);
-    let class = class.unwrap_or(view.class);
-    let wish = match op.index {
-        None => Wish::Class(class),
+    let naming = naming_of(view, role, op);
+    let wish = match naming.index {
+        None => Wish::Class(naming.class),
         Some(_) => Wish::Never,
     };
-    let triple = Some((op.index, class));
-    (Key { at, triple }, wish)
+    let key = Key {
+        at,
+        naming: Some(naming),
+    };
+    (key, wish)
 }
 
 /// The readings that each definition reaches.
@@ -331,15 +321,7 @@ fn add_reaches(
     let mut place = 0usize;
     'events: for event in &events.list {
         if event.defined != 0 {
-            let readings = readings_reached(
-                view.alloc,
-                view,
-                starts,
-                blocks,
-                position,
-                place,
-                event.defined,
-            )?;
+            let readings = readings_reached(view, starts, blocks, position, place, event.defined)?;
             reaches.push(Reach {
                 id: event.id,
                 readings,
@@ -403,12 +385,12 @@ fn suits(view: View<'_>, instr: &Instr, wish: Wish) -> bool {
     }
 }
 
-/// The class of the definition of an instruction that defines a whole range.
+/// The class of the definition of a constant or an address that defines a whole range.
 fn repeated_class(view: View<'_>, instr: &Instr) -> Option<ClassId> {
     if register_at(instr.operands.as_slice(), 0)?.index.is_some() {
         return None;
     }
-    let role = role_of(roles_of(view.target, instr), 0)?;
+    let role = next_role(roles_of(view.target, instr)).0?;
     if is_definition(role) {
         class_of(role)
     } else {

@@ -1,63 +1,50 @@
-//! What the operands of an instruction are for.
+//! What the operands of an instruction say of the range.
 
-use mir_func::opcodes::{roles_of, takes_many};
-use mir_func::operands::{class_of, register_at};
-use mir_func::{Func, Instr, Loc, RegOp};
-use target_base::roles::{is_definition, is_implicit, is_tied};
-use target_base::{ClassId, Role, Target, classes};
+ghost use Rattle.std.specs.Prelude.{◌≡◌};
+ghost use Rattle.mir_func.specs.Binding.{operand_class};
 
-/// The role of the explicit operand at a place.
-pub(crate) fn role_of(roles: &[Role], place: usize) -> Option<Role> {
-    let mut k = 0usize;
-    'roles: for role in roles {
-        if takes_many(*role) {
-            return Some(*role);
-        }
-        if is_implicit(*role) {
-            return None;
-        }
-        if k == place {
-            return Some(*role);
-        }
-        k = k.saturating_add(1);
-    }
-    None
-}
+use crate::plan::View;
+use mir_func::opcodes::asked_class;
+use mir_func::operands::class_of;
+use mir_func::{Func, Loc, Operand, RegOp};
+use target_base::{ClassId, IndexId, Role, Target};
 
-/// The operand class of the operand at a place of an instruction; none where it has none.
-pub(crate) fn operand_class(
-    target: &Target,
-    f: &Func,
-    instr: &Instr,
-    place: usize,
-) -> Option<ClassId> {
-    match role_of(roles_of(target, instr), place)? {
-        Role::Any => match register_at(instr.operands.as_slice(), place)? {
-            RegOp {
-                loc: Loc::Virtual(w),
-                index,
-                ..
-            } => target.move_at(class_of(f, w)?, index),
-            _ => None,
-        },
-        Role::Address(class) => Some(class),
-        role => classes::class_of(role),
-    }
-}
-
-/// The places of a tied use and of the definition whose register it shares.
+/// How an operand names the range: its index and its operand class.
 #[derive(Clone, Copy, PartialEq, Eq)]
-pub(crate) struct Tie {
-    /// The place of the definition.
-    pub def: usize,
-    /// The place of the use.
-    pub read: usize,
+pub(crate) struct Naming {
+    /// The index.
+    pub index: Option<IndexId>,
+    /// The operand class.
+    pub class: ClassId,
 }
 
-/// The tie of an instruction, if it has one.
-pub(crate) fn tie_of(target: &Target, instr: &Instr) -> Option<Tie> {
-    let roles = roles_of(target, instr);
-    let read = roles.iter().position(|role| is_tied(*role))?;
-    let def = roles.iter().position(|role| is_definition(*role))?;
-    Some(Tie { def, read })
+/// The register operand, where it is the range.
+pub(crate) fn own(view: View<'_>, operand: &Operand) -> Option<RegOp> {
+    match operand {
+        Operand::Reg(op) if view.is_own(op) => Some(*op),
+        _ => None,
+    }
+}
+
+/// How an operand with its role names the range. Where it has no operand class, the range's own stands
+/// for it.
+pub(crate) fn naming_of(view: View<'_>, role: Option<Role>, op: &RegOp) -> Naming {
+    let class = operand_class(view.target, view.live.func(), role, op);
+    Naming {
+        index: op.index,
+        class: class.unwrap_or(view.class),
+    }
+}
+
+/// The operand class of an operand with its role; none where it has none.
+fn operand_class(target: &Target, f: &Func, role: Option<Role>, op: &RegOp) -> Option<ClassId>
+    ensures { result ≡ operand_class target.now f.now role op.now }
+{
+    match role? {
+        Role::Any => match op.loc {
+            Loc::Virtual(w) => target.move_at(class_of(f, w)?, op.index),
+            Loc::Fixed(_) => None,
+        },
+        role => asked_class(role),
+    }
 }

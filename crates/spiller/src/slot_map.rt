@@ -110,6 +110,14 @@ impl SlotMap {
         self.slots.get(&self.original(v)).copied()
     }
 
+    /// The number of the slot that a range has, or that it gets: the least that is free.
+    pub(crate) fn own_slot(&self, v: u32) -> u32 {
+        match self.slot_of(v) {
+            Some(number) => number,
+            None => self.free_number(),
+        }
+    }
+
     /// The slots that were given, in order.
     pub fn made(&self) -> &[Slot] {
         self.given.as_slice()

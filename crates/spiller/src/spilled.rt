@@ -1,11 +1,13 @@
 //! The call that spills a range.
 
-use crate::places::{change_single, change_terminators, is_at_end};
+use crate::places::change_single;
 use crate::plan::{Plan, View};
 use crate::remat::{Remat, first_terminator, place_id, plan_remat};
+use crate::seats::change_terminators;
 use crate::slot_map::SlotMap;
 use crate::stop::RunStop;
 use interference::{Matrix, Tinies};
+use mir_func::opcodes::is_terminator;
 use mir_func::operands::class_of;
 use std::alloc::{AllocError, Global};
 use target_base::ClassId;
@@ -15,7 +17,7 @@ pub const MOST_RANGES: usize = 1_048_576;
 
 /// Spills a range: each place that touches it gets ranges of its own, which are answered in order,
 /// uses before definitions. Ranges comes exactly where these would make more range numbers than the
-/// limit. After a refusal slots given earlier stay.
+/// limit. After a refusal the range may have its slot all the same.
 pub fn spill(
     alloc: Global,
     m: &mut Matrix,
@@ -23,16 +25,20 @@ pub fn spill(
     v: u32,
 ) -> Result<Tinies, RunStop> {
     let touched = m.live().touched(alloc, v)?;
-    let plan = planned(alloc, m, slots, v, touched.as_slice())?;
+    let plan = planned(alloc, m, slots.own_slot(v), v, touched.as_slice())?;
     let Plan {
         edits,
         tinies,
         classes,
+        uses_slot,
         ..
     } = plan;
     let count = m.live().func().classes.len();
     if count.saturating_add(classes.len()) > MOST_RANGES {
         return Err(RunStop::Ranges);
+    }
+    if uses_slot {
+        let _ = slots.give(m.live().func(), v)?;
     }
     make_ranges(m, slots, classes.as_slice())?;
     m.edit_all_of(edits, v, touched.as_slice())?;
@@ -48,11 +54,11 @@ fn make_ranges(m: &mut Matrix, slots: &mut SlotMap, classes: &[ClassId]) -> Resu
     Ok(())
 }
 
-/// The edits that spill a range.
+/// The edits that spill a range to a slot.
 fn planned(
     alloc: Global,
     m: &Matrix,
-    slots: &mut SlotMap,
+    slot: u32,
     v: u32,
     touched: &[u32],
 ) -> Result<Plan, AllocError> {
@@ -66,10 +72,10 @@ fn planned(
     };
     let remat = plan_remat(view, touched)?;
     // (a place is changed in three steps at most: a reload, the instruction, a store)
-    let mut plan = Plan::new(view, touched.len().saturating_mul(3))?;
+    let mut plan = Plan::new(view, slot, touched.len().saturating_mul(3))?;
     let mut last = None;
     'touched: for id in touched {
-        last = change_touched(view, *id, last, &remat, slots, &mut plan)?;
+        last = change_touched(view, *id, last, &remat, &mut plan)?;
     }
     Ok(plan)
 }
@@ -81,14 +87,13 @@ fn change_touched(
     id: u32,
     last: Option<u32>,
     remat: &Remat,
-    slots: &mut SlotMap,
     plan: &mut Plan,
 ) -> Result<Option<u32>, AllocError> {
     let Some(instr) = view.live.instr(id) else {
         return Ok(last);
     };
-    if !is_at_end(view, instr) {
-        change_single(view, instr, remat, slots, plan)?;
+    if !is_terminator(view.target, instr) {
+        change_single(view, instr, remat, plan)?;
         return Ok(last);
     }
     let at = place_id(view, instr);
@@ -99,7 +104,7 @@ fn change_touched(
     if let Some(block) = view.live.func().blocks.as_slice().get(position) {
         let instrs = block.instrs.as_slice();
         if let Some(end) = instrs.get(first_terminator(view, instrs)..) {
-            change_terminators(view, end, remat, slots, plan)?;
+            change_terminators(view, end, remat, plan)?;
         }
     }
     Ok(Some(at))

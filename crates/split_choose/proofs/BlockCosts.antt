@@ -1,5 +1,5 @@
 -- What the row of a block costs and which arcs it has is what the block does.
-use Rattle.std.proofs.Common.{◌≡◌, ◌∙◌, ◌⊎◌, inl, inr, ℕ, zero, suc, ◌+◌, ◌-◌, ◌*◌, ◌<◌, ◌≤◌, List, [], ◌∷◌, ◌++◌, Bool, true, false, cond, refl, sym, ap, subst, length, filter, arith, Option, None, Some}
+use Rattle.std.proofs.Common.{◌≡◌, ◌∙◌, ℕ, ◌+◌, ◌-◌, ◌*◌, List, [], ◌∷◌, ◌++◌, Bool, true, false, cond, refl, sym, ap, filter, arith, None, Some}
 use Rattle.std.specs.Prelude.{not, slice_index_or}
 use Rattle.std.specs.List.{sum_by}
 use Rattle.std.proofs.lemmas.List.Sums.{sum_by-cons}
@@ -14,7 +14,7 @@ use Rattle.cut_place.specs.declared.net.Arc.{Arc}
 use Rattle.split_choose.specs.Offers.{View, In, Out, operands_in, terminators}
 use Rattle.split_choose.specs.Nets.{node_if, arc_to, arcs_between, row_arcs, row_base}
 use Rattle.split_choose.specs.Placings.{copy_cost, out_cost, row_cost}
-use Rattle.split_choose.specs.Cuts.{Choice, Bundle, Inner, has_inside, enters, leaves, inside_operands, block_cost, block_arcs, number_of}
+use Rattle.split_choose.specs.Cuts.{Choice, Bundle, Inner, has_inside, enters, leaves, block_cost, block_arcs, number_of}
 use Rattle.split_choose.proofs.BlockRows.{block_row}
 
 times-none : (w : ℕ) → w * 0 ≡ 0

@@ -1,6 +1,6 @@
 -- The labels of the rows of a register's net are those of the blocks.
-use Rattle.std.proofs.Common.{◌≡◌, ◌∙◌, ℕ, List, [], ◌∷◌, ◌++◌, Bool, true, false, cond, refl, sym, ap, Option, None, Some}
-use Rattle.std.specs.Prelude.{◌&&◌, not, slice_get, flat_map}
+use Rattle.std.proofs.Common.{◌≡◌, ◌∙◌, ℕ, List, [], Bool, true, false, cond, refl, ap, None, Some}
+use Rattle.std.specs.Prelude.{◌&&◌, slice_get, flat_map}
 use Rattle.target_base.specs.declared.types.Target.{Target}
 use Rattle.target_base.specs.declared.types.Reg.{Reg}
 use Rattle.mir_func.specs.declared.func.Block.{Block}
@@ -8,9 +8,9 @@ use Rattle.mir_func.specs.Value.{Function}
 use Rattle.live_lanes.specs.declared.ask.labels.Mark.{Mark}
 use Rattle.cut_place.specs.Flows.{in_set}
 use Rattle.split_choose.specs.declared.nets.Row.{Row}
-use Rattle.split_choose.specs.Offers.{View, In, Out, first_id, at_start, before_terminators}
+use Rattle.split_choose.specs.Offers.{View, In, Out, first_id, before_terminators}
 use Rattle.split_choose.specs.Nets.{node_if}
-use Rattle.split_choose.specs.Cuts.{Choice, Bundle, Inner, same_gap, change_at, has_inside, enters, leaves, in_inside, in_start, in_end, from_first_gap, number_of, choice_marks}
+use Rattle.split_choose.specs.Cuts.{Choice, Bundle, Inner, same_gap, has_inside, enters, leaves, in_inside, in_start, in_end, from_first_gap, number_of, choice_marks}
 use Rattle.split_choose.specs.Labelled.{is_node_in, sides_of, side_marks, row_marks, rows_marks}
 use Rattle.split_choose.proofs.Telling.{IsUntold}
 use Rattle.split_choose.proofs.Along.{Along, along-flat}

@@ -1,6 +1,6 @@
 -- What a row of a register's net tells of its block: the nodes are those of the block's borders and of its inside.
-use Rattle.std.proofs.Common.{◌≡◌, ◌∙◌, ◌⊎◌, inl, inr, ℕ, zero, suc, ◌+◌, ◌*◌, ◌<◌, ◌≤◌, List, [], ◌∷◌, Bool, true, false, cond, refl, sym, ap, subst, length, filter, arith, Option, None, Some, option_map}
-use Rattle.std.specs.Prelude.{◌&&◌, ◌||◌, not, slice_get, slice_index_or, nat_eq}
+use Rattle.std.proofs.Common.{◌≡◌, ◌∙◌, ◌⊎◌, inl, inr, ℕ, suc, ◌+◌, ◌*◌, ◌<◌, List, [], ◌∷◌, Bool, true, false, cond, refl, sym, ap, length, arith, Option, None, Some, option_map}
+use Rattle.std.specs.Prelude.{◌&&◌, not, slice_get, slice_index_or, nat_eq}
 use Rattle.std.specs.List.{list_any}
 use Rattle.std.proofs.lemmas.Bool.{cases_eq, eq-eqb, ne_eqb}
 use Rattle.std.proofs.lemmas.Option.{slice_get_within}
@@ -8,16 +8,16 @@ use Rattle.target_base.specs.declared.types.Target.{Target}
 use Rattle.target_base.specs.declared.types.Reg.{Reg}
 use Rattle.mir_func.specs.declared.func.Block.{Block}
 use Rattle.mir_func.specs.Value.{Function}
-use Rattle.mir_meaning.specs.Points.{Start, block_points}
+use Rattle.mir_meaning.specs.Points.{block_points}
 use Rattle.split_choose.specs.declared.spans.Span.{Span}
 use Rattle.split_choose.specs.declared.nets.Row.{Row}
 use Rattle.split_choose.specs.Bundles.{start_of, end_of, are_joined, ArePlaced, AreEarlier}
 use Rattle.split_choose.specs.Nets.{count_below, is_free, node_of, node_if, row_of, rows_from}
 use Rattle.split_choose.specs.Nets.{has_inside as span_inside}
 use Rattle.split_choose.specs.Placings.{net_rows}
-use Rattle.split_choose.specs.Offers.{View, Border, In, Out, is_clear, end_point, operands_in, terminators}
+use Rattle.split_choose.specs.Offers.{View, Border, In, Out, is_clear, operands_in, terminators}
 use Rattle.split_choose.specs.Counted.{AreCounted}
-use Rattle.split_choose.specs.Cuts.{Bundle, Inner, place_by, has_inside, enters, leaves, bundle_nodes, inside_nodes, number_of}
+use Rattle.split_choose.specs.Cuts.{Bundle, Inner, place_by, has_inside, enters, leaves, inside_nodes, number_of}
 use Rattle.split_choose.proofs.Telling.{IsTold, IsUntold}
 use Rattle.split_choose.proofs.Along.{Along}
 use Rattle.split_choose.proofs.Barred.{live-out, others}

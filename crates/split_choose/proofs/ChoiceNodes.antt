@@ -1,5 +1,5 @@
 -- A choice of bundles and insides, as a set of nodes of the net.
-use Rattle.std.proofs.Common.{◌≡◌, ◌∙◌, ℕ, zero, suc, ◌+◌, ◌-◌, ◌*◌, ◌<◌, ◌≤◌, List, Bool, true, false, cond, refl, sym, ap, subst, length, arith, Option, None, Some}
+use Rattle.std.proofs.Common.{◌≡◌, ◌∙◌, ℕ, zero, suc, ◌+◌, ◌-◌, ◌*◌, ◌<◌, List, Bool, true, false, cond, refl, sym, ap, length, arith, Option, None, Some}
 use Rattle.std.specs.Prelude.{slice_get, nat_eq}
 use Rattle.std.proofs.lemmas.Bool.{eqb-true}
 use Rattle.std.proofs.lemmas.Option.{slice_get_past}
@@ -10,16 +10,16 @@ use Rattle.mir_func.specs.Value.{Function}
 use Rattle.cut_place.specs.Flows.{IsCut}
 use Rattle.split_choose.specs.declared.spans.Span.{Span}
 use Rattle.split_choose.specs.Bundles.{root_of, border_place, are_joined, ArePlaced, AreEarlier}
-use Rattle.split_choose.specs.Nets.{count_below, is_named, is_free}
+use Rattle.split_choose.specs.Nets.{is_named, is_free}
 use Rattle.split_choose.specs.Offers.{View, Border, is_clear, is_in}
-use Rattle.split_choose.specs.Cuts.{Node, Bundle, Inner, Choice, IsChoice, place_by, has_inside, bundle_nodes, inside_nodes, number_of}
+use Rattle.split_choose.specs.Cuts.{Bundle, Inner, Choice, IsChoice, place_by, has_inside, bundle_nodes, inside_nodes, number_of}
 use Rattle.split_choose.proofs.Telling.{IsTold, IsUntold}
 use Rattle.split_choose.proofs.Along.{Along}
 use Rattle.split_choose.proofs.Roots.{root_falls}
 use Rattle.split_choose.proofs.Sizing.{more-below}
 use Rattle.split_choose.proofs.Picking.{place-found}
 use Rattle.split_choose.proofs.FirstBorders.{nodes-many, own-place, free-is}
-use Rattle.split_choose.proofs.BlockRows.{inside_at, insides-many, inside-below, inner-place}
+use Rattle.split_choose.proofs.BlockRows.{insides-many, inside-below, inner-place}
 
 module _ (t : Target) (f : Function) (v : ℕ) (view : View) (freqs : List ℕ) (r : Reg) where
   -- whether what a node stands for is in

@@ -1,5 +1,5 @@
 -- The region at least cost that is offered, by the spans of a range.
-use Rattle.std.proofs.Common.{◌≡◌, ◌∙◌, ◌⊎◌, inl, inr, ℕ, zero, suc, ◌+◌, ◌<◌, ◌≤◌, List, Bool, true, false, refl, sym, ap, length, arith, map, Option, None, Some}
+use Rattle.std.proofs.Common.{◌≡◌, ◌∙◌, inl, ℕ, ◌<◌, ◌≤◌, List, refl, ap, length, arith, map, Option, None}
 use Rattle.std.specs.Prelude.{slice_get}
 use Rattle.std.proofs.lemmas.Bool.{lt-leb}
 use Rattle.mir_func.specs.Binding.{class_of}
@@ -14,7 +14,7 @@ use Rattle.split_choose.specs.Seen.{FindsPlaces, FindsPoints, view_of}
 use Rattle.split_choose.specs.Places.{placed}
 use Rattle.split_choose.specs.Spanned.{AreSpansOf}
 use Rattle.split_choose.specs.Regions.{capped, uses_of}
-use Rattle.split_choose.specs.Offers.{touched_places, is_dividable}
+use Rattle.split_choose.specs.Offers.{touched_places}
 use Rattle.split_choose.specs.Counted.{AreCounted}
 use Rattle.split_choose.specs.Cuts.{IsCutOffer}
 use Rattle.split_choose.specs.Labelled.{IsBestRegion}

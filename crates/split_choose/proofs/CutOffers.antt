@@ -1,15 +1,11 @@
 -- The region of the best choice over the blocks of a range is the one that is offered.
-use Rattle.std.proofs.Common.{◌≡◌, ◌∙◌, ◌⊎◌, inl, inr, ℕ, zero, suc, ◌+◌, ◌*◌, ◌<◌, ◌≤◌, List, [], ◌∷◌, ◌++◌, Bool, true, false, cond, refl, sym, ap, subst, length, arith, Option, None, Some, option_map}
+use Rattle.std.proofs.Common.{◌≡◌, ◌∙◌, inr, ℕ, ◌+◌, ◌*◌, ◌<◌, ◌≤◌, List, [], ◌∷◌, true, cond, refl, sym, ap, subst, length, arith, Option, None, Some, option_map}
 use Rattle.std.specs.Prelude.{slice_get, flat_map}
-use Rattle.target_base.specs.declared.types.Target.{Target}
 use Rattle.target_base.specs.declared.types.Reg.{Reg}
 use Rattle.mir_func.specs.declared.func.Block.{Block}
-use Rattle.mir_func.specs.Value.{Function}
 use Rattle.mir_func.specs.Binding.{class_of}
 use Rattle.mir_meaning.specs.Places.{domain}
-use Rattle.block_freq.specs.Weights.{use_sum}
 use Rattle.interference.specs.declared.matrix.Matrix.{Matrix}
-use Rattle.cut_place.specs.declared.net.Arc.{Arc}
 use Rattle.cut_place.specs.declared.net.Net.{Net}
 use Rattle.cut_place.specs.Flows.{in_set, capacity_leaving}
 use Rattle.split_choose.specs.declared.spans.Span.{Span}
@@ -18,13 +14,13 @@ use Rattle.split_choose.specs.declared.cuts.Choice.{Choice as Chosen}
 use Rattle.split_choose.specs.Bundles.{are_joined, ArePlaced, AreEarlier}
 use Rattle.split_choose.specs.Regions.{capped, uses_of}
 use Rattle.split_choose.specs.Spans.{is_clear_in}
-use Rattle.split_choose.specs.Nets.{base_of, arcs_of}
+use Rattle.split_choose.specs.Nets.{arcs_of}
 use Rattle.split_choose.specs.Placings.{IsLeastCut, net_rows}
 use Rattle.split_choose.specs.Choices.{register_rows, IsChosen, IsFirst, IsBestBelow}
 use Rattle.split_choose.specs.Choices.{CostsAtLeast as CostsOver, AllCost as AllOver}
 use Rattle.split_choose.specs.Offers.{View, Border, is_clear, is_dividable}
 use Rattle.split_choose.specs.Counted.{AreCounted}
-use Rattle.split_choose.specs.Cuts.{Node, Choice, IsChoice, Bundle, Inner, is_node, place_by, bundle_nodes, number_of, choice_of, net_of, base_cost, cost_of, IsRegion, CostsAtLeast, AllCost, IsBest, IsCutOffer}
+use Rattle.split_choose.specs.Cuts.{Node, Choice, IsChoice, is_node, place_by, bundle_nodes, number_of, base_cost, cost_of, IsRegion, CostsAtLeast, AllCost, IsBest, IsCutOffer}
 use Rattle.split_choose.specs.Labelled.{sides_of, row_marks, region_of, IsBestRegion}
 use Rattle.split_choose.proofs.Telling.{IsTold, IsUntold}
 use Rattle.split_choose.proofs.Along.{Along}

@@ -1,6 +1,6 @@
 -- The labels of blocks as they are added, row by row.
 use Rattle.std.proofs.Common.{◌≡◌, ◌∙◌, ℕ, zero, suc, ◌+◌, ◌<◌, ◌≤◌, List, [], ◌∷◌, ◌++◌, Bool, true, false, cond, refl, sym, ap, subst, length, drop, get_or, filter, arith, append_assoc, append-nil, drop-cons, Option, None, Some}
-use Rattle.std.specs.Prelude.{◌&&◌, slice_get, flat_map}
+use Rattle.std.specs.Prelude.{slice_get, flat_map}
 use Rattle.std.specs.List.{list_all}
 use Rattle.target_base.specs.declared.types.Target.{Target}
 use Rattle.mir_func.specs.declared.func.Block.{Block}
@@ -14,7 +14,7 @@ use Rattle.split_choose.specs.Offers.{View, first_id, before_terminators}
 use Rattle.split_choose.specs.Seen.{ends_in_terminators}
 use Rattle.split_choose.specs.Marks.{marks_in}
 use Rattle.split_choose.specs.Cuts.{same_gap, change_at}
-use Rattle.split_choose.specs.Labelled.{sides_of, has_exit, behind_first, changes_in, side_marks, row_marks, rows_marks}
+use Rattle.split_choose.specs.Labelled.{sides_of, behind_first, changes_in, side_marks, row_marks, rows_marks}
 use Rattle.split_choose.proofs.Labelling.{all-got}
 
 -- three parts behind one another

@@ -1,5 +1,5 @@
 -- The net of a register over the blocks of a range, its base and what choices of its nodes cost are those over the blocks of the function.
-use Rattle.std.proofs.Common.{◌≡◌, ◌∙◌, ℕ, zero, suc, ◌+◌, ◌*◌, ◌<◌, ◌≤◌, List, [], ◌∷◌, Bool, true, false, cond, refl, sym, ap, subst, length, get_or, arith, Option, None, Some, option_map}
+use Rattle.std.proofs.Common.{◌≡◌, ◌∙◌, ℕ, ◌+◌, ◌*◌, ◌≤◌, List, [], Bool, true, false, cond, refl, ap, length, arith, None, Some, option_map}
 use Rattle.std.specs.Prelude.{slice_get, slice_index_or, zip, flat_map}
 use Rattle.std.proofs.lemmas.Option.{slice_get_within}
 use Rattle.target_base.specs.declared.types.Target.{Target}
@@ -15,7 +15,7 @@ use Rattle.split_choose.specs.Bundles.{start_of, end_of, are_joined, ArePlaced, 
 use Rattle.split_choose.specs.Regions.{capped}
 use Rattle.split_choose.specs.Nets.{node_if, arcs_of, base_of, row_arcs, row_base, inside_count}
 use Rattle.split_choose.specs.Placings.{net_rows, node_count, row_cost, choice_cost}
-use Rattle.split_choose.specs.Offers.{View, Border, In, Out, is_clear, live_at, operands_in}
+use Rattle.split_choose.specs.Offers.{View, Border, In, Out, is_clear, operands_in}
 use Rattle.split_choose.specs.Counted.{AreCounted}
 use Rattle.split_choose.specs.Cuts.{Choice, IsChoice, Bundle, Inner, has_inside, enters, leaves, block_cost, cost_of, base_cost, block_arcs, bundle_nodes, inside_nodes, number_of, net_of}
 use Rattle.split_choose.proofs.Telling.{IsTold, IsUntold}
@@ -23,7 +23,7 @@ use Rattle.split_choose.proofs.Along.{Along, along-sum, along-zip, along-count}
 use Rattle.split_choose.proofs.Barred.{live-out}
 use Rattle.split_choose.proofs.Priced.{weights, uses-are, sum-within, capped-fits}
 use Rattle.split_choose.proofs.FirstBorders.{nodes-many, named-in, named-out}
-use Rattle.split_choose.proofs.BlockRows.{block_row, IsRowAt, net-along, inside-none}
+use Rattle.split_choose.proofs.BlockRows.{IsRowAt, net-along, inside-none}
 use Rattle.split_choose.proofs.BlockCosts.{arcs-are, base-is, cost-of}
 use Rattle.split_choose.proofs.ChoiceNodes.{nodes-of, bundle-in, inner-in}
 

@@ -1,10 +1,9 @@
 -- A range in few blocks, in none of which it is used much, has a net that is small enough.
-use Rattle.std.proofs.Common.{◌≡◌, ◌∙◌, ℕ, zero, suc, ◌+◌, ◌*◌, ◌<◌, ◌≤◌, List, [], ◌∷◌, Bool, true, false, refl, sym, ap, subst, length, get_or, filter, arith, Option, None, Some}
-use Rattle.std.specs.Prelude.{◌&&◌, slice_get, slice_index_or, nat_le, nat_lt, zip}
+use Rattle.std.proofs.Common.{◌≡◌, ◌∙◌, ℕ, zero, suc, ◌+◌, ◌*◌, ◌≤◌, List, [], ◌∷◌, Bool, true, sym, ap, length, get_or, filter, arith, Some}
+use Rattle.std.specs.Prelude.{slice_get, nat_le, zip}
 use Rattle.std.specs.List.{list_all, sum_by}
 use Rattle.std.proofs.lemmas.Bool.{le-leb, leb-true, ltb-true, and_parts, and_from}
 use Rattle.std.proofs.Math.Nat.{mul-le-mul_left}
-use Rattle.meaning.specs.Live.{Among}
 use Rattle.mir_func.specs.declared.func.Block.{Block}
 use Rattle.mir_func.specs.Binding.{does, is_terminator}
 use Rattle.block_freq.specs.Weights.{naming, block_uses}
@@ -13,9 +12,9 @@ use Rattle.split_choose.specs.declared.spans.Span.{Span}
 use Rattle.split_choose.specs.Bundles.{AreEarlier}
 use Rattle.split_choose.specs.Seen.{FindsPlaces, FindsPoints}
 use Rattle.split_choose.specs.Spanned.{IsSpan, AreSpansOf}
-use Rattle.split_choose.specs.Regions.{capped, ArePositions}
+use Rattle.split_choose.specs.Regions.{ArePositions}
 use Rattle.split_choose.specs.Counted.{AreCounted, IsSmall}
-use Rattle.split_choose.specs.Placings.{AreFew, is_cheap, AreCheap}
+use Rattle.split_choose.specs.Placings.{is_cheap}
 use Rattle.split_choose.specs.Choices.{IsWithin}
 use Rattle.split_choose.proofs.Along.{Rising, rising}
 use Rattle.split_choose.proofs.Clearing.{all-of}

@@ -1,7 +1,7 @@
 -- The pass over a function, and lowering as a whole.
-use Rattle.std.specs.Prelude.{ℕ, Bool, true, false, cond, ◌+◌, List, [], ◌∷◌, ◌++◌, length, drop, Option, Some, None, slice_get}
+use Rattle.std.specs.Prelude.{ℕ, Bool, cond, ◌+◌, List, [], ◌∷◌, ◌++◌, length, drop, flat_map, Option, Some, None, is_some, slice_get}
 use Rattle.target_base.specs.declared.types.ClassId.{ClassId}
-use Rattle.target_base.specs.declared.types.IndexId.{IndexId}
+use Rattle.target_base.specs.declared.types.Role.{Role}
 use Rattle.target_base.specs.declared.types.Target.{Target}
 use Rattle.target_base.specs.Rules.{is_copy, is_reg_sequence, is_insert_subreg}
 use Rattle.mir_func.specs.declared.func.Loc.{Loc}
@@ -17,7 +17,8 @@ use Rattle.phi_elim.specs.Phis.{all_instrs, located_class, phis_lowered}
 use Rattle.two_address.specs.declared.forms.Form.{Form}
 use Rattle.two_address.specs.declared.forms.Form.TheVariants as forms
 use Rattle.two_address.specs.declared.sequences.Part.{Part}
-use Rattle.two_address.specs.Ties.{definition_of, undefined_first, tie_in, tied_lowered, copy_lowered, first_role_class}
+use Rattle.two_address.specs.declared.ties.Tie.{Tie}
+use Rattle.two_address.specs.Ties.{undefined_first, ties_in, tied_lowered, copy_lowered, definition_class}
 use Rattle.two_address.specs.Sequences.{part, parts_of, is_input, sequence_lowered, insertion_lowered}
 
 -- the number of a virtual register
@@ -67,31 +68,30 @@ form_lowered t cs c i forms.Other = tied_lowered t cs c i
 
 -- what becomes of an instruction
 abbrev pub instr_lowered : Target → List (Option ClassId) → ℕ → Instr → List Instr
-instr_lowered t cs c i = undefined_first (definition_of i.operands) ++ form_lowered t cs c i (form_of t i)
+instr_lowered t cs c i = flat_map undefined_first i.operands ++ form_lowered t cs c i (form_of t i)
 
--- the class of a register that stands in for v
+-- the class of a register, where one is needed
 abbrev pub class_if : Bool → Option ClassId → List (Option ClassId)
 class_if b k = cond b (k ∷ []) []
 
--- one where a register stands in
-abbrev pub class_aside : Option ℕ → Option ClassId → List (Option ClassId)
-class_aside None k = []
-class_aside (Some c) k = k ∷ []
+-- the class of the register that stands in for a definition, where one does
+abbrev pub class_aside : List Role → Tie → List (Option ClassId)
+class_aside rs tie = class_if (is_some tie.aside) (definition_class rs tie.number)
 
--- the class of the register that an instruction of a form needs, where it needs one
-abbrev pub form_class : Target → List (Option ClassId) → ℕ → Instr → Form → List (Option ClassId)
-form_class t cs c i (forms.Copy d s) = []
-form_class t cs c i (forms.Sequence v) = class_if (is_input (Virtual v) (parts_of (drop 1 i.operands))) (located_class cs (Virtual v))
-form_class t cs c i (forms.Insertion v a p) = class_if (is_input (Virtual v) (p ∷ [])) (located_class cs (Virtual v))
-form_class t cs c i forms.Other = class_aside (tie_in t c i).aside (first_role_class (roles_of t i))
+-- the classes of the registers that an instruction of a form needs
+abbrev pub form_classes : Target → List (Option ClassId) → ℕ → Instr → Form → List (Option ClassId)
+form_classes t cs c i (forms.Copy d s) = []
+form_classes t cs c i (forms.Sequence v) = class_if (is_input (Virtual v) (parts_of (drop 1 i.operands))) (located_class cs (Virtual v))
+form_classes t cs c i (forms.Insertion v a p) = class_if (is_input (Virtual v) (p ∷ [])) (located_class cs (Virtual v))
+form_classes t cs c i forms.Other = flat_map (class_aside (roles_of t i)) (ties_in t c i)
 
--- that of any instruction
-abbrev pub instr_class : Target → List (Option ClassId) → ℕ → Instr → List (Option ClassId)
-instr_class t cs c i = form_class t cs c i (form_of t i)
+-- those of any instruction
+abbrev pub instr_classes : Target → List (Option ClassId) → ℕ → Instr → List (Option ClassId)
+instr_classes t cs c i = form_classes t cs c i (form_of t i)
 
 -- the range number behind the instruction
 abbrev pub next_range : Target → List (Option ClassId) → ℕ → Instr → ℕ
-next_range t cs c i = c + length (instr_class t cs c i)
+next_range t cs c i = c + length (instr_classes t cs c i)
 
 -- what becomes of instructions, the first new register having number c
 abbrev pub instrs_lowered : Target → List (Option ClassId) → ℕ → List Instr → List Instr
@@ -101,7 +101,7 @@ instrs_lowered t cs c (i ∷ is) = instr_lowered t cs c i ++ instrs_lowered t cs
 -- the classes of the registers that they need
 abbrev pub classes_made : Target → List (Option ClassId) → ℕ → List Instr → List (Option ClassId)
 classes_made t cs c [] = []
-classes_made t cs c (i ∷ is) = instr_class t cs c i ++ classes_made t cs (next_range t cs c i) is
+classes_made t cs c (i ∷ is) = instr_classes t cs c i ++ classes_made t cs (next_range t cs c i) is
 
 -- what becomes of blocks
 abbrev pub blocks_lowered : Target → List (Option ClassId) → ℕ → List Block → List Block

@@ -2,31 +2,14 @@
 
 ghost use Rattle.std.specs.Prelude.{◌≡◌};
 ghost use Rattle.mir_func.specs.Binding.{moving_class};
-ghost use Rattle.two_address.specs.Classes.{class_asked, first_register, first_role, roles_behind};
+ghost use Rattle.two_address.specs.Classes.{class_asked, first_register};
 
 use mir_func::RegOp;
-use mir_func::opcodes::{asked_class, takes_many};
+use mir_func::opcodes::asked_class;
 use phi_elim::phis::located_class;
 use target_base::classes::regs_at;
 use target_base::registers::is_unreserved;
 use target_base::{ClassId, Reg, Role, Target};
-
-/// The first of these roles.
-pub fn first_role(roles: &[Role]) -> Option<Role>
-    ensures { result ≡ first_role roles.now }
-{
-    roles.first().copied()
-}
-
-/// The roles of the operands behind the first one.
-pub fn roles_behind(roles: &[Role]) -> &[Role]
-    ensures { result.now ≡ roles_behind roles.now }
-{
-    match roles.first() {
-        None => roles,
-        Some(r) => { if takes_many(*r) { roles } else { &roles[1..] } }
-    }
-}
 
 /// The class that a role asks of a register; in an `any` role the first class with its lane widths.
 pub fn class_asked(

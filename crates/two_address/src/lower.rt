@@ -1,34 +1,32 @@
 //! The pass over a function.
 
-ghost use Rattle.std.specs.Prelude.{◌≡◌, ◌<◌, ◌≤◌, ◌+◌, ◌*◌, ◌^◌, ◌++◌, ◌∷◌, [], OnOk, IfOk, length, drop};
+ghost use Rattle.std.specs.Prelude.{◌≡◌, ◌<◌, ◌≤◌, ◌+◌, ◌*◌, ◌^◌, ◌++◌, ◌∷◌, [], OnOk, IfOk, length, drop, flat_map};
 ghost use Rattle.mir_func.specs.declared.func.Loc.TheVariants as locs;
-ghost use Rattle.phi_elim.specs.Bulk.{bulk};
+ghost use Rattle.phi_elim.specs.Bulk.{bulk, operand_count};
 ghost use Rattle.phi_elim.specs.Numbered.{instr_count};
 ghost use Rattle.phi_elim.specs.Phis.{all_instrs, located_class};
 ghost use Rattle.two_address.specs.Sequences.{parts_of, is_input, sequence_lowered};
 ghost use Rattle.two_address.specs.Ties.{copy_lowered};
-ghost use Rattle.two_address.specs.Lowered.{form_lowered, form_class, instr_lowered, instr_class, next_range, instrs_lowered, classes_made, blocks_lowered, ties_lowered, class_aside, class_if};
+ghost use Rattle.two_address.specs.Lowered.{form_lowered, form_classes, instr_lowered, instr_classes, next_range, instrs_lowered, classes_made, blocks_lowered, ties_lowered, class_aside, class_if};
 
 use crate::forms::{Form, form_of};
 use crate::sequences::{insertion_lowered, is_input, parts_of, sequence_lowered};
-use crate::ties::{
-    copy_lowered, definition_of, first_role_class, push_tied, push_undefined, tie_in,
-};
+use crate::ties::{Tie, copy_lowered, definition_class, push_tied, push_undefined, ties_in};
 use mir_func::opcodes::roles_of;
 use mir_func::{Block, Blocks, Func, Instr, Loc, NoPhi, RegOp};
 use phi_elim::amount::bulk_of;
 use phi_elim::ids::number_blocks;
 use phi_elim::phis::located_class;
 use std::alloc::{AllocError, Global};
-use target_base::{Boxed, BoxedList, ClassId, Target};
+use target_base::{Boxed, BoxedList, ClassId, Role, Target};
 
 /// The greatest bulk of a function of which something is promised.
 const MOST: u64 = 1 << 27;
 
 /// The function in lowered form (LLVM's `TwoAddressInstructionPass`). A tied use becomes the register
-/// and index that the instruction defines, behind a copy where it isn't that already; where another
-/// operand reads the defined register, a fresh one stands in for it, with a copy behind. REG_SEQUENCE
-/// and INSERT_SUBREG become copies of parts. Before an `undef` definition all of its register is made
+/// and index of its definition, behind a copy where it isn't that already; where another operand reads
+/// the defined register, a fresh one stands in for it, with a copy behind. REG_SEQUENCE and
+/// INSERT_SUBREG become copies of parts. Before an `undef` definition all of its register is made
 /// undefined; a copy of an `undef` operand becomes an IMPLICIT_DEF; any other `undef` use of a virtual
 /// register that isn't tied becomes one of the first unreserved register of its class. Ids are given anew.
 ///
@@ -78,7 +76,7 @@ fn lower_blocks(
     classes: &[Option<ClassId>],
     blocks: &mut Blocks,
 ) -> Result<Vec<Option<ClassId>>, AllocError>
-    requires { length classes.now + instr_count blocks.old < 2 ^ 32 }
+    requires { length classes.now + instr_count blocks.old + operand_count (all_instrs blocks.old) < 2 ^ 32 }
     ensures blocks { OnOk result (blocks.new ≡ blocks_lowered target.now classes.now (length classes.now) blocks.old) }
     ensures classes { IfOk result (λ made. made.items ≡ classes_made target.now classes.now (length classes.now) (all_instrs blocks.old)) }
 {
@@ -97,7 +95,7 @@ fn lower_block(
     made: &mut Vec<Option<ClassId>>,
     block: &mut Block,
 ) -> Result<(), AllocError>
-    requires { length classes.now + length made.old.items + length block.old.instrs < 2 ^ 32 }
+    requires { length classes.now + length made.old.items + length block.old.instrs + operand_count block.old.instrs < 2 ^ 32 }
     ensures block { OnOk result (block.new ≡ record block.old { instrs = instrs_lowered target.now classes.now (length classes.now + length made.old.items) block.old.instrs }) }
     ensures classes { OnOk result (made.new.items ≡ made.old.items ++ classes_made target.now classes.now (length classes.now + length made.old.items) block.old.instrs) }
 {
@@ -115,7 +113,7 @@ fn lower_instrs(
     made: &mut Vec<Option<ClassId>>,
     instrs: &[Boxed<Instr>],
 ) -> Result<Vec<Instr>, AllocError>
-    requires { length classes.now + length made.old.items + length instrs.now < 2 ^ 32 }
+    requires { length classes.now + length made.old.items + length instrs.now + operand_count instrs.now < 2 ^ 32 }
     ensures instrs { IfOk result (λ out. out.items ≡ instrs_lowered target.now classes.now (length classes.now + length made.old.items) instrs.now) }
     ensures classes { OnOk result (made.new.items ≡ made.old.items ++ classes_made target.now classes.now (length classes.now + length made.old.items) instrs.now) }
 {
@@ -136,12 +134,12 @@ fn push_instr(
     i: &Instr,
     out: &mut Vec<Instr>,
 ) -> Result<(), AllocError>
-    requires { length classes.now + length made.old.items + 1 < 2 ^ 32 }
+    requires { length classes.now + length made.old.items + length i.now.operands < 2 ^ 32 }
     ensures out { OnOk result (out.new.items ≡ out.old.items ++ instr_lowered target.now classes.now (length classes.now + length made.old.items) i.now) }
-    ensures classes { OnOk result (made.new.items ≡ made.old.items ++ instr_class target.now classes.now (length classes.now + length made.old.items) i.now) }
+    ensures classes { OnOk result (made.new.items ≡ made.old.items ++ instr_classes target.now classes.now (length classes.now + length made.old.items) i.now) }
 {
     let c = (classes.len() + made.len()) as u32;
-    push_undefined(alloc, definition_of(i.operands.as_slice()), out)?;
+    push_undefined(alloc, i.operands.as_slice(), out)?;
     push_form(alloc, target, classes, c, form_of(target, i), i, made, out)
 }
 
@@ -156,8 +154,9 @@ fn push_form(
     made: &mut Vec<Option<ClassId>>,
     out: &mut Vec<Instr>,
 ) -> Result<(), AllocError>
+    requires { c + length i.now.operands < 2 ^ 32 }
     ensures out { OnOk result (out.new.items ≡ out.old.items ++ form_lowered target.now classes.now c i.now form) }
-    ensures classes { OnOk result (made.new.items ≡ made.old.items ++ form_class target.now classes.now c i.now form) }
+    ensures classes { OnOk result (made.new.items ≡ made.old.items ++ form_classes target.now classes.now c i.now form) }
 {
     match form {
         Form::Copy(d, s) => push_copy(alloc, i, d, s, out),
@@ -173,9 +172,9 @@ fn push_form(
             Ok(())
         }
         Form::Other => {
-            let tie = tie_in(target, c, i);
-            push_class_aside(made, tie.aside, first_role_class(roles_of(target, i)))?;
-            push_tied(alloc, target, classes, tie, i, out)
+            let ties = ties_in(alloc, target, c, i)?;
+            push_classes_aside(made, roles_of(target, i), ties.as_slice())?;
+            push_tied(alloc, target, classes, ties.as_slice(), i, out)
         }
     }
 }
@@ -234,13 +233,21 @@ fn push_class_if(
     Ok(())
 }
 
-/// Puts the class of a register that stands in behind the others, where one does.
-fn push_class_aside(
+/// Puts the classes of the registers that stand in for definitions behind the others, where these
+/// are the roles of the opcode.
+fn push_classes_aside(
     made: &mut Vec<Option<ClassId>>,
-    aside: Option<u32>,
-    class: Option<ClassId>,
+    roles: &[Role],
+    ties: &[Tie],
 ) -> Result<(), AllocError>
-    ensures { OnOk result (made.new.items ≡ made.old.items ++ class_aside aside class) }
+    ensures { OnOk result (made.new.items ≡ made.old.items ++ flat_map (class_aside roles.now) ties.now) }
 {
-    push_class_if(made, aside.is_some(), class)
+    'each: for tie in ties {
+        push_class_if(
+            made,
+            tie.aside.is_some(),
+            definition_class(roles, tie.number),
+        )?;
+    }
+    Ok(())
 }

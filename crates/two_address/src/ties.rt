@@ -1,14 +1,14 @@
 //! Tied and `undef` operands.
 
-ghost use Rattle.std.specs.Prelude.{◌≡◌, ◌++◌, ◌∷◌, OnOk, IfOk, map};
+ghost use Rattle.std.specs.Prelude.{◌≡◌, ◌<◌, ◌+◌, ◌^◌, ◌++◌, ◌∷◌, OnOk, IfOk, length, map, flat_map, find, nat_eq, option_map};
 ghost use Rattle.std.specs.List.{list_any};
-ghost use Rattle.mir_func.specs.Binding.{explicit_bound};
+ghost use Rattle.mir_func.specs.Binding.{explicit_bound, explicit_roles, numbered, tied_pair};
 ghost use Rattle.two_address.specs.Classes.{seated};
-ghost use Rattle.two_address.specs.Ties.{defined_by, definition_of, tied_operand, tied_use, reads_besides, use_of, undef_use_of, untied, tie_of, tie_between, tie_in, copies, defined_aside, or_kept, undef_fixed, defined_use, retied, retied_operand, undefined_whole, undefined_first, with_operands, tied_lowered, first_role_class, copy_lowered};
+ghost use Rattle.two_address.specs.Ties.{reads_besides, use_of, undef_use_of, tie_aside, tie_of, tie_among, number_behind, ties_in, tie_to, copies, defined_aside, undef_fixed, defined_use, retied_use, retied, retied_operand, undefined_first, with_operands, with_ties, definition_class, copy_lowered};
 
-use crate::classes::{class_asked, first_register, first_role, roles_behind};
-use mir_func::opcodes::{is_tied, roles_of};
-use mir_func::operands::{is_definition, is_virtual, same_index, same_loc};
+use crate::classes::{class_asked, first_register};
+use mir_func::opcodes::{next_role, roles_of, tied_number, ties_to};
+use mir_func::operands::{is_definition, is_virtual, register_at, same_index, same_loc};
 use mir_func::{Instr, Loc, Op, Operand, Operands, RegOp};
 use phi_elim::moves::{
     IMPLICIT_DEF, copy_of, destination_of, source_of, undefining, whole_definition, whole_use,
@@ -26,9 +26,11 @@ pub struct Move {
     pub from: RegOp,
 }
 
-/// What is done about an instruction's tied operand.
+/// What is done about a tied use and its definition.
 #[derive(Clone, Copy)]
 pub struct Tie {
+    /// The definition's number: its place among the operands.
+    pub number: usize,
     /// The register that stands in for the defined one.
     pub aside: Option<u32>,
     /// What takes the place of the tied use.
@@ -39,93 +41,40 @@ pub struct Tie {
     pub after: Option<Move>,
 }
 
-/// The explicit definition that the operand is.
-fn defined_by(o: &Operand) -> Option<RegOp>
-    ensures { result ≡ defined_by o.now }
+/// Whether the operand reads the location, and isn't the use that is tied to the definition of that
+/// number.
+fn reads_besides(number: usize, loc: Loc, role: Option<Role>, o: &Operand) -> bool
+    ensures { result ≡ reads_besides number loc (role, o.now) }
 {
     match o {
-        Operand::Reg(r) => { if is_definition(r) { Some(*r) } else { None } }
-        _ => None,
-    }
-}
-
-/// The instruction's explicit definition.
-#[tactic(auto, using(crate::proofs::Seats::seats))]
-pub fn definition_of(operands: &[Operand]) -> Option<RegOp>
-    ensures { result ≡ definition_of operands.now }
-{
-    'each: for o in operands {
-        let found = defined_by(o);
-        if found.is_some() {
-            return found;
-        }
-    }
-    None
-}
-
-/// The use that the operand is, in the tied role.
-fn tied_operand(role: Option<Role>, o: &Operand) -> Option<RegOp>
-    ensures { result ≡ tied_operand (role, o.now) }
-{
-    match o {
-        Operand::Reg(r) => { if is_tied(role) { Some(*r) } else { None } }
-        _ => None,
-    }
-}
-
-/// The tied use among operands with these roles.
-#[tactic(auto, using(crate::proofs::Seats::seats))]
-fn tied_among(roles: &[Role], operands: &[Operand]) -> Option<RegOp>
-    ensures { result ≡ tied_use (explicit_bound roles.now operands.now) }
-{
-    let mut left = roles;
-    'each: for o in operands {
-        let found = tied_operand(first_role(left), o);
-        if found.is_some() {
-            return found;
-        }
-        left = roles_behind(left);
-    }
-    None
-}
-
-/// The tied use.
-pub fn tied_use(target: &Target, i: &Instr) -> Option<RegOp>
-    ensures { result ≡ tied_use (seated target.now i.now) }
-{
-    tied_among(roles_of(target, i), i.operands.as_slice())
-}
-
-/// Whether the operand reads the location, and isn't the tied use.
-fn reads_besides(loc: Loc, role: Option<Role>, o: &Operand) -> bool
-    ensures { result ≡ reads_besides loc (role, o.now) }
-{
-    match o {
-        Operand::Reg(r) => !is_tied(role) && !r.def && !r.undef && same_loc(loc, r.loc),
+        Operand::Reg(r) => !ties_to(role, number) && !r.def && !r.undef && same_loc(loc, r.loc),
         _ => false,
     }
 }
 
-/// Whether an operand with one of these roles, besides the tied use, reads the location.
+/// Whether an operand with one of these roles, besides the use that is tied to the definition of
+/// that number, reads the location.
 #[tactic(auto, using(crate::proofs::Seats::seats))]
-fn is_read_among(loc: Loc, roles: &[Role], operands: &[Operand]) -> bool
-    ensures { result ≡ list_any (reads_besides loc) (explicit_bound roles.now operands.now) }
+fn is_read_among(number: usize, loc: Loc, roles: &[Role], operands: &[Operand]) -> bool
+    ensures { result ≡ list_any (reads_besides number loc) (explicit_bound (explicit_roles roles.now) operands.now) }
 {
     let mut left = roles;
     'each: for o in operands {
-        if reads_besides(loc, first_role(left), o) {
+        let (role, behind) = next_role(left);
+        if reads_besides(number, loc, role, o) {
             return true;
         }
-        left = roles_behind(left);
+        left = behind;
     }
     false
 }
 
-/// Whether an operand besides the tied use reads the location.
-pub fn is_read_besides(target: &Target, loc: Loc, i: &Instr) -> bool
-    ensures { result ≡ list_any (reads_besides loc) (seated target.now i.now) }
+/// Whether an operand of the instruction, besides the use that is tied to the definition of that
+/// number, reads the location.
+fn is_read_besides(target: &Target, number: usize, loc: Loc, i: &Instr) -> bool
+    ensures { result ≡ list_any (reads_besides number loc) (seated target.now i.now) }
 {
-    is_read_among(loc, roles_of(target, i), i.operands.as_slice())
+    is_read_among(number, loc, roles_of(target, i), i.operands.as_slice())
 }
 
 /// A use of the register and index that an operand has.
@@ -148,11 +97,12 @@ fn undef_use_of(d: RegOp) -> RegOp
     }
 }
 
-/// Only what takes the place of the tied use.
-fn reading_only(reading: Option<RegOp>) -> Tie
-    ensures { result ≡ record { aside = None; reading = reading; before = None; after = None } }
+/// Only what takes the place of the use that is tied to the definition of that number.
+fn reading_only(number: usize, reading: Option<RegOp>) -> Tie
+    ensures { result ≡ record { number = number; aside = None; reading = reading; before = None; after = None } }
 {
     Tie {
+        number,
         aside: None,
         reading,
         before: None,
@@ -160,55 +110,114 @@ fn reading_only(reading: Option<RegOp>) -> Tie
     }
 }
 
-/// What is done about the tie of definition `d` and use `u`, where `read` says whether another
-/// operand reads the defined register; `c` is the next range number.
-fn tie_of(c: u32, d: RegOp, u: RegOp, read: bool) -> Tie
-    ensures { result ≡ tie_of c d u read }
+/// The tie of definition `d`, which has that number, where register `c` stands in for it.
+fn tie_aside(c: u32, number: usize, d: RegOp, u: RegOp) -> Tie
+    ensures { result ≡ tie_aside c (record { number = number; definition = d; tied_use = u }) }
+{
+    Tie {
+        number,
+        aside: Some(c),
+        reading: Some(whole_use(c)),
+        before: Some(Move {
+            to: whole_definition(c),
+            from: source_of(u),
+        }),
+        after: Some(Move {
+            to: destination_of(d),
+            from: whole_use(c),
+        }),
+    }
+}
+
+/// What is done about the tie of definition `d`, which has that number, and use `u`, where `read`
+/// says whether another operand reads the defined register; `c` is the next range number.
+fn tie_of(c: u32, number: usize, d: RegOp, u: RegOp, read: bool) -> Tie
+    ensures { result ≡ tie_of c (record { number = number; definition = d; tied_use = u }) read }
 {
     if !is_virtual(u.loc) {
-        return reading_only(None);
+        return reading_only(number, None);
     }
     if u.undef {
-        return reading_only(Some(undef_use_of(d)));
+        return reading_only(number, Some(undef_use_of(d)));
     }
     if same_loc(d.loc, u.loc) && same_index(d.index, u.index) {
-        return reading_only(Some(use_of(d)));
+        return reading_only(number, Some(use_of(d)));
     }
     if read {
-        return Tie {
-            aside: Some(c),
-            reading: Some(whole_use(c)),
-            before: Some(Move {
-                to: whole_definition(c),
-                from: source_of(u),
-            }),
-            after: Some(Move {
-                to: destination_of(d),
-                from: whole_use(c),
-            }),
-        };
+        return tie_aside(c, number, d, u);
     }
     Tie {
-        aside: None,
-        reading: Some(use_of(d)),
         before: Some(Move {
             to: destination_of(d),
             from: source_of(u),
         }),
-        after: None,
+        ..reading_only(number, Some(use_of(d)))
     }
 }
 
-/// What is done about an instruction's tie; `c` is the next range number.
-pub fn tie_in(target: &Target, c: u32, i: &Instr) -> Tie
-    ensures { result ≡ tie_in target.now c i.now }
+/// What is done about the tie of an operand of the instruction that has this role, if it has one;
+/// `c` is the next range number.
+fn tie_at(target: &Target, c: u32, role: Option<Role>, o: &Operand, i: &Instr) -> Option<Tie>
+    ensures { result ≡ option_map (tie_among (seated target.now i.now) c) (tied_pair i.now.operands (role, o.now)) }
 {
-    match definition_of(i.operands.as_slice()) {
-        None => reading_only(None),
-        Some(d) => match tied_use(target, i) {
-            None => reading_only(None),
-            Some(u) => tie_of(c, d, u, is_read_besides(target, d.loc, i)),
+    match o {
+        Operand::Reg(u) => match tied_number(role) {
+            None => None,
+            Some(number) => match register_at(i.operands.as_slice(), number) {
+                None => None,
+                Some(d) => {
+                    let read = is_read_besides(target, number, d.loc, i);
+                    Some(tie_of(c, number, d, *u, read))
+                }
+            },
         },
+        _ => None,
+    }
+}
+
+/// The next range number behind a tie.
+fn number_behind(c: u32, tie: Tie) -> u32
+    requires { c + 1 < 2 ^ 32 }
+    ensures { result ≡ number_behind c tie }
+{
+    if tie.aside.is_some() { c + 1 } else { c }
+}
+
+/// What is done about an instruction's ties, in the order of the tied uses; `c` is the next range
+/// number.
+#[tactic(auto, using(crate::proofs::Seats::seats))]
+pub fn ties_in(alloc: Global, target: &Target, c: u32, i: &Instr) -> Result<Vec<Tie>, AllocError>
+    requires { c + length i.now.operands < 2 ^ 32 }
+    ensures { IfOk result (λ made. made.items ≡ ties_in target.now c i.now) }
+{
+    let mut ties = Vec::new(alloc);
+    let mut next = c;
+    let mut left = roles_of(target, i);
+    'each: for o in i.operands.as_slice() {
+        let (role, behind) = next_role(left);
+        left = behind;
+        if let Some(tie) = tie_at(target, next, role, o, i) {
+            next = number_behind(next, tie);
+            ties.push(tie)?;
+        }
+    }
+    Ok(ties)
+}
+
+/// The tie of the definition of that number, where it has one.
+fn find_tie(number: usize, ties: &[Tie]) -> Option<Tie>
+    ensures { result ≡ find (λ tie. nat_eq tie.number number) ties.now }
+{
+    ties.iter().copied().find(|tie| tie.number == number)
+}
+
+/// What is done about the definition of that number.
+fn tie_to(number: usize, ties: &[Tie]) -> Tie
+    ensures { result ≡ tie_to number ties.now }
+{
+    match find_tie(number, ties) {
+        Some(tie) => tie,
+        None => reading_only(number, None),
     }
 }
 
@@ -255,38 +264,54 @@ fn defined_use(target: &Target, classes: &[Option<ClassId>], role: Option<Role>,
     }
 }
 
-/// A register operand behind the pass.
-fn retied(
+/// A use behind the pass: one that is tied to the definition of some number becomes what the tie
+/// reads.
+fn retied_use(
     target: &Target,
     classes: &[Option<ClassId>],
-    tie: Tie,
+    ties: &[Tie],
     role: Option<Role>,
     o: RegOp,
 ) -> RegOp
-    ensures { result ≡ retied target.now classes.now tie role o }
+    ensures { result ≡ retied_use target.now classes.now ties.now role o }
 {
-    if is_definition(&o) {
-        return defined_aside(tie.aside, o);
+    match tied_number(role) {
+        None => defined_use(target, classes, role, o),
+        Some(number) => tie_to(number, ties).reading.unwrap_or(o),
     }
-    if is_tied(role) {
-        return tie.reading.unwrap_or(o);
-    }
-    defined_use(target, classes, role, o)
 }
 
-/// An operand behind the pass.
+/// A register operand of that number behind the pass.
+fn retied(
+    target: &Target,
+    classes: &[Option<ClassId>],
+    ties: &[Tie],
+    number: usize,
+    role: Option<Role>,
+    o: RegOp,
+) -> RegOp
+    ensures { result ≡ retied target.now classes.now ties.now number role o }
+{
+    if is_definition(&o) {
+        return defined_aside(tie_to(number, ties).aside, o);
+    }
+    retied_use(target, classes, ties, role, o)
+}
+
+/// An operand of that number, with its role, behind the pass.
 fn retied_operand(
     alloc: Global,
     target: &Target,
     classes: &[Option<ClassId>],
-    tie: Tie,
-    role: Option<Role>,
-    o: &Operand,
+    ties: &[Tie],
+    number: usize,
+    bound: (Option<Role>, &Operand),
 ) -> Result<Operand, AllocError>
-    ensures { IfOk result (λ made. made ≡ retied_operand target.now classes.now tie (role, o.now)) }
+    ensures { IfOk result (λ made. made ≡ retied_operand target.now classes.now ties.now (number, (bound.entry.0, bound.entry.1.now))) }
 {
+    let (role, o) = bound;
     match o {
-        Operand::Reg(r) => Ok(Operand::Reg(retied(target, classes, tie, role, *r))),
+        Operand::Reg(r) => Ok(Operand::Reg(retied(target, classes, ties, number, role, *r))),
         _ => o.copied(alloc),
     }
 }
@@ -297,44 +322,39 @@ fn retied_operands(
     alloc: Global,
     target: &Target,
     classes: &[Option<ClassId>],
-    tie: Tie,
+    ties: &[Tie],
     roles: &[Role],
     operands: &[Operand],
 ) -> Result<Operands, AllocError>
-    ensures { IfOk result (λ made. made ≡ map (retied_operand target.now classes.now tie) (explicit_bound roles.now operands.now)) }
+    ensures { IfOk result (λ made. made ≡ map (retied_operand target.now classes.now ties.now) (numbered 0 (explicit_bound (explicit_roles roles.now) operands.now))) }
 {
     let mut made = Operands::new(alloc);
     let mut left = roles;
-    'each: for o in operands {
-        let role = first_role(left);
-        made.push(retied_operand(alloc, target, classes, tie, role, o)?)?;
-        left = roles_behind(left);
+    'each: for (number, o) in operands.iter().enumerate() {
+        let (role, behind) = next_role(left);
+        left = behind;
+        made.push(retied_operand(alloc, target, classes, ties, number, (role, o))?)?;
     }
     Ok(made)
 }
 
-/// The instruction with its tie and its uses lowered.
+/// The instruction with its ties and its uses lowered.
 fn with_operands(
     alloc: Global,
     target: &Target,
     classes: &[Option<ClassId>],
-    tie: Tie,
+    ties: &[Tie],
     i: &Instr,
 ) -> Result<Instr, AllocError>
-    ensures { IfOk result (λ made. made ≡ with_operands target.now classes.now tie i.now) }
+    ensures { IfOk result (λ made. made ≡ with_operands target.now classes.now ties.now i.now) }
 {
+    let roles = roles_of(target, i);
+    let operands = i.operands.as_slice();
     Ok(Instr {
         id: i.id,
         op: i.op.copied(alloc)?,
         flags: i.flags.copied(alloc)?,
-        operands: retied_operands(
-            alloc,
-            target,
-            classes,
-            tie,
-            roles_of(target, i),
-            i.operands.as_slice(),
-        )?,
+        operands: retied_operands(alloc, target, classes, ties, roles, operands)?,
         tail: i.tail.copied(alloc)?,
     })
 }
@@ -349,32 +369,49 @@ fn push_copies(alloc: Global, m: Option<Move>, out: &mut Vec<Instr>) -> Result<(
     Ok(())
 }
 
-/// Puts what becomes of an instruction of most opcodes behind the others.
+/// Puts the copies before an instruction with these ties behind the others.
+fn push_before(alloc: Global, ties: &[Tie], out: &mut Vec<Instr>) -> Result<(), AllocError>
+    ensures { OnOk result (out.new.items ≡ out.old.items ++ flat_map (λ tie. copies tie.before) ties.now) }
+{
+    'each: for tie in ties {
+        push_copies(alloc, tie.before, out)?;
+    }
+    Ok(())
+}
+
+/// Puts the copies behind an instruction with these ties behind the others.
+fn push_after(alloc: Global, ties: &[Tie], out: &mut Vec<Instr>) -> Result<(), AllocError>
+    ensures { OnOk result (out.new.items ≡ out.old.items ++ flat_map (λ tie. copies tie.after) ties.now) }
+{
+    'each: for tie in ties {
+        push_copies(alloc, tie.after, out)?;
+    }
+    Ok(())
+}
+
+/// Puts an instruction of most opcodes, with these ties lowered, behind the others.
 pub fn push_tied(
     alloc: Global,
     target: &Target,
     classes: &[Option<ClassId>],
-    tie: Tie,
+    ties: &[Tie],
     i: &Instr,
     out: &mut Vec<Instr>,
 ) -> Result<(), AllocError>
-    ensures { OnOk result (out.new.items ≡ out.old.items ++ (copies tie.before ++ (with_operands target.now classes.now tie i.now ∷ copies tie.after))) }
+    ensures { OnOk result (out.new.items ≡ out.old.items ++ with_ties target.now classes.now ties.now i.now) }
 {
-    push_copies(alloc, tie.before, out)?;
-    out.push(with_operands(alloc, target, classes, tie, i)?)?;
-    push_copies(alloc, tie.after, out)
+    push_before(alloc, ties, out)?;
+    out.push(with_operands(alloc, target, classes, ties, i)?)?;
+    push_after(alloc, ties, out)
 }
 
-/// Puts what makes all of a register undefined before an `undef` definition behind the others.
-pub fn push_undefined(
-    alloc: Global,
-    d: Option<RegOp>,
-    out: &mut Vec<Instr>,
-) -> Result<(), AllocError>
-    ensures { OnOk result (out.new.items ≡ out.old.items ++ undefined_first d) }
+/// Where the operand is an `undef` definition, puts what makes all of its register undefined
+/// behind the others.
+fn push_undefined_by(alloc: Global, o: &Operand, out: &mut Vec<Instr>) -> Result<(), AllocError>
+    ensures { OnOk result (out.new.items ≡ out.old.items ++ undefined_first o.now) }
 {
-    if let Some(d) = d {
-        if d.undef {
+    if let Operand::Reg(d) = o {
+        if is_definition(d) && d.undef {
             if let Loc::Virtual(v) = d.loc {
                 out.push(undefining(alloc, whole_definition(v))?)?;
             }
@@ -383,11 +420,27 @@ pub fn push_undefined(
     Ok(())
 }
 
-/// The class of the definition's role, the first one.
-pub fn first_role_class(roles: &[Role]) -> Option<ClassId>
-    ensures { result ≡ first_role_class roles.now }
+/// Puts what makes the registers of `undef` definitions among the operands undefined behind the
+/// others.
+pub fn push_undefined(
+    alloc: Global,
+    operands: &[Operand],
+    out: &mut Vec<Instr>,
+) -> Result<(), AllocError>
+    ensures { OnOk result (out.new.items ≡ out.old.items ++ flat_map undefined_first operands.now) }
 {
-    match roles.first() {
+    'each: for o in operands {
+        push_undefined_by(alloc, o, out)?;
+    }
+    Ok(())
+}
+
+/// The class that the role of the definition of that number asks for, where these are the roles
+/// of the opcode.
+pub fn definition_class(roles: &[Role], number: usize) -> Option<ClassId>
+    ensures { result ≡ definition_class roles.now number }
+{
+    match roles.get(number) {
         None => None,
         Some(r) => class_of(*r),
     }

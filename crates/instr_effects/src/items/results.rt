@@ -1,19 +1,20 @@
 //! What a counted instruction writes.
 
 ghost use Rattle.std.specs.Prelude.{◌≡◌, ◌+◌, ◌<◌, ◌-◌, ◌++◌, length, map, filter, flat_map, OnOk, IfOk, None, Some, cond, not};
-ghost use Rattle.mir_func.specs.Binding.{roles_of, implicit_roles, is_early_clobber};
-ghost use Rattle.mir_meaning.specs.Registers.{numbers, operand_widths, is_reserved};
-ghost use Rattle.mir_meaning.specs.Items.{is_flags, values, explicit_definitions, implicit_definitions, result_writes, unreserved, all_lanes, answered, preserves, clobbered, kept, implicit_writes, counted_writes, lane_width, result_widths};
+ghost use Rattle.mir_func.specs.Binding.{roles_of, implicit_roles, definitions};
+ghost use Rattle.mir_meaning.specs.Registers.{numbers, operand_lanes, operand_widths, is_reserved};
+ghost use Rattle.mir_meaning.specs.Items.{is_flags, values, explicit_definitions, implicit_definitions, result_writes, results, unreserved, all_lanes, answered, preserves, clobbered, kept, implicit_writes, counted_writes, lane_width, result_widths};
 ghost use Rattle.std.specs.List.{list_any};
 ghost use Rattle.meaning.specs.declared.types.Lane.TheVariants.{UnitLane};
 ghost use Rattle.target_base.specs.declared.types.Effect.TheVariants as effects;
 
+use crate::definitions::{Definition, next_definition};
 use crate::items::counted::is_flags;
 use crate::items::lanes::{Lanes, push_operand_lanes, push_operand_widths, push_undefined_lanes};
 use crate::items::writes::{push_computed, push_undefined};
 use crate::masks::is_preserved;
 use meaning::{Lane, Write, Writes};
-use mir_func::opcodes::{is_early_clobber, roles_of};
+use mir_func::opcodes::roles_of;
 use mir_func::{Func, Instr, Operand, RegOp};
 use std::alloc::{AllocError, Global};
 use target_base::{Copied, Effect, List, Numbers, Role, Target};
@@ -37,38 +38,48 @@ fn definitions(
     Ok(made)
 }
 
-/// Appends the writes of an explicit definition.
+/// Appends the writes of an explicit definition, whose lanes are numbered from `first` on; answers
+/// the number behind them.
 fn push_result(
     out: &mut Writes,
     alloc: Global,
     t: &Target,
     f: &Func,
-    early: bool,
-    d: &RegOp,
-) -> Result<(), AllocError>
-    ensures { OnOk result (out.new ≡ out.old ++ result_writes t.now f.now early d.now) }
+    first: u32,
+    definition: Definition,
+) -> Result<u32, AllocError>
+    ensures writes { OnOk result (out.new ≡ out.old ++ result_writes t.now f.now definition.0 first definition.1) }
+    ensures behind { IfOk result (λ n. n ≡ first + length (operand_lanes t.now f.now definition.1)) }
 {
+    let (early, d) = definition;
     let mut lanes = List::new(alloc);
-    push_operand_lanes(&mut lanes, t, f, d)?;
-    push_computed(out, early, lanes.as_slice())?;
+    push_operand_lanes(&mut lanes, t, f, &d)?;
+    let behind = push_computed(out, early, first, lanes.as_slice())?;
     let mut others = List::new(alloc);
-    push_undefined_lanes(&mut others, t, f, d)?;
-    push_undefined(out, early, others.as_slice())
+    push_undefined_lanes(&mut others, t, f, &d)?;
+    push_undefined(out, early, others.as_slice())?;
+    Ok(behind)
 }
 
-/// Appends the writes of explicit definitions.
+/// Appends the writes of the explicit definitions among operands that take these roles.
 fn push_results(
     out: &mut Writes,
     alloc: Global,
     t: &Target,
     f: &Func,
-    early: bool,
-    operands: &[RegOp],
+    roles: &[Role],
+    operands: &[Operand],
 ) -> Result<(), AllocError>
-    ensures { OnOk result (out.new ≡ out.old ++ flat_map (result_writes t.now f.now early) operands.now) }
+    ensures { OnOk result (out.new ≡ out.old ++ results t.now f.now 0 (definitions roles.now operands.now)) }
 {
-    for d in operands {
-        push_result(out, alloc, t, f, early, d)?;
+    let mut left = roles;
+    let mut first = 0;
+    for operand in operands {
+        let (definition, behind) = next_definition(left, operand);
+        if let Some(d) = definition {
+            first = push_result(out, alloc, t, f, first, d)?;
+        }
+        left = behind;
     }
     Ok(())
 }
@@ -202,7 +213,7 @@ fn push_compared(
     let mut all = List::new(alloc);
     push_all_lanes(&mut all, t, f, definitions.as_slice())?;
     let mut writes = List::new(alloc);
-    push_computed(&mut writes, false, flags.as_slice())?;
+    push_computed(&mut writes, false, 0, flags.as_slice())?;
     push_undefined(&mut writes, false, all.as_slice())?;
     push_kept(out, alloc, t, writes.as_slice())
 }
@@ -223,7 +234,7 @@ fn push_implicit_writes(
         Effect::Cmp => push_compared(out, alloc, t, f, roles, operands),
         Effect::Call => {
             let answered = implicit_lanes(alloc, t, f, operands)?;
-            push_computed(out, false, answered.as_slice())?;
+            push_computed(out, false, 0, answered.as_slice())?;
             let clobbered = clobbered(alloc, t, operands)?;
             push_undefined(out, false, clobbered.as_slice())
         }
@@ -246,16 +257,8 @@ pub fn counted_writes(
 {
     let operands = i.operands.as_slice();
     let roles = roles_of(t, i);
-    let results = definitions(alloc, operands, false)?;
     let mut made = List::new(alloc);
-    push_results(
-        &mut made,
-        alloc,
-        t,
-        f,
-        is_early_clobber(roles),
-        results.as_slice(),
-    )?;
+    push_results(&mut made, alloc, t, f, roles, operands)?;
     push_implicit_writes(&mut made, alloc, t, f, e, roles, operands)?;
     Ok(made)
 }

@@ -1,6 +1,6 @@
 //! Writes of lanes.
 
-ghost use Rattle.std.specs.Prelude.{◌≡◌, ◌++◌, OnOk, IfOk};
+ghost use Rattle.std.specs.Prelude.{◌≡◌, ◌+◌, ◌++◌, length, OnOk, IfOk};
 ghost use Rattle.mir_meaning.specs.Registers.{operand_lanes, undefined_lanes};
 ghost use Rattle.mir_meaning.specs.Items.{moved, undefined, computed, defined};
 
@@ -58,19 +58,28 @@ pub fn number(k: usize) -> Result<u32, AllocError>
     }
 }
 
-/// Appends writes that give each lane the value of its number, counted from 0.
-pub fn push_computed(out: &mut Writes, early: bool, lanes: &[Lane]) -> Result<(), AllocError>
-    ensures { OnOk result (out.new ≡ out.old ++ computed early 0 lanes.now) }
+/// Appends writes that give each lane the value of its number, counted from `first` on; answers the
+/// number behind them. Want of memory stands for one past 32 bits, since no memory holds so many
+/// lanes.
+pub fn push_computed(
+    out: &mut Writes,
+    early: bool,
+    first: u32,
+    lanes: &[Lane],
+) -> Result<u32, AllocError>
+    ensures writes { OnOk result (out.new ≡ out.old ++ computed early first lanes.now) }
+    ensures behind { IfOk result (λ n. n ≡ first + length lanes.now) }
 {
-    for k in 0..lanes.len() {
-        let fill = Fill::Computed(number(k)?);
+    let mut next = first;
+    for l in lanes {
         out.push(Write {
-            lane: lanes[k],
-            fill,
+            lane: *l,
+            fill: Fill::Computed(next),
             early,
         })?;
+        next = next.checked_add(1).ok_or(AllocError)?;
     }
-    Ok(())
+    Ok(next)
 }
 
 /// Appends the writes of a definition that is given sources; where it is `undef` the other lanes

@@ -82,31 +82,30 @@ first-left num n (w ∷ ws) vs e = go (num (owner_of w.lane)) e (first-left num 
     go None h ih = ih h
     go (Some k) h ih = by k (nat_eq k n) h ih
 
--- what an item writes, and what is entered for it: the same lanes, and of them the same early; the first writes alone may be early
+-- what an item writes, and what is entered for it: the same lanes, and of them the same early; the first writes alone may be early,
+-- and two of one lane are both early, or neither is
 pub record IsSame (tag : Tags) (W E : Writes) : Type 0 where
-  pub flag : Bool
   pub results : Writes
   pub others : Writes
   pub parted : E ≡ results ++ others
-  pub early_results : Uniform flag results
+  pub agreed : (l : Lane) (n : ℕ) → tag l ≡ Some n → (v w : Write) → Member v results → Member w results → v.lane ≡ l → w.lane ≡ l → v.early ≡ w.early
   pub late_others : Uniform false others
   pub forth : (l : Lane) (n : ℕ) → tag l ≡ Some n → is_slot l ≡ false → Wrote l W → Wrote l E
   pub back : (l : Lane) (n : ℕ) → tag l ≡ Some n → is_slot l ≡ false → Wrote l E → Wrote l W
-  pub early : (l : Lane) (n : ℕ) → tag l ≡ Some n → is_slot l ≡ false → WroteEarly l W → (flag ≡ true) × Wrote l results
-  pub only : (l : Lane) (n : ℕ) → tag l ≡ Some n → is_slot l ≡ false → flag ≡ true → Wrote l results → WroteEarly l W
+  pub early : (l : Lane) (n : ℕ) → tag l ≡ Some n → is_slot l ≡ false → WroteEarly l W → WroteEarly l results
+  pub only : (l : Lane) (n : ℕ) → tag l ≡ Some n → is_slot l ≡ false → WroteEarly l results → WroteEarly l W
 
 pub uniform-same : (tag : Tags) (b : Bool) (W E : Writes) → Uniform b W → Uniform b E → ((l : Lane) (n : ℕ) → tag l ≡ Some n → is_slot l ≡ false → Wrote l W → Wrote l E) → ((l : Lane) (n : ℕ) → tag l ≡ Some n → is_slot l ≡ false → Wrote l E → Wrote l W) → IsSame tag W E
 uniform-same tag b W E uW uE forth back = record {
-  flag = b;
   results = E;
   others = [];
   parted = sym (append-nil E);
-  early_results = uE;
+  agreed = λ l n t v w mv mw e g. uE v mv ∙ sym (uE w mw);
   late_others = uniform-none false;
   forth = forth;
   back = back;
-  early = λ l n t s z. (sym (uW z.0 z.1) ∙ z.3, forth l n t s (z.0, z.1, z.2));
-  only = λ l n t s f z. let y = back l n t s z in (y.0, y.1, y.2, uW y.0 y.1 ∙ f);
+  early = λ l n t s z. let y = forth l n t s (z.0, z.1, z.2) in (y.0, y.1, y.2, uE y.0 y.1 ∙ sym (uW z.0 z.1) ∙ z.3);
+  only = λ l n t s z. let y = back l n t s (z.0, z.1, z.2) in (y.0, y.1, y.2, uW y.0 y.1 ∙ sym (uE z.0 z.1) ∙ z.3);
 }
 
 module _ (reserved : Lane → Bool) (num : Numbering) (proper : Lane → Bool) (names : IsNumbering reserved num) where
@@ -137,9 +136,8 @@ module _ (reserved : Lane → Bool) (num : Numbering) (proper : Lane → Bool) (
     pub early-same : WritingEarly x l ↔ (is_early n s ≡ true)
     early-same = ((λ z. forth (same.early l n tagged still z)), (λ e. back (writing_of n s.writes) refl e))
       where
-        forth : (same.flag ≡ true) × Wrote l same.results → is_early n (step_of num id leaves rs E) ≡ true
-        forth z =
-            let y = z.1 in
+        forth : WroteEarly l same.results → is_early n (step_of num id leaves rs E) ≡ true
+        forth y =
             let h = writing-in num y.0 n same.results y.1 (ap (λ a. num (owner_of a)) y.2 ∙ tag-number l n tagged) in
             at (writing_of n (act_writings num (acts_of same.results))) refl h (ap (λ ws. writing_of n (act_writings num (acts_of ws))) same.parted ∙ first-left num n same.results same.others h)
           where
@@ -147,7 +145,7 @@ module _ (reserved : Lane → Bool) (num : Numbering) (proper : Lane → Bool) (
             at None f h g = absurd (let k = ap (λ (p : Option Writing). is_present p) f in cc)
             at (Some w) f h g =
                 let v = first-from num n w same.results f in
-                ap (λ (p : Option Writing). elim p [ None ↦ false | Some w ↦ w.early ]) (g ∙ f) ∙ v.3 ∙ same.early_results v.0 v.1 ∙ z.0
+                ap (λ (p : Option Writing). elim p [ None ↦ false | Some w ↦ w.early ]) (g ∙ f) ∙ v.3 ∙ same.agreed l n tagged v.0 y.0 v.1 y.1 (lane-of l v.0.lane n tagged still v.2) y.2 ∙ y.3
 
         back : (q : Option Writing) → writing_of n (act_writings num (acts_of E)) ≡ q → elim q [ None ↦ false | Some w ↦ w.early ] ≡ true → WroteEarly l (writes_of x)
         back None f e = absurd (cc)
@@ -156,5 +154,5 @@ module _ (reserved : Lane → Bool) (num : Numbering) (proper : Lane → Bool) (
             go v.0 (lane-of l v.0.lane n tagged still v.2) (sym v.3 ∙ e) (in-either v.0 same.results same.others (subst (Member v.0) same.parted v.1))
           where
             go : (v : Write) → v.lane ≡ l → v.early ≡ true → Member v same.results ⊎ Member v same.others → WroteEarly l (writes_of x)
-            go v a h (inl m) = same.only l n tagged still (sym (same.early_results v m) ∙ h) (v, m, a)
+            go v a h (inl m) = same.only l n tagged still (v, m, a, h)
             go v a h (inr m) = absurd (let k = same.late_others v m in cc)

@@ -1,5 +1,5 @@
 -- The writes of instructions that are early.
-use Rattle.std.proofs.Common.{ℕ, suc, Bool, false, not, List, [], ◌∷◌, ◌++◌, Some, map, filter, flat_map, ap}
+use Rattle.std.proofs.Common.{ℕ, suc, Bool, false, not, List, [], ◌∷◌, ◌++◌, Some, map, filter, ap}
 use Rattle.target_base.specs.declared.types.Effect.{Effect}
 use Rattle.target_base.specs.declared.types.Effect.TheVariants as effects
 use Rattle.target_base.specs.declared.types.Role.{Role}
@@ -13,9 +13,9 @@ use Rattle.mir_func.specs.declared.func.Operand.{Operand}
 use Rattle.mir_func.specs.declared.func.Operand.TheVariants as operands
 use Rattle.mir_func.specs.Value.{Function}
 use Rattle.mir_meaning.specs.Registers.{operand_lanes, located_lanes, undefined_lanes, use_sources, is_reserved}
-use Rattle.mir_meaning.specs.Items.{write, moved, undefined, computed, defined_undef, given_constant, constant_lanes, constant_of, parts, result_writes, all_lanes, implicit_definitions, implicit_writes, kept, is_flags, answered, clobbered, unreserved}
+use Rattle.mir_meaning.specs.Items.{write, moved, undefined, computed, defined_undef, given_constant, constant_lanes, constant_of, parts, all_lanes, implicit_definitions, implicit_writes, kept, is_flags, answered, clobbered, unreserved}
 use Rattle.instr_effects.specs.Acts.{call_writes, unpreserved}
-use Rattle.instr_effects.proofs.Members.{member-none, member-elim, flat-of, filter-of}
+use Rattle.instr_effects.proofs.Members.{member-none, member-elim, filter-of}
 use Rattle.live_laws.proofs.Effects.Flags.{Uniform, uniform-none, uniform-undefined, uniform-moved, uniform-join}
 
 uniform-computed : (b : Bool) (n : ℕ) (ls : List Lane) → Uniform b (computed b n ls)
@@ -38,11 +38,6 @@ module _ (t : Target) (f : Function) where
   uniform-parts d [] = uniform-none false
   uniform-parts d (operands.Reg s ∷ operands.Index x ∷ os) = uniform-join false (moved false (located_lanes t f d.loc (Some x)) (use_sources t f s)) (parts t f d os) (uniform-moved false (located_lanes t f d.loc (Some x)) (use_sources t f s)) (uniform-parts d os)
   uniform-parts d os = uniform-none false
-
-  pub uniform-results : (early : Bool) (ds : List RegOp) → Uniform early (flat_map (result_writes t f early) ds)
-  uniform-results early ds w m =
-      let z = flat-of (result_writes t f early) w ds m in
-      uniform-join early (computed early 0 (operand_lanes t f z.0)) (undefined early (undefined_lanes t f z.0)) (uniform-computed early 0 (operand_lanes t f z.0)) (uniform-undefined early (undefined_lanes t f z.0)) w z.2
 
   pub uniform-call : (e : Effect) (os : List Operand) → Uniform false (call_writes t e os)
   uniform-call effects.Call os = uniform-undefined false (map UnitLane (unpreserved t os))

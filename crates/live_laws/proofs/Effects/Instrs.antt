@@ -1,5 +1,5 @@
 -- Each instruction of the right shape is the step that is entered for it.
-use Rattle.std.proofs.Common.{◌≡◌, ◌⊎◌, inl, inr, flat_map, ◌≤◌, ℕ, zero, suc, Bool, true, false, cond, not, ◌&&◌, ◌||◌, List, [], ◌∷◌, ◌++◌, Option, Some, None, map, length, refl, sym, ap, ◌∙◌, subst, append-nil, eqb-true, arith}
+use Rattle.std.proofs.Common.{◌≡◌, ◌⊎◌, inl, inr, ◌≤◌, ℕ, zero, suc, Bool, true, false, cond, not, ◌&&◌, ◌||◌, List, [], ◌∷◌, ◌++◌, Option, Some, None, map, length, refl, sym, ap, ◌∙◌, subst, append-nil, eqb-true, arith}
 use Rattle.std.specs.Prelude.{◌==◌, option_map}
 use Rattle.target_base.specs.declared.types.Effect.{Effect}
 use Rattle.target_base.specs.declared.types.Effect.TheVariants as effects
@@ -23,9 +23,9 @@ use Rattle.mir_func.specs.declared.func.Operand.TheVariants as operands
 use Rattle.mir_func.specs.declared.func.Instr.{Instr}
 use Rattle.mir_func.specs.declared.func.Block.{Block}
 use Rattle.mir_func.specs.Value.{Function}
-use Rattle.mir_func.specs.Binding.{registers, effect_of, roles_of, implicit_roles, is_early_clobber, does, passes, is_terminator, puts_together}
+use Rattle.mir_func.specs.Binding.{registers, effect_of, roles_of, implicit_roles, is_early_clobber, definitions, does, passes, is_terminator, puts_together}
 use Rattle.mir_meaning.specs.Registers.{numbers, located_lanes, operand_lanes, operand_widths, undefined_lanes, use_sources, is_reserved, slot_lane_numbers}
-use Rattle.mir_meaning.specs.Items.{parts, result_writes, all_lanes, explicit_definitions, implicit_definitions, implicit_writes, silent_reads, silent_writes, rest_of, values, counted_writes, moved, undefined, copied, reloaded, spilled, sequenced, inserted, defined_undef, given_constant, lanes_beside, at_all_widths, uses}
+use Rattle.mir_meaning.specs.Items.{parts, results, all_lanes, implicit_definitions, implicit_writes, silent_reads, silent_writes, rest_of, values, counted_writes, moved, undefined, copied, reloaded, spilled, sequenced, inserted, defined_undef, given_constant, lanes_beside, at_all_widths, uses}
 use Rattle.mir_meaning.specs.Codes.{item_of, effect_item, ways_out, way, target_of}
 use Rattle.mir_meaning.specs.Points.{point_item}
 use Rattle.mir_meaning.specs.Rules.{is_whole_definition, is_virtual_use, result_and, index_pairs, insertion, has_class, has_lanes, lanes_fit, subregs_fit, widths_fit, spills_or_reloads}
@@ -39,14 +39,16 @@ use Rattle.instr_effects.proofs.Members.{left-in, in-either}
 use Rattle.instr_effects.proofs.Plain.{plain-law}
 use Rattle.instr_effects.proofs.CountedSteps.{counted-law}
 use Rattle.instr_effects.proofs.Writes.{located-long}
+use Rattle.instr_effects.proofs.Defined.{definitions_operands}
 use Rattle.live_laws.specs.Effects.Shaped.{is_proper, AreClasses, IsShaped, SlotsTagged}
 use Rattle.live_laws.specs.Effects.Coded.{KeepsRules, IsNumbered}
 use Rattle.live_laws.specs.Effects.Laws.{InstrLaw, MatchedLaw}
 use Rattle.live_laws.proofs.Effects.Moving.{moving-law}
 use Rattle.live_laws.proofs.Effects.Moved.{IsGiven, given-moving}
 use Rattle.live_laws.proofs.Effects.Matched.{plain-matched, given-matched}
-use Rattle.live_laws.proofs.Effects.Flags.{Uniform, uniform-none, uniform-undefined, uniform-moved, uniform-join, uniform-same, Wrote, IsSame}
-use Rattle.live_laws.proofs.Effects.FlagsOf.{uniform-undef, uniform-constant, uniform-parts, uniform-results, uniform-implicit, uniform-call}
+use Rattle.live_laws.proofs.Effects.Flags.{Uniform, uniform-none, uniform-undefined, uniform-moved, uniform-join, uniform-same, Wrote, WroteEarly, IsSame}
+use Rattle.live_laws.proofs.Effects.Definitions.{definitions-clear, results-agree, Clear}
+use Rattle.live_laws.proofs.Effects.FlagsOf.{uniform-undef, uniform-constant, uniform-parts, uniform-implicit, uniform-call}
 use Rattle.live_laws.proofs.Effects.Shapes.{fits-of, widths-of, class-there, lanes-there, subregs-there, same-lanes}
 use Rattle.live_laws.proofs.Effects.Silent.{one-lane, Named, copy-given, reload-given, spill-given, uses-long}
 use Rattle.live_laws.proofs.Effects.Together.{empty-plain, undefined-plain, constant-plain, sequence-plain, insert-plain}
@@ -282,25 +284,27 @@ module _ (t : Target) (f : Function) (num : Numbering) (classes : AreClasses t f
 
     counted-same : (e : Effect) (rs : List Role) → effect_of t i ≡ Some e → is_silent e ≡ false → (x : Item) → writes_of x ≡ counted_writes t f e i → ((l : Lane) (n : ℕ) → T l ≡ Some n → is_slot l ≡ false → Wrote l (writes_of x) → Wrote l (entered_writes t f i)) → ((l : Lane) (n : ℕ) → T l ≡ Some n → is_slot l ≡ false → Wrote l (entered_writes t f i) → Wrote l (writes_of x)) → IsSame T (writes_of x) (entered_writes t f i)
     counted-same e rs known h x is forth back =
-        let X = flat_map (result_writes t f early) (explicit_definitions i.operands) in
+        let X = results t f 0 (definitions (roles_of t i) i.operands) in
         let I = implicit_writes t f e (implicit_roles (roles_of t i)) i.operands in
         let Y = undefined false (all_lanes t f (implicit_definitions i.operands)) ++ call_writes t e i.operands in
         let entered : entered_writes t f i ≡ X ++ Y = acts-are (Some e) known ∙ ap (λ q. cond q (silent_acts t f e early i.operands) (X ++ Y)) h in
         record {
-          flag = early;
           results = X;
           others = Y;
           parted = entered;
-          early_results = uniform-results t f early (explicit_definitions i.operands);
+          agreed = λ l n g v w mv mw a b. results-agree t f 0 (definitions (roles_of t i) i.operands) clear v w mv mw (a ∙ sym b) (ap (is_reserved t) a ∙ names.free l n (tag-number out i.id l n g));
           late_others = uniform-join false (undefined false (all_lanes t f (implicit_definitions i.operands))) (call_writes t e i.operands) (uniform-undefined false (all_lanes t f (implicit_definitions i.operands))) (uniform-call t f e i.operands);
           forth = forth;
           back = back;
           early = λ l n g s z. result-of l z.0 z.2 z.3 (in-either z.0 X I (subst (Member z.0) is z.1));
-          only = λ l n g s b z. (z.0, subst (Member z.0) (sym is) (left-in z.0 X I z.1), z.2, uniform-results t f early (explicit_definitions i.operands) z.0 z.1 ∙ b);
+          only = λ l n g s z. (z.0, subst (Member z.0) (sym is) (left-in z.0 X I z.1), z.2, z.3);
         }
       where
-        result-of : (l : Lane) (w : Write) → w.lane ≡ l → w.early ≡ true → Member w (flat_map (result_writes t f (is_early_clobber (roles_of t i))) (explicit_definitions i.operands)) ⊎ Member w (implicit_writes t f e (implicit_roles (roles_of t i)) i.operands) → (is_early_clobber (roles_of t i) ≡ true) × Wrote l (flat_map (result_writes t f (is_early_clobber (roles_of t i))) (explicit_definitions i.operands))
-        result-of l w a b (inl m) = (sym (uniform-results t f (is_early_clobber (roles_of t i)) (explicit_definitions i.operands) w m) ∙ b, (w, m, a))
+        clear : Clear t f (map (λ d. d.1) (definitions (roles_of t i) i.operands))
+        clear = subst (λ ds. Clear t f ds) (sym (definitions_operands (roles_of t i) i.operands)) (definitions-clear t f i (lanes-there t f i shaped) shaped.definitions)
+
+        result-of : (l : Lane) (w : Write) → w.lane ≡ l → w.early ≡ true → Member w (results t f 0 (definitions (roles_of t i) i.operands)) ⊎ Member w (implicit_writes t f e (implicit_roles (roles_of t i)) i.operands) → WroteEarly l (results t f 0 (definitions (roles_of t i) i.operands))
+        result-of l w a b (inl m) = (w, m, a, b)
         result-of l w a b (inr m) = absurd (let k = uniform-implicit t f e (implicit_roles (roles_of t i)) i.operands w m in cc)
 
     go-known : (e : Effect) → effect_of t i ≡ Some e → (s : Bool) → is_silent e ≡ s → Goal (point_item t f b i) (does is_terminator t i) (entered_reads t f i) (entered_writes t f i)

@@ -1,20 +1,24 @@
 -- Functions in which no rule but those on live points fails keep the rules that liveness rests on.
-use Rattle.std.proofs.Common.{◌≡◌, ℕ, zero, suc, ◌+◌, Bool, true, false, cond, not, ◌||◌, List, [], ◌∷◌, Option, Some, None, refl, subst, arith}
-use Rattle.std.specs.Prelude.{nat_eq, slice_get, option_map}
+use Rattle.std.proofs.Common.{◌≡◌, ℕ, zero, suc, ◌+◌, Bool, true, false, cond, not, ◌&&◌, ◌||◌, List, [], ◌∷◌, Option, Some, None, map, filter, length, refl, ap, subst, arith}
+use Rattle.std.specs.Prelude.{nat_eq, nat_le, slice_get, option_map}
+use Rattle.std.specs.List.{list_all}
+use Rattle.std.proofs.lemmas.Bool.{and_from}
 use Rattle.std.specs.Option.{option_or}
 use Rattle.target_base.specs.declared.types.Effect.{Effect}
 use Rattle.target_base.specs.declared.types.Effect.TheVariants as effects
 use Rattle.target_base.specs.declared.types.OpcodeDesc.{OpcodeDesc}
 use Rattle.target_base.specs.declared.types.Target.{Target}
 use Rattle.target_base.specs.Rules.{is_phi}
+use Rattle.target_base.proofs.Tests.{first_of_both, second_of_both}
 use Rattle.meaning.specs.Live.{Among as Member}
 use Rattle.mir_func.specs.declared.func.Instr.{Instr}
+use Rattle.mir_func.specs.declared.func.RegOp.{RegOp}
 use Rattle.mir_func.specs.declared.func.Block.{Block}
 use Rattle.mir_func.specs.Value.{Function}
 use Rattle.mir_meaning.specs.declared.Form.{Form}
 use Rattle.mir_meaning.specs.declared.Form.TheVariants as forms
-use Rattle.mir_func.specs.Binding.{known_opcode, effect_of, passes, is_lowered_away}
-use Rattle.mir_meaning.specs.Rules.{V1, V2, V3, V4, V5, V6, V7, V8, V9, V10, V11, V12, V15, V15_frame, V16, phi_stands}
+use Rattle.mir_func.specs.Binding.{bound, known_opcode, effect_of, numbered, passes, registers, is_lowered_away, is_virtual, same_loc}
+use Rattle.mir_meaning.specs.Rules.{V1, V2, V3, V4, V5, V6, V7, V8, V9, V10, V11, V12, V15, V15_frame, V16, clashing_lanes, early_fits, namings, no_two_share, phi_stands, undef_fits}
 use Rattle.mir_meaning.specs.Valid.{first_failing, instr_fault, block_fault, least, fault_at, instrs_fault, fault_in, blocks_fault, shape_fault}
 use Rattle.live_laws.specs.Effects.Shaped.{AreClasses}
 use Rattle.live_laws.specs.Effects.Coded.{KeepsRules}
@@ -96,8 +100,8 @@ module _ (t : Target) (form : Form) (f : Function) where
     unfolding block_fault
     block-five k b g = (holds 5 (V5 f k b) ((6, V6 f k b) ∷ (9, V9 t f k b) ∷ (10, V10 t f k b) ∷ (15, not (nat_eq k 0) || V15_frame form f) ∷ (16, V16 b) ∷ []) (all-clean k b g).0).0
 
-    abbrev Six : ℕ → Block → ℕ → Instr → Type 0
-    Six k b j i = (V1 t f i ≡ true) × (V2 t f i ≡ true) × (V3 f i ≡ true) × (V4 t f i ≡ true) × (V7 t form f k b j i ≡ true) × (V8 t b j i ≡ true)
+    abbrev Seven : ℕ → Block → ℕ → Instr → Type 0
+    Seven k b j i = (V1 t f i ≡ true) × (V2 t f i ≡ true) × (V3 f i ≡ true) × (V4 t f i ≡ true) × (V7 t form f k b j i ≡ true) × (V8 t b j i ≡ true) × (V12 t form f i ≡ true)
 
     abbrev checks : ℕ → Block → ℕ → Instr → List (ℕ × Bool)
     checks k b j i = (2, V2 t f i) ∷ (3, V3 f i) ∷ (4, V4 t f i) ∷ (7, V7 t form f k b j i) ∷ (8, V8 t b j i) ∷ (11, V11 t form f i) ∷ (12, V12 t form f i) ∷ (15, V15 t form f i) ∷ []
@@ -105,7 +109,7 @@ module _ (t : Target) (form : Form) (f : Function) where
     abbrev fault-by : ℕ → Block → ℕ → Instr → Option OpcodeDesc → Option ℕ
     fault-by k b j i q = elim q [ None ↦ Some 16 | Some d ↦ cond (V1 t f i) (first_failing (checks k b j i)) (Some 1) ]
 
-    by-first : (k : ℕ) (b : Block) (j : ℕ) (i : Instr) (v : Bool) → V1 t f i ≡ v → cond v (first_failing (checks k b j i)) (Some 1) ≡ None → Six k b j i
+    by-first : (k : ℕ) (b : Block) (j : ℕ) (i : Instr) (v : Bool) → V1 t f i ≡ v → cond v (first_failing (checks k b j i)) (Some 1) ≡ None → Seven k b j i
     by-first k b j i false g h = absurd (cc)
     by-first k b j i true g h =
         let a = holds 2 (V2 t f i) ((3, V3 f i) ∷ (4, V4 t f i) ∷ (7, V7 t form f k b j i) ∷ (8, V8 t b j i) ∷ (11, V11 t form f i) ∷ (12, V12 t form f i) ∷ (15, V15 t form f i) ∷ []) h in
@@ -113,13 +117,15 @@ module _ (t : Target) (form : Form) (f : Function) where
         let d = holds 4 (V4 t f i) ((7, V7 t form f k b j i) ∷ (8, V8 t b j i) ∷ (11, V11 t form f i) ∷ (12, V12 t form f i) ∷ (15, V15 t form f i) ∷ []) c.1 in
         let p = holds 7 (V7 t form f k b j i) ((8, V8 t b j i) ∷ (11, V11 t form f i) ∷ (12, V12 t form f i) ∷ (15, V15 t form f i) ∷ []) d.1 in
         let e = holds 8 (V8 t b j i) ((11, V11 t form f i) ∷ (12, V12 t form f i) ∷ (15, V15 t form f i) ∷ []) p.1 in
-        (g, a.0, c.0, d.0, p.0, e.0)
+        let q = holds 11 (V11 t form f i) ((12, V12 t form f i) ∷ (15, V15 t form f i) ∷ []) e.1 in
+        let r = holds 12 (V12 t form f i) ((15, V15 t form f i) ∷ []) q.1 in
+        (g, a.0, c.0, d.0, p.0, e.0, r.0)
 
-    by-opcode : (k : ℕ) (b : Block) (j : ℕ) (i : Instr) (q : Option OpcodeDesc) → fault-by k b j i q ≡ None → Six k b j i
+    by-opcode : (k : ℕ) (b : Block) (j : ℕ) (i : Instr) (q : Option OpcodeDesc) → fault-by k b j i q ≡ None → Seven k b j i
     by-opcode k b j i None h = absurd (cc)
     by-opcode k b j i (Some d) h = by-first k b j i (V1 t f i) refl h
 
-    rules-of : (k : ℕ) (b : Block) (j : ℕ) (i : Instr) → instr_fault t form f k b j i ≡ None → Six k b j i
+    rules-of : (k : ℕ) (b : Block) (j : ℕ) (i : Instr) → instr_fault t form f k b j i ≡ None → Seven k b j i
     unfolding instr_fault
     rules-of k b j i e = by-opcode k b j i (known_opcode t i.op) e
 
@@ -137,7 +143,24 @@ module _ (t : Target) (form : Form) (f : Function) where
         go None g = refl
         go (Some e) g = by e g
 
-    here : (b : Block) (i : Instr) → Member b f.blocks → Member i b.instrs → (k : ℕ) × (j : ℕ) × Six k b j i
+    -- it has `undef` definitions only as a source may have them
+    source-twelve : (form : Form) (i : Instr) → V12 t form f i ≡ true → V12 t forms.Source f i ≡ true
+    unfolding V12
+    source-twelve forms.Source i h = h
+    source-twelve forms.Allocated i h =
+        let os = registers i.operands in
+        let ds = filter (λ (o : RegOp). o.def) os in
+        let early = list_all (early_fits t f (bound t i)) (numbered 0 (bound t i)) in
+        let apart = no_two_share (map (clashing_lanes t f) ds) in
+        let first = list_all (undef_fits forms.Allocated os) ds in
+        let both = first_of_both (first && apart) early h in
+        and_from _ _ (and_from _ _ (fewer os ds (first_of_both first apart both)) (second_of_both first apart both)) (second_of_both (first && apart) early h)
+      where
+        fewer : (os ds : List RegOp) → list_all (undef_fits forms.Allocated os) ds ≡ true → list_all (undef_fits forms.Source os) ds ≡ true
+        fewer os [] g = refl
+        fewer os (d ∷ ds) g = and_from _ _ (ap (λ b. b || (is_virtual d.loc && nat_le (length (filter (λ o. same_loc o.loc d.loc) (namings os))) 1)) (first_of_both (not d.undef) (list_all (undef_fits forms.Allocated os) ds) g)) (fewer os ds (second_of_both (not d.undef) (list_all (undef_fits forms.Allocated os) ds) g))
+
+    here : (b : Block) (i : Instr) → Member b f.blocks → Member i b.instrs → (k : ℕ) × (j : ℕ) × Seven k b j i
     here b i mb mi =
         let k = member-slice b f.blocks mb in
         let j = member-slice i b.instrs mi in
@@ -150,7 +173,7 @@ module _ (t : Target) (form : Form) (f : Function) where
     pub keeps : AreClasses t f → KeepsRules t f
     keeps classes = record {
       classes = classes;
-      shaped = λ b i mb mi. let z = (here b i mb mi).2 in record { operands = z.0; widths = z.1; classes = z.2; indexes = z.3 };
+      shaped = λ b i mb mi. let z = (here b i mb mi).2 in record { operands = z.0; widths = z.1; classes = z.2; indexes = z.3; definitions = source-twelve form i z.6 };
       blocks = block-five;
       phis = λ k b j i g h. source-seven form k b j i (rules-of k b j i ((all-clean k b g).1 j i h)).4;
     }

@@ -1,5 +1,5 @@
 -- Behind a terminator stand terminators, which write units alone; phis read virtual registers.
-use Rattle.std.proofs.Common.{◌≡◌, ◌⊎◌, ℕ, zero, suc, Bool, true, false, cond, not, ◌&&◌, List, [], ◌∷◌, ◌++◌, Option, Some, None, map, flat_map, length, take, drop, refl, sym, ap, ◌∙◌, subst, inl, inr}
+use Rattle.std.proofs.Common.{◌≡◌, ◌⊎◌, ℕ, zero, suc, Bool, true, false, cond, not, ◌&&◌, List, [], ◌∷◌, ◌++◌, Option, Some, None, map, length, take, drop, refl, sym, ap, ◌∙◌, subst, inl, inr}
 use Rattle.std.specs.Prelude.{slice_get, option_map}
 use Rattle.std.specs.List.{list_all}
 use Rattle.target_base.specs.declared.types.Effect.{Effect}
@@ -28,9 +28,9 @@ use Rattle.mir_func.specs.declared.func.Op.{Op}
 use Rattle.mir_func.specs.declared.func.Op.TheVariants as ops
 use Rattle.mir_func.specs.declared.func.Instr.{Instr}
 use Rattle.mir_func.specs.Value.{Function}
-use Rattle.mir_func.specs.Binding.{effect_of, known_opcode, roles_of, is_terminator, is_early_clobber, registers, implicit_registers, explicit_operands, explicit_roles, takes_many, is_use, is_virtual}
+use Rattle.mir_func.specs.Binding.{effect_of, known_opcode, roles_of, is_terminator, definitions, registers, implicit_registers, explicit_operands, explicit_roles, takes_many, is_use, is_virtual}
 use Rattle.mir_meaning.specs.Registers.{numbers, range_widths, located_lanes, operand_lanes}
-use Rattle.mir_meaning.specs.Items.{undefined, result_writes, all_lanes, explicit_definitions, implicit_definitions}
+use Rattle.mir_meaning.specs.Items.{undefined, results, all_lanes, explicit_definitions, implicit_definitions}
 use Rattle.mir_meaning.specs.Rules.{V1, fits_role, is_virtual_use, explicit_fit, implicit_fit, result_and, phi_pairs, operands_fit}
 use Rattle.instr_effects.specs.declared.owner.Owner.{Owner}
 use Rattle.instr_effects.specs.declared.owner.Owner.TheVariants as owners
@@ -38,6 +38,7 @@ use Rattle.instr_effects.specs.Owners.{owner_of}
 use Rattle.instr_effects.specs.Acts.{entered_writes, effect_acts}
 use Rattle.instr_effects.specs.Ends.{pairs_of, pairs_behind}
 use Rattle.instr_effects.proofs.Members.{member-none, member-elim, in-either, flat-of, filter-of, map-of}
+use Rattle.instr_effects.proofs.Defined.{results-of, definition-of}
 use Rattle.live_laws.proofs.Effects.Moving.{some-same}
 use Rattle.live_laws.proofs.Effects.Moved.{undefined-lane}
 use Rattle.live_laws.proofs.Effects.Lists.{all-of}
@@ -313,20 +314,20 @@ module _ (t : Target) (f : Function) (i : Instr) (e : Effect) (known : effect_of
   abbrev W : Writes
   W = undefined false (all_lanes t f (implicit_definitions i.operands)) ++ []
 
-  counted-only : (e : Effect) (rs : List Role) → is_terminator e ≡ true → effect_acts t f e rs i.operands ≡ flat_map (result_writes t f (is_early_clobber rs)) (explicit_definitions i.operands) ++ W
+  counted-only : (e : Effect) (rs : List Role) → is_terminator e ≡ true → effect_acts t f e rs i.operands ≡ results t f 0 (definitions rs i.operands) ++ W
   counted-only effects.Jump rs h = refl
   counted-only effects.Jcc rs h = refl
   counted-only effects.Jnz rs h = refl
   counted-only effects.Ret rs h = refl
   counted-only e rs h = absurd (cc)
 
-  acts-are : entered_writes t f i ≡ flat_map (result_writes t f (is_early_clobber (roles_of t i))) (explicit_definitions i.operands) ++ W
+  acts-are : entered_writes t f i ≡ results t f 0 (definitions (roles_of t i) i.operands) ++ W
   unfolding entered_writes
   acts-are = ap (λ (o : Option Effect). elim o [ None ↦ [] | Some x ↦ effect_acts t f x (roles_of t i) i.operands ]) known ∙ counted-only e (roles_of t i) ends
 
   -- it writes units alone
   pub writes-units : (w : Write) → Member w (entered_writes t f i) → is_range_lane w.lane ≡ false
-  writes-units w m = go (in-either w (flat_map (result_writes t f (is_early_clobber (roles_of t i))) (explicit_definitions i.operands)) W (subst (Member w) acts-are m))
+  writes-units w m = go (in-either w (results t f 0 (definitions (roles_of t i) i.operands)) W (subst (Member w) acts-are m))
     where
       implicit : Member w (undefined false (all_lanes t f (implicit_definitions i.operands))) ⊎ Member w [] → is_range_lane w.lane ≡ false
       implicit (inl k) =
@@ -334,6 +335,6 @@ module _ (t : Target) (f : Function) (i : Instr) (e : Effect) (known : effect_of
           fixed-lanes t f z.0.loc z.0.index w.lane (implicit-fixed z.0 z.1) z.2
       implicit (inr k) = absurd (member-none w k)
 
-      go : Member w (flat_map (result_writes t f (is_early_clobber (roles_of t i))) (explicit_definitions i.operands)) ⊎ Member w (undefined false (all_lanes t f (implicit_definitions i.operands)) ++ []) → is_range_lane w.lane ≡ false
-      go (inl k) = let z = flat-of (result_writes t f (is_early_clobber (roles_of t i))) w (explicit_definitions i.operands) k in absurd (no-explicit z.0 z.1)
+      go : Member w (results t f 0 (definitions (roles_of t i) i.operands)) ⊎ Member w (undefined false (all_lanes t f (implicit_definitions i.operands)) ++ []) → is_range_lane w.lane ≡ false
+      go (inl k) = let z = results-of t f 0 (definitions (roles_of t i) i.operands) w k in absurd (no-explicit z.0.1 (definition-of (roles_of t i) i.operands z.0 z.2))
       go (inr k) = implicit (in-either w (undefined false (all_lanes t f (implicit_definitions i.operands))) [] k)

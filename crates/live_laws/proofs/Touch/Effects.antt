@@ -15,18 +15,19 @@ use Rattle.mir_func.specs.declared.func.RegOp.{RegOp}
 use Rattle.mir_func.specs.declared.func.Operand.{Operand}
 use Rattle.mir_func.specs.declared.func.Operand.TheVariants as operands
 use Rattle.mir_func.specs.Value.{Function}
-use Rattle.mir_func.specs.Binding.{registers, implicit_registers, is_early_clobber, immediate_of, is_definition, is_use, is_virtual}
+use Rattle.mir_func.specs.Binding.{registers, implicit_registers, definitions, immediate_of, is_definition, is_use, is_virtual}
 use Rattle.mir_meaning.specs.Registers.{numbers, operand_lanes, operand_widths, undefined_lanes, use_sources}
-use Rattle.mir_meaning.specs.Items.{uses, result_writes, explicit_definitions, implicit_definitions, pick}
+use Rattle.mir_meaning.specs.Items.{uses, implicit_definitions, pick}
 use Rattle.mir_meaning.specs.Rules.{fits_role, is_virtual_use, index_pairs}
 use Rattle.instr_effects.specs.declared.acts.Act.{Act}
 use Rattle.instr_effects.specs.declared.owner.Owner.{Owner}
 use Rattle.instr_effects.specs.declared.owner.Owner.TheVariants as owners
 use Rattle.instr_effects.specs.Owners.{owner_of, source_owner, operand_owners}
-use Rattle.instr_effects.specs.Acts.{plain, moved_acts, definition_acts, acts_of, use_owners, counted_owners, call_writes, unpreserved, is_call, explicit_uses, implicit_uses, implicit_owners, flag_owners, takes_some, tested_role, is_constant}
+use Rattle.instr_effects.specs.Acts.{plain, moved_acts, definition_acts, result_acts, acts_of, use_owners, counted_owners, call_writes, unpreserved, is_call, explicit_uses, implicit_uses, implicit_owners, flag_owners, takes_some, tested_role, is_constant}
 use Rattle.instr_effects.proofs.Members.{member-none, member-elim, left-in, right-in, in-either, flat-of, flat-in, filter-of, filter-in, map-of, map-in}
 use Rattle.instr_effects.proofs.Operands.{given_owners_of}
-use Rattle.instr_effects.proofs.Writes.{acts-result, acts-units, located-long, no_call}
+use Rattle.instr_effects.proofs.Writes.{acts-units, located-long, no_call}
+use Rattle.instr_effects.proofs.Defined.{definition-of, definition-in}
 use Rattle.live_laws.proofs.Effects.Blocks.{filtered-of, filtered-in}
 use Rattle.live_laws.proofs.Effects.Silent.{map-long}
 use Rattle.live_laws.proofs.Touch.Exact.{plain-in, plain-of, use-of, use-in, Used, Defined, Exact, given-exact, filled-exact}
@@ -158,7 +159,7 @@ module _ (t : Target) (f : Function) where
 
   module _ (e : Effect) (rs : List Role) (os : List Operand) (fixed : (o : RegOp) → Member o (implicit_registers os) → is_virtual o.loc ≡ false) where
     abbrev X : List Act
-    X = flat_map (λ o. acts_of (result_writes t f (is_early_clobber rs) o)) (explicit_definitions os)
+    X = flat_map (λ d. result_acts t f d.0 d.1) (definitions rs os)
 
     abbrev Y : List Act
     Y = flat_map (λ o. map (plain false) (operand_owners t f o)) (implicit_definitions os)
@@ -166,17 +167,17 @@ module _ (t : Target) (f : Function) where
     abbrev Z : List Act
     Z = acts_of (call_writes t e os)
 
-    result-in : (d : RegOp) (o : Owner) → Member o (operand_owners t f d) → (a : Act) × Member a (acts_of (result_writes t f (is_early_clobber rs) d)) × (a.lane ≡ o)
-    result-in d o m =
-        let z = plain-in (is_early_clobber rs) o (operand_owners t f d) m in
-        (z.0, subst (Member z.0) (sym (acts-result t f (is_early_clobber rs) d)) (left-in z.0 (map (plain (is_early_clobber rs)) (operand_owners t f d)) (map (plain (is_early_clobber rs)) (map owner_of (undefined_lanes t f d))) z.1), z.2)
+    result-in : (early : Bool) (d : RegOp) (o : Owner) → Member o (operand_owners t f d) → (a : Act) × Member a (result_acts t f early d) × (a.lane ≡ o)
+    result-in early d o m =
+        let z = plain-in early o (operand_owners t f d) m in
+        (z.0, left-in z.0 (map (plain early) (operand_owners t f d)) (map (plain early) (map owner_of (undefined_lanes t f d))) z.1, z.2)
 
-    result-of : (d : RegOp) (a : Act) → Member a (acts_of (result_writes t f (is_early_clobber rs) d)) → (Member a.lane (operand_owners t f d) ⊎ Member a.lane (map owner_of (undefined_lanes t f d))) × (a.from ≡ None)
-    result-of d a m = go (in-either a (map (plain (is_early_clobber rs)) (operand_owners t f d)) (map (plain (is_early_clobber rs)) (map owner_of (undefined_lanes t f d))) (subst (Member a) (acts-result t f (is_early_clobber rs) d) m))
+    result-of : (early : Bool) (d : RegOp) (a : Act) → Member a (result_acts t f early d) → (Member a.lane (operand_owners t f d) ⊎ Member a.lane (map owner_of (undefined_lanes t f d))) × (a.from ≡ None)
+    result-of early d a m = go (in-either a (map (plain early) (operand_owners t f d)) (map (plain early) (map owner_of (undefined_lanes t f d))) m)
       where
-        go : Member a (map (plain (is_early_clobber rs)) (operand_owners t f d)) ⊎ Member a (map (plain (is_early_clobber rs)) (map owner_of (undefined_lanes t f d))) → (Member a.lane (operand_owners t f d) ⊎ Member a.lane (map owner_of (undefined_lanes t f d))) × (a.from ≡ None)
-        go (inl k) = let z = plain-of (is_early_clobber rs) a (operand_owners t f d) k in (inl z.0, z.1)
-        go (inr k) = let z = plain-of (is_early_clobber rs) a (map owner_of (undefined_lanes t f d)) k in (inr z.0, z.1)
+        go : Member a (map (plain early) (operand_owners t f d)) ⊎ Member a (map (plain early) (map owner_of (undefined_lanes t f d))) → (Member a.lane (operand_owners t f d) ⊎ Member a.lane (map owner_of (undefined_lanes t f d))) × (a.from ≡ None)
+        go (inl k) = let z = plain-of early a (operand_owners t f d) k in (inl z.0, z.1)
+        go (inr k) = let z = plain-of early a (map owner_of (undefined_lanes t f d)) k in (inr z.0, z.1)
 
     call-of : (a : Act) → Member a Z → ((v k : ℕ) → a.lane ≡ owners.Range v k → ⊥) × (a.from ≡ None)
     call-of a m = go (is_call e) refl
@@ -193,9 +194,9 @@ module _ (t : Target) (f : Function) where
         let there = filter-in (λ x. x.def) d (implicit_registers os) (filter-in (λ x. x.implicit) d (registers os) m h) e in
         (z.0, right-in z.0 X (Y ++ Z) (left-in z.0 Y Z (flat-in (λ x. map (plain false) (operand_owners t f x)) z.0 d (implicit_definitions os) there z.1)), z.2)
     written false d o m e h j =
-        let z = result-in d o j in
-        let there = filter-in (λ x. x.def && not x.implicit) d (registers os) m (ap (λ b. b && not d.implicit) e ∙ ap not h) in
-        (z.0, left-in z.0 X (Y ++ Z) (flat-in (λ x. acts_of (result_writes t f (is_early_clobber rs) x)) z.0 d (explicit_definitions os) there z.1), z.2)
+        let there = definition-in rs os d (filter-in (λ x. x.def && not x.implicit) d (registers os) m (ap (λ b. b && not d.implicit) e ∙ ap not h)) in
+        let z = result-in there.0.0 there.0.1 o (subst (λ x. Member o (operand_owners t f x)) there.2 j) in
+        (z.0, left-in z.0 X (Y ++ Z) (flat-in (λ x. result_acts t f x.0 x.1) z.0 there.0 (definitions rs os) there.1 z.1), z.2)
 
     act-of : (a : Act) → Member a (X ++ (Y ++ Z)) → ((v k : ℕ) → a.lane ≡ owners.Range v k → Defined t f (registers os) (owners.Range v k)) × (a.from ≡ None)
     act-of a m = go (in-either a X (Y ++ Z) m)
@@ -214,10 +215,11 @@ module _ (t : Target) (f : Function) where
 
         go : Member a X ⊎ Member a (Y ++ Z) → ((v k : ℕ) → a.lane ≡ owners.Range v k → Defined t f (registers os) (owners.Range v k)) × (a.from ≡ None)
         go (inl j) =
-            let z = flat-of (λ x. acts_of (result_writes t f (is_early_clobber rs) x)) a (explicit_definitions os) j in
-            let y = filter-of (λ x. x.def && not x.implicit) z.0 (registers os) z.1 in
-            let x = result-of z.0 a z.2 in
-            (λ v k g. (z.0, y.0, first_of_both z.0.def (not z.0.implicit) y.1, moved z.0 (owners.Range v k) g x.0), x.1)
+            let z = flat-of (λ x. result_acts t f x.0 x.1) a (definitions rs os) j in
+            let d = z.0.1 in
+            let y = filter-of (λ x. x.def && not x.implicit) d (registers os) (definition-of rs os z.0 z.1) in
+            let x = result-of z.0.0 d a z.2 in
+            (λ v k g. (d, y.0, first_of_both d.def (not d.implicit) y.1, moved d (owners.Range v k) g x.0), x.1)
         go (inr j) = late (in-either a Y Z j)
 
     abbrev R : List Owner

@@ -31,7 +31,7 @@ use Rattle.instr_effects.specs.Acts.{plain, is_constant, silent_acts, counted_ac
 use Rattle.instr_effects.specs.Steps.{Numbering}
 use Rattle.instr_effects.proofs.Members.{member-none, member-elim, map-of, map-in}
 use Rattle.instr_effects.proofs.Readings.{uses-read}
-use Rattle.instr_effects.proofs.Writes.{acts-counted, acts-result, undefined_acts, whole_acts, copied_acts, constant_acts, stored_acts, reloaded_acts}
+use Rattle.instr_effects.proofs.Writes.{acts-counted, undefined_acts, whole_acts, copied_acts, constant_acts, stored_acts, reloaded_acts}
 use Rattle.instr_effects.proofs.Known.{writes_known, reads_known}
 use Rattle.live_laws.specs.Effects.Shaped.{AreClasses, IsShaped}
 use Rattle.live_laws.proofs.Effects.Lists.{any-in, all-of}
@@ -66,7 +66,7 @@ module _ (t : Target) (f : Function) where
 
   undef-exact : (os : List Operand) → implicit_def_fits os ≡ true → Exact t f (registers os) [] (acts_of (defined_undef t f os))
   undef-exact (operands.Reg d ∷ []) e =
-      subst (Exact t f (d ∷ []) []) (sym (undefined_acts t f (operands.Reg d ∷ []) d refl ∙ acts-result t f false d ∙ ap (λ xs. xs ++ map (plain false) (map owner_of (undefined_lanes t f d))) (sym (plain-moves t f false (operand_owners t f d))))) (alone-exact t f false d e)
+      subst (Exact t f (d ∷ []) []) (sym (undefined_acts t f (operands.Reg d ∷ []) d refl ∙ ap (λ xs. xs ++ map (plain false) (map owner_of (undefined_lanes t f d))) (sym (plain-moves t f false (operand_owners t f d))))) (alone-exact t f false d e)
   undef-exact os e = absurd (cc)
 
   whole-defines : (d : RegOp) → is_whole_definition d ≡ true → is_definition d ≡ true

@@ -14,7 +14,8 @@ use Rattle.mir_func.specs.declared.func.Instr.{Instr}
 use Rattle.mir_func.specs.Value.{Function}
 use Rattle.mir_func.specs.Binding.{class_of, does}
 use Rattle.mir_meaning.specs.Items.{lanes_beside}
-use Rattle.mir_meaning.specs.Rules.{V1, V2, V3, V4, spills_or_reloads}
+use Rattle.mir_meaning.specs.declared.Form.TheVariants as forms
+use Rattle.mir_meaning.specs.Rules.{V1, V2, V3, V4, V12, spills_or_reloads}
 use Rattle.mir_meaning.specs.Stands.{Tags}
 
 -- a slot's lane is proper at the width of a unit, and every other lane
@@ -26,12 +27,13 @@ is_proper t _ = true
 abbrev pub AreClasses : Target → Function → Type 0
 AreClasses t f = (v : ℕ) (c : ClassId) → class_of f v ≡ Some c → IsClass t c
 
--- the instruction meets the rules on its operands, widths, classes and indexes
+-- the instruction meets the rules on its operands, widths, classes, indexes and definitions
 pub record IsShaped (t : Target) (f : Function) (i : Instr) : Type 0 where
   pub operands : V1 t f i ≡ true
   pub widths : V2 t f i ≡ true
   pub classes : V3 f i ≡ true
   pub indexes : V4 t f i ≡ true
+  pub definitions : V12 t forms.Source f i ≡ true
 
 -- the lanes of the slot that a store or a reload names have numbers
 abbrev pub SlotsTagged : Target → Function → Tags → Instr → Type 0

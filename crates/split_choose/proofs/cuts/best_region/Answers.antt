@@ -1,8 +1,6 @@
-use Rattle.std.proofs.Common.{◌≡◌, ◌∙◌, List, refl, subst, ap, Option, None, Some, option_map}
+use Rattle.std.proofs.Common.{◌∙◌, List, refl, subst, Option, None, Some}
 use Rattle.std.proofs.lemmas.Result.{IfOk-weaker}
 use Rattle.target_base.specs.declared.types.Reg.{Reg}
-use Rattle.mir_func.specs.Binding.{class_of}
-use Rattle.mir_meaning.specs.Places.{domain}
 use Rattle.split_choose.specs.declared.cuts.Choice.{Choice}
 use Rattle.split_choose.specs.Regions.{capped, uses_of}
 use Rattle.split_choose.specs.Choices.{IsBestBelow}

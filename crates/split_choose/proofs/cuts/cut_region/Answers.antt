@@ -1,4 +1,4 @@
-use Rattle.std.proofs.Common.{◌≡◌, subst, length}
+use Rattle.std.proofs.Common.{subst, length}
 use Rattle.std.proofs.lemmas.Result.{IfOk-weaker}
 use Rattle.live_lanes.specs.declared.live.LiveFunc.{LiveFunc}
 use Rattle.live_lanes.specs.Ways.{successors}

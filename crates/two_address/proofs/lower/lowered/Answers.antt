@@ -1,6 +1,6 @@
 use Rattle.std.proofs.Common.{arith, refl}
 use Rattle.mir_func.specs.Value.{Function}
-use Rattle.phi_elim.proofs.Sizes.{instrs_below}
+use Rattle.phi_elim.proofs.Sizes.{instrs_below, operand_count-all}
 use Rattle.phi_elim.proofs.Numbering.{ids_once, length-blocks_numbered}
 use Rattle.two_address.specs.Lowered.{ties_lowered}
 use Rattle.two_address.proofs.Steps.{length-blocks_lowered}
@@ -11,7 +11,7 @@ pub lower_blocks-requires : goal.lower_blocks-requires
 lower_blocks-requires c =
     let r = rw (← c.f.view_is) at c.requires in
     let small = instrs_below c.f.inside.next_id c.f.inside.blocks c.f.invariant.once in
-    rw c.as_slice.ensures (omega (arith, r, small))
+    rw c.as_slice.ensures (omega (arith, r, small, operand_count-all c.f.inside.blocks))
 
 pub number_blocks-next_id-requires : goal.number_blocks-next_id-requires
 number_blocks-next_id-requires c =

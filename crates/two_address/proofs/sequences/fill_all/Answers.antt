@@ -1,9 +1,9 @@
-use Rattle.std.proofs.Common.{◌≡◌, ◌∙◌, length, arith, ap, sym}
+use Rattle.std.proofs.Common.{◌≡◌, ◌∙◌, length, arith, ap}
 use Rattle.std.specs.List.{list_all, range_with_len}
 use Rattle.target_base.specs.Registers.{widths_of_some}
 use Rattle.mir_meaning.specs.Registers.{has_number}
 use Rattle.two_address.specs.Sequences.{filled_lanes}
-use Rattle.two_address.proofs.Parts.{lane_kept, lane_lost, lanes_all, lane_count}
+use Rattle.two_address.proofs.Parts.{lane_kept, lane_lost, lane_count}
 use Rattle.two_address.proofs.sequences.fill_all.Goals as goal
 
 pub lanes-preserved : goal.lanes-preserved

@@ -1,5 +1,5 @@
-use Rattle.std.proofs.Common.{◌≡◌, ◌≤◌, ◌+◌, ◌*◌, ◌-◌, ◌++◌, length, take, drop, map}
-use Rattle.two_address.specs.Sequences.{parts_of, into_part, filled_lanes}
+use Rattle.std.proofs.Common.{◌≡◌, ◌-◌}
+use Rattle.two_address.specs.Sequences.{filled_lanes}
 use Rattle.std.specs.List.{list_all, range_with_len}
 use Rattle.mir_meaning.specs.Registers.{has_number}
 use Rattle.two_address.proofs.sequences.fill_all.Given as goal

@@ -1,5 +1,5 @@
-use Rattle.std.proofs.Common.{◌≡◌, ◌≤◌, ◌+◌, ◌*◌, ◌-◌, ◌++◌, length, take, drop, map}
-use Rattle.two_address.specs.Sequences.{parts_of, into_part, filled_lanes}
+use Rattle.std.proofs.Common.{◌≡◌, ◌*◌, ◌++◌, drop}
+use Rattle.two_address.specs.Sequences.{parts_of}
 use Rattle.two_address.proofs.sequences.parts_of.Given as goal
 
 abbrev pub invariant-pairs : goal.invariant-pairs

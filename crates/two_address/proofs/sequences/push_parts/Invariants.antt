@@ -1,5 +1,5 @@
-use Rattle.std.proofs.Common.{◌≡◌, ◌≤◌, ◌+◌, ◌*◌, ◌-◌, ◌++◌, length, take, drop, map}
-use Rattle.two_address.specs.Sequences.{parts_of, into_part, filled_lanes}
+use Rattle.std.proofs.Common.{◌≡◌, ◌++◌, take, map}
+use Rattle.two_address.specs.Sequences.{into_part}
 use Rattle.two_address.proofs.sequences.push_parts.Given as goal
 
 abbrev pub invariant-each : goal.invariant-each

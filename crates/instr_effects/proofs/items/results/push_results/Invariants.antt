@@ -1,7 +1,9 @@
 use Rattle.std.proofs.Common.{◌≡◌, ◌++◌, drop}
-use Rattle.mir_meaning.specs.Items.{result_writes}
-use Rattle.std.specs.Prelude.{flat_map}
+use Rattle.mir_func.specs.Binding.{definitions}
+use Rattle.mir_meaning.specs.Items.{results}
 use Rattle.instr_effects.proofs.items.results.push_results.Given as goal
 
-abbrev pub invariant-loop-d : goal.invariant-loop-d
-invariant-loop-d l = l.out ++ flat_map (result_writes l.t l.f l.early) (drop l.d-index l.operands) ≡ l.initial.out ++ flat_map (result_writes l.t l.f l.early) l.operands
+abbrev pub invariant-loop-operand : goal.invariant-loop-operand
+invariant-loop-operand l =
+    l.out ++ results l.t l.f l.first (definitions l.left (drop l.operand-index l.operands))
+    ≡ l.initial.out ++ results l.t l.f 0 (definitions l.roles l.operands)

@@ -1,8 +1,0 @@
-use Rattle.std.proofs.Common.{◌≡◌, drop}
-use Rattle.std.specs.List.{list_any}
-use Rattle.mir_func.specs.Binding.{explicit_bound, explicit_operands, explicit_roles}
-use Rattle.two_address.specs.Ties.{reads_besides}
-use Rattle.place_solve.proofs.copies.is_read_untied.Given as goal
-
-abbrev pub invariant-each : goal.invariant-each
-invariant-each l = list_any (reads_besides l.loc) (explicit_bound (explicit_roles l.left) (explicit_operands (drop l.o-index l.operands))) ≡ list_any (reads_besides l.loc) (explicit_bound (explicit_roles l.roles) (explicit_operands l.operands))
