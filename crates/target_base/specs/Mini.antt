@@ -1,5 +1,5 @@
 -- The built-in target, as a value.
-use Rattle.std.specs.Prelude.{◌≡◌, true, ℕ, List, [], ◌∷◌, codes, map, refl}
+use Rattle.std.specs.Prelude.{◌≡◌, true, false, ℕ, List, [], ◌∷◌, codes, map, refl}
 use Rattle.target_base.specs.declared.types.Unit.{Unit as UnitNumber}
 use Rattle.target_base.specs.declared.types.Reg.{Reg}
 use Rattle.target_base.specs.declared.types.ClassId.{ClassId}
@@ -14,6 +14,7 @@ use Rattle.target_base.specs.declared.types.ClassDesc.{ClassDesc}
 use Rattle.target_base.specs.declared.types.MaskDesc.{MaskDesc}
 use Rattle.target_base.specs.declared.types.OpcodeDesc.{OpcodeDesc}
 use Rattle.target_base.specs.declared.types.Target.{Target}
+use Rattle.target_base.specs.declared.types.TextOptions.{TextOptions}
 use Rattle.target_base.specs.Numbers.{unit_number, reg_number, class_number}
 use Rattle.target_base.specs.Rules.{is_sound}
 
@@ -124,22 +125,22 @@ mini_opcodes =
     ∷ op (codes "MOV8ri") effects.Const (roles.Def gr8 ∷ roles.Imm ∷ [])
     ∷ op (codes "LEA32fi") effects.Addr (roles.Def gr32 ∷ roles.Frame ∷ [])
     ∷ op (codes "LEA32g") effects.Addr (roles.Def gr32 ∷ roles.Sym ∷ [])
-    ∷ op (codes "ADD32rr") effects.Add (roles.Def gr32 ∷ roles.Tied gr32 ∷ roles.Read gr32 ∷ roles.ImpDef eflags ∷ [])
-    ∷ op (codes "SUB32rr") effects.Sub (roles.Def gr32 ∷ roles.Tied gr32 ∷ roles.Read gr32 ∷ roles.ImpDef eflags ∷ [])
-    ∷ op (codes "IMUL32rr") effects.Mul (roles.Def gr32 ∷ roles.Tied gr32 ∷ roles.Read gr32 ∷ roles.ImpDef eflags ∷ [])
-    ∷ op (codes "AND32rr") effects.And (roles.Def gr32 ∷ roles.Tied gr32 ∷ roles.Read gr32 ∷ roles.ImpDef eflags ∷ [])
-    ∷ op (codes "OR32rr") effects.Or (roles.Def gr32 ∷ roles.Tied gr32 ∷ roles.Read gr32 ∷ roles.ImpDef eflags ∷ [])
-    ∷ op (codes "XOR32rr") effects.Xor (roles.Def gr32 ∷ roles.Tied gr32 ∷ roles.Read gr32 ∷ roles.ImpDef eflags ∷ [])
-    ∷ op (codes "ADD32ri") effects.Add (roles.Def gr32 ∷ roles.Tied gr32 ∷ roles.Imm ∷ roles.ImpDef eflags ∷ [])
-    ∷ op (codes "SUB32ri") effects.Sub (roles.Def gr32 ∷ roles.Tied gr32 ∷ roles.Imm ∷ roles.ImpDef eflags ∷ [])
-    ∷ op (codes "AND32ri") effects.And (roles.Def gr32 ∷ roles.Tied gr32 ∷ roles.Imm ∷ roles.ImpDef eflags ∷ [])
-    ∷ op (codes "SHL32ri") effects.Shl (roles.Def gr32 ∷ roles.Tied gr32 ∷ roles.Imm ∷ roles.ImpDef eflags ∷ [])
-    ∷ op (codes "SHR32ri") effects.Shr (roles.Def gr32 ∷ roles.Tied gr32 ∷ roles.Imm ∷ roles.ImpDef eflags ∷ [])
-    ∷ op (codes "SAR32ri") effects.Sar (roles.Def gr32 ∷ roles.Tied gr32 ∷ roles.Imm ∷ roles.ImpDef eflags ∷ [])
-    ∷ op (codes "NEG32r") effects.Neg (roles.Def gr32 ∷ roles.Tied gr32 ∷ roles.ImpDef eflags ∷ [])
-    ∷ op (codes "NOT32r") effects.Not (roles.Def gr32 ∷ roles.Tied gr32 ∷ [])
-    ∷ op (codes "ADD8rr") effects.Add (roles.Def gr8 ∷ roles.Tied gr8 ∷ roles.Read gr8 ∷ roles.ImpDef eflags ∷ [])
-    ∷ op (codes "SUB8rr") effects.Sub (roles.Def gr8 ∷ roles.Tied gr8 ∷ roles.Read gr8 ∷ roles.ImpDef eflags ∷ [])
+    ∷ op (codes "ADD32rr") effects.Add (roles.Def gr32 ∷ roles.Tied gr32 0 ∷ roles.Read gr32 ∷ roles.ImpDef eflags ∷ [])
+    ∷ op (codes "SUB32rr") effects.Sub (roles.Def gr32 ∷ roles.Tied gr32 0 ∷ roles.Read gr32 ∷ roles.ImpDef eflags ∷ [])
+    ∷ op (codes "IMUL32rr") effects.Mul (roles.Def gr32 ∷ roles.Tied gr32 0 ∷ roles.Read gr32 ∷ roles.ImpDef eflags ∷ [])
+    ∷ op (codes "AND32rr") effects.And (roles.Def gr32 ∷ roles.Tied gr32 0 ∷ roles.Read gr32 ∷ roles.ImpDef eflags ∷ [])
+    ∷ op (codes "OR32rr") effects.Or (roles.Def gr32 ∷ roles.Tied gr32 0 ∷ roles.Read gr32 ∷ roles.ImpDef eflags ∷ [])
+    ∷ op (codes "XOR32rr") effects.Xor (roles.Def gr32 ∷ roles.Tied gr32 0 ∷ roles.Read gr32 ∷ roles.ImpDef eflags ∷ [])
+    ∷ op (codes "ADD32ri") effects.Add (roles.Def gr32 ∷ roles.Tied gr32 0 ∷ roles.Imm ∷ roles.ImpDef eflags ∷ [])
+    ∷ op (codes "SUB32ri") effects.Sub (roles.Def gr32 ∷ roles.Tied gr32 0 ∷ roles.Imm ∷ roles.ImpDef eflags ∷ [])
+    ∷ op (codes "AND32ri") effects.And (roles.Def gr32 ∷ roles.Tied gr32 0 ∷ roles.Imm ∷ roles.ImpDef eflags ∷ [])
+    ∷ op (codes "SHL32ri") effects.Shl (roles.Def gr32 ∷ roles.Tied gr32 0 ∷ roles.Imm ∷ roles.ImpDef eflags ∷ [])
+    ∷ op (codes "SHR32ri") effects.Shr (roles.Def gr32 ∷ roles.Tied gr32 0 ∷ roles.Imm ∷ roles.ImpDef eflags ∷ [])
+    ∷ op (codes "SAR32ri") effects.Sar (roles.Def gr32 ∷ roles.Tied gr32 0 ∷ roles.Imm ∷ roles.ImpDef eflags ∷ [])
+    ∷ op (codes "NEG32r") effects.Neg (roles.Def gr32 ∷ roles.Tied gr32 0 ∷ roles.ImpDef eflags ∷ [])
+    ∷ op (codes "NOT32r") effects.Not (roles.Def gr32 ∷ roles.Tied gr32 0 ∷ [])
+    ∷ op (codes "ADD8rr") effects.Add (roles.Def gr8 ∷ roles.Tied gr8 0 ∷ roles.Read gr8 ∷ roles.ImpDef eflags ∷ [])
+    ∷ op (codes "SUB8rr") effects.Sub (roles.Def gr8 ∷ roles.Tied gr8 0 ∷ roles.Read gr8 ∷ roles.ImpDef eflags ∷ [])
     ∷ op (codes "UDIV32rr") effects.Udiv (roles.Early gr32 ∷ roles.Read gr32 ∷ roles.Read gr32 ∷ roles.ImpDef eflags ∷ [])
     ∷ op (codes "UREM32rr") effects.Urem (roles.Early gr32 ∷ roles.Read gr32 ∷ roles.Read gr32 ∷ roles.ImpDef eflags ∷ [])
     ∷ op (codes "MADD32") effects.Madd (roles.Def gr32 ∷ roles.Read low ∷ roles.Read low ∷ roles.Read low ∷ roles.ImpDef eflags ∷ [])
@@ -179,6 +180,10 @@ pub mini_is_sound : is_sound (codes "mini") 1 mini_units mini_regs mini_reserved
 unfolding is_sound
 mini_is_sound = refl
 
+-- nothing is opted in
+abbrev pub no_options : TextOptions
+no_options = record { offsets = false; pool = false; noreg = false; open_blocks = false; flags = []; sound = refl }
+
 -- the built-in target
 unfoldable pub mini_target : Target
 mini_target = record {
@@ -191,5 +196,6 @@ mini_target = record {
   classes = mini_classes;
   masks = mini_masks;
   opcodes = mini_opcodes;
+  options = no_options;
   sound = mini_is_sound;
 }

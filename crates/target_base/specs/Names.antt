@@ -6,8 +6,11 @@ use Rattle.target_base.specs.Storage.{same_numbers}
 abbrev pub is_upper : ℕ → Bool
 is_upper b = nat_le 65 b && nat_le b 90
 
+abbrev pub is_lower : ℕ → Bool
+is_lower b = nat_le 97 b && nat_le b 122
+
 abbrev pub is_letter : ℕ → Bool
-is_letter b = is_upper b || (nat_le 97 b && nat_le b 122)
+is_letter b = is_upper b || is_lower b
 
 abbrev pub is_digit : ℕ → Bool
 is_digit b = nat_le 48 b && nat_le b 57
@@ -23,6 +26,14 @@ is_name (b ∷ bs) = is_letter b && list_all is_name_byte bs
 -- an opcode's name has an upper-case letter
 abbrev pub is_op_name : List ℕ → Bool
 is_op_name bs = is_name bs && list_any is_upper bs
+
+abbrev pub is_flag_byte : ℕ → Bool
+is_flag_byte b = is_lower b || is_digit b || b == 95 || b == 45
+
+-- a word of `target-flags`: a lower-case letter, then lower-case letters, digits, `_` and `-`
+abbrev pub is_flag_word : List ℕ → Bool
+is_flag_word [] = false
+is_flag_word (b ∷ bs) = is_lower b && list_all is_flag_byte bs
 
 -- no two elements are equal by the test
 abbrev pub is_distinct : {X : Type 0} → (X → X → Bool) → List X → Bool

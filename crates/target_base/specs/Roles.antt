@@ -1,5 +1,5 @@
 -- The roles and widths that each effect asks of an opcode.
-use Rattle.std.specs.Prelude.{ℕ, Bool, true, false, List, [], ◌∷◌, Option, Some, None, take, map, sum, filter_map, length, nat_le, nat_lt, nat_eq, ◌&&◌, ◌||◌, ◌==◌, ◌%◌, not, count_by, filter}
+use Rattle.std.specs.Prelude.{ℕ, Bool, true, false, cond, List, [], ◌∷◌, Option, Some, None, take, map, sum, filter_map, flat_map, slice_get, length, nat_le, nat_lt, nat_eq, ◌&&◌, ◌||◌, ◌==◌, ◌%◌, not, count_by, filter}
 use Rattle.std.specs.List.{list_all}
 use Rattle.target_base.specs.declared.types.Reg.{Reg}
 use Rattle.target_base.specs.declared.types.ClassId.{ClassId}
@@ -10,7 +10,10 @@ use Rattle.target_base.specs.declared.types.Role.TheVariants as roles
 use Rattle.target_base.specs.declared.types.UnitDesc.{UnitDesc}
 use Rattle.target_base.specs.declared.types.RegDesc.{RegDesc}
 use Rattle.target_base.specs.declared.types.ClassDesc.{ClassDesc}
-use Rattle.target_base.specs.Storage.{class_regs, class_widths, widths, reg_units, same_numbers}
+use Rattle.target_base.specs.declared.types.OpaqueKind.{OpaqueKind}
+use Rattle.target_base.specs.declared.types.OpaqueKind.TheVariants as kinds
+use Rattle.target_base.specs.Names.{are_distinct_numbers}
+use Rattle.target_base.specs.Storage.{class_regs, class_widths, is_within, widths, reg_units, same_numbers}
 
 abbrev pub is_definition : Role → Bool
 is_definition (roles.Def k) = true
@@ -19,11 +22,11 @@ is_definition _ = false
 
 abbrev pub is_use : Role → Bool
 is_use (roles.Read k) = true
-is_use (roles.Tied k) = true
+is_use (roles.Tied k n) = true
 is_use _ = false
 
 abbrev pub is_tied : Role → Bool
-is_tied (roles.Tied k) = true
+is_tied (roles.Tied k n) = true
 is_tied _ = false
 
 abbrev pub is_immediate : Role → Bool
@@ -75,7 +78,8 @@ is_implicit (roles.ImpDef r) = true
 is_implicit (roles.ImpRead r) = true
 is_implicit _ = false
 
--- the tests that an opcode's explicit roles pass, one after the other; None for the five opcodes of every target
+-- the tests that an opcode's explicit roles pass, one after the other; None for the five opcodes of every target, and for
+-- opaque ones, whose roles are as `opaque_fit` says
 abbrev pub explicit_shape : Effect → Option (List (Role → Bool))
 explicit_shape effects.Copy = None
 explicit_shape effects.Phi = None
@@ -111,6 +115,7 @@ explicit_shape effects.Ret = Some (is_rest ∷ [])
 explicit_shape effects.Marker = Some (is_any ∷ [])
 explicit_shape effects.Spill = Some (is_use ∷ is_slot ∷ is_lanes ∷ [])
 explicit_shape effects.Reload = Some (is_definition ∷ is_slot ∷ is_lanes ∷ [])
+explicit_shape (effects.Opaque kind) = None
 
 -- explicit roles pass these tests, each its own, and only implicit roles follow
 abbrev pub has_shape : List (Role → Bool) → List Role → Bool
@@ -135,7 +140,8 @@ abbrev pub role_class : Role → Option ClassId
 role_class (roles.Def k) = Some k
 role_class (roles.Early k) = Some k
 role_class (roles.Read k) = Some k
-role_class (roles.Tied k) = Some k
+role_class (roles.Tied k n) = Some k
+role_class (roles.Value k) = k
 role_class _ = None
 
 -- how many of the first roles are bound to one width
@@ -222,7 +228,7 @@ defines k (roles.Early c ∷ rs) = k.0 == c.0
 defines k rs = false
 
 abbrev pub tie_fits : List Role → Role → Bool
-tie_fits rs (roles.Tied k) = defines k rs
+tie_fits rs (roles.Tied k n) = nat_eq n 0 && defines k rs
 tie_fits rs _ = true
 
 -- at most one role is tied, and to a definition of its class
@@ -234,7 +240,8 @@ abbrev pub role_known : ℕ → ℕ → Role → Bool
 role_known classes regs (roles.Def k) = nat_lt k.0 classes
 role_known classes regs (roles.Early k) = nat_lt k.0 classes
 role_known classes regs (roles.Read k) = nat_lt k.0 classes
-role_known classes regs (roles.Tied k) = nat_lt k.0 classes
+role_known classes regs (roles.Tied k n) = nat_lt k.0 classes
+role_known classes regs (roles.Value (Some k)) = nat_lt k.0 classes
 role_known classes regs (roles.Address k) = nat_lt k.0 classes
 role_known classes regs (roles.ImpDef r) = nat_lt r.0 regs
 role_known classes regs (roles.ImpRead r) = nat_lt r.0 regs
@@ -253,9 +260,84 @@ abbrev pub shape_fits : Option (List (Role → Bool)) → List Role → Bool
 shape_fits None rs = false
 shape_fits (Some tests) rs = has_shape tests rs
 
--- the roles are those that the effect asks for, with its widths
-abbrev pub roles_fit : List UnitDesc → List RegDesc → List ClassDesc → Effect → List Role → Bool
-roles_fit units regs classes e rs =
+-- the roles behind those at the beginning that pass a test
+abbrev pub behind : (Role → Bool) → List Role → List Role
+behind test [] = []
+behind test (r ∷ rs) = cond (test r) (behind test rs) (r ∷ rs)
+
+-- a role that stands for one operand of an opaque opcode, beside its definitions
+abbrev pub is_operand : Role → Bool
+is_operand (roles.Read k) = true
+is_operand (roles.Tied k n) = true
+is_operand (roles.Value k) = true
+is_operand (roles.Address k) = true
+is_operand roles.Imm = true
+is_operand roles.Target = true
+is_operand roles.Sym = true
+is_operand roles.Frame = true
+is_operand roles.Mask = true
+is_operand _ = false
+
+-- the roles behind one that stands for any number of operands, if the first does
+abbrev pub behind_many : List Role → List Role
+behind_many (roles.Any ∷ rs) = rs
+behind_many (roles.Rest ∷ rs) = rs
+behind_many rs = rs
+
+-- definitions, then operands, then at most one role for any number of them, then implicit ones
+abbrev pub are_in_order : List Role → Bool
+are_in_order rs = list_all is_implicit (behind_many (behind is_operand (behind is_definition rs)))
+
+-- the role is a definition of a class whose registers all lie in class k
+abbrev pub defines_within : List ClassDesc → ClassId → Option Role → Bool
+defines_within classes k (Some (roles.Def c)) = is_within (class_regs classes c) (class_regs classes k)
+defines_within classes k (Some (roles.Early c)) = is_within (class_regs classes c) (class_regs classes k)
+defines_within classes k r = false
+
+-- A tied role names a definition that is there, and its class holds each register of that definition's class. (255 stands
+-- for each number above it too, so no definition has it.)
+abbrev pub opaque_tie_fits : List ClassDesc → List Role → Role → Bool
+opaque_tie_fits classes rs (roles.Tied k n) = nat_lt n 255 && defines_within classes k (slice_get rs n)
+opaque_tie_fits classes rs r = true
+
+-- the definition that a tied role names, as a list
+abbrev pub tied_to : Role → List ℕ
+tied_to (roles.Tied k n) = n ∷ []
+tied_to r = []
+
+-- definitions stand at plain opaque opcodes alone
+abbrev pub may_define : OpaqueKind → Bool
+may_define kinds.Plain = true
+may_define kind = false
+
+-- how many targets a kind names, and whether it may have so many masks
+abbrev pub targets_of : OpaqueKind → ℕ
+targets_of kinds.Branch = 1
+targets_of kind = 0
+
+abbrev pub masks_fit : OpaqueKind → ℕ → Bool
+masks_fit kinds.Call n = nat_eq n 1
+masks_fit kinds.Return n = nat_le n 1
+masks_fit kind n = nat_eq n 0
+
+-- there are as many definitions, targets and masks as the kind asks for
+abbrev pub counts_fit : OpaqueKind → List Role → Bool
+counts_fit kind rs =
+    (may_define kind || nat_eq (count_by is_definition rs) 0)
+    && nat_eq (count_by is_block rs) (targets_of kind)
+    && masks_fit kind (count_by is_mask rs)
+
+-- the roles of an opaque opcode; no rule asks for widths, and implicit operands need no role
+abbrev pub opaque_fit : List ClassDesc → OpaqueKind → List Role → Bool
+opaque_fit classes kind rs =
+    are_in_order rs
+    && are_distinct_numbers (flat_map tied_to rs)
+    && list_all (opaque_tie_fits classes rs) rs
+    && counts_fit kind rs
+
+-- the roles are those that a known effect asks for, with its widths
+abbrev pub known_fit : List UnitDesc → List RegDesc → List ClassDesc → Effect → List Role → Bool
+known_fit units regs classes e rs =
     let w = widths_of_class units regs classes in
     let implicit = filter is_implicit rs in
     shape_fits (explicit_shape e) rs
@@ -264,3 +346,8 @@ roles_fit units regs classes e rs =
     && effect_widths w e (classes_of rs)
     && (not (is_silent e) || nat_eq (length implicit) 0)
     && effect_flags units regs e (first_implicit implicit)
+
+-- the roles are those that the effect asks for
+abbrev pub roles_fit : List UnitDesc → List RegDesc → List ClassDesc → Effect → List Role → Bool
+roles_fit units regs classes (effects.Opaque kind) rs = opaque_fit classes kind rs
+roles_fit units regs classes e rs = known_fit units regs classes e rs

@@ -13,7 +13,7 @@ use Rattle.target_base.specs.declared.types.ClassDesc.{ClassDesc}
 use Rattle.target_base.specs.declared.types.MaskDesc.{MaskDesc}
 use Rattle.target_base.specs.declared.types.OpcodeDesc.{OpcodeDesc}
 use Rattle.target_base.specs.Storage.{reg_units, class_regs, class_widths, widths, is_among, is_within, lanes_fit, part_place, is_unreserved, same_numbers}
-use Rattle.target_base.specs.Names.{is_name, is_op_name, are_distinct_names, are_distinct_numbers}
+use Rattle.target_base.specs.Names.{is_name, is_op_name, is_flag_word, are_distinct_names, are_distinct_numbers}
 use Rattle.target_base.specs.Roles.{roles_fit, role_known, scale_fits, first_class}
 
 -- the lanes of a register at most, by the version
@@ -162,6 +162,10 @@ are_opcodes units regs classes opcodes =
     && starts_with_the_five opcodes
     && list_all (is_opcode_desc units regs classes) (drop 5 opcodes)
     && are_distinct_names (map (λ o. o.name) opcodes)
+
+-- distinct words of `target-flags`
+abbrev pub are_flag_words : List (List ℕ) → Bool
+are_flag_words words = list_all is_flag_word words && are_distinct_names words
 
 -- the rules of a target
 unfoldable pub is_sound : List ℕ → ℕ → List UnitDesc → List RegDesc → List UnitNumber → List IndexDesc → List ClassDesc → List MaskDesc → List OpcodeDesc → Bool

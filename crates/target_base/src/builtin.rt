@@ -1,14 +1,14 @@
 //! The built-in target.
 
 ghost use Rattle.std.specs.Prelude.{◌≡◌, ◌++◌, ◌∷◌, [], map, length, IfOk, codes};
-ghost use Rattle.target_base.specs.Mini.{mini_target, mini_units, mini_regs, mini_reserved, mini_indexes, mini_classes, mini_masks, mini_opcodes};
+ghost use Rattle.target_base.specs.Mini.{mini_target, no_options, mini_units, mini_regs, mini_reserved, mini_indexes, mini_classes, mini_masks, mini_opcodes};
 ghost use Rattle.target_base.specs.Tables.{unit_row, reg_row, index_row, class_row, opcode_row};
 
 use crate::list::List;
 use crate::types::{
     Bytes, ClassDesc, ClassDescs, ClassId, Effect, IndexDesc, IndexDescs, MaskDesc, MaskDescs,
-    OpcodeDesc, OpcodeDescs, Reg, RegDesc, RegDescs, Role, Target, Unit, UnitDesc, UnitDescs,
-    UnitList,
+    OpcodeDesc, OpcodeDescs, Reg, RegDesc, RegDescs, Role, Target, TextOptions, Unit, UnitDesc,
+    UnitDescs, UnitList,
 };
 use std::alloc::{AllocError, Global};
 
@@ -116,7 +116,7 @@ static OPCODES: [(&str, Effect, &[Role]); 53] = [
         Effect::Add,
         &[
             Role::Def(GR32),
-            Role::Tied(GR32),
+            Role::Tied(GR32, 0),
             Role::Read(GR32),
             Role::ImpDef(EFLAGS),
         ],
@@ -126,7 +126,7 @@ static OPCODES: [(&str, Effect, &[Role]); 53] = [
         Effect::Sub,
         &[
             Role::Def(GR32),
-            Role::Tied(GR32),
+            Role::Tied(GR32, 0),
             Role::Read(GR32),
             Role::ImpDef(EFLAGS),
         ],
@@ -136,7 +136,7 @@ static OPCODES: [(&str, Effect, &[Role]); 53] = [
         Effect::Mul,
         &[
             Role::Def(GR32),
-            Role::Tied(GR32),
+            Role::Tied(GR32, 0),
             Role::Read(GR32),
             Role::ImpDef(EFLAGS),
         ],
@@ -146,7 +146,7 @@ static OPCODES: [(&str, Effect, &[Role]); 53] = [
         Effect::And,
         &[
             Role::Def(GR32),
-            Role::Tied(GR32),
+            Role::Tied(GR32, 0),
             Role::Read(GR32),
             Role::ImpDef(EFLAGS),
         ],
@@ -156,7 +156,7 @@ static OPCODES: [(&str, Effect, &[Role]); 53] = [
         Effect::Or,
         &[
             Role::Def(GR32),
-            Role::Tied(GR32),
+            Role::Tied(GR32, 0),
             Role::Read(GR32),
             Role::ImpDef(EFLAGS),
         ],
@@ -166,7 +166,7 @@ static OPCODES: [(&str, Effect, &[Role]); 53] = [
         Effect::Xor,
         &[
             Role::Def(GR32),
-            Role::Tied(GR32),
+            Role::Tied(GR32, 0),
             Role::Read(GR32),
             Role::ImpDef(EFLAGS),
         ],
@@ -176,7 +176,7 @@ static OPCODES: [(&str, Effect, &[Role]); 53] = [
         Effect::Add,
         &[
             Role::Def(GR32),
-            Role::Tied(GR32),
+            Role::Tied(GR32, 0),
             Role::Imm,
             Role::ImpDef(EFLAGS),
         ],
@@ -186,7 +186,7 @@ static OPCODES: [(&str, Effect, &[Role]); 53] = [
         Effect::Sub,
         &[
             Role::Def(GR32),
-            Role::Tied(GR32),
+            Role::Tied(GR32, 0),
             Role::Imm,
             Role::ImpDef(EFLAGS),
         ],
@@ -196,7 +196,7 @@ static OPCODES: [(&str, Effect, &[Role]); 53] = [
         Effect::And,
         &[
             Role::Def(GR32),
-            Role::Tied(GR32),
+            Role::Tied(GR32, 0),
             Role::Imm,
             Role::ImpDef(EFLAGS),
         ],
@@ -206,7 +206,7 @@ static OPCODES: [(&str, Effect, &[Role]); 53] = [
         Effect::Shl,
         &[
             Role::Def(GR32),
-            Role::Tied(GR32),
+            Role::Tied(GR32, 0),
             Role::Imm,
             Role::ImpDef(EFLAGS),
         ],
@@ -216,7 +216,7 @@ static OPCODES: [(&str, Effect, &[Role]); 53] = [
         Effect::Shr,
         &[
             Role::Def(GR32),
-            Role::Tied(GR32),
+            Role::Tied(GR32, 0),
             Role::Imm,
             Role::ImpDef(EFLAGS),
         ],
@@ -226,7 +226,7 @@ static OPCODES: [(&str, Effect, &[Role]); 53] = [
         Effect::Sar,
         &[
             Role::Def(GR32),
-            Role::Tied(GR32),
+            Role::Tied(GR32, 0),
             Role::Imm,
             Role::ImpDef(EFLAGS),
         ],
@@ -234,15 +234,19 @@ static OPCODES: [(&str, Effect, &[Role]); 53] = [
     (
         "NEG32r",
         Effect::Neg,
-        &[Role::Def(GR32), Role::Tied(GR32), Role::ImpDef(EFLAGS)],
+        &[Role::Def(GR32), Role::Tied(GR32, 0), Role::ImpDef(EFLAGS)],
     ),
-    ("NOT32r", Effect::Not, &[Role::Def(GR32), Role::Tied(GR32)]),
+    (
+        "NOT32r",
+        Effect::Not,
+        &[Role::Def(GR32), Role::Tied(GR32, 0)],
+    ),
     (
         "ADD8rr",
         Effect::Add,
         &[
             Role::Def(GR8),
-            Role::Tied(GR8),
+            Role::Tied(GR8, 0),
             Role::Read(GR8),
             Role::ImpDef(EFLAGS),
         ],
@@ -252,7 +256,7 @@ static OPCODES: [(&str, Effect, &[Role]); 53] = [
         Effect::Sub,
         &[
             Role::Def(GR8),
-            Role::Tied(GR8),
+            Role::Tied(GR8, 0),
             Role::Read(GR8),
             Role::ImpDef(EFLAGS),
         ],
@@ -521,6 +525,19 @@ fn mini_reserved(alloc: Global) -> Result<UnitList, AllocError>
     List::from_slice(alloc, &[Unit(15)])
 }
 
+/// Nothing is opted in.
+pub fn no_options(alloc: Global) -> TextOptions
+    ensures { result ≡ no_options }
+{
+    TextOptions {
+        offsets: false,
+        pool: false,
+        noreg: false,
+        open_blocks: false,
+        flags: List::new(alloc),
+    }
+}
+
 /// The built-in target `mini`: a small machine of 32 bits with four general registers, whose parts
 /// of 8 and 16 bits and pairs of 64 bits are registers too.
 #[tactic(auto, unfolding(crate::specs::Mini::mini_target))]
@@ -537,5 +554,6 @@ pub fn mini(alloc: Global) -> Result<Target, AllocError>
         classes: mini_classes(alloc)?,
         masks: mini_masks(alloc)?,
         opcodes: mini_opcodes(alloc)?,
+        options: no_options(alloc),
     })
 }

@@ -302,7 +302,8 @@ pub fn class_of(role: Role) -> Option<ClassId>
     ensures { result ≡ role_class role }
 {
     match role {
-        Role::Def(k) | Role::Early(k) | Role::Read(k) | Role::Tied(k) => Some(k),
+        Role::Def(k) | Role::Early(k) | Role::Read(k) | Role::Tied(k, _) => Some(k),
+        Role::Value(k) => k,
         _ => None,
     }
 }

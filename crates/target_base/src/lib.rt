@@ -15,6 +15,7 @@ pub use builtin::mini;
 pub use list::{Copied, List};
 pub use types::{
     Bytes, ClassDesc, ClassDescs, ClassId, Effect, Flags, IndexDesc, IndexDescs, IndexId,
-    LaneNumbers, MaskDesc, MaskDescs, MaskId, Numbers, OpId, OpcodeDesc, OpcodeDescs, Reg, RegDesc,
-    RegDescs, Regs, Role, Roles, Target, Unit, UnitDesc, UnitDescs, UnitList,
+    LaneNumbers, MaskDesc, MaskDescs, MaskId, Numbers, OpId, OpaqueKind, OpcodeDesc, OpcodeDescs,
+    Reg, RegDesc, RegDescs, Regs, Role, Roles, Target, TextOptions, Unit, UnitDesc, UnitDescs,
+    UnitList, Words,
 };

@@ -16,12 +16,12 @@ pub fn is_definition(role: Role) -> bool
     }
 }
 
-/// Whether the role is that of a use which shares the register of the definition.
+/// Whether the role is that of a use which shares the register of a definition.
 pub fn is_tied(role: Role) -> bool
     ensures { result ≡ is_tied role }
 {
     match role {
-        Role::Tied(_) => true,
+        Role::Tied(_, _) => true,
         _ => false,
     }
 }

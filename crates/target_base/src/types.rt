@@ -1,7 +1,7 @@
 //! The public data of a target.
 
 ghost use Rattle.std.specs.Prelude.{IsTrue, ◌≡◌, IfOk};
-ghost use Rattle.target_base.specs.Rules.{is_sound};
+ghost use Rattle.target_base.specs.Rules.{is_sound, are_flag_words};
 
 use crate::list::{Copied, List};
 use std::alloc::{AllocError, Global};
@@ -39,8 +39,9 @@ pub enum Role {
     Early(ClassId),
     /// A use in a class.
     Read(ClassId),
-    /// A use in a class that shares the register of the definition.
-    Tied(ClassId),
+    /// A use in a class that shares the register of a definition: of that of this number among the
+    /// definitions, from 0.
+    Tied(ClassId, u8),
     /// An immediate.
     Imm,
     /// The block that a branch goes to.
@@ -57,7 +58,11 @@ pub enum Role {
     Address(ClassId),
     /// A call mask.
     Mask,
-    /// Any number of explicit uses of registers, fixed or virtual.
+    /// An immediate, a frame object, a symbol, a subregister index, or a use of a reserved register;
+    /// with a class also a use of a register of that class.
+    Value(Option<ClassId>),
+    /// Any number of explicit uses of registers, fixed or virtual; of an opaque opcode also of what
+    /// `Value` takes without a class.
     Any,
     /// An implicit definition of a fixed register.
     ImpDef(Reg),
@@ -65,6 +70,19 @@ pub enum Role {
     ImpRead(Reg),
     /// Any number of explicit uses of fixed registers.
     Rest,
+}
+
+/// What control does at an opaque instruction.
+#[derive(Clone, Copy, Debug, PartialEq, Eq)]
+pub enum OpaqueKind {
+    /// It goes on (most machine instructions).
+    Plain,
+    /// It goes to a block, or goes on (a branch).
+    Branch,
+    /// It goes on, and units outside a mask are undefined then (a call).
+    Call,
+    /// It ends the run (a return, or a call that takes its place).
+    Return,
 }
 
 /// What an opcode computes.
@@ -138,6 +156,8 @@ pub enum Effect {
     Spill,
     /// Reloads a register from a spill slot, lane by lane.
     Reload,
+    /// Nothing that is known: the world is shown what it reads, and answers what it writes.
+    Opaque(OpaqueKind),
 }
 
 /// Bytes in order, such as a name.
@@ -151,6 +171,9 @@ pub type Numbers = List<u32>;
 
 /// Truth values.
 pub type Flags = List<bool>;
+
+/// Words in order.
+pub type Words = List<Bytes>;
 
 /// Units in order.
 pub type UnitList = List<Unit>;
@@ -235,6 +258,22 @@ pub struct MaskDesc {
     pub regs: Regs,
 }
 
+/// What the text of functions may have where a target opts it in. (LLVM prints all of these.)
+#[derive(Drop)]
+pub struct TextOptions {
+    /// Symbols with an offset, such as `@x + 8`.
+    pub offsets: bool,
+    /// Entries of the constant pool, such as `%const.0`.
+    pub pool: bool,
+    /// `$noreg` as an explicit operand.
+    pub noreg: bool,
+    /// Blocks without successors whose end control doesn't reach.
+    pub open_blocks: bool,
+    /// The words that may stand in `target-flags(..)`, each once.
+    pub flags: Words,
+    ghost sound: { IsTrue (are_flag_words flags) },
+}
+
 /// A target. Every target keeps the rules of `specs/Rules.antt`: names are spelled well and are
 /// distinct, numbers stay in their bounds, opcodes have the roles and widths of their effect, and
 /// each class can be spilled, reloaded and taken apart.
@@ -258,6 +297,8 @@ pub struct Target {
     pub masks: MaskDescs,
     /// Its opcodes, at most 1,024: COPY, PHI, IMPLICIT_DEF, REG_SEQUENCE and INSERT_SUBREG first.
     pub opcodes: OpcodeDescs,
+    /// What the text of its functions may have.
+    pub options: TextOptions,
     ghost sound: { IsTrue (is_sound name version units regs reserved indexes classes masks opcodes) },
 }
 
@@ -349,6 +390,18 @@ impl Copied for MaskDesc {
     }
 }
 
+impl Copied for TextOptions {
+    fn copied(&self, alloc: Global) -> Result<TextOptions, AllocError> {
+        Ok(TextOptions {
+            offsets: self.offsets,
+            pool: self.pool,
+            noreg: self.noreg,
+            open_blocks: self.open_blocks,
+            flags: self.flags.copied(alloc)?,
+        })
+    }
+}
+
 impl Copied for Target {
     fn copied(&self, alloc: Global) -> Result<Target, AllocError> {
         Ok(Target {
@@ -361,6 +414,7 @@ impl Copied for Target {
             classes: self.classes.copied(alloc)?,
             masks: self.masks.copied(alloc)?,
             opcodes: self.opcodes.copied(alloc)?,
+            options: self.options.copied(alloc)?,
         })
     }
 }

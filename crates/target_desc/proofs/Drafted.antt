@@ -11,7 +11,7 @@ use Rattle.target_base.specs.declared.types.IndexDesc.{IndexDesc}
 use Rattle.target_base.specs.declared.types.ClassDesc.{ClassDesc}
 use Rattle.target_base.specs.declared.types.MaskDesc.{MaskDesc}
 use Rattle.target_base.specs.declared.types.OpcodeDesc.{OpcodeDesc}
-use Rattle.target_base.specs.Rules.{are_units, are_regs, are_indexes, are_classes, are_masks, are_opcodes}
+use Rattle.target_base.specs.Rules.{are_units, are_regs, are_indexes, are_classes, are_masks, are_opcodes, are_flag_words}
 use Rattle.target_base.proofs.Tests.{first_of_both, second_of_both}
 use Rattle.target_desc.specs.declared.raw.Header.{Header}
 use Rattle.target_desc.specs.declared.draft.Draft.{Draft}
@@ -23,6 +23,7 @@ use Rattle.target_desc.specs.Standing.{is_header, starts, stands, stands_in, sta
 use Rattle.target_desc.specs.Keeping.{is_blank, keeps_in, keeps_under, keeps_rules}
 use Rattle.target_desc.specs.Adding.{added, noted}
 use Rattle.target_desc.proofs.Grown.{both, all_kept, all_join, below_more}
+use Rattle.target_desc.proofs.OptedIn.{forms_keep, flags_kept}
 use Rattle.target_desc.proofs.Kept.{regs_kept, classes_kept, masks_kept, opcodes_kept, units_grown, regs_grown, indexes_grown, classes_grown, masks_grown, opcodes_grown, longer}
 
 -- the rules, one by one
@@ -35,21 +36,23 @@ pub record Rules (h : Header) (d : Draft) : Type 0 where
   pub classes : are_classes d.units d.regs d.classes ≡ true
   pub masks : are_masks (length d.regs) d.masks ≡ true
   pub opcodes : are_opcodes d.units d.regs d.classes d.opcodes ≡ true
+  pub flags : are_flag_words d.options.flags ≡ true
 
 pub rules_from : (h : Header) (d : Draft) → keeps_in h d ≡ true → Rules h d
 rules_from h d k = record {
-  header = first_of_both _ _ (first_of_both _ _ (first_of_both _ _ (first_of_both _ _ (first_of_both _ _ (first_of_both _ _ (first_of_both _ _ k))))));
-  units = second_of_both _ _ (first_of_both _ _ (first_of_both _ _ (first_of_both _ _ (first_of_both _ _ (first_of_both _ _ (first_of_both _ _ k))))));
-  regs = second_of_both _ _ (first_of_both _ _ (first_of_both _ _ (first_of_both _ _ (first_of_both _ _ (first_of_both _ _ k)))));
-  reserved = second_of_both _ _ (first_of_both _ _ (first_of_both _ _ (first_of_both _ _ (first_of_both _ _ k))));
-  indexes = second_of_both _ _ (first_of_both _ _ (first_of_both _ _ (first_of_both _ _ k)));
-  classes = second_of_both _ _ (first_of_both _ _ (first_of_both _ _ k));
-  masks = second_of_both _ _ (first_of_both _ _ k);
-  opcodes = second_of_both _ _ k;
+  header = first_of_both _ _ (first_of_both _ _ (first_of_both _ _ (first_of_both _ _ (first_of_both _ _ (first_of_both _ _ (first_of_both _ _ (first_of_both _ _ k)))))));
+  units = second_of_both _ _ (first_of_both _ _ (first_of_both _ _ (first_of_both _ _ (first_of_both _ _ (first_of_both _ _ (first_of_both _ _ (first_of_both _ _ k)))))));
+  regs = second_of_both _ _ (first_of_both _ _ (first_of_both _ _ (first_of_both _ _ (first_of_both _ _ (first_of_both _ _ (first_of_both _ _ k))))));
+  reserved = second_of_both _ _ (first_of_both _ _ (first_of_both _ _ (first_of_both _ _ (first_of_both _ _ (first_of_both _ _ k)))));
+  indexes = second_of_both _ _ (first_of_both _ _ (first_of_both _ _ (first_of_both _ _ (first_of_both _ _ k))));
+  classes = second_of_both _ _ (first_of_both _ _ (first_of_both _ _ (first_of_both _ _ k)));
+  masks = second_of_both _ _ (first_of_both _ _ (first_of_both _ _ k));
+  opcodes = second_of_both _ _ (first_of_both _ _ k);
+  flags = second_of_both _ _ k;
 }
 
 rules_into : (h : Header) (d : Draft) → Rules h d → keeps_in h d ≡ true
-rules_into h d r = both _ _ (both _ _ (both _ _ (both _ _ (both _ _ (both _ _ (both _ _ r.header r.units) r.regs) r.reserved) r.indexes) r.classes) r.masks) r.opcodes
+rules_into h d r = both _ _ (both _ _ (both _ _ (both _ _ (both _ _ (both _ _ (both _ _ (both _ _ r.header r.units) r.regs) r.reserved) r.indexes) r.classes) r.masks) r.opcodes) r.flags
 
 -- the first line that says something
 blank_rules : (h : Header) (units : List UnitDesc) (regs : List RegDesc) (reserved : List Reg) (indexes : List IndexDesc) (classes : List ClassDesc) (masks : List MaskDesc) (opcodes : List OpcodeDesc) →
@@ -68,13 +71,15 @@ empty_list xs h = nil_from_length xs (eqb-true (length xs) 0 h)
 
 first_line : (d : Draft) (h : Header) → is_blank d ≡ true → is_header h ≡ true → keeps_in h (record d { header = Some h }) ≡ true
 first_line d h k g =
-    blank_rules h d.units d.regs d.reserved d.indexes d.classes d.masks d.opcodes g
-    (empty_list d.units (first_of_both _ _ (first_of_both _ _ (first_of_both _ _ (first_of_both _ _ (first_of_both _ _ (first_of_both _ _ k)))))))
-    (empty_list d.regs (second_of_both _ _ (first_of_both _ _ (first_of_both _ _ (first_of_both _ _ (first_of_both _ _ (first_of_both _ _ k)))))))
-    (empty_list d.reserved (second_of_both _ _ (first_of_both _ _ (first_of_both _ _ (first_of_both _ _ (first_of_both _ _ k))))))
-    (empty_list d.indexes (second_of_both _ _ (first_of_both _ _ (first_of_both _ _ (first_of_both _ _ k)))))
-    (empty_list d.classes (second_of_both _ _ (first_of_both _ _ (first_of_both _ _ k))))
-    (empty_list d.masks (second_of_both _ _ (first_of_both _ _ k)))
+    both _ _
+    (blank_rules h d.units d.regs d.reserved d.indexes d.classes d.masks d.opcodes g
+    (empty_list d.units (first_of_both _ _ (first_of_both _ _ (first_of_both _ _ (first_of_both _ _ (first_of_both _ _ (first_of_both _ _ (first_of_both _ _ k))))))))
+    (empty_list d.regs (second_of_both _ _ (first_of_both _ _ (first_of_both _ _ (first_of_both _ _ (first_of_both _ _ (first_of_both _ _ (first_of_both _ _ k))))))))
+    (empty_list d.reserved (second_of_both _ _ (first_of_both _ _ (first_of_both _ _ (first_of_both _ _ (first_of_both _ _ (first_of_both _ _ k)))))))
+    (empty_list d.indexes (second_of_both _ _ (first_of_both _ _ (first_of_both _ _ (first_of_both _ _ (first_of_both _ _ k))))))
+    (empty_list d.classes (second_of_both _ _ (first_of_both _ _ (first_of_both _ _ (first_of_both _ _ k)))))
+    (empty_list d.masks (second_of_both _ _ (first_of_both _ _ (first_of_both _ _ k))))
+    (second_of_both _ _ (first_of_both _ _ k)))
     (second_of_both _ _ k)
 
 next_line : (h : Header) (d : Draft) (l : Line) → Rules h d → is_new (names_of d) l ≡ true → stands_in h.version d l ≡ true → Rules h (added d l)
@@ -89,6 +94,7 @@ next_line h d (lines.Unit u) r n s = record {
   classes = ap (λ rs. are_classes (d.units ++ u ∷ []) rs d.classes) (sym (append-nil d.regs)) ∙ classes_kept h.version d.units (u ∷ []) d.regs [] d.classes r.regs r.classes;
   masks = r.masks;
   opcodes = (λ i. are_opcodes (d.units ++ u ∷ []) (sym (append-nil d.regs) i) (sym (append-nil d.classes) i) d.opcodes) ∙ opcodes_kept h.version d.units (u ∷ []) d.regs [] d.classes [] d.opcodes r.regs r.classes r.opcodes;
+  flags = r.flags;
 }
 next_line h d (lines.Reg x) r n s = record {
   header = r.header;
@@ -99,6 +105,7 @@ next_line h d (lines.Reg x) r n s = record {
   classes = ap (λ us. are_classes us (d.regs ++ x ∷ []) d.classes) (sym (append-nil d.units)) ∙ classes_kept h.version d.units [] d.regs (x ∷ []) d.classes r.regs r.classes;
   masks = masks_kept d.regs (x ∷ []) d.masks r.masks;
   opcodes = (λ i. are_opcodes (sym (append-nil d.units) i) (d.regs ++ x ∷ []) (sym (append-nil d.classes) i) d.opcodes) ∙ opcodes_kept h.version d.units [] d.regs (x ∷ []) d.classes [] d.opcodes r.regs r.classes r.opcodes;
+  flags = r.flags;
 }
 next_line h d (lines.Reserved rs) r n s = record {
   header = r.header;
@@ -109,6 +116,7 @@ next_line h d (lines.Reserved rs) r n s = record {
   classes = r.classes;
   masks = r.masks;
   opcodes = r.opcodes;
+  flags = r.flags;
 }
 next_line h d (lines.Index x) r n s = record {
   header = r.header;
@@ -119,6 +127,7 @@ next_line h d (lines.Index x) r n s = record {
   classes = r.classes;
   masks = r.masks;
   opcodes = r.opcodes;
+  flags = r.flags;
 }
 next_line h d (lines.Class x) r n s = record {
   header = r.header;
@@ -129,6 +138,7 @@ next_line h d (lines.Class x) r n s = record {
   classes = classes_grown d.units d.regs d.classes x s n r.classes;
   masks = r.masks;
   opcodes = (λ i. are_opcodes (sym (append-nil d.units) i) (sym (append-nil d.regs) i) (d.classes ++ x ∷ []) d.opcodes) ∙ opcodes_kept h.version d.units [] d.regs [] d.classes (x ∷ []) d.opcodes r.regs r.classes r.opcodes;
+  flags = r.flags;
 }
 next_line h d (lines.Mask x) r n s = record {
   header = r.header;
@@ -139,6 +149,7 @@ next_line h d (lines.Mask x) r n s = record {
   classes = r.classes;
   masks = masks_grown (length d.regs) d.masks x s n r.masks;
   opcodes = r.opcodes;
+  flags = r.flags;
 }
 next_line h d (lines.Opcode x) r n s = record {
   header = r.header;
@@ -149,6 +160,29 @@ next_line h d (lines.Opcode x) r n s = record {
   classes = r.classes;
   masks = r.masks;
   opcodes = opcodes_grown d.units d.regs d.classes d.opcodes x s n r.opcodes;
+  flags = r.flags;
+}
+next_line h d (lines.Forms fs) r n s = record {
+  header = r.header;
+  units = r.units;
+  regs = r.regs;
+  reserved = r.reserved;
+  indexes = r.indexes;
+  classes = r.classes;
+  masks = r.masks;
+  opcodes = r.opcodes;
+  flags = ap are_flag_words (forms_keep d.options fs) ∙ r.flags;
+}
+next_line h d (lines.Flags ws) r n s = record {
+  header = r.header;
+  units = r.units;
+  regs = r.regs;
+  reserved = r.reserved;
+  indexes = r.indexes;
+  classes = r.classes;
+  masks = r.masks;
+  opcodes = r.opcodes;
+  flags = flags_kept d.options.flags ws r.flags s;
 }
 
 -- no other line than the first `target` line changes the header
@@ -162,6 +196,8 @@ header_kept version d (lines.Index x) s = refl
 header_kept version d (lines.Class c) s = refl
 header_kept version d (lines.Mask m) s = refl
 header_kept version d (lines.Opcode o) s = refl
+header_kept version d (lines.Forms fs) s = refl
+header_kept version d (lines.Flags ws) s = refl
 
 start_kept : (d : Draft) (l : Line) → is_blank d ≡ true → starts l ≡ true → keeps_rules (added d l) ≡ true
 unfolding added keeps_rules
@@ -173,6 +209,8 @@ start_kept d (lines.Index x) k s = absurd (cc)
 start_kept d (lines.Class c) k s = absurd (cc)
 start_kept d (lines.Mask m) k s = absurd (cc)
 start_kept d (lines.Opcode o) k s = absurd (cc)
+start_kept d (lines.Forms fs) k s = absurd (cc)
+start_kept d (lines.Flags ws) k s = absurd (cc)
 
 line_kept : (o : Option Header) (d : Draft) (l : Line) → d.header ≡ o → keeps_under o d ≡ true → is_new (names_of d) l ≡ true → stands_under o d l ≡ true → keeps_rules (added d l) ≡ true
 unfolding keeps_rules
@@ -198,6 +236,8 @@ names_added d (lines.Index x) n = ap (λ ns. record (names_of d) { indexes = ns 
 names_added d (lines.Class c) n = ap (λ ns. record (names_of d) { classes = ns }) (sym (map_push (λ x. x.name) d.classes c))
 names_added d (lines.Mask m) n = ap (λ ns. record (names_of d) { masks = ns }) (sym (map_push (λ x. x.name) d.masks m))
 names_added d (lines.Opcode o) n = ap (λ ns. record (names_of d) { opcodes = ns }) (sym (map_push (λ x. x.name) d.opcodes o))
+names_added d (lines.Forms fs) n = refl
+names_added d (lines.Flags ws) n = refl
 
 pub empty_keeps : keeps_rules empty_draft ≡ true
 unfolding keeps_rules empty_draft

@@ -4,10 +4,11 @@ use Rattle.std.specs.Prelude.{Option, option_map}
 use Rattle.std.proofs.lemmas.Bool.{leb-true, eqb-true}
 use Rattle.std.proofs.lemmas.List.{length-map}
 use Rattle.target_base.specs.declared.types.Unit.{Unit as UnitNumber}
-use Rattle.target_base.specs.Rules.{is_sound}
+use Rattle.target_base.specs.Rules.{is_sound, are_flag_words}
 use Rattle.target_base.proofs.Tests.{first_of_both, second_of_both}
 use Rattle.target_desc.specs.declared.raw.Header.{Header}
 use Rattle.target_desc.specs.declared.draft.Draft.{Draft}
+use Rattle.target_desc.specs.declared.draft.Options.{Options}
 use Rattle.target_desc.specs.Drafts.{names_of}
 use Rattle.target_desc.specs.Keeping.{is_blank, keeps_in, keeps_under, keeps_rules, AreFew}
 use Rattle.target_desc.specs.Ending.{Parts, reserved_of, is_whole, parts_under, ended_under, ended}
@@ -25,6 +26,15 @@ sound_at_end d h k e whole =
     let r = rules_from h d (keeps_at_end d h k e) in
     let reserved = reserved_kept h.version d.units d.regs d.reserved (second_of_both _ _ (first_of_both _ _ r.regs)) r.reserved in
     both _ _ (both _ _ (both _ _ (both _ _ (both _ _ (both _ _ (both _ _ (both _ _ r.header r.units) r.regs) reserved) r.indexes) r.classes) r.masks) r.opcodes) whole
+
+flags_under : (o : Option Header) (d : Draft) → keeps_under o d ≡ true → are_flag_words d.options.flags ≡ true
+flags_under None d k = second_of_both _ _ k
+flags_under (Some h) d k = second_of_both _ _ k
+
+-- the words of `target-flags` are distinct ones
+pub flags_at_end : (d : Draft) → keeps_rules d ≡ true → are_flag_words d.options.flags ≡ true
+unfolding keeps_rules
+flags_at_end d k = flags_under d.header d k
 
 -- what the lines of a whole text spell, with and without a class that lacks something
 ended_either : (d : Draft) (o : Option Header) (b : Bool) → is_whole d ≡ b → ended_under o d ≡ cond b (option_map (λ h. parts_under h d) o) None
@@ -53,12 +63,12 @@ few_in h d k =
 
 few_blank : (d : Draft) → is_blank d ≡ true → AreFew (names_of d)
 few_blank d k = record {
-  units = omega (arith, length-map d.units (λ x. x.name), eqb-true (length d.units) 0 (first_of_both _ _ (first_of_both _ _ (first_of_both _ _ (first_of_both _ _ (first_of_both _ _ (first_of_both _ _ k)))))));
-  regs = omega (arith, length-map d.regs (λ x. x.name), eqb-true (length d.regs) 0 (second_of_both _ _ (first_of_both _ _ (first_of_both _ _ (first_of_both _ _ (first_of_both _ _ (first_of_both _ _ k)))))));
-  indexes = omega (arith, length-map d.indexes (λ x. x.name), eqb-true (length d.indexes) 0 (second_of_both _ _ (first_of_both _ _ (first_of_both _ _ (first_of_both _ _ k)))));
-  classes = omega (arith, length-map d.classes (λ x. x.name), eqb-true (length d.classes) 0 (second_of_both _ _ (first_of_both _ _ (first_of_both _ _ k))));
-  masks = omega (arith, length-map d.masks (λ x. x.name), eqb-true (length d.masks) 0 (second_of_both _ _ (first_of_both _ _ k)));
-  opcodes = omega (arith, length-map d.opcodes (λ x. x.name), leb-true (length d.opcodes) 1024 (first_of_both _ _ (first_of_both _ _ (first_of_both _ _ (second_of_both _ _ k)))));
+  units = omega (arith, length-map d.units (λ x. x.name), eqb-true (length d.units) 0 (first_of_both _ _ (first_of_both _ _ (first_of_both _ _ (first_of_both _ _ (first_of_both _ _ (first_of_both _ _ (first_of_both _ _ k))))))));
+  regs = omega (arith, length-map d.regs (λ x. x.name), eqb-true (length d.regs) 0 (second_of_both _ _ (first_of_both _ _ (first_of_both _ _ (first_of_both _ _ (first_of_both _ _ (first_of_both _ _ (first_of_both _ _ k))))))));
+  indexes = omega (arith, length-map d.indexes (λ x. x.name), eqb-true (length d.indexes) 0 (second_of_both _ _ (first_of_both _ _ (first_of_both _ _ (first_of_both _ _ (first_of_both _ _ k))))));
+  classes = omega (arith, length-map d.classes (λ x. x.name), eqb-true (length d.classes) 0 (second_of_both _ _ (first_of_both _ _ (first_of_both _ _ (first_of_both _ _ k)))));
+  masks = omega (arith, length-map d.masks (λ x. x.name), eqb-true (length d.masks) 0 (second_of_both _ _ (first_of_both _ _ (first_of_both _ _ k))));
+  opcodes = omega (arith, length-map d.opcodes (λ x. x.name), leb-true (length d.opcodes) 1024 (first_of_both _ _ (first_of_both _ _ (first_of_both _ _ (second_of_both _ _ (first_of_both _ _ k))))));
 }
 
 few_under : (o : Option Header) (d : Draft) → keeps_under o d ≡ true → AreFew (names_of d)
@@ -72,9 +82,9 @@ few_names d k = few_under d.header d k
 pub few_units : (d : Draft) → keeps_rules d ≡ true → length d.units < 65536
 few_units d k = let few = few_names d k in omega (arith, length-map d.units (λ x. x.name), few.units)
 
-pub parts_made : (h : Header) (d : Draft) (us : List UnitNumber) (o : Option Header) → us ≡ reserved_of d → o ≡ Some h
-    → Some (record { name = h.name; version = h.version; units = d.units; regs = d.regs; reserved = us; indexes = d.indexes; classes = d.classes; masks = d.masks; opcodes = d.opcodes }) ≡ option_map (λ x. parts_under x d) o
+pub parts_made : (h : Header) (d : Draft) (us : List UnitNumber) (os : Options) (o : Option Header) → us ≡ reserved_of d → os ≡ d.options → o ≡ Some h
+    → Some (record { name = h.name; version = h.version; units = d.units; regs = d.regs; reserved = us; indexes = d.indexes; classes = d.classes; masks = d.masks; opcodes = d.opcodes; options = os }) ≡ option_map (λ x. parts_under x d) o
 unfolding parts_under
-parts_made h d us o e f =
-    let Whole : List UnitNumber → Option Parts = λ ws. Some (record { name = h.name; version = h.version; units = d.units; regs = d.regs; reserved = ws; indexes = d.indexes; classes = d.classes; masks = d.masks; opcodes = d.opcodes }) in
-    ap Whole e ∙ ap (option_map (λ x. parts_under x d)) (sym f)
+parts_made h d us os o e g f =
+    let Whole : List UnitNumber → Options → Option Parts = λ ws x. Some (record { name = h.name; version = h.version; units = d.units; regs = d.regs; reserved = ws; indexes = d.indexes; classes = d.classes; masks = d.masks; opcodes = d.opcodes; options = x }) in
+    (λ i. Whole (e i) (g i)) ∙ ap (option_map (λ x. parts_under x d)) (sym f)

@@ -70,6 +70,18 @@ distinct_push (x ∷ xs) w h e =
     let apart = not-true _ (first_of_both _ _ h) in
     both _ _ (ap not (none_push (same_numbers x) xs w apart (same_sym x w ∙ n.0))) (distinct_push xs w (second_of_both _ _ h) (ap not n.1))
 
+-- a name that others follow isn't among those before it
+pub apart_before : (names : List (List ℕ)) (w : List ℕ) (more : List (List ℕ)) → are_distinct_names (names ++ w ∷ more) ≡ true → list_any (same_numbers w) names ≡ false
+apart_before [] w more h = refl
+apart_before (v ∷ names) w more h =
+    let here = middle names (not-true _ (first_of_both _ _ h)) in
+    let first : same_numbers w v ≡ false = same_sym w v ∙ here in
+    rw first (apart_before names w more (second_of_both _ _ h))
+  where
+    middle : (vs : List (List ℕ)) → list_any (same_numbers v) (vs ++ w ∷ more) ≡ false → same_numbers v w ≡ false
+    middle [] e = (neither _ _ e).0
+    middle (x ∷ xs) e = middle xs ((neither _ _ e).1)
+
 pub two : (a b r : Bool) → a ≡ true → r ≡ b → r ≡ (a && b)
 two a b r h e = rw h e
 

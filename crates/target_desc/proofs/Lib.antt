@@ -6,6 +6,7 @@ pub mod Grown
 pub mod SameWidths
 pub mod RolesKept
 pub mod Kept
+pub mod OptedIn
 pub mod Drafted
 pub mod Fresh
 pub mod Shaped

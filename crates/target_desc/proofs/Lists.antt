@@ -3,7 +3,8 @@ use Rattle.std.proofs.Common.{◌≡◌, ℕ, ◌<◌, ◌≤◌, ◌+◌, List,
 use Rattle.std.specs.Prelude.{Option, option_and_then}
 use Rattle.std.proofs.lemmas.List.{drop_more, drop_all}
 use Rattle.target_desc.specs.declared.names.NameTables.{NameTables}
-use Rattle.target_desc.specs.Forms.{role_of, roles_of}
+use Rattle.target_desc.specs.Words.{meaning_in, text_form_words}
+use Rattle.target_desc.specs.Forms.{role_of, roles_of, text_forms_of}
 use Rattle.target_desc.specs.Resolving.{unit_named, units_named, reg_named, regs_named, role_named, roles_named}
 use Rattle.target_desc.proofs.Onto.{onto, onto_more, onto_none}
 
@@ -52,3 +53,7 @@ reads_roles names = record { none = refl; more = λ r rs. refl }
 pub reads_role_words : ReadsEach role_of roles_of
 unfolding roles_of
 reads_role_words = record { none = refl; more = λ w ws. refl }
+
+pub reads_form_words : ReadsEach (meaning_in text_form_words) text_forms_of
+unfolding text_forms_of
+reads_form_words = record { none = refl; more = λ w ws. refl }

@@ -1,9 +1,10 @@
 -- Names that are looked up in a set that keeps them as vectors.
 use Rattle.std.proofs.Common.{◌≡◌, ℕ, ◌+◌, List, [], ◌∷◌, ◌++◌, Some, None, Bool, true, false, refl, ap, sym, ◌∙◌, cond, ltb, map, not}
 use Rattle.std.specs.Prelude.{◌&&◌, ◌||◌, nat_eq, position, ◌==◌}
-use Rattle.std.specs.List.{list_any, position_or_len}
+use Rattle.std.specs.List.{list_any, flat_map, position_or_len}
 use Rattle.std.specs.Cmp.Lexicographic.{pointwise}
 use Rattle.std.proofs.lemmas.List.{length-map, map_push}
+use Rattle.std.proofs.lemmas.List.Folds.{list_any-append}
 use Rattle.target_base.specs.Storage.{same_numbers}
 use Rattle.target_desc.specs.Names.{with_name}
 
@@ -28,6 +29,10 @@ place_of_map f p (x ∷ xs) = ap (λ n. cond (not (p (f x))) (1 + n) 0) (place_o
 pub any_of_map : {X Y : Type 0} (f : X → Y) (p : Y → Bool) (xs : List X) → list_any (λ x. p (f x)) xs ≡ list_any p (map f xs)
 any_of_map f p [] = refl
 any_of_map f p (x ∷ xs) = ap (λ b. p (f x) || b) (any_of_map f p xs)
+
+pub any_of_flat : {X Y : Type 0} (f : X → List Y) (p : Y → Bool) (xs : List X) → list_any (λ x. list_any p (f x)) xs ≡ list_any p (flat_map f xs)
+any_of_flat f p [] = refl
+any_of_flat f p (x ∷ xs) = ap (λ b. list_any p (f x) || b) (any_of_flat f p xs) ∙ sym (list_any-append p (f x) (flat_map f xs))
 
 -- a place among keys is one among their names
 pub place_among : {X : Type 0} (xs : List X) (f : X → List ℕ) (name : List ℕ) → position (λ x. pointwise nat_eq name (f x)) xs ≡ position (same_numbers name) (map f xs)

@@ -1,5 +1,5 @@
 -- The printed text of a target spells it.
-use Rattle.std.proofs.Common.{◌≡◌, ℕ, List, [], ◌∷◌, ◌++◌, length, append_assoc, Some, Ok, Bool, true, refl, ap, sym, ◌∙◌, arith, map, drop}
+use Rattle.std.proofs.Common.{◌≡◌, ℕ, List, [], ◌∷◌, ◌++◌, length, append_assoc, Some, Ok, Bool, true, refl, ap, sym, ◌∙◌, arith, map, drop, fold}
 use Rattle.std.specs.Prelude.{◌==◌, ◌&&◌, ◌||◌, nat_lt, nat_le, codes}
 use Rattle.std.specs.List.{list_all}
 use Rattle.std.proofs.Math.Path.{subst}
@@ -19,21 +19,30 @@ use Rattle.target_base.specs.declared.types.OpcodeDesc.{OpcodeDesc}
 use Rattle.target_base.specs.declared.types.Target.{Target}
 use Rattle.target_base.specs.Names.{is_name, are_distinct_names}
 use Rattle.target_base.specs.Storage.{same_numbers}
-use Rattle.target_base.specs.Rules.{is_sound, is_unit_desc, is_reg_desc, is_index_desc, is_class_desc, is_mask_desc, is_opcode_desc, is_complete, is_given, is_copy, is_phi, is_implicit_def, is_reg_sequence, is_insert_subreg, starts_with_the_five, are_units, are_regs, are_reserved, are_indexes, are_classes, are_masks, are_opcodes}
+use Rattle.target_base.specs.Rules.{is_sound, is_unit_desc, is_reg_desc, is_index_desc, is_class_desc, is_mask_desc, is_opcode_desc, is_complete, is_given, is_copy, is_phi, is_implicit_def, is_reg_sequence, is_insert_subreg, starts_with_the_five, are_units, are_regs, are_reserved, are_indexes, are_classes, are_masks, are_opcodes, are_flag_words}
 use Rattle.target_base.proofs.Tests.{first_of_both, second_of_both}
 use Rattle.target_desc.specs.declared.raw.Header.{Header}
 use Rattle.target_desc.specs.declared.draft.Draft.{Draft}
-use Rattle.target_desc.specs.Names.{is_fresh}
-use Rattle.target_desc.specs.Drafts.{empty_draft, the_five}
-use Rattle.target_desc.specs.Ending.{Parts, parts_under, is_whole, reserved_of, ended}
+use Rattle.target_desc.specs.declared.draft.Options.{Options}
+use Rattle.target_desc.specs.Names.{is_fresh, with_name}
+use Rattle.target_desc.specs.Forms.{text_forms_of}
+use Rattle.target_desc.specs.Drafts.{no_options, empty_draft, the_five}
+use Rattle.target_desc.specs.Adding.{with_form}
+use Rattle.target_desc.specs.Ending.{Parts, options_of, parts_under, is_whole, reserved_of, ended}
 use Rattle.target_desc.specs.Reading.{line_after, spelled}
 use Rattle.target_desc.specs.Laws.{Lead, PrintedIsSpelled}
-use Rattle.target_desc.specs.Printed.{unit_line, reg_line, index_line, class_line, mask_line, opcode_line, reserved_lines, reserved_regs, target_lines, target_text}
+use Rattle.target_desc.specs.Printed.{listed, form_words, option_lines, unit_line, reg_line, index_line, class_line, mask_line, opcode_line, reserved_lines, reserved_regs, target_lines, target_text}
 use Rattle.target_desc.proofs.Grown.{both, all_join}
-use Rattle.target_desc.proofs.Spaced.{lacks, lines_back}
+use Rattle.target_desc.proofs.Spaced.{is_word, lacks, lines_back}
+use Rattle.target_desc.proofs.Digits.{flags_are_words}
+use Rattle.target_desc.proofs.OptedIn.{forms_in, FormsBack, forms_back, flags_back}
 use Rattle.target_desc.proofs.FirstFault.{spells_or_fails}
 use Rattle.target_desc.proofs.ReservedBack.{reserved_back, reserved_regs_there}
-use Rattle.target_desc.proofs.LinesStand.{so_far, header_stands, room_left, rule_kept, name_is_new, unit_stands, reg_stands, reserved_stands, index_stands, class_stands, mask_stands, opcode_stands, header_lacks, unit_lacks, reg_lacks, reserved_lacks, index_lacks, class_lacks, mask_lacks, opcode_lacks}
+use Rattle.target_desc.proofs.LinesStand.{so_far, header_stands, forms_stand, flags_stand, room_left, rule_kept, name_is_new, unit_stands, reg_stands, reserved_stands, index_stands, class_stands, mask_stands, opcode_stands, header_lacks, listed_lacks, unit_lacks, reg_lacks, reserved_lacks, index_lacks, class_lacks, mask_lacks, opcode_lacks}
+
+no_forms : text_forms_of [] ≡ Some []
+unfolding text_forms_of
+no_forms = refl
 
 lead_join : (d e f : Draft) (xs ys : List (List ℕ)) → Lead d xs e → Lead e ys f → Lead d (xs ++ ys) f
 lead_join d e f [] ys l k = subst (λ q. Lead q ys f) (sym l) k
@@ -122,13 +131,14 @@ lines_lack line rule [] f h = refl
 lines_lack line rule (x ∷ xs) f h = both _ _ (f x (first_of_both _ _ h)) (lines_lack line rule xs f (second_of_both _ _ h))
 
 -- a target's parts, each with the rules that it keeps
-module _ (h : Header) (units : List UnitDesc) (regs : List RegDesc) (reserved : List UnitNumber) (indexes : List IndexDesc) (classes : List ClassDesc) (masks : List MaskDesc) (opcodes : List OpcodeDesc)
+module _ (h : Header) (os : Options) (units : List UnitDesc) (regs : List RegDesc) (reserved : List UnitNumber) (indexes : List IndexDesc) (classes : List ClassDesc) (masks : List MaskDesc) (opcodes : List OpcodeDesc)
     (hn : is_name h.name ≡ true) (hv : (h.version == 1 || h.version == 2) ≡ true)
     (hu : are_units units ≡ true) (hr : are_regs h.version units regs ≡ true) (hs : are_reserved regs reserved ≡ true) (hi : are_indexes h.version indexes ≡ true)
     (hc : are_classes units regs classes ≡ true) (hm : are_masks (length regs) masks ≡ true) (ho : are_opcodes units regs classes opcodes ≡ true)
-    (hw : list_all (is_complete regs reserved indexes classes opcodes) classes ≡ true) where
+    (hw : list_all (is_complete regs reserved indexes classes opcodes) classes ≡ true)
+    (hf : are_flag_words os.flags ≡ true) where
   abbrev parts : Parts
-  parts = record { name = h.name; version = h.version; units = units; regs = regs; reserved = reserved; indexes = indexes; classes = classes; masks = masks; opcodes = opcodes }
+  parts = record { name = h.name; version = h.version; units = units; regs = regs; reserved = reserved; indexes = indexes; classes = classes; masks = masks; opcodes = opcodes; options = os }
 
   abbrev rs : List Reg
   rs = reserved_regs regs reserved
@@ -166,29 +176,54 @@ module _ (h : Header) (units : List UnitDesc) (regs : List RegDesc) (reserved : 
   five : the_five ++ drop 5 opcodes ≡ opcodes
   five = five_first opcodes (second_of_both _ _ (first_of_both _ _ (first_of_both _ _ ho)))
 
-  lead_units : Lead (so_far h [] [] [] [] [] [] []) (map unit_line units) (so_far h units [] [] [] [] [] [])
-  lead_units = leads units (λ us. so_far h us [] [] [] [] [] []) unit_line
-      (λ done u rest e. unit_stands h units done u (room (λ x. x.name) is_unit_desc 512 units hu done u rest e) (good (λ x. x.name) is_unit_desc 512 units hu done u rest e) (new (λ x. x.name) is_unit_desc 512 units hu done u rest e))
+  lead_forms : Lead (so_far h no_options [] [] [] [] [] [] []) (listed (codes "form") (form_words os)) (so_far h (record os { flags = [] }) [] [] [] [] [] [] [])
+  lead_forms = by (form_words os) refl
+    where
+      back : FormsBack os
+      back = forms_back os
 
-  lead_regs : Lead (so_far h units [] [] [] [] [] []) (map (reg_line units) regs) (so_far h units regs [] [] [] [] [])
-  lead_regs = leads regs (λ xs. so_far h units xs [] [] [] [] []) (reg_line units)
-      (λ done r rest e. reg_stands h units done r unit_names unit_distinct (room (λ x. x.name) (is_reg_desc h.version units) 512 regs hr done r rest e) (good (λ x. x.name) (is_reg_desc h.version units) 512 regs hr done r rest e) (new (λ x. x.name) (is_reg_desc h.version units) 512 regs hr done r rest e))
+      by : (ws : List (List ℕ)) → form_words os ≡ ws → Lead (so_far h no_options [] [] [] [] [] [] []) (listed (codes "form") ws) (so_far h (record os { flags = [] }) [] [] [] [] [] [] [])
+      by [] e =
+          let none : Some (forms_in os) ≡ Some [] = sym back.read ∙ ap text_forms_of e ∙ no_forms in
+          let empty : forms_in os ≡ [] = cc in
+          ap (λ fs. so_far h (fold with_form no_options fs) [] [] [] [] [] [] []) (sym empty) ∙ ap (λ o. so_far h o [] [] [] [] [] [] []) back.same
+      by (w ∷ ws) e =
+          let stands = forms_stand h no_options w ws (forms_in os) (ap (list_all is_word) (sym e) ∙ back.are_words) (ap text_forms_of (sym e) ∙ back.read) in
+          (so_far h (record os { flags = [] }) [] [] [] [] [] [] [], stands ∙ ap (λ o. Ok (so_far h o [] [] [] [] [] [] [])) back.same, refl)
 
-  lead_reserved_of : (qs : List Reg) → list_all (λ r. nat_lt r.0 (length regs)) qs ≡ true → Lead (so_far h units regs [] [] [] [] []) (reserved_lines regs qs) (so_far h units regs qs [] [] [] [])
+  lead_flags : Lead (so_far h (record os { flags = [] }) [] [] [] [] [] [] []) (listed (codes "flags") os.flags) (so_far h os [] [] [] [] [] [] [])
+  lead_flags = by os.flags refl
+    where
+      by : (ws : List (List ℕ)) → os.flags ≡ ws → Lead (so_far h (record os { flags = [] }) [] [] [] [] [] [] []) (listed (codes "flags") ws) (so_far h os [] [] [] [] [] [] [])
+      by [] e = ap (λ ws. so_far h (record os { flags = ws }) [] [] [] [] [] [] []) (sym e)
+      by (w ∷ ws) e =
+          let good : are_flag_words (w ∷ ws) ≡ true = ap are_flag_words (sym e) ∙ hf in
+          let same : fold with_name [] (w ∷ ws) ≡ os.flags = flags_back (w ∷ ws) good ∙ sym e in
+          (so_far h os [] [] [] [] [] [] [], flags_stand h (record os { flags = [] }) w ws (first_of_both _ _ good) ∙ ap (λ names. Ok (so_far h (record os { flags = names }) [] [] [] [] [] [] [])) same, refl)
+
+  lead_units : Lead (so_far h os [] [] [] [] [] [] []) (map unit_line units) (so_far h os units [] [] [] [] [] [])
+  lead_units = leads units (λ us. so_far h os us [] [] [] [] [] []) unit_line
+      (λ done u rest e. unit_stands h os units done u (room (λ x. x.name) is_unit_desc 512 units hu done u rest e) (good (λ x. x.name) is_unit_desc 512 units hu done u rest e) (new (λ x. x.name) is_unit_desc 512 units hu done u rest e))
+
+  lead_regs : Lead (so_far h os units [] [] [] [] [] []) (map (reg_line units) regs) (so_far h os units regs [] [] [] [] [])
+  lead_regs = leads regs (λ xs. so_far h os units xs [] [] [] [] []) (reg_line units)
+      (λ done r rest e. reg_stands h os units done r unit_names unit_distinct (room (λ x. x.name) (is_reg_desc h.version units) 512 regs hr done r rest e) (good (λ x. x.name) (is_reg_desc h.version units) 512 regs hr done r rest e) (new (λ x. x.name) (is_reg_desc h.version units) 512 regs hr done r rest e))
+
+  lead_reserved_of : (qs : List Reg) → list_all (λ r. nat_lt r.0 (length regs)) qs ≡ true → Lead (so_far h os units regs [] [] [] [] []) (reserved_lines regs qs) (so_far h os units regs qs [] [] [] [])
   lead_reserved_of [] known = refl
-  lead_reserved_of (q ∷ qs) known = (so_far h units regs (q ∷ qs) [] [] [] [], reserved_stands h units regs reg_names reg_distinct (q ∷ qs) known (lt-ltb 0 (length (q ∷ qs)) (omega arith)), refl)
+  lead_reserved_of (q ∷ qs) known = (so_far h os units regs (q ∷ qs) [] [] [] [], reserved_stands h os units regs reg_names reg_distinct (q ∷ qs) known (lt-ltb 0 (length (q ∷ qs)) (omega arith)), refl)
 
-  lead_indexes : Lead (so_far h units regs rs [] [] [] []) (map index_line indexes) (so_far h units regs rs indexes [] [] [])
-  lead_indexes = leads indexes (λ xs. so_far h units regs rs xs [] [] []) index_line
-      (λ done x rest e. index_stands h units regs rs done x (room (λ i. i.name) (is_index_desc h.version) 512 indexes hi done x rest e) (good (λ i. i.name) (is_index_desc h.version) 512 indexes hi done x rest e) (new (λ i. i.name) (is_index_desc h.version) 512 indexes hi done x rest e))
+  lead_indexes : Lead (so_far h os units regs rs [] [] [] []) (map index_line indexes) (so_far h os units regs rs indexes [] [] [])
+  lead_indexes = leads indexes (λ xs. so_far h os units regs rs xs [] [] []) index_line
+      (λ done x rest e. index_stands h os units regs rs done x (room (λ i. i.name) (is_index_desc h.version) 512 indexes hi done x rest e) (good (λ i. i.name) (is_index_desc h.version) 512 indexes hi done x rest e) (new (λ i. i.name) (is_index_desc h.version) 512 indexes hi done x rest e))
 
-  lead_classes : Lead (so_far h units regs rs indexes [] [] []) (map (class_line regs) classes) (so_far h units regs rs indexes classes [] [])
-  lead_classes = leads classes (λ xs. so_far h units regs rs indexes xs [] []) (class_line regs)
-      (λ done c rest e. class_stands h units regs reg_names reg_distinct rs indexes done c (room (λ x. x.name) (is_class_desc units regs) 512 classes hc done c rest e) (good (λ x. x.name) (is_class_desc units regs) 512 classes hc done c rest e) (new (λ x. x.name) (is_class_desc units regs) 512 classes hc done c rest e))
+  lead_classes : Lead (so_far h os units regs rs indexes [] [] []) (map (class_line regs) classes) (so_far h os units regs rs indexes classes [] [])
+  lead_classes = leads classes (λ xs. so_far h os units regs rs indexes xs [] []) (class_line regs)
+      (λ done c rest e. class_stands h os units regs reg_names reg_distinct rs indexes done c (room (λ x. x.name) (is_class_desc units regs) 512 classes hc done c rest e) (good (λ x. x.name) (is_class_desc units regs) 512 classes hc done c rest e) (new (λ x. x.name) (is_class_desc units regs) 512 classes hc done c rest e))
 
-  lead_masks : Lead (so_far h units regs rs indexes classes [] []) (map (mask_line regs) masks) (so_far h units regs rs indexes classes masks [])
-  lead_masks = leads masks (λ xs. so_far h units regs rs indexes classes xs []) (mask_line regs)
-      (λ done m rest e. mask_stands h units regs reg_names reg_distinct rs indexes classes done m (room (λ x. x.name) (is_mask_desc (length regs)) 512 masks hm done m rest e) (good (λ x. x.name) (is_mask_desc (length regs)) 512 masks hm done m rest e) (new (λ x. x.name) (is_mask_desc (length regs)) 512 masks hm done m rest e))
+  lead_masks : Lead (so_far h os units regs rs indexes classes [] []) (map (mask_line regs) masks) (so_far h os units regs rs indexes classes masks [])
+  lead_masks = leads masks (λ xs. so_far h os units regs rs indexes classes xs []) (mask_line regs)
+      (λ done m rest e. mask_stands h os units regs reg_names reg_distinct rs indexes classes done m (room (λ x. x.name) (is_mask_desc (length regs)) 512 masks hm done m rest e) (good (λ x. x.name) (is_mask_desc (length regs)) 512 masks hm done m rest e) (new (λ x. x.name) (is_mask_desc (length regs)) 512 masks hm done m rest e))
 
   -- the same of all opcodes, the first five among them
   split_five : (done : List OpcodeDesc) (o : OpcodeDesc) (rest : List OpcodeDesc) → done ++ o ∷ rest ≡ drop 5 opcodes → (the_five ++ done) ++ o ∷ rest ≡ opcodes
@@ -200,29 +235,33 @@ module _ (h : Header) (units : List UnitDesc) (regs : List RegDesc) (reserved : 
   opcode_new : (done : List OpcodeDesc) (o : OpcodeDesc) (rest : List OpcodeDesc) → done ++ o ∷ rest ≡ drop 5 opcodes → is_fresh (map (λ x. x.name) (the_five ++ done)) o.name ≡ true
   opcode_new done o rest e = name_is_new (λ x. x.name) (is_opcode_desc units regs classes) (the_five ++ done) o rest (ap (λ xs. are_distinct_names (map (λ x. x.name) xs)) (split_five done o rest e) ∙ second_of_both _ _ ho)
 
-  lead_opcodes : Lead (so_far h units regs rs indexes classes masks []) (map (opcode_line classes regs) (drop 5 opcodes)) (so_far h units regs rs indexes classes masks (drop 5 opcodes))
-  lead_opcodes = leads (drop 5 opcodes) (so_far h units regs rs indexes classes masks) (opcode_line classes regs)
-      (λ done o rest e. opcode_stands h units regs rs indexes classes masks class_names reg_names class_distinct reg_distinct done o (opcode_room done o rest e) (rule_kept (λ x. x.name) (is_opcode_desc units regs classes) done o rest (ap (list_all (is_opcode_desc units regs classes)) e ∙ each_opcode)) (opcode_new done o rest e))
+  lead_opcodes : Lead (so_far h os units regs rs indexes classes masks []) (map (opcode_line classes regs) (drop 5 opcodes)) (so_far h os units regs rs indexes classes masks (drop 5 opcodes))
+  lead_opcodes = leads (drop 5 opcodes) (so_far h os units regs rs indexes classes masks) (opcode_line classes regs)
+      (λ done o rest e. opcode_stands h os units regs rs indexes classes masks class_names reg_names class_distinct reg_distinct done o (opcode_room done o rest e) (rule_kept (λ x. x.name) (is_opcode_desc units regs classes) done o rest (ap (list_all (is_opcode_desc units regs classes)) e ∙ each_opcode)) (opcode_new done o rest e))
 
   abbrev last_draft : Draft
-  last_draft = so_far h units regs rs indexes classes masks (drop 5 opcodes)
+  last_draft = so_far h os units regs rs indexes classes masks (drop 5 opcodes)
 
   all_lead : Lead empty_draft (target_lines parts) last_draft
   all_lead = (
-    so_far h [] [] [] [] [] [] [],
+    so_far h no_options [] [] [] [] [] [] [],
     header_stands h hn hv,
     lead_join _ _ _ _ _
         (lead_join _ _ _ _ _
         (lead_join _ _ _ _ _
         (lead_join _ _ _ _ _
         (lead_join _ _ _ _ _
-        (lead_join _ _ _ _ _ lead_units lead_regs)
+        (lead_join _ _ _ _ _
+        (lead_join _ _ _ _ _
+        (lead_join _ _ _ _ _ lead_forms lead_flags)
+        lead_units) lead_regs)
         (lead_reserved_of rs (reserved_regs_there regs reserved)))
         lead_indexes) lead_classes) lead_masks) lead_opcodes,
   )
 
   all_lack : list_all (lacks 10) (target_lines parts) ≡ true
   all_lack =
+      let o = option_lines os in
       let a = map unit_line units in
       let b = map (reg_line units) regs in
       let c = reserved_lines regs rs in
@@ -230,12 +269,14 @@ module _ (h : Header) (units : List UnitDesc) (regs : List RegDesc) (reserved : 
       let e = map (class_line regs) classes in
       let f = map (mask_line regs) masks in
       let g = map (opcode_line classes regs) (drop 5 opcodes) in
-      let ab = all_join (lacks 10) a b (lines_lack unit_line is_unit_desc units unit_lacks each_unit) (lines_lack (reg_line units) (is_reg_desc h.version units) regs (λ r. reg_lacks h.version units r unit_names) each_reg) in
-      let abc = all_join (lacks 10) (a ++ b) c ab (reserved_lacks regs reg_names rs (reserved_regs_there regs reserved)) in
-      let abcd = all_join (lacks 10) (a ++ b ++ c) d abc (lines_lack index_line (is_index_desc h.version) indexes (index_lacks h.version) (second_of_both _ _ (first_of_both _ _ hi))) in
-      let abcde = all_join (lacks 10) (a ++ b ++ c ++ d) e abcd (lines_lack (class_line regs) (is_class_desc units regs) classes (class_lacks regs reg_names units) each_class) in
-      let abcdef = all_join (lacks 10) (a ++ b ++ c ++ d ++ e) f abcde (lines_lack (mask_line regs) (is_mask_desc (length regs)) masks (mask_lacks regs reg_names) (second_of_both _ _ (first_of_both _ _ hm))) in
-      let all = all_join (lacks 10) (a ++ b ++ c ++ d ++ e ++ f) g abcdef (lines_lack (opcode_line classes regs) (is_opcode_desc units regs classes) (drop 5 opcodes) (opcode_lacks units regs classes class_names reg_names class_distinct reg_distinct) each_opcode) in
+      let opted = all_join (lacks 10) (listed (codes "form") (form_words os)) (listed (codes "flags") os.flags) (listed_lacks (codes "form") (form_words os) refl ((forms_back os).are_words)) (listed_lacks (codes "flags") os.flags refl (flags_are_words os.flags (first_of_both _ _ hf))) in
+      let oa = all_join (lacks 10) o a opted (lines_lack unit_line is_unit_desc units unit_lacks each_unit) in
+      let ab = all_join (lacks 10) (o ++ a) b oa (lines_lack (reg_line units) (is_reg_desc h.version units) regs (λ r. reg_lacks h.version units r unit_names) each_reg) in
+      let abc = all_join (lacks 10) (o ++ a ++ b) c ab (reserved_lacks regs reg_names rs (reserved_regs_there regs reserved)) in
+      let abcd = all_join (lacks 10) (o ++ a ++ b ++ c) d abc (lines_lack index_line (is_index_desc h.version) indexes (index_lacks h.version) (second_of_both _ _ (first_of_both _ _ hi))) in
+      let abcde = all_join (lacks 10) (o ++ a ++ b ++ c ++ d) e abcd (lines_lack (class_line regs) (is_class_desc units regs) classes (class_lacks regs reg_names units) each_class) in
+      let abcdef = all_join (lacks 10) (o ++ a ++ b ++ c ++ d ++ e) f abcde (lines_lack (mask_line regs) (is_mask_desc (length regs)) masks (mask_lacks regs reg_names) (second_of_both _ _ (first_of_both _ _ hm))) in
+      let all = all_join (lacks 10) (o ++ a ++ b ++ c ++ d ++ e ++ f) g abcdef (lines_lack (opcode_line classes regs) (is_opcode_desc units regs classes) (drop 5 opcodes) (opcode_lacks units regs classes class_names reg_names class_distinct reg_distinct) each_opcode) in
       both _ _ (header_lacks h.name h.version hn hv) all
 
   reserved_same : reserved_of last_draft ≡ reserved
@@ -247,7 +288,7 @@ module _ (h : Header) (units : List UnitDesc) (regs : List RegDesc) (reserved : 
 
   same_parts : parts_under h last_draft ≡ parts
   unfolding parts_under
-  same_parts = λ i. record { name = h.name; version = h.version; units = units; regs = regs; reserved = reserved_same i; indexes = indexes; classes = classes; masks = masks; opcodes = five i }
+  same_parts = λ i. record { name = h.name; version = h.version; units = units; regs = regs; reserved = reserved_same i; indexes = indexes; classes = classes; masks = masks; opcodes = five i; options = os }
 
   ends_whole : ended last_draft ≡ Some parts
   ends_whole = rw whole (ap Some same_parts)
@@ -271,5 +312,5 @@ printed_spelled t =
     let s6 = first_of_both _ _ s5 in
     let s7 = first_of_both _ _ s6 in
     let s8 = first_of_both _ _ s7 in
-    read_back (record { name = t.name; version = t.version }) t.units t.regs t.reserved t.indexes t.classes t.masks t.opcodes
-    (first_of_both _ _ s8) (second_of_both _ _ s8) (second_of_both _ _ s7) (second_of_both _ _ s6) (second_of_both _ _ s5) (second_of_both _ _ s4) (second_of_both _ _ s3) (second_of_both _ _ s2) (second_of_both _ _ s1) (second_of_both _ _ s)
+    read_back (record { name = t.name; version = t.version }) (options_of t.options) t.units t.regs t.reserved t.indexes t.classes t.masks t.opcodes
+    (first_of_both _ _ s8) (second_of_both _ _ s8) (second_of_both _ _ s7) (second_of_both _ _ s6) (second_of_both _ _ s5) (second_of_both _ _ s4) (second_of_both _ _ s3) (second_of_both _ _ s2) (second_of_both _ _ s1) (second_of_both _ _ s) t.options.sound

@@ -1,8 +1,9 @@
 -- Words that are written with spaces between them, and lines with newlines behind them, are read back.
-use Rattle.std.proofs.Common.{◌≡◌, ℕ, List, [], ◌∷◌, ◌++◌, Bool, true, false, refl, ap, sym, ◌∙◌, append_assoc}
+use Rattle.std.proofs.Common.{◌≡◌, ℕ, ◌+◌, List, [], ◌∷◌, ◌++◌, length, take, drop, Bool, true, false, refl, ap, sym, ◌∙◌, append_assoc, arith}
 use Rattle.std.specs.Prelude.{◌==◌, ◌&&◌, not, filter}
+use Rattle.std.proofs.Math.Seq.{take-append_seam, drop-append-add}
 use Rattle.std.proofs.lemmas.List.{append-nil}
-use Rattle.std.specs.List.{onto_first, list_all, flat_map}
+use Rattle.std.specs.List.{onto_first, before_first, after_first, position_or_len, list_all, flat_map}
 use Rattle.target_base.proofs.Tests.{first_of_both, second_of_both}
 use Rattle.target_desc.specs.Text.{parts, lines, words, is_filled}
 use Rattle.target_desc.specs.MiniText.{ended_line}
@@ -20,6 +21,21 @@ is_word w = is_filled w && lacks 32 w && lacks 10 w
 not_so : (b : Bool) → not b ≡ true → b ≡ false
 not_so true h = sym h
 not_so false h = refl
+
+-- a text up to the first of a byte, and behind it
+module _ (end : ℕ) (w rest : List ℕ) (same : (end == end) ≡ true) where
+  place_there : (bs : List ℕ) → lacks end bs ≡ true → position_or_len (λ b. b == end) (bs ++ end ∷ rest) ≡ length bs
+  place_there [] h = rw same refl
+  place_there (b ∷ bs) h =
+      let apart = not_so (b == end) (first_of_both _ _ h) in
+      let later : position_or_len (λ x. x == end) (bs ++ end ∷ rest) ≡ length bs = place_there bs (second_of_both _ _ h) in
+      rw apart (omega (arith, later))
+
+  pub cut_before : lacks end w ≡ true → before_first (λ b. b == end) (w ++ end ∷ rest) ≡ w
+  cut_before h = ap (λ n. take n (w ++ end ∷ rest)) (place_there w h) ∙ take-append_seam w (end ∷ rest)
+
+  pub cut_after : lacks end w ≡ true → after_first (λ b. b == end) (w ++ end ∷ rest) ≡ rest
+  cut_after h = ap (λ n. drop (n + 1) (w ++ end ∷ rest)) (place_there w h) ∙ drop-append-add w (end ∷ rest) 1
 
 part_ends : (end : ℕ) (bs rest : List ℕ) → lacks end bs ≡ true → (end == end) ≡ true → parts end (bs ++ end ∷ rest) ≡ bs ∷ parts end rest
 unfolding parts

@@ -1,10 +1,11 @@
 -- The target that the lines so far make, and the names that they declare.
-use Rattle.std.specs.Prelude.{ℕ, List, [], ◌∷◌, None, codes, map}
+use Rattle.std.specs.Prelude.{ℕ, false, List, [], ◌∷◌, None, codes, map}
 use Rattle.std.specs.Borrow.{Bor}
 use Rattle.target_base.specs.declared.types.OpcodeDesc.{OpcodeDesc}
 use Rattle.target_base.specs.declared.types.Effect.{Effect}
 use Rattle.target_base.specs.declared.types.Effect.TheVariants as effects
 use Rattle.target_desc.specs.declared.draft.Draft.{Draft}
+use Rattle.target_desc.specs.declared.draft.Options.{Options}
 use Rattle.target_desc.specs.declared.names.NameTables.{NameTables}
 
 abbrev pub without_roles : List ℕ → Effect → OpcodeDesc
@@ -27,6 +28,10 @@ opcode_row r = without_roles r.0.now r.1
 abbrev pub name_in : Bor (List ℕ) × Effect → List ℕ
 name_in r = r.0.now
 
+-- nothing is opted in
+abbrev pub no_options : Options
+no_options = record { offsets = false; pool = false; noreg = false; open_blocks = false; flags = [] }
+
 -- before the first line
 unfoldable pub empty_draft : Draft
 empty_draft = record {
@@ -38,6 +43,7 @@ empty_draft = record {
   classes = [];
   masks = [];
   opcodes = the_five;
+  options = no_options;
 }
 
 -- the names of each sort, in the order of their declaration

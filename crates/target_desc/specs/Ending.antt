@@ -9,12 +9,14 @@ use Rattle.target_base.specs.declared.types.IndexDesc.{IndexDesc}
 use Rattle.target_base.specs.declared.types.ClassDesc.{ClassDesc}
 use Rattle.target_base.specs.declared.types.MaskDesc.{MaskDesc}
 use Rattle.target_base.specs.declared.types.OpcodeDesc.{OpcodeDesc}
+use Rattle.target_base.specs.declared.types.TextOptions.{TextOptions}
 use Rattle.target_base.specs.declared.types.Target.{Target}
 use Rattle.target_base.specs.Numbers.{unit_number}
 use Rattle.target_base.specs.Storage.{reg_units, is_among}
 use Rattle.target_base.specs.Rules.{is_complete}
 use Rattle.target_desc.specs.declared.raw.Header.{Header}
 use Rattle.target_desc.specs.declared.draft.Draft.{Draft}
+use Rattle.target_desc.specs.declared.draft.Options.{Options}
 
 -- the parts of a target
 pub record Parts : Type 0 where
@@ -27,6 +29,16 @@ pub record Parts : Type 0 where
   pub classes : List ClassDesc
   pub masks : List MaskDesc
   pub opcodes : List OpcodeDesc
+  pub options : Options
+
+abbrev pub options_of : TextOptions → Options
+options_of o = record {
+  offsets = o.offsets;
+  pool = o.pool;
+  noreg = o.noreg;
+  open_blocks = o.open_blocks;
+  flags = o.flags;
+}
 
 abbrev pub parts_of : Target → Parts
 parts_of t = record {
@@ -39,6 +51,7 @@ parts_of t = record {
   classes = t.classes;
   masks = t.masks;
   opcodes = t.opcodes;
+  options = options_of t.options;
 }
 
 -- the unit belongs to one of these registers
@@ -63,6 +76,7 @@ parts_under h d = record {
   classes = d.classes;
   masks = d.masks;
   opcodes = d.opcodes;
+  options = d.options;
 }
 
 -- each class can be spilled and reloaded, has an unreserved register, and has a part for each index that fits

@@ -1,7 +1,7 @@
 -- The rules that the target so far keeps.
 use Rattle.std.specs.Prelude.{◌≤◌, Bool, Option, Some, None, length, nat_lt, ◌&&◌, ◌==◌}
 use Rattle.std.specs.List.{list_all}
-use Rattle.target_base.specs.Rules.{are_units, are_regs, are_indexes, are_classes, are_masks, are_opcodes}
+use Rattle.target_base.specs.Rules.{are_units, are_regs, are_indexes, are_classes, are_masks, are_opcodes, are_flag_words}
 use Rattle.target_desc.specs.declared.raw.Header.{Header}
 use Rattle.target_desc.specs.declared.draft.Draft.{Draft}
 use Rattle.target_desc.specs.declared.names.NameTables.{NameTables}
@@ -17,6 +17,7 @@ is_blank d =
     && length d.classes == 0
     && length d.masks == 0
     && are_opcodes d.units d.regs d.classes d.opcodes
+    && are_flag_words d.options.flags
 
 abbrev pub keeps_in : Header → Draft → Bool
 keeps_in h d =
@@ -28,6 +29,7 @@ keeps_in h d =
     && are_classes d.units d.regs d.classes
     && are_masks (length d.regs) d.masks
     && are_opcodes d.units d.regs d.classes d.opcodes
+    && are_flag_words d.options.flags
 
 abbrev pub keeps_under : Option Header → Draft → Bool
 keeps_under None d = is_blank d

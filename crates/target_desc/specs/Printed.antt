@@ -1,5 +1,5 @@
--- The printed text of a target: its header, then each sort in target order, one line each.
-use Rattle.std.specs.Prelude.{ℕ, List, [], ◌∷◌, ◌++◌, Option, Some, None, codes, map, filter, drop, slice_get, length}
+-- The printed text of a target: its header, what it opts in, then each sort in target order, one line each.
+use Rattle.std.specs.Prelude.{ℕ, Bool, true, false, List, [], ◌∷◌, ◌++◌, ◌==◌, if◌then◌else◌, Option, Some, None, codes, map, filter, drop, slice_get, length}
 use Rattle.std.specs.List.{list_all, flat_map, range_with_len}
 use Rattle.std.specs.Fmt.{decimal}
 use Rattle.target_base.specs.declared.types.Unit.{Unit as UnitNumber}
@@ -13,10 +13,12 @@ use Rattle.target_base.specs.declared.types.MaskDesc.{MaskDesc}
 use Rattle.target_base.specs.declared.types.OpcodeDesc.{OpcodeDesc}
 use Rattle.target_base.specs.declared.types.Effect.{Effect}
 use Rattle.target_base.specs.declared.types.Effect.TheVariants as effects
+use Rattle.target_base.specs.declared.types.OpaqueKind.TheVariants as kinds
 use Rattle.target_base.specs.declared.types.Role.{Role}
 use Rattle.target_base.specs.declared.types.Role.TheVariants as roles
 use Rattle.target_base.specs.Numbers.{reg_number}
 use Rattle.target_base.specs.Storage.{reg_units, is_among}
+use Rattle.target_desc.specs.declared.draft.Options.{Options}
 use Rattle.target_desc.specs.MiniText.{ended_line}
 use Rattle.target_desc.specs.Ending.{Parts}
 
@@ -42,6 +44,22 @@ reg_words regs rs = map (λ r. name_at (λ d. d.name) regs r.0) rs
 abbrev pub header_line : List ℕ → ℕ → List ℕ
 header_line name version = spaced (codes "target" ∷ name ∷ decimal version ∷ [])
 
+-- a line that begins with a word, and behind it has one or more; there is none where these are none
+abbrev pub listed : List ℕ → List (List ℕ) → List (List ℕ)
+listed word [] = []
+listed word (w ∷ ws) = spaced (word ∷ w ∷ ws) ∷ []
+
+abbrev pub word_if : Bool → List ℕ → List (List ℕ)
+word_if true w = w ∷ []
+word_if false w = []
+
+-- the forms of text that are opted in
+abbrev pub form_words : Options → List (List ℕ)
+form_words o = word_if o.offsets (codes "offset") ++ word_if o.pool (codes "pool") ++ word_if o.noreg (codes "noreg") ++ word_if o.open_blocks (codes "open")
+
+abbrev pub option_lines : Options → List (List ℕ)
+option_lines o = listed (codes "form") (form_words o) ++ listed (codes "flags") o.flags
+
 abbrev pub unit_line : UnitDesc → List ℕ
 unit_line u = spaced (codes "unit" ∷ u.name ∷ decimal u.width ∷ [])
 
@@ -61,10 +79,9 @@ mask_line regs m = spaced (codes "mask" ∷ m.name ∷ reg_words regs m.regs)
 abbrev pub reserved_regs : List RegDesc → List UnitNumber → List Reg
 reserved_regs regs reserved = filter (λ r. list_all (is_among reserved) (reg_units regs r)) (map reg_number (range_with_len 0 (length regs)))
 
--- one line names them all; there is none where there are none
+-- one line names them all
 abbrev pub reserved_lines : List RegDesc → List Reg → List (List ℕ)
-reserved_lines regs [] = []
-reserved_lines regs (r ∷ rs) = spaced (codes "reserved" ∷ reg_words regs (r ∷ rs)) ∷ []
+reserved_lines regs rs = listed (codes "reserved") (reg_words regs rs)
 
 -- the word of an effect; the five opcodes of every target are not declared, so theirs have none
 abbrev pub effect_word : Effect → List ℕ
@@ -102,6 +119,10 @@ effect_word effects.Ret = codes "ret"
 effect_word effects.Marker = codes "marker"
 effect_word effects.Spill = codes "spill"
 effect_word effects.Reload = codes "reload"
+effect_word (effects.Opaque kinds.Plain) = codes "opaque"
+effect_word (effects.Opaque kinds.Branch) = codes "opaque/branch"
+effect_word (effects.Opaque kinds.Call) = codes "opaque/call"
+effect_word (effects.Opaque kinds.Return) = codes "opaque/ret"
 
 abbrev pub class_name : List ClassDesc → ClassId → List ℕ
 class_name classes k = name_at (λ d. d.name) classes k.0
@@ -109,11 +130,15 @@ class_name classes k = name_at (λ d. d.name) classes k.0
 abbrev pub reg_name : List RegDesc → Reg → List ℕ
 reg_name regs r = name_at (λ d. d.name) regs r.0
 
+-- a tie to the first definition has no number
+abbrev pub tie_word : ℕ → List ℕ
+tie_word n = if n == 0 then codes "tied:" else codes "tied/" ++ decimal n ++ codes ":"
+
 abbrev pub role_word : List ClassDesc → List RegDesc → Role → List ℕ
 role_word classes regs (roles.Def k) = codes "def:" ++ class_name classes k
 role_word classes regs (roles.Early k) = codes "early:" ++ class_name classes k
 role_word classes regs (roles.Read k) = codes "use:" ++ class_name classes k
-role_word classes regs (roles.Tied k) = codes "tied:" ++ class_name classes k
+role_word classes regs (roles.Tied k n) = tie_word n ++ class_name classes k
 role_word classes regs roles.Imm = codes "imm"
 role_word classes regs roles.Target = codes "target"
 role_word classes regs roles.Slot = codes "slot"
@@ -122,6 +147,8 @@ role_word classes regs roles.Sym = codes "sym"
 role_word classes regs roles.Frame = codes "frame"
 role_word classes regs (roles.Address k) = codes "addr:" ++ class_name classes k
 role_word classes regs roles.Mask = codes "mask"
+role_word classes regs (roles.Value None) = codes "val"
+role_word classes regs (roles.Value (Some k)) = codes "val:" ++ class_name classes k
 role_word classes regs roles.Any = codes "any"
 role_word classes regs (roles.ImpDef r) = codes "impdef:" ++ reg_name regs r
 role_word classes regs (roles.ImpRead r) = codes "impuse:" ++ reg_name regs r
@@ -134,7 +161,8 @@ opcode_line classes regs o = spaced (codes "op" ∷ o.name ∷ effect_word o.eff
 abbrev pub target_lines : Parts → List (List ℕ)
 target_lines p =
     header_line p.name p.version
-    ∷ map unit_line p.units
+    ∷ option_lines p.options
+    ++ map unit_line p.units
     ++ map (reg_line p.units) p.regs
     ++ reserved_lines p.regs (reserved_regs p.regs p.reserved)
     ++ map index_line p.indexes

@@ -1,5 +1,5 @@
 -- The names of a line, looked up among those that earlier lines declare.
-use Rattle.std.specs.Prelude.{ℕ, Bool, true, List, [], ◌∷◌, Option, Some, option_map}
+use Rattle.std.specs.Prelude.{ℕ, Bool, true, List, [], ◌∷◌, Option, Some, None, option_map}
 use Rattle.target_base.specs.Numbers.{unit_number, reg_number, class_number}
 use Rattle.target_base.specs.declared.types.Unit.{Unit as UnitNumber}
 use Rattle.target_base.specs.declared.types.Reg.{Reg}
@@ -40,14 +40,16 @@ unfoldable pub role_with : NameTables → NamedRole → List ℕ → Option Role
 role_with names named.Def w = option_map roles.Def (class_named names.classes w)
 role_with names named.Early w = option_map roles.Early (class_named names.classes w)
 role_with names named.Read w = option_map roles.Read (class_named names.classes w)
-role_with names named.Tied w = option_map roles.Tied (class_named names.classes w)
+role_with names named.Tied w = option_map (λ k. roles.Tied k 0) (class_named names.classes w)
 role_with names named.Address w = option_map roles.Address (class_named names.classes w)
+role_with names named.Value w = option_map (λ k. roles.Value (Some k)) (class_named names.classes w)
 role_with names named.ImpDef w = option_map roles.ImpDef (reg_named names.regs w)
 role_with names named.ImpRead w = option_map roles.ImpRead (reg_named names.regs w)
 
 abbrev pub role_named : NameTables → RawRole → Option Role
 role_named names (raw_roles.Plain role) = Some role
 role_named names (raw_roles.Named kind w) = role_with names kind w
+role_named names (raw_roles.Tied n w) = option_map (λ k. roles.Tied k n) (class_named names.classes w)
 
 unfoldable pub roles_named : NameTables → List RawRole → Option (List Role)
 roles_named names [] = Some []
@@ -63,6 +65,8 @@ resolved names (raw_lines.Index i) = Some (lines.Index i)
 resolved names (raw_lines.Class name ws) = option_map (λ rs. lines.Class (record { name = name; regs = rs })) (regs_named names.regs ws)
 resolved names (raw_lines.Mask name ws) = option_map (λ rs. lines.Mask (record { name = name; regs = rs })) (regs_named names.regs ws)
 resolved names (raw_lines.Opcode name effect rs) = option_map (λ roles. lines.Opcode (record { name = name; effect = effect; roles = roles })) (roles_named names rs)
+resolved names (raw_lines.Forms fs) = Some (lines.Forms fs)
+resolved names (raw_lines.Flags ws) = Some (lines.Flags ws)
 
 -- the name that a line declares isn't declared yet
 unfoldable pub is_new : NameTables → Line → Bool
@@ -74,3 +78,5 @@ is_new names (lines.Index i) = is_fresh names.indexes i.name
 is_new names (lines.Class c) = is_fresh names.classes c.name
 is_new names (lines.Mask m) = is_fresh names.masks m.name
 is_new names (lines.Opcode o) = is_fresh names.opcodes o.name
+is_new names (lines.Forms fs) = true
+is_new names (lines.Flags ws) = true

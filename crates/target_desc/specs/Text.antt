@@ -13,7 +13,7 @@ parts end (b ∷ bs) = if b == end then [] ∷ parts end bs else onto_first b (p
 abbrev pub lines : List ℕ → List (List ℕ)
 lines text = parts 10 text
 
-abbrev pub is_filled : List ℕ → Bool
+abbrev pub is_filled : {X : Type 0} → List X → Bool
 is_filled [] = false
 is_filled (b ∷ bs) = true
 
@@ -39,6 +39,6 @@ value_from n (b ∷ bs) = value_from (n * 10 + (b - 48)) bs
 abbrev pub is_number : List ℕ → Bool
 is_number w = is_filled w && list_all is_digit w
 
--- The number that digits spell; above 255 it counts as 255. Each number of a target is below 129.
+-- The number that digits spell; above 255 it counts as 255. Each number of a target is below 255.
 abbrev pub number : List ℕ → ℕ
 number w = min 255 (value_from 0 w)

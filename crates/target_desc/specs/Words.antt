@@ -4,10 +4,13 @@ use Rattle.std.specs.Borrow.{Bor}
 use Rattle.target_base.specs.Storage.{same_numbers}
 use Rattle.target_base.specs.declared.types.Effect.{Effect}
 use Rattle.target_base.specs.declared.types.Effect.TheVariants as effects
+use Rattle.target_base.specs.declared.types.OpaqueKind.TheVariants as kinds
 use Rattle.target_base.specs.declared.types.Role.{Role}
 use Rattle.target_base.specs.declared.types.Role.TheVariants as roles
 use Rattle.target_desc.specs.declared.raw.Form.{Form}
 use Rattle.target_desc.specs.declared.raw.Form.TheVariants as forms
+use Rattle.target_desc.specs.declared.raw.TextForm.{TextForm}
+use Rattle.target_desc.specs.declared.raw.TextForm.TheVariants as text_forms
 use Rattle.target_desc.specs.declared.raw.NamedRole.{NamedRole}
 use Rattle.target_desc.specs.declared.raw.NamedRole.TheVariants as named
 
@@ -31,10 +34,21 @@ form_words =
     ∷ (codes "class", forms.Class)
     ∷ (codes "mask", forms.Mask)
     ∷ (codes "op", forms.Opcode)
+    ∷ (codes "form", forms.Forms)
+    ∷ (codes "flags", forms.Flags)
     ∷ []
 
 abbrev pub version_words : List (List ℕ × ℕ)
 version_words = (codes "1", 1) ∷ (codes "2", 2) ∷ []
+
+-- what a `form` line opts in
+abbrev pub text_form_words : List (List ℕ × TextForm)
+text_form_words =
+    (codes "offset", text_forms.Offset)
+    ∷ (codes "pool", text_forms.Pool)
+    ∷ (codes "noreg", text_forms.Noreg)
+    ∷ (codes "open", text_forms.Open)
+    ∷ []
 
 abbrev pub effect_words : List (List ℕ × Effect)
 effect_words =
@@ -75,6 +89,10 @@ effect_words =
     ∷ (codes "marker", effects.Marker)
     ∷ (codes "spill", effects.Spill)
     ∷ (codes "reload", effects.Reload)
+    ∷ (codes "opaque", effects.Opaque kinds.Plain)
+    ∷ (codes "opaque/branch", effects.Opaque kinds.Branch)
+    ∷ (codes "opaque/call", effects.Opaque kinds.Call)
+    ∷ (codes "opaque/ret", effects.Opaque kinds.Return)
     ∷ []
 
 -- roles that are one word
@@ -87,6 +105,7 @@ plain_role_words =
     ∷ (codes "sym", roles.Sym)
     ∷ (codes "frame", roles.Frame)
     ∷ (codes "mask", roles.Mask)
+    ∷ (codes "val", roles.Value None)
     ∷ (codes "any", roles.Any)
     ∷ (codes "rest", roles.Rest)
     ∷ []
@@ -99,6 +118,7 @@ named_role_words =
     ∷ (codes "use", named.Read)
     ∷ (codes "tied", named.Tied)
     ∷ (codes "addr", named.Address)
+    ∷ (codes "val", named.Value)
     ∷ (codes "impdef", named.ImpDef)
     ∷ (codes "impuse", named.ImpRead)
     ∷ []

@@ -1,14 +1,14 @@
 //! What a line that stands adds.
 
 ghost use Rattle.std.specs.Prelude.{◌≡◌, ◌<◌, IfOk, IsTrue, length, map, fold, []};
-ghost use Rattle.target_desc.specs.Drafts.{empty_draft, names_of, without_roles, opcode_row, name_in};
+ghost use Rattle.target_desc.specs.Drafts.{no_options, empty_draft, names_of, without_roles, opcode_row, name_in};
 ghost use Rattle.target_desc.specs.Names.{with_name};
 ghost use Rattle.target_desc.specs.Resolving.{is_new};
 ghost use Rattle.target_desc.specs.Keeping.{AreFew};
 ghost use Rattle.target_desc.specs.Adding.{added, noted};
 
-use crate::draft::{Draft, Line};
-use crate::names::{NameTables, Names};
+use crate::draft::{Draft, Line, Options};
+use crate::names::{NameTables, Names, WordSet};
 use crate::text::copy_of;
 use std::alloc::{AllocError, Global};
 use target_base::{Effect, List, OpcodeDesc, OpcodeDescs, Reg};
@@ -43,6 +43,19 @@ fn opcodes_of(alloc: Global, rows: &[(&str, Effect)]) -> Result<OpcodeDescs, All
     Ok(made)
 }
 
+/// Nothing is opted in.
+fn no_options(alloc: Global) -> Options
+    ensures { result ≡ no_options }
+{
+    Options {
+        offsets: false,
+        pool: false,
+        noreg: false,
+        open_blocks: false,
+        flags: WordSet::new(alloc),
+    }
+}
+
 /// The draft before the first line.
 #[tactic(auto, unfolding(crate::specs::Drafts::empty_draft))]
 pub(crate) fn empty_draft(alloc: Global) -> Result<Draft, AllocError>
@@ -57,6 +70,7 @@ pub(crate) fn empty_draft(alloc: Global) -> Result<Draft, AllocError>
         classes: List::new(alloc),
         masks: List::new(alloc),
         opcodes: opcodes_of(alloc, &THE_FIVE)?,
+        options: no_options(alloc),
     })
 }
 
@@ -89,7 +103,7 @@ pub(crate) fn first_names(alloc: Global) -> Result<NameTables, AllocError>
 
 /// The draft with what the line adds.
 #[tactic(auto, unfolding(crate::specs::Adding::added))]
-pub(crate) fn added(draft: Draft, line: Line) -> Result<Draft, AllocError>
+pub(crate) fn added(alloc: Global, draft: Draft, line: Line) -> Result<Draft, AllocError>
     ensures { IfOk result (λ d. d ≡ added draft line) }
 {
     let mut d = draft;
@@ -102,6 +116,8 @@ pub(crate) fn added(draft: Draft, line: Line) -> Result<Draft, AllocError>
         Line::Class(class) => d.classes.push(class)?,
         Line::Mask(mask) => d.masks.push(mask)?,
         Line::Opcode(opcode) => d.opcodes.push(opcode)?,
+        Line::Forms(forms) => d.options.add_forms(forms.as_slice()),
+        Line::Flags(words) => d.options.add_flags(alloc, words.as_slice())?,
     }
     Ok(d)
 }
@@ -123,6 +139,8 @@ pub(crate) fn noted(alloc: Global, names: NameTables, line: &Line) -> Result<Nam
         Line::Class(class) => n.classes.add(alloc, class.name.as_slice())?,
         Line::Mask(mask) => n.masks.add(alloc, mask.name.as_slice())?,
         Line::Opcode(opcode) => n.opcodes.add(alloc, opcode.name.as_slice())?,
+        Line::Forms(_) => {}
+        Line::Flags(_) => {}
     }
     Ok(n)
 }

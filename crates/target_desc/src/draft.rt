@@ -1,9 +1,14 @@
 //! The target that the lines so far make.
 
-use crate::raw::Header;
+ghost use Rattle.std.specs.Prelude.{◌≡◌, OnOk, fold};
+ghost use Rattle.target_desc.specs.Adding.{with_form, with_flags};
+
+use crate::names::WordSet;
+use crate::raw::{Header, TextForm};
+use std::alloc::{AllocError, Global};
 use target_base::{
-    ClassDesc, ClassDescs, IndexDesc, IndexDescs, MaskDesc, MaskDescs, OpcodeDesc, OpcodeDescs,
-    RegDesc, RegDescs, Regs, UnitDesc, UnitDescs,
+    Bytes, ClassDesc, ClassDescs, IndexDesc, IndexDescs, List, MaskDesc, MaskDescs, OpcodeDesc,
+    OpcodeDescs, RegDesc, RegDescs, Regs, UnitDesc, UnitDescs, Words,
 };
 
 /// What a line declares, its names looked up.
@@ -25,6 +30,58 @@ pub(crate) enum Line {
     Mask(MaskDesc),
     /// An opcode.
     Opcode(OpcodeDesc),
+    /// Forms of text that are opted in.
+    Forms(List<TextForm>),
+    /// Words of `target-flags` that are opted in.
+    Flags(Words),
+}
+
+/// What the lines so far opt in.
+#[derive(Drop)]
+pub(crate) struct Options {
+    /// Symbols with an offset.
+    pub(crate) offsets: bool,
+    /// Entries of the constant pool.
+    pub(crate) pool: bool,
+    /// `$noreg` as an explicit operand.
+    pub(crate) noreg: bool,
+    /// Blocks without successors whose end control doesn't reach.
+    pub(crate) open_blocks: bool,
+    /// The words of `target-flags`.
+    pub(crate) flags: WordSet,
+}
+
+impl Options {
+    /// Opts in a form of text.
+    fn add_form(&mut self, form: TextForm)
+        ensures { self.new ≡ with_form self.old form }
+    {
+        match form {
+            TextForm::Offset => self.offsets = true,
+            TextForm::Pool => self.pool = true,
+            TextForm::Noreg => self.noreg = true,
+            TextForm::Open => self.open_blocks = true,
+        }
+    }
+
+    /// Opts in forms of text.
+    pub(crate) fn add_forms(&mut self, forms: &[TextForm])
+        ensures { self.new ≡ fold with_form self.old forms.now }
+    {
+        for form in forms {
+            self.add_form(*form);
+        }
+    }
+
+    /// Opts in words of `target-flags`, each once.
+    pub(crate) fn add_flags(&mut self, alloc: Global, words: &[Bytes]) -> Result<(), AllocError>
+        ensures { OnOk result (self.new ≡ with_flags self.old words.now) }
+    {
+        for word in words {
+            self.flags.add(alloc, word.as_slice())?;
+        }
+        Ok(())
+    }
 }
 
 /// The target that the lines so far make.
@@ -46,4 +103,6 @@ pub(crate) struct Draft {
     pub(crate) masks: MaskDescs,
     /// Its opcodes, the five of every target first.
     pub(crate) opcodes: OpcodeDescs,
+    /// What it opts in.
+    pub(crate) options: Options,
 }

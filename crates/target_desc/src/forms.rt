@@ -1,14 +1,17 @@
 //! The forms that a line may have.
 
-ghost use Rattle.std.specs.Prelude.{◌≡◌, IfOk, option_map};
+ghost use Rattle.std.specs.Prelude.{◌≡◌, IfOk, option_map, option_and_then};
+ghost use Rattle.std.specs.List.{list_all};
 ghost use Rattle.target_desc.specs.Text.{words};
-ghost use Rattle.target_desc.specs.Forms.{names_in, name_list, numbers_in, number_list, two_words, header_of, target_line, unit_of, unit_line, index_line, named_list, named_role, role_of, roles_of, role_list, opcode_line, formed, raw_line};
+ghost use Rattle.target_desc.specs.Forms.{names_in, name_list, numbers_in, number_list, two_words, header_of, target_line, unit_of, unit_line, index_line, named_list, named_role, tie_digits, tied_role, either_role, role_of, roles_of, stands_anywhere, may_have, opcode_of, opcode_line, text_forms_of, forms_line, flags_in, flags_line, formed, raw_line};
 
-use crate::raw::{Form, Header, NameList, RawLine, RawRole};
-use crate::tables::{effect_of, form_of, named_role_of, plain_role_of, version_of};
-use crate::text::{copy_of, cut, is_name, is_number, is_op_name, next_word, number};
+use crate::raw::{Form, Header, NameList, NamedRole, RawLine, RawRole, TextForm};
+use crate::tables::{effect_of, form_of, named_role_of, plain_role_of, text_form_of, version_of};
+use crate::text::{
+    are_same, copy_of, cut, is_flag_word, is_name, is_number, is_op_name, next_word, number,
+};
 use std::alloc::{AllocError, Global};
-use target_base::{Bytes, Effect, IndexDesc, LaneNumbers, List, UnitDesc};
+use target_base::{Bytes, Effect, IndexDesc, LaneNumbers, List, Role, UnitDesc, Words};
 
 /// The names of a text. None where one of its words is no name.
 fn names_in(alloc: Global, text: &[u8]) -> Result<Option<NameList>, AllocError>
@@ -177,13 +180,45 @@ fn named_role(alloc: Global, word: &[u8]) -> Result<Option<RawRole>, AllocError>
     }
 }
 
+/// What stands behind `tied/` in a word that begins so. Nothing in another word.
+fn tie_digits(word: &[u8]) -> &[u8]
+    ensures { result.now ≡ tie_digits word.now }
+{
+    let (head, digits) = cut(word, b'/');
+    if are_same(head, b"tied") { digits } else { &[] }
+}
+
+/// A role `tied/N:K`: the number of a definition and the name of a class.
+fn tied_role(alloc: Global, word: &[u8]) -> Result<Option<RawRole>, AllocError>
+    ensures { IfOk result (λ r. r ≡ tied_role word.now) }
+{
+    let (head, name) = cut(word, b':');
+    let digits = tie_digits(head);
+    if is_number(digits) && is_name(name) {
+        let name = copy_of(alloc, name)?;
+        Ok(Some(RawRole::Tied(number(digits), name)))
+    } else {
+        Ok(None)
+    }
+}
+
+/// The role that a word spells by a name.
+fn naming_role(alloc: Global, word: &[u8]) -> Result<Option<RawRole>, AllocError>
+    ensures { IfOk result (λ r. r ≡ either_role (named_role word.now) (tied_role word.now)) }
+{
+    match named_role(alloc, word)? {
+        None => tied_role(alloc, word),
+        Some(role) => Ok(Some(role)),
+    }
+}
+
 /// The role that a word spells.
 #[tactic(auto, unfolding(crate::specs::Forms::role_of))]
 fn role_of(alloc: Global, word: &[u8]) -> Result<Option<RawRole>, AllocError>
     ensures { IfOk result (λ r. r ≡ role_of word.now) }
 {
     match plain_role_of(word) {
-        None => named_role(alloc, word),
+        None => naming_role(alloc, word),
         Some(role) => Ok(Some(RawRole::Plain(role))),
     }
 }
@@ -204,28 +239,64 @@ fn roles_in(alloc: Global, text: &[u8]) -> Result<Option<List<RawRole>>, AllocEr
     Ok(Some(roles))
 }
 
-/// One or more roles.
-fn role_list(alloc: Global, text: &[u8]) -> Result<Option<List<RawRole>>, AllocError>
-    ensures { IfOk result (λ r. r ≡ role_list (words text.now)) }
+/// Whether a role stands at each effect, and not at opaque ones alone.
+fn stands_anywhere(role: &RawRole) -> bool
+    ensures { result ≡ stands_anywhere role.now }
 {
-    match next_word(text) {
-        None => Ok(None),
-        Some(_) => roles_in(alloc, text),
+    match role {
+        RawRole::Plain(Role::Value(_)) => false,
+        RawRole::Named(NamedRole::Value, _) => false,
+        RawRole::Tied(_, _) => false,
+        _ => true,
+    }
+}
+
+/// Whether all roles stand at each effect.
+fn stand_anywhere(roles: &[RawRole]) -> bool
+    ensures { result ≡ list_all stands_anywhere roles.now }
+{
+    roles.iter().all(|role| stands_anywhere(role))
+}
+
+/// Whether an effect has such roles.
+fn may_have(effect: Effect, roles: &[RawRole]) -> bool
+    ensures { result ≡ may_have effect roles.now }
+{
+    match effect {
+        Effect::Opaque(_) => true,
+        _ => !roles.is_empty() && stand_anywhere(roles),
+    }
+}
+
+/// An opcode of this name, effect and roles. None where the effect doesn't have such roles.
+fn opcode_of(
+    alloc: Global,
+    name: &[u8],
+    effect: Effect,
+    roles: List<RawRole>,
+) -> Result<Option<RawLine>, AllocError>
+    ensures { IfOk result (λ r. r ≡ opcode_of name.now effect roles) }
+{
+    if may_have(effect, roles.as_slice()) {
+        let name = copy_of(alloc, name)?;
+        Ok(Some(RawLine::Opcode(name, effect, roles)))
+    } else {
+        Ok(None)
     }
 }
 
 /// An opcode of this name and effect with the roles that a text spells.
-fn opcode_of(
+fn opcode_with(
     alloc: Global,
     name: &[u8],
     effect: Effect,
     text: &[u8],
 ) -> Result<Option<RawLine>, AllocError>
-    ensures { IfOk result (λ r. r ≡ option_map (λ roles. RawLine.Opcode name.now effect roles) (role_list (words text.now))) }
+    ensures { IfOk result (λ r. r ≡ option_and_then (λ roles. opcode_of name.now effect roles) (roles_of (words text.now))) }
 {
-    match role_list(alloc, text)? {
+    match roles_in(alloc, text)? {
         None => Ok(None),
-        Some(roles) => Ok(Some(RawLine::Opcode(copy_of(alloc, name)?, effect, roles))),
+        Some(roles) => opcode_of(alloc, name, effect, roles),
     }
 }
 
@@ -244,7 +315,65 @@ fn opcode_line(alloc: Global, text: &[u8]) -> Result<Option<RawLine>, AllocError
     }
     match effect_of(word) {
         None => Ok(None),
-        Some(effect) => opcode_of(alloc, name, effect, rest),
+        Some(effect) => opcode_with(alloc, name, effect, rest),
+    }
+}
+
+/// The forms of text that words opt in. None where a word is none of theirs.
+fn text_forms_in(alloc: Global, text: &[u8]) -> Result<Option<List<TextForm>>, AllocError>
+    ensures { IfOk result (λ r. r ≡ text_forms_of (words text.now)) }
+{
+    let mut forms = List::new(alloc);
+    let mut rest = text;
+    'words: while let Some((word, after)) = next_word(rest) {
+        match text_form_of(word) {
+            None => return Ok(None),
+            Some(form) => forms.push(form)?,
+        }
+        rest = after;
+    }
+    Ok(Some(forms))
+}
+
+/// `form WORD ..`, behind the first word.
+fn forms_line(alloc: Global, text: &[u8]) -> Result<Option<RawLine>, AllocError>
+    ensures { IfOk result (λ r. r ≡ forms_line (words text.now)) }
+{
+    if next_word(text).is_none() {
+        return Ok(None);
+    }
+    match text_forms_in(alloc, text)? {
+        None => Ok(None),
+        Some(forms) => Ok(Some(RawLine::Forms(forms))),
+    }
+}
+
+/// The words of `target-flags` in a text. None where one isn't spelled so.
+fn flags_in(alloc: Global, text: &[u8]) -> Result<Option<Words>, AllocError>
+    ensures { IfOk result (λ r. r ≡ flags_in (words text.now)) }
+{
+    let mut flags = List::new(alloc);
+    let mut rest = text;
+    'words: while let Some((word, after)) = next_word(rest) {
+        if !is_flag_word(word) {
+            return Ok(None);
+        }
+        flags.push(copy_of(alloc, word)?)?;
+        rest = after;
+    }
+    Ok(Some(flags))
+}
+
+/// `flags WORD ..`, behind the first word.
+fn flags_line(alloc: Global, text: &[u8]) -> Result<Option<RawLine>, AllocError>
+    ensures { IfOk result (λ r. r ≡ flags_line (words text.now)) }
+{
+    if next_word(text).is_none() {
+        return Ok(None);
+    }
+    match flags_in(alloc, text)? {
+        None => Ok(None),
+        Some(flags) => Ok(Some(RawLine::Flags(flags))),
     }
 }
 
@@ -258,6 +387,8 @@ fn formed(alloc: Global, form: Form, text: &[u8]) -> Result<Option<RawLine>, All
         Form::Unit => unit_line(alloc, text),
         Form::Index => index_line(alloc, text),
         Form::Opcode => opcode_line(alloc, text),
+        Form::Forms => forms_line(alloc, text),
+        Form::Flags => flags_line(alloc, text),
         Form::Reserved => match name_list(alloc, text)? {
             None => Ok(None),
             Some(names) => Ok(Some(RawLine::Reserved(names))),

@@ -8,6 +8,7 @@ pub mod fault;
 mod forms;
 pub mod law;
 mod names;
+mod opaque;
 mod raw;
 pub mod read;
 mod resolve;
@@ -21,6 +22,7 @@ pub use fault::{TargetFault, TargetKind, TargetStop};
 pub use read::read_target;
 pub use target_base::{
     Bytes, ClassDesc, ClassDescs, ClassId, Copied, Effect, Flags, IndexDesc, IndexDescs, IndexId,
-    LaneNumbers, List, MaskDesc, MaskDescs, MaskId, Numbers, OpId, OpcodeDesc, OpcodeDescs, Reg,
-    RegDesc, RegDescs, Regs, Role, Roles, Target, Unit, UnitDesc, UnitDescs, UnitList, mini,
+    LaneNumbers, List, MaskDesc, MaskDescs, MaskId, Numbers, OpId, OpaqueKind, OpcodeDesc,
+    OpcodeDescs, Reg, RegDesc, RegDescs, Regs, Role, Roles, Target, TextOptions, Unit, UnitDesc,
+    UnitDescs, UnitList, Words, mini,
 };

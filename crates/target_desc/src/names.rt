@@ -1,27 +1,81 @@
 //! Names in the order of their declaration, found fast.
 
-ghost use Rattle.std.specs.Prelude.{◌≡◌, ◌<◌, [], length, position, OnOk, OnErr};
+ghost use Rattle.std.specs.Prelude.{◌≡◌, ◌<◌, [], length, position, OnOk, OnErr, IfOk};
 ghost use Rattle.target_desc.specs.Names.{with_name};
 ghost use Rattle.target_base.specs.Storage.{same_numbers};
 
+use crate::text::copy_of;
 use indexmap::IndexSet;
 use std::alloc::{AllocError, Global};
 use std::marker::Model;
+use target_base::{List, Words};
+
+/// Distinct words in the order in which they came.
+#[derive(Drop)]
+pub(crate) struct WordSet {
+    set: IndexSet<Vec<u8>>,
+}
+
+impl Model for WordSet {
+    ghost use Rattle.std.specs.Prelude.{ℕ, List, map};
+
+    ghost Value = { List (List ℕ) };
+
+    ghost view = { λ w. map (λ v. v.items) w.set.keys };
+}
+
+impl WordSet {
+    /// No words.
+    pub(crate) fn new(alloc: Global) -> WordSet
+        ensures { result ≡ [] }
+    {
+        WordSet {
+            set: IndexSet::new(alloc),
+        }
+    }
+
+    /// The place of a word, from 0. None where it isn't there.
+    fn place(&self, word: &[u8]) -> Option<usize>
+        ensures { result ≡ position (same_numbers word.now) self.now }
+    {
+        self.set.get_index_of(word)
+    }
+
+    /// Puts a word at the end, unless it is there. After a refusal the words are unchanged.
+    pub(crate) fn add(&mut self, alloc: Global, word: &[u8]) -> Result<(), AllocError>
+        ensures ok { OnOk result (self.new ≡ with_name self.old word.now) }
+        ensures err { OnErr result (self.new ≡ self.old) }
+    {
+        self.set.insert(Vec::from_slice(alloc, word)?)?;
+        Ok(())
+    }
+
+    /// The words as a list.
+    pub(crate) fn listed(&self, alloc: Global) -> Result<Words, AllocError>
+        ensures { IfOk result (λ words. words ≡ self.now) }
+    {
+        let mut made = List::new(alloc);
+        for word in self.set.as_slice() {
+            made.push(copy_of(alloc, word.as_slice())?)?;
+        }
+        Ok(made)
+    }
+}
 
 /// Distinct names in the order of their declaration, at most 65,535 of them.
 #[derive(Drop)]
 pub(crate) struct Names {
-    set: IndexSet<Vec<u8>>,
+    words: WordSet,
 }
 
 impl Model for Names {
-    ghost use Rattle.std.specs.Prelude.{ℕ, List, map, length, ◌≤◌};
+    ghost use Rattle.std.specs.Prelude.{ℕ, List, length, ◌≤◌};
 
     ghost Value = { List (List ℕ) };
 
-    ghost view = { λ n. map (λ v. v.items) n.set.keys };
+    ghost view = { λ n. n.words };
 
-    ghost invariant = { λ n. length n.set.keys ≤ 65535 };
+    ghost invariant = { λ n. length n.words ≤ 65535 };
 }
 
 impl Names {
@@ -30,7 +84,7 @@ impl Names {
         ensures { result ≡ [] }
     {
         Names {
-            set: IndexSet::new(alloc),
+            words: WordSet::new(alloc),
         }
     }
 
@@ -38,7 +92,7 @@ impl Names {
     pub(crate) fn place(&self, name: &[u8]) -> Option<u16>
         ensures { result ≡ position (same_numbers name.now) self.now }
     {
-        match self.set.get_index_of(name) {
+        match self.words.place(name) {
             None => None,
             Some(place) => Some(place as u16),
         }
@@ -50,8 +104,7 @@ impl Names {
         ensures ok { OnOk result (self.new ≡ with_name self.old name.now) }
         ensures err { OnErr result (self.new ≡ self.old) }
     {
-        self.set.insert(Vec::from_slice(alloc, name)?)?;
-        Ok(())
+        self.words.add(alloc, name)
     }
 }
 

@@ -1,6 +1,6 @@
 //! A line as it is spelled, before its names are looked up.
 
-use target_base::{Bytes, Effect, IndexDesc, List, Role, UnitDesc};
+use target_base::{Bytes, Effect, IndexDesc, List, Role, UnitDesc, Words};
 
 /// What the first word of a line says that the line is.
 #[derive(Clone, Copy)]
@@ -13,6 +13,17 @@ pub(crate) enum Form {
     Class,
     Mask,
     Opcode,
+    Forms,
+    Flags,
+}
+
+/// A form of text that a `form` line opts in.
+#[derive(Clone, Copy)]
+pub(crate) enum TextForm {
+    Offset,
+    Pool,
+    Noreg,
+    Open,
 }
 
 /// What a role asks that names a class, or a register as the last two do.
@@ -23,6 +34,7 @@ pub(crate) enum NamedRole {
     Read,
     Tied,
     Address,
+    Value,
     ImpDef,
     ImpRead,
 }
@@ -34,6 +46,8 @@ pub(crate) enum RawRole {
     Plain(Role),
     /// A role with the name of a class or a register.
     Named(NamedRole, Bytes),
+    /// A use that is tied to the definition of a number, with the name of its class.
+    Tied(u8, Bytes),
 }
 
 /// Several names.
@@ -67,4 +81,8 @@ pub(crate) enum RawLine {
     Mask(Bytes, NameList),
     /// An opcode, its effect and its roles.
     Opcode(Bytes, Effect, List<RawRole>),
+    /// Forms of text that are opted in.
+    Forms(List<TextForm>),
+    /// Words of `target-flags` that are opted in.
+    Flags(Words),
 }

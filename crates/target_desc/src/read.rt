@@ -3,15 +3,15 @@
 ghost use Rattle.std.specs.Prelude.{◌≡◌, ◌<◌, IfOk, IsTrue, option_map, length};
 ghost use Rattle.target_desc.specs.Resolving.{is_new};
 ghost use Rattle.std.specs.List.{list_all};
-ghost use Rattle.target_base.specs.Rules.{is_complete};
+ghost use Rattle.target_base.specs.Rules.{is_complete, are_flag_words};
 ghost use Rattle.target_desc.specs.Drafts.{empty_draft, names_of};
 ghost use Rattle.target_desc.specs.Keeping.{keeps_rules};
-ghost use Rattle.target_desc.specs.Ending.{belongs, reserved_units, reserved_of, is_whole, parts_of, parts_under, ended};
+ghost use Rattle.target_desc.specs.Ending.{belongs, reserved_units, reserved_of, is_whole, options_of, parts_of, parts_under, ended};
 ghost use Rattle.target_desc.specs.Reading.{ruled, named, laid_out, line_after, spelled, stop_at, GivesLine, Gives};
 
 use crate::add::{added, empty_draft, first_names, noted};
 use crate::complete::is_complete;
-use crate::draft::{Draft, Line};
+use crate::draft::{Draft, Line, Options};
 use crate::fault::{LineStop, TargetFault, TargetKind, TargetStop};
 use crate::forms::raw_line;
 use crate::names::NameTables;
@@ -21,7 +21,9 @@ use crate::rules::stands;
 use crate::text::{is_comment, next_part, next_word};
 use std::alloc::{AllocError, Global};
 use target_base::registers::{has_unit, units_at};
-use target_base::{ClassDesc, IndexDesc, List, OpcodeDesc, Reg, RegDesc, Target, Unit, UnitList};
+use target_base::{
+    ClassDesc, IndexDesc, List, OpcodeDesc, Reg, RegDesc, Target, TextOptions, Unit, UnitList,
+};
 
 /// What the lines so far make: a draft that keeps the rules, and the names that it declares.
 #[derive(Drop)]
@@ -53,7 +55,7 @@ impl Reader {
             return Err(LineStop::Fault(TargetKind::Rule));
         }
         let names = noted(alloc, names, &line)?;
-        let draft = added(draft, line)?;
+        let draft = added(alloc, draft, line)?;
         Ok(Reader { draft, names })
     }
 
@@ -103,9 +105,11 @@ impl Reader {
         }
     }
 
-    /// The target of the lines so far with these reserved units. None where no line came.
-    fn made(self, reserved: UnitList) -> Option<Target>
+    /// The target of the lines so far with these reserved units and what they opt in. None where no
+    /// line came.
+    fn made(self, reserved: UnitList, options: TextOptions) -> Option<Target>
         requires reserved { reserved ≡ reserved_of self.draft }
+        requires options { options_of options ≡ self.draft.options }
         requires complete { IsTrue (is_whole self.draft) }
         ensures { option_map parts_of result ≡ option_map (λ h. parts_under h self.draft) self.draft.header }
     {
@@ -119,6 +123,7 @@ impl Reader {
             classes,
             masks,
             opcodes,
+            options: _,
         } = draft;
         match header {
             None => None,
@@ -132,6 +137,7 @@ impl Reader {
                 classes,
                 masks,
                 opcodes,
+                options,
             }),
         }
     }
@@ -142,11 +148,26 @@ impl Reader {
     {
         let reserved = reserved_of(alloc, &self.draft)?;
         if is_whole(&self.draft, reserved.as_slice()) {
-            Ok(self.made(reserved))
+            let options = options_of(alloc, &self.draft.options)?;
+            Ok(self.made(reserved, options))
         } else {
             Ok(None)
         }
     }
+}
+
+/// What the lines so far opt in, as a target has it.
+fn options_of(alloc: Global, o: &Options) -> Result<TextOptions, AllocError>
+    requires { IsTrue (are_flag_words o.now.flags) }
+    ensures { IfOk result (λ made. options_of made ≡ o.now) }
+{
+    Ok(TextOptions {
+        offsets: o.offsets,
+        pool: o.pool,
+        noreg: o.noreg,
+        open_blocks: o.open_blocks,
+        flags: o.flags.listed(alloc)?,
+    })
 }
 
 /// Whether a unit belongs to one of these registers.

@@ -84,8 +84,9 @@ fn role_with(names: &NameTables, kind: NamedRole, word: &[u8]) -> Option<Role>
         NamedRole::Def => Some(Role::Def(class_named(&names.classes, word)?)),
         NamedRole::Early => Some(Role::Early(class_named(&names.classes, word)?)),
         NamedRole::Read => Some(Role::Read(class_named(&names.classes, word)?)),
-        NamedRole::Tied => Some(Role::Tied(class_named(&names.classes, word)?)),
+        NamedRole::Tied => Some(Role::Tied(class_named(&names.classes, word)?, 0)),
         NamedRole::Address => Some(Role::Address(class_named(&names.classes, word)?)),
+        NamedRole::Value => Some(Role::Value(Some(class_named(&names.classes, word)?))),
         NamedRole::ImpDef => Some(Role::ImpDef(reg_named(&names.regs, word)?)),
         NamedRole::ImpRead => Some(Role::ImpRead(reg_named(&names.regs, word)?)),
     }
@@ -98,6 +99,9 @@ fn role_named(names: &NameTables, raw: &RawRole) -> Option<Role>
     match raw {
         RawRole::Plain(role) => Some(*role),
         RawRole::Named(kind, word) => role_with(names, *kind, word.as_slice()),
+        RawRole::Tied(n, word) => {
+            Some(Role::Tied(class_named(&names.classes, word.as_slice())?, *n))
+        }
     }
 }
 
@@ -132,6 +136,8 @@ pub(crate) fn resolved(
         RawLine::Target(header) => Ok(Some(Line::Target(header))),
         RawLine::Unit(unit) => Ok(Some(Line::Unit(unit))),
         RawLine::Index(index) => Ok(Some(Line::Index(index))),
+        RawLine::Forms(forms) => Ok(Some(Line::Forms(forms))),
+        RawLine::Flags(words) => Ok(Some(Line::Flags(words))),
         RawLine::Reg(name, words) => match units_named(alloc, &names.units, words.as_slice())? {
             None => Ok(None),
             Some(units) => Ok(Some(Line::Reg(RegDesc { name, units }))),
@@ -184,5 +190,7 @@ pub(crate) fn is_new(names: &NameTables, line: &Line) -> bool
         Line::Class(class) => is_fresh(&names.classes, class.name.as_slice()),
         Line::Mask(mask) => is_fresh(&names.masks, mask.name.as_slice()),
         Line::Opcode(opcode) => is_fresh(&names.opcodes, opcode.name.as_slice()),
+        Line::Forms(_) => true,
+        Line::Flags(_) => true,
     }
 }

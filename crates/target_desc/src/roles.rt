@@ -6,6 +6,7 @@ ghost use Rattle.target_base.specs.Roles as roles;
 ghost use Rattle.target_base.specs.Storage.{class_units, class_regs, unit_width, widths};
 ghost use Rattle.target_desc.specs.Shapes.{passes, classes_from};
 
+use crate::opaque::opaque_fit;
 use crate::widths::total_width;
 use target_base::classes::{class_of, first_units, regs_at, width_of};
 use target_base::registers::units_at;
@@ -28,6 +29,7 @@ pub(crate) enum RoleTest {
     Any,
     Slot,
     Lanes,
+    Operand,
 }
 
 fn is_use(role: Role) -> bool
@@ -35,7 +37,7 @@ fn is_use(role: Role) -> bool
 {
     match role {
         Role::Read(_) => true,
-        Role::Tied(_) => true,
+        Role::Tied(_, _) => true,
         _ => false,
     }
 }
@@ -131,8 +133,26 @@ fn is_lanes(role: Role) -> bool
     }
 }
 
+/// Whether a role stands for one operand of an opaque opcode, beside its definitions.
+fn is_operand(role: Role) -> bool
+    ensures { result ≡ roles.is_operand role }
+{
+    match role {
+        Role::Read(_)
+        | Role::Tied(_, _)
+        | Role::Value(_)
+        | Role::Address(_)
+        | Role::Imm
+        | Role::Target
+        | Role::Sym
+        | Role::Frame
+        | Role::Mask => true,
+        _ => false,
+    }
+}
+
 /// Whether a role passes a test.
-fn passes(test: RoleTest, role: Role) -> bool
+pub(crate) fn passes(test: RoleTest, role: Role) -> bool
     ensures { result ≡ passes test role }
 {
     match test {
@@ -149,10 +169,11 @@ fn passes(test: RoleTest, role: Role) -> bool
         RoleTest::Any => is_any(role),
         RoleTest::Slot => is_slot(role),
         RoleTest::Lanes => is_lanes(role),
+        RoleTest::Operand => is_operand(role),
     }
 }
 
-fn are_implicit(rs: &[Role]) -> bool
+pub(crate) fn are_implicit(rs: &[Role]) -> bool
     ensures { result ≡ list_all roles.is_implicit rs.now }
 {
     rs.iter().all(|role| is_implicit(*role))
@@ -178,7 +199,7 @@ fn have_shape(tests: &[RoleTest], rs: &[Role]) -> bool
 }
 
 /// Whether the explicit roles are those of the effect. No roles are those of an effect whose
-/// opcodes belong to every target.
+/// opcodes belong to every target, or of an opaque one.
 fn fits_shape(effect: Effect, rs: &[Role]) -> bool
     ensures { result ≡ roles.shape_fits (roles.explicit_shape effect) rs.now }
 {
@@ -191,7 +212,8 @@ fn fits_shape(effect: Effect, rs: &[Role]) -> bool
         | Effect::Phi
         | Effect::ImplicitDef
         | Effect::RegSequence
-        | Effect::InsertSubreg => false,
+        | Effect::InsertSubreg
+        | Effect::Opaque(_) => false,
         Effect::Const => have_shape(&[Definition, Immediate], rs),
         Effect::Addr => have_shape(&[Definition, FrameOrSymbol], rs),
         Effect::Add
@@ -407,7 +429,7 @@ fn tie_fits(rs: &[Role], role: Role) -> bool
     ensures { result ≡ roles.tie_fits rs.now role }
 {
     match role {
-        Role::Tied(k) => defines(k, rs),
+        Role::Tied(k, n) => n == 0 && defines(k, rs),
         _ => true,
     }
 }
@@ -450,15 +472,15 @@ fn first_roles(rs: &[Role], count: usize) -> &[Role]
     rs
 }
 
-/// Whether the roles are those that the effect asks for, with its widths.
-pub(crate) fn fit(
+/// Whether the roles are those that a known effect asks for, with its widths.
+fn known_fit(
     units: &[UnitDesc],
     regs: &[RegDesc],
     classes: &[ClassDesc],
     effect: Effect,
     rs: &[Role],
 ) -> bool
-    ensures { result ≡ roles.roles_fit units.now regs.now classes.now effect rs.now }
+    ensures { result ≡ roles.known_fit units.now regs.now classes.now effect rs.now }
 {
     if !fits_shape(effect, rs) {
         return false;
@@ -475,6 +497,22 @@ pub(crate) fn fit(
     implicit_fit(units, regs, effect, rs)
 }
 
+/// Whether the roles are those that the effect asks for.
+pub(crate) fn fit(
+    units: &[UnitDesc],
+    regs: &[RegDesc],
+    classes: &[ClassDesc],
+    effect: Effect,
+    rs: &[Role],
+) -> bool
+    ensures { result ≡ roles.roles_fit units.now regs.now classes.now effect rs.now }
+{
+    match effect {
+        Effect::Opaque(kind) => opaque_fit(classes, kind, rs),
+        _ => known_fit(units, regs, classes, effect, rs),
+    }
+}
+
 /// Whether the class or the register of a role is one of so many.
 fn is_known(classes: usize, regs: usize, role: Role) -> bool
     ensures { result ≡ roles.role_known classes regs role }
@@ -483,7 +521,8 @@ fn is_known(classes: usize, regs: usize, role: Role) -> bool
         Role::Def(k) => (k.0 as usize) < classes,
         Role::Early(k) => (k.0 as usize) < classes,
         Role::Read(k) => (k.0 as usize) < classes,
-        Role::Tied(k) => (k.0 as usize) < classes,
+        Role::Tied(k, _) => (k.0 as usize) < classes,
+        Role::Value(Some(k)) => (k.0 as usize) < classes,
         Role::Address(k) => (k.0 as usize) < classes,
         Role::ImpDef(r) => (r.0 as usize) < regs,
         Role::ImpRead(r) => (r.0 as usize) < regs,

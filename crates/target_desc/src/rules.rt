@@ -2,18 +2,20 @@
 
 ghost use Rattle.std.specs.Prelude.{◌≡◌, ◌<◌, ◌==◌, map, length, nat_lt};
 ghost use Rattle.std.specs.List.{list_all, list_any};
-ghost use Rattle.target_base.specs.Names.{are_distinct_numbers};
+ghost use Rattle.target_base.specs.Names.{are_distinct_numbers, is_flag_word};
 ghost use Rattle.target_base.specs.Rules.{most_lanes, is_unit_desc, is_reg_desc, is_index_desc, is_class_desc, is_mask_desc, is_opcode_desc};
 ghost use Rattle.target_base.specs.Storage.{reg_units, widths, same_numbers};
 ghost use Rattle.target_desc.specs.Standing.{starts, stands, stands_in};
 
 use crate::draft::{Draft, Line};
 use crate::roles::{are_known, fit, scale_fits};
-use crate::text::{is_name, is_op_name};
+use crate::text::{is_flag_word, is_name, is_op_name};
 use crate::widths::total_width;
 use target_base::classes::{first_units, have_same_widths};
 use target_base::registers::units_at;
-use target_base::{ClassDesc, IndexDesc, MaskDesc, OpcodeDesc, Reg, RegDesc, Unit, UnitDesc};
+use target_base::{
+    Bytes, ClassDesc, IndexDesc, MaskDesc, OpcodeDesc, Reg, RegDesc, Unit, UnitDesc,
+};
 
 /// The lanes of a register at most.
 fn most_lanes(version: u8) -> usize
@@ -191,6 +193,12 @@ fn is_opcode_desc(
     fit(units, regs, classes, o.effect, roles)
 }
 
+fn are_flag_words(words: &[Bytes]) -> bool
+    ensures { result ≡ list_all is_flag_word words.now }
+{
+    words.iter().all(|word| is_flag_word(word.as_slice()))
+}
+
 /// Whether a line keeps the rules under a `target` line of this version.
 #[tactic(auto, unfolding(crate::specs::Standing::stands_in))]
 fn stands_in(version: u8, d: &Draft, line: &Line) -> bool
@@ -208,6 +216,8 @@ fn stands_in(version: u8, d: &Draft, line: &Line) -> bool
         Line::Opcode(o) => {
             d.opcodes.len() < 1024 && is_opcode_desc(units, regs, d.classes.as_slice(), o)
         }
+        Line::Forms(_) => true,
+        Line::Flags(words) => are_flag_words(words.as_slice()),
     }
 }
 

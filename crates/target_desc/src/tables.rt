@@ -2,13 +2,13 @@
 
 ghost use Rattle.std.specs.Prelude.{◌≡◌, map};
 ghost use Rattle.target_base.specs.Storage.{same_numbers};
-ghost use Rattle.target_desc.specs.Words.{meaning_in, row_of, form_words, version_words, effect_words, plain_role_words, named_role_words};
+ghost use Rattle.target_desc.specs.Words.{meaning_in, row_of, form_words, version_words, text_form_words, effect_words, plain_role_words, named_role_words};
 
-use crate::raw::{Form, NamedRole};
+use crate::raw::{Form, NamedRole, TextForm};
 use crate::text::are_same;
-use target_base::{Effect, Role};
+use target_base::{Effect, OpaqueKind, Role};
 
-static FORMS: [(&str, Form); 8] = [
+static FORMS: [(&str, Form); 10] = [
     ("target", Form::Target),
     ("unit", Form::Unit),
     ("reg", Form::Reg),
@@ -17,11 +17,20 @@ static FORMS: [(&str, Form); 8] = [
     ("class", Form::Class),
     ("mask", Form::Mask),
     ("op", Form::Opcode),
+    ("form", Form::Forms),
+    ("flags", Form::Flags),
 ];
 
 static VERSIONS: [(&str, u8); 2] = [("1", 1), ("2", 2)];
 
-static EFFECTS: [(&str, Effect); 37] = [
+static TEXT_FORMS: [(&str, TextForm); 4] = [
+    ("offset", TextForm::Offset),
+    ("pool", TextForm::Pool),
+    ("noreg", TextForm::Noreg),
+    ("open", TextForm::Open),
+];
+
+static EFFECTS: [(&str, Effect); 41] = [
     ("const", Effect::Const),
     ("addr", Effect::Addr),
     ("add", Effect::Add),
@@ -59,9 +68,13 @@ static EFFECTS: [(&str, Effect); 37] = [
     ("marker", Effect::Marker),
     ("spill", Effect::Spill),
     ("reload", Effect::Reload),
+    ("opaque", Effect::Opaque(OpaqueKind::Plain)),
+    ("opaque/branch", Effect::Opaque(OpaqueKind::Branch)),
+    ("opaque/call", Effect::Opaque(OpaqueKind::Call)),
+    ("opaque/ret", Effect::Opaque(OpaqueKind::Return)),
 ];
 
-static PLAIN_ROLES: [(&str, Role); 9] = [
+static PLAIN_ROLES: [(&str, Role); 10] = [
     ("imm", Role::Imm),
     ("target", Role::Target),
     ("slot", Role::Slot),
@@ -69,16 +82,18 @@ static PLAIN_ROLES: [(&str, Role); 9] = [
     ("sym", Role::Sym),
     ("frame", Role::Frame),
     ("mask", Role::Mask),
+    ("val", Role::Value(None)),
     ("any", Role::Any),
     ("rest", Role::Rest),
 ];
 
-static NAMED_ROLES: [(&str, NamedRole); 7] = [
+static NAMED_ROLES: [(&str, NamedRole); 8] = [
     ("def", NamedRole::Def),
     ("early", NamedRole::Early),
     ("use", NamedRole::Read),
     ("tied", NamedRole::Tied),
     ("addr", NamedRole::Address),
+    ("val", NamedRole::Value),
     ("impdef", NamedRole::ImpDef),
     ("impuse", NamedRole::ImpRead),
 ];
@@ -107,6 +122,13 @@ pub(crate) fn version_of(word: &[u8]) -> Option<u8>
     ensures { result ≡ meaning_in version_words word.now }
 {
     meaning_in(&VERSIONS, word)
+}
+
+/// The form of text that a word opts in.
+pub(crate) fn text_form_of(word: &[u8]) -> Option<TextForm>
+    ensures { result ≡ meaning_in text_form_words word.now }
+{
+    meaning_in(&TEXT_FORMS, word)
 }
 
 /// The effect of a word.

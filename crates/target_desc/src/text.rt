@@ -2,7 +2,7 @@
 
 ghost use Rattle.std.specs.Prelude.{◌≡◌, ◌<◌, ◌==◌, ◌∷◌, length, IfSome, IfOk, map};
 ghost use Rattle.std.specs.List.{before_first, after_first, position, list_all, list_any};
-ghost use Rattle.target_base.specs.Names.{is_upper, is_letter, is_digit, is_name_byte, is_name, is_op_name};
+ghost use Rattle.target_base.specs.Names.{is_upper, is_lower, is_letter, is_digit, is_name_byte, is_name, is_op_name, is_flag_byte, is_flag_word};
 ghost use Rattle.target_base.specs.Storage.{same_numbers};
 ghost use Rattle.target_desc.specs.Text.{parts, words, words_from, is_comment, is_number, number, value_from};
 
@@ -77,10 +77,16 @@ fn is_upper(b: u8) -> bool
     b'A' <= b && b <= b'Z'
 }
 
+fn is_lower(b: u8) -> bool
+    ensures { result ≡ is_lower b }
+{
+    b'a' <= b && b <= b'z'
+}
+
 fn is_letter(b: u8) -> bool
     ensures { result ≡ is_letter b }
 {
-    is_upper(b) || (b'a' <= b && b <= b'z')
+    is_upper(b) || is_lower(b)
 }
 
 fn is_digit(b: u8) -> bool
@@ -122,6 +128,29 @@ pub(crate) fn is_op_name(text: &[u8]) -> bool
     ensures { result ≡ is_op_name text.now }
 {
     is_name(text) && has_upper(text)
+}
+
+fn is_flag_byte(b: u8) -> bool
+    ensures { result ≡ is_flag_byte b }
+{
+    is_lower(b) || is_digit(b) || b == b'_' || b == b'-'
+}
+
+fn are_flag_bytes(text: &[u8]) -> bool
+    ensures { result ≡ list_all is_flag_byte text.now }
+{
+    text.iter().all(|b| is_flag_byte(*b))
+}
+
+/// Whether a text is a word of `target-flags`: a lower-case letter, then lower-case letters,
+/// digits, underscores and minus signs.
+pub(crate) fn is_flag_word(text: &[u8]) -> bool
+    ensures { result ≡ is_flag_word text.now }
+{
+    match text {
+        [] => false,
+        [first, rest @ ..] => is_lower(*first) && are_flag_bytes(rest),
+    }
 }
 
 fn are_digits(text: &[u8]) -> bool

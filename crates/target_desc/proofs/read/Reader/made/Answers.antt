@@ -1,5 +1,6 @@
 use Rattle.std.proofs.Common.{◌∙◌, ap}
 use Rattle.target_base.specs.Rules.{is_sound}
+use Rattle.target_desc.specs.Ending.{options_of}
 use Rattle.target_desc.proofs.Ended.{sound_at_end, parts_made}
 use Rattle.target_desc.proofs.read.Reader.made.Goals as goal
 
@@ -12,4 +13,4 @@ invariant_of-result c =
     }
 
 pub returns : goal.returns
-returns c = parts_made c.in-Some.field-0 c.args.self.draft c.args.reserved c.args.self.draft.header c.requires.reserved c.in-Some.is
+returns c = parts_made c.in-Some.field-0 c.args.self.draft c.args.reserved (options_of c.args.options) c.args.self.draft.header c.requires.reserved c.requires.options c.in-Some.is
