@@ -1,14 +1,41 @@
 -- An operation does at least as much where its values and the memory are at least as defined.
-use Rattle.std.proofs.Common.{◌≡◌, ◌+◌, ◌*◌, ◌/◌, ◌%◌, ◌^◌, ◌∙◌, ◌-◌, ℕ, Bool, true, false, cond, not, eqb, List, Some, None, refl, sym, ap, subst, bit_and, bit_or, bit_xor, []}
-use Rattle.std.specs.Prelude.{sum}
+use Rattle.std.proofs.Common.{◌≡◌, ◌+◌, ◌*◌, ◌/◌, ◌%◌, ◌^◌, ◌∙◌, ◌-◌, ◌&&◌, ◌||◌, ◌∷◌, ℕ, Bool, true, false, cond, not, eqb, List, Some, None, refl, sym, ap, subst, bit_and, bit_or, bit_xor, []}
+use Rattle.std.specs.Prelude.{is_none, sum}
+use Rattle.target_base.specs.declared.types.OpaqueKind.{OpaqueKind}
+use Rattle.target_base.specs.declared.types.OpaqueKind.TheVariants as kinds
 use Rattle.target_base.specs.declared.types.Effect.{Effect}
 use Rattle.meaning.specs.Environment.{Environment, Value}
-use Rattle.meaning.specs.Perform.{Outside, Trapped, address, all_lanes, answers, applied, base_width, binary, branch, combined, compared, computed, divided, division, given, holds, lanes_of, load_at, loaded, operand, perform, shifted_signed, stopped, store_at, ternary, unary, widened, width, widths_of}
+use Rattle.meaning.specs.Perform.{OpaqueEvent, Outside, Performed, Trapped, Undefined, address, all_lanes, answered_control, answers, applied, base_width, binary, branch, combined, compared, computed, divided, division, given, holds, has_undef, lacks, lanes_of, load_at, loaded, opaque_shown, operand, perform, shifted_signed, shown, stopped, store_at, ternary, unary, widened, width, widths_of}
 use Rattle.meaning.specs.Refines.{AllAtLeast, AtLeast}
 use Rattle.meaning.specs.declared.types.Rest.{Rest}
 use Rattle.laws.proofs.Defined.{all-lanes-least, applied-least, both-least, given-least, lanes-least, loaded-least, nth-least, operand-least, same-places, stored-least}
 use Rattle.laws.specs.Monotone.{ByPlace, IsFine, OperandsAtLeast, OutsideAtLeast, PerformIsMonotone, PerformedAtLeast}
 use Rattle.target_base.specs.declared.types.Effect.TheVariants as effects
+
+or-false : (a b : Bool) → (a || b) ≡ false → (a ≡ false) × (b ≡ false)
+or-false true b e = absurd (cc)
+or-false false b e = (refl, e)
+
+-- where no lane is Undef, none is where lanes are at least as defined
+undef-least : (v u : List Value) → AllAtLeast v u → has_undef v ≡ false → has_undef u ≡ false
+undef-least [] [] h e = refl
+undef-least [] (y ∷ u) h e = absurd h
+undef-least (x ∷ v) [] h e = absurd h
+undef-least (None ∷ v) (y ∷ u) h e = absurd (cc)
+undef-least (Some n ∷ v) (y ∷ u) h e = ap (λ z. is_none z || has_undef u) h.0 ∙ undef-least v u h.1 e
+
+needed-least : (n : Bool) (v u : List Value) → AllAtLeast v u → (n && has_undef v) ≡ false → (n && has_undef u) ≡ false
+needed-least true v u h e = undef-least v u h e
+needed-least false v u h e = refl
+
+lacks-least : (ns : List Bool) (vs us : List (List Value)) → OperandsAtLeast vs us → lacks ns vs ≡ false → lacks ns us ≡ false
+lacks-least [] vs us h e = refl
+lacks-least (n ∷ ns) [] [] h e = refl
+lacks-least (n ∷ ns) [] (u ∷ us) h e = absurd h
+lacks-least (n ∷ ns) (v ∷ vs) [] h e = absurd h
+lacks-least (n ∷ ns) (v ∷ vs) (u ∷ us) h e =
+    let d = or-false (n && has_undef v) (lacks ns vs) e in
+    ap (λ b. b || lacks ns us) (needed-least n v u h.0 d.0) ∙ lacks-least ns vs us h.1 d.1
 
 nothing : ByPlace [] []
 nothing i = tt
@@ -59,7 +86,7 @@ module _ (o o' : Outside) (h : OutsideAtLeast o o') where
       })
 
 abbrev with_effect : Rest → Effect → Rest
-with_effect r e = record { effect = e; widths = r.widths; result = r.result; immediate = r.immediate; symbol = r.symbol }
+with_effect r e = record { effect = e; widths = r.widths; result = r.result; immediate = r.immediate; symbol = r.symbol; needed = r.needed }
 
 module _ (r : Rest) (env : Environment) (o o' : Outside) (vs us : List (List Value)) (h : OutsideAtLeast o o') (v : OperandsAtLeast vs us) where
   at-least : (n : ℕ) → AtLeast (operand r.widths vs n) (operand r.widths us n)
@@ -107,11 +134,44 @@ module _ (r : Rest) (env : Environment) (o o' : Outside) (vs us : List (List Val
       let b' = operand r.widths us 1 in
       computed-least o o' h (compared w a b) (compared w a' b') (compared-least o o' h w a b a' b' (at-least 0) (at-least 1))
 
+  abbrev answered : OpaqueKind → ℕ → Outside → List (List Value) → Performed
+  answered kind j out ws = record {
+    results = answers env out.calls j r.result;
+    outside = record { bytes = out.bytes; calls = out.calls + 1 };
+    events = OpaqueEvent r.symbol (all_lanes ws) ∷ [];
+    control = answered_control kind env out.calls;
+    divisor_defined = true;
+  }
+
   lanes : AllAtLeast (all_lanes vs) (all_lanes us)
   lanes = all-lanes-least vs us v
 
   none-least : PerformedAtLeast (computed [] o) (computed [] o')
   none-least = computed-least o o' h [] [] nothing
+
+  -- the answers are the same
+  answered-least : (kind : OpaqueKind) (j : ℕ) → PerformedAtLeast (answered kind j o vs) (answered kind j o' us)
+  answered-least kind j = record {
+    results = same-places (answers env o.calls j r.result) (answers env o'.calls j r.result) (ap (λ c. answers env c j r.result) h.calls);
+    outside = record { bytes = h.bytes; calls = ap (λ c. c + 1) h.calls };
+    events = ((refl, lanes), tt);
+    control = ap (answered_control kind env) (sym h.calls);
+    divisor_defined = refl;
+  }
+
+  shown-least : (kind : OpaqueKind) → PerformedAtLeast (shown kind r env o vs) (shown kind r env o' us)
+  shown-least kinds.Plain = answered-least kinds.Plain 0
+  shown-least kinds.Branch = answered-least kinds.Branch 1
+  shown-least kinds.Call = answered-least kinds.Call 0
+  shown-least kinds.Return = record { results = nothing; outside = h; events = ((refl, lanes), tt); control = refl; divisor_defined = refl }
+
+  opaque-least : (kind : OpaqueKind) → IsFine (opaque_shown kind r env o vs) → PerformedAtLeast (opaque_shown kind r env o vs) (opaque_shown kind r env o' us)
+  opaque-least kind k = by (lacks r.needed vs) (lacks r.needed us) k (lacks-least r.needed vs us v)
+    where
+      by : (x y : Bool) → IsFine (cond x (stopped o Undefined) (shown kind r env o vs)) → (x ≡ false → y ≡ false) → PerformedAtLeast (cond x (stopped o Undefined) (shown kind r env o vs)) (cond y (stopped o' Undefined) (shown kind r env o' us))
+      by true y k m = absurd (k.0 refl)
+      by false true k m = let e : true ≡ false = m refl in absurd (cc)
+      by false false k m = shown-least kind
 
   by_effect : (e : Effect) → IsFine (perform (with_effect r e) env o vs) → PerformedAtLeast (perform (with_effect r e) env o vs) (perform (with_effect r e) env o' us)
   unfolding perform
@@ -155,6 +215,10 @@ module _ (r : Rest) (env : Environment) (o o' : Outside) (vs us : List (List Val
   by_effect effects.Addr k = none-least
   by_effect effects.Spill k = none-least
   by_effect effects.Reload k = none-least
+  by_effect (effects.Opaque kinds.Plain) k = opaque-least kinds.Plain k
+  by_effect (effects.Opaque kinds.Branch) k = opaque-least kinds.Branch k
+  by_effect (effects.Opaque kinds.Call) k = opaque-least kinds.Call k
+  by_effect (effects.Opaque kinds.Return) k = opaque-least kinds.Return k
 
 -- Operations are monotone: what is defined stays as it is where Undef gives way to values.
 pub monotone : PerformIsMonotone

@@ -2,7 +2,7 @@
 use Rattle.std.proofs.Common.{◌∷◌, ◌∙◌, List, Some, None, refl, []}
 use Rattle.meaning.specs.Code.{Function, Run, run}
 use Rattle.meaning.specs.Environment.{Value}
-use Rattle.meaning.specs.Perform.{CallEvent, Event, ReturnEvent, StoreEvent}
+use Rattle.meaning.specs.Perform.{CallEvent, Event, OpaqueEvent, ReturnEvent, StoreEvent}
 use Rattle.meaning.specs.Refines.{AllAtLeast, AtLeast, Does, IsDefined, Refines, SameEvent, SameEvents}
 use Rattle.laws.specs.Preorder.{RefinementComposes}
 
@@ -28,25 +28,39 @@ values-refl (v ∷ vs) = (value-refl v, values-refl vs)
 
 event-trans : (e f g : Event) → SameEvent e f → SameEvent f g → SameEvent e g
 event-trans (CallEvent a us) (CallEvent b vs) (CallEvent c ws) h k = (h.0 ∙ k.0, values-trans us vs ws h.1 k.1)
-event-trans (StoreEvent a us) (StoreEvent b vs) (StoreEvent c ws) h k = (h.0 ∙ k.0, values-trans us vs ws h.1 k.1)
-event-trans (ReturnEvent us) (ReturnEvent vs) (ReturnEvent ws) h k = values-trans us vs ws h k
 event-trans (CallEvent a us) (CallEvent b vs) (StoreEvent c ws) h k = absurd k
 event-trans (CallEvent a us) (CallEvent b vs) (ReturnEvent ws) h k = absurd k
+event-trans (CallEvent a us) (CallEvent b vs) (OpaqueEvent c ws) h k = absurd k
 event-trans (CallEvent a us) (StoreEvent b vs) g h k = absurd h
 event-trans (CallEvent a us) (ReturnEvent vs) g h k = absurd h
-event-trans (StoreEvent a us) (StoreEvent b vs) (CallEvent c ws) h k = absurd k
-event-trans (StoreEvent a us) (StoreEvent b vs) (ReturnEvent ws) h k = absurd k
+event-trans (CallEvent a us) (OpaqueEvent b vs) g h k = absurd h
 event-trans (StoreEvent a us) (CallEvent b vs) g h k = absurd h
+event-trans (StoreEvent a us) (StoreEvent b vs) (CallEvent c ws) h k = absurd k
+event-trans (StoreEvent a us) (StoreEvent b vs) (StoreEvent c ws) h k = (h.0 ∙ k.0, values-trans us vs ws h.1 k.1)
+event-trans (StoreEvent a us) (StoreEvent b vs) (ReturnEvent ws) h k = absurd k
+event-trans (StoreEvent a us) (StoreEvent b vs) (OpaqueEvent c ws) h k = absurd k
 event-trans (StoreEvent a us) (ReturnEvent vs) g h k = absurd h
-event-trans (ReturnEvent us) (ReturnEvent vs) (CallEvent c ws) h k = absurd k
-event-trans (ReturnEvent us) (ReturnEvent vs) (StoreEvent c ws) h k = absurd k
+event-trans (StoreEvent a us) (OpaqueEvent b vs) g h k = absurd h
 event-trans (ReturnEvent us) (CallEvent b vs) g h k = absurd h
 event-trans (ReturnEvent us) (StoreEvent b vs) g h k = absurd h
+event-trans (ReturnEvent us) (ReturnEvent vs) (CallEvent c ws) h k = absurd k
+event-trans (ReturnEvent us) (ReturnEvent vs) (StoreEvent c ws) h k = absurd k
+event-trans (ReturnEvent us) (ReturnEvent vs) (ReturnEvent ws) h k = values-trans us vs ws h k
+event-trans (ReturnEvent us) (ReturnEvent vs) (OpaqueEvent c ws) h k = absurd k
+event-trans (ReturnEvent us) (OpaqueEvent b vs) g h k = absurd h
+event-trans (OpaqueEvent a us) (CallEvent b vs) g h k = absurd h
+event-trans (OpaqueEvent a us) (StoreEvent b vs) g h k = absurd h
+event-trans (OpaqueEvent a us) (ReturnEvent vs) g h k = absurd h
+event-trans (OpaqueEvent a us) (OpaqueEvent b vs) (CallEvent c ws) h k = absurd k
+event-trans (OpaqueEvent a us) (OpaqueEvent b vs) (StoreEvent c ws) h k = absurd k
+event-trans (OpaqueEvent a us) (OpaqueEvent b vs) (ReturnEvent ws) h k = absurd k
+event-trans (OpaqueEvent a us) (OpaqueEvent b vs) (OpaqueEvent c ws) h k = (h.0 ∙ k.0, values-trans us vs ws h.1 k.1)
 
 event-refl : (e : Event) → SameEvent e e
 event-refl (CallEvent a us) = (refl, values-refl us)
 event-refl (StoreEvent a us) = (refl, values-refl us)
 event-refl (ReturnEvent us) = values-refl us
+event-refl (OpaqueEvent a us) = (refl, values-refl us)
 
 events-trans : (es fs gs : List Event) → SameEvents es fs → SameEvents fs gs → SameEvents es gs
 events-trans [] [] gs a b = b

@@ -1,5 +1,5 @@
 -- Tests of sameness are right.
-use Rattle.std.proofs.Common.{◌≡◌, ◌∷◌, ◌&&◌, ◌∙◌, ℕ, zero, suc, Bool, true, eqb, List, Option, Some, None, refl, sym, ap, []}
+use Rattle.std.proofs.Common.{◌≡◌, ◌∷◌, ◌&&◌, ◌∙◌, ℕ, zero, suc, Bool, true, false, eqb, List, Option, Some, None, refl, sym, ap, []}
 use Rattle.std.proofs.lemmas.Bool.{and_from, eq-eqb, eqb-true}
 use Rattle.std.proofs.lemmas.Bool.Decides.{Decides-int_eq}
 use Rattle.std.specs.Ordering.{int_eq}
@@ -15,7 +15,9 @@ use Rattle.meaning.specs.declared.types.Source.{Source}
 use Rattle.meaning.specs.declared.types.Source.TheVariants.{Bits, FromLane, Undef}
 use Rattle.laws.proofs.Following.{both-true}
 use Rattle.laws.proofs.Quiet.{same-true}
+use Rattle.std.specs.Bool.{beq}
 use Rattle.target_base.specs.declared.types.Effect.TheVariants as effects
+use Rattle.target_base.specs.declared.types.OpaqueKind.TheVariants as kinds
 
 pub numbers-true : (xs ys : List ℕ) → same_numbers xs ys ≡ true → xs ≡ ys
 numbers-true [] [] e = refl
@@ -66,7 +68,7 @@ source-true (Bits c low width) (Bits d from to) e =
     cc
 
 all_effects : ℕ → List Effect
-all_effects s = effects.Copy ∷ effects.Phi ∷ effects.ImplicitDef ∷ effects.RegSequence ∷ effects.InsertSubreg ∷ effects.Const ∷ effects.Addr ∷ effects.Add ∷ effects.Sub ∷ effects.Mul ∷ effects.And ∷ effects.Or ∷ effects.Xor ∷ effects.Shl ∷ effects.Shr ∷ effects.Sar ∷ effects.Neg ∷ effects.Not ∷ effects.Udiv ∷ effects.Urem ∷ effects.Madd ∷ effects.Zext ∷ effects.Sext ∷ effects.Cmp ∷ effects.Load s ∷ effects.Store s ∷ effects.Jump ∷ effects.Jcc ∷ effects.Jnz ∷ effects.Call ∷ effects.Ret ∷ effects.Marker ∷ effects.Spill ∷ effects.Reload ∷ []
+all_effects s = effects.Copy ∷ effects.Phi ∷ effects.ImplicitDef ∷ effects.RegSequence ∷ effects.InsertSubreg ∷ effects.Const ∷ effects.Addr ∷ effects.Add ∷ effects.Sub ∷ effects.Mul ∷ effects.And ∷ effects.Or ∷ effects.Xor ∷ effects.Shl ∷ effects.Shr ∷ effects.Sar ∷ effects.Neg ∷ effects.Not ∷ effects.Udiv ∷ effects.Urem ∷ effects.Madd ∷ effects.Zext ∷ effects.Sext ∷ effects.Cmp ∷ effects.Load s ∷ effects.Store s ∷ effects.Jump ∷ effects.Jcc ∷ effects.Jnz ∷ effects.Call ∷ effects.Ret ∷ effects.Marker ∷ effects.Spill ∷ effects.Reload ∷ effects.Opaque kinds.Plain ∷ effects.Opaque kinds.Branch ∷ effects.Opaque kinds.Call ∷ effects.Opaque kinds.Return ∷ []
 
 abbrev pick : List Effect → ℕ → Effect
 pick [] n = effects.Marker
@@ -110,6 +112,10 @@ decoded effects.Ret = refl
 decoded effects.Marker = refl
 decoded effects.Spill = refl
 decoded effects.Reload = refl
+decoded (effects.Opaque kinds.Plain) = refl
+decoded (effects.Opaque kinds.Branch) = refl
+decoded (effects.Opaque kinds.Call) = refl
+decoded (effects.Opaque kinds.Return) = refl
 
 effect-true : (e f : Effect) → same_effect e f ≡ true → e ≡ f
 effect-true e f h =
@@ -128,6 +134,12 @@ list-true eq h (x ∷ xs) (y ∷ ys) e =
     let b = list-true eq h xs ys k.1 in
     cc
 
+bool-true : (a b : Bool) → beq a b ≡ true → a ≡ b
+bool-true true true e = refl
+bool-true true false e = absurd (cc)
+bool-true false true e = absurd (cc)
+bool-true false false e = refl
+
 pub option-true : (a b : Option ℕ) → same_option a b ≡ true → a ≡ b
 option-true None None e = refl
 option-true None (Some b) e = absurd (cc)
@@ -144,8 +156,10 @@ rest-true r s e =
     let x1 = list-true same_numbers numbers-true r.widths s.widths b.0 in
     let x2 = numbers-true r.result s.result c.0 in
     let x3 = int-true r.immediate s.immediate d.0 in
-    let x4 = numbers-true r.symbol s.symbol d.1 in
-    λ i. record { effect = x0 i; widths = x1 i; result = x2 i; immediate = x3 i; symbol = x4 i }
+    let f = both-true _ _ d.1 in
+    let x4 = numbers-true r.symbol s.symbol f.0 in
+    let x5 = list-true beq bool-true r.needed s.needed f.1 in
+    λ i. record { effect = x0 i; widths = x1 i; result = x2 i; immediate = x3 i; symbol = x4 i; needed = x5 i }
 
 same-numbers-refl : (xs : List ℕ) → same_numbers xs xs ≡ true
 same-numbers-refl [] = refl

@@ -1,8 +1,11 @@
 -- What a counted instruction does with the values that it reads. It sees no register: an immediate operand
 -- is read as bits of a constant, as many as the definition (for a comparison the first operand) has, and a base
 -- that is a frame object or a symbol as the 64 bits of its address. A conditional jump reads one flag.
-use Rattle.std.specs.Prelude.{ℕ, zero, suc, ◌+◌, ◌-◌, ◌*◌, ◌/◌, ◌%◌, ◌^◌, ℤ, Bool, true, false, cond, not, nat_eq, nat_lt, bit_and, bit_or, bit_xor, List, [], ◌∷◌, ◌++◌, Some, None, sum}
+use Rattle.std.specs.Prelude.{ℕ, zero, suc, ◌+◌, ◌-◌, ◌*◌, ◌/◌, ◌%◌, ◌^◌, ℤ, Bool, true, false, cond, not, ◌&&◌, ◌||◌, is_none, nat_eq, nat_lt, bit_and, bit_or, bit_xor, List, [], ◌∷◌, ◌++◌, Some, None, sum}
+use Rattle.std.specs.List.{list_any}
 use Rattle.target_base.specs.declared.types.Effect.TheVariants as effects
+use Rattle.target_base.specs.declared.types.OpaqueKind.{OpaqueKind}
+use Rattle.target_base.specs.declared.types.OpaqueKind.TheVariants as kinds
 use Rattle.meaning.specs.Environment.{Environment, Value, byte_of, answer, residue}
 pub use Rattle.meaning.specs.declared.types.Rest.{Rest}
 
@@ -10,11 +13,12 @@ pub data Event : Type 0 where
   CallEvent : (symbol : List ℕ) (lanes : List Value) → Event
   StoreEvent : (address : ℕ) (lanes : List Value) → Event
   ReturnEvent : (lanes : List Value) → Event
+  OpaqueEvent : (name : List ℕ) (lanes : List Value) → Event
 
 pub data End : Type 0 where
   Returned Trapped Undefined Steps : End
 
--- what lies outside the lanes: the bytes stored so far, the newest first, and the number of calls
+-- what lies outside the lanes: the bytes stored so far, the newest first, and how many answers the world has given
 pub record Outside : Type 0 where
   pub bytes : List (ℕ × Value)
   pub calls : ℕ
@@ -213,6 +217,42 @@ call_symbol r env o vs = record {
   divisor_defined = true;
 }
 
+-- some lane is Undef
+abbrev pub has_undef : List Value → Bool
+has_undef vs = list_any is_none vs
+
+-- an operand that has to be defined has an Undef lane
+abbrev pub lacks : List Bool → List (List Value) → Bool
+lacks [] vs = false
+lacks (n ∷ ns) [] = false
+lacks (n ∷ ns) (v ∷ vs) = (n && has_undef v) || lacks ns vs
+
+-- an opaque branch is taken where lane 0 of the answer is no multiple of 3; any other opaque instruction goes on
+abbrev pub answered_control : OpaqueKind → Environment → ℕ → Control
+answered_control kinds.Branch env k = cond (nat_eq (answer env k 0 8 % 3) 0) Next Taken
+answered_control kind env k = Next
+
+-- the first lane of the answer that is written
+abbrev pub first_answer : OpaqueKind → ℕ
+first_answer kinds.Branch = 1
+first_answer kind = 0
+
+-- An opaque instruction shows the world its name and what it reads, and takes what it writes from the world's answer; a
+-- return ends the run.
+abbrev pub shown : OpaqueKind → Rest → Environment → Outside → List (List Value) → Performed
+shown kinds.Return r env o vs = record { results = []; outside = o; events = OpaqueEvent r.symbol (all_lanes vs) ∷ []; control = Stop Returned; divisor_defined = true }
+shown kind r env o vs = record {
+  results = answers env o.calls (first_answer kind) r.result;
+  outside = record { bytes = o.bytes; calls = o.calls + 1 };
+  events = OpaqueEvent r.symbol (all_lanes vs) ∷ [];
+  control = answered_control kind env o.calls;
+  divisor_defined = true;
+}
+
+-- it isn't done where an address that it reads is Undef
+abbrev pub opaque_shown : OpaqueKind → Rest → Environment → Outside → List (List Value) → Performed
+opaque_shown kind r env o vs = cond (lacks r.needed vs) (stopped o Undefined) (shown kind r env o vs)
+
 unfoldable pub perform : Rest → Environment → Outside → List (List Value) → Performed
 perform r env o vs = elim r.effect [
   | effects.Add ↦ binary r o vs (λ w a b. a + b)
@@ -239,5 +279,6 @@ perform r env o vs = elim r.effect [
   | effects.Jnz ↦ branch o (λ n. not (nat_eq n 0)) (operand r.widths vs 0)
   | effects.Call ↦ call_symbol r env o vs
   | effects.Ret ↦ record { results = []; outside = o; events = ReturnEvent (all_lanes vs) ∷ []; control = Stop Returned; divisor_defined = true }
+  | effects.Opaque kind ↦ opaque_shown kind r env o vs
   | _ ↦ computed [] o
 ]

@@ -1,7 +1,7 @@
 -- One function does what another does, as far as that one is defined.
 use Rattle.std.specs.Prelude.{◌≡◌, ℕ, true, List, [], ◌∷◌, Some, None}
 use Rattle.meaning.specs.Environment.{Environment, Value}
-use Rattle.meaning.specs.Perform.{Event, CallEvent, StoreEvent, ReturnEvent, Undefined}
+use Rattle.meaning.specs.Perform.{Event, CallEvent, StoreEvent, ReturnEvent, OpaqueEvent, Undefined}
 use Rattle.meaning.specs.Code.{Function, Run, run}
 
 -- where the first is a number, the second is the same
@@ -19,6 +19,7 @@ abbrev pub SameEvent : Event → Event → Type 0
 SameEvent (CallEvent f vs) (CallEvent g ws) = (f ≡ g) × AllAtLeast vs ws
 SameEvent (StoreEvent a vs) (StoreEvent b ws) = (a ≡ b) × AllAtLeast vs ws
 SameEvent (ReturnEvent vs) (ReturnEvent ws) = AllAtLeast vs ws
+SameEvent (OpaqueEvent f vs) (OpaqueEvent g ws) = (f ≡ g) × AllAtLeast vs ws
 SameEvent _ _ = ⊥
 
 abbrev pub SameEvents : List Event → List Event → Type 0

@@ -2,7 +2,9 @@
 use Rattle.std.specs.Prelude.{ℕ, Bool, true, false, ◌&&◌, nat_eq, List, [], ◌∷◌, Option, Some, None}
 use Rattle.std.specs.Ordering.{int_eq}
 use Rattle.target_base.specs.declared.types.Effect.{Effect}
+use Rattle.std.specs.Bool.{beq}
 use Rattle.target_base.specs.declared.types.Effect.TheVariants as effects
+use Rattle.target_base.specs.declared.types.OpaqueKind.TheVariants as kinds
 use Rattle.target_base.specs.Storage.{same_numbers}
 use Rattle.meaning.specs.declared.types.Constant.{Constant}
 use Rattle.meaning.specs.declared.types.Constant.TheVariants.{Immediate, StackAddress, FixedStackAddress, SymbolAddress}
@@ -59,6 +61,10 @@ effect_number effects.Ret = 30
 effect_number effects.Marker = 31
 effect_number effects.Spill = 32
 effect_number effects.Reload = 33
+effect_number (effects.Opaque kinds.Plain) = 34
+effect_number (effects.Opaque kinds.Branch) = 35
+effect_number (effects.Opaque kinds.Call) = 36
+effect_number (effects.Opaque kinds.Return) = 37
 
 abbrev pub effect_scale : Effect → ℕ
 effect_scale (effects.Load scale) = scale
@@ -81,4 +87,4 @@ same_option _ _ = false
 -- alike but for registers
 abbrev pub same_rest : Rest → Rest → Bool
 same_rest r s =
-    same_effect r.effect s.effect && (same_list same_numbers r.widths s.widths && (same_numbers r.result s.result && (int_eq r.immediate s.immediate && same_numbers r.symbol s.symbol)))
+    same_effect r.effect s.effect && (same_list same_numbers r.widths s.widths && (same_numbers r.result s.result && (int_eq r.immediate s.immediate && (same_numbers r.symbol s.symbol && same_list beq r.needed s.needed))))

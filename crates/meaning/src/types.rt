@@ -1,7 +1,7 @@
 //! Lanes, what they are given, operations without their registers, and two codes side by side.
 
 use std::alloc::{AllocError, Global};
-use target_base::{Bytes, Copied, Effect, List, Numbers};
+use target_base::{Bytes, Copied, Effect, Flags, List, Numbers};
 
 /// A smallest place that holds a value of its own.
 #[derive(Clone, Copy, Debug, PartialEq, Eq)]
@@ -75,12 +75,16 @@ pub struct Rest {
     pub effect: Effect,
     /// The lane widths of its operands, in the order in which they are read.
     pub widths: Widths,
-    /// The lane widths of what it computes: its definition, or the lanes that a call answers.
+    /// The lane widths of what it computes: its definitions, and the lanes that the world answers.
     pub result: Numbers,
     /// The offset of a load or a store, or the condition of a jump; otherwise 0.
     pub immediate: i128,
-    /// The symbol that is called; otherwise empty.
+    /// The symbol that is called; of an opaque instruction what it shows of itself: its opcode and the
+    /// spelling of each operand that is no register and no block; otherwise empty.
     pub symbol: Bytes,
+    /// Of an opaque instruction whether each operand that is read has to be defined, in the order in
+    /// which they are read; otherwise empty.
+    pub needed: Flags,
 }
 
 /// A way into a block in two codes at once: the block's number, and what the phis of each write.

@@ -5,6 +5,7 @@ use Rattle.target_base.specs.declared.types.ClassId.{ClassId}
 use Rattle.target_base.specs.declared.types.IndexId.{IndexId}
 use Rattle.target_base.specs.declared.types.Effect.{Effect}
 use Rattle.target_base.specs.declared.types.Effect.TheVariants as effects
+use Rattle.target_base.specs.declared.types.OpaqueKind.TheVariants as kinds
 use Rattle.target_base.specs.declared.types.Role.{Role}
 use Rattle.target_base.specs.declared.types.Role.TheVariants as roles
 use Rattle.target_base.specs.declared.types.OpcodeDesc.{OpcodeDesc}
@@ -44,12 +45,14 @@ does test t i = passes test (effect_of t i)
 abbrev pub is_conditional : Effect → Bool
 is_conditional effects.Jcc = true
 is_conditional effects.Jnz = true
+is_conditional (effects.Opaque kinds.Branch) = true
 is_conditional _ = false
 
 -- control doesn't go on behind it
 abbrev pub ends_control : Effect → Bool
 ends_control effects.Jump = true
 ends_control effects.Ret = true
+ends_control (effects.Opaque kinds.Return) = true
 ends_control _ = false
 
 -- a jump, a conditional branch or a return
@@ -202,7 +205,7 @@ definitions rs os = filter_map definition_in (explicit_bound (explicit_roles rs)
 
 -- the number of the definition to which the role ties its use: its place among the operands
 abbrev pub tied_number : Role → Option ℕ
-tied_number (roles.Tied k) = Some 0
+tied_number (roles.Tied k n) = Some n
 tied_number _ = None
 
 -- the role ties its use to the definition of that number

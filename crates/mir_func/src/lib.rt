@@ -6,6 +6,7 @@ pub mod func;
 pub mod opcodes;
 pub mod operands;
 pub mod short;
+pub mod spelling;
 
 pub use func::{
     Block, Blocks, Classes, Edge, Edges, Frames, Func, Gap, Instr, Instrs, Loc, NoPhi, Op, Operand,

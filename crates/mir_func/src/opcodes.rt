@@ -7,7 +7,7 @@ ghost use Rattle.target_base.specs.Rules.{is_copy, is_phi};
 ghost use Rattle.mir_func.specs.Binding.{known_opcode, effect_of, roles_of, passes, does, is_conditional, ends_control, is_branch, puts_together, is_lowered_away, is_terminator, takes_many, is_early, is_early_clobber, tied_number, ties_to, first_role, after_first, explicit_roles, asked_class};
 
 use crate::func::{Instr, Op};
-use target_base::{Boxed, ClassId, Effect, OpcodeDesc, Role, Target, classes, roles};
+use target_base::{Boxed, ClassId, Effect, OpaqueKind, OpcodeDesc, Role, Target, classes, roles};
 
 /// The description of an opcode; none where it is an excluded one.
 pub fn desc_of<'a>(target: &'a Target, op: &Op) -> Option<&'a OpcodeDesc>
@@ -50,7 +50,7 @@ pub fn ends_control(e: Effect) -> bool
     ensures { result ≡ ends_control e }
 {
     match e {
-        Effect::Jump | Effect::Ret => true,
+        Effect::Jump | Effect::Ret | Effect::Opaque(OpaqueKind::Return) => true,
         _ => false,
     }
 }
@@ -60,7 +60,7 @@ pub fn is_conditional(e: Effect) -> bool
     ensures { result ≡ is_conditional e }
 {
     match e {
-        Effect::Jcc | Effect::Jnz => true,
+        Effect::Jcc | Effect::Jnz | Effect::Opaque(OpaqueKind::Branch) => true,
         _ => false,
     }
 }
@@ -70,8 +70,8 @@ pub fn is_branch(e: Effect) -> bool
     ensures { result ≡ is_branch e }
 {
     match e {
-        Effect::Jump | Effect::Jcc | Effect::Jnz => true,
-        _ => false,
+        Effect::Jump => true,
+        _ => is_conditional(e),
     }
 }
 
@@ -96,10 +96,7 @@ pub fn is_lowered_away(e: Effect) -> bool
 pub fn ends_block(e: Effect) -> bool
     ensures { result ≡ is_terminator e }
 {
-    match e {
-        Effect::Jump | Effect::Ret | Effect::Jcc | Effect::Jnz => true,
-        _ => false,
-    }
+    ends_control(e) || is_conditional(e)
 }
 
 /// Whether the instruction is a jump, a conditional branch or a return (LLVM's `isTerminator`).
@@ -184,7 +181,7 @@ pub fn is_tied(role: Option<Role>) -> bool
     ensures { result ≡ passes is_tied role }
 {
     match role {
-        Some(Role::Tied(_)) => true,
+        Some(Role::Tied(_, _)) => true,
         _ => false,
     }
 }
@@ -195,7 +192,7 @@ pub fn tied_number(role: Option<Role>) -> Option<usize>
     ensures { result ≡ option_and_then tied_number role }
 {
     match role {
-        Some(Role::Tied(_)) => Some(0),
+        Some(Role::Tied(_, n)) => Some(n as usize),
         _ => None,
     }
 }

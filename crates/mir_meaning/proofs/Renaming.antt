@@ -1,7 +1,9 @@
 -- Renaming the registers of an instruction renames its item.
 use Rattle.std.proofs.Common.{◌≡◌, ◌∷◌, ◌++◌, ◌&&◌, ◌||◌, not, ◌∙◌, ℕ, zero, suc, ◌+◌, Bool, true, false, cond, List, Option, Some, None, refl, sym, ap, subst, map, filter, filter_map, flat_map, sum, length, []}
 use Rattle.std.specs.Prelude.{nat_abs, option_map, pos, ℤ}
-use Rattle.target_base.specs.Roles.{is_silent}
+use Rattle.target_base.specs.Roles.{is_address, is_silent}
+use Rattle.target_base.specs.declared.types.OpaqueKind.{OpaqueKind}
+use Rattle.target_base.specs.declared.types.OpaqueKind.TheVariants as kinds
 use Rattle.meaning.specs.Code.{Counted, Item, Silent}
 use Rattle.mir_func.specs.declared.func.Block.{Block}
 use Rattle.meaning.specs.Perform.{condition_lane}
@@ -29,12 +31,14 @@ use Rattle.mir_func.specs.declared.func.Operand.{Operand}
 use Rattle.mir_func.specs.declared.func.Operand.TheVariants as operands
 use Rattle.mir_func.specs.declared.func.Instr.{Instr}
 use Rattle.mir_func.specs.Value.{Function}
-use Rattle.mir_func.proofs.Bound.{definitions_none, definitions_step, seated_definitions}
-use Rattle.mir_func.specs.Binding.{Definition, after_first, effect_of, explicit_operands, explicit_roles, first_role, implicit_registers, implicit_roles, is_early, is_early_clobber, is_terminator, passes, registers, roles_of, immediate_of, puts_together}
-use Rattle.mir_meaning.specs.Items.{read_widths, Value, all_lanes, answered, called_symbol, computes_with_immediates, constant_value, counted_writes, explicit_definitions, has_base, implicit_definitions, implicit_writes, kept, lane_width, rest_of, result_widths, result_writes, results, value_of, values, clobbered, flag_value, implicit_values, is_flags, pick, use_value, first_width, preserves, symbol_of, unreserved, computed, constant_bits, constant_lanes, constant_of, copied, defined, defined_undef, given_constant, lanes_beside, moved, reloaded, silent_reads, silent_writes, spilled, undefined, at_all_widths}
+use Rattle.mir_func.proofs.Bound.{bound_step, definitions_none, definitions_step, seated_definitions}
+use Rattle.mir_func.specs.Spelling.{op_name, word_of}
+use Rattle.mir_func.specs.Binding.{Definition, after_first, effect_of, explicit_bound, explicit_operands, explicit_roles, first_role, implicit_registers, implicit_roles, is_early, is_early_clobber, is_terminator, passes, registers, roles_of, immediate_of, puts_together}
+use Rattle.mir_meaning.specs.Items.{read_widths, Value, all_lanes, answered, computes_with_immediates, constant_value, counted_writes, defined_lanes, explicit_definitions, explicit_needs, further_writes, has_base, implicit_definitions, implicit_writes, kept, lane_width, named_symbol, needed_of, needs_value, opaque_clobbers, rest_of, result_widths, result_writes, results, value_of, values, clobbered, flag_value, implicit_values, is_flags, pick, use_value, first_width, preserves, symbol_of, unreserved, computed, constant_bits, constant_lanes, constant_of, copied, defined, defined_undef, given_constant, lanes_beside, moved, reloaded, silent_reads, silent_writes, spilled, undefined, at_all_widths}
 use Rattle.mir_meaning.specs.Registers.{is_reserved, numbers, located_lanes, located_widths, operand_lanes, operand_widths, unit_lanes, slot_lane_numbers, slot_lanes, undefined_lanes, use_sources}
 use Rattle.mir_meaning.specs.Codes.{effect_item, item_of, target_of, way, ways_out}
 use Rattle.std.specs.List.{cons_option, list_any}
+use Rattle.std.proofs.lemmas.Grind.{flat_map-append}
 use Rattle.mir_meaning.specs.Renaming.{IsFixed, KeepsPlaces, LawOfRenaming, Renames, RenamesAll, renamed_instr, renamed_item, renamed_operand}
 
 map-map : {A B C : Type 0} (g : B → C) (f : A → B) (xs : List A) → map g (map f xs) ≡ map (λ x. g (f x)) xs
@@ -475,6 +479,33 @@ module _ (t : Target) (f g : Function) (m : Lane → Lane) (r : RegOp → RegOp)
       ∙ (results-renamed (after_first qs) n os h
       ∙ ap (λ ds. renamed m (results t f n ds)) (sym (definitions_step qs x os)))
 
+  defined-renamed-lanes : (qs : List Role) (os : List Operand) → RenamesAll t f g m r os → defined_lanes t g (seated_definitions qs (map (renamed_operand r) os)) ≡ map m (defined_lanes t f (seated_definitions qs os))
+  defined-renamed-lanes qs [] h = ap (defined_lanes t g) (definitions_none qs) ∙ ap (λ ds. map m (defined_lanes t f ds)) (sym (definitions_none qs))
+  defined-renamed-lanes qs (operands.Reg o ∷ os) h =
+      ap (defined_lanes t g) (definitions_step qs (operands.Reg (r o)) (map (renamed_operand r) os))
+      ∙ ((λ k. defined_lanes t g (behind (r o) (h.0.implicit k) (h.0.def k && not (h.0.implicit k)) (map (renamed_operand r) os)))
+      ∙ (out o.implicit (o.def && not o.implicit) (defined-renamed-lanes qs os h.1) (defined-renamed-lanes (after_first qs) os h.1)
+      ∙ ap (λ ds. map m (defined_lanes t f ds)) (sym (definitions_step qs (operands.Reg o) os))))
+    where
+      early : Bool
+      early = passes is_early (first_role qs)
+
+      behind : RegOp → Bool → Bool → List Operand → List Definition
+      behind d implicit defines xs = cond implicit (seated_definitions qs xs) (cons_option (cond defines (Some (early, d)) None) (seated_definitions (after_first qs) xs))
+
+      out : (b d : Bool) → defined_lanes t g (seated_definitions qs (map (renamed_operand r) os)) ≡ map m (defined_lanes t f (seated_definitions qs os)) → defined_lanes t g (seated_definitions (after_first qs) (map (renamed_operand r) os)) ≡ map m (defined_lanes t f (seated_definitions (after_first qs) os)) → defined_lanes t g (behind (r o) b d (map (renamed_operand r) os)) ≡ map m (defined_lanes t f (behind o b d os))
+      out true d same more = same
+      out false true same more = (λ k. h.0.lanes k ++ more k) ∙ sym (map-append m (operand_lanes t f o) (defined_lanes t f (seated_definitions (after_first qs) os)))
+      out false false same more = more
+  defined-renamed-lanes qs (x ∷ os) h =
+      ap (defined_lanes t g) (definitions_step qs x (map (renamed_operand r) os))
+      ∙ (defined-renamed-lanes (after_first qs) os h
+      ∙ ap (λ ds. map m (defined_lanes t f ds)) (sym (definitions_step qs x os)))
+
+  -- the number behind the lanes of explicit definitions
+  count-stays : (qs : List Role) (os : List Operand) → RenamesAll t f g m r os → length (defined_lanes t g (seated_definitions qs (map (renamed_operand r) os))) ≡ length (defined_lanes t f (seated_definitions qs os))
+  count-stays qs os h = ap length (defined-renamed-lanes qs os h) ∙ map-length m (defined_lanes t f (seated_definitions qs os))
+
   result-widths-stay : (os : List Operand) → RenamesAll t f g m r os → flat_map (operand_widths t g) (explicit_definitions (map (renamed_operand r) os)) ≡ flat_map (operand_widths t f) (explicit_definitions os)
   result-widths-stay [] h = refl
   result-widths-stay (operands.Reg o ∷ os) h =
@@ -568,6 +599,9 @@ module _ (t : Target) (f g : Function) (m : Lane → Lane) (r : RegOp → RegOp)
   all-defined-lanes : (os : List Operand) → RenamesAll t f g m r os → all_lanes t g (implicit_definitions (map (renamed_operand r) os)) ≡ all_lanes t f (implicit_definitions os)
   all-defined-lanes os h = (λ k. all_lanes t g (filter (λ o. o.def) (implicit-same os h k))) ∙ all-same (implicit_definitions os) (definitions-fixed os h)
 
+  clobbers-steady : (os : List Operand) → Steady (undefined false (clobbered t os))
+  clobbers-steady os = steady-undefined (clobbered t os) (lanes-unreserved (map UnitLane (filter (λ u. not (list_any (preserves t u) os)) (numbers 0 (length t.units)))) (lanes-of-numbers (filter (λ u. not (list_any (preserves t u) os)) (numbers 0 (length t.units)))))
+
   implicit-writes-same : (e : Effect) (rs : List Role) (os : List Operand) → RenamesAll t f g m r os → implicit_writes t g e rs (map (renamed_operand r) os) ≡ implicit_writes t f e rs os
   implicit-writes-same effects.Cmp rs os h = λ k. kept t (computed false 0 (defined-lanes (is_flags rs) os h k) ++ undefined false (all-defined-lanes os h k))
   implicit-writes-same effects.Call rs os h = λ k. computed false 0 (unreserved t (all-defined-lanes os h k)) ++ undefined false (clobbers-stay os k)
@@ -583,26 +617,79 @@ module _ (t : Target) (f g : Function) (m : Lane → Lane) (r : RegOp → RegOp)
   implicit-writes-steady effects.Call rs os h =
       steady-append (computed false 0 (answered t f os)) (undefined false (clobbered t os))
       (steady-computed 0 (answered t f os) (lanes-unreserved (all_lanes t f (implicit_definitions os)) (lanes-of-all (implicit_definitions os) (definitions-fixed os h))))
-      (steady-undefined (clobbered t os) (lanes-unreserved (map UnitLane (filter (λ u. not (list_any (preserves t u) os)) (numbers 0 (length t.units)))) (lanes-of-numbers (filter (λ u. not (list_any (preserves t u) os)) (numbers 0 (length t.units))))))
+      (clobbers-steady os)
   implicit-writes-steady _ rs os h =
       steady-undefined (unreserved t (all_lanes t f (implicit_definitions os))) (lanes-unreserved (all_lanes t f (implicit_definitions os)) (lanes-of-all (implicit_definitions os) (definitions-fixed os h)))
 
+  opaque-clobbers-same : (kind : OpaqueKind) (os : List Operand) → opaque_clobbers t kind (map (renamed_operand r) os) ≡ opaque_clobbers t kind os
+  opaque-clobbers-same kinds.Call os = ap (undefined false) (clobbers-stay os)
+  opaque-clobbers-same _ os = refl
+
+  further-same : (e : Effect) (i : Instr) → RenamesAll t f g m r i.operands → further_writes t g e (renamed_instr r i) ≡ further_writes t f e i
+  further-same (effects.Opaque kind) i h = λ k. computed false (count-stays (explicit_roles (roles_of t i)) i.operands h k) (all-defined-lanes i.operands h k) ++ opaque-clobbers-same kind i.operands k
+  further-same e i h = implicit-writes-same e (implicit_roles (roles_of t i)) i.operands h
+
+  opaque-clobbers-steady : (kind : OpaqueKind) (os : List Operand) → Steady (opaque_clobbers t kind os)
+  opaque-clobbers-steady kinds.Call os = clobbers-steady os
+  opaque-clobbers-steady _ os = tt
+
+  further-steady : (e : Effect) (i : Instr) → RenamesAll t f g m r i.operands → Steady (further_writes t f e i)
+  further-steady (effects.Opaque kind) i h =
+      let os = i.operands in
+      let n = length (defined_lanes t f (seated_definitions (explicit_roles (roles_of t i)) os)) in
+      let all = all_lanes t f (implicit_definitions os) in
+      steady-append (computed false n all) (opaque_clobbers t kind os) (steady-computed n all (lanes-of-all (implicit_definitions os) (definitions-fixed os h))) (opaque-clobbers-steady kind os)
+  further-steady e i h = implicit-writes-steady e (implicit_roles (roles_of t i)) i.operands h
+
   writes-renamed : (e : Effect) (i : Instr) → RenamesAll t f g m r i.operands → counted_writes t g e (renamed_instr r i) ≡ renamed m (counted_writes t f e i)
   writes-renamed e i h =
-      let os = i.operands in
       let qs = explicit_roles (roles_of t i) in
-      let rs = implicit_roles (roles_of t i) in
-      let implicit = implicit_writes t f e rs os in
-      (λ k. results-renamed qs 0 os h k ++ (implicit-writes-same e rs os h ∙ sym (steady-renamed implicit (implicit-writes-steady e rs os h))) k)
-      ∙ sym (renamed-append m (results t f 0 (seated_definitions qs os)) implicit)
+      let further = further_writes t f e i in
+      (λ k. results-renamed qs 0 i.operands h k ++ (further-same e i h ∙ sym (steady-renamed further (further-steady e i h))) k)
+      ∙ sym (renamed-append m (results t f 0 (seated_definitions qs i.operands)) further)
+
+  all-widths-same : (os : List RegOp) → AllFixed os → flat_map (operand_widths t g) os ≡ flat_map (operand_widths t f) os
+  all-widths-same [] a = refl
+  all-widths-same (o ∷ os) a = λ k. fixed-widths t m keeps f g o a.0 k ++ all-widths-same os a.1 k
+
+  implicit-widths-stay : (os : List Operand) → RenamesAll t f g m r os → flat_map (operand_widths t g) (implicit_definitions (map (renamed_operand r) os)) ≡ flat_map (operand_widths t f) (implicit_definitions os)
+  implicit-widths-stay os h = (λ k. flat_map (operand_widths t g) (filter (λ o. o.def) (implicit-same os h k))) ∙ all-widths-same (implicit_definitions os) (definitions-fixed os h)
 
   widths-of-result : (e : Effect) (os : List Operand) → RenamesAll t f g m r os → result_widths t g e (map (renamed_operand r) os) ≡ result_widths t f e os
   widths-of-result effects.Call os h = λ k. map (lane_width t) (unreserved t (all-defined-lanes os h k))
+  widths-of-result (effects.Opaque kind) os h =
+      let new = map (renamed_operand r) os in
+      flat_map-append (operand_widths t g) (explicit_definitions new) (implicit_definitions new)
+      ∙ ((λ k. result-widths-stay os h k ++ implicit-widths-stay os h k)
+      ∙ sym (flat_map-append (operand_widths t f) (explicit_definitions os) (implicit_definitions os)))
   widths-of-result _ os h = result-widths-stay os h
 
-  symbol-of-call : (e : Effect) (os : List Operand) → called_symbol e (map (renamed_operand r) os) ≡ called_symbol e os
-  symbol-of-call effects.Call os = symbol-stays os
-  symbol-of-call _ os = refl
+  words-stay : (os : List Operand) → flat_map (word_of t) (map (renamed_operand r) os) ≡ flat_map (word_of t) os
+  words-stay [] = refl
+  words-stay (operands.Reg o ∷ os) = words-stay os
+  words-stay (x ∷ os) = ap (λ ws. word_of t x ++ ws) (words-stay os)
+
+  symbol-same : (e : Effect) (i : Instr) → named_symbol t e (renamed_instr r i) ≡ named_symbol t e i
+  symbol-same effects.Call i = symbol-stays i.operands
+  symbol-same (effects.Opaque kind) i = ap (λ ws. op_name t i.op ++ ws) (words-stay i.operands)
+  symbol-same _ i = refl
+
+  needs-same : (qs : List Role) (os : List Operand) → RenamesAll t f g m r os → filter_map needs_value (explicit_bound qs (map (renamed_operand r) os)) ≡ filter_map needs_value (explicit_bound qs os)
+  needs-same qs [] h = refl
+  needs-same qs (operands.Reg o ∷ os) h =
+      ap (filter_map needs_value) (bound_step qs (operands.Reg (r o)) (map (renamed_operand r) os))
+      ∙ ((λ k. cons_option (cond (h.0.def k) None (Some (passes is_address (first_role qs)))) (needs-same (after_first qs) os h.1 k))
+      ∙ sym (ap (filter_map needs_value) (bound_step qs (operands.Reg o) os)))
+  needs-same qs (x ∷ os) h =
+      ap (filter_map needs_value) (bound_step qs x (map (renamed_operand r) os))
+      ∙ (needs-same (after_first qs) os h
+      ∙ sym (ap (filter_map needs_value) (bound_step qs x os)))
+
+  needed-same : (e : Effect) (i : Instr) → RenamesAll t f g m r i.operands → needed_of t e (renamed_instr r i) ≡ needed_of t e i
+  needed-same (effects.Opaque kind) i h =
+      let qs = explicit_roles (roles_of t i) in
+      ap (λ os. filter_map needs_value (explicit_bound qs os)) (explicit-renamed i.operands h) ∙ needs-same qs (explicit_operands i.operands) (explicit-all i.operands h)
+  needed-same _ i h = refl
 
   widths-read : (e : Effect) (vs' vs : List Value) → seconds vs' ≡ seconds vs → read_widths e vs' ≡ read_widths e vs
   widths-read effects.Marker vs' vs p = refl
@@ -614,7 +701,8 @@ module _ (t : Target) (f g : Function) (m : Lane → Lane) (r : RegOp → RegOp)
     widths = widths-read e (values t g e (renamed_instr r i)) (values t f e i) (values-widths e i h) k;
     result = widths-of-result e i.operands h k;
     immediate = cond (computes_with_immediates e) (pos 0) (immediate-stays i.operands k);
-    symbol = symbol-of-call e i.operands k;
+    symbol = symbol-same e i k;
+    needed = needed-same e i h k;
   }
 
   module _ (b c : Block) (ways : (n : ℕ) → way t g c.number n ≡ way t f b.number n) (outs : ways_out t g c ≡ ways_out t f b) (i : Instr) (h : RenamesAll t f g m r i.operands) where

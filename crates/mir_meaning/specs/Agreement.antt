@@ -24,9 +24,9 @@ use Rattle.mir_func.specs.declared.func.Block.{Block}
 use Rattle.mir_func.specs.Value.{Function}
 use Rattle.mir_meaning.specs.declared.Form.TheVariants as forms
 use Rattle.mir_func.specs.Binding.{does, explicit_operands, implicit_registers, is_virtual, same_loc}
-use Rattle.mir_meaning.specs.Registers.{has_number}
+use Rattle.mir_meaning.specs.Registers.{has_number, operand_widths}
 use Rattle.mir_meaning.specs.Codes.{meaning_of}
-use Rattle.mir_meaning.specs.Rules.{successors_of}
+use Rattle.mir_meaning.specs.Rules.{successors_of, is_opaque}
 use Rattle.mir_meaning.specs.Valid.{IsValid, FirstFault, listed_units, Fault}
 
 -- the opcodes are one
@@ -72,6 +72,16 @@ are_partners i j =
     && all_alike operand_alike (explicit_operands i.operands) (explicit_operands j.operands)
     && all_alike implicit_alike (implicit_registers i.operands) (implicit_registers j.operands)
 
+-- where both operands are registers, they have the same lane widths
+abbrev pub widths_alike : Target → Function → Function → Operand → Operand → Bool
+widths_alike t f g (operands.Reg o) (operands.Reg p) = same_numbers (operand_widths t f o) (operand_widths t g p)
+widths_alike t f g o p = true
+
+-- Instruction i of the first function and instruction x of the second may be a pair. Of an opaque one the lane widths of
+-- registers are asked besides: of some roles no class says them.
+abbrev pub are_paired : Target → Function → Function → Instr → Instr → Bool
+are_paired t f g i x = are_partners i x && (not (does is_opaque t i) || all_alike (widths_alike t f g) (explicit_operands i.operands) (explicit_operands x.operands))
+
 -- the lists have the same numbers
 abbrev pub same_set : List ℕ → List ℕ → Bool
 same_set ms ns = list_all (has_number ns) ms && list_all (has_number ms) ns
@@ -109,21 +119,21 @@ is_counted t i = does (λ e. not (is_silent e)) t i
 
 -- Of instructions of one block, the j-th and on, and the counted ones left of the other: the first counted one whose
 -- partner is missing or differs; or instruction 0, where the other has more.
-abbrev pub unpaired : Target → ℕ → List Instr → List Instr → Option ℕ
-unpaired t j [] [] = None
-unpaired t j [] (x ∷ xs) = Some 0
-unpaired t j (i ∷ is) [] = cond (is_counted t i) (Some j) (unpaired t (suc j) is [])
-unpaired t j (i ∷ is) (x ∷ xs) = cond (is_counted t i) (cond (are_partners i x) (unpaired t (suc j) is xs) (Some j)) (unpaired t (suc j) is (x ∷ xs))
+abbrev pub unpaired : Target → Function → Function → ℕ → List Instr → List Instr → Option ℕ
+unpaired t f g j [] [] = None
+unpaired t f g j [] (x ∷ xs) = Some 0
+unpaired t f g j (i ∷ is) [] = cond (is_counted t i) (Some j) (unpaired t f g (suc j) is [])
+unpaired t f g j (i ∷ is) (x ∷ xs) = cond (is_counted t i) (cond (are_paired t f g i x) (unpaired t f g (suc j) is xs) (Some j)) (unpaired t f g (suc j) is (x ∷ xs))
 
 -- the same over blocks in layout
-abbrev pub unpaired_in : Target → List Block → List Block → Option Place
-unpaired_in t [] cs = None
-unpaired_in t (b ∷ bs) [] = None
-unpaired_in t (b ∷ bs) (c ∷ cs) = option_or (option_map (place b.number) (unpaired t 0 b.instrs (filter (is_counted t) c.instrs))) (unpaired_in t bs cs)
+abbrev pub unpaired_in : Target → Function → Function → List Block → List Block → Option Place
+unpaired_in t f g [] cs = None
+unpaired_in t f g (b ∷ bs) [] = None
+unpaired_in t f g (b ∷ bs) (c ∷ cs) = option_or (option_map (place b.number) (unpaired t f g 0 b.instrs (filter (is_counted t) c.instrs))) (unpaired_in t f g bs cs)
 
 -- where the counted instructions of the blocks don't pair
 unfoldable pub partner_doubt : Target → Function → Function → Option Place
-partner_doubt t f g = unpaired_in t f.blocks g.blocks
+partner_doubt t f g = unpaired_in t f g f.blocks g.blocks
 
 -- the second function with its successors in the order of the first, which changes nothing that it does
 abbrev pub in_order_of : List Block → List Block → List Block

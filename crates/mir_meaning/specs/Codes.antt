@@ -1,5 +1,5 @@
 -- A function as one code: its blocks in layout, with the phis on the ways into blocks.
-use Rattle.std.specs.Prelude.{ℕ, Bool, true, false, cond, not, ◌||◌, nat_eq, List, [], ◌∷◌, ◌++◌, map, flat_map, find, Option, Some, None, option_map}
+use Rattle.std.specs.Prelude.{ℕ, Bool, true, false, cond, not, ◌&&◌, ◌||◌, nat_eq, List, [], ◌∷◌, ◌++◌, map, flat_map, find, length, Option, Some, None, option_map}
 use Rattle.std.specs.List.{list_any}
 use Rattle.target_base.specs.declared.types.Effect.{Effect}
 use Rattle.target_base.specs.declared.types.Target.{Target}
@@ -70,14 +70,24 @@ falls_through t [] = true
 falls_through t (i ∷ []) = not (does ends_control t i)
 falls_through t (i ∷ j ∷ is) = falls_through t (j ∷ is)
 
+-- there is no instruction, or the last is no terminator
+abbrev pub ends_without_terminator : Target → List Instr → Bool
+ends_without_terminator t [] = true
+ends_without_terminator t (i ∷ []) = not (does is_terminator t i)
+ends_without_terminator t (i ∷ j ∷ is) = ends_without_terminator t (j ∷ is)
+
 -- the number of the first of these blocks
 abbrev pub first_number : List Block → Option ℕ
 first_number [] = None
 first_number (b ∷ bs) = Some b.number
 
+-- an open block has no successors, and control doesn't reach its end: the target's text has such blocks
+abbrev pub is_open : Target → Block → Bool
+is_open t b = t.options.open_blocks && nat_eq (length b.successors) 0 && ends_without_terminator t b.instrs
+
 -- the block that block b falls into, where it falls into one: the next in layout
 abbrev pub fallen_into : Target → Block → List Block → Option ℕ
-fallen_into t b after = cond (falls_through t b.instrs) (first_number after) None
+fallen_into t b after = cond (falls_through t b.instrs && not (is_open t b)) (first_number after) None
 
 -- the end of a block
 abbrev pub block_end : Target → Function → Block → List Block → Item

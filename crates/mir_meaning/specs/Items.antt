@@ -10,7 +10,9 @@ use Rattle.target_base.specs.Registers.{units_of}
 use Rattle.target_base.specs.Storage.{is_among, unit_width}
 use Rattle.target_base.specs.Numbers.{unit_number}
 use Rattle.std.specs.List.{list_any}
-use Rattle.target_base.specs.Roles.{bound_roles}
+use Rattle.target_base.specs.Roles.{bound_roles, is_address}
+use Rattle.target_base.specs.declared.types.OpaqueKind.{OpaqueKind}
+use Rattle.target_base.specs.declared.types.OpaqueKind.TheVariants as kinds
 use Rattle.meaning.specs.declared.types.Lane.{Lane}
 use Rattle.meaning.specs.declared.types.Lane.TheVariants.{UnitLane, SlotLane}
 use Rattle.meaning.specs.declared.types.Constant.{Constant}
@@ -29,7 +31,8 @@ use Rattle.mir_func.specs.declared.func.Operand.{Operand}
 use Rattle.mir_func.specs.declared.func.Operand.TheVariants as operands
 use Rattle.mir_func.specs.declared.func.Instr.{Instr}
 use Rattle.mir_func.specs.Value.{Function}
-use Rattle.mir_func.specs.Binding.{explicit_operands, implicit_registers, registers, takes_role, roles_of, implicit_roles, Definition, definitions, immediate_of}
+use Rattle.mir_func.specs.Binding.{explicit_operands, implicit_registers, registers, takes_role, roles_of, implicit_roles, explicit_roles, explicit_bound, Bound, passes, Definition, definitions, immediate_of}
+use Rattle.mir_func.specs.Spelling.{event_name}
 use Rattle.mir_meaning.specs.Registers.{numbers, operand_lanes, operand_widths, use_sources, undefined_lanes, located_lanes, slot_lane_numbers, slot_lanes, is_reserved}
 
 -- a write of a lane
@@ -261,6 +264,16 @@ implicit_writes t f effects.Cmp rs os =
 implicit_writes t f effects.Call rs os = computed false 0 (answered t f os) ++ undefined false (clobbered t os)
 implicit_writes t f _ rs os = undefined false (unreserved t (all_lanes t f (implicit_definitions os)))
 
+-- what an opaque call makes Undef
+abbrev pub opaque_clobbers : Target → OpaqueKind → List Operand → Writes
+opaque_clobbers t kinds.Call os = undefined false (clobbered t os)
+opaque_clobbers t kind os = []
+
+-- What implicit definitions of an opaque instruction write: lanes of the answer from number n on. Reserved units that it
+-- names take theirs too.
+abbrev pub opaque_implicit : Target → Function → OpaqueKind → ℕ → List Operand → Writes
+opaque_implicit t f kind n os = computed false n (all_lanes t f (implicit_definitions os)) ++ opaque_clobbers t kind os
+
 -- an explicit definition of a counted instruction: the lanes of the result from number n on, and Undef in the others of
 -- an `undef` one
 abbrev pub result_writes : Target → Function → Bool → ℕ → RegOp → Writes
@@ -271,11 +284,18 @@ abbrev pub results : Target → Function → ℕ → List Definition → Writes
 results t f n [] = []
 results t f n (d ∷ ds) = result_writes t f d.0 n d.1 ++ results t f (n + length (operand_lanes t f d.1)) ds
 
+-- the lanes of explicit definitions, one after the other
+abbrev pub defined_lanes : Target → Function → List Definition → List Lane
+defined_lanes t f ds = flat_map (λ d. operand_lanes t f d.1) ds
+
+-- what is written beside explicit definitions
+abbrev pub further_writes : Target → Function → Effect → Instr → Writes
+further_writes t f (effects.Opaque kind) i = opaque_implicit t f kind (length (defined_lanes t f (definitions (roles_of t i) i.operands))) i.operands
+further_writes t f e i = implicit_writes t f e (implicit_roles (roles_of t i)) i.operands
+
 -- all that a counted instruction writes
 abbrev pub counted_writes : Target → Function → Effect → Instr → Writes
-counted_writes t f e i =
-    results t f 0 (definitions (roles_of t i) i.operands)
-    ++ implicit_writes t f e (implicit_roles (roles_of t i)) i.operands
+counted_writes t f e i = results t f 0 (definitions (roles_of t i) i.operands) ++ further_writes t f e i
 
 -- the width of a unit's lane
 abbrev pub lane_width : Target → Lane → ℕ
@@ -285,12 +305,28 @@ lane_width t _ = 0
 -- the lane widths of what is computed
 abbrev pub result_widths : Target → Function → Effect → List Operand → List ℕ
 result_widths t f effects.Call os = map (lane_width t) (answered t f os)
+result_widths t f (effects.Opaque kind) os = flat_map (operand_widths t f) (explicit_definitions os ++ implicit_definitions os)
 result_widths t f _ os = flat_map (operand_widths t f) (explicit_definitions os)
 
--- the symbol that a call names
-abbrev pub called_symbol : Effect → List Operand → List ℕ
-called_symbol effects.Call os = symbol_of os
-called_symbol _ os = []
+-- the symbol that a call names, or what an opaque instruction shows of itself
+abbrev pub named_symbol : Target → Effect → Instr → List ℕ
+named_symbol t effects.Call i = symbol_of i.operands
+named_symbol t (effects.Opaque kind) i = event_name t i
+named_symbol t _ i = []
+
+-- whether a use has to be defined: where its role is that of an address
+abbrev pub needs_value : Bound → Option Bool
+needs_value (r, operands.Reg o) = cond o.def None (Some (passes is_address r))
+needs_value (r, o) = None
+
+-- of each explicit use among operands that take these roles whether it has to be defined
+abbrev pub explicit_needs : List Role → List Operand → List Bool
+explicit_needs rs os = filter_map needs_value (explicit_bound (explicit_roles rs) (explicit_operands os))
+
+-- of each explicit use of an opaque instruction whether it has to be defined
+abbrev pub needed_of : Target → Effect → Instr → List Bool
+needed_of t (effects.Opaque kind) i = explicit_needs (roles_of t i) i.operands
+needed_of t _ i = []
 
 -- the widths that an operation goes by: those of what it reads, but for a marker, which does nothing with it
 abbrev pub read_widths : Effect → List Value → List (List ℕ)
@@ -304,5 +340,6 @@ rest_of t f e i = record {
   widths = read_widths e (values t f e i);
   result = result_widths t f e i.operands;
   immediate = cond (computes_with_immediates e) (pos 0) (immediate_of i.operands);
-  symbol = called_symbol e i.operands;
+  symbol = named_symbol t e i;
+  needed = needed_of t e i;
 }

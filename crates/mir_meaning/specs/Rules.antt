@@ -12,7 +12,7 @@ use Rattle.target_base.specs.declared.types.Role.TheVariants as roles
 use Rattle.target_base.specs.declared.types.OpcodeDesc.{OpcodeDesc}
 use Rattle.target_base.specs.declared.types.Target.{Target}
 use Rattle.target_base.specs.Names.{are_distinct_numbers}
-use Rattle.target_base.specs.Registers.{regs_of, lanes_of, fits, home_of}
+use Rattle.target_base.specs.Registers.{regs_of, lanes_of, fits, home_of, units_of, is_reserved_unit}
 use Rattle.target_base.specs.Roles.{is_silent, is_slot}
 use Rattle.target_base.specs.Rules.{is_phi, is_spill, is_reload}
 use Rattle.target_base.specs.Storage.{holds_reg, is_within, holds_subs, same_numbers}
@@ -28,19 +28,42 @@ use Rattle.mir_func.specs.declared.func.Block.{Block}
 use Rattle.mir_func.specs.Value.{Function}
 use Rattle.mir_meaning.specs.declared.Form.{Form}
 use Rattle.mir_meaning.specs.declared.Form.TheVariants as forms
-use Rattle.mir_func.specs.Binding.{is_virtual, is_definition, is_use, same_loc, same_index, puts_together, is_lowered_away, known_opcode, does, passes, is_terminator, is_branch, is_implicit_operand, explicit_operands, registers, implicit_registers, takes_role, takes_many, Bound, explicit_roles, implicit_roles, bound, is_early, ties_to, tied_pairs, numbered, class_of, asked_class, immediate_of}
+use Rattle.mir_func.specs.Binding.{is_virtual, is_definition, is_use, same_loc, same_index, puts_together, is_lowered_away, known_opcode, does, passes, is_terminator, is_branch, is_implicit_operand, explicit_operands, registers, implicit_registers, takes_role, takes_many, Bound, explicit_roles, implicit_roles, bound, is_early, tied_number, ties_to, tied_pairs, numbered, class_of, asked_class, immediate_of}
 use Rattle.mir_meaning.specs.Registers.{has_number, operand_lanes, operand_widths}
 use Rattle.mir_meaning.specs.Items.{unreserved}
-use Rattle.mir_meaning.specs.Codes.{falls_through, fallen_into}
+use Rattle.mir_meaning.specs.Codes.{falls_through, fallen_into, is_open}
 
 -- what operands are
+
+-- the register is fixed and all its units are reserved
+abbrev pub is_reserved_register : Target → Loc → Bool
+is_reserved_register t (Virtual v) = false
+is_reserved_register t (Fixed r) = list_all (λ u. is_reserved_unit t u.0) (units_of t r)
+
+-- an immediate, a frame object, a symbol, a subregister index, or a use of a reserved register
+abbrev pub is_value : Target → Operand → Bool
+is_value t (operands.Imm z) = true
+is_value t (operands.Stack n) = true
+is_value t (operands.FixedStack n) = true
+is_value t (operands.Symbol name) = true
+is_value t (operands.Index x) = true
+is_value t (operands.Reg o) = is_use o && is_reserved_register t o.loc
+is_value t o = false
+
+-- the operand is of the kind that the role asks for at an opaque opcode, beside what it asks for at any
+abbrev pub fits_opaque : Target → Role → Operand → Bool
+fits_opaque t (roles.Value None) o = is_value t o
+fits_opaque t (roles.Value (Some k)) (operands.Reg o) = is_use o
+fits_opaque t (roles.Value (Some k)) o = is_value t o
+fits_opaque t roles.Any o = is_value t o
+fits_opaque t r o = false
 
 -- the operand is of the kind that the role asks for
 abbrev pub fits_role : Role → Operand → Bool
 fits_role (roles.Def k) (operands.Reg o) = is_definition o
 fits_role (roles.Early k) (operands.Reg o) = is_definition o
 fits_role (roles.Read k) (operands.Reg o) = is_use o
-fits_role (roles.Tied k) (operands.Reg o) = is_use o
+fits_role (roles.Tied k n) (operands.Reg o) = is_use o
 fits_role roles.Imm (operands.Imm z) = true
 fits_role roles.Target (operands.Block n) = true
 fits_role roles.Slot (operands.Stack n) = true
@@ -58,11 +81,20 @@ fits_role roles.Any (operands.Reg o) = is_use o
 fits_role roles.Rest (operands.Reg o) = is_use o && not (is_virtual o.loc)
 fits_role _ _ = false
 
+-- the effect is opaque
+abbrev pub is_opaque : Effect → Bool
+is_opaque (effects.Opaque kind) = true
+is_opaque e = false
+
+-- the operand is of the kind that the role asks for at this effect
+abbrev pub fits_at : Target → Effect → Role → Operand → Bool
+fits_at t e r o = fits_role r o || (is_opaque e && fits_opaque t r o)
+
 -- explicit operands meet the roles in number and kind
-abbrev pub explicit_fit : List Role → List Operand → Bool
-explicit_fit rs [] = list_all takes_many rs
-explicit_fit [] (o ∷ os) = false
-explicit_fit (r ∷ rs) (o ∷ os) = fits_role r o && explicit_fit (cond (takes_many r) (r ∷ rs) rs) os
+abbrev pub explicit_fit : Target → Effect → List Role → List Operand → Bool
+explicit_fit t e rs [] = list_all takes_many rs
+explicit_fit t e [] (o ∷ os) = false
+explicit_fit t e (r ∷ rs) (o ∷ os) = fits_at t e r o && explicit_fit t e (cond (takes_many r) (r ∷ rs) rs) os
 
 -- explicit operands stand before implicit ones
 abbrev pub implicit_last : List Operand → Bool
@@ -161,7 +193,7 @@ operands_fit t f d os effects.ImplicitDef = implicit_def_fits os
 operands_fit t f d os effects.Phi = result_and phi_pairs os
 operands_fit t f d os effects.RegSequence = result_and index_pairs os
 operands_fit t f d os effects.InsertSubreg = result_and insertion os
-operands_fit t f d os e = implicit_last os && explicit_fit (explicit_roles d.roles) (explicit_operands os) && implicit_fit d (implicit_registers os) && values_fit t f e os
+operands_fit t f d os e = implicit_last os && explicit_fit t e (explicit_roles d.roles) (explicit_operands os) && implicit_fit d (implicit_registers os) && values_fit t f e os
 
 -- V1: operands fit the opcode's roles in number, kind and value. (Verifier: "Too few operands", "Explicit
 -- operand marked as def", "Missing implicit register".)
@@ -182,10 +214,23 @@ abbrev pub register_lies_in : Target → Function → ClassId → Loc → Option
 register_lies_in t f k (Virtual v) x = passes (λ c. lies_in t k c x) (class_of f v)
 register_lies_in t f k (Fixed r) x = holds_reg (regs_of t k) r
 
+-- at an opaque opcode the role takes reserved registers of any class
+abbrev pub takes_reserved : Role → Bool
+takes_reserved (roles.Value k) = true
+takes_reserved (roles.Address k) = true
+takes_reserved r = false
+
+-- the register is a reserved one, and the role takes these at this effect
+abbrev pub is_taken_reserved : Target → Effect → Option Role → Loc → Bool
+is_taken_reserved t e r l = is_opaque e && passes takes_reserved r && is_reserved_register t l
+
 -- the register lies in the class that its role asks for, where its lanes are known
-abbrev pub in_operand_class : Target → Function → Bound → Bool
-in_operand_class t f (r, operands.Reg o) = not (has_lanes t f o) || list_all (λ k. register_lies_in t f k o.loc o.index) (option_to_list (option_and_then asked_class r))
-in_operand_class t f (r, o) = true
+abbrev pub in_operand_class : Target → Function → Effect → Bound → Bool
+in_operand_class t f e (r, operands.Reg o) =
+    not (has_lanes t f o)
+    || is_taken_reserved t e r o.loc
+    || list_all (λ k. register_lies_in t f k o.loc o.index) (option_to_list (option_and_then asked_class r))
+in_operand_class t f e (r, o) = true
 
 -- a fixed side of a copy whose other side is virtual lies in some class
 abbrev pub has_home : Target → Loc → Loc → Bool
@@ -222,7 +267,7 @@ widths_fit t f e os = true
 -- (Verifier: "Illegal virtual register for instruction", "Illegal physical register for instruction", "Copy
 -- Instruction is illegal with mismatching sizes".)
 unfoldable pub V2 : Target → Function → Instr → Bool
-V2 t f i = list_all (in_operand_class t f) (bound t i) && elim (known_opcode t i.op) [ None ↦ true | Some d ↦ widths_fit t f d.effect i.operands ]
+V2 t f i = elim (known_opcode t i.op) [ None ↦ true | Some d ↦ list_all (in_operand_class t f d.effect) (bound t i) && widths_fit t f d.effect i.operands ]
 
 -- a virtual register has just one class
 abbrev pub has_class : Function → Loc → Bool
@@ -305,17 +350,18 @@ V8 t b j i = does is_terminator t i || not (list_any (does is_terminator t) (tak
 abbrev pub branch_targets : Target → List Instr → List ℕ
 branch_targets t is = flat_map named_blocks (filter (does is_branch t) is)
 
--- V9: the successors are the branch targets and the block that is fallen into, each once; not asked where a
--- branch fails V1. (Verifier: "MBB exits via conditional branch/fall-through but the CFG successors don't match
+-- V9: the successors are the branch targets and the block that is fallen into, each once; not asked of an open
+-- block, nor where a branch fails V1. (Verifier: "MBB exits via conditional branch/fall-through but the CFG successors don't match
 -- the actual successors!".)
 unfoldable pub V9 : Target → Function → ℕ → Block → Bool
 V9 t f k b =
     list_any (λ i. does is_branch t i && not (V1 t f i)) b.instrs
+    || is_open t b
     || lists_once (successors_of b) (branch_targets t b.instrs ++ option_to_list (fallen_into t b (drop (suc k) f.blocks)))
 
--- V10: the last block in layout ends with a jump or a return. (Verifier: "MBB falls through out of function!".)
+-- V10: the last block in layout ends with a jump or a return, or is open. (Verifier: "MBB falls through out of function!".)
 unfoldable pub V10 : Target → Function → ℕ → Block → Bool
-V10 t f k b = nat_lt (suc k) (length f.blocks) || not (falls_through t b.instrs)
+V10 t f k b = nat_lt (suc k) (length f.blocks) || not (falls_through t b.instrs) || is_open t b
 
 -- ties and `early-clobber` that are written are the opcode's; a tie names its definition by the place among the operands
 abbrev pub flags_fit : Bound → Bool
@@ -367,13 +413,32 @@ abbrev pub early_fits : Target → Function → List Bound → ℕ × Bound → 
 early_fits t f bs (n, (r, operands.Reg d)) = not (passes is_early r) || not (list_any (λ u. share_a_lane (clashing_lanes t f d) (clashing_lanes t f u)) (readings_besides n bs))
 early_fits t f bs (n, (r, o)) = true
 
+-- the lanes of a definition that count for clashes with others: of an opaque instruction reserved ones too
+abbrev pub defined_lanes : Target → Function → Bool → RegOp → List Lane
+defined_lanes t f true d = cond (has_lanes t f d) (operand_lanes t f d) []
+defined_lanes t f false d = clashing_lanes t f d
+
+-- an `undef` use that isn't tied
+abbrev pub is_free_undef : Bound → Bool
+is_free_undef (r, operands.Reg o) = not o.def && o.undef && is_none (option_and_then tied_number r)
+is_free_undef (r, o) = false
+
+-- an early-clobber definition
+abbrev pub is_early_definition : Bound → Bool
+is_early_definition b = passes is_early b.0
+
+-- beside an early-clobber definition an opaque instruction has no `undef` use but tied ones
+abbrev pub undef_uses_fit : Bool → List Bound → Bool
+undef_uses_fit opaque bs = not (opaque && list_any is_early_definition bs && list_any is_free_undef bs)
+
 -- V12: definitions are apart from each other and, where they are early, from uses. (Manual: "undef" of a
 -- definition marks that the rest of the register isn't read; verifier: "Early clobber def must end at ..".)
 unfoldable pub V12 : Target → Form → Function → Instr → Bool
 V12 t form f i =
     list_all (undef_fits form (registers i.operands)) (filter (λ o. o.def) (registers i.operands))
-    && no_two_share (map (clashing_lanes t f) (filter (λ o. o.def) (registers i.operands)))
+    && no_two_share (map (defined_lanes t f (does is_opaque t i)) (filter (λ o. o.def) (registers i.operands)))
     && list_all (early_fits t f (bound t i)) (numbered 0 (bound t i))
+    && undef_uses_fit (does is_opaque t i) (bound t i)
 
 -- the frame object of that number is declared a spill slot
 abbrev pub is_spill_slot : Function → ℕ → Bool

@@ -12,6 +12,7 @@ pub enum Form {
     Allocated,
 }
 
+pub mod ends;
 mod writing;
 
 pub use writing::Writing;

@@ -1,6 +1,6 @@
 //! Examples of what code means and of its laws, proved: each is the contract of a function.
 
-ghost use Rattle.worked_examples.specs.Code.Runs.{AddsToItself, ZeroTraps, UndefinedDivisor, HalfUndefined, PhisSwap, CopiesAtOnce, SlotsKeepTheirWidth, CallsAnswer, ConditionsHold};
+ghost use Rattle.worked_examples.specs.Code.Runs.{AddsToItself, ZeroTraps, UndefinedDivisor, HalfUndefined, PhisSwap, CopiesAtOnce, SlotsKeepTheirWidth, CallsAnswer, ConditionsHold, OpaqueAsks, OpaqueDecides, AnswersInTurn};
 ghost use Rattle.worked_examples.specs.Code.Refuted.{LanesStay, EventsStay, EndsStay, CountsStay, DivisorsStay, UndefinedAsksNothing};
 ghost use Rattle.worked_examples.specs.Code.Premises.{FoldsACopy, QuietMatters, RewritesACopy, ClashMatters, FixesMatters, OnlyMatters, LayoutMatters, NoPhisMatters, StartsMatter, SpillsInStep, StepsFromAnotherStart, AgreesOverALoop, FineMatters};
 ghost use Rattle.worked_examples.specs.Code.Liveness.{IdleCopies, ReadCopies, StoresAreRead};
@@ -17,6 +17,9 @@ pub fn runs()
     ensures slots_keep_their_width { SlotsKeepTheirWidth }
     ensures calls_answer { CallsAnswer }
     ensures conditions_hold { ConditionsHold }
+    ensures opaque_asks { OpaqueAsks }
+    ensures opaque_decides { OpaqueDecides }
+    ensures answers_in_turn { AnswersInTurn }
     ensures operations_give { OperationsGive }
 {}
 

@@ -2,7 +2,7 @@
 use Rattle.std.proofs.Common.{refl}
 use Rattle.meaning.specs.Perform.{perform}
 use Rattle.worked_examples.specs.Code.Operations.{OperationsGive}
-use Rattle.worked_examples.specs.Code.Runs.{AddsToItself, ZeroTraps, UndefinedDivisor, HalfUndefined, PhisSwap, CopiesAtOnce, SlotsKeepTheirWidth, CallsAnswer, ConditionsHold}
+use Rattle.worked_examples.specs.Code.Runs.{AddsToItself, ZeroTraps, UndefinedDivisor, HalfUndefined, PhisSwap, CopiesAtOnce, SlotsKeepTheirWidth, CallsAnswer, ConditionsHold, OpaqueAsks, OpaqueDecides, AnswersInTurn}
 
 pub adds : AddsToItself
 unfolding perform
@@ -43,3 +43,15 @@ conditions = (refl, refl, refl, refl, refl, refl, refl)
 pub operations : OperationsGive
 unfolding perform
 operations = refl
+
+pub asks : OpaqueAsks
+unfolding perform
+asks = (refl, refl, refl)
+
+pub decides : OpaqueDecides
+unfolding perform
+decides = (refl, refl)
+
+pub in_turn : AnswersInTurn
+unfolding perform
+in_turn = refl

@@ -2,9 +2,9 @@
 use Rattle.std.specs.Prelude.{◌≡◌, ℕ, pos, true, false, List, [], ◌∷◌, Some, None}
 use Rattle.meaning.specs.declared.types.Source.TheVariants.{Undef}
 use Rattle.meaning.specs.Environment.{Environment, Value}
-use Rattle.meaning.specs.Perform.{Event, CallEvent, StoreEvent, ReturnEvent, End, Returned, Trapped, Undefined, Steps}
+use Rattle.meaning.specs.Perform.{Event, CallEvent, StoreEvent, ReturnEvent, OpaqueEvent, End, Returned, Trapped, Undefined, Steps}
 use Rattle.meaning.specs.Code.{Function, run}
-use Rattle.worked_examples.specs.Code.Samples.{nothing, seeded, number, tied_add, tied_add_allocated, quotient, half_undefined, swapping, overlapping, reloaded_at, calling, comparing}
+use Rattle.worked_examples.specs.Code.Samples.{nothing, seeded, number, tied_add, tied_add_allocated, quotient, half_undefined, swapping, overlapping, reloaded_at, calling, comparing, answering, name, asking, deciding, calling_twice}
 
 -- the run is defined all the way
 abbrev pub Makes : Function → Environment → ℕ → List Event → End → Type 0
@@ -68,3 +68,23 @@ ConditionsHold =
     × Makes (comparing 200 200 (pos 5) 12) nothing 3 (returns (Some 2 ∷ [])) Returned
     -- a flag that was never written
     × Makes (comparing 200 200 (pos 5) 9) nothing 3 [] Undefined
+
+abbrev pub shows : List Value → Event
+shows vs = OpaqueEvent name vs
+
+-- An opaque instruction shows an Undef lane and takes the answer all the same; where an address is Undef it isn't done.
+abbrev pub OpaqueAsks : Type 0
+OpaqueAsks =
+    Makes (asking (number 1) (number 2)) seeded 5 (shows (Some 1 ∷ Some 2 ∷ []) ∷ returns (Some 7 ∷ Some 8 ∷ [])) Returned
+    × Makes (asking Undef (number 2)) seeded 5 (shows (None ∷ Some 2 ∷ []) ∷ returns (Some 7 ∷ Some 8 ∷ [])) Returned
+    × Makes (asking (number 1) Undef) seeded 5 [] Undefined
+
+-- 7 is no multiple of 3, so the branch is taken, and what it defines has lane 1 of the answer; 9 is one
+abbrev pub OpaqueDecides : Type 0
+OpaqueDecides =
+    Makes deciding seeded 5 (shows [] ∷ shows (Some 8 ∷ []) ∷ []) Returned
+    × Makes deciding answering 5 (shows [] ∷ returns (Some 2 ∷ [])) Returned
+
+-- calls and opaque instructions take their answers in turn; behind the end of an open block there is nothing
+abbrev pub AnswersInTurn : Type 0
+AnswersInTurn = Makes calling_twice answering 5 (calls [] ∷ shows (Some 9 ∷ []) ∷ shows (Some 4 ∷ []) ∷ []) Undefined

@@ -1,8 +1,10 @@
 -- Small functions, written out by hand. Units are numbered as in the target `mini`: 0 to 2 are $eax, 3 to 5 $ecx,
 -- 12 to 14 the flags, 15 the stack pointer.
-use Rattle.std.specs.Prelude.{ℕ, zero, suc, ℤ, pos, false, List, [], ◌∷◌, Some, None, nat_eq, nat_lt, cond}
+use Rattle.std.specs.Prelude.{ℕ, zero, suc, ℤ, pos, true, false, List, [], ◌∷◌, Option, Some, None, nat_eq, nat_lt, cond, codes}
 use Rattle.target_base.specs.declared.types.Effect.{Effect}
 use Rattle.target_base.specs.declared.types.Effect.TheVariants as effects
+use Rattle.target_base.specs.declared.types.OpaqueKind.{OpaqueKind}
+use Rattle.target_base.specs.declared.types.OpaqueKind.TheVariants as kinds
 use Rattle.meaning.specs.declared.types.Lane.{Lane}
 use Rattle.meaning.specs.declared.types.Lane.TheVariants.{VirtualLane, UnitLane, SlotLane}
 use Rattle.meaning.specs.declared.types.Source.{Source}
@@ -26,6 +28,10 @@ seeded = record nothing {
   answers = (7 ∷ 8 ∷ []) ∷ [];
 }
 
+-- the first answer is 9, the second 4
+abbrev pub answering : Environment
+answering = record nothing { answers = (9 ∷ []) ∷ (4 ∷ []) ∷ [] }
+
 -- these units have 8 bits, but unit 2 and 5 have 16, the flags 1, and the stack pointer 32
 abbrev pub unit_bits : ℕ → ℕ
 unit_bits u = cond (nat_eq u 2) 16 (cond (nat_eq u 5) 16 (cond (nat_eq u 15) 32 (cond (nat_lt u 12) 8 1)))
@@ -40,7 +46,7 @@ abbrev pub function : Given → Code → Function
 function given code = record { code = code; given = given }
 
 abbrev pub op : Effect → List (List ℕ) → List ℕ → ℤ → Rest
-op e widths result immediate = record { effect = e; widths = widths; result = result; immediate = immediate; symbol = [] }
+op e widths result immediate = record { effect = e; widths = widths; result = result; immediate = immediate; symbol = []; needed = [] }
 
 abbrev pub byte : List ℕ
 byte = 8 ∷ []
@@ -215,7 +221,7 @@ storing a = function given_none (body (Counted (op (effects.Store 1) ((64 ∷ []
 
 -- a call of the function of that name
 abbrev pub calling_name : List ℕ → Function
-calling_name name = function given_none (body (Counted (record { effect = effects.Call; widths = []; result = []; immediate = pos 0; symbol = name }) [] [] None [] ∷ ret [] ∷ []))
+calling_name name = function given_none (body (Counted (record { effect = effects.Call; widths = []; result = []; immediate = pos 0; symbol = name; needed = [] }) [] [] None [] ∷ ret [] ∷ []))
 
 -- a branch on an Undef register, to the next block
 abbrev pub branching : Function
@@ -227,3 +233,40 @@ branching = function given_none (
     ∷ ret []
     ∷ BlockEnd None []
     ∷ [])
+
+-- what opaque instructions show of themselves here
+abbrev pub name : List ℕ
+name = codes "ASK"
+
+-- an opaque instruction of these operands, the last of which has to be defined, and what it writes; the way to its target
+abbrev pub opaque : OpaqueKind → Reads → List ℕ → Writes → Option Edge → Item
+opaque kind reads lanes ws target = Counted (record { effect = effects.Opaque kind; widths = []; result = lanes; immediate = pos 0; symbol = name; needed = false ∷ true ∷ [] }) reads ws target []
+
+-- gives an operand, and one that has to be defined, to an opaque instruction; returns the two lanes that it is answered
+abbrev pub asking : Source → Source → Function
+asking s address = function given_none (body (
+    opaque kinds.Plain ((s ∷ []) ∷ (address ∷ []) ∷ []) (8 ∷ 8 ∷ []) (result (reg 0) 0 ∷ result (reg 1) 1 ∷ []) None
+    ∷ ret (from (reg 0) ∷ from (reg 1) ∷ [])
+    ∷ []))
+
+-- an opaque branch that defines a register, an opaque return behind its target, and a return of 2 else
+abbrev pub deciding : Function
+deciding = function given_none (
+    BlockStart 0
+    ∷ opaque kinds.Branch [] byte (result (reg 0) 0 ∷ []) (Some (plain_edge 1))
+    ∷ BlockEnd (Some []) (plain_edge 2 ∷ plain_edge 1 ∷ [])
+    ∷ BlockStart 2
+    ∷ ret ((number 2 ∷ []) ∷ [])
+    ∷ BlockEnd None []
+    ∷ BlockStart 1
+    ∷ opaque kinds.Return (from (reg 0) ∷ []) [] [] None
+    ∷ BlockEnd None []
+    ∷ [])
+
+-- an opaque call behind a call, and the end of an open block
+abbrev pub calling_twice : Function
+calling_twice = function given_none (body (
+    Counted (op effects.Call [] byte (pos 0)) [] (result (reg 0) 0 ∷ []) None []
+    ∷ opaque kinds.Call (from (reg 0) ∷ []) byte (result (reg 0) 0 ∷ []) None
+    ∷ opaque kinds.Plain (from (reg 0) ∷ []) [] [] None
+    ∷ []))

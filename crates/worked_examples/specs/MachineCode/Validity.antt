@@ -2,7 +2,7 @@
 use Rattle.std.specs.Prelude.{◌≡◌, ℕ, Bool, true, false, ◌||◌, nat_eq, List, [], ◌∷◌, Some, codes, refl}
 use Rattle.target_base.specs.declared.types.Target.{Target}
 use Rattle.target_base.specs.declared.types.Reg.{Reg}
-use Rattle.target_base.specs.Mini.{mini_target, mini_units, mini_regs, mini_reserved, mini_indexes, mini_classes, mini_masks, mini_opcodes}
+use Rattle.target_base.specs.Mini.{mini_target, mini_units, mini_regs, mini_reserved, mini_indexes, mini_classes, mini_masks, mini_opcodes, no_options}
 use Rattle.target_base.specs.Numbers.{reg_number}
 use Rattle.target_base.specs.Rules.{is_sound}
 use Rattle.mir_func.specs.declared.func.Op.TheVariants as ops
@@ -30,6 +30,7 @@ mini_two = record {
   classes = mini_classes;
   masks = mini_masks;
   opcodes = mini_opcodes;
+  options = no_options;
   sound = two_is_sound;
 }
 

@@ -1,4 +1,4 @@
-use Rattle.worked_examples.proofs.CodeLemmas.Computed.{adds, zero_traps, undefined_divisor, half, swaps, at_once, widths, answers, conditions, operations}
+use Rattle.worked_examples.proofs.CodeLemmas.Computed.{adds, zero_traps, undefined_divisor, half, swaps, at_once, widths, answers, conditions, operations, asks, decides, in_turn}
 use Rattle.worked_examples.proofs.code.runs.Goals as goal
 
 pub returns : goal.returns
@@ -13,4 +13,7 @@ returns c = record {
   calls_answer = answers;
   conditions_hold = conditions;
   operations_give = operations;
+  opaque_asks = asks;
+  opaque_decides = decides;
+  answers_in_turn = in_turn;
 }
