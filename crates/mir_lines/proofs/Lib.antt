@@ -1,5 +1,5 @@
 pub mod Values
 pub mod Listed
-pub mod Parts
+pub mod Cut
 pub mod Comments
 pub mod Few

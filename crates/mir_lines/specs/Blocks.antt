@@ -1,11 +1,11 @@
 -- The header, the successors and the live-in registers that a line spells, before names are looked up.
-use Rattle.std.specs.Prelude.{ℕ, Bool, List, [], ◌∷◌, Option, Some, None, codes, ◌||◌, ◌==◌, is_some, is_none, if◌then◌else◌}
-use Rattle.std.specs.List.{list_all, slice_split}
-use Rattle.std.specs.Borrow.{Bor}
+use Rattle.std.specs.Prelude.{ℕ, Bool, List, [], ◌∷◌, Option, Some, None, codes, ◌||◌, is_some, is_none, if◌then◌else◌}
+use Rattle.std.specs.List.{list_all}
 use Rattle.target_base.specs.Names.{is_digit}
 use Rattle.mir_lines.specs.declared.raw.RawHeader.{RawHeader}
 use Rattle.mir_lines.specs.declared.raw.RawEdge.{RawEdge}
 use Rattle.mir_lines.specs.Bytes.{run, behind, skip, skip_back, behind_word, before_word, is_ascii, is_blank}
+use Rattle.mir_lines.specs.Parts.{each, comma_parts}
 use Rattle.mir_lines.specs.Reads.{◌>>=◌}
 use Rattle.mir_lines.specs.Numbers.{number_of, hex_at_most}
 use Rattle.mir_lines.specs.Registers.{name_at}
@@ -31,20 +31,6 @@ header_in text =
 -- `bb.N`, a name or none, a text in parentheses or none, a colon
 unfoldable pub header_of : List ℕ → Option RawHeader
 header_of text = behind_word (codes "bb.") (skip_back text) >>= λ rest. if is_ascii rest then header_in rest else None
-
--- each of these parts, in order
-abbrev pub each : {X : Type 0} → (List ℕ → Option X) → List (List ℕ) → Option (List X)
-each one [] = Some []
-each one (part ∷ parts) = one part >>= λ x. each one parts >>= λ xs. Some (x ∷ xs)
-
--- the parts between commas; a text without a comma is one part
-unfoldable pub comma_parts : List ℕ → List (List ℕ)
-comma_parts text = slice_split (λ b. b == 44) text
-
--- the first part, and those of what stands behind its comma
-abbrev pub parts_from : Bor (List ℕ) × Option (Bor (List ℕ)) → List (List ℕ)
-parts_from (part, None) = part.now ∷ []
-parts_from (part, Some rest) = part.now ∷ comma_parts rest.now
 
 -- a list with commas between its elements; it may be empty
 abbrev pub comma_list : {X : Type 0} → (List ℕ → Option X) → List ℕ → Option (List X)

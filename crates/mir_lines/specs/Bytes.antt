@@ -3,6 +3,7 @@ use Rattle.std.specs.Prelude.{ℕ, Bool, List, Option, Some, None, length, drop,
 use Rattle.std.specs.List.{before_first, position_or_len, suffix_len, list_all}
 use Rattle.std.specs.Cmp.Lexicographic.{pointwise}
 use Rattle.target_base.specs.Names.{is_digit, is_name_byte}
+use Rattle.target_base.specs.Names.{is_flag_byte as is_target_flag_byte}
 use Rattle.mir_lines.specs.declared.lexer.Sort.{Sort}
 use Rattle.mir_lines.specs.declared.lexer.Sort.TheVariants as sorts
 
@@ -28,6 +29,7 @@ is_of sorts.Flag b = is_flag_byte b
 is_of sorts.Name b = is_name_byte b
 is_of sorts.Word b = is_word_byte b
 is_of sorts.Label b = is_label_byte b
+is_of sorts.TargetFlag b = is_target_flag_byte b
 
 -- the bytes of a sort that stand first
 abbrev pub run : (ℕ → Bool) → List ℕ → List ℕ

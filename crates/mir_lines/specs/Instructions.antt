@@ -1,8 +1,12 @@
 -- The instruction that a line spells, before its names are looked up.
 use Rattle.std.specs.Prelude.{ℕ, zero, suc, ◌⊎◌, Bool, true, false, List, [], ◌∷◌, ◌++◌, Option, Some, None, length, ◌≤◌, ◌<◌, ◌+◌, codes, not, ◌&&◌, ◌||◌, ◌==◌, is_some, if◌then◌else◌}
 use Rattle.std.proofs.Common.{inl, inr}
-use Rattle.std.specs.List.{join_by}
+use Rattle.std.specs.List.{list_any}
 use Rattle.target_base.specs.Names.{is_op_name}
+use Rattle.target_base.specs.declared.types.Effect.{Effect}
+use Rattle.target_base.specs.declared.types.Effect.TheVariants as effects
+use Rattle.target_base.specs.declared.types.TextOptions.{TextOptions}
+use Rattle.target_base.specs.declared.types.Target.{Target}
 use Rattle.mir_lines.specs.declared.raw.RawOperand.{RawOperand}
 use Rattle.mir_lines.specs.declared.raw.RawOperand.TheVariants as operands
 use Rattle.mir_lines.specs.declared.raw.RawInstr.{RawInstr}
@@ -12,6 +16,7 @@ use Rattle.mir_lines.specs.declared.instructions.Link.{Link}
 use Rattle.mir_lines.specs.declared.instructions.Link.TheVariants as links
 use Rattle.std.specs.Borrow.{Bor}
 use Rattle.mir_lines.specs.Bytes.{is_word_byte, run, behind, skip, is_word, behind_word, is_ascii, is_blank}
+use Rattle.mir_lines.specs.Parts.{joined}
 use Rattle.mir_lines.specs.Reads.{◌>>=◌, before}
 use Rattle.mir_lines.specs.Registers.{continues, is_tail_word, words_at, register_at}
 use Rattle.mir_lines.specs.Operands.{operand_at, begins_register}
@@ -56,11 +61,11 @@ definition_at text = words_at text >>= λ w. register_at true w.0 w.1 >>= λ r. 
 
 -- An element of a list with commas between them: a definition, the last of which an equals sign follows, or
 -- another operand, the last of which a tail follows or nothing.
-unfoldable pub element_at : Part → List ℕ → Option (RawOperand × (List ℕ ⊎ List ℕ))
-element_at parts.Definitions text =
+unfoldable pub element_at : TextOptions → Part → List ℕ → Option (RawOperand × (List ℕ ⊎ List ℕ))
+element_at options parts.Definitions text =
     definition_at text >>= λ o. linked o.0 (behind_word (codes "=") (skip o.1)) (behind_word (codes ",") (skip o.1))
-element_at parts.Others text =
-    operand_at text >>= λ o. linked o.0 (tail_at o.1) (behind_word (codes ",") (skip o.1))
+element_at options parts.Others text =
+    operand_at options text >>= λ o. linked o.0 (tail_at o.1) (behind_word (codes ",") (skip o.1))
 
 abbrev pub chained_behind : (List ℕ → Option (List RawOperand × List ℕ)) → List ℕ ⊎ List ℕ → Option (List RawOperand × List ℕ)
 chained_behind more (inl rest) = Some ([], rest)
@@ -68,20 +73,20 @@ chained_behind more (inr next) = more next
 
 -- Elements one after another, and the text behind the last. Each takes a byte at least, so n is large enough where
 -- it is more than the bytes of the text.
-abbrev pub chained : Part → ℕ → List ℕ → Option (List RawOperand × List ℕ)
-chained part zero text = None
-chained part (suc n) text = element_at part text >>= λ e. before e.0 (chained_behind (chained part n) e.1)
+abbrev pub chained : TextOptions → Part → ℕ → List ℕ → Option (List RawOperand × List ℕ)
+chained options part zero text = None
+chained options part (suc n) text = element_at options part text >>= λ e. before e.0 (chained_behind (chained options part n) e.1)
 
-unfoldable pub elements_at : Part → List ℕ → Option (List RawOperand × List ℕ)
-elements_at part text = chained part (suc (length text)) text
+unfoldable pub elements_at : TextOptions → Part → List ℕ → Option (List RawOperand × List ℕ)
+elements_at options part text = chained options part (suc (length text)) text
 
-abbrev pub operands_behind : List ℕ → Option (List ℕ) → Option (List RawOperand × List ℕ)
-operands_behind text None = elements_at parts.Others text
-operands_behind text (Some tail) = Some ([], tail)
+abbrev pub operands_behind : TextOptions → List ℕ → Option (List ℕ) → Option (List RawOperand × List ℕ)
+operands_behind options text None = elements_at options parts.Others text
+operands_behind options text (Some tail) = Some ([], tail)
 
 -- the operands behind an opcode, and the tail
-unfoldable pub operands_at : List ℕ → Option (List RawOperand × List ℕ)
-operands_at text = operands_behind text (tail_at text)
+unfoldable pub operands_at : TextOptions → List ℕ → Option (List RawOperand × List ℕ)
+operands_at options text = operands_behind options text (tail_at text)
 
 -- an opcode's name
 unfoldable pub opcode_at : List ℕ → Option (List ℕ × List ℕ)
@@ -89,9 +94,9 @@ opcode_at text =
     if is_op_name (run is_word_byte text) && not (continues (behind is_word_byte text))
     then Some (run is_word_byte text, behind is_word_byte text) else None
 
--- the generic opcodes that no stage has a meaning for
-unfoldable pub is_excluded : List ℕ → Bool
-is_excluded name =
+-- the generic opcodes that have no meaning of their own
+unfoldable pub is_generic : List ℕ → Bool
+is_generic name =
     is_word name (codes "INLINEASM")
     || (is_word name (codes "INLINEASM_BR")
     || (is_word name (codes "BUNDLE")
@@ -108,34 +113,43 @@ is_excluded name =
     || (is_word name (codes "KILL")
     || is_word name (codes "CFI_INSTRUCTION"))))))))))))))
 
--- the words with one space between them
-unfoldable pub joined : List (List ℕ) → List ℕ
-joined words = join_by (λ w. w) (codes " ") words
+abbrev pub is_opaque : Effect → Bool
+is_opaque (effects.Opaque kind) = true
+is_opaque e = false
+
+-- the target has an opaque opcode of this name
+abbrev pub declares_opaque : Target → List ℕ → Bool
+declares_opaque t name = list_any (λ o. is_opaque o.effect && is_word o.name name) t.opcodes
+
+-- the generic opcodes that no stage has a meaning for: an opaque one of the target has a meaning
+unfoldable pub is_excluded : Target → List ℕ → Bool
+is_excluded t name = is_generic name && not (declares_opaque t name)
 
 unfoldable pub instr_of : List RawOperand → List (List ℕ) → List ℕ → Bool → List ℕ → RawInstr
-instr_of os flags name excluded tail = record { operands = os; flags = joined flags; opcode = name; excluded = excluded; tail = tail }
+instr_of os flags name excluded tail = record { operands = os; flags = joined (codes " ") flags; opcode = name; excluded = excluded; tail = tail }
 
 -- the operands of an opcode without a meaning aren't read
-unfoldable pub behind_opcode : List RawOperand → List (List ℕ) → List ℕ → List ℕ → Option RawInstr
-behind_opcode defs flags name text =
-    if is_excluded name
+unfoldable pub behind_opcode : Target → List RawOperand → List (List ℕ) → List ℕ → List ℕ → Option RawInstr
+behind_opcode t defs flags name text =
+    if is_excluded t name
     then (if is_ascii text then Some (instr_of defs flags name true []) else None)
-    else (operands_at text >>= λ o. Some (instr_of (defs ++ o.0) flags name false o.1))
+    else (operands_at t.options text >>= λ o. Some (instr_of (defs ++ o.0) flags name false o.1))
 
 -- what stands behind the definitions
-unfoldable pub behind_definitions : List RawOperand → List (List ℕ) → List ℕ → Option RawInstr
-behind_definitions defs flags text = opcode_at text >>= λ o. behind_opcode defs flags o.0 o.1
+unfoldable pub behind_definitions : Target → List RawOperand → List (List ℕ) → List ℕ → Option RawInstr
+behind_definitions t defs flags text = opcode_at text >>= λ o. behind_opcode t defs flags o.0 o.1
 
 -- an instruction that begins with definitions
-abbrev pub with_definitions : List ℕ → Option RawInstr
-with_definitions text = elements_at parts.Definitions text >>= λ d. words_at d.1 >>= λ f. behind_definitions d.0 f.0 f.1
+abbrev pub with_definitions : Target → List ℕ → Option RawInstr
+with_definitions t text = elements_at t.options parts.Definitions text >>= λ d. words_at d.1 >>= λ f. behind_definitions t d.0 f.0 f.1
 
 -- definitions, where a register stands behind the words; then flags, the opcode, operands, a tail
-abbrev pub instruction_in : List ℕ → List (List ℕ) → List ℕ → Option RawInstr
-instruction_in text words behind = if begins_register behind then with_definitions text else behind_definitions [] words behind
+abbrev pub instruction_in : Target → List ℕ → List (List ℕ) → List ℕ → Option RawInstr
+instruction_in t text words behind = if begins_register behind then with_definitions t text else behind_definitions t [] words behind
 
-unfoldable pub instruction_of : List ℕ → Option RawInstr
-instruction_of text = words_at text >>= λ w. instruction_in text w.0 w.1
+-- The target says which spellings of symbols it takes, and which of the generic opcodes have a meaning.
+unfoldable pub instruction_of : Target → List ℕ → Option RawInstr
+instruction_of t text = words_at text >>= λ w. instruction_in t text w.0 w.1
 
 -- what follows an element of a text of n bytes is shorter, but for a tail, which may be all of it
 abbrev pub IsShorter : Link → Part → ℕ → Type 0

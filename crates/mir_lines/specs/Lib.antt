@@ -1,7 +1,9 @@
 pub mod Bytes
 pub mod Reads
+pub mod Parts
 pub mod Numbers
 pub mod Registers
+pub mod Symbols
 pub mod Operands
 pub mod Instructions
 pub mod Blocks

@@ -1,13 +1,15 @@
 -- Operands at the front of a text.
-use Rattle.std.specs.Prelude.{ℕ, pos, neg_ℤ, Bool, false, List, [], ◌∷◌, ◌++◌, Option, Some, None, codes, ◌||◌, ◌==◌, option_map, position, take, drop, ◌+◌, if◌then◌else◌}
+use Rattle.std.specs.Prelude.{ℕ, pos, neg_ℤ, Bool, false, List, [], ◌∷◌, Option, Some, None, codes, ◌||◌, ◌==◌, option_map, if◌then◌else◌}
 use Rattle.std.specs.Borrow.{Bor}
 use Rattle.target_base.specs.Names.{is_digit, is_name}
 use Rattle.mir_lines.specs.declared.raw.RawOperand.{RawOperand}
 use Rattle.mir_lines.specs.declared.raw.RawOperand.TheVariants as operands
-use Rattle.mir_lines.specs.Bytes.{is_word_byte, is_label_byte, run, behind, behind_word, is_ascii}
+use Rattle.target_base.specs.declared.types.TextOptions.{TextOptions}
+use Rattle.mir_lines.specs.Bytes.{is_word_byte, is_label_byte, run, behind, is_word, behind_word}
 use Rattle.mir_lines.specs.Reads.{◌>>=◌}
 use Rattle.mir_lines.specs.Numbers.{is_filled, decimal_at_most, number_of}
 use Rattle.mir_lines.specs.Registers.{continues, ending, is_tail_word, words_at, name_at, begins_with_digit, register_at}
+use Rattle.mir_lines.specs.Symbols.{begins_symbol, symbol_at, behind_noreg, no_register, flagged_symbol_at}
 
 -- a name behind a number's dot
 abbrev pub label_behind : ℕ → List ℕ → Option (List ℕ) → Option ((ℕ × Option (List ℕ)) × List ℕ)
@@ -43,37 +45,17 @@ abbrev pub behind_or : (List ℕ → Option (RawOperand × List ℕ)) → Option
 behind_or read None other = other
 behind_or read (Some rest) other = option_map Some (read rest)
 
--- a block, a frame object or a subregister index; Some None where the text begins none of them
-unfoldable pub object_at : List ℕ → Option (Option (RawOperand × List ℕ))
-object_at text =
+abbrev pub noreg_before : List ℕ → Option (RawOperand × List ℕ)
+noreg_before rest = Some (no_register, rest)
+
+-- a block, a frame object, a subregister index or `$noreg`; Some None where the text begins none of them
+unfoldable pub object_at : TextOptions → List ℕ → Option (Option (RawOperand × List ℕ))
+object_at o text =
     behind_or block_at (behind_word (codes "%bb.") text)
     (behind_or stack_at (behind_word (codes "%stack.") text)
     (behind_or fixed_stack_at (behind_word (codes "%fixed-stack.") text)
-    (behind_or subreg_at (behind_word (codes "%subreg.") text) (Some None))))
-
--- `@name` and `&name`: the mark, then letters, digits and `_ . - $`
-unfoldable pub bare_symbol_at : List ℕ → Option (RawOperand × List ℕ)
-bare_symbol_at [] = None
-bare_symbol_at (mark ∷ text) =
-    if is_filled (run is_label_byte text) then ending (operands.Symbol (mark ∷ run is_label_byte text)) (behind is_label_byte text) else None
-
--- a text with a quote at this place
-abbrev pub quoted_in : List ℕ → Option ℕ → Option (RawOperand × List ℕ)
-quoted_in text None = None
-quoted_in text (Some k) =
-    if is_ascii (take k text) then Some (operands.Symbol (codes "@\"" ++ (take k text ++ codes "\"")), drop (k + 1) text) else None
-
--- `@"text"`: ASCII through the next quote
-unfoldable pub quoted_symbol_at : List ℕ → Option (RawOperand × List ℕ)
-quoted_symbol_at text = quoted_in text (position (λ b. b == 34) text)
-
-abbrev pub symbol_in : List ℕ → Option (List ℕ) → Option (RawOperand × List ℕ)
-symbol_in text None = bare_symbol_at text
-symbol_in text (Some inside) = quoted_symbol_at inside
-
--- a symbol, kept as written
-unfoldable pub symbol_at : List ℕ → Option (RawOperand × List ℕ)
-symbol_at text = symbol_in text (behind_word (codes "@\"") text)
+    (behind_or subreg_at (behind_word (codes "%subreg.") text)
+    (behind_or noreg_before (behind_noreg o text) (Some None)))))
 
 unfoldable pub positive_at : List ℕ → Option (RawOperand × List ℕ)
 positive_at text = decimal_at_most 18446744073709551615 (run is_digit text) >>= λ n. ending (operands.Imm (pos n)) (behind is_digit text)
@@ -97,10 +79,6 @@ is_begun (Some rest) = begins_with_digit rest
 unfoldable pub begins_immediate : List ℕ → Bool
 begins_immediate text = begins_with_digit text || is_begun (behind_word (codes "-") text)
 
-unfoldable pub begins_symbol : List ℕ → Bool
-begins_symbol [] = false
-begins_symbol (b ∷ bs) = b == 64 || b == 38
-
 abbrev pub mask_of : List ℕ → Option RawOperand
 mask_of word = if is_name word then Some (operands.Mask word) else None
 
@@ -110,11 +88,9 @@ mask_at text =
     if is_tail_word text || continues (behind is_word_byte text) then None
     else (mask_of (run is_word_byte text) >>= λ o. Some (o, behind is_word_byte text))
 
--- an operand that no lower-case word begins and that is no register
+-- an operand that no lower-case word begins and that is no register and no symbol
 unfoldable pub plain_at : List ℕ → Option (RawOperand × List ℕ)
-plain_at text =
-    if begins_symbol text then symbol_at text
-    else (if begins_immediate text then immediate_at text else mask_at text)
+plain_at text = if begins_immediate text then immediate_at text else mask_at text
 
 -- a dollar or a percent sign stands first
 unfoldable pub begins_register : List ℕ → Bool
@@ -128,11 +104,25 @@ abbrev pub object_or_register : List ℕ → Option (RawOperand × List ℕ) →
 object_or_register text None = as_register [] text
 object_or_register text (Some o) = Some o
 
--- behind lower-case words: flags of a register, or one word that names a mask
-unfoldable pub operand_behind : List (List ℕ) → List ℕ → Option (RawOperand × List ℕ)
-operand_behind [] text = if begins_register text then (object_at text >>= object_or_register text) else plain_at text
-operand_behind (w ∷ []) text = if begins_register text then as_register (w ∷ []) text else (mask_of w >>= λ o. Some (o, text))
-operand_behind (w ∷ v ∷ words) text = if begins_register text then as_register (w ∷ v ∷ words) text else None
+abbrev pub unflagged : List ℕ × List ℕ → Option (RawOperand × List ℕ)
+unflagged s = Some (operands.Symbol s.0 [], s.1)
 
-unfoldable pub operand_at : List ℕ → Option (RawOperand × List ℕ)
-operand_at text = words_at text >>= λ w. operand_behind w.0 w.1
+-- an operand before which no lower-case word stands
+unfoldable pub wordless_at : TextOptions → List ℕ → Option (RawOperand × List ℕ)
+wordless_at o text =
+    if begins_symbol o text then (symbol_at o text >>= unflagged)
+    else (if begins_register text then (object_at o text >>= object_or_register text) else plain_at text)
+
+-- an operand behind one word that is no flag of a register: a symbol with flags, or the mask of that name
+abbrev pub worded_at : TextOptions → List ℕ → List ℕ → Option (RawOperand × List ℕ)
+worded_at o word text =
+    if is_word word (codes "target-flags") then flagged_symbol_at o text else (mask_of word >>= λ m. Some (m, text))
+
+-- behind lower-case words
+unfoldable pub operand_behind : TextOptions → List (List ℕ) → List ℕ → Option (RawOperand × List ℕ)
+operand_behind o [] text = wordless_at o text
+operand_behind o (w ∷ []) text = if begins_register text then as_register (w ∷ []) text else worded_at o w text
+operand_behind o (w ∷ v ∷ words) text = if begins_register text then as_register (w ∷ v ∷ words) text else None
+
+unfoldable pub operand_at : TextOptions → List ℕ → Option (RawOperand × List ℕ)
+operand_at o text = words_at text >>= λ w. operand_behind o w.0 w.1

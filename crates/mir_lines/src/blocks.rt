@@ -3,11 +3,13 @@
 ghost use Rattle.std.specs.Prelude.{◌≡◌, ◌≤◌, ◌<◌, ◌==◌, ◌++◌, ◌∷◌, ◌+◌, [], Some, length, IfOk, IfSome, option_map, is_some, is_none, position, ◌||◌, not};
 ghost use Rattle.std.specs.List.{list_all};
 ghost use Rattle.mir_lines.specs.Reads.{Reads, it, part_and_rest, now_of};
-ghost use Rattle.mir_lines.specs.Blocks.{in_parentheses, attributes_of, or_none, header_in, header_of, comma_parts, parts_from, each, share_of, share_behind, edge_in, edge_of, are_alike, alike, successors_of, livein_of, liveins_of};
+ghost use Rattle.mir_lines.specs.Parts.{comma_parts, each};
+ghost use Rattle.mir_lines.specs.Blocks.{in_parentheses, attributes_of, or_none, header_in, header_of, share_of, share_behind, edge_in, edge_of, are_alike, alike, successors_of, livein_of, liveins_of};
 
 use crate::lexer::{Sort, before_word, behind_word, is_ascii, is_blank, skip, skip_back, span};
 use crate::numbers::{number, share};
 use crate::operands::take_numbered;
+use crate::parts::next_part;
 use crate::raw::{RawEdge, RawHeader, Words};
 use crate::registers::take_name;
 use crate::stop::LineStop;
@@ -72,23 +74,6 @@ pub fn header(alloc: Global, text: &[u8]) -> Result<RawHeader, LineStop>
             }
             header_in(alloc, rest)
         }
-    }
-}
-
-fn find_comma(text: &[u8]) -> Option<usize>
-    ensures { result ≡ position (λ b. b == 44) text.now }
-{
-    text.iter().position(|b| *b == b',')
-}
-
-/// The part before the first comma, and what stands behind it where there is one.
-fn next_part(text: &[u8]) -> (&[u8], Option<&[u8]>)
-    ensures whole { comma_parts text.now ≡ parts_from result }
-    ensures len { IfSome result.1 (λ r. length r.now < length text.now) }
-{
-    match find_comma(text) {
-        None => (text, None),
-        Some(k) => (&text[..k], Some(&text[k + 1..])),
     }
 }
 

@@ -1,18 +1,18 @@
 //! The instruction that a line spells, before its names are looked up.
 
-ghost use Rattle.std.specs.Prelude.{◌≡◌, ◌≤◌, ◌<◌, ◌==◌, ◌++◌, ◌∷◌, [], Some, length, IfOk, IfSome, OnOk, option_map, is_some, position, not, take, ◌+◌, codes};
-ghost use Rattle.std.specs.List.{flat_map};
+ghost use Rattle.std.specs.Prelude.{◌≡◌, ◌≤◌, ◌<◌, ◌==◌, ◌++◌, ◌∷◌, [], Some, length, IfOk, IfSome, option_map, is_some, position, not, take, ◌+◌};
 ghost use Rattle.mir_lines.specs.Bytes.{behind_word};
 ghost use Rattle.mir_lines.specs.Reads.{Reads, it, and_rest, part_and_rest, onto};
-ghost use Rattle.mir_lines.specs.Instructions.{uncommented, without_comment, is_tail_behind, begins_tail, tail_at, linked, and_link, definition_at, element_at, elements_at, operands_at, opcode_at, is_excluded, joined, instr_of, behind_opcode, behind_definitions, with_definitions, instruction_in, instruction_of, IsShorter, AreFew};
+ghost use Rattle.mir_lines.specs.Instructions.{uncommented, without_comment, is_tail_behind, begins_tail, tail_at, linked, and_link, definition_at, element_at, elements_at, operands_at, opcode_at, is_generic, is_opaque, declares_opaque, is_excluded, instr_of, behind_opcode, behind_definitions, with_definitions, instruction_in, instruction_of, IsShorter, AreFew};
 
 use crate::lexer::{Sort, behind_word, is, is_ascii, is_blank, is_op_name, skip, span};
 use crate::operands::{begins_register, take_operand};
-use crate::raw::{RawInstr, RawOperand, RawOperands, Words};
+use crate::parts::joined;
+use crate::raw::{RawInstr, RawOperand, RawOperands};
 use crate::registers::{continues, is_tail_word, take_register, take_words};
 use crate::stop::LineStop;
-use std::alloc::{AllocError, Global};
-use target_base::{Bytes, List};
+use std::alloc::Global;
+use target_base::{Bytes, Effect, List, Target, TextOptions};
 
 /// A list of operands in a line.
 #[derive(Clone, Copy, Debug, PartialEq, Eq)]
@@ -92,8 +92,13 @@ fn take_definition(alloc: Global, text: &[u8]) -> Result<(RawOperand, &[u8]), Li
 
 /// An element of a list, and what follows it.
 #[tactic(auto, unfolding(crate::specs::Instructions::element_at))]
-fn take_element(alloc: Global, part: Part, text: &[u8]) -> Result<(RawOperand, Link), LineStop>
-    ensures value { Reads and_link result (element_at part text.now) }
+fn take_element<'a>(
+    alloc: Global,
+    options: &TextOptions,
+    part: Part,
+    text: &'a [u8],
+) -> Result<(RawOperand, Link<'a>), LineStop>
+    ensures value { Reads and_link result (element_at options.now part text.now) }
     ensures len { IfOk result (λ r. IsShorter r.1 part (length text.now)) }
 {
     match part {
@@ -107,7 +112,7 @@ fn take_element(alloc: Global, part: Part, text: &[u8]) -> Result<(RawOperand, L
             )
         }
         Part::Others => {
-            let (operand, after) = take_operand(alloc, text)?;
+            let (operand, after) = take_operand(alloc, options, text)?;
             linked(operand, tail(after), behind_word(skip(after), b","))
         }
     }
@@ -115,20 +120,21 @@ fn take_element(alloc: Global, part: Part, text: &[u8]) -> Result<(RawOperand, L
 
 /// The elements of a list that begins here, behind those that are there, and the rest behind it.
 #[tactic(auto, using(crate::proofs::Few::few))]
-fn take_elements(
+fn take_elements<'a>(
     alloc: Global,
+    options: &TextOptions,
     part: Part,
     before: RawOperands,
-    text: &[u8],
-) -> Result<(RawOperands, &[u8]), LineStop>
-    ensures value { Reads and_rest result (onto before (elements_at part text.now)) }
+    text: &'a [u8],
+) -> Result<(RawOperands, &'a [u8]), LineStop>
+    ensures value { Reads and_rest result (onto before (elements_at options.now part text.now)) }
     ensures few { IfOk result (λ r. AreFew part (length before) (length text.now) r) }
     ensures len { IfOk result (λ r. length r.1.now ≤ length text.now) }
 {
     let mut made = before;
     let mut rest = text;
     'elements: loop {
-        let (operand, link) = take_element(alloc, part, rest)?;
+        let (operand, link) = take_element(alloc, options, part, rest)?;
         made.push(operand)?;
         match link {
             Link::End(behind) => return Ok((made, behind)),
@@ -139,16 +145,17 @@ fn take_elements(
 
 /// The operands behind an opcode, put behind the definitions, and the tail.
 #[tactic(auto, unfolding(crate::specs::Instructions::operands_at))]
-fn take_operands(
+fn take_operands<'a>(
     alloc: Global,
+    options: &TextOptions,
     definitions: RawOperands,
-    text: &[u8],
-) -> Result<(RawOperands, &[u8]), LineStop>
-    ensures value { Reads and_rest result (onto definitions (operands_at text.now)) }
+    text: &'a [u8],
+) -> Result<(RawOperands, &'a [u8]), LineStop>
+    ensures value { Reads and_rest result (onto definitions (operands_at options.now text.now)) }
     ensures few { IfOk result (λ r. length r.0 ≤ length definitions + length text.now + 1) }
 {
     match tail(text) {
-        None => take_elements(alloc, Part::Others, definitions, text),
+        None => take_elements(alloc, options, Part::Others, definitions, text),
         Some(tail) => Ok((definitions, tail)),
     }
 }
@@ -167,10 +174,10 @@ fn take_opcode(text: &[u8]) -> Result<(&[u8], &[u8]), LineStop>
     }
 }
 
-/// Whether an opcode is one of the generic opcodes that no stage has a meaning for.
-#[tactic(auto, unfolding(crate::specs::Instructions::is_excluded))]
-pub fn is_excluded(name: &[u8]) -> bool
-    ensures { result ≡ is_excluded name.now }
+/// Whether an opcode is one of the generic opcodes that have no meaning of their own.
+#[tactic(auto, unfolding(crate::specs::Instructions::is_generic))]
+fn is_generic(name: &[u8]) -> bool
+    ensures { result ≡ is_generic name.now }
 {
     is(name, b"INLINEASM")
         || (is(name, b"INLINEASM_BR")
@@ -192,29 +199,29 @@ pub fn is_excluded(name: &[u8]) -> bool
                                                             ))))))))))))))
 }
 
-fn put_more_words(made: &mut Bytes, words: &[Bytes]) -> Result<(), AllocError>
-    ensures { OnOk result (made.new ≡ made.old ++ flat_map (λ w. codes " " ++ w) words.now) }
+fn is_opaque(effect: Effect) -> bool
+    ensures { result ≡ is_opaque effect }
 {
-    for word in words {
-        made.extend(b" ")?;
-        made.extend(word.as_slice())?;
-    }
-    Ok(())
+    matches!(effect, Effect::Opaque(_))
 }
 
-/// The words with one space between them.
-#[tactic(auto, unfolding(crate::specs::Instructions::joined))]
-fn joined(alloc: Global, words: &[Bytes]) -> Result<Bytes, AllocError>
-    ensures { IfOk result (λ made. made ≡ joined words.now) }
+/// Whether the target has an opaque opcode of this name.
+fn declares_opaque(target: &Target, name: &[u8]) -> bool
+    ensures { result ≡ declares_opaque target.now name.now }
 {
-    match words {
-        [] => Ok(List::new(alloc)),
-        [first, rest @ ..] => {
-            let mut made = List::from_slice(alloc, first.as_slice())?;
-            put_more_words(&mut made, rest)?;
-            Ok(made)
-        }
-    }
+    let opcodes = target.opcodes.as_slice();
+    opcodes
+        .iter()
+        .any(|o| is_opaque(o.effect) && is(o.name.as_slice(), name))
+}
+
+/// Whether an opcode is a generic one that no stage has a meaning for. An opaque one of the target
+/// has a meaning.
+#[tactic(auto, unfolding(crate::specs::Instructions::is_excluded))]
+fn is_excluded(target: &Target, name: &[u8]) -> bool
+    ensures { result ≡ is_excluded target.now name.now }
+{
+    is_generic(name) && !declares_opaque(target, name)
 }
 
 /// An instruction of these definitions, these flags and this opcode, with what stands behind it.
@@ -222,17 +229,18 @@ fn joined(alloc: Global, words: &[Bytes]) -> Result<Bytes, AllocError>
 #[tactic(auto, unfolding(crate::specs::Instructions::behind_opcode, crate::specs::Instructions::instr_of))]
 fn behind_opcode(
     alloc: Global,
+    target: &Target,
     definitions: RawOperands,
     flags: &[Bytes],
     opcode: &[u8],
     text: &[u8],
 ) -> Result<RawInstr, LineStop>
-    ensures value { Reads it result (behind_opcode definitions flags.now opcode.now text.now) }
+    ensures value { Reads it result (behind_opcode target.now definitions flags.now opcode.now text.now) }
     ensures few { IfOk result (λ i. length i.operands ≤ length definitions + length text.now + 1) }
 {
-    let flags = joined(alloc, flags)?;
+    let flags = joined(alloc, b" ", flags)?;
     let name = List::from_slice(alloc, opcode)?;
-    if is_excluded(opcode) {
+    if is_excluded(target, opcode) {
         if !is_ascii(text) {
             return Err(LineStop::Token);
         }
@@ -244,7 +252,7 @@ fn behind_opcode(
             tail: List::new(alloc),
         });
     }
-    let (operands, tail) = take_operands(alloc, definitions, text)?;
+    let (operands, tail) = take_operands(alloc, &target.options, definitions, text)?;
     Ok(RawInstr {
         operands,
         flags,
@@ -258,38 +266,46 @@ fn behind_opcode(
 #[tactic(auto, unfolding(crate::specs::Instructions::behind_definitions))]
 fn behind_definitions(
     alloc: Global,
+    target: &Target,
     definitions: RawOperands,
     flags: &[Bytes],
     text: &[u8],
 ) -> Result<RawInstr, LineStop>
-    ensures value { Reads it result (behind_definitions definitions flags.now text.now) }
+    ensures value { Reads it result (behind_definitions target.now definitions flags.now text.now) }
     ensures few { IfOk result (λ i. length i.operands ≤ length definitions + length text.now) }
 {
     let (opcode, rest) = take_opcode(text)?;
-    behind_opcode(alloc, definitions, flags, opcode, rest)
+    behind_opcode(alloc, target, definitions, flags, opcode, rest)
 }
 
 /// The instruction that begins with definitions.
-fn with_definitions(alloc: Global, text: &[u8]) -> Result<RawInstr, LineStop>
-    ensures value { Reads it result (with_definitions text.now) }
+fn with_definitions(alloc: Global, target: &Target, text: &[u8]) -> Result<RawInstr, LineStop>
+    ensures value { Reads it result (with_definitions target.now text.now) }
     ensures few { IfOk result (λ i. length i.operands ≤ length text.now) }
 {
-    let (definitions, behind) = take_elements(alloc, Part::Definitions, List::new(alloc), text)?;
+    let (definitions, behind) = take_elements(
+        alloc,
+        &target.options,
+        Part::Definitions,
+        List::new(alloc),
+        text,
+    )?;
     let (flags, after) = take_words(alloc, behind)?;
-    behind_definitions(alloc, definitions, flags.as_slice(), after)
+    behind_definitions(alloc, target, definitions, flags.as_slice(), after)
 }
 
-/// The instruction that a line spells; the line has no comment and no space at its front.
+/// The instruction that a line spells; the line has no comment and no space at its front. The target
+/// says which spellings of symbols it takes, and which of the generic opcodes have a meaning.
 #[tactic(auto, unfolding(crate::specs::Instructions::instruction_of))]
-pub fn instruction(alloc: Global, text: &[u8]) -> Result<RawInstr, LineStop>
-    ensures value { Reads it result (instruction_of text.now) }
+pub fn instruction(alloc: Global, target: &Target, text: &[u8]) -> Result<RawInstr, LineStop>
+    ensures value { Reads it result (instruction_of target.now text.now) }
     ensures few { IfOk result (λ i. length i.operands ≤ length text.now) }
 {
     let (words, behind) = take_words(alloc, text)?;
     if begins_register(behind) {
-        with_definitions(alloc, text)
+        with_definitions(alloc, target, text)
     } else {
-        behind_definitions(alloc, List::new(alloc), words.as_slice(), behind)
+        behind_definitions(alloc, target, List::new(alloc), words.as_slice(), behind)
     }
 }
 

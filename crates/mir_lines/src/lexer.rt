@@ -2,7 +2,8 @@
 
 ghost use Rattle.std.specs.Prelude.{◌≡◌, ◌≤◌, ◌<◌, ◌+◌, ◌==◌, not, length, IfSome, nat_eq, nat_le, option_map, IsTrue};
 ghost use Rattle.std.specs.List.{position, list_all, list_any};
-ghost use Rattle.target_base.specs.Names.{is_upper, is_letter, is_digit, is_name_byte, is_name, is_op_name};
+ghost use Rattle.target_base.specs.Names.{is_upper, is_lower, is_letter, is_digit, is_name_byte, is_name, is_op_name, is_flag_word};
+ghost use Rattle.target_base.specs.Names as names;
 ghost use Rattle.mir_lines.specs.Bytes.{is_hex, is_flag_byte, is_word_byte, is_label_byte, is_of, run, behind, skip, skip_back, is_word, behind_word, before_word, is_blank, is_ascii};
 
 /// Sorts of bytes that a part of a line is made of.
@@ -20,6 +21,8 @@ pub enum Sort {
     Word,
     /// Letters, digits, and `_ . - $`, as in the name of a block.
     Label,
+    /// Lower-case letters, digits, underscores and dashes, as in a word of `target-flags`.
+    TargetFlag,
 }
 
 /// Whether a byte is a letter.
@@ -66,6 +69,18 @@ fn is_label_byte(b: u8) -> bool
     is_word_byte(b) || b == b'.' || b == b'$'
 }
 
+fn is_lower(b: u8) -> bool
+    ensures { result ≡ is_lower b }
+{
+    b'a' <= b && b <= b'z'
+}
+
+fn is_target_flag_byte(b: u8) -> bool
+    ensures { result ≡ names.is_flag_byte b }
+{
+    is_lower(b) || is_digit(b) || b == b'_' || b == b'-'
+}
+
 /// Whether a byte is of a sort.
 pub fn is_of(sort: Sort, b: u8) -> bool
     ensures { result ≡ is_of sort b }
@@ -77,6 +92,7 @@ pub fn is_of(sort: Sort, b: u8) -> bool
         Sort::Name => is_name_byte(b),
         Sort::Word => is_word_byte(b),
         Sort::Label => is_label_byte(b),
+        Sort::TargetFlag => is_target_flag_byte(b),
     }
 }
 
@@ -188,6 +204,17 @@ fn has_upper(text: &[u8]) -> bool
     ensures { result ≡ list_any is_upper text.now }
 {
     text.iter().any(|b| b'A' <= *b && *b <= b'Z')
+}
+
+/// Whether a text is a word of `target-flags`: a lower-case letter, then lower-case letters, digits,
+/// underscores and dashes.
+pub(crate) fn is_flag_word(text: &[u8]) -> bool
+    ensures { result ≡ is_flag_word text.now }
+{
+    match text {
+        [] => false,
+        [first, rest @ ..] => is_lower(*first) && are_of(Sort::TargetFlag, rest),
+    }
 }
 
 /// Whether a text is an opcode's name: a name with an upper-case letter.

@@ -1,4 +1,4 @@
-//! Lines of a body, read without a target.
+//! Lines of a body, before their names are looked up.
 #![tactic(auto)]
 
 pub mod blocks;
@@ -6,9 +6,11 @@ pub mod instructions;
 pub mod lexer;
 pub mod numbers;
 pub mod operands;
+mod parts;
 pub mod raw;
 pub mod registers;
 mod stop;
+mod symbols;
 
 pub use raw::{RawEdge, RawHeader, RawInstr, RawOperand, RawOperands, RawPlace, RawReg, Words};
 pub use stop::LineStop;

@@ -1,18 +1,19 @@
 //! Operands at the front of a text.
 
-ghost use Rattle.std.specs.Prelude.{◌≡◌, ◌≤◌, ◌<◌, ◌==◌, ◌++◌, ◌∷◌, [], codes, length, IfOk, IfSome, option_map, position};
+ghost use Rattle.std.specs.Prelude.{◌≡◌, ◌≤◌, ◌<◌, ◌==◌, length, IfOk, IfSome, Some, option_map};
 ghost use Rattle.mir_lines.specs.Reads.{Reads, it, and_rest, part_and_rest};
-ghost use Rattle.mir_lines.specs.Operands.{labelled, numbered_at, block_at, stack_at, fixed_stack_at, subreg_at, object_at, bare_symbol_at, quoted_symbol_at, symbol_at, negative_at, positive_at, immediate_at, begins_immediate, begins_symbol, mask_of, mask_at, plain_at, begins_register, as_register, operand_behind, operand_at};
+ghost use Rattle.mir_lines.specs.Operands.{labelled, numbered_at, block_at, stack_at, fixed_stack_at, subreg_at, object_at, negative_at, positive_at, immediate_at, begins_immediate, mask_of, mask_at, plain_at, begins_register, as_register, wordless_at, worded_at, operand_behind, operand_at};
 
-use crate::lexer::{Sort, behind_word, is_ascii, is_digit, is_name, span};
+use crate::lexer::{Sort, behind_word, is, is_name, span};
 use crate::numbers::{decimal, number};
-use crate::raw::{RawOperand, Words};
+use crate::raw::RawOperand;
 use crate::registers::{
     begins_with_digit, continues, is_tail_word, take_name, take_register, take_words,
 };
 use crate::stop::LineStop;
+use crate::symbols::{begins_symbol, behind_noreg, no_register, take_flagged_symbol, take_symbol};
 use std::alloc::Global;
-use target_base::{Bytes, List};
+use target_base::{Bytes, List, TextOptions};
 
 /// A number, a name behind a dot where one is written, and the rest.
 #[tactic(auto, unfolding(crate::specs::Operands::numbered_at))]
@@ -94,11 +95,15 @@ fn take_subreg(alloc: Global, text: &[u8]) -> Result<(RawOperand, &[u8]), LineSt
     Ok((RawOperand::Index(List::from_slice(alloc, name)?), rest))
 }
 
-/// A block, a frame object or a subregister index, and the rest; None where the text begins none
-/// of them.
+/// A block, a frame object, a subregister index or `$noreg`, and the rest; None where the text begins
+/// none of them.
 #[tactic(auto, unfolding(crate::specs::Operands::object_at))]
-fn take_object(alloc: Global, text: &[u8]) -> Result<Option<(RawOperand, &[u8])>, LineStop>
-    ensures value { Reads (option_map and_rest) result (object_at text.now) }
+fn take_object<'a>(
+    alloc: Global,
+    options: &TextOptions,
+    text: &'a [u8],
+) -> Result<Option<(RawOperand, &'a [u8])>, LineStop>
+    ensures value { Reads (option_map and_rest) result (object_at options.now text.now) }
     ensures len { IfOk result (λ o. IfSome o (λ r. length r.1.now < length text.now)) }
 {
     if let Some(behind) = behind_word(text, b"%bb.") {
@@ -113,74 +118,10 @@ fn take_object(alloc: Global, text: &[u8]) -> Result<Option<(RawOperand, &[u8])>
     if let Some(behind) = behind_word(text, b"%subreg.") {
         return Ok(Some(take_subreg(alloc, behind)?));
     }
+    if let Some(rest) = behind_noreg(options, text) {
+        return Ok(Some((no_register(alloc)?, rest)));
+    }
     Ok(None)
-}
-
-/// A symbol that isn't quoted, and the rest: a mark, then letters, digits and `_ . - $`.
-#[tactic(auto, unfolding(crate::specs::Operands::bare_symbol_at))]
-fn take_bare_symbol(alloc: Global, text: &[u8]) -> Result<(RawOperand, &[u8]), LineStop>
-    ensures value { Reads and_rest result (bare_symbol_at text.now) }
-    ensures len { IfOk result (λ r. length r.1.now < length text.now) }
-{
-    match text {
-        [] => Err(LineStop::Token),
-        [mark, behind @ ..] => {
-            let (label, rest) = span(behind, Sort::Label);
-            if label.is_empty() || continues(rest) {
-                return Err(LineStop::Token);
-            }
-            let mut symbol = List::new(alloc);
-            symbol.push(*mark)?;
-            symbol.extend(label)?;
-            Ok((RawOperand::Symbol(symbol), rest))
-        }
-    }
-}
-
-fn find_quote(text: &[u8]) -> Option<usize>
-    ensures { result ≡ position (λ b. b == 34) text.now }
-{
-    text.iter().position(|b| *b == b'"')
-}
-
-/// The symbol of this text between quotes.
-fn quoted(alloc: Global, text: &[u8]) -> Result<Bytes, LineStop>
-    ensures { Reads it result (Some (codes "@\"" ++ (text.now ++ codes "\""))) }
-{
-    let mut symbol = List::from_slice(alloc, b"@\"")?;
-    symbol.extend(text)?;
-    symbol.extend(b"\"")?;
-    Ok(symbol)
-}
-
-/// A symbol behind `@"`, and the rest: ASCII through the next quote.
-#[tactic(auto, unfolding(crate::specs::Operands::quoted_symbol_at))]
-fn take_quoted_symbol(alloc: Global, text: &[u8]) -> Result<(RawOperand, &[u8]), LineStop>
-    ensures value { Reads and_rest result (quoted_symbol_at text.now) }
-    ensures len { IfOk result (λ r. length r.1.now ≤ length text.now) }
-{
-    match find_quote(text) {
-        None => Err(LineStop::Token),
-        Some(k) => {
-            let inside = &text[..k];
-            if !is_ascii(inside) {
-                return Err(LineStop::Token);
-            }
-            Ok((RawOperand::Symbol(quoted(alloc, inside)?), &text[k + 1..]))
-        }
-    }
-}
-
-/// A symbol, kept as written, and the rest.
-#[tactic(auto, unfolding(crate::specs::Operands::symbol_at))]
-fn take_symbol(alloc: Global, text: &[u8]) -> Result<(RawOperand, &[u8]), LineStop>
-    ensures value { Reads and_rest result (symbol_at text.now) }
-    ensures len { IfOk result (λ r. length r.1.now < length text.now) }
-{
-    match behind_word(text, b"@\"") {
-        None => take_bare_symbol(alloc, text),
-        Some(inside) => take_quoted_symbol(alloc, inside),
-    }
 }
 
 /// An immediate that isn't negative, and the rest: at most 2^64 - 1.
@@ -244,16 +185,6 @@ fn begins_immediate(text: &[u8]) -> bool
     }
 }
 
-#[tactic(auto, unfolding(crate::specs::Operands::begins_symbol))]
-fn begins_symbol(text: &[u8]) -> bool
-    ensures { result ≡ begins_symbol text.now }
-{
-    match text {
-        [] => false,
-        [b, ..] => *b == b'@' || *b == b'&',
-    }
-}
-
 /// The mask of this name.
 fn mask_of(alloc: Global, word: &[u8]) -> Result<RawOperand, LineStop>
     ensures { Reads it result (mask_of word.now) }
@@ -277,15 +208,13 @@ fn take_mask(alloc: Global, text: &[u8]) -> Result<(RawOperand, &[u8]), LineStop
     Ok((mask_of(alloc, word)?, rest))
 }
 
-/// An operand that no lower-case word begins and that is no register, and the rest.
+/// An operand that no lower-case word begins and that is no register and no symbol, and the rest.
 #[tactic(auto, unfolding(crate::specs::Operands::plain_at))]
 fn take_plain(alloc: Global, text: &[u8]) -> Result<(RawOperand, &[u8]), LineStop>
     ensures value { Reads and_rest result (plain_at text.now) }
     ensures len { IfOk result (λ r. length r.1.now ≤ length text.now) }
 {
-    if begins_symbol(text) {
-        take_symbol(alloc, text)
-    } else if begins_immediate(text) {
+    if begins_immediate(text) {
         take_immediate(text)
     } else {
         take_mask(alloc, text)
@@ -316,38 +245,79 @@ fn take_reg<'a>(
     Ok((RawOperand::Reg(reg), rest))
 }
 
-/// An operand behind these words, which are flags of a register or the name of a mask, and the
-/// rest.
+/// An operand before which no lower-case word stands, and the rest.
+#[tactic(auto, unfolding(crate::specs::Operands::wordless_at))]
+fn take_wordless<'a>(
+    alloc: Global,
+    options: &TextOptions,
+    text: &'a [u8],
+) -> Result<(RawOperand, &'a [u8]), LineStop>
+    ensures value { Reads and_rest result (wordless_at options.now text.now) }
+    ensures len { IfOk result (λ r. length r.1.now ≤ length text.now) }
+{
+    if begins_symbol(options, text) {
+        let (name, rest) = take_symbol(alloc, options, text)?;
+        return Ok((RawOperand::Symbol(name, List::new(alloc)), rest));
+    }
+    if !begins_register(text) {
+        return take_plain(alloc, text);
+    }
+    match take_object(alloc, options, text)? {
+        None => take_reg(alloc, &[], text),
+        Some(taken) => Ok(taken),
+    }
+}
+
+/// An operand behind one lower-case word that is no flag of a register, and the rest: a symbol with
+/// flags, or the mask of that name.
+fn take_worded<'a>(
+    alloc: Global,
+    options: &TextOptions,
+    word: &[u8],
+    text: &'a [u8],
+) -> Result<(RawOperand, &'a [u8]), LineStop>
+    ensures value { Reads and_rest result (worded_at options.now word.now text.now) }
+    ensures len { IfOk result (λ r. length r.1.now ≤ length text.now) }
+{
+    if is(word, b"target-flags") {
+        return take_flagged_symbol(alloc, options, text);
+    }
+    Ok((mask_of(alloc, word)?, text))
+}
+
+/// An operand behind these lower-case words, and the rest.
 #[tactic(auto, unfolding(crate::specs::Operands::operand_behind))]
 fn take_behind<'a>(
     alloc: Global,
+    options: &TextOptions,
     words: &[Bytes],
     text: &'a [u8],
 ) -> Result<(RawOperand, &'a [u8]), LineStop>
-    ensures value { Reads and_rest result (operand_behind words.now text.now) }
+    ensures value { Reads and_rest result (operand_behind options.now words.now text.now) }
     ensures len { IfOk result (λ r. length r.1.now ≤ length text.now) }
 {
+    if words.is_empty() {
+        return take_wordless(alloc, options, text);
+    }
     if begins_register(text) {
-        if words.is_empty() {
-            if let Some(taken) = take_object(alloc, text)? {
-                return Ok(taken);
-            }
-        }
         return take_reg(alloc, words, text);
     }
     match words {
-        [] => take_plain(alloc, text),
-        [word] => Ok((mask_of(alloc, word.as_slice())?, text)),
+        [word] => take_worded(alloc, options, word.as_slice(), text),
         _ => Err(LineStop::Token),
     }
 }
 
-/// An operand, and the rest.
+/// An operand, and the rest. The options say which spellings of symbols are taken.
 #[tactic(auto, unfolding(crate::specs::Operands::operand_at))]
-pub fn take_operand(alloc: Global, text: &[u8]) -> Result<(RawOperand, &[u8]), LineStop>
-    ensures value { Reads and_rest result (operand_at text.now) }
+pub fn take_operand<'a>(
+    alloc: Global,
+    options: &TextOptions,
+    text: &'a [u8],
+) -> Result<(RawOperand, &'a [u8]), LineStop>
+    ensures value { Reads and_rest result (operand_at options.now text.now) }
     ensures len { IfOk result (λ r. length r.1.now ≤ length text.now) }
 {
     let (words, rest) = take_words(alloc, text)?;
-    take_behind(alloc, words.as_slice(), rest)
+    take_behind(alloc, options, words.as_slice(), rest)
 }

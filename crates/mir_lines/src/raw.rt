@@ -42,8 +42,8 @@ pub enum RawOperand {
     Stack(u32),
     /// A frame object `%fixed-stack.N`.
     FixedStack(u32),
-    /// A symbol, spelled as written.
-    Symbol(Bytes),
+    /// A symbol in its one spelling, and the words of `target-flags` before it.
+    Symbol(Bytes, Words),
     /// The name of a subregister index.
     Index(Bytes),
     /// The name of a call mask.

@@ -1,7 +1,8 @@
 -- The names of a target, by their numbers.
-use Rattle.std.specs.Prelude.{◌≤◌, ℕ, List, [], ◌∷◌, ◌++◌, Option, length, map, not, ◌==◌, position, option_map, if◌then◌else◌}
+use Rattle.std.specs.Prelude.{◌≤◌, ℕ, Bool, List, [], ◌∷◌, ◌++◌, Option, length, map, not, ◌==◌, position, option_map, if◌then◌else◌}
 use Rattle.std.specs.List.{list_any}
 use Rattle.target_base.specs.Storage.{same_numbers}
+use Rattle.mir_lines.specs.Bytes.{is_word}
 use Rattle.target_base.specs.Numbers.{reg_number, index_number, class_number, op_number}
 use Rattle.target_base.specs.declared.types.Target.{Target}
 use Rattle.target_base.specs.declared.types.Reg.{Reg}
@@ -18,13 +19,14 @@ with_name names w = if not (list_any (same_numbers w) names) then names ++ w ∷
 abbrev pub with_number : List ℕ → ℕ → List ℕ
 with_number ns n = if list_any (λ m. m == n) ns then ns else ns ++ n ∷ []
 
--- the names of a target, each sort in the order of its numbers
+-- the names of a target, each sort in the order of its numbers, and its words of `target-flags`
 pub record NameLists : Type 0 where
   pub regs : List (List ℕ)
   pub indexes : List (List ℕ)
   pub classes : List (List ℕ)
   pub masks : List (List ℕ)
   pub opcodes : List (List ℕ)
+  pub flags : List (List ℕ)
 
 unfoldable pub name_lists : Target → NameLists
 name_lists t = record {
@@ -33,6 +35,7 @@ name_lists t = record {
   classes = map (λ c. c.name) t.classes;
   masks = map (λ m. m.name) t.masks;
   opcodes = map (λ o. o.name) t.opcodes;
+  flags = t.options.flags;
 }
 
 -- there are few names of each sort
@@ -64,3 +67,7 @@ mask_named names w = option_map mask_number (place_of names.masks w)
 
 abbrev pub op_named : NameLists → List ℕ → Option OpId
 op_named names w = option_map op_number (place_of names.opcodes w)
+
+-- the word may stand in `target-flags(..)`
+abbrev pub has_flag : NameLists → List ℕ → Bool
+has_flag names w = list_any (λ v. is_word v w) names.flags

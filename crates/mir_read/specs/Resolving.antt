@@ -1,5 +1,6 @@
 -- The names of a line, looked up.
 use Rattle.std.specs.Prelude.{◌≤◌, ℕ, Bool, false, List, [], ◌∷◌, ◌++◌, Option, Some, None, length, map, not, ◌==◌, ◌/◌, ◌%◌, ◌+◌, slice_get, position, option_map, option_and_then, if◌then◌else◌}
+use Rattle.std.specs.List.{list_all}
 use Rattle.target_base.specs.Storage.{same_numbers}
 use Rattle.target_base.specs.declared.types.Reg.{Reg}
 use Rattle.target_base.specs.declared.types.IndexId.{IndexId}
@@ -23,7 +24,7 @@ use Rattle.mir_read.specs.declared.ranges.Given.{Given}
 use Rattle.mir_read.specs.declared.ranges.Given.TheVariants as given
 use Rattle.mir_read.specs.declared.ranges.Ranges.{Ranges}
 use Rattle.mir_read.specs.declared.resolve.Headers.{Headers}
-use Rattle.mir_read.specs.Names.{NameLists, reg_named, index_named, class_named, mask_named, op_named}
+use Rattle.mir_read.specs.Names.{NameLists, reg_named, index_named, class_named, mask_named, op_named, has_flag}
 use Rattle.mir_read.specs.Ranges.{given_to, mentioned, range_number}
 
 infixl 10 ◌>>?◌
@@ -90,7 +91,7 @@ operand_named names h keyed r (raw.Imm n) = Some (r, operands.Imm n)
 operand_named names h keyed r (raw.Block n name) = if differs h n name then None else Some (r, operands.Block n)
 operand_named names h keyed r (raw.Stack n) = Some (r, operands.Stack n)
 operand_named names h keyed r (raw.FixedStack n) = Some (r, operands.FixedStack n)
-operand_named names h keyed r (raw.Symbol text) = Some (r, operands.Symbol text)
+operand_named names h keyed r (raw.Symbol text flags) = if list_all (has_flag names) flags then Some (r, operands.Symbol text) else None
 operand_named names h keyed r (raw.Index w) = option_map (λ i. (r, operands.Index i)) (index_named names w)
 operand_named names h keyed r (raw.Mask w) = option_map (λ m. (r, operands.Mask m)) (mask_named names w)
 

@@ -2,15 +2,16 @@
 
 ghost use Rattle.std.specs.Prelude.{◌≡◌, ◌<◌, ◌≤◌, ◌==◌, [], length, position, OnOk, OnErr, IfOk, IsTrue, option_map, map};
 ghost use Rattle.target_base.specs.Names.{are_distinct_names};
-ghost use Rattle.mir_read.specs.Names.{with_name, with_number, place_of, reg_named, index_named, class_named, mask_named, op_named, name_lists};
+ghost use Rattle.mir_read.specs.Names.{with_name, with_number, place_of, reg_named, index_named, class_named, mask_named, op_named, has_flag, name_lists};
 ghost use Rattle.target_base.specs.Storage.{same_numbers};
 
 use indexmap::IndexSet;
+use mir_lines::lexer::is;
 use std::alloc::{AllocError, Global};
 use std::marker::Model;
 use target_base::{
-    ClassDesc, ClassId, IndexDesc, IndexId, MaskDesc, MaskId, OpId, OpcodeDesc, Reg, RegDesc,
-    Target,
+    ClassDesc, ClassId, Copied, IndexDesc, IndexId, MaskDesc, MaskId, OpId, OpcodeDesc, Reg,
+    RegDesc, Target, Words,
 };
 
 /// Distinct names in order, fewer than 2^32 of them.
@@ -118,7 +119,7 @@ impl NumberSet {
     }
 }
 
-/// The names of a target, for looking up their numbers.
+/// The names of a target, for looking up their numbers, and its words of `target-flags`.
 #[derive(Drop)]
 pub struct Names {
     regs: NameSet,
@@ -126,6 +127,7 @@ pub struct Names {
     classes: NameSet,
     masks: NameSet,
     opcodes: NameSet,
+    flags: Words,
 }
 
 impl Model for Names {
@@ -133,9 +135,9 @@ impl Model for Names {
 
     ghost Value = { NameLists };
 
-    ghost view = { λ n. record { regs = n.regs; indexes = n.indexes; classes = n.classes; masks = n.masks; opcodes = n.opcodes } };
+    ghost view = { λ n. record { regs = n.regs; indexes = n.indexes; classes = n.classes; masks = n.masks; opcodes = n.opcodes; flags = n.flags } };
 
-    ghost invariant = { λ n. AreFew (record { regs = n.regs; indexes = n.indexes; classes = n.classes; masks = n.masks; opcodes = n.opcodes }) };
+    ghost invariant = { λ n. AreFew (record { regs = n.regs; indexes = n.indexes; classes = n.classes; masks = n.masks; opcodes = n.opcodes; flags = n.flags }) };
 }
 
 /// The number of a name.
@@ -226,6 +228,7 @@ impl Names {
             classes: class_names(alloc, target.classes.as_slice())?,
             masks: mask_names(alloc, target.masks.as_slice())?,
             opcodes: opcode_names(alloc, target.opcodes.as_slice())?,
+            flags: target.options.flags.copied(alloc)?,
         })
     }
 
@@ -267,6 +270,14 @@ impl Names {
             None => None,
             Some(n) => Some(MaskId(n)),
         }
+    }
+
+    /// Whether a word may stand in `target-flags(..)`.
+    pub fn has_flag(&self, word: &[u8]) -> bool
+        ensures { result ≡ has_flag self.now word.now }
+    {
+        let flags = self.flags.as_slice();
+        flags.iter().any(|w| is(w.as_slice(), word))
     }
 
     /// The opcode of a name.

@@ -1,9 +1,10 @@
 //! Looking up the names of a line.
 
 ghost use Rattle.std.specs.Prelude.{◌≡◌, ◌<◌, ◌≤◌, ◌+◌, ◌==◌, ◌++◌, ◌∷◌, [], length, map, IfOk, IfSome, OnOk, option_map, position};
+ghost use Rattle.std.specs.List.{list_all};
 ghost use Rattle.target_base.specs.Storage.{same_numbers};
 ghost use Rattle.mir_lines.specs.Reads.{now_of};
-ghost use Rattle.mir_read.specs.Names.{NameLists};
+ghost use Rattle.mir_read.specs.Names.{NameLists, has_flag};
 ghost use Rattle.mir_read.specs.Ranges.{range_number};
 ghost use Rattle.mir_read.specs.Resolving.{no_headers, noted, differs, header_at, index_if, class_if, placed, reg_op, operand_named, operands_named, opcode_named, instr_of, instr_named, regs_named, share, edge, equal_shares, with_share, shared, successors_named, HasMore};
 
@@ -160,6 +161,13 @@ fn reg_op(loc: Loc, index: Option<IndexId>, o: &RawReg) -> RegOp
     }
 }
 
+/// Whether the target has all these words of `target-flags`.
+fn are_flags(names: &Names, flags: &[Bytes]) -> bool
+    ensures { result ≡ list_all (has_flag names.now) flags.now }
+{
+    flags.iter().all(|w| names.has_flag(w.as_slice()))
+}
+
 /// The registers so far, and an operand with its names looked up. None where a name isn't known.
 #[tactic(auto, unfolding(crate::specs::Resolving::operand_named))]
 fn operand(
@@ -191,7 +199,12 @@ fn operand(
         }
         RawOperand::Stack(n) => Ok(Some((ranges, Operand::Stack(*n)))),
         RawOperand::FixedStack(n) => Ok(Some((ranges, Operand::FixedStack(*n)))),
-        RawOperand::Symbol(text) => Ok(Some((ranges, Operand::Symbol(text.copied(alloc)?)))),
+        RawOperand::Symbol(text, flags) => {
+            if !are_flags(names, flags.as_slice()) {
+                return Ok(None);
+            }
+            Ok(Some((ranges, Operand::Symbol(text.copied(alloc)?))))
+        }
         RawOperand::Index(name) => match names.index(name.as_slice()) {
             None => Ok(None),
             Some(i) => Ok(Some((ranges, Operand::Index(i)))),

@@ -46,7 +46,7 @@ module _ (t : Target) (names : NameLists) (r : Reading) (text : List ℕ) where
   unfolding worded
   worded_liveins list a b d = rw (a, sym b, sym d) refl
 
-  pub worded_instr : is_some (behind_word (codes "bb.") text) ≡ false → None ≡ behind_word (codes "successors:") text → None ≡ behind_word (codes "liveins:") text → worded t names r text ≡ instr_line names r text
+  pub worded_instr : is_some (behind_word (codes "bb.") text) ≡ false → None ≡ behind_word (codes "successors:") text → None ≡ behind_word (codes "liveins:") text → worded t names r text ≡ instr_line t names r text
   unfolding worded
   worded_instr a b d = rw (a, sym b, sym d) refl
 

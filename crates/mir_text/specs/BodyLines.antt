@@ -39,25 +39,25 @@ liveins_line names r text =
     then (or_fault kinds.Token (liveins_of text) >>= λ ws. or_fault kinds.Name (regs_named names ws) >>= λ rs. Ok (record r { body = with_liveins r.body rs }))
     else Err kinds.Layout
 
-unfoldable pub instr_line : NameLists → Reading → List ℕ → Result Reading TextKind
-instr_line names r text =
+unfoldable pub instr_line : Target → NameLists → Reading → List ℕ → Result Reading TextKind
+instr_line t names r text =
     if is_begun r.body
-    then (or_fault kinds.Token (instruction_of text) >>= λ i. or_fault kinds.Name (instr_named names r.headers r.keys.registers r.ranges r.body.next_id i) >>= λ p. Ok (record r { ranges = p.0; body = with_instr r.body p.1 }))
+    then (or_fault kinds.Token (instruction_of t text) >>= λ i. or_fault kinds.Name (instr_named names r.headers r.keys.registers r.ranges r.body.next_id i) >>= λ p. Ok (record r { ranges = p.0; body = with_instr r.body p.1 }))
     else Err kinds.Layout
 
-abbrev pub liveins_or : NameLists → Reading → List ℕ → Option (List ℕ) → Result Reading TextKind
-liveins_or names r text None = instr_line names r text
-liveins_or names r text (Some list) = liveins_line names r list
+abbrev pub liveins_or : Target → NameLists → Reading → List ℕ → Option (List ℕ) → Result Reading TextKind
+liveins_or t names r text None = instr_line t names r text
+liveins_or t names r text (Some list) = liveins_line names r list
 
-abbrev pub successors_or : NameLists → Reading → List ℕ → Option (List ℕ) → Result Reading TextKind
-successors_or names r text None = liveins_or names r text (behind_word (codes "liveins:") text)
-successors_or names r text (Some list) = successors_line r list
+abbrev pub successors_or : Target → NameLists → Reading → List ℕ → Option (List ℕ) → Result Reading TextKind
+successors_or t names r text None = liveins_or t names r text (behind_word (codes "liveins:") text)
+successors_or t names r text (Some list) = successors_line r list
 
 -- a header, a list of a block, or an instruction
 unfoldable pub worded : Target → NameLists → Reading → List ℕ → Result Reading TextKind
 worded t names r text =
     if is_some (behind_word (codes "bb.") text) then header_line t r text
-    else successors_or names r text (behind_word (codes "successors:") text)
+    else successors_or t names r text (behind_word (codes "successors:") text)
 
 abbrev pub spaced : Target → NameLists → Reading → Option (List ℕ) → Result Reading TextKind
 spaced t names r None = Err kinds.Layout

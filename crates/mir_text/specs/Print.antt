@@ -6,22 +6,18 @@ use Rattle.target_base.specs.declared.types.Target.{Target}
 use Rattle.target_base.specs.declared.types.Reg.{Reg}
 use Rattle.target_base.specs.declared.types.RegDesc.{RegDesc}
 use Rattle.target_base.specs.declared.types.IndexId.{IndexId}
-use Rattle.target_base.specs.declared.types.IndexDesc.{IndexDesc}
 use Rattle.target_base.specs.declared.types.ClassId.{ClassId}
 use Rattle.target_base.specs.declared.types.ClassDesc.{ClassDesc}
-use Rattle.target_base.specs.declared.types.MaskId.{MaskId}
-use Rattle.target_base.specs.declared.types.MaskDesc.{MaskDesc}
-use Rattle.target_base.specs.declared.types.OpcodeDesc.{OpcodeDesc}
 use Rattle.target_base.specs.declared.types.Role.{Role}
 use Rattle.mir_func.specs.Value.{Function}
+use Rattle.mir_func.specs.Spelling.{index_name, mask_name, op_name}
 use Rattle.mir_func.specs.Binding.{after_first, explicit_roles, first_role, is_early, passes, roles_of}
+use Rattle.mir_meaning.specs.Codes.{is_open}
 use Rattle.mir_func.specs.declared.func.Loc.{Loc}
 use Rattle.mir_func.specs.declared.func.Loc.TheVariants as locs
 use Rattle.mir_func.specs.declared.func.RegOp.{RegOp}
 use Rattle.mir_func.specs.declared.func.Operand.{Operand}
 use Rattle.mir_func.specs.declared.func.Operand.TheVariants as operands
-use Rattle.mir_func.specs.declared.func.Op.{Op}
-use Rattle.mir_func.specs.declared.func.Op.TheVariants as ops
 use Rattle.mir_func.specs.declared.func.Instr.{Instr}
 use Rattle.mir_func.specs.declared.func.Edge.{Edge}
 use Rattle.mir_func.specs.declared.func.Block.{Block}
@@ -37,34 +33,12 @@ reg_name_in (Some d) = d.name
 abbrev pub reg_name : Target → Reg → List ℕ
 reg_name t r = reg_name_in (slice_get t.regs r.0)
 
-abbrev pub index_name_in : Option IndexDesc → List ℕ
-index_name_in None = []
-index_name_in (Some d) = d.name
-
-abbrev pub index_name : Target → IndexId → List ℕ
-index_name t i = index_name_in (slice_get t.indexes i.0)
-
 abbrev pub class_name_in : Option ClassDesc → List ℕ
 class_name_in None = []
 class_name_in (Some d) = d.name
 
 abbrev pub class_name : Target → ClassId → List ℕ
 class_name t c = class_name_in (slice_get t.classes c.0)
-
-abbrev pub mask_name_in : Option MaskDesc → List ℕ
-mask_name_in None = []
-mask_name_in (Some d) = d.name
-
-abbrev pub mask_name : Target → MaskId → List ℕ
-mask_name t m = mask_name_in (slice_get t.masks m.0)
-
-abbrev pub op_name_in : Option OpcodeDesc → List ℕ
-op_name_in None = []
-op_name_in (Some d) = d.name
-
-abbrev pub op_name : Target → Op → List ℕ
-op_name t (ops.Known o) = op_name_in (slice_get t.opcodes o.0)
-op_name t (ops.Excluded name) = name
 
 -- a word where a flag is on
 abbrev pub flag : Bool → List ℕ → List ℕ
@@ -174,9 +148,13 @@ hex (suc k) n = hex k (n / 16) ++ digit_glyph false (n % 16) ∷ []
 unfoldable pub print_edge : Edge → List ℕ
 print_edge e = codes "%bb." ++ (decimal e.block ++ (codes "(0x" ++ (hex 8 e.prob ++ codes ")")))
 
-abbrev pub print_successors : List Edge → List ℕ
-print_successors [] = []
-print_successors (e ∷ es) = codes "    successors: " ++ (join_by print_edge (codes ", ") (e ∷ es) ++ codes "\n")
+abbrev pub print_edges : Edge → List Edge → List ℕ
+print_edges e es = codes "    successors: " ++ (join_by print_edge (codes ", ") (e ∷ es) ++ codes "\n")
+
+-- the successors of a block; of an open one, which has none, a line with nothing behind the colon
+abbrev pub print_successors : Bool → List Edge → List ℕ
+print_successors is_open_block [] = flag is_open_block (codes "    successors:\n")
+print_successors is_open_block (e ∷ es) = print_edges e es
 
 abbrev pub print_livein : Target → Reg → List ℕ
 print_livein t r = codes "$" ++ reg_name t r
@@ -197,7 +175,7 @@ unfoldable pub print_header : Block → List ℕ
 print_header b = codes "  bb." ++ (decimal b.number ++ (print_block_name b.name ++ (print_attributes b.attributes ++ codes ":\n")))
 
 unfoldable pub print_block : Target → List (Option ClassId) → Block → List ℕ
-print_block t left b = print_header b ++ (print_successors b.successors ++ (print_liveins t b.liveins ++ print_instrs t left b.instrs))
+print_block t left b = print_header b ++ (print_successors (is_open t b) b.successors ++ (print_liveins t b.liveins ++ print_instrs t left b.instrs))
 
 abbrev pub print_blocks : Target → List (Option ClassId) → List Block → List ℕ
 print_blocks t left [] = []

@@ -4,13 +4,16 @@ ghost use Rattle.std.specs.Prelude.{◌≡◌, ◌<◌, ◌≤◌, ◌++◌, ◌
 ghost use Rattle.std.specs.List.{join_by, flat_map};
 ghost use Rattle.std.specs.Fmt.{decimal, signed_decimal, digit_glyph};
 ghost use Rattle.mir_func.specs.Binding.{explicit_roles};
-ghost use Rattle.mir_text.specs.Print.{reg_name, index_name, class_name, mask_name, op_name, flag, is_explicit_def, def_count, implicit_word, print_index, print_class, print_loc, print_reg, left_behind_loc, left_behind, left_behind_all, print_operand, print_more, print_operands, print_tail, print_parts, print_instr, print_instrs, left_behind_instrs, hex, print_edge, print_successors, print_livein, print_liveins, print_block_name, print_attributes, print_header, print_block, print_blocks, print_lines, print_function, print_doc};
+ghost use Rattle.mir_meaning.specs.Codes.{is_open};
+ghost use Rattle.mir_text.specs.Print.{reg_name, class_name, flag, is_explicit_def, def_count, implicit_word, print_index, print_class, print_loc, print_reg, left_behind_loc, left_behind, left_behind_all, print_operand, print_more, print_operands, print_tail, print_parts, print_instr, print_instrs, left_behind_instrs, hex, print_edge, print_edges, print_successors, print_livein, print_liveins, print_block_name, print_attributes, print_header, print_block, print_blocks, print_lines, print_function, print_doc};
 
 use crate::doc::Doc;
 use mir_func::opcodes::{is_early, next_role, roles_of};
-use mir_func::{Block, Classes, Edge, Func, Instr, Loc, Op, Operand, RegOp};
+use mir_func::spelling::{index_name, mask_name, op_name};
+use mir_func::{Block, Classes, Edge, Func, Instr, Loc, Operand, RegOp};
+use mir_meaning::ends::is_open;
 use std::alloc::{AllocError, Global};
-use target_base::{Boxed, Bytes, ClassId, Copied, IndexId, List, MaskId, Reg, Role, Target};
+use target_base::{Boxed, Bytes, ClassId, Copied, IndexId, List, Reg, Role, Target};
 
 fn put(out: &mut Bytes, text: &str) -> Result<(), AllocError>
     ensures { OnOk result (out.new ≡ out.old ++ text.now) }
@@ -56,15 +59,6 @@ pub(crate) fn reg_name(target: &Target, r: Reg) -> &[u8]
     }
 }
 
-fn index_name(target: &Target, i: IndexId) -> &[u8]
-    ensures { result.now ≡ index_name target.now i }
-{
-    match target.indexes.as_slice().get(i.0 as usize) {
-        None => &[],
-        Some(d) => d.name.as_slice(),
-    }
-}
-
 /// The name of a class, or nothing where the target doesn't have it.
 pub fn class_name(target: &Target, c: ClassId) -> &[u8]
     ensures { result.now ≡ class_name target.now c }
@@ -72,27 +66,6 @@ pub fn class_name(target: &Target, c: ClassId) -> &[u8]
     match target.classes.as_slice().get(c.0 as usize) {
         None => &[],
         Some(d) => d.name.as_slice(),
-    }
-}
-
-fn mask_name(target: &Target, m: MaskId) -> &[u8]
-    ensures { result.now ≡ mask_name target.now m }
-{
-    match target.masks.as_slice().get(m.0 as usize) {
-        None => &[],
-        Some(d) => d.name.as_slice(),
-    }
-}
-
-pub(crate) fn op_name<'a>(target: &'a Target, op: &'a Op) -> &'a [u8]
-    ensures { result.now ≡ op_name target.now op.now }
-{
-    match op {
-        Op::Known(o) => match target.opcodes.as_slice().get(o.0 as usize) {
-            None => &[],
-            Some(d) => d.name.as_slice(),
-        },
-        Op::Excluded(name) => name.as_slice(),
     }
 }
 
@@ -409,7 +382,7 @@ fn put_more_edges(out: &mut Bytes, edges: &[Edge]) -> Result<(), AllocError>
 }
 
 fn put_edges(out: &mut Bytes, first: &Edge, rest: &[Edge]) -> Result<(), AllocError>
-    ensures { OnOk result (out.new ≡ out.old ++ print_successors (first.now ∷ rest.now)) }
+    ensures { OnOk result (out.new ≡ out.old ++ print_edges first.now rest.now) }
 {
     put(out, "    successors: ")?;
     put_edge(out, first)?;
@@ -418,11 +391,13 @@ fn put_edges(out: &mut Bytes, first: &Edge, rest: &[Edge]) -> Result<(), AllocEr
     Ok(())
 }
 
-fn put_successors(out: &mut Bytes, edges: &[Edge]) -> Result<(), AllocError>
-    ensures { OnOk result (out.new ≡ out.old ++ print_successors edges.now) }
+/// Appends the successors of a block. A block without any has no such line, but an open one has a
+/// line with nothing behind the colon.
+fn put_successors(out: &mut Bytes, target: &Target, b: &Block) -> Result<(), AllocError>
+    ensures { OnOk result (out.new ≡ out.old ++ print_successors (is_open target.now b.now) b.now.successors) }
 {
-    match edges {
-        [] => Ok(()),
+    match b.successors.as_slice() {
+        [] => put_if(out, is_open(target, b), "    successors:\n"),
         [first, rest @ ..] => put_edges(out, first, rest),
     }
 }
@@ -496,7 +471,7 @@ fn put_block(
     ensures left { OnOk result (left.new ≡ left_behind_instrs left.old b.now.instrs) }
 {
     put_header(out, b)?;
-    put_successors(out, b.successors.as_slice())?;
+    put_successors(out, target, b)?;
     put_liveins(out, target, b.liveins.as_slice())?;
     put_instrs(out, target, left, b.instrs.as_slice())?;
     Ok(())

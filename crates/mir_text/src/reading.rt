@@ -113,16 +113,22 @@ impl Reading {
 
     /// Behind an instruction.
     #[tactic(auto, unfolding(crate::specs::BodyLines::instr_line))]
-    fn instr_line(self, alloc: Global, names: &Names, text: &[u8]) -> Result<Reading, ReadStop>
+    fn instr_line(
+        self,
+        alloc: Global,
+        target: &Target,
+        names: &Names,
+        text: &[u8],
+    ) -> Result<Reading, ReadStop>
         requires small { IsReadingWithin 8388608 self }
         requires short { length text.now ≤ 4194304 }
-        ensures value { GivesLine result (instr_line names.now self text.now) }
+        ensures value { GivesLine result (instr_line target.now names.now self text.now) }
         ensures adds { IfOk result (λ r. AddsToReading (length text.now + 1) self r) }
     {
         if !self.body.is_begun() {
             return Err(ReadStop::Fault(TextKind::Layout));
         }
-        let raw = instructions::instruction(alloc, text)?;
+        let raw = instructions::instruction(alloc, target, text)?;
         let Reading {
             keys,
             ranges,
@@ -169,7 +175,7 @@ impl Reading {
             Some(list) => self.successors_line(alloc, list),
             None => match behind_word(text, b"liveins:") {
                 Some(list) => self.liveins_line(alloc, names, list),
-                None => self.instr_line(alloc, names, text),
+                None => self.instr_line(alloc, target, names, text),
             },
         }
     }

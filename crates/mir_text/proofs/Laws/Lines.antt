@@ -45,19 +45,19 @@ module _ (t : Target) where
       bind-ok (or_fault kinds.Name (regs_named (name_lists t) ws)) _ (λ x. Unit {0}) ReadingGives (fault-ok kinds.Name (regs_named (name_lists t) ws) (λ x. Unit {0}) (any-some (regs_named (name_lists t) ws))) (λ rs v. record { keys = g.keys; ranges = g.ranges })))
       tt
 
-  instr-line-gives : (r : Reading) (text : List ℕ) → ReadingGives r → IfOk (instr_line (name_lists t) r text) ReadingGives
+  instr-line-gives : (r : Reading) (text : List ℕ) → ReadingGives r → IfOk (instr_line t (name_lists t) r text) ReadingGives
   unfolding instr_line
   instr-line-gives r text g =
       either-ok (is_begun r.body) _ (Err kinds.Layout) ReadingGives
-      (bind-ok (or_fault kinds.Token (instruction_of text)) _ (λ x. Unit {0}) ReadingGives (fault-ok kinds.Token (instruction_of text) (λ x. Unit {0}) (any-some (instruction_of text))) (λ i u.
+      (bind-ok (or_fault kinds.Token (instruction_of t text)) _ (λ x. Unit {0}) ReadingGives (fault-ok kinds.Token (instruction_of t text) (λ x. Unit {0}) (any-some (instruction_of t text))) (λ i u.
       bind-ok (or_fault kinds.Name (instr_named (name_lists t) r.headers r.keys.registers r.ranges r.body.next_id i)) _ (λ x. GiveClasses t x.0) ReadingGives (fault-ok kinds.Name (instr_named (name_lists t) r.headers r.keys.registers r.ranges r.body.next_id i) (λ x. GiveClasses t x.0) (instr-gives t r.headers r.keys.registers g.keys r.ranges r.body.next_id i g.ranges)) (λ p h. record { keys = g.keys; ranges = h })))
       tt
 
-  or-liveins : (r : Reading) (text : List ℕ) (list : Option (List ℕ)) → ReadingGives r → IfOk (liveins_or (name_lists t) r text list) ReadingGives
+  or-liveins : (r : Reading) (text : List ℕ) (list : Option (List ℕ)) → ReadingGives r → IfOk (liveins_or t (name_lists t) r text list) ReadingGives
   or-liveins r text None g = instr-line-gives r text g
   or-liveins r text (Some list) g = liveins-give r list g
 
-  or-successors : (r : Reading) (text : List ℕ) (list : Option (List ℕ)) → ReadingGives r → IfOk (successors_or (name_lists t) r text list) ReadingGives
+  or-successors : (r : Reading) (text : List ℕ) (list : Option (List ℕ)) → ReadingGives r → IfOk (successors_or t (name_lists t) r text list) ReadingGives
   or-successors r text None g = or-liveins r text (behind_word (codes "liveins:") text) g
   or-successors r text (Some list) g = successors-give r list g
 

@@ -1,6 +1,7 @@
 -- What the names of a target give is a class of it.
 use Rattle.std.proofs.Common.{◌≡◌, ℕ, List, [], ◌∷◌, Option, Some, None, Result, Ok, Err, map, Bool, true, false, refl, arith}
 use Rattle.std.specs.Prelude.{IfOk, IfSome, position, option_map, if◌then◌else◌}
+use Rattle.std.specs.List.{list_all}
 use Rattle.std.proofs.lemmas.List.{length-map}
 use Rattle.std.proofs.lemmas.List.Quantifiers.{position-Some}
 use Rattle.target_base.specs.Numbers.{class_number}
@@ -19,7 +20,7 @@ use Rattle.mir_read.specs.declared.stop.TextKind.{TextKind}
 use Rattle.mir_read.specs.declared.ranges.Given.TheVariants as given
 use Rattle.mir_read.specs.declared.ranges.Ranges.{Ranges}
 use Rattle.mir_read.specs.declared.resolve.Headers.{Headers}
-use Rattle.mir_read.specs.Names.{name_lists, class_named, reg_named, index_named, mask_named}
+use Rattle.mir_read.specs.Names.{name_lists, class_named, reg_named, index_named, mask_named, has_flag}
 use Rattle.mir_read.specs.Ranges.{given_to}
 use Rattle.mir_read.specs.Reading.{◌>>=◌, or_fault}
 use Rattle.mir_read.specs.Resolving.{◌>>?◌, index_if, class_if, placed, differs, operand_named, operands_named, opcode_named, instr_named}
@@ -87,7 +88,11 @@ module _ (t : Target) where
         named false = h
     operand-gives r (raw.Stack n) h = h
     operand-gives r (raw.FixedStack n) h = h
-    operand-gives r (raw.Symbol text) h = h
+    operand-gives r (raw.Symbol text flags) h = known (list_all (has_flag (name_lists t)) flags)
+      where
+        known : (b : Bool) → IfSome (if b then Some (r, operands.Symbol text) else None) (λ (x : Ranges × Operand). GiveClasses t x.0)
+        known true = h
+        known false = tt
     operand-gives r (raw.Index w) h = map-some (index_named (name_lists t) w) _ (λ x. Unit {0}) (λ (x : Ranges × Operand). GiveClasses t x.0) (any-some (index_named (name_lists t) w)) (λ x u. h)
     operand-gives r (raw.Mask w) h = map-some (mask_named (name_lists t) w) _ (λ x. Unit {0}) (λ (x : Ranges × Operand). GiveClasses t x.0) (any-some (mask_named (name_lists t) w)) (λ x u. h)
 

@@ -1,6 +1,7 @@
 use Rattle.std.proofs.Common.{◌≡◌, ◌≤◌, ◌+◌, length}
-use Rattle.mir_lines.specs.Blocks.{comma_parts, each, edge_of}
-use Rattle.mir_lines.proofs.Parts.{all_onto}
+use Rattle.mir_lines.specs.Parts.{comma_parts, each}
+use Rattle.mir_lines.specs.Blocks.{edge_of}
+use Rattle.mir_lines.proofs.Cut.{all_onto}
 use Rattle.mir_lines.proofs.blocks.edges.Given as goal
 
 abbrev pub invariant-parts : goal.invariant-parts

@@ -8,7 +8,7 @@ abbrev pub invariant-elements : goal.invariant-elements
 invariant-elements l = record {
   within : length l.rest ≤ length l.text;
   few : length l.made + length l.rest ≤ length l.fn.before + length l.text;
-  go : ElementsGo l.part (onto l.fn.before (elements_at l.part l.text)) l.made l.rest;
+  go : ElementsGo l.options l.part (onto l.fn.before (elements_at l.options l.part l.text)) l.made l.rest;
 }
 
 abbrev pub decreases-elements : goal.decreases-elements

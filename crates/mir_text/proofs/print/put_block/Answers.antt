@@ -5,4 +5,4 @@ use Rattle.mir_text.proofs.print.put_block.Goals as goal
 pub returns-clause-text : goal.returns-clause-text
 unfolding print_block
 returns-clause-text c =
-    rw (c.in_ok-put_instrs.ensures.text, c.as_slice-3.ensures, c.in_ok-put_liveins.ensures, c.as_slice-2.ensures, c.in_ok-put_successors.ensures, c.as_slice.ensures, c.in_ok-put_header.ensures) (simp append_assoc)
+    rw (c.in_ok-put_instrs.ensures.text, c.as_slice-2.ensures, c.in_ok-put_liveins.ensures, c.as_slice.ensures, c.in_ok-put_successors.ensures, c.in_ok-put_header.ensures) (simp append_assoc)

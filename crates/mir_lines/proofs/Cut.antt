@@ -6,7 +6,7 @@ use Rattle.std.proofs.lemmas.Grind.{common_steps}
 use Rattle.mir_lines.specs.declared.stop.LineStop.{LineStop}
 use Rattle.mir_lines.specs.declared.stop.LineStop.TheVariants as stops
 use Rattle.mir_lines.specs.Reads.{◌>>=◌, Fails}
-use Rattle.mir_lines.specs.Blocks.{comma_parts, each}
+use Rattle.mir_lines.specs.Parts.{comma_parts, each}
 
 front_more : (b n : ℕ) (bs : List ℕ) → take (1 + n) (b ∷ bs) ≡ b ∷ take n bs
 front_more b n bs = let e : 1 + n ≡ suc n = omega arith in rw e refl

@@ -1,7 +1,7 @@
 use Rattle.std.proofs.Common.{◌≡◌, Some, None}
 use Rattle.std.specs.Prelude.{◌==◌, position}
-use Rattle.mir_lines.proofs.Parts.{parts_cut, parts_whole, behind_is}
-use Rattle.mir_lines.proofs.blocks.next_part.Goals as goal
+use Rattle.mir_lines.proofs.Cut.{parts_cut, parts_whole, behind_is}
+use Rattle.mir_lines.proofs.parts.next_part.Goals as goal
 
 pub returns-in-None-clause-whole : goal.returns-in-None-clause-whole
 returns-in-None-clause-whole c =
