@@ -5,6 +5,7 @@ use Rattle.std.specs.List.{cons_option, list_any}
 use Rattle.std.proofs.lemmas.List.Elements.{filter_map-append}
 use Rattle.target_base.specs.declared.types.Effect.{Effect}
 use Rattle.target_base.specs.declared.types.Effect.TheVariants as effects
+use Rattle.target_base.specs.declared.types.OpaqueKind.TheVariants as kinds
 use Rattle.target_base.specs.declared.types.Role.{Role}
 use Rattle.target_base.specs.declared.types.Target.{Target}
 use Rattle.meaning.specs.Perform.{condition_lane}
@@ -98,10 +99,12 @@ module _ (t : Target) (num : Numbering) (os : List Operand) where
 
   pub call_clobber : (e : Effect) → is_call e ≡ true → act_writings num (acts_of (call_writes t e os)) ≡ act_writings num (map (λ u. plain false (owners.Unit u)) (unpreserved t os))
   call_clobber effects.Call h = ap (act_writings num) (acts-units (unpreserved t os))
+  call_clobber (effects.Opaque kinds.Call) h = ap (act_writings num) (acts-units (unpreserved t os))
   call_clobber e h = absurd (cc)
 
   call-unread : (e : Effect) → act_readings num (acts_of (call_writes t e os)) ≡ []
   call-unread effects.Call = ap (act_readings num) (acts-units (unpreserved t os)) ∙ unread num false owners.Unit (unpreserved t os)
+  call-unread (effects.Opaque kinds.Call) = ap (act_readings num) (acts-units (unpreserved t os)) ∙ unread num false owners.Unit (unpreserved t os)
   call-unread e = refl
 
 -- a result that is computed was not moved

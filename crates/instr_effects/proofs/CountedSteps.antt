@@ -4,6 +4,8 @@ use Rattle.std.specs.Prelude.{option_map}
 use Rattle.std.specs.List.{cons_option, list_any}
 use Rattle.target_base.specs.declared.types.Effect.{Effect}
 use Rattle.target_base.specs.declared.types.Effect.TheVariants as effects
+use Rattle.target_base.specs.declared.types.OpaqueKind.{OpaqueKind}
+use Rattle.target_base.specs.declared.types.OpaqueKind.TheVariants as kinds
 use Rattle.target_base.specs.declared.types.Role.{Role}
 use Rattle.target_base.specs.declared.types.Target.{Target}
 use Rattle.target_base.specs.declared.types.IndexId.{IndexId}
@@ -33,7 +35,7 @@ use Rattle.mir_func.specs.declared.func.Block.{Block}
 use Rattle.mir_func.specs.Value.{Function}
 use Rattle.mir_func.specs.Binding.{registers, explicit_operands, implicit_registers, implicit_roles, roles_of, is_early_clobber, Definition, definitions, effect_of, passes, is_terminator, immediate_of}
 use Rattle.mir_meaning.specs.Registers.{numbers, operand_lanes, located_lanes, whole_lanes, undefined_lanes, use_sources, range_widths, is_reserved}
-use Rattle.mir_meaning.specs.Items.{write, undefined, computed, Value, value_of, values, use_value, flag_value, constant_value, computes_with_immediates, has_base, implicit_values, is_flags, pick, first_width, results, counted_writes, implicit_writes, explicit_definitions, implicit_definitions, all_lanes, answered, unreserved, clobbered, kept, preserves, rest_of, defined_undef, silent_reads, silent_writes}
+use Rattle.mir_meaning.specs.Items.{write, undefined, computed, Value, value_of, values, use_value, flag_value, constant_value, computes_with_immediates, has_base, implicit_values, is_flags, pick, first_width, results, counted_writes, defined_lanes, implicit_writes, further_writes, opaque_clobbers, opaque_implicit, explicit_definitions, implicit_definitions, all_lanes, answered, unreserved, clobbered, kept, preserves, rest_of, defined_undef, silent_reads, silent_writes}
 use Rattle.mir_meaning.specs.Codes.{item_of, effect_item, way, ways_out, target_of}
 use Rattle.mir_meaning.specs.Points.{point_item}
 use Rattle.mir_meaning.specs.Stands.{Tags}
@@ -153,7 +155,14 @@ module _ (t : Target) (f : Function) where
     where
       call : (e : Effect) → Fills (LaneNamed os) (call_writes t e os)
       call effects.Call = fills-undefined (LaneNamed os) false (map UnitLane (unpreserved t os)) (λ l m. inr (clobbered-of os l m))
+      call (effects.Opaque kinds.Call) = fills-undefined (LaneNamed os) false (map UnitLane (unpreserved t os)) (λ l m. inr (clobbered-of os l m))
       call e = λ w m. absurd (member-none w m)
+
+  -- what a call makes undefined is entered
+  clobber-covered : (os : List Operand) (w : Write) → Member w (undefined false (clobbered t os)) → LaneIn w.lane (undefined false (map UnitLane (unpreserved t os))) × (fill_owner w.fill ≡ None)
+  clobber-covered os w m =
+      let z = of-undefined false w (clobbered t os) m in
+      (in-undefined false w.lane (map UnitLane (unpreserved t os)) (unreserved-of w.lane (map UnitLane (unpreserved t os)) z.0).0, z.1)
 
   -- each lane that is written implicitly is entered
   implicit-covered : (e : Effect) (rs : List Role) (os : List Operand) (w : Write) → Member w (implicit_writes t f e rs os) → (Member w.lane (all_lanes t f (implicit_definitions os)) ⊎ LaneIn w.lane (call_writes t e os)) × (fill_owner w.fill ≡ None)
@@ -169,19 +178,46 @@ module _ (t : Target) (f : Function) where
     where
       go : Member w (computed false 0 (answered t f os)) ⊎ Member w (undefined false (clobbered t os)) → (Member w.lane (all_lanes t f (implicit_definitions os)) ⊎ LaneIn w.lane (call_writes t effects.Call os)) × (fill_owner w.fill ≡ None)
       go (inl k) = let z = of-computed false 0 w (answered t f os) k in (inl (unreserved-of w.lane (all_lanes t f (implicit_definitions os)) z.0).0, z.1)
-      go (inr k) = let z = of-undefined false w (clobbered t os) k in (inr (in-undefined false w.lane (map UnitLane (unpreserved t os)) (unreserved-of w.lane (map UnitLane (unpreserved t os)) z.0).0), z.1)
+      go (inr k) = let z = clobber-covered os w k in (inr z.0, z.1)
   implicit-covered e rs os w m = let z = of-undefined false w (unreserved t (all_lanes t f (implicit_definitions os))) m in (inl (unreserved-of w.lane (all_lanes t f (implicit_definitions os)) z.0).0, z.1)
 
-  -- each lane that is entered, and isn't reserved, is written implicitly
-  implicit-covers : (e : Effect) (rs : List Role) (os : List Operand) (l : Lane) → is_reserved t l ≡ false → Member l (all_lanes t f (implicit_definitions os)) ⊎ LaneIn l (call_writes t e os) → LaneIn l (implicit_writes t f e rs os)
-  implicit-covers effects.Cmp rs os l r (inl m) = kept-in l (computed false 0 (all_lanes t f (filter (is_flags rs) (implicit_definitions os))) ++ undefined false (all_lanes t f (implicit_definitions os))) (lane-right l (computed false 0 (all_lanes t f (filter (is_flags rs) (implicit_definitions os)))) (undefined false (all_lanes t f (implicit_definitions os))) (in-undefined false l (all_lanes t f (implicit_definitions os)) m)) r
-  implicit-covers effects.Cmp rs os l r (inr z) = absurd (member-none z.0 z.1)
-  implicit-covers effects.Call rs os l r (inl m) = lane-left l (computed false 0 (answered t f os)) (undefined false (clobbered t os)) (in-computed false 0 l (answered t f os) (unreserved-in l (all_lanes t f (implicit_definitions os)) m r))
-  implicit-covers effects.Call rs os l r (inr z) =
+  opaque-covered : (kind : OpaqueKind) (n : ℕ) (os : List Operand) (w : Write) → Member w (opaque_implicit t f kind n os) → (Member w.lane (all_lanes t f (implicit_definitions os)) ⊎ LaneIn w.lane (call_writes t (effects.Opaque kind) os)) × (fill_owner w.fill ≡ None)
+  opaque-covered kind n os w m = go (in-either w (computed false n (all_lanes t f (implicit_definitions os))) (opaque_clobbers t kind os) m)
+    where
+      clobber : (kind : OpaqueKind) → Member w (opaque_clobbers t kind os) → LaneIn w.lane (call_writes t (effects.Opaque kind) os) × (fill_owner w.fill ≡ None)
+      clobber kinds.Call k = clobber-covered os w k
+      clobber kind k = absurd (member-none w k)
+
+      go : Member w (computed false n (all_lanes t f (implicit_definitions os))) ⊎ Member w (opaque_clobbers t kind os) → (Member w.lane (all_lanes t f (implicit_definitions os)) ⊎ LaneIn w.lane (call_writes t (effects.Opaque kind) os)) × (fill_owner w.fill ≡ None)
+      go (inl k) = let z = of-computed false n w (all_lanes t f (implicit_definitions os)) k in (inl z.0, z.1)
+      go (inr k) = let z = clobber kind k in (inr z.0, z.1)
+
+  further-covered : (e : Effect) (i : Instr) (w : Write) → Member w (further_writes t f e i) → (Member w.lane (all_lanes t f (implicit_definitions i.operands)) ⊎ LaneIn w.lane (call_writes t e i.operands)) × (fill_owner w.fill ≡ None)
+  further-covered (effects.Opaque kind) i w m = opaque-covered kind (length (defined_lanes t f (definitions (roles_of t i) i.operands))) i.operands w m
+  further-covered e i w m = implicit-covered e (implicit_roles (roles_of t i)) i.operands w m
+
+  -- each lane of an implicit definition that isn't reserved is written
+  implicit-covers : (e : Effect) (rs : List Role) (os : List Operand) (l : Lane) → is_reserved t l ≡ false → Member l (all_lanes t f (implicit_definitions os)) → LaneIn l (implicit_writes t f e rs os)
+  implicit-covers effects.Cmp rs os l r m = kept-in l (computed false 0 (all_lanes t f (filter (is_flags rs) (implicit_definitions os))) ++ undefined false (all_lanes t f (implicit_definitions os))) (lane-right l (computed false 0 (all_lanes t f (filter (is_flags rs) (implicit_definitions os)))) (undefined false (all_lanes t f (implicit_definitions os))) (in-undefined false l (all_lanes t f (implicit_definitions os)) m)) r
+  implicit-covers effects.Call rs os l r m = lane-left l (computed false 0 (answered t f os)) (undefined false (clobbered t os)) (in-computed false 0 l (answered t f os) (unreserved-in l (all_lanes t f (implicit_definitions os)) m r))
+  implicit-covers e rs os l r m = in-undefined false l (unreserved t (all_lanes t f (implicit_definitions os))) (unreserved-in l (all_lanes t f (implicit_definitions os)) m r)
+
+  -- what is entered of a call, and isn't reserved, is made undefined
+  clobber-covers : (os : List Operand) (l : Lane) → is_reserved t l ≡ false → LaneIn l (undefined false (map UnitLane (unpreserved t os))) → LaneIn l (undefined false (clobbered t os))
+  clobber-covers os l r z =
       let y = of-undefined false z.0 (map UnitLane (unpreserved t os)) z.1 in
-      lane-right l (computed false 0 (answered t f os)) (undefined false (clobbered t os)) (in-undefined false l (clobbered t os) (unreserved-in l (map UnitLane (unpreserved t os)) (subst (λ x. Member x (map UnitLane (unpreserved t os))) z.2 y.0) r))
-  implicit-covers e rs os l r (inl m) = in-undefined false l (unreserved t (all_lanes t f (implicit_definitions os))) (unreserved-in l (all_lanes t f (implicit_definitions os)) m r)
-  implicit-covers e rs os l r (inr z) = absurd (member-none z.0 z.1)
+      in-undefined false l (clobbered t os) (unreserved-in l (map UnitLane (unpreserved t os)) (subst (λ x. Member x (map UnitLane (unpreserved t os))) z.2 y.0) r)
+
+  -- each lane that is entered, and isn't reserved, is written beside explicit definitions
+  further-covers : (e : Effect) (i : Instr) (l : Lane) → is_reserved t l ≡ false → Member l (all_lanes t f (implicit_definitions i.operands)) ⊎ LaneIn l (call_writes t e i.operands) → LaneIn l (further_writes t f e i)
+  further-covers (effects.Opaque kind) i l r (inl m) =
+      let n = length (defined_lanes t f (definitions (roles_of t i) i.operands)) in
+      lane-left l (computed false n (all_lanes t f (implicit_definitions i.operands))) (opaque_clobbers t kind i.operands) (in-computed false n l (all_lanes t f (implicit_definitions i.operands)) m)
+  further-covers (effects.Opaque kinds.Call) i l r (inr z) =
+      lane-right l (computed false (length (defined_lanes t f (definitions (roles_of t i) i.operands))) (all_lanes t f (implicit_definitions i.operands))) (undefined false (clobbered t i.operands)) (clobber-covers i.operands l r z)
+  further-covers effects.Call i l r (inr z) = lane-right l (computed false 0 (answered t f i.operands)) (undefined false (clobbered t i.operands)) (clobber-covers i.operands l r z)
+  further-covers e i l r (inl m) = implicit-covers e (implicit_roles (roles_of t i)) i.operands l r m
+  further-covers e i l r (inr z) = absurd (member-none z.0 z.1)
 
   -- what a counted instruction reads are lanes of its register operands
 
@@ -325,10 +361,10 @@ module _ (t : Target) (f : Function) where
     named-tag l (inl z) r = names.lanes z.0 l z.1 z.2 r
     named-tag l (inr z) r = let y = names.units z.0 z.1 (ap (is_reserved t) (sym z.2) ∙ r) in (y.0, ap tag z.2 ∙ y.1)
 
-    covered-by : (w : Write) → Member w X ⊎ Member w (implicit_writes t f e (implicit_roles (roles_of t i)) i.operands) → LaneIn w.lane E × (fill_owner w.fill ≡ None)
+    covered-by : (w : Write) → Member w X ⊎ Member w (further_writes t f e i) → LaneIn w.lane E × (fill_owner w.fill ≡ None)
     covered-by w (inl m) = (lane-left w.lane X (undefined false (all_lanes t f (implicit_definitions i.operands)) ++ call_writes t e i.operands) (w, m, refl), (fills-results 0 (roles_of t i) i.operands w m).1)
     covered-by w (inr m) =
-        let z = implicit-covered e (implicit_roles (roles_of t i)) i.operands w m in
+        let z = further-covered e i w m in
         (lane-right w.lane X (undefined false (all_lanes t f (implicit_definitions i.operands)) ++ call_writes t e i.operands) (go z.0), z.1)
       where
         go : Member w.lane (all_lanes t f (implicit_definitions i.operands)) ⊎ LaneIn w.lane (call_writes t e i.operands) → LaneIn w.lane (undefined false (all_lanes t f (implicit_definitions i.operands)) ++ call_writes t e i.operands)
@@ -336,17 +372,17 @@ module _ (t : Target) (f : Function) where
         go (inr k) = lane-right w.lane (undefined false (all_lanes t f (implicit_definitions i.operands))) (call_writes t e i.operands) k
 
     covered : (w : Write) → Member w W → LaneIn w.lane E × (fill_owner w.fill ≡ None)
-    covered w m = covered-by w (in-either w X (implicit_writes t f e (implicit_roles (roles_of t i)) i.operands) m)
+    covered w m = covered-by w (in-either w X (further_writes t f e i) m)
 
     covers : (v : Write) → Member v E → is_reserved t v.lane ≡ false → LaneIn v.lane W
     covers v m r = go (in-either v X (undefined false (all_lanes t f (implicit_definitions i.operands)) ++ call_writes t e i.operands) m)
       where
         more : Member v (undefined false (all_lanes t f (implicit_definitions i.operands))) ⊎ Member v (call_writes t e i.operands) → LaneIn v.lane W
-        more (inl k) = lane-right v.lane X (implicit_writes t f e (implicit_roles (roles_of t i)) i.operands) (implicit-covers e (implicit_roles (roles_of t i)) i.operands v.lane r (inl (of-undefined false v (all_lanes t f (implicit_definitions i.operands)) k).0))
-        more (inr k) = lane-right v.lane X (implicit_writes t f e (implicit_roles (roles_of t i)) i.operands) (implicit-covers e (implicit_roles (roles_of t i)) i.operands v.lane r (inr (v, k, refl)))
+        more (inl k) = lane-right v.lane X (further_writes t f e i) (further-covers e i v.lane r (inl (of-undefined false v (all_lanes t f (implicit_definitions i.operands)) k).0))
+        more (inr k) = lane-right v.lane X (further_writes t f e i) (further-covers e i v.lane r (inr (v, k, refl)))
 
         go : Member v X ⊎ Member v (undefined false (all_lanes t f (implicit_definitions i.operands)) ++ call_writes t e i.operands) → LaneIn v.lane W
-        go (inl k) = lane-left v.lane X (implicit_writes t f e (implicit_roles (roles_of t i)) i.operands) (v, k, refl)
+        go (inl k) = lane-left v.lane X (further_writes t f e i) (v, k, refl)
         go (inr k) = more (in-either v (undefined false (all_lanes t f (implicit_definitions i.operands))) (call_writes t e i.operands) k)
 
     abbrev acts-in : Option Effect → Writes

@@ -12,6 +12,7 @@ pub mod Known
 pub mod MaskUnits
 pub mod Members
 pub mod Defined
+pub mod Needed
 pub mod Plain
 pub mod CountedSteps
 pub mod ItemLemmas

@@ -8,6 +8,8 @@ use Rattle.mir_func.specs.declared.func.RegOp.{RegOp}
 use Rattle.mir_func.specs.declared.func.Operand.{Operand}
 use Rattle.mir_func.specs.declared.func.Operand.TheVariants as operands
 use Rattle.mir_func.specs.declared.func.Instr.{Instr}
+use Rattle.mir_func.specs.Value.{Function}
+use Rattle.mir_meaning.specs.Codes.{phi_operands, phi_pair}
 use Rattle.mir_func.specs.Binding.{known_opcode, passes, register_at}
 use Rattle.instr_effects.specs.Ends.{pairs_of, pairs_behind, end_uses, first_pair}
 
@@ -55,6 +57,20 @@ pub behind_none : (os : List Operand) → register_at os 0 ≡ None → pairs_be
 behind_none [] e = refl
 behind_none (operands.Reg d ∷ os) e = absurd (cc)
 behind_none (o ∷ os) e = refl
+
+-- what a phi writes by its operands
+pub phi_behind : (t : Target) (f : Function) (n : ℕ) (os : List Operand) (d : RegOp) → register_at os 0 ≡ Some d → phi_operands t f n os ≡ phi_pair t f n d (drop 1 os)
+phi_behind t f n [] d e = absurd (cc)
+phi_behind t f n (operands.Reg s ∷ os) d e = ap (λ x. phi_pair t f n x os) (some-register s d e)
+  where
+    some-register : (a b : RegOp) → Some a ≡ Some b → a ≡ b
+    some-register a b e = cc
+phi_behind t f n (o ∷ os) d e = absurd (cc)
+
+pub phi_nothing : (t : Target) (f : Function) (n : ℕ) (os : List Operand) → register_at os 0 ≡ None → phi_operands t f n os ≡ []
+phi_nothing t f n [] e = refl
+phi_nothing t f n (operands.Reg d ∷ os) e = absurd (cc)
+phi_nothing t f n (o ∷ os) e = refl
 
 pub no_uses : (t : Target) (i : Instr) → known_opcode t i.op ≡ None → end_uses t i ≡ []
 no_uses t i e = ap (λ q. cond (passes is_phi (option_map (λ (d : OpcodeDesc). d.effect) q)) (pairs_behind i.operands) []) e

@@ -2,6 +2,7 @@
 use Rattle.std.proofs.Common.{◌≡◌, ℕ, zero, suc, ◌+◌, Bool, false, cond, List, [], ◌∷◌, ◌++◌, Option, Some, None, map, flat_map, length, refl, sym, ap, ◌∙◌, arith, ap₂, slice_index, slice_get, sum}
 use Rattle.target_base.specs.declared.types.Effect.{Effect}
 use Rattle.target_base.specs.declared.types.Effect.TheVariants as effects
+use Rattle.target_base.specs.declared.types.OpaqueKind.TheVariants as kinds
 use Rattle.target_base.specs.declared.types.Role.{Role}
 use Rattle.target_base.specs.declared.types.Target.{Target}
 use Rattle.meaning.specs.declared.types.Lane.{Lane}
@@ -195,6 +196,7 @@ acts-units (u ∷ us) = ap (λ t. plain false (owners.Unit u) ∷ t) (acts-units
 -- an effect that isn't a call's writes nothing besides
 pub no_call : (t : Target) (e : Effect) (os : List Operand) → is_call e ≡ false → acts_of (call_writes t e os) ≡ []
 no_call t effects.Call os h = absurd (cc)
+no_call t (effects.Opaque kinds.Call) os h = absurd (cc)
 no_call t e os h = refl
 
 some-same : {X : Type 0} (x y : X) → Some x ≡ Some y → x ≡ y

@@ -3,6 +3,7 @@ use Rattle.std.specs.Prelude.{ℕ, ℤ, Bool, true, false, cond, not, ◌&&◌, 
 use Rattle.std.specs.List.{list_any}
 use Rattle.target_base.specs.declared.types.Effect.{Effect}
 use Rattle.target_base.specs.declared.types.Effect.TheVariants as effects
+use Rattle.target_base.specs.declared.types.OpaqueKind.TheVariants as kinds
 use Rattle.target_base.specs.declared.types.MaskId.{MaskId}
 use Rattle.target_base.specs.declared.types.Reg.{Reg}
 use Rattle.target_base.specs.declared.types.Role.{Role}
@@ -85,15 +86,15 @@ stored t f _ = []
 abbrev pub unpreserved : Target → List Operand → List ℕ
 unpreserved t os = filter (λ u. not (list_any (preserves t u) os)) (numbers 0 (length t.units))
 
--- a call
+-- a call, an opaque one too
 abbrev pub is_call : Effect → Bool
 is_call effects.Call = true
+is_call (effects.Opaque kinds.Call) = true
 is_call _ = false
 
 -- what a call writes besides its definitions
 abbrev pub call_writes : Target → Effect → List Operand → Writes
-call_writes t effects.Call os = undefined false (map UnitLane (unpreserved t os))
-call_writes t _ os = []
+call_writes t e os = cond (is_call e) (undefined false (map UnitLane (unpreserved t os))) []
 
 -- a counted instruction gives its lanes nothing that another lane held
 abbrev pub counted_acts : Target → Function → Effect → List Role → List Operand → Writes

@@ -23,7 +23,7 @@ use mir_func::{Operand, RegOp, operands};
 use mir_meaning::Writing;
 use std::alloc::AllocError;
 use target_base::roles::{first_implicit, is_implicit};
-use target_base::{Effect, OpcodeDesc, Role, Target};
+use target_base::{Effect, OpaqueKind, OpcodeDesc, Role, Target};
 
 /// Whether an operand is what a role names.
 fn takes_role(op: &RegOp, role: Option<Role>) -> bool
@@ -35,11 +35,11 @@ fn takes_role(op: &RegOp, role: Option<Role>) -> bool
     }
 }
 
-/// Whether an effect is a call.
+/// Whether an effect is a call, an opaque one too.
 fn is_call(effect: Effect) -> bool
     ensures { result ≡ is_call effect }
 {
-    matches!(effect, Effect::Call)
+    matches!(effect, Effect::Call | Effect::Opaque(OpaqueKind::Call))
 }
 
 /// The role whose register a conditional jump tests.

@@ -1,5 +1,5 @@
 -- Liveness of numbered lanes is that of the lanes.
-use Rattle.std.specs.Prelude.{◌≡◌, ◌↔◌, ℕ, Bool, List, Some}
+use Rattle.std.specs.Prelude.{◌≡◌, ℕ, Bool, List, Some}
 use Rattle.meaning.specs.declared.types.Lane.{Lane}
 use Rattle.meaning.specs.Code.{Code as Places}
 use Rattle.meaning.specs.Live.{Live as LivePlace}

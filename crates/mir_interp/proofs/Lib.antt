@@ -4,6 +4,7 @@ pub mod Decoding
 pub mod Going
 pub mod Joining
 pub mod Keys
+pub mod Lacking
 pub mod Loading
 pub mod Naming
 pub mod Performing

@@ -3,8 +3,8 @@ use Rattle.std.proofs.Common.{◌≡◌, ℕ, ◌+◌, ◌*◌, ◌%◌, ◌^◌
 use Rattle.std.specs.Prelude.{Option, sum, not, nat_eq}
 use Rattle.target_base.specs.declared.types.Effect.{Effect}
 use Rattle.target_base.specs.declared.types.Effect.TheVariants as effects
-use Rattle.meaning.specs.Environment.{Environment, Value}
-use Rattle.meaning.specs.Perform.{Outside, Performed, perform, given, combined, applied, operand, widths_of, lanes_of, width, ternary, divided, compared, load_at, store_at, branch, holds, call_symbol, ReturnEvent, CallEvent, StoreEvent, all_lanes, answers, loaded, stored, address, base_width, Taken, Next, Stop, Returned}
+use Rattle.meaning.specs.Environment.{Environment, Value, answer}
+use Rattle.meaning.specs.Perform.{Outside, Performed, perform, given, combined, applied, operand, widths_of, lanes_of, width, ternary, divided, compared, load_at, store_at, branch, holds, call_symbol, ReturnEvent, CallEvent, StoreEvent, OpaqueEvent, Undefined, answered_control, first_answer, lacks, opaque_shown, shown, stopped, all_lanes, answers, loaded, stored, address, base_width, Taken, Next, Stop, Returned}
 use Rattle.meaning.specs.declared.types.Rest.{Rest}
 use Rattle.meaning.specs.Perform as meaning
 use Rattle.mir_interp.specs.declared.types.Event.{Event}
@@ -14,7 +14,9 @@ use Rattle.mir_interp.specs.declared.perform.Kind.TheVariants as kinds
 use Rattle.mir_interp.specs.declared.perform.Control.{Control}
 use Rattle.mir_interp.specs.declared.perform.Control.TheVariants as controls
 use Rattle.mir_interp.specs.Stands.{event_of}
-use Rattle.mir_interp.specs.Kinds.{kind_of, two, one, quotient, if_some, passes, Pure, Did}
+use Rattle.target_base.specs.declared.types.OpaqueKind.{OpaqueKind}
+use Rattle.target_base.specs.declared.types.OpaqueKind.TheVariants as opaque_kinds
+use Rattle.mir_interp.specs.Kinds.{asked, control_of, kind_of, two, one, quotient, if_some, passes, Pure, Did}
 use Rattle.mir_interp.specs.Remembers.{Matches, Remembers, remembered}
 use Rattle.mir_interp.specs.declared.types.Event.TheVariants as events
 use Rattle.meaning.specs.Environment.{residue}
@@ -104,6 +106,14 @@ pub perform_returning : (r : Rest) (e : Effect) (env : Environment) (o : Outside
 unfolding perform
 perform_returning r effects.Ret env o vs h k = rw h refl
 perform_returning r e env o vs h k = absurd (cc)
+
+pub perform_opaque : (r : Rest) (e : Effect) (kind : OpaqueKind) (env : Environment) (o : Outside) (vs : List (List Value)) → r.effect ≡ e → kind_of e ≡ kinds.Opaque kind → perform r env o vs ≡ opaque_shown kind r env o vs
+unfolding perform
+perform_opaque r (effects.Opaque opaque_kinds.Plain) kind env o vs h g = let same : opaque_kinds.Plain ≡ kind = cc in subst (λ t. perform r env o vs ≡ opaque_shown t r env o vs) same (rw h refl)
+perform_opaque r (effects.Opaque opaque_kinds.Branch) kind env o vs h g = let same : opaque_kinds.Branch ≡ kind = cc in subst (λ t. perform r env o vs ≡ opaque_shown t r env o vs) same (rw h refl)
+perform_opaque r (effects.Opaque opaque_kinds.Call) kind env o vs h g = let same : opaque_kinds.Call ≡ kind = cc in subst (λ t. perform r env o vs ≡ opaque_shown t r env o vs) same (rw h refl)
+perform_opaque r (effects.Opaque opaque_kinds.Return) kind env o vs h g = let same : opaque_kinds.Return ≡ kind = cc in subst (λ t. perform r env o vs ≡ opaque_shown t r env o vs) same (rw h refl)
+perform_opaque r e kind env o vs h g = absurd (cc)
 
 pub pure_computed : (vs ws : List Value) (o : Outside) (d : Performed) → d ≡ meaning.computed ws o → vs ≡ ws → Pure (vs, controls.Next) o d
 pure_computed vs ws o d e f = record {
@@ -245,6 +255,48 @@ calling_did r env o vs m m' es fs lanes answered name k h eb ec el en ea ef = di
   outside = record { bytes = subst (λ t. Matches env t o.bytes) (sym eb) h.bytes; calls = ec ∙ ap (λ t. t + 1) h.calls };
   events = ap (map event_of) ef ∙ one_more es (events.Call name lanes) (CallEvent r.symbol (all_lanes vs)) (ap (λ t. CallEvent t lanes) en ∙ ap (CallEvent r.symbol) el);
 }
+
+-- opaque instructions
+
+pub leaving_did : (r : Rest) (env : Environment) (o : Outside) (vs : List (List Value)) (m : code.Outside) (es fs : List Event) (lanes : List Value) (name : List ℕ) → Remembers env m o → lanes ≡ all_lanes vs → name ≡ r.symbol → fs ≡ es ++ events.Opaque name lanes ∷ [] → Did env ([], controls.Stop ends.Returned) m es fs (shown opaque_kinds.Return r env o vs)
+leaving_did r env o vs m es fs lanes name h el en ef = record {
+  results = refl;
+  control = refl;
+  outside = h;
+  events = ap (map event_of) ef ∙ one_more es (events.Opaque name lanes) (OpaqueEvent r.symbol (all_lanes vs)) (ap (λ t. OpaqueEvent t lanes) en ∙ ap (OpaqueEvent r.symbol) el);
+}
+
+pub asking_did : (kind : OpaqueKind) (r : Rest) (env : Environment) (o : Outside) (vs : List (List Value)) (m m' : code.Outside) (es fs : List Event) (lanes answered : List Value) (name : List ℕ) (c : Control) → Remembers env m o → m'.bytes ≡ m.bytes → m'.calls ≡ m.calls + 1 → lanes ≡ all_lanes vs → name ≡ r.symbol → answered ≡ answers env m.calls (first_answer kind) r.result → control_of c ≡ answered_control kind env m.calls → fs ≡ es ++ events.Opaque name lanes ∷ [] → Did env (answered, c) m' es fs (asked kind r env o vs)
+asking_did kind r env o vs m m' es fs lanes answered name c h eb ec el en ea ek ef = record {
+  results = ea ∙ ap (λ t. answers env t (first_answer kind) r.result) h.calls;
+  control = ek ∙ ap (answered_control kind env) h.calls;
+  outside = record { bytes = subst (λ t. Matches env t o.bytes) (sym eb) h.bytes; calls = ec ∙ ap (λ t. t + 1) h.calls };
+  events = ap (map event_of) ef ∙ one_more es (events.Opaque name lanes) (OpaqueEvent r.symbol (all_lanes vs)) (ap (λ t. OpaqueEvent t lanes) en ∙ ap (OpaqueEvent r.symbol) el);
+}
+
+-- where an opaque branch goes
+pub told_next : (env : Environment) (call told : ℕ) → told ≡ answer env call 0 8 → nat_eq (told % 3) 0 ≡ true → Next ≡ answered_control opaque_kinds.Branch env call
+told_next env call told e h = sym (ap (λ b. cond b Next Taken) (ap (λ x. nat_eq (x % 3) 0) (sym e) ∙ h))
+
+pub told_taken : (env : Environment) (call told : ℕ) → told ≡ answer env call 0 8 → nat_eq (told % 3) 0 ≡ false → Taken ≡ answered_control opaque_kinds.Branch env call
+told_taken env call told e h = sym (ap (λ b. cond b Next Taken) (ap (λ x. nat_eq (x % 3) 0) (sym e) ∙ h))
+
+-- all but a return take an answer
+pub shown_asked : (kind : OpaqueKind) (r : Rest) (env : Environment) (o : Outside) (vs : List (List Value)) → (kind ≡ opaque_kinds.Return → ⊥) → shown kind r env o vs ≡ asked kind r env o vs
+shown_asked opaque_kinds.Return r env o vs n = absurd (n refl)
+shown_asked kind r env o vs n = refl
+
+pub asked_did : (kind : OpaqueKind) (r : Rest) (env : Environment) (o : Outside) (vs : List (List Value)) (p : List Value × Control) (m : code.Outside) (es fs : List Event) → (kind ≡ opaque_kinds.Return → ⊥) → Did env p m es fs (asked kind r env o vs) → Did env p m es fs (shown kind r env o vs)
+asked_did kind r env o vs p m es fs n h = did_by env p m es fs _ _ (shown_asked kind r env o vs n) h
+
+pub shown_did : (r : Rest) (kind : OpaqueKind) (env : Environment) (o : Outside) (vs : List (List Value)) (p : List Value × Control) (m : code.Outside) (es fs : List Event) (b : Bool) → kind_of r.effect ≡ kinds.Opaque kind → b ≡ lacks r.needed vs → b ≡ false → Did env p m es fs (shown kind r env o vs) → Did env p m es fs (perform r env o vs)
+shown_did r kind env o vs p m es fs b k el e h =
+    did_by env p m es fs _ _ (perform_opaque r r.effect kind env o vs refl k ∙ ap (λ t. cond t (stopped o Undefined) (shown kind r env o vs)) (sym el ∙ e)) h
+
+pub lacking_did : (r : Rest) (kind : OpaqueKind) (env : Environment) (o : Outside) (vs : List (List Value)) (m : code.Outside) (es : List Event) (b : Bool) → kind_of r.effect ≡ kinds.Opaque kind → Remembers env m o → b ≡ lacks r.needed vs → b ≡ true → Did env ([], controls.Stop ends.Undefined) m es es (perform r env o vs)
+lacking_did r kind env o vs m es b k h el e =
+    did_by env _ m es es _ _ (perform_opaque r r.effect kind env o vs refl k ∙ ap (λ t. cond t (stopped o Undefined) (shown kind r env o vs)) (sym el ∙ e))
+    record { results = refl; control = refl; outside = h; events = sym (append-nil (map event_of es)) }
 
 store_nowhere : (r : Rest) (env : Environment) (o : Outside) (scale : ℕ) (ls : List Value) (m : code.Outside) (es : List Event) (v : Value) → Remembers env m o → v ≡ None → Did env ([], controls.Stop ends.Undefined) m es es (store_at r o scale ls v)
 store_nowhere r env o scale ls m es None h e = record { results = refl; control = refl; outside = h; events = sym (append-nil (map event_of es)) }

@@ -1,9 +1,11 @@
 -- Effects by what they ask, and what an instruction is to give.
-use Rattle.std.specs.Prelude.{◌≡◌, ℕ, ◌+◌, ◌-◌, ◌*◌, ◌/◌, ◌%◌, ◌^◌, Bool, cond, bit_and, bit_or, bit_xor, List, [], ◌++◌, map, Option, Some, None}
+use Rattle.std.specs.Prelude.{◌≡◌, ℕ, ◌+◌, ◌-◌, ◌*◌, ◌/◌, ◌%◌, ◌^◌, Bool, true, cond, bit_and, bit_or, bit_xor, List, [], ◌∷◌, ◌++◌, map, Option, Some, None}
 use Rattle.target_base.specs.declared.types.Effect.{Effect}
 use Rattle.target_base.specs.declared.types.Effect.TheVariants as effects
 use Rattle.meaning.specs.Environment.{Environment, Value}
-use Rattle.meaning.specs.Perform.{shifted_signed, widened}
+use Rattle.meaning.specs.Perform.{shifted_signed, widened, answers, first_answer, answered_control, all_lanes, OpaqueEvent}
+use Rattle.meaning.specs.declared.types.Rest.{Rest}
+use Rattle.target_base.specs.declared.types.OpaqueKind.{OpaqueKind}
 use Rattle.meaning.specs.Perform as meaning
 use Rattle.mir_interp.specs.declared.types.Event.{Event}
 use Rattle.mir_interp.specs.declared.types.End.TheVariants as ends
@@ -40,6 +42,7 @@ kind_of effects.Jcc = kinds.OnFlag
 kind_of effects.Jnz = kinds.OnNumber
 kind_of effects.Call = kinds.Calling
 kind_of effects.Ret = kinds.Returning
+kind_of (effects.Opaque kind) = kinds.Opaque kind
 kind_of _ = kinds.Idle
 
 -- a number of two numbers, modulo 2 ^ w
@@ -69,6 +72,16 @@ abbrev pub control_of : Control → meaning.Control
 control_of controls.Next = meaning.Next
 control_of controls.Taken = meaning.Taken
 control_of (controls.Stop e) = meaning.Stop (end_of e)
+
+-- an opaque instruction that takes an answer: all but a return
+abbrev pub asked : OpaqueKind → Rest → Environment → meaning.Outside → List (List Value) → meaning.Performed
+asked kind r env o vs = record {
+  results = answers env o.calls (first_answer kind) r.result;
+  outside = record { bytes = o.bytes; calls = o.calls + 1 };
+  events = OpaqueEvent r.symbol (all_lanes vs) ∷ [];
+  control = answered_control kind env o.calls;
+  divisor_defined = true;
+}
 
 -- where a branch goes whose test may be Undef
 abbrev pub if_some : Option Bool → Control

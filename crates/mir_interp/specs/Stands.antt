@@ -67,6 +67,7 @@ abbrev pub event_of : Event → meaning.Event
 event_of (events.Call name lanes) = meaning.CallEvent name lanes
 event_of (events.Store a lanes) = meaning.StoreEvent a lanes
 event_of (events.Return lanes) = meaning.ReturnEvent lanes
+event_of (events.Opaque name lanes) = meaning.OpaqueEvent name lanes
 
 abbrev pub end_of : End → meaning.End
 end_of ends.Returned = meaning.Returned

@@ -6,7 +6,7 @@ use crate::world::World;
 use target_base::Unit;
 
 /// The environment of a number SEED: unit u starts as SEED + u, the byte at a is SEED + a, lane j of
-/// the answer to call k is SEED + 16 * k + j; `%stack.n` lies at 4096 * (n + 1), `%fixed-stack.n` at
+/// answer k is SEED + 16 * k + j; `%stack.n` lies at 4096 * (n + 1), `%fixed-stack.n` at
 /// 2^20 + 4096 * n, and symbol m at 2^24 + 65536 * m.
 #[derive(Clone, Copy, Debug, PartialEq, Eq)]
 pub struct Env {

@@ -1,4 +1,4 @@
-//! The bytes that a run has stored, and the number of calls that it has made.
+//! The bytes that a run has stored, and how many answers the world has given it.
 
 ghost use Rattle.std.specs.Prelude.{◌≡◌, ◌+◌, ◌≤◌, ◌/◌, ◌++◌, ◌∷◌, [], ℕ, List, OnOk, IfOk};
 ghost use Rattle.meaning.specs.Environment.{Environment, Value};
@@ -19,12 +19,12 @@ use std::alloc::{AllocError, Global};
 pub struct Outside {
     /// The bytes stored so far.
     bytes: Memory,
-    /// The number of calls made so far.
+    /// How many answers the world has given so far.
     calls: u64,
 }
 
 impl Outside {
-    /// Nothing stored, and no call made.
+    /// Nothing stored, and no answer given.
     pub fn new(alloc: Global) -> Outside
         ensures { (env : Environment) → Remembers env result (record { bytes = []; calls = 0 }) }
     {
@@ -34,14 +34,14 @@ impl Outside {
         }
     }
 
-    /// The number of calls made so far.
+    /// How many answers the world has given so far.
     pub fn calls(&self) -> u64
         ensures { result ≡ self.now.calls }
     {
         self.calls
     }
 
-    /// Counts a call. No run makes 2^64 of them: want of memory stands for one more.
+    /// Counts an answer. No run takes 2^64 of them: want of memory stands for one more.
     pub fn count_call(&mut self) -> Result<(), AllocError>
         ensures bytes { self.new.bytes ≡ self.old.bytes }
         ensures calls { OnOk result (self.new.calls ≡ self.old.calls + 1) }

@@ -1,15 +1,16 @@
 //! What a counted instruction does with the values that it reads.
 
-ghost use Rattle.std.specs.Prelude.{◌≡◌, ◌≤◌, ◌<◌, ◌%◌, ◌^◌, ◌+◌, ◌-◌, ◌*◌, ◌==◌, ◌++◌, ◌∷◌, [], ℕ, List, sum, map, not, nat_eq, cond, IfOk, OnOk, None, Some};
+ghost use Rattle.std.specs.Prelude.{◌≡◌, ◌&&◌, false, length, slice_index_or, ◌≤◌, ◌<◌, ◌%◌, ◌^◌, ◌+◌, ◌-◌, ◌*◌, ◌==◌, ◌++◌, ◌∷◌, [], ℕ, List, sum, map, not, nat_eq, cond, IfOk, OnOk, None, Some};
 ghost use Rattle.meaning.specs.Environment.{Environment, Value, residue};
 ghost use Rattle.meaning.specs.State.{values};
-ghost use Rattle.meaning.specs.Perform.{operand, widths_of, lanes_of, given, combined, applied, compared, flag, address, base_width, holds, loaded, answers, all_lanes, stored, perform};
+ghost use Rattle.meaning.specs.Perform.{operand, widths_of, lanes_of, given, combined, applied, compared, flag, address, base_width, holds, loaded, answers, has_undef, lacks, answered_control, first_answer, shown, all_lanes, stored, perform};
 ghost use Rattle.meaning.specs.Perform as meaning;
 ghost use Rattle.mir_interp.specs.Holds.{held_by};
 ghost use Rattle.mir_interp.specs.Stands.{Stands, given_by, event_of};
 ghost use Rattle.mir_interp.specs.Remembers.{Matches, Remembers};
-ghost use Rattle.mir_interp.specs.Kinds.{kind_of, two, one, quotient, if_some, passes, Pure, Did};
+ghost use Rattle.mir_interp.specs.Kinds.{kind_of, two, one, quotient, if_some, passes, control_of, asked, Pure, Did};
 ghost use Rattle.mir_interp.specs.declared.perform.Kind.TheVariants as kinds;
+ghost use Rattle.target_base.specs.declared.types.OpaqueKind.TheVariants as opaque_kinds;
 ghost use Rattle.mir_interp.specs.declared.outside.Outside.{Outside};
 
 use crate::fetch::Surroundings;
@@ -23,7 +24,7 @@ use crate::world::World;
 use instr_effects::items::counted::{low_bits, residue, total};
 use meaning::{Reads, Rest};
 use std::alloc::{AllocError, Global};
-use target_base::{Copied, Effect, List};
+use target_base::{Copied, Effect, List, OpaqueKind};
 
 /// Where a run goes on.
 #[derive(Clone, Copy)]
@@ -63,6 +64,8 @@ pub enum Kind {
     Calling,
     /// A return.
     Returning,
+    /// An opaque instruction.
+    Opaque(OpaqueKind),
     /// Nothing.
     Idle,
 }
@@ -99,6 +102,7 @@ fn kind_of(e: Effect) -> Kind
         Effect::Jnz => Kind::OnNumber,
         Effect::Call => Kind::Calling,
         Effect::Ret => Kind::Returning,
+        Effect::Opaque(kind) => Kind::Opaque(kind),
         _ => Kind::Idle,
     }
 }
@@ -270,6 +274,23 @@ fn branched(tested: Option<bool>) -> Control
     match tested {
         None => Control::Stop(End::Undefined),
         Some(taken) => { if taken { Control::Taken } else { Control::Next } }
+    }
+}
+
+/// Whether a lane is undefined.
+fn has_undef(lanes: &[Option<u128>]) -> bool
+    ensures { result ≡ has_undef lanes.now }
+{
+    lanes.iter().any(|lane| lane.is_none())
+}
+
+/// The first lane of an answer that an opaque instruction writes; lane 0 says where a branch goes.
+fn first_answer(kind: OpaqueKind) -> usize
+    ensures { result ≡ first_answer kind }
+{
+    match kind {
+        OpaqueKind::Branch => 1,
+        _ => 0,
     }
 }
 
@@ -447,6 +468,7 @@ impl<'a, W: World> Performer<'a, W> {
             Kind::Storing(_) => Err(AllocError),
             Kind::Calling => Err(AllocError),
             Kind::Returning => Err(AllocError),
+            Kind::Opaque(_) => Err(AllocError),
         }
     }
 
@@ -523,13 +545,16 @@ impl<'a, W: World> Performer<'a, W> {
         Ok(lanes)
     }
 
-    /// The answer to a call.
-    fn answer(&self, alloc: Global, call: u64) -> Result<Lanes, AllocError>
-        ensures { IfOk result (λ v. (n : ℕ) (env : Environment) → Stands (given_by W.entry W.byte W.frame W.symbol W.answer self.now.around.now.world.now) self.now.around.now.symbols.now n env → call < n → v ≡ answers env call 0 self.now.rest.now.result) }
+    /// The lanes of an answer from number `first` on, as many as the instruction computes.
+    fn answer(&self, alloc: Global, call: u64, first: usize) -> Result<Lanes, AllocError>
+        ensures { IfOk result (λ v. (n : ℕ) (env : Environment) → Stands (given_by W.entry W.byte W.frame W.symbol W.answer self.now.around.now.world.now) self.now.around.now.symbols.now n env → call < n → v ≡ answers env call first self.now.rest.now.result) }
     {
         let mut lanes = List::new(alloc);
         for j in 0..self.rest.result.len() {
-            let number = self.around.world.answer(call, j);
+            let Some(lane) = first.checked_add(j) else {
+                return Err(AllocError);
+            };
+            let number = self.around.world.answer(call, lane);
             lanes.push(Some(low_bits(number, *self.rest.result.get(j))))?;
         }
         Ok(lanes)
@@ -549,7 +574,7 @@ impl<'a, W: World> Performer<'a, W> {
         let lanes = self.all_lanes(alloc)?;
         let symbol = self.rest.symbol.copied(alloc)?;
         let call = outside.calls();
-        let answer = self.answer(alloc, call)?;
+        let answer = self.answer(alloc, call, 0)?;
         outside.count_call()?;
         events.push(Event::Call(symbol, lanes))?;
         Ok((answer, Control::Next))
@@ -564,6 +589,133 @@ impl<'a, W: World> Performer<'a, W> {
         events.push(Event::Return(lanes))?;
         let none = List::new(alloc);
         Ok((none, Control::Stop(End::Returned)))
+    }
+
+    /// Whether an operand, by its number, has to be defined and has an undefined lane.
+    fn is_lacking(&self, alloc: Global, k: usize) -> Result<bool, AllocError>
+        requires { k < length self.now.rest.now.needed }
+        ensures { IfOk result (λ b. (n : ℕ) (env : Environment) → Stands (given_by W.entry W.byte W.frame W.symbol W.answer self.now.around.now.world.now) self.now.around.now.symbols.now n env → b ≡ (slice_index_or self.now.rest.now.needed k false && has_undef (lanes_of (values env (held_by self.now.store.now) self.now.reads.now) k))) }
+    {
+        if !*self.rest.needed.get(k) {
+            return Ok(false);
+        }
+        let lanes = self.operand_lanes(alloc, k)?;
+        let own_lanes = lanes.as_slice();
+        Ok(has_undef(own_lanes))
+    }
+
+    /// Whether an operand that has to be defined has an undefined lane.
+    fn lacks(&self, alloc: Global) -> Result<bool, AllocError>
+        ensures { IfOk result (λ b. (n : ℕ) (env : Environment) → Stands (given_by W.entry W.byte W.frame W.symbol W.answer self.now.around.now.world.now) self.now.around.now.symbols.now n env → b ≡ lacks self.now.rest.now.needed (values env (held_by self.now.store.now) self.now.reads.now)) }
+    {
+        for k in 0..self.rest.needed.len() {
+            let lacking = self.is_lacking(alloc, k)?;
+            if lacking {
+                return Ok(true);
+            }
+        }
+        Ok(false)
+    }
+
+    /// Where an opaque branch goes that takes this answer: to its target where lane 0, modulo 2^8, is no
+    /// multiple of 3.
+    fn answered_branch(&self, call: u64) -> Control
+        ensures { (n : ℕ) (env : Environment) → Stands (given_by W.entry W.byte W.frame W.symbol W.answer self.now.around.now.world.now) self.now.around.now.symbols.now n env → call < n → control_of result ≡ answered_control opaque_kinds.Branch env call }
+    {
+        let told = low_bits(self.around.world.answer(call, 0), 8);
+        if told % 3 == 0 {
+            Control::Next
+        } else {
+            Control::Taken
+        }
+    }
+
+    /// Where an opaque instruction goes that takes this answer: a branch as it says, any other in order.
+    fn answered_control(&self, kind: OpaqueKind, call: u64) -> Control
+        ensures { (n : ℕ) (env : Environment) → Stands (given_by W.entry W.byte W.frame W.symbol W.answer self.now.around.now.world.now) self.now.around.now.symbols.now n env → call < n → control_of result ≡ answered_control kind env call }
+    {
+        match kind {
+            OpaqueKind::Branch => self.answered_branch(call),
+            _ => Control::Next,
+        }
+    }
+
+    /// An opaque instruction that takes an answer: it shows what it reads, and gives what it is
+    /// answered.
+    fn ask(
+        &self,
+        alloc: Global,
+        outside: &mut Outside,
+        events: &mut Events,
+        kind: OpaqueKind,
+    ) -> Result<Performed, AllocError>
+        ensures calls { OnOk result (outside.new.calls ≤ outside.old.calls + 1) }
+        ensures did { IfOk result (λ p. (n : ℕ) (env : Environment) → Stands (given_by W.entry W.byte W.frame W.symbol W.answer self.now.around.now.world.now) self.now.around.now.symbols.now n env → (o : meaning.Outside) → Remembers env outside.old o → o.calls < n → Did env p outside.new events.old events.new (asked kind self.now.rest.now env o (values env (held_by self.now.store.now) self.now.reads.now))) }
+    {
+        let lanes = self.all_lanes(alloc)?;
+        let name = self.rest.symbol.copied(alloc)?;
+        let call = outside.calls();
+        let first = first_answer(kind);
+        let answer = self.answer(alloc, call, first)?;
+        let control = self.answered_control(kind, call);
+        outside.count_call()?;
+        events.push(Event::Opaque(name, lanes))?;
+        Ok((answer, control))
+    }
+
+    /// An opaque return: it shows what it reads, and ends the run.
+    fn leave(&self, alloc: Global, events: &mut Events) -> Result<Performed, AllocError>
+        ensures { IfOk result (λ p. (n : ℕ) (env : Environment) → Stands (given_by W.entry W.byte W.frame W.symbol W.answer self.now.around.now.world.now) self.now.around.now.symbols.now n env → (o : meaning.Outside) (m : Outside) → Remembers env m o → Did env p m events.old events.new (shown opaque_kinds.Return self.now.rest.now env o (values env (held_by self.now.store.now) self.now.reads.now))) }
+    {
+        let lanes = self.all_lanes(alloc)?;
+        let name = self.rest.symbol.copied(alloc)?;
+        events.push(Event::Opaque(name, lanes))?;
+        let none = List::new(alloc);
+        Ok((none, Control::Stop(End::Returned)))
+    }
+
+    /// An opaque instruction whose addresses are defined.
+    fn show(
+        &self,
+        alloc: Global,
+        outside: &mut Outside,
+        events: &mut Events,
+        kind: OpaqueKind,
+    ) -> Result<Performed, AllocError>
+        ensures calls { OnOk result (outside.new.calls ≤ outside.old.calls + 1) }
+        ensures did { IfOk result (λ p. (n : ℕ) (env : Environment) → Stands (given_by W.entry W.byte W.frame W.symbol W.answer self.now.around.now.world.now) self.now.around.now.symbols.now n env → (o : meaning.Outside) → Remembers env outside.old o → o.calls < n → Did env p outside.new events.old events.new (shown kind self.now.rest.now env o (values env (held_by self.now.store.now) self.now.reads.now))) }
+    {
+        match kind {
+            OpaqueKind::Return => {
+                let left = self.leave(alloc, events)?;
+                Ok(left)
+            }
+            _ => {
+                let answered = self.ask(alloc, outside, events, kind)?;
+                Ok(answered)
+            }
+        }
+    }
+
+    /// An opaque instruction, which isn't done where an address that it reads is undefined.
+    fn opaque(
+        &self,
+        alloc: Global,
+        outside: &mut Outside,
+        events: &mut Events,
+        kind: OpaqueKind,
+    ) -> Result<Performed, AllocError>
+        requires { kind_of self.now.rest.now.effect ≡ kinds.Opaque kind }
+        ensures calls { OnOk result (outside.new.calls ≤ outside.old.calls + 1) }
+        ensures did { IfOk result (λ p. (n : ℕ) (env : Environment) → Stands (given_by W.entry W.byte W.frame W.symbol W.answer self.now.around.now.world.now) self.now.around.now.symbols.now n env → (o : meaning.Outside) → Remembers env outside.old o → o.calls < n → Did env p outside.new events.old events.new (perform self.now.rest.now env o (values env (held_by self.now.store.now) self.now.reads.now))) }
+    {
+        let lacking = self.lacks(alloc)?;
+        if lacking {
+            let nothing = List::new(alloc);
+            return Ok((nothing, Control::Stop(End::Undefined)));
+        }
+        let shown = self.show(alloc, outside, events, kind)?;
+        Ok(shown)
     }
 
     /// What the instruction does.
@@ -589,6 +741,10 @@ impl<'a, W: World> Performer<'a, W> {
             Kind::Returning => {
                 let returned = self.give_back(alloc, events)?;
                 Ok(returned)
+            }
+            Kind::Opaque(opaque) => {
+                let answered = self.opaque(alloc, outside, events, opaque)?;
+                Ok(answered)
             }
             _ => {
                 let computed = self.compute(alloc, outside, kind)?;

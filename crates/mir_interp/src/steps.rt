@@ -11,7 +11,7 @@ ghost use Rattle.mir_interp.specs.Decoded.{edge_of, item_of_step, code_of_steps,
 use instr_effects::items::counted::{reads_of, rest_of, values};
 use instr_effects::items::results::counted_writes;
 use instr_effects::items::silent::push_silent_writes;
-use instr_effects::items::ways::{falls_through, push_phis, target_of};
+use instr_effects::items::ways::{fallen_into, push_phis, target_of};
 use meaning::{Reads, Rest, Writes};
 use mir_func::opcodes::{effect_of, is_early_clobber, roles_of};
 use mir_func::{Block, Func, Instr};
@@ -139,13 +139,10 @@ fn block_end(
 ) -> Result<Step, AllocError>
     ensures { IfOk result (λ made. item_of_step made ≡ bare (block_end t.now f.now b.now after.now)) }
 {
-    if !falls_through(t, b.instrs.as_slice()) {
-        return Ok(Step::End(None));
-    }
-    match after.first() {
+    match fallen_into(t, b, after) {
         None => Ok(Step::End(None)),
         Some(next) => {
-            let way = way_into(alloc, t, f, b.number, next.number)?;
+            let way = way_into(alloc, t, f, b.number, next)?;
             Ok(Step::End(Some(way.phis)))
         }
     }

@@ -14,6 +14,9 @@ pub enum Event {
     Store(u128, Lanes),
     /// A return: the lanes of all register uses.
     Return(Lanes),
+    /// An opaque instruction: its opcode with the spellings of the operands that are no registers and
+    /// no blocks, and the lanes of all register uses.
+    Opaque(Bytes, Lanes),
 }
 
 /// Events in order.
@@ -26,7 +29,8 @@ pub enum End {
     Returned,
     /// By a division by 0.
     Trapped,
-    /// At a branch that reads an undefined lane, or an address with one.
+    /// At a branch that reads an undefined lane, at an address with one, or at the end of a block that
+    /// control doesn't reach.
     Undefined,
     /// All counted instructions that were asked for are done.
     Steps,

@@ -34,7 +34,8 @@ pub trait World {
     fn symbol(&self, m: usize) -> u128
         ensures { result ≡ symbol self.now m };
 
-    /// A lane of the answer to a call, both counted from 0, taken modulo 2^width of the lane.
+    /// A lane of the answer to a call or to an opaque instruction that isn't a return, which are counted
+    /// together, from 0 as the lanes are; it is taken modulo 2^width of the lane.
     fn answer(&self, call: u64, lane: usize) -> u128
         ensures { result ≡ answer self.now call lane };
 }

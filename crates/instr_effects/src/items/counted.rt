@@ -1,26 +1,29 @@
 //! What a counted instruction reads, writes and does.
 
-ghost use Rattle.std.specs.Prelude.{◌≡◌, ◌+◌, ◌<◌, ◌≤◌, ◌-◌, ◌^◌, ◌%◌, ◌++◌, ◌∷◌, [], map, filter, filter_map, OnOk, IfOk, IfSome, None, Some, option_to_list, cond, not, sum};
-ghost use Rattle.target_base.specs.Roles.{is_implicit};
+ghost use Rattle.std.specs.Prelude.{◌≡◌, ◌+◌, ◌<◌, ◌≤◌, ◌-◌, ◌^◌, ◌%◌, ◌++◌, ◌∷◌, [], map, filter, filter_map, OnOk, IfOk, IfSome, None, Some, option_to_list, cond, not, sum, List};
+ghost use Rattle.target_base.specs.Roles.{is_address, is_implicit};
 ghost use Rattle.meaning.specs.Environment.{residue, constant_source};
 ghost use Rattle.meaning.specs.declared.types.Constant.TheVariants.{Immediate};
 ghost use Rattle.meaning.specs.Perform.{condition_lane};
-ghost use Rattle.mir_func.specs.Binding.{roles_of, implicit_roles, takes_role, is_implicit_operand, explicit_operands, implicit_registers, registers, immediate_of};
+ghost use Rattle.mir_func.specs.Binding.{roles_of, implicit_roles, passes, takes_role, is_implicit_operand, explicit_operands, implicit_registers, registers, immediate_of};
 ghost use Rattle.mir_meaning.specs.Registers.{operand_widths, use_sources};
-ghost use Rattle.mir_meaning.specs.Items.{value_of, use_value, constant_value, computes_with_immediates, has_base, first_width, symbol_of, is_flags, pick, flag_value, implicit_values, values, result_widths, read_widths, called_symbol, rest_of};
+ghost use Rattle.mir_meaning.specs.Items.{value_of, use_value, constant_value, computes_with_immediates, has_base, first_width, symbol_of, is_flags, pick, flag_value, implicit_values, values, result_widths, read_widths, named_symbol, needs_value, explicit_needs, needed_of, rest_of};
 ghost use Rattle.target_base.specs.declared.types.Effect.TheVariants as effects;
 ghost use Rattle.std.specs.Bool.{beq};
+ghost use Rattle.std.specs.List.{cons_option};
+ghost use Rattle.mir_func.specs.declared.func.Operand.{Operand};
 ghost use Rattle.meaning.specs.declared.types.Source.TheVariants.{Bits};
 
 use crate::items::lanes::{Sources, push_operand_widths, use_sources};
 use crate::items::results::result_widths;
 use meaning::{Constant, Reads, Rest, Source, Widths};
-use mir_func::opcodes::roles_of;
+use mir_func::opcodes::{next_role, roles_of};
 use mir_func::operands::{immediate_of, is_implicit_operand, takes_role};
+use mir_func::spelling::event_name;
 use mir_func::{Func, Instr, Operand, RegOp};
 use std::alloc::{AllocError, Global};
 use target_base::roles::is_implicit;
-use target_base::{Bytes, Copied, Effect, List, Numbers, Role, Target};
+use target_base::{Bytes, Copied, Effect, Flags, List, Numbers, Role, Target};
 
 /// Operands that are read: the sources of each, and their widths.
 pub type Values = List<(Sources, Numbers)>;
@@ -469,12 +472,71 @@ fn widths_of(alloc: Global, values: &[(Sources, Numbers)]) -> Result<Widths, All
     Ok(made)
 }
 
-/// The symbol that a call names; nothing for other effects.
-fn called_symbol(alloc: Global, e: Effect, operands: &[Operand]) -> Result<Bytes, AllocError>
-    ensures { IfOk result (λ made. made ≡ called_symbol e operands.now) }
+/// The symbol that a call names, or what an opaque instruction shows of itself; nothing for other
+/// effects.
+fn named_symbol(alloc: Global, t: &Target, e: Effect, i: &Instr) -> Result<Bytes, AllocError>
+    ensures { IfOk result (λ made. made ≡ named_symbol t.now e i.now) }
 {
     match e {
-        Effect::Call => Bytes::from_slice(alloc, symbol_of(operands)),
+        Effect::Call => Bytes::from_slice(alloc, symbol_of(i.operands.as_slice())),
+        Effect::Opaque(_) => event_name(alloc, t, i),
+        _ => Ok(List::new(alloc)),
+    }
+}
+
+/// Whether the value of an operand with this role has to be defined, where the operand is a use: at
+/// an address it has.
+fn needs_value(role: Option<Role>, o: &Operand) -> Option<bool>
+    ensures { result ≡ needs_value (role, o.now) }
+{
+    match o {
+        Operand::Reg(r) if !r.def => Some(is_address(role)),
+        _ => None,
+    }
+}
+
+/// Whether a role, if there is one, is that of an address.
+fn is_address(role: Option<Role>) -> bool
+    ensures { result ≡ passes is_address role }
+{
+    matches!(role, Some(Role::Address(_)))
+}
+
+/// Whether the value of the next operand has to be defined, where it is an explicit use, and the roles
+/// that are left behind it.
+#[tactic(auto, using(crate::proofs::Needed::needs_seen, crate::proofs::Needed::needs_passed))]
+fn next_need<'a>(roles: &'a [Role], operand: &Operand) -> (Option<bool>, &'a [Role])
+    ensures { (os : List Operand) → explicit_needs roles.now (operand.now ∷ os) ≡ cons_option result.0 (explicit_needs result.1.now os) }
+{
+    if is_implicit_operand(operand) {
+        return (None, roles);
+    }
+    let (role, left) = next_role(roles);
+    (needs_value(role, operand), left)
+}
+
+/// Of each explicit use among operands that take these roles whether it has to be defined.
+fn explicit_needs(alloc: Global, roles: &[Role], operands: &[Operand]) -> Result<Flags, AllocError>
+    ensures { IfOk result (λ made. made ≡ explicit_needs roles.now operands.now) }
+{
+    let mut made = List::new(alloc);
+    let mut left = roles;
+    for operand in operands {
+        let (need, behind) = next_need(left, operand);
+        if let Some(needed) = need {
+            made.push(needed)?;
+        }
+        left = behind;
+    }
+    Ok(made)
+}
+
+/// Of each explicit use of an opaque instruction whether it has to be defined.
+fn needed_of(alloc: Global, t: &Target, e: Effect, i: &Instr) -> Result<Flags, AllocError>
+    ensures { IfOk result (λ made. made ≡ needed_of t.now e i.now) }
+{
+    match e {
+        Effect::Opaque(_) => explicit_needs(alloc, roles_of(t, i), i.operands.as_slice()),
         _ => Ok(List::new(alloc)),
     }
 }
@@ -494,7 +556,8 @@ pub fn rest_of(
     let operands = i.operands.as_slice();
     let widths = read_widths(alloc, e, read)?;
     let result = result_widths(alloc, t, f, e, operands)?;
-    let symbol = called_symbol(alloc, e, operands)?;
+    let symbol = named_symbol(alloc, t, e, i)?;
+    let needed = needed_of(alloc, t, e, i)?;
     let immediate = if computes_with_immediates(e) {
         0
     } else {
@@ -506,5 +569,6 @@ pub fn rest_of(
         result,
         immediate,
         symbol,
+        needed,
     })
 }

@@ -1,9 +1,9 @@
 //! What a counted instruction writes.
 
-ghost use Rattle.std.specs.Prelude.{◌≡◌, ◌+◌, ◌<◌, ◌-◌, ◌++◌, length, map, filter, flat_map, OnOk, IfOk, None, Some, cond, not};
+ghost use Rattle.std.specs.Prelude.{◌≡◌, ◌+◌, ◌<◌, ◌-◌, ◌++◌, [], length, map, filter, flat_map, OnOk, IfOk, None, Some, cond, not};
 ghost use Rattle.mir_func.specs.Binding.{roles_of, implicit_roles, definitions};
 ghost use Rattle.mir_meaning.specs.Registers.{numbers, operand_lanes, operand_widths, is_reserved};
-ghost use Rattle.mir_meaning.specs.Items.{is_flags, values, explicit_definitions, implicit_definitions, result_writes, results, unreserved, all_lanes, answered, preserves, clobbered, kept, implicit_writes, counted_writes, lane_width, result_widths};
+ghost use Rattle.mir_meaning.specs.Items.{is_flags, values, explicit_definitions, implicit_definitions, result_writes, results, unreserved, all_lanes, answered, preserves, clobbered, kept, implicit_writes, opaque_clobbers, opaque_implicit, defined_lanes, further_writes, counted_writes, lane_width, result_widths};
 ghost use Rattle.std.specs.List.{list_any};
 ghost use Rattle.meaning.specs.declared.types.Lane.TheVariants.{UnitLane};
 ghost use Rattle.target_base.specs.declared.types.Effect.TheVariants as effects;
@@ -17,7 +17,7 @@ use meaning::{Lane, Write, Writes};
 use mir_func::opcodes::roles_of;
 use mir_func::{Func, Instr, Operand, RegOp};
 use std::alloc::{AllocError, Global};
-use target_base::{Copied, Effect, List, Numbers, Role, Target};
+use target_base::{Copied, Effect, List, Numbers, OpaqueKind, Role, Target};
 
 /// The register operands of an instruction that are definitions, explicit ones or implicit ones.
 fn definitions(
@@ -61,7 +61,8 @@ fn push_result(
     Ok(behind)
 }
 
-/// Appends the writes of the explicit definitions among operands that take these roles.
+/// Appends the writes of the explicit definitions among operands that take these roles; answers the
+/// number behind their lanes.
 fn push_results(
     out: &mut Writes,
     alloc: Global,
@@ -69,8 +70,9 @@ fn push_results(
     f: &Func,
     roles: &[Role],
     operands: &[Operand],
-) -> Result<(), AllocError>
-    ensures { OnOk result (out.new ≡ out.old ++ results t.now f.now 0 (definitions roles.now operands.now)) }
+) -> Result<u32, AllocError>
+    ensures writes { OnOk result (out.new ≡ out.old ++ results t.now f.now 0 (definitions roles.now operands.now)) }
+    ensures behind { IfOk result (λ n. n ≡ length (defined_lanes t.now f.now (definitions roles.now operands.now))) }
 {
     let mut left = roles;
     let mut first = 0;
@@ -81,7 +83,7 @@ fn push_results(
         }
         left = behind;
     }
-    Ok(())
+    Ok(first)
 }
 
 /// Whether a lane is a reserved unit.
@@ -245,6 +247,65 @@ fn push_implicit_writes(
     }
 }
 
+/// Appends what an opaque call makes Undef; nothing for other opaque instructions.
+fn push_opaque_clobbers(
+    out: &mut Writes,
+    alloc: Global,
+    t: &Target,
+    kind: OpaqueKind,
+    operands: &[Operand],
+) -> Result<(), AllocError>
+    ensures { OnOk result (out.new ≡ out.old ++ opaque_clobbers t.now kind operands.now) }
+{
+    match kind {
+        OpaqueKind::Call => {
+            let units = clobbered(alloc, t, operands)?;
+            push_undefined(out, false, units.as_slice())
+        }
+        _ => Ok(()),
+    }
+}
+
+/// Appends what implicit definitions of an opaque instruction write: lanes of the answer from
+/// `first` on, in reserved units too.
+fn push_opaque_implicit(
+    out: &mut Writes,
+    alloc: Global,
+    t: &Target,
+    f: &Func,
+    kind: OpaqueKind,
+    first: u32,
+    operands: &[Operand],
+) -> Result<(), AllocError>
+    ensures { OnOk result (out.new ≡ out.old ++ opaque_implicit t.now f.now kind first operands.now) }
+{
+    let definitions = definitions(alloc, operands, true)?;
+    let mut lanes = List::new(alloc);
+    push_all_lanes(&mut lanes, t, f, definitions.as_slice())?;
+    push_computed(out, false, first, lanes.as_slice())?;
+    push_opaque_clobbers(out, alloc, t, kind, operands)
+}
+
+/// Appends what is written beside explicit definitions, whose lanes end before the number `first`.
+fn push_further_writes(
+    out: &mut Writes,
+    alloc: Global,
+    t: &Target,
+    f: &Func,
+    e: Effect,
+    first: u32,
+    i: &Instr,
+) -> Result<(), AllocError>
+    requires { first ≡ length (defined_lanes t.now f.now (definitions (roles_of t.now i.now) i.now.operands)) }
+    ensures { OnOk result (out.new ≡ out.old ++ further_writes t.now f.now e i.now) }
+{
+    let operands = i.operands.as_slice();
+    match e {
+        Effect::Opaque(kind) => push_opaque_implicit(out, alloc, t, f, kind, first, operands),
+        _ => push_implicit_writes(out, alloc, t, f, e, roles_of(t, i), operands),
+    }
+}
+
 /// All that a counted instruction writes.
 pub fn counted_writes(
     alloc: Global,
@@ -255,11 +316,16 @@ pub fn counted_writes(
 ) -> Result<Writes, AllocError>
     ensures { IfOk result (λ made. made ≡ counted_writes t.now f.now e i.now) }
 {
-    let operands = i.operands.as_slice();
-    let roles = roles_of(t, i);
     let mut made = List::new(alloc);
-    push_results(&mut made, alloc, t, f, roles, operands)?;
-    push_implicit_writes(&mut made, alloc, t, f, e, roles, operands)?;
+    let first = push_results(
+        &mut made,
+        alloc,
+        t,
+        f,
+        roles_of(t, i),
+        i.operands.as_slice(),
+    )?;
+    push_further_writes(&mut made, alloc, t, f, e, first, i)?;
     Ok(made)
 }
 
@@ -287,18 +353,37 @@ fn lane_width(t: &Target, l: Lane) -> u32
     }
 }
 
-/// The widths of explicit definitions.
+/// Appends the lane widths of several register operands.
+fn push_all_widths(
+    out: &mut Numbers,
+    t: &Target,
+    f: &Func,
+    operands: &[RegOp],
+) -> Result<(), AllocError>
+    ensures { OnOk result (out.new ≡ out.old ++ flat_map (operand_widths t.now f.now) operands.now) }
+{
+    for o in operands {
+        push_operand_widths(out, t, f, o)?;
+    }
+    Ok(())
+}
+
+/// The lane widths of definitions: of explicit ones, then, where `all`, of implicit ones.
 fn definition_widths(
     alloc: Global,
     t: &Target,
     f: &Func,
-    operands: &[RegOp],
+    all: bool,
+    operands: &[Operand],
 ) -> Result<Numbers, AllocError>
-    ensures { IfOk result (λ made. made ≡ flat_map (operand_widths t.now f.now) operands.now) }
+    ensures { IfOk result (λ made. made ≡ flat_map (operand_widths t.now f.now) (explicit_definitions operands.now ++ cond all (implicit_definitions operands.now) [])) }
 {
     let mut made = List::new(alloc);
-    for d in operands {
-        push_operand_widths(&mut made, t, f, d)?;
+    let explicit = definitions(alloc, operands, false)?;
+    push_all_widths(&mut made, t, f, explicit.as_slice())?;
+    if all {
+        let implicit = definitions(alloc, operands, true)?;
+        push_all_widths(&mut made, t, f, implicit.as_slice())?;
     }
     Ok(made)
 }
@@ -318,9 +403,7 @@ pub(crate) fn result_widths(
             let lanes = implicit_lanes(alloc, t, f, operands)?;
             lane_widths(alloc, t, lanes.as_slice())
         }
-        _ => {
-            let results = definitions(alloc, operands, false)?;
-            definition_widths(alloc, t, f, results.as_slice())
-        }
+        Effect::Opaque(_) => definition_widths(alloc, t, f, true, operands),
+        _ => definition_widths(alloc, t, f, false, operands),
     }
 }

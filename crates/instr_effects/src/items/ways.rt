@@ -2,13 +2,15 @@
 
 ghost use Rattle.std.specs.Prelude.{◌≡◌, ◌++◌, OnOk, flat_map, not};
 ghost use Rattle.mir_func.specs.Binding.{does, ends_control};
-ghost use Rattle.mir_meaning.specs.Codes.{phi_pair, phi_operands, phi_writes, instrs_of, way, target_of, falls_through};
+ghost use Rattle.mir_meaning.specs.Codes.{phi_pair, phi_operands, phi_writes, instrs_of, way, target_of, falls_through, fallen_into};
 
 use crate::items::lanes::use_sources;
 use crate::items::writes::push_defined;
 use meaning::Writes;
 use mir_func::opcodes::{effect_of, ends_control};
+use mir_func::operands::register_at;
 use mir_func::{Block, Func, Instr, Operand, RegOp};
+use mir_meaning::ends::is_open;
 use std::alloc::{AllocError, Global};
 use target_base::{Boxed, Effect, Target};
 
@@ -36,6 +38,7 @@ fn push_phi_pair(
 }
 
 /// Appends a phi's writing, by its operands.
+#[tactic(auto, using(crate::proofs::Pairs::phi_behind, crate::proofs::Pairs::phi_nothing, crate::proofs::Pairs::behind_long))]
 fn push_phi_operands(
     out: &mut Writes,
     alloc: Global,
@@ -46,10 +49,10 @@ fn push_phi_operands(
 ) -> Result<(), AllocError>
     ensures { OnOk result (out.new ≡ out.old ++ phi_operands t.now f.now n operands.now) }
 {
-    match operands {
-        [Operand::Reg(d), pairs @ ..] => push_phi_pair(out, alloc, t, f, n, d, pairs),
-        _ => Ok(()),
-    }
+    let Some(d) = register_at(operands, 0) else {
+        return Ok(());
+    };
+    push_phi_pair(out, alloc, t, f, n, &d, &operands[1..])
 }
 
 /// Appends what an instruction of a block writes on the way in from block n: phis alone do.
@@ -146,4 +149,18 @@ pub fn falls_through(t: &Target, instrs: &[Boxed<Instr>]) -> bool
         rest = more;
     }
     true
+}
+
+/// The number of the block that a block falls into, where it falls into one: the next in layout. The
+/// blocks are those behind it.
+pub fn fallen_into(t: &Target, b: &Block, after: &[Block]) -> Option<u32>
+    ensures { result ≡ fallen_into t.now b.now after.now }
+{
+    if !falls_through(t, b.instrs.as_slice()) || is_open(t, b) {
+        return None;
+    }
+    match after {
+        [] => None,
+        [next, ..] => Some(next.number),
+    }
 }

@@ -17,11 +17,11 @@ use Rattle.mir_func.specs.declared.func.Loc.TheVariants.{Virtual, Fixed}
 use Rattle.mir_func.specs.declared.func.RegOp.{RegOp}
 use Rattle.mir_func.specs.declared.func.Instr.{Instr}
 use Rattle.mir_func.specs.Value.{Function}
-use Rattle.mir_func.specs.Binding.{Definition, bound, is_virtual, numbered, registers, same_loc}
+use Rattle.mir_func.specs.Binding.{Definition, bound, is_virtual, numbered, registers, same_loc, does}
 use Rattle.mir_meaning.specs.declared.Form.TheVariants as forms
 use Rattle.mir_meaning.specs.Registers.{numbers, range_widths, located_lanes, operand_lanes, undefined_lanes, whole_lanes, is_reserved}
 use Rattle.mir_meaning.specs.Items.{computed, explicit_definitions, result_writes, results, undefined, unreserved}
-use Rattle.mir_meaning.specs.Rules.{V12, clashing_lanes, early_fits, has_lanes, namings, no_two_share, share_a_lane, undef_fits}
+use Rattle.mir_meaning.specs.Rules.{V12, clashing_lanes, early_fits, has_lanes, namings, no_two_share, share_a_lane, undef_fits, defined_lanes, is_opaque, undef_uses_fit}
 use Rattle.instr_effects.proofs.Members.{member-none, member-elim, either-elim, filter-of, filter-in, map-of, map-in}
 use Rattle.instr_effects.proofs.CountedParts.{filter-two}
 use Rattle.instr_effects.proofs.Defined.{results-of}
@@ -153,16 +153,20 @@ module _ (t : Target) (f : Function) where
   clashing-in : (o : RegOp) (l : Lane) → has_lanes t f o ≡ true → is_reserved t l ≡ false → Member l (operand_lanes t f o) → Member l (clashing_lanes t f o)
   clashing-in o l h e m = subst (λ b. Member l (cond b (unreserved t (operand_lanes t f o)) [])) (sym h) (filter-in (λ k. not (is_reserved t k)) l (operand_lanes t f o) m (ap not e))
 
-  clear-by : (ds : List RegOp) → ((d : RegOp) → Member d ds → has_lanes t f d ≡ true) → no_two_share (map (clashing_lanes t f) ds) ≡ true → Sole ds → Clear ds
-  clear-by [] lanes h s = tt
-  clear-by (x ∷ xs) lanes h s = ((λ y m. record { clear = λ l e a b. pair y m l e a b }), clear-by xs (λ d m. lanes d (later m)) (second_of_both (not (list_any (share_a_lane (clashing_lanes t f x)) (map (clashing_lanes t f) xs))) (no_two_share (map (clashing_lanes t f) xs)) h) s.1)
+  defined-in : (opaque : Bool) (o : RegOp) (l : Lane) → has_lanes t f o ≡ true → is_reserved t l ≡ false → Member l (operand_lanes t f o) → Member l (defined_lanes t f opaque o)
+  defined-in true o l h e m = subst (λ b. Member l (cond b (operand_lanes t f o) [])) (sym h) m
+  defined-in false o l h e m = clashing-in o l h e m
+
+  clear-by : (opaque : Bool) (ds : List RegOp) → ((d : RegOp) → Member d ds → has_lanes t f d ≡ true) → no_two_share (map (defined_lanes t f opaque) ds) ≡ true → Sole ds → Clear ds
+  clear-by opaque [] lanes h s = tt
+  clear-by opaque (x ∷ xs) lanes h s = ((λ y m. record { clear = λ l e a b. pair y m l e a b }), clear-by opaque xs (λ d m. lanes d (later m)) (second_of_both (not (list_any (share_a_lane (defined_lanes t f opaque x)) (map (defined_lanes t f opaque) xs))) (no_two_share (map (defined_lanes t f opaque) xs)) h) s.1)
     where
       pair : (y : RegOp) → Member y xs → (l : Lane) → is_reserved t l ≡ false → Reaches x l → Reaches y l → ⊥
       pair y m l e (inl a) (inl b) =
-          let shared = share-in l (clashing_lanes t f x) (clashing_lanes t f y) (clashing-in x l (lanes x first) e a) (clashing-in y l (lanes y (later m)) e b) in
-          let there = any-in (share_a_lane (clashing_lanes t f x)) (clashing_lanes t f y) (map (clashing_lanes t f) xs) (map-in (clashing_lanes t f) y xs m) shared in
-          let none = first_of_both (not (list_any (share_a_lane (clashing_lanes t f x)) (map (clashing_lanes t f) xs))) (no_two_share (map (clashing_lanes t f) xs)) h in
-          let no : not (list_any (share_a_lane (clashing_lanes t f x)) (map (clashing_lanes t f) xs)) ≡ false = ap not there in
+          let shared = share-in l (defined_lanes t f opaque x) (defined_lanes t f opaque y) (defined-in opaque x l (lanes x first) e a) (defined-in opaque y l (lanes y (later m)) e b) in
+          let there = any-in (share_a_lane (defined_lanes t f opaque x)) (defined_lanes t f opaque y) (map (defined_lanes t f opaque) xs) (map-in (defined_lanes t f opaque) y xs m) shared in
+          let none = first_of_both (not (list_any (share_a_lane (defined_lanes t f opaque x)) (map (defined_lanes t f opaque) xs))) (no_two_share (map (defined_lanes t f opaque) xs)) h in
+          let no : not (list_any (share_a_lane (defined_lanes t f opaque x)) (map (defined_lanes t f opaque) xs)) ≡ false = ap not there in
           cc
       pair y m l e a (inr b) = (s.0 y m (same-register x y l a b)).1 (undefined-of y l b).0
       pair y m l e (inr a) b = (s.0 y m (sym (same-register y x l b a))).0 (undefined-of x l a).0
@@ -185,9 +189,11 @@ module _ (t : Target) (f : Function) where
       let os = registers i.operands in
       let ds = filter (λ (o : RegOp). o.def) os in
       let undefs = list_all (undef_fits forms.Source os) ds in
-      let apart = no_two_share (map (clashing_lanes t f) ds) in
-      let both = first_of_both (undefs && apart) (list_all (early_fits t f (bound t i)) (numbered 0 (bound t i))) h in
-      let all = clear-by ds (λ d m. lanes d (filter-of (λ o. o.def) d os m).0) (second_of_both undefs apart both)
+      let opaque = does is_opaque t i in
+      let apart = no_two_share (map (defined_lanes t f opaque) ds) in
+      let early = list_all (early_fits t f (bound t i)) (numbered 0 (bound t i)) in
+      let both = first_of_both (undefs && apart) early (first_of_both (undefs && apart && early) (undef_uses_fit opaque (bound t i)) h) in
+      let all = clear-by opaque ds (λ d m. lanes d (filter-of (λ o. o.def) d os m).0) (second_of_both undefs apart both)
       (sole ds (λ d m. one-of os d (all-of (undef_fits forms.Source os) d ds m (first_of_both undefs apart both)))) in
       subst (λ xs. Clear xs) (filter-two (λ (o : RegOp). not o.implicit) (λ (o : RegOp). o.def) os) (clear-filter (λ o. not o.implicit) ds all)
 

@@ -23,9 +23,9 @@ use Rattle.mir_func.specs.declared.func.Operand.TheVariants as operands
 use Rattle.mir_func.specs.declared.func.Instr.{Instr}
 use Rattle.mir_func.specs.declared.func.Block.{Block}
 use Rattle.mir_func.specs.Value.{Function}
-use Rattle.mir_func.specs.Binding.{registers, effect_of, roles_of, implicit_roles, is_early_clobber, definitions, does, passes, is_terminator, puts_together}
+use Rattle.mir_func.specs.Binding.{registers, effect_of, roles_of, is_early_clobber, definitions, does, passes, is_terminator, puts_together}
 use Rattle.mir_meaning.specs.Registers.{numbers, located_lanes, operand_lanes, operand_widths, undefined_lanes, use_sources, is_reserved, slot_lane_numbers}
-use Rattle.mir_meaning.specs.Items.{parts, results, all_lanes, implicit_definitions, implicit_writes, silent_reads, silent_writes, rest_of, values, counted_writes, moved, undefined, copied, reloaded, spilled, sequenced, inserted, defined_undef, given_constant, lanes_beside, at_all_widths, uses}
+use Rattle.mir_meaning.specs.Items.{parts, results, all_lanes, implicit_definitions, further_writes, silent_reads, silent_writes, rest_of, values, counted_writes, moved, undefined, copied, reloaded, spilled, sequenced, inserted, defined_undef, given_constant, lanes_beside, at_all_widths, uses}
 use Rattle.mir_meaning.specs.Codes.{item_of, effect_item, ways_out, way, target_of}
 use Rattle.mir_meaning.specs.Points.{point_item}
 use Rattle.mir_meaning.specs.Rules.{is_whole_definition, is_virtual_use, result_and, index_pairs, insertion, has_class, has_lanes, lanes_fit, subregs_fit, widths_fit, spills_or_reloads}
@@ -48,7 +48,7 @@ use Rattle.live_laws.proofs.Effects.Moved.{IsGiven, given-moving}
 use Rattle.live_laws.proofs.Effects.Matched.{plain-matched, given-matched}
 use Rattle.live_laws.proofs.Effects.Flags.{Uniform, uniform-none, uniform-undefined, uniform-moved, uniform-join, uniform-same, Wrote, WroteEarly, IsSame}
 use Rattle.live_laws.proofs.Effects.Definitions.{definitions-clear, results-agree, Clear}
-use Rattle.live_laws.proofs.Effects.FlagsOf.{uniform-undef, uniform-constant, uniform-parts, uniform-implicit, uniform-call}
+use Rattle.live_laws.proofs.Effects.FlagsOf.{uniform-undef, uniform-constant, uniform-parts, uniform-further, uniform-call}
 use Rattle.live_laws.proofs.Effects.Shapes.{fits-of, widths-of, class-there, lanes-there, subregs-there, same-lanes}
 use Rattle.live_laws.proofs.Effects.Silent.{one-lane, Named, copy-given, reload-given, spill-given, uses-long}
 use Rattle.live_laws.proofs.Effects.Together.{empty-plain, undefined-plain, constant-plain, sequence-plain, insert-plain}
@@ -285,7 +285,7 @@ module _ (t : Target) (f : Function) (num : Numbering) (classes : AreClasses t f
     counted-same : (e : Effect) (rs : List Role) → effect_of t i ≡ Some e → is_silent e ≡ false → (x : Item) → writes_of x ≡ counted_writes t f e i → ((l : Lane) (n : ℕ) → T l ≡ Some n → is_slot l ≡ false → Wrote l (writes_of x) → Wrote l (entered_writes t f i)) → ((l : Lane) (n : ℕ) → T l ≡ Some n → is_slot l ≡ false → Wrote l (entered_writes t f i) → Wrote l (writes_of x)) → IsSame T (writes_of x) (entered_writes t f i)
     counted-same e rs known h x is forth back =
         let X = results t f 0 (definitions (roles_of t i) i.operands) in
-        let I = implicit_writes t f e (implicit_roles (roles_of t i)) i.operands in
+        let I = further_writes t f e i in
         let Y = undefined false (all_lanes t f (implicit_definitions i.operands)) ++ call_writes t e i.operands in
         let entered : entered_writes t f i ≡ X ++ Y = acts-are (Some e) known ∙ ap (λ q. cond q (silent_acts t f e early i.operands) (X ++ Y)) h in
         record {
@@ -303,9 +303,9 @@ module _ (t : Target) (f : Function) (num : Numbering) (classes : AreClasses t f
         clear : Clear t f (map (λ d. d.1) (definitions (roles_of t i) i.operands))
         clear = subst (λ ds. Clear t f ds) (sym (definitions_operands (roles_of t i) i.operands)) (definitions-clear t f i (lanes-there t f i shaped) shaped.definitions)
 
-        result-of : (l : Lane) (w : Write) → w.lane ≡ l → w.early ≡ true → Member w (results t f 0 (definitions (roles_of t i) i.operands)) ⊎ Member w (implicit_writes t f e (implicit_roles (roles_of t i)) i.operands) → WroteEarly l (results t f 0 (definitions (roles_of t i) i.operands))
+        result-of : (l : Lane) (w : Write) → w.lane ≡ l → w.early ≡ true → Member w (results t f 0 (definitions (roles_of t i) i.operands)) ⊎ Member w (further_writes t f e i) → WroteEarly l (results t f 0 (definitions (roles_of t i) i.operands))
         result-of l w a b (inl m) = (w, m, a, b)
-        result-of l w a b (inr m) = absurd (let k = uniform-implicit t f e (implicit_roles (roles_of t i)) i.operands w m in cc)
+        result-of l w a b (inr m) = absurd (let k = uniform-further t f e i w m in cc)
 
     go-known : (e : Effect) → effect_of t i ≡ Some e → (s : Bool) → is_silent e ≡ s → Goal (point_item t f b i) (does is_terminator t i) (entered_reads t f i) (entered_writes t f i)
     go-known e known true h = swap (point_item t f b i) (placed e) (does is_terminator t i) (is_terminator e) (entered_reads t f i) (effect_reads t f e i) (entered_writes t f i) (effect_acts t f e (roles_of t i) i.operands) (point-is (Some e) known) (ap (passes is_terminator) known) (reads-are (Some e) known) (acts-are (Some e) known) (silent-is e known h)

@@ -1,6 +1,7 @@
 -- What the shape of instructions tells.
 use Rattle.std.proofs.Common.{◌≡◌, ◌⊎◌, inl, inr, get_or, ◌≢◌, ◌≤◌, ◌<◌, ℕ, zero, suc, ◌+◌, Bool, true, false, not, ◌&&◌, ◌||◌, List, [], ◌∷◌, Option, Some, None, length, refl, sym, ap, subst, eqb-true, arith}
 use Rattle.std.specs.Prelude.{◌==◌, nat_eq, slice_get, option_map, is_some}
+use Rattle.std.specs.List.{list_all}
 use Rattle.std.proofs.lemmas.Option.{slice_get_within, slice_get_cases, get_or_from_slice_get}
 use Rattle.std.proofs.lemmas.List.Quantifiers.{position-Some}
 use Rattle.target_base.specs.declared.types.ClassId.{ClassId}
@@ -26,9 +27,9 @@ use Rattle.mir_func.specs.declared.func.Loc.TheVariants.{Virtual, Fixed}
 use Rattle.mir_func.specs.declared.func.RegOp.{RegOp}
 use Rattle.mir_func.specs.declared.func.Instr.{Instr}
 use Rattle.mir_func.specs.Value.{Function}
-use Rattle.mir_func.specs.Binding.{effect_of, known_opcode, class_of, passes, registers, does, puts_together}
+use Rattle.mir_func.specs.Binding.{effect_of, known_opcode, class_of, passes, registers, bound, does, puts_together}
 use Rattle.mir_meaning.specs.Registers.{numbers, range_widths, located_lanes, operand_widths}
-use Rattle.mir_meaning.specs.Rules.{V1, V2, V3, V4, operands_fit, widths_fit, has_class, index_fits, has_lanes_at, has_lanes, same_widths, subregs_fit}
+use Rattle.mir_meaning.specs.Rules.{V1, V2, V3, V4, in_operand_class, operands_fit, widths_fit, has_class, index_fits, has_lanes_at, has_lanes, same_widths, subregs_fit}
 use Rattle.instr_effects.proofs.Members.{member-none, member-elim, map-of, map-in}
 use Rattle.live_laws.specs.Effects.Shaped.{AreClasses, IsShaped}
 use Rattle.live_laws.proofs.Effects.Lists.{all-of}
@@ -49,14 +50,14 @@ module _ (t : Target) (f : Function) (i : Instr) (e : Effect) (known : effect_of
   -- rule 2 by the effect
   pub widths-of : V2 t f i ≡ true → widths_fit t f e i.operands ≡ true
   unfolding V2
-  widths-of h = go (known_opcode t i.op) (second_of_both _ _ h) known
+  widths-of h = go (known_opcode t i.op) h known
     where
       same : (x y : Effect) → Some x ≡ Some y → x ≡ y
       same x y g = cc
 
-      go : (q : Option OpcodeDesc) → elim q [ None ↦ true | Some d ↦ widths_fit t f d.effect i.operands ] ≡ true → option_map (λ d. d.effect) q ≡ Some e → widths_fit t f e i.operands ≡ true
+      go : (q : Option OpcodeDesc) → elim q [ None ↦ true | Some d ↦ list_all (in_operand_class t f d.effect) (bound t i) && widths_fit t f d.effect i.operands ] ≡ true → option_map (λ d. d.effect) q ≡ Some e → widths_fit t f e i.operands ≡ true
       go None h g = absurd (cc)
-      go (Some d) h g = subst (λ x. widths_fit t f x i.operands ≡ true) (same d.effect e g) h
+      go (Some d) h g = subst (λ x. widths_fit t f x i.operands ≡ true) (same d.effect e g) (second_of_both _ _ h)
 
 module _ (t : Target) (f : Function) (i : Instr) (shaped : IsShaped t f i) where
   pub class-there : (o : RegOp) → Member o (registers i.operands) → has_class f o.loc ≡ true

@@ -17,8 +17,8 @@ use Rattle.mir_func.specs.declared.func.Block.{Block}
 use Rattle.mir_func.specs.Value.{Function}
 use Rattle.mir_meaning.specs.declared.Form.{Form}
 use Rattle.mir_meaning.specs.declared.Form.TheVariants as forms
-use Rattle.mir_func.specs.Binding.{bound, known_opcode, effect_of, numbered, passes, registers, is_lowered_away, is_virtual, same_loc}
-use Rattle.mir_meaning.specs.Rules.{V1, V2, V3, V4, V5, V6, V7, V8, V9, V10, V11, V12, V15, V15_frame, V16, clashing_lanes, early_fits, namings, no_two_share, phi_stands, undef_fits}
+use Rattle.mir_func.specs.Binding.{bound, known_opcode, effect_of, numbered, passes, registers, is_lowered_away, is_virtual, same_loc, does}
+use Rattle.mir_meaning.specs.Rules.{V1, V2, V3, V4, V5, V6, V7, V8, V9, V10, V11, V12, V15, V15_frame, V16, early_fits, namings, no_two_share, phi_stands, undef_fits, defined_lanes, is_opaque, undef_uses_fit}
 use Rattle.mir_meaning.specs.Valid.{first_failing, instr_fault, block_fault, least, fault_at, instrs_fault, fault_in, blocks_fault, shape_fault}
 use Rattle.live_laws.specs.Effects.Shaped.{AreClasses}
 use Rattle.live_laws.specs.Effects.Coded.{KeepsRules}
@@ -151,10 +151,12 @@ module _ (t : Target) (form : Form) (f : Function) where
         let os = registers i.operands in
         let ds = filter (λ (o : RegOp). o.def) os in
         let early = list_all (early_fits t f (bound t i)) (numbered 0 (bound t i)) in
-        let apart = no_two_share (map (clashing_lanes t f) ds) in
+        let apart = no_two_share (map (defined_lanes t f (does is_opaque t i)) ds) in
         let first = list_all (undef_fits forms.Allocated os) ds in
-        let both = first_of_both (first && apart) early h in
-        and_from _ _ (and_from _ _ (fewer os ds (first_of_both first apart both)) (second_of_both first apart both)) (second_of_both (first && apart) early h)
+        let uses = undef_uses_fit (does is_opaque t i) (bound t i) in
+        let three = first_of_both (first && apart && early) uses h in
+        let both = first_of_both (first && apart) early three in
+        and_from _ _ (and_from _ _ (and_from _ _ (fewer os ds (first_of_both first apart both)) (second_of_both first apart both)) (second_of_both (first && apart) early three)) (second_of_both (first && apart && early) uses h)
       where
         fewer : (os ds : List RegOp) → list_all (undef_fits forms.Allocated os) ds ≡ true → list_all (undef_fits forms.Source os) ds ≡ true
         fewer os [] g = refl

@@ -8,10 +8,9 @@ use Rattle.mir_func.specs.declared.func.RegOp.{RegOp}
 use Rattle.mir_func.specs.declared.func.Instr.{Instr}
 use Rattle.mir_func.specs.declared.func.Block.{Block}
 use Rattle.mir_func.specs.Value.{Function}
-use Rattle.mir_meaning.specs.declared.writing.Writing.{Writing}
-use Rattle.instr_effects.specs.Acts.{acts_of, use_owners, entered_writes}
+use Rattle.instr_effects.specs.Acts.{use_owners}
 use Rattle.instr_effects.specs.Ends.{end_uses}
-use Rattle.instr_effects.specs.Steps.{Numbering, act_writings, phi_read_of}
+use Rattle.instr_effects.specs.Steps.{Numbering, phi_read_of}
 use Rattle.instr_effects.proofs.Members.{map-in}
 use Rattle.live_laws.specs.Effects.Coded as coded
 use Rattle.live_laws.specs.Effects.Coded.{all_end_uses, read_at, last_reads, exits_from, instr_step, body_of, numbered_code, KeepsRules}

@@ -1,6 +1,6 @@
 -- A computed table tells of each lane that has a number exactly at which points it is live or occupied.
-use Rattle.std.proofs.Common.{◌≡◌, ◌⊎◌, ℕ, suc, Bool, true, false, cond, List, [], ◌∷◌, Option, Some, None, map, take, drop, inl, inr, refl, sym, ap, ◌∙◌, subst}
-use Rattle.std.specs.Prelude.{◌↔◌, slice_get, nat_eq}
+use Rattle.std.proofs.Common.{◌≡◌, ◌⊎◌, ℕ, suc, Bool, true, false, List, [], ◌∷◌, Option, Some, None, map, take, drop, inl, inr, refl, sym, ◌∙◌, subst}
+use Rattle.std.specs.Prelude.{◌↔◌, slice_get}
 use Rattle.target_base.specs.declared.types.Target.{Target}
 use Rattle.meaning.specs.declared.types.Lane.{Lane}
 use Rattle.meaning.specs.Live.{Among as Member, is_slot}
@@ -10,8 +10,7 @@ use Rattle.mir_func.specs.Value.{Function}
 use Rattle.mir_meaning.specs.Points.{Start, Entry, Exit, OccupiedAt}
 use Rattle.mir_meaning.specs.Rules.{V8}
 use Rattle.mir_meaning.specs.declared.writing.Writing.{Writing}
-use Rattle.mir_meaning.specs.Paths.{Step, Code, steps_of, writing_of, is_written, Live}
-use Rattle.mir_meaning.specs.Paths as law
+use Rattle.mir_meaning.specs.Paths.{Step, Code, steps_of, writing_of}
 use Rattle.slot_index.specs.Order.{number_of}
 use Rattle.instr_effects.specs.Numbered.{number_in}
 use Rattle.instr_effects.specs.Steps.{Numbering}

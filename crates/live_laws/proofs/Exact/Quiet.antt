@@ -1,19 +1,16 @@
 -- Behind a terminator stand terminators, which write units alone; phis read virtual registers.
-use Rattle.std.proofs.Common.{◌≡◌, ◌⊎◌, ℕ, zero, suc, Bool, true, false, cond, not, ◌&&◌, List, [], ◌∷◌, ◌++◌, Option, Some, None, map, length, take, drop, refl, sym, ap, ◌∙◌, subst, inl, inr}
-use Rattle.std.specs.Prelude.{slice_get, option_map}
-use Rattle.std.specs.List.{list_all}
+use Rattle.std.proofs.Common.{◌≡◌, ◌⊎◌, ℕ, suc, Bool, true, false, cond, not, ◌&&◌, ◌||◌, List, [], ◌∷◌, ◌++◌, Option, Some, None, map, length, take, refl, sym, ap, ◌∙◌, subst, inl, inr}
+use Rattle.std.specs.Prelude.{slice_get}
 use Rattle.target_base.specs.declared.types.Effect.{Effect}
 use Rattle.target_base.specs.declared.types.Effect.TheVariants as effects
 use Rattle.target_base.specs.declared.types.IndexId.{IndexId}
-use Rattle.target_base.specs.declared.types.OpcodeDesc.{OpcodeDesc}
+use Rattle.target_base.specs.declared.types.OpaqueKind.TheVariants as kinds
 use Rattle.target_base.specs.declared.types.Role.{Role}
 use Rattle.target_base.specs.declared.types.Role.TheVariants as roles
 use Rattle.target_base.specs.declared.types.Target.{Target}
 use Rattle.target_base.specs.Registers.{units_of, lanes_of}
-use Rattle.target_base.specs.Roles.{is_silent, is_implicit, explicit_shape, shape_fits, has_shape, is_block, is_immediate, is_rest, is_use as is_use_role, is_definition as is_definition_role}
-use Rattle.target_base.specs.Rules.{is_phi, is_copy, is_implicit_def, is_reg_sequence, is_insert_subreg, starts_with_the_five, is_opcode_desc}
+use Rattle.target_base.specs.Roles.{is_silent, is_implicit, has_shape, roles_fit, is_block, is_immediate, is_rest, is_use as is_use_role, is_definition as is_definition_role}
 use Rattle.target_base.proofs.Tests.{first_of_both, second_of_both}
-use Rattle.target_base.proofs.Sound.{opcodes_sound}
 use Rattle.meaning.specs.declared.types.Lane.{Lane}
 use Rattle.meaning.specs.declared.types.Lane.TheVariants.{VirtualLane, UnitLane, SlotLane}
 use Rattle.meaning.specs.declared.types.Write.{Write}
@@ -24,14 +21,12 @@ use Rattle.mir_func.specs.declared.func.Loc.TheVariants.{Virtual, Fixed}
 use Rattle.mir_func.specs.declared.func.RegOp.{RegOp}
 use Rattle.mir_func.specs.declared.func.Operand.{Operand}
 use Rattle.mir_func.specs.declared.func.Operand.TheVariants as operands
-use Rattle.mir_func.specs.declared.func.Op.{Op}
-use Rattle.mir_func.specs.declared.func.Op.TheVariants as ops
 use Rattle.mir_func.specs.declared.func.Instr.{Instr}
 use Rattle.mir_func.specs.Value.{Function}
-use Rattle.mir_func.specs.Binding.{effect_of, known_opcode, roles_of, is_terminator, definitions, registers, implicit_registers, explicit_operands, explicit_roles, takes_many, is_use, is_virtual}
+use Rattle.mir_func.specs.Binding.{effect_of, roles_of, is_terminator, definitions, registers, implicit_registers, explicit_operands, explicit_roles, is_use, is_virtual}
 use Rattle.mir_meaning.specs.Registers.{numbers, range_widths, located_lanes, operand_lanes}
 use Rattle.mir_meaning.specs.Items.{undefined, results, all_lanes, explicit_definitions, implicit_definitions}
-use Rattle.mir_meaning.specs.Rules.{V1, fits_role, is_virtual_use, explicit_fit, implicit_fit, result_and, phi_pairs, operands_fit}
+use Rattle.mir_meaning.specs.Rules.{V1, fits_at, fits_opaque, fits_role, is_opaque, is_virtual_use, result_and, phi_pairs}
 use Rattle.instr_effects.specs.declared.owner.Owner.{Owner}
 use Rattle.instr_effects.specs.declared.owner.Owner.TheVariants as owners
 use Rattle.instr_effects.specs.Owners.{owner_of}
@@ -39,11 +34,11 @@ use Rattle.instr_effects.specs.Acts.{entered_writes, effect_acts}
 use Rattle.instr_effects.specs.Ends.{pairs_of, pairs_behind}
 use Rattle.instr_effects.proofs.Members.{member-none, member-elim, in-either, flat-of, filter-of, map-of}
 use Rattle.instr_effects.proofs.Defined.{results-of, definition-of}
-use Rattle.live_laws.proofs.Effects.Moving.{some-same}
+use Rattle.live_laws.proofs.Touch.Roles.{Fit, fit, fit-role, has_roles, known-shape, met, none-counted, roles-sound}
 use Rattle.live_laws.proofs.Effects.Moved.{undefined-lane}
 use Rattle.live_laws.proofs.Effects.Lists.{all-of}
 use Rattle.live_laws.proofs.Effects.Shapes.{fits-of}
-use Rattle.live_laws.proofs.Effects.Blocks.{member-slice, slice-member}
+use Rattle.live_laws.proofs.Effects.Blocks.{member-slice}
 
 -- a step behind another is that of an instruction behind the other's
 pub stands-behind : {X Y : Type 0} (g : X → Y) (xs : List X) (before : List Y) (s : Y) (rest : List Y) (r : Y) → map g xs ≡ before ++ s ∷ rest → Member r rest → (j : ℕ) × (i : X) × (o : X) × (slice_get xs j ≡ Some i) × (r ≡ g i) × Member o (take j xs) × (s ≡ g o)
@@ -146,25 +141,14 @@ rest-role (roles.Def k) e = absurd (cc)
 rest-role (roles.Early k) e = absurd (cc)
 rest-role r e = refl
 
-terminator-role : (e : Effect) (rs : List Role) (r : Role) → is_terminator e ≡ true → shape_fits (explicit_shape e) rs ≡ true → Member r rs → is_definition_role r ≡ false
-terminator-role effects.Jump rs r h g m = shaped-role (is_block ∷ []) rs r (block-role, tt) g m
-terminator-role effects.Jcc rs r h g m = shaped-role (is_block ∷ is_immediate ∷ []) rs r (block-role, (immediate-role, tt)) g m
-terminator-role effects.Jnz rs r h g m = shaped-role (is_use_role ∷ is_block ∷ []) rs r (use-role, (block-role, tt)) g m
-terminator-role effects.Ret rs r h g m = shaped-role (is_rest ∷ []) rs r (rest-role, tt) g m
-terminator-role e rs r h g m = absurd (cc)
-
--- an explicit definition takes a definition's role
-fit-role : (rs : List Role) (os : List Operand) (o : Operand) → explicit_fit rs os ≡ true → Member o os → (r : Role) × Member r rs × (fits_role r o ≡ true)
-fit-role rs [] o e m = absurd (member-none o m)
-fit-role [] (x ∷ os) o e m = absurd (cc)
-fit-role (r ∷ rs) (x ∷ os) o e m =
-    let h = first_of_both (fits_role r x) (explicit_fit (cond (takes_many r) (r ∷ rs) rs) os) e in
-    let g = second_of_both (fits_role r x) (explicit_fit (cond (takes_many r) (r ∷ rs) rs) os) e in
-    member-elim o x os (λ q. (r, first, ap (fits_role r) q ∙ h)) (λ k. let z = fit-role (cond (takes_many r) (r ∷ rs) rs) os o g k in (z.0, within (takes_many r) z.0 z.1, z.2)) m
-  where
-    within : (b : Bool) (q : Role) → Member q (cond b (r ∷ rs) rs) → Member q (r ∷ rs)
-    within true q k = k
-    within false q k = later k
+terminator-role : (t : Target) (e : Effect) (rs : List Role) (r : Role) → is_terminator e ≡ true → roles_fit t.units t.regs t.classes e rs ≡ true → Member r rs → is_definition_role r ≡ false
+terminator-role t effects.Jump rs r h g m = shaped-role (is_block ∷ []) rs r (block-role, tt) (known-shape t effects.Jump rs (is_block ∷ []) refl g) m
+terminator-role t effects.Jcc rs r h g m = shaped-role (is_block ∷ is_immediate ∷ []) rs r (block-role, (immediate-role, tt)) (known-shape t effects.Jcc rs (is_block ∷ is_immediate ∷ []) refl g) m
+terminator-role t effects.Jnz rs r h g m = shaped-role (is_use_role ∷ is_block ∷ []) rs r (use-role, (block-role, tt)) (known-shape t effects.Jnz rs (is_use_role ∷ is_block ∷ []) refl g) m
+terminator-role t effects.Ret rs r h g m = shaped-role (is_rest ∷ []) rs r (rest-role, tt) (known-shape t effects.Ret rs (is_rest ∷ []) refl g) m
+terminator-role t (effects.Opaque kinds.Branch) rs r h g m = none-counted is_definition_role rs r (first_of_both _ _ (first_of_both _ _ (second_of_both _ _ g))) m
+terminator-role t (effects.Opaque kinds.Return) rs r h g m = none-counted is_definition_role rs r (first_of_both _ _ (first_of_both _ _ (second_of_both _ _ g))) m
+terminator-role t e rs r h g m = absurd (cc)
 
 use-defines : (d : RegOp) → d.def ≡ true → is_use d ≡ true → ⊥
 use-defines d e h = go d.def e (first_of_both (not d.def) (not d.implicit) h)
@@ -177,11 +161,25 @@ definition-role : (r : Role) (d : RegOp) → d.def ≡ true → fits_role r (ope
 definition-role (roles.Def k) d e h = refl
 definition-role (roles.Early k) d e h = refl
 definition-role (roles.Read k) d e h = absurd (use-defines d e h)
-definition-role (roles.Tied k) d e h = absurd (use-defines d e h)
+definition-role (roles.Tied k n) d e h = absurd (use-defines d e h)
 definition-role (roles.Address k) d e h = absurd (use-defines d e h)
 definition-role roles.Any d e h = absurd (use-defines d e h)
 definition-role roles.Rest d e h = absurd (use-defines d e (first_of_both (is_use d) (not (is_virtual d.loc)) h))
 definition-role r d e h = absurd (cc)
+
+-- what a role takes at an opaque opcode alone is no definition
+opaque-use : (t : Target) (r : Role) (d : RegOp) → d.def ≡ true → fits_opaque t r (operands.Reg d) ≡ true → ⊥
+opaque-use t (roles.Value None) d e h = use-defines d e (first_of_both (is_use d) _ h)
+opaque-use t (roles.Value (Some k)) d e h = use-defines d e h
+opaque-use t roles.Any d e h = use-defines d e (first_of_both (is_use d) _ h)
+opaque-use t r d e h = cc
+
+definition-at : (t : Target) (e : Effect) (r : Role) (d : RegOp) → d.def ≡ true → fits_at t e r (operands.Reg d) ≡ true → is_definition_role r ≡ true
+definition-at t e r d q h = go (fits_role r (operands.Reg d)) refl h
+  where
+    go : (b : Bool) → fits_role r (operands.Reg d) ≡ b → (b || (is_opaque e && fits_opaque t r (operands.Reg d))) ≡ true → is_definition_role r ≡ true
+    go true g k = definition-role r d q g
+    go false g k = absurd (opaque-use t r d q (second_of_both (is_opaque e) (fits_opaque t r (operands.Reg d)) k))
 
 explicit-there : (os : List Operand) (d : RegOp) → Member d (registers os) → d.implicit ≡ false → Member (operands.Reg d) (explicit_operands os)
 explicit-there [] d m e = absurd (member-none d m)
@@ -202,98 +200,27 @@ explicit-there (operands.Symbol z ∷ os) d m e = later (explicit-there os d m e
 explicit-there (operands.Index z ∷ os) d m e = later (explicit-there os d m e)
 explicit-there (operands.Mask z ∷ os) d m e = later (explicit-there os d m e)
 
-copy-goes-on : (e : Effect) → is_copy e ≡ true → is_terminator e ≡ true → ⊥
-copy-goes-on effects.Copy h g = cc
-copy-goes-on e h g = cc
-
-phi-goes-on : (e : Effect) → is_phi e ≡ true → is_terminator e ≡ true → ⊥
-phi-goes-on effects.Phi h g = cc
-phi-goes-on e h g = cc
-
-undef-goes-on : (e : Effect) → is_implicit_def e ≡ true → is_terminator e ≡ true → ⊥
-undef-goes-on effects.ImplicitDef h g = cc
-undef-goes-on e h g = cc
-
-sequence-goes-on : (e : Effect) → is_reg_sequence e ≡ true → is_terminator e ≡ true → ⊥
-sequence-goes-on effects.RegSequence h g = cc
-sequence-goes-on e h g = cc
-
-insert-goes-on : (e : Effect) → is_insert_subreg e ≡ true → is_terminator e ≡ true → ⊥
-insert-goes-on effects.InsertSubreg h g = cc
-insert-goes-on e h g = cc
-
-module _ (t : Target) where
-  -- a terminator's opcode is none of the five, and has the shape of its effect
-  desc-shape : (os : List OpcodeDesc) (k : ℕ) (d : OpcodeDesc) → slice_get os k ≡ Some d → is_terminator d.effect ≡ true → starts_with_the_five os ≡ true → list_all (is_opcode_desc t.units t.regs t.classes) (drop 5 os) ≡ true → shape_fits (explicit_shape d.effect) d.roles ≡ true
-  desc-shape [] k d g h five rest = absurd (cc)
-  desc-shape (a ∷ []) k d g h five rest = absurd (cc)
-  desc-shape (a ∷ b ∷ []) k d g h five rest = absurd (cc)
-  desc-shape (a ∷ b ∷ c ∷ []) k d g h five rest = absurd (cc)
-  desc-shape (a ∷ b ∷ c ∷ x ∷ []) k d g h five rest = absurd (cc)
-  desc-shape (a ∷ b ∷ c ∷ x ∷ y ∷ os) zero d g h five rest =
-      let q = first_of_both _ _ (first_of_both _ _ (first_of_both _ _ (first_of_both _ _ five))) in
-      absurd (copy-goes-on a.effect (second_of_both _ _ (first_of_both _ _ q)) (subst (λ z. is_terminator z.effect ≡ true) (sym (some-same a d g)) h))
-  desc-shape (a ∷ b ∷ c ∷ x ∷ y ∷ os) (suc zero) d g h five rest =
-      let q = second_of_both _ _ (first_of_both _ _ (first_of_both _ _ (first_of_both _ _ five))) in
-      absurd (phi-goes-on b.effect (second_of_both _ _ (first_of_both _ _ q)) (subst (λ z. is_terminator z.effect ≡ true) (sym (some-same b d g)) h))
-  desc-shape (a ∷ b ∷ c ∷ x ∷ y ∷ os) (suc (suc zero)) d g h five rest =
-      let q = second_of_both _ _ (first_of_both _ _ (first_of_both _ _ five)) in
-      absurd (undef-goes-on c.effect (second_of_both _ _ (first_of_both _ _ q)) (subst (λ z. is_terminator z.effect ≡ true) (sym (some-same c d g)) h))
-  desc-shape (a ∷ b ∷ c ∷ x ∷ y ∷ os) (suc (suc (suc zero))) d g h five rest =
-      let q = second_of_both _ _ (first_of_both _ _ five) in
-      absurd (sequence-goes-on x.effect (second_of_both _ _ (first_of_both _ _ q)) (subst (λ z. is_terminator z.effect ≡ true) (sym (some-same x d g)) h))
-  desc-shape (a ∷ b ∷ c ∷ x ∷ y ∷ os) (suc (suc (suc (suc zero)))) d g h five rest =
-      let q = second_of_both _ _ five in
-      absurd (insert-goes-on y.effect (second_of_both _ _ (first_of_both _ _ q)) (subst (λ z. is_terminator z.effect ≡ true) (sym (some-same y d g)) h))
-  desc-shape (a ∷ b ∷ c ∷ x ∷ y ∷ os) (suc (suc (suc (suc (suc k))))) d g h five rest =
-      let good = all-of (is_opcode_desc t.units t.regs t.classes) d os (slice-member os k d g) rest in
-      first_of_both _ _ (first_of_both _ _ (first_of_both _ _ (first_of_both _ _ (first_of_both _ _ (second_of_both _ _ good)))))
-
-  opcode-shape : (k : ℕ) (d : OpcodeDesc) → slice_get t.opcodes k ≡ Some d → is_terminator d.effect ≡ true → shape_fits (explicit_shape d.effect) d.roles ≡ true
-  opcode-shape k d g h =
-      let all = opcodes_sound t.name t.version t.units t.regs t.reserved t.indexes t.classes t.masks t.opcodes t.sound in
-      desc-shape t.opcodes k d g h (second_of_both _ _ (first_of_both _ _ (first_of_both _ _ all))) (second_of_both _ _ (first_of_both _ _ all))
-
-  -- the description of a terminator
-  known-desc : (o : Op) (d : OpcodeDesc) → known_opcode t o ≡ Some d → is_terminator d.effect ≡ true → shape_fits (explicit_shape d.effect) d.roles ≡ true
-  known-desc (ops.Known o) d e h = opcode-shape o.0 d e h
-  known-desc (ops.Excluded name) d e h = absurd (cc)
+-- a terminator's opcode is none of the five
+terminator-roles : (e : Effect) → is_terminator e ≡ true → has_roles e ≡ true
+terminator-roles effects.Copy h = absurd (cc)
+terminator-roles effects.Phi h = absurd (cc)
+terminator-roles effects.ImplicitDef h = absurd (cc)
+terminator-roles effects.RegSequence h = absurd (cc)
+terminator-roles effects.InsertSubreg h = absurd (cc)
+terminator-roles e h = refl
 
 module _ (t : Target) (f : Function) (i : Instr) (e : Effect) (known : effect_of t i ≡ Some e) (ends : is_terminator e ≡ true) (rule : V1 t f i ≡ true) where
-  -- operands meet the roles of its description
-  abbrev Met : OpcodeDesc → Type 0
-  Met d = (known_opcode t i.op ≡ Some d) × (d.effect ≡ e) × (operands_fit t f d i.operands e ≡ true)
-
-  met : (d : OpcodeDesc) × Met d
-  unfolding V1
-  met = go (known_opcode t i.op) refl rule known
-    where
-      same : (x y : Effect) → Some x ≡ Some y → x ≡ y
-      same x y g = cc
-
-      go : (q : Option OpcodeDesc) → known_opcode t i.op ≡ q → elim q [ None ↦ true | Some d ↦ operands_fit t f d i.operands d.effect ] ≡ true → option_map (λ d. d.effect) q ≡ Some e → (d : OpcodeDesc) × Met d
-      go None g h k = absurd (cc)
-      go (Some d) g h k = (d, (g, same d.effect e k, subst (λ x. operands_fit t f d i.operands x ≡ true) (same d.effect e k) h))
-
-  abbrev Fit : OpcodeDesc → Type 0
-  Fit d = (explicit_fit (explicit_roles d.roles) (explicit_operands i.operands) ≡ true) × (implicit_fit d (implicit_registers i.operands) ≡ true)
-
-  fit-by : (d : OpcodeDesc) (e : Effect) → is_terminator e ≡ true → operands_fit t f d i.operands e ≡ true → Fit d
-  fit-by d effects.Jump h g = (second_of_both _ _ (first_of_both _ _ (first_of_both _ _ g)), second_of_both _ _ (first_of_both _ _ g))
-  fit-by d effects.Jcc h g = (second_of_both _ _ (first_of_both _ _ (first_of_both _ _ g)), second_of_both _ _ (first_of_both _ _ g))
-  fit-by d effects.Jnz h g = (second_of_both _ _ (first_of_both _ _ (first_of_both _ _ g)), second_of_both _ _ (first_of_both _ _ g))
-  fit-by d effects.Ret h g = (second_of_both _ _ (first_of_both _ _ (first_of_both _ _ g)), second_of_both _ _ (first_of_both _ _ g))
-  fit-by d e h g = absurd (cc)
+  fitting : Fit t f (met t f i e known rule).0 i.operands e
+  fitting = fit t f i e known rule (terminator-roles e ends)
 
   no-explicit : (d : RegOp) → Member d (explicit_definitions i.operands) → ⊥
   no-explicit d m =
+      let desc = (met t f i e known rule).0 in
       let z = filter-of (λ o. o.def && not o.implicit) d (registers i.operands) m in
-      let fit = fit-by met.0 e ends met.1.2 in
       let there = explicit-there i.operands d z.0 (plain d.implicit (second_of_both d.def (not d.implicit) z.1)) in
-      let r = fit-role (explicit_roles met.0.roles) (explicit_operands i.operands) (operands.Reg d) fit.0 there in
-      let role = definition-role r.0 d (first_of_both d.def (not d.implicit) z.1) r.2 in
-      let shape = known-desc t i.op met.0 met.1.0 (ap is_terminator met.1.1 ∙ ends) in
-      let none = terminator-role met.0.effect met.0.roles r.0 (ap is_terminator met.1.1 ∙ ends) shape (filter-of (λ q. not (is_implicit q)) r.0 met.0.roles r.1).0 in
+      let r = fit-role t e (explicit_roles desc.roles) (explicit_operands i.operands) (operands.Reg d) fitting.explicit there in
+      let role = definition-at t e r.0 d (first_of_both d.def (not d.implicit) z.1) r.2 in
+      let none = terminator-role t e desc.roles r.0 ends (roles-sound t f i e known rule (terminator-roles e ends)) (filter-of (λ q. not (is_implicit q)) r.0 desc.roles r.1).0 in
       cc
     where
       plain : (b : Bool) → not b ≡ true → b ≡ false
@@ -303,8 +230,7 @@ module _ (t : Target) (f : Function) (i : Instr) (e : Effect) (known : effect_of
   implicit-fixed : (d : RegOp) → Member d (implicit_definitions i.operands) → is_virtual d.loc ≡ false
   implicit-fixed d m =
       let z = filter-of (λ o. o.def) d (implicit_registers i.operands) m in
-      let fit = fit-by met.0 e ends met.1.2 in
-      let one = all-of (λ o. not (is_virtual o.loc) && not (is_silent met.0.effect)) d (implicit_registers i.operands) z.0 (first_of_both _ _ fit.1) in
+      let one = all-of (λ o. not (is_virtual o.loc) && not (is_silent (met t f i e known rule).0.effect)) d (implicit_registers i.operands) z.0 fitting.implicit in
       plain (is_virtual d.loc) (first_of_both _ _ one)
     where
       plain : (b : Bool) → not b ≡ true → b ≡ false
@@ -319,6 +245,8 @@ module _ (t : Target) (f : Function) (i : Instr) (e : Effect) (known : effect_of
   counted-only effects.Jcc rs h = refl
   counted-only effects.Jnz rs h = refl
   counted-only effects.Ret rs h = refl
+  counted-only (effects.Opaque kinds.Branch) rs h = refl
+  counted-only (effects.Opaque kinds.Return) rs h = refl
   counted-only e rs h = absurd (cc)
 
   acts-are : entered_writes t f i ≡ results t f 0 (definitions (roles_of t i) i.operands) ++ W

@@ -1,5 +1,5 @@
 -- Paths are the same in both words, where nothing is written behind terminators that phis read.
-use Rattle.std.proofs.Common.{◌≡◌, ℕ, true, false, List, [], ◌∷◌, ◌++◌, refl, sym, ◌∙◌, append_assoc}
+use Rattle.std.proofs.Common.{◌≡◌, ℕ, false, List, [], ◌∷◌, ◌++◌, refl, sym, ◌∙◌, append_assoc}
 use Rattle.mir_meaning.specs.Paths.{Among, here, there, Step, Code, steps_of, last_of, is_written, Point, Entry, Exit, Live, reads, moves, passes, next, leaps, goes, phi, leaps_phi}
 use Rattle.live_lanes.specs.Paths as table
 use Rattle.live_laws.specs.Exact.Same.{IsQuiet}

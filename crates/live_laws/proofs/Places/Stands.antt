@@ -1,17 +1,14 @@
 -- A lane is live at a place exactly where its number is at the steps that stand for it.
-use Rattle.std.proofs.Common.{◌≡◌, ◌⊎◌, ℕ, Bool, true, false, cond, List, [], ◌∷◌, Option, Some, None, refl, sym, ap, ◌∙◌, subst, inl, inr}
+use Rattle.std.proofs.Common.{◌≡◌, ◌⊎◌, ℕ, Bool, true, false, cond, List, [], ◌∷◌, Some, refl, sym, ap, ◌∙◌, subst, inl, inr}
 use Rattle.meaning.specs.declared.types.Lane.{Lane}
 use Rattle.meaning.specs.declared.types.Lane.TheVariants.{SlotLane}
-use Rattle.meaning.specs.declared.types.Source.{Source}
 use Rattle.meaning.specs.declared.types.Source.TheVariants.{FromLane}
 use Rattle.meaning.specs.declared.types.Fill.TheVariants.{Moved}
-use Rattle.meaning.specs.declared.types.Write.{Write}
-use Rattle.meaning.specs.Lanes.{filled}
-use Rattle.meaning.specs.Code.{Edge, Item, BlockEnd, Code as Places, found}
-use Rattle.meaning.specs.Live.{Among as Member, reads_of, exits_of as edges_of, in_order, Feeds, is_slot, Live as LivePlace, read, next as onward, leap, phi as joined, store, kept, LiveAfter, after_next, after_leap, after_phi}
-use Rattle.mir_meaning.specs.Paths.{Among, Step, Code, steps_of, last_of, exits_of, Certain, Into, use_of, is_written, Point, Entry, Exit, Live, reads, moves, passes, next, leaps, goes, phi, leaps_phi}
+use Rattle.meaning.specs.Code.{Edge, Item, Code as Places, found}
+use Rattle.meaning.specs.Live.{Among as Member, Feeds, is_slot, Live as LivePlace, read, next as onward, leap, phi as joined, store, kept, LiveAfter, after_next, after_leap, after_phi}
+use Rattle.mir_meaning.specs.Paths.{Among, Step, Code, steps_of, exits_of, Certain, Into, use_of, is_written, Point, Entry, Exit, Live, reads, moves, passes, next, leaps, goes, phi, leaps_phi}
 use Rattle.live_laws.specs.Places.{StandsLaw}
-use Rattle.mir_meaning.specs.Stands.{Tags, IsTagging, ReadBy, Reaches, IsStep, IsOut, At, at_end, at_step, IsCodeOf}
+use Rattle.mir_meaning.specs.Stands.{Tags, ReadBy, Reaches, IsStep, IsOut, At, at_end, at_step, IsCodeOf}
 
 member-none : {A : Type 0} (x : A) → Member x [] → ⊥
 member-none x m = elim m [ ]

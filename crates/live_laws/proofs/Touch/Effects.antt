@@ -2,12 +2,12 @@
 use Rattle.std.proofs.Common.{◌≡◌, ◌⊎◌, inl, inr, ℕ, zero, suc, Bool, true, false, cond, not, List, [], ◌∷◌, ◌++◌, Option, Some, None, map, filter, flat_map, length, refl, sym, ap, ◌∙◌, subst, arith}
 use Rattle.std.specs.Prelude.{◌&&◌, nat_abs}
 use Rattle.target_base.specs.declared.types.Effect.{Effect}
-use Rattle.target_base.specs.declared.types.Effect.TheVariants as effects
 use Rattle.target_base.specs.declared.types.Role.{Role}
 use Rattle.target_base.specs.declared.types.Role.TheVariants as roles
 use Rattle.target_base.specs.declared.types.Target.{Target}
 use Rattle.target_base.specs.Roles.{is_immediate, is_frame_or_symbol, is_slot, is_lanes, is_definition as is_definition_role, is_use as is_use_role}
 use Rattle.target_base.proofs.Tests.{first_of_both, second_of_both}
+use Rattle.meaning.specs.declared.types.Lane.TheVariants.{UnitLane}
 use Rattle.meaning.specs.declared.types.Source.TheVariants.{FromLane, Undef}
 use Rattle.meaning.specs.Perform.{condition_lane}
 use Rattle.meaning.specs.Live.{Among as Member, here as first, there as later}
@@ -17,7 +17,7 @@ use Rattle.mir_func.specs.declared.func.Operand.TheVariants as operands
 use Rattle.mir_func.specs.Value.{Function}
 use Rattle.mir_func.specs.Binding.{registers, implicit_registers, definitions, immediate_of, is_definition, is_use, is_virtual}
 use Rattle.mir_meaning.specs.Registers.{numbers, operand_lanes, operand_widths, undefined_lanes, use_sources}
-use Rattle.mir_meaning.specs.Items.{uses, implicit_definitions, pick}
+use Rattle.mir_meaning.specs.Items.{uses, implicit_definitions, pick, undefined}
 use Rattle.mir_meaning.specs.Rules.{fits_role, is_virtual_use, index_pairs}
 use Rattle.instr_effects.specs.declared.acts.Act.{Act}
 use Rattle.instr_effects.specs.declared.owner.Owner.{Owner}
@@ -34,8 +34,7 @@ use Rattle.live_laws.proofs.Touch.Exact.{plain-in, plain-of, use-of, use-in, Use
 
 -- a call writes the units that its masks don't preserve
 call-acts : (t : Target) (e : Effect) (os : List Operand) → is_call e ≡ true → acts_of (call_writes t e os) ≡ map (λ u. plain false (owners.Unit u)) (unpreserved t os)
-call-acts t effects.Call os h = acts-units (unpreserved t os)
-call-acts t e os h = absurd (cc)
+call-acts t e os h = ap (λ b. acts_of (cond b (undefined false (map UnitLane (unpreserved t os))) [])) h ∙ acts-units (unpreserved t os)
 
 -- operands by their roles
 
@@ -46,7 +45,7 @@ defined-by r o e h = absurd (cc)
 
 pub used-by : (r : Role) (o : Operand) → is_use_role r ≡ true → fits_role r o ≡ true → (u : RegOp) × (o ≡ operands.Reg u) × (is_use u ≡ true)
 used-by (roles.Read k) (operands.Reg u) e h = (u, refl, h)
-used-by (roles.Tied k) (operands.Reg u) e h = (u, refl, h)
+used-by (roles.Tied k n) (operands.Reg u) e h = (u, refl, h)
 used-by r o e h = absurd (cc)
 
 -- an operand that names no register
