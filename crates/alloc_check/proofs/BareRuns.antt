@@ -28,7 +28,7 @@ target-bare code None = refl
 target-bare code (Some e) = found-bare e.block code
 
 abbrev with_effect : Rest → Effect → Rest
-with_effect r e = record { effect = e; widths = r.widths; result = r.result; immediate = r.immediate; symbol = r.symbol }
+with_effect r e = record { effect = e; widths = r.widths; result = r.result; immediate = r.immediate; symbol = r.symbol; needed = r.needed }
 
 -- a marker does the same whatever it reads
 performs-used :

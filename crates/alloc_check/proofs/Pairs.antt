@@ -1,5 +1,5 @@
 -- Instructions put among the rows.
-use Rattle.std.proofs.Common.{◌≡◌, ◌∷◌, ◌++◌, ◌∙◌, ◌<◌, ◌≤◌, ◌+◌, ℕ, true, cond, List, [], Option, Some, None, option_map, refl, sym, ap, append_assoc, drop, get_or, length, drop_of_length-le}
+use Rattle.std.proofs.Common.{◌≡◌, ◌∷◌, ◌++◌, ◌∙◌, ◌<◌, ◌≤◌, ◌+◌, ℕ, List, [], Option, Some, option_map, refl, sym, ap, append_assoc, drop, get_or, length, drop_of_length-le}
 use Rattle.std.proofs.lemmas.List.{at_drop_more, at_drop_all, append-nil}
 use Rattle.target_base.specs.declared.types.Effect.{Effect}
 use Rattle.target_base.specs.declared.types.Effect.TheVariants as effects
@@ -14,7 +14,7 @@ use Rattle.meaning.specs.Rows.{first_target, second_target, first_falls, second_
 use Rattle.mir_func.specs.declared.func.Instr.{Instr}
 use Rattle.mir_func.specs.declared.func.Block.{Block}
 use Rattle.mir_func.specs.Value.{Function}
-use Rattle.mir_meaning.specs.Codes.{code_of, item_of, way, target_of, fallen_into, falls_through, first_number, block_end}
+use Rattle.mir_meaning.specs.Codes.{code_of, item_of, way, target_of, fallen_into, block_end}
 use Rattle.alloc_check.specs.Bare.{bare, bare_item, first_bare, second_bare, items, blocks_bare, block_bare, used_reads, shared_reads, needed_reads, Grown, SilentItem, CountedItem}
 use Rattle.alloc_check.proofs.Rowed.{grown-row, blocks-more, code-bare}
 
@@ -75,11 +75,6 @@ grown-more new old p rest whole e h = ap (λ q. q ++ rest) e ∙ (append_assoc o
 
 pub blocks-at : (t : Target) (f : Function) (bs : List Block) (k : ℕ) (b : Block) → k < length bs → b ≡ get_or bs k b → blocks_bare t f (drop k bs) ≡ block_bare t f b (drop (k + 1) bs) ++ blocks_bare t f (drop (k + 1) bs)
 blocks-at t f bs k b h e = at_drop_more (blocks_bare t f) bs k b h ∙ (ap (λ x. blocks_bare t f (x ∷ drop (k + 1) bs)) (sym e) ∙ blocks-more t f b (drop (k + 1) bs))
-
-pub fallen-on : (t : Target) (b n : Block) (bs : List Block) (k : ℕ) → falls_through t b.instrs ≡ true → k < length bs → n ≡ get_or bs k n → Some n.number ≡ fallen_into t b (drop k bs)
-fallen-on t b n bs k e h at =
-    let first : first_number (drop k bs) ≡ Some n.number = at_drop_more first_number bs k n h ∙ ap (λ x. Some x.number) (sym at) in
-    sym (ap (λ y. cond y (first_number (drop k bs)) None) e ∙ first)
 
 -- a block whose start, instructions and end are among the rows
 pub grown-block :

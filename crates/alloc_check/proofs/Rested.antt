@@ -1,6 +1,7 @@
 -- Tests that are put together.
 use Rattle.std.proofs.Common.{◌≡◌, ◌∙◌, ℕ, Bool, true, false, cond, Some, None, refl, ap}
 use Rattle.std.proofs.lemmas.Bool.{and_from, eq-eqb}
+use Rattle.std.specs.Bool.{beq}
 use Rattle.std.specs.Ordering.{int_eq}
 use Rattle.target_base.specs.Storage.{same_numbers, unit_width}
 use Rattle.target_base.specs.Numbers.{unit_number}
@@ -15,8 +16,8 @@ use Rattle.mir_func.specs.Value.{Function}
 use Rattle.mir_meaning.specs.Codes.{is_given, given_of}
 use Rattle.laws.proofs.Same.{rest-true}
 
-pub rest_of_tests : (r s : Rest) → same_effect r.effect s.effect ≡ true → same_list same_numbers r.widths s.widths ≡ true → same_numbers r.result s.result ≡ true → int_eq r.immediate s.immediate ≡ true → same_numbers r.symbol s.symbol ≡ true → r ≡ s
-rest_of_tests r s a b c d e = rest-true r s (and_from _ _ a (and_from _ _ b (and_from _ _ c (and_from _ _ d e))))
+pub rest_of_tests : (r s : Rest) → same_effect r.effect s.effect ≡ true → same_list same_numbers r.widths s.widths ≡ true → same_numbers r.result s.result ≡ true → int_eq r.immediate s.immediate ≡ true → same_numbers r.symbol s.symbol ≡ true → same_list beq r.needed s.needed ≡ true → r ≡ s
+rest_of_tests r s a b c d e n = rest-true r s (and_from _ _ a (and_from _ _ b (and_from _ _ c (and_from _ _ d (and_from _ _ e n)))))
 
 -- a unit that isn't given is Undef
 pub unit_free : (t : Target) (f g : Function) (u : ℕ) (s : Source) → is_given t f.blocks u ≡ false → known_at_start (given_of t f) (given_of t g) (FromLane (UnitLane u)) s ≡ true

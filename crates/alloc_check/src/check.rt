@@ -120,7 +120,7 @@ fn compared(
     ensures refines { IfOk result (IfYes (refines target.now source.now allocated.now)) }
     ensures unlike { IfOk result (TellsUnlike target.now source.now allocated.now) }
 {
-    if let Some(place) = first_unlike(target, source, allocated) {
+    if let Some(place) = first_unlike(alloc, target, source, allocated)? {
         return Ok(Verdict::No(place));
     }
     match rows_of(alloc, target, source, allocated)? {

@@ -1,6 +1,6 @@
 //! Where two functions don't match: their blocks, and their counted instructions in pairs.
 
-ghost use Rattle.std.specs.Prelude.{◌≡◌, ◌∷◌, ◌≤◌, ◌<◌, ◌^◌, [], filter, length, option_map, IfSome, MatchOption, map};
+ghost use Rattle.std.specs.Prelude.{◌≡◌, ◌∷◌, ◌≤◌, ◌<◌, ◌^◌, [], filter, length, option_map, IfSome, MatchOption, IfOk, map};
 ghost use Rattle.std.specs.List.{All, list_all};
 ghost use Rattle.std.specs.Option.{option_or};
 ghost use Rattle.mir_meaning.specs.Agreement.{blocks_alike, entries_alike, unlike_block, further_block, block_doubt, is_counted, unpaired, unpaired_in, partner_doubt, place};
@@ -8,9 +8,10 @@ ghost use Rattle.mir_meaning.specs.Registers.{has_number};
 ghost use Rattle.mir_meaning.specs.Rules.{successors_of};
 ghost use Rattle.mir_meaning.specs.Valid.{listed_units};
 
-use crate::alike::are_partners;
+use crate::alike::are_paired;
 use mir_func::opcodes::effect_of;
 use mir_func::{Block, Func, Instr, Place};
+use std::alloc::{AllocError, Global};
 use target_base::roles::is_silent;
 use target_base::{Boxed, Target, Unit};
 
@@ -197,19 +198,26 @@ fn next_counted<'a>(
 
 /// The first counted instruction whose partner among the others is missing or differs; or
 /// instruction 0, where more of the others count.
-fn unpaired(t: &Target, instrs: &[Boxed<Instr>], others: &[Boxed<Instr>]) -> Option<usize>
-    ensures value { result ≡ unpaired t.now 0 instrs.now (filter (is_counted t.now) others.now) }
-    ensures within { IfSome result (λ at. at ≤ length instrs.now) }
+fn unpaired(
+    alloc: Global,
+    t: &Target,
+    f: &Func,
+    g: &Func,
+    instrs: &[Boxed<Instr>],
+    others: &[Boxed<Instr>],
+) -> Result<Option<usize>, AllocError>
+    ensures value { IfOk result (λ at. at ≡ unpaired t.now f.now g.now 0 instrs.now (filter (is_counted t.now) others.now)) }
+    ensures within { IfOk result (λ at. IfSome at (λ k. k ≤ length instrs.now)) }
 {
     let mut left = others;
     for k in 0..instrs.len() {
         let i = instrs[k].get();
         if is_counted(t, i) {
             match next_counted(t, left) {
-                None => return Some(k),
+                None => return Ok(Some(k)),
                 Some((x, behind)) => {
-                    if !are_partners(i, x) {
-                        return Some(k);
+                    if !are_paired(alloc, t, f, g, i, x)? {
+                        return Ok(Some(k));
                     }
                     left = behind;
                 }
@@ -217,8 +225,8 @@ fn unpaired(t: &Target, instrs: &[Boxed<Instr>], others: &[Boxed<Instr>]) -> Opt
         }
     }
     match next_counted(t, left) {
-        None => None,
-        Some(_) => Some(0),
+        None => Ok(None),
+        Some(_) => Ok(Some(0)),
     }
 }
 
@@ -232,51 +240,70 @@ fn place(b: &Block, at: usize) -> Place
 }
 
 /// Where the counted instructions of two blocks don't pair.
-fn unpaired_place(t: &Target, b: &Block, c: &Block) -> Option<Place>
+fn unpaired_place(
+    alloc: Global,
+    t: &Target,
+    f: &Func,
+    g: &Func,
+    b: &Block,
+    c: &Block,
+) -> Result<Option<Place>, AllocError>
     requires { length b.now.instrs < 2 ^ 32 }
-    ensures { result ≡ option_map (place b.now.number) (unpaired t.now 0 b.now.instrs (filter (is_counted t.now) c.now.instrs)) }
+    ensures { IfOk result (λ p. p ≡ option_map (place b.now.number) (unpaired t.now f.now g.now 0 b.now.instrs (filter (is_counted t.now) c.now.instrs))) }
 {
-    match unpaired(t, b.instrs.as_slice(), c.instrs.as_slice()) {
-        Some(at) => Some(place(b, at)),
-        None => None,
+    match unpaired(alloc, t, f, g, b.instrs.as_slice(), c.instrs.as_slice())? {
+        Some(at) => Ok(Some(place(b, at))),
+        None => Ok(None),
     }
 }
 
 /// Where the counted instructions of these blocks don't pair with those of the others.
-fn unpaired_in(t: &Target, blocks: &[Block], others: &[Block]) -> Option<Place>
+fn unpaired_in(
+    alloc: Global,
+    t: &Target,
+    f: &Func,
+    g: &Func,
+    blocks: &[Block],
+    others: &[Block],
+) -> Result<Option<Place>, AllocError>
     requires { All (λ b. length b.instrs < 2 ^ 32) blocks.now }
-    ensures { result ≡ unpaired_in t.now blocks.now others.now }
+    ensures { IfOk result (λ p. p ≡ unpaired_in t.now f.now g.now blocks.now others.now) }
 {
     for k in 0..blocks.len() {
         let b = &blocks[k];
         match others.get(k) {
-            None => return None,
+            None => return Ok(None),
             Some(c) => {
-                if let Some(place) = unpaired_place(t, b, c) {
-                    return Some(place);
+                if let Some(place) = unpaired_place(alloc, t, f, g, b, c)? {
+                    return Ok(Some(place));
                 }
             }
         }
     }
-    None
+    Ok(None)
 }
 
 /// Where the counted instructions of the functions don't pair.
 #[tactic(auto, unfolding(mir_meaning::specs::Agreement::partner_doubt))]
-fn partner_doubt(t: &Target, f: &Func, g: &Func) -> Option<Place>
-    ensures { result ≡ partner_doubt t.now f.now g.now }
+fn partner_doubt(alloc: Global, t: &Target, f: &Func, g: &Func) -> Result<Option<Place>, AllocError>
+    ensures { IfOk result (λ p. p ≡ partner_doubt t.now f.now g.now) }
 {
     let _last = f.next_id;
-    unpaired_in(t, f.blocks.as_slice(), g.blocks.as_slice())
+    unpaired_in(alloc, t, f, g, f.blocks.as_slice(), g.blocks.as_slice())
 }
 
 /// The first place where the functions don't match.
-pub fn first_unlike(t: &Target, f: &Func, g: &Func) -> Option<Place>
-    ensures { result ≡ option_or (block_doubt t.now f.now g.now) (partner_doubt t.now f.now g.now) }
+pub fn first_unlike(
+    alloc: Global,
+    t: &Target,
+    f: &Func,
+    g: &Func,
+) -> Result<Option<Place>, AllocError>
+    ensures { IfOk result (λ p. p ≡ option_or (block_doubt t.now f.now g.now) (partner_doubt t.now f.now g.now)) }
 {
     match block_doubt(t, f, g) {
-        Some(place) => Some(place),
-        None => partner_doubt(t, f, g),
+        Some(place) => Ok(Some(place)),
+        None => partner_doubt(alloc, t, f, g),
     }
 }
 

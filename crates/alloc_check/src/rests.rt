@@ -1,13 +1,14 @@
 //! Counted instructions that differ in registers alone.
 
 ghost use Rattle.std.specs.Prelude.{◌≡◌, ◌&&◌, IsTrue, true};
+ghost use Rattle.std.specs.Bool.{beq};
 ghost use Rattle.std.specs.Ordering.{int_eq};
 ghost use Rattle.target_base.specs.Storage.{same_numbers};
 ghost use Rattle.meaning.specs.Sameness.{same_list, same_effect, same_rest, effect_number, effect_scale};
 
 use crate::facts::same_bytes;
 use meaning::Rest;
-use target_base::{Effect, Numbers};
+use target_base::{Effect, Numbers, OpaqueKind};
 
 fn effect_number(e: Effect) -> u32
     ensures { result ≡ effect_number e }
@@ -47,6 +48,10 @@ fn effect_number(e: Effect) -> u32
         Effect::Marker => 31,
         Effect::Spill => 32,
         Effect::Reload => 33,
+        Effect::Opaque(OpaqueKind::Plain) => 34,
+        Effect::Opaque(OpaqueKind::Branch) => 35,
+        Effect::Opaque(OpaqueKind::Call) => 36,
+        Effect::Opaque(OpaqueKind::Return) => 37,
     }
 }
 
@@ -65,7 +70,8 @@ fn same_effect(e: Effect, f: Effect) -> bool
     effect_number(e) == effect_number(f) && effect_scale(e) == effect_scale(f)
 }
 
-fn same_numbers(a: &[u32], b: &[u32]) -> bool
+/// Whether two lists of numbers are equal.
+pub fn same_numbers(a: &[u32], b: &[u32]) -> bool
     ensures { result ≡ same_numbers a.now b.now }
 {
     a == b
@@ -91,8 +97,21 @@ fn same_integer(a: i128, b: i128) -> bool
     a == b
 }
 
+fn same_flags(a: &[bool], b: &[bool]) -> bool
+    ensures { IsTrue result → same_list beq a.now b.now ≡ true }
+{
+    if a.len() != b.len() {
+        return false;
+    }
+    for k in 0..a.len() {
+        if a[k] != b[k] {
+            return false;
+        }
+    }
+    true
+}
+
 /// Whether all that names no register is alike.
-#[tactic(auto, using(crate::proofs::Rested::rest_of_tests))]
 pub fn same_rest(r: &Rest, s: &Rest) -> bool
     ensures { IsTrue result → r.now ≡ s.now }
 {
@@ -106,6 +125,9 @@ pub fn same_rest(r: &Rest, s: &Rest) -> bool
         return false;
     }
     if !same_integer(r.immediate, s.immediate) {
+        return false;
+    }
+    if !same_flags(r.needed.as_slice(), s.needed.as_slice()) {
         return false;
     }
     same_bytes(r.symbol.as_slice(), s.symbol.as_slice())

@@ -9,7 +9,7 @@ use crate::rests::same_rest;
 use instr_effects::items::counted::{reads_of, rest_of, values};
 use instr_effects::items::results::counted_writes;
 use instr_effects::items::silent::push_silent_writes;
-use instr_effects::items::ways::{falls_through, push_phis, target_of};
+use instr_effects::items::ways::{fallen_into, push_phis, target_of};
 use meaning::{Reads, Rest, Row, Source, Ways, Writes};
 use mir_func::opcodes::{effect_of, ends_block, is_early_clobber, roles_of};
 use mir_func::{Block, Func, Instr};
@@ -404,25 +404,12 @@ fn push_instrs(
 }
 
 /// The block that the k-th block falls into, where it falls into one: the next in layout.
-fn fallen_among(t: &Target, blocks: &[Block], k: usize, b: &Block) -> Option<u32>
-    requires { k < length blocks.now }
-    ensures { result ≡ fallen_into t.now b.now (drop (k + 1) blocks.now) }
-{
-    if !falls_through(t, b.instrs.as_slice()) {
-        return None;
-    }
-    match blocks.get(k + 1) {
-        None => None,
-        Some(next) => Some(next.number),
-    }
-}
-
-/// The same in a function.
-fn fallen_into(t: &Target, f: &Func, k: usize, b: &Block) -> Option<u32>
+fn falls_into(t: &Target, f: &Func, k: usize, b: &Block) -> Option<u32>
     requires { k < length f.now.blocks }
     ensures { result ≡ fallen_into t.now b.now (drop (k + 1) f.now.blocks) }
 {
-    fallen_among(t, f.blocks.as_slice(), k, b)
+    let blocks = f.blocks.as_slice();
+    fallen_into(t, b, &blocks[k + 1..])
 }
 
 /// The k-th block.
@@ -451,8 +438,8 @@ fn push_block(
     if b.number != c.number {
         return Ok(false);
     }
-    let into = fallen_into(t, f, k, b);
-    let other = fallen_into(t, g, k, c);
+    let into = falls_into(t, f, k, b);
+    let other = falls_into(t, g, k, c);
     if !same_number(into, other) {
         return Ok(false);
     }

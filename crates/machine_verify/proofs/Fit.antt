@@ -1,11 +1,12 @@
 -- Operands against roles, one by one and in pairs.
-use Rattle.std.proofs.Common.{◌≡◌, List, [], ◌∷◌, Bool, true, false, refl, arith}
-use Rattle.std.specs.Prelude.{◌&&◌}
+use Rattle.std.proofs.Common.{◌≡◌, ◌∙◌, sym, ap, cond, List, [], ◌∷◌, Bool, true, false, refl, arith}
+use Rattle.std.specs.Prelude.{◌&&◌, not}
 use Rattle.std.specs.List.{list_all}
+use Rattle.target_base.specs.declared.types.Effect.{Effect}
 use Rattle.target_base.specs.declared.types.Role.{Role}
 use Rattle.mir_func.specs.declared.func.Operand.{Operand}
 use Rattle.mir_func.specs.declared.func.Operand.TheVariants as operands
-use Rattle.mir_func.specs.Binding.{after_first, first_role, takes_many}
+use Rattle.mir_func.specs.Binding.{after_first, first_role, takes_many, is_implicit_operand, explicit_operands}
 use Rattle.mir_meaning.specs.Rules.{explicit_fit, phi_pairs, index_pairs}
 use Rattle.std.specs.Prelude.{Option, Some, None}
 use Rattle.target_base.specs.declared.types.Target.{Target}
@@ -14,13 +15,19 @@ use Rattle.mir_func.specs.Value.{Function}
 use Rattle.mir_meaning.specs.Rules.{parts_fit}
 use Rattle.machine_verify.specs.Operands.{fits_next, reads_virtual, is_block, is_index, part_fits}
 
-pub explicit_step : (rs : List Role) (o : Operand) (os : List Operand) → explicit_fit rs (o ∷ os) ≡ (fits_next (first_role rs) o && explicit_fit (after_first rs) os)
-explicit_step [] o os = refl
-explicit_step (r ∷ rs) o os = refl
+pub explicit_step : (t : Target) (e : Effect) (rs : List Role) (o : Operand) (os : List Operand) → explicit_fit t e rs (o ∷ os) ≡ (fits_next t e (first_role rs) o && explicit_fit t e (after_first rs) os)
+explicit_step t e [] o os = refl
+explicit_step t e (r ∷ rs) o os = refl
 
-pub explicit_end : (rs : List Role) → explicit_fit rs [] ≡ list_all takes_many rs
-explicit_end [] = refl
-explicit_end (r ∷ rs) = refl
+pub explicit_end : (t : Target) (e : Effect) (rs : List Role) → explicit_fit t e rs [] ≡ list_all takes_many rs
+explicit_end t e [] = refl
+explicit_end t e (r ∷ rs) = refl
+
+pub explicit_stop : (t : Target) (e : Effect) (rs : List Role) (r : Option Role) (o : Operand) (os : List Operand) → r ≡ first_role rs → is_implicit_operand o ≡ false → fits_next t e r o ≡ false → explicit_fit t e rs (explicit_operands (o ∷ os)) ≡ false
+explicit_stop t e rs r o os first explicit h =
+    ap (λ b. explicit_fit t e rs (cond (not b) (o ∷ explicit_operands os) (explicit_operands os))) explicit
+    ∙ (explicit_step t e rs o (explicit_operands os)
+    ∙ ap (λ b. b && explicit_fit t e (after_first rs) (explicit_operands os)) (ap (λ q. fits_next t e q o) (sym first) ∙ h))
 
 pub phi_pair : (a b : Operand) (os : List Operand) → phi_pairs (a ∷ b ∷ os) ≡ (reads_virtual a && is_block b && phi_pairs os)
 phi_pair (operands.Reg s) (operands.Block n) os = grind arith

@@ -1,5 +1,5 @@
 -- The rules of an instruction, over its operands as code sorts them, are the rules of the definitions.
-use Rattle.std.proofs.Common.{◌≡◌, ◌∙◌, ℕ, [], ◌++◌, refl, sym, ap, take}
+use Rattle.std.proofs.Common.{◌≡◌, ◌∙◌, ℕ, true, [], ◌++◌, refl, sym, ap, take}
 use Rattle.std.specs.Prelude.{◌&&◌, ◌||◌, not, map, Some, None, flat_map, filter_map}
 use Rattle.std.specs.List.{list_all}
 use Rattle.std.specs.Bool.{beq}
@@ -14,7 +14,7 @@ use Rattle.mir_meaning.specs.declared.Form.{Form}
 use Rattle.mir_meaning.specs.declared.Form.TheVariants as forms
 use Rattle.mir_func.specs.Binding.{Bound, known_opcode, implicit_registers, bound, explicit_bound, explicit_roles, explicit_operands, implicit_bound, implicit_roles, tied_pair, passes, roles_of, puts_together}
 use Rattle.mir_meaning.specs.Registers.{has_number}
-use Rattle.mir_meaning.specs.Rules.{V1, V2, V3, V4, V5, V11, V12, V15, in_operand_class, widths_fit, has_class, index_fits, subregs_fit, flags_fit, operands_fit, block_numbers, successors_of, named_blocks, slot_fits, spills_or_reloads}
+use Rattle.mir_meaning.specs.Rules.{V1, V2, V3, V4, V5, V11, V12, V15, in_operand_class, widths_fit, has_class, index_fits, subregs_fit, flags_fit, operands_fit, block_numbers, successors_of, named_blocks, slot_fits, spills_or_reloads, is_opaque}
 use Rattle.machine_verify.specs.declared.asked.Asked.{Asked}
 use Rattle.machine_verify.specs.declared.numbers.NumberSet.{NumberSet}
 use Rattle.machine_verify.specs.Asked.{IsAsked}
@@ -27,9 +27,12 @@ pub v1_is : (t : Target) (f : Function) (i : Instr) (d : OpcodeDesc) → known_o
 unfolding V1
 v1_is t f i d h = rw (h, V1) refl
 
-pub v2_is : (t : Target) (f : Function) (a : Asked) → IsAsked t a.instr.now a → (list_all (in_operand_class t f) (seen_all a.bound.items) && widths_fit t f a.desc.now.effect a.instr.now.operands) ≡ V2 t f a.instr.now
+pub v2_is : (t : Target) (f : Function) (a : Asked) → IsAsked t a.instr.now a → (list_all (in_operand_class t f a.desc.now.effect) (seen_all a.bound.items) && widths_fit t f a.desc.now.effect a.instr.now.operands) ≡ V2 t f a.instr.now
 unfolding V2
-v2_is t f a h = rw (h.opcode, h.bound) refl
+v2_is t f a h =
+    let i = a.instr.now in
+    ap (λ bs. list_all (in_operand_class t f a.desc.now.effect) bs && widths_fit t f a.desc.now.effect i.operands) h.bound
+    ∙ sym (ap (λ o. elim o [ None ↦ true | Some d ↦ list_all (in_operand_class t f d.effect) (bound t i) && widths_fit t f d.effect i.operands ]) h.opcode)
 
 pub v3_is : (t : Target) (f : Function) (a : Asked) → IsAsked t a.instr.now a → list_all (λ o. has_class f o.loc) a.named.items ≡ V3 f a.instr.now
 unfolding V3
@@ -43,9 +46,9 @@ pub v11_is : (t : Target) (form : Form) (f : Function) (a : Asked) → IsAsked t
 unfolding V11
 v11_is t form f a h = rw h.bound refl
 
-pub v12_is : (t : Target) (form : Form) (f : Function) (a : Asked) → IsAsked t a.instr.now a → ties.definitions_fit t form f a.named.items (seen_all a.bound.items) ≡ V12 t form f a.instr.now
+pub v12_is : (t : Target) (form : Form) (f : Function) (a : Asked) → IsAsked t a.instr.now a → ties.definitions_fit t form f (is_opaque a.desc.now.effect) a.named.items (seen_all a.bound.items) ≡ V12 t form f a.instr.now
 unfolding V12
-v12_is t form f a h = rw (h.bound, h.named) refl
+v12_is t form f a h = rw (h.opcode, h.bound, h.named) refl
 
 slot_alike : (s : NumberSet) (f : Function) → HoldsSlots s f → (b : Bound) → ties.slot_fits s b ≡ slot_fits f b
 slot_alike s f h (r, operands.Stack n) = ap (beq (passes is_slot r)) (h n)

@@ -1,5 +1,6 @@
 -- Operands one by one and in pairs.
 use Rattle.std.specs.Prelude.{Bool, true, false, ◌&&◌, List, Option, Some, None}
+use Rattle.target_base.specs.declared.types.Effect.{Effect}
 use Rattle.target_base.specs.declared.types.Role.{Role}
 use Rattle.target_base.specs.declared.types.OpcodeDesc.{OpcodeDesc}
 use Rattle.target_base.specs.declared.types.Target.{Target}
@@ -8,12 +9,12 @@ use Rattle.mir_func.specs.declared.func.Operand.TheVariants as operands
 use Rattle.mir_func.specs.Value.{Function}
 use Rattle.mir_func.specs.Binding.{explicit_roles, explicit_operands, implicit_registers}
 use Rattle.mir_func.specs.declared.func.RegOp.{RegOp}
-use Rattle.mir_meaning.specs.Rules.{fits_role, is_virtual_use, implicit_last, explicit_fit, implicit_fit, values_fit, same_widths, at_index}
+use Rattle.mir_meaning.specs.Rules.{fits_at, is_virtual_use, implicit_last, explicit_fit, implicit_fit, values_fit, same_widths, at_index}
 
 -- there is a role left, and the operand is of the kind that it asks for
-abbrev pub fits_next : Option Role → Operand → Bool
-fits_next None o = false
-fits_next (Some r) o = fits_role r o
+abbrev pub fits_next : Target → Effect → Option Role → Operand → Bool
+fits_next t e None o = false
+fits_next t e (Some r) o = fits_at t e r o
 
 -- an explicit use of a virtual register
 abbrev pub reads_virtual : Operand → Bool
@@ -30,7 +31,7 @@ is_index _ = false
 
 -- operands fit the roles of an opcode that has roles
 abbrev pub fits_roles : Target → Function → OpcodeDesc → List Operand → Bool
-fits_roles t f d os = implicit_last os && explicit_fit (explicit_roles d.roles) (explicit_operands os) && implicit_fit d (implicit_registers os) && values_fit t f d.effect os
+fits_roles t f d os = implicit_last os && explicit_fit t d.effect (explicit_roles d.roles) (explicit_operands os) && implicit_fit d (implicit_registers os) && values_fit t f d.effect os
 
 -- an input of a REG_SEQUENCE has the widths of its index; nothing where these aren't an input and an index
 abbrev pub part_fits : Target → Function → RegOp → Operand → Operand → Option Bool

@@ -9,7 +9,7 @@ use Rattle.mir_func.specs.declared.func.Operand.TheVariants as operands
 use Rattle.mir_func.specs.Value.{Function}
 use Rattle.mir_meaning.specs.declared.Form.{Form}
 use Rattle.mir_func.specs.Binding.{Bound, TiedPair, numbered, passes, ties_to}
-use Rattle.mir_meaning.specs.Rules.{tie_fits, undef_fits, no_two_share, clashing_lanes, early_fits}
+use Rattle.mir_meaning.specs.Rules.{tie_fits, undef_fits, no_two_share, defined_lanes, early_fits, undef_uses_fit}
 use Rattle.machine_verify.specs.declared.numbers.NumberSet.{NumberSet}
 use Rattle.machine_verify.specs.Sets.{has}
 
@@ -26,12 +26,13 @@ abbrev pub reading_besides : ℕ → Bound → Option RegOp
 reading_besides n (r, operands.Reg o) = cond (not (passes (ties_to n) r) && not o.def && not o.undef) (Some o) None
 reading_besides n (r, o) = None
 
--- definitions are apart from each other and, where they are early, from uses
-abbrev pub definitions_fit : Target → Form → Function → List RegOp → List Bound → Bool
-definitions_fit t form f named bs =
+-- definitions are apart from each other and, where they are early, from uses; of an opaque instruction or another
+abbrev pub definitions_fit : Target → Form → Function → Bool → List RegOp → List Bound → Bool
+definitions_fit t form f opaque named bs =
     list_all (undef_fits form named) (filter (λ o. o.def) named)
-    && no_two_share (map (clashing_lanes t f) (filter (λ o. o.def) named))
+    && no_two_share (map (defined_lanes t f opaque) (filter (λ o. o.def) named))
     && list_all (early_fits t f bs) (numbered 0 bs)
+    && undef_uses_fit opaque bs
 
 -- a `slot` operand names a slot of the set, and no other operand does
 abbrev pub slot_fits : NumberSet → Bound → Bool

@@ -12,8 +12,8 @@ use crate::classes::{classes_fit, have_classes, have_right_indexes};
 use crate::numbers::{NumberSet, lists_once};
 use crate::operands::operands_fit;
 use crate::parts::{BoundOperand, bind, registers};
-use crate::ties::{definitions_fit, slots_fit, ties_fit};
-use crate::words::spills_or_reloads;
+use crate::ties::{all_early_fit, are_apart, slots_fit, ties_fit, undef_uses_fit, undefs_fit};
+use crate::words::{is_opaque, spills_or_reloads};
 use mir_func::opcodes::{desc_of, effect_of, ends_block, is_lowered_away};
 use mir_func::{Func, Instr, Operand, RegOp};
 use mir_meaning::Form;
@@ -193,14 +193,18 @@ fn v12(q: &Question, a: &Asked) -> Result<bool, AllocError>
     requires { IsAsked q.now.target.now a.now.instr.now a.now }
     ensures { IfOk result (λ holds. holds ≡ rules.V12 q.now.target.now q.now.form q.now.f.now a.now.instr.now) }
 {
-    definitions_fit(
-        q.alloc,
-        q.target,
-        q.form,
-        q.f,
-        a.named.as_slice(),
-        a.bound.as_slice(),
-    )
+    let (named, bound) = (a.named.as_slice(), a.bound.as_slice());
+    let opaque = is_opaque(a.desc.effect);
+    if !undefs_fit(q.form, named) {
+        return Ok(false);
+    }
+    if !are_apart(q.alloc, q.target, q.f, opaque, named)? {
+        return Ok(false);
+    }
+    if !all_early_fit(q.alloc, q.target, q.f, bound)? {
+        return Ok(false);
+    }
+    Ok(undef_uses_fit(opaque, bound))
 }
 
 /// V15: the source has no store to a slot and no reload. Allocated: slots and spill slots go

@@ -10,9 +10,10 @@ ghost use Rattle.machine_verify.specs.Sets.{has};
 
 use crate::numbers::{NumberSet, lists_once};
 use crate::operands::operands_fit;
-use instr_effects::items::ways::falls_through;
+use instr_effects::items::ways::{fallen_into, falls_through};
 use mir_func::opcodes::{desc_of, effect_of, is_branch};
 use mir_func::{Block, Edge, Func, Instr, Operand};
+use mir_meaning::ends::is_open;
 use std::alloc::{AllocError, Global};
 use target_base::{Boxed, Target};
 
@@ -141,27 +142,6 @@ fn branch_targets(
     Ok(made)
 }
 
-/// The number of the first of these blocks.
-fn first_number(blocks: &[Block]) -> Option<u32>
-    ensures { result ≡ layout.first_number blocks.now }
-{
-    match blocks {
-        [] => None,
-        [b, ..] => Some(b.number),
-    }
-}
-
-/// The block that block `b`, which these follow, falls into.
-fn fallen_into(target: &Target, b: &Block, after: &[Block]) -> Option<u32>
-    ensures { result ≡ layout.fallen_into target.now b.now after.now }
-{
-    if falls_through(target, b.instrs.as_slice()) {
-        first_number(after)
-    } else {
-        None
-    }
-}
-
 /// Whether the instruction is a branch whose operands don't fit its roles.
 #[tactic(auto, unfolding(mir_meaning::specs::Rules::V1))]
 fn is_wrong_branch(alloc: Global, target: &Target, f: &Func, i: &Instr) -> Result<bool, AllocError>
@@ -232,7 +212,7 @@ fn blocks_after(f: &Func, k: usize) -> &[Block]
 }
 
 /// V9: the successors are the branch targets and the block that is fallen into, each once; not
-/// asked where a branch fails V1.
+/// asked where a branch fails V1, nor of an open block.
 #[tactic(auto, unfolding(mir_meaning::specs::Rules::V9))]
 pub(crate) fn v9(
     alloc: Global,
@@ -247,17 +227,20 @@ pub(crate) fn v9(
     if some_branch_is_wrong(alloc, target, f, b.instrs.as_slice())? {
         return Ok(true);
     }
+    if is_open(target, b) {
+        return Ok(true);
+    }
     successors_fit(alloc, target, b, blocks_after(f, k))
 }
 
-/// V10: the last block in layout ends with a jump or a return.
+/// V10: the last block in layout ends with a jump or a return, or is open.
 #[tactic(auto, unfolding(mir_meaning::specs::Rules::V10))]
 pub(crate) fn v10(target: &Target, f: &Func, k: usize, b: &Block) -> bool
     requires { k < length f.now.blocks }
     ensures { result ≡ rules.V10 target.now f.now k b.now }
 {
     let count = f.blocks.len();
-    k + 1 < count || !falls_through(target, b.instrs.as_slice())
+    k + 1 < count || !falls_through(target, b.instrs.as_slice()) || is_open(target, b)
 }
 
 /// Whether the word stands somewhere in the text.

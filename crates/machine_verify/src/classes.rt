@@ -12,9 +12,10 @@ ghost use Rattle.target_base.specs.declared.types.Effect.TheVariants as effects;
 ghost use Rattle.machine_verify.specs.Operands.{part_fits};
 ghost use Rattle.machine_verify.specs.Parts.{seen, seen_all};
 
-use crate::lanes::{has_class, has_lanes, index_fits};
+use crate::lanes::{has_class, has_lanes, index_fits, is_reserved_register};
 use crate::numbers::are_distinct;
 use crate::parts::BoundOperand;
+use crate::words::is_opaque;
 use instr_effects::items::lanes::push_operand_widths;
 use mir_func::opcodes::{asked_class, puts_together};
 use mir_func::operands::class_of;
@@ -61,24 +62,45 @@ fn wanted(role: Option<Role>) -> Option<ClassId>
     }
 }
 
+/// Whether the role takes reserved registers of any class at an opaque opcode.
+fn takes_reserved(role: Option<Role>) -> bool
+    ensures { result ≡ binding.passes rules.takes_reserved role }
+{
+    match role {
+        Some(Role::Value(_)) | Some(Role::Address(_)) => true,
+        _ => false,
+    }
+}
+
+/// Whether the register is a reserved one, and the role takes these at this effect.
+fn is_taken_reserved(target: &Target, effect: Effect, role: Option<Role>, loc: Loc) -> bool
+    ensures { result ≡ rules.is_taken_reserved target.now effect role loc }
+{
+    is_opaque(effect) && takes_reserved(role) && is_reserved_register(target, loc)
+}
+
 /// Whether the register lies in the class that its role asks for, where its lanes are known.
-fn in_operand_class(target: &Target, f: &Func, b: &BoundOperand) -> bool
-    ensures { result ≡ rules.in_operand_class target.now f.now (seen b.now) }
+fn in_operand_class(target: &Target, f: &Func, effect: Effect, b: &BoundOperand) -> bool
+    ensures { result ≡ rules.in_operand_class target.now f.now effect (seen b.now) }
 {
     match b.operand {
         Operand::Reg(o) => match wanted(b.role) {
             None => true,
-            Some(k) => !has_lanes(target, f, o) || register_lies_in(target, f, k, o),
+            Some(k) => {
+                !has_lanes(target, f, o)
+                    || is_taken_reserved(target, effect, b.role, o.loc)
+                    || register_lies_in(target, f, k, o)
+            }
         },
         _ => true,
     }
 }
 
-fn in_operand_classes(target: &Target, f: &Func, bound: &[BoundOperand]) -> bool
-    ensures { result ≡ list_all (rules.in_operand_class target.now f.now) (seen_all bound.now) }
+fn in_operand_classes(target: &Target, f: &Func, effect: Effect, bound: &[BoundOperand]) -> bool
+    ensures { result ≡ list_all (rules.in_operand_class target.now f.now effect) (seen_all bound.now) }
 {
     for b in bound {
-        if !in_operand_class(target, f, b) {
+        if !in_operand_class(target, f, effect, b) {
             return false;
         }
     }
@@ -378,9 +400,9 @@ pub(crate) fn classes_fit(
     operands: &[Operand],
     bound: &[BoundOperand],
 ) -> Result<bool, AllocError>
-    ensures { IfOk result (λ is_right. is_right ≡ (list_all (rules.in_operand_class target.now f.now) (seen_all bound.now) && rules.widths_fit target.now f.now effect operands.now)) }
+    ensures { IfOk result (λ is_right. is_right ≡ (list_all (rules.in_operand_class target.now f.now effect) (seen_all bound.now) && rules.widths_fit target.now f.now effect operands.now)) }
 {
-    if !in_operand_classes(target, f, bound) {
+    if !in_operand_classes(target, f, effect, bound) {
         return Ok(false);
     }
     widths_fit(alloc, target, f, effect, operands)

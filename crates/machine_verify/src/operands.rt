@@ -8,9 +8,9 @@ ghost use Rattle.mir_meaning.specs.Registers as registers;
 ghost use Rattle.target_base.specs.Roles as roles;
 ghost use Rattle.machine_verify.specs.Operands.{fits_next, reads_virtual, is_block, is_index, fits_roles};
 
-use crate::lanes::has_lanes;
+use crate::lanes::{has_lanes, is_reserved_register};
 use crate::parts::implicit_registers;
-use crate::words::same_role;
+use crate::words::{is_opaque, same_role};
 use instr_effects::items::lanes::push_operand_widths;
 use mir_func::opcodes::{next_role, takes_many};
 use mir_func::operands::{
@@ -21,7 +21,31 @@ use std::alloc::{AllocError, Global};
 use target_base::roles::{is_implicit, is_silent};
 use target_base::{Effect, List, OpcodeDesc, Role, Target};
 
-/// Whether the operand is of the kind that the role asks for.
+/// Whether the operand is an immediate, a frame object, a symbol, a subregister index, or a use of a
+/// reserved register.
+fn is_value(target: &Target, o: &Operand) -> bool
+    ensures { result ≡ rules.is_value target.now o.now }
+{
+    match o {
+        Operand::Reg(r) => is_use(r) && is_reserved_register(target, r.loc),
+        Operand::Block(_) | Operand::Mask(_) => false,
+        _ => true,
+    }
+}
+
+/// Whether the operand is of the kind that the role asks for at an opaque opcode, beside what it asks
+/// for at any.
+fn fits_opaque(target: &Target, role: Role, o: &Operand) -> bool
+    ensures { result ≡ rules.fits_opaque target.now role o.now }
+{
+    match (role, o) {
+        (Role::Value(Some(_)), Operand::Reg(r)) => is_use(r),
+        (Role::Value(_), _) | (Role::Any, _) => is_value(target, o),
+        _ => false,
+    }
+}
+
+/// Whether the operand is of the kind that the role asks for at any opcode.
 fn fits_role(role: Role, o: &Operand) -> bool
     ensures { result ≡ rules.fits_role role o.now }
 {
@@ -30,7 +54,7 @@ fn fits_role(role: Role, o: &Operand) -> bool
             Operand::Reg(r) => is_definition(r),
             _ => false,
         },
-        Role::Read(_) | Role::Tied(_) | Role::Any => match o {
+        Role::Read(_) | Role::Tied(_, _) | Role::Any => match o {
             Operand::Reg(r) => is_use(r),
             _ => false,
         },
@@ -71,17 +95,24 @@ fn fits_role(role: Role, o: &Operand) -> bool
             Operand::Reg(r) => is_use(r) && !is_virtual(r.loc),
             _ => false,
         },
-        Role::ImpDef(_) | Role::ImpRead(_) => false,
+        Role::Value(_) | Role::ImpDef(_) | Role::ImpRead(_) => false,
     }
 }
 
+/// Whether the operand is of the kind that the role asks for at this effect.
+fn fits_at(target: &Target, effect: Effect, role: Role, o: &Operand) -> bool
+    ensures { result ≡ rules.fits_at target.now effect role o.now }
+{
+    fits_role(role, o) || (is_opaque(effect) && fits_opaque(target, role, o))
+}
+
 /// Whether there is a role left, and the operand is of the kind that it asks for.
-fn fits_next(role: Option<Role>, o: &Operand) -> bool
-    ensures { result ≡ fits_next role o.now }
+fn fits_next(target: &Target, effect: Effect, role: Option<Role>, o: &Operand) -> bool
+    ensures { result ≡ fits_next target.now effect role o.now }
 {
     match role {
         None => false,
-        Some(r) => fits_role(r, o),
+        Some(r) => fits_at(target, effect, r, o),
     }
 }
 
@@ -101,14 +132,14 @@ fn are_enough(roles: &[Role]) -> bool
 
 /// Whether explicit operands meet the explicit roles in number and kind.
 #[tactic(auto, using(crate::proofs::Fit::explicit_step, crate::proofs::Fit::explicit_end))]
-fn explicit_fit(roles: &[Role], operands: &[Operand]) -> bool
-    ensures { result ≡ rules.explicit_fit (binding.explicit_roles roles.now) (binding.explicit_operands operands.now) }
+fn explicit_fit(target: &Target, effect: Effect, roles: &[Role], operands: &[Operand]) -> bool
+    ensures { result ≡ rules.explicit_fit target.now effect (binding.explicit_roles roles.now) (binding.explicit_operands operands.now) }
 {
     let mut left = roles;
     for o in operands {
         if !is_implicit_operand(o) {
             let (role, rest) = next_role(left);
-            if !fits_next(role, o) {
+            if !fits_next(target, effect, role, o) {
                 return false;
             }
             left = rest;
@@ -385,7 +416,7 @@ fn roles_fit(
     if !implicit_last(operands) {
         return Ok(false);
     }
-    if !explicit_fit(roles, operands) {
+    if !explicit_fit(target, d.effect, roles, operands) {
         return Ok(false);
     }
     let implicit = implicit_registers(alloc, operands)?;

@@ -10,7 +10,7 @@ ghost use Rattle.mir_meaning.specs.Registers.{is_reserved};
 ghost use Rattle.mir_meaning.specs.Rules as rules;
 ghost use Rattle.machine_verify.specs.Parts.{seen, seen_all};
 ghost use Rattle.machine_verify.specs.Sets.{HoldsSlots, HoldsSlotsAmong};
-ghost use Rattle.machine_verify.specs.Ties.{sides, pair_fits, reading_besides, definitions_fit, slot_fits, spill_numbers};
+ghost use Rattle.machine_verify.specs.Ties.{sides, pair_fits, reading_besides, slot_fits, spill_numbers};
 
 use crate::classes::same_widths;
 use crate::lanes::has_lanes;
@@ -167,7 +167,9 @@ fn undef_fits(form: Form, named: &[RegOp], d: &RegOp) -> bool
     }
 }
 
-fn undefs_fit(form: Form, named: &[RegOp]) -> bool
+/// Whether each `undef` definition is virtual and nothing else names its register; of an allocated
+/// function, whether no definition is `undef`.
+pub(crate) fn undefs_fit(form: Form, named: &[RegOp]) -> bool
     ensures { result ≡ list_all (rules.undef_fits form named.now) (filter (λ o. o.def) named.now) }
 {
     for d in named {
@@ -191,16 +193,41 @@ fn unreserved(alloc: Global, target: &Target, lanes: &[Lane]) -> Result<Lanes, A
     Ok(made)
 }
 
+/// The lanes of an operand: none where they aren't known.
+fn known_lanes(alloc: Global, target: &Target, f: &Func, o: &RegOp) -> Result<Lanes, AllocError>
+    ensures { IfOk result (λ made. made ≡ rules.defined_lanes target.now f.now true o.now) }
+{
+    let mut lanes = List::new(alloc);
+    if has_lanes(target, f, o) {
+        push_operand_lanes(&mut lanes, target, f, o)?;
+    }
+    Ok(lanes)
+}
+
 /// The lanes of an operand that count for clashes: none where they aren't known.
 fn clashing_lanes(alloc: Global, target: &Target, f: &Func, o: &RegOp) -> Result<Lanes, AllocError>
     ensures { IfOk result (λ made. made ≡ rules.clashing_lanes target.now f.now o.now) }
 {
-    if !has_lanes(target, f, o) {
-        return Ok(List::new(alloc));
-    }
-    let mut lanes = List::new(alloc);
-    push_operand_lanes(&mut lanes, target, f, o)?;
+    let lanes = known_lanes(alloc, target, f, o)?;
     unreserved(alloc, target, lanes.as_slice())
+}
+
+/// The lanes of a definition that count for clashes with others: of an opaque instruction reserved
+/// ones too.
+fn defined_lanes(
+    alloc: Global,
+    target: &Target,
+    f: &Func,
+    opaque: bool,
+    d: &RegOp,
+) -> Result<Lanes, AllocError>
+    ensures { IfOk result (λ made. made ≡ rules.defined_lanes target.now f.now opaque d.now) }
+{
+    if opaque {
+        known_lanes(alloc, target, f, d)
+    } else {
+        clashing_lanes(alloc, target, f, d)
+    }
 }
 
 fn same_lane(a: Lane, b: Lane) -> bool
@@ -227,19 +254,20 @@ fn share_a_lane(ls: &[Lane], ms: &[Lane]) -> bool
     ls.iter().any(|l| has_lane(ms, *l))
 }
 
-/// The lanes of each definition.
-fn defined_lanes(
+/// The lanes of each definition that count for clashes with others.
+fn lanes_of_definitions(
     alloc: Global,
     target: &Target,
     f: &Func,
+    opaque: bool,
     named: &[RegOp],
 ) -> Result<Vec<Lanes>, AllocError>
-    ensures { IfOk result (λ made. made.items ≡ map (rules.clashing_lanes target.now f.now) (filter (λ o. o.def) named.now)) }
+    ensures { IfOk result (λ made. made.items ≡ map (rules.defined_lanes target.now f.now opaque) (filter (λ o. o.def) named.now)) }
 {
     let mut made = Vec::new(alloc);
     for o in named {
         if o.def {
-            made.push(clashing_lanes(alloc, target, f, o)?)?;
+            made.push(defined_lanes(alloc, target, f, opaque, o)?)?;
         }
     }
     Ok(made)
@@ -347,7 +375,8 @@ fn early_fits(
     }
 }
 
-fn all_early_fit(
+/// Whether early-clobber definitions share nothing with what is read, the uses tied to them aside.
+pub(crate) fn all_early_fit(
     alloc: Global,
     target: &Target,
     f: &Func,
@@ -363,25 +392,58 @@ fn all_early_fit(
     Ok(true)
 }
 
-/// V12: whether definitions are apart from each other and, where they are early, from uses.
-pub(crate) fn definitions_fit(
+/// Whether no two definitions share a lane; of an opaque instruction, no reserved unit either.
+pub(crate) fn are_apart(
     alloc: Global,
     target: &Target,
-    form: Form,
     f: &Func,
+    opaque: bool,
     named: &[RegOp],
-    bound: &[BoundOperand],
 ) -> Result<bool, AllocError>
-    ensures { IfOk result (λ is_right. is_right ≡ definitions_fit target.now form f.now named.now (seen_all bound.now)) }
+    ensures { IfOk result (λ is_right. is_right ≡ rules.no_two_share (map (rules.defined_lanes target.now f.now opaque) (filter (λ o. o.def) named.now))) }
 {
-    if !undefs_fit(form, named) {
-        return Ok(false);
+    let lists = lanes_of_definitions(alloc, target, f, opaque, named)?;
+    Ok(no_two_share(lists.as_slice()))
+}
+
+fn has_early_definition(bound: &[BoundOperand]) -> bool
+    ensures { result ≡ list_any rules.is_early_definition (seen_all bound.now) }
+{
+    for b in bound {
+        if is_early(b.role) {
+            return true;
+        }
     }
-    let lists = defined_lanes(alloc, target, f, named)?;
-    if !no_two_share(lists.as_slice()) {
-        return Ok(false);
+    false
+}
+
+/// Whether the operand is an `undef` use that isn't tied.
+fn is_free_undef(b: &BoundOperand) -> bool
+    ensures { result ≡ rules.is_free_undef (seen b.now) }
+{
+    match b.operand {
+        Operand::Reg(o) => !o.def && o.undef && tied_number(b.role).is_none(),
+        _ => false,
     }
-    all_early_fit(alloc, target, f, bound)
+}
+
+fn has_free_undef(bound: &[BoundOperand]) -> bool
+    ensures { result ≡ list_any rules.is_free_undef (seen_all bound.now) }
+{
+    for b in bound {
+        if is_free_undef(b) {
+            return true;
+        }
+    }
+    false
+}
+
+/// Whether an opaque instruction with an early-clobber definition has no `undef` use but tied ones. (A
+/// machine may forbid what the register of another one could be.)
+pub(crate) fn undef_uses_fit(opaque: bool, bound: &[BoundOperand]) -> bool
+    ensures { result ≡ rules.undef_uses_fit opaque (seen_all bound.now) }
+{
+    !(opaque && has_early_definition(bound) && has_free_undef(bound))
 }
 
 /// The numbers of the frame objects that are declared spill slots.

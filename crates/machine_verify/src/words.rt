@@ -15,6 +15,16 @@ pub(crate) fn spills_or_reloads(e: Effect) -> bool
     is_spill(e) || is_reload(e)
 }
 
+/// Whether the effect is opaque.
+pub(crate) fn is_opaque(e: Effect) -> bool
+    ensures { result ≡ tests.is_opaque e }
+{
+    match e {
+        Effect::Opaque(_) => true,
+        _ => false,
+    }
+}
+
 /// Whether there is a role, and it asks for a spill slot.
 pub(crate) fn is_slot(role: Option<Role>) -> bool
     ensures { result ≡ binding.passes roles.is_slot role }

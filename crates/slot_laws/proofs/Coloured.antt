@@ -15,7 +15,7 @@ use Rattle.mir_func.specs.Value.{Function}
 use Rattle.mir_func.specs.Binding.{does, is_branch, is_virtual, registers}
 use Rattle.mir_meaning.specs.declared.Form.TheVariants as forms
 use Rattle.mir_meaning.specs.Registers.{has_number, is_reserved}
-use Rattle.mir_meaning.specs.Codes.{fallen_into}
+use Rattle.mir_meaning.specs.Codes.{fallen_into, is_open}
 use Rattle.mir_meaning.specs.Points.{LiveAt, Start, points_of}
 use Rattle.mir_meaning.specs.Rules.{V1, V5, V6, V9, V10, V16, block_numbers, branch_targets, lists_once, named_blocks, successors_of}
 use Rattle.mir_meaning.specs.Valid.{IsValid, LiveInto, V13, V13_before, liveins_fit, names_virtual, shape_fault}
@@ -26,7 +26,7 @@ use Rattle.slot_laws.specs.Homes.{AreHomes, IsAllocated, MovingKeepsValid, block
 use Rattle.slot_laws.proofs.Clear.{points-quiet}
 use Rattle.slot_laws.proofs.Laid.{code-bare, lowered, none-of, rule-one}
 use Rattle.slot_laws.proofs.Living.{units-live}
-use Rattle.slot_laws.proofs.Merged.{fallen-stays, falls-stay, none-merged, renamed_code}
+use Rattle.slot_laws.proofs.Merged.{fallen-stays, falls-stay, none-merged, open-stays, renamed_code}
 use Rattle.slot_laws.proofs.Obeyed.{instr-obeys}
 use Rattle.slot_laws.proofs.Operands.{any-map, drop-map, filter-map, length-of-map, named-stay, registers-stay, take-map}
 use Rattle.slot_laws.proofs.Refined.{merged-code, none, rules}
@@ -40,9 +40,9 @@ mapped {X} {Y} g xs k y e = go (slice_get xs k) refl (sym (slice-map g xs k) ∙
     go None h i = absurd (cc)
     go (Some x) h i = (x, h, some-same (g x) y i)
 
-or-true : (b c : Bool) → c ≡ true → (b || c) ≡ true
-or-true true c e = refl
-or-true false c e = e
+or-behind : (a b c : Bool) → (b || c) ≡ true → (a || b || c) ≡ true
+or-behind true b c e = refl
+or-behind false b c e = e
 
 module _ (t : Target) (home : ℕ → ℕ) (head : List ℕ) (f : Function) where
   abbrev g : Function
@@ -69,23 +69,23 @@ module _ (t : Target) (home : ℕ → ℕ) (head : List ℕ) (f : Function) wher
         (λ k. not (nat_eq n 0) || nat_eq (length ((ap block_numbers (filter-map (λ c. has_number (successors_of c) b.number) (λ c. has_number (successors_of c) b.number) (block_moved home) (λ c. refl) f.blocks) ∙ numbers-stay (filter (λ c. has_number (successors_of c) b.number) f.blocks)) k)) 0)
         ∙ r.block.six
 
-    -- the successors are the branch targets and the block that is fallen into
-    follow : ((i : Instr) → Member i b.instrs → V1 t f i ≡ true) → lists_once (successors_of b) (branch_targets t b.instrs ++ option_to_list (fallen_into t b (drop (suc n) f.blocks))) ≡ true
+    -- the block is open, or the successors are the branch targets and the block that is fallen into
+    follow : ((i : Instr) → Member i b.instrs → V1 t f i ≡ true) → (is_open t b || lists_once (successors_of b) (branch_targets t b.instrs ++ option_to_list (fallen_into t b (drop (suc n) f.blocks)))) ≡ true
     unfolding V9
     follow ones =
-        sym (ap (λ c. c || lists_once (successors_of b) (branch_targets t b.instrs ++ option_to_list (fallen_into t b (drop (suc n) f.blocks)))) (none-of (λ i. does is_branch t i && not (V1 t f i)) b.instrs (λ i m. and_right (does is_branch t i) (not (V1 t f i)) (ap not (ones i m)))))
+        sym (ap (λ c. c || is_open t b || lists_once (successors_of b) (branch_targets t b.instrs ++ option_to_list (fallen_into t b (drop (suc n) f.blocks)))) (none-of (λ i. does is_branch t i && not (V1 t f i)) b.instrs (λ i m. and_right (does is_branch t i) (not (V1 t f i)) (ap not (ones i m)))))
         ∙ r.block.nine
 
     nine-kept : ((i : Instr) → Member i b.instrs → V1 t f i ≡ true) → V9 t g n (block_moved home b) ≡ true
     unfolding V9
     nine-kept ones =
-        or-true _ _
-        ((λ k. lists_once (successors_of b) (targets-stay b.instrs k ++ option_to_list ((ap (fallen_into t (block_moved home b)) (drop-map (block_moved home) (suc n) f.blocks) ∙ fallen-stays t home b (drop (suc n) f.blocks)) k)))
+        or-behind (list_any (λ i. does is_branch t i && not (V1 t g i)) (block_moved home b).instrs) (is_open t (block_moved home b)) (lists_once (successors_of b) (branch_targets t (map (instr_moved home) b.instrs) ++ option_to_list (fallen_into t (block_moved home b) (drop (suc n) (map (block_moved home) f.blocks)))))
+        ((λ k. open-stays t home b k || lists_once (successors_of b) (targets-stay b.instrs k ++ option_to_list ((ap (fallen_into t (block_moved home b)) (drop-map (block_moved home) (suc n) f.blocks) ∙ fallen-stays t home b (drop (suc n) f.blocks)) k)))
         ∙ follow ones)
 
     ten-kept : V10 t g n (block_moved home b) ≡ true
     unfolding V10
-    ten-kept = (λ k. nat_lt (suc n) (length-of-map (block_moved home) f.blocks k) || not (falls-stay t home b.instrs k)) ∙ r.block.ten
+    ten-kept = (λ k. nat_lt (suc n) (length-of-map (block_moved home) f.blocks k) || not (falls-stay t home b.instrs k) || open-stays t home b k) ∙ r.block.ten
 
     sixteen-kept : V16 (block_moved home b) ≡ true
     unfolding V16

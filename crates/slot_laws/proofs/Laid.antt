@@ -1,10 +1,11 @@
 -- The code of a valid allocated function is laid out as its runs go, and has no phis.
-use Rattle.std.proofs.Common.{◌≡◌, ℕ, suc, Bool, true, false, cond, not, ◌&&◌, ◌||◌, List, [], ◌∷◌, ◌++◌, Option, Some, None, map, filter, length, drop, refl, sym, ap, ◌∙◌, subst, eq-eqb, eqb-true, append_assoc}
+use Rattle.std.proofs.Common.{◌≡◌, ◌⊎◌, inl, inr, take, ℕ, zero, suc, Bool, true, false, cond, not, ◌&&◌, ◌||◌, List, [], ◌∷◌, ◌++◌, Option, Some, None, map, filter, length, drop, refl, sym, ap, ◌∙◌, subst, eq-eqb, eqb-true, append_assoc}
 use Rattle.std.specs.Prelude.{nat_eq, option_map, option_to_list, slice_get}
 use Rattle.std.specs.List.{list_all, list_any}
 use Rattle.std.proofs.lemmas.Bool.{and_right, not-true}
 use Rattle.target_base.specs.declared.types.Effect.{Effect}
 use Rattle.target_base.specs.declared.types.Effect.TheVariants as effects
+use Rattle.target_base.specs.declared.types.OpaqueKind.TheVariants as kinds
 use Rattle.target_base.specs.declared.types.Target.{Target}
 use Rattle.target_base.specs.Roles.{is_silent}
 use Rattle.target_base.specs.Rules.{is_phi}
@@ -19,11 +20,11 @@ use Rattle.mir_func.specs.Value.{Function}
 use Rattle.mir_func.specs.Binding.{effect_of, does, is_branch, is_early_clobber, is_lowered_away, is_terminator, passes, roles_of}
 use Rattle.mir_meaning.specs.Registers.{has_number}
 use Rattle.mir_meaning.specs.Items.{silent_reads, silent_writes, rest_of, values, counted_writes, defined_undef}
-use Rattle.mir_meaning.specs.Codes.{block_end, blocks_code, code_of, effect_item, fallen_into, falls_through, first_number, item_of, target_of, way, ways_out}
+use Rattle.mir_meaning.specs.Codes.{block_end, blocks_code, code_of, effect_item, ends_without_terminator, fallen_into, is_open, falls_through, first_number, item_of, target_of, way, ways_out}
 use Rattle.mir_meaning.specs.Points.{has_no_phis, point_item, points_of}
-use Rattle.mir_meaning.specs.Rules.{V1, V5, V7, V9, block_numbers, branch_targets, lists_once, named_blocks, successors_of}
+use Rattle.mir_meaning.specs.Rules.{V1, V5, V7, V8, V9, block_numbers, branch_targets, lists_once, named_blocks, successors_of}
 use Rattle.mir_meaning.proofs.Points.{points_are_code}
-use Rattle.instr_effects.proofs.Members.{left-in, right-in, flat-in, filter-in, map-in, map-of}
+use Rattle.instr_effects.proofs.Members.{member-none, member-elim, in-either, left-in, right-in, flat-in, flat-of, filter-in, filter-of, map-in, map-of}
 use Rattle.live_laws.proofs.Effects.Blocks.{block_code, items-past, numbers-apart, number-there, slice-member, member-slice}
 use Rattle.live_laws.proofs.Effects.Lists.{all-of}
 use Rattle.live_laws.proofs.Effects.Moved.{Apart}
@@ -67,7 +68,40 @@ branch-ends : (e : Effect) → is_branch e ≡ true → is_terminator e ≡ true
 branch-ends effects.Jump h = refl
 branch-ends effects.Jcc h = refl
 branch-ends effects.Jnz h = refl
+branch-ends (effects.Opaque kinds.Branch) h = refl
 branch-ends e h = absurd (cc)
+
+-- in an open block stands no terminator, since the last instruction is none
+module _ (t : Target) where
+  all-ends : (is : List Instr) → ((j : ℕ) (i : Instr) → slice_get is j ≡ Some i → does is_terminator t i ≡ true) → ends_without_terminator t is ≡ true → is ≡ []
+  all-ends [] h e = refl
+  all-ends (i ∷ []) h e = absurd (let k = h 0 i refl in let n : not true ≡ true = ap not (sym k) ∙ e in cc)
+  all-ends (i ∷ k ∷ is) h e = absurd (let n = all-ends (k ∷ is) (λ j y g. h (suc j) y g) e in cc)
+
+  shorter : (i : Instr) (is : List Instr) → ends_without_terminator t (i ∷ is) ≡ true → ends_without_terminator t is ≡ true
+  shorter i [] e = refl
+  shorter i (k ∷ is) e = e
+
+  past-one : (b : Bool) → (b || not true) ≡ true → b ≡ true
+  past-one true e = refl
+  past-one false e = e
+
+  pub no-terminators : (is : List Instr) → ((j : ℕ) (y : Instr) → slice_get is j ≡ Some y → (does is_terminator t y || not (list_any (does is_terminator t) (take j is))) ≡ true) → ends_without_terminator t is ≡ true → (i : Instr) → Member i is → does is_terminator t i ≡ false
+  no-terminators [] h e i m = absurd (member-none i m)
+  no-terminators (x ∷ is) h e i m = go (does is_terminator t x) refl (λ more k. no-terminators is more (shorter x is e) i k)
+    where
+      behind : does is_terminator t x ≡ true → (j : ℕ) (y : Instr) → slice_get (x ∷ is) j ≡ Some y → does is_terminator t y ≡ true
+      behind g zero y q = ap (does is_terminator t) (sym (some-instr x y q)) ∙ g
+        where
+          some-instr : (a b : Instr) → Some a ≡ Some b → a ≡ b
+          some-instr a b e = cc
+      behind g (suc j) y q = past-one (does is_terminator t y) (subst (λ b. (does is_terminator t y || not (b || list_any (does is_terminator t) (take j is))) ≡ true) g (h (suc j) y q))
+
+      go : (b : Bool) → does is_terminator t x ≡ b → (((j : ℕ) (y : Instr) → slice_get is j ≡ Some y → (does is_terminator t y || not (list_any (does is_terminator t) (take j is))) ≡ true) → Member i is → does is_terminator t i ≡ false) → does is_terminator t i ≡ false
+      go true g rest = absurd (let n = all-ends (x ∷ is) (behind g) e in cc)
+      go false g rest =
+          member-elim i x is (λ q. ap (does is_terminator t) q ∙ g)
+          (rest (λ j y q. subst (λ b. (does is_terminator t y || not (b || list_any (does is_terminator t) (take j is))) ≡ true) g (h (suc j) y q))) m
 
 -- an item that names a way out alone
 abbrev Listed : Item → Type 0
@@ -201,20 +235,56 @@ module _ (t : Target) (f : Function) (rules : (n : ℕ) (b : Block) → slice_ge
     wrong : list_any (λ i. does is_branch t i && not (V1 t f i)) b.instrs ≡ false
     wrong = none-of (λ i. does is_branch t i && not (V1 t f i)) b.instrs (λ i m. and_right (does is_branch t i) (not (V1 t f i)) (ap not (rule-one b i inside m)))
 
-    follow : lists_once (successors_of b) (branch_targets t b.instrs ++ option_to_list (fallen_into t b after)) ≡ true
+    follow : (is_open t b || lists_once (successors_of b) (branch_targets t b.instrs ++ option_to_list (fallen_into t b after))) ≡ true
     unfolding V9
     follow =
-        sym (λ k. wrong k || lists_once (successors_of b) (branch_targets t b.instrs ++ option_to_list (fallen_into t b (behind k))))
+        sym (λ k. wrong k || is_open t b || lists_once (successors_of b) (branch_targets t b.instrs ++ option_to_list (fallen_into t b (behind k))))
         ∙ (rules (length pre) b place).block.nine
 
+    -- an open block names no block and falls into none
+
+    open-ends : is_open t b ≡ true → (i : Instr) → Member i b.instrs → does is_terminator t i ≡ false
+    unfolding V8
+    open-ends e = no-terminators t b.instrs (λ j i g. ((rules (length pre) b place).instrs j i g).eight) (second_of_both _ _ e)
+
+    open-targets : is_open t b ≡ true → (n : ℕ) → Member n (branch_targets t b.instrs) → ⊥
+    open-targets e n m =
+        let z = flat-of named_blocks n (filter (does is_branch t) b.instrs) m in
+        let y = filter-of (does is_branch t) z.0 b.instrs z.1 in
+        let k = open-ends e z.0 y.0 in
+        let h = ends-too (effect_of t z.0) y.1 in
+        cc
+      where
+        ends-too : (q : Option Effect) → passes is_branch q ≡ true → passes is_terminator q ≡ true
+        ends-too None h = absurd (cc)
+        ends-too (Some x) h = branch-ends x h
+
+    open-falls : is_open t b ≡ true → fallen_into t b after ≡ None
+    open-falls e = ap (λ c. cond (falls_through t b.instrs && not c) (first_number after) None) e ∙ out (falls_through t b.instrs)
+      where
+        out : (c : Bool) → cond (c && false) (first_number after) None ≡ None
+        out true = refl
+        out false = refl
+
+    no-way : is_open t b ≡ true → (n : ℕ) → Member n (branch_targets t b.instrs ++ option_to_list (fallen_into t b after)) → ⊥
+    no-way e n m = go (in-either n (branch_targets t b.instrs) (option_to_list (fallen_into t b after)) m)
+      where
+        go : Member n (branch_targets t b.instrs) ⊎ Member n (option_to_list (fallen_into t b after)) → ⊥
+        go (inl k) = open-targets e n k
+        go (inr k) = member-none n (subst (λ o. Member n (option_to_list o)) (open-falls e) k)
+
     followed : (n : ℕ) → Member n (branch_targets t b.instrs ++ option_to_list (fallen_into t b after)) → Member (way t f b.number n) (ways_out t f b)
-    followed n m =
-        let s = number-there n (successors_of b) (all-of (has_number (successors_of b)) n _ m (second_of_both _ _ follow)) in
-        let z = map-of (λ (e : Successor). e.block) n b.successors s in
-        subst (λ k. Member (way t f b.number k) (ways_out t f b)) (sym z.2) (map-in (λ (e : Successor). way t f b.number e.block) z.0 b.successors z.1)
+    followed n m = go (is_open t b) refl follow
+      where
+        go : (c : Bool) → is_open t b ≡ c → (c || lists_once (successors_of b) (branch_targets t b.instrs ++ option_to_list (fallen_into t b after))) ≡ true → Member (way t f b.number n) (ways_out t f b)
+        go true e h = absurd (no-way e n m)
+        go false e h =
+            let s = number-there n (successors_of b) (all-of (has_number (successors_of b)) n _ m (second_of_both _ _ h)) in
+            let z = map-of (λ (e : Successor). e.block) n b.successors s in
+            subst (λ k. Member (way t f b.number k) (ways_out t f b)) (sym z.2) (map-in (λ (e : Successor). way t f b.number e.block) z.0 b.successors z.1)
 
     falls-to : (n : ℕ) → fallen_into t b after ≡ Some n → FallsTo (way t f b.number n).phis (ways_out t f b) (blocks_code (point_item t f) t f after)
-    falls-to n e = go (falls_through t b.instrs) after e (followed n (right-in n (branch_targets t b.instrs) (option_to_list (fallen_into t b after)) (subst (λ o. Member n (option_to_list o)) (sym e) first)))
+    falls-to n e = go (falls_through t b.instrs && not (is_open t b)) after e (followed n (right-in n (branch_targets t b.instrs) (option_to_list (fallen_into t b after)) (subst (λ o. Member n (option_to_list o)) (sym e) first)))
       where
         go : (c : Bool) (bs : List Block) → cond c (first_number bs) None ≡ Some n → Member (way t f b.number n) (ways_out t f b) → FallsTo (way t f b.number n).phis (ways_out t f b) (blocks_code (point_item t f) t f bs)
         go false bs g m = absurd (cc)

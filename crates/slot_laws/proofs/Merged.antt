@@ -1,5 +1,5 @@
 -- The code of a function whose slots went to others is its code with the lanes of these slots renamed.
-use Rattle.std.proofs.Common.{◌≡◌, ℕ, Bool, true, false, cond, not, ◌&&◌, List, [], ◌∷◌, ◌++◌, Option, Some, None, map, flat_map, refl, sym, ap, ◌∙◌}
+use Rattle.std.proofs.Common.{◌≡◌, ℕ, Bool, true, false, cond, not, ◌&&◌, List, [], ◌∷◌, ◌++◌, Option, Some, None, map, flat_map, length, refl, sym, ap, ◌∙◌}
 use Rattle.std.specs.Prelude.{option_map, nat_eq, find}
 use Rattle.std.specs.List.{list_all}
 use Rattle.std.proofs.lemmas.Bool.{or_parts}
@@ -29,7 +29,7 @@ use Rattle.mir_func.specs.Value.{Function}
 use Rattle.mir_func.specs.Binding.{effect_of, does, is_early_clobber, is_lowered_away, is_terminator, passes, puts_together, registers, roles_of}
 use Rattle.mir_meaning.specs.Registers.{operand_lanes, operand_widths, undefined_lanes, use_sources, slot_lane_numbers, slot_lanes}
 use Rattle.mir_meaning.specs.Items.{write, moved, undefined, at_all_widths, lanes_beside, spilled, reloaded, silent_reads, silent_writes, rest_of, values, counted_writes}
-use Rattle.mir_meaning.specs.Codes.{block_end, blocks_code, code_of, effect_item, fallen_into, falls_through, first_number, item_of, phi_operands, phi_writes, target_of, way, ways_out}
+use Rattle.mir_meaning.specs.Codes.{block_end, blocks_code, code_of, effect_item, ends_without_terminator, fallen_into, is_open, falls_through, first_number, item_of, phi_operands, phi_writes, target_of, way, ways_out}
 use Rattle.mir_meaning.specs.Points.{has_no_phis}
 use Rattle.mir_meaning.specs.Renaming.{IsFixed, renamed_item}
 use Rattle.mir_meaning.specs.Rules.{spills_or_reloads}
@@ -159,8 +159,16 @@ module _ (t : Target) where
     first-stays [] = refl
     first-stays (b ∷ bs) = refl
 
+    ends-stay : (is : List Instr) → ends_without_terminator t (map (instr_moved home) is) ≡ ends_without_terminator t is
+    ends-stay [] = refl
+    ends-stay (i ∷ []) = refl
+    ends-stay (i ∷ j ∷ is) = ends-stay (j ∷ is)
+
+    pub open-stays : (b : Block) → is_open t (block_moved home b) ≡ is_open t b
+    open-stays b = λ k. t.options.open_blocks && nat_eq (length b.successors) 0 && ends-stay b.instrs k
+
     pub fallen-stays : (b : Block) (bs : List Block) → fallen_into t (block_moved home b) (map (block_moved home) bs) ≡ fallen_into t b bs
-    fallen-stays b bs = λ k. cond (falls-stay b.instrs k) (first-stays bs k) None
+    fallen-stays b bs = λ k. cond (falls-stay b.instrs k && not (open-stays b k)) (first-stays bs k) None
 
 pub map-alike : {A B : Type 0} (f g : A → B) → ((x : A) → f x ≡ g x) → (xs : List A) → map f xs ≡ map g xs
 map-alike f g e [] = refl

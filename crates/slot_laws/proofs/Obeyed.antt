@@ -27,7 +27,7 @@ use Rattle.mir_func.specs.Value.{Function}
 use Rattle.mir_func.specs.Binding.{Bound, TiedPair, asked_class, bound, does, effect_of, explicit_operands, explicit_roles, is_early, is_lowered_away, is_terminator, known_opcode, numbered, passes, puts_together, registers}
 use Rattle.mir_meaning.specs.declared.Form.TheVariants as forms
 use Rattle.mir_meaning.specs.Items.{unreserved}
-use Rattle.mir_meaning.specs.Rules.{V1, V2, V3, V4, V7, V8, V11, V12, V15, clashing_lanes, early_fits, explicit_fit, flags_fit, has_class, has_home, has_lanes, has_lanes_at, implicit_fit, in_operand_class, index_fits, is_condition, is_spill_slot, lanes_fit, no_two_share, operands_fit, readings_besides, register_lies_in, same_widths, share_a_lane, slot_fits, subregs_fit, tie_fits, undef_fits, values_fit, widths_fit}
+use Rattle.mir_meaning.specs.Rules.{V1, V2, V3, V4, V7, V8, V11, V12, V15, clashing_lanes, early_fits, explicit_fit, flags_fit, has_class, has_home, has_lanes, has_lanes_at, implicit_fit, in_operand_class, index_fits, is_condition, is_early_definition, is_free_undef, is_opaque, is_taken_reserved, defined_lanes, undef_uses_fit, is_spill_slot, lanes_fit, no_two_share, operands_fit, readings_besides, register_lies_in, same_widths, share_a_lane, slot_fits, subregs_fit, tie_fits, undef_fits, values_fit, widths_fit}
 use Rattle.instr_effects.proofs.Members.{filter-in, filter-of}
 use Rattle.live_laws.proofs.Effects.Lists.{any-in}
 use Rattle.slot_laws.specs.Homes.{block_moved, function_moved, instr_moved, goes, slot_moved}
@@ -85,7 +85,7 @@ module _ (t : Target) (home : ℕ → ℕ) (head : List ℕ) (f : Function) wher
   operands-fit d os effects.InsertSubreg l = absurd (cc)
   operands-fit d os e l =
       λ k. last-fits home os k
-      && (ap (explicit_fit (explicit_roles d.roles)) (explicit-renamed home os) ∙ explicit-fits home (explicit_roles d.roles) (explicit_operands os)) k
+      && (ap (explicit_fit t e (explicit_roles d.roles)) (explicit-renamed home os) ∙ explicit-fits home t e (explicit_roles d.roles) (explicit_operands os)) k
       && implicit_fit d (implicit-stay home os k)
       && values-fit e os k
 
@@ -104,10 +104,10 @@ module _ (t : Target) (home : ℕ → ℕ) (head : List ℕ) (f : Function) wher
   lies k (Virtual v) x = refl
   lies k (Fixed r) x = refl
 
-  in-class : (b : Bound) → in_operand_class t g (bound_moved home b) ≡ in_operand_class t f b
-  in-class (r, operands.Reg o) =
-      λ k. not (known-lanes o k) || all-alike (λ c. register_lies_in t f c o.loc o.index) (λ c. register_lies_in t g c o.loc o.index) (λ c. lies c o.loc o.index) (option_to_list (option_and_then asked_class r)) k
-  in-class (r, _) = refl
+  in-class : (e : Effect) (b : Bound) → in_operand_class t g e (bound_moved home b) ≡ in_operand_class t f e b
+  in-class e (r, operands.Reg o) =
+      λ k. not (known-lanes o k) || is_taken_reserved t e r o.loc || all-alike (λ c. register_lies_in t f c o.loc o.index) (λ c. register_lies_in t g c o.loc o.index) (λ c. lies c o.loc o.index) (option_to_list (option_and_then asked_class r)) k
+  in-class e (r, _) = refl
 
   fit-widths : (e : Effect) (os : List Operand) → is_lowered_away e ≡ false → widths_fit t g e (map (slot_moved home) os) ≡ widths_fit t f e os
   fit-widths effects.Copy (operands.Reg d ∷ operands.Reg s ∷ os) l = λ k. widths-same d s k && has_home t d.loc s.loc && has_home t s.loc d.loc
@@ -120,12 +120,14 @@ module _ (t : Target) (home : ℕ → ℕ) (head : List ℕ) (f : Function) wher
     two-same : V2 t g (instr_moved home i) ≡ V2 t f i
     unfolding V2
     two-same =
-        ap (λ bs. list_all (in_operand_class t g) bs && elim (known_opcode t i.op) as (λ x. Bool) [ None ↦ true | Some d ↦ widths_fit t g d.effect (map (slot_moved home) i.operands) ]) (bound-renamed home t i)
-        ∙ (λ k. all-map (in_operand_class t f) (in_operand_class t g) (bound_moved home) in-class (bound t i) k && go (known_opcode t i.op) low k)
+        ap (λ bs. elim (known_opcode t i.op) as (λ x. Bool) [ None ↦ true | Some d ↦ list_all (in_operand_class t g d.effect) bs && widths_fit t g d.effect (map (slot_moved home) i.operands) ]) (bound-renamed home t i)
+        ∙ go (known_opcode t i.op) low
       where
-        go : (q : Option OpcodeDesc) → passes is_lowered_away (option_map (λ d. d.effect) q) ≡ false → elim q as (λ x. Bool) [ None ↦ true | Some d ↦ widths_fit t g d.effect (map (slot_moved home) i.operands) ] ≡ elim q as (λ x. Bool) [ None ↦ true | Some d ↦ widths_fit t f d.effect i.operands ]
+        go : (q : Option OpcodeDesc) → passes is_lowered_away (option_map (λ d. d.effect) q) ≡ false
+            → elim q as (λ x. Bool) [ None ↦ true | Some d ↦ list_all (in_operand_class t g d.effect) (map (bound_moved home) (bound t i)) && widths_fit t g d.effect (map (slot_moved home) i.operands) ]
+            ≡ elim q as (λ x. Bool) [ None ↦ true | Some d ↦ list_all (in_operand_class t f d.effect) (bound t i) && widths_fit t f d.effect i.operands ]
         go None l = refl
-        go (Some d) l = fit-widths d.effect i.operands l
+        go (Some d) l = λ k. all-map (in_operand_class t f d.effect) (in_operand_class t g d.effect) (bound_moved home) (in-class d.effect) (bound t i) k && fit-widths d.effect i.operands l k
 
   -- rules 3 and 4
 
@@ -176,16 +178,27 @@ module _ (t : Target) (home : ℕ → ℕ) (head : List ℕ) (f : Function) wher
       ∙ any-alike (λ (u : RegOp). share_a_lane (clashing_lanes t f d) (clashing_lanes t f u)) (λ (u : RegOp). share_a_lane (clashing_lanes t g d) (clashing_lanes t g u)) (λ u. λ j. share_a_lane (clashing-alike d j) (clashing-alike u j)) (readings_besides n bs)) k)
   early-same bs (n, (r, _)) = refl
 
+  defined-alike : (b : Bool) (o : RegOp) → defined_lanes t g b o ≡ defined_lanes t f b o
+  defined-alike true o = λ k. cond (known-lanes o k) (lanes-alike t home head f o k) []
+  defined-alike false o = clashing-alike o
+
+  -- an operand of a slot is no register, wherever its slot goes
+  free-same : (b : Bound) → is_free_undef (bound_moved home b) ≡ is_free_undef b
+  free-same (r, operands.Reg o) = refl
+  free-same (r, _) = refl
+
   twelve-same : (i : Instr) → V12 t forms.Allocated g (instr_moved home i) ≡ V12 t forms.Allocated f i
   unfolding V12
   twelve-same i =
       let os = registers i.operands in
       (λ k. list_all (undef_fits forms.Allocated (registers-stay home i.operands k)) (filter (λ (o : RegOp). o.def) (registers-stay home i.operands k))
-      && no_two_share (map (clashing_lanes t g) (filter (λ (o : RegOp). o.def) (registers-stay home i.operands k)))
-      && list_all (early_fits t g (bound-renamed home t i k)) ((ap (numbered 0) (bound-renamed home t i) ∙ numbered-stay home 0 (bound t i)) k))
+      && no_two_share (map (defined_lanes t g (does is_opaque t i)) (filter (λ (o : RegOp). o.def) (registers-stay home i.operands k)))
+      && list_all (early_fits t g (bound-renamed home t i k)) ((ap (numbered 0) (bound-renamed home t i) ∙ numbered-stay home 0 (bound t i)) k)
+      && undef_uses_fit (does is_opaque t i) (bound-renamed home t i k))
       ∙ (λ k. list_all (undef_fits forms.Allocated os) (filter (λ (o : RegOp). o.def) os)
-      && no_two_share (map-alike (clashing_lanes t g) (clashing_lanes t f) clashing-alike (filter (λ (o : RegOp). o.def) os) k)
-      && all-map (early_fits t f (bound t i)) (early_fits t g (map (bound_moved home) (bound t i))) (λ (p : ℕ × Bound). (p.0, bound_moved home p.1)) (early-same (bound t i)) (numbered 0 (bound t i)) k)
+      && no_two_share (map-alike (defined_lanes t g (does is_opaque t i)) (defined_lanes t f (does is_opaque t i)) (defined-alike (does is_opaque t i)) (filter (λ (o : RegOp). o.def) os) k)
+      && all-map (early_fits t f (bound t i)) (early_fits t g (map (bound_moved home) (bound t i))) (λ (p : ℕ × Bound). (p.0, bound_moved home p.1)) (early-same (bound t i)) (numbered 0 (bound t i)) k
+      && not (does is_opaque t i && any-map is_early_definition is_early_definition (bound_moved home) (λ b. refl) (bound t i) k && any-map is_free_undef is_free_undef (bound_moved home) free-same (bound t i) k))
 
   -- rule 15: spill slots go to spill slots, and other frame objects stay
 

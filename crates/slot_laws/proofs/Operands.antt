@@ -3,6 +3,7 @@ use Rattle.std.proofs.Common.{◌≡◌, ℕ, zero, suc, Bool, true, false, cond
 use Rattle.std.specs.Prelude.{Option, filter_map, flat_map, option_and_then, option_map, slice_get}
 use Rattle.std.specs.List.{cons_option, list_all, list_any}
 use Rattle.std.proofs.lemmas.Option.{slice_get-map}
+use Rattle.target_base.specs.declared.types.Effect.{Effect}
 use Rattle.target_base.specs.declared.types.Role.{Role}
 use Rattle.target_base.specs.declared.types.Role.TheVariants as roles
 use Rattle.target_base.specs.declared.types.Target.{Target}
@@ -11,7 +12,7 @@ use Rattle.mir_func.specs.declared.func.Operand.{Operand}
 use Rattle.mir_func.specs.declared.func.Operand.TheVariants as operands
 use Rattle.mir_func.specs.declared.func.Instr.{Instr}
 use Rattle.mir_func.specs.Binding.{Bound, as_register, bound, explicit_bound, explicit_operands, explicit_roles, implicit_bound, implicit_registers, implicit_roles, immediate_of, is_implicit_operand, numbered, paired_with, passes, register_at, registers, roles_of, takes_many, tied_number, tied_pair, tied_pairs, ties_to}
-use Rattle.mir_meaning.specs.Rules.{block_of, copy_fits, explicit_fit, fits_role, implicit_def_fits, implicit_last, named_blocks, readings, readings_besides}
+use Rattle.mir_meaning.specs.Rules.{block_of, copy_fits, explicit_fit, fits_opaque, fits_role, implicit_def_fits, implicit_last, is_opaque, named_blocks, readings, readings_besides}
 use Rattle.slot_laws.specs.Homes.{instr_moved, slot_moved}
 use Rattle.slot_laws.proofs.Merged.{map-append}
 
@@ -108,10 +109,17 @@ module _ (home : ℕ → ℕ) where
   role-fits r (operands.Stack n) = stack-fits r (home n) n
   role-fits r _ = refl
 
-  pub explicit-fits : (rs : List Role) (os : List Operand) → explicit_fit rs (map (slot_moved home) os) ≡ explicit_fit rs os
-  explicit-fits rs [] = refl
-  explicit-fits [] (o ∷ os) = refl
-  explicit-fits (r ∷ rs) (o ∷ os) = λ k. role-fits r o k && explicit-fits (cond (takes_many r) (r ∷ rs) rs) os k
+  opaque-fits : (t : Target) (r : Role) (o : Operand) → fits_opaque t r (slot_moved home o) ≡ fits_opaque t r o
+  opaque-fits t (roles.Value None) (operands.Stack n) = refl
+  opaque-fits t (roles.Value (Some c)) (operands.Stack n) = refl
+  opaque-fits t roles.Any (operands.Stack n) = refl
+  opaque-fits t r (operands.Stack n) = refl
+  opaque-fits t r _ = refl
+
+  pub explicit-fits : (t : Target) (e : Effect) (rs : List Role) (os : List Operand) → explicit_fit t e rs (map (slot_moved home) os) ≡ explicit_fit t e rs os
+  explicit-fits t e rs [] = refl
+  explicit-fits t e [] (o ∷ os) = refl
+  explicit-fits t e (r ∷ rs) (o ∷ os) = λ k. (role-fits r o k || (is_opaque e && opaque-fits t r o k)) && explicit-fits t e (cond (takes_many r) (r ∷ rs) rs) os k
 
   pub last-fits : (os : List Operand) → implicit_last (map (slot_moved home) os) ≡ implicit_last os
   last-fits [] = refl

@@ -1,16 +1,19 @@
 -- Which operands name frame objects and blocks, by the roles of their opcodes.
-use Rattle.std.proofs.Common.{◌≡◌, ℕ, Bool, true, false, cond, not, List, [], ◌∷◌, Option, Some, None, map, refl, sym, ap, ◌∙◌, subst}
-use Rattle.std.specs.Prelude.{flat_map}
+use Rattle.std.proofs.Common.{◌≡◌, ℕ, Bool, true, false, cond, not, List, [], ◌∷◌, Option, Some, None, map, refl, sym, ap, subst}
+use Rattle.std.specs.Prelude.{count_by, flat_map, nat_eq}
 use Rattle.std.specs.Bool.{beq}
 use Rattle.std.specs.List.{list_any}
 use Rattle.std.proofs.lemmas.Bool.{or_parts, not-true}
 use Rattle.target_base.specs.declared.types.Effect.{Effect}
 use Rattle.target_base.specs.declared.types.Effect.TheVariants as effects
+use Rattle.target_base.specs.declared.types.ClassDesc.{ClassDesc}
+use Rattle.target_base.specs.declared.types.OpaqueKind.{OpaqueKind}
+use Rattle.target_base.specs.declared.types.OpaqueKind.TheVariants as kinds
 use Rattle.target_base.specs.declared.types.OpcodeDesc.{OpcodeDesc}
 use Rattle.target_base.specs.declared.types.Role.{Role}
 use Rattle.target_base.specs.declared.types.Role.TheVariants as roles
 use Rattle.target_base.specs.declared.types.Target.{Target}
-use Rattle.target_base.specs.Roles.{is_implicit, is_slot, explicit_shape, shape_fits, has_shape}
+use Rattle.target_base.specs.Roles.{are_in_order, behind, behind_many, explicit_shape, has_shape, is_block, is_definition as is_definition_role, is_implicit, is_operand, is_slot, opaque_fit, roles_fit, shape_fits}
 use Rattle.target_base.proofs.Tests.{first_of_both, second_of_both}
 use Rattle.meaning.specs.Live.{Among as Member, here as first, there as later}
 use Rattle.mir_func.specs.declared.func.Operand.{Operand}
@@ -20,11 +23,11 @@ use Rattle.mir_func.specs.Value.{Function}
 use Rattle.mir_func.specs.Binding.{Bound, effect_of, passes, bound, explicit_bound, explicit_operands, explicit_roles, implicit_bound, implicit_roles, implicit_registers, is_implicit_operand, is_branch, is_lowered_away, roles_of, takes_many}
 use Rattle.mir_meaning.specs.declared.Form.TheVariants as forms
 use Rattle.mir_meaning.specs.Codes.{target_of}
-use Rattle.mir_meaning.specs.Rules.{V1, V15, explicit_fit, fits_role, is_spill_slot, slot_fits, spills_or_reloads, copy_fits, implicit_def_fits, operands_fit, block_of, named_blocks}
+use Rattle.mir_meaning.specs.Rules.{V1, V15, fits_at, is_opaque, is_spill_slot, slot_fits, spills_or_reloads, copy_fits, implicit_def_fits, operands_fit, block_of, named_blocks}
 use Rattle.instr_effects.proofs.Members.{member-none, member-elim, left-in, filter-in, filter-of, flat-in}
 use Rattle.live_laws.proofs.Effects.Lists.{all-of}
 use Rattle.live_laws.proofs.Effects.Moving.{some-same}
-use Rattle.live_laws.proofs.Touch.Roles.{has_roles, met, fit, shape}
+use Rattle.live_laws.proofs.Touch.Roles.{fit, fit-role, has_roles, met, none-counted, roles-sound}
 use Rattle.slot_laws.specs.Homes.{slot_moved}
 
 -- roles that an effect lacks
@@ -33,20 +36,30 @@ abbrev pub tests_of : Option (List (Role → Bool)) → List (Role → Bool)
 tests_of None = []
 tests_of (Some tests) = tests
 
+-- no opaque opcode of the kind has the role: none has a slot, and only branches have a target
+abbrev opaque_lacks : Role → OpaqueKind → Bool
+opaque_lacks roles.Slot kind = true
+opaque_lacks roles.Target kinds.Branch = false
+opaque_lacks roles.Target kind = true
+opaque_lacks r kind = false
+
 -- the effect's explicit roles pass the role nowhere
 abbrev pub lacks : Role → Effect → Bool
+lacks r (effects.Opaque kind) = opaque_lacks r kind
 lacks r e = not (list_any (λ (test : Role → Bool). test r) (tests_of (explicit_shape e)))
 
 -- only stores to slots and reloads have slots, and only branches name blocks
 pub no-slot : (e : Effect) → spills_or_reloads e ≡ false → lacks roles.Slot e ≡ true
 no-slot effects.Spill h = absurd (cc)
 no-slot effects.Reload h = absurd (cc)
+no-slot (effects.Opaque kind) h = refl
 no-slot e h = refl
 
 pub no-target : (e : Effect) → is_branch e ≡ false → lacks roles.Target e ≡ true
 no-target effects.Jump h = absurd (cc)
 no-target effects.Jcc h = absurd (cc)
 no-target effects.Jnz h = absurd (cc)
+no-target (effects.Opaque kinds.Branch) h = absurd (cc)
 no-target e h = refl
 
 shape-lacks : (tests : List (Role → Bool)) (rs : List Role) (r : Role) → is_implicit r ≡ false → list_any (λ (test : Role → Bool). test r) tests ≡ false → has_shape tests rs ≡ true → Member r rs → ⊥
@@ -61,13 +74,55 @@ by-shape : (q : Option (List (Role → Bool))) (rs : List Role) (r : Role) → i
 by-shape None rs r n l h m = cc
 by-shape (Some tests) rs r n l h m = shape-lacks tests rs r n l h m
 
+-- a role that passes no test stands behind those at the beginning that pass it
+behind-stays : (test : Role → Bool) (r : Role) (rs : List Role) → test r ≡ false → Member r rs → Member r (behind test rs)
+behind-stays test r [] e m = m
+behind-stays test r (x ∷ rs) e m = go (test x) refl (λ k. behind-stays test r rs e k)
+  where
+    go : (b : Bool) → test x ≡ b → (Member r rs → Member r (behind test rs)) → Member r (cond b (behind test rs) (x ∷ rs))
+    go true h stays = member-elim r x rs (λ g. absurd (let k : test r ≡ test x = ap test g in cc)) stays m
+    go false h stays = m
+
+many-stays : (rs : List Role) → Member roles.Slot rs → Member roles.Slot (behind_many rs)
+many-stays (roles.Any ∷ rs) m = member-elim roles.Slot roles.Any rs (λ e. absurd (cc)) (λ k. k) m
+many-stays (roles.Rest ∷ rs) m = member-elim roles.Slot roles.Rest rs (λ e. absurd (cc)) (λ k. k) m
+many-stays rs m = m
+
+slotless : (rs : List Role) → are_in_order rs ≡ true → Member roles.Slot rs → ⊥
+slotless rs h m =
+    let definitions = behind-stays is_definition_role roles.Slot rs refl m in
+    let operands = behind-stays is_operand roles.Slot (behind is_definition_role rs) refl definitions in
+    let left = many-stays (behind is_operand (behind is_definition_role rs)) operands in
+    let e : is_implicit roles.Slot ≡ true = all-of is_implicit roles.Slot (behind_many (behind is_operand (behind is_definition_role rs))) left h in
+    cc
+
+targetless : (rs : List Role) → nat_eq (count_by is_block rs) 0 ≡ true → Member roles.Target rs → ⊥
+targetless rs h m = let e : is_block roles.Target ≡ false = none-counted is_block rs roles.Target h m in cc
+
+by-kind : (classes : List ClassDesc) (kind : OpaqueKind) (rs : List Role) (r : Role) → opaque_lacks r kind ≡ true → opaque_fit classes kind rs ≡ true → Member r rs → ⊥
+by-kind classes kind rs roles.Slot l h m = slotless rs (first_of_both _ _ (first_of_both _ _ (first_of_both _ _ h))) m
+by-kind classes kinds.Plain rs roles.Target l h m = targetless rs (first_of_both _ _ (second_of_both _ _ h)) m
+by-kind classes kinds.Branch rs roles.Target l h m = cc
+by-kind classes kinds.Call rs roles.Target l h m = targetless rs (second_of_both _ _ (first_of_both _ _ (second_of_both _ _ h))) m
+by-kind classes kinds.Return rs roles.Target l h m = targetless rs (second_of_both _ _ (first_of_both _ _ (second_of_both _ _ h))) m
+by-kind classes kind rs r l h m = cc
+
+by-effect : (t : Target) (e : Effect) (rs : List Role) (r : Role) → is_implicit r ≡ false → lacks r e ≡ true → roles_fit t.units t.regs t.classes e rs ≡ true → Member r rs → ⊥
+by-effect t effects.Copy rs r n l h m = cc
+by-effect t effects.Phi rs r n l h m = cc
+by-effect t effects.ImplicitDef rs r n l h m = cc
+by-effect t effects.RegSequence rs r n l h m = cc
+by-effect t effects.InsertSubreg rs r n l h m = cc
+by-effect t (effects.Opaque kind) rs r n l h m = by-kind t.classes kind rs r l h m
+by-effect t e rs r n l h m = by-shape (explicit_shape e) rs r n (not-true _ l) (first_of_both _ _ (first_of_both _ _ (first_of_both _ _ (first_of_both _ _ (first_of_both _ _ h))))) m
+
 -- the roles of an instruction of the effect
 module _ (t : Target) (f : Function) (i : Instr) (e : Effect) (known : effect_of t i ≡ Some e) (rule : V1 t f i ≡ true) (some : has_roles e ≡ true) where
   roles-are : roles_of t i ≡ (met t f i e known rule).0.roles
   roles-are = ap (λ (q : Option OpcodeDesc). elim q [ None ↦ [] | Some d ↦ d.roles ]) (met t f i e known rule).1
 
   pub role-lacks : (r : Role) → is_implicit r ≡ false → lacks r e ≡ true → Member r (roles_of t i) → ⊥
-  role-lacks r n l m = by-shape (explicit_shape e) (met t f i e known rule).0.roles r n (not-true _ l) (shape t f i e known rule some) (subst (Member r) roles-are m)
+  role-lacks r n l m = by-effect t e (met t f i e known rule).0.roles r n l (roles-sound t f i e known rule some) (subst (Member r) roles-are m)
 
 -- operands with their roles
 
@@ -161,22 +216,12 @@ target-in n [] e = absurd (cc)
 target-in n (operands.Block k ∷ os) e = subst (λ x. Member (operands.Block n) (operands.Block x ∷ os)) (sym (some-same k n e)) first
 target-in n (o ∷ os) e = later (target-in n os e)
 
--- an explicit operand that fits takes a role
-pub fit-role : (rs : List Role) (os : List Operand) (o : Operand) → explicit_fit rs os ≡ true → Member o os → (r : Role) × Member r rs × (fits_role r o ≡ true)
-fit-role rs [] o e m = absurd (member-none o m)
-fit-role [] (x ∷ os) o e m = absurd (cc)
-fit-role (r ∷ rs) (x ∷ os) o e m =
-    let h = first_of_both (fits_role r x) (explicit_fit (cond (takes_many r) (r ∷ rs) rs) os) e in
-    let g = second_of_both (fits_role r x) (explicit_fit (cond (takes_many r) (r ∷ rs) rs) os) e in
-    member-elim o x os (λ q. (r, first, ap (fits_role r) q ∙ h)) (λ k. let z = fit-role (cond (takes_many r) (r ∷ rs) rs) os o g k in (z.0, within (takes_many r) z.0 z.1, z.2)) m
-  where
-    within : (b : Bool) (q : Role) → Member q (cond b (r ∷ rs) rs) → Member q (r ∷ rs)
-    within true q k = k
-    within false q k = later k
-
-block-role : (r : Role) (n : ℕ) → fits_role r (operands.Block n) ≡ true → r ≡ roles.Target
-block-role roles.Target n e = refl
-block-role r n e = absurd (cc)
+-- an explicit operand that is a block takes the role of a target
+block-role : (t : Target) (e : Effect) (r : Role) (n : ℕ) → fits_at t e r (operands.Block n) ≡ true → r ≡ roles.Target
+block-role t e roles.Target n h = refl
+block-role t e (roles.Value None) n h = absurd (let k = second_of_both (is_opaque e) false h in cc)
+block-role t e (roles.Value (Some c)) n h = absurd (let k = second_of_both (is_opaque e) false h in cc)
+block-role t e r n h = absurd (let k = second_of_both (is_opaque e) false h in cc)
 
 copy-target : (os : List Operand) → copy_fits os ≡ true → target_of os ≡ None
 copy-target (operands.Reg d ∷ operands.Reg s ∷ []) e = refl
@@ -196,10 +241,10 @@ module _ (t : Target) (f : Function) (i : Instr) (e : Effect) (known : effect_of
       go false h =
           let d = (met t f i e known rule).0 in
           let m = filter-in (λ o. not (is_implicit_operand o)) (operands.Block n) i.operands (target-in n i.operands g) refl in
-          let z = fit-role (explicit_roles d.roles) (explicit_operands i.operands) (operands.Block n) (fit t f i e known rule some).explicit m in
+          let z = fit-role t e (explicit_roles d.roles) (explicit_operands i.operands) (operands.Block n) (fit t f i e known rule some).explicit m in
           let r = (filter-of (λ (r : Role). not (is_implicit r)) z.0 d.roles z.1).0 in
           let r' : Member z.0 (roles_of t i) = subst (Member z.0) (sym (roles-are t f i e known rule some)) r in
-          absurd (role-lacks t f i e known rule some roles.Target refl (no-target e h) (subst (λ x. Member x (roles_of t i)) (block-role z.0 n z.2) r'))
+          absurd (role-lacks t f i e known rule some roles.Target refl (no-target e h) (subst (λ x. Member x (roles_of t i)) (block-role t e z.0 n z.2) r'))
 
 -- the block that an instruction names is among those that it names
 pub target-named : (n : ℕ) (i : Instr) → target_of i.operands ≡ Some n → Member n (named_blocks i)

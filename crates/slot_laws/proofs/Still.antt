@@ -5,6 +5,8 @@ use Rattle.std.specs.Prelude.{ℤ, zero, nat_abs}
 use Rattle.std.specs.List.{list_any, filter_map}
 use Rattle.target_base.specs.declared.types.Effect.{Effect}
 use Rattle.target_base.specs.declared.types.Effect.TheVariants as effects
+use Rattle.target_base.specs.declared.types.OpaqueKind.{OpaqueKind}
+use Rattle.target_base.specs.declared.types.OpaqueKind.TheVariants as kinds
 use Rattle.target_base.specs.declared.types.Role.{Role}
 use Rattle.target_base.specs.declared.types.Target.{Target}
 use Rattle.target_base.specs.Rules.{is_spill, is_reload}
@@ -29,7 +31,7 @@ use Rattle.mir_func.specs.declared.func.Instr.{Instr}
 use Rattle.mir_func.specs.Value.{Function}
 use Rattle.mir_func.specs.Binding.{Definition, definitions, explicit_operands, implicit_registers, implicit_roles, registers, roles_of, immediate_of, puts_together}
 use Rattle.mir_meaning.specs.Registers.{numbers, operand_lanes, operand_widths, undefined_lanes, use_sources, is_reserved}
-use Rattle.mir_meaning.specs.Items.{Value, write, all_lanes, answered, computes_with_immediates, constant_value, counted_writes, has_base, implicit_definitions, implicit_writes, kept, result_writes, results, value_of, values, clobbered, flag_value, implicit_values, is_flags, pick, use_value, first_width, preserves, unreserved, computed, constant_bits, constant_lanes, constant_of, copied, defined, defined_undef, given_constant, moved, silent_writes, undefined}
+use Rattle.mir_meaning.specs.Items.{Value, write, all_lanes, answered, computes_with_immediates, constant_value, counted_writes, defined_lanes, further_writes, opaque_clobbers, has_base, implicit_definitions, implicit_writes, kept, result_writes, results, value_of, values, clobbered, flag_value, implicit_values, is_flags, pick, use_value, first_width, preserves, unreserved, computed, constant_bits, constant_lanes, constant_of, copied, defined, defined_undef, given_constant, moved, silent_writes, undefined}
 use Rattle.instr_effects.proofs.Members.{member-none, member-elim, either-elim, flat-of, filter-of, map-of}
 use Rattle.live_laws.proofs.Effects.Blocks.{filtered-of}
 use Rattle.live_laws.proofs.Effects.Moved.{moved-of, undefined-fill, undefined-lane}
@@ -202,17 +204,32 @@ module _ (t : Target) (f : Function) where
   units-still : (us : List ℕ) → StillLanes (map UnitLane us)
   units-still us l m = let z = map-of UnitLane l us m in ap is_slot z.2
 
+  clobbers-still : (os : List Operand) → StillWrites (undefined false (clobbered t os))
+  clobbers-still os =
+      let gone = filter (λ u. not (list_any (preserves t u) os)) (numbers 0 (length t.units)) in
+      undefined-still false (clobbered t os) (unreserved-still (map UnitLane gone) (units-still gone))
+
   implicit-still : (e : Effect) (rs : List Role) (os : List Operand) → StillWrites (implicit_writes t f e rs os)
   implicit-still effects.Cmp rs os =
       let flags = all_lanes t f (filter (is_flags rs) (implicit_definitions os)) in
       let others = all_lanes t f (implicit_definitions os) in
       kept-still (computed false 0 flags ++ undefined false others) (both-still (computed false 0 flags) (undefined false others) (computed-still false 0 flags (all-still (filter (is_flags rs) (implicit_definitions os)))) (undefined-still false others (all-still (implicit_definitions os))))
   implicit-still effects.Call rs os =
-      let gone = map UnitLane (filter (λ u. not (list_any (preserves t u) os)) (numbers 0 (length t.units))) in
       both-still (computed false 0 (answered t f os)) (undefined false (clobbered t os))
       (computed-still false 0 (answered t f os) (unreserved-still (all_lanes t f (implicit_definitions os)) (all-still (implicit_definitions os))))
-      (undefined-still false (clobbered t os) (unreserved-still gone (units-still (filter (λ u. not (list_any (preserves t u) os)) (numbers 0 (length t.units))))))
+      (clobbers-still os)
   implicit-still _ rs os = undefined-still false (unreserved t (all_lanes t f (implicit_definitions os))) (unreserved-still (all_lanes t f (implicit_definitions os)) (all-still (implicit_definitions os)))
+
+  opaque-clobbers-still : (kind : OpaqueKind) (os : List Operand) → StillWrites (opaque_clobbers t kind os)
+  opaque-clobbers-still kinds.Call os = clobbers-still os
+  opaque-clobbers-still kind os = none-still
+
+  further-still : (e : Effect) (i : Instr) → StillWrites (further_writes t f e i)
+  further-still (effects.Opaque kind) i =
+      let n = length (defined_lanes t f (definitions (roles_of t i) i.operands)) in
+      let lanes = all_lanes t f (implicit_definitions i.operands) in
+      both-still (computed false n lanes) (opaque_clobbers t kind i.operands) (computed-still false n lanes (all-still (implicit_definitions i.operands))) (opaque-clobbers-still kind i.operands)
+  further-still e i = implicit-still e (implicit_roles (roles_of t i)) i.operands
 
   result-still : (early : Bool) (n : ℕ) (d : RegOp) → StillWrites (result_writes t f early n d)
   result-still early n d =
@@ -225,8 +242,8 @@ module _ (t : Target) (f : Function) where
 
   pub counted-still : (e : Effect) (i : Instr) → StillWrites (counted_writes t f e i)
   counted-still e i =
-      both-still (results t f 0 (definitions (roles_of t i) i.operands)) (implicit_writes t f e (implicit_roles (roles_of t i)) i.operands)
-      (results-still 0 (definitions (roles_of t i) i.operands)) (implicit-still e (implicit_roles (roles_of t i)) i.operands)
+      both-still (results t f 0 (definitions (roles_of t i) i.operands)) (further_writes t f e i)
+      (results-still 0 (definitions (roles_of t i) i.operands)) (further-still e i)
 
   -- what they read
 

@@ -5,4 +5,4 @@ use Rattle.machine_verify.specs.Parts.{seen_all}
 use Rattle.machine_verify.proofs.classes.in_operand_classes.Given as goal
 
 abbrev pub invariant-loop-b : goal.invariant-loop-b
-invariant-loop-b l = list_all (in_operand_class l.target l.f) (seen_all l.bound) ≡ list_all (in_operand_class l.target l.f) (seen_all (drop l.b-index l.bound))
+invariant-loop-b l = list_all (in_operand_class l.target l.f l.effect) (seen_all l.bound) ≡ list_all (in_operand_class l.target l.f l.effect) (seen_all (drop l.b-index l.bound))

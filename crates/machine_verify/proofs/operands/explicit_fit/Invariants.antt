@@ -5,5 +5,5 @@ use Rattle.machine_verify.proofs.operands.explicit_fit.Given as goal
 
 abbrev pub invariant-loop-o : goal.invariant-loop-o
 invariant-loop-o l =
-    explicit_fit (explicit_roles l.roles) (explicit_operands l.operands)
-    ≡ explicit_fit (explicit_roles l.left) (explicit_operands (drop l.o-index l.operands))
+    explicit_fit l.target l.effect (explicit_roles l.roles) (explicit_operands l.operands)
+    ≡ explicit_fit l.target l.effect (explicit_roles l.left) (explicit_operands (drop l.o-index l.operands))
