@@ -4,6 +4,7 @@ use Rattle.std.specs.Prelude.{◌↔◌, ◌&&◌, ◌||◌, Decides, nat_eq, na
 use Rattle.std.specs.List.{list_any}
 use Rattle.target_base.specs.declared.types.Effect.{Effect}
 use Rattle.target_base.specs.declared.types.Effect.TheVariants as effects
+use Rattle.target_base.specs.declared.types.OpaqueKind.TheVariants as kinds
 use Rattle.target_base.specs.declared.types.OpcodeDesc.{OpcodeDesc}
 use Rattle.target_base.specs.declared.types.Target.{Target}
 use Rattle.target_base.specs.Numbers.{unit_number}
@@ -94,6 +95,8 @@ ends-counted effects.Jump h = (refl, refl)
 ends-counted effects.Jcc h = (refl, refl)
 ends-counted effects.Jnz h = (refl, refl)
 ends-counted effects.Ret h = (refl, refl)
+ends-counted (effects.Opaque kinds.Branch) h = (refl, refl)
+ends-counted (effects.Opaque kinds.Return) h = (refl, refl)
 ends-counted e h = absurd (cc)
 
 of-kinds : (e : Effect) → is_lowered_away e ≡ false → is_copy e ≡ false → moves_alone e ≡ false → (is_silent e ≡ false) ⊎ (is_given e ≡ true)

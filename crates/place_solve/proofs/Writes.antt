@@ -28,7 +28,7 @@ use Rattle.mir_func.specs.declared.func.Instr.{Instr}
 use Rattle.mir_func.specs.declared.func.Block.{Block}
 use Rattle.mir_func.specs.Value.{Function}
 use Rattle.mir_func.specs.Binding.{Definition, as_register, definitions, does, effect_of, implicit_registers, implicit_roles, is_early_clobber, is_terminator, passes, registers, roles_of}
-use Rattle.mir_meaning.specs.Items.{all_lanes, computed, counted_writes, defined_undef, rest_of, silent_reads, silent_writes, values, implicit_definitions, implicit_writes, preserves, results, undefined, write}
+use Rattle.mir_meaning.specs.Items.{all_lanes, computed, counted_writes, defined_undef, rest_of, silent_reads, silent_writes, values, implicit_definitions, further_writes, preserves, results, undefined, write}
 use Rattle.mir_meaning.specs.Points.{point_item}
 use Rattle.mir_meaning.specs.Codes.{effect_item, item_of, target_of, way, ways_out}
 use Rattle.mir_meaning.specs.Registers.{is_reserved, located_lanes, numbers, operand_lanes, range_widths, undefined_lanes, whole_lanes}
@@ -44,7 +44,7 @@ use Rattle.live_laws.specs.Effects.Coded.{KeepsRules, IsNumbered}
 use Rattle.live_laws.proofs.Effects.Blocks.{filtered-of, filtered-in}
 use Rattle.live_laws.proofs.Effects.Flags.{Wrote}
 use Rattle.live_laws.proofs.Effects.Definitions.{Reaches, result-reaches}
-use Rattle.live_laws.proofs.Effects.FlagsOf.{uniform-implicit}
+use Rattle.live_laws.proofs.Effects.FlagsOf.{uniform-further}
 use Rattle.live_laws.proofs.Effects.Instrs.{same-law}
 use Rattle.live_laws.proofs.Effects.Lists.{any-in}
 use Rattle.live_laws.proofs.Effects.Moved.{undefined-lane, undefined-in}
@@ -157,10 +157,6 @@ module _ (t : Target) (f : Function) where
   not-phi effects.Phi h = absurd (cc)
   not-phi e h = refl
 
-  call-is : (e : Effect) → is_call e ≡ true → e ≡ effects.Call
-  call-is effects.Call h = refl
-  call-is e h = absurd (cc)
-
   module _ (i : Instr) (e : Effect) (known : effect_of t i ≡ Some e) (counted : is_silent e ≡ false) where
     abbrev os : List Operand
     os = i.operands
@@ -214,14 +210,14 @@ module _ (t : Target) (f : Function) where
         left : list_any (defines t (unit_number u)) os ≡ true → writes t i (unit_number u) ≡ true
         left g = or-left (list_any (defines t (unit_number u)) os) (clobbers t i (unit_number u)) g
 
-        call : (x : Effect) → x ≡ e → Member w (call_writes t x os) → writes t i (unit_number u) ≡ true
-        call effects.Call g k =
+        call : (b : Bool) → is_call e ≡ b → Member w (cond b (undefined false (map UnitLane (unpreserved t os))) []) → writes t i (unit_number u) ≡ true
+        call true g k =
             let z = map-of UnitLane w.lane (unpreserved t os) (undefined-lane false w (map UnitLane (unpreserved t os)) k) in
             let same : u ≡ z.0 = unit-same u z.0 (sym h ∙ z.2) in
             let y = filter-of (λ v. not (list_any (preserves t v) os)) z.0 (numbers 0 (length t.units)) z.1 in
             let n : not (list_any (keeps_unit t (unit_number u)) os) ≡ true = ap not (any-alike (keeps_unit t (unit_number u)) (preserves t u) (kept-same u) os) ∙ ap (λ v. not (list_any (preserves t v) os)) same ∙ y.1 in
-            or-right (list_any (defines t (unit_number u)) os) (clobbers t i (unit_number u)) (both (does is_call t i) (not (list_any (keeps_unit t (unit_number u)) os)) (calls ∙ sym (ap is_call g)) n)
-        call x g k = absurd (member-none w k)
+            or-right (list_any (defines t (unit_number u)) os) (clobbers t i (unit_number u)) (both (does is_call t i) (not (list_any (keeps_unit t (unit_number u)) os)) (calls ∙ g) n)
+        call false g k = absurd (member-none w k)
 
         rest : Member w Y ⊎ Member w (call_writes t e os) → writes t i (unit_number u) ≡ true
         rest (inl k) =
@@ -229,7 +225,7 @@ module _ (t : Target) (f : Function) where
             let d = filter-of (λ o. o.def) z.0 (implicit_registers os) z.1 in
             let r = filter-of (λ o. o.implicit) z.0 (registers os) d.0 in
             left (defined-in (unit_number u) os z.0 r.0 d.1 (unit-of z.0.loc z.0.index u (subst (λ l. Member l (operand_lanes t f z.0)) h z.2)))
-        rest (inr k) = call e refl k
+        rest (inr k) = call (is_call e) refl k
 
         go : Member w X ⊎ Member w (Y ++ call_writes t e os) → writes t i (unit_number u) ≡ true
         go (inl k) =
@@ -254,26 +250,26 @@ module _ (t : Target) (f : Function) where
         go : (list_any (defines t (unit_number u)) os ≡ true) ⊎ (clobbers t i (unit_number u) ≡ true) → Wrote (UnitLane u) (X ++ (Y ++ call_writes t e os))
         go (inl h) = let z = defined-of (unit_number u) os h in implicit z.0 z.1 z.2 z.3 z.0.implicit refl
         go (inr h) =
-            let c : e ≡ effects.Call = call-is e (sym calls ∙ first_of_both (does is_call t i) (not (list_any (keeps_unit t (unit_number u)) os)) h) in
+            let c : is_call e ≡ true = sym calls ∙ first_of_both (does is_call t i) (not (list_any (keeps_unit t (unit_number u)) os)) h in
             let n : not (list_any (preserves t u) os) ≡ true = sym (ap not (any-alike (keeps_unit t (unit_number u)) (preserves t u) (kept-same u) os)) ∙ second_of_both (does is_call t i) (not (list_any (keeps_unit t (unit_number u)) os)) h in
             let m : Member u (unpreserved t os) = filter-in (λ v. not (list_any (preserves t v) os)) u (numbers 0 (length t.units)) (numbers-in u 0 (length t.units) (omega arith) (omega (arith, few))) n in
             let z = undefined-in false (UnitLane u) (map UnitLane (unpreserved t os)) (map-in UnitLane u (unpreserved t os) m) in
-            let k : Member z.0 (call_writes t e os) = subst (λ x. Member z.0 (call_writes t x os)) (sym c) z.1 in
+            let k : Member z.0 (call_writes t e os) = subst (λ b. Member z.0 (cond b (undefined false (map UnitLane (unpreserved t os))) [])) (sym c) z.1 in
             (z.0, right-in z.0 X (Y ++ call_writes t e os) (right-in z.0 Y (call_writes t e os) k), z.2)
 
     -- early-clobber definitions
     early-forth : (b : Block) (u : ℕ) → WritingEarly (point_item t f b i) (UnitLane u) → writes_early t i (unit_number u) ≡ true
-    early-forth b u (w, m, h, g) = go (in-either w X (implicit_writes t f e (implicit_roles (roles_of t i)) os) (subst (Member w) (item-is b) m))
+    early-forth b u (w, m, h, g) = go (in-either w X (further_writes t f e i) (subst (Member w) (item-is b) m))
       where
-        go : Member w X ⊎ Member w (implicit_writes t f e (implicit_roles (roles_of t i)) os) → writes_early t i (unit_number u) ≡ true
+        go : Member w X ⊎ Member w (further_writes t f e i) → writes_early t i (unit_number u) ≡ true
         go (inl k) = let z = result-of w u k h in any-in (defines_early t (unit_number u)) z.0 ds z.1 (both z.0.0 (has_unit t z.0.1.loc (unit_number u)) (sym z.3 ∙ g) z.2)
-        go (inr k) = absurd (let n : false ≡ true = sym (uniform-implicit t f e (implicit_roles (roles_of t i)) os w k) ∙ g in cc)
+        go (inr k) = absurd (let n : false ≡ true = sym (uniform-further t f e i w k) ∙ g in cc)
 
     early-back : (b : Block) (u : ℕ) → writes_early t i (unit_number u) ≡ true → WritingEarly (point_item t f b i) (UnitLane u)
     early-back b u g =
         let z = any-of (defines_early t (unit_number u)) ds g in
         let w = result-in z.0 u z.1 (second_of_both z.0.0 (has_unit t z.0.1.loc (unit_number u)) z.2) in
-        (w.0, subst (Member w.0) (sym (item-is b)) (left-in w.0 X (implicit_writes t f e (implicit_roles (roles_of t i)) os) w.1), w.2, w.3 ∙ first_of_both z.0.0 (has_unit t z.0.1.loc (unit_number u)) z.2)
+        (w.0, subst (Member w.0) (sym (item-is b)) (left-in w.0 X (further_writes t f e i) w.1), w.2, w.3 ∙ first_of_both z.0.0 (has_unit t z.0.1.loc (unit_number u)) z.2)
 
     pub early-told : (b : Block) (u : ℕ) → (writes_early t i (unit_number u) ≡ true) ↔ WritingEarly (point_item t f b i) (UnitLane u)
     early-told b u = (early-back b u, early-forth b u)

@@ -11,7 +11,7 @@ use live_lanes::LiveFunc;
 use mir_func::opcodes::{effect_of, is_early, next_role, roles_of};
 use mir_func::operands::{is_definition, is_implicit_operand};
 use mir_func::{Instr, Loc, Operand, RegOp};
-use target_base::{Boxed, Effect, Role, Target, Unit, registers};
+use target_base::{Boxed, Effect, OpaqueKind, Role, Target, Unit, registers};
 
 /// Where a place stands.
 #[derive(Clone, Copy)]
@@ -83,7 +83,9 @@ fn clobbers(target: &Target, i: &Instr, u: Unit) -> bool
     ensures { result ≡ clobbers target.now i.now u }
 {
     match effect_of(target, i) {
-        Some(Effect::Call) => !is_kept(target, i.operands.as_slice(), u),
+        Some(Effect::Call | Effect::Opaque(OpaqueKind::Call)) => {
+            !is_kept(target, i.operands.as_slice(), u)
+        }
         _ => false,
     }
 }

@@ -5,7 +5,7 @@ use Rattle.target_base.specs.Mini.{mini_target}
 use Rattle.mir_func.specs.declared.func.Block.{Block}
 use Rattle.mir_func.specs.Value.{Function}
 use Rattle.spiller.specs.Spilled.{spilled, tinies, slots_after}
-use Rattle.spiller.proofs.Sample.{seen, seen_over, AreSound, paired_target, function, block, instr, facts, slots_of, some_class, def, val, part_def, part_val, undef_fixed, fixed_def, fixed, implicit_def, implicit, imm, to_block, subreg, slot, symbol, csr, COPY, IMPLICIT_DEF, MOV32ri, ADD8rr, CMP32rr, STORE32mr, JCC, JNZ32, CALL, RET, NOP, SPILL32, SPILL8, SPILL64, RELOAD32, RELOAD8, RELOAD64, LDP, LDPOST}
+use Rattle.spiller.proofs.Sample.{seen, seen_over, paired_target, function, block, instr, facts, slots_of, some_class, def, val, part_def, part_val, undef_fixed, fixed_def, fixed, implicit_def, implicit, imm, to_block, subreg, slot, symbol, csr, COPY, IMPLICIT_DEF, MOV32ri, ADD8rr, CMP32rr, STORE32mr, JCC, JNZ32, CALL, RET, NOP, SPILL32, SPILL8, SPILL64, RELOAD32, RELOAD8, RELOAD64, LDP, LDPOST}
 
 -- A constant that one definition makes is repeated where it is read; it isn't needed before, and there is no slot.
 abbrev constant_repeated_before : Function
@@ -327,11 +327,11 @@ two_halves_after = (
     instr 0 RELOAD64 (fixed_def 16 ∷ slot 0 ∷ imm 0 ∷ []) ∷
     instr 0 RET (implicit 16 ∷ []) ∷ []) ∷ [])
 
-pub two_halves : (sound : AreSound) →
-    seen_over (paired_target sound) two_halves_before (slots_of (0 ∷ 1 ∷ []) [] []) 1 (facts ((1, 0) ∷ (1, 1) ∷ (1, 2) ∷ (1, 3) ∷ (1, 4) ∷ (1, 5) ∷ (2, 0) ∷ (2, 1) ∷ (2, 2) ∷ (2, 3) ∷ (2, 4) ∷ (2, 5) ∷ []) ((1, 0, 3) ∷ (1, 1, 3) ∷ (1, 2, 3) ∷ (1, 3, 3) ∷ (1, 4, 3) ∷ (1, 5, 3) ∷ []))
+pub two_halves :
+    seen_over paired_target two_halves_before (slots_of (0 ∷ 1 ∷ []) [] []) 1 (facts ((1, 0) ∷ (1, 1) ∷ (1, 2) ∷ (1, 3) ∷ (1, 4) ∷ (1, 5) ∷ (2, 0) ∷ (2, 1) ∷ (2, 2) ∷ (2, 3) ∷ (2, 4) ∷ (2, 5) ∷ []) ((1, 0, 3) ∷ (1, 1, 3) ∷ (1, 2, 3) ∷ (1, 3, 3) ∷ (1, 4, 3) ∷ (1, 5, 3) ∷ []))
     ≡ (two_halves_after, map some_class (0 ∷ 4 ∷ 0 ∷ 0 ∷ []), ((2, 1) ∷ (3, 1) ∷ []), slots_of (0 ∷ 1 ∷ 2 ∷ 3 ∷ []) ((1, 0) ∷ []) [])
 unfolding spilled tinies slots_after
-two_halves sound = refl
+two_halves = refl
 
 -- The use that is tied to one of two definitions is reloaded into that one's tiny, behind the other readings. The other definition isn't live behind, and isn't stored.
 abbrev tied_half_before : Function
@@ -354,11 +354,11 @@ tied_half_after = (
     instr 0 STORE32mr (val 4 ∷ imm 0 ∷ val 4 ∷ []) ∷
     instr 0 RET [] ∷ []) ∷ [])
 
-pub tied_half : (sound : AreSound) →
-    seen_over (paired_target sound) tied_half_before (slots_of (0 ∷ []) [] []) 0 (facts ((0, 0) ∷ (0, 1) ∷ (0, 2) ∷ (0, 3) ∷ (0, 4) ∷ (0, 5) ∷ (1, 0) ∷ (1, 1) ∷ (1, 2) ∷ []) ((0, 0, 1) ∷ (0, 1, 1) ∷ (0, 2, 1) ∷ (0, 3, 1) ∷ (0, 4, 1) ∷ (0, 5, 1) ∷ (1, 0, 2) ∷ (1, 1, 2) ∷ (1, 2, 2) ∷ []))
+pub tied_half :
+    seen_over paired_target tied_half_before (slots_of (0 ∷ []) [] []) 0 (facts ((0, 0) ∷ (0, 1) ∷ (0, 2) ∷ (0, 3) ∷ (0, 4) ∷ (0, 5) ∷ (1, 0) ∷ (1, 1) ∷ (1, 2) ∷ []) ((0, 0, 1) ∷ (0, 1, 1) ∷ (0, 2, 1) ∷ (0, 3, 1) ∷ (0, 4, 1) ∷ (0, 5, 1) ∷ (1, 0, 2) ∷ (1, 1, 2) ∷ (1, 2, 2) ∷ []))
     ≡ (tied_half_after, map some_class (4 ∷ 0 ∷ 0 ∷ 0 ∷ 0 ∷ []), ((1, 3) ∷ (2, 3) ∷ (3, 3) ∷ (4, 6) ∷ []), slots_of (0 ∷ 1 ∷ 2 ∷ 3 ∷ 4 ∷ []) ((0, 0) ∷ []) [])
 unfolding spilled tinies slots_after
-tied_half sound = refl
+tied_half = refl
 
 -- A use that is tied to another range's definition is no matter of this range.
 abbrev tied_beside_before : Function
@@ -382,8 +382,8 @@ tied_beside_after = (
     instr 0 STORE32mr (val 1 ∷ imm 0 ∷ val 4 ∷ []) ∷
     instr 0 RET [] ∷ []) ∷ [])
 
-pub tied_beside : (sound : AreSound) →
-    seen_over (paired_target sound) tied_beside_before (slots_of (0 ∷ 1 ∷ []) [] []) 0 (facts ((0, 0) ∷ (0, 1) ∷ (0, 2) ∷ (1, 0) ∷ (1, 1) ∷ (1, 2) ∷ (2, 0) ∷ (2, 1) ∷ (2, 2) ∷ []) ((0, 0, 2) ∷ (0, 1, 2) ∷ (0, 2, 2) ∷ (2, 0, 3) ∷ (2, 1, 3) ∷ (2, 2, 3) ∷ []))
+pub tied_beside :
+    seen_over paired_target tied_beside_before (slots_of (0 ∷ 1 ∷ []) [] []) 0 (facts ((0, 0) ∷ (0, 1) ∷ (0, 2) ∷ (1, 0) ∷ (1, 1) ∷ (1, 2) ∷ (2, 0) ∷ (2, 1) ∷ (2, 2) ∷ []) ((0, 0, 2) ∷ (0, 1, 2) ∷ (0, 2, 2) ∷ (2, 0, 3) ∷ (2, 1, 3) ∷ (2, 2, 3) ∷ []))
     ≡ (tied_beside_after, map some_class (0 ∷ 0 ∷ 0 ∷ 0 ∷ 0 ∷ []), ((2, 3) ∷ (3, 3) ∷ (4, 6) ∷ []), slots_of (0 ∷ 1 ∷ 2 ∷ 3 ∷ 4 ∷ []) ((0, 0) ∷ []) [])
 unfolding spilled tinies slots_after
-tied_beside sound = refl
+tied_beside = refl

@@ -1,15 +1,16 @@
 -- Functions over the built-in target, written down shortly, for worked examples.
-use Rattle.std.specs.Prelude.{◌≡◌, [], ◌∷◌, ◌++◌, ℕ, Bool, true, false, pos, ◌&&◌, nat_eq, List, map, flat_map, codes, Option, Some, None}
+use Rattle.std.specs.Prelude.{◌≡◌, [], ◌∷◌, ◌++◌, ℕ, Bool, true, false, pos, ◌&&◌, nat_eq, List, map, flat_map, codes, Option, Some, None, refl}
 use Rattle.std.specs.List.{list_any, position_or_len}
 use Rattle.target_base.specs.declared.types.ClassId.{ClassId}
 use Rattle.target_base.specs.declared.types.IndexId.{IndexId}
 use Rattle.target_base.specs.Numbers.{reg_number, class_number, index_number, op_number}
 use Rattle.target_base.specs.declared.types.Effect.TheVariants as effects
+use Rattle.target_base.specs.declared.types.OpaqueKind.TheVariants as kinds
 use Rattle.target_base.specs.declared.types.Role.TheVariants as roles
 use Rattle.target_base.specs.declared.types.OpcodeDesc.{OpcodeDesc}
 use Rattle.target_base.specs.declared.types.Target.{Target}
 use Rattle.target_base.specs.Rules.{is_sound}
-use Rattle.target_base.specs.Mini.{mini_target, mini_units, mini_regs, mini_reserved, mini_indexes, mini_classes, mini_masks, mini_opcodes, gr32, op}
+use Rattle.target_base.specs.Mini.{mini_target, mini_units, mini_regs, mini_reserved, mini_indexes, mini_classes, mini_masks, mini_opcodes, no_options, gr32, op}
 use Rattle.mir_func.specs.declared.func.Loc.{Loc}
 use Rattle.mir_func.specs.declared.func.Loc.TheVariants.{Virtual, Fixed}
 use Rattle.mir_func.specs.declared.func.RegOp.{RegOp}
@@ -126,21 +127,21 @@ seen_over t f slots v facts =
 abbrev pub seen : Function → Slots → ℕ → Facts → List Block × List (Option ClassId) × List (ℕ × ℕ) × Slots
 seen = seen_over mini_target
 
--- the opcodes of the built-in target, and two with two definitions, of which one has a use tied to its first
+-- the opcodes of the built-in target, and two opaque ones with two definitions, of which one has a use tied to its first
 abbrev pub paired_opcodes : List OpcodeDesc
 paired_opcodes =
     mini_opcodes
-    ++ (op (codes "LDP") (effects.Load 1) (roles.Def gr32 ∷ roles.Def gr32 ∷ roles.Address gr32 ∷ roles.Imm ∷ [])
-    ∷ op (codes "LDPOST") (effects.Load 1) (roles.Early gr32 ∷ roles.Def gr32 ∷ roles.Tied gr32 ∷ roles.Read gr32 ∷ [])
+    ++ (op (codes "LDP") (effects.Opaque kinds.Plain) (roles.Def gr32 ∷ roles.Def gr32 ∷ roles.Address gr32 ∷ roles.Imm ∷ [])
+    ∷ op (codes "LDPOST") (effects.Opaque kinds.Plain) (roles.Early gr32 ∷ roles.Def gr32 ∷ roles.Tied gr32 0 ∷ roles.Read gr32 ∷ [])
     ∷ [])
 
--- a target that has them is sound; the rules of targets don't say so yet
-abbrev pub AreSound : Type 0
-AreSound = is_sound (codes "paired") 1 mini_units mini_regs mini_reserved mini_indexes mini_classes mini_masks paired_opcodes ≡ true
+pub paired_is_sound : is_sound (codes "paired") 1 mini_units mini_regs mini_reserved mini_indexes mini_classes mini_masks paired_opcodes ≡ true
+unfolding is_sound
+paired_is_sound = refl
 
--- a target that has them, as if it were sound; what becomes of a function doesn't hang on that
-abbrev pub paired_target : AreSound → Target
-paired_target sound = record {
+-- a target that has them
+abbrev pub paired_target : Target
+paired_target = record {
   name = codes "paired";
   version = 1;
   units = mini_units;
@@ -150,7 +151,8 @@ paired_target sound = record {
   classes = mini_classes;
   masks = mini_masks;
   opcodes = paired_opcodes;
-  sound = sound;
+  options = no_options;
+  sound = paired_is_sound;
 }
 
 abbrev pub COPY : ℕ

@@ -63,6 +63,11 @@ fn put_event(out: &mut Bytes, event: &Event) -> Result<(), AllocError>
             put(out, "ret")?;
             put_lanes(out, lanes.as_slice())
         }
+        Event::Opaque(name, lanes) => {
+            put(out, "op ")?;
+            out.extend(name.as_slice())?;
+            put_lanes(out, lanes.as_slice())
+        }
     }
 }
 

@@ -1,4 +1,6 @@
 //! Tests of the text of functions.
 
 #[cfg(test)]
+mod opted_in;
+#[cfg(test)]
 mod tests;

@@ -2,8 +2,8 @@ use std::alloc::Global;
 use std::string::String;
 use std::test::*;
 use target_desc::{
-    ClassDesc, IndexDesc, MaskDesc, OpcodeDesc, RegDesc, Target, TargetKind, TargetStop, UnitDesc,
-    mini, read_target,
+    ClassDesc, IndexDesc, MaskDesc, OpcodeDesc, RegDesc, Target, TargetKind, TargetStop,
+    TextOptions, UnitDesc, mini, read_target,
 };
 
 /// The line and the kind of the fault of a text; None where it spells a target or memory runs out.
@@ -190,6 +190,120 @@ fn each_rule_has_its_edge(rt: HostRuntime) -> Result<(), Fail> {
             Some((number, *kind)),
             "at {line}"
         );
+    }
+    Ok(())
+}
+
+/// One line of an opaque opcode, or of what is opted in, behind the lines of BASE and a class, and the
+/// kind of its fault; End where it stands.
+static OPAQUE: [(&str, TargetKind); 62] = [
+    ("form", TargetKind::Layout),
+    ("form wide", TargetKind::Layout),
+    ("form offset wide", TargetKind::Layout),
+    ("flags", TargetKind::Layout),
+    ("flags Hi", TargetKind::Layout),
+    ("flags a 1a", TargetKind::Layout),
+    ("flags _a", TargetKind::Layout),
+    ("flags a.b", TargetKind::Layout),
+    ("op X marker val", TargetKind::Layout),
+    ("op X add def:k use:k val:k", TargetKind::Layout),
+    ("op X add def:k tied/0:k use:k", TargetKind::Layout),
+    ("op COPY marker val", TargetKind::Layout),
+    ("op X marker", TargetKind::Layout),
+    ("op X opaque/jump target", TargetKind::Layout),
+    ("op X opaque/", TargetKind::Layout),
+    ("op X opaque val:", TargetKind::Layout),
+    ("op X opaque tied/:k", TargetKind::Layout),
+    ("op X opaque tied/-1:k", TargetKind::Layout),
+    ("op X opaque tied/1", TargetKind::Layout),
+    ("op X opaque use/1:k", TargetKind::Layout),
+    ("op COPY opaque", TargetKind::Name),
+    ("op X opaque use:q", TargetKind::Name),
+    ("op X opaque val:q", TargetKind::Name),
+    ("op X opaque val:ra", TargetKind::Name),
+    ("op X opaque def:k tied/1:q", TargetKind::Name),
+    ("op X opaque tied:k", TargetKind::Rule),
+    ("op X opaque def:k tied/1:k", TargetKind::Rule),
+    ("op X opaque def:k tied/256:k", TargetKind::Rule),
+    ("op X opaque def:k tied:kw", TargetKind::Rule),
+    ("op X opaque def:k tied:ka", TargetKind::Rule),
+    ("op X opaque def:k def:k tied:k tied/0:k", TargetKind::Rule),
+    ("op X opaque use:k def:k", TargetKind::Rule),
+    ("op X opaque any use:k", TargetKind::Rule),
+    ("op X opaque any rest", TargetKind::Rule),
+    ("op X opaque impdef:fl use:k", TargetKind::Rule),
+    ("op X opaque slot", TargetKind::Rule),
+    ("op X opaque lanes", TargetKind::Rule),
+    ("op X opaque target", TargetKind::Rule),
+    ("op X opaque mask", TargetKind::Rule),
+    ("op X opaque/branch use:k", TargetKind::Rule),
+    ("op X opaque/branch target target", TargetKind::Rule),
+    ("op X opaque/branch target mask", TargetKind::Rule),
+    ("op X opaque/branch def:k target", TargetKind::Rule),
+    ("op X opaque/call use:k", TargetKind::Rule),
+    ("op X opaque/call mask mask", TargetKind::Rule),
+    ("op X opaque/call mask target", TargetKind::Rule),
+    ("op X opaque/call def:k mask", TargetKind::Rule),
+    ("op X opaque/ret mask mask", TargetKind::Rule),
+    ("op X opaque/ret target", TargetKind::Rule),
+    ("op X opaque/ret early:k", TargetKind::Rule),
+    ("form offset pool noreg open", TargetKind::End),
+    ("form open open", TargetKind::End),
+    ("flags a a-b_9 a", TargetKind::End),
+    ("op X opaque", TargetKind::End),
+    ("op X opaque def:ka tied:k", TargetKind::End),
+    (
+        "op X opaque def:k early:kw tied/1:kw tied/00:k",
+        TargetKind::End,
+    ),
+    (
+        "op X opaque def:k use:kw val val:k addr:k imm sym frame any impuse:fl impdef:fl",
+        TargetKind::End,
+    ),
+    ("op X opaque rest", TargetKind::End),
+    ("op X opaque/branch use:k target impuse:fl", TargetKind::End),
+    ("op X opaque/call sym mask rest", TargetKind::End),
+    ("op X opaque/ret", TargetKind::End),
+    ("op X opaque/ret mask any", TargetKind::End),
+];
+
+#[test]
+fn opaque_lines_have_their_edges(rt: HostRuntime) -> Result<(), Fail> {
+    for (line, kind) in &OPAQUE {
+        let mut text = String::from_str(rt.alloc(), BASE)?;
+        text.push_str("class ka ra\n")?;
+        text.push_str(line)?;
+        let number = if *kind == TargetKind::End { 20 } else { 19 };
+        assert_eq!(rt;
+            fault_of(rt.alloc(), text.as_str()),
+            Some((number, *kind)),
+            "at {line}"
+        );
+    }
+    Ok(())
+}
+
+/// Whether the words of `target-flags` are these.
+fn has_flags(target: &Target, words: &[&str]) -> bool {
+    let flags = target.options.flags.as_slice();
+    flags.len() == words.len()
+        && flags
+            .iter()
+            .zip(words.iter())
+            .all(|(flag, word)| flag.as_slice() == word.as_bytes())
+}
+
+#[test]
+fn what_is_opted_in_is_read(rt: HostRuntime) -> Result<(), Fail> {
+    let text = "target t 1\nform pool\nflags b a b\nform pool open\nflags c a\n";
+    match read_target(rt.alloc(), text.as_bytes()) {
+        Ok(target) => {
+            let options = &target.options;
+            assert!(rt; options.pool && options.open_blocks);
+            assert!(rt; !options.offsets && !options.noreg);
+            assert!(rt; has_flags(&target, &["b", "a", "c"]));
+        }
+        Err(_) => assert!(rt; false, "no target"),
     }
     Ok(())
 }
@@ -501,12 +615,21 @@ fn same_storage(a: &Target, b: &Target) -> bool {
         && a.reserved.as_slice() == b.reserved.as_slice()
 }
 
+fn same_options(a: &TextOptions, b: &TextOptions) -> bool {
+    a.offsets == b.offsets
+        && a.pool == b.pool
+        && a.noreg == b.noreg
+        && a.open_blocks == b.open_blocks
+        && a.flags.len() == b.flags.len()
+}
+
 fn same_target(a: &Target, b: &Target) -> bool {
     same_storage(a, b)
         && same_indexes(a.indexes.as_slice(), b.indexes.as_slice())
         && same_classes(a.classes.as_slice(), b.classes.as_slice())
         && same_masks(a.masks.as_slice(), b.masks.as_slice())
         && same_opcodes(a.opcodes.as_slice(), b.opcodes.as_slice())
+        && same_options(&a.options, &b.options)
 }
 
 #[test]

@@ -3,7 +3,7 @@ use Rattle.std.specs.Prelude.{ℕ, List, [], ◌++◌, Some, None, codes}
 use Rattle.std.specs.List.{flat_map}
 use Rattle.std.specs.Fmt.{decimal}
 use Rattle.meaning.specs.Environment.{Value}
-use Rattle.meaning.specs.Perform.{Event, CallEvent, StoreEvent, ReturnEvent, End, Returned, Trapped, Undefined, Steps}
+use Rattle.meaning.specs.Perform.{Event, CallEvent, StoreEvent, ReturnEvent, OpaqueEvent, End, Returned, Trapped, Undefined, Steps}
 use Rattle.meaning.specs.Code.{Run}
 
 abbrev pub lane_word : Value → List ℕ
@@ -18,6 +18,7 @@ abbrev pub event_line : Event → List ℕ
 event_line (CallEvent name lanes) = codes "call " ++ (name ++ lane_words lanes)
 event_line (StoreEvent a lanes) = codes "store " ++ (decimal a ++ lane_words lanes)
 event_line (ReturnEvent lanes) = codes "ret" ++ lane_words lanes
+event_line (OpaqueEvent name lanes) = codes "op " ++ (name ++ lane_words lanes)
 
 abbrev pub event_lines : List Event → List ℕ
 event_lines events = flat_map event_line events
