@@ -58,9 +58,17 @@ class Rules:
                 out.append((next((r for r in desc.implicit if self.takes(o, r)), None), o))
         return out
 
-    def tied_pair(self, i):
-        tied = [o for r, o in self.bound(i) if r and r[0] == "tied" and isinstance(o, self.m.RegOp)]
-        return (self.registers(i.operands)[0], tied[0]) if tied else None
+    def is_opaque(self, i):
+        return self.effect(i) in ("opaque", "obranch", "ocall", "oret")
+
+    def tie(self, role):
+        """The place of the definition to which a role ties its use, or None."""
+        if not role or role[0] != "tied":
+            return None
+        return role[2] if len(role) > 2 else 0
+
+    def tied_pairs(self, i):
+        return [(i.operands[self.tie(r)], o) for r, o in self.bound(i) if self.tie(r) is not None]
 
     # -- lanes
 
@@ -94,14 +102,21 @@ class Rules:
             return True
         return not self.has_lanes(a) or self.widths(a) == self.widths(b, index)
 
-    def clashing(self, o):
+    def is_reserved(self, o):
+        return not o.virtual and set(self.t.units_of(o.num)) <= set(self.reserved)
+
+    def clashing(self, o, with_reserved=False):
         lanes = self.lanes(o) if self.has_lanes(o) else []
-        return {l for l in lanes if not (l[0] == "u" and l[1] in self.reserved)}
+        return {l for l in lanes if with_reserved or not (l[0] == "u" and l[1] in self.reserved)}
 
     # -- rules of an instruction
 
-    def fits_role(self, role, o):
+    def fits_role(self, role, o, is_opaque):
         m, kind = self.m, role[0]
+        if is_opaque and kind in ("any", "val") and isinstance(o, (m.Imm, m.Stk, m.Fix, m.Sym, m.Idx)):
+            return True
+        if kind == "val":
+            return isinstance(o, m.RegOp) and not o.defn and not o.implicit and (len(role) > 1 or self.is_reserved(o))
         if isinstance(o, m.RegOp):
             if kind in ("def", "early"):
                 return o.defn and not o.implicit
@@ -140,7 +155,7 @@ class Rules:
             return False
         roles, k = desc.explicit, 0
         for o in plain:
-            if k == len(roles) or not self.fits_role(roles[k], o):
+            if k == len(roles) or not self.fits_role(roles[k], o, self.is_opaque(i)):
                 return False
             k += roles[k][0] not in ("any", "rest")
         if any(r[0] not in ("any", "rest") for r in roles[k:]):
@@ -162,7 +177,8 @@ class Rules:
     def v2(self, i):
         t, m = self.t, self.m
         for role, o in self.bound(i):
-            if isinstance(o, m.RegOp) and role and role[0] in ("def", "early", "use", "tied", "addr") and self.has_lanes(o):
+            if isinstance(o, m.RegOp) and role and len(role) > 1 and role[0] in ("def", "early", "use", "tied", "addr", "val") \
+                    and self.has_lanes(o) and not (self.is_opaque(i) and role[0] in ("addr", "val") and self.is_reserved(o)):
                 named = [t.sub_of(r, o.index) for r in t.class_regs(self.f.classes[o.num])] if o.virtual else [o.num]
                 if not set(named) <= set(t.class_regs(role[1])):
                     return False
@@ -203,7 +219,7 @@ class Rules:
                                            and sorted(self.named(i)) == sorted(self.predecessors(b.number)))
 
     def terminates(self, i):
-        return self.effect(i) in ("jump", "jcc", "jnz", "ret")
+        return self.effect(i) in ("jump", "jcc", "jnz", "ret", "obranch", "oret")
 
     def v8(self, k, j, i):
         return self.terminates(i) or not any(self.terminates(x) for x in self.f.blocks[k].instrs[:j])
@@ -213,27 +229,25 @@ class Rules:
             if isinstance(o, self.m.RegOp):
                 if o.early and not (role and role[0] == "early"):
                     return False
-                if o.tie is not None and not (role and role[0] == "tied" and o.tie == 0):
+                if o.tie is not None and o.tie != self.tie(role):
                     return False
-        if not self.tied_pair(i):
-            return True
-        d, u = self.tied_pair(i)
         if self.allocated:
-            return d.loc == u.loc and d.index == u.index
-        return self.same_widths(d, u) if d.virtual and u.virtual else d.loc == u.loc
+            return all(d.loc == u.loc and d.index == u.index for d, u in self.tied_pairs(i))
+        return all(self.same_widths(d, u) if d.virtual and u.virtual else d.loc == u.loc for d, u in self.tied_pairs(i))
 
     def v12(self, i):
-        regs = self.registers(i.operands)
-        defs, readings = [o for o in regs if o.defn], [o for o in regs if not o.defn and not o.undef]
+        regs, is_opaque = self.registers(i.operands), self.is_opaque(i)
+        defs = [o for o in regs if o.defn]
         for d in defs:
-            if d.undef and (self.allocated or not d.virtual or any(u.loc == d.loc for u in readings)):
+            if d.undef and (self.allocated or not d.virtual or sum(o.loc == d.loc for o in regs if o.defn or not o.undef) > 1):
                 return False
-        if any(self.clashing(a) & self.clashing(b) for k, a in enumerate(defs) for b in defs[:k]):
+        if any(self.clashing(a, is_opaque) & self.clashing(b, is_opaque) for k, a in enumerate(defs) for b in defs[:k]):
             return False
-        untied = [o for r, o in self.bound(i) if isinstance(o, self.m.RegOp) and not o.defn and not o.undef
-                  and not (r and r[0] == "tied")]
-        return not any(r and r[0] == "early" and self.clashing(d) & self.clashing(u)
-                       for r, d in self.bound(i) if isinstance(d, self.m.RegOp) for u in untied)
+        uses = [(self.tie(r), o) for r, o in self.bound(i) if isinstance(o, self.m.RegOp) and not o.defn]
+        early = [(n, d) for n, (r, d) in enumerate(self.bound(i)) if r and r[0] == "early"]
+        if is_opaque and early and any(o.undef and tie is None for tie, o in uses):
+            return False
+        return not any(self.clashing(d) & self.clashing(u) for n, d in early for tie, u in uses if tie != n and not u.undef)
 
     def v15(self, i):
         if not self.allocated:
@@ -253,7 +267,10 @@ class Rules:
         return [b.number for b in self.f.blocks if n in self.successors(b)]
 
     def falls(self, b):
-        return not b.instrs or self.effect(b.instrs[-1]) not in ("jump", "ret")
+        return not b.instrs or self.effect(b.instrs[-1]) not in ("jump", "ret", "oret")
+
+    def is_open(self, b):
+        return b"open" in self.t.forms and not b.successors and not (b.instrs and self.terminates(b.instrs[-1]))
 
     def v5(self, k, b):
         named = self.successors(b) + [n for i in b.instrs for n in self.named(i)]
@@ -263,14 +280,14 @@ class Rules:
         return k > 0 or not self.predecessors(b.number)
 
     def v9(self, k, b):
-        branches = [i for i in b.instrs if self.effect(i) in ("jump", "jcc", "jnz")]
-        if not all(self.v1(i) for i in branches):
+        branches = [i for i in b.instrs if self.effect(i) in ("jump", "jcc", "jnz", "obranch")]
+        if not all(self.v1(i) for i in branches) or self.is_open(b):
             return True
         due = {n for i in branches for n in self.named(i)} | set(self.numbers[k + 1:k + 2] if self.falls(b) else [])
         return sorted(self.successors(b)) == sorted(due)
 
     def v10(self, k, b):
-        return k + 1 < len(self.numbers) or not self.falls(b)
+        return k + 1 < len(self.numbers) or not self.falls(b) or self.is_open(b)
 
     def v15_frame(self, k):
         return k > 0 or self.allocated or not any(spill for _, spill in self.f.frames)
@@ -306,7 +323,7 @@ class Rules:
                 condition = next(x.value for x in os if isinstance(x, m.Imm))
                 lanes = lanes[{2: 2, 3: 2, 4: 0, 5: 0, 12: 1, 13: 1}.get(condition, 0):][:1]
             read += lanes
-        if effect == "call":
+        if effect in ("call", "ocall"):
             kept = {u for o in os if isinstance(o, m.Msk) for u in self.t.mask_units[o.mask]}
             written += [("u", u) for u in range(len(self.t.units)) if u not in kept]
         return read, [], written
