@@ -5,7 +5,8 @@
 
 FILE holds documents: a module in IR (`--- |`) and functions in Machine IR, as `llc -stop-before=phi-node-elimination` prints
 them. OUT gets each function that `llra alloc TARGET` allocates, with the module before them, so that
-`llc -start-after=virtregrewriter` can go on (bench/spill_names.py first). Standard output gets a table of what was refused:
+`llc -start-after=virtregrewriter` can go on (bench/spill_names.py first). In that module the refused functions are declared and
+not defined any more: llc ends with a fault at a definition that has no machine function. Standard output gets a table of what was refused:
 function, place, opcode or line, and the rule or fault in words. The status is 0 where all were allocated, else 1.
 
 llra itself ends at the first document that it refuses. Here each function is a run of its own, so one refusal costs one
@@ -104,27 +105,47 @@ def refusal(message, path, document, name):
     return "-", "-", message.replace(path, name), ""
 
 
+def declared(module, names):
+    """A module in IR, as lines, in which the functions of these names are declared and not defined."""
+    made, inside = [], False
+    for line in module:
+        head = re.match(r"  define ([^@]*@\"?([\w.$-]+)\"?\(.*\)[^()]*)\{$", line)
+        if head and head[2] in names:
+            inside = True
+            words = re.sub(r"\b(internal|private|weak_odr|linkonce_odr|weak|linkonce) |!\w+ !\d+ ", "", head[1])
+            made.append("  declare " + words.rstrip())
+        elif not inside:
+            made.append(line)
+        inside = inside and line != "  }"
+    return made
+
+
 def main(target, path, out):
     llra = os.environ.get("LLRA") or subprocess.run([HERE + "/../llra"], env={**os.environ, "LLRA_WHERE": "1"}, stdout=subprocess.PIPE, check=True).stdout.decode().strip()
     with open(path, encoding="utf-8") as it:
         parts = documents(it.read().split("\n"))
-    refused, taken = [], 0
-    with open(out, "w", encoding="utf-8") as to, tempfile.TemporaryDirectory() as work:
+    refused, written, taken = [], [], 0
+    with tempfile.TemporaryDirectory() as work:
         one = work + "/f.mir"
         for document in parts:
             name = name_of(document)
             text = "\n".join(document).rstrip("\n") + "\n"
             if name is None:
-                to.write(text if text.strip() else "")
+                written.append(document)
                 continue
             with open(one, "w", encoding="utf-8") as it:
                 it.write(text)
             done = subprocess.run([llra, "alloc", target, one], stdout=subprocess.PIPE, stderr=subprocess.PIPE)
             if done.returncode == 0:
                 taken += 1
-                to.write(done.stdout.decode())
+                written.append(done.stdout.decode().split("\n"))
             else:
                 refused.append((name, *refusal(done.stderr.decode(), one, document, name)))
+    names = {it[0] for it in refused}
+    with open(out, "w", encoding="utf-8") as to:
+        for document in written:
+            lines = declared(document, names) if document[0].startswith("--- |") else document
+            to.write("\n".join(lines).rstrip("\n") + "\n" if any(lines) else "")
     for name, place, word, why, text in refused:
         print("%s\t%s\t%s\t%s\n\t%s" % (name, place, word, why, text))
     print("%d allocated, %d refused" % (taken, len(refused)))

@@ -1,7 +1,7 @@
 #!/usr/bin/env python3
 """Compares the program with a reference model over targets with opaque instructions.
 
-Run: compare_opaque.py MODEL PROGRAM SEED COUNT
+Run: compare_opaque.py MODEL PROGRAM SEED COUNT [texts]
 
 MODEL is the folder of the reference model (the package `llra_ref` and the modules `fuzz_opaque` and
 `fuzz_opaque_text`), PROGRAM the executable of `llra`. For each of COUNT seeds from SEED it makes a target with opaque
@@ -10,7 +10,10 @@ text, the target or both are mutated. Every command is asked of each: allocation
 intervals, runs of the source and of its allocation under several environments, both verifiers, and the checker of the
 allocation, of the source beside itself and of allocations with one operand changed or one instruction dropped. Output,
 line and status must be the model's. It prints the first differences and counts, and ends with 1 where there is a
-difference."""
+difference.
+
+With `texts` it makes six functions for each seed, most of them with the text, the target or both mutated, and asks of each
+`alloc`, `run` and `check` alone, and both verifiers and the checker of what is allocated: more inputs in less time."""
 import collections
 import os
 import random
@@ -19,6 +22,7 @@ import sys
 import tempfile
 
 MODEL, PROGRAM, SEED, COUNT = sys.argv[1], os.path.abspath(sys.argv[2]), int(sys.argv[3]), int(sys.argv[4])
+TEXTS = sys.argv[5:] == ["texts"]
 sys.path.insert(0, MODEL)
 sys.argv = ["", "0", "0"]  # (the module below goes over so many seeds when it is imported)
 import llra_ref as L  # noqa: E402
@@ -32,6 +36,8 @@ OF_SOURCE = ["trace T IN", "intervals T IN", "alloc basic T IN", "alloc cut T IN
              "run T IN f 7 1", "run T IN f 400 12"]
 OF_ALLOCATION = ["verify allocated T OUT", "check T IN OUT", "run T OUT f 60 3", "run T OUT f 400 12", "alloc T OUT"]
 OF_DAMAGED = ["check T IN BAD", "verify allocated T BAD", "run T BAD f 60 3"]
+if TEXTS:
+    OF_SOURCE, OF_ALLOCATION = ["run T IN f 60 3", "check T IN IN"], ["verify allocated T OUT", "check T IN OUT"]
 
 
 def model(words, files):
@@ -43,17 +49,18 @@ def program(words, folder):
     return done.returncode, done.stdout, done.stderr
 
 
-def cases(seed):
-    """(target, document) of a seed, as they are or mutated."""
+def cases(seed, mutated):
+    """(target, document) of a seed, as they are or mutated; counts those that are."""
     rnd = random.Random(seed)
     text, ops = make_target(rnd)
-    for _ in range(4):
-        target, data = text.encode(), Fn(rnd, ops).text().encode()
-        if rnd.random() < .5:
+    for _ in range(6 if TEXTS else 4):
+        whole = target, data = text.encode(), Fn(rnd, ops).text().encode()
+        if TEXTS or rnd.random() < .5:
             if rnd.random() < .7:
                 data = mutate(rnd, data)
             if rnd.random() < .4:
                 target = mutate(rnd, target)
+        mutated.update(texts=data != whole[1], targets=target != whole[0], cases=(target, data) != whole)
         yield rnd, target, data
 
 
@@ -76,7 +83,7 @@ def questions(rnd, target, data):
     files = {**files, "OUT": first[1]}
     for words in OF_ALLOCATION:
         yield words, files, model(words, files)
-    for _ in range(2):
+    for _ in range(0 if TEXTS else 2):
         bad = damage(rnd, target, first[1])
         if bad is not None:
             for words in OF_DAMAGED:
@@ -98,9 +105,9 @@ def keep(seed, words, files, have, want):
 
 
 def main():
-    counts, functions, bad = collections.Counter(), 0, 0
+    counts, mutated, functions, bad = collections.Counter(), collections.Counter(), 0, 0
     for seed in range(SEED, SEED + COUNT):
-        for rnd, target, data in cases(seed):
+        for rnd, target, data in cases(seed, mutated):
             functions += 1
             with tempfile.TemporaryDirectory() as folder:
                 for words, files, want in questions(rnd, target, data):
@@ -113,6 +120,7 @@ def main():
                             keep(seed, words, files, have, want)
     for (command, status), n in sorted(counts.items()):
         print("%s: status %d: %d" % (command, status, n))
+    print("mutated: %d functions: %d texts, %d targets" % (mutated["cases"], mutated["texts"], mutated["targets"]))
     print("compared: %d functions, %d runs; differences: %d" % (functions, sum(counts.values()), bad))
     sys.exit(1 if bad or not counts else 0)
 

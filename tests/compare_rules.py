@@ -1,20 +1,24 @@
 #!/usr/bin/env python3
-"""Sees that the stored rows of the validity rules are what their names say.
+"""Sees that the cases of the validity rules are what their names say.
 
-Run: compare_rules.py [--write] MODEL [ROWS]
+Run: compare_rules.py [--write] MODEL [CASES]
 
-MODEL is the folder of a reference model (the package `llra_ref`), ROWS that of the rows (tests/rows). Each folder
-rule_NN_FORM_breaks.. of ROWS holds a function `f` that breaks rule NN and no other in the form FORM (source or
-allocated), and each rule_NN_FORM_edge.. one at the edge of rule NN that is valid in the form. Here each rule is asked
-on its own at each place, as it is defined, also where another fails: the rules that fail somewhere must be just NN, or
-none. But where an allocated function names a virtual register V14 can't hold, though it isn't asked where another rule
-fails, and may fail beside NN. The model's answer must be that of the rows: `valid f`, or a line that names rule NN. Each
-rule must have its two rows without a further word in each form.
+MODEL is the folder of a reference model (the package `llra_ref`), CASES that of the cases (tests/cases/rules). Each file
+rule_NN_FORM_breaks.. of CASES holds a function `f` that breaks rule NN and no other in the form FORM (source or
+allocated), and each rule_NN_FORM_edge.. one at the edge of rule NN that is valid in the form; its run is `verify FORM`.
+Here each rule is asked on its own at each place, as it is defined, also where another fails: the rules that fail
+somewhere must be just NN, or none. But where an allocated function names a virtual register V14 can't hold, though it
+isn't asked where another rule fails, and may fail beside NN. The model's answer must be that of the case: `valid f`, or
+a line that names rule NN. Each rule must have its two cases without a further word in each form.
 
-With --write the words and what the model answers are written into each folder first."""
+With --write what the model answers is written into each case first."""
 import itertools
 import os
 import sys
+
+import case_files
+
+TESTS = os.path.dirname(os.path.abspath(__file__))
 
 
 class Rules:
@@ -396,28 +400,38 @@ class Rules:
         return out
 
 
-def read(folder, name):
-    with open(os.path.join(folder, name), "rb") as f:
+def read(path):
+    with open(path, "rb") as f:
         return f.read()
 
 
-def answers(cli, folder, words):
-    status, out, line = cli.top(words, cli.MemFiles({n.encode(): read(folder, n) for n in os.listdir(folder)}))
-    return {"words": b"".join(w + b"\n" for w in words), "stdout": out, "stderr": line, "status": b"%d\n" % status}
+def target_text(case, word):
+    """The text of the target that a run names, or None for the built-in one."""
+    return None if word == "-" else case.parts["target"] if word == "%t" else read(os.path.join(TESTS, "..", word))
 
 
-def check(model, cli, L, folder, is_written):
-    """What is wrong with a row, as lines."""
-    _, number, form, kind = os.path.basename(folder).split("_")[:4]
-    has_target = os.path.exists(os.path.join(folder, "T"))
-    target = L.read_target(read(folder, "T")) if has_target else L.mini()
-    wanted = answers(cli, folder, [b"verify", form.encode(), b"T" if has_target else b"-", b"IN"])
-    for name, data in wanted.items() if is_written else ():
-        with open(os.path.join(folder, name), "wb") as f:
-            f.write(data)
-    wrong = [f"{name}: {read(folder, name)!r}, the model's {data!r}" for name, data in wanted.items()
-             if read(folder, name) != data]
-    pieces = [L.read_doc(target, n == 0, 1, piece) for n, piece in enumerate(L.pieces(read(folder, "IN")))]
+def answer(cli, words, files):
+    """The run of these words over these files as the model answers it."""
+    status, out, line = cli.top([w.encode() for w in words], cli.MemFiles(files))
+    return case_files.Run(" ".join(words), status, line.decode().splitlines(), out)
+
+
+def check(model, cli, L, path, is_written):
+    """What is wrong with a case, as lines, and the rules that fail beside its own."""
+    _, number, form, kind = os.path.basename(path)[:-len(".mir")].split("_")[:4]
+    case = case_files.read(read(path))
+    run, = case.runs()
+    word = run.words.split()[2]
+    text = target_text(case, word)
+    wanted = answer(cli, ["verify", form, word, "%s"], {b"%s": case.parts["input"], word.encode(): text or b""})
+    if is_written:
+        case.head = [wanted if item is run else item for item in case.head]
+        run = wanted
+        with open(path, "wb") as f:
+            f.write(case_files.text(case))
+    wrong = [] if run == wanted else [f"{run}, the model's {wanted}"]
+    target = L.mini() if text is None else L.read_target(text)
+    pieces = [L.read_doc(target, n == 0, 1, piece) for n, piece in enumerate(L.pieces(case.parts["input"]))]
     f, = [doc.func for doc in pieces if doc.kind == "function"]
     rules = Rules(model, target, f, form == "allocated")
     found = rules.faults()
@@ -426,9 +440,9 @@ def check(model, cli, L, folder, is_written):
     if failing != due and not (form == "allocated" and kind == "breaks" and failing == due | {14}):
         wrong.append(f"fails: {sorted(found)}")
     told = min((x for x in found if x[2] in due), default=None)
-    line = b"" if told is None else b"llra: f: bb.%d:%d: V%d\n" % (f.blocks[told[0]].number, told[1], told[2])
-    if wanted["stderr"] != line or wanted["stdout"] != (b"" if line else b"valid f\n"):
-        wrong.append(f"the model says {wanted['stdout'] + wanted['stderr']!r}")
+    line = [] if told is None else ["llra: f: bb.%d:%d: V%d" % (f.blocks[told[0]].number, told[1], told[2])]
+    if wanted.lines != line or wanted.output != (b"" if line else b"valid f\n"):
+        wrong.append(f"the model says {wanted.output!r} {wanted.lines}")
     first = L.first_fault(target, f, form == "allocated")
     if first != told:
         wrong.append(f"the model's first fault: {first}")
@@ -437,22 +451,22 @@ def check(model, cli, L, folder, is_written):
 
 def main(words):
     is_written = words[:1] == ["--write"]
-    folder, rows = (words[is_written:] + [os.path.join(os.path.dirname(os.path.abspath(__file__)), "rows")])[:2]
+    folder, cases = (words[is_written:] + [os.path.join(TESTS, "cases/rules")])[:2]
     sys.path.insert(0, folder)
     import llra_ref as L
     from llra_ref import cli, model
-    names = sorted(n for n in os.listdir(rows) if n.startswith("rule_"))
+    names = sorted(n[:-len(".mir")] for n in os.listdir(cases) if n.startswith("rule_"))
     count = failed = 0
     beside = []
     for name in names:
-        wrong, more = check(model, cli, L, os.path.join(rows, name), is_written)
+        wrong, more = check(model, cli, L, os.path.join(cases, name + ".mir"), is_written)
         beside += [name] if more else []
         count, failed = count + 1, failed + bool(wrong)
         for line in wrong:
             print(f"{name}: {line}")
     due = [f"rule_{k:02}_{form}_{kind}" for k in range(1, 17) for form in ("source", "allocated") for kind in ("breaks", "edge")]
     lacking = sorted(set(due) - set(names))
-    print(f"{count} rows, {failed} wrong, {len(lacking)} lacking {' '.join(lacking)}")
+    print(f"{count} cases, {failed} wrong, {len(lacking)} lacking {' '.join(lacking)}")
     print(f"V14 isn't asked and would fail too: {' '.join(beside)}")
     return 1 if failed or lacking else 0
 

@@ -24,55 +24,49 @@ known-append k xs ys h = both-true (all_known k xs) (all_known k ys) (sym (all-a
 pub append-known : (k : Knowledge) (xs ys : Facts) → all_known k xs ≡ true → all_known k ys ≡ true → all_known k (xs ++ ys) ≡ true
 append-known k xs ys a b = all-append k xs ys ∙ and_from (all_known k xs) (all_known k ys) a b
 
--- one fact, where it counts
-counted-one : (k : Knowledge) (b : Bool) (f : Fact) → k f.0 f.1 ≡ true → all_known k (cond b (f ∷ []) []) ≡ true
-counted-one k true f h = and_from (k f.0 f.1) true h refl
-counted-one k false f h = refl
+behind : (a b : Bool) → a && (b && true) ≡ b && a
+behind true true = refl
+behind true false = refl
+behind false true = refl
+behind false false = refl
 
--- a fact that stays is kept, and one that doesn't is taken
-pub split-keeps :
-    (ws vs : Writes) (facts before kept taken : Facts) (i : ℕ) (f : Fact) → i < length facts → f ≡ get_or facts i f → stays_both ws vs f ≡ true →
-    Splits ws vs (take i facts) before kept taken → Splits ws vs (take (i + 1) facts) before (kept ++ f ∷ []) taken
-split-keeps ws vs facts before kept taken i f lt at stay s k counts h t =
-    let after = known_both ws vs k in
-    let p = known-append k (filter counts kept) (filter counts (f ∷ [])) (ap (all_known k) (sym (filter-append counts kept (f ∷ []))) ∙ h) in
-    let q = s k counts p.0 t in
-    let grown : take (i + 1) facts ≡ take i facts ++ f ∷ [] = take_more facts i f lt ∙ ap (λ x. take i facts ++ x ∷ []) (sym at) in (
-      subst (λ fs. all_known after (filter counts fs) ≡ true) (sym grown)
-          (subst (λ fs. all_known after fs ≡ true) (sym (filter-append counts (take i facts) (f ∷ [])))
-          (append-known after (filter counts (take i facts)) (filter counts (f ∷ [])) q.0 (go (counts f) p.1))),
-      q.1,
-    )
-  where
-    go : (b : Bool) → all_known k (cond b (f ∷ []) []) ≡ true → all_known (known_both ws vs k) (cond b (f ∷ []) []) ≡ true
-    go true e = and_from (known_both ws vs k f.0 f.1) true (known-stays ws vs k f stay (both-true (k f.0 f.1) true e).0) refl
-    go false e = refl
+inner : (a b c : Bool) → (a && b) && c ≡ a && (b && c)
+inner true b c = refl
+inner false b c = refl
 
-pub split-takes :
-    (ws vs : Writes) (facts before kept taken : Facts) (i : ℕ) (f : Fact) → i < length facts → f ≡ get_or facts i f →
-    Splits ws vs (take i facts) before kept taken → Splits ws vs (take (i + 1) facts) before kept (taken ++ f ∷ [])
-split-takes ws vs facts before kept taken i f lt at s k counts h t =
-    let after = known_both ws vs k in
-    let p = known-append after taken (f ∷ []) t in
-    let q = s k counts h p.0 in
-    let grown : take (i + 1) facts ≡ take i facts ++ f ∷ [] = take_more facts i f lt ∙ ap (λ x. take i facts ++ x ∷ []) (sym at) in (
-      subst (λ fs. all_known after (filter counts fs) ≡ true) (sym grown)
-          (subst (λ fs. all_known after fs ≡ true) (sym (filter-append counts (take i facts) (f ∷ [])))
-          (append-known after (filter counts (take i facts)) (filter counts (f ∷ [])) q.0 (counted-one after (counts f) f (both-true (after f.0 f.1) true p.1).0))),
-      q.1,
-    )
+outer : (a b c : Bool) → b && (a && c) ≡ a && (b && c)
+outer true true c = refl
+outer true false c = refl
+outer false true c = refl
+outer false false c = refl
 
-pub split-kept :
-    (ws vs : Writes) (facts before kept taken kept' taken' : Facts) (i : ℕ) (f : Fact) → i < length facts → f ≡ get_or facts i f → stays_both ws vs f ≡ true →
-    kept' ≡ kept ++ f ∷ [] → taken' ≡ taken → Splits ws vs (take i facts) before kept taken → Splits ws vs (take (i + 1) facts) before kept' taken'
-split-kept ws vs facts before kept taken kept' taken' i f lt at stay e e' s =
-    subst (λ x. Splits ws vs (take (i + 1) facts) before x taken') (sym e) (subst (λ x. Splits ws vs (take (i + 1) facts) before (kept ++ f ∷ []) x) (sym e') (split-keeps ws vs facts before kept taken i f lt at stay s))
+and-true : (b : Bool) → b && true ≡ b
+and-true true = refl
+and-true false = refl
 
-pub split-taken :
-    (ws vs : Writes) (facts before kept taken kept' taken' : Facts) (i : ℕ) (f : Fact) → i < length facts → f ≡ get_or facts i f →
-    kept' ≡ kept → taken' ≡ taken ++ f ∷ [] → Splits ws vs (take i facts) before kept taken → Splits ws vs (take (i + 1) facts) before kept' taken'
-split-taken ws vs facts before kept taken kept' taken' i f lt at e e' s =
-    subst (λ x. Splits ws vs (take (i + 1) facts) before x taken') (sym e) (subst (λ x. Splits ws vs (take (i + 1) facts) before kept x) (sym e') (split-takes ws vs facts before kept taken i f lt at s))
+and-swap : (a b : Bool) → a && b ≡ b && a
+and-swap true b = sym (and-true b)
+and-swap false true = refl
+and-swap false false = refl
+
+-- one test more on both sides
+and-kept : (a b c d x : Bool) → a && b ≡ c && d → (a && x) && b ≡ (c && x) && d
+and-kept true b true d x h = ap (λ y. x && y) h
+and-kept true b false d true h = h
+and-kept true b false d false h = refl
+and-kept false b true d true h = h
+and-kept false b true d false h = refl
+and-kept false b false d x h = refl
+
+and-taken : (a b c d x : Bool) → a && b ≡ c && d → (a && x) && b ≡ c && (d && x)
+and-taken true b true d x h = ap (λ y. x && y) h ∙ and-swap x d
+and-taken true b false d true h = h
+and-taken true b false d false h = refl
+and-taken false b true d x h = ap (λ y. y && x) h
+and-taken false b false d x h = refl
+
+pub known-push : (k : Knowledge) (xs : Facts) (f : Fact) → all_known k (xs ++ f ∷ []) ≡ all_known k xs && k f.0 f.1
+known-push k xs f = all-append k xs (f ∷ []) ∙ ap (λ b. all_known k xs && b) (and-true (k f.0 f.1))
 
 -- the facts of a cell that count, one after the other
 counted-more : (p : Fact → Bool) (facts : Facts) (i : ℕ) (f : Fact) (b : Bool) → i < length facts → f ≡ get_or facts i f → p f ≡ b → filter p (take (i + 1) facts) ≡ filter p (take i facts) ++ cond b (f ∷ []) []
@@ -93,30 +87,67 @@ pub list-passes :
 list-passes p facts old listed new i f lt at e h n =
     n ∙ (h ∙ ap (λ x. old ++ x) (sym (counted-more p facts i f false lt at e ∙ append-nil (filter p (take i facts)))))
 
-pub split-none : (ws vs : Writes) (taken : Facts) → Splits ws vs [] taken [] taken
-split-none ws vs taken k counts h t = (refl, t)
+pub split-none : (counts : Fact → Bool) (ws vs : Writes) (taken : Facts) → Splits counts ws vs [] taken [] taken
+split-none counts ws vs taken k = refl
+
+module _ (counts : Fact → Bool) (ws vs : Writes) (facts before kept taken kept' taken' : Facts) (i : ℕ) (f : Fact) (lt : i < length facts) (at : f ≡ get_or facts i f) where
+  -- a fact that doesn't count
+  pub split-passes : counts f ≡ false → kept' ≡ kept → taken' ≡ taken → Splits counts ws vs (take i facts) before kept taken → Splits counts ws vs (take (i + 1) facts) before kept' taken'
+  split-passes own e e' s k =
+      let after = known_both ws vs k in
+      ap (λ fs. all_known after fs && all_known after before) (counted-more counts facts i f false lt at own ∙ append-nil (filter counts (take i facts)))
+      ∙ (s k ∙ (λ j. all_known k (filter counts (sym e j)) && all_known after (sym e' j)))
+
+  -- one that stays is kept
+  pub split-keeps : counts f ≡ true → stays_both ws vs f ≡ true → kept' ≡ kept ++ f ∷ [] → taken' ≡ taken → Splits counts ws vs (take i facts) before kept taken → Splits counts ws vs (take (i + 1) facts) before kept' taken'
+  split-keeps own stay e e' s k =
+      let after = known_both ws vs k in
+      let a = all_known after (filter counts (take i facts)) in
+      let c = all_known k (filter counts kept) in
+      let old : all_known after (filter counts (take (i + 1) facts)) ≡ a && k f.0 f.1 =
+      ap (all_known after) (counted-more counts facts i f true lt at own) ∙ (known-push after (filter counts (take i facts)) f ∙ ap (λ b. a && b) (known-stays ws vs k f stay)) in
+      let new : all_known k (filter counts kept') ≡ c && k f.0 f.1 =
+      ap (λ fs. all_known k (filter counts fs)) e ∙ (ap (all_known k) (filter-append counts kept (f ∷ []) ∙ ap (λ b. filter counts kept ++ cond b (f ∷ []) []) own) ∙ known-push k (filter counts kept) f) in
+      ap (λ b. b && all_known after before) old
+      ∙ (and-kept a (all_known after before) c (all_known after taken) (k f.0 f.1) (s k) ∙ (λ j. sym new j && all_known after (sym e' j)))
+
+  -- any other is taken
+  pub split-takes : counts f ≡ true → kept' ≡ kept → taken' ≡ taken ++ f ∷ [] → Splits counts ws vs (take i facts) before kept taken → Splits counts ws vs (take (i + 1) facts) before kept' taken'
+  split-takes own e e' s k =
+      let after = known_both ws vs k in
+      let a = all_known after (filter counts (take i facts)) in
+      let d = all_known after taken in
+      let old : all_known after (filter counts (take (i + 1) facts)) ≡ a && after f.0 f.1 =
+      ap (all_known after) (counted-more counts facts i f true lt at own) ∙ known-push after (filter counts (take i facts)) f in
+      let more : all_known after taken' ≡ d && after f.0 f.1 = ap (all_known after) e' ∙ known-push after taken f in
+      ap (λ b. b && all_known after before) old
+      ∙ (and-taken a (all_known after before) (all_known k (filter counts kept)) d (after f.0 f.1) (s k) ∙ (λ j. all_known k (filter counts (sym e j)) && sym more j))
+
+pub split-whole : (counts : Fact → Bool) (ws vs : Writes) (facts before kept taken : Facts) (i : ℕ) → length facts ≤ i → Splits counts ws vs (take i facts) before kept taken → Splits counts ws vs facts before kept taken
+split-whole counts ws vs facts before kept taken i le s = subst (λ fs. Splits counts ws vs fs before kept taken) (take_all i facts le) s
+
+-- facts that count and stay
+known-counts :
+    (ws vs : Writes) (k : Knowledge) (counts : Fact → Bool) (f : Fact) (rest : Facts) (b : Bool) → counts f ≡ b → (counts f ≡ true → stays_both ws vs f ≡ true) →
+    all_known (known_both ws vs k) rest ≡ all_known k rest → all_known (known_both ws vs k) (cond b (f ∷ rest) rest) ≡ all_known k (cond b (f ∷ rest) rest)
+known-counts ws vs k counts f rest true own stay more = λ j. known-stays ws vs k f (stay own) j && more j
+known-counts ws vs k counts f rest false own stay more = more
 
 -- a cell whose facts all stay
 pub takes-nothing : (slots : ℕ) (ws vs : Writes) (c : Cell) (taken : Facts) → list_all (stays_both ws vs) c.facts ≡ true → CellTakes slots ws vs c taken c taken
-takes-nothing slots ws vs c taken e k h t = (go c.facts e h, t)
+takes-nothing slots ws vs c taken e k = ap (λ b. b && all_known (known_both ws vs k) taken) (go c.facts e)
   where
-    one : (f : Fact) (rest : Facts) (b : Bool) → stays_both ws vs f ≡ true → (all_known k rest ≡ true → all_known (known_both ws vs k) rest ≡ true) → all_known k (cond b (f ∷ rest) rest) ≡ true → all_known (known_both ws vs k) (cond b (f ∷ rest) rest) ≡ true
-    one f rest true stay more x =
-        let p = both-true (k f.0 f.1) (all_known k rest) x in
-        and_from (known_both ws vs k f.0 f.1) (all_known (known_both ws vs k) rest) (known-stays ws vs k f stay p.0) (more p.1)
-    one f rest false stay more x = more x
-
-    go : (facts : Facts) → list_all (stays_both ws vs) facts ≡ true → all_known k (filter (belongs slots c) facts) ≡ true → all_known (known_both ws vs k) (filter (belongs slots c) facts) ≡ true
-    go [] s x = refl
-    go (f ∷ facts) s x =
+    go : (facts : Facts) → list_all (stays_both ws vs) facts ≡ true → all_known (known_both ws vs k) (filter (belongs slots c) facts) ≡ all_known k (filter (belongs slots c) facts)
+    go [] s = refl
+    go (f ∷ facts) s =
         let p = both-true (stays_both ws vs f) (list_all (stays_both ws vs) facts) s in
-        one f (filter (belongs slots c) facts) (belongs slots c f) p.0 (go facts p.1) x
+        known-counts ws vs k (belongs slots c) f (filter (belongs slots c) facts) (belongs slots c f) refl (λ own. p.0) (go facts p.1)
 
 -- a cell whose slots aren't marked
 pub takes-unmarked :
     (slots : ℕ) (ws vs : Writes) (marks marks' : List Bool) (c : Cell) (taken : Facts) → Marks slots marks ws → Marks slots marks' vs →
     get_or marks c.left true ≡ false → get_or marks' c.right true ≡ false → CellTakes slots ws vs c taken c taken
-takes-unmarked slots ws vs marks marks' c taken m m' e e' k h t = (go c.facts h, t)
+takes-unmarked slots ws vs marks marks' c taken m m' e e' k = ap (λ b. b && all_known (known_both ws vs k) taken) (go c.facts)
   where
     stay : (f : Fact) → belongs slots c f ≡ true → stays_both ws vs f ≡ true
     stay f b =
@@ -125,15 +156,9 @@ takes-unmarked slots ws vs marks marks' c taken m m' e e' k h t = (go c.facts h,
         (stays-unmarked slots marks ws f.0 m (ap (λ a. get_or marks a true) (eqb-true (source_slot slots f.0) c.left p.0) ∙ e))
         (stays-unmarked slots marks' vs f.1 m' (ap (λ a. get_or marks' a true) (eqb-true (source_slot slots f.1) c.right p.1) ∙ e'))
 
-    one : (f : Fact) (rest : Facts) (b : Bool) → belongs slots c f ≡ b → (all_known k rest ≡ true → all_known (known_both ws vs k) rest ≡ true) → all_known k (cond b (f ∷ rest) rest) ≡ true → all_known (known_both ws vs k) (cond b (f ∷ rest) rest) ≡ true
-    one f rest true is more x =
-        let p = both-true (k f.0 f.1) (all_known k rest) x in
-        and_from (known_both ws vs k f.0 f.1) (all_known (known_both ws vs k) rest) (known-stays ws vs k f (stay f is) p.0) (more p.1)
-    one f rest false is more x = more x
-
-    go : (facts : Facts) → all_known k (filter (belongs slots c) facts) ≡ true → all_known (known_both ws vs k) (filter (belongs slots c) facts) ≡ true
-    go [] x = refl
-    go (f ∷ facts) x = one f (filter (belongs slots c) facts) (belongs slots c f) refl (go facts) x
+    go : (facts : Facts) → all_known (known_both ws vs k) (filter (belongs slots c) facts) ≡ all_known k (filter (belongs slots c) facts)
+    go [] = refl
+    go (f ∷ facts) = known-counts ws vs k (belongs slots c) f (filter (belongs slots c) facts) (belongs slots c f) refl (stay f) (go facts)
 
 -- cell after cell
 asked-append : (slots : ℕ) (cs ds : List Cell) → asked_in slots (cs ++ ds) ≡ asked_in slots cs ++ asked_in slots ds
@@ -152,8 +177,12 @@ asked-empty slots cs c e h = asked-more slots cs c ∙ (λ i. e i ++ filter (bel
 asked-one : (slots : ℕ) (k : Knowledge) (cs : List Cell) (c : Cell) → all_known k (asked_in slots (cs ++ c ∷ [])) ≡ all_known k (asked_in slots cs) && all_known k (counting slots c)
 asked-one slots k cs c = ap (all_known k) (asked-more slots cs c) ∙ all-append k (asked_in slots cs) (counting slots c)
 
-pub taken-none : (slots : ℕ) (ws vs : Writes) (cells : List Cell) (taken : Facts) → TakenTo slots ws vs 0 cells cells taken
-taken-none slots ws vs cells taken = record { same = refl; rest = λ j c h. refl; done = λ k h t. refl }
+pub taken-none : (slots : ℕ) (ws vs : Writes) (cells : List Cell) → TakenTo slots ws vs 0 cells cells []
+taken-none slots ws vs cells = record { same = refl; rest = λ j c h. refl; done = λ k. refl }
+
+regroup : (a b c : Bool) → (a && b) && c ≡ a && (c && b)
+regroup true b c = and-swap b c
+regroup false b c = refl
 
 pub taken-more :
     (slots : ℕ) (ws vs : Writes) (i : ℕ) (old now : List Cell) (taken : Facts) (c c' : Cell) (taken' : Facts) → i < length now → c ≡ get_or now i c →
@@ -161,41 +190,33 @@ pub taken-more :
 taken-more slots ws vs i old now taken c c' taken' lt at to takes =
     let within : i < length old = subst (λ n. i < n) to.same lt in
     let here : c ≡ get_or old i c = at ∙ to.rest i c (omega arith) in
+    let grown : take (i + 1) old ≡ take i old ++ c ∷ [] = take_more old i c within ∙ ap (λ x. take i old ++ x ∷ []) (sym here) in
     record {
       same = length-set now i c' ∙ to.same;
       rest = λ j d h. get_or-set_other now i j c' d (omega (arith, h)) ∙ to.rest j d (omega (arith, h));
-      done = λ k h t.
+      done = λ k.
           let after = known_both ws vs k in
-          let p = both-true (all_known k (asked_in slots (take i now))) (all_known k (counting slots c')) (sym (asked-one slots k (take i now) c') ∙ (ap (λ cs. all_known k (asked_in slots cs)) (sym (take_more_set now i c' lt)) ∙ h)) in
-          let q = takes k p.1 t in
-          let r = to.done k p.0 q.1 in
-          let grown : take (i + 1) old ≡ take i old ++ c ∷ [] = take_more old i c within ∙ ap (λ x. take i old ++ x ∷ []) (sym here) in
-          ap (λ cs. all_known after (asked_in slots cs)) grown ∙ (asked-one slots after (take i old) c ∙ and_from (all_known after (asked_in slots (take i old))) (all_known after (counting slots c)) r q.0);
+          let n = all_known k (asked_in slots (take i now)) in
+          let t = all_known after taken in
+          let t' = all_known after taken' in
+          let x = all_known after (counting slots c) in
+          let y = all_known k (counting slots c') in
+          let new : all_known k (asked_in slots (take (i + 1) (set now i c'))) ≡ n && y = ap (λ cs. all_known k (asked_in slots cs)) (take_more_set now i c' lt) ∙ asked-one slots k (take i now) c' in
+          ap (λ cs. all_known after (asked_in slots cs)) grown
+          ∙ (asked-one slots after (take i old) c
+          ∙ (ap (λ b. b && x) (to.done k)
+          ∙ (regroup n t x
+          ∙ (ap (λ b. n && b) (takes k)
+          ∙ (sym (inner n y t') ∙ ap (λ b. b && t') (sym new))))));
     }
 
 pub taken-all : (slots : ℕ) (ws vs : Writes) (i : ℕ) (old now : List Cell) (taken : Facts) → length now ≤ i → TakenTo slots ws vs i old now taken → Takes ws vs (asked_in slots old) taken (asked_in slots now)
-taken-all slots ws vs i old now taken le to k h t =
+taken-all slots ws vs i old now taken le to k =
     let after = known_both ws vs k in
     ap (λ cs. all_known after (asked_in slots cs)) (sym (take_all i old (subst (λ n. n ≤ i) to.same le)))
-    ∙ to.done k (ap (λ cs. all_known k (asked_in slots cs)) (take_all i now le) ∙ h) t
+    ∙ (to.done k ∙ ap (λ cs. all_known k (asked_in slots cs) && all_known after taken) (take_all i now le))
 
 -- facts that are put
-behind : (a b : Bool) → a && (b && true) ≡ b && a
-behind true true = refl
-behind true false = refl
-behind false true = refl
-behind false false = refl
-
-inner : (a b c : Bool) → (a && b) && c ≡ a && (b && c)
-inner true b c = refl
-inner false b c = refl
-
-outer : (a b c : Bool) → b && (a && c) ≡ a && (b && c)
-outer true true c = refl
-outer true false c = refl
-outer false true c = refl
-outer false false c = refl
-
 -- a fact behind those of its cell
 pub cell-puts :
     (slots : ℕ) (c c' : Cell) (f : Fact) → c'.left ≡ c.left → c'.right ≡ c.right → c'.facts ≡ c.facts ++ f ∷ [] → source_slot slots f.0 ≡ c.left → source_slot slots f.1 ≡ c.right →
@@ -244,10 +265,6 @@ puts-next k facts old middle new i f lt at h puts =
 -- put into what is empty
 pub puts-all : (k : Knowledge) (facts old new : Facts) → old ≡ [] → all_known k new ≡ all_known k facts && all_known k old → all_known k new ≡ all_known k facts
 puts-all k facts old new e h = h ∙ (ap (λ fs. all_known k facts && all_known k fs) e ∙ and-true (all_known k facts))
-  where
-    and-true : (b : Bool) → b && true ≡ b
-    and-true true = refl
-    and-true false = refl
 
 -- a fact that is found in its cell
 asked-at : (slots : ℕ) (k : Knowledge) (cells : List Cell) (i : ℕ) (d : Cell) → i < length cells → all_known k (asked_in slots cells) ≡ true → all_known k (counting slots (get_or cells i d)) ≡ true

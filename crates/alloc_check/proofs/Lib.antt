@@ -10,3 +10,7 @@ pub mod Placed
 pub mod Classes
 pub mod Celled
 pub mod Alone
+pub mod ReservedUnits
+pub mod Least
+pub mod Greatest
+pub mod Passing

@@ -77,9 +77,9 @@ stays-unmarked slots marks ws (FromLane l) m e = m l e
 stays-unmarked slots marks ws Undef m e = refl
 stays-unmarked slots marks ws (Bits c low width) m e = refl
 
--- a fact that stays is known behind the writes where it is known in front of them
-pub known-stays : (ws vs : Writes) (k : Knowledge) (f : Fact) → stays_both ws vs f ≡ true → k f.0 f.1 ≡ true → known_both ws vs k f.0 f.1 ≡ true
-known-stays ws vs k f e h =
+-- a fact that stays is known behind the writes just where it is known in front of them
+pub known-stays : (ws vs : Writes) (k : Knowledge) (f : Fact) → stays_both ws vs f ≡ true → known_both ws vs k f.0 f.1 ≡ k f.0 f.1
+known-stays ws vs k f e =
     let p = both-true (stays ws f.0) (stays vs f.1) e in
-    subst (λ g. one_result g (through vs f.1) || known_left k g (settled (through vs f.1)) ≡ true) (sym (through-stays ws f.0 p.0))
-    (subst (λ g. one_result (Moved f.0) g || known_left k (Moved f.0) (settled g) ≡ true) (sym (through-stays vs f.1 p.1)) h)
+    ap (λ g. one_result g (through vs f.1) || known_left k g (settled (through vs f.1))) (through-stays ws f.0 p.0)
+    ∙ ap (λ g. one_result (Moved f.0) g || known_left k (Moved f.0) (settled g)) (through-stays vs f.1 p.1)

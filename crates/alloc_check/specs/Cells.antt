@@ -1,5 +1,5 @@
 -- Facts in cells.
-use Rattle.std.specs.Prelude.{◌≡◌, ℕ, Bool, true, ◌&&◌, nat_eq, List, [], ◌∷◌, ◌++◌, ◌<◌, ◌≤◌, take, length, slice_index_or}
+use Rattle.std.specs.Prelude.{◌≡◌, ℕ, Bool, ◌&&◌, nat_eq, List, [], ◌∷◌, ◌++◌, ◌<◌, ◌≤◌, take, length, slice_index_or}
 use Rattle.std.specs.List.{filter}
 use Rattle.meaning.specs.Lanes.{Writes}
 use Rattle.meaning.specs.Facts.{Fact, Facts, Knowledge, all_known, known_both}
@@ -47,24 +47,25 @@ Puts old f new = (k : Knowledge) → all_known k new ≡ k f.0 f.1 && all_known 
 abbrev pub stays_both : Writes → Writes → Fact → Bool
 stays_both ws vs f = stays ws f.0 && stays vs f.1
 
--- Facts before and behind writes: those that stay are known in front of them, those taken behind them.
-abbrev pub Splits : Writes → Writes → Facts → Facts → Facts → Facts → Type 0
-Splits ws vs old before new taken =
-    (k : Knowledge) (counts : Fact → Bool) → all_known k (filter counts new) ≡ true → all_known (known_both ws vs k) taken ≡ true →
-    (all_known (known_both ws vs k) (filter counts old) ≡ true) × (all_known (known_both ws vs k) before ≡ true)
+-- Facts of which those count that pass a test, split by writes: those that count are known behind the writes, and what
+-- was taken before, just where those that are kept are known in front of them, and what is taken behind them.
+abbrev pub Splits : (Fact → Bool) → Writes → Writes → Facts → Facts → Facts → Facts → Type 0
+Splits counts ws vs old before kept taken =
+    (k : Knowledge) →
+    all_known (known_both ws vs k) (filter counts old) && all_known (known_both ws vs k) before ≡ all_known k (filter counts kept) && all_known (known_both ws vs k) taken
 
 -- the same of one cell
 abbrev pub CellTakes : ℕ → Writes → Writes → Cell → Facts → Cell → Facts → Type 0
 CellTakes slots ws vs old before new taken =
-    (k : Knowledge) → all_known k (counting slots new) ≡ true → all_known (known_both ws vs k) taken ≡ true →
-    (all_known (known_both ws vs k) (counting slots old) ≡ true) × (all_known (known_both ws vs k) before ≡ true)
+    (k : Knowledge) →
+    all_known (known_both ws vs k) (counting slots old) && all_known (known_both ws vs k) before ≡ all_known k (counting slots new) && all_known (known_both ws vs k) taken
 
 -- the same of all needs
 abbrev pub Takes : Writes → Writes → Facts → Facts → Facts → Type 0
-Takes ws vs old taken new = (k : Knowledge) → all_known k new ≡ true → all_known (known_both ws vs k) taken ≡ true → all_known (known_both ws vs k) old ≡ true
+Takes ws vs old taken new = (k : Knowledge) → all_known (known_both ws vs k) old ≡ all_known k new && all_known (known_both ws vs k) taken
 
 -- the first cells are as they are behind taking, the others as they were
 pub record TakenTo (slots : ℕ) (ws vs : Writes) (i : ℕ) (old now : List Cell) (taken : Facts) : Type 0 where
   pub same : length now ≡ length old
   pub rest : (j : ℕ) (c : Cell) → i ≤ j → slice_index_or now j c ≡ slice_index_or old j c
-  pub done : (k : Knowledge) → all_known k (asked_in slots (take i now)) ≡ true → all_known (known_both ws vs k) taken ≡ true → all_known (known_both ws vs k) (asked_in slots (take i old)) ≡ true
+  pub done : (k : Knowledge) → all_known (known_both ws vs k) (asked_in slots (take i old)) ≡ all_known k (asked_in slots (take i now)) && all_known (known_both ws vs k) taken

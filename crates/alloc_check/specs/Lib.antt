@@ -4,3 +4,6 @@ pub mod Cells
 pub mod Verdict
 pub mod Bare
 pub mod Fitting
+pub mod Looks
+pub mod LookRows
+pub mod Families

@@ -1,14 +1,16 @@
 -- What a verdict says.
-use Rattle.std.specs.Prelude.{◌≡◌, false, Some, None}
+use Rattle.std.specs.Prelude.{◌≡◌, false, List, Some, None}
 use Rattle.std.specs.List.{list_any}
 use Rattle.std.specs.Option.{option_or}
 use Rattle.target_base.specs.declared.types.Target.{Target}
+use Rattle.meaning.specs.declared.types.Row.{Row}
 use Rattle.mir_func.specs.declared.func.Place.{Place}
 use Rattle.mir_func.specs.Value.{Function}
 use Rattle.mir_meaning.specs.declared.Form.TheVariants as forms
 use Rattle.mir_meaning.specs.Valid.{IsValid, names_virtual}
 use Rattle.mir_meaning.specs.Codes.{refines}
 use Rattle.mir_meaning.specs.Agreement.{block_doubt, partner_doubt}
+use Rattle.alloc_check.specs.Families.{HoldsWith}
 use Rattle.alloc_check.specs.declared.check.Verdict.{Verdict}
 use Rattle.alloc_check.specs.declared.check.Verdict.TheVariants.{Yes, No}
 
@@ -16,6 +18,11 @@ use Rattle.alloc_check.specs.declared.check.Verdict.TheVariants.{Yes, No}
 abbrev pub IfYes : Type 0 → Verdict → Type 0
 IfYes P Yes = P
 IfYes P (No place) = Unit {0}
+
+-- Of rows of two functions: a Yes just where they hold with some family of facts, from the start of both
+abbrev pub Judges : Target → Function → Function → List Row → Verdict → Type 0
+Judges t f g rows Yes = HoldsWith t f g rows
+Judges t f g rows (No place) = HoldsWith t f g rows → ⊥
 
 -- The functions match: their blocks are alike, and their counted instructions pair, of one opcode and with operands
 -- alike, in which only virtual registers are replaced. So calls and returns name the registers, symbols and masks of the

@@ -182,26 +182,29 @@ fn all_stay(
     true
 }
 
-/// Moves the facts on written lanes.
+/// Takes the facts of a cell on written lanes, and answers the others. What doesn't count is dropped.
 fn split(
     alloc: Global,
+    slots: u32,
     first: &[Write],
     second: &[Write],
-    facts: &mut Facts,
+    cell: &Cell,
     taken: &mut Facts,
-) -> Result<(), AllocError>
-    ensures { OnOk result (Splits first.now second.now facts.old taken.old facts.new taken.new) }
+) -> Result<Facts, AllocError>
+    ensures { IfOk result (λ kept. Splits (belongs slots cell.now) first.now second.now cell.now.facts taken.old kept taken.new) }
 {
     let mut kept = List::new(alloc);
-    for f in facts.as_slice() {
+    for f in cell.facts.as_slice() {
+        if !belongs(slots, cell, f) {
+            continue;
+        }
         if stays_both(first, second, f) {
             kept.push(f.copied(alloc)?)?;
         } else {
             taken.push(f.copied(alloc)?)?;
         }
     }
-    *facts = kept;
-    Ok(())
+    Ok(kept)
 }
 
 /// Moves the facts of a cell on written lanes. A cell whose slots aren't marked isn't looked at.
@@ -234,5 +237,6 @@ pub fn take_from(
     ) {
         return Ok(());
     }
-    split(alloc, first, second, &mut cell.facts, taken)
+    cell.facts = split(alloc, slots, first, second, cell, taken)?;
+    Ok(())
 }

@@ -5,7 +5,8 @@ ghost use Rattle.meaning.specs.Agree.{rows_hold};
 ghost use Rattle.meaning.specs.Facts.{known_at_start};
 ghost use Rattle.mir_meaning.specs.Codes.{refines, given_of};
 ghost use Rattle.alloc_check.specs.Bare.{AreSides};
-ghost use Rattle.alloc_check.specs.Verdict.{IfYes, AreAlike, TellsUnlike};
+ghost use Rattle.alloc_check.specs.Families.{HoldsWith, Decides};
+ghost use Rattle.alloc_check.specs.Verdict.{IfYes, Judges, AreAlike, TellsUnlike};
 ghost use Rattle.std.specs.List.{list_any};
 ghost use Rattle.mir_meaning.specs.Valid.{names_virtual};
 
@@ -14,6 +15,7 @@ use crate::closed::{Family, needs_before};
 use crate::doubts::{counted_place, entry_place, first_unlike};
 use crate::family::{Shape, family_of, shape_of};
 use crate::rows::rows_of;
+use crate::settle::decide;
 use crate::start::all_start;
 use meaning::Row;
 use mir_func::{Func, Place};
@@ -30,8 +32,8 @@ pub enum Verdict {
     No(Place),
 }
 
-/// Whether the family shows that rows hold from the start of both functions.
-fn holds(
+/// Whether the family shows that rows hold from the start of both functions. False says nothing.
+pub(crate) fn holds(
     alloc: Global,
     t: &Target,
     f: &Func,
@@ -86,7 +88,44 @@ fn first_lacking(
     Ok(counted_place(t, f, low.saturating_sub(1)))
 }
 
-/// Yes where the facts hold, and else the first instruction that lacks one.
+/// Whether the quick search finds a family with which rows hold from the start of both functions.
+/// False says nothing.
+fn finds(
+    alloc: Global,
+    t: &Target,
+    f: &Func,
+    g: &Func,
+    rows: &[Row],
+    shape: &Shape,
+) -> Result<bool, AllocError>
+    ensures { IfOk result (λ yes. IsTrue yes → HoldsWith t.now f.now g.now rows.now) }
+{
+    match family_of(alloc, t, f, g, rows, shape, usize::MAX)? {
+        None => Ok(false),
+        Some(family) => holds(alloc, t, f, g, rows, &family),
+    }
+}
+
+/// Whether rows hold with some family from the start of both functions. The quick search finds most
+/// families, and where it finds none, the plain one decides.
+fn have_family(
+    alloc: Global,
+    t: &Target,
+    f: &Func,
+    g: &Func,
+    rows: &[Row],
+    shape: &Shape,
+) -> Result<bool, AllocError>
+    ensures { IfOk result (Decides t.now f.now g.now rows.now) }
+{
+    if finds(alloc, t, f, g, rows, shape)? {
+        return Ok(true);
+    }
+    decide(alloc, t, f, g, rows)
+}
+
+/// Yes just where some family gives the rows what they need, and else the first instruction that lacks
+/// a fact.
 fn judged(
     alloc: Global,
     t: &Target,
@@ -95,18 +134,14 @@ fn judged(
     rows: &[Row],
 ) -> Result<Verdict, AllocError>
     requires { AreSides t.now f.now g.now rows.now }
-    ensures { IfOk result (IfYes (refines t.now f.now g.now)) }
+    ensures exact { IfOk result (Judges t.now f.now g.now rows.now) }
+    ensures refines { IfOk result (IfYes (refines t.now f.now g.now)) }
 {
     let shape = shape_of(alloc, rows)?;
-    match family_of(alloc, t, f, g, rows, &shape, usize::MAX)? {
-        None => Ok(Verdict::No(first_lacking(alloc, t, f, g, rows, &shape)?)),
-        Some(family) => {
-            if holds(alloc, t, f, g, rows, &family)? {
-                return Ok(Verdict::Yes);
-            }
-            Ok(Verdict::No(entry_place(f)))
-        }
+    if have_family(alloc, t, f, g, rows, &shape)? {
+        return Ok(Verdict::Yes);
     }
+    Ok(Verdict::No(first_lacking(alloc, t, f, g, rows, &shape)?))
 }
 
 /// Whether the functions match, and a family of facts gives what is needed.

@@ -2,15 +2,15 @@
 //! counted instructions needs. It goes backward: what rows need behind an instruction is taken to
 //! the place before it, until it meets the facts of a block's start.
 
-ghost use Rattle.std.specs.Prelude.{◌≡◌, ◌∷◌, [], IsTrue, IfOk, IfSome, true, List, Option, Some, None};
+ghost use Rattle.std.specs.Prelude.{◌≡◌, ◌&&◌, [], IsTrue, IfOk, IfSome, true, List, Option, Some, None};
 ghost use Rattle.meaning.specs.declared.types.Row.{Row as ARow};
 ghost use Rattle.meaning.specs.declared.types.Row.TheVariants.{BothStart, BothEnd, FirstSilent, SecondSilent, BothCounted};
-ghost use Rattle.meaning.specs.Facts.{Facts as SomeFacts, Knowledge, all_known, known_first, known_second, known_both};
+ghost use Rattle.meaning.specs.Facts.{Facts as SomeFacts, Knowledge, all_known, known_first, known_second, known_both, operands_known};
 ghost use Rattle.meaning.specs.Agree.{Family as SomeFamily, facts_at, ways_hold, target_holds, rows_hold};
 ghost use Rattle.meaning.specs.declared.types.Rest.{Rest as ARest};
 ghost use Rattle.meaning.specs.declared.types.Ways.{Ways as SomeWays};
 ghost use Rattle.meaning.specs.Lanes.{Reads, Writes as SomeWrites};
-ghost use Rattle.alloc_check.specs.Needs.{Lead, Adds, Carry, Suffice, behind_falls, Leave};
+ghost use Rattle.alloc_check.specs.Needs.{Lead, Adds, Least, Carry, Suffice, behind_falls, Leave, writes_ask, row_asks};
 ghost use Rattle.alloc_check.specs.Cells.{asked};
 
 use crate::facts::{Fact, Facts};
@@ -41,7 +41,8 @@ fn add_ways(
     exits: &[Ways],
     needs: &mut Needs,
 ) -> Result<bool, AllocError>
-    ensures { IfOk result (λ yes. IsTrue yes → Adds (asked needs.old) (λ k. ways_hold family.now k exits.now) (asked needs.new)) }
+    ensures enough { IfOk result (λ yes. IsTrue yes → Adds (asked needs.old) (λ k. ways_hold family.now k exits.now) (asked needs.new)) }
+    ensures least { IfOk result (λ yes. Least (λ k. ways_hold family.now k exits.now && all_known k (asked needs.old)) yes (asked needs.new)) }
 {
     for e in exits {
         if !add_along(alloc, needs, e, facts_at(family, e.block))? {
@@ -57,7 +58,8 @@ fn add_target(
     target: &Option<Ways>,
     needs: &mut Needs,
 ) -> Result<bool, AllocError>
-    ensures { IfOk result (λ yes. IsTrue yes → Adds (asked needs.old) (λ k. target_holds family.now k target.now) (asked needs.new)) }
+    ensures enough { IfOk result (λ yes. IsTrue yes → Adds (asked needs.old) (λ k. target_holds family.now k target.now) (asked needs.new)) }
+    ensures least { IfOk result (λ yes. Least (λ k. target_holds family.now k target.now && all_known k (asked needs.old)) yes (asked needs.new)) }
 {
     match target {
         None => Ok(true),
@@ -72,7 +74,8 @@ fn step_both(
     second: &[Write],
     needs: &mut Needs,
 ) -> Result<bool, AllocError>
-    ensures { IfOk result (λ yes. IsTrue yes → Lead (asked needs.new) (λ k. all_known (known_both first.now second.now k) (asked needs.old))) }
+    ensures enough { IfOk result (λ yes. IsTrue yes → Lead (asked needs.new) (λ k. all_known (known_both first.now second.now k) (asked needs.old))) }
+    ensures least { IfOk result (λ yes. Least (λ k. all_known (known_both first.now second.now k) (asked needs.old)) yes (asked needs.new)) }
 {
     let taken = needs.take_written(alloc, first, second)?;
     add_before(alloc, needs, first, second, taken.as_slice())
@@ -80,14 +83,16 @@ fn step_both(
 
 /// Takes needs to the place before writes of the first function.
 fn step_first(alloc: Global, writes: &[Write], needs: &mut Needs) -> Result<bool, AllocError>
-    ensures { IfOk result (λ yes. IsTrue yes → Lead (asked needs.new) (λ k. all_known (known_first writes.now k) (asked needs.old))) }
+    ensures enough { IfOk result (λ yes. IsTrue yes → Lead (asked needs.new) (λ k. all_known (known_first writes.now k) (asked needs.old))) }
+    ensures least { IfOk result (λ yes. Least (λ k. all_known (known_first writes.now k) (asked needs.old)) yes (asked needs.new)) }
 {
     step_both(alloc, writes, &[], needs)
 }
 
 /// The same of the second function.
 fn step_second(alloc: Global, writes: &[Write], needs: &mut Needs) -> Result<bool, AllocError>
-    ensures { IfOk result (λ yes. IsTrue yes → Lead (asked needs.new) (λ k. all_known (known_second writes.now k) (asked needs.old))) }
+    ensures enough { IfOk result (λ yes. IsTrue yes → Lead (asked needs.new) (λ k. all_known (known_second writes.now k) (asked needs.old))) }
+    ensures least { IfOk result (λ yes. Least (λ k. all_known (known_second writes.now k) (asked needs.old)) yes (asked needs.new)) }
 {
     step_both(alloc, &[], writes, needs)
 }
@@ -111,7 +116,8 @@ fn before_start(
 
 /// Where control doesn't fall out of a block, nothing is asked.
 fn before_nothing(alloc: Global, needs: &mut Needs) -> Result<bool, AllocError>
-    ensures { IfOk result (λ yes. IsTrue yes → (family : SomeFamily) (rows : List ARow) → Suffice family rows (asked needs.old) → Lead (asked needs.new) (λ k. rows_hold family rows (behind_falls None k))) }
+    ensures enough { IfOk result (λ yes. IsTrue yes → (family : SomeFamily) (rows : List ARow) → Suffice family rows (asked needs.old) → Lead (asked needs.new) (λ k. rows_hold family rows (behind_falls None k))) }
+    ensures least { IfOk result (λ yes. Least (λ k. all_known (behind_falls None k) (asked needs.old)) yes (asked needs.new)) }
 {
     let nothing = Needs::new(alloc)?;
     *needs = nothing;
@@ -125,7 +131,8 @@ fn before_phis(
     second: &[Write],
     needs: &mut Needs,
 ) -> Result<bool, AllocError>
-    ensures { IfOk result (λ yes. IsTrue yes → (family : SomeFamily) (rows : List ARow) → Suffice family rows (asked needs.old) → Lead (asked needs.new) (λ k. rows_hold family rows (behind_falls (Some (first.now, second.now)) k))) }
+    ensures enough { IfOk result (λ yes. IsTrue yes → (family : SomeFamily) (rows : List ARow) → Suffice family rows (asked needs.old) → Lead (asked needs.new) (λ k. rows_hold family rows (behind_falls (Some (first.now, second.now)) k))) }
+    ensures least { IfOk result (λ yes. Least (λ k. all_known (behind_falls (Some (first.now, second.now)) k) (asked needs.old)) yes (asked needs.new)) }
 {
     if !step_second(alloc, second, needs)? {
         return Ok(false);
@@ -139,7 +146,8 @@ fn before_falls(
     falls: &Option<(Writes, Writes)>,
     needs: &mut Needs,
 ) -> Result<bool, AllocError>
-    ensures { IfOk result (λ yes. IsTrue yes → (family : SomeFamily) (rows : List ARow) → Suffice family rows (asked needs.old) → Lead (asked needs.new) (λ k. rows_hold family rows (behind_falls falls.now k))) }
+    ensures enough { IfOk result (λ yes. IsTrue yes → (family : SomeFamily) (rows : List ARow) → Suffice family rows (asked needs.old) → Lead (asked needs.new) (λ k. rows_hold family rows (behind_falls falls.now k))) }
+    ensures least { IfOk result (λ yes. Least (λ k. all_known (behind_falls falls.now k) (asked needs.old)) yes (asked needs.new)) }
 {
     match falls {
         None => before_nothing(alloc, needs),
@@ -154,7 +162,8 @@ fn before_end(
     exits: &List<Ways>,
     needs: &mut Needs,
 ) -> Result<bool, AllocError>
-    ensures { IfOk result (λ yes. IsTrue yes → Carry family.now (BothEnd falls.now exits.now) (asked needs.old) (asked needs.new)) }
+    ensures enough { IfOk result (λ yes. IsTrue yes → Carry family.now (BothEnd falls.now exits.now) (asked needs.old) (asked needs.new)) }
+    ensures least { IfOk result (λ yes. Least (row_asks family.now (BothEnd falls.now exits.now) (asked needs.old)) yes (asked needs.new)) }
 {
     if !before_falls(alloc, falls, needs)? {
         return Ok(false);
@@ -172,7 +181,8 @@ pub fn before_writes(
     exits: &List<Ways>,
     needs: &mut Needs,
 ) -> Result<bool, AllocError>
-    ensures { IfOk result (λ yes. IsTrue yes → Leave family.now first.now second.now target.now exits.now (asked needs.old) (asked needs.new)) }
+    ensures enough { IfOk result (λ yes. IsTrue yes → Leave family.now first.now second.now target.now exits.now (asked needs.old) (asked needs.new)) }
+    ensures least { IfOk result (λ yes. Least (writes_ask family.now first.now second.now target.now exits.now (asked needs.old)) yes (asked needs.new)) }
 {
     if !add_target(alloc, family, target, needs)? {
         return Ok(false);
@@ -188,7 +198,8 @@ fn before_first_silent(
     writes: &List<Write>,
     needs: &mut Needs,
 ) -> Result<bool, AllocError>
-    ensures { IfOk result (λ yes. IsTrue yes → (family : SomeFamily) (reads : Reads) → Carry family (FirstSilent reads writes.now) (asked needs.old) (asked needs.new)) }
+    ensures enough { IfOk result (λ yes. IsTrue yes → (family : SomeFamily) (reads : Reads) → Carry family (FirstSilent reads writes.now) (asked needs.old) (asked needs.new)) }
+    ensures least { IfOk result (λ yes. Least (λ k. all_known (known_first writes.now k) (asked needs.old)) yes (asked needs.new)) }
 {
     step_first(alloc, writes.as_slice(), needs)
 }
@@ -198,7 +209,8 @@ fn before_second_silent(
     writes: &List<Write>,
     needs: &mut Needs,
 ) -> Result<bool, AllocError>
-    ensures { IfOk result (λ yes. IsTrue yes → (family : SomeFamily) (reads : Reads) → Carry family (SecondSilent reads writes.now) (asked needs.old) (asked needs.new)) }
+    ensures enough { IfOk result (λ yes. IsTrue yes → (family : SomeFamily) (reads : Reads) → Carry family (SecondSilent reads writes.now) (asked needs.old) (asked needs.new)) }
+    ensures least { IfOk result (λ yes. Least (λ k. all_known (known_second writes.now k) (asked needs.old)) yes (asked needs.new)) }
 {
     step_second(alloc, writes.as_slice(), needs)
 }
@@ -210,7 +222,8 @@ fn before_reads(
     right: &List<List<Source>>,
     needs: &mut Needs,
 ) -> Result<bool, AllocError>
-    ensures { IfOk result (λ yes. IsTrue yes → (family : SomeFamily) (r : ARest) (ws vs : SomeWrites) (target : Option SomeWays) (exits : List SomeWays) (old : SomeFacts) → Leave family ws vs target exits old (asked needs.old) → Carry family (BothCounted r left.now right.now ws vs target exits) old (asked needs.new)) }
+    ensures enough { IfOk result (λ yes. IsTrue yes → (family : SomeFamily) (r : ARest) (ws vs : SomeWrites) (target : Option SomeWays) (exits : List SomeWays) (old : SomeFacts) → Leave family ws vs target exits old (asked needs.old) → Carry family (BothCounted r left.now right.now ws vs target exits) old (asked needs.new)) }
+    ensures least { IfOk result (λ yes. Least (λ k. operands_known k left.now right.now && all_known k (asked needs.old)) yes (asked needs.new)) }
 {
     add_operands(alloc, needs, left.as_slice(), right.as_slice())
 }
@@ -222,7 +235,8 @@ pub fn before_row(
     row: &Row,
     needs: &mut Needs,
 ) -> Result<bool, AllocError>
-    ensures { IfOk result (λ yes. IsTrue yes → Carry family.now row.now (asked needs.old) (asked needs.new)) }
+    ensures enough { IfOk result (λ yes. IsTrue yes → Carry family.now row.now (asked needs.old) (asked needs.new)) }
+    ensures least { IfOk result (λ yes. Least (row_asks family.now row.now (asked needs.old)) yes (asked needs.new)) }
 {
     match row {
         Row::BothStart(n) => before_start(alloc, family, *n, needs),

@@ -11,11 +11,14 @@ mod doubts;
 mod facts;
 mod family;
 mod fitting;
+mod looks;
 mod needs;
 mod pair;
 mod rests;
 mod rows;
+mod settle;
 mod start;
 
 pub use check::{Verdict, agree};
+pub use looks::check_reserved;
 pub use pair::check_pair;

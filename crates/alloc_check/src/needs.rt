@@ -3,7 +3,7 @@
 ghost use Rattle.std.specs.Prelude.{◌≡◌, ◌++◌, [], IsTrue, IfOk, IfSome, OnOk, ◌&&◌, true};
 ghost use Rattle.meaning.specs.Facts.{Knowledge, all_known, always, known_both, reads_known, operands_known};
 ghost use Rattle.meaning.specs.Agree.{known_along};
-ghost use Rattle.alloc_check.specs.Needs.{Has, Lead, Adds};
+ghost use Rattle.alloc_check.specs.Needs.{Has, Lead, Adds, Least, IsInstead};
 ghost use Rattle.alloc_check.specs.Cells.{asked, asked_in, counting, IsCellOf, IsMarked, Puts, Takes};
 
 use crate::cells::{Cell, Marked, belongs, is_among, marks_for, source_slot, take_from};
@@ -198,7 +198,8 @@ impl Needs {
 
     /// Asks for a fact too. What always holds needn't be asked.
     pub fn add(&mut self, alloc: Global, fact: Fact) -> Result<(), AllocError>
-        ensures { OnOk result (Adds (asked self.old) (λ k. k fact.0 fact.1) (asked self.new)) }
+        ensures enough { OnOk result (Adds (asked self.old) (λ k. k fact.0 fact.1) (asked self.new)) }
+        ensures least { OnOk result (Least (λ k. k fact.0 fact.1 && all_known k (asked self.old)) true (asked self.new)) }
     {
         if self.is_asked(&fact) {
             return Ok(());
@@ -302,7 +303,8 @@ fn before_fact(
     second: &[Write],
     fact: &Fact,
 ) -> Result<Option<Fact>, AllocError>
-    ensures { IfOk result (λ asked. IfSome asked (λ f. (k : Knowledge) → k f.0 f.1 ≡ true → known_both first.now second.now k fact.now.0 fact.now.1 ≡ true)) }
+    ensures enough { IfOk result (λ asked. IfSome asked (λ f. (k : Knowledge) → k f.0 f.1 ≡ true → known_both first.now second.now k fact.now.0 fact.now.1 ≡ true)) }
+    ensures least { IfOk result (λ asked. IsInstead (known_both first.now second.now) fact.now asked) }
 {
     if !fits_both(first, second, fact) {
         return Ok(None);
@@ -320,7 +322,8 @@ pub fn add_before(
     second: &[Write],
     facts: &[Fact],
 ) -> Result<bool, AllocError>
-    ensures { IfOk result (λ yes. IsTrue yes → Adds (asked needs.old) (λ k. all_known (known_both first.now second.now k) facts.now) (asked needs.new)) }
+    ensures enough { IfOk result (λ yes. IsTrue yes → Adds (asked needs.old) (λ k. all_known (known_both first.now second.now k) facts.now) (asked needs.new)) }
+    ensures least { IfOk result (λ yes. Least (λ k. all_known (known_both first.now second.now k) facts.now && all_known k (asked needs.old)) yes (asked needs.new)) }
 {
     for f in facts {
         match before_fact(alloc, first, second, f)? {
@@ -338,7 +341,8 @@ fn add_reads(
     left: &[Source],
     right: &[Source],
 ) -> Result<bool, AllocError>
-    ensures { IfOk result (λ yes. IsTrue yes → Adds (asked needs.old) (λ k. reads_known k left.now right.now) (asked needs.new)) }
+    ensures enough { IfOk result (λ yes. IsTrue yes → Adds (asked needs.old) (λ k. reads_known k left.now right.now) (asked needs.new)) }
+    ensures least { IfOk result (λ yes. Least (λ k. reads_known k left.now right.now && all_known k (asked needs.old)) yes (asked needs.new)) }
 {
     if left.len() != right.len() {
         return Ok(false);
@@ -356,7 +360,8 @@ pub fn add_operands(
     left: &[List<Source>],
     right: &[List<Source>],
 ) -> Result<bool, AllocError>
-    ensures { IfOk result (λ yes. IsTrue yes → Adds (asked needs.old) (λ k. operands_known k left.now right.now) (asked needs.new)) }
+    ensures enough { IfOk result (λ yes. IsTrue yes → Adds (asked needs.old) (λ k. operands_known k left.now right.now) (asked needs.new)) }
+    ensures least { IfOk result (λ yes. Least (λ k. operands_known k left.now right.now && all_known k (asked needs.old)) yes (asked needs.new)) }
 {
     if left.len() != right.len() {
         return Ok(false);
@@ -371,7 +376,8 @@ pub fn add_operands(
 
 /// What a fact behind the phis of a way asks in front of them. None where it asks for a result.
 fn before_way(alloc: Global, way: &Ways, fact: &Fact) -> Result<Option<Fact>, AllocError>
-    ensures { IfOk result (λ asked. IfSome asked (λ f. (k : Knowledge) → k f.0 f.1 ≡ true → known_along way.now k fact.now.0 fact.now.1 ≡ true)) }
+    ensures enough { IfOk result (λ asked. IfSome asked (λ f. (k : Knowledge) → k f.0 f.1 ≡ true → known_along way.now k fact.now.0 fact.now.1 ≡ true)) }
+    ensures least { IfOk result (λ asked. IsInstead (known_along way.now) fact.now asked) }
 {
     if !fits_first(way.first.as_slice(), fact) {
         return Ok(None);
@@ -389,7 +395,8 @@ pub fn add_along(
     way: &Ways,
     facts: &[Fact],
 ) -> Result<bool, AllocError>
-    ensures { IfOk result (λ yes. IsTrue yes → Adds (asked needs.old) (λ k. all_known (known_along way.now k) facts.now) (asked needs.new)) }
+    ensures enough { IfOk result (λ yes. IsTrue yes → Adds (asked needs.old) (λ k. all_known (known_along way.now k) facts.now) (asked needs.new)) }
+    ensures least { IfOk result (λ yes. Least (λ k. all_known (known_along way.now k) facts.now && all_known k (asked needs.old)) yes (asked needs.new)) }
 {
     for f in facts {
         match before_way(alloc, way, f)? {

@@ -1,6 +1,6 @@
 //! What is known where a function starts.
 
-ghost use Rattle.std.specs.Prelude.{◌≡◌, IsTrue, true};
+ghost use Rattle.std.specs.Prelude.{◌≡◌};
 ghost use Rattle.target_base.specs.Storage.{is_among};
 ghost use Rattle.target_base.specs.Numbers.{unit_number};
 ghost use Rattle.target_base.specs.Registers.{units_of, is_reserved_unit};
@@ -39,9 +39,9 @@ fn is_given(t: &Target, f: &Func, u: u32) -> bool
 }
 
 /// Whether a unit, where it is given, has its value in a source of the second function.
-#[tactic(auto, using(crate::proofs::Rested::unit_free, crate::proofs::Rested::unit_given))]
+#[tactic(auto, using(crate::proofs::Rested::unit_free, crate::proofs::Rested::unit_apart, crate::proofs::Rested::unit_given))]
 fn unit_starts(t: &Target, f: &Func, g: &Func, u: u32, source: &Source) -> bool
-    ensures { IsTrue result → known_at_start (given_of t.now f.now) (given_of t.now g.now) (FromLane (UnitLane u)) source.now ≡ true }
+    ensures { result ≡ known_at_start (given_of t.now f.now) (given_of t.now g.now) (FromLane (UnitLane u)) source.now }
 {
     if !is_given(t, f, u) {
         return true;
@@ -55,7 +55,7 @@ fn unit_starts(t: &Target, f: &Func, g: &Func, u: u32, source: &Source) -> bool
 /// Whether a fact holds at the start of both functions: units that are given have their own
 /// values, all else of the first function is Undef.
 fn starts(t: &Target, f: &Func, g: &Func, fact: &Fact) -> bool
-    ensures { IsTrue result → known_at_start (given_of t.now f.now) (given_of t.now g.now) fact.now.0 fact.now.1 ≡ true }
+    ensures { result ≡ known_at_start (given_of t.now f.now) (given_of t.now g.now) fact.now.0 fact.now.1 }
 {
     match &fact.0 {
         Source::Undef => true,
@@ -68,7 +68,7 @@ fn starts(t: &Target, f: &Func, g: &Func, fact: &Fact) -> bool
 
 /// Whether facts hold at the start of both functions.
 pub fn all_start(t: &Target, f: &Func, g: &Func, facts: &[Fact]) -> bool
-    ensures { IsTrue result → all_known (known_at_start (given_of t.now f.now) (given_of t.now g.now)) facts.now ≡ true }
+    ensures { result ≡ all_known (known_at_start (given_of t.now f.now) (given_of t.now g.now)) facts.now }
 {
     for fact in facts {
         if !starts(t, f, g, fact) {

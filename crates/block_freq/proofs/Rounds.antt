@@ -1,5 +1,5 @@
 -- Rounds of frequencies.
-use Rattle.std.proofs.Common.{◌≡◌, ℕ, ◌+◌, ◌^◌, ◌<◌, ◌≤◌, zero, suc, min, Bool, true, false, cond, eqb, List, length, get_or, take, map, arith, refl, ap, ◌∙◌, add-one}
+use Rattle.std.proofs.Common.{◌≡◌, ℕ, ◌+◌, ◌-◌, ◌^◌, ◌<◌, ◌≤◌, zero, suc, min, Bool, true, false, cond, eqb, List, length, get_or, take, map, arith, refl, sym, ap, ◌∙◌, add-one}
 use Rattle.std.specs.List.{All, sum_by, range_with_len}
 use Rattle.std.proofs.lemmas.List.Sums.{sum_by_more}
 use Rattle.std.proofs.lemmas.List.FromFn.{fill_by_all, length-map-range_with_len, get_or-map-range_with_len}
@@ -42,12 +42,25 @@ pub rounds_more : (es : List BlockEdge) (n : ℕ) (fs : List ℕ) → rounds es 
 unfolding rounds
 rounds_more es n fs = rw (add-one n) refl
 
+-- what a round leaves as it is stays as it is
+pub rounds_stay : (es : List BlockEdge) (k : ℕ) (fs : List ℕ) → round es (rounds es k fs) ≡ rounds es k fs → (n : ℕ) → rounds es (n + k) fs ≡ rounds es k fs
+unfolding rounds
+rounds_stay es k fs h zero = let e : 0 + k ≡ k = omega arith in rw e refl
+rounds_stay es k fs h (suc n) = let e : suc n + k ≡ suc (n + k) = omega arith in rw e (ap (round es) (rounds_stay es k fs h n) ∙ h)
+
+-- and so it is what 64 rounds give
+pub rounds_over : (es : List BlockEdge) (k : ℕ) (fs last : List ℕ) → k ≤ 64 → last ≡ rounds es k fs → last ≡ round es last → last ≡ rounds es 64 fs
+rounds_over es k fs last h is same =
+    let still : round es (rounds es k fs) ≡ rounds es k fs = rw (← is) (sym same) in
+    let n : 64 ≡ (64 - k) + k = omega arith in
+    is ∙ (sym (rounds_stay es k fs still (64 - k)) ∙ ap (λ m. rounds es m fs) (sym n))
+
 pub length-rounds : (es : List BlockEdge) (n : ℕ) (fs : List ℕ) → length (rounds es n fs) ≡ length fs
 unfolding rounds
 length-rounds es zero fs = refl
 length-rounds es (suc n) fs = length-round es (rounds es n fs) ∙ length-rounds es n fs
 
-round_capped : (es : List BlockEdge) (fs : List ℕ) → All (λ x. x ≤ 2 ^ 40) (round es fs)
+pub round_capped : (es : List BlockEdge) (fs : List ℕ) → All (λ x. x ≤ 2 ^ 40) (round es fs)
 round_capped es fs k d h =
     let l = length-round es fs in
     rw (get_or-map-range_with_len (next_frequency es fs) 0 (length fs) k k d (omega arith) (omega arith)) (min-le_right _ _)

@@ -53,6 +53,10 @@ fn run_rounds(edges: &[BlockEdge], last: &mut [u64], next: &mut [u64])
 {
     'rounds: for k in 0..64usize {
         take_round(edges, last, next);
+        if *last == *next {
+            // (so all later rounds give the same)
+            return;
+        }
         last.copy_from_slice(next);
     }
 }

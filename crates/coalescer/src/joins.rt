@@ -161,9 +161,11 @@ fn regs_of<'a>(target: &'a Target, live: &LiveFunc, v: u32) -> &'a [Reg] {
 
 fn whole_join(target: &Target, live: &LiveFunc, to: &RegOp, from: &RegOp) -> Option<Join> {
     let (a, b) = (range_of(to), range_of(from));
-    let (own, other) = (regs_of(target, live, a), regs_of(target, live, b));
-    if !are_within(own, other) && !are_within(other, own) {
-        return None;
+    if class_of(live.func(), a) != class_of(live.func(), b) {
+        let (own, other) = (regs_of(target, live, a), regs_of(target, live, b));
+        if !are_within(own, other) && !are_within(other, own) {
+            return None;
+        }
     }
     Some(Join {
         keep: a.min(b),

@@ -14,4 +14,4 @@ mod table;
 pub use ask::extent::{Extent, Mended, Stretch};
 pub use ask::labels::{Labels, Mark, Spot};
 pub use edit::edits::{Changes, Edit};
-pub use live::LiveFunc;
+pub use live::{LiveFunc, LiveTable};

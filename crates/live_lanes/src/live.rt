@@ -20,6 +20,12 @@ use mir_func::Func;
 use std::alloc::{AllocError, Global};
 use target_base::{Target, Unit};
 
+/// Exactly where each lane of a function is live and written, without the function and its target.
+#[derive(Drop)]
+pub struct LiveTable {
+    pub(crate) table: Table,
+}
+
 /// A function, a copy of its target, and exactly where each lane is live and written.
 #[derive(Drop)]
 pub struct LiveFunc {
@@ -46,6 +52,85 @@ impl Table {
             rows,
         })
     }
+
+    /// The number of a lane of a virtual register.
+    fn lane(&self, v: u32, lane: usize) -> Option<u32>
+        ensures { result ≡ number_in self.now.lanes (owners.Range v lane) }
+    {
+        let own = self.lanes.of_range(v);
+        match u32::try_from(lane) {
+            Ok(k) => own.lane(k),
+            Err(_) => None,
+        }
+    }
+
+    /// The number of the lane of a unit. Reserved units have none.
+    fn unit_lane(&self, u: Unit) -> Option<u32>
+        ensures { result ≡ number_in self.now.lanes (owners.Unit u.0) }
+    {
+        self.lanes.number(Owner::Unit(u.0 as u32))
+    }
+
+    /// Whether the lane of that number is live at the entry of the instruction of that id.
+    fn enters(&self, lane: u32, id: u32) -> bool
+        ensures { InOrder self.now → result ≡ entry_at self.now (Some lane) id }
+    {
+        let at = entry_rank(&self.order.slots, id);
+        self.is_live_at(lane, self.order.block_of(id), at)
+    }
+
+    /// Whether the lane of that number is live at the exit of the instruction of that id.
+    fn leaves(&self, lane: u32, id: u32) -> bool
+        ensures { InOrder self.now → result ≡ exit_at self.now (Some lane) id }
+    {
+        let at = exit_rank(&self.order.slots, id);
+        self.is_live_at(lane, self.order.block_of(id), at)
+    }
+
+    /// Whether a lane of a virtual register is live at the start of the block of that number.
+    fn live_at(&self, v: u32, lane: usize, block: u32) -> bool
+        ensures { result ≡ marked_at self.now.rows.rows.items (number_in self.now.lanes (owners.Range v lane)) (get nat_cmp self.now.order.positions block) }
+    {
+        match self.lane(v, lane) {
+            Some(lane) => self.is_live_in(lane, block),
+            None => false,
+        }
+    }
+
+    /// Whether a unit is live at the start of the block of that number. Reserved units are not.
+    fn unit_at(&self, u: Unit, block: u32) -> bool
+        ensures { result ≡ marked_at self.now.rows.rows.items (number_in self.now.lanes (owners.Unit u.0)) (get nat_cmp self.now.order.positions block) }
+    {
+        match self.unit_lane(u) {
+            Some(lane) => self.is_live_in(lane, block),
+            None => false,
+        }
+    }
+}
+
+impl LiveTable {
+    /// What is live in a function under a target. The function may have phis.
+    pub fn compute(alloc: Global, target: &Target, func: &Func) -> Result<LiveTable, AllocError>
+        ensures { IfOk result (λ x. IsComputed target.now func.now x.table) }
+    {
+        Ok(LiveTable {
+            table: Table::of(alloc, target, func)?,
+        })
+    }
+
+    /// Whether a lane of a virtual register is live at the start of the block of that number.
+    pub fn live_at(&self, v: u32, lane: usize, block: u32) -> bool
+        ensures { result ≡ marked_at self.now.table.rows.rows.items (number_in self.now.table.lanes (owners.Range v lane)) (get nat_cmp self.now.table.order.positions block) }
+    {
+        self.table.live_at(v, lane, block)
+    }
+
+    /// Whether a unit is live at the start of the block of that number. Reserved units are not.
+    pub fn unit_at(&self, u: Unit, block: u32) -> bool
+        ensures { result ≡ marked_at self.now.table.rows.rows.items (number_in self.now.table.lanes (owners.Unit u.0)) (get nat_cmp self.now.table.order.positions block) }
+    {
+        self.table.unit_at(u, block)
+    }
 }
 
 impl LiveFunc {
@@ -61,6 +146,32 @@ impl LiveFunc {
             func: f,
             table,
         })
+    }
+
+    /// The function with what is live in it under a target, which it keeps. It may have phis.
+    pub fn compute_within(alloc: Global, target: Target, f: Func) -> Result<LiveFunc, AllocError>
+        ensures parts { IfOk result (λ x. (x.target ≡ target) × (x.func ≡ f)) }
+        ensures exact { IfOk result (λ x. IsComputed target f x.table) }
+    {
+        let table = Table::of(alloc, &target, &f)?;
+        Ok(LiveFunc {
+            target,
+            func: f,
+            table,
+        })
+    }
+
+    /// The function with a table that was computed of it under the target.
+    pub fn of_parts(target: Target, func: Func, table: LiveTable) -> LiveFunc
+        requires { IsComputed target func table.table }
+        ensures parts { (result.target ≡ target) × (result.func ≡ func) }
+        ensures exact { IsComputed result.target result.func result.table }
+    {
+        LiveFunc {
+            target,
+            func,
+            table: table.table,
+        }
     }
 
     /// The function.
@@ -85,41 +196,21 @@ impl LiveFunc {
         func
     }
 
-    /// The number of a lane of a virtual register.
-    fn lane(&self, v: u32, lane: usize) -> Option<u32>
-        ensures { result ≡ number_in self.now.table.lanes (owners.Range v lane) }
+    /// The function and the target, without what is live.
+    pub fn into_parts(self) -> (Target, Func)
+        ensures target { result.0 ≡ self.target }
+        ensures func { result.1 ≡ self.func }
     {
-        let own = self.table.lanes.of_range(v);
-        match u32::try_from(lane) {
-            Ok(k) => own.lane(k),
-            Err(_) => None,
-        }
-    }
-
-    /// Whether the lane of that number is live at the entry of the instruction of that id.
-    fn is_live_in(&self, lane: u32, id: u32) -> bool
-        ensures { InOrder self.now.table → result ≡ entry_at self.now.table (Some lane) id }
-    {
-        let at = entry_rank(&self.table.order.slots, id);
-        self.table
-            .is_live_at(lane, self.table.order.block_of(id), at)
-    }
-
-    /// Whether the lane of that number is live at the exit of the instruction of that id.
-    fn is_live_out(&self, lane: u32, id: u32) -> bool
-        ensures { InOrder self.now.table → result ≡ exit_at self.now.table (Some lane) id }
-    {
-        let at = exit_rank(&self.table.order.slots, id);
-        self.table
-            .is_live_at(lane, self.table.order.block_of(id), at)
+        let LiveFunc { target, func, .. } = self;
+        (target, func)
     }
 
     /// Whether a lane of a virtual register is live at the entry of the instruction of that id.
     pub fn live_in(&self, v: u32, lane: usize, id: u32) -> bool
         ensures { InOrder self.now.table → result ≡ entry_at self.now.table (number_in self.now.table.lanes (owners.Range v lane)) id }
     {
-        match self.lane(v, lane) {
-            Some(lane) => self.is_live_in(lane, id),
+        match self.table.lane(v, lane) {
+            Some(lane) => self.table.enters(lane, id),
             None => false,
         }
     }
@@ -128,8 +219,8 @@ impl LiveFunc {
     pub fn live_out(&self, v: u32, lane: usize, id: u32) -> bool
         ensures { InOrder self.now.table → result ≡ exit_at self.now.table (number_in self.now.table.lanes (owners.Range v lane)) id }
     {
-        match self.lane(v, lane) {
-            Some(lane) => self.is_live_out(lane, id),
+        match self.table.lane(v, lane) {
+            Some(lane) => self.table.leaves(lane, id),
             None => false,
         }
     }
@@ -138,18 +229,15 @@ impl LiveFunc {
     pub fn live_at(&self, v: u32, lane: usize, block: u32) -> bool
         ensures { result ≡ marked_at self.now.table.rows.rows.items (number_in self.now.table.lanes (owners.Range v lane)) (get nat_cmp self.now.table.order.positions block) }
     {
-        match self.lane(v, lane) {
-            Some(lane) => self.table.is_live_in(lane, block),
-            None => false,
-        }
+        self.table.live_at(v, lane, block)
     }
 
     /// Whether a unit is live at the entry of the instruction of that id. Reserved units are not.
     pub fn unit_in(&self, u: Unit, id: u32) -> bool
         ensures { InOrder self.now.table → result ≡ entry_at self.now.table (number_in self.now.table.lanes (owners.Unit u.0)) id }
     {
-        match self.table.lanes.number(Owner::Unit(u.0 as u32)) {
-            Some(lane) => self.is_live_in(lane, id),
+        match self.table.unit_lane(u) {
+            Some(lane) => self.table.enters(lane, id),
             None => false,
         }
     }
@@ -158,8 +246,8 @@ impl LiveFunc {
     pub fn unit_out(&self, u: Unit, id: u32) -> bool
         ensures { InOrder self.now.table → result ≡ exit_at self.now.table (number_in self.now.table.lanes (owners.Unit u.0)) id }
     {
-        match self.table.lanes.number(Owner::Unit(u.0 as u32)) {
-            Some(lane) => self.is_live_out(lane, id),
+        match self.table.unit_lane(u) {
+            Some(lane) => self.table.leaves(lane, id),
             None => false,
         }
     }
@@ -168,9 +256,6 @@ impl LiveFunc {
     pub fn unit_at(&self, u: Unit, block: u32) -> bool
         ensures { result ≡ marked_at self.now.table.rows.rows.items (number_in self.now.table.lanes (owners.Unit u.0)) (get nat_cmp self.now.table.order.positions block) }
     {
-        match self.table.lanes.number(Owner::Unit(u.0 as u32)) {
-            Some(lane) => self.table.is_live_in(lane, block),
-            None => false,
-        }
+        self.table.unit_at(u, block)
     }
 }

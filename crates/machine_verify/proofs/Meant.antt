@@ -18,7 +18,7 @@ use Rattle.mir_meaning.specs.Rules.{V1, V2, V3, V4, V5, V11, V12, V15, in_operan
 use Rattle.machine_verify.specs.declared.asked.Asked.{Asked}
 use Rattle.machine_verify.specs.declared.numbers.NumberSet.{NumberSet}
 use Rattle.machine_verify.specs.Asked.{IsAsked}
-use Rattle.machine_verify.specs.Parts.{seen_all}
+use Rattle.bound_operands.specs.Seen.{seen_all}
 use Rattle.machine_verify.specs.Sets.{Holds, HoldsSlots, has}
 use Rattle.machine_verify.specs.Ties as ties
 use Rattle.machine_verify.proofs.Listed.{list_all_alike}

@@ -14,7 +14,7 @@ use Rattle.mir_meaning.specs.Rules.{V1, V2, V3, V4, V11, V12, V15, block_of, lis
 use Rattle.mir_meaning.specs.Valid.{first_failing}
 use Rattle.machine_verify.specs.declared.asked.Asked.{Asked}
 use Rattle.machine_verify.specs.declared.asked.Before.{Before}
-use Rattle.machine_verify.specs.Parts.{seen_all}
+use Rattle.bound_operands.specs.Seen.{seen_all}
 
 -- the operands of the instruction are sorted so
 pub record IsAsked (t : Target) (i : Instr) (a : Asked) : Type 0 where

@@ -1,5 +1,4 @@
 pub mod Sets
-pub mod Parts
 pub mod Operands
 pub mod Ties
 pub mod Asked

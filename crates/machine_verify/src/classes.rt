@@ -10,12 +10,12 @@ ghost use Rattle.mir_meaning.specs.Registers as registers;
 ghost use Rattle.mir_meaning.specs.Rules as rules;
 ghost use Rattle.target_base.specs.declared.types.Effect.TheVariants as effects;
 ghost use Rattle.machine_verify.specs.Operands.{part_fits};
-ghost use Rattle.machine_verify.specs.Parts.{seen, seen_all};
+ghost use Rattle.bound_operands.specs.Seen.{seen, seen_all};
 
 use crate::lanes::{has_class, has_lanes, index_fits, is_reserved_register};
 use crate::numbers::are_distinct;
-use crate::parts::BoundOperand;
 use crate::words::is_opaque;
+use bound_operands::BoundOperand;
 use instr_effects::items::lanes::push_operand_widths;
 use mir_func::opcodes::{asked_class, puts_together};
 use mir_func::operands::class_of;

@@ -18,4 +18,4 @@ mod words;
 
 pub use mir_func::{Place, Valid};
 pub use stop::{Invalid, VerifyStop};
-pub use verify::{verify_allocated, verify_source};
+pub use verify::{LiveSource, verify_allocated, verify_live, verify_source};

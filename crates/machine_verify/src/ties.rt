@@ -8,15 +8,15 @@ ghost use Rattle.mir_func.specs.Binding as binding;
 ghost use Rattle.mir_meaning.specs.Items.{unreserved};
 ghost use Rattle.mir_meaning.specs.Registers.{is_reserved};
 ghost use Rattle.mir_meaning.specs.Rules as rules;
-ghost use Rattle.machine_verify.specs.Parts.{seen, seen_all};
+ghost use Rattle.bound_operands.specs.Seen.{seen, seen_all};
 ghost use Rattle.machine_verify.specs.Sets.{HoldsSlots, HoldsSlotsAmong};
 ghost use Rattle.machine_verify.specs.Ties.{sides, pair_fits, reading_besides, slot_fits, spill_numbers};
 
 use crate::classes::same_widths;
 use crate::lanes::has_lanes;
 use crate::numbers::{NumberSet, set_of};
-use crate::parts::BoundOperand;
 use crate::words::is_slot;
+use bound_operands::BoundOperand;
 use instr_effects::items::lanes::{Lanes, push_operand_lanes};
 use instr_effects::items::results::is_reserved;
 use meaning::Lane;

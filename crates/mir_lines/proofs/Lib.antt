@@ -3,3 +3,4 @@ pub mod Listed
 pub mod Cut
 pub mod Comments
 pub mod Few
+pub mod Words

@@ -151,20 +151,35 @@ pub fn skip_back(text: &[u8]) -> &[u8]
     &text[..n]
 }
 
-/// Whether a text is this word.
+/// Whether a text is this word. (Most texts differ in the first byte.)
 pub fn is(text: &[u8], word: &[u8]) -> bool
     ensures { result ≡ is_word text.now word.now }
 {
-    text == word
+    match (text, word) {
+        ([first, ..], [b, ..]) if *first != *b => false,
+        _ => text == word,
+    }
 }
 
-/// What stands behind this word, where it stands first.
+/// What stands behind this word, where it stands first. (Byte by byte: most texts differ in the first.)
 #[tactic(auto, unfolding(crate::specs::Bytes::behind_word))]
 pub fn behind_word<'a>(text: &'a [u8], word: &[u8]) -> Option<&'a [u8]>
     ensures value { option_map (λ r. r.now) result ≡ behind_word word.now text.now }
     ensures len { IfSome result (λ r. length r.now + length word.now ≡ length text.now) }
 {
-    text.strip_prefix(word)
+    let mut rest = text;
+    for b in word {
+        match rest {
+            [] => return None,
+            [first, behind @ ..] => {
+                if *first != *b {
+                    return None;
+                }
+                rest = behind;
+            }
+        }
+    }
+    Some(rest)
 }
 
 /// What stands before this word, where it stands last.

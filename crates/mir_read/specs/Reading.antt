@@ -29,3 +29,8 @@ FailsLine (stops.Memory e) read = Unit {0}
 abbrev pub GivesLine : {Y : Type 0} → Result Y ReadStop → Result Y TextKind → Type 0
 GivesLine (Ok x) read = read ≡ Ok x
 GivesLine (Err e) read = FailsLine e read
+
+-- what a function leaves behind for a line, unless memory runs out
+abbrev pub LeavesLine : {U Y : Type 0} → Result U ReadStop → Y → Result Y TextKind → Type 0
+LeavesLine (Ok x) y read = read ≡ Ok y
+LeavesLine (Err e) y read = FailsLine e read

@@ -268,6 +268,13 @@ impl Body {
         self.opened.is_some()
     }
 
+    /// The id of the next instruction.
+    pub fn next_id(&self) -> u32
+        ensures { result ≡ self.now.next_id }
+    {
+        self.next_id
+    }
+
     /// Whether a `successors:` line may stand here.
     #[tactic(auto, unfolding(crate::specs::Body::takes_successors))]
     pub fn takes_successors(&self) -> bool
@@ -388,26 +395,15 @@ impl Body {
         }
     }
 
-    /// The body with an instruction at the end of the block.
-    pub fn with_instr(self, instr: Instr) -> Result<Body, AllocError>
-        requires room { self.next_id < 4294967295 }
-        requires id { instr.id ≡ self.next_id }
-        ensures value { IfOk result (λ b. b ≡ with_instr self instr) }
-        ensures operands { IfOk result (λ b. operands_of b ≡ operands_of self + length instr.operands) }
+    /// Puts an instruction at the end of the block.
+    pub fn put_instr(&mut self, instr: Instr) -> Result<(), AllocError>
+        requires room { self.old.next_id < 4294967295 }
+        requires id { instr.id ≡ self.old.next_id }
+        ensures value { OnOk result (self.new ≡ with_instr self.old instr) }
+        ensures operands { OnOk result (operands_of self.new ≡ operands_of self.old + length instr.operands) }
     {
-        let Body {
-            done,
-            opened,
-            instrs,
-            next_id,
-        } = self;
-        let mut instrs = instrs;
-        instrs.push(instr)?;
-        Ok(Body {
-            done,
-            opened,
-            instrs,
-            next_id: next_id + 1,
-        })
+        self.instrs.push(instr)?;
+        self.next_id += 1;
+        Ok(())
     }
 }

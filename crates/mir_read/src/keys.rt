@@ -1,10 +1,10 @@
 //! The key lines of a function document.
 
-ghost use Rattle.std.specs.Prelude.{◌≡◌, ◌<◌, ◌≤◌, ◌+◌, ◌==◌, ◌++◌, codes, length, IfOk, IfSome, option_map, position, is_some, drop};
+ghost use Rattle.std.specs.Prelude.{◌≡◌, ◌<◌, ◌≤◌, ◌+◌, ◌==◌, ◌++◌, codes, length, IfSome, OnOk, option_map, position, is_some, drop};
 ghost use Rattle.mir_lines.specs.Bytes.{behind_word};
 ghost use Rattle.mir_lines.specs.Reads.{part_and_rest, now_of};
 ghost use Rattle.mir_read.specs.Names.{NameLists};
-ghost use Rattle.mir_read.specs.Reading.{GivesLine};
+ghost use Rattle.mir_read.specs.Reading.{LeavesLine};
 ghost use Rattle.mir_read.specs.Keys.{no_keys, unquoted, name_value, is_body_value, declared_number, ends_class, class_word, declared_class, contains, frame_in, declared_frame, is_key, key_named, name_begun, body_begun, key_begun, continued, colon_cut, begun_with, found, with_declared, with_frame, declared, kept, key_line, AddsToKeys};
 
 use crate::names::Names;
@@ -268,11 +268,11 @@ impl Keys {
         }
     }
 
-    /// The keys where the name's line comes, which it does once.
+    /// Takes the name's line, which comes once.
     #[tactic(auto, unfolding(crate::specs::Keys::name_begun))]
-    fn name_begun(self, alloc: Global, value: &[u8]) -> Result<Keys, ReadStop>
-        ensures value { GivesLine result (name_begun self value.now) }
-        ensures adds { IfOk result (λ k. AddsToKeys 0 self k) }
+    fn begin_name(&mut self, alloc: Global, value: &[u8]) -> Result<(), ReadStop>
+        ensures value { LeavesLine result self.new (name_begun self.old value.now) }
+        ensures adds { OnOk result (AddsToKeys 0 self.old self.new) }
     {
         if self.name.is_some() {
             return Err(ReadStop::Fault(TextKind::Layout));
@@ -280,19 +280,18 @@ impl Keys {
         match name_value(value) {
             None => Err(ReadStop::Fault(TextKind::Token)),
             Some(value) => {
-                let mut keys = self;
-                keys.name = Some(List::from_slice(alloc, value)?);
-                keys.key = Key::Other;
-                Ok(keys)
+                self.name = Some(List::from_slice(alloc, value)?);
+                self.key = Key::Other;
+                Ok(())
             }
         }
     }
 
-    /// The keys where the body's line comes, which it does behind the name.
+    /// Takes the body's line, which comes behind the name.
     #[tactic(auto, unfolding(crate::specs::Keys::body_begun))]
-    fn body_begun(self, value: &[u8]) -> Result<Keys, ReadStop>
-        ensures value { GivesLine result (body_begun self value.now) }
-        ensures adds { IfOk result (λ k. AddsToKeys 0 self k) }
+    fn begin_body(&mut self, value: &[u8]) -> Result<(), ReadStop>
+        ensures value { LeavesLine result self.new (body_begun self.old value.now) }
+        ensures adds { OnOk result (AddsToKeys 0 self.old self.new) }
     {
         if self.name.is_none() {
             return Err(ReadStop::Fault(TextKind::Layout));
@@ -300,65 +299,63 @@ impl Keys {
         if !is_body_value(value) {
             return Err(ReadStop::Fault(TextKind::Token));
         }
-        let mut keys = self;
-        keys.key = Key::Body;
-        Ok(keys)
+        self.key = Key::Body;
+        Ok(())
     }
 
-    /// The keys where a line begins this one.
+    /// Takes a line that begins this key.
     #[tactic(auto, unfolding(crate::specs::Keys::key_begun))]
-    fn key_begun(self, alloc: Global, name: &[u8], value: &[u8]) -> Result<Keys, ReadStop>
-        ensures value { GivesLine result (key_begun self name.now value.now) }
-        ensures adds { IfOk result (λ k. AddsToKeys 0 self k) }
+    fn begin_key(&mut self, alloc: Global, name: &[u8], value: &[u8]) -> Result<(), ReadStop>
+        ensures value { LeavesLine result self.new (key_begun self.old name.now value.now) }
+        ensures adds { OnOk result (AddsToKeys 0 self.old self.new) }
     {
         if is(name, b"name") {
-            return self.name_begun(alloc, value);
+            return self.begin_name(alloc, value);
         }
         if is(name, b"body") {
-            return self.body_begun(value);
+            return self.begin_body(value);
         }
-        let mut keys = self;
-        keys.key = key_named(name);
-        Ok(keys)
+        self.key = key_named(name);
+        Ok(())
     }
 
-    /// The keys where a line belongs to the one before it.
+    /// Whether a line may belong to the one before it.
     #[tactic(auto, unfolding(crate::specs::Keys::continued))]
-    fn continued(self) -> Result<Keys, ReadStop>
-        ensures value { GivesLine result (continued self) }
-        ensures adds { IfOk result (λ k. AddsToKeys 0 self k) }
+    fn go_on(&self) -> Result<(), ReadStop>
+        ensures value { LeavesLine result self.now (continued self.now) }
+        ensures adds { OnOk result (AddsToKeys 0 self.now self.now) }
     {
         if is_outside(self.key) {
             Err(ReadStop::Fault(TextKind::Layout))
         } else {
-            Ok(self)
+            Ok(())
         }
     }
 
-    /// The keys where a line begins a key.
-    fn begun_with(self, alloc: Global, line: &[u8]) -> Result<Keys, ReadStop>
-        ensures value { GivesLine result (begun_with self (colon_cut line.now)) }
-        ensures adds { IfOk result (λ k. AddsToKeys 0 self k) }
+    /// Takes a line that begins a key.
+    fn begin(&mut self, alloc: Global, line: &[u8]) -> Result<(), ReadStop>
+        ensures value { LeavesLine result self.new (begun_with self.old (colon_cut line.now)) }
+        ensures adds { OnOk result (AddsToKeys 0 self.old self.new) }
     {
         match colon_cut(line) {
             None => Err(ReadStop::Fault(TextKind::Layout)),
-            Some((name, value)) => self.key_begun(alloc, name, value),
+            Some((name, value)) => self.begin_key(alloc, name, value),
         }
     }
 
-    /// The keys where the key of a line is found.
+    /// Finds the key of a line.
     #[tactic(auto, unfolding(crate::specs::Keys::found))]
-    fn found(self, alloc: Global, line: &[u8]) -> Result<Keys, ReadStop>
-        ensures value { GivesLine result (found self line.now) }
-        ensures adds { IfOk result (λ k. AddsToKeys 0 self k) }
+    fn find(&mut self, alloc: Global, line: &[u8]) -> Result<(), ReadStop>
+        ensures value { LeavesLine result self.new (found self.old line.now) }
+        ensures adds { OnOk result (AddsToKeys 0 self.old self.new) }
     {
         match line {
-            [] => self.continued(),
+            [] => self.go_on(),
             [b, ..] => {
                 if is_letter(*b) {
-                    self.begun_with(alloc, line)
+                    self.begin(alloc, line)
                 } else if *b == b' ' || *b == b'#' {
-                    self.continued()
+                    self.go_on()
                 } else {
                     Err(ReadStop::Fault(TextKind::Layout))
                 }
@@ -366,93 +363,75 @@ impl Keys {
         }
     }
 
-    /// The keys with the class that a line of `registers` declares.
-    fn with_declared(self, alloc: Global, names: &Names, line: &[u8]) -> Result<Keys, ReadStop>
-        requires { length self.registers.names < 4294967295 }
-        ensures value { GivesLine result (with_declared names.now self (declared_class line.now)) }
-        ensures adds { IfOk result (λ k. AddsToKeys (length line.now) self k) }
+    /// Adds the class that a line of `registers` declares.
+    fn declare_class(&mut self, alloc: Global, names: &Names, line: &[u8]) -> Result<(), ReadStop>
+        requires { length self.old.registers.names < 4294967295 }
+        ensures value { LeavesLine result self.new (with_declared names.now self.old (declared_class line.now)) }
+        ensures adds { OnOk result (AddsToKeys (length line.now) self.old self.new) }
     {
         match declared_class(line) {
-            None => Ok(self),
+            None => Ok(()),
             Some((name, class)) => match names.class(class) {
                 None => Err(ReadStop::Fault(TextKind::Name)),
                 Some(c) => {
-                    let Keys {
-                        key,
-                        name: function,
-                        head,
-                        frames,
-                        registers,
-                    } = self;
-                    let registers = registers.mentioned(
-                        alloc,
-                        name,
-                        Given::Nothing,
-                        Given::One(c),
-                    )?;
-                    Ok(Keys {
-                        key,
-                        name: function,
-                        head,
-                        frames,
-                        registers,
-                    })
+                    self.registers
+                        .mention(alloc, name, Given::Nothing, Given::One(c))?;
+                    Ok(())
                 }
             },
         }
     }
 
-    /// The keys with the frame object that a line of `stack` declares.
-    fn with_frame(self, line: &[u8]) -> Result<Keys, AllocError>
-        ensures value { IfOk result (λ k. k ≡ with_frame self (declared_frame line.now)) }
-        ensures adds { IfOk result (λ k. AddsToKeys (length line.now) self k) }
+    /// Adds the frame object that a line of `stack` declares.
+    fn declare_frame(&mut self, line: &[u8]) -> Result<(), AllocError>
+        ensures value { OnOk result (self.new ≡ with_frame self.old (declared_frame line.now)) }
+        ensures adds { OnOk result (AddsToKeys (length line.now) self.old self.new) }
     {
-        let mut keys = self;
         if let Some(frame) = declared_frame(line) {
-            keys.frames.push(frame)?;
+            self.frames.push(frame)?;
         }
-        Ok(keys)
+        Ok(())
     }
 
-    /// The keys with what a line declares.
+    /// Adds what a line declares.
     #[tactic(auto, unfolding(crate::specs::Keys::declared))]
-    fn declared(self, alloc: Global, names: &Names, line: &[u8]) -> Result<Keys, ReadStop>
-        requires { length self.registers.names < 4294967295 }
-        ensures value { GivesLine result (declared names.now self line.now) }
-        ensures adds { IfOk result (λ k. AddsToKeys (length line.now) self k) }
+    fn declare(&mut self, alloc: Global, names: &Names, line: &[u8]) -> Result<(), ReadStop>
+        requires { length self.old.registers.names < 4294967295 }
+        ensures value { LeavesLine result self.new (declared names.now self.old line.now) }
+        ensures adds { OnOk result (AddsToKeys (length line.now) self.old self.new) }
     {
         if is_registers(self.key) {
-            return self.with_declared(alloc, names, line);
+            return self.declare_class(alloc, names, line);
         }
         if is_stack(self.key) {
-            return Ok(self.with_frame(line)?);
+            self.declare_frame(line)?;
         }
-        Ok(self)
+        Ok(())
     }
 
-    /// The keys with a line that is kept, unless its key names virtual registers.
+    /// Keeps a line, unless its key names virtual registers.
     #[tactic(auto, unfolding(crate::specs::Keys::kept))]
-    fn kept(self, line: &[u8]) -> Result<Keys, AllocError>
-        ensures value { IfOk result (λ k. k ≡ kept self line.now) }
-        ensures adds { IfOk result (λ k. AddsToKeys 0 self k) }
+    fn keep(&mut self, line: &[u8]) -> Result<(), AllocError>
+        ensures value { OnOk result (self.new ≡ kept self.old line.now) }
+        ensures adds { OnOk result (AddsToKeys 0 self.old self.new) }
     {
-        let mut keys = self;
-        if !(is_registers(keys.key) || is_liveins(keys.key)) {
-            keys.head.extend(line)?;
-            keys.head.extend(b"\n")?;
+        if !(is_registers(self.key) || is_liveins(self.key)) {
+            self.head.extend(line)?;
+            self.head.extend(b"\n")?;
         }
-        Ok(keys)
+        Ok(())
     }
 
-    /// The keys with one line before the body, or the first test that the line fails.
+    /// Takes one line before the body, or answers the first test that the line fails.
     #[tactic(auto, unfolding(crate::specs::Keys::key_line))]
-    pub fn line(self, alloc: Global, names: &Names, line: &[u8]) -> Result<Keys, ReadStop>
-        requires { length self.registers.names < 4294967295 }
-        ensures value { GivesLine result (key_line names.now self line.now) }
-        ensures adds { IfOk result (λ k. AddsToKeys (length line.now) self k) }
+    pub fn line(&mut self, alloc: Global, names: &Names, line: &[u8]) -> Result<(), ReadStop>
+        requires { length self.old.registers.names < 4294967295 }
+        ensures value { LeavesLine result self.new (key_line names.now self.old line.now) }
+        ensures adds { OnOk result (AddsToKeys (length line.now) self.old self.new) }
     {
-        let keys = self.found(alloc, line)?;
-        let keys = keys.declared(alloc, names, line)?;
-        Ok(keys.kept(line)?)
+        self.find(alloc, line)?;
+        self.declare(alloc, names, line)?;
+        self.keep(line)?;
+        Ok(())
     }
 }

@@ -1,6 +1,6 @@
 //! The virtual registers of a function, numbered in the order in which they are first named.
 
-ghost use Rattle.std.specs.Prelude.{◌≡◌, ◌<◌, ◌≤◌, ◌+◌, length, IfOk, map, slice_set, position, None};
+ghost use Rattle.std.specs.Prelude.{◌≡◌, ◌<◌, ◌≤◌, ◌+◌, length, IfOk, OnOk, map, slice_set, position, None};
 ghost use Rattle.target_base.specs.Storage.{same_numbers};
 ghost use Rattle.mir_read.specs.Ranges.{one_of, joined, given_at, given_to, appended, regiven, mentioned, range_number, class_in, classes_of, no_ranges};
 
@@ -89,69 +89,78 @@ impl Ranges {
         }
     }
 
-    /// The number of a register.
-    #[tactic(auto, unfolding(crate::specs::Ranges::range_number))]
-    pub fn number(&self, name: &[u8]) -> u32
-        ensures value { result ≡ range_number self.now name.now }
+    /// Adds a register, which isn't named yet.
+    fn append(&mut self, alloc: Global, name: &[u8], given: Given) -> Result<(), AllocError>
+        requires few { length self.old.names < 4294967295 }
+        requires new { position (same_numbers name.now) self.old.names ≡ None }
+        ensures value { OnOk result (self.new ≡ appended self.old name.now given) }
+        ensures more { OnOk result (length self.new.names ≤ length self.old.names + 1) }
+        ensures given { OnOk result (length self.new.given ≤ length self.old.given + 1) }
     {
-        match self.names.place(name) {
-            None => self.names.len(),
-            Some(k) => k,
-        }
+        self.names.add(alloc, name)?;
+        self.given.push(given)?;
+        Ok(())
     }
 
-    /// The registers with one more, which isn't named yet.
-    fn appended(self, alloc: Global, name: &[u8], given: Given) -> Result<Ranges, AllocError>
-        requires few { length self.names < 4294967295 }
-        requires new { position (same_numbers name.now) self.names ≡ None }
-        ensures value { IfOk result (λ r. r ≡ appended self name.now given) }
-        ensures more { IfOk result (λ r. length r.names ≤ length self.names + 1) }
-        ensures given { IfOk result (λ r. length r.given ≤ length self.given + 1) }
+    /// Gives the register of this place something more.
+    fn give(&mut self, k: usize, given: Given)
+        ensures value { self.new ≡ regiven self.old k given }
+        ensures given { length self.new.given ≡ length self.old.given }
     {
-        let Ranges {
-            names,
-            given: before,
-        } = self;
-        let mut names = names;
-        let mut all = before;
-        names.add(alloc, name)?;
-        all.push(given)?;
-        Ok(Ranges { names, given: all })
+        let old = given_at(self.given.as_slice(), k);
+        set_given(&mut self.given, k, joined(old, given));
     }
 
-    /// The registers where the one of this place is given something more.
-    fn regiven(self, k: usize, given: Given) -> Ranges
-        ensures value { result ≡ regiven self k given }
-        ensures given { length result.given ≡ length self.given }
-    {
-        let Ranges {
-            names,
-            given: before,
-        } = self;
-        let mut all = before;
-        let old = given_at(all.as_slice(), k);
-        set_given(&mut all, k, joined(old, given));
-        Ranges { names, given: all }
-    }
-
-    /// The registers where this one is named and given something; where that is the first time, it
-    /// has been given something before.
+    /// Names a register and gives it something; where that is the first time, it has been given
+    /// something before.
     #[tactic(auto, unfolding(crate::specs::Ranges::mentioned))]
-    pub fn mentioned(
-        self,
+    pub fn mention(
+        &mut self,
         alloc: Global,
         name: &[u8],
         first: Given,
         given: Given,
-    ) -> Result<Ranges, AllocError>
-        requires { length self.names < 4294967295 }
-        ensures value { IfOk result (λ r. r ≡ mentioned self name.now first given) }
-        ensures more { IfOk result (λ r. length r.names ≤ length self.names + 1) }
-        ensures given { IfOk result (λ r. length r.given ≤ length self.given + 1) }
+    ) -> Result<(), AllocError>
+        requires { length self.old.names < 4294967295 }
+        ensures value { OnOk result (self.new ≡ mentioned self.old name.now first given) }
+        ensures more { OnOk result (length self.new.names ≤ length self.old.names + 1) }
+        ensures given { OnOk result (length self.new.given ≤ length self.old.given + 1) }
     {
         match self.names.place(name) {
-            None => self.appended(alloc, name, joined(first, given)),
-            Some(k) => Ok(self.regiven(k as usize, given)),
+            None => self.append(alloc, name, joined(first, given)),
+            Some(k) => {
+                self.give(k as usize, given);
+                Ok(())
+            }
+        }
+    }
+
+    /// Names a register and gives it something, and answers its number; where that is the first
+    /// time, it has been given what it is in these others.
+    #[tactic(auto, unfolding(crate::specs::Ranges::mentioned, crate::specs::Ranges::range_number))]
+    pub fn number(
+        &mut self,
+        alloc: Global,
+        name: &[u8],
+        keyed: &Ranges,
+        given: Given,
+    ) -> Result<u32, AllocError>
+        requires { length self.old.names < 4294967295 }
+        ensures value { OnOk result (self.new ≡ mentioned self.old name.now (given_to keyed.now name.now) given) }
+        ensures number { IfOk result (λ n. n ≡ range_number self.old name.now) }
+        ensures more { OnOk result (length self.new.names ≤ length self.old.names + 1) }
+        ensures given { OnOk result (length self.new.given ≤ length self.old.given + 1) }
+    {
+        match self.names.place(name) {
+            None => {
+                let number = self.names.len();
+                self.append(alloc, name, joined(keyed.given_to(name), given))?;
+                Ok(number)
+            }
+            Some(k) => {
+                self.give(k as usize, given);
+                Ok(k)
+            }
         }
     }
 

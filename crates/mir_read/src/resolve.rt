@@ -111,24 +111,25 @@ fn class_if(names: &Names, class: &Option<Bytes>) -> Option<Given>
     }
 }
 
-/// The registers so far, and where an operand lies and its index. None where a name isn't known.
+/// Where an operand lies and its index; its register is named and given what is written. None where a
+/// name isn't known.
 #[tactic(auto, unfolding(crate::specs::Resolving::placed))]
-fn placed(
+fn place(
     alloc: Global,
     names: &Names,
     keyed: &Ranges,
-    ranges: Ranges,
+    ranges: &mut Ranges,
     place: &RawPlace,
-) -> Result<Option<(Ranges, Loc, Option<IndexId>)>, AllocError>
-    requires { length ranges.names < 4294967295 }
-    ensures value { IfOk result (λ p. p ≡ placed names.now keyed.now ranges place.now) }
-    ensures more { IfOk result (λ o. IfSome o (λ p. length p.0.names ≤ length ranges.names + 1)) }
-    ensures given { IfOk result (λ o. IfSome o (λ p. length p.0.given ≤ length ranges.given + 1)) }
+) -> Result<Option<(Loc, Option<IndexId>)>, AllocError>
+    requires { length ranges.old.names < 4294967295 }
+    ensures value { IfOk result (λ o. option_map (λ p. (ranges.new, p.0, p.1)) o ≡ placed names.now keyed.now ranges.old place.now) }
+    ensures more { IfOk result (λ o. IfSome o (λ p. length ranges.new.names ≤ length ranges.old.names + 1)) }
+    ensures given { IfOk result (λ o. IfSome o (λ p. length ranges.new.given ≤ length ranges.old.given + 1)) }
 {
     match place {
         RawPlace::Fixed(name) => match names.reg(name.as_slice()) {
             None => Ok(None),
-            Some(r) => Ok(Some((ranges, Loc::Fixed(r), None))),
+            Some(r) => Ok(Some((Loc::Fixed(r), None))),
         },
         RawPlace::Virtual(name, index, class) => {
             let Some(index) = index_if(names, index) else {
@@ -137,10 +138,8 @@ fn placed(
             let Some(given) = class_if(names, class) else {
                 return Ok(None);
             };
-            let number = ranges.number(name.as_slice());
-            let first = keyed.given_to(name.as_slice());
-            let ranges = ranges.mentioned(alloc, name.as_slice(), first, given)?;
-            Ok(Some((ranges, Loc::Virtual(number), index)))
+            let number = ranges.number(alloc, name.as_slice(), keyed, given)?;
+            Ok(Some((Loc::Virtual(number), index)))
         }
     }
 }
@@ -168,79 +167,75 @@ fn are_flags(names: &Names, flags: &[Bytes]) -> bool
     flags.iter().all(|w| names.has_flag(w.as_slice()))
 }
 
-/// The registers so far, and an operand with its names looked up. None where a name isn't known.
+/// An operand with its names looked up; its register is named and given what is written. None where a
+/// name isn't known.
 #[tactic(auto, unfolding(crate::specs::Resolving::operand_named))]
 fn operand(
     alloc: Global,
     names: &Names,
     headers: &Headers,
     keyed: &Ranges,
-    ranges: Ranges,
+    ranges: &mut Ranges,
     raw: &RawOperand,
-) -> Result<Option<(Ranges, Operand)>, AllocError>
-    requires { length ranges.names < 4294967295 }
-    ensures value { IfOk result (λ p. p ≡ operand_named names.now headers.now keyed.now ranges raw.now) }
-    ensures more { IfOk result (λ o. IfSome o (λ p. length p.0.names ≤ length ranges.names + 1)) }
-    ensures given { IfOk result (λ o. IfSome o (λ p. length p.0.given ≤ length ranges.given + 1)) }
+) -> Result<Option<Operand>, AllocError>
+    requires { length ranges.old.names < 4294967295 }
+    ensures value { IfOk result (λ o. option_map (λ p. (ranges.new, p)) o ≡ operand_named names.now headers.now keyed.now ranges.old raw.now) }
+    ensures more { IfOk result (λ o. IfSome o (λ p. length ranges.new.names ≤ length ranges.old.names + 1)) }
+    ensures given { IfOk result (λ o. IfSome o (λ p. length ranges.new.given ≤ length ranges.old.given + 1)) }
 {
     match raw {
-        RawOperand::Reg(o) => match placed(alloc, names, keyed, ranges, &o.place)? {
+        RawOperand::Reg(o) => match place(alloc, names, keyed, ranges, &o.place)? {
             None => Ok(None),
-            Some((ranges, loc, index)) => {
-                Ok(Some((ranges, Operand::Reg(reg_op(loc, index, o)))))
-            }
+            Some((loc, index)) => Ok(Some(Operand::Reg(reg_op(loc, index, o)))),
         },
-        RawOperand::Imm(n) => Ok(Some((ranges, Operand::Imm(*n)))),
+        RawOperand::Imm(n) => Ok(Some(Operand::Imm(*n))),
         RawOperand::Block(n, name) => {
             if headers.differs(*n, name) {
                 return Ok(None);
             }
-            Ok(Some((ranges, Operand::Block(*n))))
+            Ok(Some(Operand::Block(*n)))
         }
-        RawOperand::Stack(n) => Ok(Some((ranges, Operand::Stack(*n)))),
-        RawOperand::FixedStack(n) => Ok(Some((ranges, Operand::FixedStack(*n)))),
+        RawOperand::Stack(n) => Ok(Some(Operand::Stack(*n))),
+        RawOperand::FixedStack(n) => Ok(Some(Operand::FixedStack(*n))),
         RawOperand::Symbol(text, flags) => {
             if !are_flags(names, flags.as_slice()) {
                 return Ok(None);
             }
-            Ok(Some((ranges, Operand::Symbol(text.copied(alloc)?))))
+            Ok(Some(Operand::Symbol(text.copied(alloc)?)))
         }
         RawOperand::Index(name) => match names.index(name.as_slice()) {
             None => Ok(None),
-            Some(i) => Ok(Some((ranges, Operand::Index(i)))),
+            Some(i) => Ok(Some(Operand::Index(i))),
         },
         RawOperand::Mask(name) => match names.mask(name.as_slice()) {
             None => Ok(None),
-            Some(m) => Ok(Some((ranges, Operand::Mask(m)))),
+            Some(m) => Ok(Some(Operand::Mask(m))),
         },
     }
 }
 
-/// The registers so far, and operands with their names looked up. None where a name isn't known.
+/// Operands with their names looked up; their registers are named and given what is written. None
+/// where a name isn't known.
 fn operands(
     alloc: Global,
     names: &Names,
     headers: &Headers,
     keyed: &Ranges,
-    ranges: Ranges,
+    ranges: &mut Ranges,
     raw: &[RawOperand],
-) -> Result<Option<(Ranges, Operands)>, AllocError>
-    requires { length ranges.names + length raw.now < 4294967295 }
-    ensures value { IfOk result (λ p. p ≡ operands_named names.now headers.now keyed.now ranges raw.now) }
-    ensures more { IfOk result (λ o. IfSome o (λ p. HasMore ranges (length raw.now) p)) }
+) -> Result<Option<Operands>, AllocError>
+    requires { length ranges.old.names + length raw.now < 4294967295 }
+    ensures value { IfOk result (λ o. option_map (λ p. (ranges.new, p)) o ≡ operands_named names.now headers.now keyed.now ranges.old raw.now) }
+    ensures more { IfOk result (λ o. IfSome o (λ p. HasMore ranges.old (length raw.now) (ranges.new, p))) }
 {
     let mut made: Operands = ShortList::new(alloc);
-    let mut so_far = ranges;
     for o in raw {
-        match operand(alloc, names, headers, keyed, so_far, o)? {
+        match operand(alloc, names, headers, keyed, ranges, o)? {
             None => return Ok(None),
-            Some((ranges, operand)) => {
-                made.push(operand)?;
-                so_far = ranges;
-            }
+            Some(operand) => made.push(operand)?,
         }
     }
-    Ok(Some((so_far, made)))
+    Ok(Some(made))
 }
 
 /// The opcode of an instruction. None where the target lacks it.
@@ -256,21 +251,22 @@ fn opcode(alloc: Global, names: &Names, raw: &RawInstr) -> Result<Option<Op>, Al
     }
 }
 
-/// The registers so far, and the instruction of this id with its names looked up. None where a
-/// name isn't known.
+/// The instruction of this id with its names looked up; its registers are named and given what is
+/// written. None where a name isn't known.
 #[tactic(auto, unfolding(crate::specs::Resolving::instr_named, crate::specs::Resolving::instr_of))]
 pub fn instruction(
     alloc: Global,
     names: &Names,
     headers: &Headers,
     keyed: &Ranges,
-    ranges: Ranges,
+    ranges: &mut Ranges,
     id: u32,
     raw: RawInstr,
-) -> Result<Option<(Ranges, Instr)>, AllocError>
-    requires { length ranges.names + length raw.operands < 4294967295 }
-    ensures value { IfOk result (λ p. p ≡ instr_named names.now headers.now keyed.now ranges id raw) }
-    ensures more { IfOk result (λ o. IfSome o (λ p. HasMore ranges (length raw.operands) (p.0, p.1.operands))) }
+) -> Result<Option<Instr>, AllocError>
+    requires { length ranges.old.names + length raw.operands < 4294967295 }
+    ensures value { IfOk result (λ o. option_map (λ i. (ranges.new, i)) o ≡ instr_named names.now headers.now keyed.now ranges.old id raw) }
+    ensures more { IfOk result (λ o. IfSome o (λ i. HasMore ranges.old (length raw.operands) (ranges.new, i.operands))) }
+    ensures id { IfOk result (λ o. IfSome o (λ i. i.id ≡ id)) }
 {
     let Some(op) = opcode(alloc, names, &raw)? else {
         return Ok(None);
@@ -284,16 +280,13 @@ pub fn instruction(
         raw.operands.as_slice(),
     )? {
         None => Ok(None),
-        Some((ranges, operands)) => Ok(Some((
-            ranges,
-            Instr {
-                id,
-                op,
-                flags: raw.flags,
-                operands,
-                tail: raw.tail,
-            },
-        ))),
+        Some(operands) => Ok(Some(Instr {
+            id,
+            op,
+            flags: raw.flags,
+            operands,
+            tail: raw.tail,
+        })),
     }
 }
 

@@ -1,5 +1,6 @@
 -- How large a document grows.
-use Rattle.std.proofs.Common.{ℕ, ◌≤◌, ◌+◌, Ok, Err, arith}
+use Rattle.std.proofs.Common.{◌≡◌, ℕ, ◌≤◌, ◌+◌, Ok, Err, arith}
+use Rattle.std.proofs.lemmas.List.{length-map}
 use Rattle.std.specs.Prelude.{Result, IfOk}
 use Rattle.mir_read.specs.declared.keys.Keys.{Keys}
 use Rattle.mir_text.specs.declared.reading.Reading.{Reading}
@@ -7,7 +8,9 @@ use Rattle.mir_text.specs.declared.document.State.{State}
 use Rattle.mir_text.specs.declared.document.State.TheVariants as states
 use Rattle.mir_func.specs.Value.{Function}
 use Rattle.mir_read.specs.Keys.{AddsToKeys}
-use Rattle.mir_text.specs.BodyLines.{reading_of, IsFunctionWithin, IsReadingWithin, AddsToReading}
+use Rattle.mir_read.specs.Body.{BodyValue, operands_of}
+use Rattle.mir_read.specs.Ranges.{class_in}
+use Rattle.mir_text.specs.BodyLines.{reading_of, function_of, IsFunctionWithin, IsReadingWithin, AddsToReading}
 use Rattle.mir_text.specs.Document.{AreKeysWithin, IsStateWithin}
 
 pub function_grows : (m n : ℕ) (f : Function) → IsFunctionWithin m f → m ≤ n → IsFunctionWithin n f
@@ -58,6 +61,16 @@ reading_begins n k h = record {
   headers = omega arith;
   ids = omega arith;
   operands = omega arith;
+}
+
+-- the function of a body whose last block has ended
+pub function_small : (n : ℕ) (r : Reading) (b : BodyValue) → IsReadingWithin n r → b.next_id ≡ r.body.next_id → operands_of b ≡ operands_of r.body → IsFunctionWithin n (function_of r b)
+unfolding function_of
+function_small n r b h i o = record {
+  ids = omega (arith, i, h.ids);
+  ranges = omega (arith, length-map r.ranges.given class_in, h.given);
+  operands = omega (arith, o, h.operands);
+  frames = h.frames;
 }
 
 -- what holds of an answer, where something stronger does

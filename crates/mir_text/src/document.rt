@@ -1,6 +1,7 @@
 //! Reading documents line by line.
 
 ghost use Rattle.std.specs.Prelude.{◌≡◌, ◌<◌, ◌≤◌, ◌+◌, ◌^◌, ◌∷◌, ◌==◌, length, position, IfOk, IfSome, ℕ};
+ghost use Rattle.mir_read.specs.Names.{name_lists};
 ghost use Rattle.mir_read.specs.Reading.{GivesLine};
 ghost use Rattle.mir_text.specs.BodyLines.{IsReadingWithin};
 ghost use Rattle.mir_text.specs.Document.{lines, end_line, body_or_end, with_key_line, begins_comment, outside_line, ir_line, line_after, ended, document_of, stop_at, Gives, IsBulkWithin, AreKeysWithin, IsStateWithin};
@@ -13,7 +14,8 @@ use mir_read::keys::{Keys, is_body};
 use mir_read::names::Names;
 use mir_read::{ReadStop, TextKind};
 use std::alloc::{AllocError, Global};
-use target_base::{Bytes, List, Target};
+use std::marker::Model;
+use target_base::{Boxed, Bytes, List, Target};
 
 /// What the lines so far make.
 #[derive(Drop)]
@@ -23,13 +25,13 @@ pub(crate) enum State {
     /// An IR document that has begun.
     Ir,
     /// Lines before a function document, and the key lines of it.
-    Keys(Bytes, Keys),
+    Keys(Bytes, Boxed<Keys>),
     /// Lines before a function document, and what is read of it.
     Body(Bytes, Reading),
     /// A whole IR document.
     EndOfIr,
     /// Lines before a function document, and its function.
-    Function(Bytes, Func),
+    Function(Bytes, Boxed<Func>),
 }
 
 fn find_newline(text: &[u8]) -> Option<usize>
@@ -73,7 +75,8 @@ fn outside_line(alloc: Global, first: bool, before: Bytes, line: &[u8]) -> Resul
     }
     let word = skip_back(line);
     if is(word, b"---") {
-        return Ok(State::Keys(before, Keys::new(alloc)));
+        let keys = Boxed::new(alloc, Keys::new(alloc))?;
+        return Ok(State::Keys(before, keys));
     }
     if first && is(word, b"--- |") {
         return Ok(State::Ir);
@@ -101,16 +104,17 @@ fn key_line(
     alloc: Global,
     names: &Names,
     before: Bytes,
-    keys: Keys,
+    keys: Boxed<Keys>,
     line: &[u8],
 ) -> Result<State, ReadStop>
     requires { AreKeysWithin 8388608 keys }
     ensures value { GivesLine result (with_key_line names.now before keys line.now) }
     ensures within { IfOk result (λ s. (n : ℕ) → AreKeysWithin n keys → IsStateWithin (n + length line.now) s) }
 {
-    let keys = keys.line(alloc, names, line)?;
-    if is_body(keys.key) {
-        Ok(State::Body(before, Reading::new(alloc, keys)))
+    let mut keys = keys;
+    keys.get_mut().line(alloc, names, line)?;
+    if is_body(keys.get().key) {
+        Ok(State::Body(before, Reading::new(alloc, keys)?))
     } else {
         Ok(State::Keys(before, keys))
     }
@@ -132,10 +136,11 @@ fn body_or_end(
     ensures within { IfOk result (λ s. (n : ℕ) → IsReadingWithin n reading → IsStateWithin (n + length line.now) s) }
 {
     if is(line, b"...") {
-        if !reading.body.is_begun() {
+        if !reading.body.get().is_begun() {
             return Err(ReadStop::Fault(TextKind::Layout));
         }
-        return Ok(State::Function(before, reading.into_func(alloc, target)?));
+        let f = Boxed::new(alloc, reading.into_func(alloc, target)?)?;
+        return Ok(State::Function(before, f));
     }
     Ok(State::Body(before, reading.line(alloc, target, names, line)?))
 }
@@ -177,7 +182,7 @@ impl State {
         match self {
             State::Outside(_) => Ok(Some(Doc::Rest(List::from_slice(alloc, bytes)?))),
             State::EndOfIr => Ok(Some(Doc::Ir(List::from_slice(alloc, bytes)?))),
-            State::Function(before, f) => Ok(Some(Doc::Function(before, f))),
+            State::Function(before, f) => Ok(Some(Doc::Function(before, f.into_inner()))),
             _ => Ok(None),
         }
     }
@@ -193,30 +198,27 @@ fn at_line(number: u64, stop: ReadStop) -> TextStop
     }
 }
 
-/// Reads one document, whose first line has the number `line`; `first` says whether IR may stand
-/// here. Fault comes exactly where the bytes spell no document, with the first line that can't
-/// stand behind those before it and the first of Layout, Token and Name that fails there, or with
-/// End and the line behind the last. Each of the numbers of ids, virtual registers, operands and
-/// frame objects of the function is at most the number of bytes.
-pub fn read_doc(
+/// The document that bytes spell, with the names of the target given.
+fn read_with(
     alloc: Global,
     target: &Target,
+    names: &Names,
     first: bool,
     line: u64,
     bytes: &[u8],
 ) -> Result<Doc, TextStop>
+    requires named { names.now ≡ name_lists target.now }
     requires small { length bytes.now ≤ 4194304 }
     requires early { line ≤ 2 ^ 63 }
     ensures exact { Gives result (document_of target.now first line bytes.now) }
     ensures bulk { IfOk result (λ d. IsBulkWithin (length bytes.now) d) }
 {
-    let names = Names::new(alloc, target)?;
     let mut state = State::Outside(List::new(alloc));
     let mut rest = bytes;
     let mut number = line;
     'lines: while !rest.is_empty() {
         let (text, after) = next_line(rest);
-        state = match state.line(alloc, target, &names, first, text) {
+        state = match state.line(alloc, target, names, first, text) {
             Ok(state) => state,
             Err(stop) => return Err(at_line(number, stop)),
         };
@@ -230,4 +232,77 @@ pub fn read_doc(
         })),
         Some(doc) => Ok(doc),
     }
+}
+
+/// A reader of documents over a target, whose names are found once for all that it reads. Contracts
+/// see it as the target.
+#[derive(Drop)]
+pub struct Reader<'a> {
+    target: &'a Target,
+    names: Names,
+}
+
+impl<'a> Model for Reader<'a> {
+    ghost use Rattle.std.specs.Prelude.{◌≡◌};
+    ghost use Rattle.target_base.specs.declared.types.Target.{Target};
+    ghost use Rattle.mir_read.specs.Names.{name_lists};
+
+    ghost Value = { Target };
+
+    ghost view = { λ r. r.target.now };
+
+    ghost invariant = { λ r. r.names ≡ name_lists r.target.now };
+}
+
+impl<'a> Reader<'a> {
+    /// The reader over a target.
+    pub fn new(alloc: Global, target: &'a Target) -> Result<Reader<'a>, AllocError>
+        ensures { IfOk result (λ r. r ≡ target.now) }
+    {
+        let names = Names::new(alloc, target)?;
+        Ok(Reader { target, names })
+    }
+
+    /// The target.
+    pub fn target(&self) -> &'a Target
+        ensures { result.now ≡ self.now }
+    {
+        self.target
+    }
+
+    /// Reads one document, whose first line has the number `line`; `first` says whether IR may stand
+    /// here. Fault comes exactly where the bytes spell no document, with the first line that can't
+    /// stand behind those before it and the first of Layout, Token and Name that fails there, or
+    /// with End and the line behind the last. Each of the numbers of ids, virtual registers,
+    /// operands and frame objects of the function is at most the number of bytes.
+    pub fn read(&self, alloc: Global, first: bool, line: u64, bytes: &[u8]) -> Result<Doc, TextStop>
+        requires small { length bytes.now ≤ 4194304 }
+        requires early { line ≤ 2 ^ 63 }
+        ensures exact { Gives result (document_of self.now first line bytes.now) }
+        ensures bulk { IfOk result (λ d. IsBulkWithin (length bytes.now) d) }
+    {
+        read_with(alloc, self.target, &self.names, first, line, bytes)
+    }
+}
+
+/// Reads one document, whose first line has the number `line`; `first` says whether IR may stand
+/// here. Fault comes exactly where the bytes spell no document, with the first line that can't
+/// stand behind those before it and the first of Layout, Token and Name that fails there, or with
+/// End and the line behind the last. Each of the numbers of ids, virtual registers, operands and
+/// frame objects of the function is at most the number of bytes. A `Reader` finds the names of the
+/// target once for many documents.
+pub fn read_doc(
+    alloc: Global,
+    target: &Target,
+    first: bool,
+    line: u64,
+    bytes: &[u8],
+) -> Result<Doc, TextStop>
+    requires small { length bytes.now ≤ 4194304 }
+    requires early { line ≤ 2 ^ 63 }
+    ensures exact { Gives result (document_of target.now first line bytes.now) }
+    ensures bulk { IfOk result (λ d. IsBulkWithin (length bytes.now) d) }
+{
+    let reader = Reader::new(alloc, target)?;
+    reader.read(alloc, first, line, bytes)
 }

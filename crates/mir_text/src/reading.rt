@@ -7,9 +7,9 @@ ghost use Rattle.mir_read.specs.Reading.{GivesLine};
 ghost use Rattle.mir_text.specs.BodyLines.{reading_of, header_put, header_line, successors_line, liveins_line, instr_line, worded, body_line, function_of, IsReadingWithin, IsFunctionWithin, AddsToReading};
 
 use mir_func::Func;
-use mir_lines::blocks;
 use mir_lines::instructions::{self, without_comment};
 use mir_lines::lexer::{behind_word, is_blank, skip};
+use mir_lines::{RawHeader, blocks};
 use mir_read::body::Body;
 use mir_read::keys::Keys;
 use mir_read::names::Names;
@@ -17,15 +17,16 @@ use mir_read::ranges::Ranges;
 use mir_read::resolve::{self, Headers};
 use mir_read::{ReadStop, TextKind};
 use std::alloc::{AllocError, Global};
-use target_base::{Bytes, List, Target};
+use target_base::{Boxed, Bytes, List, Target};
 
-/// What is read of a function document whose body has begun.
+/// What is read of a function document whose body has begun. Each part stands in a box, so that
+/// line by line only pointers move.
 #[derive(Drop)]
 pub(crate) struct Reading {
-    pub(crate) keys: Keys,
-    pub(crate) ranges: Ranges,
-    pub(crate) headers: Headers,
-    pub(crate) body: Body,
+    pub(crate) keys: Boxed<Keys>,
+    pub(crate) ranges: Boxed<Ranges>,
+    pub(crate) headers: Boxed<Headers>,
+    pub(crate) body: Boxed<Body>,
 }
 
 fn name_or_none(alloc: Global, name: Option<Bytes>) -> Bytes
@@ -39,39 +40,55 @@ fn name_or_none(alloc: Global, name: Option<Bytes>) -> Bytes
 
 impl Reading {
     /// Behind the key lines.
-    pub(crate) fn new(alloc: Global, keys: Keys) -> Reading
-        ensures { result ≡ reading_of keys }
+    pub(crate) fn new(alloc: Global, keys: Boxed<Keys>) -> Result<Reading, AllocError>
+        ensures { IfOk result (λ r. r ≡ reading_of keys) }
     {
-        Reading {
+        Ok(Reading {
             keys,
-            ranges: Ranges::new(alloc),
-            headers: Headers::new(alloc),
-            body: Body::new(alloc),
-        }
+            ranges: Boxed::new(alloc, Ranges::new(alloc))?,
+            headers: Boxed::new(alloc, Headers::new(alloc))?,
+            body: Boxed::new(alloc, Body::new(alloc))?,
+        })
     }
 
-    /// Behind the header of a block.
-    #[tactic(auto, unfolding(crate::specs::BodyLines::header_line, crate::specs::BodyLines::header_put))]
-    fn header_line(self, alloc: Global, target: &Target, text: &[u8]) -> Result<Reading, ReadStop>
+    /// Behind this header of a block.
+    #[tactic(auto, unfolding(crate::specs::BodyLines::header_put))]
+    fn header_put(
+        self,
+        alloc: Global,
+        target: &Target,
+        header: RawHeader,
+    ) -> Result<Reading, AllocError>
         requires { IsReadingWithin 8388608 self }
-        ensures value { GivesLine result (header_line target.now self text.now) }
+        ensures value { IfOk result (λ r. r ≡ header_put target.now self header) }
         ensures adds { IfOk result (λ r. AddsToReading 1 self r) }
     {
-        let header = blocks::header(alloc, text)?;
         let Reading {
             keys,
             ranges,
             headers,
             body,
         } = self;
+        let headers = headers.into_inner();
         let headers = headers.noted(alloc, header.number, header.name.as_slice())?;
-        let body = body.with_header(alloc, target, header)?;
+        let body = body.into_inner().with_header(alloc, target, header)?;
         Ok(Reading {
             keys,
             ranges,
-            headers,
-            body,
+            headers: Boxed::new(alloc, headers)?,
+            body: Boxed::new(alloc, body)?,
         })
+    }
+
+    /// Behind the header of a block.
+    #[tactic(auto, unfolding(crate::specs::BodyLines::header_line))]
+    fn header_line(self, alloc: Global, target: &Target, text: &[u8]) -> Result<Reading, ReadStop>
+        requires { IsReadingWithin 8388608 self }
+        ensures value { GivesLine result (header_line target.now self text.now) }
+        ensures adds { IfOk result (λ r. AddsToReading 1 self r) }
+    {
+        let header = blocks::header(alloc, text)?;
+        Ok(self.header_put(alloc, target, header)?)
     }
 
     /// Behind a `successors:` line with this list.
@@ -81,14 +98,24 @@ impl Reading {
         ensures value { GivesLine result (successors_line self text.now) }
         ensures adds { IfOk result (λ r. AddsToReading 0 self r) }
     {
-        if !self.body.takes_successors() {
+        if !self.body.get().takes_successors() {
             return Err(ReadStop::Fault(TextKind::Layout));
         }
         let raw = blocks::successors(alloc, text)?;
         let edges = resolve::successors(alloc, raw.as_slice())?;
-        let mut reading = self;
-        reading.body = reading.body.with_successors(edges);
-        Ok(reading)
+        let Reading {
+            keys,
+            ranges,
+            headers,
+            body,
+        } = self;
+        let body = body.into_inner().with_successors(edges);
+        Ok(Reading {
+            keys,
+            ranges,
+            headers,
+            body: Boxed::new(alloc, body)?,
+        })
     }
 
     /// Behind a `liveins:` line with this list.
@@ -97,16 +124,26 @@ impl Reading {
         ensures value { GivesLine result (liveins_line names.now self text.now) }
         ensures adds { IfOk result (λ r. AddsToReading 0 self r) }
     {
-        if !self.body.takes_liveins() {
+        if !self.body.get().takes_liveins() {
             return Err(ReadStop::Fault(TextKind::Layout));
         }
         let raw = blocks::liveins(alloc, text)?;
         match resolve::liveins(alloc, names, raw.as_slice())? {
             None => Err(ReadStop::Fault(TextKind::Name)),
             Some(regs) => {
-                let mut reading = self;
-                reading.body = reading.body.with_liveins(regs);
-                Ok(reading)
+                let Reading {
+                    keys,
+                    ranges,
+                    headers,
+                    body,
+                } = self;
+                let body = body.into_inner().with_liveins(regs);
+                Ok(Reading {
+                    keys,
+                    ranges,
+                    headers,
+                    body: Boxed::new(alloc, body)?,
+                })
             }
         }
     }
@@ -125,32 +162,37 @@ impl Reading {
         ensures value { GivesLine result (instr_line target.now names.now self text.now) }
         ensures adds { IfOk result (λ r. AddsToReading (length text.now + 1) self r) }
     {
-        if !self.body.is_begun() {
+        if !self.body.get().is_begun() {
             return Err(ReadStop::Fault(TextKind::Layout));
         }
         let raw = instructions::instruction(alloc, target, text)?;
         let Reading {
             keys,
-            ranges,
+            mut ranges,
             headers,
-            body,
+            mut body,
         } = self;
-        match resolve::instruction(
+        let id = body.get().next_id();
+        let named = resolve::instruction(
             alloc,
             names,
-            &headers,
-            &keys.registers,
-            ranges,
-            body.next_id,
+            headers.get(),
+            &keys.get().registers,
+            ranges.get_mut(),
+            id,
             raw,
-        )? {
+        )?;
+        match named {
             None => Err(ReadStop::Fault(TextKind::Name)),
-            Some((ranges, instr)) => Ok(Reading {
-                keys,
-                ranges,
-                headers,
-                body: body.with_instr(instr)?,
-            }),
+            Some(instr) => {
+                body.get_mut().put_instr(instr)?;
+                Ok(Reading {
+                    keys,
+                    ranges,
+                    headers,
+                    body,
+                })
+            }
         }
     }
 
@@ -222,18 +264,18 @@ impl Reading {
             opened: _,
             instrs: _,
             next_id,
-        } = body.closed(alloc, target, None)?;
+        } = body.into_inner().closed(alloc, target, None)?;
         let Keys {
             key: _,
             name,
             head,
             frames,
             registers: _,
-        } = keys;
+        } = keys.into_inner();
         Ok(Func {
             name: name_or_none(alloc, name),
             head,
-            classes: ranges.classes(alloc)?,
+            classes: ranges.get().classes(alloc)?,
             frames,
             blocks: done,
             next_id,

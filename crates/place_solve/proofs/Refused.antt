@@ -140,3 +140,7 @@ refused_final sample t t2 f copy f2 x bs next o et ef ec computed inside once lo
     let ordered = (tells t f x here (valid-law t forms.Source f valid.shape classes) (ends t forms.Source f valid.shape)).ordered in
     let told : IsLost t f x f.blocks o = subst (λ g. IsLost t g x f.blocks o) (ef ∙ ec) (subst (λ s. IsLost s f2 x f.blocks o) et (lost ordered)) in
     refused t f x here source sample o told
+
+-- what is said of a function under a target is said of its like
+pub moved : (P : Target → Function → Type 0) (t t2 : Target) (f f2 : Function) → t ≡ t2 → f ≡ f2 → P t f → P t2 f2
+moved P t t2 f f2 et ef p = subst (P t2) ef (subst (λ s. P s f) et p)

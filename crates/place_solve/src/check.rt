@@ -7,6 +7,7 @@ ghost use Rattle.mir_meaning.specs.Places.{Admits, FirstPlace, PlacesServe, TooM
 ghost use Rattle.mir_meaning.specs.declared.Form.TheVariants as forms;
 ghost use Rattle.mir_meaning.specs.Valid.{IsValid};
 ghost use Rattle.live_laws.specs.Effects.Shaped.{AreClasses};
+ghost use Rattle.live_lanes.specs.Doing.{IsComputed};
 ghost use Rattle.live_lanes.specs.Looks.{InOrder};
 ghost use Rattle.place_solve.specs.Own as own;
 ghost use Rattle.place_solve.specs.Told as told;
@@ -236,19 +237,39 @@ fn first_unassignable(alloc: Global, live: &LiveFunc, f: &Func) -> Result<Option
 }
 
 /// The first instruction of a function one of whose places admits nothing.
-fn first_refused(alloc: Global, target: &Target, f: &Func) -> Result<Option<Place>, AllocError>
-    ensures { IfOk result (λ q. AreClasses target.now f.now → IsValid target.now forms.Source f.now → told.IsRefused target.now f.now q) }
+fn first_refused(alloc: Global, live: &LiveFunc) -> Result<Option<Place>, AllocError>
+    requires { IsComputed live.now.target live.now.func live.now.table }
+    ensures { IfOk result (λ q. AreClasses live.now.target live.now.func → IsValid live.now.target forms.Source live.now.func → told.IsRefused live.now.target live.now.func q) }
 {
+    let f = live.func();
     let _last = f.next_id;
-    let copy = f.copy(alloc)?;
-    let live = LiveFunc::compute(alloc, target, copy)?;
-    first_unassignable(alloc, &live, f)
+    first_unassignable(alloc, live, f)
 }
 
-/// Tests every place of a valid source: its instructions, the terminators of each block together, and
-/// the copies that lowering will make. Variables comes where a place has more than 6 variables, with
-/// the first such place in layout, and before any search. Unassignable comes where no choice of
-/// registers serves at a place, with the first such place.
+/// Tests every place of a valid source with what is live in it: its instructions, the terminators of
+/// each block together, and the copies that lowering will make. Variables comes where a place has more
+/// than 6 variables, with the first such place in layout, and before any search. Unassignable comes
+/// where no choice of registers serves at a place, with the first such place.
+pub fn check_live_places(alloc: Global, live: &LiveFunc) -> Result<(), PlaceStop>
+    requires { IsComputed live.now.target live.now.func live.now.table }
+    ensures variables { IfErr result (own.IfVariables (FirstPlace live.now.target live.now.func TooMany)) }
+    ensures few_at_ok { OnOk result (own.HasFew live.now.target live.now.func) }
+    ensures own_at_ok { OnOk result (AreClasses live.now.target live.now.func → IsValid live.now.target forms.Source live.now.func → told.OwnPlacesServe live.now.target live.now.func) }
+    ensures few_at_unassignable { IfErr result (own.IfUnassignable (λ _. own.HasFew live.now.target live.now.func)) }
+    ensures serve_at_ok { OnOk result (AreClasses live.now.target live.now.func → IsValid live.now.target forms.Source live.now.func → PlacesServe live.now.target live.now.func) }
+    ensures unassignable { IfErr result (own.IfUnassignable (λ p. AreClasses live.now.target live.now.func → IsValid live.now.target forms.Source live.now.func → FirstPlace live.now.target live.now.func (λ q. Admits live.now.target live.now.func q → ⊥) p)) }
+{
+    if let Some(place) = first_crowded(alloc, live.target(), live.func())? {
+        return Err(PlaceStop::Variables(place));
+    }
+    match first_refused(alloc, live)? {
+        Some(place) => Err(PlaceStop::Unassignable(place)),
+        None => Ok(()),
+    }
+}
+
+/// Tests every place of a valid source, as `check_live_places` does, of which a copy is made to find
+/// what is live in it.
 pub fn check_places(alloc: Global, target: &Target, f: &Valid) -> Result<(), PlaceStop>
     ensures variables { IfErr result (own.IfVariables (FirstPlace target.now f.now.func TooMany)) }
     ensures few_at_ok { OnOk result (own.HasFew target.now f.now.func) }
@@ -257,11 +278,7 @@ pub fn check_places(alloc: Global, target: &Target, f: &Valid) -> Result<(), Pla
     ensures serve_at_ok { OnOk result (AreClasses target.now f.now.func → IsValid target.now forms.Source f.now.func → PlacesServe target.now f.now.func) }
     ensures unassignable { IfErr result (own.IfUnassignable (λ p. AreClasses target.now f.now.func → IsValid target.now forms.Source f.now.func → FirstPlace target.now f.now.func (λ q. Admits target.now f.now.func q → ⊥) p)) }
 {
-    if let Some(place) = first_crowded(alloc, target, &f.func)? {
-        return Err(PlaceStop::Variables(place));
-    }
-    match first_refused(alloc, target, &f.func)? {
-        Some(place) => Err(PlaceStop::Unassignable(place)),
-        None => Ok(()),
-    }
+    let copy = f.func.copy(alloc)?;
+    let live = LiveFunc::compute(alloc, target, copy)?;
+    check_live_places(alloc, &live)
 }

@@ -13,5 +13,5 @@ mod tinies;
 pub mod variables;
 mod widths;
 
-pub use check::{PlaceStop, check_places};
+pub use check::{PlaceStop, check_live_places, check_places};
 pub use tinies::{Choices, solve, solve_at};

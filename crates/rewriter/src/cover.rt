@@ -5,26 +5,35 @@ ghost use Rattle.std.specs.Prelude.{◌≡◌, IfOk, map, take};
 use crate::live_units::LiveUnits;
 use mir_func::Block;
 use std::alloc::{AllocError, Global};
-use target_base::registers::has_unit_number;
 use target_base::{Copied, List, Reg, Regs, Target};
 
-/// The unreserved registers that hold a unit, in target order.
-fn holders_of(alloc: Global, target: &Target, u: u32) -> Result<Vec<Reg>, AllocError> {
-    let mut made = Vec::new(alloc);
-    'each: for k in 0..target.regs.len().min(0xffff) {
-        let r = Reg(k as u16);
-        if has_unit_number(target.units_at(r), u) && target.is_unreserved(r) {
-            made.push(r)?;
+/// Puts a register behind the others that hold each of its units.
+fn add_holder(target: &Target, r: Reg, holders: &mut Vec<Vec<Reg>>) -> Result<(), AllocError> {
+    'units: for u in target.units_at(r) {
+        if let Some(others) = holders.get_mut(u.0 as usize) {
+            others.push(r)?;
         }
+    }
+    Ok(())
+}
+
+/// No registers for each unit.
+fn no_holders(alloc: Global, units: usize) -> Result<Vec<Vec<Reg>>, AllocError> {
+    let mut made = Vec::new(alloc);
+    'units: for _ in 0..units {
+        made.push(Vec::new(alloc))?;
     }
     Ok(made)
 }
 
 /// For each unit the unreserved registers that hold it, in target order.
-pub fn all_holders(alloc: Global, target: &Target) -> Result<Vec<Vec<Reg>>, AllocError> {
-    let mut made = Vec::new(alloc);
-    'units: for u in 0..target.units.len().min(0x10000) {
-        made.push(holders_of(alloc, target, u as u32)?)?;
+fn all_holders(alloc: Global, target: &Target) -> Result<Vec<Vec<Reg>>, AllocError> {
+    let mut made = no_holders(alloc, target.units.len())?;
+    'regs: for k in 0..target.regs.len().min(0xffff) {
+        let r = Reg(k as u16);
+        if target.is_unreserved(r) {
+            add_holder(target, r, &mut made)?;
+        }
     }
     Ok(made)
 }

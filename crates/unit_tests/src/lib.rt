@@ -1,4 +1,4 @@
-//! Tests that cross crates: what no contract says, over rows from outside.
+//! Tests that cross crates: what no contract says, and what the program doesn't show (tests/tables shows the rest).
 #![tactic(auto)]
 
 #[cfg(test)]
@@ -8,15 +8,13 @@ mod colouring;
 #[cfg(test)]
 mod cuts;
 #[cfg(test)]
-mod function_texts;
-#[cfg(test)]
 mod kept_texts;
 #[cfg(test)]
 mod live;
 #[cfg(test)]
 mod regions;
 #[cfg(test)]
-mod target_texts;
+mod reserved_units;
 #[cfg(test)]
 mod top;
 #[cfg(test)]

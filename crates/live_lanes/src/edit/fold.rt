@@ -65,6 +65,9 @@ impl LiveFunc {
 
     /// Gives a range the class of another where that is smaller.
     fn narrow(&mut self, keep: u32, gone: u32) {
+        if class_of(&self.func, keep) == class_of(&self.func, gone) {
+            return;
+        }
         let (own, other) = (self.regs_of(keep), self.regs_of(gone));
         let is_smaller = are_within(other, own) && !are_within(own, other);
         let class = self.func.classes.as_slice().get(gone as usize);

@@ -30,3 +30,7 @@ pub says_made :
     (t : Target) (f : Function) (stop : PlaceStop) (e : RegisterStop) → e ≡ refusal_of stop → IfVariables (FirstPlace t f TooMany) stop → IfUnassignable (λ x. HasFew t f) stop
     → IfUnassignable (λ x. AreClasses t f → IsValid t forms.Source f → FirstPlace t f (AdmitsNone t f) x) stop → SaysOfPlaces t f e
 says_made t f stop e is many few first = subst (SaysOfPlaces t f) (sym is) (says t f stop many (first_of t f stop few first))
+
+-- what is said of a function under a target is said of its like
+pub moved : (P : Target → Function → Type 0) (t t2 : Target) (f f2 : Function) → t ≡ t2 → f ≡ f2 → P t f → P t2 f2
+moved P t t2 f f2 et ef p = subst (P t2) ef (subst (λ s. P s f) et p)

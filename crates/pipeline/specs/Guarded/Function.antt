@@ -9,6 +9,7 @@ use Rattle.mir_meaning.specs.Valid.{IsValid, FirstFault}
 use Rattle.place_solve.specs.Own.{HasFew}
 use Rattle.machine_verify.specs.Faults.{fault_of}
 use Rattle.alloc_check.specs.Verdict.{IsRight}
+use Rattle.alloc_check.specs.Looks.{KeepsReserved}
 use Rattle.source_text.specs.Keeps.{keeps_text}
 use Rattle.mir_text.specs.declared.doc.Doc.TheVariants as docs
 use Rattle.mir_text.specs.Print.{print_doc}
@@ -35,10 +36,12 @@ pub record IsTextFor (t : Target) (g : Function) (text : List ℕ) : Type 0 wher
   pub spells : length text ≤ 4194304 → Spells t false 1 text (docs.Function [] g)
   pub long : 4194304 < length text → func ≡ g
 
--- What the guard lets through for f: a function of its name that is right for it, and that keeps what is printed of f beside
--- what runs: names and texts of blocks, probabilities, flags and tails of instructions, key lines and frame objects.
+-- What the guard lets through for f: a function of its name that is right for it, whose reserved units hold what f's hold at
+-- each counted instruction, and that keeps what is printed of f beside what runs: names and texts of blocks, probabilities,
+-- flags and tails of instructions, key lines and frame objects.
 pub record IsGuarded (t : Target) (f g : Function) : Type 0 where
   pub right : IsRight t f g
+  pub reserved : KeepsReserved t f g
   pub named : g.name ≡ f.name
   pub kept : keeps_text t f g ≡ true
 

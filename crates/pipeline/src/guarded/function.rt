@@ -1,6 +1,7 @@
 //! One function.
 
 ghost use Rattle.std.specs.Prelude.{◌≡◌, true, IfOk, IfErr, OnOk, OnErr};
+ghost use Rattle.live_lanes.specs.Doing.{IsComputed};
 ghost use Rattle.machine_verify.specs.Lives.{FitsTarget};
 ghost use Rattle.target_base.specs.declared.types.Target.{Target as TargetValue};
 ghost use Rattle.mir_func.specs.Value.{Function};
@@ -13,9 +14,9 @@ use crate::guarded::guard::guarded;
 use crate::guarded::limits::passed_limit;
 use crate::guarded::spelled::Allocation;
 use crate::guarded::stop::{FunctionStop, LimitName};
-use crate::guarded::valid::verify_source;
+use crate::guarded::valid::verify_live;
 use crate::passes::{Allocator, RegisterStop, Watcher, with_registers};
-use machine_verify::VerifyStop;
+use machine_verify::{LiveSource, VerifyStop};
 use mir_func::{Func, Valid};
 use std::alloc::Global;
 use target_base::{Bytes, Copied, Target};
@@ -34,28 +35,33 @@ fn refused(name: Bytes, stop: RegisterStop) -> FunctionStop
     }
 }
 
-/// A valid function with its registers chosen, where the guard says Yes to it.
+/// A valid function of a name with its registers chosen, where the guard says Yes to it.
 fn allocated_valid<W: Watcher>(
     alloc: Global,
     target: &Target,
-    source: Valid,
+    name: Bytes,
+    source: LiveSource,
     allocator: Allocator,
     number: u32,
     watchers: &mut Vec<W>,
 ) -> Result<Allocation, FunctionStop>
-    ensures ok { IfOk result (λ a. IsGuarded target.now source.func a.func) }
+    requires { IsComputed target.now source.source.func source.table.table }
+    ensures ok { IfOk result (λ a. IsGuarded target.now source.source.func a.func) }
     ensures text { IfOk result (λ a. IsTextFor target.now a.func a.text) }
-    ensures serve { OnOk result (AllServe target.now source.func) }
-    ensures err { IfErr result (IsOnceTaken target.now source.func source.func.name) }
+    ensures serve { OnOk result (AllServe target.now source.source.func) }
+    ensures err { IfErr result (IsOnceTaken target.now source.source.func name) }
     ensures untold { IfErr result (λ stop. comes_before_run stop ≡ true → watchers.new ≡ watchers.old) }
     ensures told { OnOk result (ToldRun (W.next target.now) number watchers.old.items watchers.new.items) }
     ensures part { OnErr result (ToldPart (W.next target.now) watchers.old.items watchers.new.items) }
 {
-    let made = match with_registers(alloc, target, &source, allocator, number, watchers) {
+    // (lowering takes the function to pieces, and the guard needs it whole)
+    let copy = source.source.func.copy(alloc)?;
+    let kept = Valid { func: copy };
+    let made = match with_registers(alloc, target, source, allocator, number, watchers) {
         Ok(made) => made,
-        Err(stop) => return Err(refused(source.func.name.copied(alloc)?, stop)),
+        Err(stop) => return Err(refused(name, stop)),
     };
-    match guarded(alloc, target, &source, made)? {
+    match guarded(alloc, target, &kept, made)? {
         Some(made) => Ok(made),
         None => Err(FunctionStop::NotYet),
     }
@@ -89,8 +95,8 @@ pub fn allocated<W: Watcher>(
         return Err(FunctionStop::Limit(limit));
     }
     let name = f.name.copied(alloc)?;
-    match verify_source(alloc, target, f) {
-        Ok(source) => allocated_valid(alloc, target, source, allocator, number, watchers),
+    match verify_live(alloc, target, f) {
+        Ok(source) => allocated_valid(alloc, target, name, source, allocator, number, watchers),
         Err(VerifyStop::Invalid(invalid)) => Err(FunctionStop::Invalid(name, invalid)),
         Err(VerifyStop::Memory(e)) => Err(FunctionStop::Memory(e)),
     }

@@ -5,16 +5,15 @@ ghost use Rattle.std.specs.Prelude.{IfOk, IfSome};
 ghost use Rattle.pipeline.specs.Guarded.Function.{IsGuarded, IsTextFor};
 
 use crate::guarded::spelled::{Allocation, printed, same_text};
-use alloc_check::{Verdict, check_pair};
+use alloc_check::check_reserved;
 use mir_func::{Func, Valid};
 use source_text::keeps_text;
 use std::alloc::{AllocError, Global};
 use target_base::Target;
 
 /// The allocated function with its text, where it has the source's name, the checker says Yes to what
-/// the text spells beside the source, and that keeps the source's names, blocks, flags, tails, key lines
-/// and frame objects.
-#[tactic(auto, using(crate::proofs::GuardLemmas::Texts::same_texts))]
+/// the text spells beside the source, of reserved units too, and that keeps the source's names, blocks,
+/// flags, tails, key lines and frame objects.
 pub(crate) fn guarded(
     alloc: Global,
     target: &Target,
@@ -30,14 +29,11 @@ pub(crate) fn guarded(
     if !same_text(made.func.name.as_slice(), source.func.name.as_slice()) {
         return Ok(None);
     }
-    match check_pair(alloc, target, source, &made.func)? {
-        Verdict::Yes => {
-            if keeps_text(alloc, target, &source.func, &made.func)? {
-                Ok(Some(made))
-            } else {
-                Ok(None)
-            }
-        }
-        Verdict::No(_) => Ok(None),
+    if !check_reserved(alloc, target, source, &made.func)? {
+        return Ok(None);
     }
+    if !keeps_text(alloc, target, &source.func, &made.func)? {
+        return Ok(None);
+    }
+    Ok(Some(made))
 }

@@ -12,5 +12,5 @@ pub use crate::guarded::function::allocated;
 pub use crate::guarded::limits::passed_limit;
 pub use crate::guarded::spelled::Allocation;
 pub use crate::guarded::stop::{FunctionStop, LimitName};
-pub use crate::guarded::valid::{verify_allocated, verify_source};
+pub use crate::guarded::valid::{verify_allocated, verify_live, verify_source};
 pub use crate::passes::{Allocator, Watcher};

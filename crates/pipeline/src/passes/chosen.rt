@@ -1,17 +1,20 @@
 //! The registers of a function.
 
 ghost use Rattle.std.specs.Prelude.{◌≡◌, ◌∷◌, List, true, false, IfErr, OnOk, OnErr};
+ghost use Rattle.live_lanes.specs.Doing.{IsComputed};
 ghost use Rattle.watchers.specs.declared.steps.Step.{Step};
 ghost use Rattle.watchers.specs.declared.steps.Step.TheVariants.{Begin};
 ghost use Rattle.watchers.specs.Told.{AllTold, PartTold};
 ghost use Rattle.pipeline.specs.Passes.Stops.{comes_of_a_place, AllServe, SaysOfPlaces};
 
 use crate::passes::allocator::Allocator;
+use crate::passes::places::served;
 use crate::passes::ready::{Prepared, prepare};
 use crate::passes::stop::RegisterStop;
 use greedy_core::{Watcher, allocate};
-use mir_func::{Func, Valid};
-use place_solve::check_places;
+use live_lanes::LiveFunc;
+use machine_verify::LiveSource;
+use mir_func::Func;
 use rewriter::rewrite;
 use slot_colour::colour_slots;
 use std::alloc::Global;
@@ -26,29 +29,27 @@ use target_base::Target;
 pub fn with_registers<W: Watcher>(
     alloc: Global,
     target: &Target,
-    source: &Valid,
+    source: LiveSource,
     allocator: Allocator,
     number: u32,
     watchers: &mut Vec<W>,
 ) -> Result<Func, RegisterStop>
-    ensures places { IfErr result (SaysOfPlaces target.now source.now.func) }
-    ensures serve { OnOk result (AllServe target.now source.now.func) }
+    requires { IsComputed target.now source.source.func source.table.table }
+    ensures places { IfErr result (SaysOfPlaces target.now source.source.func) }
+    ensures serve { OnOk result (AllServe target.now source.source.func) }
     ensures untold { IfErr result (λ stop. comes_of_a_place stop ≡ true → watchers.new ≡ watchers.old) }
     ensures told { OnOk result ((steps : List Step) × AllTold (W.next target.now) (Begin number ∷ steps) watchers.old.items watchers.new.items) }
     ensures part { OnErr result ((steps : List Step) × PartTold (W.next target.now) steps watchers.old.items watchers.new.items) }
 {
-    check_places(alloc, target, source)?;
-    let copy = Valid {
-        func: source.func.copy(alloc)?,
-    };
-    run(alloc, target, copy, allocator, number, watchers)
+    let live = served(alloc, target, source)?;
+    run(alloc, target, live, allocator, number, watchers)
 }
 
 /// The same without a look at the places.
 fn run<W: Watcher>(
     alloc: Global,
     target: &Target,
-    source: Valid,
+    source: LiveFunc,
     allocator: Allocator,
     number: u32,
     watchers: &mut Vec<W>,

@@ -32,13 +32,14 @@ pub fn lowered(alloc: Global, target: &Target, source: Valid) -> Result<Func, Al
 }
 
 /// The function lowered, and then its copies joined by the frequencies of its blocks, which stay the
-/// same.
-pub fn prepare(alloc: Global, target: &Target, source: Valid) -> Result<Prepared, AllocError>
+/// same. What was live in it before is let go, and its copy of the target is kept.
+pub fn prepare(alloc: Global, target: &Target, source: LiveFunc) -> Result<Prepared, AllocError>
     ensures { bulk source.func ≤ 2 ^ 24 → IfOk result (λ made. made.freqs ≡ frequencies_of (lowered target.now source.func).blocks) }
 {
-    let f = lowered(alloc, target, source)?;
+    let (own_target, func) = source.into_parts();
+    let f = lowered(alloc, target, Valid { func })?;
     let freqs = frequencies(alloc, &f)?;
-    let live = LiveFunc::compute(alloc, target, f)?;
+    let live = LiveFunc::compute_within(alloc, own_target, f)?;
     let (live, _) = coalesce(alloc, target, live, &freqs)?;
     Ok(Prepared { live, freqs })
 }

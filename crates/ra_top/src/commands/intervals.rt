@@ -7,17 +7,18 @@ ghost use Rattle.mir_meaning.specs.Places.{FirstPlace, TooMany};
 ghost use Rattle.place_solve.specs.Own.{IfVariables, IfUnassignable};
 ghost use Rattle.pipeline.specs.Passes.Stops.{FirstRefused};
 ghost use Rattle.machine_verify.specs.Lives.{FitsTarget};
+ghost use Rattle.live_lanes.specs.Doing.{IsComputed};
 ghost use Rattle.ra_top.specs.Commands.Documents.{IsIntervalsAnswer, IsLiveAnswer, IsPlaceRefusal};
 
 use crate::commands::answer::Answer;
 use crate::commands::status::Status;
 use crate::commands::words::{invalid_words, unassignable_words};
 use crate::report::intervals::text_of_intervals;
-use machine_verify::VerifyStop;
-use mir_func::{Func, Valid};
-use pipeline::guarded::{LimitName, passed_limit, verify_source};
-use pipeline::passes::prepare;
-use place_solve::{PlaceStop, check_places};
+use machine_verify::{LiveSource, VerifyStop};
+use mir_func::Func;
+use pipeline::guarded::{LimitName, passed_limit, verify_live};
+use pipeline::passes::{prepare, served};
+use place_solve::PlaceStop;
 use std::alloc::{AllocError, Global};
 use target_base::{Bytes, Copied, Target};
 
@@ -43,13 +44,14 @@ fn intervals_of_valid(
     alloc: Global,
     target: &Target,
     name: &[u8],
-    source: Valid,
+    source: LiveSource,
 ) -> Result<Answer, AllocError>
-    ensures { IfOk result (IsLiveAnswer target.now source.func name.now) }
+    requires { IsComputed target.now source.source.func source.table.table }
+    ensures { IfOk result (IsLiveAnswer target.now source.source.func name.now) }
 {
-    match check_places(alloc, target, &source) {
-        Ok(()) => {
-            let prepared = prepare(alloc, target, source)?;
+    match served(alloc, target, source) {
+        Ok(live) => {
+            let prepared = prepare(alloc, target, live)?;
             let text = text_of_intervals(alloc, target, name, &prepared)?;
             Ok(Answer::Text(text))
         }
@@ -66,7 +68,7 @@ pub(crate) fn intervals_of(alloc: Global, target: &Target, f: Func) -> Result<An
         return Ok(Answer::Refused(Status::Limit(limit), Bytes::new(alloc)));
     }
     let name = f.name.copied(alloc)?;
-    match verify_source(alloc, target, f) {
+    match verify_live(alloc, target, f) {
         Ok(source) => intervals_of_valid(alloc, target, name.as_slice(), source),
         Err(VerifyStop::Invalid(invalid)) => {
             let detail = invalid_words(alloc, name.as_slice(), invalid)?;

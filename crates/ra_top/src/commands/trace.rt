@@ -3,6 +3,7 @@
 ghost use Rattle.std.specs.Prelude.{◌≡◌, IfOk, OnErr};
 ghost use Rattle.target_base.specs.declared.types.Target.{Target as TargetValue};
 ghost use Rattle.mir_func.specs.Value.{Function};
+ghost use Rattle.live_lanes.specs.Doing.{IsComputed};
 ghost use Rattle.machine_verify.specs.Lives.{FitsTarget};
 ghost use Rattle.pipeline.specs.Passes.Stops.{SaysOfPlaces};
 ghost use Rattle.ra_top.specs.Commands.Documents.{IsTraceAnswer, IsTakenAnswer, IsTakenRefusal};
@@ -12,9 +13,9 @@ ghost use Rattle.ra_top.specs.Commands.Told.{ToldOne};
 use crate::commands::answer::Answer;
 use crate::commands::status::Status;
 use crate::commands::words::{invalid_words, unassignable_words};
-use machine_verify::VerifyStop;
-use mir_func::{Func, Valid};
-use pipeline::guarded::{Allocator, LimitName, passed_limit, verify_source};
+use machine_verify::{LiveSource, VerifyStop};
+use mir_func::Func;
+use pipeline::guarded::{Allocator, LimitName, passed_limit, verify_live};
 use pipeline::passes::{RegisterStop, with_registers};
 use std::alloc::{AllocError, Global};
 use target_base::{Bytes, Copied, Target};
@@ -42,22 +43,24 @@ fn refused(alloc: Global, name: &[u8], stop: RegisterStop) -> Result<Answer, All
     }
 }
 
-/// Allocates a valid function by an allocator for the watchers. Nothing is written of it, so that the checker of
+/// Allocates a valid function of a name by an allocator for the watchers. Nothing is written of it, so that the checker of
 /// allocations isn't asked.
 fn traced_valid<W: Watcher>(
     alloc: Global,
     target: &Target,
-    source: &Valid,
+    name: &[u8],
+    source: LiveSource,
     allocator: Allocator,
     number: u32,
     watchers: &mut Vec<W>,
 ) -> Result<Answer, AllocError>
-    ensures answer { IfOk result (IsTakenAnswer target.now source.now.func source.now.func.name) }
+    requires { IsComputed target.now source.source.func source.table.table }
+    ensures answer { IfOk result (IsTakenAnswer target.now source.source.func name.now) }
     ensures told { IfOk result (ToldOne (W.next target.now) number watchers.old.items watchers.new.items) }
     ensures part { OnErr result (ToldPart (W.next target.now) watchers.old.items watchers.new.items) }
 {
     if let Err(stop) = with_registers(alloc, target, source, allocator, number, watchers) {
-        return refused(alloc, source.func.name.as_slice(), stop);
+        return refused(alloc, name, stop);
     }
     Ok(Answer::Text(Bytes::new(alloc)))
 }
@@ -80,8 +83,16 @@ pub(crate) fn traced<W: Watcher>(
         return Ok(Answer::Refused(Status::Limit(limit), Bytes::new(alloc)));
     }
     let name = f.name.copied(alloc)?;
-    match verify_source(alloc, target, f) {
-        Ok(source) => traced_valid(alloc, target, &source, allocator, number, watchers),
+    match verify_live(alloc, target, f) {
+        Ok(source) => traced_valid(
+            alloc,
+            target,
+            name.as_slice(),
+            source,
+            allocator,
+            number,
+            watchers,
+        ),
         Err(VerifyStop::Invalid(invalid)) => {
             let detail = invalid_words(alloc, name.as_slice(), invalid)?;
             Ok(Answer::Refused(Status::Invalid(invalid), detail))

@@ -3,6 +3,4 @@
 #[cfg(test)]
 mod failing;
 #[cfg(test)]
-mod hostile;
-#[cfg(test)]
 mod rows;

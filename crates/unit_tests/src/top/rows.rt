@@ -1,12 +1,9 @@
-//! The top call over files and sinks in memory: what it answers, writes and tells.
+//! The top call over files and sinks in memory that fail, or move few bytes at a time: what it answers, writes and tells.
 
-use machine_verify::{Invalid, Place};
-use mir_text::{TextFault, TextKind};
 use ra_top::{Files, MemFiles, MemSink, Sink, Status, top};
 use std::alloc::{AllocError, Global};
 use std::process::Abort;
 use std::test::Fail;
-use target_desc::{TargetFault, TargetKind};
 use watchers::TraceWatcher;
 
 /// One call: the words, the file IN, the calls of the files and of the output that fail, the room of
@@ -28,25 +25,11 @@ const WORDS: &[&str] = &["alloc", "-", "IN"];
 
 const RET: &[u8] = b"---\nname: f\nbody: |\n  bb.0:\n    RET\n...\n";
 
-const COPIES: &[u8] =
-    b"---\nname: f\nbody: |\n  bb.0:\n    liveins: $ecx\n    %0:gr32 = COPY $ecx\n    $eax = COPY %0\n    RET implicit $eax\n...\n";
-
-const ALLOCATED_COPIES: &[u8] =
-    b"---\nname: f\nbody: |\n  bb.0:\n    liveins: $ecx\n    $eax = COPY renamable $ecx\n    RET implicit $eax\n...\n";
-
 const MEMORY: &[u8] =
     b"---\nname: f\nbody: |\n  bb.0:\n    %0:gr32 = MOV32ri 5\n    %1:gr32 = LOAD32rm %0, 4\n    STORE32mr %0, 8, %1\n    RET\n...\n";
 
 const ALLOCATED_MEMORY: &[u8] =
     b"---\nname: f\nbody: |\n  bb.0:\n    renamable $eax = MOV32ri 5\n    renamable $ecx = LOAD32rm renamable $eax, 4\n    STORE32mr renamable $eax, 8, renamable $ecx\n    RET\n...\n";
-
-/// A function whose ranges 1 and 2 are copies, the second of them never read, and whose store has
-/// its ranges in falling order.
-const COPIES_OF_RANGES: &[u8] =
-    b"---\nname: g\nbody: |\n  bb.0:\n    liveins: $eax\n    %0:gr32 = MOV32ri -1\n    %1:gr32 = COPY %0\n    %2:gr32 = COPY %0\n    STORE32mr %1, 0, %0\n    RET implicit $eax\n...\n";
-
-const ALLOCATED_COPIES_OF_RANGES: &[u8] =
-    b"---\nname: g\nbody: |\n  bb.0:\n    liveins: $eax\n    renamable $ecx = MOV32ri -1\n    STORE32mr renamable $ecx, 0, renamable $ecx\n    RET implicit $eax\n...\n";
 
 /// A call that succeeds and writes `out`.
 fn done(file: &'static [u8], out: &'static [u8]) -> Row {
@@ -150,188 +133,7 @@ fn allocates(rt: HostRuntime) -> Result<(), Fail> {
         room: RET.len(),
         ..done(RET, RET)
     };
-    check_rows(
-        &rt,
-        rt.alloc(),
-        &[
-            done(RET, RET),
-            done(COPIES, ALLOCATED_COPIES),
-            done(MEMORY, ALLOCATED_MEMORY),
-            done(COPIES_OF_RANGES, ALLOCATED_COPIES_OF_RANGES),
-            one_by_one,
-            just_room,
-        ],
-    )
-}
-
-/// A call of other words that succeeds.
-fn done_by(words: &'static [&'static str], file: &'static [u8], out: &'static [u8]) -> Row {
-    Row {
-        words,
-        ..done(file, out)
-    }
-}
-
-const INTERVALS_OF_MEMORY: &[u8] =
-    b"function f\nbb.0 freq 16384\n%0 gr32 weight 4194304\n  lane 0 [16r,48r)\n  lane 1 [16r,48r)\n  lane 2 [16r,48r)\n%1 gr32 weight 3355443\n  lane 0 [32r,48r)\n  lane 1 [32r,48r)\n  lane 2 [32r,48r)\n";
-
-const TRACE_OF_MEMORY: &[u8] = b"function 0\nassign %0 $eax\nassign %1 $ecx\n";
-
-#[test]
-fn does_what_other_words_ask(rt: HostRuntime) -> Result<(), Fail> {
-    check_rows(
-        &rt,
-        rt.alloc(),
-        &[
-            done_by(
-                &["verify", "source", "-", "IN"],
-                TWICE,
-                b"valid f\nvalid f\n",
-            ),
-            done_by(
-                &["verify", "allocated", "-", "IN"],
-                ALLOCATED_MEMORY,
-                b"valid f\n",
-            ),
-            refused(
-                &["verify", "allocated", "-", "IN"],
-                MEMORY,
-                Status::Invalid(no_virtual()),
-                b"llra: f: bb.0:0: V14\n",
-            ),
-            done_by(&["trace", "-", "IN"], MEMORY, TRACE_OF_MEMORY),
-            done_by(&["intervals", "-", "IN"], MEMORY, INTERVALS_OF_MEMORY),
-            done_by(
-                &["run", "-", "IN", "f", "10", "7"],
-                COPIES,
-                b"ret 10 11 12\nend returned\n",
-            ),
-            done_by(&["run", "-", "IN", "f", "0", "7"], TWICE, b"end steps\n"),
-        ],
-    )
-}
-
-/// V14 at the first block.
-fn no_virtual() -> Invalid {
-    Invalid {
-        place: Place { block: 0, at: 0 },
-        rule: 14,
-    }
-}
-
-fn usage(words: &'static [&'static str]) -> Row {
-    refused(words, RET, Status::Usage, b"llra: usage\n")
-}
-
-#[test]
-fn refuses_other_words(rt: HostRuntime) -> Result<(), Fail> {
-    check_rows(
-        &rt,
-        rt.alloc(),
-        &[
-            usage(&[]),
-            usage(&["alloc", "-"]),
-            usage(&["alloc", "-", "-x"]),
-            usage(&["alloc", "-", "IN", "IN"]),
-            usage(&["alloc", "-", "IN", "-x"]),
-            usage(&["-h"]),
-            usage(&["--", "--", "alloc", "-", "IN"]),
-            usage(&["verify", "-", "IN"]),
-            usage(&["run", "-", "IN", "f", "1", "1234567890"]),
-            usage(&["gen", ""]),
-            usage(&["run", "-", "IN", "h", "1", "1"]),
-            Row {
-                words: &["alloc", "--", "-", "IN"],
-                ..done(RET, RET)
-            },
-            Row {
-                words: &["--", "alloc", "-", "IN"],
-                ..done(RET, RET)
-            },
-        ],
-    )
-}
-
-#[test]
-fn refuses_targets(rt: HostRuntime) -> Result<(), Fail> {
-    const TARGET: &[&str] = &["alloc", "IN", "OTHER"];
-    check_rows(
-        &rt,
-        rt.alloc(),
-        &[
-            refused(
-                TARGET,
-                b"target t 1\nreg r0 u0\n",
-                Status::Target(TargetFault {
-                    line: 2,
-                    kind: TargetKind::Name,
-                }),
-                b"llra: IN:2: target name\n",
-            ),
-            refused(
-                &["alloc", "GONE", "IN"],
-                RET,
-                Status::ReadFault,
-                b"llra: cannot read GONE\n",
-            ),
-            refused(
-                TARGET,
-                b"target t 1\n",
-                text_fault(1, TextKind::Layout),
-                b"llra: OTHER:1: layout\n",
-            ),
-        ],
-    )
-}
-
-fn text_fault(line: u64, kind: TextKind) -> Status {
-    Status::Text(TextFault { line, kind })
-}
-
-const CALL: &[u8] = b"---\nname: f\nbody: |\n  bb.0:\n    CALL @g, csr\n    RET\n...\n";
-
-/// It reads a register that has no value.
-const UNDEFINED: &[u8] =
-    b"---\nname: f\nbody: |\n  bb.0:\n    $eax = COPY %0:gr32\n    RET implicit $eax\n...\n";
-
-/// Three ranges of a class of two registers live where one instruction reads them.
-const NO_CHOICE: &[u8] =
-    b"---\nname: f\nbody: |\n  bb.0:\n    liveins: $eax, $ecx, $edx\n    %0:low = COPY $eax\n    %1:low = COPY $ecx\n    %2:low = COPY $edx\n    %3:gr32 = MADD32 %0, %1, %2, implicit-def $eflags\n    RET\n...\n";
-
-#[test]
-fn refuses_other_files(rt: HostRuntime) -> Result<(), Fail> {
-    check_rows(
-        &rt,
-        rt.alloc(),
-        &[
-            done(b"", b""),
-            done(CALL, CALL),
-            refused(
-                WORDS,
-                b"\xff\x00\xfe",
-                text_fault(1, TextKind::Layout),
-                b"llra: IN:1: layout\n",
-            ),
-            refused(
-                WORDS,
-                b"---\nname: f\nbody: |\n  bb.0:\n    RET\n",
-                text_fault(6, TextKind::End),
-                b"llra: IN:6: end\n",
-            ),
-            refused(
-                WORDS,
-                UNDEFINED,
-                Status::Invalid(no_virtual()),
-                b"llra: f: bb.0:0: V14\n",
-            ),
-            refused(
-                WORDS,
-                NO_CHOICE,
-                Status::Unassignable(Place { block: 0, at: 3 }),
-                b"llra: f: bb.0:3: no assignment\n",
-            ),
-        ],
-    )
+    check_rows(&rt, rt.alloc(), &[one_by_one, just_room])
 }
 
 const TWICE: &[u8] =
@@ -345,14 +147,6 @@ const THRICE: &[u8] =
 /// Documents of 40 bytes: those before a refused one, or before a fault, are written.
 #[test]
 fn writes_document_by_document(rt: HostRuntime) -> Result<(), Fail> {
-    let refused_second = Row {
-        status: Status::Invalid(no_virtual()),
-        err: b"llra: f: bb.0:0: V14\n",
-        ..done(
-            b"---\nname: f\nbody: |\n  bb.0:\n    RET\n...\n---\nname: f\nbody: |\n  bb.0:\n    $eax = COPY %0:gr32\n    RET implicit $eax\n...\n",
-            RET,
-        )
-    };
     let no_read = Row {
         status: Status::ReadFault,
         err: b"llra: cannot read IN\n",
@@ -367,12 +161,10 @@ fn writes_document_by_document(rt: HostRuntime) -> Result<(), Fail> {
         &rt,
         rt.alloc(),
         &[
-            done(TWICE, TWICE),
             Row {
                 step: 1,
                 ..done(THRICE, THRICE)
             },
-            refused_second,
             Row {
                 step: 1,
                 file_fails: &[42],
@@ -449,12 +241,6 @@ fn stops_at_the_first_fault(rt: HostRuntime) -> Result<(), Fail> {
         &rt,
         rt.alloc(),
         &[
-            refused(
-                &["alloc", "-", "GONE"],
-                RET,
-                Status::ReadFault,
-                b"llra: cannot read GONE\n",
-            ),
             refused(
                 &["alloc", "-", "-"],
                 RET,

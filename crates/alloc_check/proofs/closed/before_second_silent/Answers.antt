@@ -1,13 +1,19 @@
 use Rattle.std.proofs.Common.{subst}
 use Rattle.meaning.specs.Facts.{all_known, known_second}
-use Rattle.alloc_check.specs.Needs.{Lead}
+use Rattle.alloc_check.specs.Needs.{Lead, Least}
 use Rattle.alloc_check.specs.Cells.{asked}
 use Rattle.alloc_check.proofs.Lawful.{if-more}
 use Rattle.alloc_check.proofs.Steps.{carry-second}
 use Rattle.alloc_check.proofs.closed.before_second_silent.Goals as goal
 
-pub returns : goal.returns
-returns c =
+pub returns-clause-enough : goal.returns-clause-enough
+returns-clause-enough c =
     if-more _ _ c.step_second.result
     (λ yes h x family reads. carry-second family reads c.args.writes.now (asked c.args.needs.now) (asked c.step_second.new.needs) (subst (λ ws. Lead (asked c.step_second.new.needs) (λ k. all_known (known_second ws k) (asked c.args.needs.now))) c.as_slice.ensures (h x)))
-    c.step_second.ensures
+    c.step_second.ensures.enough
+
+pub returns-clause-least : goal.returns-clause-least
+returns-clause-least c =
+    if-more _ _ c.step_second.result
+    (λ yes h. subst (λ ws. Least (λ k. all_known (known_second ws k) (asked c.args.needs.now)) yes (asked c.step_second.new.needs)) c.as_slice.ensures h)
+    c.step_second.ensures.least

@@ -1,7 +1,10 @@
 use Rattle.alloc_check.specs.Cells.{asked}
 use Rattle.alloc_check.proofs.Lawful.{if-more}
-use Rattle.alloc_check.proofs.Alone.{seconds-alone}
+use Rattle.alloc_check.proofs.Alone.{seconds-alone, alone-seconds}
 use Rattle.alloc_check.proofs.closed.step_second.Goals as goal
 
-pub returns : goal.returns
-returns c = if-more _ _ c.step_both.result (λ yes h x k l e. seconds-alone c.args.writes.now k (asked c.args.needs.now) (h x k l e)) c.step_both.ensures
+pub returns-clause-enough : goal.returns-clause-enough
+returns-clause-enough c = if-more _ _ c.step_both.result (λ yes h x k l e. seconds-alone c.args.writes.now k (asked c.args.needs.now) (h x k l e)) c.step_both.ensures.enough
+
+pub returns-clause-least : goal.returns-clause-least
+returns-clause-least c = if-more _ _ c.step_both.result (λ yes h k l e. h k l (alone-seconds c.args.writes.now k (asked c.args.needs.now) e)) c.step_both.ensures.least

@@ -1,8 +1,9 @@
-use Rattle.std.proofs.Common.{◌≡◌, drop, true}
-use Rattle.meaning.specs.Facts.{Knowledge, all_known, known_both}
-use Rattle.alloc_check.specs.Needs.{IsLawful}
+use Rattle.meaning.specs.Facts.{known_both}
 use Rattle.alloc_check.specs.Cells.{asked}
+use Rattle.alloc_check.proofs.Least.{Enough, Fewest}
 use Rattle.alloc_check.proofs.needs.add_before.Given as goal
 
 abbrev pub invariant-loop-f : goal.invariant-loop-f
-invariant-loop-f l = (k : Knowledge) → IsLawful k → all_known k (asked l.needs) ≡ true → (all_known k (asked l.initial.needs) ≡ true) × (all_known (known_both l.first l.second k) (drop l.f-index l.facts) ≡ all_known (known_both l.first l.second k) l.facts)
+invariant-loop-f l =
+    Enough (known_both l.first l.second) (asked l.initial.needs) l.facts l.f-index (asked l.needs)
+    × Fewest (known_both l.first l.second) (asked l.initial.needs) l.facts l.f-index (asked l.needs)

@@ -1,8 +1,8 @@
-use Rattle.std.proofs.Common.{◌≡◌, drop, true}
-use Rattle.meaning.specs.Facts.{Knowledge, all_known, reads_known}
-use Rattle.alloc_check.specs.Needs.{IsLawful}
+use Rattle.meaning.specs.Facts.{reads_known}
 use Rattle.alloc_check.specs.Cells.{asked}
+use Rattle.alloc_check.proofs.Least.{EnoughPairs, FewestPairs}
 use Rattle.alloc_check.proofs.needs.add_reads.Given as goal
 
 abbrev pub invariant-loop-k : goal.invariant-loop-k
-invariant-loop-k l = (k : Knowledge) → IsLawful k → all_known k (asked l.needs) ≡ true → (all_known k (asked l.initial.needs) ≡ true) × (reads_known k (drop l.k l.left) (drop l.k l.right) ≡ reads_known k l.left l.right)
+invariant-loop-k l =
+    EnoughPairs reads_known (asked l.initial.needs) l.left l.right l.k (asked l.needs) × FewestPairs reads_known (asked l.initial.needs) l.left l.right l.k (asked l.needs)

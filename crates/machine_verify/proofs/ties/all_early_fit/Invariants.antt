@@ -2,7 +2,7 @@ use Rattle.std.proofs.Common.{◌≡◌, drop}
 use Rattle.std.specs.List.{list_all}
 use Rattle.mir_func.specs.Binding.{numbered}
 use Rattle.mir_meaning.specs.Rules.{early_fits}
-use Rattle.machine_verify.specs.Parts.{seen_all}
+use Rattle.bound_operands.specs.Seen.{seen_all}
 use Rattle.machine_verify.proofs.ties.all_early_fit.Given as goal
 
 abbrev pub invariant-loop-number : goal.invariant-loop-number

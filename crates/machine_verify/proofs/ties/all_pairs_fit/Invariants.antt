@@ -2,7 +2,7 @@ use Rattle.std.proofs.Common.{◌≡◌, drop}
 use Rattle.std.specs.Prelude.{filter_map}
 use Rattle.std.specs.List.{list_all}
 use Rattle.mir_func.specs.Binding.{tied_pair}
-use Rattle.machine_verify.specs.Parts.{seen_all}
+use Rattle.bound_operands.specs.Seen.{seen_all}
 use Rattle.machine_verify.specs.Ties.{pair_fits}
 use Rattle.machine_verify.proofs.ties.all_pairs_fit.Given as goal
 

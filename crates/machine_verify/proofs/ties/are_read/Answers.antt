@@ -4,7 +4,7 @@ use Rattle.std.specs.List.{list_any}
 use Rattle.std.proofs.lemmas.List.{drop_more}
 use Rattle.mir_func.specs.declared.func.RegOp.{RegOp}
 use Rattle.mir_meaning.specs.Rules.{share_a_lane, clashing_lanes, readings_besides}
-use Rattle.machine_verify.specs.Parts.{seen, seen_all}
+use Rattle.bound_operands.specs.Seen.{seen, seen_all}
 use Rattle.machine_verify.proofs.Apart.{besides_any}
 use Rattle.machine_verify.proofs.ties.are_read.Goals as goal
 

@@ -1,7 +1,7 @@
 use Rattle.std.proofs.Common.{◌≡◌, drop}
 use Rattle.std.specs.List.{list_any}
 use Rattle.mir_meaning.specs.Rules.{is_free_undef}
-use Rattle.machine_verify.specs.Parts.{seen_all}
+use Rattle.bound_operands.specs.Seen.{seen_all}
 use Rattle.machine_verify.proofs.ties.has_free_undef.Given as goal
 
 abbrev pub invariant-loop-b : goal.invariant-loop-b

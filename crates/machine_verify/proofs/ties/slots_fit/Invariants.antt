@@ -1,6 +1,6 @@
 use Rattle.std.proofs.Common.{◌≡◌, drop}
 use Rattle.std.specs.List.{list_all}
-use Rattle.machine_verify.specs.Parts.{seen_all}
+use Rattle.bound_operands.specs.Seen.{seen_all}
 use Rattle.machine_verify.specs.Ties.{slot_fits}
 use Rattle.machine_verify.proofs.ties.slots_fit.Given as goal
 

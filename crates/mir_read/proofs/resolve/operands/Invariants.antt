@@ -5,8 +5,8 @@ use Rattle.mir_read.proofs.resolve.operands.Given as goal
 
 abbrev pub invariant-loop-o : goal.invariant-loop-o
 invariant-loop-o l = record {
-  ranges : length l.so_far.names ≤ length l.fn.ranges.names + l.o-index;
-  given : length l.so_far.given ≤ length l.fn.ranges.given + l.o-index;
+  ranges : length l.ranges.names ≤ length l.fn.ranges.names + l.o-index;
+  given : length l.ranges.given ≤ length l.fn.ranges.given + l.o-index;
   made : length l.made ≤ l.o-index;
-  same : operands_named l.names l.headers l.keyed l.fn.ranges l.raw ≡ behind l.made (operands_named l.names l.headers l.keyed l.so_far (drop l.o-index l.raw));
+  same : operands_named l.names l.headers l.keyed l.fn.ranges l.raw ≡ behind l.made (operands_named l.names l.headers l.keyed l.ranges (drop l.o-index l.raw));
 }

@@ -1,18 +1,45 @@
-use Rattle.std.proofs.Common.{subst}
-use Rattle.std.proofs.lemmas.Result.{err_from_is_err_and}
-use Rattle.place_solve.specs.Own.{IsCrowded}
-use Rattle.place_solve.specs.Told.{IsRefused}
-use Rattle.place_solve.proofs.Refused.{own_of_all, serve_of_all}
+use Rattle.std.proofs.Common.{◌∙◌, IfErr, OnOk, sym}
+use Rattle.mir_meaning.specs.Places.{Admits, FirstPlace, PlacesServe, TooMany}
+use Rattle.mir_meaning.specs.declared.Form.TheVariants as forms
+use Rattle.mir_meaning.specs.Valid.{IsValid}
+use Rattle.live_laws.specs.Effects.Shaped.{AreClasses}
+use Rattle.live_lanes.specs.Doing.{IsComputed}
+use Rattle.place_solve.specs.Own.{HasFew, IfUnassignable, IfVariables}
+use Rattle.place_solve.specs.Told.{OwnPlacesServe}
+use Rattle.place_solve.proofs.Refused.{moved}
 use Rattle.place_solve.proofs.check.check_places.Goals as goal
 
-pub returns-in_err-place-2-clause-variables : goal.returns-in_err-place-2-clause-variables
-returns-in_err-place-2-clause-variables c = let p = err_from_is_err_and c.from_residual-in_err-place-2.result c.from_residual-in_err-place-2.ensures.1 in rw (p.1, p.2) tt
+pub check_live_places-requires : goal.check_live_places-requires
+check_live_places-requires c =
+    let live = c.in_ok-live.live in
+    moved (λ t f. IsComputed t f live.table) c.args.target.now live.target c.in_ok-copy.copy live.func (sym c.in_ok-live.ensures.parts.0) (sym c.in_ok-live.ensures.parts.1) c.in_ok-live.ensures.exact
 
-pub returns-in_err-place-2-clause-few_at_unassignable : goal.returns-in_err-place-2-clause-few_at_unassignable
-returns-in_err-place-2-clause-few_at_unassignable c = let p = err_from_is_err_and c.from_residual-in_err-place-2.result c.from_residual-in_err-place-2.ensures.1 in rw (p.1, p.2) tt
+pub returns-clause-variables : goal.returns-clause-variables
+returns-clause-variables c =
+    let live = c.in_ok-live.live in
+    moved (λ t f. IfErr c.check_live_places.result (IfVariables (FirstPlace t f TooMany))) live.target c.args.target.now live.func c.args.f.now.func c.in_ok-live.ensures.parts.0 (c.in_ok-live.ensures.parts.1 ∙ c.in_ok-copy.ensures) c.check_live_places.ensures.variables
 
-pub returns-in-None-clause-own_at_ok : goal.returns-in-None-clause-own_at_ok
-returns-in-None-clause-own_at_ok c = λ classes valid. own_of_all c.args.target.now c.args.f.now.func (subst (IsRefused c.args.target.now c.args.f.now.func) c.in-None.is (c.in_ok-place-2.ensures classes valid))
+pub returns-clause-few_at_ok : goal.returns-clause-few_at_ok
+returns-clause-few_at_ok c =
+    let live = c.in_ok-live.live in
+    moved (λ t f. OnOk c.check_live_places.result (HasFew t f)) live.target c.args.target.now live.func c.args.f.now.func c.in_ok-live.ensures.parts.0 (c.in_ok-live.ensures.parts.1 ∙ c.in_ok-copy.ensures) c.check_live_places.ensures.few_at_ok
 
-pub returns-in-None-clause-serve_at_ok : goal.returns-in-None-clause-serve_at_ok
-returns-in-None-clause-serve_at_ok c = λ classes valid. serve_of_all c.args.target.now c.args.f.now.func (subst (IsCrowded c.args.target.now c.args.f.now.func) c.in_default.is c.in_ok-place.ensures) (subst (IsRefused c.args.target.now c.args.f.now.func) c.in-None.is (c.in_ok-place-2.ensures classes valid))
+pub returns-clause-own_at_ok : goal.returns-clause-own_at_ok
+returns-clause-own_at_ok c =
+    let live = c.in_ok-live.live in
+    moved (λ t f. OnOk c.check_live_places.result (AreClasses t f → IsValid t forms.Source f → OwnPlacesServe t f)) live.target c.args.target.now live.func c.args.f.now.func c.in_ok-live.ensures.parts.0 (c.in_ok-live.ensures.parts.1 ∙ c.in_ok-copy.ensures) c.check_live_places.ensures.own_at_ok
+
+pub returns-clause-few_at_unassignable : goal.returns-clause-few_at_unassignable
+returns-clause-few_at_unassignable c =
+    let live = c.in_ok-live.live in
+    moved (λ t f. IfErr c.check_live_places.result (IfUnassignable (λ _. HasFew t f))) live.target c.args.target.now live.func c.args.f.now.func c.in_ok-live.ensures.parts.0 (c.in_ok-live.ensures.parts.1 ∙ c.in_ok-copy.ensures) c.check_live_places.ensures.few_at_unassignable
+
+pub returns-clause-serve_at_ok : goal.returns-clause-serve_at_ok
+returns-clause-serve_at_ok c =
+    let live = c.in_ok-live.live in
+    moved (λ t f. OnOk c.check_live_places.result (AreClasses t f → IsValid t forms.Source f → PlacesServe t f)) live.target c.args.target.now live.func c.args.f.now.func c.in_ok-live.ensures.parts.0 (c.in_ok-live.ensures.parts.1 ∙ c.in_ok-copy.ensures) c.check_live_places.ensures.serve_at_ok
+
+pub returns-clause-unassignable : goal.returns-clause-unassignable
+returns-clause-unassignable c =
+    let live = c.in_ok-live.live in
+    moved (λ t f. IfErr c.check_live_places.result (IfUnassignable (λ p. AreClasses t f → IsValid t forms.Source f → FirstPlace t f (λ q. Admits t f q → ⊥) p))) live.target c.args.target.now live.func c.args.f.now.func c.in_ok-live.ensures.parts.0 (c.in_ok-live.ensures.parts.1 ∙ c.in_ok-copy.ensures) c.check_live_places.ensures.unassignable

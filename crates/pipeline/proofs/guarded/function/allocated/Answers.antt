@@ -1,4 +1,4 @@
-use Rattle.std.proofs.Common.{refl, ap}
+use Rattle.std.proofs.Common.{refl, ap, ◌∙◌}
 use Rattle.mir_func.specs.Value.{Function}
 use Rattle.pipeline.specs.Guarded.Function.{IsTaken}
 use Rattle.pipeline.proofs.GuardLemmas.Taken.{allocates, refuses}
@@ -20,9 +20,9 @@ returns-in-Err-Memory-clause-part g c = part_of_none (g.W.Watcher.next c.args.ta
 pub returns-in-Ok-clause-ok : goal.returns-in-Ok-clause-ok
 returns-in-Ok-clause-ok g c =
     let taken : IsTaken c.args.target.now c.args.f = record { fits = cc; valid = c.in-Ok.ensures.ok.1 } in
-    allocates c.args.target.now c.args.f c.in-Ok.source.func c.allocated_valid.result taken c.requires.classes c.in-Ok.ensures.ok.0 c.allocated_valid.ensures.ok c.allocated_valid.ensures.serve
+    allocates c.args.target.now c.args.f c.in-Ok.source.source.func c.allocated_valid.result taken c.requires.classes c.in-Ok.ensures.ok.0 c.allocated_valid.ensures.ok c.allocated_valid.ensures.serve
 
 pub returns-in-Ok-clause-err : goal.returns-in-Ok-clause-err
 returns-in-Ok-clause-err g c =
     let taken : IsTaken c.args.target.now c.args.f = record { fits = cc; valid = c.in-Ok.ensures.ok.1 } in
-    refuses c.args.target.now c.args.f c.in-Ok.source.func c.in-Ok.source.func.name c.allocated_valid.result taken c.requires.classes c.in-Ok.ensures.ok.0 (ap (λ (x : Function). x.name) c.in-Ok.ensures.ok.0) c.allocated_valid.ensures.err
+    refuses c.args.target.now c.args.f c.in-Ok.source.source.func c.in_ok-name.name c.allocated_valid.result taken c.requires.classes c.in-Ok.ensures.ok.0 (c.in_ok-name.ensures ∙ ap (λ (x : Function). x.name) c.f.view_is) c.allocated_valid.ensures.err

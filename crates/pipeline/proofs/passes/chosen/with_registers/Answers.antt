@@ -4,14 +4,11 @@ use Rattle.greedy_core.proofs.Told.{untold}
 use Rattle.pipeline.proofs.PassLemmas.Stops.{says_made}
 use Rattle.pipeline.proofs.passes.chosen.with_registers.Goals as goal
 
-pub returns-in_err-check_places-clause-part : goal.returns-in_err-check_places-clause-part
-returns-in_err-check_places-clause-part g c = on_err c.from_residual.result (untold (g.W.Watcher.next c.args.target.now) c.args.watchers.now.items)
+pub returns-in_err-live-clause-part : goal.returns-in_err-live-clause-part
+returns-in_err-live-clause-part g c = on_err c.from_residual.result (untold (g.W.Watcher.next c.args.target.now) c.args.watchers.now.items)
 
-pub returns-in_err-copy-clause-part : goal.returns-in_err-copy-clause-part
-returns-in_err-copy-clause-part g c = on_err c.from_residual-in_err-copy.result (untold (g.W.Watcher.next c.args.target.now) c.args.watchers.now.items)
-
-pub returns-in_err-check_places-clause-places : goal.returns-in_err-check_places-clause-places
-returns-in_err-check_places-clause-places g c =
+pub returns-in_err-live-clause-places : goal.returns-in_err-live-clause-places
+returns-in_err-live-clause-places g c =
     let p = err_from_is_err_and c.from_residual.result c.from_residual.ensures.1 in
-    let stop = c.in_err-check_places.field-0.0 in
-    rw p.1 (says_made c.args.target.now c.args.source.now.func stop p.0 p.2 c.in_err-check_places.ensures.variables c.in_err-check_places.ensures.few_at_unassignable c.in_err-check_places.ensures.unassignable)
+    let stop = c.in_err-live.field-0.0 in
+    rw p.1 (says_made c.args.target.now c.args.source.source.func stop p.0 p.2 c.in_err-live.ensures.variables c.in_err-live.ensures.few_at_unassignable c.in_err-live.ensures.unassignable)

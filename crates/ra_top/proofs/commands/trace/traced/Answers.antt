@@ -1,4 +1,4 @@
-use Rattle.std.proofs.Common.{refl, ap}
+use Rattle.std.proofs.Common.{refl, ap, ◌∙◌}
 use Rattle.mir_func.specs.Value.{Function}
 use Rattle.pipeline.specs.Guarded.Function.{IsTaken}
 use Rattle.ra_top.proofs.CommandLemmas.Taken.{traces}
@@ -24,4 +24,4 @@ returns-clause-part g c = part_of_none (g.W.Watcher.next c.args.target.now) c.ar
 pub returns-in-Ok-clause-answer : goal.returns-in-Ok-clause-answer
 returns-in-Ok-clause-answer g c =
     let taken : IsTaken c.args.target.now c.args.f = record { fits = cc; valid = c.in-Ok.ensures.ok.1 } in
-    traces c.args.target.now c.args.f c.in-Ok.source.func c.in-Ok.source.func.name c.traced_valid.result taken c.requires.classes c.in-Ok.ensures.ok.0 (ap (λ (x : Function). x.name) c.in-Ok.ensures.ok.0) c.traced_valid.ensures.answer
+    traces c.args.target.now c.args.f c.in-Ok.source.source.func c.as_slice.result.now c.traced_valid.result taken c.requires.classes c.in-Ok.ensures.ok.0 (c.as_slice.ensures ∙ c.in_ok-name.ensures ∙ ap (λ (x : Function). x.name) c.f.view_is) c.traced_valid.ensures.answer

@@ -1,8 +1,0 @@
-use Rattle.std.proofs.Common.{◌≡◌, ◌++◌, ◌∷◌, [], ◌∙◌}
-use Rattle.mir_read.proofs.Sets.{put_new}
-use Rattle.mir_read.proofs.ranges.Ranges.appended.Goals as goal
-
-pub returns-clause-value : goal.returns-clause-value
-returns-clause-value c =
-    let names : c.add.new.self ≡ c.args.self.names ++ c.args.name.now ∷ [] = c.in_ok-add.ensures.ok ∙ put_new c.args.self.names c.args.name.now c.requires.new in
-    cc (names, c.in_ok-push.ensures.ok)
