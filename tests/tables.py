@@ -1,7 +1,8 @@
 #!/usr/bin/env python3
-r"""Runs the tables of tests/tables over the built program, several runs at a time; the last line counts what passed.
+r"""Runs the tables of tests/tables over the built programs, several runs at a time; the last line counts what passed.
 
-    tests/tables.py          the environment variable LLRA may name the executable; else ./llra says which it is
+    tests/tables.py          the environment variables LLRA and BENCH_PROGRAMS may name the executables; else ./llra says
+                             which they are
 
 A table holds cases, each with the files that it needs and what the program must give:
 
@@ -11,6 +12,7 @@ A table holds cases, each with the files that it needs and what the program must
 
     run: alloc - IN          the words of a run (`''` is an empty one), made in a folder that holds the files of its case
                              alone, with no standard input; several such lines share what follows them
+    bench: --texts - IN A    the same, of a run of bench_programs, which asks parts of the program alone
     IN: RET RET              a file, made of texts that have names, ..
     | # end                  .. and of lines
     stdout: RET              what must be written, made likewise; nothing where this is left out
@@ -43,11 +45,12 @@ import tempfile
 
 ROOT = os.path.dirname(os.path.dirname(os.path.realpath(__file__)))
 SECONDS = 60  # that a run may take
-HEAD = re.compile(r"(text [A-Z_0-9]+|run|lines|stdout|refused \d+|[A-Z]+):(?: (.*))?$")
+HEAD = re.compile(r"(text [A-Z_0-9]+|run|bench|lines|stdout|refused \d+|[A-Z]+):(?: (.*))?$")
 TEXT_LINE = re.compile(r"(\d*)\|(?: (.*))?$")
 ROW = re.compile(r"(\S.*?) *\| (.*)$")
 FAULTS = ("layout", "token", "name", "rule", "end")
 HOLE = b"<line>"
+PROGRAMS = {"run": "llra", "bench": "bench_programs"}
 
 
 class Fault(Exception):
@@ -66,7 +69,7 @@ class Item:
 @dataclasses.dataclass
 class Entry:
     """Runs that share files and what they must give."""
-    runs: list = dataclasses.field(default_factory=list)
+    runs: list = dataclasses.field(default_factory=list)  # place, program and words
     files: dict = dataclasses.field(default_factory=dict)  # the lines of each
     stdout: bytes = b""
     status: int = 0
@@ -77,8 +80,9 @@ class Entry:
 
 @dataclasses.dataclass
 class Case:
-    """One run: its words, its files, and the status, output and line on standard error that it must give."""
+    """One run: its program, its words, its files, and the status, output and line on standard error that it must give."""
     name: str
+    program: str
     words: list
     files: dict
     wanted: tuple
@@ -164,13 +168,13 @@ def rows(item):
 
 def enter(entry, item, texts):
     """Enters into an entry what an item says of it."""
-    if item.key in entry.keys and item.key != "run":
+    if item.key in entry.keys and item.key not in PROGRAMS:
         raise Fault("the key stands twice")
     entry.keys.add(item.key)
-    if item.below and item.key.startswith(("run", "refused")):
+    if item.below and item.key.startswith((*PROGRAMS, "refused")):
         raise Fault("lines stand below it")
-    if item.key == "run":
-        entry.runs.append((item.place, shlex.split(item.value)))
+    if item.key in PROGRAMS:
+        entry.runs.append((item.place, PROGRAMS[item.key], shlex.split(item.value)))
     elif item.key == "lines":
         entry.rows += rows(item)
     elif item.key == "stdout":
@@ -182,10 +186,10 @@ def enter(entry, item, texts):
 
 
 def entries(path):
-    """The entries of a table; the first `run` behind another key begins one."""
+    """The entries of a table; the first run behind another key begins one."""
     texts, found, last = {}, [], ""
     for item in items(path):
-        if item.key == "run" != last:
+        if item.key in PROGRAMS and last not in PROGRAMS:
             found.append(Entry())
         last = item.key
         try:
@@ -215,7 +219,7 @@ def with_line(lines, at, line):
     return lines[:at] + [lines[at].replace(HOLE, line)] + lines[at + 1:]
 
 
-def row_case(entry, words, row):
+def row_case(entry, program, words, row):
     place, wanted, line = row
     name, at = hole(entry)
     lines = with_line(entry.files[name], at, line)
@@ -228,15 +232,15 @@ def row_case(entry, words, row):
     else:
         printed = lines if wanted == "ok" else with_line(entry.files[name], at, bytes_of(wanted))
         outcome = (0, b"".join(printed), b"")
-    return Case(place, words, {**entry.files, name: lines}, outcome)
+    return Case(place, program, words, {**entry.files, name: lines}, outcome)
 
 
 def cases(path):
     """The cases of a table."""
     for entry in entries(path):
         outcome = (entry.status, entry.stdout, entry.stderr)
-        for place, words in entry.runs:
-            made = [row_case(entry, words, row) for row in entry.rows] or [Case(place, words, entry.files, outcome)]
+        for place, *run in entry.runs:
+            made = [row_case(entry, *run, row) for row in entry.rows] or [Case(place, *run, entry.files, outcome)]
             for case in made:
                 yield dataclasses.replace(case, files={name: b"".join(it) for name, it in case.files.items()})
 
@@ -256,14 +260,14 @@ def difference(wanted, given):
     return list(difflib.unified_diff(*lines, "wanted", "given", lineterm="", n=2))[:20]
 
 
-def problem(llra, case, work):
+def problem(executables, case, work):
     """What is wrong with what the program gives, as one text; empty where it gives what is wanted."""
     with tempfile.TemporaryDirectory(dir=work) as folder:
         for name, held in case.files.items():
             with open(os.path.join(folder, name), "wb") as file:
                 file.write(held)
         try:
-            done = subprocess.run([llra, *case.words], stdin=subprocess.DEVNULL, stdout=subprocess.PIPE,
+            done = subprocess.run([executables[case.program], *case.words], stdin=subprocess.DEVNULL, stdout=subprocess.PIPE,
                                   stderr=subprocess.PIPE, cwd=folder, timeout=SECONDS)
         except subprocess.TimeoutExpired:
             return f"failed: {case.name}: no end after {SECONDS} s"
@@ -277,19 +281,27 @@ def problem(llra, case, work):
     return "\n".join(lines)
 
 
-def executable():
-    if os.environ.get("LLRA"):
-        return os.path.abspath(os.environ["LLRA"])
-    done = subprocess.run([os.path.join(ROOT, "llra")], env={**os.environ, "LLRA_WHERE": "1"}, stdout=subprocess.PIPE)
+def executable(program):
+    """The path of a program, which is built first where it isn't."""
+    if os.environ.get(program.upper()):
+        return os.path.abspath(os.environ[program.upper()])
+    asked = {**os.environ, "LLRA_WHERE": "1", "LLRA_CRATE": program}
+    done = subprocess.run([os.path.join(ROOT, "llra")], env=asked, stdout=subprocess.PIPE)
     if done.returncode:
         sys.exit(1)
     return done.stdout.decode().rstrip("\n")
 
 
+def executables(found):
+    """The path of each program that cases ask."""
+    return {it: executable(it) for it in sorted({case.program for case in found})}
+
+
 def main():
-    llra, found = executable(), all_cases()
+    found = all_cases()
+    built = executables(found)
     with tempfile.TemporaryDirectory() as work, concurrent.futures.ThreadPoolExecutor(os.cpu_count()) as pool:
-        problems = [it for it in pool.map(lambda case: problem(llra, case, work), found) if it]
+        problems = [it for it in pool.map(lambda case: problem(built, case, work), found) if it]
     for it in problems:
         print(it)
     print(f"{len(found) - len(problems)} passed, {len(problems)} failed")

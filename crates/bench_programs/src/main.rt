@@ -8,6 +8,8 @@
 //!   built-in target);
 //! - `--texts TARGET SOURCE ALLOCATED ..` prints of each such pair, without asking more, whether the allocated function
 //!   keeps the text of the source: `kept` or `lost`;
+//! - `--reserved TARGET SOURCE ALLOCATED ..` prints of each such pair whether the allocated function holds in reserved
+//!   units what the source holds there, wherever that can be seen: `held` or `lost`;
 //! - `--region TARGET FILE WORD..` makes the function of a document ready as before a run of the allocator; then a word
 //!   `V=R` assigns the range V to the register R, and a word `V` prints the region of least cost of the range V, by the
 //!   lines that the module `regions` says;
@@ -23,7 +25,7 @@ mod regions;
 use crate::cuts::{MOST_ARCS, MOST_NODES, cost_of_cut};
 use crate::documents::{LONGEST, function_of, source_of, target_of};
 use crate::regions::{Prepared, answer_range, prepared_of};
-use alloc_check::{Verdict, check_pair};
+use alloc_check::{Verdict, check_pair, check_reserved};
 use anyhow::{Context, Result, bail};
 use mir_func::Func;
 use mir_text::{Doc, TextStop, print_doc, read_doc};
@@ -40,6 +42,8 @@ enum Question {
     Verdict,
     /// Whether the text of the source is kept.
     Text,
+    /// Whether reserved units hold what they hold in the source.
+    Reserved,
 }
 
 /// Reads a target file, and prints whether it is one.
@@ -84,6 +88,20 @@ fn tell_verdict(rt: &HostRuntime, target: &Target, f: Func, g: &Func) -> Result<
     Ok(())
 }
 
+/// Prints whether the second function holds in reserved units what the first holds there.
+fn tell_reserved(rt: &HostRuntime, target: &Target, f: Func, g: &Func) -> Result<()> {
+    let Some(source) = source_of(rt, target, f)? else {
+        println!(rt; "no valid source")?;
+        return Ok(());
+    };
+    if check_reserved(rt.alloc(), target, &source, g)? {
+        println!(rt; "held")?;
+    } else {
+        println!(rt; "lost")?;
+    }
+    Ok(())
+}
+
 /// Prints whether the second function keeps the text of the first.
 fn tell_text(rt: &HostRuntime, target: &Target, f: &Func, g: &Func) -> Result<()> {
     if keeps_text(rt.alloc(), target, f, g)? {
@@ -108,6 +126,7 @@ fn tell_pair(
         (Some(f), Some(g)) => match question {
             Question::Verdict => tell_verdict(rt, target, f, &g),
             Question::Text => tell_text(rt, target, &f, &g),
+            Question::Reserved => tell_reserved(rt, target, f, &g),
         },
         _ => {
             println!(rt; "no functions")?;
@@ -167,7 +186,7 @@ fn answer_files(
     Ok(())
 }
 
-/// Answers `--pairs` and `--texts`.
+/// Answers `--pairs`, `--texts` and `--reserved`.
 fn answer_pairs(rt: &HostRuntime, question: Question, words: &[String]) -> Result<()> {
     let [target, paths @ ..] = words else {
         bail!("a target is missing");
@@ -210,10 +229,11 @@ fn answer_group(rt: &HostRuntime, kind: &str, words: &[String]) -> Result<()> {
         "--documents" => answer_documents(rt, words),
         "--pairs" => answer_pairs(rt, Question::Verdict, words),
         "--texts" => answer_pairs(rt, Question::Text, words),
+        "--reserved" => answer_pairs(rt, Question::Reserved, words),
         "--region" => answer_regions(rt, words),
         "--cut" => answer_cut(rt, words),
         _ => bail!(
-            "a group begins with --targets, --documents, --pairs, --texts, --region or --cut"
+            "a group begins with --targets, --documents, --pairs, --texts, --reserved, --region or --cut"
         ),
     }
 }

@@ -8,13 +8,7 @@ mod colouring;
 #[cfg(test)]
 mod cuts;
 #[cfg(test)]
-mod kept_texts;
-#[cfg(test)]
 mod live;
-#[cfg(test)]
-mod regions;
-#[cfg(test)]
-mod reserved_units;
 #[cfg(test)]
 mod top;
 #[cfg(test)]
