@@ -1,7 +1,7 @@
 #!/usr/bin/env python3
 """Compares the program with a reference model over targets with opaque instructions.
 
-Run: compare_opaque.py MODEL PROGRAM SEED COUNT [texts]
+Run: compare_opaque.py MODEL PROGRAM SEED COUNT [texts [all]]
 
 MODEL is the folder of the reference model (the package `llra_ref` and the modules `fuzz_opaque` and
 `fuzz_opaque_text`), PROGRAM the executable of `llra`. For each of COUNT seeds from SEED it makes a target with opaque
@@ -13,7 +13,8 @@ line and status must be the model's. It prints the first differences and counts,
 difference.
 
 With `texts` it makes six functions for each seed, most of them with the text, the target or both mutated, and asks of each
-`alloc`, `run` and `check` alone, and both verifiers and the checker of what is allocated: more inputs in less time."""
+`alloc`, `run` and `check` alone, and both verifiers and the checker of what is allocated: more inputs in less time. With
+`texts all` every command is asked of these."""
 import collections
 import os
 import random
@@ -22,7 +23,7 @@ import sys
 import tempfile
 
 MODEL, PROGRAM, SEED, COUNT = sys.argv[1], os.path.abspath(sys.argv[2]), int(sys.argv[3]), int(sys.argv[4])
-TEXTS = sys.argv[5:] == ["texts"]
+TEXTS, ALL = sys.argv[5:6] == ["texts"], sys.argv[6:] == ["all"]
 sys.path.insert(0, MODEL)
 sys.argv = ["", "0", "0"]  # (the module below goes over so many seeds when it is imported)
 import llra_ref as L  # noqa: E402
@@ -36,7 +37,7 @@ OF_SOURCE = ["trace T IN", "intervals T IN", "alloc basic T IN", "alloc cut T IN
              "run T IN f 7 1", "run T IN f 400 12"]
 OF_ALLOCATION = ["verify allocated T OUT", "check T IN OUT", "run T OUT f 60 3", "run T OUT f 400 12", "alloc T OUT"]
 OF_DAMAGED = ["check T IN BAD", "verify allocated T BAD", "run T BAD f 60 3"]
-if TEXTS:
+if TEXTS and not ALL:
     OF_SOURCE, OF_ALLOCATION = ["run T IN f 60 3", "check T IN IN"], ["verify allocated T OUT", "check T IN OUT"]
 
 
