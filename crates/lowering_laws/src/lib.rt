@@ -1,0 +1,15 @@
+//! Laws of lowering: a function that was lowered does what it did. Each is the contract of a function, so
+//! that a check proves it.
+#![tactic(auto)]
+
+ghost use Rattle.lowering_laws.specs.Laws.{LoweredPhisRefine, PhisAreGone};
+
+/// A valid source without its phis does what it did, where no two phis of a block define one register.
+pub fn phis_law()
+    ensures { LoweredPhisRefine }
+{}
+
+/// It has no phi.
+pub fn gone_law()
+    ensures { PhisAreGone }
+{}
