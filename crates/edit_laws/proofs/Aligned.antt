@@ -1,5 +1,5 @@
 -- Two functions of which one is an edit of the other: their blocks side by side, and their codes.
-use Rattle.std.proofs.Common.{◌≡◌, ◌<◌, ◌∷◌, ◌++◌, ◌∙◌, not, ℕ, suc, ◌+◌, Bool, true, false, cond, List, [], Option, Some, None, refl, sym, ap, subst, map, flat_map, length, drop, arith}
+use Rattle.std.proofs.Common.{◌≡◌, ◌∷◌, ◌++◌, ◌∙◌, not, ℕ, suc, ◌+◌, Bool, true, false, cond, List, [], Some, None, refl, sym, ap, subst, map, flat_map, length, drop, arith}
 use Rattle.std.specs.Prelude.{nat_eq, nat_lt}
 use Rattle.std.specs.List.{find}
 use Rattle.std.proofs.lemmas.Bool.{le-ltb, lt-ltb, ltb-false, ltb-true}
@@ -7,8 +7,8 @@ use Rattle.target_base.specs.declared.types.Target.{Target}
 use Rattle.target_base.specs.Rules.{is_phi}
 use Rattle.meaning.specs.declared.types.Lane.{Lane}
 use Rattle.meaning.specs.Lanes.{Writes}
-use Rattle.meaning.specs.Code.{Code, Edge, Item, BlockStart}
-use Rattle.meaning.specs.Live.{Among, here, there, reads_of, writes_of, exits_of}
+use Rattle.meaning.specs.Code.{Code, Item, BlockStart}
+use Rattle.meaning.specs.Live.{Among, here, there, reads_of, writes_of}
 use Rattle.mir_func.specs.declared.func.Block.{Block}
 use Rattle.mir_func.specs.declared.func.Edge.{Edge as Successor}
 use Rattle.mir_func.specs.declared.func.Instr.{Instr}
@@ -19,7 +19,7 @@ use Rattle.mir_meaning.specs.Codes.{block_end, blocks_code, instrs_of, phi_opera
 use Rattle.mir_meaning.specs.Points.{from_instr, point_item, points_of}
 use Rattle.laws.proofs.Flow.{none_among}
 use Rattle.edit_laws.specs.Named.{Names, reads, copies, writes}
-use Rattle.edit_laws.proofs.Beside.{Alike, IsClosed, NamesOnly, IsAlone, IsChanged, IsKept, Beside, none, starts, stays, changes, goes, comes, Facing, neither, at_alike, at_both}
+use Rattle.edit_laws.proofs.Beside.{IsClosed, NamesOnly, IsAlone, IsChanged, IsKept, Beside, none, starts, stays, changes, goes, comes, Facing, neither, at_alike, at_both}
 use Rattle.edit_laws.proofs.Shell.{phi-same, reads-same, writes-same, exits-are, is-plain}
 
 -- instructions of which some go, some come, and some change

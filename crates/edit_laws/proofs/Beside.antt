@@ -1,13 +1,12 @@
 -- A code and an edit of it: a lane that is live at a place of the one is live at the same place of the other, or it leads to an edited lane.
-use Rattle.std.proofs.Common.{◌≡◌, ◌⊎◌, ◌∙◌, ℕ, Bool, true, false, cond, List, [], ◌∷◌, refl, sym, ap, subst, inl, inr}
+use Rattle.std.proofs.Common.{◌≡◌, ◌⊎◌, ◌∙◌, ℕ, Bool, true, false, cond, [], ◌∷◌, refl, sym, ap, subst, inl, inr}
 use Rattle.std.specs.Prelude.{nat_eq}
 use Rattle.meaning.specs.declared.types.Lane.{Lane}
 use Rattle.meaning.specs.declared.types.Lane.TheVariants.{SlotLane}
-use Rattle.meaning.specs.declared.types.Source.{Source}
 use Rattle.meaning.specs.declared.types.Source.TheVariants.{FromLane}
 use Rattle.meaning.specs.declared.types.Fill.TheVariants.{Moved}
 use Rattle.meaning.specs.declared.types.Write.{Write}
-use Rattle.meaning.specs.Lanes.{Writes, Reads, filled, same_lane}
+use Rattle.meaning.specs.Lanes.{Writes, filled, same_lane}
 use Rattle.meaning.specs.Code.{Edge, Item, BlockStart, BlockEnd, Silent, Counted, Code, found}
 use Rattle.meaning.specs.Live.{Among, here, there, reads_of, writes_of, exits_of, in_order, Feeds, is_slot, Live, read, next, leap, phi, store, kept, LiveAfter, after_next, after_leap, after_phi, Writing, WritingEarly, OccupiedBefore, OccupiedAfter}
 use Rattle.mir_meaning.specs.Points.{AtFirst}

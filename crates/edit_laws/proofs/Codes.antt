@@ -1,5 +1,5 @@
 -- The code over numbered lanes of an edited function beside that of the function.
-use Rattle.std.proofs.Common.{◌≡◌, ◌∷◌, ◌++◌, ◌∙◌, ℕ, zero, suc, Bool, true, false, cond, List, [], Option, Some, None, refl, sym, ap, subst, map, flat_map, filter_map}
+use Rattle.std.proofs.Common.{◌≡◌, ◌∷◌, ◌++◌, ◌∙◌, ℕ, zero, suc, Bool, false, cond, List, [], Option, Some, None, refl, sym, ap, subst, map, flat_map, filter_map}
 use Rattle.std.specs.Prelude.{nat_eq, option_map, slice_get}
 use Rattle.target_base.specs.declared.types.Effect.{Effect}
 use Rattle.target_base.specs.declared.types.Effect.TheVariants as effects
@@ -11,7 +11,6 @@ use Rattle.target_base.specs.Rules.{is_phi}
 use Rattle.meaning.specs.Lanes.{Writes, Reads}
 use Rattle.meaning.specs.Live.{Among, here, there}
 use Rattle.mir_func.specs.declared.func.Block.{Block}
-use Rattle.mir_func.specs.declared.func.Edge.{Edge}
 use Rattle.mir_func.specs.declared.func.Gap.{Gap}
 use Rattle.mir_func.specs.declared.func.Instr.{Instr}
 use Rattle.mir_func.specs.declared.func.Operand.{Operand}
@@ -21,17 +20,17 @@ use Rattle.mir_func.specs.Value.{Function}
 use Rattle.mir_func.specs.Edits.{block_place, made}
 use Rattle.mir_func.specs.Binding.{definitions, does, effect_of, is_early_clobber, is_terminator, roles_of}
 use Rattle.mir_meaning.specs.Items.{Value, implicit_definitions, moved, undefined}
-use Rattle.mir_meaning.specs.Paths.{Body, Code, Step, Into, Unused, use_of, is_written, steps_of, last_of, exits_of}
-use Rattle.instr_effects.specs.Acts.{acts_of, call_writes, counted_acts, effect_acts, effect_reads, entered_reads, entered_writes, filled_whole, read_owners, silent_acts, stored, use_owners}
+use Rattle.mir_meaning.specs.Paths.{Body, Step, Into, use_of, is_written}
+use Rattle.instr_effects.specs.Acts.{acts_of, call_writes, counted_acts, effect_acts, effect_reads, entered_reads, entered_writes, filled_whole, read_owners, silent_acts, stored}
 use Rattle.instr_effects.specs.Owners.{owners_read}
 use Rattle.instr_effects.specs.Ends.{end_uses, pairs_behind}
-use Rattle.instr_effects.specs.Steps.{Numbering, EndRead, act_readings, act_writings, phi_read_of}
-use Rattle.live_lanes.specs.Coded.{bodies_from, body_at, entries, last_at, lanes_at}
+use Rattle.instr_effects.specs.Steps.{Numbering, act_readings, act_writings, phi_read_of}
+use Rattle.live_lanes.specs.Coded.{bodies_from, entries, last_at, lanes_at}
 use Rattle.live_lanes.specs.Doing.{doing_of, lane_code}
 use Rattle.live_lanes.specs.Entering.{EnteredStep}
 use Rattle.live_lanes.specs.Flowing.{edge_places}
 use Rattle.live_lanes.specs.Ordered.{place_of}
-use Rattle.edit_laws.specs.Edits.{Edit, Put, Replace, Erase, edited, edited_id, with_op, Stands, KeepsWays}
+use Rattle.edit_laws.specs.Edits.{Put, Replace, Erase, edited, with_op, Stands, KeepsWays}
 use Rattle.edit_laws.specs.Steps.{AreAlike, IsApart, AreSteps, no_steps, step_stays, step_goes, step_comes, AreCodes}
 use Rattle.edit_laws.specs.Codes.{step_in, NamesTold, TellsEdit, CodesLaw}
 use Rattle.edit_laws.proofs.Aligned.{AreInstrs, no_instrs, instr_stays, instr_changes, instr_goes, instr_comes, AreBlocks, no_blocks, block_stays}
@@ -184,11 +183,11 @@ module _ (t : Target) (f : Function) (num : Numbering) (told : ℕ → Bool) whe
     abbrev IsNew : Instr → Type 0
     IsNew j = j ≡ made f.next_id op os
 
+    put-step : (j : Instr) → IsNew j → step_in t f num (made f.next_id op os) ≡ step_in t put-in num j
+    put-step j e = (λ k. (doing-same t f put-in refl num (made f.next_id op os) k).0) ∙ ap (step_in t put-in num) (sym e)
+
     put-comes : (j : Instr) → ComesInto Never IsNew NeverBoth put-in.blocks j → (does is_phi t j ≡ false) × IsApart told (step_in t put-in num j)
-    put-comes j z = (
-      ap (does is_phi t) z.3 ∙ keeps.0,
-      apart-of told (step_in t put-in num j) (ap (does is_terminator t) z.3 ∙ keeps.1) (tells.after z.0 j (record { block = z.1; instr = z.2; named = ap (λ (x : Instr). x.id) z.3 })),
-    )
+    put-comes j z = (ap (does is_phi t) z.3 ∙ keeps.0, apart-of told (step_in t put-in num j) (ap (does is_terminator t) z.3 ∙ keeps.1) (subst (NamesTold told) (put-step j z.3) tells.instr))
 
     put-codes : AreCodes told (lane_code t f num) (lane_code t put-in num)
     put-codes =
@@ -207,7 +206,7 @@ module _ (t : Target) (f : Function) (num : Numbering) (told : ℕ → Bool) whe
     cut-goes : (i : Instr) → GoesFrom Gone Never NeverBoth f.blocks i → (does is_phi t i ≡ false) × IsApart told (step_in t f num i)
     cut-goes i z =
         let stands : Stands f id z.0 i = record { block = z.1; instr = z.2; named = z.3 } in
-        ((keeps z.0 i stands).0, apart-of told (step_in t f num i) (keeps z.0 i stands).1 (tells.before z.0 i stands))
+        ((keeps z.0 i stands).0, apart-of told (step_in t f num i) (keeps z.0 i stands).1 (tells.instr z.0 i stands))
 
     cut-codes : AreCodes told (lane_code t f num) (lane_code t cut-in num)
     cut-codes =
@@ -223,23 +222,13 @@ module _ (t : Target) (f : Function) (num : Numbering) (told : ℕ → Bool) whe
     abbrev Turns : Instr → Instr → Type 0
     Turns = Becomes Never Never id (with_op op os)
 
+    new-step : (i j : Instr) → j ≡ with_op op os i → step_in t f num (with_op op os i) ≡ step_in t new-in num j
+    new-step i j e = (λ k. (doing-same t f new-in refl num (with_op op os i) k).0) ∙ ap (step_in t new-in num) (sym e)
+
     new-both : (i j : Instr) → BothAt Never Never Turns f.blocks new-in.blocks i j → (does is_phi t i ≡ false) × (does is_phi t j ≡ false) × AreAlike told (step_in t f num i) (step_in t new-in num j)
     new-both i j z =
-        let one : i.id ≡ j.id = sym (ap (λ (x : Instr). x.id) z.6.1) in
         let stands : Stands f id z.0 i = record { block = z.2; instr = z.4; named = z.6.0 } in
-        let stands' : Stands new-in id z.1 j = record { block = z.3; instr = z.5; named = sym one ∙ z.6.0 } in
-        let was = tells.before z.0 i stands in
-        let becomes = tells.after z.1 j stands' in (
-          (keeps z.0 i stands).0,
-          ap (does is_phi t) z.6.1 ∙ (keeps z.0 i stands).1,
-          record {
-            id = one;
-            leaves = (keeps z.0 i stands).2 ∙ sym (ap (does is_terminator t) z.6.1);
-            used = λ l o. was.unused l o ∙ sym (becomes.unused l o);
-            written = λ l o. was.unwritten l o ∙ sym (becomes.unwritten l o);
-            apart = λ l a o u. absurd (let v : Unused ≡ Into a = sym (was.unused l o) ∙ u in cc);
-          },
-        )
+        ((keeps z.0 i stands).0, ap (does is_phi t) z.6.1 ∙ (keeps z.0 i stands).1, subst (AreAlike told (step_in t f num i)) (new-step i j z.6.1) (tells.instr z.0 i stands))
 
     new-codes : AreCodes told (lane_code t f num) (lane_code t new-in num)
     new-codes =

@@ -1,6 +1,6 @@
 -- An edit changes the live points of no lane but those that its instruction names and those that lead to them.
 use Rattle.std.proofs.Common.{◌≡◌, ◌∷◌, ◌⊎◌, ◌∙◌, ℕ, Bool, true, false, List, [], refl, sym, ap, inl, inr}
-use Rattle.std.specs.Prelude.{nat_eq, ◌↔◌}
+use Rattle.std.specs.Prelude.{nat_eq}
 use Rattle.std.proofs.lemmas.Bool.{eq-eqb, eqb-true}
 use Rattle.target_base.specs.declared.types.OpId.{OpId}
 use Rattle.target_base.specs.declared.types.Target.{Target}
@@ -15,9 +15,9 @@ use Rattle.mir_func.specs.Value.{Function}
 use Rattle.mir_func.specs.Edits.{block_place, made}
 use Rattle.mir_func.specs.Binding.{does, is_terminator}
 use Rattle.mir_meaning.specs.Points.{Point, Start, Entry, Exit, from_instr, point_item, points_of}
-use Rattle.edit_laws.specs.Named.{Leads, is_one, copied}
-use Rattle.edit_laws.specs.Edits.{Edit, Put, Replace, Erase, edited, with_op, Stands, Touches, before, after, KeepsWays, is_of, comes_or_goes, all_edited}
-use Rattle.edit_laws.specs.Laws.{IsSame, IsSameBut, LeadsToEdit, EditedLaw, LeadingLaw, KeepAllWays, Remains, LeadsToSome, EditsLaw}
+use Rattle.edit_laws.specs.Named.{is_one, copied}
+use Rattle.edit_laws.specs.Edits.{Edit, Put, Replace, Erase, edited, with_op, Stands, before, after, KeepsWays, is_of}
+use Rattle.edit_laws.specs.Laws.{IsSameBut, LeadsToEdit, EditedLaw, LeadingLaw, EditsLaw}
 use Rattle.edit_laws.proofs.Beside.{Beside, Facing, IsClosed}
 use Rattle.edit_laws.proofs.Shell.{reads-same, writes-same}
 use Rattle.edit_laws.proofs.Aligned.{AreBlocks, IsFree, IsTurned, names-alike, codes-beside, places-facing}

@@ -1,17 +1,17 @@
 -- Pieces of lanes that no edited instruction names, and that lead to none which one names, end where they did.
-use Rattle.std.proofs.Common.{◌≡◌, ◌<◌, ◌≤◌, ◌⊎◌, ℕ, zero, suc, ◌+◌, ◌*◌, Bool, true, false, List, [], ◌∷◌, ◌++◌, refl, sym, ap, ◌∙◌, subst, inl, inr, arith, append_assoc}
+use Rattle.std.proofs.Common.{◌≡◌, ◌<◌, ◌≤◌, ◌⊎◌, ℕ, ◌+◌, ◌*◌, Bool, true, false, List, [], ◌∷◌, ◌++◌, refl, sym, ap, ◌∙◌, subst, inl, inr, arith, append_assoc}
 use Rattle.slot_index.specs.Order.{number_of}
-use Rattle.mir_meaning.specs.Paths.{Among, here, there, Step, Code, steps_of, last_of, exits_of, Use, Unused, Certain, Into, use_of}
+use Rattle.mir_meaning.specs.Paths.{Among, Step, Code, steps_of, Into, use_of}
 use Rattle.live_lanes.specs.declared.row.End.{End}
 use Rattle.live_lanes.specs.declared.row.End.TheVariants as ends
 use Rattle.live_lanes.specs.Graph.{Causes, is_live, writes_in}
 use Rattle.live_lanes.specs.Table.{Numbers, end_rank}
 use Rattle.live_lanes.specs.Entered.{Rises, IsNumbered}
-use Rattle.live_lanes.specs.Ends.{Counts, reads, moves, leaves, goes, phi, IsEnd}
+use Rattle.live_lanes.specs.Ends.{Counts, reads, moves, leaves, goes, phi}
 use Rattle.live_lanes.proofs.Basics.{among-append}
 use Rattle.live_lanes.proofs.Sound.{splits, Splits}
-use Rattle.live_lanes.proofs.Numbered.{among-right, rises-above, rises-across, rises-bounded}
-use Rattle.edit_laws.specs.Steps.{IsApart, AreSteps, AreCodes, KeepOthers, EndsLaw}
+use Rattle.live_lanes.proofs.Numbered.{rises-above, rises-across, rises-bounded}
+use Rattle.edit_laws.specs.Steps.{IsApart, AreCodes, KeepOthers, EndsLaw}
 use Rattle.edit_laws.proofs.Grown.{Located, stands, came, locate, steps-turned, codes-turned, same-all, same-behind, certain-apart, into-apart, leaves-apart, live-new}
 
 others-turned : {told : ℕ → Bool} {why why' : Causes} → KeepOthers told why why' → KeepOthers told why' why

@@ -1,6 +1,6 @@
 -- A grown table of causes is grown after edits where the touched lanes are right.
-use Rattle.std.proofs.Common.{◌≡◌, ◌⊎◌, ℕ, suc, ◌+◌, Bool, true, false, cond, List, [], ◌∷◌, ◌++◌, refl, sym, ap, ◌∙◌, subst, inl, inr}
-use Rattle.mir_meaning.specs.Paths.{Among, Step, Code, steps_of, last_of, exits_of, Use, Unused, Certain, Into, use_of, is_written}
+use Rattle.std.proofs.Common.{◌≡◌, ℕ, suc, ◌+◌, Bool, true, false, cond, List, [], ◌∷◌, ◌++◌, refl, sym, ap, ◌∙◌, subst}
+use Rattle.mir_meaning.specs.Paths.{Among, Step, Code, steps_of, last_of, exits_of, Unused, Certain, Into, use_of}
 use Rattle.live_lanes.specs.declared.row.Cause.TheVariants as causes
 use Rattle.live_lanes.specs.Graph.{Causes, is_live, writes_in, IsClosed, Founded, by_reading, by_move, by_exit, by_end, by_phi, IsGrown}
 use Rattle.live_lanes.proofs.Basics.{writes-append}

@@ -1,14 +1,12 @@
 -- A table that was computed for a function is computed for an edited one where the touched lanes are right.
-use Rattle.std.proofs.Common.{◌≡◌, ℕ, Bool, true, false, List, refl, sym, ap, ◌∙◌, subst}
+use Rattle.std.proofs.Common.{◌≡◌, ℕ, Bool, true, false, List, refl, sym, ap, subst}
 use Rattle.target_base.specs.declared.types.Target.{Target}
 use Rattle.mir_func.specs.Value.{Function}
-use Rattle.mir_meaning.specs.Paths.{Code}
-use Rattle.live_lanes.specs.declared.row.End.{End}
 use Rattle.live_lanes.specs.declared.row.Row.{Row}
 use Rattle.live_lanes.specs.declared.table.Table.{Table}
-use Rattle.live_lanes.specs.Graph.{Causes, IsGrown}
+use Rattle.live_lanes.specs.Graph.{IsGrown}
 use Rattle.live_lanes.specs.Table.{cause_in, end_in}
-use Rattle.live_lanes.specs.Entered.{causes, IsTableOf}
+use Rattle.live_lanes.specs.Entered.{causes}
 use Rattle.live_lanes.specs.Ends.{IsEnd, row_end, AreEnds}
 use Rattle.live_lanes.specs.Laws.{AllMatched}
 use Rattle.live_lanes.specs.Doing.{IsComputed}

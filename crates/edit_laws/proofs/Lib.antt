@@ -11,3 +11,5 @@ pub mod Ended
 pub mod Kept
 pub mod Codes
 pub mod Tables
+pub mod Composed
+pub mod Chains

@@ -6,11 +6,10 @@ use Rattle.target_base.specs.declared.types.Target.{Target}
 use Rattle.meaning.specs.declared.types.Lane.{Lane}
 use Rattle.meaning.specs.declared.types.Lane.TheVariants.{SlotLane}
 use Rattle.meaning.specs.Code.{Code, Edge, Item}
-use Rattle.meaning.specs.Live.{Among, here, there, exits_of, in_order, writes_of, Feeds, Live, read, next, leap, phi, store, kept, LiveAfter, after_next, after_leap, after_phi, Writing, WritingEarly, OccupiedBefore, OccupiedAfter}
+use Rattle.meaning.specs.Live.{Among, here, there, exits_of, writes_of, Feeds, Live, read, next, leap, phi, store, kept, LiveAfter, after_next, after_leap, after_phi, Writing, WritingEarly, OccupiedBefore, OccupiedAfter}
 use Rattle.mir_func.specs.declared.func.Block.{Block}
 use Rattle.mir_func.specs.declared.func.Instr.{Instr}
 use Rattle.mir_func.specs.Value.{Function}
-use Rattle.mir_func.specs.Binding.{does, is_terminator}
 use Rattle.mir_meaning.specs.Codes.{block_end, blocks_code, ways_out}
 use Rattle.mir_meaning.specs.Registers.{is_reserved}
 use Rattle.mir_meaning.specs.Points.{AtFirst, from_instr, point_item, points_of}
@@ -19,7 +18,7 @@ use Rattle.edit_laws.specs.Named.{Copies, Names, reads, copies, writes}
 use Rattle.edit_laws.specs.Edits.{Stands, IsPlain}
 use Rattle.edit_laws.specs.Laws.{PassingLaw}
 use Rattle.edit_laws.proofs.Beside.{feeds-case, kept-copy, kept-or-written, stored}
-use Rattle.edit_laws.proofs.Shell.{exits-are, is-plain}
+use Rattle.edit_laws.proofs.Shell.{exits-are}
 use Rattle.edit_laws.proofs.Aligned.{rest_from, rest-is}
 
 module _ (reserved : Lane → Bool) (code : Code) where

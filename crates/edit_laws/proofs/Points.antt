@@ -1,11 +1,11 @@
 -- Points of two functions whose codes differ at items that name some lanes alone.
-use Rattle.std.proofs.Common.{◌≡◌, ◌⊎◌, ℕ}
+use Rattle.std.proofs.Common.{◌⊎◌, ℕ}
 use Rattle.target_base.specs.declared.types.Target.{Target}
 use Rattle.meaning.specs.declared.types.Lane.{Lane}
-use Rattle.meaning.specs.Code.{Code, found}
+use Rattle.meaning.specs.Code.{found}
 use Rattle.mir_func.specs.Value.{Function}
 use Rattle.mir_meaning.specs.Registers.{is_reserved}
-use Rattle.mir_meaning.specs.Points.{Point, Start, Entry, Exit, LiveAt, from_instr, points_of}
+use Rattle.mir_meaning.specs.Points.{Start, Entry, Exit, LiveAt, from_instr, points_of}
 use Rattle.edit_laws.specs.Laws.{IsSameBut}
 use Rattle.edit_laws.proofs.Beside.{Beside, Facing, facing-beside, facing-turned, found-beside, still, still-entry-held, still-exit, still-exit-held, turned}
 

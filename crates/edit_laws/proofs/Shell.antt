@@ -1,23 +1,19 @@
 -- What an instruction does to lanes depends on the function by the classes of its ranges alone.
-use Rattle.std.proofs.Common.{◌≡◌, ◌∷◌, ◌++◌, ◌&&◌, ◌∙◌, not, ℕ, suc, ◌+◌, Bool, true, false, cond, List, [], Option, Some, None, refl, sym, ap, map, filter, filter_map, flat_map, sum, length}
+use Rattle.std.proofs.Common.{◌≡◌, ◌∷◌, ◌++◌, ◌&&◌, ◌∙◌, not, ℕ, ◌+◌, Bool, true, false, cond, List, [], Option, Some, None, refl, sym, ap, map, filter, filter_map, flat_map, sum, length}
 use Rattle.std.specs.Prelude.{ℤ, nat_eq, nat_abs, slice_get, slice_index}
-use Rattle.target_base.specs.declared.types.ClassId.{ClassId}
 use Rattle.target_base.specs.declared.types.Effect.{Effect}
 use Rattle.target_base.specs.declared.types.Effect.TheVariants as effects
 use Rattle.target_base.specs.declared.types.IndexId.{IndexId}
-use Rattle.target_base.specs.declared.types.OpaqueKind.{OpaqueKind}
 use Rattle.target_base.specs.declared.types.Role.{Role}
 use Rattle.target_base.specs.declared.types.Target.{Target}
 use Rattle.target_base.specs.Registers.{lanes_of, widths_of_some}
 use Rattle.target_base.specs.Roles.{is_silent}
 use Rattle.target_base.specs.Rules.{is_phi}
 use Rattle.meaning.specs.declared.types.Constant.{Constant}
-use Rattle.meaning.specs.declared.types.Lane.{Lane}
 use Rattle.meaning.specs.declared.types.Lane.TheVariants.{VirtualLane}
 use Rattle.meaning.specs.declared.types.Source.{Source}
 use Rattle.meaning.specs.declared.types.Source.TheVariants.{FromLane, Undef}
 use Rattle.meaning.specs.Code.{Item, Silent, Counted, Edge}
-use Rattle.meaning.specs.Lanes.{Writes, Reads}
 use Rattle.meaning.specs.Live.{reads_of, writes_of, exits_of, in_order}
 use Rattle.meaning.specs.Perform.{condition_lane}
 use Rattle.mir_func.specs.declared.func.Block.{Block}

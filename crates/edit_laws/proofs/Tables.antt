@@ -1,5 +1,5 @@
 -- A table that was computed for a function is computed for the edited one where the touched lanes are right.
-use Rattle.std.proofs.Common.{◌≡◌, sym, subst}
+use Rattle.std.proofs.Common.{sym, subst}
 use Rattle.instr_effects.specs.Numbered.{number_in}
 use Rattle.live_lanes.specs.Doing.{lane_code}
 use Rattle.live_laws.proofs.Exact.Inside.{all}

@@ -1,5 +1,5 @@
 -- The worked rows.
-use Rattle.std.proofs.Common.{◌≡◌, ◌∷◌, ◌&&◌, ◌||◌, ◌∙◌, not, ℕ, Bool, true, false, List, [], Option, Some, None, refl, sym, ap, subst}
+use Rattle.std.proofs.Common.{◌≡◌, ◌∷◌, ◌&&◌, ◌||◌, ◌∙◌, not, ℕ, Bool, true, false, List, [], refl, sym, ap}
 use Rattle.std.specs.Prelude.{nat_eq}
 use Rattle.std.specs.List.{list_all}
 use Rattle.std.proofs.lemmas.Bool.{and_parts, eq-eqb}
@@ -19,7 +19,7 @@ use Rattle.mir_func.specs.declared.func.Instr.{Instr}
 use Rattle.mir_func.specs.Value.{Function}
 use Rattle.mir_meaning.specs.Codes.{item_of}
 use Rattle.mir_meaning.specs.Points.{point_item}
-use Rattle.edit_laws.specs.Named.{Copies, Names, reads, copies, writes, IsOneLane, itself, at_width, Leads, is_one, copied}
+use Rattle.edit_laws.specs.Named.{Names, reads, copies, writes, IsOneLane, itself, at_width, is_one, copied}
 use Rattle.edit_laws.specs.Edits.{Edit, Erase, edited, edited_id, Stands, Touches, before, after}
 use Rattle.edit_laws.specs.Laws.{LeadsToEdit}
 use Rattle.edit_laws.specs.Rows.{sample, answer_other, EditsMake, StoreGoes, AnswerChanges}

@@ -6,3 +6,4 @@ pub mod Steps
 pub mod Kept
 pub mod Codes
 pub mod Tables
+pub mod Chains

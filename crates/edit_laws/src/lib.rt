@@ -2,5 +2,6 @@
 //! lanes stays right.
 #![tactic(auto)]
 
+pub mod chain_laws;
 pub mod point_laws;
 pub mod table_laws;
