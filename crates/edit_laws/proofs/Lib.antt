@@ -1,0 +1,15 @@
+pub mod Beside
+pub mod Shell
+pub mod Aligned
+pub mod Placed
+pub mod Points
+pub mod Edited
+pub mod Passing
+pub mod Worked
+pub mod Grown
+pub mod Ended
+pub mod Kept
+pub mod Codes
+pub mod Tables
+pub mod Composed
+pub mod Chains
