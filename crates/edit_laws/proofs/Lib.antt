@@ -13,3 +13,4 @@ pub mod Codes
 pub mod Tables
 pub mod Composed
 pub mod Chains
+pub mod Numbers

@@ -7,3 +7,4 @@ pub mod Kept
 pub mod Codes
 pub mod Tables
 pub mod Chains
+pub mod Numbers

@@ -3,6 +3,7 @@
 
 ghost use Rattle.edit_laws.specs.Codes.{AllCodesLaw, CodesLaw};
 ghost use Rattle.edit_laws.specs.Kept.{KeptLaw};
+ghost use Rattle.edit_laws.specs.Numbers.{NumbersLaw};
 ghost use Rattle.edit_laws.specs.Steps.{EndsLaw, GrownLaw};
 ghost use Rattle.edit_laws.specs.Tables.{AllTableLaw, TableLaw};
 
@@ -41,4 +42,9 @@ pub fn table_law()
 /// The same of edits one after the other.
 pub fn all_table_law()
     ensures { AllTableLaw }
+{}
+
+/// A computed table stays so where more lanes get numbers, by which instructions do what they did.
+pub fn numbers_law()
+    ensures { NumbersLaw }
 {}
