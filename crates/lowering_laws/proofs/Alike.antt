@@ -1,19 +1,16 @@
 -- Instructions that are alike in both functions, before and behind the copies into incoming registers.
-use Rattle.std.proofs.Common.{◌≡◌, ◌⊎◌, inl, inr, ◌∷◌, ◌++◌, ◌∙◌, ◌||◌, ◌≤◌, ℕ, Bool, true, false, cond, List, Option, Some, None, map, filter, refl, sym, ap, subst, append-nil, []}
-use Rattle.std.specs.Prelude.{option_map, nat_lt, ◌==◌}
+use Rattle.std.proofs.Common.{◌≡◌, ◌⊎◌, inl, inr, ◌∷◌, ◌∙◌, ℕ, Bool, true, false, cond, List, Option, Some, None, map, refl, sym, ap, subst, []}
+use Rattle.std.specs.Prelude.{option_map}
 use Rattle.target_base.specs.declared.types.Effect.{Effect}
 use Rattle.target_base.specs.declared.types.Effect.TheVariants as effects
 use Rattle.target_base.specs.declared.types.Target.{Target}
 use Rattle.target_base.specs.Roles.{is_silent}
-use Rattle.meaning.specs.Code.{BlockEnd, BlockStart, Counted, Edge, Item, Silent}
-use Rattle.meaning.specs.Lanes.{Reads, Writes, filled, same_lane, settled, through}
-use Rattle.meaning.specs.Live.{Among, here, there}
-use Rattle.meaning.specs.Relations.{AlikeFill, AlikeOperands, Rel, Within, after_both, after_first, after_second}
+use Rattle.meaning.specs.Code.{Counted, Item, Silent}
+use Rattle.meaning.specs.Lanes.{Reads, Writes, settled, through}
+use Rattle.meaning.specs.Relations.{AlikeFill, Rel, Within, after_both, after_first, after_second}
 use Rattle.meaning.specs.Rows.{first_edges, first_target, second_edges, second_target}
-use Rattle.meaning.specs.declared.types.Constant.{Constant}
 use Rattle.meaning.specs.declared.types.Fill.{Fill}
 use Rattle.meaning.specs.declared.types.Fill.TheVariants.{Computed, Moved}
-use Rattle.meaning.specs.declared.types.Lane.{Lane}
 use Rattle.meaning.specs.declared.types.Lane.TheVariants.{SlotLane, UnitLane, VirtualLane}
 use Rattle.meaning.specs.declared.types.Rest.{Rest}
 use Rattle.meaning.specs.declared.types.Source.{Source}

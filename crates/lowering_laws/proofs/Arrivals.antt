@@ -1,7 +1,7 @@
 -- The copies into incoming registers at the end of a block: which of them gives a register its value.
-use Rattle.std.proofs.Common.{◌≡◌, ◌⊎◌, inl, inr, ◌∷◌, ◌++◌, ◌∙◌, ◌&&◌, ◌||◌, not, ◌+◌, ◌≤◌, ◌<◌, ℕ, zero, suc, Bool, true, false, cond, List, Option, Some, None, map, filter, flat_map, length, drop, refl, sym, ap, subst, append_assoc, append-nil, length-append, eqb-true, eq-eqb, arith, []}
+use Rattle.std.proofs.Common.{◌≡◌, ◌∷◌, ◌++◌, ◌∙◌, ◌||◌, not, ◌+◌, ◌≤◌, ◌<◌, ℕ, suc, Bool, true, false, cond, List, Option, Some, map, filter, flat_map, length, drop, refl, sym, ap, subst, append_assoc, append-nil, length-append, eqb-true, eq-eqb, arith, []}
 use Rattle.std.specs.Prelude.{nat_eq, nat_lt, slice_get, ◌==◌}
-use Rattle.std.specs.List.{list_any, position_or_len}
+use Rattle.std.specs.List.{list_any}
 use Rattle.std.proofs.lemmas.Bool.{ltb-true}
 use Rattle.std.proofs.lemmas.List.Sums.{sum_by-cons}
 use Rattle.target_base.specs.declared.types.ClassId.{ClassId}
@@ -9,9 +9,8 @@ use Rattle.target_base.specs.declared.types.Target.{Target}
 use Rattle.target_base.specs.Names.{are_distinct_numbers}
 use Rattle.target_base.specs.Rules.{is_phi}
 use Rattle.target_base.proofs.Tests.{first_of_both, second_of_both}
-use Rattle.meaning.specs.Lanes.{Writes, filled, settled, through}
+use Rattle.meaning.specs.Lanes.{Writes, settled, through}
 use Rattle.meaning.specs.Live.{Among, here, there}
-use Rattle.meaning.specs.declared.types.Fill.TheVariants.{Computed, Moved}
 use Rattle.meaning.specs.declared.types.Lane.{Lane}
 use Rattle.meaning.specs.declared.types.Lane.TheVariants.{SlotLane, UnitLane, VirtualLane}
 use Rattle.meaning.specs.declared.types.Source.{Source}
@@ -24,13 +23,13 @@ use Rattle.mir_func.specs.declared.func.Block.{Block}
 use Rattle.mir_func.specs.Value.{Function}
 use Rattle.mir_func.specs.Edits.{block_place}
 use Rattle.mir_func.specs.Binding.{does, registers}
-use Rattle.mir_meaning.specs.Registers.{has_number, numbers, range_lanes, range_widths, use_sources}
+use Rattle.mir_meaning.specs.Registers.{has_number, numbers, range_widths, use_sources}
 use Rattle.mir_meaning.specs.Items.{copied, defined, defined_undef, moved, undefined}
 use Rattle.mir_meaning.specs.Codes.{phi_pair}
 use Rattle.mir_meaning.specs.Rules.{block_of, is_virtual_use, phi_pairs}
 use Rattle.phi_elim.specs.declared.arrivals.Arrival.{Arrival}
 use Rattle.phi_elim.specs.Moves.{source_of, whole_definition}
-use Rattle.phi_elim.specs.Phis.{all_instrs, arrival, arrivals_in, arrivals_of, incoming_class, instr_arrivals, phi_count, phi_number, result_class}
+use Rattle.phi_elim.specs.Phis.{arrival, arrivals_in, arrivals_of, incoming_class, instr_arrivals, phi_count, phi_number, result_class}
 use Rattle.lowering_laws.proofs.Olds.{is_old, old_source}
 use Rattle.lowering_laws.proofs.Traced.{filled-free, is_lane_of, is_written, lanes_by, moved-apart, traced, traced-append, undefined-apart, written-append}
 

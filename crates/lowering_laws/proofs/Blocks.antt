@@ -1,6 +1,6 @@
 -- Phi elimination over all blocks: each is in step with what becomes of it.
-use Rattle.std.proofs.Common.{◌≡◌, ◌⊎◌, inl, inr, ◌∷◌, ◌++◌, ◌∙◌, ◌&&◌, ◌+◌, ◌≤◌, not, ℕ, suc, Bool, true, false, cond, List, Option, Some, None, map, filter, flat_map, length, refl, sym, ap, subst, []}
-use Rattle.std.specs.Prelude.{find, nat_eq, option_map, ◌==◌}
+use Rattle.std.proofs.Common.{◌≡◌, ◌⊎◌, inl, inr, ◌∷◌, ◌++◌, ◌∙◌, ◌&&◌, ◌+◌, not, ℕ, Bool, true, false, cond, List, Option, Some, None, map, filter, flat_map, length, refl, sym, ap, subst, []}
+use Rattle.std.specs.Prelude.{find, nat_eq, ◌==◌}
 use Rattle.std.specs.List.{list_all}
 use Rattle.target_base.specs.declared.types.IndexId.{IndexId}
 use Rattle.target_base.specs.declared.types.Target.{Target}
@@ -11,8 +11,8 @@ use Rattle.target_base.specs.Storage.{unit_width}
 use Rattle.meaning.specs.Code.{start_state}
 use Rattle.meaning.specs.Environment.{Environment}
 use Rattle.meaning.specs.Lanes.{Writes, filled, same_lane, settled, through}
-use Rattle.meaning.specs.Live.{Among, here, there}
-use Rattle.meaning.specs.Relations.{Rel, Within, along}
+use Rattle.meaning.specs.Live.{Among}
+use Rattle.meaning.specs.Relations.{Within}
 use Rattle.meaning.specs.State.{fetch}
 use Rattle.meaning.specs.declared.types.Lane.{Lane}
 use Rattle.meaning.specs.declared.types.Lane.TheVariants.{SlotLane, UnitLane, VirtualLane}
@@ -32,15 +32,15 @@ use Rattle.mir_func.specs.Value.{Function}
 use Rattle.mir_func.specs.Binding.{does, is_terminator, is_virtual, passes}
 use Rattle.mir_meaning.specs.Registers.{located_lanes, numbers, operand_lanes, range_widths, use_sources}
 use Rattle.mir_meaning.specs.Items.{copied, defined_undef, moved, undefined}
-use Rattle.mir_meaning.specs.Codes.{ends_without_terminator, fallen_into, falls_through, first_number, given_of, instrs_of, is_given, is_open, item_of, phi_operands, phi_writes, refines, way}
+use Rattle.mir_meaning.specs.Codes.{ends_without_terminator, fallen_into, falls_through, first_number, given_of, instrs_of, is_given, item_of, phi_operands, phi_writes, refines, way}
 use Rattle.mir_meaning.specs.Points.{has_no_phis}
 use Rattle.phi_elim.specs.declared.arrivals.Arrival.{Arrival}
 use Rattle.phi_elim.specs.Moves.{copy_of, copy_op, source_of, undefining, whole_definition}
 use Rattle.phi_elim.specs.Numbered.{blocks_numbered, numbered}
-use Rattle.phi_elim.specs.Phis.{all_in_place, all_instrs, arriving, arriving_at, before_terminators, from_incoming, in_place, lowered_blocks, phi_count, phi_number, phis_lowered}
+use Rattle.phi_elim.specs.Phis.{all_in_place, all_instrs, arriving, arriving_at, before_terminators, from_incoming, lowered_blocks, phi_count, phi_number, phis_lowered}
 use Rattle.lowering_laws.specs.Laws.{PhisAreGone}
 use Rattle.lowering_laws.proofs.Alike.{Behind, Equal, MovesRanges, is_ranged}
-use Rattle.lowering_laws.proofs.Arrivals.{ToFrom, all-kept, arrival_writes, left-alone, to-all, writes_at}
+use Rattle.lowering_laws.proofs.Arrivals.{all-kept, arrival_writes, left-alone, to-all, writes_at}
 use Rattle.lowering_laws.proofs.Chained.{BlocksStep, Enters, blocks-refine, done, more}
 use Rattle.lowering_laws.proofs.Classes.{AllNamed, among-cases, none-among, refines-widened}
 use Rattle.lowering_laws.proofs.Lowering.{K, NoPhis, Shape, Start, WayOn, arrs, body, bound, counter, ending, further, h, start-equal, way-in}

@@ -1,14 +1,13 @@
 -- Two functions whose blocks are in step by relations for the starts of blocks: the second refines the first.
-use Rattle.std.proofs.Common.{◌≡◌, ◌∷◌, ◌++◌, ◌∙◌, ℕ, Bool, true, false, cond, not, ◌&&◌, List, Option, Some, None, map, refl, sym, ap, subst, append_assoc, []}
+use Rattle.std.proofs.Common.{◌≡◌, ◌∷◌, ◌++◌, ◌∙◌, ℕ, Bool, true, false, cond, List, Option, Some, None, map, refl, sym, ap, subst, []}
 use Rattle.std.specs.Prelude.{option_map}
 use Rattle.target_base.specs.declared.types.Target.{Target}
-use Rattle.meaning.specs.Code.{BlockEnd, BlockStart, Code, Edge, Function as Meaning, start_state}
+use Rattle.meaning.specs.Code.{BlockEnd, BlockStart, start_state}
 use Rattle.meaning.specs.Environment.{Environment}
 use Rattle.meaning.specs.Lanes.{Writes}
 use Rattle.meaning.specs.Live.{Among, here, there}
-use Rattle.meaning.specs.Refines.{Refines}
-use Rattle.meaning.specs.Relations.{Everything, Rel, Within, after_first, after_second, along}
-use Rattle.meaning.specs.Rows.{first_edge, first_edges, first_falls, first_of_rows, second_edge, second_edges, second_falls, second_of_rows}
+use Rattle.meaning.specs.Relations.{Everything, Rel, Within, along}
+use Rattle.meaning.specs.Rows.{first_edges, first_falls, first_of_rows, second_edges, second_falls, second_of_rows}
 use Rattle.meaning.specs.declared.types.Row.{Row}
 use Rattle.meaning.specs.declared.types.Row.TheVariants.{BothEnd, BothStart}
 use Rattle.meaning.specs.declared.types.Ways.{Ways}
@@ -17,7 +16,7 @@ use Rattle.laws.proofs.Core.{Coupled, Exits, Plan, law_of_rows}
 use Rattle.mir_func.specs.declared.func.Block.{Block}
 use Rattle.mir_func.specs.declared.func.Edge.{Edge as Successor}
 use Rattle.mir_func.specs.Value.{Function}
-use Rattle.mir_meaning.specs.Codes.{block_end, blocks_code, code_of, fallen_into, first_number, given_of, item_of, meaning_of, refines, way, ways_out}
+use Rattle.mir_meaning.specs.Codes.{block_end, blocks_code, code_of, fallen_into, first_number, given_of, item_of, meaning_of, refines, way}
 use Rattle.lowering_laws.proofs.Stretches.{Stretch, first-append, second-append}
 
 -- the block into which a block falls is the next

@@ -1,5 +1,5 @@
 -- A function that has classes for further registers means what it meant.
-use Rattle.std.proofs.Common.{◌≡◌, ◌∷◌, ◌++◌, ◌∙◌, ◌⊎◌, inl, inr, ◌||◌, ◌&&◌, not, ℕ, zero, suc, Bool, true, false, cond, List, Option, Some, None, map, filter, flat_map, length, refl, sym, ap, subst, []}
+use Rattle.std.proofs.Common.{◌≡◌, ◌∷◌, ◌++◌, ◌∙◌, ◌⊎◌, inl, inr, ◌&&◌, ℕ, zero, suc, Bool, true, false, cond, List, Option, Some, None, map, filter, flat_map, length, refl, sym, ap, subst, []}
 use Rattle.std.specs.Prelude.{is_some, nat_eq, option_map, find, slice_get, slice_index}
 use Rattle.target_base.specs.declared.types.ClassId.{ClassId}
 use Rattle.target_base.specs.declared.types.Effect.{Effect}
@@ -8,10 +8,10 @@ use Rattle.target_base.specs.declared.types.IndexId.{IndexId}
 use Rattle.target_base.specs.declared.types.Target.{Target}
 use Rattle.target_base.specs.Registers.{lanes_of, widths_of_some}
 use Rattle.target_base.specs.Rules.{is_phi}
-use Rattle.meaning.specs.Code.{BlockEnd, BlockStart, Counted, Edge, Item, Silent, Function as Meaning}
-use Rattle.meaning.specs.Lanes.{Reads, Writes, placed}
+use Rattle.meaning.specs.Code.{BlockEnd, BlockStart, Counted, Item, Silent}
+use Rattle.meaning.specs.Lanes.{Reads, Writes}
 use Rattle.meaning.specs.Live.{Among, here, there}
-use Rattle.meaning.specs.Matched.{image, image_fill, renamed, renamed_reads, renamed_write}
+use Rattle.meaning.specs.Matched.{image, image_fill, renamed, renamed_reads}
 use Rattle.meaning.specs.Refines.{Refines}
 use Rattle.meaning.specs.declared.types.Fill.{Fill}
 use Rattle.meaning.specs.declared.types.Fill.TheVariants.{Computed, Moved}
@@ -19,7 +19,6 @@ use Rattle.meaning.specs.declared.types.Lane.{Lane}
 use Rattle.meaning.specs.declared.types.Lane.TheVariants.{VirtualLane}
 use Rattle.meaning.specs.declared.types.Source.{Source}
 use Rattle.meaning.specs.declared.types.Source.TheVariants.{Bits, FromLane, Undef}
-use Rattle.meaning.specs.declared.types.Write.{Write}
 use Rattle.mir_func.specs.declared.func.Loc.{Loc}
 use Rattle.mir_func.specs.declared.func.Loc.TheVariants.{Fixed, Virtual}
 use Rattle.mir_func.specs.declared.func.RegOp.{RegOp}
@@ -29,7 +28,7 @@ use Rattle.mir_func.specs.declared.func.Instr.{Instr}
 use Rattle.mir_func.specs.declared.func.Block.{Block}
 use Rattle.mir_func.specs.Value.{Function}
 use Rattle.mir_func.specs.Binding.{class_of, does, effect_of, passes, puts_together, registers, is_early_clobber, roles_of}
-use Rattle.mir_meaning.specs.Registers.{located_lanes, located_widths, numbers, operand_lanes, operand_widths, undefined_lanes, use_sources, whole_lanes}
+use Rattle.mir_meaning.specs.Registers.{located_lanes, located_widths, numbers, operand_lanes, undefined_lanes, use_sources, whole_lanes}
 use Rattle.mir_meaning.specs.Items.{defined, inserted, moved, parts, sequenced, silent_reads, silent_writes, undefined, uses}
 use Rattle.mir_meaning.specs.Codes.{block_end, blocks_code, code_of, effect_item, fallen_into, given_of, instrs_of, item_of, meaning_of, phi_operands, phi_pair, phi_writes, refines, way, ways_out}
 use Rattle.mir_meaning.specs.Renaming.{IsFixed, KeepsPlaces, Renames, RenamesAll, renamed_instr, renamed_item, renamed_operand}

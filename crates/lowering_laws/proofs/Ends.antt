@@ -1,14 +1,13 @@
 -- Terminators of a valid source: they write no virtual register, they alone name blocks, and these are successors.
-use Rattle.std.proofs.Common.{◌≡◌, ◌⊎◌, inl, inr, ◌∷◌, ◌++◌, ◌∙◌, ◌&&◌, ◌||◌, not, ℕ, zero, suc, Bool, true, false, cond, List, Option, Some, None, map, filter, length, drop, take, refl, sym, ap, subst, []}
-use Rattle.std.specs.Prelude.{count_by, flat_map, nat_eq, option_to_list, slice_get}
-use Rattle.std.specs.List.{list_all, list_any}
+use Rattle.std.proofs.Common.{◌≡◌, ◌⊎◌, inl, inr, ◌∷◌, ◌++◌, ◌∙◌, ◌&&◌, ◌||◌, not, ℕ, zero, suc, Bool, true, false, cond, List, Option, Some, None, filter, length, drop, take, refl, sym, ap, subst, []}
+use Rattle.std.specs.Prelude.{count_by, nat_eq, option_to_list, slice_get}
+use Rattle.std.specs.List.{list_any}
 use Rattle.std.proofs.lemmas.Bool.{and_right, or_parts}
 use Rattle.target_base.specs.declared.types.ClassDesc.{ClassDesc}
 use Rattle.target_base.specs.declared.types.Effect.{Effect}
 use Rattle.target_base.specs.declared.types.Effect.TheVariants as effects
 use Rattle.target_base.specs.declared.types.OpaqueKind.{OpaqueKind}
 use Rattle.target_base.specs.declared.types.OpaqueKind.TheVariants as kinds
-use Rattle.target_base.specs.declared.types.OpcodeDesc.{OpcodeDesc}
 use Rattle.target_base.specs.declared.types.Role.{Role}
 use Rattle.target_base.specs.declared.types.Role.TheVariants as roles
 use Rattle.target_base.specs.declared.types.Target.{Target}
@@ -26,14 +25,14 @@ use Rattle.mir_func.specs.declared.func.Operand.TheVariants as operands
 use Rattle.mir_func.specs.declared.func.Instr.{Instr}
 use Rattle.mir_func.specs.declared.func.Block.{Block}
 use Rattle.mir_func.specs.Value.{Function}
-use Rattle.mir_func.specs.Binding.{definitions, does, effect_of, explicit_operands, explicit_roles, implicit_roles, is_branch, is_conditional, is_implicit_operand, is_terminator, passes, roles_of}
+use Rattle.mir_func.specs.Binding.{definitions, does, effect_of, explicit_operands, explicit_roles, is_branch, is_implicit_operand, is_terminator, passes, roles_of}
 use Rattle.mir_meaning.specs.Registers.{has_number}
-use Rattle.mir_meaning.specs.Items.{all_lanes, computed, counted_writes, defined_lanes, further_writes, implicit_definitions, implicit_writes, opaque_clobbers, opaque_implicit, results, undefined, unreserved}
+use Rattle.mir_meaning.specs.Items.{all_lanes, computed, counted_writes, defined_lanes, further_writes, implicit_definitions, results, undefined, unreserved}
 use Rattle.mir_meaning.specs.Codes.{effect_item, ends_without_terminator, fallen_into, falls_through, first_number, is_open, item_of, target_of}
 use Rattle.mir_meaning.specs.Rules.{V1, V8, V9, block_of, branch_targets, copy_fits, fits_at, implicit_def_fits, index_pairs, insertion, is_opaque, is_virtual_use, lists_once, named_blocks, operands_fit, result_and, successors_of}
 use Rattle.instr_effects.specs.Acts.{effect_acts, entered_writes}
 use Rattle.instr_effects.proofs.Members.{either-elim, filter-in, filter-of, flat-in, flat-of, in-either, left-in, member-elim, member-none, right-in}
-use Rattle.live_laws.proofs.Effects.Blocks.{member-slice, number-there, number-in, slice-member}
+use Rattle.live_laws.proofs.Effects.Blocks.{member-slice}
 use Rattle.live_laws.proofs.Effects.Lists.{all-of}
 use Rattle.live_laws.proofs.Effects.Moved.{undefined-in, undefined-lane}
 use Rattle.live_laws.proofs.Effects.Moving.{some-same}

@@ -16,3 +16,4 @@ pub mod PhisOn
 pub mod Ends
 pub mod Sources
 pub mod Steps
+pub mod Replaced

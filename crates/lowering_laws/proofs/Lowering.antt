@@ -1,20 +1,16 @@
 -- Phi elimination keeps the meaning, by what it rests on: blocks in step, instruction by instruction.
-use Rattle.std.proofs.Common.{◌≡◌, ◌⊎◌, inl, inr, ◌∷◌, ◌++◌, ◌∙◌, ◌&&◌, ◌||◌, ◌+◌, ◌≤◌, not, ℕ, suc, Bool, true, false, cond, List, Option, Some, None, map, filter, flat_map, length, refl, sym, ap, subst, []}
-use Rattle.std.specs.Prelude.{find, nat_eq, nat_lt, option_map, ◌==◌}
+use Rattle.std.proofs.Common.{◌≡◌, ◌⊎◌, inl, inr, ◌∷◌, ◌++◌, ◌∙◌, ◌+◌, ℕ, true, false, cond, List, Option, Some, None, map, filter, flat_map, length, refl, sym, ap, subst, []}
+use Rattle.std.specs.Prelude.{nat_eq, option_map, ◌==◌}
 use Rattle.target_base.specs.declared.types.ClassId.{ClassId}
-use Rattle.target_base.specs.declared.types.Effect.{Effect}
 use Rattle.target_base.specs.declared.types.Target.{Target}
 use Rattle.target_base.specs.Rules.{is_phi}
 use Rattle.meaning.specs.Code.{Code, Counted, Silent}
-use Rattle.meaning.specs.Environment.{Environment}
 use Rattle.meaning.specs.Lanes.{Writes, settled, through}
-use Rattle.meaning.specs.Live.{Among, here, there, reads_of, writes_of}
+use Rattle.meaning.specs.Live.{Among, reads_of, writes_of}
 use Rattle.meaning.specs.Relations.{Rel, Within, after_both, after_first, after_second, along}
 use Rattle.meaning.specs.Rows.{first_edges, first_target, second_edges, second_target}
-use Rattle.meaning.specs.declared.types.Lane.{Lane}
-use Rattle.meaning.specs.declared.types.Lane.TheVariants.{SlotLane, UnitLane, VirtualLane}
+use Rattle.meaning.specs.declared.types.Lane.TheVariants.{VirtualLane}
 use Rattle.meaning.specs.declared.types.Source.{Source}
-use Rattle.meaning.specs.declared.types.Source.TheVariants.{Bits, FromLane, Undef}
 use Rattle.meaning.specs.declared.types.Ways.{Ways}
 use Rattle.laws.proofs.Core.{Exits, Plan, Reaches}
 use Rattle.mir_func.specs.declared.func.Edge.{Edge as Successor}
@@ -24,17 +20,16 @@ use Rattle.mir_func.specs.declared.func.Block.{Block}
 use Rattle.mir_func.specs.Value.{Function}
 use Rattle.mir_func.specs.Binding.{does, is_terminator, puts_together}
 use Rattle.mir_meaning.specs.Items.{copied}
-use Rattle.mir_meaning.specs.Codes.{fallen_into, first_number, instrs_of, item_of, phi_operands, phi_writes, refines, target_of, way, ways_out}
+use Rattle.mir_meaning.specs.Codes.{instrs_of, item_of, target_of, way, ways_out}
 use Rattle.phi_elim.specs.declared.arrivals.Arrival.{Arrival}
 use Rattle.phi_elim.specs.Moves.{copy_op}
-use Rattle.phi_elim.specs.Numbered.{blocks_numbered, numbered}
-use Rattle.phi_elim.specs.Phis.{all_in_place, all_instrs, arrivals_in, arriving, arriving_at, before_terminators, from_incoming, in_place, incoming_class, lowered_block, lowered_blocks, phi_count, phi_number, phis_lowered}
+use Rattle.phi_elim.specs.Phis.{all_in_place, all_instrs, arrivals_in, arriving, arriving_at, from_incoming, in_place, incoming_class, phi_count, phi_number, phis_lowered}
 use Rattle.lowering_laws.proofs.Alike.{Behind, CountedPart, Equal, MovesRanges, SilentPart, behind-stays, both-ending, both-plain, both-silent, counted-of, parts-of}
 use Rattle.lowering_laws.proofs.Arrivals.{arrival_writes, writes_at}
-use Rattle.lowering_laws.proofs.Chained.{BlockStep, BlocksStep, blocks-refine, both-ways, done, ends-ways, exits-within, first-ways, more, second-ways}
-use Rattle.lowering_laws.proofs.Classes.{AllNamed, AreNamed, among-cases, item-stays, none-among, widened}
+use Rattle.lowering_laws.proofs.Chained.{both-ways, ends-ways, exits-within, first-ways, second-ways}
+use Rattle.lowering_laws.proofs.Classes.{AllNamed, AreNamed, item-stays, widened}
 use Rattle.lowering_laws.proofs.Olds.{AllOld, ReadsOld, old_source, reads-are-old, writes-are-old}
-use Rattle.lowering_laws.proofs.Placed.{arriving-goes-on, arriving-item, before-set, copy-goes-on, copy-item, numbered-items, phi-goes-on, phi-item, set_before}
+use Rattle.lowering_laws.proofs.Placed.{arriving-item, copy-goes-on, copy-item, phi-item, set_before}
 use Rattle.lowering_laws.proofs.Same.{arrival-alike, copied-alike}
 use Rattle.lowering_laws.proofs.Stretches.{Stretch, along-more, first-silent, joined, lessened, nothing, second-silent, strengthened}
 use Rattle.lowering_laws.proofs.Traced.{is_written, second-silents, silents, settled-none, traced}
@@ -45,7 +40,7 @@ abbrev pub counter : Target → ℕ → List Block → ℕ → ℕ
 counter t c [] m = c
 counter t c (b ∷ bs) m = cond (nat_eq b.number m) c (counter t (c + phi_count t b.instrs) bs m)
 
-map-append : {A B : Type 0} (g : A → B) (xs ys : List A) → map g (xs ++ ys) ≡ map g xs ++ map g ys
+pub map-append : {A B : Type 0} (g : A → B) (xs ys : List A) → map g (xs ++ ys) ≡ map g xs ++ map g ys
 map-append g [] ys = refl
 map-append g (x ∷ xs) ys = ap (λ zs. g x ∷ zs) (map-append g xs ys)
 

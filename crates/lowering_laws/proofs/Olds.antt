@@ -1,6 +1,6 @@
 -- What instructions give to lanes stands in lanes of registers that have classes.
-use Rattle.std.proofs.Common.{◌≡◌, ◌⊎◌, inl, inr, ◌∷◌, ◌++◌, ◌∙◌, ◌&&◌, ◌||◌, not, ℕ, zero, suc, Bool, true, false, cond, List, Option, Some, None, map, filter, length, refl, sym, ap, subst, []}
-use Rattle.std.specs.Prelude.{is_some, nat_eq, nat_lt, slice_get}
+use Rattle.std.proofs.Common.{◌≡◌, ◌⊎◌, inl, inr, ◌∷◌, ◌++◌, ◌∙◌, ◌&&◌, ℕ, Bool, true, false, cond, List, Option, Some, None, map, length, refl, sym, ap, subst, []}
+use Rattle.std.specs.Prelude.{is_some, nat_lt, slice_get}
 use Rattle.std.proofs.lemmas.Bool.{lt-ltb}
 use Rattle.std.proofs.lemmas.Option.{slice_get_within}
 use Rattle.target_base.specs.declared.types.ClassId.{ClassId}
@@ -30,11 +30,11 @@ use Rattle.mir_func.specs.declared.func.Operand.TheVariants as operands
 use Rattle.mir_func.specs.declared.func.Instr.{Instr}
 use Rattle.mir_func.specs.declared.func.Block.{Block}
 use Rattle.mir_func.specs.Value.{Function}
-use Rattle.mir_func.specs.Binding.{class_of, does, effect_of, is_early_clobber, passes, puts_together, registers, roles_of}
+use Rattle.mir_func.specs.Binding.{class_of, does, effect_of, passes, puts_together}
 use Rattle.mir_meaning.specs.Registers.{located_lanes, numbers, operand_lanes, range_widths, undefined_lanes, unit_lanes, use_sources, whole_lanes}
-use Rattle.mir_meaning.specs.Items.{inserted, moved, parts, sequenced, silent_reads, silent_writes, undefined}
+use Rattle.mir_meaning.specs.Items.{inserted, moved, parts, sequenced, undefined}
 use Rattle.mir_meaning.specs.Codes.{effect_item, item_of}
-use Rattle.mir_meaning.specs.Renaming.{IsFixed, KeepsPlaces, Renames, RenamesAll, renamed_instr, renamed_item}
+use Rattle.mir_meaning.specs.Renaming.{Renames, RenamesAll, renamed_item}
 use Rattle.mir_meaning.specs.Rules.{has_class}
 use Rattle.mir_meaning.proofs.Renaming.{law_of_renaming}
 use Rattle.lowering_laws.proofs.Classes.{AreNamed, IsNamed, among-cases, instr-same, none-among, same-operand}

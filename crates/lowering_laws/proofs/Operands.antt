@@ -1,7 +1,6 @@
 -- What the rules say of operands: registers have classes, implicit ones are physical, phis have their shape.
-use Rattle.std.proofs.Common.{◌≡◌, ◌⊎◌, inl, inr, ◌∷◌, ◌++◌, ◌∙◌, ◌&&◌, ◌≤◌, not, ℕ, zero, suc, Bool, true, false, cond, List, Option, Some, None, map, filter, flat_map, length, refl, sym, ap, subst, arith, []}
+use Rattle.std.proofs.Common.{◌≡◌, ◌∷◌, ◌∙◌, ◌&&◌, ◌≤◌, not, ℕ, suc, Bool, true, false, List, Option, Some, None, map, length, refl, sym, ap, arith, []}
 use Rattle.std.specs.Prelude.{is_none, option_map, slice_index}
-use Rattle.std.specs.List.{list_all}
 use Rattle.target_base.specs.declared.types.Effect.{Effect}
 use Rattle.target_base.specs.declared.types.Effect.TheVariants as effects
 use Rattle.target_base.specs.declared.types.IndexId.{IndexId}
@@ -13,7 +12,6 @@ use Rattle.target_base.specs.Rules.{is_phi}
 use Rattle.target_base.proofs.Tests.{first_of_both, second_of_both}
 use Rattle.meaning.specs.Live.{Among, here, there}
 use Rattle.meaning.specs.declared.types.Lane.TheVariants.{VirtualLane}
-use Rattle.meaning.specs.declared.types.Source.TheVariants.{FromLane, Undef}
 use Rattle.mir_func.specs.declared.func.Loc.{Loc}
 use Rattle.mir_func.specs.declared.func.Loc.TheVariants.{Fixed, Virtual}
 use Rattle.mir_func.specs.declared.func.RegOp.{RegOp}
@@ -23,16 +21,15 @@ use Rattle.mir_func.specs.declared.func.Instr.{Instr}
 use Rattle.mir_func.specs.declared.func.Block.{Block}
 use Rattle.mir_func.specs.Value.{Function}
 use Rattle.mir_func.specs.Binding.{does, effect_of, implicit_registers, is_definition, is_use, is_virtual, passes, registers}
-use Rattle.mir_meaning.specs.declared.Form.TheVariants as forms
 use Rattle.mir_meaning.specs.Registers.{located_lanes, located_widths, numbers, operand_lanes, operand_widths, range_widths}
 use Rattle.mir_meaning.specs.Renaming.{IsFixed}
-use Rattle.mir_meaning.specs.Rules.{V1, V2, V3, copy_fits, has_class, has_lanes, implicit_def_fits, index_pairs, insertion, is_virtual_use, is_whole_definition, operands_fit, phi_pairs, result_and, same_widths, widths_fit}
+use Rattle.mir_meaning.specs.Rules.{V3, copy_fits, has_class, has_lanes, implicit_def_fits, index_pairs, insertion, is_virtual_use, is_whole_definition, operands_fit, phi_pairs, result_and, same_widths, widths_fit}
 use Rattle.instr_effects.proofs.Members.{filter-in, member-elim, member-none}
 use Rattle.live_laws.specs.Effects.Shaped.{IsShaped}
 use Rattle.live_laws.proofs.Effects.Lists.{all-of}
 use Rattle.live_laws.proofs.Effects.Shapes.{lanes-there, same-lanes, widths-of}
 use Rattle.live_laws.proofs.Touch.Effects.{numbers-long}
-use Rattle.live_laws.proofs.Touch.Roles.{Fit, fit-by, has_roles, met}
+use Rattle.live_laws.proofs.Touch.Roles.{Fit, fit-by, met}
 use Rattle.lowering_laws.proofs.Classes.{IsNamed}
 use Rattle.lowering_laws.proofs.Ruled.{InstrRules}
 

@@ -1,7 +1,7 @@
 -- On each way of a valid source its phis are given what the copies behind lowering give.
-use Rattle.std.proofs.Common.{◌≡◌, ◌⊎◌, inl, inr, ◌∷◌, ◌++◌, ◌∙◌, ◌&&◌, ◌||◌, ◌+◌, ◌≤◌, not, ℕ, suc, Bool, true, false, cond, List, Option, Some, None, map, filter, flat_map, length, drop, take, refl, sym, ap, subst, append-nil, eqb-true, eq-eqb, arith, []}
-use Rattle.std.specs.Prelude.{find, nat_eq, nat_lt, slice_get, ◌==◌}
-use Rattle.std.specs.List.{list_all, list_any}
+use Rattle.std.proofs.Common.{◌≡◌, ◌⊎◌, inl, inr, ◌∷◌, ◌++◌, ◌∙◌, ◌&&◌, ◌||◌, ◌+◌, ◌≤◌, not, ℕ, suc, Bool, true, false, cond, List, Option, Some, None, map, filter, flat_map, length, drop, refl, sym, ap, subst, append-nil, eqb-true, arith, []}
+use Rattle.std.specs.Prelude.{find, nat_eq, slice_get, ◌==◌}
+use Rattle.std.specs.List.{list_any}
 use Rattle.target_base.specs.declared.types.ClassId.{ClassId}
 use Rattle.target_base.specs.declared.types.Target.{Target}
 use Rattle.target_base.specs.Names.{are_distinct_numbers}
@@ -16,31 +16,27 @@ use Rattle.meaning.specs.declared.types.Lane.{Lane}
 use Rattle.meaning.specs.declared.types.Lane.TheVariants.{VirtualLane}
 use Rattle.meaning.specs.declared.types.Source.{Source}
 use Rattle.meaning.specs.declared.types.Source.TheVariants.{FromLane, Undef}
-use Rattle.mir_func.specs.declared.func.Edge.{Edge as Successor}
 use Rattle.mir_func.specs.declared.func.Loc.TheVariants.{Virtual}
 use Rattle.mir_func.specs.declared.func.RegOp.{RegOp}
-use Rattle.mir_func.specs.declared.func.Operand.{Operand}
 use Rattle.mir_func.specs.declared.func.Operand.TheVariants as operands
 use Rattle.mir_func.specs.declared.func.Instr.{Instr}
 use Rattle.mir_func.specs.declared.func.Block.{Block}
 use Rattle.mir_func.specs.Value.{Function}
 use Rattle.mir_func.specs.Binding.{class_of, does, registers}
-use Rattle.mir_meaning.specs.declared.Form.TheVariants as forms
 use Rattle.mir_meaning.specs.Registers.{has_number, located_lanes, numbers, operand_lanes, range_lanes, range_widths, undefined_lanes, use_sources, whole_lanes}
 use Rattle.mir_meaning.specs.Items.{copied, defined, defined_undef, moved, undefined}
-use Rattle.mir_meaning.specs.Codes.{instrs_of, phi_operands, phi_pair, phi_writes}
-use Rattle.mir_meaning.specs.Rules.{V7, block_numbers, block_of, has_class, lists_once, named_blocks, phi_stands, predecessors, successors_of}
-use Rattle.phi_elim.specs.declared.arrivals.Arrival.{Arrival}
+use Rattle.mir_meaning.specs.Codes.{instrs_of, phi_operands}
+use Rattle.mir_meaning.specs.Rules.{V7, block_of, has_class, lists_once, named_blocks, phi_stands, predecessors, successors_of}
 use Rattle.phi_elim.specs.Moves.{source_of, whole_definition, whole_use}
-use Rattle.phi_elim.specs.Phis.{all_instrs, arrivals_of, from_incoming, incoming_class, located_class, phi_count, phi_number, result_class}
+use Rattle.phi_elim.specs.Phis.{all_instrs, arrivals_of, from_incoming, located_class, phi_count, phi_number, result_class}
 use Rattle.instr_effects.proofs.Members.{filter-in, map-in, member-elim, member-none}
-use Rattle.live_laws.proofs.Effects.Blocks.{number-in, slice-member}
+use Rattle.live_laws.proofs.Effects.Blocks.{slice-member}
 use Rattle.live_laws.proofs.Effects.Lists.{all-of}
 use Rattle.lowering_laws.specs.Laws.{first_register, number_of, phi_result}
 use Rattle.lowering_laws.proofs.Alike.{Behind}
 use Rattle.lowering_laws.proofs.Arrivals.{Arrived, IsPlace, PhiAt, arrival_writes, arrived, at-least, at-least-first, at-left, at-right, eqb-sym, first, in-all, incoming-at, later, writes_at}
-use Rattle.lowering_laws.proofs.Classes.{class-stays, lanes-stay, sources-stay, widened}
-use Rattle.lowering_laws.proofs.Lowering.{WayOn, arrs, bound, counter, ending, further, h}
+use Rattle.lowering_laws.proofs.Classes.{lanes-stay, sources-stay}
+use Rattle.lowering_laws.proofs.Lowering.{bound, counter, ending, further, h}
 use Rattle.lowering_laws.proofs.Olds.{class-old, old_source, use-old}
 use Rattle.lowering_laws.proofs.Operands.{PhiShape, named, phi-shape}
 use Rattle.lowering_laws.proofs.Ruled.{InstrRules}

@@ -1,7 +1,7 @@
 -- The instructions that lowering makes as items, and where they stand.
-use Rattle.std.proofs.Common.{◌≡◌, ◌⊎◌, inl, inr, ◌∷◌, ◌++◌, ◌∙◌, ◌&&◌, ◌||◌, ◌+◌, not, ℕ, zero, suc, Bool, true, false, cond, List, Option, Some, None, map, take, drop, length, refl, sym, ap, subst, append-nil, one-add, []}
+use Rattle.std.proofs.Common.{◌≡◌, ◌⊎◌, inl, inr, ◌∷◌, ◌++◌, ◌∙◌, ◌||◌, ◌+◌, not, ℕ, Bool, true, false, cond, List, Option, Some, None, map, take, drop, refl, sym, ap, append-nil, one-add, []}
 use Rattle.std.specs.Prelude.{option_map, pos, slice_get}
-use Rattle.std.specs.List.{list_all, position_or_len}
+use Rattle.std.specs.List.{position_or_len}
 use Rattle.target_base.specs.declared.types.Effect.{Effect}
 use Rattle.target_base.specs.declared.types.Effect.TheVariants as effects
 use Rattle.target_base.specs.declared.types.OpcodeDesc.{OpcodeDesc}
@@ -13,7 +13,6 @@ use Rattle.target_base.proofs.Sound.{opcodes_sound}
 use Rattle.meaning.specs.Code.{Counted, Item, Silent}
 use Rattle.meaning.specs.Live.{Among, here, there}
 use Rattle.mir_func.specs.declared.func.Operand.TheVariants as operands
-use Rattle.mir_func.specs.declared.func.Op.{Op}
 use Rattle.mir_func.specs.declared.func.Op.TheVariants as ops
 use Rattle.mir_func.specs.declared.func.Instr.{Instr}
 use Rattle.mir_func.specs.declared.func.Block.{Block}
@@ -26,7 +25,7 @@ use Rattle.phi_elim.specs.Moves.{copy_of, copy_op, implicit_def_op, source_of, u
 use Rattle.phi_elim.specs.Numbered.{numbered}
 use Rattle.phi_elim.specs.Phis.{all_in_place, arriving, before_terminators, from_incoming, in_place, phi_number}
 use Rattle.lowering_laws.proofs.Arrivals.{arrival_writes}
-use Rattle.lowering_laws.proofs.Classes.{among-cases, none-among}
+use Rattle.lowering_laws.proofs.Classes.{among-cases}
 
 -- COPY and IMPLICIT_DEF
 
@@ -198,22 +197,22 @@ module _ (t : Target) where
 
   -- what the last instruction says
 
-  abbrev last_lacks : (Instr → Bool) → List Instr → Bool
+  abbrev pub last_lacks : (Instr → Bool) → List Instr → Bool
   last_lacks p [] = true
   last_lacks p (i ∷ []) = not (p i)
   last_lacks p (i ∷ j ∷ is) = last_lacks p (j ∷ is)
 
-  falls-last : (is : List Instr) → falls_through t is ≡ last_lacks (does ends_control t) is
+  pub falls-last : (is : List Instr) → falls_through t is ≡ last_lacks (does ends_control t) is
   falls-last [] = refl
   falls-last (i ∷ []) = refl
   falls-last (i ∷ j ∷ is) = falls-last (j ∷ is)
 
-  open-last : (is : List Instr) → ends_without_terminator t is ≡ last_lacks (does is_terminator t) is
+  pub open-last : (is : List Instr) → ends_without_terminator t is ≡ last_lacks (does is_terminator t) is
   open-last [] = refl
   open-last (i ∷ []) = refl
   open-last (i ∷ j ∷ is) = open-last (j ∷ is)
 
-  last-append : (p : Instr → Bool) (xs : List Instr) (y : Instr) (ys : List Instr) → last_lacks p (xs ++ y ∷ ys) ≡ last_lacks p (y ∷ ys)
+  pub last-append : (p : Instr → Bool) (xs : List Instr) (y : Instr) (ys : List Instr) → last_lacks p (xs ++ y ∷ ys) ≡ last_lacks p (y ∷ ys)
   last-append p [] y ys = refl
   last-append p (x ∷ []) y ys = refl
   last-append p (x ∷ z ∷ xs) y ys = last-append p (z ∷ xs) y ys

@@ -1,5 +1,5 @@
 -- What an instruction does in two functions with the same classes is the same, but for the ways out of its block.
-use Rattle.std.proofs.Common.{◌≡◌, ◌⊎◌, inl, inr, ◌∷◌, ◌++◌, ◌∙◌, ◌&&◌, ◌+◌, ◌≤◌, ◌<◌, not, ℕ, zero, suc, Bool, true, false, cond, List, Option, Some, None, map, filter, flat_map, length, refl, sym, ap, subst, arith, []}
+use Rattle.std.proofs.Common.{◌≡◌, ◌∷◌, ◌++◌, ◌∙◌, ◌&&◌, ◌+◌, ◌≤◌, ◌<◌, ℕ, suc, Bool, true, false, cond, List, Option, Some, None, map, flat_map, length, refl, sym, ap, subst, arith, []}
 use Rattle.std.specs.Prelude.{find, nat_eq, option_map, slice_get, slice_index}
 use Rattle.target_base.specs.declared.types.ClassId.{ClassId}
 use Rattle.target_base.specs.declared.types.Effect.{Effect}
@@ -9,8 +9,7 @@ use Rattle.target_base.specs.declared.types.Target.{Target}
 use Rattle.target_base.specs.Registers.{lanes_of, widths_of_some}
 use Rattle.target_base.specs.Roles.{is_silent}
 use Rattle.target_base.specs.Rules.{is_phi}
-use Rattle.meaning.specs.Code.{BlockEnd, BlockStart, Counted, Edge, Item, Silent}
-use Rattle.meaning.specs.Lanes.{Reads, Writes}
+use Rattle.meaning.specs.Code.{BlockEnd, BlockStart, Counted, Item, Silent}
 use Rattle.meaning.specs.Live.{Among, here, there, reads_of, writes_of}
 use Rattle.meaning.specs.declared.types.Lane.TheVariants.{VirtualLane}
 use Rattle.meaning.specs.declared.types.Rest.{Rest}
@@ -24,10 +23,10 @@ use Rattle.mir_func.specs.declared.func.Instr.{Instr}
 use Rattle.mir_func.specs.declared.func.Block.{Block}
 use Rattle.mir_func.specs.Value.{Function}
 use Rattle.mir_func.specs.Binding.{does, effect_of, is_early_clobber, is_terminator, passes, puts_together, registers, roles_of}
-use Rattle.mir_meaning.specs.Registers.{located_lanes, located_widths, numbers, operand_lanes, operand_widths, undefined_lanes, use_sources, whole_lanes}
+use Rattle.mir_meaning.specs.Registers.{located_lanes, located_widths, numbers, operand_lanes, undefined_lanes, use_sources, whole_lanes}
 use Rattle.mir_meaning.specs.Items.{copied, counted_writes, defined, defined_undef, inserted, moved, parts, rest_of, sequenced, silent_reads, silent_writes, undefined, uses, values}
 use Rattle.mir_meaning.specs.Codes.{effect_item, instrs_of, item_of, phi_operands, phi_pair, phi_writes, target_of, way, ways_out}
-use Rattle.mir_meaning.specs.Renaming.{IsFixed, KeepsPlaces, Renames, RenamesAll}
+use Rattle.mir_meaning.specs.Renaming.{IsFixed, Renames, RenamesAll}
 use Rattle.mir_meaning.proofs.Renaming.{law_of_renaming}
 use Rattle.phi_elim.specs.declared.arrivals.Arrival.{Arrival}
 use Rattle.phi_elim.specs.Moves.{source_of, whole_definition}

@@ -1,8 +1,7 @@
 -- Phi elimination of a valid source keeps the meaning.
-use Rattle.std.proofs.Common.{◌≡◌, ◌⊎◌, inl, inr, ◌∷◌, ◌++◌, ◌∙◌, ◌&&◌, ◌||◌, ◌+◌, not, ℕ, zero, suc, Bool, true, false, cond, List, Option, Some, None, map, filter, flat_map, length, drop, take, refl, sym, ap, subst, append_assoc, length-append, eqb-true, eq-eqb, arith, one-add, []}
-use Rattle.std.specs.Prelude.{find, nat_eq, slice_get, ◌==◌}
-use Rattle.std.specs.List.{list_all, list_any, position_or_len}
-use Rattle.target_base.specs.declared.types.Effect.{Effect}
+use Rattle.std.proofs.Common.{◌≡◌, ◌⊎◌, inl, inr, ◌∷◌, ◌++◌, ◌∙◌, ◌&&◌, ◌||◌, ◌+◌, not, ℕ, zero, suc, Bool, true, false, cond, List, Some, None, length, drop, take, refl, sym, ap, subst, append_assoc, length-append, eqb-true, eq-eqb, arith, one-add, []}
+use Rattle.std.specs.Prelude.{find, nat_eq, slice_get}
+use Rattle.std.specs.List.{list_all, list_any}
 use Rattle.target_base.specs.declared.types.Target.{Target}
 use Rattle.target_base.specs.Rules.{is_phi}
 use Rattle.target_base.proofs.Tests.{second_of_both}
@@ -15,12 +14,12 @@ use Rattle.mir_func.specs.declared.func.Instr.{Instr}
 use Rattle.mir_func.specs.declared.func.Block.{Block}
 use Rattle.mir_func.specs.Value.{Function}
 use Rattle.mir_func.specs.Edits.{block_place}
-use Rattle.mir_func.specs.Binding.{does, effect_of, is_terminator, passes, registers}
+use Rattle.mir_func.specs.Binding.{does, is_terminator, passes}
 use Rattle.mir_meaning.specs.Registers.{has_number}
-use Rattle.mir_meaning.specs.Codes.{fallen_into, instrs_of, refines, target_of}
+use Rattle.mir_meaning.specs.Codes.{instrs_of, refines}
 use Rattle.mir_meaning.specs.Rules.{V7, V8, block_numbers, is_virtual_use, lists_once, named_blocks, phi_pairs, phi_stands, predecessors, successors_of}
 use Rattle.phi_elim.specs.declared.arrivals.Arrival.{Arrival}
-use Rattle.phi_elim.specs.Phis.{all_instrs, arrival, arrivals_in, arrivals_of, instr_arrivals, phi_count, phi_number, phis_lowered}
+use Rattle.phi_elim.specs.Phis.{all_instrs, arrivals_in, arrivals_of, instr_arrivals, phi_count, phi_number, phis_lowered}
 use Rattle.instr_effects.proofs.Members.{flat-of, left-in, map-in, right-in}
 use Rattle.live_laws.proofs.Effects.Blocks.{member-slice, number-in, numbers-apart, slice-member}
 use Rattle.live_laws.proofs.Effects.Lists.{all-of, any-in}

@@ -1,11 +1,9 @@
 -- One instruction of the first function and what becomes of it, by what lanes hold behind both.
-use Rattle.std.proofs.Common.{◌≡◌, ◌∷◌, ◌++◌, ◌∙◌, ℕ, Bool, true, List, Option, Some, None, refl, sym, ap, subst, []}
-use Rattle.meaning.specs.Code.{Code, Counted, Silent}
+use Rattle.std.proofs.Common.{◌≡◌, ◌∷◌, ◌++◌, ◌∙◌, ℕ, true, List, None, refl, sym, ap, subst, []}
+use Rattle.meaning.specs.Code.{Counted, Silent}
 use Rattle.meaning.specs.Lanes.{Reads, Writes, filled, settled, through}
-use Rattle.meaning.specs.Relations.{AlikeFill, AlikeOperands, Rel, Within, after_both, after_first, after_second}
-use Rattle.meaning.specs.declared.types.Constant.{Constant}
-use Rattle.meaning.specs.declared.types.Fill.{Fill}
-use Rattle.meaning.specs.declared.types.Fill.TheVariants.{Computed, Moved}
+use Rattle.meaning.specs.Relations.{AlikeFill, AlikeOperands, Rel, Within, after_both, after_first}
+use Rattle.meaning.specs.declared.types.Fill.TheVariants.{Moved}
 use Rattle.meaning.specs.declared.types.Lane.{Lane}
 use Rattle.meaning.specs.declared.types.Rest.{Rest}
 use Rattle.meaning.specs.declared.types.Source.{Source}

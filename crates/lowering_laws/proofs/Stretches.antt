@@ -1,8 +1,8 @@
 -- Rows that lead from one relation to another, put one behind the other.
-use Rattle.std.proofs.Common.{◌≡◌, ◌∷◌, ◌++◌, ◌∙◌, ℕ, List, Option, Some, None, refl, sym, ap, subst, append_assoc, []}
+use Rattle.std.proofs.Common.{◌≡◌, ◌∷◌, ◌++◌, ◌∙◌, List, Option, Some, None, refl, sym, ap, subst, append_assoc, []}
 use Rattle.meaning.specs.Code.{BlockEnd, BlockStart, Code, Counted, Silent}
 use Rattle.meaning.specs.Lanes.{Reads, Writes, settled, through}
-use Rattle.meaning.specs.Relations.{AlikeFill, AlikeOperands, AlikeReads, Everything, Rel, Within, after_both, after_first, after_second, along}
+use Rattle.meaning.specs.Relations.{AlikeFill, AlikeOperands, AlikeReads, Rel, Within, after_both, after_first, after_second, along}
 use Rattle.meaning.specs.Rows.{first_edges, first_falls, first_of_rows, first_target, second_edges, second_falls, second_of_rows, second_target}
 use Rattle.meaning.specs.declared.types.Fill.{Fill}
 use Rattle.meaning.specs.declared.types.Fill.TheVariants.{Computed, Moved}

@@ -1,18 +1,16 @@
 -- Silent instructions of the second function, done one after the other, and the lanes that they leave alone.
-use Rattle.std.proofs.Common.{◌≡◌, ◌∷◌, ◌++◌, ◌∙◌, ◌&&◌, ◌||◌, ℕ, suc, ◌+◌, ◌≤◌, Bool, true, false, cond, eqb, List, Option, Some, None, map, length, refl, sym, ap, subst, eq-eqb, eqb-true, arith, []}
-use Rattle.std.specs.Prelude.{nat_eq, nat_lt}
+use Rattle.std.proofs.Common.{◌≡◌, ◌∷◌, ◌++◌, ◌∙◌, ◌&&◌, ◌||◌, ℕ, ◌≤◌, Bool, true, false, cond, List, map, length, refl, ap, eq-eqb, arith, []}
+use Rattle.std.specs.Prelude.{nat_eq}
 use Rattle.meaning.specs.Code.{Code, Silent}
-use Rattle.meaning.specs.Lanes.{Reads, Writes, filled, same_lane, settled, through}
+use Rattle.meaning.specs.Lanes.{Writes, filled, same_lane, settled, through}
 use Rattle.meaning.specs.Live.{Among, here, there}
-use Rattle.meaning.specs.Relations.{Rel, Within, after_first, after_second}
+use Rattle.meaning.specs.Relations.{Rel, after_second}
 use Rattle.meaning.specs.declared.types.Constant.{Constant}
-use Rattle.meaning.specs.declared.types.Fill.{Fill}
-use Rattle.meaning.specs.declared.types.Fill.TheVariants.{Computed, Moved}
+use Rattle.meaning.specs.declared.types.Fill.TheVariants.{Moved}
 use Rattle.meaning.specs.declared.types.Lane.{Lane}
 use Rattle.meaning.specs.declared.types.Lane.TheVariants.{SlotLane, UnitLane, VirtualLane}
 use Rattle.meaning.specs.declared.types.Source.{Source}
 use Rattle.meaning.specs.declared.types.Source.TheVariants.{Bits, FromLane, Undef}
-use Rattle.meaning.specs.declared.types.Write.{Write}
 use Rattle.laws.proofs.Core.{Plan}
 use Rattle.mir_meaning.specs.Items.{moved, undefined}
 use Rattle.lowering_laws.proofs.Stretches.{Stretch, joined, nothing, second-silent}

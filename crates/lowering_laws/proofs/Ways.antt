@@ -1,12 +1,12 @@
 -- On the way into a block the phis of the first function do what the copies at the start of the block do in the second.
-use Rattle.std.proofs.Common.{◌≡◌, ◌⊎◌, inl, inr, ◌∷◌, ◌++◌, ◌∙◌, ◌&&◌, ◌||◌, ◌+◌, ◌≤◌, ℕ, suc, Bool, true, false, cond, List, map, filter, flat_map, length, refl, sym, ap, subst, append_assoc, append-nil, eqb-true, eq-eqb, arith, []}
+use Rattle.std.proofs.Common.{◌≡◌, ◌⊎◌, inl, inr, ◌∷◌, ◌++◌, ◌∙◌, ◌&&◌, ◌||◌, ◌+◌, ℕ, Bool, true, false, cond, List, map, flat_map, refl, sym, ap, subst, append_assoc, eqb-true, eq-eqb, []}
 use Rattle.std.specs.Prelude.{nat_eq, nat_lt}
 use Rattle.target_base.specs.declared.types.Target.{Target}
 use Rattle.target_base.specs.Rules.{is_phi}
 use Rattle.meaning.specs.Lanes.{Writes, filled, settled, through}
 use Rattle.meaning.specs.Relations.{Rel}
 use Rattle.meaning.specs.declared.types.Fill.{Fill}
-use Rattle.meaning.specs.declared.types.Fill.TheVariants.{Computed, Moved}
+use Rattle.meaning.specs.declared.types.Fill.TheVariants.{Moved}
 use Rattle.meaning.specs.declared.types.Lane.{Lane}
 use Rattle.meaning.specs.declared.types.Lane.TheVariants.{SlotLane, UnitLane, VirtualLane}
 use Rattle.meaning.specs.declared.types.Source.{Source}
@@ -18,7 +18,7 @@ use Rattle.mir_meaning.specs.Codes.{phi_operands, phi_writes}
 use Rattle.mir_meaning.specs.Items.{copied, moved, undefined}
 use Rattle.phi_elim.specs.Phis.{from_incoming, phi_number}
 use Rattle.lowering_laws.proofs.Olds.{is_old, old_source}
-use Rattle.lowering_laws.proofs.Traced.{Given, filled-free, filled-left, filled-right, is_lane_of, is_one, is_written, lanes_by, moved-apart, moved-beside, settled-none, traced, traced-bits, traced-undef, undefined-apart, undefined-beside, written-append}
+use Rattle.lowering_laws.proofs.Traced.{Given, filled-free, filled-right, is_lane_of, is_one, is_written, lanes_by, moved-apart, moved-beside, settled-none, traced, traced-bits, traced-undef, undefined-apart, undefined-beside, written-append}
 
 -- lane k of register v is given lane k of register c
 copied-own : (v c : ℕ) (ns : List ℕ) (us : Writes) (k : ℕ) → is_one ns k ≡ true → filled (moved false (lanes_by v ns) (map FromLane (lanes_by c ns)) ++ us) (VirtualLane v k) ≡ Moved (FromLane (VirtualLane c k))
