@@ -1,5 +1,5 @@
 -- Two functions of which one is an edit of the other: their blocks side by side, and their codes.
-use Rattle.std.proofs.Common.{◌≡◌, ◌∷◌, ◌++◌, ◌∙◌, not, ℕ, suc, ◌+◌, Bool, true, false, cond, List, [], Some, None, refl, sym, ap, subst, map, flat_map, length, drop, arith}
+use Rattle.std.proofs.Common.{◌≡◌, ◌∷◌, ◌++◌, ◌∙◌, not, ℕ, suc, ◌+◌, Bool, true, false, cond, List, [], Some, None, refl, sym, ap, subst, map, append-nil, length, drop, arith}
 use Rattle.std.specs.Prelude.{nat_eq, nat_lt}
 use Rattle.std.specs.List.{find}
 use Rattle.std.proofs.lemmas.Bool.{le-ltb, lt-ltb, ltb-false, ltb-true}
@@ -15,7 +15,7 @@ use Rattle.mir_func.specs.declared.func.Instr.{Instr}
 use Rattle.mir_func.specs.Value.{Function}
 use Rattle.mir_func.specs.Edits.{instr_place}
 use Rattle.mir_func.specs.Binding.{does, is_terminator}
-use Rattle.mir_meaning.specs.Codes.{block_end, blocks_code, instrs_of, phi_operands, phi_writes, way, ways_out}
+use Rattle.mir_meaning.specs.Codes.{block_end, blocks_code, instrs_of, phi_operands, phi_writes, phis_written, way, ways_out}
 use Rattle.mir_meaning.specs.Points.{from_instr, point_item, points_of}
 use Rattle.laws.proofs.Flow.{none_among}
 use Rattle.edit_laws.specs.Named.{Names, reads, copies, writes}
@@ -86,23 +86,23 @@ module _ (t : Target) (f g : Function) (same : f.classes ≡ g.classes) (Led : L
   no-phi : (h : Function) (n : ℕ) (i : Instr) → does is_phi t i ≡ false → phi_writes t h n i ≡ []
   no-phi h n i e = ap (λ u. cond u (phi_operands t h n i.operands) []) e
 
-  phis-same : (n : ℕ) {is js : List Instr} → AreInstrs Goes Comes Both is js → flat_map (phi_writes t f n) is ≡ flat_map (phi_writes t g n) js
+  phis-same : (n : ℕ) {is js : List Instr} → AreInstrs Goes Comes Both is js → phis_written t f n is ≡ phis_written t g n js
   phis-same n no_instrs = refl
-  phis-same n (instr_stays {i = i} a) = λ k. phi-same t f g same n i k ++ phis-same n a k
-  phis-same n (instr_changes {i = i} {j = j} h a) = λ k. (no-phi f n i (turns i j h).phi ∙ sym (no-phi g n j (turns i j h).phi')) k ++ phis-same n a k
-  phis-same n (instr_goes {i = i} {is = is} h a) = (λ k. no-phi f n i (goes-free i h).phi k ++ flat_map (phi_writes t f n) is) ∙ phis-same n a
-  phis-same n (instr_comes {j = j} {js = js} h a) = phis-same n a ∙ sym (λ k. no-phi g n j (comes-free j h).phi k ++ flat_map (phi_writes t g n) js)
+  phis-same n (instr_stays {i = i} a) = λ k. phis-same n a k ++ phi-same t f g same n i k
+  phis-same n (instr_changes {i = i} {j = j} h a) = λ k. phis-same n a k ++ (no-phi f n i (turns i j h).phi ∙ sym (no-phi g n j (turns i j h).phi')) k
+  phis-same n (instr_goes {i = i} {is = is} h a) = (λ k. phis_written t f n is ++ no-phi f n i (goes-free i h).phi k) ∙ append-nil (phis_written t f n is) ∙ phis-same n a
+  phis-same n (instr_comes {j = j} {js = js} h a) = phis-same n a ∙ sym ((λ k. phis_written t g n js ++ no-phi g n j (comes-free j h).phi k) ∙ append-nil (phis_written t g n js))
 
   -- what the first block of a number gives, where it is the first of all or not
   abbrev first_phis : ℕ → ℕ → Block → List Block → Bool → Writes
-  first_phis n m c cs u = flat_map (phi_writes t g n) (elim (cond u (Some c) (find (λ d. nat_eq d.number m) cs)) [ None ↦ [] | Some d ↦ d.instrs ])
+  first_phis n m c cs u = phis_written t g n (elim (cond u (Some c) (find (λ d. nat_eq d.number m) cs)) [ None ↦ [] | Some d ↦ d.instrs ])
 
-  found-same : (n m : ℕ) {bs cs : List Block} → AreBlocks Goes Comes Both bs cs → flat_map (phi_writes t f n) (instrs_of bs m) ≡ flat_map (phi_writes t g n) (instrs_of cs m)
+  found-same : (n m : ℕ) {bs cs : List Block} → AreBlocks Goes Comes Both bs cs → phis_written t f n (instrs_of bs m) ≡ phis_written t g n (instrs_of cs m)
   found-same n m no_blocks = refl
   found-same n m (block_stays {b = b} {c = c} {bs = bs} {cs = cs} number successors a rest) =
       go (nat_eq b.number m) (found-same n m rest) ∙ ap (λ x. first_phis n m c cs (nat_eq x m)) number
     where
-      go : (u : Bool) → flat_map (phi_writes t f n) (instrs_of bs m) ≡ flat_map (phi_writes t g n) (instrs_of cs m) → flat_map (phi_writes t f n) (elim (cond u (Some b) (find (λ d. nat_eq d.number m) bs)) [ None ↦ [] | Some d ↦ d.instrs ]) ≡ first_phis n m c cs u
+      go : (u : Bool) → phis_written t f n (instrs_of bs m) ≡ phis_written t g n (instrs_of cs m) → phis_written t f n (elim (cond u (Some b) (find (λ d. nat_eq d.number m) bs)) [ None ↦ [] | Some d ↦ d.instrs ]) ≡ first_phis n m c cs u
       go true ih = phis-same n a
       go false ih = ih
 

@@ -1,16 +1,19 @@
 -- The pairs of a phi, one after the other.
-use Rattle.std.proofs.Common.{◌≡◌, ◌≤◌, ℕ, true, false, cond, List, [], ◌∷◌, ◌++◌, Some, None, map, drop, length, refl, sym, ap, ◌∙◌, append_assoc, append-nil, arith}
+use Rattle.std.proofs.Common.{◌≡◌, ◌≤◌, ℕ, true, false, cond, List, [], ◌∷◌, ◌++◌, Some, None, map, drop, length, refl, sym, ap, subst, ◌∙◌, append_assoc, append-nil, arith}
 use Rattle.std.specs.Prelude.{option_map}
 use Rattle.target_base.specs.declared.types.OpcodeDesc.{OpcodeDesc}
 use Rattle.target_base.specs.declared.types.Target.{Target}
 use Rattle.target_base.specs.Rules.{is_phi}
+use Rattle.meaning.specs.declared.types.Write.{Write}
+use Rattle.meaning.specs.Live.{Among as Member, here as first, there as later}
 use Rattle.mir_func.specs.declared.func.RegOp.{RegOp}
 use Rattle.mir_func.specs.declared.func.Operand.{Operand}
 use Rattle.mir_func.specs.declared.func.Operand.TheVariants as operands
 use Rattle.mir_func.specs.declared.func.Instr.{Instr}
 use Rattle.mir_func.specs.Value.{Function}
-use Rattle.mir_meaning.specs.Codes.{phi_operands, phi_pair}
+use Rattle.mir_meaning.specs.Codes.{phi_operands, phi_pair, phi_writes, phis_written}
 use Rattle.mir_func.specs.Binding.{known_opcode, passes, register_at}
+use Rattle.instr_effects.proofs.Members.{member-none, member-elim, left-in, right-in, either-elim}
 use Rattle.instr_effects.specs.Ends.{pairs_of, pairs_behind, end_uses, first_pair}
 
 -- a pair that stands first is the first of the pairs
@@ -80,3 +83,22 @@ phi_uses t i d e h = ap (λ q. cond (passes is_phi (option_map (λ (x : OpcodeDe
 
 pub other_uses : (t : Target) (i : Instr) (d : OpcodeDesc) → known_opcode t i.op ≡ Some d → is_phi d.effect ≡ false → end_uses t i ≡ []
 other_uses t i d e h = ap (λ q. cond (passes is_phi (option_map (λ (x : OpcodeDesc). x.effect) q)) (pairs_behind i.operands) []) e ∙ ap (λ b. cond b (pairs_behind i.operands) []) h
+
+-- a write of phis is one of a phi among them
+pub written-of : (t : Target) (f : Function) (n : ℕ) (w : Write) (is : List Instr) → Member w (phis_written t f n is) → (i : Instr) × Member i is × Member w (phi_writes t f n i)
+written-of t f n w [] m = absurd (member-none w m)
+written-of t f n w (i ∷ is) m =
+    either-elim w (phis_written t f n is) (phi_writes t f n i) (λ k. let z = written-of t f n w is k in (z.0, later z.1, z.2)) (λ k. (i, first, k)) m
+
+pub written-in : (t : Target) (f : Function) (n : ℕ) (w : Write) (i : Instr) (is : List Instr) → Member i is → Member w (phi_writes t f n i) → Member w (phis_written t f n is)
+written-in t f n w i [] m k = absurd (member-none i m)
+written-in t f n w i (x ∷ is) m k =
+    member-elim i x is
+    (λ e. right-in w (phis_written t f n is) (phi_writes t f n x) (subst (λ y. Member w (phi_writes t f n y)) e k))
+    (λ j. left-in w (phis_written t f n is) (phi_writes t f n x) (written-in t f n w i is j k))
+    m
+
+-- the writes of the last phi come first
+pub written-last : (t : Target) (f : Function) (n : ℕ) (is : List Instr) (i : Instr) → phis_written t f n (is ++ i ∷ []) ≡ phi_writes t f n i ++ phis_written t f n is
+written-last t f n [] i = sym (append-nil (phi_writes t f n i))
+written-last t f n (x ∷ is) i = ap (λ ws. ws ++ phi_writes t f n x) (written-last t f n is i) ∙ append_assoc (phi_writes t f n i) (phis_written t f n is) (phi_writes t f n x)

@@ -7,3 +7,4 @@ pub mod Lived
 pub mod Marked
 pub mod Late
 pub mod Told
+pub mod Within

@@ -25,11 +25,12 @@ use target_base::classes::{are_within, find_home, hold_subs, holds, regs_at};
 use target_base::{ClassId, Effect, IndexId, List, Numbers, Reg, Role, Target};
 
 /// Whether each register of class `c`, through the index, lies in class `k`.
+#[tactic(auto, using(crate::proofs::Within::within_self))]
 fn lies_in(target: &Target, k: ClassId, c: ClassId, x: Option<IndexId>) -> bool
     ensures { result ≡ rules.lies_in target.now k c x }
 {
     match x {
-        None => are_within(target.regs_in(c), target.regs_in(k)),
+        None => k == c || are_within(target.regs_in(c), target.regs_in(k)),
         Some(i) => hold_subs(
             target.regs.as_slice(),
             target.lanes_at(i),

@@ -22,7 +22,6 @@ use Rattle.meaning.specs.Environment.{constant_source, residue}
 use Rattle.mir_func.specs.declared.func.Loc.{Loc}
 use Rattle.mir_func.specs.declared.func.Loc.TheVariants.{Fixed, Virtual}
 use Rattle.target_base.specs.declared.types.Unit.{Unit as UnitNumber}
-use Rattle.target_base.specs.declared.types.UnitDesc.{UnitDesc}
 use Rattle.target_base.specs.Registers.{units_of}
 use Rattle.meaning.specs.Lanes.{Writes, Reads}
 use Rattle.meaning.specs.Matched.{image, renamed, renamed_reads, renamed_write}
@@ -34,7 +33,7 @@ use Rattle.mir_func.specs.Value.{Function}
 use Rattle.mir_func.proofs.Bound.{bound_step, definitions_none, definitions_step, seated_definitions}
 use Rattle.mir_func.specs.Spelling.{op_name, word_of}
 use Rattle.mir_func.specs.Binding.{Definition, after_first, effect_of, explicit_bound, explicit_operands, explicit_roles, first_role, implicit_registers, implicit_roles, is_early, is_early_clobber, is_terminator, passes, registers, roles_of, immediate_of, puts_together}
-use Rattle.mir_meaning.specs.Items.{read_widths, Value, all_lanes, answered, computes_with_immediates, constant_value, counted_writes, defined_lanes, explicit_definitions, explicit_needs, further_writes, has_base, implicit_definitions, implicit_writes, kept, lane_width, named_symbol, needed_of, needs_value, opaque_clobbers, rest_of, result_widths, result_writes, results, value_of, values, clobbered, flag_value, implicit_values, is_flags, pick, use_value, first_width, preserves, symbol_of, unreserved, computed, constant_bits, constant_lanes, constant_of, copied, defined, defined_undef, given_constant, lanes_beside, moved, reloaded, silent_reads, silent_writes, spilled, undefined, at_all_widths}
+use Rattle.mir_meaning.specs.Items.{read_widths, Value, all_lanes, answered, computes_with_immediates, constant_value, counted_writes, defined_lanes, explicit_definitions, explicit_needs, further_writes, has_base, implicit_definitions, implicit_writes, kept, lane_width, named_symbol, needed_of, needs_value, opaque_clobbers, rest_of, result_widths, result_writes, results, value_of, values, clobbered, flag_value, implicit_values, is_flags, pick, use_value, first_width, preserves, symbol_of, unreserved, computed, constant_bits, constant_lanes, constant_of, copied, defined, defined_undef, given_constant, lanes_beside, moved, reloaded, silent_reads, silent_writes, spilled, undefined, at_all_widths, widths_once}
 use Rattle.mir_meaning.specs.Registers.{is_reserved, numbers, located_lanes, located_widths, operand_lanes, operand_widths, unit_lanes, slot_lane_numbers, slot_lanes, undefined_lanes, use_sources}
 use Rattle.mir_meaning.specs.Codes.{effect_item, item_of, target_of, way, ways_out}
 use Rattle.std.specs.List.{cons_option, list_any}
@@ -169,12 +168,12 @@ module _ (t : Target) (f g : Function) (m : Lane → Lane) (r : RegOp → RegOp)
   all-widths-stay : (s : ℕ) (ks : List ℕ) → map m (at_all_widths t s ks) ≡ at_all_widths t s ks
   all-widths-stay s [] = refl
   all-widths-stay s (k ∷ ks) =
-      map-append m (map (λ d. SlotLane s k d.width) t.units) (at_all_widths t s ks)
-      ∙ (λ i. (map-map m (λ d. SlotLane s k d.width) t.units ∙ same t.units) i ++ all-widths-stay s ks i)
+      let ws = widths_once [] t.units in
+      map-append m (map (λ w. SlotLane s k w) ws) (at_all_widths t s ks) ∙ (λ i. (map-map m (λ w. SlotLane s k w) ws ∙ same ws) i ++ all-widths-stay s ks i)
     where
-      same : (ds : List UnitDesc) → map (λ d. m (SlotLane s k d.width)) ds ≡ map (λ d. SlotLane s k d.width) ds
+      same : (ws : List ℕ) → map (λ w. m (SlotLane s k w)) ws ≡ map (λ w. SlotLane s k w) ws
       same [] = refl
-      same (d ∷ ds) = λ i. keeps.slots s k d.width i ∷ same ds i
+      same (w ∷ ws) = λ i. keeps.slots s k w i ∷ same ws i
 
   spilled-renamed : (os : List Operand) → RenamesAll t f g m r os → spilled t g (map (renamed_operand r) os) ≡ renamed m (spilled t f os)
   spilled-renamed (operands.Reg o ∷ operands.Stack s ∷ k ∷ os) h =

@@ -1,5 +1,5 @@
 -- A function as one code: its blocks in layout, with the phis on the ways into blocks.
-use Rattle.std.specs.Prelude.{ℕ, Bool, true, false, cond, not, ◌&&◌, ◌||◌, nat_eq, List, [], ◌∷◌, ◌++◌, map, flat_map, find, length, Option, Some, None, option_map}
+use Rattle.std.specs.Prelude.{ℕ, Bool, true, false, cond, not, ◌&&◌, ◌||◌, nat_eq, List, [], ◌∷◌, ◌++◌, map, find, length, Option, Some, None, option_map}
 use Rattle.std.specs.List.{list_any}
 use Rattle.target_base.specs.declared.types.Effect.{Effect}
 use Rattle.target_base.specs.declared.types.Target.{Target}
@@ -35,13 +35,18 @@ phi_operands t f n _ = []
 abbrev pub phi_writes : Target → Function → ℕ → Instr → Writes
 phi_writes t f n i = cond (does is_phi t i) (phi_operands t f n i.operands) []
 
+-- what the phis among these instructions write at once; where two define one register, the later one counts
+abbrev pub phis_written : Target → Function → ℕ → List Instr → Writes
+phis_written t f n [] = []
+phis_written t f n (i ∷ is) = phis_written t f n is ++ phi_writes t f n i
+
 -- the instructions of the first block of that number
 abbrev pub instrs_of : List Block → ℕ → List Instr
 instrs_of bs m = elim (find (λ b. nat_eq b.number m) bs) [ None ↦ [] | Some b ↦ b.instrs ]
 
 -- the way from block n into block m, with all that its phis write at once
 abbrev pub way : Target → Function → ℕ → ℕ → Edge
-way t f n m = record { block = m; phis = flat_map (phi_writes t f n) (instrs_of f.blocks m) }
+way t f n m = record { block = m; phis = phis_written t f n (instrs_of f.blocks m) }
 
 -- the ways out of a block, to all its successors
 abbrev pub ways_out : Target → Function → Block → List Edge

@@ -5,6 +5,7 @@ use Rattle.target_base.specs.declared.types.Effect.TheVariants as effects
 use Rattle.target_base.specs.declared.types.MaskId.{MaskId}
 use Rattle.target_base.specs.declared.types.Role.{Role}
 use Rattle.target_base.specs.declared.types.Unit.{Unit as UnitNumber}
+use Rattle.target_base.specs.declared.types.UnitDesc.{UnitDesc}
 use Rattle.target_base.specs.declared.types.Target.{Target}
 use Rattle.target_base.specs.Registers.{units_of}
 use Rattle.target_base.specs.Storage.{is_among, unit_width}
@@ -33,7 +34,7 @@ use Rattle.mir_func.specs.declared.func.Instr.{Instr}
 use Rattle.mir_func.specs.Value.{Function}
 use Rattle.mir_func.specs.Binding.{explicit_operands, implicit_registers, registers, takes_role, roles_of, implicit_roles, explicit_roles, explicit_bound, Bound, passes, Definition, definitions, immediate_of}
 use Rattle.mir_func.specs.Spelling.{event_name}
-use Rattle.mir_meaning.specs.Registers.{numbers, operand_lanes, operand_widths, use_sources, undefined_lanes, located_lanes, slot_lane_numbers, slot_lanes, is_reserved}
+use Rattle.mir_meaning.specs.Registers.{has_number, numbers, operand_lanes, operand_widths, use_sources, undefined_lanes, located_lanes, slot_lane_numbers, slot_lanes, is_reserved}
 
 -- a write of a lane
 abbrev pub write : Bool → Lane → Fill → Write
@@ -113,9 +114,14 @@ given_constant t f early _ = []
 abbrev pub lanes_beside : Target → Function → RegOp → ℕ → Operand → List Lane
 lanes_beside t f o s k = slot_lanes s (slot_lane_numbers t (operand_widths t f o) k) (operand_widths t f o)
 
+-- the widths of units, each once, behind those that are known
+abbrev pub widths_once : List ℕ → List UnitDesc → List ℕ
+widths_once known [] = known
+widths_once known (d ∷ ds) = widths_once (cond (has_number known d.width) known (known ++ (d.width ∷ []))) ds
+
 -- these lanes of a slot at every width
 abbrev pub at_all_widths : Target → ℕ → List ℕ → List Lane
-at_all_widths t s ks = flat_map (λ k. map (λ d. SlotLane s k d.width) t.units) ks
+at_all_widths t s ks = flat_map (λ k. map (λ w. SlotLane s k w) (widths_once [] t.units)) ks
 
 -- a store; what the slot's lanes held at other widths is Undef then
 abbrev pub spilled : Target → Function → List Operand → Writes

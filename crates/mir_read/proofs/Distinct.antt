@@ -109,3 +109,21 @@ names_go f xs k names go x new h e put = record {
 
 pub names_end : {X : Type 0} (f : X → List ℕ) (xs : List X) (k : ℕ) (names : List (List ℕ)) → NamesGo f xs k names → length xs ≤ k → names ≡ map f xs
 names_end f xs k names go h = sym (ap (λ ys. with_names names (map f ys)) (drop_all k xs h)) ∙ go.same
+
+-- the words so far, where the rest are put behind them
+pub record WordsGo (ws : List (List ℕ)) (k : ℕ) (words : List (List ℕ)) : Type 0 where
+  pub same : with_names words (drop k ws) ≡ ws
+
+pub words_begin : (ws : List (List ℕ)) → IsTrue (are_distinct_names ws) → WordsGo ws 0 []
+words_begin ws h = record { same = distinct_put ws h }
+
+pub words_go : (ws : List (List ℕ)) (k : ℕ) (words : List (List ℕ)) → WordsGo ws k words → (w : List ℕ) (new : List (List ℕ)) → k < length ws → w ≡ get_or ws k w → new ≡ with_name words w → WordsGo ws (k + 1) new
+words_go ws k words go w new h e put = record {
+  same =
+      ap (λ (vs : List (List ℕ)). with_names vs (drop (k + 1) ws)) (put ∙ ap (λ v. with_name words v) e)
+      ∙ sym (ap (λ vs. with_names words vs) (drop_more ws k w h))
+      ∙ go.same;
+}
+
+pub words_end : (ws : List (List ℕ)) (k : ℕ) (words : List (List ℕ)) → WordsGo ws k words → length ws ≤ k → words ≡ ws
+words_end ws k words go h = sym (ap (λ vs. with_names words vs) (drop_all k ws h)) ∙ go.same

@@ -36,3 +36,6 @@ opcodes_few t = let n : length t.opcodes ≤ 1024 = leb-true _ _ (first_of_both 
 
 pub opcodes_distinct : (t : Target) → IsTrue (are_distinct_names (map (λ d. d.name) t.opcodes))
 opcodes_distinct t = second_of_both _ _ (opcodes_sound t.name t.version t.units t.regs t.reserved t.indexes t.classes t.masks t.opcodes t.sound)
+
+pub flags_distinct : (t : Target) → IsTrue (are_distinct_names t.options.flags)
+flags_distinct t = second_of_both _ _ t.options.sound

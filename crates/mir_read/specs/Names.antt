@@ -1,8 +1,7 @@
 -- The names of a target, by their numbers.
-use Rattle.std.specs.Prelude.{◌≤◌, ℕ, Bool, List, [], ◌∷◌, ◌++◌, Option, length, map, not, ◌==◌, position, option_map, if◌then◌else◌}
+use Rattle.std.specs.Prelude.{◌≤◌, ℕ, Bool, List, [], ◌∷◌, ◌++◌, Option, length, map, not, ◌==◌, position, option_map, is_some, if◌then◌else◌}
 use Rattle.std.specs.List.{list_any}
 use Rattle.target_base.specs.Storage.{same_numbers}
-use Rattle.mir_lines.specs.Bytes.{is_word}
 use Rattle.target_base.specs.Numbers.{reg_number, index_number, class_number, op_number}
 use Rattle.target_base.specs.declared.types.Target.{Target}
 use Rattle.target_base.specs.declared.types.Reg.{Reg}
@@ -70,4 +69,4 @@ op_named names w = option_map op_number (place_of names.opcodes w)
 
 -- the word may stand in `target-flags(..)`
 abbrev pub has_flag : NameLists → List ℕ → Bool
-has_flag names w = list_any (λ v. is_word v w) names.flags
+has_flag names w = is_some (place_of names.flags w)

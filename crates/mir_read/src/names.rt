@@ -6,28 +6,75 @@ ghost use Rattle.mir_read.specs.Names.{with_name, with_number, place_of, reg_nam
 ghost use Rattle.target_base.specs.Storage.{same_numbers};
 
 use indexmap::IndexSet;
-use mir_lines::lexer::is;
 use std::alloc::{AllocError, Global};
 use std::marker::Model;
 use target_base::{
-    ClassDesc, ClassId, Copied, IndexDesc, IndexId, MaskDesc, MaskId, OpId, OpcodeDesc, Reg,
-    RegDesc, Target, Words,
+    Bytes, ClassDesc, ClassId, IndexDesc, IndexId, MaskDesc, MaskId, OpId, OpcodeDesc, Reg,
+    RegDesc, Target,
 };
+
+/// Distinct words in the order in which they came.
+#[derive(Drop)]
+struct WordSet {
+    set: IndexSet<Vec<u8>>,
+}
+
+impl Model for WordSet {
+    ghost use Rattle.std.specs.Prelude.{ℕ, List, map};
+
+    ghost Value = { List (List ℕ) };
+
+    ghost view = { λ w. map (λ v. v.items) w.set.keys };
+}
+
+impl WordSet {
+    /// No words.
+    fn new(alloc: Global) -> WordSet
+        ensures { result ≡ [] }
+    {
+        WordSet {
+            set: IndexSet::new(alloc),
+        }
+    }
+
+    /// The place of a word, from 0. None where it isn't there.
+    fn place(&self, word: &[u8]) -> Option<usize>
+        ensures { result ≡ position (same_numbers word.now) self.now }
+    {
+        self.set.get_index_of(word)
+    }
+
+    /// How many words there are.
+    fn len(&self) -> usize
+        ensures { result ≡ length self.now }
+    {
+        self.set.len()
+    }
+
+    /// Puts a word at the end, unless it is there. After a refusal the words are unchanged.
+    fn add(&mut self, alloc: Global, word: &[u8]) -> Result<(), AllocError>
+        ensures ok { OnOk result (self.new ≡ with_name self.old word.now) }
+        ensures err { OnErr result (self.new ≡ self.old) }
+    {
+        self.set.insert(Vec::from_slice(alloc, word)?)?;
+        Ok(())
+    }
+}
 
 /// Distinct names in order, fewer than 2^32 of them.
 #[derive(Drop)]
 pub struct NameSet {
-    set: IndexSet<Vec<u8>>,
+    words: WordSet,
 }
 
 impl Model for NameSet {
-    ghost use Rattle.std.specs.Prelude.{ℕ, List, map, length, ◌≤◌};
+    ghost use Rattle.std.specs.Prelude.{ℕ, List, length, ◌≤◌};
 
     ghost Value = { List (List ℕ) };
 
-    ghost view = { λ n. map (λ v. v.items) n.set.keys };
+    ghost view = { λ n. n.words };
 
-    ghost invariant = { λ n. length n.set.keys ≤ 4294967295 };
+    ghost invariant = { λ n. length n.words ≤ 4294967295 };
 }
 
 impl NameSet {
@@ -36,7 +83,7 @@ impl NameSet {
         ensures { result ≡ [] }
     {
         NameSet {
-            set: IndexSet::new(alloc),
+            words: WordSet::new(alloc),
         }
     }
 
@@ -44,7 +91,7 @@ impl NameSet {
     pub fn place(&self, name: &[u8]) -> Option<u32>
         ensures { result ≡ position (same_numbers name.now) self.now }
     {
-        match self.set.get_index_of(name) {
+        match self.words.place(name) {
             None => None,
             Some(place) => Some(place as u32),
         }
@@ -54,7 +101,7 @@ impl NameSet {
     pub fn len(&self) -> u32
         ensures { result ≡ length self.now }
     {
-        self.set.len() as u32
+        self.words.len() as u32
     }
 
     /// Puts a name at the end, unless it is there. After a refusal the names are unchanged.
@@ -63,8 +110,7 @@ impl NameSet {
         ensures ok { OnOk result (self.new ≡ with_name self.old name.now) }
         ensures err { OnErr result (self.new ≡ self.old) }
     {
-        self.set.insert(Vec::from_slice(alloc, name)?)?;
-        Ok(())
+        self.words.add(alloc, name)
     }
 }
 
@@ -127,7 +173,7 @@ pub struct Names {
     classes: NameSet,
     masks: NameSet,
     opcodes: NameSet,
-    flags: Words,
+    flags: WordSet,
 }
 
 impl Model for Names {
@@ -216,6 +262,17 @@ fn opcode_names(alloc: Global, opcodes: &[OpcodeDesc]) -> Result<NameSet, AllocE
     Ok(names)
 }
 
+fn flag_words(alloc: Global, words: &[Bytes]) -> Result<WordSet, AllocError>
+    requires { IsTrue (are_distinct_names words.now) }
+    ensures { IfOk result (λ flags. flags ≡ words.now) }
+{
+    let mut flags = WordSet::new(alloc);
+    for word in words {
+        flags.add(alloc, word.as_slice())?;
+    }
+    Ok(flags)
+}
+
 impl Names {
     /// The names of a target.
     #[tactic(auto, unfolding(crate::specs::Names::name_lists))]
@@ -228,7 +285,7 @@ impl Names {
             classes: class_names(alloc, target.classes.as_slice())?,
             masks: mask_names(alloc, target.masks.as_slice())?,
             opcodes: opcode_names(alloc, target.opcodes.as_slice())?,
-            flags: target.options.flags.copied(alloc)?,
+            flags: flag_words(alloc, target.options.flags.as_slice())?,
         })
     }
 
@@ -276,8 +333,7 @@ impl Names {
     pub fn has_flag(&self, word: &[u8]) -> bool
         ensures { result ≡ has_flag self.now word.now }
     {
-        let flags = self.flags.as_slice();
-        flags.iter().any(|w| is(w.as_slice(), word))
+        self.flags.place(word).is_some()
     }
 
     /// The opcode of a name.

@@ -1,5 +1,5 @@
 -- Where a table is computed, its tests tell exactly the units in use at the places of copies.
-use Rattle.std.proofs.Common.{◌≡◌, ◌⊎◌, ◌∙◌, ℕ, zero, suc, Bool, true, false, cond, not, List, [], ◌∷◌, ◌++◌, Option, Some, None, refl, sym, ap, subst, map, flat_map, drop, length, inl, inr}
+use Rattle.std.proofs.Common.{◌≡◌, ◌⊎◌, ◌∙◌, ℕ, zero, suc, Bool, true, false, cond, not, List, [], ◌∷◌, ◌++◌, Option, Some, None, refl, sym, ap, subst, map, drop, length, inl, inr}
 use mathlib.Core.Path.{fun_ext}
 use Rattle.std.specs.Prelude.{◌↔◌, ◌&&◌, Decides, find, nat_eq, nat_lt, option_map, slice_get}
 use Rattle.std.specs.Ordering.{nat_cmp}
@@ -26,14 +26,15 @@ use Rattle.mir_func.specs.declared.func.Block.{Block}
 use Rattle.mir_func.specs.declared.func.Instr.{Instr}
 use Rattle.mir_func.specs.Value.{Function}
 use Rattle.mir_func.specs.Binding.{does, effect_of, is_early_clobber, is_terminator, passes, roles_of}
-use Rattle.mir_meaning.specs.Codes.{block_end, blocks_code, effect_item, instrs_of, item_of, phi_writes, target_of, way, ways_out}
+use Rattle.mir_meaning.specs.Codes.{block_end, blocks_code, effect_item, instrs_of, item_of, phis_written, target_of, way, ways_out}
 use Rattle.mir_meaning.specs.Items.{counted_writes, defined_undef, rest_of, silent_reads, silent_writes, values}
 use Rattle.mir_meaning.specs.Registers.{is_reserved, numbers}
 use Rattle.target_base.specs.Registers.{is_reserved_unit}
 use Rattle.mir_meaning.specs.Points.{Point, Start, Entry, Exit, LiveAt, Tests, AtFirst, point_item, points_of, from_instr}
 use Rattle.mir_meaning.specs.Places.{Variable as Need, Needs, AtEntry, AtExit, Admits, UnitsOf, copy_place, solutions}
 use Rattle.mir_meaning.specs.Rules.{V8}
-use Rattle.instr_effects.proofs.Members.{member-none, member-elim, flat-of, map-of}
+use Rattle.instr_effects.proofs.Pairs.{written-of}
+use Rattle.instr_effects.proofs.Members.{member-none, member-elim, map-of}
 use Rattle.instr_effects.proofs.Plain.{filled-cases, moved-same}
 use Rattle.instr_effects.specs.declared.owner.Owner.TheVariants as owners
 use Rattle.instr_effects.specs.Numbered.{number_in}
@@ -164,9 +165,9 @@ module _ (t : Target) (f : Function) (rules : KeepsRules t f) where
   R = is_reserved t
 
   -- what phis read isn't reserved
-  phis-free : (m n : ℕ) (w : Write) (l : Lane) → Member w (flat_map (phi_writes t f m) (instrs_of f.blocks n)) → w.fill ≡ Moved (FromLane l) → R l ≡ false
+  phis-free : (m n : ℕ) (w : Write) (l : Lane) → Member w (phis_written t f m (instrs_of f.blocks n)) → w.fill ≡ Moved (FromLane l) → R l ≡ false
   phis-free m n w l k e =
-      let z = flat-of (phi_writes t f m) w (instrs_of f.blocks n) k in
+      let z = written-of t f m w (instrs_of f.blocks n) k in
       let i = z.0 in
       let b = instrs-in f.blocks n i z.1 in
       let p = phi-write t f m i w z.2 in

@@ -16,6 +16,11 @@ use std::ops::Bound;
 /// new last id is above the one before. Of 2^32 ids the last then has the number 2^63.
 const SPACING: u64 = 1 << 31;
 
+/// How far the number of a new id is from that of the newer one of its neighbours at most, where
+/// others were put in there before. New ids often come one behind the other, or one before the other,
+/// so that most of the room is left for those to come.
+const STEP: u64 = 1 << 18;
+
 /// A list of distinct ids, each with a number above 0 that rises along the list. The numbers are
 /// kept by id, 8 bytes for each id up to the largest, so ids should be dense.
 #[derive(Drop)]
@@ -136,7 +141,7 @@ impl Slots {
     {
         let low = self.low_end(after);
         match self.follower(after) {
-            Some((high, _)) => between(low, high),
+            Some((high, next)) => between(low, high, is_newer(next, after)),
             None => low.checked_add(SPACING),
         }
     }
@@ -199,8 +204,17 @@ impl Slots {
     }
 }
 
-/// A number between two others, if there is one.
-fn between(low: u64, high: u64) -> Option<u64>
+/// Whether an id is newer than another, if there is another: new ids are mostly larger.
+fn is_newer(id: u32, other: Option<u32>) -> bool {
+    match other {
+        Some(other) => id > other,
+        None => true,
+    }
+}
+
+/// A number between two others, if there is one: in the middle of a wide gap, else a step above the
+/// lower one or below the higher one.
+fn between(low: u64, high: u64, is_high_newer: bool) -> Option<u64>
     requires { low < high }
     ensures { IfSome result (λ n. (low < n) × (n < high)) }
 {
@@ -208,7 +222,16 @@ fn between(low: u64, high: u64) -> Option<u64>
     if half == 0 {
         return None;
     }
-    Some(low + half)
+    let step = if high - low < SPACING {
+        half.min(STEP)
+    } else {
+        half
+    };
+    Some(if is_high_newer {
+        high - step
+    } else {
+        low + step
+    })
 }
 
 /// The place of an id in a list of ids, if it stands there.

@@ -1,11 +1,10 @@
 -- The code of a function whose slots went to others is its code with the lanes of these slots renamed.
-use Rattle.std.proofs.Common.{◌≡◌, ℕ, Bool, true, false, cond, not, ◌&&◌, List, [], ◌∷◌, ◌++◌, Option, Some, None, map, flat_map, length, refl, sym, ap, ◌∙◌}
+use Rattle.std.proofs.Common.{◌≡◌, ℕ, Bool, true, false, cond, not, ◌&&◌, List, [], ◌∷◌, ◌++◌, Option, Some, None, map, length, refl, sym, ap, ◌∙◌}
 use Rattle.std.specs.Prelude.{option_map, nat_eq, find}
 use Rattle.std.specs.List.{list_all}
 use Rattle.std.proofs.lemmas.Bool.{or_parts}
 use Rattle.target_base.specs.declared.types.Effect.{Effect}
 use Rattle.target_base.specs.declared.types.Effect.TheVariants as effects
-use Rattle.target_base.specs.declared.types.UnitDesc.{UnitDesc}
 use Rattle.target_base.specs.declared.types.Target.{Target}
 use Rattle.target_base.specs.Roles.{is_silent}
 use Rattle.target_base.specs.Rules.{is_phi, is_spill, is_reload}
@@ -28,8 +27,8 @@ use Rattle.mir_func.specs.declared.func.Block.{Block}
 use Rattle.mir_func.specs.Value.{Function}
 use Rattle.mir_func.specs.Binding.{effect_of, does, is_early_clobber, is_lowered_away, is_terminator, passes, puts_together, registers, roles_of}
 use Rattle.mir_meaning.specs.Registers.{operand_lanes, operand_widths, undefined_lanes, use_sources, slot_lane_numbers, slot_lanes}
-use Rattle.mir_meaning.specs.Items.{write, moved, undefined, at_all_widths, lanes_beside, spilled, reloaded, silent_reads, silent_writes, rest_of, values, counted_writes}
-use Rattle.mir_meaning.specs.Codes.{block_end, blocks_code, code_of, effect_item, ends_without_terminator, fallen_into, is_open, falls_through, first_number, item_of, phi_operands, phi_writes, target_of, way, ways_out}
+use Rattle.mir_meaning.specs.Items.{write, moved, undefined, at_all_widths, lanes_beside, spilled, reloaded, silent_reads, silent_writes, rest_of, values, counted_writes, widths_once}
+use Rattle.mir_meaning.specs.Codes.{block_end, blocks_code, code_of, effect_item, ends_without_terminator, fallen_into, is_open, falls_through, first_number, item_of, phi_operands, phis_written, target_of, way, ways_out}
 use Rattle.mir_meaning.specs.Points.{has_no_phis}
 use Rattle.mir_meaning.specs.Renaming.{IsFixed, renamed_item}
 use Rattle.mir_meaning.specs.Rules.{spills_or_reloads}
@@ -74,14 +73,15 @@ module _ (h : ℕ → ℕ) where
   slots-merged s (k ∷ ks) [] = refl
   slots-merged s (k ∷ ks) (w ∷ ws) = ap (λ ls. SlotLane (h s) k w ∷ ls) (slots-merged s ks ws)
 
-  widths-merged : (s k : ℕ) (ds : List UnitDesc) → map (merged_lane h) (map (λ d. SlotLane s k d.width) ds) ≡ map (λ d. SlotLane (h s) k d.width) ds
+  widths-merged : (s k : ℕ) (ws : List ℕ) → map (merged_lane h) (map (λ w. SlotLane s k w) ws) ≡ map (λ w. SlotLane (h s) k w) ws
   widths-merged s k [] = refl
-  widths-merged s k (d ∷ ds) = ap (λ ls. SlotLane (h s) k d.width ∷ ls) (widths-merged s k ds)
+  widths-merged s k (w ∷ ws) = ap (λ ls. SlotLane (h s) k w ∷ ls) (widths-merged s k ws)
 
   all-widths-merged : (t : Target) (s : ℕ) (ks : List ℕ) → map (merged_lane h) (at_all_widths t s ks) ≡ at_all_widths t (h s) ks
   all-widths-merged t s [] = refl
   all-widths-merged t s (k ∷ ks) =
-      map-append (merged_lane h) (map (λ (d : UnitDesc). SlotLane s k d.width) t.units) (at_all_widths t s ks) ∙ (λ i. widths-merged s k t.units i ++ all-widths-merged t s ks i)
+      let ws = widths_once [] t.units in
+      map-append (merged_lane h) (map (λ w. SlotLane s k w) ws) (at_all_widths t s ks) ∙ (λ i. widths-merged s k ws i ++ all-widths-merged t s ks i)
 
 module _ (t : Target) (home : ℕ → ℕ) (head : List ℕ) (f : Function) where
   abbrev g : Function
@@ -123,13 +123,13 @@ abbrev pub edge : ℕ → Writes → Edge
 edge n ws = record { block = n; phis = ws }
 
 module _ (t : Target) where
-  quiet-phis : (q : Function) (n : ℕ) (is : List Instr) → list_all (λ i. not (does is_phi t i)) is ≡ true → flat_map (phi_writes t q n) is ≡ []
+  quiet-phis : (q : Function) (n : ℕ) (is : List Instr) → list_all (λ i. not (does is_phi t i)) is ≡ true → phis_written t q n is ≡ []
   quiet-phis q n [] e = refl
   quiet-phis q n (i ∷ is) e = go (does is_phi t i) e (quiet-phis q n is)
     where
-      go : (b : Bool) → (not b && list_all (λ i. not (does is_phi t i)) is) ≡ true → (list_all (λ i. not (does is_phi t i)) is ≡ true → flat_map (phi_writes t q n) is ≡ []) → cond b (phi_operands t q n i.operands) [] ++ flat_map (phi_writes t q n) is ≡ []
+      go : (b : Bool) → (not b && list_all (λ i. not (does is_phi t i)) is) ≡ true → (list_all (λ i. not (does is_phi t i)) is ≡ true → phis_written t q n is ≡ []) → phis_written t q n is ++ cond b (phi_operands t q n i.operands) [] ≡ []
       go true k ih = absurd (cc)
-      go false k ih = ih k
+      go false k ih = ap (λ ws. ws ++ []) (ih k)
 
   abbrev philess : Block → Bool
   philess b = list_all (λ i. not (does is_phi t i)) b.instrs
@@ -137,7 +137,7 @@ module _ (t : Target) where
   pub way-bare : (q : Function) → has_no_phis t q.blocks ≡ true → (n k : ℕ) → way t q n k ≡ edge k []
   way-bare q none n k = ap (edge k) (go (find (λ (b : Block). nat_eq b.number k) q.blocks) refl)
     where
-      go : (r : Option Block) → find (λ (b : Block). nat_eq b.number k) q.blocks ≡ r → flat_map (phi_writes t q n) (elim r [ None ↦ [] | Some b ↦ b.instrs ]) ≡ []
+      go : (r : Option Block) → find (λ (b : Block). nat_eq b.number k) q.blocks ≡ r → phis_written t q n (elim r [ None ↦ [] | Some b ↦ b.instrs ]) ≡ []
       go None e = refl
       go (Some b) e = quiet-phis q n b.instrs (all-of philess b q.blocks (found-in (λ (b : Block). nat_eq b.number k) q.blocks b e).0 none)
 

@@ -11,7 +11,7 @@ use crate::draft::{Draft, Line, Options};
 use crate::names::{NameTables, Names, WordSet};
 use crate::text::copy_of;
 use std::alloc::{AllocError, Global};
-use target_base::{Effect, List, OpcodeDesc, OpcodeDescs, Reg};
+use target_base::{Boxed, Effect, List, OpcodeDesc, OpcodeDescs};
 
 /// The opcodes that belong to every target.
 static THE_FIVE: [(&str, Effect); 5] = [
@@ -61,6 +61,7 @@ fn no_options(alloc: Global) -> Options
 pub(crate) fn empty_draft(alloc: Global) -> Result<Draft, AllocError>
     ensures { IfOk result (λ d. d ≡ empty_draft) }
 {
+    let opcodes = opcodes_of(alloc, &THE_FIVE)?;
     Ok(Draft {
         header: None,
         units: List::new(alloc),
@@ -69,7 +70,7 @@ pub(crate) fn empty_draft(alloc: Global) -> Result<Draft, AllocError>
         indexes: List::new(alloc),
         classes: List::new(alloc),
         masks: List::new(alloc),
-        opcodes: opcodes_of(alloc, &THE_FIVE)?,
+        opcodes,
         options: no_options(alloc),
     })
 }
@@ -91,56 +92,41 @@ fn names_in(alloc: Global, rows: &[(&str, Effect)]) -> Result<Names, AllocError>
 pub(crate) fn first_names(alloc: Global) -> Result<NameTables, AllocError>
     ensures { IfOk result (λ names. names ≡ names_of empty_draft) }
 {
+    let opcodes = names_in(alloc, &THE_FIVE)?;
     Ok(NameTables {
         units: Names::new(alloc),
         regs: Names::new(alloc),
         indexes: Names::new(alloc),
         classes: Names::new(alloc),
         masks: Names::new(alloc),
-        opcodes: names_in(alloc, &THE_FIVE)?,
+        opcodes,
     })
 }
 
 /// The draft with what the line adds.
-#[tactic(auto, unfolding(crate::specs::Adding::added))]
-pub(crate) fn added(alloc: Global, draft: Draft, line: Line) -> Result<Draft, AllocError>
+pub(crate) fn added(
+    alloc: Global,
+    draft: Boxed<Draft>,
+    line: Line,
+) -> Result<Boxed<Draft>, AllocError>
     ensures { IfOk result (λ d. d ≡ added draft line) }
 {
     let mut d = draft;
-    match line {
-        Line::Target(header) => d.header = Some(header),
-        Line::Unit(unit) => d.units.push(unit)?,
-        Line::Reg(reg) => d.regs.push(reg)?,
-        Line::Reserved(regs) => d.reserved.extend(regs.as_slice())?,
-        Line::Index(index) => d.indexes.push(index)?,
-        Line::Class(class) => d.classes.push(class)?,
-        Line::Mask(mask) => d.masks.push(mask)?,
-        Line::Opcode(opcode) => d.opcodes.push(opcode)?,
-        Line::Forms(forms) => d.options.add_forms(forms.as_slice()),
-        Line::Flags(words) => d.options.add_flags(alloc, words.as_slice())?,
-    }
+    d.get_mut().add(alloc, line)?;
     Ok(d)
 }
 
 /// The names with the one that the line declares.
-#[tactic(auto, unfolding(crate::specs::Adding::noted, crate::specs::Resolving::is_new))]
-pub(crate) fn noted(alloc: Global, names: NameTables, line: &Line) -> Result<NameTables, AllocError>
+pub(crate) fn noted(
+    alloc: Global,
+    names: Boxed<NameTables>,
+    line: &Line,
+) -> Result<Boxed<NameTables>, AllocError>
     requires new { IsTrue (is_new names line.now) }
     requires room { AreFew names }
     ensures { IfOk result (λ made. made ≡ noted names line.now) }
 {
     let mut n = names;
-    match line {
-        Line::Target(_) => {}
-        Line::Unit(unit) => n.units.add(alloc, unit.name.as_slice())?,
-        Line::Reg(reg) => n.regs.add(alloc, reg.name.as_slice())?,
-        Line::Reserved(_) => {}
-        Line::Index(index) => n.indexes.add(alloc, index.name.as_slice())?,
-        Line::Class(class) => n.classes.add(alloc, class.name.as_slice())?,
-        Line::Mask(mask) => n.masks.add(alloc, mask.name.as_slice())?,
-        Line::Opcode(opcode) => n.opcodes.add(alloc, opcode.name.as_slice())?,
-        Line::Forms(_) => {}
-        Line::Flags(_) => {}
-    }
+    n.get_mut().note(alloc, line)?;
     Ok(n)
 }

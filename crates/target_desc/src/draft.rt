@@ -1,7 +1,7 @@
 //! The target that the lines so far make.
 
 ghost use Rattle.std.specs.Prelude.{◌≡◌, OnOk, fold};
-ghost use Rattle.target_desc.specs.Adding.{with_form, with_flags};
+ghost use Rattle.target_desc.specs.Adding.{with_form, with_flags, added};
 
 use crate::names::WordSet;
 use crate::raw::{Header, TextForm};
@@ -65,7 +65,7 @@ impl Options {
     }
 
     /// Opts in forms of text.
-    pub(crate) fn add_forms(&mut self, forms: &[TextForm])
+    fn add_forms(&mut self, forms: &[TextForm])
         ensures { self.new ≡ fold with_form self.old forms.now }
     {
         for form in forms {
@@ -74,7 +74,7 @@ impl Options {
     }
 
     /// Opts in words of `target-flags`, each once.
-    pub(crate) fn add_flags(&mut self, alloc: Global, words: &[Bytes]) -> Result<(), AllocError>
+    fn add_flags(&mut self, alloc: Global, words: &[Bytes]) -> Result<(), AllocError>
         ensures { OnOk result (self.new ≡ with_flags self.old words.now) }
     {
         for word in words {
@@ -105,4 +105,31 @@ pub(crate) struct Draft {
     pub(crate) opcodes: OpcodeDescs,
     /// What it opts in.
     pub(crate) options: Options,
+}
+
+impl Draft {
+    /// Puts in what the line adds.
+    #[tactic(auto, unfolding(crate::specs::Adding::added))]
+    pub(crate) fn add(&mut self, alloc: Global, line: Line) -> Result<(), AllocError>
+        ensures { OnOk result (self.new ≡ added self.old line) }
+    {
+        match line {
+            Line::Target(header) => {
+                self.header = Some(header);
+                Ok(())
+            }
+            Line::Unit(unit) => self.units.push(unit),
+            Line::Reg(reg) => self.regs.push(reg),
+            Line::Reserved(regs) => self.reserved.extend(regs.as_slice()),
+            Line::Index(index) => self.indexes.push(index),
+            Line::Class(class) => self.classes.push(class),
+            Line::Mask(mask) => self.masks.push(mask),
+            Line::Opcode(opcode) => self.opcodes.push(opcode),
+            Line::Forms(forms) => {
+                self.options.add_forms(forms.as_slice());
+                Ok(())
+            }
+            Line::Flags(words) => self.options.add_flags(alloc, words.as_slice()),
+        }
+    }
 }

@@ -1,9 +1,13 @@
 //! Names in the order of their declaration, found fast.
 
-ghost use Rattle.std.specs.Prelude.{◌≡◌, ◌<◌, [], length, position, OnOk, OnErr, IfOk};
-ghost use Rattle.target_desc.specs.Names.{with_name};
+ghost use Rattle.std.specs.Prelude.{◌≡◌, ◌<◌, ◌≤◌, [], ◌∷◌, ◌++◌, length, position, OnOk, OnErr, IfOk, IsTrue};
+ghost use Rattle.target_desc.specs.Names.{with_name, is_fresh};
+ghost use Rattle.target_desc.specs.Resolving.{is_new};
+ghost use Rattle.target_desc.specs.Keeping.{AreFew};
+ghost use Rattle.target_desc.specs.Adding.{noted};
 ghost use Rattle.target_base.specs.Storage.{same_numbers};
 
+use crate::draft::Line;
 use crate::text::copy_of;
 use indexmap::IndexSet;
 use std::alloc::{AllocError, Global};
@@ -106,6 +110,16 @@ impl Names {
     {
         self.words.add(alloc, name)
     }
+
+    /// Puts a new name at the end.
+    fn declare(&mut self, alloc: Global, name: &[u8]) -> Result<(), AllocError>
+        requires new { IsTrue (is_fresh self.old name.now) }
+        requires room { length self.old ≤ 1024 }
+        ensures { OnOk result (self.new ≡ self.old ++ name.now ∷ []) }
+    {
+        self.add(alloc, name)?;
+        Ok(())
+    }
 }
 
 /// The names of each sort that are declared so far.
@@ -117,4 +131,24 @@ pub(crate) struct NameTables {
     pub(crate) classes: Names,
     pub(crate) masks: Names,
     pub(crate) opcodes: Names,
+}
+
+impl NameTables {
+    /// Puts the name that a line declares into the table of its sort.
+    #[tactic(auto, unfolding(crate::specs::Adding::noted, crate::specs::Resolving::is_new))]
+    pub(crate) fn note(&mut self, alloc: Global, line: &Line) -> Result<(), AllocError>
+        requires new { IsTrue (is_new self.old line.now) }
+        requires room { AreFew self.old }
+        ensures { OnOk result (self.new ≡ noted self.old line.now) }
+    {
+        match line {
+            Line::Unit(unit) => self.units.declare(alloc, unit.name.as_slice()),
+            Line::Reg(reg) => self.regs.declare(alloc, reg.name.as_slice()),
+            Line::Index(index) => self.indexes.declare(alloc, index.name.as_slice()),
+            Line::Class(class) => self.classes.declare(alloc, class.name.as_slice()),
+            Line::Mask(mask) => self.masks.declare(alloc, mask.name.as_slice()),
+            Line::Opcode(opcode) => self.opcodes.declare(alloc, opcode.name.as_slice()),
+            Line::Target(_) | Line::Reserved(_) | Line::Forms(_) | Line::Flags(_) => Ok(()),
+        }
+    }
 }

@@ -22,14 +22,16 @@ use crate::text::{is_comment, next_part, next_word};
 use std::alloc::{AllocError, Global};
 use target_base::registers::{has_unit, units_at};
 use target_base::{
-    ClassDesc, IndexDesc, List, OpcodeDesc, Reg, RegDesc, Target, TextOptions, Unit, UnitList,
+    Boxed, ClassDesc, IndexDesc, List, OpcodeDesc, Reg, RegDesc, Target, TextOptions, Unit,
+    UnitList,
 };
 
-/// What the lines so far make: a draft that keeps the rules, and the names that it declares.
+/// What the lines so far make: a draft that keeps the rules, and the names that it declares. Each
+/// stands in a box, so that line by line only pointers move.
 #[derive(Drop)]
 struct Reader {
-    draft: Draft,
-    names: NameTables,
+    draft: Boxed<Draft>,
+    names: Boxed<NameTables>,
     ghost named: { names ≡ names_of draft },
     ghost sound: { IsTrue (keeps_rules draft) },
 }
@@ -39,10 +41,9 @@ impl Reader {
     fn new(alloc: Global) -> Result<Reader, AllocError>
         ensures { IfOk result (λ r. r.draft ≡ empty_draft) }
     {
-        Ok(Reader {
-            draft: empty_draft(alloc)?,
-            names: first_names(alloc)?,
-        })
+        let draft = Boxed::new(alloc, empty_draft(alloc)?)?;
+        let names = Boxed::new(alloc, first_names(alloc)?)?;
+        Ok(Reader { draft, names })
     }
 
     /// The reader behind a line whose names are looked up, where it keeps the rules.
@@ -51,7 +52,7 @@ impl Reader {
         ensures { GivesLine (λ r. r.draft) result (ruled self.draft line) }
     {
         let Reader { draft, names } = self;
-        if !stands(&draft, &line) {
+        if !stands(draft.get(), &line) {
             return Err(LineStop::Fault(TargetKind::Rule));
         }
         let names = noted(alloc, names, &line)?;
@@ -66,7 +67,7 @@ impl Reader {
         match line {
             None => Err(LineStop::Fault(TargetKind::Name)),
             Some(line) => {
-                if is_new(&self.names, &line) {
+                if is_new(self.names.get(), &line) {
                     self.ruled(alloc, line)
                 } else {
                     Err(LineStop::Fault(TargetKind::Name))
@@ -82,7 +83,7 @@ impl Reader {
         match raw {
             None => Err(LineStop::Fault(TargetKind::Layout)),
             Some(raw) => {
-                let line = resolved(alloc, &self.names, raw)?;
+                let line = resolved(alloc, self.names.get(), raw)?;
                 self.named(alloc, line)
             }
         }
@@ -124,7 +125,7 @@ impl Reader {
             masks,
             opcodes,
             options: _,
-        } = draft;
+        } = draft.into_inner();
         match header {
             None => None,
             Some(Header { name, version }) => Some(Target {
@@ -146,9 +147,10 @@ impl Reader {
     fn end(self, alloc: Global) -> Result<Option<Target>, AllocError>
         ensures { IfOk result (λ t. option_map parts_of t ≡ ended self.draft) }
     {
-        let reserved = reserved_of(alloc, &self.draft)?;
-        if is_whole(&self.draft, reserved.as_slice()) {
-            let options = options_of(alloc, &self.draft.options)?;
+        let draft = self.draft.get();
+        let reserved = reserved_of(alloc, draft)?;
+        if is_whole(draft, reserved.as_slice()) {
+            let options = options_of(alloc, &draft.options)?;
             Ok(self.made(reserved, options))
         } else {
             Ok(None)

@@ -1,11 +1,11 @@
 //! What instructions write that count for nothing in a run: copies, constants, spills and reloads.
 
-ghost use Rattle.std.specs.Prelude.{◌≡◌, false, sum, ◌+◌, ◌*◌, ◌/◌, ◌%◌, ◌^◌, ◌≤◌, ◌++◌, OnOk, IfOk, map};
+ghost use Rattle.std.specs.Prelude.{◌≡◌, false, sum, ◌+◌, ◌*◌, ◌/◌, ◌%◌, ◌^◌, ◌≤◌, ◌++◌, OnOk, IfOk, [], map};
 ghost use Rattle.meaning.specs.declared.types.Lane.TheVariants.{SlotLane};
 ghost use Rattle.meaning.specs.declared.types.Source.TheVariants.{FromLane};
 ghost use Rattle.meaning.specs.Environment.{constant_source};
-ghost use Rattle.mir_meaning.specs.Registers.{numbers, operand_lanes, use_sources, operand_widths, slot_lane_numbers, slot_lanes};
-ghost use Rattle.mir_meaning.specs.Items.{moved, undefined, copied, defined_undef, parts, sequenced, inserted, constant_bits, constant_lanes, constant_of, given_constant, at_all_widths, spilled, reloaded, silent_writes};
+ghost use Rattle.mir_meaning.specs.Registers.{numbers, operand_lanes, use_sources, operand_widths, slot_lane_numbers, slot_lanes, has_number};
+ghost use Rattle.mir_meaning.specs.Items.{moved, undefined, copied, defined_undef, parts, sequenced, inserted, constant_bits, constant_lanes, constant_of, given_constant, widths_once, at_all_widths, spilled, reloaded, silent_writes};
 
 use crate::items::counted::{low_bits, residue};
 use crate::items::lanes::{
@@ -317,12 +317,33 @@ fn slot_lanes(alloc: Global, s: u32, lanes: &[u32], widths: &[u32]) -> Result<La
     Ok(made)
 }
 
-/// Appends one lane of a slot at every width.
-fn push_at_widths(out: &mut Lanes, t: &Target, s: u32, k: u32) -> Result<(), AllocError>
-    ensures { OnOk result (out.new ≡ out.old ++ map (λ d. SlotLane s k d.width) t.now.units) }
+/// Whether a number is among these.
+fn has_number(numbers: &[u32], n: u32) -> bool
+    ensures { result ≡ has_number numbers.now n }
 {
+    numbers.iter().any(|m| n == *m)
+}
+
+/// The widths that units of the target have, each once.
+fn unit_widths(alloc: Global, t: &Target) -> Result<List<u32>, AllocError>
+    ensures { IfOk result (λ made. made ≡ widths_once [] t.now.units) }
+{
+    let mut made: List<u32> = List::new(alloc);
     for d in t.units.as_slice() {
-        out.push(Lane::SlotLane(s, k, d.width as u32))?;
+        let width = d.width as u32;
+        if !has_number(made.as_slice(), width) {
+            made.push(width)?;
+        }
+    }
+    Ok(made)
+}
+
+/// Appends one lane of a slot at these widths.
+fn push_at_widths(out: &mut Lanes, s: u32, k: u32, widths: &[u32]) -> Result<(), AllocError>
+    ensures { OnOk result (out.new ≡ out.old ++ map (λ w. SlotLane s k w) widths.now) }
+{
+    for w in widths {
+        out.push(Lane::SlotLane(s, k, *w))?;
     }
     Ok(())
 }
@@ -331,9 +352,10 @@ fn push_at_widths(out: &mut Lanes, t: &Target, s: u32, k: u32) -> Result<(), All
 fn at_all_widths(alloc: Global, t: &Target, s: u32, lanes: &[u32]) -> Result<Lanes, AllocError>
     ensures { IfOk result (λ made. made ≡ at_all_widths t.now s lanes.now) }
 {
+    let widths = unit_widths(alloc, t)?;
     let mut made = List::new(alloc);
     for k in lanes {
-        push_at_widths(&mut made, t, s, *k)?;
+        push_at_widths(&mut made, s, *k, widths.as_slice())?;
     }
     Ok(made)
 }

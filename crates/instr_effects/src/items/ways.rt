@@ -1,8 +1,8 @@
 //! Ways into blocks, and what phis write on them.
 
-ghost use Rattle.std.specs.Prelude.{◌≡◌, ◌++◌, OnOk, flat_map, not};
+ghost use Rattle.std.specs.Prelude.{◌≡◌, ◌++◌, OnOk, not};
 ghost use Rattle.mir_func.specs.Binding.{does, ends_control};
-ghost use Rattle.mir_meaning.specs.Codes.{phi_pair, phi_operands, phi_writes, instrs_of, way, target_of, falls_through, fallen_into};
+ghost use Rattle.mir_meaning.specs.Codes.{phi_pair, phi_operands, phi_writes, phis_written, instrs_of, way, target_of, falls_through, fallen_into};
 
 use crate::items::lanes::use_sources;
 use crate::items::writes::push_defined;
@@ -84,6 +84,9 @@ pub fn instrs_of(blocks: &[Block], m: u32) -> &[Boxed<Instr>]
     &[]
 }
 
+/// Appends what the phis among these instructions write. The last ones come first, since the later of
+/// two that define one register counts.
+#[tactic(auto, using(crate::proofs::Pairs::written-last))]
 fn push_all_phis(
     out: &mut Writes,
     alloc: Global,
@@ -92,11 +95,12 @@ fn push_all_phis(
     n: u32,
     instrs: &[Boxed<Instr>],
 ) -> Result<(), AllocError>
-    ensures { OnOk result (out.new ≡ out.old ++ flat_map (phi_writes t.now f.now n) instrs.now) }
+    ensures { OnOk result (out.new ≡ out.old ++ phis_written t.now f.now n instrs.now) }
 {
-    for i in instrs {
-        let i = i.get();
-        push_phi_writes(out, alloc, t, f, n, i)?;
+    let mut rest = instrs;
+    while let [more @ .., i] = rest {
+        push_phi_writes(out, alloc, t, f, n, i.get())?;
+        rest = more;
     }
     Ok(())
 }

@@ -47,11 +47,13 @@ impl LiveFunc {
     pub fn fold(&mut self, keep: u32, gone: u32, index: Option<IndexId>) -> Result<(), AllocError> {
         let alloc = self.table.rows.alloc;
         let fold = Fold { keep, gone, index };
-        let mut edits = Vec::new(alloc);
-        'touched: for id in self.touched(alloc, gone)?.as_slice() {
+        let touched = self.touched(alloc, gone)?;
+        let mut edits = Vec::with_capacity(alloc, touched.len())?;
+        'touched: for id in touched.as_slice() {
             edits.push(self.fold_edit(alloc, *id, fold)?)?;
         }
-        self.edit_all(edits)?;
+        let changes = self.begin_edits_of(edits, gone, touched.as_slice())?;
+        self.keep(changes);
         if index.is_none() {
             self.narrow(keep, gone);
         }

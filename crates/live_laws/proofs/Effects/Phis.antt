@@ -23,10 +23,11 @@ use Rattle.mir_func.specs.Value.{Function}
 use Rattle.mir_func.specs.Binding.{registers, does}
 use Rattle.mir_meaning.specs.Registers.{operand_lanes, undefined_lanes, use_sources}
 use Rattle.mir_meaning.specs.Items.{write, moved, undefined, defined, defined_undef}
-use Rattle.mir_meaning.specs.Codes.{item_of, phi_pair, phi_operands, phi_writes, instrs_of}
+use Rattle.mir_meaning.specs.Codes.{item_of, phi_pair, phi_operands, phi_writes, phis_written, instrs_of}
 use Rattle.mir_meaning.specs.Points.{point_item}
 use Rattle.mir_meaning.specs.Rules.{block_numbers, block_of}
-use Rattle.instr_effects.proofs.Members.{member-none, member-elim, left-in, right-in, in-either, flat-of, map-in}
+use Rattle.instr_effects.proofs.Pairs.{written-of}
+use Rattle.instr_effects.proofs.Members.{member-none, member-elim, left-in, right-in, in-either, map-in}
 use Rattle.instr_effects.proofs.Plain.{filled-cases, moved-same}
 use Rattle.instr_effects.specs.Ends.{pairs_of, pairs_behind}
 use Rattle.live_laws.proofs.Effects.Moved.{Apart, moved-of, undefined-lane, undefined-fill, undefined-in}
@@ -185,8 +186,8 @@ module _ (reserved : Lane → Bool) (places : Places) where
     unfolding point_item
     phi-item i e = ap (λ q. cond q (Silent [] (defined_undef t f i.operands)) (item_of t f b i)) e ∙ ap (λ ws. Silent [] ws) (begun-is t f i.operands)
 
-    later-none : (i : Instr) (is : List Instr) → PhisFirst (i ∷ is) → does is_phi t i ≡ false → (w : Write) → Member w (flat_map (phi_writes t f n) (i ∷ is)) → ⊥
-    later-none i is h e w m = let z = flat-of (phi_writes t f n) w (i ∷ is) m in at z.0 (member-slice z.0 (i ∷ is) z.1) (phi-write t f n z.0 w z.2).0
+    later-none : (i : Instr) (is : List Instr) → PhisFirst (i ∷ is) → does is_phi t i ≡ false → (w : Write) → Member w (phis_written t f n (i ∷ is)) → ⊥
+    later-none i is h e w m = let z = written-of t f n w (i ∷ is) m in at z.0 (member-slice z.0 (i ∷ is) z.1) (phi-write t f n z.0 w z.2).0
       where
         at : (x : Instr) → ((k : ℕ) × (slice_get (i ∷ is) k ≡ Some x)) → does is_phi t x ≡ true → ⊥
         at x y g = by y.0 y.1
@@ -196,22 +197,22 @@ module _ (reserved : Lane → Bool) (places : Places) where
             by (suc k) q = let c = first_of_both (does is_phi t i) (list_all (does is_phi t) (take k is)) (h (suc k) x q g) in cc
 
     -- what is live at a block's start isn't written on the way in
-    pub unbegun : (is : List Instr) (p : Places) (l : Lane) → PhisFirst is → LivePlace reserved places (map (point_item t f b) is ++ p) l → (w : Write) → Member w (flat_map (phi_writes t f n) is) → w.lane ≡ l → ⊥
+    pub unbegun : (is : List Instr) (p : Places) (l : Lane) → PhisFirst is → LivePlace reserved places (map (point_item t f b) is ++ p) l → (w : Write) → Member w (phis_written t f n is) → w.lane ≡ l → ⊥
     unbegun [] p l h live w m e = member-none w m
     unbegun (i ∷ is) p l h live w m e = go (does is_phi t i) refl (unbegun is p l less)
       where
         less : PhisFirst is
         less j x g k = second_of_both (does is_phi t i) (list_all (does is_phi t) (take j is)) (h (suc j) x g k)
 
-        go : (q : Bool) → does is_phi t i ≡ q → (LivePlace reserved places (map (point_item t f b) is ++ p) l → (v : Write) → Member v (flat_map (phi_writes t f n) is) → v.lane ≡ l → ⊥) → ⊥
+        go : (q : Bool) → does is_phi t i ≡ q → (LivePlace reserved places (map (point_item t f b) is ++ p) l → (v : Write) → Member v (phis_written t f n is) → v.lane ≡ l → ⊥) → ⊥
         go false g ih = later-none i is h g w m
         go true g ih =
             let z = hidden live (begun t f i.operands) (map (point_item t f b) is ++ p) (ap (λ x. x ∷ (map (point_item t f b) is ++ p)) (phi-item i g)) in
-            split z (in-either w (phi_writes t f n i) (flat_map (phi_writes t f n) is) m)
+            split z (in-either w (phis_written t f n is) (phi_writes t f n i) m)
           where
-            split : Behind (map (point_item t f b) is ++ p) (begun t f i.operands) l → Member w (phi_writes t f n i) ⊎ Member w (flat_map (phi_writes t f n) is) → ⊥
-            split z (inl k) = let y = phi-write t f n i w k in z.1 (subst (λ x. Member x (begun t f i.operands)) e y.1.5)
-            split z (inr k) = ih z.0 w k e
+            split : Behind (map (point_item t f b) is ++ p) (begun t f i.operands) l → Member w (phis_written t f n is) ⊎ Member w (phi_writes t f n i) → ⊥
+            split z (inl k) = ih z.0 w k e
+            split z (inr k) = let y = phi-write t f n i w k in z.1 (subst (λ x. Member x (begun t f i.operands)) e y.1.5)
 
 -- the instructions of the block of a number
 pub instrs-are : (bs : List Block) (x : ℕ) (b : Block) → slice_get bs x ≡ Some b → Apart (block_numbers bs) → instrs_of bs b.number ≡ b.instrs

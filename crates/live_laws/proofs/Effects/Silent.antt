@@ -22,14 +22,15 @@ use Rattle.mir_func.specs.declared.func.Operand.{Operand}
 use Rattle.mir_func.specs.declared.func.Operand.TheVariants as operands
 use Rattle.mir_func.specs.Value.{Function}
 use Rattle.mir_func.specs.Binding.{registers}
-use Rattle.mir_meaning.specs.Registers.{numbers, operand_lanes, operand_widths, located_lanes, whole_lanes, undefined_lanes, use_sources, range_widths, is_reserved, slot_lanes, slot_lane_numbers}
-use Rattle.mir_meaning.specs.Items.{write, moved, undefined, lanes_beside, at_all_widths}
+use Rattle.mir_meaning.specs.Registers.{numbers, operand_lanes, operand_widths, located_lanes, whole_lanes, undefined_lanes, use_sources, range_widths, is_reserved, slot_lanes, slot_lane_numbers, has_number}
+use Rattle.mir_meaning.specs.Items.{write, moved, undefined, lanes_beside, widths_once, at_all_widths}
 use Rattle.mir_meaning.specs.Stands.{Tags}
 use Rattle.instr_effects.specs.declared.owner.Owner.TheVariants as owners
 use Rattle.instr_effects.specs.Owners.{owner_of, owners_read}
 use Rattle.instr_effects.proofs.Members.{member-none, member-elim, left-in, right-in, in-either, flat-of, flat-in, map-of, map-in}
 use Rattle.instr_effects.proofs.Writes.{located-long}
 use Rattle.live_laws.specs.Effects.Shaped.{is_proper}
+use Rattle.live_laws.proofs.Effects.Blocks.{number-there}
 use Rattle.live_laws.proofs.Effects.Moving.{owners-same}
 use Rattle.live_laws.proofs.Effects.Moved.{Apart, IsGiven, moved-of, undefined-lane}
 use Rattle.live_laws.proofs.Effects.Lists.{use-apart, located-apart, lanes-apart, numbers-apart, lanes-read-apart, slots-apart}
@@ -151,13 +152,27 @@ stored-in s k (j ∷ ks) (w ∷ ws) [] h g m = absurd (omega arith)
 stored-in s k (j ∷ ks) (w ∷ ws) (x ∷ ss) h g m =
     member-elim k j ks (λ e. (write false (SlotLane s j w) (Moved x), first, ap (owners.Slot s) (sym e))) (λ n. let z = stored-in s k ks ws ss (omega arith) (omega arith) n in (z.0, later z.1, z.2)) m
 
-width-of : (w : ℕ) (us : List UnitDesc) → list_any (λ d. nat_eq d.width w) us ≡ true → (d : UnitDesc) × Member d us × (d.width ≡ w)
-width-of w [] e = absurd (cc)
-width-of w (d ∷ us) e = go (nat_eq d.width w) refl e (width-of w us)
+-- what is known stays
+known-kept : (y : ℕ) (known : List ℕ) (ds : List UnitDesc) → Member y known → Member y (widths_once known ds)
+known-kept y known [] m = m
+known-kept y known (d ∷ ds) m = known-kept y (cond (has_number known d.width) known (known ++ (d.width ∷ []))) ds (kept (has_number known d.width))
   where
-    go : (b : Bool) → nat_eq d.width w ≡ b → (b || list_any (λ x. nat_eq x.width w) us) ≡ true → (list_any (λ x. nat_eq x.width w) us ≡ true → (x : UnitDesc) × Member x us × (x.width ≡ w)) → (x : UnitDesc) × Member x (d ∷ us) × (x.width ≡ w)
-    go true f g ih = (d, first, eqb-true d.width w f)
-    go false f g ih = let z = ih g in (z.0, later z.1, z.2)
+    kept : (b : Bool) → Member y (cond b known (known ++ (d.width ∷ [])))
+    kept true = m
+    kept false = left-in y known (d.width ∷ []) m
+
+-- the width of a unit is among those of all units
+width-once : (y : ℕ) (known : List ℕ) (ds : List UnitDesc) → list_any (λ d. nat_eq d.width y) ds ≡ true → Member y (widths_once known ds)
+width-once y known [] e = absurd (cc)
+width-once y known (d ∷ ds) e = go (nat_eq d.width y) refl e (width-once y (cond (has_number known d.width) known (known ++ (d.width ∷ []))) ds)
+  where
+    listed : d.width ≡ y → (b : Bool) → has_number known d.width ≡ b → Member y (cond b known (known ++ (d.width ∷ [])))
+    listed g true f = subst (λ z. Member z known) g (number-there d.width known f)
+    listed g false f = subst (λ z. Member z (known ++ (d.width ∷ []))) g (right-in d.width known (d.width ∷ []) first)
+
+    go : (b : Bool) → nat_eq d.width y ≡ b → (b || list_any (λ x. nat_eq x.width y) ds) ≡ true → (list_any (λ x. nat_eq x.width y) ds ≡ true → Member y (widths_once known (d ∷ ds))) → Member y (widths_once known (d ∷ ds))
+    go true f g ih = known-kept y (cond (has_number known d.width) known (known ++ (d.width ∷ []))) ds (listed (eqb-true d.width y f) (has_number known d.width) refl)
+    go false f g ih = ih g
 
 module _ (t : Target) (f : Function) (tag : Tags) (proper : (l : Lane) (n : ℕ) → tag l ≡ Some n → is_proper t l ≡ true) (i : Item) (o : RegOp) (s : ℕ) (k : Operand) (os : List Operand) (names : Named t f tag (operands.Reg o ∷ os)) (slots : (l : Lane) → Member l (lanes_beside t f o s k) → (n : ℕ) × (tag l ≡ Some n)) (few : length (slot_lane_numbers t (operand_widths t f o) k) ≤ length (operand_widths t f o)) where
   abbrev ks : List ℕ
@@ -186,9 +201,8 @@ module _ (t : Target) (f : Function) (tag : Tags) (proper : (l : Lane) (n : ℕ)
 
       written : (j y : ℕ) → Member j ks → list_any (λ d. nat_eq d.width y) t.units ≡ true → (v : Write) × Member v (M ++ undefined false (at_all_widths t s ks)) × (v.lane ≡ SlotLane s j y)
       written j y m e =
-          let z = width-of y t.units e in
-          let h : Member (SlotLane s j y) (map (λ d. SlotLane s j d.width) t.units) = subst (λ x. Member (SlotLane s j x) (map (λ d. SlotLane s j d.width) t.units)) z.2 (map-in (λ d. SlotLane s j d.width) z.0 t.units z.1) in
-          let g = flat-in (λ q. map (λ d. SlotLane s q d.width) t.units) (SlotLane s j y) j ks m h in
+          let h = map-in (λ x. SlotLane s j x) y (widths_once [] t.units) (width-once y [] t.units e) in
+          let g = flat-in (λ q. map (λ x. SlotLane s q x) (widths_once [] t.units)) (SlotLane s j y) j ks m h in
           (write false (SlotLane s j y) (Moved Undef), right-in (write false (SlotLane s j y) (Moved Undef)) M (undefined false (at_all_widths t s ks)) (map-in (λ l. write false l (Moved Undef)) (SlotLane s j y) (at_all_widths t s ks) g), refl)
 
       closed : (a : Lane) (n : ℕ) → tag a ≡ Some n → (w : Write) → Member w M → owner_of w.lane ≡ owner_of a → (v : Write) × Member v (M ++ undefined false (at_all_widths t s ks)) × (v.lane ≡ a)
@@ -215,6 +229,6 @@ module _ (t : Target) (f : Function) (tag : Tags) (proper : (l : Lane) (n : ℕ)
       covered v (inl m) = (v, left-in v M [] m, refl)
       covered v (inr m) =
           let h = undefined-lane false v (at_all_widths t s ks) m in
-          let z = flat-of (λ q. map (λ d. SlotLane s q d.width) t.units) v.lane ks h in
-          let y = map-of (λ d. SlotLane s z.0 d.width) v.lane t.units z.2 in
+          let z = flat-of (λ q. map (λ x. SlotLane s q x) (widths_once [] t.units)) v.lane ks h in
+          let y = map-of (λ x. SlotLane s z.0 x) v.lane (widths_once [] t.units) z.2 in
           store z.0 z.1 v.lane (ap owner_of y.2)

@@ -24,7 +24,7 @@ use Rattle.mir_func.specs.declared.func.Block.{Block}
 use Rattle.mir_func.specs.Value.{Function}
 use Rattle.mir_func.specs.Binding.{registers, effect_of, does, passes}
 use Rattle.mir_meaning.specs.Registers.{operand_lanes, operand_widths, use_sources, is_reserved, has_number}
-use Rattle.mir_meaning.specs.Codes.{phi_operands, phi_writes, instrs_of, way, ways_out, block_end, blocks_code}
+use Rattle.mir_meaning.specs.Codes.{phi_operands, phis_written, instrs_of, way, ways_out, block_end, blocks_code}
 use Rattle.mir_meaning.specs.Points.{point_item, points_of}
 use Rattle.mir_meaning.specs.Rules.{V7, block_numbers, successors_of, named_blocks, block_of, predecessors, phi_stands, widths_fit, same_widths}
 use Rattle.mir_meaning.specs.Paths.{Among, Body, Code, steps_of, last_of, exits_of}
@@ -34,6 +34,7 @@ use Rattle.instr_effects.specs.Owners.{owner_of, owners_read}
 use Rattle.instr_effects.specs.Acts.{use_owners}
 use Rattle.instr_effects.specs.Steps.{Numbering}
 use Rattle.instr_effects.specs.Stepping.{tag_of}
+use Rattle.instr_effects.proofs.Pairs.{written-of, written-in}
 use Rattle.instr_effects.proofs.Members.{member-none, member-elim, flat-of, flat-in, filter-of, map-of, map-in}
 use Rattle.instr_effects.proofs.Plain.{filled-cases, plain-law}
 use Rattle.instr_effects.proofs.Writes.{located-long}
@@ -132,13 +133,13 @@ module _ (t : Target) (f : Function) (num : Numbering) (rules : KeepsRules t f) 
         (way t f b.number z.0.block, map-in (λ g. way t f b.number g.block) z.0 b.successors z.1, sym c.2 ∙ sym (number-is y c.0 c.1))
 
     -- the phis of a way are those of its block
-    phis-of : (e : Edge) (z : (g : Way) × Member g b.successors × (e ≡ way t f b.number g.block) × (y : ℕ) × (c : Block) × (place_of g.block f.blocks ≡ Some y) × (slice_get f.blocks y ≡ Some c) × (c.number ≡ g.block)) → e.phis ≡ flat_map (phi_writes t f b.number) z.4.instrs
-    phis-of e z = ap (λ w. w.phis) z.2 ∙ ap (λ n. flat_map (phi_writes t f b.number) (instrs_of f.blocks n)) (sym z.7) ∙ ap (flat_map (phi_writes t f b.number)) (instrs-are f.blocks z.3 z.4 z.6 apart)
+    phis-of : (e : Edge) (z : (g : Way) × Member g b.successors × (e ≡ way t f b.number g.block) × (y : ℕ) × (c : Block) × (place_of g.block f.blocks ≡ Some y) × (slice_get f.blocks y ≡ Some c) × (c.number ≡ g.block)) → e.phis ≡ phis_written t f b.number z.4.instrs
+    phis-of e z = ap (λ w. w.phis) z.2 ∙ ap (λ n. phis_written t f b.number (instrs_of f.blocks n)) (sym z.7) ∙ ap (phis_written t f b.number) (instrs-are f.blocks z.3 z.4 z.6 apart)
 
     phis : (e : Edge) (w : Write) (l : Lane) → Member e (ways_out t f b) → Member w e.phis → w.fill ≡ Moved (FromLane l) → is_reserved t l ≡ false → (n : ℕ) × (T l ≡ Some n) × Among n (last_of code x)
     phis e w l m k h r =
         let z = led e m in
-        let y = flat-of (phi_writes t f b.number) w z.4.instrs (subst (Member w) (phis-of e z) k) in
+        let y = written-of t f b.number w z.4.instrs (subst (Member w) (phis-of e z) k) in
         let p = phi-write t f b.number y.0 w y.2 in
         let s = p.1.1 in
         let source = phi-source t f b.number y.0.operands w l p.1 h in
@@ -250,9 +251,9 @@ module _ (t : Target) (f : Function) (num : Numbering) (rules : KeepsRules t f) 
             let fits = uses-fit i c mc mi h i.operands refl s (behind-register i.operands (s, b.number) p) b.number p in
             let w = source-written t f b.number i.operands s l fits distinct p k in
             let at = subst (λ r. Member w.0 (cond r (phi_operands t f b.number i.operands) [])) (sym h) w.1 in
-            let into = flat-in (phi_writes t f b.number) w.0 i c.instrs mi at in
+            let into = written-in t f b.number w.0 i c.instrs mi at in
             let block : instrs_of f.blocks edge.0.block ≡ c.instrs = ap (instrs_of f.blocks) (sym edge.2) ∙ instrs-are f.blocks y c e apart in
-            let here = subst (λ is. Member w.0 (flat_map (phi_writes t f b.number) is)) (sym block) into in
+            let here = subst (λ is. Member w.0 (phis_written t f b.number is)) (sym block) into in
             (way t f b.number edge.0.block, w.0, l, map-in (λ v. way t f b.number v.block) edge.0 b.successors edge.1, here, w.2, use-tag s l n k q)
 
     through : (e : Edge) (a : Lane) → Member e (ways_out t f b) → LivePlace (is_reserved t) C (found e.block C) a → filled e.phis a ≡ Moved (FromLane a)
@@ -262,7 +263,7 @@ module _ (t : Target) (f : Function) (num : Numbering) (rules : KeepsRules t f) 
         let number : e.block ≡ z.4.number = ap (λ w. w.block) z.2 ∙ sym z.7 in
         let here = subst (λ p. LivePlace (is_reserved t) C p a) (ap (λ n. found n C) number ∙ block.1) live in
         let none = unbegun (is_reserved t) C t f z.4 b.number z.4.instrs (block_end t f z.4 block.0 ∷ blocks_code (point_item t f) t f block.0) a (phis-first z.3 z.4 z.6) here in
-        go (flat_map (phi_writes t f b.number) z.4.instrs) (phis-of e z) none (filled-cases e.phis a)
+        go (phis_written t f b.number z.4.instrs) (phis-of e z) none (filled-cases e.phis a)
       where
         go : (ws : Writes) → e.phis ≡ ws → ((w : Write) → Member w ws → w.lane ≡ a → ⊥) → ((w : Write) × Member w e.phis × (w.lane ≡ a) × (filled e.phis a ≡ w.fill)) ⊎ ((filled e.phis a ≡ Moved (FromLane a)) × ((w : Write) → Member w e.phis → w.lane ≡ a → ⊥)) → filled e.phis a ≡ Moved (FromLane a)
         go ws q n (inl z) = absurd (n z.0 (subst (Member z.0) q z.1) z.2)

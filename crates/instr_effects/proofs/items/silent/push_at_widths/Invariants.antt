@@ -2,5 +2,5 @@ use Rattle.std.proofs.Common.{◌≡◌, ◌++◌, drop, map}
 use Rattle.meaning.specs.declared.types.Lane.TheVariants.{SlotLane}
 use Rattle.instr_effects.proofs.items.silent.push_at_widths.Given as goal
 
-abbrev pub invariant-loop-d : goal.invariant-loop-d
-invariant-loop-d l = l.out ++ map (λ d. SlotLane l.s l.k d.width) (drop l.d-index l.d-items) ≡ l.initial.out ++ map (λ d. SlotLane l.s l.k d.width) l.t.units
+abbrev pub invariant-loop-w : goal.invariant-loop-w
+invariant-loop-w l = l.out ++ map (λ w. SlotLane l.s l.k w) (drop l.w-index l.widths) ≡ l.initial.out ++ map (λ w. SlotLane l.s l.k w) l.widths

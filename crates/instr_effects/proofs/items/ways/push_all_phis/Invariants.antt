@@ -1,6 +1,9 @@
-use Rattle.std.proofs.Common.{◌≡◌, ◌++◌, drop, flat_map}
-use Rattle.mir_meaning.specs.Codes.{phi_writes}
+use Rattle.std.proofs.Common.{◌≡◌, ◌++◌, length}
+use Rattle.mir_meaning.specs.Codes.{phis_written}
 use Rattle.instr_effects.proofs.items.ways.push_all_phis.Given as goal
 
-abbrev pub invariant-loop-i : goal.invariant-loop-i
-invariant-loop-i l = l.out ++ flat_map (phi_writes l.t l.f l.n) (drop l.i-index l.instrs) ≡ l.initial.out ++ flat_map (phi_writes l.t l.f l.n) l.instrs
+abbrev pub invariant-loop-rest : goal.invariant-loop-rest
+invariant-loop-rest l = l.out ++ phis_written l.t l.f l.n l.rest ≡ l.initial.out ++ phis_written l.t l.f l.n l.instrs
+
+abbrev pub decreases-loop-rest : goal.decreases-loop-rest
+decreases-loop-rest l = length l.rest

@@ -1,4 +1,4 @@
-use Rattle.mir_read.proofs.TargetNames.{regs_few, regs_distinct, indexes_few, indexes_distinct, classes_few, classes_distinct, masks_few, masks_distinct, opcodes_few, opcodes_distinct}
+use Rattle.mir_read.proofs.TargetNames.{regs_few, regs_distinct, indexes_few, indexes_distinct, classes_few, classes_distinct, masks_few, masks_distinct, opcodes_few, opcodes_distinct, flags_distinct}
 use Rattle.mir_read.proofs.names.Names.new.Goals as goal
 
 pub reg_names-requires-clause-few : goal.reg_names-requires-clause-few
@@ -30,6 +30,9 @@ opcode_names-requires-clause-few c = rw c.as_slice-5.ensures (opcodes_few c.args
 
 pub opcode_names-requires-clause-distinct : goal.opcode_names-requires-clause-distinct
 opcode_names-requires-clause-distinct c = rw c.as_slice-5.ensures (opcodes_distinct c.args.target.now)
+
+pub flag_words-requires : goal.flag_words-requires
+flag_words-requires c = rw c.as_slice-6.ensures (flags_distinct c.args.target.now)
 
 pub invariant_of-result : goal.invariant_of-result
 invariant_of-result c = record {

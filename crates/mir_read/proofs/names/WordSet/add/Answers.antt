@@ -1,10 +1,10 @@
 use Rattle.std.proofs.Common.{◌∙◌, ap, map}
 use Rattle.mir_read.specs.Names.{with_name}
 use Rattle.mir_read.proofs.Sets.{name_inserted}
-use Rattle.mir_read.proofs.names.NameSet.add.Goals as goal
+use Rattle.mir_read.proofs.names.WordSet.add.Goals as goal
 
 pub returns-clause-ok : goal.returns-clause-ok
 returns-clause-ok c =
     ap (λ keys. map (λ v. v.items) keys) c.in_ok-insert.ensures.keys
-    ∙ name_inserted c.self.inside.set.keys (λ v. v.items) c.in_ok-from_slice.field-0 c.args.name.now c.in_ok-from_slice.ensures.items
-    ∙ ap (λ names. with_name names c.args.name.now) c.self.view_is
+    ∙ name_inserted c.self.inside.set.keys (λ v. v.items) c.in_ok-from_slice.field-0 c.args.word.now c.in_ok-from_slice.ensures.items
+    ∙ ap (λ words. with_name words c.args.word.now) c.self.view_is
