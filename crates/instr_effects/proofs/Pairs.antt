@@ -99,6 +99,6 @@ written-in t f n w i (x ∷ is) m k =
     m
 
 -- the writes of the last phi come first
-pub written-last : (t : Target) (f : Function) (n : ℕ) (is : List Instr) (i : Instr) → phis_written t f n (is ++ i ∷ []) ≡ phi_writes t f n i ++ phis_written t f n is
-written-last t f n [] i = sym (append-nil (phi_writes t f n i))
-written-last t f n (x ∷ is) i = ap (λ ws. ws ++ phi_writes t f n x) (written-last t f n is i) ∙ append_assoc (phi_writes t f n i) (phis_written t f n is) (phi_writes t f n x)
+pub written_last : (t : Target) (f : Function) (n : ℕ) (is : List Instr) (i : Instr) → phis_written t f n (is ++ i ∷ []) ≡ phi_writes t f n i ++ phis_written t f n is
+written_last t f n [] i = sym (append-nil (phi_writes t f n i))
+written_last t f n (x ∷ is) i = ap (λ ws. ws ++ phi_writes t f n x) (written_last t f n is i) ∙ append_assoc (phi_writes t f n i) (phis_written t f n is) (phi_writes t f n x)

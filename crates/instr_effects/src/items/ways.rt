@@ -86,7 +86,7 @@ pub fn instrs_of(blocks: &[Block], m: u32) -> &[Boxed<Instr>]
 
 /// Appends what the phis among these instructions write. The last ones come first, since the later of
 /// two that define one register counts.
-#[tactic(auto, using(crate::proofs::Pairs::written-last))]
+#[tactic(auto, using(crate::proofs::Pairs::written_last))]
 fn push_all_phis(
     out: &mut Writes,
     alloc: Global,
