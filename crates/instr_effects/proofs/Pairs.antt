@@ -97,8 +97,3 @@ written-in t f n w i (x ∷ is) m k =
     (λ e. right-in w (phis_written t f n is) (phi_writes t f n x) (subst (λ y. Member w (phi_writes t f n y)) e k))
     (λ j. left-in w (phis_written t f n is) (phi_writes t f n x) (written-in t f n w i is j k))
     m
-
--- the writes of the last phi come first
-pub written_last : (t : Target) (f : Function) (n : ℕ) (is : List Instr) (i : Instr) → phis_written t f n (is ++ i ∷ []) ≡ phi_writes t f n i ++ phis_written t f n is
-written_last t f n [] i = sym (append-nil (phi_writes t f n i))
-written_last t f n (x ∷ is) i = ap (λ ws. ws ++ phi_writes t f n x) (written_last t f n is i) ∙ append_assoc (phi_writes t f n i) (phis_written t f n is) (phi_writes t f n x)

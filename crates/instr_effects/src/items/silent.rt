@@ -1,6 +1,6 @@
 //! What instructions write that count for nothing in a run: copies, constants, spills and reloads.
 
-ghost use Rattle.std.specs.Prelude.{◌≡◌, false, sum, ◌+◌, ◌*◌, ◌/◌, ◌%◌, ◌^◌, ◌≤◌, ◌++◌, OnOk, IfOk, [], map};
+ghost use Rattle.std.specs.Prelude.{◌≡◌, false, sum, ◌+◌, ◌*◌, ◌/◌, ◌%◌, ◌^◌, ◌≤◌, ◌++◌, OnOk, IfOk, [], map, flat_map};
 ghost use Rattle.meaning.specs.declared.types.Lane.TheVariants.{SlotLane};
 ghost use Rattle.meaning.specs.declared.types.Source.TheVariants.{FromLane};
 ghost use Rattle.meaning.specs.Environment.{constant_source};
@@ -348,16 +348,23 @@ fn push_at_widths(out: &mut Lanes, s: u32, k: u32, widths: &[u32]) -> Result<(),
     Ok(())
 }
 
+/// Lanes of a slot at these widths.
+fn at_widths(alloc: Global, s: u32, lanes: &[u32], widths: &[u32]) -> Result<Lanes, AllocError>
+    ensures { IfOk result (λ made. made ≡ flat_map (λ k. map (λ w. SlotLane s k w) widths.now) lanes.now) }
+{
+    let mut made = List::new(alloc);
+    for k in lanes {
+        push_at_widths(&mut made, s, *k, widths)?;
+    }
+    Ok(made)
+}
+
 /// Lanes of a slot at every width.
 fn at_all_widths(alloc: Global, t: &Target, s: u32, lanes: &[u32]) -> Result<Lanes, AllocError>
     ensures { IfOk result (λ made. made ≡ at_all_widths t.now s lanes.now) }
 {
     let widths = unit_widths(alloc, t)?;
-    let mut made = List::new(alloc);
-    for k in lanes {
-        push_at_widths(&mut made, s, *k, widths.as_slice())?;
-    }
-    Ok(made)
+    at_widths(alloc, s, lanes, widths.as_slice())
 }
 
 /// A store; what the slot's lanes held at other widths is Undef then.

@@ -86,7 +86,6 @@ pub fn instrs_of(blocks: &[Block], m: u32) -> &[Boxed<Instr>]
 
 /// Appends what the phis among these instructions write. The last ones come first, since the later of
 /// two that define one register counts.
-#[tactic(auto, using(crate::proofs::Pairs::written_last))]
 fn push_all_phis(
     out: &mut Writes,
     alloc: Global,
@@ -97,10 +96,8 @@ fn push_all_phis(
 ) -> Result<(), AllocError>
     ensures { OnOk result (out.new ≡ out.old ++ phis_written t.now f.now n instrs.now) }
 {
-    let mut rest = instrs;
-    while let [more @ .., i] = rest {
-        push_phi_writes(out, alloc, t, f, n, i.get())?;
-        rest = more;
+    for k in (0..instrs.len()).rev() {
+        push_phi_writes(out, alloc, t, f, n, instrs[k].get())?;
     }
     Ok(())
 }
