@@ -1,8 +1,7 @@
 -- All registers of a class lie in it.
-use Rattle.std.proofs.Common.{◌≡◌, List, [], ◌∷◌, Bool, true, false, refl}
+use Rattle.std.proofs.Common.{◌≡◌, List, [], ◌∷◌, Bool, true, false, refl, eq-eqb}
 use Rattle.std.specs.Prelude.{◌==◌}
 use Rattle.std.proofs.lemmas.Bool.{and_parts, and_from, or_left, or_right}
-use Rattle.std.proofs.lemmas.Bool.Decides.{nat_tests}
 use Rattle.target_base.specs.declared.types.Reg.{Reg}
 use Rattle.target_base.specs.Storage.{holds_reg, is_within}
 
@@ -14,4 +13,4 @@ within_more (r ∷ rs) qs q e =
 
 pub within_self : (rs : List Reg) → is_within rs rs ≡ true
 within_self [] = refl
-within_self (r ∷ rs) = and_from (holds_reg (r ∷ rs) r) (is_within rs (r ∷ rs)) (or_left (r.0 == r.0) (holds_reg rs r) (search nat_tests)) (within_more rs rs r (within_self rs))
+within_self (r ∷ rs) = and_from (holds_reg (r ∷ rs) r) (is_within rs (r ∷ rs)) (or_left (r.0 == r.0) (holds_reg rs r) (eq-eqb r.0 r.0 refl)) (within_more rs rs r (within_self rs))
