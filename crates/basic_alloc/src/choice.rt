@@ -1,6 +1,6 @@
 //! The choice for a range: a free register, the register of lighter ranges, or neither.
 
-ghost use Rattle.std.specs.Prelude.{◌≡◌, true, length, find, option_map, IfOk};
+ghost use Rattle.std.specs.Prelude.{◌≡◌, [], true, length, find, option_map, IfOk};
 ghost use Rattle.interference.specs.Clashes.{IsOrdered};
 ghost use Rattle.evictor.specs.Candidates.{candidates};
 ghost use Rattle.evictor.specs.Cheapest.{number, qualifies};
@@ -29,7 +29,7 @@ pub enum Choice {
 
 /// The first of these registers that the range may take from others, with those.
 fn first_ousting(view: View<'_>, found: &[Reg]) -> Result<Option<Eviction>, AllocError>
-    ensures { IfOk result (λ first. IsOrdered view.entry.m.now → Weighs view.entry.m.now.live.table view.entry.m.now.live.func view.entry.freqs.now
+    ensures { IfOk result (λ first. IsOrdered view.entry.m.now → Weighs view.entry.m.now.live.table view.entry.m.now.live.func view.entry.freqs.now view.entry.ranks.now.uses
         → view.entry.number ≡ number (ranking_of view.entry.ranks.now) view.entry.range
         → view.entry.weight ≡ limit (setting_of view.entry.m.now view.entry.freqs.now view.entry.ranks.now view.entry.range)
         → first ≡ option_map (eviction (setting_of view.entry.m.now view.entry.freqs.now view.entry.ranks.now view.entry.range))
@@ -68,7 +68,7 @@ fn oust(
     ranks: &Ranks,
     found: &[Reg],
 ) -> Result<Choice, AllocError>
-    ensures { IfOk result (λ choice. IsOrdered m.now → Weighs m.now.live.table m.now.live.func freqs.now → HasNoCascades (ranking_of ranks.now)
+    ensures { IfOk result (λ choice. IsOrdered m.now → Weighs m.now.live.table m.now.live.func freqs.now ranks.now.uses → HasNoCascades (ranking_of ranks.now)
         → choice ≡ ousting_by (option_map (eviction (setting_of m.now freqs.now ranks.now v)) (find (qualifies (setting_of m.now freqs.now ranks.now v)) found.now))) }
 {
     let view = view_of(alloc, m, v, freqs, ranks)?;
@@ -85,7 +85,7 @@ pub fn choice_of(
     ranks: &Ranks,
     found: &[Reg],
 ) -> Result<Choice, AllocError>
-    ensures { IfOk result (λ choice. IsOrdered m.now → Weighs m.now.live.table m.now.live.func freqs.now → HasNoCascades (ranking_of ranks.now)
+    ensures { IfOk result (λ choice. IsOrdered m.now → Weighs m.now.live.table m.now.live.func freqs.now ranks.now.uses → HasNoCascades (ranking_of ranks.now)
         → choice ≡ choice_of (setting_of m.now freqs.now ranks.now v) found.now) }
 {
     match first_free(m, v, found) {
@@ -109,7 +109,7 @@ pub fn basic_choice(
     freqs: &Freqs,
     tinies: &Numbers,
 ) -> Result<Choice, AllocError>
-    ensures { IfOk result (λ choice. IsOrdered m.now → Weighs m.now.live.table m.now.live.func freqs.now
+    ensures { IfOk result (λ choice. IsOrdered m.now → Weighs m.now.live.table m.now.live.func freqs.now []
         → copies_count m.now.live.target m.now.live.func.blocks ≡ true → length freqs.now ≡ length m.now.live.func.blocks
         → choice ≡ choice_of (basic_setting m.now freqs.now tinies.now v) (candidates m.now.live.target m.now.live.func (assignment_of m.now) freqs.now v)) }
 {

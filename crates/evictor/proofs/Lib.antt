@@ -6,6 +6,7 @@ pub mod Evicted
 pub mod Firsts
 pub mod Hinted
 pub mod Known
+pub mod Points
 pub mod Ranked
 pub mod Spots
 pub mod Tops

@@ -1,5 +1,5 @@
 -- What the choice of an eviction is made by in the code's terms, and what its answer rests on.
-use Rattle.std.specs.Prelude.{◌≡◌, ◌<◌, ◌+◌, ◌*◌, ◌^◌, ℕ, Bool, true, cond, not, ◌&&◌, ◌||◌, ◌==◌, nat_lt, max, List, map, length, Option, Some, None, option_map}
+use Rattle.std.specs.Prelude.{◌≡◌, ◌<◌, ◌+◌, ◌*◌, ◌^◌, ℕ, Bool, true, cond, not, ◌&&◌, ◌||◌, ◌==◌, nat_lt, max, List, map, length, Option, Some, None, option_map, slice_get, unwrap_or, IfSome}
 use Rattle.std.specs.List.{fold, list_all}
 use Rattle.target_base.specs.declared.types.Reg.{Reg}
 use Rattle.mir_func.specs.Value.{Function}
@@ -13,6 +13,7 @@ use Rattle.live_lanes.specs.Held.{range_held}
 use Rattle.live_lanes.specs.Looks.{InOrder}
 use Rattle.interference.specs.Clashes.{is_fixed, is_in_way}
 use Rattle.live_lanes.specs.Tells.{TellsInstrs}
+use Rattle.evictor.specs.Spots.{IsUseSum}
 use Rattle.evictor.specs.Cheapest.{Ranking, Facts, Setting, is_tiny, weight, qualifies, cost, clashers}
 
 -- the stages and cascades of the code
@@ -35,12 +36,18 @@ setting_of m freqs k v = record { func = m.live.func; freqs = freqs; ranking = r
 abbrev pub weight_in : Matrix → List ℕ → ℕ → ℕ
 weight_in m freqs w = weight_of m.live.func.blocks freqs w (range_held m.live.table m.live.func.blocks w)
 
--- weights rest on this: the table is in order and tells which instructions touch each range, and the numbers are small enough
-pub record Weighs (x : Table) (f : Function) (freqs : List ℕ) : Type 0 where
+-- the use sum of a range, where it is known
+abbrev pub known_uses : List (Option ℕ) → ℕ → Option ℕ
+known_uses uses w = unwrap_or (slice_get uses w) None
+
+-- weights rest on this: the table is in order and tells which instructions touch each range, the numbers are small enough, and
+-- use sums that are known are right
+pub record Weighs (x : Table) (f : Function) (freqs : List ℕ) (sums : List (Option ℕ)) : Type 0 where
   pub order : InOrder x
   pub tells : TellsInstrs f x
   pub points : (w : ℕ) → range_held x f.blocks w < 2 ^ 64
   pub uses : (w : ℕ) → 1024 * use_sum f.blocks freqs w < 2 ^ 128
+  pub known : (w : ℕ) → IfSome (known_uses sums w) (IsUseSum f.blocks freqs w)
 
 -- a range with its weight
 abbrev pub weighed : ℕ → ℕ → Weighed

@@ -12,7 +12,7 @@ ghost use Rattle.evictor.specs.Settings.{Weighs, weight_in, setting_of, limit, i
 
 use crate::hints::candidates;
 use crate::ranks::Ranks;
-use crate::weights::weight;
+use crate::weights::{least_weight, weight_by};
 use block_freq::Freqs;
 use interference::{Clash, Matrix};
 use std::alloc::{AllocError, Global};
@@ -151,15 +151,16 @@ fn is_within(limit: Option<u128>, weight: u128) -> bool
 
 /// The weight of a range.
 fn weight_of(view: View<'_>, w: u32) -> Result<u128, AllocError>
-    ensures { IfOk result (λ own. Weighs view.entry.m.now.live.table view.entry.m.now.live.func view.entry.freqs.now → own ≡ weight_in view.entry.m.now view.entry.freqs.now w) }
+    ensures { IfOk result (λ own. Weighs view.entry.m.now.live.table view.entry.m.now.live.func view.entry.freqs.now view.entry.ranks.now.uses → own ≡ weight_in view.entry.m.now view.entry.freqs.now w) }
 {
-    let own = weight(view.alloc, view.m.live(), w, view.freqs)?;
+    let known = view.ranks.known_uses(w);
+    let own = weight_by(view.alloc, view.m.live(), w, view.freqs, known)?;
     Ok(own)
 }
 
 /// The same, which may be known.
 fn weight_or(view: View<'_>, w: u32, known: Option<Weighed>) -> Result<u128, AllocError>
-    ensures { IfOk result (λ own. Weighs view.entry.m.now.live.table view.entry.m.now.live.func view.entry.freqs.now
+    ensures { IfOk result (λ own. Weighs view.entry.m.now.live.table view.entry.m.now.live.func view.entry.freqs.now view.entry.ranks.now.uses
         → IfSome known (IsWeighed view.entry.m.now view.entry.freqs.now) → own ≡ weight_in view.entry.m.now view.entry.freqs.now w) }
 {
     if let Some(known) = known {
@@ -179,7 +180,7 @@ fn cost_of(
     victims: &[u32],
     known: Option<Weighed>,
 ) -> Result<Option<u128>, AllocError>
-    ensures { IfOk result (λ cost. Weighs view.entry.m.now.live.table view.entry.m.now.live.func view.entry.freqs.now
+    ensures { IfOk result (λ cost. Weighs view.entry.m.now.live.table view.entry.m.now.live.func view.entry.freqs.now view.entry.ranks.now.uses
         → IfSome known (IsWeighed view.entry.m.now view.entry.freqs.now) → cost ≡ cost_within view.entry.weight (map (weight_in view.entry.m.now view.entry.freqs.now) victims.now)) }
 {
     let mut cost = 0u128;
@@ -214,7 +215,7 @@ fn evicting(
     victims: Numbers,
     known: Option<Weighed>,
 ) -> Result<Option<Eviction>, AllocError>
-    ensures { IfOk result (λ found. Weighs view.entry.m.now.live.table view.entry.m.now.live.func view.entry.freqs.now
+    ensures { IfOk result (λ found. Weighs view.entry.m.now.live.table view.entry.m.now.live.func view.entry.freqs.now view.entry.ranks.now.uses
         → IfSome known (IsWeighed view.entry.m.now view.entry.freqs.now)
         → view.entry.number ≡ number (ranking_of view.entry.ranks.now) view.entry.range
         → view.entry.weight ≡ limit (setting_of view.entry.m.now view.entry.freqs.now view.entry.ranks.now view.entry.range)
@@ -229,16 +230,31 @@ fn evicting(
     Ok(evicted(r, victims, cost))
 }
 
+/// Whether the use sum of a range in the way alone says that it is too heavy, whatever points it has:
+/// these take longer to count.
+fn is_too_heavy(view: View<'_>, w: u32) -> bool
+    ensures { result ≡ true → Weighs view.entry.m.now.live.table view.entry.m.now.live.func view.entry.freqs.now view.entry.ranks.now.uses
+        → is_within view.entry.weight (weight_in view.entry.m.now view.entry.freqs.now w) ≡ false }
+{
+    match view.ranks.known_uses(w) {
+        Some(uses) => !is_within(view.weight, least_weight(view.m.live(), uses)),
+        None => false,
+    }
+}
+
 /// The weight of a range in the way, where it may lose its register.
 fn lost_weight(view: View<'_>, w: u32) -> Result<Option<u128>, AllocError>
-    ensures keeps { IfOk result (λ own. Weighs view.entry.m.now.live.table view.entry.m.now.live.func view.entry.freqs.now
+    ensures keeps { IfOk result (λ own. Weighs view.entry.m.now.live.table view.entry.m.now.live.func view.entry.freqs.now view.entry.ranks.now.uses
         → view.entry.number ≡ number (ranking_of view.entry.ranks.now) view.entry.range
         → view.entry.weight ≡ limit (setting_of view.entry.m.now view.entry.freqs.now view.entry.ranks.now view.entry.range)
         → is_none own ≡ not (may_lose (setting_of view.entry.m.now view.entry.freqs.now view.entry.ranks.now view.entry.range) w)) }
-    ensures weight { IfOk result (λ own. Weighs view.entry.m.now.live.table view.entry.m.now.live.func view.entry.freqs.now
+    ensures weight { IfOk result (λ own. Weighs view.entry.m.now.live.table view.entry.m.now.live.func view.entry.freqs.now view.entry.ranks.now.uses
         → IfSome own (λ n. n ≡ weight_in view.entry.m.now view.entry.freqs.now w)) }
 {
     if !may_lose(view, w) {
+        return Ok(None);
+    }
+    if is_too_heavy(view, w) {
         return Ok(None);
     }
     let own = weight_of(view, w)?;
@@ -268,11 +284,11 @@ fn way_of(range: u32, lost: Option<u128>) -> Way
 /// What is known of the range in the way that is found first. That it may not lose its register
 /// mostly settles it, before all those in the way are found.
 fn look(view: View<'_>, r: Reg) -> Result<Way, AllocError>
-    ensures kept { IfOk result (λ way. IsOrdered view.entry.m.now → Weighs view.entry.m.now.live.table view.entry.m.now.live.func view.entry.freqs.now
+    ensures kept { IfOk result (λ way. IsOrdered view.entry.m.now → Weighs view.entry.m.now.live.table view.entry.m.now.live.func view.entry.freqs.now view.entry.ranks.now.uses
         → view.entry.number ≡ number (ranking_of view.entry.ranks.now) view.entry.range
         → view.entry.weight ≡ limit (setting_of view.entry.m.now view.entry.freqs.now view.entry.ranks.now view.entry.range)
         → way.is_kept ≡ true → qualifies (setting_of view.entry.m.now view.entry.freqs.now view.entry.ranks.now view.entry.range) r ≡ false) }
-    ensures known { IfOk result (λ way. Weighs view.entry.m.now.live.table view.entry.m.now.live.func view.entry.freqs.now
+    ensures known { IfOk result (λ way. Weighs view.entry.m.now.live.table view.entry.m.now.live.func view.entry.freqs.now view.entry.ranks.now.uses
         → IfSome way.known (IsWeighed view.entry.m.now view.entry.freqs.now)) }
 {
     match view.m.some_clasher(view.range, r) {
@@ -289,7 +305,7 @@ fn look(view: View<'_>, r: Reg) -> Result<Way, AllocError>
 
 /// The eviction that gives the range a register, where it may take it.
 pub fn eviction_at(view: View<'_>, r: Reg) -> Result<Option<Eviction>, AllocError>
-    ensures { IfOk result (λ found. IsOrdered view.entry.m.now → Weighs view.entry.m.now.live.table view.entry.m.now.live.func view.entry.freqs.now
+    ensures { IfOk result (λ found. IsOrdered view.entry.m.now → Weighs view.entry.m.now.live.table view.entry.m.now.live.func view.entry.freqs.now view.entry.ranks.now.uses
         → view.entry.number ≡ number (ranking_of view.entry.ranks.now) view.entry.range
         → view.entry.weight ≡ limit (setting_of view.entry.m.now view.entry.freqs.now view.entry.ranks.now view.entry.range)
         → found ≡ eviction_at (setting_of view.entry.m.now view.entry.freqs.now view.entry.ranks.now view.entry.range) r) }
@@ -315,12 +331,12 @@ fn limit(
     freqs: &Freqs,
     ranks: &Ranks,
 ) -> Result<Option<u128>, AllocError>
-    ensures { IfOk result (λ most. Weighs m.now.live.table m.now.live.func freqs.now → most ≡ limit (setting_of m.now freqs.now ranks.now v)) }
+    ensures { IfOk result (λ most. Weighs m.now.live.table m.now.live.func freqs.now ranks.now.uses → most ≡ limit (setting_of m.now freqs.now ranks.now v)) }
 {
     if ranks.is_tiny(v) {
         return Ok(None);
     }
-    let own = weight(alloc, m.live(), v, freqs)?;
+    let own = weight_by(alloc, m.live(), v, freqs, ranks.known_uses(v))?;
     Ok(Some(own))
 }
 
@@ -334,7 +350,7 @@ pub fn view_of<'a>(
 ) -> Result<View<'a>, AllocError>
     ensures given { IfOk result (λ view. (view.m.now ≡ m.now) × (view.freqs.now ≡ freqs.now) × (view.ranks.now ≡ ranks.now) × (view.range ≡ v)) }
     ensures number { IfOk result (λ view. ranks.now.greatest + 1 < 2 ^ 32 → view.number ≡ number (ranking_of ranks.now) v) }
-    ensures weight { IfOk result (λ view. Weighs m.now.live.table m.now.live.func freqs.now → view.weight ≡ limit (setting_of m.now freqs.now ranks.now v)) }
+    ensures weight { IfOk result (λ view. Weighs m.now.live.table m.now.live.func freqs.now ranks.now.uses → view.weight ≡ limit (setting_of m.now freqs.now ranks.now v)) }
 {
     let number = ranks.number(v);
     let weight = limit(alloc, m, v, freqs, ranks)?;
@@ -358,7 +374,7 @@ pub fn cheapest_of(
     ranks: &Ranks,
     found: &[Reg],
 ) -> Result<Option<(Reg, Numbers)>, AllocError>
-    ensures { IfOk result (λ answer. IsOrdered m.now → Weighs m.now.live.table m.now.live.func freqs.now → ranks.now.greatest + 1 < 2 ^ 32
+    ensures { IfOk result (λ answer. IsOrdered m.now → Weighs m.now.live.table m.now.live.func freqs.now ranks.now.uses → ranks.now.greatest + 1 < 2 ^ 32
         → answer ≡ cheapest_of (setting_of m.now freqs.now ranks.now v) found.now) }
 {
     let view = view_of(alloc, m, v, freqs, ranks)?;
@@ -379,7 +395,7 @@ pub fn cheapest(
     freqs: &Freqs,
     ranks: &Ranks,
 ) -> Result<Option<(Reg, Numbers)>, AllocError>
-    ensures { IfOk result (λ answer. IsOrdered m.now → Weighs m.now.live.table m.now.live.func freqs.now → ranks.now.greatest + 1 < 2 ^ 32
+    ensures { IfOk result (λ answer. IsOrdered m.now → Weighs m.now.live.table m.now.live.func freqs.now ranks.now.uses → ranks.now.greatest + 1 < 2 ^ 32
         → copies_count m.now.live.target m.now.live.func.blocks ≡ true → length freqs.now ≡ length m.now.live.func.blocks
         → answer ≡ cheapest_of (setting_of m.now freqs.now ranks.now v) (candidates m.now.live.target m.now.live.func (assignment_of m.now) freqs.now v)) }
 {

@@ -8,5 +8,5 @@ pub mod weights;
 
 pub use choice::{Eviction, View, cheapest, cheapest_of, eviction_at, first_free, view_of};
 pub use hints::candidates;
-pub use ranks::{Ranks, Stage, Stages};
-pub use weights::weight;
+pub use ranks::{Ranks, Stage, Stages, UseSums};
+pub use weights::{use_sum, weight, weight_by};

@@ -2,7 +2,7 @@
 
 ghost use Rattle.std.specs.Prelude.{◌≡◌, ◌+◌, ◌<◌, ◌^◌, slice_get, unwrap_or};
 ghost use Rattle.evictor.specs.declared.ranks.Stage.TheVariants.{New};
-ghost use Rattle.evictor.specs.Settings.{ranking_of};
+ghost use Rattle.evictor.specs.Settings.{ranking_of, known_uses};
 ghost use Rattle.evictor.specs.Cheapest.{is_tiny, cascade, number};
 
 use std::alloc::{AllocError, Global};
@@ -28,6 +28,9 @@ impl Copied for Stage {
 /// Stages by range.
 pub type Stages = List<Stage>;
 
+/// Use sums by range, where they are known.
+pub type UseSums = List<Option<u128>>;
+
 /// The stages and cascade numbers of ranges, by their numbers.
 #[derive(Drop)]
 pub struct Ranks {
@@ -37,6 +40,9 @@ pub struct Ranks {
     pub cascades: Numbers,
     /// The greatest number that was given.
     pub greatest: u32,
+    /// Use sums that were found before. Edits of other ranges don't change them; a range that is split
+    /// or spilled has none.
+    pub uses: UseSums,
 }
 
 impl Ranks {
@@ -70,6 +76,17 @@ impl Ranks {
             .get(v as usize)
             .copied()
             .unwrap_or(0)
+    }
+
+    /// The use sum of a range, where it is known.
+    pub fn known_uses(&self, v: u32) -> Option<u128>
+        ensures { result ≡ known_uses self.now.uses v }
+    {
+        self.uses
+            .as_slice()
+            .get(v as usize)
+            .copied()
+            .unwrap_or(None)
     }
 
     /// The number that a range compares with the cascade numbers of others.

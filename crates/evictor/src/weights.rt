@@ -1,16 +1,17 @@
 //! Spill weights: how often a range is used, for the points that it has.
 
-ghost use Rattle.std.specs.Prelude.{◌≡◌, ◌<◌, ◌*◌, ◌-◌, ◌^◌, ℕ, min, slice_index, IfOk};
+ghost use Rattle.std.specs.Prelude.{◌≡◌, ◌<◌, ◌≤◌, ◌*◌, ◌-◌, ◌^◌, ℕ, List, min, slice_index, IfOk, IfSome};
 ghost use Rattle.mir_func.specs.declared.func.Instr.{Instr as Instruction};
 ghost use Rattle.block_freq.specs.Weights.{use_sum, weight_of};
 ghost use Rattle.live_lanes.specs.Held.{range_held};
 ghost use Rattle.live_lanes.specs.Looks.{InOrder};
 ghost use Rattle.live_lanes.specs.Touching.{FindsInstrs};
 ghost use Rattle.live_lanes.specs.Tells.{TellsInstrs};
-ghost use Rattle.evictor.specs.Spots.{IsSpot, uses_at};
+ghost use Rattle.evictor.specs.Spots.{IsSpot, uses_at, IsUseSum, points_of, points_in};
 
 use block_freq::{Freqs, operand_count};
 use live_lanes::LiveFunc;
+use mir_func::Block;
 use std::alloc::{AllocError, Global};
 
 /// The frequency of the block at a position.
@@ -50,13 +51,79 @@ pub fn use_sum(alloc: Global, live: &LiveFunc, v: u32, freqs: &Freqs) -> Result<
     Ok(sum)
 }
 
+/// The use sum of a range, which may be known.
+fn uses_or(
+    alloc: Global,
+    live: &LiveFunc,
+    v: u32,
+    freqs: &Freqs,
+    known: Option<u128>,
+) -> Result<u128, AllocError>
+    ensures { IfOk result (λ sum. TellsInstrs live.now.func live.now.table → IfSome known (IsUseSum live.now.func.blocks freqs.now v)
+        → IsUseSum live.now.func.blocks freqs.now v sum) }
+{
+    match known {
+        Some(uses) => Ok(uses),
+        None => {
+            let uses = use_sum(alloc, live, v, freqs)?;
+            Ok(uses)
+        }
+    }
+}
+
+/// The spill weight of a range whose use sum may be known.
+pub fn weight_by(
+    alloc: Global,
+    live: &LiveFunc,
+    v: u32,
+    freqs: &Freqs,
+    known: Option<u128>,
+) -> Result<u128, AllocError>
+    ensures { IfOk result (λ weight. InOrder live.now.table → TellsInstrs live.now.func live.now.table → IfSome known (IsUseSum live.now.func.blocks freqs.now v)
+        → range_held live.now.table live.now.func.blocks v < 2 ^ 64 → 1024 * use_sum live.now.func.blocks freqs.now v < 2 ^ 128
+        → weight ≡ weight_of live.now.func.blocks freqs.now v (range_held live.now.table live.now.func.blocks v)) }
+{
+    let uses = uses_or(alloc, live, v, freqs, known)?;
+    let points = live.points(v) as u128;
+    Ok(uses.saturating_mul(1024) / (points + 8))
+}
+
+/// The points of a block, or 2^64 - 1 where these are fewer.
+fn block_points(b: &Block) -> u64
+    ensures { result ≡ min (points_of b.now) (2 ^ 64 - 1) }
+{
+    (b.instrs.len() as u64).saturating_mul(2).saturating_add(1)
+}
+
+/// The same of several blocks.
+#[tactic(auto, using(crate::proofs::Points::counts))]
+fn all_points(blocks: &[Block]) -> u64
+    ensures { result ≡ min (points_in blocks.now) (2 ^ 64 - 1) }
+{
+    let mut points = 0u64;
+    'layout: for b in blocks {
+        points = points.saturating_add(block_points(b));
+    }
+    points
+}
+
+/// A weight that a range of this use sum has at least.
+pub fn least_weight(live: &LiveFunc, uses: u128) -> u128
+    ensures { (v : ℕ) (freqs : List ℕ) → IsUseSum live.now.func.blocks freqs v uses
+        → range_held live.now.table live.now.func.blocks v < 2 ^ 64 → 1024 * use_sum live.now.func.blocks freqs v < 2 ^ 128
+        → result ≤ weight_of live.now.func.blocks freqs v (range_held live.now.table live.now.func.blocks v) }
+{
+    // (no range has more points than its function)
+    let most = all_points(live.func().blocks.as_slice()) as u128;
+    uses.saturating_mul(1024) / (most + 8)
+}
+
 /// The spill weight of a range: 1024 times its use sum, divided by 8 more than its points.
 pub fn weight(alloc: Global, live: &LiveFunc, v: u32, freqs: &Freqs) -> Result<u128, AllocError>
     ensures { IfOk result (λ weight. InOrder live.now.table → TellsInstrs live.now.func live.now.table
         → range_held live.now.table live.now.func.blocks v < 2 ^ 64 → 1024 * use_sum live.now.func.blocks freqs.now v < 2 ^ 128
         → weight ≡ weight_of live.now.func.blocks freqs.now v (range_held live.now.table live.now.func.blocks v)) }
 {
-    let uses = use_sum(alloc, live, v, freqs)?;
-    let points = live.points(v) as u128;
-    Ok(uses.saturating_mul(1024) / (points + 8))
+    let own = weight_by(alloc, live, v, freqs, None)?;
+    Ok(own)
 }

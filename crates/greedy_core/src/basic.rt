@@ -3,7 +3,7 @@
 
 use crate::run::Run;
 use basic_alloc::{Choice, choice_of};
-use evictor::{Stage, candidates, weight};
+use evictor::{Stage, candidates, weight_by};
 use spiller::RunStop;
 use std::alloc::AllocError;
 use watchers::{Step, Steps};
@@ -69,7 +69,8 @@ impl Run {
 
     /// The priority of a range: tinies come first, and then the heavier one of two.
     pub fn basic_priority(&self, v: u32) -> Result<u128, AllocError> {
-        let own = weight(self.alloc, self.matrix.live(), v, &self.freqs)?;
+        let known = self.ranks.known_uses(v);
+        let own = weight_by(self.alloc, self.matrix.live(), v, &self.freqs, known)?;
         let own = own.min(TINY_FIRST - 1);
         Ok(if self.stage(v) == Stage::Tiny {
             TINY_FIRST + own

@@ -109,6 +109,7 @@ impl Run {
             labels,
         } = offer;
         let children = split(self.alloc, &mut self.matrix, v, &labels)?;
+        self.forget_uses(v);
         self.add_children(children.as_slice(), v)?;
         if self.matrix.live().func().classes.len() > MOST_RANGES {
             return Err(RunStop::Ranges);

@@ -8,7 +8,7 @@ ghost use Rattle.greedy_core.specs.Bounds.{AreBounded};
 use crate::ledger::Ledger;
 use crate::queue::Queue;
 use block_freq::Freqs;
-use evictor::{Ranks, Stage, Stages};
+use evictor::{Ranks, Stage, Stages, UseSums, use_sum};
 use interference::Matrix;
 use live_lanes::LiveFunc;
 use mir_func::{Block, Func, Loc, Operand};
@@ -137,6 +137,7 @@ impl Run {
                 stages: Stages::new(alloc),
                 cascades: Numbers::new(alloc),
                 greatest: 0,
+                uses: UseSums::new(alloc),
             },
             depths: Vec::new(alloc),
             places: Vec::new(alloc),
@@ -173,6 +174,7 @@ impl Run {
     fn add_range(&mut self) -> Result<(), AllocError> {
         self.ranks.stages.push(Stage::New)?;
         self.ranks.cascades.push(0)?;
+        self.ranks.uses.push(None)?;
         self.places.push(None)?;
         self.depths.push(0)?;
         Ok(())
@@ -199,8 +201,28 @@ impl Run {
         }
     }
 
+    /// Finds the use sum of a range, where it isn't known yet. It stays what it is as long as the range
+    /// isn't split or spilled, since other edits leave the operands that name it, and their blocks.
+    fn learn_uses(&mut self, v: u32) -> Result<(), AllocError> {
+        let at = v as usize;
+        if at < self.ranks.uses.len() && self.ranks.known_uses(v).is_none() {
+            let uses = use_sum(self.alloc, self.matrix.live(), v, &self.freqs)?;
+            *self.ranks.uses.get_mut(at) = Some(uses);
+        }
+        Ok(())
+    }
+
+    /// Forgets the use sum of a range that was split or spilled: no operand names it any more.
+    pub fn forget_uses(&mut self, v: u32) {
+        let at = v as usize;
+        if at < self.ranks.uses.len() {
+            *self.ranks.uses.get_mut(at) = None;
+        }
+    }
+
     /// Lets a range wait, with the priority that it has now.
     pub fn enqueue(&mut self, v: u32) -> Result<(), AllocError> {
+        self.learn_uses(v)?;
         let priority = self.priority(v)?;
         self.queue.add(v, priority)
     }

@@ -142,6 +142,7 @@ impl Run {
     /// Spills a range. The ranges of its places are known, and don't wait yet.
     pub fn spill(&mut self, v: u32) -> Result<Step, RunStop> {
         let tinies = spill(self.alloc, &mut self.matrix, &mut self.slots, v)?;
+        self.forget_uses(v);
         let numbers = self.add_tinies(&tinies)?;
         Ok(Step::Spill(v, numbers))
     }

@@ -6,6 +6,6 @@ use Rattle.evictor.proofs.choice.cost_of.Given as goal
 
 abbrev pub invariant-victims : goal.invariant-victims
 invariant-victims l =
-    Weighs l.fn.view.m.now.live.table l.fn.view.m.now.live.func l.fn.view.freqs.now
+    Weighs l.fn.view.m.now.live.table l.fn.view.m.now.live.func l.fn.view.freqs.now l.fn.view.ranks.now.uses
     → IfSome l.known (IsWeighed l.fn.view.m.now l.fn.view.freqs.now)
     → IsCost l.fn.view.weight (weight_in l.fn.view.m.now l.fn.view.freqs.now) (take l.w-index l.victims) l.cost
