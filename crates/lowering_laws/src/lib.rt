@@ -4,7 +4,7 @@
 
 ghost use Rattle.lowering_laws.specs.Laws.{LoweredPhisRefine, PhisAreGone};
 
-/// A valid source without its phis does what it did, where no two phis of a block define one register.
+/// A valid source without its phis does what it did.
 pub fn phis_law()
     ensures { LoweredPhisRefine }
 {}
