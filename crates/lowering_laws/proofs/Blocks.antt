@@ -73,7 +73,7 @@ module _ (t : Target) where
       go true e = ap (passes is_phi) (copy-effect t copy refl)
       go false e = e
 
-  append-none : (xs ys : List Instr) → NoPhis t xs → NoPhis t ys → NoPhis t (xs ++ ys)
+  pub append-none : (xs ys : List Instr) → NoPhis t xs → NoPhis t ys → NoPhis t (xs ++ ys)
   append-none [] ys n m = m
   append-none (x ∷ xs) ys n m = (n.0, append-none xs ys n.1 m)
 
@@ -85,11 +85,11 @@ module _ (t : Target) where
       go true k = append-none new (i ∷ is) n m
       go false k = (m.0, k)
 
-  numbered-none : (n : ℕ) (is : List Instr) → NoPhis t is → NoPhis t (numbered n is)
+  pub numbered-none : (n : ℕ) (is : List Instr) → NoPhis t is → NoPhis t (numbered n is)
   numbered-none n [] m = tt
   numbered-none n (i ∷ is) m = (m.0, numbered-none (n + 1) is m.1)
 
-  none-written : (f : Function) (n : ℕ) (is : List Instr) → NoPhis t is → phis_written t f n is ≡ []
+  pub none-written : (f : Function) (n : ℕ) (is : List Instr) → NoPhis t is → phis_written t f n is ≡ []
   none-written f n [] m = refl
   none-written f n (i ∷ is) m = λ k. none-written f n is m.1 k ++ cond (m.0 k) (phi_operands t f n i.operands) []
 

@@ -84,12 +84,12 @@ pub bare-from : (t : Target) (f : Function) (m : ℕ) → (way t f (suc (blocks_
 bare-from t f m = writes-none t f (suc (blocks_sum f.blocks)) (instrs_of f.blocks m) (let k = within-sum f.blocks m in omega arith)
 
 module _ (t : Target) (h g : Function) (classes : h.classes ≡ g.classes) where
-  lanes-alike : (l : Loc) (x : Option IndexId) → located_lanes t g l x ≡ located_lanes t h l x
+  pub lanes-alike : (l : Loc) (x : Option IndexId) → located_lanes t g l x ≡ located_lanes t h l x
   lanes-alike (Virtual v) None = λ k. map (VirtualLane v) (numbers 0 (length (widths_of_some t (elim (slice_get (sym classes k) v) as (λ q. Option ClassId) [ None ↦ None | Some c ↦ c ]))))
   lanes-alike (Virtual v) (Some x) = refl
   lanes-alike (Fixed r) x = refl
 
-  widths-alike : (l : Loc) (x : Option IndexId) → located_widths t g l x ≡ located_widths t h l x
+  pub widths-alike : (l : Loc) (x : Option IndexId) → located_widths t g l x ≡ located_widths t h l x
   widths-alike (Virtual v) None = λ k. widths_of_some t (elim (slice_get (sym classes k) v) as (λ q. Option ClassId) [ None ↦ None | Some c ↦ c ])
   widths-alike (Virtual v) (Some x) = λ k. map (slice_index (widths_of_some t (elim (slice_get (sym classes k) v) as (λ q. Option ClassId) [ None ↦ None | Some c ↦ c ]))) (lanes_of t x)
   widths-alike (Fixed r) x = refl
@@ -108,7 +108,7 @@ module _ (t : Target) (h g : Function) (classes : h.classes ≡ g.classes) where
   copied-alike (operands.Reg d ∷ operands.Reg s ∷ os) = λ k. moved false (lanes-alike d.loc d.index k) (sources-alike s k) ++ undefined false (undefined-alike d k)
   copied-alike os = refl
 
-  undef-alike : (os : List Operand) → defined_undef t g os ≡ defined_undef t h os
+  pub undef-alike : (os : List Operand) → defined_undef t g os ≡ defined_undef t h os
   undef-alike (operands.Reg d ∷ os) = λ k. undefined false (lanes-alike d.loc d.index k ++ undefined-alike d k)
   undef-alike os = refl
 

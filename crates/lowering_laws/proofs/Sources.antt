@@ -150,10 +150,10 @@ module _ (t : Target) (f : Function) (rules : (n : ℕ) (b : Block) → slice_ge
   place : (x : ℕ) (b : Block) → slice_get f.blocks x ≡ Some b → IsPlace f.blocks b.number x
   place x b e = record { at = place-at f.blocks x b e apart; only = place-only f.blocks x b e }
 
-  rules-at : (b : Block) (i : Instr) → Among b f.blocks → Among i b.instrs → (k : ℕ) × (j : ℕ) × InstrRules t f k b j i
+  pub rules-at : (b : Block) (i : Instr) → Among b f.blocks → Among i b.instrs → (k : ℕ) × (j : ℕ) × InstrRules t f k b j i
   rules-at b i mb mi = let k = member-slice b f.blocks mb in let j = member-slice i b.instrs mi in (k.0, j.0, (rules k.0 b k.1).instrs j.0 i j.1)
 
-  all-named : AllNamed f f.blocks
+  pub all-named : AllNamed f f.blocks
   all-named b i mb mi o m = let z = rules-at b i mb mi in named t f z.0 b z.1 i z.2 o m
 
   from-ranges : FromRanges (arrs t f)
