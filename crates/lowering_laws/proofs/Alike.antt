@@ -140,7 +140,7 @@ module _ (bound : ℕ) where
   alike-self (Moved s) o = (o, refl)
   alike-self (Computed i) o = refl
 
-  equal-stays : (ws : Writes) → AllOld bound ws → Within Equal (after_both ws ws Equal)
+  pub equal-stays : (ws : Writes) → AllOld bound ws → Within Equal (after_both ws ws Equal)
   equal-stays ws o s u k = subst (λ z. AlikeFill Equal (through ws s) (through ws z)) (sym k.1) (alike-self (through ws s) (through-old bound ws o s k.0))
 
   module _ (A : List Writes) (moves : MovesRanges A) (ws : Writes) (o : AllOld bound ws) (free : (v k : ℕ) → is_written ws (VirtualLane v k) ≡ false) where

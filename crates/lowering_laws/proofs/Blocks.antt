@@ -1,5 +1,5 @@
 -- Phi elimination over all blocks: each is in step with what becomes of it.
-use Rattle.std.proofs.Common.{◌≡◌, ◌⊎◌, inl, inr, ◌∷◌, ◌++◌, ◌∙◌, ◌&&◌, ◌+◌, not, ℕ, Bool, true, false, cond, List, Option, Some, None, map, filter, flat_map, length, refl, sym, ap, subst, []}
+use Rattle.std.proofs.Common.{◌≡◌, ◌⊎◌, inl, inr, ◌∷◌, ◌++◌, ◌∙◌, ◌&&◌, ◌+◌, not, ℕ, Bool, true, false, cond, List, Option, Some, None, map, filter, length, refl, sym, ap, subst, []}
 use Rattle.std.specs.Prelude.{find, nat_eq, ◌==◌}
 use Rattle.std.specs.List.{list_all}
 use Rattle.target_base.specs.declared.types.IndexId.{IndexId}
@@ -32,7 +32,7 @@ use Rattle.mir_func.specs.Value.{Function}
 use Rattle.mir_func.specs.Binding.{does, is_terminator, is_virtual, passes}
 use Rattle.mir_meaning.specs.Registers.{located_lanes, numbers, operand_lanes, range_widths, use_sources}
 use Rattle.mir_meaning.specs.Items.{copied, defined_undef, moved, undefined}
-use Rattle.mir_meaning.specs.Codes.{ends_without_terminator, fallen_into, falls_through, first_number, given_of, instrs_of, is_given, item_of, phi_operands, phi_writes, refines, way}
+use Rattle.mir_meaning.specs.Codes.{ends_without_terminator, fallen_into, falls_through, first_number, given_of, instrs_of, is_given, item_of, phi_operands, phis_written, refines, way}
 use Rattle.mir_meaning.specs.Points.{has_no_phis}
 use Rattle.phi_elim.specs.declared.arrivals.Arrival.{Arrival}
 use Rattle.phi_elim.specs.Moves.{copy_of, copy_op, source_of, undefining, whole_definition}
@@ -73,7 +73,7 @@ module _ (t : Target) where
       go true e = ap (passes is_phi) (copy-effect t copy refl)
       go false e = e
 
-  append-none : (xs ys : List Instr) → NoPhis t xs → NoPhis t ys → NoPhis t (xs ++ ys)
+  pub append-none : (xs ys : List Instr) → NoPhis t xs → NoPhis t ys → NoPhis t (xs ++ ys)
   append-none [] ys n m = m
   append-none (x ∷ xs) ys n m = (n.0, append-none xs ys n.1 m)
 
@@ -85,13 +85,13 @@ module _ (t : Target) where
       go true k = append-none new (i ∷ is) n m
       go false k = (m.0, k)
 
-  numbered-none : (n : ℕ) (is : List Instr) → NoPhis t is → NoPhis t (numbered n is)
+  pub numbered-none : (n : ℕ) (is : List Instr) → NoPhis t is → NoPhis t (numbered n is)
   numbered-none n [] m = tt
   numbered-none n (i ∷ is) m = (m.0, numbered-none (n + 1) is m.1)
 
-  none-written : (f : Function) (n : ℕ) (is : List Instr) → NoPhis t is → flat_map (phi_writes t f n) is ≡ []
+  pub none-written : (f : Function) (n : ℕ) (is : List Instr) → NoPhis t is → phis_written t f n is ≡ []
   none-written f n [] m = refl
-  none-written f n (i ∷ is) m = (λ k. cond (m.0 k) (phi_operands t f n i.operands) [] ++ flat_map (phi_writes t f n) is) ∙ none-written f n is m.1
+  none-written f n (i ∷ is) m = λ k. none-written f n is m.1 k ++ cond (m.0 k) (phi_operands t f n i.operands) []
 
   module _ (list : List Arrival) where
     block-none : (n x c : ℕ) (is : List Instr) → NoPhis t (numbered n (before_terminators t (arriving_at list x) (all_in_place t c is)))

@@ -1,5 +1,5 @@
 -- A function that has classes for further registers means what it meant.
-use Rattle.std.proofs.Common.{◌≡◌, ◌∷◌, ◌++◌, ◌∙◌, ◌⊎◌, inl, inr, ◌&&◌, ℕ, zero, suc, Bool, true, false, cond, List, Option, Some, None, map, filter, flat_map, length, refl, sym, ap, subst, []}
+use Rattle.std.proofs.Common.{◌≡◌, ◌∷◌, ◌++◌, ◌∙◌, ◌⊎◌, inl, inr, ◌&&◌, ℕ, zero, suc, Bool, true, false, cond, List, Option, Some, None, map, filter, length, refl, sym, ap, subst, []}
 use Rattle.std.specs.Prelude.{is_some, nat_eq, option_map, find, slice_get, slice_index}
 use Rattle.target_base.specs.declared.types.ClassId.{ClassId}
 use Rattle.target_base.specs.declared.types.Effect.{Effect}
@@ -30,7 +30,7 @@ use Rattle.mir_func.specs.Value.{Function}
 use Rattle.mir_func.specs.Binding.{class_of, does, effect_of, passes, puts_together, registers, is_early_clobber, roles_of}
 use Rattle.mir_meaning.specs.Registers.{located_lanes, located_widths, numbers, operand_lanes, undefined_lanes, use_sources, whole_lanes}
 use Rattle.mir_meaning.specs.Items.{defined, inserted, moved, parts, sequenced, silent_reads, silent_writes, undefined, uses}
-use Rattle.mir_meaning.specs.Codes.{block_end, blocks_code, code_of, effect_item, fallen_into, given_of, instrs_of, item_of, meaning_of, phi_operands, phi_pair, phi_writes, refines, way, ways_out}
+use Rattle.mir_meaning.specs.Codes.{block_end, blocks_code, code_of, effect_item, fallen_into, given_of, instrs_of, item_of, meaning_of, phi_operands, phi_pair, phis_written, refines, way, ways_out}
 use Rattle.mir_meaning.specs.Renaming.{IsFixed, KeepsPlaces, Renames, RenamesAll, renamed_instr, renamed_item, renamed_operand}
 use Rattle.mir_meaning.specs.Rules.{has_class}
 use Rattle.mir_meaning.proofs.Renaming.{law_of_renaming}
@@ -191,9 +191,9 @@ module _ (t : Target) (f : Function) (further : List (Option ClassId)) where
   phi-stays n (operands.Reg d ∷ os) h = pair-stays n d os (h d here) (λ p k. h p (there k))
   phi-stays n os h = refl
 
-  phis-stay : (n : ℕ) (is : List Instr) → ((i : Instr) → Among i is → AreNamed f i.operands) → flat_map (phi_writes t widened n) is ≡ flat_map (phi_writes t f n) is
+  phis-stay : (n : ℕ) (is : List Instr) → ((i : Instr) → Among i is → AreNamed f i.operands) → phis_written t widened n is ≡ phis_written t f n is
   phis-stay n [] h = refl
-  phis-stay n (i ∷ is) h = λ k. cond (does is_phi t i) (phi-stays n i.operands (h i here) k) [] ++ phis-stay n is (λ x m. h x (there m)) k
+  phis-stay n (i ∷ is) h = λ k. phis-stay n is (λ x m. h x (there m)) k ++ cond (does is_phi t i) (phi-stays n i.operands (h i here) k) []
 
   instrs-named : (bs : List Block) (m : ℕ) → AllNamed f bs → (i : Instr) → Among i (instrs_of bs m) → AreNamed f i.operands
   instrs-named [] m h i k = absurd (none-among i k)

@@ -17,3 +17,7 @@ pub mod Ends
 pub mod Sources
 pub mod Steps
 pub mod Replaced
+pub mod Undefs
+pub mod Plain
+pub mod Silently
+pub mod Untied

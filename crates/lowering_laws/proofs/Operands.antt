@@ -160,7 +160,7 @@ pair-virtual (operands.Reg p ∷ operands.Block n ∷ os) s e m =
 pair-virtual os s e m = absurd (cc)
 
 -- a virtual register has as many lanes as widths
-lanes-long : (t : Target) (f : Function) (l : Loc) (x : Option IndexId) → is_virtual l ≡ true → length (located_lanes t f l x) ≡ length (located_widths t f l x)
+pub lanes-long : (t : Target) (f : Function) (l : Loc) (x : Option IndexId) → is_virtual l ≡ true → length (located_lanes t f l x) ≡ length (located_widths t f l x)
 lanes-long t f (Virtual v) None e = map-length (VirtualLane v) (numbers 0 (length (range_widths t f v))) ∙ numbers-long 0 (length (range_widths t f v))
   where
     map-length : {A B : Type 0} (g : A → B) (xs : List A) → length (map g xs) ≡ length xs

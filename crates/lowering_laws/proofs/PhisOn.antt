@@ -1,14 +1,13 @@
 -- On each way of a valid source its phis are given what the copies behind lowering give.
 use Rattle.std.proofs.Common.{◌≡◌, ◌⊎◌, inl, inr, ◌∷◌, ◌++◌, ◌∙◌, ◌&&◌, ◌||◌, ◌+◌, ◌≤◌, not, ℕ, suc, Bool, true, false, cond, List, Option, Some, None, map, filter, flat_map, length, drop, refl, sym, ap, subst, append-nil, eqb-true, arith, []}
-use Rattle.std.specs.Prelude.{find, nat_eq, slice_get, ◌==◌}
-use Rattle.std.specs.List.{list_any}
+use Rattle.std.specs.Prelude.{find, nat_eq, slice_get}
 use Rattle.target_base.specs.declared.types.ClassId.{ClassId}
 use Rattle.target_base.specs.declared.types.Target.{Target}
 use Rattle.target_base.specs.Names.{are_distinct_numbers}
 use Rattle.target_base.specs.Registers.{widths_of_some}
 use Rattle.target_base.specs.Rules.{is_phi}
 use Rattle.target_base.proofs.Tests.{first_of_both, second_of_both}
-use Rattle.meaning.specs.Lanes.{Writes, filled, settled, through}
+use Rattle.meaning.specs.Lanes.{filled, settled}
 use Rattle.meaning.specs.Live.{Among, here, there}
 use Rattle.meaning.specs.Relations.{Rel}
 use Rattle.meaning.specs.declared.types.Fill.TheVariants.{Moved}
@@ -32,16 +31,15 @@ use Rattle.phi_elim.specs.Phis.{all_instrs, arrivals_of, from_incoming, located_
 use Rattle.instr_effects.proofs.Members.{filter-in, map-in, member-elim, member-none}
 use Rattle.live_laws.proofs.Effects.Blocks.{slice-member}
 use Rattle.live_laws.proofs.Effects.Lists.{all-of}
-use Rattle.lowering_laws.specs.Laws.{first_register, number_of, phi_result}
 use Rattle.lowering_laws.proofs.Alike.{Behind}
-use Rattle.lowering_laws.proofs.Arrivals.{Arrived, IsPlace, PhiAt, arrival_writes, arrived, at-least, at-least-first, at-left, at-right, eqb-sym, first, in-all, incoming-at, later, writes_at}
+use Rattle.lowering_laws.proofs.Arrivals.{Arrived, IsPlace, PhiAt, arrival_writes, arrived, at-least, at-least-first, at-left, at-right, first, in-all, incoming-at, later, writes_at}
 use Rattle.lowering_laws.proofs.Classes.{lanes-stay, sources-stay}
 use Rattle.lowering_laws.proofs.Lowering.{bound, counter, ending, further, h}
 use Rattle.lowering_laws.proofs.Olds.{class-old, old_source, use-old}
 use Rattle.lowering_laws.proofs.Operands.{PhiShape, named, phi-shape}
 use Rattle.lowering_laws.proofs.Ruled.{InstrRules}
-use Rattle.lowering_laws.proofs.Traced.{Given, filled-free, given-alike, is_one, lanes_by, traced, undefined-own}
-use Rattle.lowering_laws.proofs.Ways.{PhiOn, PhisOn, W, done, others, phi, phi_copies, plain}
+use Rattle.lowering_laws.proofs.Traced.{Given, given-alike, is_one, lanes_by, traced, undefined-own}
+use Rattle.lowering_laws.proofs.Ways.{PhiOn, PhisOn, done, phi, plain}
 
 map-length : {A B : Type 0} (g : A → B) (xs : List A) → length (map g xs) ≡ length xs
 map-length g [] = refl
@@ -173,65 +171,22 @@ module _ (t : Target) (f : Function) where
       );
     }
 
-    pub own-result : phi_result t p ≡ phi-on.v ∷ []
-    unfolding phi-on
-    own-result = (λ q. cond (is-phi q) (first_register (z.are q)) []) ∙ ap number_of z.loc
-
   -- all phis of a block
-
-  pub record Built (S : Rel) (n c : ℕ) (is : List Instr) : Type 0 where
-    pub on : PhisOn t H (bound t f) S n c is
-    -- a register that none defines stays
-    pub clear : (v k : ℕ) → list_any (λ q. v == q) (flat_map (phi_result t) is) ≡ false → traced (phi_copies t H (bound t f) c is) (FromLane (VirtualLane v k)) ≡ FromLane (VirtualLane v k)
 
   module _ (x : ℕ) (c : Block) (at-x : slice_get f.blocks x ≡ Some c) (place : IsPlace f.blocks c.number x) (k : ℕ) (bm : Block) (leads : has_number (successors_of c) bm.number ≡ true) where
     abbrev S : Rel
     S = Behind (bound t f) (ending t f x)
 
-    not-any : (b : Bool) → not b ≡ true → b ≡ false
-    not-any true e = absurd (cc)
-    not-any false e = refl
+    abbrev Built : ℕ → List Instr → Type 0
+    Built cc' is = PhisOn t H (bound t f) S c.number cc' is
 
-    neither : (a b : Bool) → (a || b) ≡ false → (a ≡ false) × (b ≡ false)
-    neither true b e = absurd (cc)
-    neither false b e = (refl, e)
-
-    pub build : (cc' : ℕ) (is : List Instr) → ((i : Instr) → Among i is → (j : ℕ) × InstrRules t f k bm j i) → ((ci : ℕ) (p : Instr) → PhiAt t ci p cc' is → PhiAt t ci p (bound t f) (all_instrs f.blocks)) → are_distinct_numbers (flat_map (phi_result t) is) ≡ true → Built S c.number cc' is
-    build cc' [] rules stands u = record { on = done; clear = λ v q e. refl }
-    build cc' (i ∷ is) rules stands u = go (does is_phi t i) refl (λ q. build (cc' + phi_number t i) is (λ y m. rules y (there m)) (λ ci p a. stands ci p (later a)) q)
+    pub build : (cc' : ℕ) (is : List Instr) → ((i : Instr) → Among i is → (j : ℕ) × InstrRules t f k bm j i) → ((ci : ℕ) (p : Instr) → PhiAt t ci p cc' is → PhiAt t ci p (bound t f) (all_instrs f.blocks)) → Built cc' is
+    build cc' [] rules stands = done
+    build cc' (i ∷ is) rules stands = go (does is_phi t i) refl (build (cc' + phi_number t i) is (λ y m. rules y (there m)) (λ ci p a. stands ci p (later a)))
       where
-        rest : List Writes
-        rest = phi_copies t H (bound t f) (cc' + phi_number t i) is
-
-        flat : List ℕ
-        flat = flat_map (phi_result t) is
-
-        ws : Writes
-        ws = copied t H (from_incoming cc' i.operands)
-
-        Clear : Bool → Type 0
-        Clear y = (v q : ℕ) → list_any (λ w. v == w) (cond y (first_register i.operands) [] ++ flat) ≡ false → traced (cond y (ws ∷ []) [] ++ rest) (FromLane (VirtualLane v q)) ≡ FromLane (VirtualLane v q)
-
-        go : (y : Bool) → does is_phi t i ≡ y → (are_distinct_numbers flat ≡ true → Built S c.number (cc' + phi_number t i) is) → Built S c.number cc' (i ∷ is)
-        go false e further-on =
-            let ih = further-on (subst (λ y. are_distinct_numbers (cond y (first_register i.operands) [] ++ flat) ≡ true) e u) in
-            record { on = plain e ih.on; clear = subst Clear (sym e) (λ v q l. ih.clear v q l) }
-        go true e further-on =
-            let r = rules i here in
-            let x' = phi-on x c at-x place k bm leads r.0 i r.1 e cc' (stands cc' i first) in
-            let own = own-result x c at-x place k bm leads r.0 i r.1 e cc' (stands cc' i first) in
-            let u' : are_distinct_numbers (x'.v ∷ flat) ≡ true = subst (λ q. are_distinct_numbers (q ++ flat) ≡ true) own u in
-            let ih = further-on (second_of_both (not (list_any (λ w. x'.v == w) flat)) (are_distinct_numbers flat) u') in
-            record {
-              on = phi e x' (λ q. ih.clear x'.v q (not-any (list_any (λ w. x'.v == w) flat) (first_of_both (not (list_any (λ w. x'.v == w) flat)) (are_distinct_numbers flat) u'))) ih.on;
-              clear = λ v q l.
-                  let l' : list_any (λ w. v == w) (x'.v ∷ flat) ≡ false = subst (λ y. list_any (λ w. v == w) (y ++ flat) ≡ false) own l in
-                  let two = neither (v == x'.v) (list_any (λ w. v == w) flat) l' in
-                  let apart = others t H (bound t f) x'.v x'.ns x'.all (map FromLane (lanes_by cc' x'.ns)) (VirtualLane v q) (eqb-sym x'.v v ∙ two.0) in
-                  (λ m. traced (cond (e m) (ws ∷ []) [] ++ rest) (FromLane (VirtualLane v q)))
-                  ∙ (ap (λ s. settled (through ws s)) (ih.clear v q two.1)
-                  ∙ (ap (λ y. settled (filled y (VirtualLane v q))) x'.copy ∙ ap settled (filled-free (W t H (bound t f) x'.v x'.ns x'.all (map FromLane (lanes_by cc' x'.ns))) (VirtualLane v q) apart)));
-            }
+        go : (y : Bool) → does is_phi t i ≡ y → Built (cc' + phi_number t i) is → Built cc' (i ∷ is)
+        go false e on = plain e on
+        go true e on = let r = rules i here in phi e (phi-on x c at-x place k bm leads r.0 i r.1 e cc' (stands cc' i first)) on
 
   none-at : {ci : ℕ} {p : Instr} {c : ℕ} {is : List Instr} → PhiAt t ci p c is → is ≡ [] → ⊥
   none-at first e = cc

@@ -41,7 +41,7 @@ pub record EndsAlike (t : Target) (i : Instr) (js : List Instr) : Type 0 where
   pub terminator : does is_terminator t last ≡ does is_terminator t i
 
 module _ (t : Target) (f : Function) where
-  abbrev bound : ℕ
+  abbrev pub bound : ℕ
   bound = length f.classes
 
   abbrev pub made : List (Option ClassId)
@@ -134,7 +134,7 @@ module _ (t : Target) (f : Function) where
   through-of ws s = settled (through ws s)
 
   -- without phis all is equal along a way
-  along-equal : (n m : ℕ) → (way t h n m).phis ≡ [] → (way t g n m).phis ≡ [] → Within (Equal bound) (along (both-ways t h g K n m) (Equal bound))
+  pub along-equal : (n m : ℕ) → (way t h n m).phis ≡ [] → (way t g n m).phis ≡ [] → Within (Equal bound) (along (both-ways t h g K n m) (Equal bound))
   along-equal n m e e' s u k =
       subst (λ ps. Equal bound (through-of ps s) (through-of (way t g n m).phis u)) (sym e)
       (subst (λ ps. Equal bound (through-of [] s) (through-of ps u)) (sym e')

@@ -20,7 +20,9 @@ pub record InstrRules (t : Target) (f : Function) (k : ℕ) (b : Block) (j : ℕ
   pub four : V4 t f i ≡ true
   pub seven : V7 t forms.Source f k b j i ≡ true
   pub eight : V8 t b j i ≡ true
+  pub eleven : V11 t forms.Source f i ≡ true
   pub twelve : V12 t forms.Source f i ≡ true
+  pub fifteen : V15 t forms.Source f i ≡ true
 
 pub record BlockRules (t : Target) (f : Function) (k : ℕ) (b : Block) : Type 0 where
   pub five : V5 f k b ≡ true
@@ -52,7 +54,8 @@ module _ (t : Target) (f : Function) where
           let r8 = step (V8 t b j i) _ 8 r7.1 in
           let r11 = step (V11 t forms.Source f i) _ 11 r8.1 in
           let r12 = step (V12 t forms.Source f i) _ 12 r11.1 in
-          record { known = (d, g); one = r1.0; two = r2.0; three = r3.0; four = r4.0; seven = r7.0; eight = r8.0; twelve = r12.0 }
+          let r15 = step (V15 t forms.Source f i) _ 15 r12.1 in
+          record { known = (d, g); one = r1.0; two = r2.0; three = r3.0; four = r4.0; seven = r7.0; eight = r8.0; eleven = r11.0; twelve = r12.0; fifteen = r15.0 }
 
   block-rules : (k : ℕ) (b : Block) → block_fault t forms.Source f k b ≡ None → BlockRules t f k b
   unfolding block_fault

@@ -1,5 +1,5 @@
 -- What an instruction does in two functions with the same classes is the same, but for the ways out of its block.
-use Rattle.std.proofs.Common.{◌≡◌, ◌∷◌, ◌++◌, ◌∙◌, ◌&&◌, ◌+◌, ◌≤◌, ◌<◌, ℕ, suc, Bool, true, false, cond, List, Option, Some, None, map, flat_map, length, refl, sym, ap, subst, arith, []}
+use Rattle.std.proofs.Common.{◌≡◌, ◌∷◌, ◌++◌, ◌∙◌, ◌&&◌, ◌+◌, ◌≤◌, ◌<◌, ℕ, suc, Bool, true, false, cond, List, Option, Some, None, map, length, refl, sym, ap, subst, arith, []}
 use Rattle.std.specs.Prelude.{find, nat_eq, option_map, slice_get, slice_index}
 use Rattle.target_base.specs.declared.types.ClassId.{ClassId}
 use Rattle.target_base.specs.declared.types.Effect.{Effect}
@@ -25,7 +25,7 @@ use Rattle.mir_func.specs.Value.{Function}
 use Rattle.mir_func.specs.Binding.{does, effect_of, is_early_clobber, is_terminator, passes, puts_together, registers, roles_of}
 use Rattle.mir_meaning.specs.Registers.{located_lanes, located_widths, numbers, operand_lanes, undefined_lanes, use_sources, whole_lanes}
 use Rattle.mir_meaning.specs.Items.{copied, counted_writes, defined, defined_undef, inserted, moved, parts, rest_of, sequenced, silent_reads, silent_writes, undefined, uses, values}
-use Rattle.mir_meaning.specs.Codes.{effect_item, instrs_of, item_of, phi_operands, phi_pair, phi_writes, target_of, way, ways_out}
+use Rattle.mir_meaning.specs.Codes.{effect_item, instrs_of, item_of, phi_operands, phi_pair, phis_written, target_of, way, ways_out}
 use Rattle.mir_meaning.specs.Renaming.{IsFixed, Renames, RenamesAll}
 use Rattle.mir_meaning.proofs.Renaming.{law_of_renaming}
 use Rattle.phi_elim.specs.declared.arrivals.Arrival.{Arrival}
@@ -70,10 +70,10 @@ module _ (t : Target) (f : Function) (n : ℕ) where
   operands-none (operands.Reg d ∷ os) h = pair-none d os h
   operands-none os h = refl
 
-  writes-none : (is : List Instr) → instrs_sum is < n → flat_map (phi_writes t f n) is ≡ []
+  writes-none : (is : List Instr) → instrs_sum is < n → phis_written t f n is ≡ []
   unfolding instrs_sum
   writes-none [] h = refl
-  writes-none (i ∷ is) h = (λ k. one (does is_phi t i) k ++ flat_map (phi_writes t f n) is) ∙ writes-none is (omega arith)
+  writes-none (i ∷ is) h = λ k. writes-none is (omega arith) k ++ one (does is_phi t i) k
     where
       one : (y : Bool) → cond y (phi_operands t f n i.operands) [] ≡ []
       one true = operands-none i.operands (omega arith)
@@ -84,12 +84,12 @@ pub bare-from : (t : Target) (f : Function) (m : ℕ) → (way t f (suc (blocks_
 bare-from t f m = writes-none t f (suc (blocks_sum f.blocks)) (instrs_of f.blocks m) (let k = within-sum f.blocks m in omega arith)
 
 module _ (t : Target) (h g : Function) (classes : h.classes ≡ g.classes) where
-  lanes-alike : (l : Loc) (x : Option IndexId) → located_lanes t g l x ≡ located_lanes t h l x
+  pub lanes-alike : (l : Loc) (x : Option IndexId) → located_lanes t g l x ≡ located_lanes t h l x
   lanes-alike (Virtual v) None = λ k. map (VirtualLane v) (numbers 0 (length (widths_of_some t (elim (slice_get (sym classes k) v) as (λ q. Option ClassId) [ None ↦ None | Some c ↦ c ]))))
   lanes-alike (Virtual v) (Some x) = refl
   lanes-alike (Fixed r) x = refl
 
-  widths-alike : (l : Loc) (x : Option IndexId) → located_widths t g l x ≡ located_widths t h l x
+  pub widths-alike : (l : Loc) (x : Option IndexId) → located_widths t g l x ≡ located_widths t h l x
   widths-alike (Virtual v) None = λ k. widths_of_some t (elim (slice_get (sym classes k) v) as (λ q. Option ClassId) [ None ↦ None | Some c ↦ c ])
   widths-alike (Virtual v) (Some x) = λ k. map (slice_index (widths_of_some t (elim (slice_get (sym classes k) v) as (λ q. Option ClassId) [ None ↦ None | Some c ↦ c ]))) (lanes_of t x)
   widths-alike (Fixed r) x = refl
@@ -108,7 +108,7 @@ module _ (t : Target) (h g : Function) (classes : h.classes ≡ g.classes) where
   copied-alike (operands.Reg d ∷ operands.Reg s ∷ os) = λ k. moved false (lanes-alike d.loc d.index k) (sources-alike s k) ++ undefined false (undefined-alike d k)
   copied-alike os = refl
 
-  undef-alike : (os : List Operand) → defined_undef t g os ≡ defined_undef t h os
+  pub undef-alike : (os : List Operand) → defined_undef t g os ≡ defined_undef t h os
   undef-alike (operands.Reg d ∷ os) = λ k. undefined false (lanes-alike d.loc d.index k ++ undefined-alike d k)
   undef-alike os = refl
 

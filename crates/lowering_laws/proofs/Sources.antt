@@ -25,7 +25,7 @@ use Rattle.live_laws.proofs.Effects.Blocks.{member-slice, number-in, numbers-apa
 use Rattle.live_laws.proofs.Effects.Lists.{all-of, any-in}
 use Rattle.live_laws.proofs.Effects.Moved.{Apart}
 use Rattle.live_laws.proofs.Effects.Moving.{some-same}
-use Rattle.lowering_laws.specs.Laws.{LoweredPhisRefine, ResultsApart}
+use Rattle.lowering_laws.specs.Laws.{LoweredPhisRefine}
 use Rattle.lowering_laws.proofs.Alike.{Behind}
 use Rattle.lowering_laws.proofs.Arrivals.{IsPlace, PhiAt, differ, eqb-sym}
 use Rattle.lowering_laws.proofs.Blocks.{BlockFacts, Facts, FirstBare, FromRanges, phis-by-facts}
@@ -143,17 +143,17 @@ instrs-at (d ∷ pre) b after a =
     let there' = map-in (λ (e : Block). e.number) b (pre ++ b ∷ after) (right-in b pre (b ∷ after) here) in
     (λ k. elim (cond (other-number d (pre ++ b ∷ after) b.number a.0 there' k) (Some d) (find (λ e. nat_eq e.number b.number) (pre ++ b ∷ after))) as (λ q. List Instr) [ None ↦ [] | Some e ↦ e.instrs ]) ∙ instrs-at pre b after a.1
 
-module _ (t : Target) (f : Function) (rules : (n : ℕ) (b : Block) → slice_get f.blocks n ≡ Some b → AllRules t f n b) (results : ResultsApart t f) where
+module _ (t : Target) (f : Function) (rules : (n : ℕ) (b : Block) → slice_get f.blocks n ≡ Some b → AllRules t f n b) where
   apart : Apart (block_numbers f.blocks)
   apart = numbers-apart f (λ k b e. (rules k b e).block.five)
 
   place : (x : ℕ) (b : Block) → slice_get f.blocks x ≡ Some b → IsPlace f.blocks b.number x
   place x b e = record { at = place-at f.blocks x b e apart; only = place-only f.blocks x b e }
 
-  rules-at : (b : Block) (i : Instr) → Among b f.blocks → Among i b.instrs → (k : ℕ) × (j : ℕ) × InstrRules t f k b j i
+  pub rules-at : (b : Block) (i : Instr) → Among b f.blocks → Among i b.instrs → (k : ℕ) × (j : ℕ) × InstrRules t f k b j i
   rules-at b i mb mi = let k = member-slice b f.blocks mb in let j = member-slice i b.instrs mi in (k.0, j.0, (rules k.0 b k.1).instrs j.0 i j.1)
 
-  all-named : AllNamed f f.blocks
+  pub all-named : AllNamed f f.blocks
   all-named b i mb mi o m = let z = rules-at b i mb mi in named t f z.0 b z.1 i z.2 o m
 
   from-ranges : FromRanges (arrs t f)
@@ -173,8 +173,8 @@ module _ (t : Target) (f : Function) (rules : (n : ℕ) (b : Block) → slice_ge
       go (inr z) =
           let k = member-slice z.0 f.blocks z.1 in
           let leads' : has_number (successors_of c) z.0.number ≡ true = subst (λ q. has_number (successors_of c) q ≡ true) (sym z.2) leads in
-          let built = build t f x c at (place x c at) k.0 z.0 leads' first-one z.0.instrs (λ i mi. let j = member-slice i z.0.instrs mi in (j.0, (rules k.0 z.0 k.1).instrs j.0 i j.1)) (λ ci p a. embed t f ci p f.blocks (bound t f) m (subst (λ is. PhiAt t ci p first-one is) (sym z.3) a)) (results z.0 z.1) in
-          subst (λ is. PhisOn t (h t f) (bound t f) (Behind (bound t f) (ending t f x)) c.number first-one is) (sym z.3) built.on
+          let built = build t f x c at (place x c at) k.0 z.0 leads' first-one z.0.instrs (λ i mi. let j = member-slice i z.0.instrs mi in (j.0, (rules k.0 z.0 k.1).instrs j.0 i j.1)) (λ ci p a. embed t f ci p f.blocks (bound t f) m (subst (λ is. PhiAt t ci p first-one is) (sym z.3) a)) in
+          subst (λ is. PhisOn t (h t f) (bound t f) (Behind (bound t f) (ending t f x)) c.number first-one is) (sym z.3) built
 
   -- a block by its place
   module _ (k : ℕ) (b : Block) (at : slice_get f.blocks k ≡ Some b) (after : List Block) (behind : drop (suc k) f.blocks ≡ after) where
@@ -298,4 +298,4 @@ module _ (t : Target) (f : Function) (rules : (n : ℕ) (b : Block) → slice_ge
   refine = phis-by-facts t f all-named from-ranges (laid [] f.blocks refl) first-bare
 
 pub lowered_phis_refine : LoweredPhisRefine
-lowered_phis_refine t f valid results = refine t f (all-rules t f valid.shape) results
+lowered_phis_refine t f valid = refine t f (all-rules t f valid.shape)

@@ -1,5 +1,5 @@
 -- On the way into a block the phis of the first function do what the copies at the start of the block do in the second.
-use Rattle.std.proofs.Common.{◌≡◌, ◌⊎◌, inl, inr, ◌∷◌, ◌++◌, ◌∙◌, ◌&&◌, ◌||◌, ◌+◌, ℕ, Bool, true, false, cond, List, map, flat_map, refl, sym, ap, subst, append_assoc, eqb-true, eq-eqb, []}
+use Rattle.std.proofs.Common.{◌≡◌, ◌⊎◌, inl, inr, ◌∷◌, ◌++◌, ◌∙◌, ◌&&◌, ◌||◌, ◌+◌, ℕ, Bool, true, false, cond, List, map, refl, sym, ap, subst, append_assoc, append-nil, eqb-true, eq-eqb, []}
 use Rattle.std.specs.Prelude.{nat_eq, nat_lt}
 use Rattle.target_base.specs.declared.types.Target.{Target}
 use Rattle.target_base.specs.Rules.{is_phi}
@@ -14,7 +14,7 @@ use Rattle.meaning.specs.declared.types.Source.TheVariants.{Bits, FromLane, Unde
 use Rattle.mir_func.specs.declared.func.Instr.{Instr}
 use Rattle.mir_func.specs.Value.{Function}
 use Rattle.mir_func.specs.Binding.{does}
-use Rattle.mir_meaning.specs.Codes.{phi_operands, phi_writes}
+use Rattle.mir_meaning.specs.Codes.{phi_operands, phi_writes, phis_written}
 use Rattle.mir_meaning.specs.Items.{copied, moved, undefined}
 use Rattle.phi_elim.specs.Phis.{from_incoming, phi_number}
 use Rattle.lowering_laws.proofs.Olds.{is_old, old_source}
@@ -57,15 +57,24 @@ module _ (t : Target) (h : Function) (bound : ℕ) where
     pub given : (k : ℕ) → is_one ns k ≡ true → Given v c ns ss k
     pub arrived : (k : ℕ) (m : is_one ns k ≡ true) → S (given k m).source (FromLane (VirtualLane c k))
 
-  -- the phis among these instructions; none has the result of an earlier one
+  -- the phis among these instructions
   pub data PhisOn (S : Rel) (n : ℕ) : ℕ → List Instr → Type 0 where
     done : {c : ℕ} → PhisOn S n c []
     plain : {c : ℕ} {i : Instr} {is : List Instr} → does is_phi t i ≡ false → PhisOn S n (c + phi_number t i) is → PhisOn S n c (i ∷ is)
-    phi : {c : ℕ} {i : Instr} {is : List Instr} → does is_phi t i ≡ true → (x : PhiOn S n c i) → ((k : ℕ) → traced (phi_copies (c + phi_number t i) is) (FromLane (VirtualLane x.v k)) ≡ FromLane (VirtualLane x.v k)) → PhisOn S n (c + phi_number t i) is → PhisOn S n c (i ∷ is)
+    phi : {c : ℕ} {i : Instr} {is : List Instr} → does is_phi t i ≡ true → PhiOn S n c i → PhisOn S n (c + phi_number t i) is → PhisOn S n c (i ∷ is)
 
-  -- a source before the copies is itself, or no old one
-  abbrev IsOr : Source → Source → Type 0
-  IsOr s t = (t ≡ s) ⊎ (old_source bound t ≡ false)
+  -- these writes leave a source alone, whatever stands behind them
+  abbrev Passes : Writes → Source → Type 0
+  Passes ws s = (us : Writes) → through (ws ++ us) s ≡ through us s
+
+  -- what a source is given stands in these writes, whatever stands behind them
+  abbrev Settles : Writes → Source → Type 0
+  Settles ws s = (us : Writes) → through (ws ++ us) s ≡ through ws s
+
+  -- A source that the phis leave alone was itself before the copies, and one that they write was no old one: those of
+  -- incoming registers aren't.
+  abbrev IsOr : Writes → Source → Source → Type 0
+  IsOr ws s u = (Passes ws s × (u ≡ s)) ⊎ (Settles ws s × (old_source bound u ≡ false))
 
   beyond : (v : ℕ) (l : Lane) → nat_lt v bound ≡ true → is_old bound l ≡ false → is_lane_of v l ≡ false
   beyond v (UnitLane u) a b = absurd (cc)
@@ -112,69 +121,88 @@ module _ (t : Target) (h : Function) (bound : ℕ) where
         go true e = at (is_one ns k) (eqb-true v w e) refl
         go false e = inl (λ ss. others ss (VirtualLane w k) e)
 
-    -- what isn't written, or isn't old, stays
-    stays : (ss : List Source) (s u : Source) (l : Lane) → nat_lt v bound ≡ true → s ≡ FromLane l → Free l → IsOr s u → settled (through (W ss) u) ≡ u
-    stays ss s u l old e f (inl q) = ap (λ z. settled (through (W ss) z)) (q ∙ e) ∙ (ap settled (filled-free (W ss) l (f ss)) ∙ sym (q ∙ e))
-    stays ss s (FromLane m) l old e f (inr q) = ap settled (filled-free (W ss) m (others ss m (beyond v m old q)))
-    stays ss s Undef l old e f (inr q) = refl
-    stays ss s (Bits c low width) l old e f (inr q) = refl
+    -- a source that isn't old stays
+    stays : (ss : List Source) (u : Source) → nat_lt v bound ≡ true → old_source bound u ≡ false → settled (through (W ss) u) ≡ u
+    stays ss (FromLane m) old q = ap settled (filled-free (W ss) m (others ss m (beyond v m old q)))
+    stays ss Undef old q = refl
+    stays ss (Bits c low width) old q = refl
 
   module _ (S : Rel) (n : ℕ) (itself : (s : Source) → old_source bound s ≡ true → S s s) where
     -- after these writes of the first, and behind these copies of the second
     abbrev Q : Writes → List Writes → Source → Type 0
-    Q A B s = S (settled (through A s)) (traced B s) × IsOr s (traced B s)
+    Q A B s = S (settled (through A s)) (traced B s) × IsOr A s (traced B s)
 
-    abbrev Meets : ℕ → List Instr → Source → Type 0
-    Meets c is s = Q (flat_map (phi_writes t h n) is) (phi_copies c is) s
-
-    -- a phi and what follows it
-    module _ (c : ℕ) (i : Instr) (x : PhiOn S n c i) (flat : Writes) (copies : List Writes) (apart : (k : ℕ) → traced copies (FromLane (VirtualLane x.v k)) ≡ FromLane (VirtualLane x.v k)) where
+    -- a phi and what follows it, whose writes come first
+    module _ (c : ℕ) (i : Instr) (x : PhiOn S n c i) (flat : Writes) (copies : List Writes) where
       abbrev A : Writes
       A = W x.v x.ns x.all x.ss
 
       abbrev C : Writes
       C = W x.v x.ns x.all (map FromLane (lanes_by c x.ns))
 
+      abbrev M : Writes
+      M = moved false (lanes_by x.v x.ns) x.ss
+
       abbrev U : Writes
       U = undefined false (cond x.all (lanes_by x.v x.ns) [])
 
-      own : (k : ℕ) → is_one x.ns k ≡ true → Q (A ++ flat) (C ∷ copies) (FromLane (VirtualLane x.v k))
-      own k m =
+      -- a lane that a later phi writes
+      later : (l : Lane) → Settles flat (FromLane l) → old_source bound (traced copies (FromLane l)) ≡ false → Q flat copies (FromLane l) → Q (flat ++ A) (C ∷ copies) (FromLane l)
+      later l f past q =
+          let right : traced (C ∷ copies) (FromLane l) ≡ traced copies (FromLane l) = stays x.v x.ns x.all (map FromLane (lanes_by c x.ns)) (traced copies (FromLane l)) x.old past in (
+            subst (λ y. S (settled y) (traced (C ∷ copies) (FromLane l))) (sym (f A)) (subst (S (settled (filled flat l))) (sym right) q.0),
+            inr ((λ us. ap (λ ws. filled ws l) (append_assoc flat A us) ∙ (f (A ++ us) ∙ sym (f A))), ap (old_source bound) right ∙ past),
+          )
+
+      -- a lane of this phi alone
+      own : (k : ℕ) → is_one x.ns k ≡ true → Passes flat (FromLane (VirtualLane x.v k)) → traced copies (FromLane (VirtualLane x.v k)) ≡ FromLane (VirtualLane x.v k) → Q (flat ++ A) (C ∷ copies) (FromLane (VirtualLane x.v k))
+      own k m f e =
           let z = x.given k m in
-          let left : filled (A ++ flat) (VirtualLane x.v k) ≡ Moved z.source = ap (λ ws. filled ws (VirtualLane x.v k)) (append_assoc (moved false (lanes_by x.v x.ns) x.ss) U flat) ∙ z.one (U ++ flat) in
-          let right : traced (C ∷ copies) (FromLane (VirtualLane x.v k)) ≡ FromLane (VirtualLane c k) =
-          ap (λ q. settled (through C q)) (apart k) ∙ ap settled (copied-own x.v c x.ns U k m) in
-          (subst (λ q. S (settled q) (traced (C ∷ copies) (FromLane (VirtualLane x.v k)))) (sym left) (subst (S z.source) (sym right) (x.arrived k m)), inr (ap (old_source bound) right ∙ x.new))
+          let l = VirtualLane x.v k in
+          let one : (us : Writes) → filled (A ++ us) l ≡ Moved z.source = λ us. ap (λ ws. filled ws l) (append_assoc M U us) ∙ z.one (U ++ us) in
+          let left : filled (flat ++ A) l ≡ Moved z.source = f A ∙ z.one U in
+          let right : traced (C ∷ copies) (FromLane l) ≡ FromLane (VirtualLane c k) = ap (λ q. settled (through C q)) e ∙ ap settled (copied-own x.v c x.ns U k m) in (
+            subst (λ q. S (settled q) (traced (C ∷ copies) (FromLane l))) (sym left) (subst (S z.source) (sym right) (x.arrived k m)),
+            inr ((λ us. ap (λ ws. filled ws l) (append_assoc flat A us) ∙ (f (A ++ us) ∙ (one us ∙ sym left))), ap (old_source bound) right ∙ x.new),
+          )
 
-      free : (l : Lane) → Free x.v x.ns x.all l → Q flat copies (FromLane l) → Q (A ++ flat) (C ∷ copies) (FromLane l)
-      free l f q =
-          let left : filled (A ++ flat) l ≡ filled flat l = filled-right A flat l (f x.ss) in
-          let right : traced (C ∷ copies) (FromLane l) ≡ traced copies (FromLane l) = stays x.v x.ns x.all (map FromLane (lanes_by c x.ns)) (FromLane l) (traced copies (FromLane l)) l x.old refl f q.1 in
-          (subst (λ y. S (settled y) (traced (C ∷ copies) (FromLane l))) (sym left) (subst (S (settled (filled flat l))) (sym right) q.0), subst (IsOr (FromLane l)) (sym right) q.1)
+      -- a lane that neither writes
+      free : (l : Lane) → old_source bound (FromLane l) ≡ true → Free x.v x.ns x.all l → Passes flat (FromLane l) → traced copies (FromLane l) ≡ FromLane l → Q (flat ++ A) (C ∷ copies) (FromLane l)
+      free l o w f e =
+          let left : filled (flat ++ A) l ≡ Moved (FromLane l) = f A ∙ filled-free A l (w x.ss) in
+          let right : traced (C ∷ copies) (FromLane l) ≡ FromLane l = ap (λ q. settled (through C q)) e ∙ ap settled (filled-free C l (w (map FromLane (lanes_by c x.ns)))) in (
+            subst (λ y. S (settled y) (traced (C ∷ copies) (FromLane l))) (sym left) (subst (S (FromLane l)) (sym right) (itself (FromLane l) o)),
+            inl ((λ us. ap (λ ws. filled ws l) (append_assoc flat A us) ∙ (f (A ++ us) ∙ filled-right A us l (w x.ss))), right),
+          )
 
-      phi-meets : (s : Source) → old_source bound s ≡ true → Q flat copies s → Q (A ++ flat) (C ∷ copies) s
+      phi-meets : (s : Source) → old_source bound s ≡ true → Q flat copies s → Q (flat ++ A) (C ∷ copies) s
       phi-meets Undef o q =
           let right : traced (C ∷ copies) Undef ≡ Undef = traced-undef (C ∷ copies) in
-          (subst (S Undef) (sym right) (itself Undef refl), inl right)
+          (subst (S Undef) (sym right) (itself Undef refl), inl ((λ us. refl), right))
       phi-meets (Bits b low width) o q =
           let right : traced (C ∷ copies) (Bits b low width) ≡ Bits b low width = traced-bits (C ∷ copies) b low width in
-          (subst (S (Bits b low width)) (sym right) (itself (Bits b low width) refl), inl right)
-      phi-meets (FromLane l) o q = go (free-or x.v x.ns x.all l)
+          (subst (S (Bits b low width)) (sym right) (itself (Bits b low width) refl), inl ((λ us. refl), right))
+      phi-meets (FromLane l) o q = by q.1
         where
-          go : Free x.v x.ns x.all l ⊎ ((k : ℕ) × (l ≡ VirtualLane x.v k) × (is_one x.ns k ≡ true)) → Q (A ++ flat) (C ∷ copies) (FromLane l)
-          go (inl f) = free l f q
-          go (inr z) = subst (λ y. Q (A ++ flat) (C ∷ copies) (FromLane y)) (sym z.1) (own z.0 z.2)
+          here : Passes flat (FromLane l) → traced copies (FromLane l) ≡ FromLane l → Free x.v x.ns x.all l ⊎ ((k : ℕ) × (l ≡ VirtualLane x.v k) × (is_one x.ns k ≡ true)) → Q (flat ++ A) (C ∷ copies) (FromLane l)
+          here f e (inl w) = free l o w f e
+          here f e (inr z) = subst (λ y. Q (flat ++ A) (C ∷ copies) (FromLane y)) (sym z.1) (own z.0 z.2 (subst (λ y. Passes flat (FromLane y)) z.1 f) (subst (λ y. traced copies (FromLane y) ≡ FromLane y) z.1 e))
+
+          by : IsOr flat (FromLane l) (traced copies (FromLane l)) → Q (flat ++ A) (C ∷ copies) (FromLane l)
+          by (inl z) = here z.0 z.1 (free-or x.v x.ns x.all l)
+          by (inr z) = later l z.0 z.1 q
 
     -- the phis do what the copies do
-    pub meets : {c : ℕ} {is : List Instr} → PhisOn S n c is → (s : Source) → old_source bound s ≡ true → S (settled (through (flat_map (phi_writes t h n) is) s)) (traced (phi_copies c is) s) × IsOr s (traced (phi_copies c is) s)
-    meets done s o = (subst (λ q. S q s) (sym (settled-none s)) (itself s o), inl refl)
+    pub meets : {c : ℕ} {is : List Instr} → PhisOn S n c is → (s : Source) → old_source bound s ≡ true → Q (phis_written t h n is) (phi_copies c is) s
+    meets done s o = (subst (λ q. S q s) (sym (settled-none s)) (itself s o), inl ((λ us. refl), refl))
     meets (plain {c = c} {i = i} {is = is} e xs) s o =
-        let flat = flat_map (phi_writes t h n) is in
+        let flat = phis_written t h n is in
         let copies = phi_copies (c + phi_number t i) is in
-        subst (λ b. Q (cond b (phi_operands t h n i.operands) [] ++ flat) (cond b (copied t h (from_incoming c i.operands) ∷ []) [] ++ copies) s) (sym e) (meets xs s o)
-    meets (phi {c = c} {i = i} {is = is} e x apart xs) s o =
-        let flat = flat_map (phi_writes t h n) is in
+        let core : Q (flat ++ []) copies s = subst (λ ws. Q ws copies s) (sym (append-nil flat)) (meets xs s o) in
+        subst (λ b. Q (flat ++ cond b (phi_operands t h n i.operands) []) (cond b (copied t h (from_incoming c i.operands) ∷ []) [] ++ copies) s) (sym e) core
+    meets (phi {c = c} {i = i} {is = is} e x xs) s o =
+        let flat = phis_written t h n is in
         let copies = phi_copies (c + phi_number t i) is in
-        let core = phi-meets c i x flat copies apart s o (meets xs s o) in
-        let made : copy_writes c i ≡ C c i x flat copies apart ∷ [] = (λ k. cond (e k) (copied t h (from_incoming c i.operands) ∷ []) []) ∙ ap (λ w. w ∷ []) x.copy in
-        subst (λ ws. Q (ws ++ flat) (copy_writes c i ++ copies) s) (sym x.written) (subst (λ wss. Q (A c i x flat copies apart ++ flat) (wss ++ copies) s) (sym made) core)
+        let core = phi-meets c i x flat copies s o (meets xs s o) in
+        let made : copy_writes c i ≡ C c i x flat copies ∷ [] = (λ k. cond (e k) (copied t h (from_incoming c i.operands) ∷ []) []) ∙ ap (λ w. w ∷ []) x.copy in
+        subst (λ ws. Q (flat ++ ws) (copy_writes c i ++ copies) s) (sym x.written) (subst (λ wss. Q (flat ++ A c i x flat copies) (wss ++ copies) s) (sym made) core)

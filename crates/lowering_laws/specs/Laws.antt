@@ -1,46 +1,39 @@
 -- Lowering keeps the meaning.
-use Rattle.std.specs.Prelude.{◌≡◌, ℕ, true, cond, List, [], ◌∷◌, flat_map}
+use Rattle.std.specs.Prelude.{◌≡◌, Bool, true, false, not, ◌&&◌, ◌||◌, None}
+use Rattle.std.specs.List.{list_all, list_any}
 use Rattle.target_base.specs.declared.types.Target.{Target}
-use Rattle.target_base.specs.Names.{are_distinct_numbers}
-use Rattle.target_base.specs.Rules.{is_phi}
-use Rattle.meaning.specs.Live.{Among as Member}
-use Rattle.mir_func.specs.declared.func.Loc.{Loc}
-use Rattle.mir_func.specs.declared.func.Loc.TheVariants.{Virtual, Fixed}
+use Rattle.target_base.specs.Roles.{is_silent, is_tied}
 use Rattle.mir_func.specs.declared.func.Operand.{Operand}
 use Rattle.mir_func.specs.declared.func.Operand.TheVariants as operands
 use Rattle.mir_func.specs.declared.func.Instr.{Instr}
-use Rattle.mir_func.specs.declared.func.Block.{Block}
 use Rattle.mir_func.specs.Value.{Function}
-use Rattle.mir_func.specs.Binding.{does}
+use Rattle.mir_func.specs.Binding.{does, puts_together, roles_of}
 use Rattle.mir_meaning.specs.declared.Form.TheVariants as forms
 use Rattle.mir_meaning.specs.Codes.{refines}
 use Rattle.mir_meaning.specs.Points.{has_no_phis}
-use Rattle.mir_meaning.specs.Valid.{IsValid}
+use Rattle.mir_meaning.specs.Valid.{IsValid, shape_fault}
 use Rattle.phi_elim.specs.Phis.{phis_lowered}
-
--- the number of a virtual register, as a list
-abbrev pub number_of : Loc → List ℕ
-number_of (Virtual v) = v ∷ []
-number_of (Fixed r) = []
-
--- the register that the first operand names
-abbrev pub first_register : List Operand → List ℕ
-first_register (operands.Reg d ∷ os) = number_of d.loc
-first_register _ = []
-
--- the register that a phi defines
-abbrev pub phi_result : Target → Instr → List ℕ
-phi_result t i = cond (does is_phi t i) (first_register i.operands) []
-
--- No two phis of a block define one register. (In the meaning the first of them would count, since phis act at once,
--- and behind lowering the last, since copies act one after the other.)
-abbrev pub ResultsApart : Target → Function → Type 0
-ResultsApart t f = (b : Block) → Member b f.blocks → are_distinct_numbers (flat_map (phi_result t) b.instrs) ≡ true
+use Rattle.two_address.specs.Lowered.{ties_lowered}
 
 -- the function without phis does what a valid source does
 abbrev pub LoweredPhisRefine : Type 0
-LoweredPhisRefine = (t : Target) (f : Function) → IsValid t forms.Source f → ResultsApart t f → refines t f (phis_lowered t f)
+LoweredPhisRefine = (t : Target) (f : Function) → IsValid t forms.Source f → refines t f (phis_lowered t f)
 
 -- and it has no phi
 abbrev pub PhisAreGone : Type 0
 PhisAreGone = (t : Target) (f : Function) → has_no_phis t (phis_lowered t f).blocks ≡ true
+
+-- an `undef` operand
+abbrev pub is_undef : Operand → Bool
+is_undef (operands.Reg o) = o.undef
+is_undef o = false
+
+-- the opcode ties no use to a definition and puts no register together, and where the instruction counts none of its
+-- operands is `undef`
+abbrev pub is_untied : Target → Instr → Bool
+is_untied t i = not (does puts_together t i) && not (list_any is_tied (roles_of t i)) && (does is_silent t i || list_all (λ o. not (is_undef o)) i.operands)
+
+-- In two-address form a function without phis, that keeps the rules on instructions and blocks, does what it did, where
+-- its opcodes tie nothing.
+abbrev pub LoweredUntiedRefine : Type 0
+LoweredUntiedRefine = (t : Target) (f : Function) → shape_fault t forms.Source f ≡ None → has_no_phis t f.blocks ≡ true → list_all (λ b. list_all (is_untied t) b.instrs) f.blocks ≡ true → refines t f (ties_lowered t f)

@@ -2,9 +2,9 @@
 //! that a check proves it.
 #![tactic(auto)]
 
-ghost use Rattle.lowering_laws.specs.Laws.{LoweredPhisRefine, PhisAreGone};
+ghost use Rattle.lowering_laws.specs.Laws.{LoweredPhisRefine, LoweredUntiedRefine, PhisAreGone};
 
-/// A valid source without its phis does what it did, where no two phis of a block define one register.
+/// A valid source without its phis does what it did.
 pub fn phis_law()
     ensures { LoweredPhisRefine }
 {}
@@ -12,4 +12,9 @@ pub fn phis_law()
 /// It has no phi.
 pub fn gone_law()
     ensures { PhisAreGone }
+{}
+
+/// In two-address form a function without phis and ties does what it did, also where definitions and copies are `undef`.
+pub fn untied_law()
+    ensures { LoweredUntiedRefine }
 {}
