@@ -21,3 +21,8 @@ pub mod Undefs
 pub mod Plain
 pub mod Silently
 pub mod Untied
+pub mod Places
+pub mod Seated
+pub mod Tied
+pub mod Retied
+pub mod Ties
