@@ -221,8 +221,8 @@ module _ (t : Target) (i : Instr) (e : Effect) (known : effect_of t i ≡ Some e
   other-form one two =
       let z = no-or (is_reg_sequence e) (is_insert_subreg e) two in
       λ k. cond ((ap (passes is_copy) known ∙ one) k) (copy_form (register_at i.operands 0) (register_at i.operands 1))
-          (cond ((ap (passes is_reg_sequence) known ∙ z.0) k) (sequence_form (virtual_in (register_at i.operands 0)))
-          (cond ((ap (passes is_insert_subreg) known ∙ z.1) k) (insertion_form (virtual_in (register_at i.operands 0)) (register_at i.operands 1) (part_of_two (slice_get i.operands 2) (slice_get i.operands 3))) forms.Other))
+      (cond ((ap (passes is_reg_sequence) known ∙ z.0) k) (sequence_form (virtual_in (register_at i.operands 0)))
+      (cond ((ap (passes is_insert_subreg) known ∙ z.1) k) (insertion_form (virtual_in (register_at i.operands 0)) (register_at i.operands 1) (part_of_two (slice_get i.operands 2) (slice_get i.operands 3))) forms.Other))
 
   -- an opcode that ties nothing
   pub none-tied : (c : ℕ) → list_any is_tied (roles_of t i) ≡ false → ties_in t c i ≡ []

@@ -504,10 +504,10 @@ module _ (t : Target) (f : Function) (bare : (n m : ℕ) → (way t (h t f) n m)
     tie-is : tie_among bs c p ≡ tie_at (not (is_virtual u.loc)) (same_loc d.loc u.loc && same_index d.index u.index)
     tie-is =
         λ k. cond (not (is_virtual u.loc)) (untied p.number)
-            (cond (defined u u-there k) (record (untied p.number) { reading = Some (undef_use_of d) })
-            (cond (same_loc d.loc u.loc && same_index d.index u.index) (record (untied p.number) { reading = Some (use_of d) })
-            (cond (alone k) (tie_aside c p)
-            (record (untied p.number) { reading = Some (use_of d); before = Some (record { to = destination_of d; from = source_of u }) }))))
+        (cond (defined u u-there k) (record (untied p.number) { reading = Some (undef_use_of d) })
+        (cond (same_loc d.loc u.loc && same_index d.index u.index) (record (untied p.number) { reading = Some (use_of d) })
+        (cond (alone k) (tie_aside c p)
+        (record (untied p.number) { reading = Some (use_of d); before = Some (record { to = destination_of d; from = source_of u }) }))))
 
     pub tied-step : InstrStep t f b c i
     tied-step = by (is_virtual u.loc) refl (same_loc d.loc u.loc && same_index d.index u.index) refl
