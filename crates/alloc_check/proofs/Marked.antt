@@ -60,7 +60,7 @@ past : (b : Bool) (f g h : Fill) → not b ≡ true → g ≡ h → cond b f g �
 past true f g h e k = absurd (cc)
 past false f g h e k = k
 
-filled-unwritten : (ws : Writes) (l : Lane) → unwritten ws l ≡ true → filled ws l ≡ Moved (FromLane l)
+pub filled-unwritten : (ws : Writes) (l : Lane) → unwritten ws l ≡ true → filled ws l ≡ Moved (FromLane l)
 filled-unwritten [] l e = refl
 filled-unwritten (w ∷ ws) l e =
     let p = both-true (not (same_lane w.lane l)) (unwritten ws l) e in

@@ -75,7 +75,7 @@ pub fn is_among(facts: &[Fact], fact: &Fact) -> bool
 }
 
 /// Sets a mark, where there is one.
-fn set_mark(marks: &mut Vec<u8>, at: usize)
+pub fn set_mark(marks: &mut Vec<u8>, at: usize)
     ensures { marks.new.items ≡ slice_set marks.old.items at 1 }
 {
     if at < marks.len() {
@@ -95,7 +95,7 @@ fn marks_of(alloc: Global, slots: u32, writes: &[Write]) -> Result<Vec<u8>, Allo
     Ok(marks)
 }
 
-fn is_marked(marks: &[u8], slot: usize) -> bool
+pub fn is_marked(marks: &[u8], slot: usize) -> bool
     ensures { result ≡ is_marked marks.now slot }
 {
     marks.get(slot).copied().unwrap_or(1) != 0
