@@ -15,7 +15,7 @@ use Rattle.laws.proofs.Quiet.{same-true}
 use Rattle.alloc_check.specs.Marks.{lane_slot, source_slot, is_marked, unwritten, stays, Marks}
 use Rattle.alloc_check.specs.Cells.{stays_both, Takes}
 
-set-marked : (xs : List ℕ) (a : ℕ) → is_marked (set xs a 1) a ≡ true
+pub set-marked : (xs : List ℕ) (a : ℕ) → is_marked (set xs a 1) a ≡ true
 set-marked [] a = refl
 set-marked (x ∷ xs) zero = refl
 set-marked (x ∷ xs) (suc a) = set-marked xs a

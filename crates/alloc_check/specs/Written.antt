@@ -1,5 +1,5 @@
 -- Which units the rows of two functions write.
-use Rattle.std.specs.Prelude.{◌≡◌, ℕ, Bool, true, not, ◌&&◌, ◌||◌, List, Option, Some, None, slice_index_or}
+use Rattle.std.specs.Prelude.{◌≡◌, ℕ, Bool, true, not, ◌&&◌, ◌||◌, List, Option, Some, None}
 use Rattle.std.specs.List.{list_all, filter}
 use Rattle.target_base.specs.declared.types.Unit.{Unit as UnitNumber}
 use Rattle.meaning.specs.declared.types.Lane.{Lane}
@@ -8,7 +8,7 @@ use Rattle.meaning.specs.declared.types.Ways.{Ways}
 use Rattle.meaning.specs.declared.types.Row.{Row}
 use Rattle.meaning.specs.declared.types.Row.TheVariants.{BothStart, BothEnd, FirstSilent, SecondSilent, BothCounted}
 use Rattle.meaning.specs.Lanes.{Writes}
-use Rattle.alloc_check.specs.Marks.{unwritten}
+use Rattle.alloc_check.specs.Marks.{is_marked, unwritten}
 
 -- no phi of either code writes the lane on this way
 abbrev pub way_leaves : Lane → Ways → Bool
@@ -39,5 +39,5 @@ abbrev pub written_units : List Row → List UnitNumber → List UnitNumber
 written_units rows us = filter (λ u. not (rows_leave rows (UnitLane u.0))) us
 
 -- marks by the numbers of units, with those added whose lanes the test says are written
-abbrev pub AddsMarks : List Bool → (Lane → Bool) → List Bool → Type 0
-AddsMarks old leaves new = (u : ℕ) → slice_index_or new u true ≡ slice_index_or old u true || not (leaves (UnitLane u))
+abbrev pub AddsMarks : List ℕ → (Lane → Bool) → List ℕ → Type 0
+AddsMarks old leaves new = (u : ℕ) → is_marked new u ≡ is_marked old u || not (leaves (UnitLane u))

@@ -1,10 +1,10 @@
 //! Which units the rows of two functions write. Each other unit holds the same throughout.
 
-ghost use Rattle.std.specs.Prelude.{◌≡◌, ℕ, ◌<◌, ◌&&◌, not, slice_index_or, true, IfOk};
+ghost use Rattle.std.specs.Prelude.{◌≡◌, ℕ, ◌<◌, ◌&&◌, not, IfOk};
 ghost use Rattle.std.specs.List.{All, filter, list_all};
 ghost use Rattle.meaning.specs.declared.types.Lane.TheVariants.{UnitLane};
 ghost use Rattle.meaning.specs.Lanes.{same_lane};
-ghost use Rattle.alloc_check.specs.Marks.{unwritten};
+ghost use Rattle.alloc_check.specs.Marks.{is_marked, unwritten};
 ghost use Rattle.alloc_check.specs.Written.{AddsMarks, way_leaves, target_leaves, falls_leave, row_leaves, rows_leave, written_units};
 
 use crate::cells::{is_marked, set_mark};
@@ -13,7 +13,7 @@ use std::alloc::{AllocError, Global};
 use target_base::{List, Unit};
 
 /// Marks a lane where it is a unit that has a mark.
-fn mark_lane(marks: &mut Vec<bool>, lane: Lane)
+fn mark_lane(marks: &mut Vec<u8>, lane: Lane)
     ensures { AddsMarks marks.old.items (λ l. not (same_lane lane l)) marks.new.items }
 {
     match lane {
@@ -24,7 +24,7 @@ fn mark_lane(marks: &mut Vec<bool>, lane: Lane)
 }
 
 /// Marks the units that writes name, where they have marks.
-fn mark_writes(marks: &mut Vec<bool>, writes: &[Write])
+fn mark_writes(marks: &mut Vec<u8>, writes: &[Write])
     ensures { AddsMarks marks.old.items (unwritten writes.now) marks.new.items }
 {
     for w in writes {
@@ -33,7 +33,7 @@ fn mark_writes(marks: &mut Vec<bool>, writes: &[Write])
 }
 
 /// The same of the writes of both functions.
-fn mark_both(marks: &mut Vec<bool>, first: &[Write], second: &[Write])
+fn mark_both(marks: &mut Vec<u8>, first: &[Write], second: &[Write])
     ensures { AddsMarks marks.old.items (λ l. unwritten first.now l && unwritten second.now l) marks.new.items }
 {
     mark_writes(marks, first);
@@ -41,7 +41,7 @@ fn mark_both(marks: &mut Vec<bool>, first: &[Write], second: &[Write])
 }
 
 /// The same of the phis on ways into blocks.
-fn mark_ways(marks: &mut Vec<bool>, ways: &[Ways])
+fn mark_ways(marks: &mut Vec<u8>, ways: &[Ways])
     ensures { AddsMarks marks.old.items (λ l. list_all (way_leaves l) ways.now) marks.new.items }
 {
     for e in ways {
@@ -50,7 +50,7 @@ fn mark_ways(marks: &mut Vec<bool>, ways: &[Ways])
 }
 
 /// The same on the way to a branch target.
-fn mark_target(marks: &mut Vec<bool>, target: &Option<Ways>)
+fn mark_target(marks: &mut Vec<u8>, target: &Option<Ways>)
     ensures { AddsMarks marks.old.items (λ l. target_leaves l target.now) marks.new.items }
 {
     if let Some(e) = target {
@@ -59,7 +59,7 @@ fn mark_target(marks: &mut Vec<bool>, target: &Option<Ways>)
 }
 
 /// The same where control falls into the next block.
-fn mark_falls(marks: &mut Vec<bool>, falls: &Option<(Writes, Writes)>)
+fn mark_falls(marks: &mut Vec<u8>, falls: &Option<(Writes, Writes)>)
     ensures { AddsMarks marks.old.items (λ l. falls_leave l falls.now) marks.new.items }
 {
     if let Some(e) = falls {
@@ -68,7 +68,7 @@ fn mark_falls(marks: &mut Vec<bool>, falls: &Option<(Writes, Writes)>)
 }
 
 /// Marks the units that some write of the row names, where they have marks.
-fn mark_row(marks: &mut Vec<bool>, row: &Row)
+fn mark_row(marks: &mut Vec<u8>, row: &Row)
     ensures { AddsMarks marks.old.items (λ l. row_leaves l row.now) marks.new.items }
 {
     match row {
@@ -88,10 +88,10 @@ fn mark_row(marks: &mut Vec<bool>, row: &Row)
 }
 
 /// Marks of so many units: whether some write of the rows names each.
-fn marks_of_rows(alloc: Global, room: usize, rows: &[Row]) -> Result<Vec<bool>, AllocError>
-    ensures { IfOk result (λ marks. (u : ℕ) → u < room → slice_index_or marks.items u true ≡ not (rows_leave rows.now (UnitLane u))) }
+fn marks_of_rows(alloc: Global, room: usize, rows: &[Row]) -> Result<Vec<u8>, AllocError>
+    ensures { IfOk result (λ marks. (u : ℕ) → u < room → is_marked marks.items u ≡ not (rows_leave rows.now (UnitLane u))) }
 {
-    let mut marks = Vec::from_elem(alloc, false, room)?;
+    let mut marks = Vec::from_elem(alloc, 0, room)?;
     for row in rows {
         mark_row(&mut marks, row);
     }
@@ -110,8 +110,8 @@ fn number_above(units: &[Unit]) -> usize
 }
 
 /// The units that are marked.
-fn marked_units(alloc: Global, units: &[Unit], marks: &[bool]) -> Result<List<Unit>, AllocError>
-    ensures { IfOk result (λ made. made ≡ filter (λ u. slice_index_or marks.now u.0 true) units.now) }
+fn marked_units(alloc: Global, units: &[Unit], marks: &[u8]) -> Result<List<Unit>, AllocError>
+    ensures { IfOk result (λ made. made ≡ filter (λ u. is_marked marks.now u.0) units.now) }
 {
     let mut made = List::new(alloc);
     for u in units {
