@@ -1,5 +1,5 @@
 -- Marks at the slots of written lanes.
-use Rattle.std.proofs.Common.{⊥, ◌≡◌, ◌∷◌, ◌++◌, ◌&&◌, ◌||◌, ◌<◌, ◌+◌, ℕ, zero, suc, Bool, true, false, cond, not, List, [], refl, sym, ap, subst, ◌∙◌, get_or, set, take, length, and-true, arith}
+use Rattle.std.proofs.Common.{◌≡◌, ◌∷◌, ◌++◌, ◌&&◌, ◌||◌, ◌<◌, ◌+◌, ℕ, zero, suc, Bool, true, false, cond, not, List, [], refl, sym, ap, subst, ◌∙◌, get_or, set, take, length, arith}
 use Rattle.std.proofs.lemmas.Bool.{and_from}
 use Rattle.std.proofs.lemmas.List.{take_more}
 use Rattle.meaning.specs.declared.types.Lane.{Lane}
@@ -93,8 +93,12 @@ none-known : (k : Knowledge) (fs : Facts) → all_known (known_both [] [] k) fs 
 none-known k [] = refl
 none-known k (f ∷ fs) = λ j. known-stays [] [] k f (and_from (stays [] f.0) (stays [] f.1) (none-stays f.0) (none-stays f.1)) j && none-known k fs j
 
+and-none : (b : Bool) → b ≡ b && true
+and-none true = refl
+and-none false = refl
+
 -- where nothing is written, nothing is taken
 pub takes-none : (ws vs : Writes) (fs taken : Facts) → length ws ≡ 0 → length vs ≡ 0 → taken ≡ [] → Takes ws vs fs taken fs
-takes-none [] [] fs taken e h t k = rw t (none-known k fs ∙ sym (and-true (all_known k fs)))
+takes-none [] [] fs taken e h t k = rw t (none-known k fs ∙ and-none (all_known k fs))
 takes-none [] (v ∷ vs) fs taken e h t k = absurd (let x : ⊥ = omega (arith, h) in x)
 takes-none (w ∷ ws) vs fs taken e h t k = absurd (let x : ⊥ = omega (arith, e) in x)

@@ -1,6 +1,6 @@
 //! Which units the rows of two functions write. Each other unit holds the same throughout.
 
-ghost use Rattle.std.specs.Prelude.{◌≡◌, ℕ, ◌<◌, ◌&&◌, not, IfOk};
+ghost use Rattle.std.specs.Prelude.{◌≡◌, ℕ, ◌<◌, ◌≤◌, ◌&&◌, not, IfOk};
 ghost use Rattle.std.specs.List.{All, filter, list_all};
 ghost use Rattle.meaning.specs.declared.types.Lane.TheVariants.{UnitLane};
 ghost use Rattle.meaning.specs.Lanes.{same_lane};
@@ -98,13 +98,21 @@ fn marks_of_rows(alloc: Global, room: usize, rows: &[Row]) -> Result<Vec<u8>, Al
     Ok(marks)
 }
 
+/// The greater of two numbers.
+fn greater(a: usize, b: usize) -> usize
+    ensures first { a ≤ result }
+    ensures second { b ≤ result }
+{
+    if a < b { b } else { a }
+}
+
 /// A number above those of the units.
 fn number_above(units: &[Unit]) -> usize
     ensures { All (λ u. u.0 < result) units.now }
 {
     let mut above = 0;
     for u in units {
-        above = above.max(u.0 as usize + 1);
+        above = greater(above, u.0 as usize + 1);
     }
     above
 }

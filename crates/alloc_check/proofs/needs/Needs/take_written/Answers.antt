@@ -9,5 +9,5 @@ returns-then-is_empty-2 c =
     let ws = c.args.first.now in
     let vs = c.args.second.now in
     let none : length ws ≡ 0 = eqb-true (length ws) 0 (sym c.is_empty.ensures ∙ c.if-is_empty.true) in
-    let none' : length vs ≡ 0 = eqb-true (length vs) 0 (sym c.is_empty-2.ensures ∙ c.if-is_empty-2.true) in
+    let none' : length vs ≡ 0 = eqb-true (length vs) 0 (sym c.is_empty-then-is_empty.ensures ∙ c.if-is_empty-2.true) in
     takes-none ws vs (asked c.args.self.now) c.new.result none none' c.new.ensures
