@@ -1,5 +1,5 @@
 -- What else is known where more is known.
-use Rattle.std.proofs.Common.{◌≡◌, ◌∷◌, ◌&&◌, ◌||◌, Bool, true, List, [], refl, inl, inr}
+use Rattle.std.proofs.Common.{◌≡◌, ◌∷◌, true, List, [], refl, inl, inr}
 use Rattle.std.proofs.lemmas.Bool.{and_from}
 use Rattle.meaning.specs.declared.types.Source.{Source}
 use Rattle.meaning.specs.declared.types.Fill.{Fill}

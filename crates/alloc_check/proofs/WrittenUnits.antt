@@ -13,7 +13,7 @@ use Rattle.meaning.specs.declared.types.Source.TheVariants.{FromLane}
 use Rattle.meaning.specs.declared.types.Ways.{Ways}
 use Rattle.meaning.specs.declared.types.Row.{Row}
 use Rattle.meaning.specs.declared.types.Row.TheVariants.{BothStart, BothEnd, FirstSilent, SecondSilent, BothCounted}
-use Rattle.meaning.specs.Lanes.{Writes, settled, through}
+use Rattle.meaning.specs.Lanes.{Writes, settled}
 use Rattle.meaning.specs.Facts.{Facts, Knowledge, all_known, always, among, everything, gives, known, known_left, known_first, known_second, known_both, reads_known, operands_known}
 use Rattle.meaning.specs.Agree.{Family, facts_at, known_along, rows_hold, target_holds, way_holds, ways_hold}
 use Rattle.mir_meaning.specs.Registers.{unit_lanes}
@@ -21,8 +21,8 @@ use Rattle.laws.proofs.Following.{both-true}
 use Rattle.laws.proofs.Closed.{either-true, or-left, or-right}
 use Rattle.alloc_check.specs.Marks.{unwritten}
 use Rattle.alloc_check.specs.Looks.{looked_at}
-use Rattle.alloc_check.specs.LookRows.{look_row, rows_with_looks}
-use Rattle.alloc_check.specs.Written.{way_leaves, target_leaves, falls_leave, row_leaves, rows_leave, written_units}
+use Rattle.alloc_check.specs.LookRows.{rows_with_looks}
+use Rattle.alloc_check.specs.Written.{way_leaves, target_leaves, rows_leave, written_units}
 use Rattle.alloc_check.proofs.Marked.{filled-unwritten, known-stays}
 use Rattle.alloc_check.proofs.Knowing.{Knows, first-more, second-more, both-more, all-more, operands-more}
 

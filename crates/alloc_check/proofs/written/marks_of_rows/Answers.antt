@@ -1,6 +1,6 @@
 use Rattle.std.proofs.Common.{arith, replicate}
 use Rattle.alloc_check.specs.Written.{row_leaves}
-use Rattle.alloc_check.proofs.WrittenMarks.{adds-none, adds-more, adds-whole, marks-tell}
+use Rattle.alloc_check.proofs.WrittenMarks.{adds-more, adds-whole, marks-tell}
 use Rattle.alloc_check.proofs.written.marks_of_rows.Goals as goal
 
 pub loop-row-preserved : goal.loop-row-preserved
