@@ -10,7 +10,7 @@ use Rattle.meaning.specs.Facts.{Fact, Facts, Knowledge, all_known, known_both}
 use Rattle.laws.proofs.Following.{both-true}
 use Rattle.laws.proofs.Same.{source-true}
 use Rattle.laws.proofs.Closed.{either-true}
-use Rattle.alloc_check.specs.Marks.{source_slot, stays, Marks}
+use Rattle.alloc_check.specs.Marks.{source_slot, is_marked, stays, Marks}
 use Rattle.alloc_check.specs.Needs.{Has}
 use Rattle.alloc_check.specs.Cells.{belongs, counting, asked_in, same_fact, stays_both, Puts, Splits, CellTakes, Takes, TakenTo}
 use Rattle.alloc_check.specs.declared.cells.Cell.{Cell}
@@ -145,16 +145,16 @@ takes-nothing slots ws vs c taken e k = ap (λ b. b && all_known (known_both ws 
 
 -- a cell whose slots aren't marked
 pub takes-unmarked :
-    (slots : ℕ) (ws vs : Writes) (marks marks' : List Bool) (c : Cell) (taken : Facts) → Marks slots marks ws → Marks slots marks' vs →
-    get_or marks c.left true ≡ false → get_or marks' c.right true ≡ false → CellTakes slots ws vs c taken c taken
+    (slots : ℕ) (ws vs : Writes) (marks marks' : List ℕ) (c : Cell) (taken : Facts) → Marks slots marks ws → Marks slots marks' vs →
+    is_marked marks c.left ≡ false → is_marked marks' c.right ≡ false → CellTakes slots ws vs c taken c taken
 takes-unmarked slots ws vs marks marks' c taken m m' e e' k = ap (λ b. b && all_known (known_both ws vs k) taken) (go c.facts)
   where
     stay : (f : Fact) → belongs slots c f ≡ true → stays_both ws vs f ≡ true
     stay f b =
         let p = both-true (eqb (source_slot slots f.0) c.left) (eqb (source_slot slots f.1) c.right) b in
         and_from (stays ws f.0) (stays vs f.1)
-        (stays-unmarked slots marks ws f.0 m (ap (λ a. get_or marks a true) (eqb-true (source_slot slots f.0) c.left p.0) ∙ e))
-        (stays-unmarked slots marks' vs f.1 m' (ap (λ a. get_or marks' a true) (eqb-true (source_slot slots f.1) c.right p.1) ∙ e'))
+        (stays-unmarked slots marks ws f.0 m (ap (is_marked marks) (eqb-true (source_slot slots f.0) c.left p.0) ∙ e))
+        (stays-unmarked slots marks' vs f.1 m' (ap (is_marked marks') (eqb-true (source_slot slots f.1) c.right p.1) ∙ e'))
 
     go : (facts : Facts) → all_known (known_both ws vs k) (filter (belongs slots c) facts) ≡ all_known k (filter (belongs slots c) facts)
     go [] = refl

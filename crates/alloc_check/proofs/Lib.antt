@@ -10,6 +10,9 @@ pub mod Placed
 pub mod Classes
 pub mod Celled
 pub mod Alone
+pub mod Knowing
+pub mod WrittenMarks
+pub mod WrittenUnits
 pub mod ReservedUnits
 pub mod Least
 pub mod Greatest

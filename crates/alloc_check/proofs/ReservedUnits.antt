@@ -1,30 +1,36 @@
 -- Looks at reserved units among rows.
-use Rattle.std.proofs.Common.{◌≡◌, ◌∷◌, ◌&&◌, ◌||◌, ◌++◌, ◌∙◌, true, inl, inr, List, [], Option, Some, None, refl, sym, ap, subst}
-use Rattle.std.proofs.lemmas.Bool.{and_from}
+use Rattle.std.proofs.Common.{◌≡◌, ◌∷◌, ◌&&◌, ◌++◌, ◌∙◌, ℕ, true, List, [], Option, Some, None, refl, sym, ap, subst}
+use Rattle.std.proofs.lemmas.Bool.{and_from, eq-eqb}
+use Rattle.std.specs.List.{list_any}
 use Rattle.target_base.specs.declared.types.Unit.{Unit as UnitNumber}
 use Rattle.target_base.specs.declared.types.Target.{Target}
-use Rattle.meaning.specs.declared.types.Source.{Source}
+use Rattle.target_base.specs.Storage.{is_among}
+use Rattle.target_base.specs.Numbers.{unit_number}
+use Rattle.target_base.specs.Registers.{units_of, is_reserved_unit}
+use Rattle.meaning.specs.declared.types.Lane.TheVariants.{UnitLane}
 use Rattle.meaning.specs.declared.types.Source.TheVariants.{FromLane, Undef, Bits}
-use Rattle.meaning.specs.declared.types.Fill.{Fill}
-use Rattle.meaning.specs.declared.types.Fill.TheVariants.{Moved, Computed}
 use Rattle.meaning.specs.declared.types.Ways.{Ways}
 use Rattle.meaning.specs.declared.types.Row.{Row}
 use Rattle.meaning.specs.declared.types.Row.TheVariants.{BothStart, BothEnd, FirstSilent, SecondSilent, BothCounted}
-use Rattle.meaning.specs.Lanes.{Writes, Reads, settled, through}
 use Rattle.meaning.specs.Code.{BlockStart, BlockEnd, Silent, Counted, Code, Function as Meaning}
-use Rattle.meaning.specs.Facts.{Facts, Knowledge, all_known, everything, known, known_at_start, known_left, known_first, known_second, known_both, one_result, reads_known, operands_known}
+use Rattle.meaning.specs.Facts.{Knowledge, all_known, everything, known, known_at_start, known_first, known_second, known_both, operands_known}
 use Rattle.meaning.specs.Agree.{Family, facts_at, known_along, rows_hold, target_holds, way_holds, ways_hold}
 use Rattle.meaning.specs.Rows.{first_of_rows, second_of_rows}
+use Rattle.mir_func.specs.declared.func.Block.{Block}
 use Rattle.mir_func.specs.Value.{Function}
-use Rattle.mir_meaning.specs.Codes.{refines, code_of, meaning_of, given_of}
+use Rattle.mir_meaning.specs.Codes.{refines, code_of, meaning_of, is_given, given_of}
 use Rattle.laws.proofs.Agreement.{rows_refine}
 use Rattle.laws.proofs.Following.{both-true}
-use Rattle.laws.proofs.Closed.{either-true, or-left, or-right}
+use Rattle.laws.proofs.Closed.{or-left}
 use Rattle.alloc_check.specs.Bare.{bare, AreSides}
 use Rattle.alloc_check.specs.Looks.{looked_at, with_looks, code_with_looks, KeepsReserved}
 use Rattle.alloc_check.specs.LookRows.{look_row, rows_with_looks}
+use Rattle.alloc_check.specs.Written.{written_units}
 use Rattle.alloc_check.proofs.BareRuns.{bare-refines}
 use Rattle.alloc_check.proofs.Judged.{judged-refines}
+use Rattle.alloc_check.proofs.Knowing.{Knows, first-more, second-more, both-more, all-more, operands-more, along-more}
+use Rattle.alloc_check.proofs.Rested.{unit_given}
+use Rattle.alloc_check.proofs.WrittenUnits.{widened_family, whole-looks}
 
 -- the sides of rows with looks are codes with looks
 module _ (us : List UnitNumber) where
@@ -55,65 +61,29 @@ module _ (us : List UnitNumber) where
   side-looks : (code side : Code) (side' : Code) → side' ≡ code_with_looks us side → bare side ≡ bare code → bare side' ≡ bare (code_with_looks us code)
   side-looks code side side' e h = ap bare e ∙ (bare-looks side ∙ (ap (code_with_looks us) h ∙ sym (bare-looks code)))
 
-pub keeps_reserved : (t : Target) (f g : Function) (family : Family) (rows both : List Row) → AreSides t f g rows → both ≡ rows_with_looks t.reserved rows → rows_hold family both (known_at_start (given_of t f) (given_of t g)) ≡ true → KeepsReserved t f g
+-- reserved units hold the same at the start
+reserved-given : (t : Target) (bs : List Block) (u : ℕ) → is_reserved_unit t u ≡ true → is_given t bs u ≡ true
+reserved-given t [] u e = e
+reserved-given t (b ∷ bs) u e = or-left (is_reserved_unit t u) (list_any (λ r. is_among (units_of t r) (unit_number u)) b.liveins) e
+
+reserved-same : (t : Target) (f g : Function) (u : UnitNumber) → is_among t.reserved u ≡ true → known_at_start (given_of t f) (given_of t g) (FromLane (UnitLane u.0)) (FromLane (UnitLane u.0)) ≡ true
+reserved-same t f g u e = unit_given t f g u.0 (FromLane (UnitLane u.0)) (reserved-given t f.blocks u.0 e) (reserved-given t g.blocks u.0 e) ∙ eq-eqb u.0 u.0 refl
+
+pub keeps_reserved :
+    (t : Target) (f g : Function) (family : Family) (rows both : List Row) → AreSides t f g rows → both ≡ rows_with_looks (written_units rows t.reserved) rows →
+    rows_hold family both (known_at_start (given_of t f) (given_of t g)) ≡ true → KeepsReserved t f g
 unfolding meaning_of
 keeps_reserved t f g family rows both sides e h =
     let us = t.reserved in
-    let f' : Meaning = record { code = first_of_rows both; given = given_of t f } in
-    let g' : Meaning = record { code = second_of_rows both; given = given_of t g } in
+    let k = known_at_start (given_of t f) (given_of t g) in
+    let whole = rows_with_looks us rows in
+    let f' : Meaning = record { code = first_of_rows whole; given = given_of t f } in
+    let g' : Meaning = record { code = second_of_rows whole; given = given_of t g } in
     let refined = bare-refines (with_looks us (meaning_of t f)) (with_looks us (meaning_of t g)) f' g'
-    (side-looks us (code_of t f) (first_of_rows rows) (first_of_rows both) (ap first_of_rows e ∙ first-looks us rows) sides.first) refl
-    (side-looks us (code_of t g) (second_of_rows rows) (second_of_rows both) (ap second_of_rows e ∙ second-looks us rows) sides.second) refl
-    (rows_refine f' g' family both refl refl h) in
+    (side-looks us (code_of t f) (first_of_rows rows) (first_of_rows whole) (first-looks us rows) sides.first) refl
+    (side-looks us (code_of t g) (second_of_rows rows) (second_of_rows whole) (second-looks us rows) sides.second) refl
+    (rows_refine f' g' (widened_family family rows us) whole refl refl (whole-looks family rows us k (reserved-same t f g) (subst (λ rs. rows_hold family rs k ≡ true) e h))) in
     record { looked = refined }
-
--- all that the one knows the other knows
-abbrev pub Knows : Knowledge → Knowledge → Type 0
-Knows k k' = (s t : Source) → k s t ≡ true → k' s t ≡ true
-
-module _ (k k' : Knowledge) (more : Knows k k') where
-  left-more : (f : Fill) (t : Source) → known_left k f t ≡ true → known_left k' f t ≡ true
-  left-more (Moved s) t h = more s t h
-  left-more (Computed i) t h = h
-
-  first-more : (ws : Writes) → Knows (known_first ws k) (known_first ws k')
-  first-more ws s t h = left-more (through ws s) t h
-
-  second-more : (vs : Writes) → Knows (known_second vs k) (known_second vs k')
-  second-more vs s t h = more s (settled (through vs t)) h
-
-  both-more : (ws vs : Writes) → Knows (known_both ws vs k) (known_both ws vs k')
-  both-more ws vs s t h =
-      let b = one_result (through ws s) (through vs t) in
-      elim (either-true b (known_second vs (known_first ws k) s t) h) [
-        | inl e ↦ or-left b (known_second vs (known_first ws k') s t) e
-        | inr e ↦ or-right b (known_second vs (known_first ws k') s t) (left-more (through ws s) (settled (through vs t)) e)
-      ]
-
-  all-more : (facts : Facts) → all_known k facts ≡ true → all_known k' facts ≡ true
-  all-more [] h = refl
-  all-more (f ∷ facts) h =
-      let p = both-true (k f.0 f.1) (all_known k facts) h in
-      and_from (k' f.0 f.1) (all_known k' facts) (more f.0 f.1 p.0) (all-more facts p.1)
-
-  reads-more : (ss ts : List Source) → reads_known k ss ts ≡ true → reads_known k' ss ts ≡ true
-  reads-more [] [] h = refl
-  reads-more [] (t ∷ ts) h = absurd (cc)
-  reads-more (s ∷ ss) [] h = absurd (cc)
-  reads-more (s ∷ ss) (t ∷ ts) h =
-      let p = both-true (k s t) (reads_known k ss ts) h in
-      and_from (k' s t) (reads_known k' ss ts) (more s t p.0) (reads-more ss ts p.1)
-
-  operands-more : (ss ts : Reads) → operands_known k ss ts ≡ true → operands_known k' ss ts ≡ true
-  operands-more [] [] h = refl
-  operands-more [] (t ∷ ts) h = absurd (cc)
-  operands-more (s ∷ ss) [] h = absurd (cc)
-  operands-more (s ∷ ss) (t ∷ ts) h =
-      let p = both-true (reads_known k s t) (operands_known k ss ts) h in
-      and_from (reads_known k' s t) (operands_known k' ss ts) (reads-more s t p.0) (operands-more ss ts p.1)
-
-along-more : (e : Ways) (k k' : Knowledge) → Knows k k' → Knows (known_along e k) (known_along e k')
-along-more e k k' more = second-more (known_first e.first k) (known_first e.first k') (first-more k k' more e.first) e.second
 
 module _ (family : Family) (k k' : Knowledge) (more : Knows k k') where
   way-more : (e : Ways) → way_holds family k e ≡ true → way_holds family k' e ≡ true
@@ -174,7 +144,8 @@ module _ (family : Family) (us : List UnitNumber) where
       (and_from (target_holds family after' target) (ways_hold family after' exits && rows_hold family rows after') (target-more family after after' more'' target q.0)
       (and_from (ways_hold family after' exits) (rows_hold family rows after') (ways-more family after after' more'' exits r.0) (without-looks rows after after' more'' r.1)))
 
-pub refines_beside : (t : Target) (f g : Function) (family : Family) (rows both : List Row) → AreSides t f g rows → both ≡ rows_with_looks t.reserved rows → rows_hold family both (known_at_start (given_of t f) (given_of t g)) ≡ true → refines t f g
-refines_beside t f g family rows both sides e h =
+pub refines_beside :
+    (t : Target) (f g : Function) (family : Family) (us : List UnitNumber) (rows both : List Row) → AreSides t f g rows → both ≡ rows_with_looks us rows → rows_hold family both (known_at_start (given_of t f) (given_of t g)) ≡ true → refines t f g
+refines_beside t f g family us rows both sides e h =
     let k = known_at_start (given_of t f) (given_of t g) in
-    judged-refines t f g family rows sides (without-looks family t.reserved rows k k (λ s t e. e) (subst (λ rows. rows_hold family rows k ≡ true) e h))
+    judged-refines t f g family rows sides (without-looks family us rows k k (λ s t e. e) (subst (λ rows. rows_hold family rows k ≡ true) e h))

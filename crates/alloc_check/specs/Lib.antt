@@ -6,4 +6,5 @@ pub mod Bare
 pub mod Fitting
 pub mod Looks
 pub mod LookRows
+pub mod Written
 pub mod Families

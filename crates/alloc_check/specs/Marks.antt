@@ -32,6 +32,10 @@ stays ws (FromLane l) = unwritten ws l
 stays ws Undef = true
 stays ws (Bits c low width) = true
 
+-- the slot has a mark that isn't 0, or none at all
+abbrev pub is_marked : List ℕ → ℕ → Bool
+is_marked marks slot = not (nat_eq (slice_index_or marks slot 1) 0)
+
 -- each lane that is written has its slot marked
-abbrev pub Marks : ℕ → List Bool → Writes → Type 0
-Marks slots marks ws = (l : Lane) → slice_index_or marks (lane_slot slots l) true ≡ false → unwritten ws l ≡ true
+abbrev pub Marks : ℕ → List ℕ → Writes → Type 0
+Marks slots marks ws = (l : Lane) → is_marked marks (lane_slot slots l) ≡ false → unwritten ws l ≡ true

@@ -1,9 +1,9 @@
 //! Facts in cells, by the slots of their two sources, so that of many facts those on a few lanes are
 //! found without a look at the others.
 
-ghost use Rattle.std.specs.Prelude.{◌≡◌, slice_index_or, slice_set, true, IfOk, IsTrue, OnOk};
+ghost use Rattle.std.specs.Prelude.{◌≡◌, slice_set, true, IfOk, IsTrue, OnOk};
 ghost use Rattle.std.specs.List.{list_all, list_any};
-ghost use Rattle.alloc_check.specs.Marks.{spread, lane_slot, source_slot, Marks, unwritten, stays};
+ghost use Rattle.alloc_check.specs.Marks.{spread, lane_slot, source_slot, is_marked, Marks, unwritten, stays};
 ghost use Rattle.alloc_check.specs.Cells.{IsMarked, belongs, same_fact, stays_both, Splits, CellTakes};
 
 use crate::facts::{Fact, Facts, same_lane, same_source};
@@ -75,38 +75,39 @@ pub fn is_among(facts: &[Fact], fact: &Fact) -> bool
 }
 
 /// Sets a mark, where there is one.
-fn set_mark(marks: &mut Vec<bool>, at: usize)
-    ensures { marks.new.items ≡ slice_set marks.old.items at true }
+pub fn set_mark(marks: &mut Vec<u8>, at: usize)
+    ensures { marks.new.items ≡ slice_set marks.old.items at 1 }
 {
     if at < marks.len() {
-        marks[at] = true;
+        marks[at] = 1;
     }
 }
 
-/// Marks the slots of the lanes that are written.
-fn marks_of(alloc: Global, slots: u32, writes: &[Write]) -> Result<Vec<bool>, AllocError>
+/// Marks the slots of the lanes that are written: they have 1, and the others 0. (Where each index is
+/// tested, each element of a list of `bool`s is tested too when the list is dropped; bytes aren't.)
+fn marks_of(alloc: Global, slots: u32, writes: &[Write]) -> Result<Vec<u8>, AllocError>
     ensures { IfOk result (λ made. Marks slots made.items writes.now) }
 {
-    let mut marks = Vec::from_elem(alloc, false, slots as usize)?;
+    let mut marks = Vec::from_elem(alloc, 0, slots as usize)?;
     for w in writes {
         set_mark(&mut marks, lane_slot(w.lane, slots));
     }
     Ok(marks)
 }
 
-fn is_marked(marks: &[bool], slot: usize) -> bool
-    ensures { result ≡ slice_index_or marks.now slot true }
+pub fn is_marked(marks: &[u8], slot: usize) -> bool
+    ensures { result ≡ is_marked marks.now slot }
 {
-    marks.get(slot).copied().unwrap_or(true)
+    marks.get(slot).copied().unwrap_or(1) != 0
 }
 
 /// Where the lanes that an instruction writes are marked.
 #[derive(Drop)]
 pub struct Marked {
     /// By their slots in cells.
-    coarse: Vec<bool>,
+    coarse: Vec<u8>,
     /// By more slots, for the facts of one cell.
-    fine: Vec<bool>,
+    fine: Vec<u8>,
 }
 
 /// The marks of the lanes that are written, with so many slots in cells.

@@ -18,6 +18,7 @@ mod rests;
 mod rows;
 mod settle;
 mod start;
+mod written;
 
 pub use check::{Verdict, agree};
 pub use looks::check_reserved;

@@ -16,6 +16,7 @@ use crate::doubts::first_unlike;
 use crate::family::{family_of, shape_of};
 use crate::fitting::fits;
 use crate::rows::{Rows, rows_of};
+use crate::written::written_units;
 use machine_verify::{VerifyStop, verify_allocated};
 use meaning::{Lane, Reads, Rest, Row, Source};
 use mir_func::{Func, Valid};
@@ -105,7 +106,8 @@ fn hold_with_looks(
     ensures refines { IfOk result (λ yes. IsTrue yes → refines t.now f.now g.now) }
     ensures reserved { IfOk result (λ yes. IsTrue yes → KeepsReserved t.now f.now g.now) }
 {
-    let rows = rows_with_looks(alloc, t.reserved.as_slice(), rows)?;
+    let looked = written_units(alloc, t.reserved.as_slice(), rows.as_slice())?;
+    let rows = rows_with_looks(alloc, looked.as_slice(), rows)?;
     let rows = rows.as_slice();
     let shape = shape_of(alloc, rows)?;
     match family_of(alloc, t, f, g, rows, &shape, usize::MAX)? {

@@ -239,6 +239,9 @@ impl Needs {
     ) -> Result<Facts, AllocError>
         ensures { IfOk result (λ taken. Takes first.now second.now (asked self.old) taken (asked self.new)) }
     {
+        if first.is_empty() && second.is_empty() {
+            return Ok(List::new(alloc));
+        }
         let first_marks = marks_for(alloc, self.slots, first)?;
         let second_marks = marks_for(alloc, self.slots, second)?;
         let taken = take_from_all(

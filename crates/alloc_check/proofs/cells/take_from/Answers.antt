@@ -1,6 +1,7 @@
-use Rattle.std.proofs.Common.{◌≡◌, true, false, get_or, sym, ap, ◌∙◌}
+use Rattle.std.proofs.Common.{◌≡◌, true, false, sym, ap, ◌∙◌}
 use Rattle.std.specs.List.{list_all}
 use Rattle.alloc_check.specs.Cells.{stays_both}
+use Rattle.alloc_check.specs.Marks.{is_marked}
 use Rattle.alloc_check.proofs.Celled.{takes-unmarked, takes-nothing}
 use Rattle.alloc_check.proofs.cells.take_from.Goals as goal
 
@@ -9,8 +10,8 @@ returns-then-not-right c =
     let cell = c.args.cell.now in
     let marks = c.args.first_marks.now.coarse.items in
     let marks' = c.args.second_marks.now.coarse.items in
-    let left : get_or marks cell.left true ≡ false = ap (λ m. get_or m cell.left true) (sym c.as_slice.ensures.value) ∙ (sym c.is_marked-left.ensures ∙ c.if-not-left.true) in
-    let right : get_or marks' cell.right true ≡ false = ap (λ m. get_or m cell.right true) (sym c.as_slice-2.ensures.value) ∙ (sym c.is_marked-right.ensures ∙ c.if-not-right.true) in
+    let left : is_marked marks cell.left ≡ false = ap (λ m. is_marked m cell.left) (sym c.as_slice.ensures.value) ∙ (sym c.is_marked-left.ensures ∙ c.if-not-left.true) in
+    let right : is_marked marks' cell.right ≡ false = ap (λ m. is_marked m cell.right) (sym c.as_slice-2.ensures.value) ∙ (sym c.is_marked-right.ensures ∙ c.if-not-right.true) in
     takes-unmarked c.args.slots c.args.first.now c.args.second.now marks marks' cell c.args.taken.now c.requires.first.coarse c.requires.second.coarse left right
 
 pub returns-then-all_stay : goal.returns-then-all_stay

@@ -1,7 +1,8 @@
-use Rattle.std.proofs.Common.{◌≡◌, IsTrue, rules}
+use Rattle.std.proofs.Common.{◌≡◌, ◌∙◌, IsTrue, ap}
 use Rattle.mir_meaning.specs.Codes.{refines}
 use Rattle.alloc_check.specs.Looks.{KeepsReserved}
 use Rattle.alloc_check.specs.LookRows.{rows_with_looks}
+use Rattle.alloc_check.specs.Written.{written_units}
 use Rattle.alloc_check.proofs.Lawful.{if-more}
 use Rattle.alloc_check.proofs.ReservedUnits.{keeps_reserved, refines_beside}
 use Rattle.alloc_check.proofs.looks.hold_with_looks.Goals as goal
@@ -11,13 +12,21 @@ returns-clause-refines c =
     let t = c.args.t.now in
     let f = c.args.f.now in
     let g = c.args.g.now in
-    let looks : c.as_slice-rows.result.now ≡ rows_with_looks t.reserved c.args.rows = search rules in
-    if-more _ (λ yes. IsTrue yes → refines t f g) c.holds.result (λ yes shows x. refines_beside t f g _ c.args.rows c.as_slice-rows.result.now c.requires looks (shows x)) c.holds.ensures
+    let looks : c.as_slice-rows.result.now ≡ rows_with_looks (written_units c.args.rows t.reserved) c.args.rows =
+    c.as_slice-rows.ensures
+    ∙ (c.in_ok-rows.ensures
+    ∙ ap (λ us. rows_with_looks us c.args.rows)
+    (c.as_slice-3.ensures ∙ (c.in_ok-looked.ensures ∙ (ap (λ rows. written_units rows c.as_slice.result.now) c.as_slice-2.ensures ∙ ap (written_units c.args.rows) c.as_slice.ensures)))) in
+    if-more _ (λ yes. IsTrue yes → refines t f g) c.holds.result (λ yes shows x. refines_beside t f g _ (written_units c.args.rows t.reserved) c.args.rows c.as_slice-rows.result.now c.requires looks (shows x)) c.holds.ensures
 
 pub returns-clause-reserved : goal.returns-clause-reserved
 returns-clause-reserved c =
     let t = c.args.t.now in
     let f = c.args.f.now in
     let g = c.args.g.now in
-    let looks : c.as_slice-rows.result.now ≡ rows_with_looks t.reserved c.args.rows = search rules in
+    let looks : c.as_slice-rows.result.now ≡ rows_with_looks (written_units c.args.rows t.reserved) c.args.rows =
+    c.as_slice-rows.ensures
+    ∙ (c.in_ok-rows.ensures
+    ∙ ap (λ us. rows_with_looks us c.args.rows)
+    (c.as_slice-3.ensures ∙ (c.in_ok-looked.ensures ∙ (ap (λ rows. written_units rows c.as_slice.result.now) c.as_slice-2.ensures ∙ ap (written_units c.args.rows) c.as_slice.ensures)))) in
     if-more _ (λ yes. IsTrue yes → KeepsReserved t f g) c.holds.result (λ yes shows x. keeps_reserved t f g _ c.args.rows c.as_slice-rows.result.now c.requires looks (shows x)) c.holds.ensures
