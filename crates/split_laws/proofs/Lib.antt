@@ -1,0 +1,9 @@
+pub mod Passing
+pub mod Homes
+pub mod Copies
+pub mod Parts
+pub mod Within
+pub mod Labels
+pub mod Points
+pub mod Ends
+pub mod Splitting

@@ -1,0 +1,10 @@
+//! Laws of splits: a function in which a range became several, with copies between them, does what it
+//! did. Each is the contract of a function, so that a check proves it.
+#![tactic(auto)]
+
+ghost use Rattle.split_laws.specs.Laws.{SplitRefines};
+
+/// A function with a range split does what it did, where labels agree on the ways between blocks.
+pub fn split_law()
+    ensures { SplitRefines }
+{}
