@@ -128,7 +128,7 @@ module _ (t : Target) (live : Point → Bool) (f : Function) (v : ℕ) (ms : Lis
         go true = refl
         go false = refl
 
-    pub split-lacks : (n now : ℕ) (is : List Instr) → Stay now is → lacks (does p t) (split n now is) ≡ lacks (does p t) is
+    split-lacks : (n now : ℕ) (is : List Instr) → Stay now is → lacks (does p t) (split n now is) ≡ lacks (does p t) is
     split-lacks n now [] h =
         let from = now in
         let to = label_behind ms b.number None now in

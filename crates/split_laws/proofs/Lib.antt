@@ -1,3 +1,4 @@
+pub mod Suits
 pub mod Passing
 pub mod Homes
 pub mod Copies
@@ -6,4 +7,6 @@ pub mod Within
 pub mod Labels
 pub mod Points
 pub mod Ends
+pub mod Named
+pub mod Laid
 pub mod Splitting

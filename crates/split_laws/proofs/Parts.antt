@@ -22,7 +22,7 @@ use Rattle.mir_meaning.specs.Points.{is_range}
 use Rattle.mir_meaning.specs.Renaming.{IsFixed, Renames, RenamesAll}
 use Rattle.instr_effects.proofs.Tables.{slice-left, slice-right}
 use Rattle.split_kit.specs.Split.{as_part, part}
-use Rattle.split_laws.specs.Laws.{IsNamed}
+use Rattle.split_laws.proofs.Suits.{IsNamed}
 use Rattle.split_laws.proofs.Homes.{home-named, home-own, lane_home}
 
 get-some : {X : Type 0} (xs : List X) (k : ℕ) → k < length xs → (x : X) × (slice_get xs k ≡ Some x)

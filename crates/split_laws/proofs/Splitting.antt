@@ -2,6 +2,7 @@
 use Rattle.std.proofs.Common.{◌≡◌, ◌<◌, ◌+◌, ◌-◌, ◌⊎◌, inl, inr, not, ◌&&◌, ◌||◌, ◌++◌, ◌∙◌, ℕ, Bool, true, false, cond, List, [], ◌∷◌, Option, Some, None, map, drop, length, replicate, refl, sym, ap, subst, arith, append_assoc, eqb-true}
 use Rattle.std.specs.Prelude.{find, nat_eq, option_map}
 use Rattle.std.specs.List.{list_all}
+use Rattle.std.proofs.lemmas.Bool.{not-true}
 use Rattle.target_base.specs.declared.types.Effect.{Effect}
 use Rattle.target_base.specs.declared.types.Target.{Target}
 use Rattle.target_base.specs.Numbers.{op_number, unit_number}
@@ -39,8 +40,13 @@ use Rattle.mir_meaning.proofs.Points.{both, points_are_code}
 use Rattle.mir_meaning.proofs.Renaming.{law_of_renaming}
 use Rattle.instr_effects.proofs.Members.{map-of, member-elim, member-none}
 use Rattle.live_lanes.specs.declared.ask.labels.Mark.{Mark}
+use Rattle.slot_laws.proofs.Laid.{each}
+use Rattle.slot_laws.proofs.Merged.{way-bare}
 use Rattle.split_kit.specs.Split.{RangeLive, Split, as_part, block_split, blocks_split, changed, greatest_label, instrs_split, label_behind, last_point, number_behind, part, split_by, start_label, whole}
 use Rattle.split_laws.specs.Laws.{AllMeet, IsLowered, LabelsAgree, Meets, SplitRefines}
+use Rattle.split_laws.proofs.Suits.{Suits}
+use Rattle.split_laws.proofs.Named.{named}
+use Rattle.split_laws.proofs.Laid.{points-laid}
 use Rattle.split_laws.proofs.Passing.{IsBody, agreeing, copying, renaming}
 use Rattle.split_laws.proofs.Homes.{home-beside, home-other, home-own, homes-apart, keeps-places, labels-agree, lane_home}
 use Rattle.split_laws.proofs.Copies.{moves, moves-none, moves-other, moves-own, number-in}
@@ -60,25 +66,6 @@ map-append g [] ys = refl
 map-append g (x ∷ xs) ys = ap (λ zs. g x ∷ zs) (map-append g xs ys)
 
 module _ (t : Target) where
-  quiet-phis : (q : Function) (n : ℕ) (is : List Instr) → list_all (λ i. not (does is_phi t i)) is ≡ true → phis_written t q n is ≡ []
-  quiet-phis q n [] e = refl
-  quiet-phis q n (i ∷ is) e = go (does is_phi t i) e (quiet-phis q n is)
-    where
-      go : (b : Bool) → (not b && list_all (λ i. not (does is_phi t i)) is) ≡ true → (list_all (λ i. not (does is_phi t i)) is ≡ true → phis_written t q n is ≡ []) → phis_written t q n is ++ cond b (phi_operands t q n i.operands) [] ≡ []
-      go true k ih = absurd (cc)
-      go false k ih = ap (λ ws. ws ++ []) (ih k)
-
-  found-philess : (bs : List Block) (m : ℕ) → has_no_phis t bs ≡ true → list_all (λ i. not (does is_phi t i)) (instrs_of bs m) ≡ true
-  found-philess [] m e = refl
-  found-philess (b ∷ bs) m e = let h = both (list_all (λ i. not (does is_phi t i)) b.instrs) (has_no_phis t bs) e in go (nat_eq b.number m) h.0 (found-philess bs m h.1)
-    where
-      go : (c : Bool) → list_all (λ i. not (does is_phi t i)) b.instrs ≡ true → list_all (λ i. not (does is_phi t i)) (instrs_of bs m) ≡ true → list_all (λ i. not (does is_phi t i)) (elim (cond c (Some b) (find (λ d. nat_eq d.number m) bs)) as (λ q. List Instr) [ None ↦ [] | Some d ↦ d.instrs ]) ≡ true
-      go true x y = x
-      go false x y = y
-
-  way-bare : (q : Function) → has_no_phis t q.blocks ≡ true → (n m : ℕ) → way t q n m ≡ bare m
-  way-bare q none n m = ap (λ ws. record { block = m; phis = ws }) (quiet-phis q n (instrs_of q.blocks m) (found-philess q.blocks m none))
-
   -- an item in order
   body-order : (reserved : Lane → Bool) (code : Code) (at : AtStarts) (h : Homes) (i : Item) → IsBody reserved code at h i → in_order i ≡ true
   body-order reserved code at h (BlockStart n) b = absurd b
@@ -104,20 +91,15 @@ module _ (t : Target) where
       go None h = (refl, refl)
       go (Some x) h = by (is_phi x) (puts_together x) h
 
-  each-philess : (is : List Instr) → ((i : Instr) → Member i is → does is_phi t i ≡ false) → list_all (λ i. not (does is_phi t i)) is ≡ true
-  each-philess [] h = refl
-  each-philess (i ∷ is) h = λ k. not (h i first k) && each-philess is (λ j m. h j (later m)) k
-
   all-philess : (bs : List Block) → ((b : Block) (i : Instr) → Member b bs → Member i b.instrs → does is_phi t i ≡ false) → has_no_phis t bs ≡ true
-  all-philess [] h = refl
-  all-philess (b ∷ bs) h = λ k. each-philess b.instrs (λ i m. h b i first m) k && all-philess bs (λ c i mc mi. h c i (later mc) mi) k
+  all-philess bs h = each (λ (b : Block). list_all (λ i. not (does is_phi t i)) b.instrs) bs (λ b mb. each (λ i. not (does is_phi t i)) b.instrs (λ i mi. ap not (h b i mb mi)))
 
   as-item : (f : Function) (b : Block) (i : Instr) → does is_phi t i ≡ false → point_item t f b i ≡ item_of t f b i
   unfolding point_item
   as-item f b i e = ap (λ c. cond c (Silent [] (defined_undef t f i.operands)) (item_of t f b i)) e
 
 member-behind : {A : Type 0} (front : List A) (x : A) (back xs : List A) → front ++ x ∷ back ≡ xs → Member x xs
-member-behind front x back xs e = subst (Member x) e (at front)
+member-behind {A = A} front x back xs e = subst (Member x) e (at front)
   where
     at : (ys : List A) → Member x (ys ++ x ∷ back)
     at [] = first
@@ -128,7 +110,7 @@ next-homes : Function → ℕ → List Mark → List Block → Homes
 next-homes f v ms [] = images (lane_home f v (greatest_label ms + 1) 0)
 next-homes f v ms (b ∷ bs) = images (lane_home f v (greatest_label ms + 1) (start_label ms b.number))
 
-module _ (t : Target) (f g : Function) (v : ℕ) (ms : List Mark) (live : Point → Bool) (tests : Tests (RangeLive t f v) live) (low : IsLowered t f) (laid : LaidOut (points_of t f) (points_of t f)) (meet : LabelsAgree t f v ms) where
+module _ (t : Target) (f g : Function) (v : ℕ) (ms : List Mark) (live : Point → Bool) (tests : Tests (RangeLive t f v) live) (low : Suits t f) (meet : LabelsAgree t f v ms) where
   abbrev count : ℕ
   count = greatest_label ms + 1
 
@@ -444,10 +426,10 @@ module _ (t : Target) (f g : Function) (v : ℕ) (ms : List Mark) (live : Point 
               in-step-falls R C at (homes label) phis (ways_out t f b) code-behind code-behind' x (ap (λ (w : Edge). w.phis) (bare-way b.number m)) (bare-ways b.number b.successors) (meets-agree b label meets) (on (homes label) (enters-next label meets phis x.0))
 
     laid-items : (b : Block) → Member b f.blocks → (is : List Instr) → ((i : Instr) → Member i is → Member i b.instrs) → (now : ℕ) → AllMeet t f v ms b now is → (p : Code) → LaidOut C (map (point_item t f b) is ++ p) → LaidOut C p
-    laid-items b mb [] w now m p l = l
-    laid-items b mb (i ∷ is) w now m p l =
+    laid-items b h [] w now m p l = l
+    laid-items b h (i ∷ is) w now m p l =
         let to = label_behind ms b.number (Some i.id) now in
-        laid-items b mb is (λ j k. w j (later k)) to m.1 p (body-laid t R C at (homes to) (point_item t f b i) (map (point_item t f b) is ++ p) (point-body b mb to i (λ x. (m.0 x).0) (w i first)) l)
+        laid-items b h is (λ j k. w j (later k)) to m.1 p (body-laid t R C at (homes to) (point_item t f b i) (map (point_item t f b) is ++ p) (point-body b h to i (λ x. (m.0 x).0) (w i first)) l)
 
     laid-end : (falls : Option Writes) (exits : List Edge) (p : Code) → LaidOut C (BlockEnd falls exits ∷ p) → LaidOut C p
     laid-end None exits p l = l
@@ -471,7 +453,7 @@ module _ (t : Target) (f g : Function) (v : ℕ) (ms : List Mark) (live : Point 
         (steps pre b after e c refl refl l.0 (block_end t g c (split-blocks m after) ∷ blocks_code (item_of t g) t g (split-blocks m after)) (end-step n m b mb after on at_end) [] b.instrs refl n label (start-fits ms b.number) (meet b mb) l.1 k.1)
 
 -- what is split
-module _ (t : Target) (f : Function) (v : ℕ) (ms : List Mark) (live : Point → Bool) (tests : Tests (RangeLive t f v) live) (low : IsLowered t f) (meet : LabelsAgree t f v ms) where
+module _ (t : Target) (f : Function) (v : ℕ) (ms : List Mark) (live : Point → Bool) (tests : Tests (RangeLive t f v) live) (low : Suits t f) (meet : LabelsAgree t f v ms) where
   abbrev made-function : Function
   made-function = split_by live f v ms
 
@@ -484,9 +466,6 @@ module _ (t : Target) (f : Function) (v : ℕ) (ms : List Mark) (live : Point �
       let h = both (list_all (λ i. not (does is_phi t i)) b.instrs) (has_no_phis t bs) e in
       λ k. split-philess t live f v ms b n (start_label ms b.number) b.instrs h.0 k && blocks-philess (number_behind live f v ms n (b ∷ [])) bs h.1 k
 
-  laid-points : LaidOut (points_of t f) (points_of t f)
-  laid-points = subst (λ c. LaidOut c c) (sym (points_are_code t f no-phis)) low.laid_out
-
   abbrev first-of : Homes
   first-of = next-homes f v ms f.blocks
 
@@ -494,7 +473,7 @@ module _ (t : Target) (f : Function) (v : ℕ) (ms : List Mark) (live : Point �
   unfolding split_by points_of code_of
   in-step =
       let none' = blocks-philess f.next_id f.blocks no-phis in
-      all-steps t f made-function v ms live tests low laid-points meet refl none' [] f.blocks refl f.next_id laid-points (keep-all t f made-function v ms live tests low laid-points meet) first-of (first-enters t f made-function v ms live tests low laid-points meet refl none' f.blocks)
+      all-steps t f made-function v ms live tests low meet refl none' [] f.blocks refl f.next_id low.laid_out (keep-all t f made-function v ms live tests low meet) first-of (first-enters t f made-function v ms live tests low meet refl none' f.blocks)
 
   given-same : (u : ℕ) → given_of t made-function u ≡ given_of t f u
   unfolding split_by
@@ -519,8 +498,25 @@ module _ (t : Target) (f : Function) (v : ℕ) (ms : List Mark) (live : Point �
   split-refines : refines t f made-function
   unfolding meaning_of
   split-refines =
-      law_of_places (is_reserved t) (meaning_of t f) (meaning_of t made-function) starts-at first-of low.laid_out (λ env l k. starts-alike f.blocks env l)
+      law_of_places (is_reserved t) (meaning_of t f) (meaning_of t made-function) starts-at first-of (subst (λ c. LaidOut c c) (points_are_code t f no-phis) low.laid_out) (λ env l k. starts-alike f.blocks env l)
       (subst (λ p. InStep (is_reserved t) p starts-at first-of p (code_of t made-function)) (points_are_code t f no-phis) in-step)
 
+-- what the rules give
+module _ (t : Target) (f : Function) (low : IsLowered t f) where
+  known : (i : Instr) → does (λ e. not (is_lowered_away e)) t i ≡ true → ((e : Effect) × (effect_of t i ≡ Some e)) × (does is_lowered_away t i ≡ false)
+  known i h = go (effect_of t i) refl h
+    where
+      go : (q : Option Effect) → effect_of t i ≡ q → passes (λ e. not (is_lowered_away e)) q ≡ true → ((e : Effect) × (effect_of t i ≡ Some e)) × (does is_lowered_away t i ≡ false)
+      go None e k = absurd (cc)
+      go (Some x) e k = ((x, e), ap (passes is_lowered_away) e ∙ not-true (is_lowered_away x) k)
+
+  suits : Suits t f
+  suits = record {
+    function = low.function;
+    lowered = λ b i mb mi. (known i (low.lowered b i mb mi)).1;
+    named = λ b i o mb mi m. let z = known i (low.lowered b i mb mi) in named t f low.rules.classes i z.0 z.1 (low.rules.shaped b i mb mi) o m;
+    laid_out = points-laid t f low;
+  }
+
 pub split_refines : SplitRefines
-split_refines t f g v ms low meet s = subst (refines t f) (sym s.2) (split-refines t f v ms s.0 s.1 low meet)
+split_refines t f g v ms low meet s = subst (refines t f) (sym s.2) (split-refines t f v ms s.0 s.1 (suits t f low) meet)

@@ -33,7 +33,7 @@ use Rattle.mir_meaning.specs.Codes.{item_of}
 use Rattle.mir_meaning.specs.Renaming.{KeepsPlaces, Renames, RenamesAll, renamed_instr, renamed_item, renamed_operand}
 use Rattle.mir_meaning.proofs.Renaming.{law_of_renaming}
 use Rattle.instr_effects.proofs.Members.{map-of, member-elim, member-none}
-use Rattle.split_laws.specs.Laws.{IsNamed}
+use Rattle.split_laws.proofs.Suits.{IsNamed}
 use Rattle.split_laws.proofs.Copies.{number-below}
 
 lane-below : (n k : ℕ) → Member k (numbers 0 n) → k < n

@@ -1,38 +1,28 @@
 -- Splitting keeps the meaning.
-use Rattle.std.specs.Prelude.{◌≡◌, ◌<◌, ℕ, true, false, List, [], ◌∷◌, length, Option, Some, None}
-use Rattle.target_base.specs.declared.types.IndexId.{IndexId}
+use Rattle.std.specs.Prelude.{◌≡◌, not, ℕ, true, List, [], ◌∷◌, Option, Some, None, slice_get}
 use Rattle.target_base.specs.declared.types.Target.{Target}
-use Rattle.target_base.specs.Registers.{lanes_of}
-use Rattle.meaning.specs.Layout.{LaidOut}
 use Rattle.meaning.specs.Live.{Among as Member}
 use Rattle.mir_func.specs.declared.func.Edge.{Edge}
-use Rattle.mir_func.specs.declared.func.Loc.TheVariants.{Virtual}
-use Rattle.mir_func.specs.declared.func.RegOp.{RegOp}
 use Rattle.mir_func.specs.declared.func.Instr.{Instr}
 use Rattle.mir_func.specs.declared.func.Block.{Block}
 use Rattle.mir_func.specs.Value.{Function, IsFunction}
-use Rattle.mir_func.specs.Binding.{does, is_lowered_away, is_terminator, registers}
-use Rattle.mir_meaning.specs.Registers.{range_widths}
-use Rattle.mir_meaning.specs.Codes.{code_of, refines}
+use Rattle.mir_func.specs.Binding.{does, is_lowered_away, is_terminator}
+use Rattle.mir_meaning.specs.Codes.{refines}
 use Rattle.mir_meaning.specs.Points.{Start}
-use Rattle.mir_meaning.specs.Renaming.{IsFixed}
+use Rattle.mir_meaning.specs.Rules.{V8, V9}
 use Rattle.live_lanes.specs.declared.ask.labels.Mark.{Mark}
+use Rattle.live_laws.specs.Effects.Coded.{KeepsRules}
 use Rattle.split_kit.specs.Split.{RangeLive, Split, label_behind, start_label}
 
--- The operand names a virtual register that the function has, through an index that has lanes of it alone, or a physical
--- one; an implicit operand names a physical one.
-pub record IsNamed (t : Target) (f : Function) (o : RegOp) : Type 0 where
-  pub range : (w : ℕ) → o.loc ≡ Virtual w → w < length f.classes
-  pub index : (w : ℕ) (x : IndexId) (k : ℕ) → o.loc ≡ Virtual w → o.index ≡ Some x → Member k (lanes_of t x) → k < length (range_widths t f w)
-  pub implicit : o.implicit ≡ true → IsFixed o.loc
-
--- The function in the form in which ranges are split: ids are distinct; no phi, REG_SEQUENCE or INSERT_SUBREG is left; blocks
--- are laid out as its runs go.
+-- A function in the form in which ranges are split: ids are distinct; operands, indexes and block numbers meet the rules on
+-- which liveness rests; each opcode is known, and none is PHI, REG_SEQUENCE or INSERT_SUBREG; blocks end in their terminators
+-- and lead to their successors.
 pub record IsLowered (t : Target) (f : Function) : Type 0 where
   pub function : IsFunction f.blocks f.next_id
-  pub lowered : (b : Block) (i : Instr) → Member b f.blocks → Member i b.instrs → does is_lowered_away t i ≡ false
-  pub named : (b : Block) (i : Instr) (o : RegOp) → Member b f.blocks → Member i b.instrs → Member o (registers i.operands) → IsNamed t f o
-  pub laid_out : LaidOut (code_of t f) (code_of t f)
+  pub rules : KeepsRules t f
+  pub lowered : (b : Block) (i : Instr) → Member b f.blocks → Member i b.instrs → does (λ e. not (is_lowered_away e)) t i ≡ true
+  pub terminators : (b : Block) (j : ℕ) (i : Instr) → Member b f.blocks → slice_get b.instrs j ≡ Some i → V8 t b j i ≡ true
+  pub successors : (k : ℕ) (b : Block) → slice_get f.blocks k ≡ Some b → V9 t f k b ≡ true
 
 -- where some lane of the range is live at the start of one of these successors, the label there is this one
 abbrev pub Meets : Target → Function → ℕ → List Mark → List Edge → ℕ → Type 0
