@@ -11,6 +11,7 @@ use Rattle.target_base.specs.Roles.{is_silent}
 use Rattle.target_base.specs.Rules.{is_phi}
 use Rattle.target_base.proofs.Tests.{second_of_both}
 use Rattle.meaning.specs.Code.{Edge, Item, BlockStart, BlockEnd, Silent, Counted, Code, found}
+use Rattle.meaning.specs.Lanes.{Writes}
 use Rattle.meaning.specs.Layout.{FallsTo, LaidOut, NoPhis, NoPhisAlong, NoPhisBelow, NoPhisInto}
 use Rattle.meaning.specs.Live.{Among as Member, here as first, there as later}
 use Rattle.mir_func.specs.declared.func.Edge.{Edge as Successor}
@@ -30,10 +31,25 @@ use Rattle.live_laws.proofs.Effects.Lists.{all-of}
 use Rattle.live_laws.proofs.Effects.Moved.{Apart}
 use Rattle.live_laws.proofs.Effects.Moving.{some-same}
 use Rattle.live_laws.proofs.Touch.Roles.{has_roles}
-use Rattle.slot_laws.proofs.Laid.{at-length, branch-ends, counted-roles, no-terminators, none-of, past-length}
-use Rattle.slot_laws.proofs.Merged.{edge}
-use Rattle.slot_laws.proofs.Shaped.{target-branches, target-named}
+use Rattle.split_laws.proofs.Branches.{branch-ends, counted-roles, no-terminators, target-branches, target-named}
 use Rattle.split_laws.specs.Laws.{IsLowered}
+
+-- a list by what stands before one of it
+
+at-length : {X : Type 0} (pre : List X) (x : X) (after : List X) → slice_get (pre ++ x ∷ after) (length pre) ≡ Some x
+at-length [] x after = refl
+at-length (y ∷ pre) x after = at-length pre x after
+
+past-length : {X : Type 0} (pre : List X) (x : X) (after : List X) → drop (suc (length pre)) (pre ++ x ∷ after) ≡ after
+past-length [] x after = refl
+past-length (y ∷ pre) x after = past-length pre x after
+
+none-of : {X : Type 0} (p : X → Bool) (xs : List X) → ((x : X) → Member x xs → p x ≡ false) → list_any p xs ≡ false
+none-of p [] g = refl
+none-of p (x ∷ xs) g = λ k. g x first k || none-of p xs (λ y m. g y (later m)) k
+
+abbrev edge : ℕ → Writes → Edge
+edge n ws = record { block = n; phis = ws }
 
 -- an item that names a way out alone
 abbrev Listed : Item → Type 0

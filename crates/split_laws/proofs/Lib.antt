@@ -8,5 +8,6 @@ pub mod Labels
 pub mod Points
 pub mod Ends
 pub mod Named
+pub mod Branches
 pub mod Laid
 pub mod Splitting

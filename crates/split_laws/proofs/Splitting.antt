@@ -40,8 +40,6 @@ use Rattle.mir_meaning.proofs.Points.{both, points_are_code}
 use Rattle.mir_meaning.proofs.Renaming.{law_of_renaming}
 use Rattle.instr_effects.proofs.Members.{map-of, member-elim, member-none}
 use Rattle.live_lanes.specs.declared.ask.labels.Mark.{Mark}
-use Rattle.slot_laws.proofs.Laid.{each}
-use Rattle.slot_laws.proofs.Merged.{way-bare}
 use Rattle.split_kit.specs.Split.{RangeLive, Split, as_part, block_split, blocks_split, changed, greatest_label, instrs_split, label_behind, last_point, number_behind, part, split_by, start_label, whole}
 use Rattle.split_laws.specs.Laws.{AllMeet, IsLowered, LabelsAgree, Meets, SplitRefines}
 use Rattle.split_laws.proofs.Suits.{Suits}
@@ -65,7 +63,31 @@ map-append : {A B : Type 0} (g : A → B) (xs ys : List A) → map g (xs ++ ys) 
 map-append g [] ys = refl
 map-append g (x ∷ xs) ys = ap (λ zs. g x ∷ zs) (map-append g xs ys)
 
+-- a test that each passes
+each : {X : Type 0} (p : X → Bool) (xs : List X) → ((x : X) → Member x xs → p x ≡ true) → list_all p xs ≡ true
+each p [] g = refl
+each p (x ∷ xs) g = λ k. g x first k && each p xs (λ y m. g y (later m)) k
+
 module _ (t : Target) where
+  quiet-phis : (q : Function) (n : ℕ) (is : List Instr) → list_all (λ i. not (does is_phi t i)) is ≡ true → phis_written t q n is ≡ []
+  quiet-phis q n [] e = refl
+  quiet-phis q n (i ∷ is) e = go (does is_phi t i) e (quiet-phis q n is)
+    where
+      go : (b : Bool) → (not b && list_all (λ i. not (does is_phi t i)) is) ≡ true → (list_all (λ i. not (does is_phi t i)) is ≡ true → phis_written t q n is ≡ []) → phis_written t q n is ++ cond b (phi_operands t q n i.operands) [] ≡ []
+      go true k ih = absurd (cc)
+      go false k ih = ap (λ ws. ws ++ []) (ih k)
+
+  found-philess : (bs : List Block) (m : ℕ) → has_no_phis t bs ≡ true → list_all (λ i. not (does is_phi t i)) (instrs_of bs m) ≡ true
+  found-philess [] m e = refl
+  found-philess (b ∷ bs) m e = let h = both (list_all (λ i. not (does is_phi t i)) b.instrs) (has_no_phis t bs) e in go (nat_eq b.number m) h.0 (found-philess bs m h.1)
+    where
+      go : (c : Bool) → list_all (λ i. not (does is_phi t i)) b.instrs ≡ true → list_all (λ i. not (does is_phi t i)) (instrs_of bs m) ≡ true → list_all (λ i. not (does is_phi t i)) (elim (cond c (Some b) (find (λ d. nat_eq d.number m) bs)) as (λ q. List Instr) [ None ↦ [] | Some d ↦ d.instrs ]) ≡ true
+      go true x y = x
+      go false x y = y
+
+  way-bare : (q : Function) → has_no_phis t q.blocks ≡ true → (n m : ℕ) → way t q n m ≡ bare m
+  way-bare q none n m = ap (λ ws. record { block = m; phis = ws }) (quiet-phis q n (instrs_of q.blocks m) (found-philess q.blocks m none))
+
   -- an item in order
   body-order : (reserved : Lane → Bool) (code : Code) (at : AtStarts) (h : Homes) (i : Item) → IsBody reserved code at h i → in_order i ≡ true
   body-order reserved code at h (BlockStart n) b = absurd b
