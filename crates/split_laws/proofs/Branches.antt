@@ -137,7 +137,7 @@ counted-roles effects.RegSequence h = absurd (cc)
 counted-roles effects.InsertSubreg h = absurd (cc)
 counted-roles e h = refl
 
-branch-ends : (e : Effect) → is_branch e ≡ true → is_terminator e ≡ true
+pub branch-ends : (e : Effect) → is_branch e ≡ true → is_terminator e ≡ true
 branch-ends effects.Jump h = refl
 branch-ends effects.Jcc h = refl
 branch-ends effects.Jnz h = refl

@@ -129,6 +129,7 @@ module _ (t : Target) (live : Point → Bool) (f : Function) (v : ℕ) (ms : Lis
         go false = refl
 
     split-lacks : (n now : ℕ) (is : List Instr) → Stay now is → lacks (does p t) (split n now is) ≡ lacks (does p t) is
+    unfolding lacks
     split-lacks n now [] h =
         let from = now in
         let to = label_behind ms b.number None now in

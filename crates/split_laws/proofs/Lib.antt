@@ -11,3 +11,5 @@ pub mod Named
 pub mod Branches
 pub mod Laid
 pub mod Splitting
+pub mod Facing
+pub mod Others

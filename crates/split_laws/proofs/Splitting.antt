@@ -102,7 +102,7 @@ module _ (t : Target) where
   body-laid reserved code at h (Counted r reads ws None exits) p b l = l
   body-laid reserved code at h (Counted r reads ws (Some e) exits) p b l = l.1
 
-  not-phi : (i : Instr) → does is_lowered_away t i ≡ false → (does is_phi t i ≡ false) × (does puts_together t i ≡ false)
+  pub not-phi : (i : Instr) → does is_lowered_away t i ≡ false → (does is_phi t i ≡ false) × (does puts_together t i ≡ false)
   not-phi i e = go (effect_of t i) e
     where
       by : (a b : Bool) → (a || b) ≡ false → (a ≡ false) × (b ≡ false)
@@ -113,14 +113,14 @@ module _ (t : Target) where
       go None h = (refl, refl)
       go (Some x) h = by (is_phi x) (puts_together x) h
 
-  all-philess : (bs : List Block) → ((b : Block) (i : Instr) → Member b bs → Member i b.instrs → does is_phi t i ≡ false) → has_no_phis t bs ≡ true
+  pub all-philess : (bs : List Block) → ((b : Block) (i : Instr) → Member b bs → Member i b.instrs → does is_phi t i ≡ false) → has_no_phis t bs ≡ true
   all-philess bs h = each (λ (b : Block). list_all (λ i. not (does is_phi t i)) b.instrs) bs (λ b mb. each (λ i. not (does is_phi t i)) b.instrs (λ i mi. ap not (h b i mb mi)))
 
-  as-item : (f : Function) (b : Block) (i : Instr) → does is_phi t i ≡ false → point_item t f b i ≡ item_of t f b i
+  pub as-item : (f : Function) (b : Block) (i : Instr) → does is_phi t i ≡ false → point_item t f b i ≡ item_of t f b i
   unfolding point_item
   as-item f b i e = ap (λ c. cond c (Silent [] (defined_undef t f i.operands)) (item_of t f b i)) e
 
-member-behind : {A : Type 0} (front : List A) (x : A) (back xs : List A) → front ++ x ∷ back ≡ xs → Member x xs
+pub member-behind : {A : Type 0} (front : List A) (x : A) (back xs : List A) → front ++ x ∷ back ≡ xs → Member x xs
 member-behind {A = A} front x back xs e = subst (Member x) e (at front)
   where
     at : (ys : List A) → Member x (ys ++ x ∷ back)
@@ -157,7 +157,7 @@ module _ (t : Target) (f g : Function) (v : ℕ) (ms : List Mark) (live : Point 
   bare-way : (n m : ℕ) → way t f n m ≡ bare m
   bare-way n m = way-bare t f none n m
 
-  bare-ways : (n : ℕ) (es : List Successor) → NoPhisAlong (map (λ e. way t f n e.block) es)
+  pub bare-ways : (n : ℕ) (es : List Successor) → NoPhisAlong (map (λ e. way t f n e.block) es)
   bare-ways n [] = tt
   bare-ways n (e ∷ es) = (ap (λ (w : Edge). w.phis) (bare-way n e.block), bare-ways n es)
 
@@ -166,7 +166,7 @@ module _ (t : Target) (f g : Function) (v : ℕ) (ms : List Mark) (live : Point 
   bare-into n (Some m) = ap (λ (w : Edge). w.phis) (bare-way n m)
 
   -- where the labels meet, homes agree
-  meets-agree : (b : Block) (label : ℕ) → Meets t f v ms b.successors label → (e : Edge) → Member e (ways_out t f b) → Agree R C (found e.block C) (homes label) (at e.block)
+  pub meets-agree : (b : Block) (label : ℕ) → Meets t f v ms b.successors label → (e : Edge) → Member e (ways_out t f b) → Agree R C (found e.block C) (homes label) (at e.block)
   meets-agree b label h e m =
       let z = map-of (λ (s : Successor). way t f b.number s.block) e b.successors m in
       let same : e.block ≡ z.0.block = ap (λ (w : Edge). w.block) z.2 in
@@ -195,7 +195,7 @@ module _ (t : Target) (f g : Function) (v : ℕ) (ms : List Mark) (live : Point 
         go None known = tt
         go (Some e) known = by-effect e known
 
-    point-body : Member i b.instrs → IsBody R C at (homes label) (point_item t f b i)
+    pub point-body : Member i b.instrs → IsBody R C at (homes label) (point_item t f b i)
     point-body mi = subst (IsBody R C at (homes label)) (sym (as-item t f b i (philess b i mb mi))) item-body
 
   -- what an instruction does when it isn't known which label holds there
@@ -230,7 +230,7 @@ module _ (t : Target) (f g : Function) (v : ℕ) (ms : List Mark) (live : Point 
 
   -- lanes of the range that are live are its own
 
-  abbrev Keeping : Code → Type 0
+  abbrev pub Keeping : Code → Type 0
   Keeping p = AllKeep (IsOwn t f v) (λ s k w. tt) p
 
   keep-item : (b : Block) (i : Instr) → Member b f.blocks → Member i b.instrs → Keeps (IsOwn t f v) (λ s k w. tt) (point_item t f b i)
@@ -252,7 +252,7 @@ module _ (t : Target) (f g : Function) (v : ℕ) (ms : List Mark) (live : Point 
     ),
   )
 
-  keep-all : Keeping C
+  pub keep-all : Keeping C
   unfolding points_of
   keep-all = keep-blocks f.blocks (λ b m. m)
 
@@ -275,7 +275,7 @@ module _ (t : Target) (f g : Function) (v : ℕ) (ms : List Mark) (live : Point 
     abbrev copy : ℕ → ℕ → List Operand
     copy from to = whole true (part f to) ∷ whole false (part f from) ∷ []
 
-    copy-moves : (from to : ℕ) → from < count → to < count → copied t g (copy from to) ≡ moves (part f to) (part f from) lanes
+    pub copy-moves : (from to : ℕ) → from < count → to < count → copied t g (copy from to) ≡ moves (part f to) (part f from) lanes
     copy-moves from to h k =
         (λ i. moved false (map (VirtualLane (part f to)) (numbers 0 (length (widths-part t f g v count classes to k i)))) (map FromLane (map (VirtualLane (part f from)) (numbers 0 (length (widths-part t f g v count classes from h i))))) ++ [])
         ∙ moves-none (part f to) (part f from) lanes
@@ -290,7 +290,7 @@ module _ (t : Target) (f g : Function) (v : ℕ) (ms : List Mark) (live : Point 
           ∙ (ap settled (moves-own (part f to) (part f from) lanes k (number-in 0 (length (range_widths t f v)) k (omega arith) (omega arith)))
           ∙ ap (λ x. FromLane (VirtualLane x k)) (sym (home-own f v count from)))
 
-      carried : (p : Code) → Keeping p → (a : Lane) → Kept R C p a → settled (through ws (homes to a)) ≡ homes from a
+      pub carried : (p : Code) → Keeping p → (a : Lane) → Kept R C p a → settled (through ws (homes to a)) ≡ homes from a
       carried p keep (VirtualLane w k) kept = go (nat_eq v w) refl kept
         where
           go : (b : Bool) → nat_eq v w ≡ b → Kept R C p (VirtualLane w k) → settled (filled ws (lane_home f v count to (VirtualLane w k))) ≡ FromLane (lane_home f v count from (VirtualLane w k))
@@ -336,10 +336,10 @@ module _ (t : Target) (f g : Function) (v : ℕ) (ms : List Mark) (live : Point 
       code-here : (front : List Instr) (i : Instr) (back : List Instr) → front ++ i ∷ back ≡ b.instrs → from_instr t f i.id f.blocks ≡ from-place (i ∷ back)
       code-here front i back e = code-at t f low.function pre b after blocks front i back e ∙ ap from-place (rest-at t f low.function pre b after blocks front i back e)
 
-      entry-live : (front : List Instr) (i : Instr) (back : List Instr) → front ++ i ∷ back ≡ b.instrs → (k : ℕ) → Live R C (from-place (i ∷ back)) (VirtualLane v k) → RangeLive t f v (Entry i.id)
+      pub entry-live : (front : List Instr) (i : Instr) (back : List Instr) → front ++ i ∷ back ≡ b.instrs → (k : ℕ) → Live R C (from-place (i ∷ back)) (VirtualLane v k) → RangeLive t f v (Entry i.id)
       entry-live front i back e k l = (k, subst (λ p. Live R C p (VirtualLane v k)) (sym (code-here front i back e)) l)
 
-      end-live : found b.number C ≡ from-place b.instrs → (k : ℕ) → Live R C end (VirtualLane v k) → RangeLive t f v (last_point (Start b.number) b.instrs)
+      pub end-live : found b.number C ≡ from-place b.instrs → (k : ℕ) → Live R C end (VirtualLane v k) → RangeLive t f v (last_point (Start b.number) b.instrs)
       end-live here k l = go (end-of (Start b.number) b.instrs)
         where
           go : ◌≡◌ {A = List Instr} b.instrs [] ⊎ EndsWith (Start b.number) b.instrs → RangeLive t f v (last_point (Start b.number) b.instrs)
@@ -356,13 +356,16 @@ module _ (t : Target) (f g : Function) (v : ℕ) (ms : List Mark) (live : Point 
       same-outs : ways_out t g c ≡ ways_out t f b
       same-outs = (λ k. map (λ e. way t g (number k) e.block) (successors k)) ∙ ways-same b.number b.successors
 
+      pub named-item : (i : Instr) → Member i b.instrs → (label : ℕ) → label < count → item_of t g c (renamed_instr (as_part f v label) i) ≡ renamed_item (lane_home f v count label) (item_of t f b i)
+      named-item i mi label h =
+          law_of_renaming t f g (lane_home f v count label) (as_part f v label) (keeps-places f v count label) b c same-ways same-outs i (not-phi t i (low.lowered b i mb mi)).1 (renames-all t f g v count classes label h i.operands (λ o k. low.named b i o mb mi k))
+
       one-step : (i : Instr) → Member i b.instrs → (label : ℕ) → label < count → (does is_terminator t i ≡ true → Meets t f v ms b.successors label) → (p q : Code) → LaidOut C (point_item t f b i ∷ p) → InStep R C at (homes label) p q → InStep R C at (homes label) (point_item t f b i ∷ p) (item_of t g c (renamed_instr (as_part f v label) i) ∷ q)
       one-step i mi label h meets p q l s =
           let m = lane_home f v count label in
           let same = as-item t f b i (philess b i mb mi) in
-          let named = law_of_renaming t f g m (as_part f v label) (keeps-places f v count label) b c same-ways same-outs i (not-phi t i (low.lowered b i mb mi)).1 (renames-all t f g v count classes label h i.operands (λ o k. low.named b i o mb mi k)) in
           subst (λ x. InStep R C at (homes label) (x ∷ p) (item_of t g c (renamed_instr (as_part f v label) i) ∷ q)) (sym same)
-          (subst (λ y. InStep R C at (homes label) (item_of t f b i ∷ p) (y ∷ q)) (sym named)
+          (subst (λ y. InStep R C at (homes label) (item_of t f b i ∷ p) (y ∷ q)) (sym (named-item i mi label h))
           (renaming R C at m (homes-apart f v count label h) (item_of t f b i) p q (item-body b mb label i meets) (subst (λ x. LaidOut C (x ∷ p)) same l) s))
 
       module _ (here : found b.number C ≡ from-place b.instrs) (behind : Code) (ends : (label : ℕ) → Meets t f v ms b.successors label → InStep R C at (homes label) end behind) where
@@ -424,7 +427,7 @@ module _ (t : Target) (f g : Function) (v : ℕ) (ms : List Mark) (live : Point 
       falls-same : fallen_into t made-block (split-blocks k after) ≡ fallen_into t b after
       falls-same = λ i. cond (stays i && not (t.options.open_blocks && nat_eq (length b.successors) 0 && open-same i)) (first-same k after i) None
 
-      end-same : block_end t g made-block (split-blocks k after) ≡ block_end t f b after
+      pub end-same : block_end t g made-block (split-blocks k after) ≡ block_end t f b after
       end-same = λ i. BlockEnd (option_map (λ m. (bare-way' b.number m i).phis) (falls-same i)) (ways-same b.number b.successors i)
 
       enters-next : (label : ℕ) → Meets t f v ms b.successors label → (phis : Writes) → FallsTo phis (ways_out t f b) code-behind → Enters (homes label) after
@@ -447,17 +450,17 @@ module _ (t : Target) (f g : Function) (v : ℕ) (ms : List Mark) (live : Point 
               let phis = (way t f b.number m).phis in
               in-step-falls R C at (homes label) phis (ways_out t f b) code-behind code-behind' x (ap (λ (w : Edge). w.phis) (bare-way b.number m)) (bare-ways b.number b.successors) (meets-agree b label meets) (on (homes label) (enters-next label meets phis x.0))
 
-    laid-items : (b : Block) → Member b f.blocks → (is : List Instr) → ((i : Instr) → Member i is → Member i b.instrs) → (now : ℕ) → AllMeet t f v ms b now is → (p : Code) → LaidOut C (map (point_item t f b) is ++ p) → LaidOut C p
+    pub laid-items : (b : Block) → Member b f.blocks → (is : List Instr) → ((i : Instr) → Member i is → Member i b.instrs) → (now : ℕ) → AllMeet t f v ms b now is → (p : Code) → LaidOut C (map (point_item t f b) is ++ p) → LaidOut C p
     laid-items b h [] w now m p l = l
     laid-items b h (i ∷ is) w now m p l =
         let to = label_behind ms b.number (Some i.id) now in
         laid-items b h is (λ j k. w j (later k)) to m.1 p (body-laid t R C at (homes to) (point_item t f b i) (map (point_item t f b) is ++ p) (point-body b h to i (λ x. (m.0 x).0) (w i first)) l)
 
-    laid-end : (falls : Option Writes) (exits : List Edge) (p : Code) → LaidOut C (BlockEnd falls exits ∷ p) → LaidOut C p
+    pub laid-end : (falls : Option Writes) (exits : List Edge) (p : Code) → LaidOut C (BlockEnd falls exits ∷ p) → LaidOut C p
     laid-end None exits p l = l
     laid-end (Some phis) exits p l = l.1
 
-    keep-tail : (b : Block) (is : List Instr) (p : Code) → Keeping (map (point_item t f b) is ++ p) → Keeping p
+    pub keep-tail : (b : Block) (is : List Instr) (p : Code) → Keeping (map (point_item t f b) is ++ p) → Keeping p
     keep-tail b [] p k = k
     keep-tail b (i ∷ is) p k = keep-tail b is p k.1
 
@@ -479,10 +482,10 @@ module _ (t : Target) (f : Function) (v : ℕ) (ms : List Mark) (live : Point �
   abbrev made-function : Function
   made-function = split_by live f v ms
 
-  no-phis : has_no_phis t f.blocks ≡ true
+  pub no-phis : has_no_phis t f.blocks ≡ true
   no-phis = all-philess t f.blocks (λ b i mb mi. (not-phi t i (low.lowered b i mb mi)).0)
 
-  blocks-philess : (n : ℕ) (bs : List Block) → has_no_phis t bs ≡ true → has_no_phis t (blocks_split live f v ms n bs) ≡ true
+  pub blocks-philess : (n : ℕ) (bs : List Block) → has_no_phis t bs ≡ true → has_no_phis t (blocks_split live f v ms n bs) ≡ true
   blocks-philess n [] e = refl
   blocks-philess n (b ∷ bs) e =
       let h = both (list_all (λ i. not (does is_phi t i)) b.instrs) (has_no_phis t bs) e in
@@ -532,7 +535,7 @@ module _ (t : Target) (f : Function) (low : IsLowered t f) where
       go None e k = absurd (cc)
       go (Some x) e k = ((x, e), ap (passes is_lowered_away) e ∙ not-true (is_lowered_away x) k)
 
-  suits : Suits t f
+  pub suits : Suits t f
   suits = record {
     function = low.function;
     lowered = λ b i mb mi. (known i (low.lowered b i mb mi)).1;

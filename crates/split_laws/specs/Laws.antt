@@ -1,6 +1,8 @@
 -- Splitting keeps the meaning.
-use Rattle.std.specs.Prelude.{◌≡◌, not, ℕ, true, List, [], ◌∷◌, Option, Some, None, slice_get}
+use Rattle.std.specs.Prelude.{◌≡◌, ◌<◌, ◌↔◌, not, ℕ, true, List, [], ◌∷◌, length, Option, Some, None, slice_get}
 use Rattle.target_base.specs.declared.types.Target.{Target}
+use Rattle.meaning.specs.declared.types.Lane.{Lane}
+use Rattle.meaning.specs.declared.types.Lane.TheVariants.{VirtualLane, UnitLane, SlotLane}
 use Rattle.meaning.specs.Live.{Among as Member}
 use Rattle.mir_func.specs.declared.func.Edge.{Edge}
 use Rattle.mir_func.specs.declared.func.Instr.{Instr}
@@ -8,7 +10,7 @@ use Rattle.mir_func.specs.declared.func.Block.{Block}
 use Rattle.mir_func.specs.Value.{Function, IsFunction}
 use Rattle.mir_func.specs.Binding.{does, is_lowered_away, is_terminator}
 use Rattle.mir_meaning.specs.Codes.{refines}
-use Rattle.mir_meaning.specs.Points.{Start}
+use Rattle.mir_meaning.specs.Points.{Point, Start, Entry, Exit, LiveAt}
 use Rattle.mir_meaning.specs.Rules.{V8, V9}
 use Rattle.live_lanes.specs.declared.ask.labels.Mark.{Mark}
 use Rattle.live_laws.specs.Effects.Coded.{KeepsRules}
@@ -48,3 +50,21 @@ LabelsAgree t f v ms = (b : Block) → Member b f.blocks → AllMeet t f v ms b 
 -- the function with a range split does what it did
 abbrev pub SplitRefines : Type 0
 SplitRefines = (t : Target) (f g : Function) (v : ℕ) (ms : List Mark) → IsLowered t f → LabelsAgree t f v ms → Split t f v ms g → refines t f g
+
+-- a point of the function, whose instructions have ids below the next
+abbrev pub IsPointOf : Function → Point → Type 0
+IsPointOf f (Start n) = Unit {0}
+IsPointOf f (Entry id) = id < f.next_id
+IsPointOf f (Exit id) = id < f.next_id
+
+-- a lane of a register of the function other than the range, a unit, or a slot's lane
+abbrev pub IsOther : Function → ℕ → Lane → Type 0
+IsOther f v (VirtualLane w k) = (w < length f.classes) × (w ≡ v → ⊥)
+IsOther f v (UnitLane u) = Unit {0}
+IsOther f v (SlotLane s k w) = Unit {0}
+
+-- other ranges, units and slots are live at the points of the function where they were
+abbrev pub SplitKeepsOthers : Type 0
+SplitKeepsOthers =
+    (t : Target) (f g : Function) (v : ℕ) (ms : List Mark) → IsLowered t f → LabelsAgree t f v ms → Split t f v ms g
+    → (p : Point) → IsPointOf f p → (l : Lane) → IsOther f v l → LiveAt t f p l ↔ LiveAt t g p l

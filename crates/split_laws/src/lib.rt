@@ -2,9 +2,14 @@
 //! did. Each is the contract of a function, so that a check proves it.
 #![tactic(auto)]
 
-ghost use Rattle.split_laws.specs.Laws.{SplitRefines};
+ghost use Rattle.split_laws.specs.Laws.{SplitKeepsOthers, SplitRefines};
 
 /// A function with a range split does what it did, where labels agree on the ways between blocks.
 pub fn split_law()
     ensures { SplitRefines }
+{}
+
+/// Other ranges, units and slots are live where they were.
+pub fn others_law()
+    ensures { SplitKeepsOthers }
 {}
