@@ -261,7 +261,7 @@ module _ (t : Target) (f : Function) (v count : ℕ) (C D : Code) (begin : ℕ �
             let rs = reads-back m ss (reads_of i) (subst (Member ss) (reads-of m i) (subst (λ c. Member ss (reads_of c)) e x)) in
             let l = map-of (image m) (FromLane b) rs.0 (subst (Member (FromLane b)) rs.2 y) in
             let a = lane-back m l.0 b l.2 in
-            (a.0, a.2, read rs.1 (subst (λ c. Member c rs.0) a.1 l.1) (free-back z.to a.0 b a.2 free)))
+            (a.0, a.2, read {l = a.0} rs.1 (subst (λ c. Member c rs.0) a.1 l.1) (free-back z.to a.0 b a.2 free)))
           (λ ws e g s h. absurd (member-none ss (subst (λ c. Member ss (reads_of c)) e x)))
 
       back-next : (c : Lane) → in_order j ≡ true → ((to : ℕ) (q : Code) → Facing to q r → Back to q c) → Feeds j b c → Back label (i ∷ p) b

@@ -1,7 +1,7 @@
 -- Other ranges, units and slots are live in a function with a range split where they were.
 use Rattle.std.proofs.Common.{◌≡◌, ◌<◌, ◌≤◌, ◌+◌, ◌-◌, ◌⊎◌, inl, inr, ◌↔◌, not, ◌&&◌, ◌++◌, ◌∙◌, ℕ, zero, suc, Bool, true, false, cond, List, [], ◌∷◌, Option, Some, None, map, drop, length, replicate, refl, sym, ap, subst, arith, append_assoc, eqb-true}
 use Rattle.std.specs.Prelude.{nat_eq, nat_lt, option_map}
-use Rattle.std.proofs.lemmas.Bool.{ne_eqb}
+use Rattle.std.proofs.lemmas.Bool.{lt-ltb, ne_eqb}
 use Rattle.std.proofs.lemmas.Bool.Decides.{nat_tests}
 use Rattle.target_base.specs.declared.types.Target.{Target}
 use Rattle.target_base.specs.Numbers.{op_number}
@@ -59,7 +59,7 @@ rest-is item id (i ∷ is) p other = go (nat_eq i.id id) (rest-is item id is p o
     more = omega arith
 
     go : (u : Bool) → cond (nat_lt (instr_place id is) (length is)) (map item (drop (instr_place id is) is) ++ p) other ≡ rest_from item id is p other → cond (nat_lt (cond (not u) (1 + instr_place id is) 0) (length (i ∷ is))) (map item (drop (cond (not u) (1 + instr_place id is) 0) (i ∷ is)) ++ p) other ≡ cond u (map item (i ∷ is) ++ p) (rest_from item id is p other)
-    go true ih = refl
+    go true ih = ap (λ b. cond b (map item (i ∷ is) ++ p) other) (lt-ltb 0 (length (i ∷ is)) (omega arith))
     go false ih =
         ap (λ n. cond (nat_lt n (length (i ∷ is))) (map item (drop n (i ∷ is)) ++ p) other) more
         ∙ (ap (λ b. cond b (map item (drop (suc (instr_place id is)) (i ∷ is)) ++ p) other) (lt-suc (instr_place id is) (length is)) ∙ ih)
@@ -218,14 +218,14 @@ module _ (t : Target) (f g : Function) (v : ℕ) (ms : List Mark) (live : Point 
             let more = instrs_split live f v ms (n + length copies) b to is in
             let mi = member-behind front i is b.instrs e in
             let meets : does is_terminator t i ≡ true → Meets t f v ms b.successors to = λ y. (m.0 y).0 in
-            let next = append_assoc front (i ∷ []) is ∙ e in
-            let on = facing (front ++ i ∷ []) is next (n + length copies) to fits m.1 k.1 in
-            let later = at-instrs x (front ++ i ∷ []) is next (n + length copies) to (omega arith) fits m.1 k.1 in
+            let moved-on = append_assoc front (i ∷ []) is ∙ e in
+            let on = facing (front ++ i ∷ []) is moved-on (n + length copies) to fits m.1 k.1 in
+            let pair = at-instrs x (front ++ i ∷ []) is moved-on (n + length copies) to (omega arith) fits m.1 k.1 in
             subst (Pair (rest_from (point_item t f b) id (i ∷ is) end other)) (sym (past-copies n w (live (Entry i.id)) now to (one ∷ more) end' other'))
             (chosen (nat_eq i.id id)
             (subst (λ y. Pair (from-place (i ∷ is)) (y ∷ behind (n + length copies) to is)) (sym (renamed-point i mi to fits))
             (at-both fits (body-leads t f v count C D begin to (point_item t f b i) (point-body t f g v ms live tests low meet b mb to i meets mi)) (λ o. on)))
-            later)
+            pair)
 
   -- blocks
 

@@ -38,6 +38,10 @@ alone-step m a w ws k ih (inl e) o = ap (image_fill m) (filled-here a w ws e) �
 alone-step m a w ws k ih (inr e) (inl g) = absurd (same-false w.lane a e (k g))
 alone-step m a w ws k ih (inr e) (inr g) = ap (image_fill m) (filled-past a w ws e) ∙ ih ∙ sym (filled-past (m a) (renamed_write m w) (renamed m ws) g)
 
+pub alone : (m : Lane → Lane) → KeepsApart m → (ws : Writes) (a : Lane) → image_fill m (filled ws a) ≡ filled (renamed m ws) (m a)
+alone m apart [] a = refl
+alone m apart (w ∷ ws) a = alone-step m a w ws (apart w.lane a) (alone m apart ws a) (same_or_not w.lane a) (same_or_not (m w.lane) (m a))
+
 -- an item that isn't a border of a block, without phis on its ways, which lead to starts with the same homes
 abbrev pub IsBody : (Lane → Bool) → Code → AtStarts → Homes → Item → Type 0
 IsBody reserved code at h (BlockStart n) = ⊥
@@ -55,14 +59,10 @@ module _ (reserved : Lane → Bool) (code : Code) (at : AtStarts) where
   copying h h' ws p q e s = place {h' = h'} (SecondSilent [] ws ∷ []) (second_alone reserved code at h h' p (ws ∷ []) e) s
 
   module _ (m : Lane → Lane) (apart : KeepsApart m) where
-    alone : (ws : Writes) (a : Lane) → image_fill m (filled ws a) ≡ filled (renamed m ws) (m a)
-    alone [] a = refl
-    alone (w ∷ ws) a = alone-step m a w ws (apart w.lane a) (alone ws a) (same_or_not w.lane a) (same_or_not (m w.lane) (m a))
-
     silently : (reads : Reads) (ws : Writes) (p q : Code) → InStep reserved code at (images m) p q → InStep reserved code at (images m) (Silent reads ws ∷ p) (Silent (renamed_reads m reads) (renamed m ws) ∷ q)
     silently reads ws p q s =
         place {h' = images m} (FirstSilent reads ws ∷ SecondSilent (renamed_reads m reads) (renamed m ws) ∷ [])
-        (silent reserved code at (images m) (images m) p reads ws (renamed m ws ∷ []) (λ a k. sym (ap settled (alone ws a)) ∙ image-settled m (filled ws a)))
+        (silent reserved code at (images m) (images m) p reads ws (renamed m ws ∷ []) (λ a k. sym (ap settled (alone m apart ws a)) ∙ image-settled m (filled ws a)))
         s
 
     -- what is known at a place, in the lanes of its image
@@ -89,7 +89,7 @@ module _ (reserved : Lane → Bool) (code : Code) (at : AtStarts) where
       alike-fill (Computed n) k = refl
 
       written : (a : Lane) → KeptAfter reserved code item p a → behind (FromLane a) (FromLane (m a))
-      written a k = subst (AlikeFill (At (item ∷ p)) (filled ws a)) (alone ws a) (alike-fill (filled ws a) (λ l e. flow reserved code item p a l k e))
+      written a k = subst (AlikeFill (At (item ∷ p)) (filled ws a)) (alone m apart ws a) (alike-fill (filled ws a) (λ l e. flow reserved code item p a l k e))
 
       holds : Holds reserved code (images m) p behind
       holds (FromLane a) k = written a (kept_next reserved code item p a refl k)
