@@ -1,9 +1,9 @@
 -- What is live in a function with a range split: the homes of what is live in the function.
-use Rattle.std.proofs.Common.{◌≡◌, ◌<◌, ◌⊎◌, inl, inr, ◌↔◌, ◌∙◌, ℕ, Bool, true, false, cond, List, [], ◌∷◌, map, refl, sym, ap, subst}
+use Rattle.std.proofs.Common.{◌≡◌, ◌<◌, ◌⊎◌, inl, inr, ◌↔◌, ◌∙◌, ℕ, Bool, true, false, List, [], ◌∷◌, map, refl, sym, ap, subst}
 use Rattle.target_base.specs.declared.types.Target.{Target}
 use Rattle.meaning.specs.Code.{BlockEnd, BlockStart, Code, Counted, Edge, Item, Silent, found}
 use Rattle.meaning.specs.InStep.{Agree}
-use Rattle.meaning.specs.Lanes.{Homes, Reads, Writes, filled, settled}
+use Rattle.meaning.specs.Lanes.{Reads, Writes, filled, settled}
 use Rattle.meaning.specs.Layout.{NoPhisAlong}
 use Rattle.meaning.specs.Live.{Among as Member, here as first, there as later, Feeds, Kept, Live, LiveAfter, after_leap, after_next, after_phi, exits_of, in_order, is_slot, kept, leap, next, phi, read, reads_of, store, writes_of}
 use Rattle.meaning.specs.Matched.{image, image_fill, images, renamed, renamed_reads}
@@ -258,32 +258,32 @@ module _ (t : Target) (f : Function) (v count : ℕ) (C D : Code) (begin : ℕ �
       back-read ss x y =
           by-lead
           (λ e g.
-            let rs = reads-back m ss (reads_of i) (subst (Member ss) (reads-of m i) (subst (λ c. Member ss (reads_of c)) e x)) in
-            let l = map-of (image m) (FromLane b) rs.0 (subst (Member (FromLane b)) rs.2 y) in
-            let a = lane-back m l.0 b l.2 in
-            (a.0, a.2, read {l = a.0} rs.1 (subst (λ c. Member c rs.0) a.1 l.1) (free-back z.to a.0 b a.2 free)))
+          let rs = reads-back m ss (reads_of i) (subst (Member ss) (reads-of m i) (subst (λ c. Member ss (reads_of c)) e x)) in
+          let l = map-of (image m) (FromLane b) rs.0 (subst (Member (FromLane b)) rs.2 y) in
+          let a = lane-back m l.0 b l.2 in
+          (a.0, a.2, read {l = a.0} rs.1 (subst (λ c. Member c rs.0) a.1 l.1) (free-back z.to a.0 b a.2 free)))
           (λ ws e g s h. absurd (member-none ss (subst (λ c. Member ss (reads_of c)) e x)))
 
       back-next : (c : Lane) → in_order j ≡ true → ((to : ℕ) (q : Code) → Facing to q r → Back to q c) → Feeds j b c → Back label (i ∷ p) b
       back-next c o ih h =
           by-lead
           (λ e g.
-            let on : in_order i ≡ true = sym (order-of m i) ∙ (ap in_order (sym e) ∙ o) in
-            let a = ih z.to p (subst (Facing z.to p) (sym g) (z.on on)) in
-            let l = fed m apart j i a.0 c b e a.1 h in
-            (l.0, l.2, next on a.2 l.1 (free-back z.to l.0 b l.2 free)))
+          let on : in_order i ≡ true = sym (order-of m i) ∙ (ap in_order (sym e) ∙ o) in
+          let a = ih z.to p (subst (Facing z.to p) (sym g) (z.on on)) in
+          let l = fed m apart j i a.0 c b e a.1 h in
+          (l.0, l.2, next on a.2 l.1 (free-back z.to l.0 b l.2 free)))
           (λ ws e g s k. carried-back label z.to (i ∷ p) ws c b k (sym (ap (λ x. filled (writes_of x) c) e) ∙ h) (ih z.to (i ∷ p) (subst (Facing z.to (i ∷ p)) (sym g) (again z))))
 
       back-leap : (way : Edge) (c d : Lane) → Member way (exits_of j) → (Facing (begin way.block) (found way.block C) (found way.block D) → Back (begin way.block) (found way.block C) c) → Live R D (found way.block D) c → filled way.phis c ≡ Moved (FromLane d) → Feeds j b d → Back label (i ∷ p) b
       back-leap way c d x ih live g h =
           by-lead
           (λ e k.
-            let out : Member way (exits_of i) = subst (Member way) (ap exits_of e ∙ exits-of m i) x in
-            let none : way.phis ≡ [] = bare-edge (exits_of i) way z.leads.0 out in
-            let same : c ≡ d = lane-inj c d (sym (ap (λ ws. filled ws c) none) ∙ g) in
-            let a = landed way (starts way.block) ih live (z.leads.1 way out) in
-            let l = fed m apart j i a.0 d b e (a.1 ∙ same) h in
-            (l.0, l.2, leap out a.2 (ap (λ ws. filled ws a.0) none) l.1 (free-back z.to l.0 b l.2 free)))
+          let out : Member way (exits_of i) = subst (Member way) (ap exits_of e ∙ exits-of m i) x in
+          let none : way.phis ≡ [] = bare-edge (exits_of i) way z.leads.0 out in
+          let same : c ≡ d = lane-inj c d (sym (ap (λ ws. filled ws c) none) ∙ g) in
+          let a = landed way (starts way.block) ih live (z.leads.1 way out) in
+          let l = fed m apart j i a.0 d b e (a.1 ∙ same) h in
+          (l.0, l.2, leap out a.2 (ap (λ ws. filled ws a.0) none) l.1 (free-back z.to l.0 b l.2 free)))
           (λ ws e k s y. absurd (member-none way (subst (λ c. Member way (exits_of c)) e x)))
         where
           landed : (way : Edge) → Facing (begin way.block) (found way.block C) (found way.block D) ⊎ ((found way.block C ≡ []) × (found way.block D ≡ [])) → (Facing (begin way.block) (found way.block C) (found way.block D) → Back (begin way.block) (found way.block C) c) → Live R D (found way.block D) c → Agree R C (found way.block C) (images (M z.to)) (images (M (begin way.block))) → Back z.to (found way.block C) c
@@ -300,15 +300,15 @@ module _ (t : Target) (f : Function) (v count : ℕ) (C D : Code) (begin : ℕ �
       back-store w s k x o ih h n =
           by-lead
           (λ e g.
-            let on : in_order i ≡ true = sym (order-of m i) ∙ (ap in_order (sym e) ∙ o) in
-            let a = ih z.to p (subst (Facing z.to p) (sym g) (z.on on)) in
-            let lives : Live R C p (SlotLane s k x) = subst (Live R C p) (slot-back z.to a.0 s k x a.1) a.2 in
-            let l = fed m apart j i (SlotLane s k w) (SlotLane s k w) b e refl h in
-            (l.0, l.2, store w on lives l.1 (sym (slot-same z.to l.0) ∙ (ap is_slot l.2 ∙ n)) (free-back z.to l.0 b l.2 free)))
+          let on : in_order i ≡ true = sym (order-of m i) ∙ (ap in_order (sym e) ∙ o) in
+          let a = ih z.to p (subst (Facing z.to p) (sym g) (z.on on)) in
+          let lives : Live R C p (SlotLane s k x) = subst (Live R C p) (slot-back z.to a.0 s k x a.1) a.2 in
+          let l = fed m apart j i (SlotLane s k w) (SlotLane s k w) b e refl h in
+          (l.0, l.2, store w on lives l.1 (sym (slot-same z.to l.0) ∙ (ap is_slot l.2 ∙ n)) (free-back z.to l.0 b l.2 free)))
           (λ ws e g y q.
-            let same : SlotLane s k w ≡ b = lane-inj (SlotLane s k w) b (sym (y.slots s k w) ∙ (sym (ap (λ c. filled (writes_of c) (SlotLane s k w)) e) ∙ h)) in
-            let slot : is_slot b ≡ true = ap is_slot (sym same) in
-            absurd (cc))
+          let same : SlotLane s k w ≡ b = lane-inj (SlotLane s k w) b (sym (y.slots s k w) ∙ (sym (ap (λ c. filled (writes_of c) (SlotLane s k w)) e) ∙ h)) in
+          let slot : is_slot b ≡ true = ap is_slot (sym same) in
+          absurd (cc))
 
       back-kept : (a : Lane) → R a ≡ true → Feeds j b a → Back label (i ∷ p) b
       back-kept a s h =

@@ -1,6 +1,6 @@
 -- No label that holds anywhere is above the greatest.
-use Rattle.std.proofs.Common.{◌≡◌, ◌≤◌, ◌<◌, ◌+◌, ◌&&◌, ℕ, Bool, true, false, cond, List, [], ◌∷◌, Option, filter, refl, arith}
-use Rattle.std.specs.Prelude.{max, nat_eq}
+use Rattle.std.proofs.Common.{◌≤◌, ◌<◌, ◌+◌, ◌&&◌, ℕ, Bool, true, false, cond, List, [], ◌∷◌, Option, filter, arith}
+use Rattle.std.specs.Prelude.{nat_eq}
 use Rattle.std.proofs.Math.Nat.{le-max_left, le-max_right}
 use Rattle.live_lanes.specs.declared.ask.labels.Mark.{Mark}
 use Rattle.split_kit.specs.Split.{greatest_label, is_border, is_gap, label_behind, last_label, start_label}

@@ -1,36 +1,32 @@
 -- The code of a function whose blocks end as rules say is laid out as its runs go.
-use Rattle.std.proofs.Common.{◌≡◌, ◌⊎◌, inl, inr, take, ℕ, zero, suc, Bool, true, false, cond, not, ◌&&◌, ◌||◌, List, [], ◌∷◌, ◌++◌, Option, Some, None, map, filter, length, drop, refl, sym, ap, ◌∙◌, subst, eq-eqb, eqb-true, append_assoc}
+use Rattle.std.proofs.Common.{◌≡◌, ◌⊎◌, inl, inr, ℕ, suc, Bool, true, false, cond, not, ◌&&◌, ◌||◌, List, [], ◌∷◌, ◌++◌, Option, Some, None, map, filter, length, drop, refl, sym, ap, ◌∙◌, subst, eq-eqb, eqb-true, append_assoc}
 use Rattle.std.specs.Prelude.{nat_eq, option_map, option_to_list, slice_get}
-use Rattle.std.specs.List.{list_all, list_any}
-use Rattle.std.proofs.lemmas.Bool.{and_right, not-true}
+use Rattle.std.specs.List.{list_any}
+use Rattle.std.proofs.lemmas.Bool.{and_right}
 use Rattle.target_base.specs.declared.types.Effect.{Effect}
-use Rattle.target_base.specs.declared.types.Effect.TheVariants as effects
-use Rattle.target_base.specs.declared.types.OpaqueKind.TheVariants as kinds
 use Rattle.target_base.specs.declared.types.Target.{Target}
 use Rattle.target_base.specs.Roles.{is_silent}
 use Rattle.target_base.specs.Rules.{is_phi}
 use Rattle.target_base.proofs.Tests.{second_of_both}
 use Rattle.meaning.specs.Code.{Edge, Item, BlockStart, BlockEnd, Silent, Counted, Code, found}
 use Rattle.meaning.specs.Lanes.{Writes}
-use Rattle.meaning.specs.Layout.{FallsTo, LaidOut, NoPhis, NoPhisAlong, NoPhisBelow, NoPhisInto}
+use Rattle.meaning.specs.Layout.{FallsTo, LaidOut}
 use Rattle.meaning.specs.Live.{Among as Member, here as first, there as later}
 use Rattle.mir_func.specs.declared.func.Edge.{Edge as Successor}
 use Rattle.mir_func.specs.declared.func.Instr.{Instr}
 use Rattle.mir_func.specs.declared.func.Block.{Block}
 use Rattle.mir_func.specs.Value.{Function}
-use Rattle.mir_func.specs.Binding.{effect_of, does, is_branch, is_early_clobber, is_lowered_away, is_terminator, passes, roles_of}
+use Rattle.mir_func.specs.Binding.{effect_of, does, is_branch, is_early_clobber, is_terminator, passes, roles_of}
 use Rattle.mir_meaning.specs.Registers.{has_number}
 use Rattle.mir_meaning.specs.Items.{silent_reads, silent_writes, rest_of, values, counted_writes, defined_undef}
-use Rattle.mir_meaning.specs.Codes.{block_end, blocks_code, code_of, effect_item, ends_without_terminator, fallen_into, is_open, falls_through, first_number, item_of, target_of, way, ways_out}
-use Rattle.mir_meaning.specs.Points.{has_no_phis, point_item, points_of}
-use Rattle.mir_meaning.specs.Rules.{V1, V5, V7, V8, V9, block_numbers, branch_targets, lists_once, named_blocks, successors_of}
-use Rattle.mir_meaning.proofs.Points.{points_are_code}
-use Rattle.instr_effects.proofs.Members.{member-none, member-elim, in-either, left-in, right-in, flat-in, flat-of, filter-in, filter-of, map-in, map-of}
-use Rattle.live_laws.proofs.Effects.Blocks.{block_code, items-past, numbers-apart, number-there, slice-member, member-slice}
+use Rattle.mir_meaning.specs.Codes.{block_end, blocks_code, effect_item, fallen_into, is_open, falls_through, first_number, item_of, target_of, way, ways_out}
+use Rattle.mir_meaning.specs.Points.{point_item, points_of}
+use Rattle.mir_meaning.specs.Rules.{V1, V5, V8, V9, block_numbers, branch_targets, lists_once, named_blocks, successors_of}
+use Rattle.instr_effects.proofs.Members.{member-none, in-either, left-in, right-in, flat-in, flat-of, filter-in, filter-of, map-in, map-of}
+use Rattle.live_laws.proofs.Effects.Blocks.{block_code, items-past, numbers-apart, number-there, slice-member}
 use Rattle.live_laws.proofs.Effects.Lists.{all-of}
 use Rattle.live_laws.proofs.Effects.Moved.{Apart}
 use Rattle.live_laws.proofs.Effects.Moving.{some-same}
-use Rattle.live_laws.proofs.Touch.Roles.{has_roles}
 use Rattle.split_laws.proofs.Branches.{branch-ends, counted-roles, no-terminators, target-branches, target-named}
 use Rattle.split_laws.specs.Laws.{IsLowered}
 

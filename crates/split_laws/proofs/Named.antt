@@ -1,7 +1,6 @@
 -- What the rules say of the operands of a function in lowered form.
 use Rattle.std.proofs.Common.{◌≡◌, ◌<◌, not, ◌&&◌, ℕ, Bool, true, false, List, [], ◌∷◌, Option, Some, None, length, refl, sym, ap, ◌∙◌, subst, arith}
-use Rattle.std.specs.Prelude.{is_some, option_map, slice_get}
-use Rattle.std.specs.List.{list_all}
+use Rattle.std.specs.Prelude.{is_some, slice_get}
 use Rattle.std.proofs.lemmas.Option.{slice_get_within}
 use Rattle.target_base.specs.declared.types.ClassId.{ClassId}
 use Rattle.target_base.specs.declared.types.Effect.{Effect}
@@ -19,11 +18,10 @@ use Rattle.mir_func.specs.declared.func.Loc.TheVariants.{Fixed, Virtual}
 use Rattle.mir_func.specs.declared.func.RegOp.{RegOp}
 use Rattle.mir_func.specs.declared.func.Operand.{Operand}
 use Rattle.mir_func.specs.declared.func.Operand.TheVariants as operands
-use Rattle.mir_func.specs.declared.func.Op.TheVariants as ops
 use Rattle.mir_func.specs.declared.func.Instr.{Instr}
 use Rattle.mir_func.specs.Value.{Function}
-use Rattle.mir_func.specs.Binding.{does, effect_of, implicit_registers, is_definition, is_lowered_away, is_use, is_virtual, known_opcode, passes, registers}
-use Rattle.mir_meaning.specs.Registers.{located_lanes, numbers, range_widths}
+use Rattle.mir_func.specs.Binding.{does, effect_of, implicit_registers, is_definition, is_lowered_away, is_use, is_virtual, passes, registers}
+use Rattle.mir_meaning.specs.Registers.{numbers, range_widths}
 use Rattle.mir_meaning.specs.Renaming.{IsFixed}
 use Rattle.mir_meaning.specs.Rules.{V3, V4, copy_fits, has_class, implicit_def_fits, index_fits, operands_fit}
 use Rattle.instr_effects.proofs.Members.{filter-in, map-in, map-of, member-elim, member-none}

@@ -1,17 +1,16 @@
 -- Other ranges, units and slots are live in a function with a range split where they were.
-use Rattle.std.proofs.Common.{◌≡◌, ◌<◌, ◌≤◌, ◌+◌, ◌-◌, ◌⊎◌, inl, inr, ◌↔◌, not, ◌&&◌, ◌++◌, ◌∙◌, ℕ, zero, suc, Bool, true, false, cond, List, [], ◌∷◌, Option, Some, None, map, drop, length, replicate, refl, sym, ap, subst, arith, append_assoc, eqb-true}
+use Rattle.std.proofs.Common.{◌≡◌, ◌<◌, ◌≤◌, ◌+◌, ◌⊎◌, inl, inr, ◌↔◌, not, ◌&&◌, ◌++◌, ◌∙◌, ℕ, suc, Bool, true, false, cond, List, [], ◌∷◌, Some, None, map, drop, length, replicate, refl, sym, ap, subst, arith, append_assoc, eqb-true}
 use Rattle.std.specs.Prelude.{nat_eq, nat_lt, option_map}
 use Rattle.std.proofs.lemmas.Bool.{lt-ltb, ne_eqb}
 use Rattle.std.proofs.lemmas.Bool.Decides.{nat_tests}
 use Rattle.target_base.specs.declared.types.Target.{Target}
 use Rattle.target_base.specs.Numbers.{op_number}
 use Rattle.target_base.specs.Rules.{is_phi}
-use Rattle.meaning.specs.Code.{BlockEnd, BlockStart, Code, Counted, Edge, Item, Silent, found}
-use Rattle.meaning.specs.InStep.{Agree}
+use Rattle.meaning.specs.Code.{BlockEnd, BlockStart, Code, Counted, Item, Silent, found}
 use Rattle.meaning.specs.Lanes.{Writes}
-use Rattle.meaning.specs.Layout.{LaidOut, NoPhisAlong}
+use Rattle.meaning.specs.Layout.{LaidOut}
 use Rattle.meaning.specs.Matched.{images}
-use Rattle.meaning.specs.Live.{Among as Member, here as first, there as later, Live, LiveAfter, after_leap, after_next, after_phi, exits_of, in_order}
+use Rattle.meaning.specs.Live.{Among as Member, Live}
 use Rattle.meaning.specs.declared.types.Lane.{Lane}
 use Rattle.meaning.specs.declared.types.Lane.TheVariants.{SlotLane, UnitLane, VirtualLane}
 use Rattle.mir_func.specs.declared.func.Operand.{Operand}
@@ -21,7 +20,6 @@ use Rattle.mir_func.specs.Value.{Function}
 use Rattle.mir_func.specs.Edits.{instr_place, made}
 use Rattle.mir_func.specs.Binding.{class_of, does, is_terminator, passes}
 use Rattle.mir_meaning.specs.Registers.{is_reserved, numbers, range_widths}
-use Rattle.mir_meaning.specs.Items.{copied}
 use Rattle.mir_meaning.specs.Codes.{block_end, blocks_code, fallen_into, way, ways_out}
 use Rattle.mir_meaning.specs.Points.{Entry, Exit, LiveAt, Point, Start, Tests, block_rest, from_instr, has_instr, has_no_phis, point_item, points_of}
 use Rattle.mir_meaning.specs.Renaming.{renamed_instr, renamed_item}
@@ -34,7 +32,7 @@ use Rattle.split_laws.proofs.Suits.{Suits}
 use Rattle.split_laws.proofs.Passing.{IsBody}
 use Rattle.split_laws.proofs.Copies.{moves, moves-other}
 use Rattle.split_laws.proofs.Ends.{copy-effect, copy-item}
-use Rattle.split_laws.proofs.Homes.{home-named, homes-apart, labels-agree, lane_home}
+use Rattle.split_laws.proofs.Homes.{home-named, labels-agree, lane_home}
 use Rattle.split_laws.proofs.Labels.{behind-fits, start-fits}
 use Rattle.split_laws.proofs.Facing.{At, Facing, Lead, Leads, Still, at-both, at-none, entry-same, exit-same, faces, start-same}
 use Rattle.split_laws.proofs.Splitting.{Keeping, as-item, bare-ways, blocks-philess, carried, copy-moves, end-live, end-same, entry-live, keep-all, keep-tail, laid-end, laid-items, meets-agree, member-behind, named-item, no-phis, not-phi, point-body, suits}

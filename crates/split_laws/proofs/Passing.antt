@@ -1,10 +1,10 @@
 -- Items of two codes in step, where the second has the lanes of the first renamed by a map that keeps lanes apart.
-use Rattle.std.proofs.Common.{◌≡◌, ◌⊎◌, inl, inr, ◌∷◌, ◌++◌, ◌∙◌, Bool, false, List, Option, Some, None, map, refl, sym, ap, subst, []}
+use Rattle.std.proofs.Common.{◌≡◌, ◌⊎◌, inl, inr, ◌∷◌, ◌∙◌, Bool, false, List, Option, Some, None, map, refl, sym, ap, subst, []}
 use Rattle.meaning.specs.Code.{BlockEnd, BlockStart, Code, Counted, Edge, Item, Silent, found}
 use Rattle.meaning.specs.InStep.{Agree, AtStarts, ExitsHold, Graph, Holds, InStep, Known, Passes, TargetHolds, place}
 use Rattle.meaning.specs.Lanes.{Homes, Reads, Writes, filled, placed, settled, through}
 use Rattle.meaning.specs.Layout.{LaidOut, NoPhisAlong, NoPhisInto}
-use Rattle.meaning.specs.Live.{Among, Kept, KeptAfter, exits_of, here, there}
+use Rattle.meaning.specs.Live.{Among, Kept, KeptAfter, here, there}
 use Rattle.meaning.specs.Lanes.{same_lane}
 use Rattle.meaning.specs.Matched.{image, image_fill, images, renamed, renamed_reads, renamed_write}
 use Rattle.meaning.specs.declared.types.Write.{Write}
@@ -19,7 +19,7 @@ use Rattle.meaning.specs.declared.types.Source.{Source}
 use Rattle.meaning.specs.declared.types.Source.TheVariants.{Bits, FromLane, Undef}
 use Rattle.laws.proofs.Flow.{flow, kept_along, kept_next, known-source, none_among, read_kept}
 use Rattle.laws.proofs.Quiet.{filled-here, filled-past, same-false, same_or_not}
-use Rattle.laws.proofs.Steps.{both_into, both_ways, filled-none, first-into, first-ways, second-into, second-ways, settled-from, through-none}
+use Rattle.laws.proofs.Steps.{both_into, both_ways, filled-none, first-into, first-ways, second-into, second-ways, through-none}
 use Rattle.laws.proofs.Surround.{second_alone, silent}
 use Rattle.mir_meaning.specs.Renaming.{renamed_item}
 

@@ -1,5 +1,5 @@
 -- A function with a range split is in step with it, by the homes of the labels.
-use Rattle.std.proofs.Common.{◌≡◌, ◌<◌, ◌+◌, ◌-◌, ◌⊎◌, inl, inr, not, ◌&&◌, ◌||◌, ◌++◌, ◌∙◌, ℕ, Bool, true, false, cond, List, [], ◌∷◌, Option, Some, None, map, drop, length, replicate, refl, sym, ap, subst, arith, append_assoc, eqb-true}
+use Rattle.std.proofs.Common.{◌≡◌, ◌<◌, ◌+◌, ◌⊎◌, inl, inr, not, ◌&&◌, ◌||◌, ◌++◌, ◌∙◌, ℕ, Bool, true, false, cond, List, [], ◌∷◌, Option, Some, None, map, length, replicate, refl, sym, ap, subst, arith, append_assoc, eqb-true}
 use Rattle.std.specs.Prelude.{find, nat_eq, option_map}
 use Rattle.std.specs.List.{list_all}
 use Rattle.std.proofs.lemmas.Bool.{not-true}
@@ -13,34 +13,32 @@ use Rattle.meaning.specs.Code.{BlockEnd, BlockStart, Code, Counted, Edge, Item, 
 use Rattle.meaning.specs.Environment.{Environment}
 use Rattle.meaning.specs.InStep.{Agree, AtStarts, InStep, done, start}
 use Rattle.meaning.specs.Lanes.{Homes, Writes, filled, settled, through}
-use Rattle.meaning.specs.Layout.{FallsTo, LaidOut, NoPhisAlong, NoPhisBelow, NoPhisInto}
+use Rattle.meaning.specs.Layout.{FallsTo, LaidOut, NoPhisAlong, NoPhisInto}
 use Rattle.meaning.specs.Live.{Among as Member, here as first, there as later, Kept, Live, LiveAfter, after_next, exits_of, in_order}
 use Rattle.meaning.specs.Matched.{images}
 use Rattle.meaning.specs.State.{fetch}
-use Rattle.meaning.specs.declared.types.Fill.TheVariants.{Moved}
 use Rattle.meaning.specs.declared.types.Lane.{Lane}
 use Rattle.meaning.specs.declared.types.Lane.TheVariants.{SlotLane, UnitLane, VirtualLane}
 use Rattle.meaning.specs.declared.types.Source.TheVariants.{FromLane}
 use Rattle.laws.proofs.BlockEnds.{in-step-falls, in-step-stops}
 use Rattle.laws.proofs.Places.{law_of_places}
 use Rattle.mir_func.specs.declared.func.Edge.{Edge as Successor}
-use Rattle.mir_func.specs.declared.func.RegOp.{RegOp}
 use Rattle.mir_func.specs.declared.func.Operand.{Operand}
 use Rattle.mir_func.specs.declared.func.Instr.{Instr}
 use Rattle.mir_func.specs.declared.func.Block.{Block}
 use Rattle.mir_func.specs.Value.{Function}
 use Rattle.mir_func.specs.Edits.{made}
-use Rattle.mir_func.specs.Binding.{class_of, does, effect_of, is_early_clobber, is_lowered_away, is_terminator, passes, puts_together, registers, roles_of}
+use Rattle.mir_func.specs.Binding.{class_of, does, effect_of, is_early_clobber, is_lowered_away, is_terminator, passes, puts_together, roles_of}
 use Rattle.mir_meaning.specs.Registers.{is_reserved, numbers, range_widths}
 use Rattle.mir_meaning.specs.Items.{copied, counted_writes, defined_undef, moved, rest_of, silent_reads, silent_writes, values}
-use Rattle.mir_meaning.specs.Codes.{block_end, blocks_code, code_of, effect_item, ends_without_terminator, fallen_into, falls_through, first_number, given_of, instrs_of, is_given, is_open, item_of, meaning_of, phi_operands, phis_written, refines, target_of, way, ways_out}
-use Rattle.mir_meaning.specs.Points.{AtFirst, Entry, Exit, LiveAt, Point, Start, Tests, block_rest, from_instr, has_no_phis, point_item, points_of}
+use Rattle.mir_meaning.specs.Codes.{block_end, blocks_code, code_of, effect_item, ends_without_terminator, fallen_into, falls_through, first_number, given_of, instrs_of, is_given, item_of, meaning_of, phi_operands, phis_written, refines, target_of, way, ways_out}
+use Rattle.mir_meaning.specs.Points.{AtFirst, Entry, LiveAt, Point, Start, Tests, from_instr, has_no_phis, point_item, points_of}
 use Rattle.mir_meaning.specs.Renaming.{renamed_instr, renamed_item}
 use Rattle.mir_meaning.proofs.Points.{both, points_are_code}
 use Rattle.mir_meaning.proofs.Renaming.{law_of_renaming}
-use Rattle.instr_effects.proofs.Members.{map-of, member-elim, member-none}
+use Rattle.instr_effects.proofs.Members.{map-of, member-none}
 use Rattle.live_lanes.specs.declared.ask.labels.Mark.{Mark}
-use Rattle.split_kit.specs.Split.{RangeLive, Split, as_part, block_split, blocks_split, changed, greatest_label, instrs_split, label_behind, last_point, number_behind, part, split_by, start_label, whole}
+use Rattle.split_kit.specs.Split.{RangeLive, as_part, block_split, blocks_split, changed, greatest_label, instrs_split, label_behind, last_point, number_behind, part, split_by, start_label, whole}
 use Rattle.split_laws.specs.Laws.{AllMeet, IsLowered, LabelsAgree, Meets, SplitRefines}
 use Rattle.split_laws.proofs.Suits.{Suits}
 use Rattle.split_laws.proofs.Named.{named}
@@ -52,7 +50,7 @@ use Rattle.split_laws.proofs.Parts.{renames-all, widths-part}
 use Rattle.split_laws.proofs.Labels.{behind-fits, start-fits}
 use Rattle.split_laws.proofs.Points.{EndsWith, code-at, end-of, rest-at}
 use Rattle.split_laws.proofs.Within.{AllKeep, IsOwn, Keeps, item-keeps, live-keeps}
-use Rattle.split_laws.proofs.Ends.{copy-effect, copy-item, falls-stay, meet-stay, open-stays, split-philess}
+use Rattle.split_laws.proofs.Ends.{copy-item, falls-stay, meet-stay, open-stays, split-philess}
 
 -- ways without phis
 

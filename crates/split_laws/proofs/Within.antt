@@ -1,5 +1,5 @@
 -- Of a range only those lanes are live that its class has.
-use Rattle.std.proofs.Common.{◌≡◌, ◌<◌, ◌⊎◌, inl, inr, not, ◌&&◌, ◌++◌, ℕ, Bool, true, false, cond, List, [], ◌∷◌, Option, Some, None, map, length, refl, sym, ap, ◌∙◌, subst, arith, eqb-true}
+use Rattle.std.proofs.Common.{◌≡◌, ◌<◌, ◌⊎◌, inl, inr, not, ◌&&◌, ℕ, Bool, true, false, cond, List, [], ◌∷◌, Option, Some, None, map, length, refl, sym, ap, ◌∙◌, subst, arith, eqb-true}
 use Rattle.std.specs.Prelude.{nat_eq, nat_lt}
 use Rattle.std.proofs.lemmas.Bool.{eq-eqb, lt-ltb, ltb-true}
 use Rattle.target_base.specs.declared.types.IndexId.{IndexId}
@@ -8,8 +8,8 @@ use Rattle.target_base.specs.declared.types.Unit.{Unit as UnitNumber}
 use Rattle.target_base.specs.Registers.{lanes_of, units_of}
 use Rattle.meaning.specs.Code.{BlockEnd, BlockStart, Code, Counted, Edge, Item, Silent, found}
 use Rattle.meaning.specs.Lanes.{Reads, Writes, filled}
-use Rattle.meaning.specs.Layout.{NoPhis, NoPhisAlong}
-use Rattle.meaning.specs.Live.{Among as Member, here as first, there as later, Feeds, Live, exits_of, in_order, kept, leap, next, phi, read, reads_of, store, writes_of}
+use Rattle.meaning.specs.Layout.{NoPhisAlong}
+use Rattle.meaning.specs.Live.{Among as Member, here as first, there as later, Feeds, Live, exits_of, kept, leap, next, phi, read, reads_of, store, writes_of}
 use Rattle.meaning.specs.Matched.{image, image_fill, renamed, renamed_reads, renamed_write}
 use Rattle.meaning.specs.declared.types.Fill.{Fill}
 use Rattle.meaning.specs.declared.types.Fill.TheVariants.{Computed, Moved}
@@ -28,9 +28,9 @@ use Rattle.mir_func.specs.declared.func.Instr.{Instr}
 use Rattle.mir_func.specs.declared.func.Block.{Block}
 use Rattle.mir_func.specs.Value.{Function}
 use Rattle.mir_func.specs.Binding.{does, puts_together, registers}
-use Rattle.mir_meaning.specs.Registers.{located_lanes, numbers, operand_lanes, range_widths, undefined_lanes, unit_lanes, whole_lanes}
+use Rattle.mir_meaning.specs.Registers.{located_lanes, numbers, range_widths, unit_lanes, whole_lanes}
 use Rattle.mir_meaning.specs.Codes.{item_of}
-use Rattle.mir_meaning.specs.Renaming.{KeepsPlaces, Renames, RenamesAll, renamed_instr, renamed_item, renamed_operand}
+use Rattle.mir_meaning.specs.Renaming.{Renames, RenamesAll, renamed_instr, renamed_item, renamed_operand}
 use Rattle.mir_meaning.proofs.Renaming.{law_of_renaming}
 use Rattle.instr_effects.proofs.Members.{map-of, member-elim, member-none}
 use Rattle.split_laws.proofs.Suits.{IsNamed}
