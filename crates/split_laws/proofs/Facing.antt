@@ -1,12 +1,12 @@
 -- What is live in a function with a range split: the homes of what is live in the function.
-use Rattle.std.proofs.Common.{◌≡◌, ◌<◌, ◌⊎◌, inl, inr, ◌↔◌, ◌∙◌, ℕ, Bool, true, false, List, [], ◌∷◌, map, refl, sym, ap, subst}
+use Rattle.std.proofs.Common.{◌≡◌, ◌<◌, ◌⊎◌, inl, inr, ◌↔◌, ◌∙◌, ℕ, Bool, true, false, List, [], ◌∷◌, map, refl, sym, ap, subst, eqb-true, arith}
 use Rattle.target_base.specs.declared.types.Target.{Target}
 use Rattle.meaning.specs.Code.{BlockEnd, BlockStart, Code, Counted, Edge, Item, Silent, found}
 use Rattle.meaning.specs.InStep.{Agree}
 use Rattle.meaning.specs.Lanes.{Reads, Writes, filled, settled}
 use Rattle.meaning.specs.Layout.{NoPhisAlong}
-use Rattle.meaning.specs.Live.{Among as Member, here as first, there as later, Feeds, Kept, Live, LiveAfter, after_leap, after_next, after_phi, exits_of, in_order, is_slot, kept, leap, next, phi, read, reads_of, store, writes_of}
-use Rattle.meaning.specs.Matched.{image, image_fill, images, renamed, renamed_reads}
+use Rattle.meaning.specs.Live.{Among as Member, here as first, there as later, Feeds, Kept, Live, LiveAfter, after_leap, after_next, after_phi, exits_of, in_order, is_slot, kept, leap, next, phi, read, reads_of, store, writes_of, OccupiedAfter, OccupiedBefore, Writing, WritingEarly}
+use Rattle.meaning.specs.Matched.{image, image_fill, images, renamed, renamed_reads, renamed_write}
 use Rattle.meaning.specs.declared.types.Fill.{Fill}
 use Rattle.meaning.specs.declared.types.Fill.TheVariants.{Computed, Moved}
 use Rattle.meaning.specs.declared.types.Lane.{Lane}
@@ -22,7 +22,10 @@ use Rattle.mir_meaning.specs.Points.{AtFirst}
 use Rattle.mir_meaning.specs.Renaming.{renamed_item}
 use Rattle.instr_effects.proofs.Members.{map-in, map-of, member-elim, member-none}
 use Rattle.split_laws.proofs.Passing.{KeepsApart, alone}
-use Rattle.split_laws.proofs.Homes.{homes-apart, lane_home}
+use Rattle.split_laws.proofs.Homes.{homes-apart, lane_home, home-beside, home-own, home_of}
+use Rattle.std.specs.Prelude.{nat_eq}
+use Rattle.std.proofs.lemmas.Bool.{eqb-false}
+use Rattle.split_kit.specs.Split.{part}
 
 head-same : {X : Type 0} (x y : X) (xs ys : List X) → ◌≡◌ {A = List X} (x ∷ xs) (y ∷ ys) → x ≡ y
 head-same x y xs ys e = cc
@@ -380,3 +383,136 @@ module _ (t : Target) (f : Function) (v count : ℕ) (C D : Code) (begin : ℕ �
       pub exit-same : {p r : Code} → At p r → (l : Lane) → Stays l → AtFirst (λ i c. LiveAfter R C i c l) p ↔ AtFirst (λ i c. LiveAfter R D i c l) r
       exit-same at-none l s = ((λ x. x), (λ x. x))
       exit-same (at-both {to = to} {i = i} {p = p} {q = q} h d o) l s = (after-forth to i p q h d o l s, after-back to i p q h d o l s)
+
+      -- what is written
+
+      renamed-in : (m : Lane → Lane) (ws : Writes) (w : Write) → Member w ws → Member (renamed_write m w) (renamed m ws)
+      renamed-in m [] w x = absurd (member-none w x)
+      renamed-in m (u ∷ ws) w x = member-elim w u ws (λ e. subst (λ y. Member (renamed_write m w) (renamed_write m y ∷ renamed m ws)) e first) (λ k. later (renamed-in m ws w k)) x
+
+      renamed-back : (m : Lane → Lane) (ws : Writes) (u : Write) → Member u (renamed m ws) → (w : Write) × Member w ws × (u ≡ renamed_write m w)
+      renamed-back m [] u x = absurd (member-none u x)
+      renamed-back m (w ∷ ws) u x = member-elim u (renamed_write m w) (renamed m ws) (λ e. (w, first, e)) (λ k. let z = renamed-back m ws u k in (z.0, later z.1, z.2)) x
+
+      write-forth : (to : ℕ) (i : Item) (l : Lane) → Stays l → (w : Write) → Member w (writes_of i) → w.lane ≡ l → (u : Write) × Member u (writes_of (renamed_item (M to) i)) × (u.lane ≡ l) × (u.early ≡ w.early)
+      write-forth to i l s w x e = (renamed_write (M to) w, subst (Member (renamed_write (M to) w)) (sym (writes-of (M to) i)) (renamed-in (M to) (writes_of i) w x), ap (M to) e ∙ s to, refl)
+
+      write-back : (to : ℕ) → to < count → (i : Item) (l : Lane) → Stays l → (u : Write) → Member u (writes_of (renamed_item (M to) i)) → u.lane ≡ l → (w : Write) × Member w (writes_of i) × (w.lane ≡ l) × (w.early ≡ u.early)
+      write-back to h i l s u x e =
+          let z = renamed-back (M to) (writes_of i) u (subst (Member u) (writes-of (M to) i) x) in
+          let same : M to z.0.lane ≡ M to l = sym (ap (λ (y : Write). y.lane) z.2) ∙ (e ∙ sym (s to)) in
+          (z.0, z.1, homes-apart f v count to h z.0.lane l same, sym (ap (λ (y : Write). y.early) z.2))
+
+      pub entry-occupied : {p r : Code} → At p r → (l : Lane) → Stays l → AtFirst (λ i c. OccupiedBefore R C i c l) p ↔ AtFirst (λ i c. OccupiedBefore R D i c l) r
+      entry-occupied at-none l s = ((λ x. x), (λ x. x))
+      entry-occupied (at-both {to = to} {i = i} {p = p} {q = q} h d o) l s = ((λ x. (go x.0, x.1)), (λ x. (come x.0, x.1)))
+        where
+          same : Live R C (i ∷ p) l ↔ Live R D (renamed_item (M to) i ∷ q) l
+          same = facing-same h (faces h (inl (refl, (λ a k. refl))) d o) l s
+
+          go : Live R C (i ∷ p) l ⊎ WritingEarly i l → Live R D (renamed_item (M to) i ∷ q) l ⊎ WritingEarly (renamed_item (M to) i) l
+          go (inl x) = inl (same.0 x)
+          go (inr x) = let z = write-forth to i l s x.0 x.1 x.2 in inr (z.0, z.1, z.2, z.3 ∙ x.3)
+
+          come : Live R D (renamed_item (M to) i ∷ q) l ⊎ WritingEarly (renamed_item (M to) i) l → Live R C (i ∷ p) l ⊎ WritingEarly i l
+          come (inl x) = inl (same.1 x)
+          come (inr x) = let z = write-back to h i l s x.0 x.1 x.2 in inr (z.0, z.1, z.2, z.3 ∙ x.3)
+
+      pub exit-occupied : {p r : Code} → At p r → (l : Lane) → Stays l → AtFirst (λ i c. OccupiedAfter R C i c l) p ↔ AtFirst (λ i c. OccupiedAfter R D i c l) r
+      exit-occupied at-none l s = ((λ x. x), (λ x. x))
+      exit-occupied (at-both {to = to} {i = i} {p = p} {q = q} h d o) l s = ((λ x. (go x.0, x.1)), (λ x. (come x.0, x.1)))
+        where
+          go : LiveAfter R C i p l ⊎ Writing i l → LiveAfter R D (renamed_item (M to) i) q l ⊎ Writing (renamed_item (M to) i) l
+          go (inl x) = inl (after-forth to i p q h d o l s x)
+          go (inr x) = let z = write-forth to i l s x.0 x.1 x.2 in inr (z.0, z.1, z.2)
+
+          come : LiveAfter R D (renamed_item (M to) i) q l ⊎ Writing (renamed_item (M to) i) l → LiveAfter R C i p l ⊎ Writing i l
+          come (inl x) = inl (after-back to i p q h d o l s x)
+          come (inr x) = let z = write-back to h i l s x.0 x.1 x.2 in inr (z.0, z.1, z.2)
+
+      -- lanes of the range, and of its parts
+
+      pub own-back : (label to : ℕ) (a : Lane) (k : ℕ) → to < count → M label a ≡ VirtualLane (part f to) k → (a ≡ VirtualLane v k) × (to ≡ label)
+      own-back label to (VirtualLane w j) k h e = go (nat_eq v w) refl
+        where
+          number : (x y j k : ℕ) → VirtualLane x j ≡ VirtualLane y k → (x ≡ y) × (j ≡ k)
+          number x y j k e = (cc, cc)
+
+          same : (home_of f v count label w ≡ part f to) × (j ≡ k)
+          same = number (home_of f v count label w) (part f to) j k e
+
+          go : (b : Bool) → nat_eq v w ≡ b → (VirtualLane w j ≡ VirtualLane v k) × (to ≡ label)
+          go true g =
+              let one : v ≡ w = eqb-true v w g in
+              let two : part f label ≡ part f to = sym (home-own f v count label) ∙ (ap (home_of f v count label) one ∙ same.0) in
+              ((λ i. VirtualLane (sym one i) (same.1 i)), omega arith)
+          go false g = absurd (eqb-false (part f to) (home_of f v count label w) (home-beside f v count label to w g h) (sym same.0))
+      own-back label to (UnitLane u) k h e = absurd (cc)
+      own-back label to (SlotLane s j x) k h e = absurd (cc)
+
+      -- of the parts that of this label alone is live, where the range is
+      pub record Shares (label : ℕ) (P Q : Lane → Type 0) : Type 0 where
+        pub forth : (k : ℕ) → P (VirtualLane v k) → Q (VirtualLane (part f label) k)
+        pub back : (to k : ℕ) → to < count → Q (VirtualLane (part f to) k) → P (VirtualLane v k) × (to ≡ label)
+
+      own-home : (label k : ℕ) → M label (VirtualLane v k) ≡ VirtualLane (part f label) k
+      own-home label k = ap (λ x. VirtualLane x k) (home-own f v count label)
+
+      facing-shares : {label : ℕ} {p r : Code} → Facing label p r → Shares label (Live R C p) (Live R D r)
+      facing-shares {label} {p} {r} F = record {
+        forth = λ k x. subst (Live R D r) (own-home label k) (forth x label r F);
+        back = λ to k h x. let z = back x label p F in let y = own-back label to z.0 k h z.1 in (subst (Live R C p) y.0 z.2, y.1);
+      }
+
+      pub start-shares : (n : ℕ) → Shares (begin n) (Live R C (found n C)) (Live R D (found n D))
+      start-shares n = go (starts n)
+        where
+          go : Facing (begin n) (found n C) (found n D) ⊎ ((found n C ≡ []) × (found n D ≡ [])) → Shares (begin n) (Live R C (found n C)) (Live R D (found n D))
+          go (inl F) = facing-shares F
+          go (inr z) = record { forth = λ k x. absurd (live-none x z.0); back = λ to k h x. absurd (live-none x z.1) }
+
+      -- some label
+      abbrev pub SharesOne : (Lane → Type 0) → (Lane → Type 0) → Type 0
+      SharesOne P Q = (label : ℕ) × (label < count) × Shares label P Q
+
+      pub entry-shares : {p r : Code} → At p r → 0 < count → SharesOne (Live R C p) (Live R D r)
+      entry-shares at-none z = (0, z, record { forth = λ k x. absurd (live-none x refl); back = λ to k h x. absurd (live-none x refl) })
+      entry-shares (at-both {to = to} h d o) z = (to, h, facing-shares (faces h (inl (refl, (λ a k. refl))) d o))
+
+      module _ (to : ℕ) (i : Item) (p q : Code) (h : to < count) (d : Leads to i) (on : in_order i ≡ true → Facing to p q) where
+        led : (e : Edge) (k : ℕ) → Member e (exits_of i) → Live R C (found e.block C) (VirtualLane v k) → begin e.block ≡ to
+        led e k m x =
+            let same : part f to ≡ part f (begin e.block) = number (part f to) (part f (begin e.block)) k (sym (own-home to k) ∙ (source-inj (M to (VirtualLane v k)) (M (begin e.block) (VirtualLane v k)) (d.1 e m (VirtualLane v k) (inl x)) ∙ own-home (begin e.block) k)) in
+            omega arith
+          where
+            number : (x y k : ℕ) → VirtualLane x k ≡ VirtualLane y k → x ≡ y
+            number x y k e = cc
+
+        after-to : (k : ℕ) → LiveAfter R C i p (VirtualLane v k) → LiveAfter R D (renamed_item (M to) i) q (VirtualLane (part f to) k)
+        after-to k (after_next o x) = after_next (order-of (M to) i ∙ o) ((facing-shares (on o)).forth k x)
+        after-to k (after_leap {e = e} {a = a} m x g) =
+            let none : e.phis ≡ [] = bare-edge (exits_of i) e d.0 m in
+            let same : a ≡ VirtualLane v k = lane-inj a (VirtualLane v k) (sym (ap (λ ws. filled ws a) none) ∙ g) in
+            let live : Live R C (found e.block C) (VirtualLane v k) = subst (Live R C (found e.block C)) same x in
+            after_leap (subst (Member e) (sym (exits-of (M to) i)) m) (subst (λ n. Live R D (found e.block D) (VirtualLane (part f n) k)) (led e k m live) ((start-shares e.block).forth k live)) (ap (λ ws. filled ws (VirtualLane (part f to) k)) none)
+        after-to k (after_phi {e = e} {w = w} m x g) = absurd (member-none w (subst (Member w) (bare-edge (exits_of i) e d.0 m) x))
+
+        after-from : (n k : ℕ) → n < count → LiveAfter R D (renamed_item (M to) i) q (VirtualLane (part f n) k) → LiveAfter R C i p (VirtualLane v k) × (n ≡ to)
+        after-from n k g (after_next o x) =
+            let o' : in_order i ≡ true = sym (order-of (M to) i) ∙ o in
+            let z = (facing-shares (on o')).back n k g x in
+            (after_next o' z.0, z.1)
+        after-from n k g (after_leap {e = e} {a = a} m x y) =
+            let out : Member e (exits_of i) = subst (Member e) (exits-of (M to) i) m in
+            let none : e.phis ≡ [] = bare-edge (exits_of i) e d.0 out in
+            let same : a ≡ VirtualLane (part f n) k = lane-inj a (VirtualLane (part f n) k) (sym (ap (λ ws. filled ws a) none) ∙ y) in
+            let z = (start-shares e.block).back n k g (subst (Live R D (found e.block D)) same x) in
+            (after_leap out z.0 (ap (λ ws. filled ws (VirtualLane v k)) none), z.1 ∙ led e k out z.0)
+        after-from n k g (after_phi {e = e} {w = w} m x y) = absurd (member-none w (subst (Member w) (bare-edge (exits_of i) e d.0 (subst (Member e) (exits-of (M to) i) m)) x))
+
+        after-shares : Shares to (LiveAfter R C i p) (LiveAfter R D (renamed_item (M to) i) q)
+        after-shares = record { forth = after-to; back = λ n k g x. after-from n k g x }
+
+      pub exit-shares : {p r : Code} → At p r → 0 < count → SharesOne (λ l. AtFirst (λ i c. LiveAfter R C i c l) p) (λ l. AtFirst (λ i c. LiveAfter R D i c l) r)
+      exit-shares at-none z = (0, z, record { forth = λ k x. absurd x; back = λ to k h x. absurd x })
+      exit-shares (at-both {to = to} {i = i} {p = p} {q = q} h d o) z = (to, h, after-shares to i p q h d o)

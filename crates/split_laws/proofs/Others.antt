@@ -1,5 +1,5 @@
 -- Other ranges, units and slots are live in a function with a range split where they were.
-use Rattle.std.proofs.Common.{◌≡◌, ◌<◌, ◌≤◌, ◌+◌, ◌⊎◌, inl, inr, ◌↔◌, not, ◌&&◌, ◌++◌, ◌∙◌, ℕ, suc, Bool, true, false, cond, List, [], ◌∷◌, Some, None, map, drop, length, replicate, refl, sym, ap, subst, arith, append_assoc, eqb-true}
+use Rattle.std.proofs.Common.{◌≡◌, ◌<◌, ◌≤◌, ◌+◌, ◌⊎◌, inl, inr, not, ◌&&◌, ◌++◌, ◌∙◌, ℕ, suc, Bool, true, false, cond, List, [], ◌∷◌, Some, None, map, drop, length, replicate, refl, sym, ap, subst, arith, append_assoc, eqb-true}
 use Rattle.std.specs.Prelude.{nat_eq, nat_lt, option_map}
 use Rattle.std.proofs.lemmas.Bool.{lt-ltb, ne_eqb}
 use Rattle.std.proofs.lemmas.Bool.Decides.{nat_tests}
@@ -21,20 +21,20 @@ use Rattle.mir_func.specs.Edits.{instr_place, made}
 use Rattle.mir_func.specs.Binding.{class_of, does, is_terminator, passes}
 use Rattle.mir_meaning.specs.Registers.{is_reserved, numbers, range_widths}
 use Rattle.mir_meaning.specs.Codes.{block_end, blocks_code, fallen_into, way, ways_out}
-use Rattle.mir_meaning.specs.Points.{Entry, Exit, LiveAt, Point, Start, Tests, block_rest, from_instr, has_instr, has_no_phis, point_item, points_of}
+use Rattle.mir_meaning.specs.Points.{Entry, Exit, Point, Start, Tests, block_rest, from_instr, has_instr, has_no_phis, point_item, points_of}
 use Rattle.mir_meaning.specs.Renaming.{renamed_instr, renamed_item}
 use Rattle.instr_effects.proofs.Members.{member-none}
 use Rattle.live_lanes.specs.declared.ask.labels.Mark.{Mark}
 use Rattle.live_laws.proofs.Effects.Blocks.{items-past}
 use Rattle.split_kit.specs.Split.{RangeLive, as_part, block_split, blocks_split, changed, greatest_label, instrs_split, label_behind, last_point, number_behind, part, split_by, start_label, whole}
-use Rattle.split_laws.specs.Laws.{AllMeet, IsOther, IsPointOf, LabelsAgree, Meets, SplitKeepsOthers}
+use Rattle.split_laws.specs.Laws.{AllMeet, IsOther, IsPointOf, LabelsAgree, Meets, SplitKeepsOthers, IsSame, IsShared, SplitSharesRange}
 use Rattle.split_laws.proofs.Suits.{Suits}
 use Rattle.split_laws.proofs.Passing.{IsBody}
 use Rattle.split_laws.proofs.Copies.{moves, moves-other}
 use Rattle.split_laws.proofs.Ends.{copy-effect, copy-item}
 use Rattle.split_laws.proofs.Homes.{home-named, labels-agree, lane_home}
 use Rattle.split_laws.proofs.Labels.{behind-fits, start-fits}
-use Rattle.split_laws.proofs.Facing.{At, Facing, Lead, Leads, Still, at-both, at-none, entry-same, exit-same, faces, start-same}
+use Rattle.split_laws.proofs.Facing.{At, Facing, Lead, Leads, Still, at-both, at-none, entry-same, exit-same, faces, start-same, entry-occupied, entry-shares, exit-occupied, exit-shares, start-shares}
 use Rattle.split_laws.proofs.Splitting.{Keeping, as-item, bare-ways, blocks-philess, carried, copy-moves, end-live, end-same, entry-live, keep-all, keep-tail, laid-end, laid-items, meets-agree, member-behind, named-item, no-phis, not-phi, point-body, suits}
 
 map-append : {A B : Type 0} (g : A → B) (xs ys : List A) → map g (xs ++ ys) ≡ map g xs ++ map g ys
@@ -323,10 +323,32 @@ module _ (t : Target) (f : Function) (v : ℕ) (ms : List Mark) (live : Point �
   other-stays (UnitLane u) o label = refl
   other-stays (SlotLane s k w) o label = refl
 
-  point-same : (p : Point) → IsPointOf f p → (l : Lane) → IsOther f v l → LiveAt t f p l ↔ LiveAt t whole-split p l
-  point-same (Start n) h l o = start-same t f v number (points_of t f) (points_of t whole-split) label-at all-starts (start-fits ms) n l (other-stays l o)
-  point-same (Entry id) h l o = entry-same t f v number (points_of t f) (points_of t whole-split) label-at all-starts (start-fits ms) (all-at id h) l (other-stays l o)
-  point-same (Exit id) h l o = exit-same t f v number (points_of t f) (points_of t whole-split) label-at all-starts (start-fits ms) (all-at id h) l (other-stays l o)
+  point-same : (p : Point) → IsPointOf f p → (l : Lane) → IsOther f v l → IsSame t f whole-split p l
+  point-same (Start n) h l o =
+      let same = start-same t f v number (points_of t f) (points_of t whole-split) label-at all-starts (start-fits ms) n l (other-stays l o) in
+      record { live = same; occupied = same }
+  point-same (Entry id) h l o = record {
+    live = entry-same t f v number (points_of t f) (points_of t whole-split) label-at all-starts (start-fits ms) (all-at id h) l (other-stays l o);
+    occupied = entry-occupied t f v number (points_of t f) (points_of t whole-split) label-at all-starts (start-fits ms) (all-at id h) l (other-stays l o);
+  }
+  point-same (Exit id) h l o = record {
+    live = exit-same t f v number (points_of t f) (points_of t whole-split) label-at all-starts (start-fits ms) (all-at id h) l (other-stays l o);
+    occupied = exit-occupied t f v number (points_of t f) (points_of t whole-split) label-at all-starts (start-fits ms) (all-at id h) l (other-stays l o);
+  }
+
+  point-shared : (p : Point) → IsPointOf f p → IsShared t f whole-split v ms p
+  point-shared (Start n) h =
+      let z = start-shares t f v number (points_of t f) (points_of t whole-split) label-at all-starts (start-fits ms) n in
+      record { label = start_label ms n; fits = start-fits ms n; live = z.forth; only = z.back }
+  point-shared (Entry id) h =
+      let z = entry-shares t f v number (points_of t f) (points_of t whole-split) label-at all-starts (start-fits ms) (all-at id h) (omega arith) in
+      record { label = z.0; fits = z.1; live = z.2.forth; only = z.2.back }
+  point-shared (Exit id) h =
+      let z = exit-shares t f v number (points_of t f) (points_of t whole-split) label-at all-starts (start-fits ms) (all-at id h) (omega arith) in
+      record { label = z.0; fits = z.1; live = z.2.forth; only = z.2.back }
 
 pub others_stay : SplitKeepsOthers
-others_stay t f g v ms low meet s p h l o = subst (λ q. LiveAt t f p l ↔ LiveAt t q p l) (sym s.2) (point-same t f v ms s.0 s.1 (suits t f low) meet p h l o)
+others_stay t f g v ms low meet s p h l o = subst (λ q. IsSame t f q p l) (sym s.2) (point-same t f v ms s.0 s.1 (suits t f low) meet p h l o)
+
+pub range_shared : SplitSharesRange
+range_shared t f g v ms low meet s p h = subst (λ q. IsShared t f q v ms p) (sym s.2) (point-shared t f v ms s.0 s.1 (suits t f low) meet p h)

@@ -1,5 +1,5 @@
 -- Splitting keeps the meaning.
-use Rattle.std.specs.Prelude.{◌≡◌, ◌<◌, ◌↔◌, not, ℕ, true, List, [], ◌∷◌, length, Option, Some, None, slice_get}
+use Rattle.std.specs.Prelude.{◌≡◌, ◌<◌, ◌↔◌, not, ℕ, true, List, [], ◌∷◌, length, Option, Some, None, slice_get, ◌+◌}
 use Rattle.target_base.specs.declared.types.Target.{Target}
 use Rattle.meaning.specs.declared.types.Lane.{Lane}
 use Rattle.meaning.specs.declared.types.Lane.TheVariants.{VirtualLane, UnitLane, SlotLane}
@@ -10,11 +10,11 @@ use Rattle.mir_func.specs.declared.func.Block.{Block}
 use Rattle.mir_func.specs.Value.{Function, IsFunction}
 use Rattle.mir_func.specs.Binding.{does, is_lowered_away, is_terminator}
 use Rattle.mir_meaning.specs.Codes.{refines}
-use Rattle.mir_meaning.specs.Points.{Point, Start, Entry, Exit, LiveAt}
+use Rattle.mir_meaning.specs.Points.{Point, Start, Entry, Exit, LiveAt, OccupiedAt}
 use Rattle.mir_meaning.specs.Rules.{V8, V9}
 use Rattle.live_lanes.specs.declared.ask.labels.Mark.{Mark}
 use Rattle.live_laws.specs.Effects.Coded.{KeepsRules}
-use Rattle.split_kit.specs.Split.{RangeLive, Split, label_behind, start_label}
+use Rattle.split_kit.specs.Split.{RangeLive, Split, label_behind, start_label, greatest_label, part}
 
 -- A function in the form in which ranges are split: ids are distinct; operands, indexes and block numbers meet the rules on
 -- which liveness rests; each opcode is known, and none is PHI, REG_SEQUENCE or INSERT_SUBREG; blocks end in their terminators
@@ -63,8 +63,26 @@ IsOther f v (VirtualLane w k) = (w < length f.classes) × (w ≡ v → ⊥)
 IsOther f v (UnitLane u) = Unit {0}
 IsOther f v (SlotLane s k w) = Unit {0}
 
--- other ranges, units and slots are live at the points of the function where they were
+-- a lane is live at a point of both functions or of neither, and so is it live or occupied
+pub record IsSame (t : Target) (f g : Function) (p : Point) (l : Lane) : Type 0 where
+  pub live : LiveAt t f p l ↔ LiveAt t g p l
+  pub occupied : OccupiedAt t f p l ↔ OccupiedAt t g p l
+
+-- other ranges, units and slots are live and occupied at the points of the function where they were
 abbrev pub SplitKeepsOthers : Type 0
 SplitKeepsOthers =
     (t : Target) (f g : Function) (v : ℕ) (ms : List Mark) → IsLowered t f → LabelsAgree t f v ms → Split t f v ms g
-    → (p : Point) → IsPointOf f p → (l : Lane) → IsOther f v l → LiveAt t f p l ↔ LiveAt t g p l
+    → (p : Point) → IsPointOf f p → (l : Lane) → IsOther f v l → IsSame t f g p l
+
+-- at the point those lanes of one part are live that the range had, and none of another part
+pub record IsShared (t : Target) (f g : Function) (v : ℕ) (ms : List Mark) (p : Point) : Type 0 where
+  pub label : ℕ
+  pub fits : label < greatest_label ms + 1
+  pub live : (k : ℕ) → LiveAt t f p (VirtualLane v k) → LiveAt t g p (VirtualLane (part f label) k)
+  pub only : (to k : ℕ) → to < greatest_label ms + 1 → LiveAt t g p (VirtualLane (part f to) k) → LiveAt t f p (VirtualLane v k) × (to ≡ label)
+
+-- the parts share the points of the range at which it is live
+abbrev pub SplitSharesRange : Type 0
+SplitSharesRange =
+    (t : Target) (f g : Function) (v : ℕ) (ms : List Mark) → IsLowered t f → LabelsAgree t f v ms → Split t f v ms g
+    → (p : Point) → IsPointOf f p → IsShared t f g v ms p
