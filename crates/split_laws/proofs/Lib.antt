@@ -1,0 +1,15 @@
+pub mod Suits
+pub mod Passing
+pub mod Homes
+pub mod Copies
+pub mod Parts
+pub mod Within
+pub mod Labels
+pub mod Points
+pub mod Ends
+pub mod Named
+pub mod Branches
+pub mod Laid
+pub mod Splitting
+pub mod Facing
+pub mod Others

@@ -1,0 +1,88 @@
+-- Splitting keeps the meaning.
+use Rattle.std.specs.Prelude.{◌≡◌, ◌<◌, ◌↔◌, not, ℕ, true, List, [], ◌∷◌, length, Option, Some, None, slice_get, ◌+◌}
+use Rattle.target_base.specs.declared.types.Target.{Target}
+use Rattle.meaning.specs.declared.types.Lane.{Lane}
+use Rattle.meaning.specs.declared.types.Lane.TheVariants.{VirtualLane, UnitLane, SlotLane}
+use Rattle.meaning.specs.Live.{Among as Member}
+use Rattle.mir_func.specs.declared.func.Edge.{Edge}
+use Rattle.mir_func.specs.declared.func.Instr.{Instr}
+use Rattle.mir_func.specs.declared.func.Block.{Block}
+use Rattle.mir_func.specs.Value.{Function, IsFunction}
+use Rattle.mir_func.specs.Binding.{does, is_lowered_away, is_terminator}
+use Rattle.mir_meaning.specs.Codes.{refines}
+use Rattle.mir_meaning.specs.Points.{Point, Start, Entry, Exit, LiveAt, OccupiedAt}
+use Rattle.mir_meaning.specs.Rules.{V8, V9}
+use Rattle.live_lanes.specs.declared.ask.labels.Mark.{Mark}
+use Rattle.live_laws.specs.Effects.Coded.{KeepsRules}
+use Rattle.split_kit.specs.Split.{RangeLive, Split, label_behind, start_label, greatest_label, part}
+
+-- A function in the form in which ranges are split: ids are distinct; operands, indexes and block numbers meet the rules on
+-- which liveness rests; each opcode is known, and none is PHI, REG_SEQUENCE or INSERT_SUBREG; blocks end in their terminators
+-- and lead to their successors.
+pub record IsLowered (t : Target) (f : Function) : Type 0 where
+  pub function : IsFunction f.blocks f.next_id
+  pub rules : KeepsRules t f
+  pub lowered : (b : Block) (i : Instr) → Member b f.blocks → Member i b.instrs → does (λ e. not (is_lowered_away e)) t i ≡ true
+  pub terminators : (b : Block) (j : ℕ) (i : Instr) → Member b f.blocks → slice_get b.instrs j ≡ Some i → V8 t b j i ≡ true
+  pub successors : (k : ℕ) (b : Block) → slice_get f.blocks k ≡ Some b → V9 t f k b ≡ true
+
+-- where some lane of the range is live at the start of one of these successors, the label there is this one
+abbrev pub Meets : Target → Function → ℕ → List Mark → List Edge → ℕ → Type 0
+Meets t f v ms es label = (e : Edge) → Member e es → RangeLive t f v (Start e.block) → label ≡ start_label ms e.block
+
+-- the gap before the first of these instructions, or at the block's end
+abbrev pub next_gap : List Instr → Option ℕ
+next_gap [] = None
+next_gap (i ∷ is) = Some i.id
+
+-- The instructions of block b from some place on, where this label holds. At each terminator and at the block's end the label
+-- meets those of the successors, and behind a terminator it stays.
+abbrev pub AllMeet : Target → Function → ℕ → List Mark → Block → ℕ → List Instr → Type 0
+AllMeet t f v ms b now [] = Meets t f v ms b.successors (label_behind ms b.number None now)
+AllMeet t f v ms b now (i ∷ is) =
+    let to = label_behind ms b.number (Some i.id) now in
+    (does is_terminator t i ≡ true → Meets t f v ms b.successors to × (label_behind ms b.number (next_gap is) to ≡ to)) × AllMeet t f v ms b to is
+
+-- labels agree on the ways between blocks
+abbrev pub LabelsAgree : Target → Function → ℕ → List Mark → Type 0
+LabelsAgree t f v ms = (b : Block) → Member b f.blocks → AllMeet t f v ms b (start_label ms b.number) b.instrs
+
+-- the function with a range split does what it did
+abbrev pub SplitRefines : Type 0
+SplitRefines = (t : Target) (f g : Function) (v : ℕ) (ms : List Mark) → IsLowered t f → LabelsAgree t f v ms → Split t f v ms g → refines t f g
+
+-- a point of the function, whose instructions have ids below the next
+abbrev pub IsPointOf : Function → Point → Type 0
+IsPointOf f (Start n) = Unit {0}
+IsPointOf f (Entry id) = id < f.next_id
+IsPointOf f (Exit id) = id < f.next_id
+
+-- a lane of a register of the function other than the range, a unit, or a slot's lane
+abbrev pub IsOther : Function → ℕ → Lane → Type 0
+IsOther f v (VirtualLane w k) = (w < length f.classes) × (w ≡ v → ⊥)
+IsOther f v (UnitLane u) = Unit {0}
+IsOther f v (SlotLane s k w) = Unit {0}
+
+-- a lane is live at a point of both functions or of neither, and so is it live or occupied
+pub record IsSame (t : Target) (f g : Function) (p : Point) (l : Lane) : Type 0 where
+  pub live : LiveAt t f p l ↔ LiveAt t g p l
+  pub occupied : OccupiedAt t f p l ↔ OccupiedAt t g p l
+
+-- other ranges, units and slots are live and occupied at the points of the function where they were
+abbrev pub SplitKeepsOthers : Type 0
+SplitKeepsOthers =
+    (t : Target) (f g : Function) (v : ℕ) (ms : List Mark) → IsLowered t f → LabelsAgree t f v ms → Split t f v ms g
+    → (p : Point) → IsPointOf f p → (l : Lane) → IsOther f v l → IsSame t f g p l
+
+-- at the point those lanes of one part are live that the range had, and none of another part
+pub record IsShared (t : Target) (f g : Function) (v : ℕ) (ms : List Mark) (p : Point) : Type 0 where
+  pub label : ℕ
+  pub fits : label < greatest_label ms + 1
+  pub live : (k : ℕ) → LiveAt t f p (VirtualLane v k) → LiveAt t g p (VirtualLane (part f label) k)
+  pub only : (to k : ℕ) → to < greatest_label ms + 1 → LiveAt t g p (VirtualLane (part f to) k) → LiveAt t f p (VirtualLane v k) × (to ≡ label)
+
+-- the parts share the points of the range at which it is live
+abbrev pub SplitSharesRange : Type 0
+SplitSharesRange =
+    (t : Target) (f g : Function) (v : ℕ) (ms : List Mark) → IsLowered t f → LabelsAgree t f v ms → Split t f v ms g
+    → (p : Point) → IsPointOf f p → IsShared t f g v ms p

@@ -1,0 +1,20 @@
+//! Laws of splits: a function in which a range became several, with copies between them, does what it
+//! did. Each is the contract of a function, so that a check proves it.
+#![tactic(auto)]
+
+ghost use Rattle.split_laws.specs.Laws.{SplitKeepsOthers, SplitRefines, SplitSharesRange};
+
+/// A function with a range split does what it did, where labels agree on the ways between blocks.
+pub fn split_law()
+    ensures { SplitRefines }
+{}
+
+/// Other ranges, units and slots are live and occupied where they were.
+pub fn others_law()
+    ensures { SplitKeepsOthers }
+{}
+
+/// Where a range was live one of its parts is, and no other part.
+pub fn parts_law()
+    ensures { SplitSharesRange }
+{}
