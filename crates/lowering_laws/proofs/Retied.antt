@@ -85,7 +85,7 @@ map-length : {A B : Type 0} (g : A → B) (xs : List A) → length (map g xs) �
 map-length g [] = refl
 map-length g (y ∷ xs) = ap suc (map-length g xs)
 
-loc-sym : (l m : Loc) → same_loc m l ≡ same_loc l m
+pub loc-sym : (l m : Loc) → same_loc m l ≡ same_loc l m
 loc-sym (Virtual v) (Virtual w) = eqb-sym w v
 loc-sym (Fixed r) (Fixed q) = eqb-sym q.0 r.0
 loc-sym (Virtual v) (Fixed q) = refl
@@ -214,7 +214,7 @@ module _ (t : Target) (cs : List (Option ClassId)) (n : ℕ) where
   untied-operands [] = refl
   untied-operands (x ∷ xs) = λ k. untied-operand x.0 x.1.0 x.1.1 k ∷ untied-operands xs k
 
-known-item : (t : Target) (g : Function) (a : Block) (x : Instr) (e : Effect) → effect_of t x ≡ Some e → item_of t g a x ≡ effect_item t g a x e
+pub known-item : (t : Target) (g : Function) (a : Block) (x : Instr) (e : Effect) → effect_of t x ≡ Some e → item_of t g a x ≡ effect_item t g a x e
 unfolding item_of
 known-item t g a x e q = ap (λ z. elim z as (λ o. Item) [ None ↦ Silent [] [] | Some y ↦ effect_item t g a x y ]) q
 
