@@ -34,7 +34,7 @@ use Rattle.mir_func.specs.declared.func.Operand.TheVariants as operands
 use Rattle.mir_func.specs.declared.func.Instr.{Instr}
 use Rattle.mir_func.specs.declared.func.Block.{Block}
 use Rattle.mir_func.specs.Value.{Function}
-use Rattle.mir_func.specs.Binding.{Bound, Definition, TiedPair, definition_in, definitions, does, effect_of, explicit_bound, explicit_operands, explicit_roles, implicit_registers, implicit_roles, is_definition, is_early, is_early_clobber, is_implicit_operand, is_terminator, is_use, is_virtual, numbered, passes, puts_together, registers, roles_of, same_index, same_loc, tied_number, tied_pair, ties_to}
+use Rattle.mir_func.specs.Binding.{Bound, Definition, TiedPair, definition_in, definitions, effect_of, explicit_bound, explicit_operands, explicit_roles, implicit_registers, implicit_roles, is_definition, is_early, is_early_clobber, is_implicit_operand, is_terminator, is_use, is_virtual, numbered, passes, puts_together, registers, roles_of, same_index, same_loc, tied_number, tied_pair, ties_to}
 use Rattle.mir_meaning.specs.Registers.{is_reserved, located_lanes, operand_lanes, operand_widths, undefined_lanes, use_sources}
 use Rattle.mir_meaning.specs.Items.{all_lanes, answered, clobbered, computed, counted_writes, defined_lanes, implicit_definitions, is_flags, unreserved, further_writes, implicit_writes, kept, moved, opaque_clobbers, rest_of, result_writes, results, silent_reads, silent_writes, undefined, values}
 use Rattle.mir_meaning.specs.Codes.{effect_item, item_of, target_of, way, ways_out}

@@ -25,10 +25,11 @@ use Rattle.lowering_laws.proofs.Operands.{known-effect, named}
 use Rattle.lowering_laws.proofs.Plain.{left-alone, stays}
 use Rattle.lowering_laws.proofs.Replaced.{AllStep, InstrStep, InstrsStep, K, bound, h, ties-by-steps}
 use Rattle.lowering_laws.proofs.Ruled.{AllRules, InstrRules, all-rules}
+use Rattle.lowering_laws.proofs.Seated.{seated-use}
 use Rattle.lowering_laws.proofs.Silently.{addr-step, const-step, copy-step, undef-step}
 use Rattle.lowering_laws.proofs.Sources.{all-named, rules-at}
 use Rattle.lowering_laws.proofs.Stretches.{Stretch}
-use Rattle.mir_func.specs.Binding.{TiedPair, is_terminator, is_use}
+use Rattle.mir_func.specs.Binding.{TiedPair, is_terminator}
 use Rattle.two_address.specs.Classes.{seated}
 use Rattle.two_address.specs.Ties.{reads_besides, ties_among}
 use Rattle.live_laws.proofs.Touch.Roles.{has_roles}
@@ -82,9 +83,9 @@ module _ (t : Target) (f : Function) (plain : has_no_phis t f.blocks ≡ true) w
         one-tied p only z =
             let alone = first_of_both (is_alone t i p) (not (does is_terminator t i)) z in
             let goes = not-true (does is_terminator t i) (second_of_both (is_alone t i p) (not (does is_terminator t i)) z) in
-            let pair = first_of_both (is_definition p.definition && is_use p.tied_use) (not (list_any (reads_besides p.number p.definition.loc) (seated t i))) alone in
-            let unread = not-true (list_any (reads_besides p.number p.definition.loc) (seated t i)) (second_of_both (is_definition p.definition && is_use p.tied_use) (not (list_any (reads_besides p.number p.definition.loc) (seated t i))) alone) in
-            tied-step t f (bare t f plain) (bare-lowered t f plain) names place b j i r e q three rolled (one, two) (names-none t f i e q r.one no-phi (no-branch t i e q goes)) (sym (ap (passes is_terminator) q) ∙ goes) defined c p only unread (first_of_both (is_definition p.definition) (is_use p.tied_use) pair) (second_of_both (is_definition p.definition) (is_use p.tied_use) pair)
+            let pair = first_of_both (is_definition p.definition) (not (list_any (reads_besides p.number p.definition.loc) (seated t i))) alone in
+            let unread = not-true (list_any (reads_besides p.number p.definition.loc) (seated t i)) (second_of_both (is_definition p.definition) (not (list_any (reads_besides p.number p.definition.loc) (seated t i))) alone) in
+            tied-step t f (bare t f plain) (bare-lowered t f plain) names place b j i r e q three rolled (one, two) (names-none t f i e q r.one no-phi (no-branch t i e q goes)) (sym (ap (passes is_terminator) q) ∙ goes) defined c p only unread pair (seated-use t f i e q rolled r.one p (subst (Among p) (sym only) here))
 
         counted : InstrStep t f b c i
         counted = go (pairs_of t i) refl (second_of_both (list_all (λ o. not (is_undef o)) i.operands) (are_alone t i (pairs_of t i)) plainly)

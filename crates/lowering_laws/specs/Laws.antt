@@ -8,7 +8,7 @@ use Rattle.mir_func.specs.declared.func.Operand.{Operand}
 use Rattle.mir_func.specs.declared.func.Operand.TheVariants as operands
 use Rattle.mir_func.specs.declared.func.Instr.{Instr}
 use Rattle.mir_func.specs.Value.{Function}
-use Rattle.mir_func.specs.Binding.{TiedPair, does, is_definition, is_terminator, is_use, puts_together, roles_of, same_loc, tied_pair}
+use Rattle.mir_func.specs.Binding.{TiedPair, does, is_definition, is_terminator, puts_together, roles_of, same_loc, tied_pair}
 use Rattle.mir_meaning.specs.declared.Form.TheVariants as forms
 use Rattle.mir_meaning.specs.Codes.{refines}
 use Rattle.mir_meaning.specs.Points.{has_no_phis}
@@ -36,9 +36,9 @@ is_undef o = false
 abbrev pub pairs_of : Target → Instr → List TiedPair
 pairs_of t i = filter_map (tied_pair i.operands) (seated t i)
 
--- a tied pair of a definition and a use, where no other operand reads the register of the definition
+-- a use that is tied to a definition whose register no other operand reads
 abbrev pub is_alone : Target → Instr → TiedPair → Bool
-is_alone t i p = is_definition p.definition && is_use p.tied_use && not (list_any (reads_besides p.number p.definition.loc) (seated t i))
+is_alone t i p = is_definition p.definition && not (list_any (reads_besides p.number p.definition.loc) (seated t i))
 
 -- at most one use is tied, so, and not by a terminator
 abbrev pub are_alone : Target → Instr → List TiedPair → Bool
