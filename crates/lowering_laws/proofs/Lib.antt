@@ -20,9 +20,11 @@ pub mod Replaced
 pub mod Undefs
 pub mod Plain
 pub mod Silently
-pub mod Untied
+pub mod Bare
 pub mod Places
 pub mod Seated
 pub mod Tied
 pub mod Retied
+pub mod Inserted
+pub mod Sequenced
 pub mod Ties

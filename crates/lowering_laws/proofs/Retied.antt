@@ -34,7 +34,7 @@ use Rattle.mir_func.specs.declared.func.Operand.TheVariants as operands
 use Rattle.mir_func.specs.declared.func.Instr.{Instr}
 use Rattle.mir_func.specs.declared.func.Block.{Block}
 use Rattle.mir_func.specs.Value.{Function}
-use Rattle.mir_func.specs.Binding.{Bound, Definition, TiedPair, definition_in, definitions, does, effect_of, explicit_bound, explicit_operands, explicit_roles, implicit_registers, implicit_roles, is_definition, is_early, is_early_clobber, is_implicit_operand, is_terminator, is_use, is_virtual, numbered, passes, puts_together, registers, roles_of, same_index, same_loc, tied_number, tied_pair, ties_to}
+use Rattle.mir_func.specs.Binding.{Bound, Definition, TiedPair, definition_in, definitions, effect_of, explicit_bound, explicit_operands, explicit_roles, implicit_registers, implicit_roles, is_definition, is_early, is_early_clobber, is_implicit_operand, is_terminator, is_use, is_virtual, numbered, passes, puts_together, registers, roles_of, same_index, same_loc, tied_number, tied_pair, ties_to}
 use Rattle.mir_meaning.specs.Registers.{is_reserved, located_lanes, operand_lanes, operand_widths, undefined_lanes, use_sources}
 use Rattle.mir_meaning.specs.Items.{all_lanes, answered, clobbered, computed, counted_writes, defined_lanes, implicit_definitions, is_flags, unreserved, further_writes, implicit_writes, kept, moved, opaque_clobbers, rest_of, result_writes, results, silent_reads, silent_writes, undefined, values}
 use Rattle.mir_meaning.specs.Codes.{effect_item, item_of, target_of, way, ways_out}
@@ -85,7 +85,7 @@ map-length : {A B : Type 0} (g : A → B) (xs : List A) → length (map g xs) �
 map-length g [] = refl
 map-length g (y ∷ xs) = ap suc (map-length g xs)
 
-loc-sym : (l m : Loc) → same_loc m l ≡ same_loc l m
+pub loc-sym : (l m : Loc) → same_loc m l ≡ same_loc l m
 loc-sym (Virtual v) (Virtual w) = eqb-sym w v
 loc-sym (Fixed r) (Fixed q) = eqb-sym q.0 r.0
 loc-sym (Virtual v) (Fixed q) = refl
@@ -214,7 +214,7 @@ module _ (t : Target) (cs : List (Option ClassId)) (n : ℕ) where
   untied-operands [] = refl
   untied-operands (x ∷ xs) = λ k. untied-operand x.0 x.1.0 x.1.1 k ∷ untied-operands xs k
 
-known-item : (t : Target) (g : Function) (a : Block) (x : Instr) (e : Effect) → effect_of t x ≡ Some e → item_of t g a x ≡ effect_item t g a x e
+pub known-item : (t : Target) (g : Function) (a : Block) (x : Instr) (e : Effect) → effect_of t x ≡ Some e → item_of t g a x ≡ effect_item t g a x e
 unfolding item_of
 known-item t g a x e q = ap (λ z. elim z as (λ o. Item) [ None ↦ Silent [] [] | Some y ↦ effect_item t g a x y ]) q
 

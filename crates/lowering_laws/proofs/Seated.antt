@@ -1,5 +1,5 @@
 -- Operands with their roles, and the one pair that an instruction ties.
-use Rattle.std.proofs.Common.{◌≡◌, ◌∷◌, ◌∙◌, ◌&&◌, not, ℕ, Bool, true, false, cond, List, Option, Some, None, map, refl, sym, ap, subst, eqb-true, []}
+use Rattle.std.proofs.Common.{◌≡◌, ◌∷◌, ◌∙◌, ◌&&◌, ◌||◌, not, ℕ, Bool, true, false, cond, List, Option, Some, None, map, refl, sym, ap, subst, eqb-true, []}
 use Rattle.std.specs.Prelude.{filter_map, nat_eq, option_and_then, option_map, slice_get, ◌==◌}
 use Rattle.std.specs.List.{cons_option, list_all}
 use Rattle.target_base.specs.declared.types.Effect.{Effect}
@@ -17,8 +17,8 @@ use Rattle.mir_func.specs.declared.func.Operand.{Operand}
 use Rattle.mir_func.specs.declared.func.Operand.TheVariants as operands
 use Rattle.mir_func.specs.declared.func.Instr.{Instr}
 use Rattle.mir_func.specs.Value.{Function}
-use Rattle.mir_func.specs.Binding.{TiedPair, as_register, bound, effect_of, explicit_bound, explicit_operands, explicit_roles, implicit_bound, implicit_registers, implicit_roles, is_implicit_operand, passes, paired_with, register_at, registers, roles_of, takes_many, tied_number, tied_pair, tied_pairs, ties_to}
-use Rattle.mir_meaning.specs.Rules.{V1, V11, explicit_fit, fits_at, implicit_last, operands_fit, tie_fits}
+use Rattle.mir_func.specs.Binding.{TiedPair, as_register, bound, effect_of, explicit_bound, explicit_operands, explicit_roles, implicit_bound, implicit_registers, implicit_roles, is_implicit_operand, is_use, passes, paired_with, register_at, registers, roles_of, takes_many, tied_number, tied_pair, tied_pairs, ties_to}
+use Rattle.mir_meaning.specs.Rules.{V1, V11, explicit_fit, fits_at, implicit_last, is_opaque, operands_fit, tie_fits}
 use Rattle.mir_meaning.specs.declared.Form.TheVariants as source_form
 use Rattle.two_address.specs.Classes.{seated}
 use Rattle.instr_effects.proofs.Members.{left-in, member-elim, member-none}
@@ -105,21 +105,30 @@ one-alone : (r : Role) → is_tied r ≡ true → takes_many r ≡ true → ⊥
 one-alone (roles.Tied k n) e h = cc
 one-alone r e h = cc
 
+-- the operand takes that role among the explicit ones, and fits it
+abbrev Seats : Target → Effect → List Role → List Operand → Role → Operand → Type 0
+Seats t e rs os r o = Among (Some r, o) (explicit_bound rs os) × (fits_at t e r o ≡ true)
+
 -- what holds of the operands that are left
 abbrev Further : Target → Effect → List Operand → Role → Operand → Type 0
-Further t e os r o = (rest : List Role) → implicit_last os ≡ true → explicit_fit t e rest (explicit_operands os) ≡ true → Among (Some r, o) (explicit_bound rest os) → Among (Some r, o) (explicit_bound rest (explicit_operands os))
+Further t e os r o = (rest : List Role) → implicit_last os ≡ true → explicit_fit t e rest (explicit_operands os) ≡ true → Among (Some r, o) (explicit_bound rest os) → Seats t e rest (explicit_operands os) r o
 
-seated-explicit : (t : Target) (e : Effect) (rs : List Role) (os : List Operand) → implicit_last os ≡ true → explicit_fit t e rs (explicit_operands os) ≡ true → (r : Role) (o : Operand) → is_tied r ≡ true → Among (Some r, o) (explicit_bound rs os) → Among (Some r, o) (explicit_bound rs (explicit_operands os))
-seated-explicit t e rs [] last fits r o tied m = m
+seated-explicit : (t : Target) (e : Effect) (rs : List Role) (os : List Operand) → implicit_last os ≡ true → explicit_fit t e rs (explicit_operands os) ≡ true → (r : Role) (o : Operand) → is_tied r ≡ true → Among (Some r, o) (explicit_bound rs os) → Seats t e rs (explicit_operands os) r o
+seated-explicit t e rs [] last fits r o tied m = absurd (member-none (Some r, o) m)
 seated-explicit t e rs (x ∷ os) last fits r o tied m = go (is_implicit_operand x) refl (λ rest later h k. seated-explicit t e rest os later h r o tied k)
   where
-    by : (rs : List Role) → Further t e os r o → implicit_last os ≡ true → explicit_fit t e rs (x ∷ explicit_operands os) ≡ true → Among (Some r, o) (explicit_bound rs (x ∷ os)) → Among (Some r, o) (explicit_bound rs (x ∷ explicit_operands os))
+    by : (rs : List Role) → Further t e os r o → implicit_last os ≡ true → explicit_fit t e rs (x ∷ explicit_operands os) ≡ true → Among (Some r, o) (explicit_bound rs (x ∷ os)) → Seats t e rs (x ∷ explicit_operands os) r o
     by [] more later h k = absurd (cc)
     by (s ∷ rs) more later h k =
         let rest = cond (takes_many s) (s ∷ rs) rs in
-        member-elim (Some r, o) (Some s, x) (explicit_bound rest os) (λ q. subst (λ b. Among b ((Some s, x) ∷ explicit_bound rest (explicit_operands os))) (sym q) here) (λ j. there (more rest later (second_of_both (fits_at t e s x) (explicit_fit t e rest (explicit_operands os)) h) j)) k
+        member-elim (Some r, o) (Some s, x) (explicit_bound rest os)
+        (λ q. (
+          subst (λ b. Among b ((Some s, x) ∷ explicit_bound rest (explicit_operands os))) (sym q) here,
+          (λ n. fits_at t e (some-one r s (ap (λ b. b.0) q) n) (ap (λ b. b.1) q n)) ∙ first_of_both (fits_at t e s x) (explicit_fit t e rest (explicit_operands os)) h,
+        ))
+        (λ j. let z = more rest later (second_of_both (fits_at t e s x) (explicit_fit t e rest (explicit_operands os)) h) j in (there z.0, z.1)) k
 
-    go : (y : Bool) → is_implicit_operand x ≡ y → Further t e os r o → Among (Some r, o) (explicit_bound rs (explicit_operands (x ∷ os)))
+    go : (y : Bool) → is_implicit_operand x ≡ y → Further t e os r o → Seats t e rs (explicit_operands (x ∷ os)) r o
     go true q more =
         let all : list_all is_implicit_operand os ≡ true = subst (λ b. cond b (list_all is_implicit_operand os) (implicit_last os) ≡ true) q last in
         let bare : explicit_operands (x ∷ os) ≡ [] = none-explicit (x ∷ os) (λ k. q k && all k) in
@@ -128,7 +137,17 @@ seated-explicit t e rs (x ∷ os) last fits r o tied m = go (is_implicit_operand
     go false q more =
         let front : explicit_operands (x ∷ os) ≡ x ∷ explicit_operands os = λ k. cond (not (q k)) (x ∷ explicit_operands os) (explicit_operands os) in
         let later : implicit_last os ≡ true = subst (λ b. cond b (list_all is_implicit_operand os) (implicit_last os) ≡ true) q last in
-        subst (λ qs. Among (Some r, o) (explicit_bound rs qs)) (sym front) (by rs more later (subst (λ qs. explicit_fit t e rs qs ≡ true) front fits) m)
+        subst (λ qs. Seats t e rs qs r o) (sym front) (by rs more later (subst (λ qs. explicit_fit t e rs qs ≡ true) front fits) m)
+
+-- an operand that fits a tied role is a use
+tied-use : (t : Target) (e : Effect) (r : Role) (u : RegOp) → is_tied r ≡ true → fits_at t e r (operands.Reg u) ≡ true → is_use u ≡ true
+tied-use t e (roles.Tied k n) u g h = either (is_use u) (is_opaque e) h
+  where
+    either : (a b : Bool) → (a || (b && false)) ≡ true → a ≡ true
+    either true b h = refl
+    either false true h = absurd (cc)
+    either false false h = absurd (cc)
+tied-use t e r u g h = absurd (cc)
 
 -- what a tied pair says
 
@@ -178,17 +197,28 @@ last-fits t f d os effects.RegSequence h g = absurd (cc)
 last-fits t f d os effects.InsertSubreg h g = absurd (cc)
 last-fits t f d os e h g = (first_of_both _ _ (first_of_both _ _ (first_of_both _ _ g)), second_of_both _ _ (first_of_both _ _ (first_of_both _ _ g)))
 
-pub seated-pair : (t : Target) (f : Function) (i : Instr) (e : Effect) → effect_of t i ≡ Some e → has_roles e ≡ true → V1 t f i ≡ true → (p : TiedPair) → Among p (filter_map (tied_pair i.operands) (seated t i)) → Among p (tied_pairs t i)
-seated-pair t f i e known h one p m =
-    let z = told-of (tied_pair i.operands) p (seated t i) m in
-    let w = met t f i e known one in
-    let fits = last-fits t f w.0 i.operands e h w.3 in
-    let same : w.0.roles ≡ roles_of t i = ap (λ q. elim q as (λ q. List Role) [ None ↦ [] | Some d ↦ d.roles ]) (sym w.1) in
-    let y = pair-is i.operands z.0.0 z.0.1 p z.2 in
-    let x = role-tied z.0.0 p.number y.1 in
-    let member : Among (Some x.0, z.0.1) (seated t i) = subst (λ (r : Option Role). Among (r, z.0.1) (seated t i)) x.1 z.1 in
-    let explicit = seated-explicit t e (explicit_roles (roles_of t i)) i.operands fits.0 (subst (λ rs. explicit_fit t e (explicit_roles rs) (explicit_operands i.operands) ≡ true) same fits.1) x.0 z.0.1 x.2 member in
-    told-in (tied_pair i.operands) p (Some x.0, z.0.1) (bound t i) (left-in (Some x.0, z.0.1) (explicit_bound (explicit_roles (roles_of t i)) (explicit_operands i.operands)) (map (implicit_bound (implicit_roles (roles_of t i))) (implicit_registers i.operands)) explicit) (ap (λ (r : Option Role). tied_pair i.operands (r, z.0.1)) (sym x.1) ∙ z.2)
+module _ (t : Target) (f : Function) (i : Instr) (e : Effect) (known : effect_of t i ≡ Some e) (h : has_roles e ≡ true) (one : V1 t f i ≡ true) (p : TiedPair) (m : Among p (filter_map (tied_pair i.operands) (seated t i))) where
+  pair-seats : (r : Role) × (x : Operand) × Seats t e (explicit_roles (roles_of t i)) (explicit_operands i.operands) r x × (is_tied r ≡ true) × IsPair i.operands (Some r) x p × (tied_pair i.operands (Some r, x) ≡ Some p)
+  pair-seats =
+      let z = told-of (tied_pair i.operands) p (seated t i) m in
+      let w = met t f i e known one in
+      let fits = last-fits t f w.0 i.operands e h w.3 in
+      let same : w.0.roles ≡ roles_of t i = ap (λ q. elim q as (λ q. List Role) [ None ↦ [] | Some d ↦ d.roles ]) (sym w.1) in
+      let y = pair-is i.operands z.0.0 z.0.1 p z.2 in
+      let x = role-tied z.0.0 p.number y.1 in
+      let member : Among (Some x.0, z.0.1) (seated t i) = subst (λ (r : Option Role). Among (r, z.0.1) (seated t i)) x.1 z.1 in
+      let seats = seated-explicit t e (explicit_roles (roles_of t i)) i.operands fits.0 (subst (λ rs. explicit_fit t e (explicit_roles rs) (explicit_operands i.operands) ≡ true) same fits.1) x.0 z.0.1 x.2 member in
+      (x.0, z.0.1, seats, x.2, subst (λ (r : Option Role). IsPair i.operands r z.0.1 p) x.1 y, ap (λ (r : Option Role). tied_pair i.operands (r, z.0.1)) (sym x.1) ∙ z.2)
+
+  -- a pair by all operands is one by the explicit ones
+  pub seated-pair : Among p (tied_pairs t i)
+  seated-pair =
+      let z = pair-seats in
+      told-in (tied_pair i.operands) p (Some z.0, z.1) (bound t i) (left-in (Some z.0, z.1) (explicit_bound (explicit_roles (roles_of t i)) (explicit_operands i.operands)) (map (implicit_bound (implicit_roles (roles_of t i))) (implicit_registers i.operands)) z.2.0) z.5
+
+  -- it ties a use
+  pub seated-use : is_use p.tied_use ≡ true
+  seated-use = let z = pair-seats in tied-use t e z.0 p.tied_use z.3 (ap (fits_at t e z.0) (sym z.4.0) ∙ z.2.1)
 
 pub pair-fits : (t : Target) (f : Function) (i : Instr) (p : TiedPair) → V11 t source_form.Source f i ≡ true → Among p (tied_pairs t i) → tie_fits t source_form.Source f p.definition p.tied_use ≡ true
 unfolding V11

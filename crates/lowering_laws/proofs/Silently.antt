@@ -76,8 +76,8 @@ same-own (Virtual v) = eq-eqb v v refl
 same-own (Fixed r) = eq-eqb r.0 r.0 refl
 
 -- a use stands in no definition's place
-use-first : (s : RegOp) → is_use s ≡ true → undefined_first (operands.Reg s) ≡ []
-use-first s e = λ k. cond ((not-true s.def (first_of_both (not s.def) (not s.implicit) e) k && not s.implicit) && s.undef) (undefined_whole s.loc) []
+pub first-used : (s : RegOp) → is_use s ≡ true → undefined_first (operands.Reg s) ≡ []
+first-used s e = λ k. cond ((not-true s.def (first_of_both (not s.def) (not s.implicit) e) k && not s.implicit) && s.undef) (undefined_whole s.loc) []
 
 -- lanes of another register
 pub lanes-apart : (t : Target) (f : Function) (v : ℕ) (l : Loc) (x : Option IndexId) → same_loc l (Virtual v) ≡ false → (a : Lane) → Among a (located_lanes t f l x) → is_lane_of v a ≡ false
@@ -255,10 +255,17 @@ module _ (t : Target) (f : Function) (bare' : (n m : ℕ) → (way t (ties_lower
     copy-lowers : instr_lowered t f.classes c i ≡ undefined_first (operands.Reg d) ++ lowered_copy ∷ []
     copy-lowers =
         (λ k. flat_map undefined_first (are k) ++ form_lowered t f.classes c i
+<<<<<<< HEAD
         (cond (passes is_copy (known k)) (copy_form (register_at (are k) 0) (register_at (are k) 1))
         (cond (does is_reg_sequence t i) (sequence_form (virtual_in (register_at i.operands 0)))
         (cond (does is_insert_subreg t i) (insertion_form (virtual_in (register_at i.operands 0)) (register_at i.operands 1) (part_of_two (slice_get i.operands 2) (slice_get i.operands 3))) forms.Other))))
         ∙ ((λ k. (undefined_first (operands.Reg d) ++ (use-first s used k ++ [])) ++ lowered_copy ∷ [])
+=======
+            (cond (passes is_copy (known k)) (copy_form (register_at (are k) 0) (register_at (are k) 1))
+            (cond (does is_reg_sequence t i) (sequence_form (virtual_in (register_at i.operands 0)))
+            (cond (does is_insert_subreg t i) (insertion_form (virtual_in (register_at i.operands 0)) (register_at i.operands 1) (part_of_two (slice_get i.operands 2) (slice_get i.operands 3))) forms.Other))))
+        ∙ ((λ k. (undefined_first (operands.Reg d) ++ (first-used s used k ++ [])) ++ lowered_copy ∷ [])
+>>>>>>> lowlaws
         ∙ ap (λ xs. xs ++ lowered_copy ∷ []) (append-nil (undefined_first (operands.Reg d))))
 
     d-there : Among d (registers i.operands)

@@ -19,7 +19,7 @@ use Rattle.mir_func.specs.declared.func.RegOp.{RegOp}
 use Rattle.mir_func.specs.declared.func.Operand.{Operand}
 use Rattle.mir_func.specs.declared.func.Operand.TheVariants as operands
 use Rattle.mir_func.specs.Value.{Function}
-use Rattle.mir_func.specs.Binding.{explicit_bound, is_definition, is_virtual, numbered, passes, registers, same_index, same_loc, takes_many, tied_number, ties_to}
+use Rattle.mir_func.specs.Binding.{explicit_bound, is_definition, is_virtual, numbered, passes, same_index, same_loc, takes_many, tied_number, ties_to}
 use Rattle.mir_meaning.specs.Registers.{located_lanes, numbers, range_widths}
 use Rattle.mir_meaning.specs.Items.{moved}
 use Rattle.two_address.specs.Classes.{class_asked, first_register}

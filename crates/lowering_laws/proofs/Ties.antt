@@ -7,7 +7,7 @@ use Rattle.target_base.specs.declared.types.Effect.{Effect}
 use Rattle.target_base.specs.declared.types.Effect.TheVariants as effects
 use Rattle.target_base.specs.declared.types.Target.{Target}
 use Rattle.target_base.specs.Roles.{is_silent, is_tied}
-use Rattle.target_base.specs.Rules.{is_copy, is_phi}
+use Rattle.target_base.specs.Rules.{is_copy, is_insert_subreg, is_phi}
 use Rattle.target_base.proofs.Tests.{first_of_both, second_of_both}
 use Rattle.meaning.specs.Live.{Among, here, there}
 use Rattle.mir_func.specs.declared.func.Instr.{Instr}
@@ -25,17 +25,20 @@ use Rattle.lowering_laws.proofs.Operands.{known-effect, named}
 use Rattle.lowering_laws.proofs.Plain.{left-alone, stays}
 use Rattle.lowering_laws.proofs.Replaced.{AllStep, InstrStep, InstrsStep, K, bound, h, ties-by-steps}
 use Rattle.lowering_laws.proofs.Ruled.{AllRules, InstrRules, all-rules}
+use Rattle.lowering_laws.proofs.Seated.{seated-use}
 use Rattle.lowering_laws.proofs.Silently.{addr-step, const-step, copy-step, undef-step}
 use Rattle.lowering_laws.proofs.Sources.{all-named, rules-at}
 use Rattle.lowering_laws.proofs.Stretches.{Stretch}
-use Rattle.mir_func.specs.Binding.{TiedPair, is_terminator, is_use}
+use Rattle.mir_func.specs.Binding.{TiedPair, is_terminator}
 use Rattle.two_address.specs.Classes.{seated}
 use Rattle.two_address.specs.Ties.{reads_besides, ties_among}
 use Rattle.live_laws.proofs.Touch.Roles.{has_roles}
-use Rattle.lowering_laws.specs.Laws.{LoweredTiedRefine, are_alone, is_alone, is_undef, pairs_of, ties_in_place, ties_plainly}
+use Rattle.lowering_laws.specs.Laws.{LoweredTiedRefine, are_alone, builds_apart, inserts_apart, is_alone, is_undef, pairs_of, ties_in_place, ties_plainly}
 use Rattle.lowering_laws.proofs.Ends.{names-none, no-branch}
 use Rattle.lowering_laws.proofs.Retied.{tied-step}
-use Rattle.lowering_laws.proofs.Untied.{bare, bare-lowered}
+use Rattle.lowering_laws.proofs.Bare.{bare, bare-lowered}
+use Rattle.lowering_laws.proofs.Inserted.{inserted-step}
+use Rattle.lowering_laws.proofs.Sequenced.{sequenced-step}
 
 not-true : (b : Bool) → not b ≡ true → b ≡ false
 not-true true e = absurd (cc)
@@ -47,14 +50,14 @@ module _ (t : Target) (f : Function) (plain : has_no_phis t f.blocks ≡ true) w
     names = all-named t f rules
 
     module _ (place : ℕ) (b : Block) (j : ℕ) (i : Instr) (r : InstrRules t f place b j i) (no-phi : does is_phi t i ≡ false) (untied : ties_in_place t i ≡ true) (c : ℕ) where
-      none-together : does puts_together t i ≡ false
-      none-together = not-true (does puts_together t i) (first_of_both (not (does puts_together t i)) (cond (does is_silent t i) (not (list_any is_tied (roles_of t i))) (ties_plainly t i)) untied)
+      together : does puts_together t i ≡ true → (cond (does is_insert_subreg t i) (inserts_apart i.operands) (builds_apart i.operands)) ≡ true
+      together e = sym (ap (λ y. cond y (cond (does is_insert_subreg t i) (inserts_apart i.operands) (builds_apart i.operands)) (cond (does is_silent t i) (not (list_any is_tied (roles_of t i))) (ties_plainly t i))) e) ∙ untied
 
-      by-kind : cond (does is_silent t i) (not (list_any is_tied (roles_of t i))) (ties_plainly t i) ≡ true
-      by-kind = second_of_both (not (does puts_together t i)) (cond (does is_silent t i) (not (list_any is_tied (roles_of t i))) (ties_plainly t i)) untied
+      by-kind : does puts_together t i ≡ false → cond (does is_silent t i) (not (list_any is_tied (roles_of t i))) (ties_plainly t i) ≡ true
+      by-kind e = sym (ap (λ y. cond y (cond (does is_insert_subreg t i) (inserts_apart i.operands) (builds_apart i.operands)) (cond (does is_silent t i) (not (list_any is_tied (roles_of t i))) (ties_plainly t i))) e) ∙ untied
 
-      none-tied : does is_silent t i ≡ true → list_any is_tied (roles_of t i) ≡ false
-      none-tied s = not-true (list_any is_tied (roles_of t i)) (sym (ap (λ y. cond y (not (list_any is_tied (roles_of t i))) (ties_plainly t i)) s) ∙ by-kind)
+      none-tied : does puts_together t i ≡ false → does is_silent t i ≡ true → list_any is_tied (roles_of t i) ≡ false
+      none-tied e s = not-true (list_any is_tied (roles_of t i)) (sym (ap (λ y. cond y (not (list_any is_tied (roles_of t i))) (ties_plainly t i)) s) ∙ by-kind e)
 
       none-spilled : does spills_or_reloads t i ≡ false
       unfolding V15
@@ -62,7 +65,7 @@ module _ (t : Target) (f : Function) (plain : has_no_phis t f.blocks ≡ true) w
 
       module _ (e : Effect) (q : effect_of t i ≡ Some e) (one : is_copy e ≡ false) (two : puts_together e ≡ false) (three : is_silent e ≡ false) (rolled : has_roles e ≡ true) where
         plainly : ties_plainly t i ≡ true
-        plainly = sym (ap (λ y. cond y (not (list_any is_tied (roles_of t i))) (ties_plainly t i)) (ap (passes is_silent) q ∙ three)) ∙ by-kind
+        plainly = sym (ap (λ y. cond y (not (list_any is_tied (roles_of t i))) (ties_plainly t i)) (ap (passes is_silent) q ∙ three)) ∙ by-kind (ap (passes puts_together) q ∙ two)
 
         defined : list_all (λ o. not (is_undef o)) i.operands ≡ true
         defined = first_of_both (list_all (λ o. not (is_undef o)) i.operands) (are_alone t i (pairs_of t i)) plainly
@@ -80,9 +83,9 @@ module _ (t : Target) (f : Function) (plain : has_no_phis t f.blocks ≡ true) w
         one-tied p only z =
             let alone = first_of_both (is_alone t i p) (not (does is_terminator t i)) z in
             let goes = not-true (does is_terminator t i) (second_of_both (is_alone t i p) (not (does is_terminator t i)) z) in
-            let pair = first_of_both (is_definition p.definition && is_use p.tied_use) (not (list_any (reads_besides p.number p.definition.loc) (seated t i))) alone in
-            let unread = not-true (list_any (reads_besides p.number p.definition.loc) (seated t i)) (second_of_both (is_definition p.definition && is_use p.tied_use) (not (list_any (reads_besides p.number p.definition.loc) (seated t i))) alone) in
-            tied-step t f (bare t f plain) (bare-lowered t f plain) names place b j i r e q three rolled (one, two) (names-none t f i e q r.one no-phi (no-branch t i e q goes)) (sym (ap (passes is_terminator) q) ∙ goes) defined c p only unread (first_of_both (is_definition p.definition) (is_use p.tied_use) pair) (second_of_both (is_definition p.definition) (is_use p.tied_use) pair)
+            let pair = first_of_both (is_definition p.definition) (not (list_any (reads_besides p.number p.definition.loc) (seated t i))) alone in
+            let unread = not-true (list_any (reads_besides p.number p.definition.loc) (seated t i)) (second_of_both (is_definition p.definition) (not (list_any (reads_besides p.number p.definition.loc) (seated t i))) alone) in
+            tied-step t f (bare t f plain) (bare-lowered t f plain) names place b j i r e q three rolled (one, two) (names-none t f i e q r.one no-phi (no-branch t i e q goes)) (sym (ap (passes is_terminator) q) ∙ goes) defined c p only unread pair (seated-use t f i e q rolled r.one p (subst (Among p) (sym only) here))
 
         counted : InstrStep t f b c i
         counted = go (pairs_of t i) refl (second_of_both (list_all (λ o. not (is_undef o)) i.operands) (are_alone t i (pairs_of t i)) plainly)
@@ -94,12 +97,12 @@ module _ (t : Target) (f : Function) (plain : has_no_phis t f.blocks ≡ true) w
 
       by-effect : (e : Effect) → effect_of t i ≡ Some e → InstrStep t f b c i
       by-effect effects.Copy q = copy-step t f (bare-lowered t f plain) names place b j i r q c
-      by-effect effects.ImplicitDef q = undef-step t f (bare-lowered t f plain) names place b j i r q (none-tied (ap (passes is_silent) q)) c
-      by-effect effects.Const q = const-step t f (bare-lowered t f plain) names place b j i r q (none-tied (ap (passes is_silent) q)) c
-      by-effect effects.Addr q = addr-step t f (bare-lowered t f plain) names place b j i r q (none-tied (ap (passes is_silent) q)) c
+      by-effect effects.ImplicitDef q = undef-step t f (bare-lowered t f plain) names place b j i r q (none-tied (ap (passes puts_together) q) (ap (passes is_silent) q)) c
+      by-effect effects.Const q = const-step t f (bare-lowered t f plain) names place b j i r q (none-tied (ap (passes puts_together) q) (ap (passes is_silent) q)) c
+      by-effect effects.Addr q = addr-step t f (bare-lowered t f plain) names place b j i r q (none-tied (ap (passes puts_together) q) (ap (passes is_silent) q)) c
       by-effect effects.Phi q = absurd (let x : true ≡ false = ap (passes is_phi) (sym q) ∙ no-phi in cc)
-      by-effect effects.RegSequence q = absurd (let x : true ≡ false = ap (passes puts_together) (sym q) ∙ none-together in cc)
-      by-effect effects.InsertSubreg q = absurd (let x : true ≡ false = ap (passes puts_together) (sym q) ∙ none-together in cc)
+      by-effect effects.RegSequence q = sequenced-step t f names place b j i r q (sym (ap (λ y. cond y (inserts_apart i.operands) (builds_apart i.operands)) (ap (passes is_insert_subreg) q)) ∙ together (ap (passes puts_together) q)) c
+      by-effect effects.InsertSubreg q = inserted-step t f names place b j i r q (sym (ap (λ y. cond y (inserts_apart i.operands) (builds_apart i.operands)) (ap (passes is_insert_subreg) q)) ∙ together (ap (passes puts_together) q)) c
       by-effect effects.Spill q = absurd (let x : true ≡ false = ap (passes spills_or_reloads) (sym q) ∙ none-spilled in cc)
       by-effect effects.Reload q = absurd (let x : true ≡ false = ap (passes spills_or_reloads) (sym q) ∙ none-spilled in cc)
       by-effect e q = counted e q refl refl refl refl

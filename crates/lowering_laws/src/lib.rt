@@ -2,7 +2,7 @@
 //! that a check proves it.
 #![tactic(auto)]
 
-ghost use Rattle.lowering_laws.specs.Laws.{LoweredPhisRefine, LoweredTiedRefine, LoweredUntiedRefine, PhisAreGone};
+ghost use Rattle.lowering_laws.specs.Laws.{LoweredPhisRefine, LoweredTiedRefine, PhisAreGone};
 
 /// A valid source without its phis does what it did.
 pub fn phis_law()
@@ -12,11 +12,6 @@ pub fn phis_law()
 /// It has no phi.
 pub fn gone_law()
     ensures { PhisAreGone }
-{}
-
-/// In two-address form a function without phis and ties does what it did, also where definitions and copies are `undef`.
-pub fn untied_law()
-    ensures { LoweredUntiedRefine }
 {}
 
 /// In two-address form a function without phis does what it did, where each instruction ties at most one use.

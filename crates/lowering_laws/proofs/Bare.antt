@@ -1,15 +1,11 @@
--- Lowering of ties keeps the meaning of a function whose opcodes tie nothing.
-use Rattle.std.proofs.Common.{◌≡◌, ◌∷◌, ◌++◌, ◌∙◌, ◌&&◌, ◌||◌, ◌+◌, not, ℕ, Bool, true, false, cond, List, Option, Some, None, map, flat_map, length, drop, refl, sym, ap, subst, []}
-use Rattle.std.specs.Prelude.{find, nat_eq, slice_get}
-use Rattle.std.specs.List.{list_all, list_any}
+-- No phi comes by lowering of ties, so that on no way phis write.
+use Rattle.std.proofs.Common.{◌≡◌, ◌∷◌, ◌++◌, ◌&&◌, ◌+◌, not, ℕ, Bool, true, false, cond, List, Option, Some, None, map, flat_map, length, drop, refl, ap, []}
+use Rattle.std.specs.Prelude.{find, nat_eq}
+use Rattle.std.specs.List.{list_all}
 use Rattle.target_base.specs.declared.types.ClassId.{ClassId}
-use Rattle.target_base.specs.declared.types.Effect.{Effect}
-use Rattle.target_base.specs.declared.types.Effect.TheVariants as effects
 use Rattle.target_base.specs.declared.types.Target.{Target}
-use Rattle.target_base.specs.Roles.{is_silent, is_tied}
-use Rattle.target_base.specs.Rules.{is_copy, is_phi}
+use Rattle.target_base.specs.Rules.{is_phi}
 use Rattle.target_base.proofs.Tests.{first_of_both, second_of_both}
-use Rattle.meaning.specs.Live.{Among, here, there}
 use Rattle.mir_func.specs.declared.func.Loc.{Loc}
 use Rattle.mir_func.specs.declared.func.Loc.TheVariants.{Fixed, Virtual}
 use Rattle.mir_func.specs.declared.func.RegOp.{RegOp}
@@ -19,10 +15,9 @@ use Rattle.mir_func.specs.declared.func.Op.TheVariants as ops
 use Rattle.mir_func.specs.declared.func.Instr.{Instr}
 use Rattle.mir_func.specs.declared.func.Block.{Block}
 use Rattle.mir_func.specs.Value.{Function}
-use Rattle.mir_func.specs.Binding.{does, effect_of, is_definition, passes, puts_together, roles_of}
-use Rattle.mir_meaning.specs.Codes.{instrs_of, item_of, refines, way}
+use Rattle.mir_func.specs.Binding.{does, is_definition, passes}
+use Rattle.mir_meaning.specs.Codes.{instrs_of, way}
 use Rattle.mir_meaning.specs.Points.{has_no_phis}
-use Rattle.mir_meaning.specs.Rules.{V15, spills_or_reloads}
 use Rattle.phi_elim.specs.Moves.{copy_of, copy_op, destination_of, implicit_def_op, move_of, source_of, undefining, whole_definition, whole_use}
 use Rattle.phi_elim.specs.Numbered.{blocks_numbered, numbered}
 use Rattle.phi_elim.specs.Phis.{located_class}
@@ -34,21 +29,10 @@ use Rattle.two_address.specs.declared.forms.Form.TheVariants as forms
 use Rattle.two_address.specs.declared.sequences.Part.{Part}
 use Rattle.two_address.specs.declared.ties.Move.{Move}
 use Rattle.two_address.specs.declared.ties.Tie.{Tie}
-use Rattle.live_laws.proofs.Effects.Lists.{all-of}
-use Rattle.lowering_laws.specs.Laws.{LoweredUntiedRefine, is_undef, is_untied}
-use Rattle.lowering_laws.proofs.Alike.{Equal}
 use Rattle.lowering_laws.proofs.Blocks.{append-none, none-written, numbered-none}
-use Rattle.lowering_laws.proofs.Classes.{AllNamed}
 use Rattle.lowering_laws.proofs.Lowering.{NoPhis}
-use Rattle.lowering_laws.proofs.Operands.{known-effect, named}
 use Rattle.lowering_laws.proofs.Placed.{copy-effect, undef-effect}
-use Rattle.lowering_laws.proofs.Plain.{left-alone, stays}
-use Rattle.lowering_laws.proofs.Plain.{none-tied as ties-none}
-use Rattle.lowering_laws.proofs.Replaced.{AllStep, InstrStep, InstrsStep, K, bound, h, ties-by-steps}
-use Rattle.lowering_laws.proofs.Ruled.{AllRules, InstrRules, all-rules}
-use Rattle.lowering_laws.proofs.Silently.{addr-step, const-step, copy-step, undef-step}
-use Rattle.lowering_laws.proofs.Sources.{all-named, rules-at}
-use Rattle.lowering_laws.proofs.Stretches.{Stretch}
+use Rattle.lowering_laws.proofs.Replaced.{bound, h}
 
 not-true : (b : Bool) → not b ≡ true → b ≡ false
 not-true true e = absurd (cc)
@@ -171,64 +155,3 @@ module _ (t : Target) (f : Function) (plain : has_no_phis t f.blocks ≡ true) w
   pub bare-lowered : (n m : ℕ) → (way t (ties_lowered t f) n m).phis ≡ []
   unfolding ties_lowered
   bare-lowered n m = none-written t (ties_lowered t f) n (instrs_of (ties_lowered t f).blocks m) (lowered-none t f.classes 0 (bound t f) f.blocks m plain)
-
-  module _ (rules : (n : ℕ) (b : Block) → slice_get f.blocks n ≡ Some b → AllRules t f n b) where
-    names : AllNamed f f.blocks
-    names = all-named t f rules
-
-    module _ (place : ℕ) (b : Block) (j : ℕ) (i : Instr) (r : InstrRules t f place b j i) (no-phi : does is_phi t i ≡ false) (untied : is_untied t i ≡ true) (c : ℕ) where
-      none-together : does puts_together t i ≡ false
-      none-together = not-true (does puts_together t i) (first_of_both (not (does puts_together t i)) (not (list_any is_tied (roles_of t i))) (first_of_both (not (does puts_together t i) && not (list_any is_tied (roles_of t i))) (does is_silent t i || list_all (λ o. not (is_undef o)) i.operands) untied))
-
-      none-tied : list_any is_tied (roles_of t i) ≡ false
-      none-tied = not-true (list_any is_tied (roles_of t i)) (second_of_both (not (does puts_together t i)) (not (list_any is_tied (roles_of t i))) (first_of_both (not (does puts_together t i) && not (list_any is_tied (roles_of t i))) (does is_silent t i || list_all (λ o. not (is_undef o)) i.operands) untied))
-
-      none-spilled : does spills_or_reloads t i ≡ false
-      unfolding V15
-      none-spilled = not-true (does spills_or_reloads t i) r.fifteen
-
-      counted : (e : Effect) → effect_of t i ≡ Some e → is_copy e ≡ false → puts_together e ≡ false → is_silent e ≡ false → InstrStep t f b c i
-      counted e q one two three = record {
-        keeps = λ js. subst (λ is. Stretch (K t f) (Equal (length f.classes)) (Equal (length f.classes)) (item_of t (h t f) b i ∷ []) (map (item_of t (ties_lowered t f) (record b { instrs = js })) is)) (sym lowered) (stays t f bare bare-lowered names b js i (λ o m. named t f place b j i r o m));
-        ends = record { front = []; last = i; are = lowered; control = refl; terminator = refl };
-      }
-        where
-          defined : list_all (λ o. not (is_undef o)) i.operands ≡ true
-          defined = ap (λ y. y || list_all (λ o. not (is_undef o)) i.operands) (sym (ap (passes is_silent) q ∙ three)) ∙ second_of_both (not (does puts_together t i) && not (list_any is_tied (roles_of t i))) (does is_silent t i || list_all (λ o. not (is_undef o)) i.operands) untied
-
-          lowered : instr_lowered t f.classes c i ≡ i ∷ []
-          lowered = left-alone t i e q f.classes c one two (ties-none t i e q c none-tied) defined
-
-      by-effect : (e : Effect) → effect_of t i ≡ Some e → InstrStep t f b c i
-      by-effect effects.Copy q = copy-step t f bare-lowered names place b j i r q c
-      by-effect effects.ImplicitDef q = undef-step t f bare-lowered names place b j i r q none-tied c
-      by-effect effects.Const q = const-step t f bare-lowered names place b j i r q none-tied c
-      by-effect effects.Addr q = addr-step t f bare-lowered names place b j i r q none-tied c
-      by-effect effects.Phi q = absurd (let x : true ≡ false = ap (passes is_phi) (sym q) ∙ no-phi in cc)
-      by-effect effects.RegSequence q = absurd (let x : true ≡ false = ap (passes puts_together) (sym q) ∙ none-together in cc)
-      by-effect effects.InsertSubreg q = absurd (let x : true ≡ false = ap (passes puts_together) (sym q) ∙ none-together in cc)
-      by-effect effects.Spill q = absurd (let x : true ≡ false = ap (passes spills_or_reloads) (sym q) ∙ none-spilled in cc)
-      by-effect effects.Reload q = absurd (let x : true ≡ false = ap (passes spills_or_reloads) (sym q) ∙ none-spilled in cc)
-      by-effect e q = counted e q refl refl refl
-
-      one-step : InstrStep t f b c i
-      one-step = let e = known-effect t f place b j i r in by-effect e.0 e.1
-
-    module _ (untied : list_all (λ (b : Block). list_all (is_untied t) b.instrs) f.blocks ≡ true) where
-      instrs-step : (b : Block) → Among b f.blocks → (c : ℕ) (is : List Instr) → ((i : Instr) → Among i is → Among i b.instrs) → InstrsStep t f b c is
-      instrs-step b mb c [] w = tt
-      instrs-step b mb c (i ∷ is) w =
-          let z = rules-at t f rules b i mb (w i here) in
-          let no-phi = not-true (does is_phi t i) (all-of (λ x. not (does is_phi t x)) i b.instrs (w i here) (all-of (λ (d : Block). list_all (λ x. not (does is_phi t x)) d.instrs) b f.blocks mb plain)) in
-          let free = all-of (is_untied t) i b.instrs (w i here) (all-of (λ (d : Block). list_all (is_untied t) d.instrs) b f.blocks mb untied) in
-          (one-step z.0 b z.1 i z.2 no-phi free c, instrs-step b mb (next_range t f.classes c i) is (λ x m. w x (there m)))
-
-      all-step : (c : ℕ) (bs : List Block) → ((b : Block) → Among b bs → Among b f.blocks) → AllStep t f c bs
-      all-step c [] w = tt
-      all-step c (b ∷ bs) w = (instrs-step b (w b here) c b.instrs (λ i m. m), all-step (c + length (classes_made t f.classes c b.instrs)) bs (λ x m. w x (there m)))
-
-      refine : refines t f (ties_lowered t f)
-      refine = ties-by-steps t f bare bare-lowered names (all-step (bound t f) f.blocks (λ b m. m))
-
-pub lowered_untied_refine : LoweredUntiedRefine
-lowered_untied_refine t f shape plain untied = refine t f plain (all-rules t f shape) untied
