@@ -255,17 +255,10 @@ module _ (t : Target) (f : Function) (bare' : (n m : ℕ) → (way t (ties_lower
     copy-lowers : instr_lowered t f.classes c i ≡ undefined_first (operands.Reg d) ++ lowered_copy ∷ []
     copy-lowers =
         (λ k. flat_map undefined_first (are k) ++ form_lowered t f.classes c i
-<<<<<<< HEAD
         (cond (passes is_copy (known k)) (copy_form (register_at (are k) 0) (register_at (are k) 1))
         (cond (does is_reg_sequence t i) (sequence_form (virtual_in (register_at i.operands 0)))
         (cond (does is_insert_subreg t i) (insertion_form (virtual_in (register_at i.operands 0)) (register_at i.operands 1) (part_of_two (slice_get i.operands 2) (slice_get i.operands 3))) forms.Other))))
-        ∙ ((λ k. (undefined_first (operands.Reg d) ++ (use-first s used k ++ [])) ++ lowered_copy ∷ [])
-=======
-            (cond (passes is_copy (known k)) (copy_form (register_at (are k) 0) (register_at (are k) 1))
-            (cond (does is_reg_sequence t i) (sequence_form (virtual_in (register_at i.operands 0)))
-            (cond (does is_insert_subreg t i) (insertion_form (virtual_in (register_at i.operands 0)) (register_at i.operands 1) (part_of_two (slice_get i.operands 2) (slice_get i.operands 3))) forms.Other))))
         ∙ ((λ k. (undefined_first (operands.Reg d) ++ (first-used s used k ++ [])) ++ lowered_copy ∷ [])
->>>>>>> lowlaws
         ∙ ap (λ xs. xs ++ lowered_copy ∷ []) (append-nil (undefined_first (operands.Reg d))))
 
     d-there : Among d (registers i.operands)
