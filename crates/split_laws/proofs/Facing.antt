@@ -1,5 +1,7 @@
 -- What is live in a function with a range split: the homes of what is live in the function.
 use Rattle.std.proofs.Common.{◌≡◌, ◌<◌, ◌⊎◌, inl, inr, ◌↔◌, ◌∙◌, ℕ, Bool, true, false, List, [], ◌∷◌, map, refl, sym, ap, subst, eqb-true, arith}
+use Rattle.std.specs.Prelude.{nat_eq}
+use Rattle.std.proofs.lemmas.Bool.{eqb-false}
 use Rattle.target_base.specs.declared.types.Target.{Target}
 use Rattle.meaning.specs.Code.{Code, Edge, Item, Silent, found}
 use Rattle.meaning.specs.InStep.{Agree}
@@ -21,11 +23,9 @@ use Rattle.mir_meaning.specs.Registers.{is_reserved}
 use Rattle.mir_meaning.specs.Points.{AtFirst}
 use Rattle.mir_meaning.specs.Renaming.{renamed_item}
 use Rattle.instr_effects.proofs.Members.{map-in, map-of, member-elim, member-none}
+use Rattle.split_kit.specs.Split.{part}
 use Rattle.split_laws.proofs.Renamed.{KeepsApart, alone, bare-edge, exits-of, order-of, reads-of, writes-of}
 use Rattle.split_laws.proofs.Homes.{homes-apart, lane_home, home-beside, home-own, home_of}
-use Rattle.std.specs.Prelude.{nat_eq}
-use Rattle.std.proofs.lemmas.Bool.{eqb-false}
-use Rattle.split_kit.specs.Split.{part}
 
 head-same : {X : Type 0} (x y : X) (xs ys : List X) → ◌≡◌ {A = List X} (x ∷ xs) (y ∷ ys) → x ≡ y
 head-same x y xs ys e = cc
@@ -249,7 +249,7 @@ module _ (t : Target) (f : Function) (v count : ℕ) (C D : Code) (begin : ℕ �
           let on : in_order i ≡ true = sym (order-of m i) ∙ (ap in_order (sym e) ∙ o) in
           let a = ih z.to p (subst (Facing z.to p) (sym g) (z.on on)) in
           let l = fed m apart j i a.0 c b e a.1 h in
-          (l.0, l.2, next on a.2 l.1 (free-back z.to l.0 b l.2 free)))
+          (l.0, l.2, next {l = l.0} on a.2 l.1 (free-back z.to l.0 b l.2 free)))
           (λ ws e g s k. carried-back label z.to (i ∷ p) ws c b k (sym (ap (λ x. filled (writes_of x) c) e) ∙ h) (ih z.to (i ∷ p) (subst (Facing z.to (i ∷ p)) (sym g) (again z))))
 
       back-leap : (way : Edge) (c d : Lane) → Member way (exits_of j) → (Facing (begin way.block) (found way.block C) (found way.block D) → Back (begin way.block) (found way.block C) c) → Live R D (found way.block D) c → filled way.phis c ≡ Moved (FromLane d) → Feeds j b d → Back label (i ∷ p) b
