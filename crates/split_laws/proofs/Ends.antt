@@ -161,24 +161,24 @@ module _ (t : Target) (live : Point → Bool) (f : Function) (v : ℕ) (ms : Lis
 
   -- no phi comes
 
-  abbrev philess : List Instr → Bool
-  philess is = list_all (λ i. not (does is_phi t i)) is
+  abbrev without-phis : List Instr → Bool
+  without-phis is = list_all (λ i. not (does is_phi t i)) is
 
-  philess-append : (xs ys : List Instr) → philess xs ≡ true → philess ys ≡ true → philess (xs ++ ys) ≡ true
-  philess-append [] ys x y = y
-  philess-append (i ∷ xs) ys x y = let h = both (not (does is_phi t i)) (philess xs) x in λ k. h.0 k && philess-append xs ys h.1 y k
+  without-phis-append : (xs ys : List Instr) → without-phis xs ≡ true → without-phis ys ≡ true → without-phis (xs ++ ys) ≡ true
+  without-phis-append [] ys x y = y
+  without-phis-append (i ∷ xs) ys x y = let h = both (not (does is_phi t i)) (without-phis xs) x in λ k. h.0 k && without-phis-append xs ys h.1 y k
 
-  copy-philess : (c : Bool) (id : ℕ) (os : List Operand) → philess (cond c (made id (op_number 0) os ∷ []) []) ≡ true
-  copy-philess true id os = ap (λ q. not (passes is_phi q) && true) (copy-effect t id os)
-  copy-philess false id os = refl
+  copy-without-phis : (c : Bool) (id : ℕ) (os : List Operand) → without-phis (cond c (made id (op_number 0) os ∷ []) []) ≡ true
+  copy-without-phis true id os = ap (λ q. not (passes is_phi q) && true) (copy-effect t id os)
+  copy-without-phis false id os = refl
 
-  pub split-philess : (n now : ℕ) (is : List Instr) → philess is ≡ true → philess (split n now is) ≡ true
-  split-philess n now [] e = let to = label_behind ms b.number None now in copy-philess (live (last_point (Start b.number) b.instrs) && not (nat_eq now to)) n (whole true (part f to) ∷ whole false (part f now) ∷ [])
-  split-philess n now (i ∷ is) e =
-      let h = both (not (does is_phi t i)) (philess is) e in
+  pub split-without-phis : (n now : ℕ) (is : List Instr) → without-phis is ≡ true → without-phis (split n now is) ≡ true
+  split-without-phis n now [] e = let to = label_behind ms b.number None now in copy-without-phis (live (last_point (Start b.number) b.instrs) && not (nat_eq now to)) n (whole true (part f to) ∷ whole false (part f now) ∷ [])
+  split-without-phis n now (i ∷ is) e =
+      let h = both (not (does is_phi t i)) (without-phis is) e in
       let to = label_behind ms b.number (Some i.id) now in
       let copies = changed f n (live (Entry i.id)) now to in
       let rest = instrs_split live f v ms (n + length copies) b to is in
-      philess-append copies (renamed_instr (as_part f v to) i ∷ rest)
-      (copy-philess (live (Entry i.id) && not (nat_eq now to)) n (whole true (part f to) ∷ whole false (part f now) ∷ []))
-      (λ k. h.0 k && split-philess (n + length copies) to is h.1 k)
+      without-phis-append copies (renamed_instr (as_part f v to) i ∷ rest)
+      (copy-without-phis (live (Entry i.id) && not (nat_eq now to)) n (whole true (part f to) ∷ whole false (part f now) ∷ []))
+      (λ k. h.0 k && split-without-phis (n + length copies) to is h.1 k)

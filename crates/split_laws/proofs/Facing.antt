@@ -1,7 +1,9 @@
 -- What is live in a function with a range split: the homes of what is live in the function.
 use Rattle.std.proofs.Common.{◌≡◌, ◌<◌, ◌⊎◌, inl, inr, ◌↔◌, ◌∙◌, ℕ, Bool, true, false, List, [], ◌∷◌, map, refl, sym, ap, subst, eqb-true, arith}
+use Rattle.std.specs.Prelude.{nat_eq}
+use Rattle.std.proofs.lemmas.Bool.{eqb-false}
 use Rattle.target_base.specs.declared.types.Target.{Target}
-use Rattle.meaning.specs.Code.{BlockEnd, BlockStart, Code, Counted, Edge, Item, Silent, found}
+use Rattle.meaning.specs.Code.{Code, Edge, Item, Silent, found}
 use Rattle.meaning.specs.InStep.{Agree}
 use Rattle.meaning.specs.Lanes.{Reads, Writes, filled, settled}
 use Rattle.meaning.specs.Layout.{NoPhisAlong}
@@ -21,11 +23,9 @@ use Rattle.mir_meaning.specs.Registers.{is_reserved}
 use Rattle.mir_meaning.specs.Points.{AtFirst}
 use Rattle.mir_meaning.specs.Renaming.{renamed_item}
 use Rattle.instr_effects.proofs.Members.{map-in, map-of, member-elim, member-none}
-use Rattle.split_laws.proofs.Passing.{KeepsApart, alone}
-use Rattle.split_laws.proofs.Homes.{homes-apart, lane_home, home-beside, home-own, home_of}
-use Rattle.std.specs.Prelude.{nat_eq}
-use Rattle.std.proofs.lemmas.Bool.{eqb-false}
 use Rattle.split_kit.specs.Split.{part}
+use Rattle.split_laws.proofs.Renamed.{KeepsApart, alone, bare-edge, exits-of, order-of, reads-of, writes-of}
+use Rattle.split_laws.proofs.Homes.{homes-apart, lane_home, home-beside, home-own, home_of}
 
 head-same : {X : Type 0} (x y : X) (xs ys : List X) → ◌≡◌ {A = List X} (x ∷ xs) (y ∷ ys) → x ≡ y
 head-same x y xs ys e = cc
@@ -38,30 +38,6 @@ source-inj a b e = cc
 
 -- an item with other lanes
 module _ (m : Lane → Lane) where
-  reads-of : (i : Item) → reads_of (renamed_item m i) ≡ renamed_reads m (reads_of i)
-  reads-of (BlockStart n) = refl
-  reads-of (BlockEnd falls exits) = refl
-  reads-of (Silent reads ws) = refl
-  reads-of (Counted r reads ws target exits) = refl
-
-  writes-of : (i : Item) → writes_of (renamed_item m i) ≡ renamed m (writes_of i)
-  writes-of (BlockStart n) = refl
-  writes-of (BlockEnd falls exits) = refl
-  writes-of (Silent reads ws) = refl
-  writes-of (Counted r reads ws target exits) = refl
-
-  exits-of : (i : Item) → exits_of (renamed_item m i) ≡ exits_of i
-  exits-of (BlockStart n) = refl
-  exits-of (BlockEnd falls exits) = refl
-  exits-of (Silent reads ws) = refl
-  exits-of (Counted r reads ws target exits) = refl
-
-  order-of : (i : Item) → in_order (renamed_item m i) ≡ in_order i
-  order-of (BlockStart n) = refl
-  order-of (BlockEnd falls exits) = refl
-  order-of (Silent reads ws) = refl
-  order-of (Counted r reads ws target exits) = refl
-
   reads-in : (ss : List Source) (reads : Reads) → Member ss reads → Member (map (image m) ss) (renamed_reads m reads)
   reads-in ss [] x = absurd (member-none ss x)
   reads-in ss (rs ∷ reads) x = member-elim ss rs reads (λ e. subst (λ qs. Member (map (image m) ss) (map (image m) qs ∷ renamed_reads m reads)) e first) (λ k. later (reads-in ss reads k)) x
@@ -84,13 +60,13 @@ module _ (m : Lane → Lane) where
 
   module _ (apart : KeepsApart m) where
     feeds-to : (i : Item) (a l : Lane) → Feeds i l a → Feeds (renamed_item m i) (m l) (m a)
-    feeds-to i a l f = ap (λ ws. filled ws (m a)) (writes-of i) ∙ (sym (alone m apart (writes_of i) a) ∙ ap (image_fill m) f)
+    feeds-to i a l f = ap (λ ws. filled ws (m a)) (writes-of m i) ∙ (sym (alone m apart (writes_of i) a) ∙ ap (image_fill m) f)
 
     -- the item fills lane a with what fills its image in the item with other lanes
     fed : (j i : Item) (a c b : Lane) → j ≡ renamed_item m i → m a ≡ c → Feeds j b c → (l : Lane) × Feeds i l a × (m l ≡ b)
     fed j i a c b same at f =
         fill-back (filled (writes_of i) a) b
-        (alone m apart (writes_of i) a ∙ (ap (λ ws. filled ws (m a)) (sym (writes-of i)) ∙ (ap (λ x. filled (writes_of x) (m a)) (sym same) ∙ (ap (filled (writes_of j)) at ∙ f))))
+        (alone m apart (writes_of i) a ∙ (ap (λ ws. filled ws (m a)) (sym (writes-of m i)) ∙ (ap (λ x. filled (writes_of x) (m a)) (sym same) ∙ (ap (filled (writes_of j)) at ∙ f))))
 
 live-free : {reserved : Lane → Bool} {code p : Code} {l : Lane} → Live reserved code p l → reserved l ≡ false
 live-free (read x y r) = r
@@ -107,10 +83,6 @@ live-none (leap x live g f r) e = cc
 live-none (phi x y g f r) e = cc
 live-none (store w o live f n r) e = cc
 live-none (kept s f r) e = cc
-
-bare-edge : (es : List Edge) (e : Edge) → NoPhisAlong es → Member e es → e.phis ≡ []
-bare-edge [] e z m = absurd (member-none e m)
-bare-edge (d ∷ es) e z m = member-elim e d es (λ g. ap (λ (x : Edge). x.phis) g ∙ z.0) (λ k. bare-edge es e z.1 k) m
 
 -- f is split to a function with code D; blocks start with these labels
 module _ (t : Target) (f : Function) (v count : ℕ) (C D : Code) (begin : ℕ → ℕ) where
@@ -257,6 +229,9 @@ module _ (t : Target) (f : Function) (v count : ℕ) (C D : Code) (begin : ℕ �
           go (inl y) = agreed-back label z.to (i ∷ p) b y.1 (one (head-same j (renamed_item m i) r z.q y.0) (tail-same j (renamed_item m i) r z.q y.0))
           go (inr y) = two y.0 (head-same j (Silent [] y.0) r (renamed_item m i ∷ z.q) y.1) (tail-same j (Silent [] y.0) r (renamed_item m i ∷ z.q) y.1) y.2 y.3
 
+      held : (rs : List Source) (s : Source) (a : Lane) → Member rs (reads_of i) → Member s rs → s ≡ FromLane a → m a ≡ b → Back z.to (i ∷ p) b
+      held rs s a x y e h = (a, h, read x (subst (λ c. Member c rs) e y) (free-back z.to a b h free))
+
       back-read : (ss : List Source) → Member ss (reads_of j) → Member (FromLane b) ss → Back label (i ∷ p) b
       back-read ss x y =
           by-lead
@@ -264,7 +239,7 @@ module _ (t : Target) (f : Function) (v count : ℕ) (C D : Code) (begin : ℕ �
           let rs = reads-back m ss (reads_of i) (subst (Member ss) (reads-of m i) (subst (λ c. Member ss (reads_of c)) e x)) in
           let l = map-of (image m) (FromLane b) rs.0 (subst (Member (FromLane b)) rs.2 y) in
           let a = lane-back m l.0 b l.2 in
-          (a.0, a.2, read {l = a.0} rs.1 (subst (λ c. Member c rs.0) a.1 l.1) (free-back z.to a.0 b a.2 free)))
+          held rs.0 l.0 a.0 rs.1 l.1 a.1 a.2)
           (λ ws e g s h. absurd (member-none ss (subst (λ c. Member ss (reads_of c)) e x)))
 
       back-next : (c : Lane) → in_order j ≡ true → ((to : ℕ) (q : Code) → Facing to q r → Back to q c) → Feeds j b c → Back label (i ∷ p) b
@@ -274,7 +249,7 @@ module _ (t : Target) (f : Function) (v count : ℕ) (C D : Code) (begin : ℕ �
           let on : in_order i ≡ true = sym (order-of m i) ∙ (ap in_order (sym e) ∙ o) in
           let a = ih z.to p (subst (Facing z.to p) (sym g) (z.on on)) in
           let l = fed m apart j i a.0 c b e a.1 h in
-          (l.0, l.2, next on a.2 l.1 (free-back z.to l.0 b l.2 free)))
+          (l.0, l.2, next {l = l.0} on a.2 l.1 (free-back z.to l.0 b l.2 free)))
           (λ ws e g s k. carried-back label z.to (i ∷ p) ws c b k (sym (ap (λ x. filled (writes_of x) c) e) ∙ h) (ih z.to (i ∷ p) (subst (Facing z.to (i ∷ p)) (sym g) (again z))))
 
       back-leap : (way : Edge) (c d : Lane) → Member way (exits_of j) → (Facing (begin way.block) (found way.block C) (found way.block D) → Back (begin way.block) (found way.block C) c) → Live R D (found way.block D) c → filled way.phis c ≡ Moved (FromLane d) → Feeds j b d → Back label (i ∷ p) b

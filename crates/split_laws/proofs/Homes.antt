@@ -15,7 +15,7 @@ use Rattle.mir_func.specs.Value.{Function}
 use Rattle.mir_meaning.specs.Registers.{is_reserved}
 use Rattle.mir_meaning.specs.Renaming.{KeepsPlaces}
 use Rattle.split_kit.specs.Split.{part}
-use Rattle.split_laws.proofs.Passing.{KeepsApart}
+use Rattle.split_laws.proofs.Renamed.{KeepsApart}
 
 -- by what the tests say of two registers
 apart-by : (n count label v a b : ℕ) → label < count → (va vb la lb : Bool) → nat_eq v a ≡ va → nat_eq v b ≡ vb → nat_lt a n ≡ la → nat_lt b n ≡ lb → cond va (n + label) (cond la a (a + count)) ≡ cond vb (n + label) (cond lb b (b + count)) → a ≡ b

@@ -1,4 +1,5 @@
 pub mod Suits
+pub mod Renamed
 pub mod Passing
 pub mod Homes
 pub mod Copies

@@ -35,11 +35,7 @@ use Rattle.split_laws.proofs.Ends.{copy-effect, copy-item}
 use Rattle.split_laws.proofs.Homes.{home-named, labels-agree, lane_home}
 use Rattle.split_laws.proofs.Labels.{behind-fits, start-fits}
 use Rattle.split_laws.proofs.Facing.{At, Facing, Lead, Leads, Still, at-both, at-none, entry-same, exit-same, faces, start-same, entry-occupied, entry-shares, exit-occupied, exit-shares, start-shares}
-use Rattle.split_laws.proofs.Splitting.{Keeping, as-item, bare-ways, blocks-philess, carried, copy-moves, end-live, end-same, entry-live, keep-all, keep-tail, laid-end, laid-items, meets-agree, member-behind, named-item, no-phis, not-phi, point-body, suits}
-
-map-append : {A B : Type 0} (g : A → B) (xs ys : List A) → map g (xs ++ ys) ≡ map g xs ++ map g ys
-map-append g [] ys = refl
-map-append g (x ∷ xs) ys = ap (λ zs. g x ∷ zs) (map-append g xs ys)
+use Rattle.split_laws.proofs.Splitting.{Keeping, as-item, bare-ways, blocks-without-phis, carried, copy-moves, end-live, end-same, entry-live, keep-all, keep-tail, laid-end, laid-items, meets-agree, map-append, member-behind, named-item, no-phis, not-phi, point-body, suits}
 
 -- the code from the instruction of an id on, which p follows; else another
 abbrev rest_from : (Instr → Item) → ℕ → List Instr → Code → Code → Code
@@ -302,7 +298,7 @@ module _ (t : Target) (f : Function) (v : ℕ) (ms : List Mark) (live : Point �
   whole-split = split_by live f v ms
 
   bare-split : has_no_phis t (blocks_split live f v ms f.next_id f.blocks) ≡ true
-  bare-split = blocks-philess t f v ms live tests low meet f.next_id f.blocks (no-phis t f v ms live tests low meet)
+  bare-split = blocks-without-phis t f v ms live tests low meet f.next_id f.blocks (no-phis t f v ms live tests low meet)
 
   abbrev number : ℕ
   number = greatest_label ms + 1

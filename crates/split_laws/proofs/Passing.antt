@@ -1,13 +1,11 @@
 -- Items of two codes in step, where the second has the lanes of the first renamed by a map that keeps lanes apart.
-use Rattle.std.proofs.Common.{◌≡◌, ◌⊎◌, inl, inr, ◌∷◌, ◌∙◌, Bool, false, List, Option, Some, None, map, refl, sym, ap, subst, []}
+use Rattle.std.proofs.Common.{◌≡◌, ◌∷◌, ◌∙◌, Bool, List, Option, Some, None, map, refl, sym, ap, subst, []}
 use Rattle.meaning.specs.Code.{BlockEnd, BlockStart, Code, Counted, Edge, Item, Silent, found}
 use Rattle.meaning.specs.InStep.{Agree, AtStarts, ExitsHold, Graph, Holds, InStep, Known, Passes, TargetHolds, place}
 use Rattle.meaning.specs.Lanes.{Homes, Reads, Writes, filled, placed, settled, through}
 use Rattle.meaning.specs.Layout.{LaidOut, NoPhisAlong, NoPhisInto}
 use Rattle.meaning.specs.Live.{Among, Kept, KeptAfter, here, there}
-use Rattle.meaning.specs.Lanes.{same_lane}
-use Rattle.meaning.specs.Matched.{image, image_fill, images, renamed, renamed_reads, renamed_write}
-use Rattle.meaning.specs.declared.types.Write.{Write}
+use Rattle.meaning.specs.Matched.{image, image_fill, images, renamed, renamed_reads}
 use Rattle.meaning.specs.Relations.{AlikeFill, AlikeOperands, AlikeReads, Rel, after_both, along}
 use Rattle.meaning.specs.declared.types.Fill.{Fill}
 use Rattle.meaning.specs.declared.types.Fill.TheVariants.{Computed, Moved}
@@ -18,29 +16,14 @@ use Rattle.meaning.specs.declared.types.Row.TheVariants.{BothCounted, FirstSilen
 use Rattle.meaning.specs.declared.types.Source.{Source}
 use Rattle.meaning.specs.declared.types.Source.TheVariants.{Bits, FromLane, Undef}
 use Rattle.laws.proofs.Flow.{flow, kept_along, kept_next, known-source, none_among, read_kept}
-use Rattle.laws.proofs.Quiet.{filled-here, filled-past, same-false, same_or_not}
 use Rattle.laws.proofs.Steps.{both_into, both_ways, filled-none, first-into, first-ways, second-into, second-ways, through-none}
 use Rattle.laws.proofs.Surround.{second_alone, silent}
 use Rattle.mir_meaning.specs.Renaming.{renamed_item}
-
--- the map keeps lanes apart
-abbrev pub KeepsApart : (Lane → Lane) → Type 0
-KeepsApart m = (a b : Lane) → m a ≡ m b → a ≡ b
+use Rattle.split_laws.proofs.Renamed.{KeepsApart, alone}
 
 image-settled : (m : Lane → Lane) (x : Fill) → settled (image_fill m x) ≡ image m (settled x)
 image-settled m (Moved s) = refl
 image-settled m (Computed n) = refl
-
--- what a lane has after writes, and its image after the writes with other lanes
-
-alone-step : (m : Lane → Lane) (a : Lane) (w : Write) (ws : Writes) → (m w.lane ≡ m a → w.lane ≡ a) → image_fill m (filled ws a) ≡ filled (renamed m ws) (m a) → (w.lane ≡ a) ⊎ (same_lane w.lane a ≡ false) → (m w.lane ≡ m a) ⊎ (same_lane (m w.lane) (m a) ≡ false) → image_fill m (filled (w ∷ ws) a) ≡ filled (renamed m (w ∷ ws)) (m a)
-alone-step m a w ws k ih (inl e) o = ap (image_fill m) (filled-here a w ws e) ∙ sym (filled-here (m a) (renamed_write m w) (renamed m ws) (ap m e))
-alone-step m a w ws k ih (inr e) (inl g) = absurd (same-false w.lane a e (k g))
-alone-step m a w ws k ih (inr e) (inr g) = ap (image_fill m) (filled-past a w ws e) ∙ ih ∙ sym (filled-past (m a) (renamed_write m w) (renamed m ws) g)
-
-pub alone : (m : Lane → Lane) → KeepsApart m → (ws : Writes) (a : Lane) → image_fill m (filled ws a) ≡ filled (renamed m ws) (m a)
-alone m apart [] a = refl
-alone m apart (w ∷ ws) a = alone-step m a w ws (apart w.lane a) (alone m apart ws a) (same_or_not w.lane a) (same_or_not (m w.lane) (m a))
 
 -- an item that isn't a border of a block, without phis on its ways, which lead to starts with the same homes
 abbrev pub IsBody : (Lane → Bool) → Code → AtStarts → Homes → Item → Type 0

@@ -50,14 +50,14 @@ use Rattle.split_laws.proofs.Parts.{renames-all, widths-part}
 use Rattle.split_laws.proofs.Labels.{behind-fits, start-fits}
 use Rattle.split_laws.proofs.Points.{EndsWith, code-at, end-of, rest-at}
 use Rattle.split_laws.proofs.Within.{AllKeep, IsOwn, Keeps, item-keeps, live-keeps}
-use Rattle.split_laws.proofs.Ends.{copy-item, falls-stay, meet-stay, open-stays, split-philess}
+use Rattle.split_laws.proofs.Ends.{copy-item, falls-stay, meet-stay, open-stays, split-without-phis}
 
 -- ways without phis
 
 abbrev bare : ℕ → Edge
 bare m = record { block = m; phis = [] }
 
-map-append : {A B : Type 0} (g : A → B) (xs ys : List A) → map g (xs ++ ys) ≡ map g xs ++ map g ys
+pub map-append : {A B : Type 0} (g : A → B) (xs ys : List A) → map g (xs ++ ys) ≡ map g xs ++ map g ys
 map-append g [] ys = refl
 map-append g (x ∷ xs) ys = ap (λ zs. g x ∷ zs) (map-append g xs ys)
 
@@ -75,24 +75,18 @@ module _ (t : Target) where
       go true k ih = absurd (cc)
       go false k ih = ap (λ ws. ws ++ []) (ih k)
 
-  found-philess : (bs : List Block) (m : ℕ) → has_no_phis t bs ≡ true → list_all (λ i. not (does is_phi t i)) (instrs_of bs m) ≡ true
-  found-philess [] m e = refl
-  found-philess (b ∷ bs) m e = let h = both (list_all (λ i. not (does is_phi t i)) b.instrs) (has_no_phis t bs) e in go (nat_eq b.number m) h.0 (found-philess bs m h.1)
+  found-without-phis : (bs : List Block) (m : ℕ) → has_no_phis t bs ≡ true → list_all (λ i. not (does is_phi t i)) (instrs_of bs m) ≡ true
+  found-without-phis [] m e = refl
+  found-without-phis (b ∷ bs) m e = let h = both (list_all (λ i. not (does is_phi t i)) b.instrs) (has_no_phis t bs) e in go (nat_eq b.number m) h.0 (found-without-phis bs m h.1)
     where
       go : (c : Bool) → list_all (λ i. not (does is_phi t i)) b.instrs ≡ true → list_all (λ i. not (does is_phi t i)) (instrs_of bs m) ≡ true → list_all (λ i. not (does is_phi t i)) (elim (cond c (Some b) (find (λ d. nat_eq d.number m) bs)) as (λ q. List Instr) [ None ↦ [] | Some d ↦ d.instrs ]) ≡ true
       go true x y = x
       go false x y = y
 
   way-bare : (q : Function) → has_no_phis t q.blocks ≡ true → (n m : ℕ) → way t q n m ≡ bare m
-  way-bare q none n m = ap (λ ws. record { block = m; phis = ws }) (quiet-phis q n (instrs_of q.blocks m) (found-philess q.blocks m none))
+  way-bare q none n m = ap (λ ws. record { block = m; phis = ws }) (quiet-phis q n (instrs_of q.blocks m) (found-without-phis q.blocks m none))
 
-  -- an item in order
-  body-order : (reserved : Lane → Bool) (code : Code) (at : AtStarts) (h : Homes) (i : Item) → IsBody reserved code at h i → in_order i ≡ true
-  body-order reserved code at h (BlockStart n) b = absurd b
-  body-order reserved code at h (BlockEnd falls exits) b = absurd b
-  body-order reserved code at h (Silent reads ws) b = refl
-  body-order reserved code at h (Counted r reads ws target exits) b = refl
-
+  -- what follows an item is laid out
   body-laid : (reserved : Lane → Bool) (code : Code) (at : AtStarts) (h : Homes) (i : Item) (p : Code) → IsBody reserved code at h i → LaidOut code (i ∷ p) → LaidOut code p
   body-laid reserved code at h (BlockStart n) p b l = absurd b
   body-laid reserved code at h (BlockEnd falls exits) p b l = absurd b
@@ -111,8 +105,8 @@ module _ (t : Target) where
       go None h = (refl, refl)
       go (Some x) h = by (is_phi x) (puts_together x) h
 
-  pub all-philess : (bs : List Block) → ((b : Block) (i : Instr) → Member b bs → Member i b.instrs → does is_phi t i ≡ false) → has_no_phis t bs ≡ true
-  all-philess bs h = each (λ (b : Block). list_all (λ i. not (does is_phi t i)) b.instrs) bs (λ b mb. each (λ i. not (does is_phi t i)) b.instrs (λ i mi. ap not (h b i mb mi)))
+  pub all-without-phis : (bs : List Block) → ((b : Block) (i : Instr) → Member b bs → Member i b.instrs → does is_phi t i ≡ false) → has_no_phis t bs ≡ true
+  all-without-phis bs h = each (λ (b : Block). list_all (λ i. not (does is_phi t i)) b.instrs) bs (λ b mb. each (λ i. not (does is_phi t i)) b.instrs (λ i mi. ap not (h b i mb mi)))
 
   pub as-item : (f : Function) (b : Block) (i : Instr) → does is_phi t i ≡ false → point_item t f b i ≡ item_of t f b i
   unfolding point_item
@@ -146,11 +140,11 @@ module _ (t : Target) (f g : Function) (v : ℕ) (ms : List Mark) (live : Point 
   abbrev at : AtStarts
   at n = homes (start_label ms n)
 
-  philess : (b : Block) (i : Instr) → Member b f.blocks → Member i b.instrs → does is_phi t i ≡ false
-  philess b i mb mi = (not-phi t i (low.lowered b i mb mi)).0
+  without-phis : (b : Block) (i : Instr) → Member b f.blocks → Member i b.instrs → does is_phi t i ≡ false
+  without-phis b i mb mi = (not-phi t i (low.lowered b i mb mi)).0
 
   none : has_no_phis t f.blocks ≡ true
-  none = all-philess t f.blocks philess
+  none = all-without-phis t f.blocks without-phis
 
   bare-way : (n m : ℕ) → way t f n m ≡ bare m
   bare-way n m = way-bare t f none n m
@@ -194,7 +188,7 @@ module _ (t : Target) (f g : Function) (v : ℕ) (ms : List Mark) (live : Point 
         go (Some e) known = by-effect e known
 
     pub point-body : Member i b.instrs → IsBody R C at (homes label) (point_item t f b i)
-    point-body mi = subst (IsBody R C at (homes label)) (sym (as-item t f b i (philess b i mb mi))) item-body
+    point-body mi = subst (IsBody R C at (homes label)) (sym (as-item t f b i (without-phis b i mb mi))) item-body
 
   -- what an instruction does when it isn't known which label holds there
 
@@ -233,7 +227,7 @@ module _ (t : Target) (f g : Function) (v : ℕ) (ms : List Mark) (live : Point 
 
   keep-item : (b : Block) (i : Instr) → Member b f.blocks → Member i b.instrs → Keeps (IsOwn t f v) (λ s k w. tt) (point_item t f b i)
   keep-item b i mb mi =
-      subst (Keeps (IsOwn t f v) (λ s k w. tt)) (sym (as-item t f b i (philess b i mb mi)))
+      subst (Keeps (IsOwn t f v) (λ s k w. tt)) (sym (as-item t f b i (without-phis b i mb mi)))
       (item-keeps t f v b i (not-phi t i (low.lowered b i mb mi)).1 (λ o m. low.named b i o mb mi m) (item-bare b i))
 
   keep-items : (b : Block) → Member b f.blocks → (is : List Instr) → ((i : Instr) → Member i is → Member i b.instrs) → (p : Code) → Keeping p → Keeping (map (point_item t f b) is ++ p)
@@ -343,7 +337,7 @@ module _ (t : Target) (f g : Function) (v : ℕ) (ms : List Mark) (live : Point 
           go : ◌≡◌ {A = List Instr} b.instrs [] ⊎ EndsWith (Start b.number) b.instrs → RangeLive t f v (last_point (Start b.number) b.instrs)
           go (inl e) = (k, subst (λ is. LiveAt t f (last_point (Start b.number) is) (VirtualLane v k)) (sym e) (subst (λ p. Live R C p (VirtualLane v k)) (sym (here ∙ ap from-place e)) l))
           go (inr z) =
-              let order : in_order (point_item t f b z.last) ≡ true = ap in_order (as-item t f b z.last (philess b z.last mb (member-behind z.front z.last [] b.instrs z.instrs))) ∙ item-order b z.last in
+              let order : in_order (point_item t f b z.last) ≡ true = ap in_order (as-item t f b z.last (without-phis b z.last mb (member-behind z.front z.last [] b.instrs z.instrs))) ∙ item-order b z.last in
               (k, subst (λ p. LiveAt t f p (VirtualLane v k)) (sym z.point) (subst (AtFirst (λ i p. LiveAfter R C i p (VirtualLane v k))) (sym (code-here z.front z.last [] z.instrs)) (after_next order l)))
 
       -- the instructions
@@ -361,7 +355,7 @@ module _ (t : Target) (f g : Function) (v : ℕ) (ms : List Mark) (live : Point 
       one-step : (i : Instr) → Member i b.instrs → (label : ℕ) → label < count → (does is_terminator t i ≡ true → Meets t f v ms b.successors label) → (p q : Code) → LaidOut C (point_item t f b i ∷ p) → InStep R C at (homes label) p q → InStep R C at (homes label) (point_item t f b i ∷ p) (item_of t g c (renamed_instr (as_part f v label) i) ∷ q)
       one-step i mi label h meets p q l s =
           let m = lane_home f v count label in
-          let same = as-item t f b i (philess b i mb mi) in
+          let same = as-item t f b i (without-phis b i mb mi) in
           subst (λ x. InStep R C at (homes label) (x ∷ p) (item_of t g c (renamed_instr (as_part f v label) i) ∷ q)) (sym same)
           (subst (λ y. InStep R C at (homes label) (item_of t f b i ∷ p) (y ∷ q)) (sym (named-item i mi label h))
           (renaming R C at m (homes-apart f v count label h) (item_of t f b i) p q (item-body b mb label i meets) (subst (λ x. LaidOut C (x ∷ p)) same l) s))
@@ -481,13 +475,13 @@ module _ (t : Target) (f : Function) (v : ℕ) (ms : List Mark) (live : Point �
   made-function = split_by live f v ms
 
   pub no-phis : has_no_phis t f.blocks ≡ true
-  no-phis = all-philess t f.blocks (λ b i mb mi. (not-phi t i (low.lowered b i mb mi)).0)
+  no-phis = all-without-phis t f.blocks (λ b i mb mi. (not-phi t i (low.lowered b i mb mi)).0)
 
-  pub blocks-philess : (n : ℕ) (bs : List Block) → has_no_phis t bs ≡ true → has_no_phis t (blocks_split live f v ms n bs) ≡ true
-  blocks-philess n [] e = refl
-  blocks-philess n (b ∷ bs) e =
+  pub blocks-without-phis : (n : ℕ) (bs : List Block) → has_no_phis t bs ≡ true → has_no_phis t (blocks_split live f v ms n bs) ≡ true
+  blocks-without-phis n [] e = refl
+  blocks-without-phis n (b ∷ bs) e =
       let h = both (list_all (λ i. not (does is_phi t i)) b.instrs) (has_no_phis t bs) e in
-      λ k. split-philess t live f v ms b n (start_label ms b.number) b.instrs h.0 k && blocks-philess (number_behind live f v ms n (b ∷ [])) bs h.1 k
+      λ k. split-without-phis t live f v ms b n (start_label ms b.number) b.instrs h.0 k && blocks-without-phis (number_behind live f v ms n (b ∷ [])) bs h.1 k
 
   abbrev first-of : Homes
   first-of = next-homes f v ms f.blocks
@@ -495,7 +489,7 @@ module _ (t : Target) (f : Function) (v : ℕ) (ms : List Mark) (live : Point �
   in-step : InStep (is_reserved t) (points_of t f) (λ n. images (lane_home f v (greatest_label ms + 1) (start_label ms n))) first-of (points_of t f) (code_of t made-function)
   unfolding split_by points_of code_of
   in-step =
-      let none' = blocks-philess f.next_id f.blocks no-phis in
+      let none' = blocks-without-phis f.next_id f.blocks no-phis in
       all-steps t f made-function v ms live tests low meet refl none' [] f.blocks refl f.next_id low.laid_out (keep-all t f made-function v ms live tests low meet) first-of (first-enters t f made-function v ms live tests low meet refl none' f.blocks)
 
   given-same : (u : ℕ) → given_of t made-function u ≡ given_of t f u

@@ -6,7 +6,7 @@ use Rattle.target_base.specs.declared.types.IndexId.{IndexId}
 use Rattle.target_base.specs.declared.types.Target.{Target}
 use Rattle.target_base.specs.declared.types.Unit.{Unit as UnitNumber}
 use Rattle.target_base.specs.Registers.{lanes_of, units_of}
-use Rattle.meaning.specs.Code.{BlockEnd, BlockStart, Code, Counted, Edge, Item, Silent, found}
+use Rattle.meaning.specs.Code.{BlockEnd, BlockStart, Code, Counted, Item, Silent, found}
 use Rattle.meaning.specs.Lanes.{Reads, Writes, filled}
 use Rattle.meaning.specs.Layout.{NoPhisAlong}
 use Rattle.meaning.specs.Live.{Among as Member, here as first, there as later, Feeds, Live, exits_of, kept, leap, next, phi, read, reads_of, store, writes_of}
@@ -35,6 +35,7 @@ use Rattle.mir_meaning.proofs.Renaming.{law_of_renaming}
 use Rattle.instr_effects.proofs.Members.{map-of, member-elim, member-none}
 use Rattle.split_laws.proofs.Suits.{IsNamed}
 use Rattle.split_laws.proofs.Copies.{number-below}
+use Rattle.split_laws.proofs.Renamed.{bare-edge, reads-of, writes-of}
 
 lane-below : (n k : ℕ) → Member k (numbers 0 n) → k < n
 lane-below n k m = let h = number-below 0 n k m in omega arith
@@ -91,10 +92,6 @@ module _ (P : Lane → Type 0) (slots : (s k w : ℕ) → P (SlotLane s k w)) wh
   found-keep n (BlockEnd falls exits ∷ p) h = found-keep n p h.1
   found-keep n (Silent reads ws ∷ p) h = found-keep n p h.1
   found-keep n (Counted r reads ws target exits ∷ p) h = found-keep n p h.1
-
-  bare-edge : (es : List Edge) (e : Edge) → NoPhisAlong es → Member e es → e.phis ≡ []
-  bare-edge [] e z m = absurd (member-none e m)
-  bare-edge (d ∷ es) e z m = member-elim e d es (λ g. ap (λ (x : Edge). x.phis) g ∙ z.0) (λ k. bare-edge es e z.1 k) m
 
   fed : (i : Item) → Keeps i → (l a : Lane) → Feeds i l a → P a → P l
   fed i k l a f p = go (filled-from (writes_of i) a l f)
@@ -215,18 +212,6 @@ module _ (t : Target) (f : Function) (v : ℕ) where
   renames-all (operands.Index z ∷ os) n = renames-all os n
   renames-all (operands.Mask z ∷ os) n = renames-all os n
 
-  reads-renamed : (i : Item) → reads_of (renamed_item aside i) ≡ renamed_reads aside (reads_of i)
-  reads-renamed (BlockStart n) = refl
-  reads-renamed (BlockEnd falls exits) = refl
-  reads-renamed (Silent reads ws) = refl
-  reads-renamed (Counted r reads ws target exits) = refl
-
-  writes-renamed : (i : Item) → writes_of (renamed_item aside i) ≡ renamed aside (writes_of i)
-  writes-renamed (BlockStart n) = refl
-  writes-renamed (BlockEnd falls exits) = refl
-  writes-renamed (Silent reads ws) = refl
-  writes-renamed (Counted r reads ws target exits) = refl
-
   module _ (b : Block) (i : Instr) (plain : does puts_together t i ≡ false) (named : (o : RegOp) → Member o (registers i.operands) → IsNamed t f o) where
     itself : item_of t f b i ≡ renamed_item aside (item_of t f b i)
     itself =
@@ -235,7 +220,7 @@ module _ (t : Target) (f : Function) (v : ℕ) where
 
     pub item-keeps : NoPhisAlong (exits_of (item_of t f b i)) → Keeps IsOwn (λ s k w. tt) (item_of t f b i)
     item-keeps bare = record {
-      reads = λ ss l x y. let z = read-image aside (reads_of (item_of t f b i)) ss l (subst (Member ss) (ap reads_of itself ∙ reads-renamed (item_of t f b i)) x) y in subst IsOwn z.1 (aside-own z.0);
-      writes = λ w l x e. let z = write-image aside (writes_of (item_of t f b i)) w l (subst (Member w) (ap writes_of itself ∙ writes-renamed (item_of t f b i)) x) e in subst IsOwn z.1 (aside-own z.0);
+      reads = λ ss l x y. let z = read-image aside (reads_of (item_of t f b i)) ss l (subst (Member ss) (ap reads_of itself ∙ reads-of aside (item_of t f b i)) x) y in subst IsOwn z.1 (aside-own z.0);
+      writes = λ w l x e. let z = write-image aside (writes_of (item_of t f b i)) w l (subst (Member w) (ap writes_of itself ∙ writes-of aside (item_of t f b i)) x) e in subst IsOwn z.1 (aside-own z.0);
       bare = bare;
     }

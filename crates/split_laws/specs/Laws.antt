@@ -1,5 +1,5 @@
 -- Splitting keeps the meaning.
-use Rattle.std.specs.Prelude.{◌≡◌, ◌<◌, ◌↔◌, not, ℕ, true, List, [], ◌∷◌, length, Option, Some, None, slice_get, ◌+◌}
+use Rattle.std.specs.Prelude.{◌≡◌, ◌<◌, ◌↔◌, ◌+◌, not, ℕ, true, List, [], ◌∷◌, length, Option, Some, None, slice_get}
 use Rattle.target_base.specs.declared.types.Target.{Target}
 use Rattle.meaning.specs.declared.types.Lane.{Lane}
 use Rattle.meaning.specs.declared.types.Lane.TheVariants.{VirtualLane, UnitLane, SlotLane}
