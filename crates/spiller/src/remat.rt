@@ -50,7 +50,7 @@ struct Reading {
 #[derive(Drop)]
 pub(crate) struct Remat {
     readings: Vec<Reading>,
-    /// The definitions that go, by their ids.
+    /// The definitions that go, by their ids, in rising order.
     deleted: Vec<u32>,
 }
 
@@ -74,7 +74,8 @@ impl Remat {
 
     /// Whether a definition goes.
     pub fn is_deleted(&self, id: u32) -> bool {
-        self.deleted.contains(&id)
+        let place = self.deleted.as_slice().partition_point(|other| *other < id);
+        self.deleted.get(place) == Some(&id)
     }
 }
 
@@ -107,6 +108,7 @@ pub(crate) fn plan_remat(view: View<'_>, touched: &[u32]) -> Result<Remat, Alloc
     note_definitions(&mut remat.readings, reaches.as_slice());
     judge(view, &mut remat.readings);
     delete_unread(view, reaches.as_slice(), &mut remat)?;
+    remat.deleted.sort_unstable();
     remat.readings.sort_unstable_by_key(|r| r.key.at);
     Ok(remat)
 }

@@ -27,7 +27,7 @@ pub struct SlotMap {
     given: Vec<Slot>,
     /// The numbers that the prepared function declares or names.
     taken: BTreeSet<u32>,
-    /// All numbers below it are taken or given.
+    /// The least number that is neither taken nor given.
     next: u32,
 }
 
@@ -50,6 +50,7 @@ impl SlotMap {
         'blocks: for block in f.blocks.as_slice() {
             map.take_named(block.instrs.as_slice())?;
         }
+        map.next = map.free_from(0);
         Ok(map)
     }
 
@@ -114,7 +115,7 @@ impl SlotMap {
     pub(crate) fn own_slot(&self, v: u32) -> u32 {
         match self.slot_of(v) {
             Some(number) => number,
-            None => self.free_number(),
+            None => self.next,
         }
     }
 
@@ -130,19 +131,19 @@ impl SlotMap {
             return Ok(number);
         }
         let original = self.original(v);
-        let number = self.free_number();
+        let number = self.next;
         self.given.push(Slot {
             number,
             class: class_of(f, original).unwrap_or(ClassId(0)),
         })?;
         self.slots.insert(original, number)?;
-        self.next = number.saturating_add(1);
+        self.next = self.free_from(number.saturating_add(1));
         Ok(number)
     }
 
-    /// The least number from `next` on that the function neither declares nor names.
-    fn free_number(&self) -> u32 {
-        'numbers: for number in self.next..u32::MAX {
+    /// The least number from one on that the function neither declares nor names.
+    fn free_from(&self, first: u32) -> u32 {
+        'numbers: for number in first..u32::MAX {
             if !self.taken.contains(&number) {
                 return number;
             }
