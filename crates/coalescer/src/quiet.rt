@@ -2,7 +2,7 @@
 //! is live behind the instruction or written by it.
 
 use crate::joins::Join;
-use live_lanes::LiveFunc;
+use live_lanes::{LiveFunc, Stretch};
 use mir_func::{Instr, Loc, Op, Operand, RegOp};
 use target_base::{IndexId, OpId, Target};
 
@@ -34,6 +34,13 @@ fn is_quiet_for(view: View<'_>, v: u32) -> bool {
     (0..view.live.lane_count(v)).all(|k| is_quiet_along(view, Lane { range: v, k }))
 }
 
+/// A lane in one of the blocks in which it has a cell.
+#[derive(Clone, Copy)]
+struct Spot {
+    number: u32,
+    place: usize,
+}
+
 /// Whether the join is quiet at the writings of a lane. In a block in which the other lane has no
 /// cell it is neither live nor written, so that the blocks of the lane that has fewer are looked at.
 fn is_quiet_along(view: View<'_>, lane: Lane) -> bool {
@@ -45,12 +52,24 @@ fn is_quiet_along(view: View<'_>, lane: Lane) -> bool {
         return true;
     };
     if live.cell_count(other) < live.cell_count(own) {
-        return (0..live.cell_count(other)).all(|k| match beside(live, own, other, k) {
-            Some(place) => is_quiet_in(view, lane, own, place),
-            None => true,
+        return (0..live.cell_count(other)).all(|place| {
+            let there = Spot {
+                number: other,
+                place,
+            };
+            match beside(live, own, there) {
+                Some(here) => is_quiet_in(view, lane, here, there),
+                None => true,
+            }
         });
     }
-    (0..live.cell_count(own)).all(|place| is_quiet_in(view, lane, own, place))
+    (0..live.cell_count(own)).all(|place| {
+        let here = Spot { number: own, place };
+        match beside(live, other, here) {
+            Some(there) => is_quiet_in(view, lane, here, there),
+            None => true,
+        }
+    })
 }
 
 /// The number of a lane, where there is one.
@@ -59,35 +78,90 @@ fn number_of(live: &LiveFunc, lane: Option<Lane>) -> Option<u32> {
     live.lane_of(lane.range, lane.k as usize)
 }
 
-/// The place of a lane's cell in the block of the cell of another lane at a place.
-fn beside(live: &LiveFunc, own: u32, other: u32, k: usize) -> Option<usize> {
-    let block = live.cell_block(other, k)?;
-    let (mut low, mut high) = (0usize, live.cell_count(own));
+/// A lane in the block in which another lane stands.
+fn beside(live: &LiveFunc, number: u32, other: Spot) -> Option<Spot> {
+    let block = live.cell_block(other.number, other.place)?;
+    let (mut low, mut high) = (0usize, live.cell_count(number));
     'halves: for _ in 0..usize::BITS {
         if low >= high {
             break;
         }
         let middle = low + (high - low) / 2;
-        match live.cell_block(own, middle) {
+        match live.cell_block(number, middle) {
             Some(there) if there > block => low = middle + 1,
             _ => high = middle,
         }
     }
-    if live.cell_block(own, low) == Some(block) {
-        Some(low)
+    if live.cell_block(number, low) == Some(block) {
+        Some(Spot { number, place: low })
     } else {
         None
     }
 }
 
-/// Whether the join is quiet at the writings of a lane in one of its blocks.
-fn is_quiet_in(view: View<'_>, lane: Lane, number: u32, place: usize) -> bool {
-    (1..view.live.piece_count(number, place)).all(|index| {
-        match view.live.start_of(number, place, index) {
+/// The number of pieces of a lane in a block.
+fn pieces(live: &LiveFunc, spot: Spot) -> usize {
+    live.piece_count(spot.number, spot.place)
+}
+
+/// Whether the join is quiet at the writings of a lane in a block in which the other lane stands too.
+/// Away from the other's points it is, so that where the other has fewer pieces it is asked along them.
+fn is_quiet_in(view: View<'_>, lane: Lane, here: Spot, there: Spot) -> bool {
+    let live = view.live;
+    if pieces(live, there) < pieces(live, here) {
+        return (0..pieces(live, there)).all(|index| {
+            match live.extent(there.number, there.place, index) {
+                Some(extent) => is_quiet_along_extent(
+                    view,
+                    lane,
+                    here,
+                    extent.stretch(live.slots()),
+                ),
+                None => true,
+            }
+        });
+    }
+    (1..pieces(live, here)).all(|index| {
+        match live.start_of(here.number, here.place, index) {
             Some(id) => is_quiet_lane(view, lane, id),
             None => true,
         }
     })
+}
+
+/// Whether the join is quiet at the writings of a lane in a block whose entry or exit is one of these
+/// points.
+fn is_quiet_along_extent(view: View<'_>, lane: Lane, here: Spot, at: Stretch) -> bool {
+    let live = view.live;
+    'writings: for index in first_writing(live, here, at.first)..pieces(live, here) {
+        let Some(id) = live.start_of(here.number, here.place, index) else {
+            continue;
+        };
+        if live.entry_of(id) > at.last {
+            break;
+        }
+        if !is_quiet_lane(view, lane, id) {
+            return false;
+        }
+    }
+    true
+}
+
+/// The first piece of a lane in a block that begins with a writing whose exit is at a point or behind
+/// it; the number of pieces where none does.
+fn first_writing(live: &LiveFunc, here: Spot, point: u128) -> usize {
+    let (mut low, mut high) = (1usize, pieces(live, here));
+    'halves: for _ in 0..usize::BITS {
+        if low >= high {
+            break;
+        }
+        let middle = low + (high - low) / 2;
+        match live.start_of(here.number, here.place, middle) {
+            Some(id) if live.exit_of(id) < point => low = middle + 1,
+            _ => high = middle,
+        }
+    }
+    low
 }
 
 fn is_quiet_lane(view: View<'_>, lane: Lane, id: u32) -> bool {
