@@ -10,7 +10,7 @@ ghost use Rattle.two_address.specs.Ties.{copy_lowered};
 ghost use Rattle.two_address.specs.Lowered.{form_lowered, form_classes, instr_lowered, instr_classes, next_range, instrs_lowered, classes_made, blocks_lowered, ties_lowered, class_aside, class_if};
 
 use crate::forms::{Form, form_of};
-use crate::sequences::{insertion_lowered, is_input, parts_of, sequence_lowered};
+use crate::sequences::{Registers, insertion_lowered, is_input, parts_of, sequence_lowered};
 use crate::ties::{Tie, copy_lowered, definition_class, push_tied, push_undefined, ties_in};
 use mir_func::opcodes::roles_of;
 use mir_func::{Block, Blocks, Func, Instr, Loc, NoPhi, RegOp};
@@ -138,41 +138,44 @@ fn push_instr(
     ensures out { OnOk result (out.new.items ≡ out.old.items ++ instr_lowered target.now classes.now (length classes.now + length made.old.items) i.now) }
     ensures classes { OnOk result (made.new.items ≡ made.old.items ++ instr_classes target.now classes.now (length classes.now + length made.old.items) i.now) }
 {
-    let c = (classes.len() + made.len()) as u32;
+    let registers = Registers {
+        target,
+        classes,
+        next: (classes.len() + made.len()) as u32,
+    };
     push_undefined(alloc, i.operands.as_slice(), out)?;
-    push_form(alloc, target, classes, c, form_of(target, i), i, made, out)
+    push_form(alloc, &registers, form_of(target, i), i, made, out)
 }
 
-/// Puts what becomes of an instruction of a form behind the others; `c` is the next range number.
+/// Puts what becomes of an instruction of a form behind the others.
 fn push_form(
     alloc: Global,
-    target: &Target,
-    classes: &[Option<ClassId>],
-    c: u32,
+    registers: &Registers,
     form: Form,
     i: &Instr,
     made: &mut Vec<Option<ClassId>>,
     out: &mut Vec<Instr>,
 ) -> Result<(), AllocError>
-    requires { c + length i.now.operands < 2 ^ 32 }
-    ensures out { OnOk result (out.new.items ≡ out.old.items ++ form_lowered target.now classes.now c i.now form) }
-    ensures classes { OnOk result (made.new.items ≡ made.old.items ++ form_classes target.now classes.now c i.now form) }
+    requires { registers.now.next + length i.now.operands < 2 ^ 32 }
+    ensures out { OnOk result (out.new.items ≡ out.old.items ++ form_lowered registers.now.target.now registers.now.classes.now registers.now.next i.now form) }
+    ensures classes { OnOk result (made.new.items ≡ made.old.items ++ form_classes registers.now.target.now registers.now.classes.now registers.now.next i.now form) }
 {
     match form {
         Form::Copy(d, s) => push_copy(alloc, i, d, s, out),
-        Form::Sequence(v) => push_sequence(alloc, target, classes, c, v, i, made, out),
+        Form::Sequence(v) => push_sequence(alloc, registers, v, i, made, out),
         Form::Insertion(v, a, p) => {
             push_class_if(
                 made,
                 is_input(v, &[p]),
-                located_class(classes, Loc::Virtual(v)),
+                located_class(registers.classes, Loc::Virtual(v)),
             )?;
-            let mut instrs = insertion_lowered(alloc, c, i, v, a, p)?;
+            let mut instrs = insertion_lowered(alloc, registers.next, i, v, a, p)?;
             out.append(&mut instrs)?;
             Ok(())
         }
         Form::Other => {
-            let ties = ties_in(alloc, target, c, i)?;
+            let (target, classes) = (registers.target, registers.classes);
+            let ties = ties_in(alloc, target, registers.next, i)?;
             push_classes_aside(made, roles_of(target, i), ties.as_slice())?;
             push_tied(alloc, target, classes, ties.as_slice(), i, out)
         }
@@ -196,25 +199,23 @@ fn push_copy(
 /// Puts what becomes of a REG_SEQUENCE into register `v` behind the others.
 fn push_sequence(
     alloc: Global,
-    target: &Target,
-    classes: &[Option<ClassId>],
-    c: u32,
+    registers: &Registers,
     v: u32,
     i: &Instr,
     made: &mut Vec<Option<ClassId>>,
     out: &mut Vec<Instr>,
 ) -> Result<(), AllocError>
-    ensures out { OnOk result (out.new.items ≡ out.old.items ++ sequence_lowered target.now classes.now c i.now v (parts_of (drop 1 i.now.operands))) }
-    ensures classes { OnOk result (made.new.items ≡ made.old.items ++ class_if (is_input (locs.Virtual v) (parts_of (drop 1 i.now.operands))) (located_class classes.now (locs.Virtual v))) }
+    ensures out { OnOk result (out.new.items ≡ out.old.items ++ sequence_lowered registers.now.target.now registers.now.classes.now registers.now.next i.now v (parts_of (drop 1 i.now.operands))) }
+    ensures classes { OnOk result (made.new.items ≡ made.old.items ++ class_if (is_input (locs.Virtual v) (parts_of (drop 1 i.now.operands))) (located_class registers.now.classes.now (locs.Virtual v))) }
 {
     let operands = i.operands.as_slice();
     let parts = parts_of(alloc, &operands[operands.len().min(1)..])?;
     push_class_if(
         made,
         is_input(v, parts.as_slice()),
-        located_class(classes, Loc::Virtual(v)),
+        located_class(registers.classes, Loc::Virtual(v)),
     )?;
-    let mut instrs = sequence_lowered(alloc, target, classes, c, i, v, parts.as_slice())?;
+    let mut instrs = sequence_lowered(alloc, registers, i, v, parts.as_slice())?;
     out.append(&mut instrs)?;
     Ok(())
 }

@@ -25,6 +25,17 @@ pub struct Part {
     pub index: IndexId,
 }
 
+/// The registers that an instruction is lowered with.
+#[derive(Clone, Copy)]
+pub struct Registers<'a> {
+    /// The target, whose registers are fixed.
+    pub target: &'a Target,
+    /// The classes of the virtual registers that the function came with.
+    pub classes: &'a [Option<ClassId>],
+    /// The range number of the next one.
+    pub next: u32,
+}
+
 /// The part that an operand and an index make.
 pub fn part_of(input: &Operand, index: &Operand) -> Option<Part>
     ensures { option_to_list result ≡ part input.now index.now }
@@ -190,24 +201,22 @@ fn built(c: u32, v: u32, parts: &[Part]) -> u32
     if is_input(v, parts) { c } else { v }
 }
 
-/// What becomes of REG_SEQUENCE into register `v`; `c` is the next range number.
+/// What becomes of REG_SEQUENCE into register `v`.
 pub fn sequence_lowered(
     alloc: Global,
-    target: &Target,
-    classes: &[Option<ClassId>],
-    c: u32,
+    registers: &Registers,
     i: &Instr,
     v: u32,
     parts: &[Part],
 ) -> Result<Vec<Instr>, AllocError>
-    ensures { IfOk result (λ made. made.items ≡ sequence_lowered target.now classes.now c i.now v parts.now) }
+    ensures { IfOk result (λ made. made.items ≡ sequence_lowered registers.now.target.now registers.now.classes.now registers.now.next i.now v parts.now) }
 {
-    let to = built(c, v, parts);
-    let class = located_class(classes, Loc::Virtual(v));
+    let to = built(registers.next, v, parts);
+    let class = located_class(registers.classes, Loc::Virtual(v));
     let mut made = Vec::new(alloc);
-    push_beginning(alloc, target, class, to, parts, &mut made)?;
+    push_beginning(alloc, registers.target, class, to, parts, &mut made)?;
     push_parts(alloc, to, parts, &mut made)?;
-    push_at_last(alloc, c, v, parts, &mut made)?;
+    push_at_last(alloc, registers.next, v, parts, &mut made)?;
     keep_text(alloc, i, &mut made)?;
     Ok(made)
 }
