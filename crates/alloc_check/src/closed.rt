@@ -12,6 +12,7 @@ ghost use Rattle.meaning.specs.declared.types.Ways.{Ways as SomeWays};
 ghost use Rattle.meaning.specs.Lanes.{Reads, Writes as SomeWrites};
 ghost use Rattle.alloc_check.specs.Needs.{Lead, Adds, Least, Carry, Suffice, behind_falls, Leave, writes_ask, row_asks};
 ghost use Rattle.alloc_check.specs.Cells.{asked};
+ghost use Rattle.alloc_check.specs.Asking.{asking};
 
 use crate::facts::{Fact, Facts};
 use crate::needs::{Needs, add_along, add_before, add_operands, needs_of};
@@ -250,6 +251,30 @@ pub fn before_row(
             }
             before_reads(alloc, left, right, needs)
         }
+    }
+}
+
+/// Takes needs to the place before a row, of which a counted pair asks for what it reads only where
+/// `reads` says so.
+pub fn before_asking(
+    alloc: Global,
+    family: &Family,
+    row: &Row,
+    reads: bool,
+    needs: &mut Needs,
+) -> Result<bool, AllocError>
+    ensures enough { IfOk result (λ yes. IsTrue yes → Carry family.now (asking reads row.now) (asked needs.old) (asked needs.new)) }
+    ensures least { IfOk result (λ yes. Least (row_asks family.now (asking reads row.now) (asked needs.old)) yes (asked needs.new)) }
+{
+    if reads {
+        return before_row(alloc, family, row, needs);
+    }
+    match row {
+        Row::BothCounted(_, _, _, first, second, target, exits) => {
+            let (first, second) = (first.as_slice(), second.as_slice());
+            before_writes(alloc, family, first, second, target, exits, needs)
+        }
+        _ => before_row(alloc, family, row, needs),
     }
 }
 

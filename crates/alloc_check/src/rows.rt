@@ -1,9 +1,14 @@
 //! Two functions side by side, as rows.
 
-ghost use Rattle.std.specs.Prelude.{◌≡◌, ◌<◌, ◌≤◌, ◌+◌, ◌∷◌, [], IsTrue, IfOk, IfSome, true, length, option_map, take, drop, slice_index_or};
+ghost use Rattle.std.specs.Prelude.{◌≡◌, ◌<◌, ◌≤◌, ◌+◌, ◌++◌, ◌∷◌, [], IsTrue, IfOk, OnOk, IfSome, MatchOption, true, false, cond, length, option_map, take, drop, slice_index_or};
+ghost use Rattle.meaning.specs.declared.types.Row.TheVariants.{BothCounted};
 ghost use Rattle.meaning.specs.Rows.{first_edge, second_edge, first_target, second_target, first_falls, second_falls};
-ghost use Rattle.mir_meaning.specs.Codes.{item_of, way, target_of, fallen_into};
+ghost use Rattle.meaning.specs.Sameness.{same_option};
+ghost use Rattle.mir_func.specs.Binding.{does, is_terminator};
+ghost use Rattle.mir_meaning.specs.Codes.{item_of, way, target_of, fallen_into, code_of};
+ghost use Rattle.mir_meaning.specs.Agreement.{all_alike, blocks_alike, is_counted};
 ghost use Rattle.alloc_check.specs.Bare.{bare_item, items, block_bare, shared_reads, needed_reads, Grown, SilentItem, CountedItem, InFirst, InSecond, AreSides, Passed, Stepped};
+ghost use Rattle.alloc_check.specs.Compared.{compared, ordered, both_way, both_ways, IsSilent, Counts, AddsFirst, AddsSecond, PassesOver, PairGoes, GoesOn, GoesThrough, BlockGoes};
 
 use crate::rests::same_rest;
 use instr_effects::items::counted::{reads_of, rest_of, values};
@@ -36,7 +41,8 @@ fn silent_writes(
     b: &Block,
     i: &Instr,
 ) -> Result<Option<Writes>, AllocError>
-    ensures { IfOk result (λ ws. SilentItem t.now f.now b.now i.now ws) }
+    ensures sides { IfOk result (λ ws. SilentItem t.now f.now b.now i.now ws) }
+    ensures exact { IfOk result (λ ws. IsSilent t.now f.now i.now ws) }
 {
     match effect_of(t, i) {
         None => Ok(Some(List::new(alloc))),
@@ -60,7 +66,8 @@ fn counted_item(
     b: &Block,
     i: &Instr,
 ) -> Result<Option<Counted>, AllocError>
-    ensures { IfOk result (λ made. IfSome made (λ c. CountedItem t.now f.now b.now i.now c.rest c.reads c.writes)) }
+    ensures sides { IfOk result (λ made. IfSome made (λ c. CountedItem t.now f.now b.now i.now c.rest c.reads c.writes)) }
+    ensures exact { IfOk result (λ made. MatchOption made (is_counted t.now i.now ≡ false) (λ c. Counts t.now f.now i.now c.rest c.reads c.writes)) }
 {
     match effect_of(t, i) {
         None => Ok(None),
@@ -90,7 +97,8 @@ fn push_first(
     b: &Block,
     i: &Instr,
 ) -> Result<bool, AllocError>
-    ensures { IfOk result (λ yes. InFirst t.now f.now b.now i.now rows.old rows.new yes) }
+    ensures sides { IfOk result (λ yes. InFirst t.now f.now b.now i.now rows.old rows.new yes) }
+    ensures exact { IfOk result (λ yes. AddsFirst t.now f.now i.now rows.old rows.new yes) }
 {
     match silent_writes(alloc, t, f, b, i)? {
         None => Ok(false),
@@ -110,7 +118,8 @@ fn push_second(
     c: &Block,
     i: &Instr,
 ) -> Result<bool, AllocError>
-    ensures { IfOk result (λ yes. InSecond t.now g.now c.now i.now rows.old rows.new yes) }
+    ensures sides { IfOk result (λ yes. InSecond t.now g.now c.now i.now rows.old rows.new yes) }
+    ensures exact { IfOk result (λ yes. AddsSecond t.now g.now i.now rows.old rows.new yes) }
 {
     match silent_writes(alloc, t, g, c, i)? {
         None => Ok(false),
@@ -132,7 +141,8 @@ fn push_seconds(
     from: usize,
 ) -> Result<usize, AllocError>
     requires { from ≤ length c.now.instrs }
-    ensures { IfOk result (λ j. Passed t.now g.now c.now from j rows.old rows.new) }
+    ensures sides { IfOk result (λ j. Passed t.now g.now c.now from j rows.old rows.new) }
+    ensures exact { IfOk result (λ j. PassesOver t.now g.now c.now from j rows.old rows.new) }
 {
     let mut j = from;
     while j < c.instrs.len() {
@@ -146,7 +156,8 @@ fn push_seconds(
 
 /// A way into block m from block n, in both functions.
 fn way_to(alloc: Global, t: &Target, f: &Func, g: &Func, n: u32, m: u32) -> Result<Ways, AllocError>
-    ensures { IfOk result (λ w. (first_edge w ≡ way t.now f.now n m) × (second_edge w ≡ way t.now g.now n m)) }
+    ensures sides { IfOk result (λ w. (first_edge w ≡ way t.now f.now n m) × (second_edge w ≡ way t.now g.now n m)) }
+    ensures exact { IfOk result (λ w. w ≡ both_way t.now f.now g.now n m) }
 {
     let mut first = List::new(alloc);
     push_phis(&mut first, alloc, t, f, n, m)?;
@@ -168,7 +179,8 @@ fn target_way(
     n: u32,
     target: Option<u32>,
 ) -> Result<Option<Ways>, AllocError>
-    ensures { IfOk result (λ w. (first_target w ≡ option_map (way t.now f.now n) target) × (second_target w ≡ option_map (way t.now g.now n) target)) }
+    ensures sides { IfOk result (λ w. (first_target w ≡ option_map (way t.now f.now n) target) × (second_target w ≡ option_map (way t.now g.now n) target)) }
+    ensures exact { IfOk result (λ w. w ≡ option_map (both_way t.now f.now g.now n) target) }
 {
     match target {
         None => Ok(None),
@@ -203,7 +215,9 @@ fn exits_of(
     f: &Func,
     g: &Func,
     b: &Block,
-) -> Result<List<Ways>, AllocError> {
+) -> Result<List<Ways>, AllocError>
+    ensures { IfOk result (λ made. made ≡ both_ways t.now f.now g.now b.now) }
+{
     let mut made = List::new(alloc);
     for e in b.successors.as_slice() {
         made.push(way_to(alloc, t, f, g, b.number, e.block)?)?;
@@ -219,7 +233,9 @@ fn exits_at(
     g: &Func,
     b: &Block,
     i: &Instr,
-) -> Result<List<Ways>, AllocError> {
+) -> Result<List<Ways>, AllocError>
+    ensures { IfOk result (λ made. made ≡ cond (does is_terminator t.now i.now) (both_ways t.now f.now g.now b.now) []) }
+{
     match effect_of(t, i) {
         None => Ok(List::new(alloc)),
         Some(e) => {
@@ -233,7 +249,8 @@ fn exits_at(
 }
 
 fn same_number(a: Option<u32>, b: Option<u32>) -> bool
-    ensures { IsTrue result → a ≡ b }
+    ensures equal { IsTrue result → a ≡ b }
+    ensures exact { result ≡ same_option a b }
 {
     match (a, b) {
         (None, None) => true,
@@ -300,6 +317,71 @@ fn needed_reads(
     }
 }
 
+/// What two instructions do; None where one of them isn't counted.
+fn counted_items(
+    alloc: Global,
+    t: &Target,
+    f: &Func,
+    g: &Func,
+    b: &Block,
+    c: &Block,
+    i: &Instr,
+    x: &Instr,
+) -> Result<Option<(Counted, Counted)>, AllocError>
+    ensures sides { IfOk result (λ made. IfSome made (λ both. CountedItem t.now f.now b.now i.now both.0.rest both.0.reads both.0.writes × CountedItem t.now g.now c.now x.now both.1.rest both.1.reads both.1.writes)) }
+    ensures exact { IfOk result (λ made. MatchOption made (is_counted t.now i.now ≡ true → is_counted t.now x.now ≡ true → ⊥) (λ both. Counts t.now f.now i.now both.0.rest both.0.reads both.0.writes × Counts t.now g.now x.now both.1.rest both.1.reads both.1.writes)) }
+{
+    match counted_item(alloc, t, f, b, i)? {
+        None => Ok(None),
+        Some(left) => match counted_item(alloc, t, g, c, x)? {
+            None => Ok(None),
+            Some(right) => Ok(Some((left, right))),
+        },
+    }
+}
+
+/// The ways that paths take from an instruction: to its target, and from its exit, beside the next one.
+fn ways_from(
+    alloc: Global,
+    t: &Target,
+    f: &Func,
+    g: &Func,
+    b: &Block,
+    i: &Instr,
+) -> Result<(Option<Ways>, List<Ways>), AllocError>
+    ensures sides { IfOk result (λ ways. (first_target ways.0 ≡ option_map (way t.now f.now b.now.number) (target_of i.now.operands)) × (second_target ways.0 ≡ option_map (way t.now g.now b.now.number) (target_of i.now.operands))) }
+    ensures exact { IfOk result (λ ways. (ways.0 ≡ option_map (both_way t.now f.now g.now b.now.number) (target_of i.now.operands)) × (ways.1 ≡ cond (does is_terminator t.now i.now) (both_ways t.now f.now g.now b.now) [])) }
+{
+    let target = target_of(i.operands.as_slice());
+    let way = target_way(alloc, t, f, g, b.number, target)?;
+    let exits = exits_at(alloc, t, f, g, b, i)?;
+    Ok((way, exits))
+}
+
+/// Puts what a pair of counted instructions do among the rows, with the ways that paths take from them.
+fn push_both(
+    rows: &mut Rows,
+    alloc: Global,
+    left: Counted,
+    right: Counted,
+    way: Option<Ways>,
+    exits: List<Ways>,
+) -> Result<(), AllocError>
+    ensures { OnOk result (rows.new ≡ rows.old ++ BothCounted left.rest (needed_reads left.rest.effect left.reads right.reads) (needed_reads left.rest.effect right.reads left.reads) left.writes right.writes way exits ∷ []) }
+{
+    let needed = needed_reads(alloc, left.rest.effect, left.reads, right.reads)?;
+    rows.push(Row::BothCounted(
+        left.rest,
+        needed.0,
+        needed.1,
+        left.writes,
+        right.writes,
+        way,
+        exits,
+    ))?;
+    Ok(())
+}
+
 /// Puts a pair of counted instructions of two blocks among the rows. False where they aren't one.
 fn push_pair(
     rows: &mut Rows,
@@ -313,35 +395,25 @@ fn push_pair(
     x: &Instr,
 ) -> Result<bool, AllocError>
     requires { b.now.number ≡ c.now.number }
-    ensures { IfOk result (λ yes. IsTrue yes → Grown rows.old (bare_item (item_of t.now f.now b.now i.now) ∷ []) (bare_item (item_of t.now g.now c.now x.now) ∷ []) rows.new) }
+    ensures sides { IfOk result (λ yes. IsTrue yes → Grown rows.old (bare_item (item_of t.now f.now b.now i.now) ∷ []) (bare_item (item_of t.now g.now c.now x.now) ∷ []) rows.new) }
+    ensures exact { IfOk result (λ yes. PairGoes t.now f.now g.now b.now c.now i.now x.now rows.old rows.new yes) }
 {
     let target = target_of(i.operands.as_slice());
-    if !same_number(target, target_of(x.operands.as_slice())) {
+    let other = target_of(x.operands.as_slice());
+    if !same_number(target, other) {
         return Ok(false);
     }
-    let (left, right) = match (
-        counted_item(alloc, t, f, b, i)?,
-        counted_item(alloc, t, g, c, x)?,
-    ) {
-        (Some(left), Some(right)) => (left, right),
-        _ => return Ok(false),
-    };
-    if !same_rest(&left.rest, &right.rest) {
-        return Ok(false);
+    match counted_items(alloc, t, f, g, b, c, i, x)? {
+        None => Ok(false),
+        Some(both) => {
+            if !same_rest(&both.0.rest, &both.1.rest) {
+                return Ok(false);
+            }
+            let ways = ways_from(alloc, t, f, g, b, i)?;
+            push_both(rows, alloc, both.0, both.1, ways.0, ways.1)?;
+            Ok(true)
+        }
     }
-    let way = target_way(alloc, t, f, g, b.number, target)?;
-    let exits = exits_at(alloc, t, f, g, b, i)?;
-    let needed = needed_reads(alloc, left.rest.effect, left.reads, right.reads)?;
-    rows.push(Row::BothCounted(
-        left.rest,
-        needed.0,
-        needed.1,
-        left.writes,
-        right.writes,
-        way,
-        exits,
-    ))?;
-    Ok(true)
 }
 
 /// Puts an instruction of the first function's block among the rows; before a counted one the silent
@@ -360,7 +432,8 @@ fn push_next(
 ) -> Result<Option<usize>, AllocError>
     requires number { b.now.number ≡ c.now.number }
     requires within { j ≤ length c.now.instrs }
-    ensures { IfOk result (λ next. IfSome next (λ to. Stepped t.now f.now g.now b.now c.now i.now j to rows.old rows.new)) }
+    ensures sides { IfOk result (λ next. IfSome next (λ to. Stepped t.now f.now g.now b.now c.now i.now j to rows.old rows.new)) }
+    ensures exact { IfOk result (λ next. all_alike blocks_alike f.now.blocks g.now.blocks ≡ true → GoesOn t.now f.now g.now b.now c.now i.now j rows.old rows.new next) }
 {
     if push_first(rows, alloc, t, f, b, i)? {
         return Ok(Some(j));
@@ -386,7 +459,8 @@ fn push_instrs(
     c: &Block,
 ) -> Result<bool, AllocError>
     requires { b.now.number ≡ c.now.number }
-    ensures { IfOk result (λ yes. IsTrue yes → Grown rows.old (items t.now f.now b.now b.now.instrs) (items t.now g.now c.now c.now.instrs) rows.new) }
+    ensures sides { IfOk result (λ yes. IsTrue yes → Grown rows.old (items t.now f.now b.now b.now.instrs) (items t.now g.now c.now c.now.instrs) rows.new) }
+    ensures exact { IfOk result (λ yes. all_alike blocks_alike f.now.blocks g.now.blocks ≡ true → GoesThrough t.now f.now g.now b.now c.now rows.old rows.new yes) }
 {
     let mut j = 0;
     for i in b.instrs.as_slice() {
@@ -433,18 +507,19 @@ fn push_block(
 ) -> Result<bool, AllocError>
     requires first { k < length f.now.blocks }
     requires second { k < length g.now.blocks }
-    ensures { IfOk result (λ yes. IsTrue yes → Grown rows.old (block_bare t.now f.now b.now (drop (k + 1) f.now.blocks)) (block_bare t.now g.now c.now (drop (k + 1) g.now.blocks)) rows.new) }
+    ensures sides { IfOk result (λ yes. IsTrue yes → Grown rows.old (block_bare t.now f.now b.now (drop (k + 1) f.now.blocks)) (block_bare t.now g.now c.now (drop (k + 1) g.now.blocks)) rows.new) }
+    ensures exact { IfOk result (λ yes. BlockGoes t.now f.now g.now k b.now c.now rows.old rows.new yes) }
 {
     if b.number != c.number {
+        return Ok(false);
+    }
+    rows.push(Row::BothStart(b.number))?;
+    if !push_instrs(rows, alloc, t, f, g, b, c)? {
         return Ok(false);
     }
     let into = falls_into(t, f, k, b);
     let other = falls_into(t, g, k, c);
     if !same_number(into, other) {
-        return Ok(false);
-    }
-    rows.push(Row::BothStart(b.number))?;
-    if !push_instrs(rows, alloc, t, f, g, b, c)? {
         return Ok(false);
     }
     let falls = falls_of(alloc, t, f, g, b.number, into)?;
@@ -455,7 +530,8 @@ fn push_block(
 
 /// The functions side by side, up to what only liveness looks at. None where they don't pair.
 pub fn rows_of(alloc: Global, t: &Target, f: &Func, g: &Func) -> Result<Option<Rows>, AllocError>
-    ensures { IfOk result (λ made. IfSome made (λ rows. AreSides t.now f.now g.now rows)) }
+    ensures sides { IfOk result (λ made. IfSome made (λ rows. AreSides t.now f.now g.now rows)) }
+    ensures exact { IfOk result (λ made. all_alike blocks_alike f.now.blocks g.now.blocks ≡ true → made ≡ compared (code_of t.now f.now) (code_of t.now (ordered f.now g.now))) }
 {
     if f.block_count() != g.block_count() {
         return Ok(None);
