@@ -95,6 +95,7 @@ fn marks_of(alloc: Global, slots: u32, writes: &[Write]) -> Result<Vec<u8>, Allo
     Ok(marks)
 }
 
+/// Whether a slot has a mark that isn't 0. One that lies beyond the marks counts as marked.
 pub fn is_marked(marks: &[u8], slot: usize) -> bool
     ensures { result ≡ is_marked marks.now slot }
 {
