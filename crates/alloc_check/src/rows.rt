@@ -25,6 +25,19 @@ use target_base::{Copied, Effect, List, Target};
 /// Rows in layout order.
 pub type Rows = List<Row>;
 
+/// A block of each of two functions.
+#[derive(Clone, Copy)]
+struct BlockPair<'a> {
+    /// The first function.
+    f: &'a Func,
+    /// The second function.
+    g: &'a Func,
+    /// The first function's block.
+    b: &'a Block,
+    /// The second function's block.
+    c: &'a Block,
+}
+
 /// What a counted instruction does.
 #[derive(Drop)]
 struct Counted {
@@ -321,19 +334,16 @@ fn needed_reads(
 fn counted_items(
     alloc: Global,
     t: &Target,
-    f: &Func,
-    g: &Func,
-    b: &Block,
-    c: &Block,
+    pair: &BlockPair<'_>,
     i: &Instr,
     x: &Instr,
 ) -> Result<Option<(Counted, Counted)>, AllocError>
-    ensures sides { IfOk result (λ made. IfSome made (λ both. CountedItem t.now f.now b.now i.now both.0.rest both.0.reads both.0.writes × CountedItem t.now g.now c.now x.now both.1.rest both.1.reads both.1.writes)) }
-    ensures exact { IfOk result (λ made. MatchOption made (is_counted t.now i.now ≡ true → is_counted t.now x.now ≡ true → ⊥) (λ both. Counts t.now f.now i.now both.0.rest both.0.reads both.0.writes × Counts t.now g.now x.now both.1.rest both.1.reads both.1.writes)) }
+    ensures sides { IfOk result (λ made. IfSome made (λ both. CountedItem t.now pair.now.f.now pair.now.b.now i.now both.0.rest both.0.reads both.0.writes × CountedItem t.now pair.now.g.now pair.now.c.now x.now both.1.rest both.1.reads both.1.writes)) }
+    ensures exact { IfOk result (λ made. MatchOption made (is_counted t.now i.now ≡ true → is_counted t.now x.now ≡ true → ⊥) (λ both. Counts t.now pair.now.f.now i.now both.0.rest both.0.reads both.0.writes × Counts t.now pair.now.g.now x.now both.1.rest both.1.reads both.1.writes)) }
 {
-    match counted_item(alloc, t, f, b, i)? {
+    match counted_item(alloc, t, pair.f, pair.b, i)? {
         None => Ok(None),
-        Some(left) => match counted_item(alloc, t, g, c, x)? {
+        Some(left) => match counted_item(alloc, t, pair.g, pair.c, x)? {
             None => Ok(None),
             Some(right) => Ok(Some((left, right))),
         },
@@ -387,29 +397,26 @@ fn push_pair(
     rows: &mut Rows,
     alloc: Global,
     t: &Target,
-    f: &Func,
-    g: &Func,
-    b: &Block,
-    c: &Block,
+    pair: &BlockPair<'_>,
     i: &Instr,
     x: &Instr,
 ) -> Result<bool, AllocError>
-    requires { b.now.number ≡ c.now.number }
-    ensures sides { IfOk result (λ yes. IsTrue yes → Grown rows.old (bare_item (item_of t.now f.now b.now i.now) ∷ []) (bare_item (item_of t.now g.now c.now x.now) ∷ []) rows.new) }
-    ensures exact { IfOk result (λ yes. PairGoes t.now f.now g.now b.now c.now i.now x.now rows.old rows.new yes) }
+    requires { pair.now.b.now.number ≡ pair.now.c.now.number }
+    ensures sides { IfOk result (λ yes. IsTrue yes → Grown rows.old (bare_item (item_of t.now pair.now.f.now pair.now.b.now i.now) ∷ []) (bare_item (item_of t.now pair.now.g.now pair.now.c.now x.now) ∷ []) rows.new) }
+    ensures exact { IfOk result (λ yes. PairGoes t.now pair.now.f.now pair.now.g.now pair.now.b.now pair.now.c.now i.now x.now rows.old rows.new yes) }
 {
     let target = target_of(i.operands.as_slice());
     let other = target_of(x.operands.as_slice());
     if !same_number(target, other) {
         return Ok(false);
     }
-    match counted_items(alloc, t, f, g, b, c, i, x)? {
+    match counted_items(alloc, t, pair, i, x)? {
         None => Ok(false),
         Some(both) => {
             if !same_rest(&both.0.rest, &both.1.rest) {
                 return Ok(false);
             }
-            let ways = ways_from(alloc, t, f, g, b, i)?;
+            let ways = ways_from(alloc, t, pair.f, pair.g, pair.b, i)?;
             push_both(rows, alloc, both.0, both.1, ways.0, ways.1)?;
             Ok(true)
         }
@@ -423,26 +430,23 @@ fn push_next(
     rows: &mut Rows,
     alloc: Global,
     t: &Target,
-    f: &Func,
-    g: &Func,
-    b: &Block,
-    c: &Block,
+    pair: &BlockPair<'_>,
     i: &Instr,
     j: usize,
 ) -> Result<Option<usize>, AllocError>
-    requires number { b.now.number ≡ c.now.number }
-    requires within { j ≤ length c.now.instrs }
-    ensures sides { IfOk result (λ next. IfSome next (λ to. Stepped t.now f.now g.now b.now c.now i.now j to rows.old rows.new)) }
-    ensures exact { IfOk result (λ next. all_alike blocks_alike f.now.blocks g.now.blocks ≡ true → GoesOn t.now f.now g.now b.now c.now i.now j rows.old rows.new next) }
+    requires number { pair.now.b.now.number ≡ pair.now.c.now.number }
+    requires within { j ≤ length pair.now.c.now.instrs }
+    ensures sides { IfOk result (λ next. IfSome next (λ to. Stepped t.now pair.now.f.now pair.now.g.now pair.now.b.now pair.now.c.now i.now j to rows.old rows.new)) }
+    ensures exact { IfOk result (λ next. all_alike blocks_alike pair.now.f.now.blocks pair.now.g.now.blocks ≡ true → GoesOn t.now pair.now.f.now pair.now.g.now pair.now.b.now pair.now.c.now i.now j rows.old rows.new next) }
 {
-    if push_first(rows, alloc, t, f, b, i)? {
+    if push_first(rows, alloc, t, pair.f, pair.b, i)? {
         return Ok(Some(j));
     }
-    let at = push_seconds(rows, alloc, t, g, c, j)?;
-    if at >= c.instrs.len() {
+    let at = push_seconds(rows, alloc, t, pair.g, pair.c, j)?;
+    if at >= pair.c.instrs.len() {
         return Ok(None);
     }
-    if !push_pair(rows, alloc, t, f, g, b, c, i, c.instrs.get(at))? {
+    if !push_pair(rows, alloc, t, pair, i, pair.c.instrs.get(at))? {
         return Ok(None);
     }
     Ok(Some(at + 1))
@@ -453,25 +457,22 @@ fn push_instrs(
     rows: &mut Rows,
     alloc: Global,
     t: &Target,
-    f: &Func,
-    g: &Func,
-    b: &Block,
-    c: &Block,
+    pair: &BlockPair<'_>,
 ) -> Result<bool, AllocError>
-    requires { b.now.number ≡ c.now.number }
-    ensures sides { IfOk result (λ yes. IsTrue yes → Grown rows.old (items t.now f.now b.now b.now.instrs) (items t.now g.now c.now c.now.instrs) rows.new) }
-    ensures exact { IfOk result (λ yes. all_alike blocks_alike f.now.blocks g.now.blocks ≡ true → GoesThrough t.now f.now g.now b.now c.now rows.old rows.new yes) }
+    requires { pair.now.b.now.number ≡ pair.now.c.now.number }
+    ensures sides { IfOk result (λ yes. IsTrue yes → Grown rows.old (items t.now pair.now.f.now pair.now.b.now pair.now.b.now.instrs) (items t.now pair.now.g.now pair.now.c.now pair.now.c.now.instrs) rows.new) }
+    ensures exact { IfOk result (λ yes. all_alike blocks_alike pair.now.f.now.blocks pair.now.g.now.blocks ≡ true → GoesThrough t.now pair.now.f.now pair.now.g.now pair.now.b.now pair.now.c.now rows.old rows.new yes) }
 {
     let mut j = 0;
-    for i in b.instrs.as_slice() {
+    for i in pair.b.instrs.as_slice() {
         let i = i.get();
-        match push_next(rows, alloc, t, f, g, b, c, i, j)? {
+        match push_next(rows, alloc, t, pair, i, j)? {
             None => return Ok(false),
             Some(next) => j = next,
         }
     }
-    let end = push_seconds(rows, alloc, t, g, c, j)?;
-    if end < c.instrs.len() {
+    let end = push_seconds(rows, alloc, t, pair.g, pair.c, j)?;
+    if end < pair.c.instrs.len() {
         return Ok(false);
     }
     Ok(true)
@@ -499,31 +500,28 @@ fn push_block(
     rows: &mut Rows,
     alloc: Global,
     t: &Target,
-    f: &Func,
-    g: &Func,
     k: usize,
-    b: &Block,
-    c: &Block,
+    pair: &BlockPair<'_>,
 ) -> Result<bool, AllocError>
-    requires first { k < length f.now.blocks }
-    requires second { k < length g.now.blocks }
-    ensures sides { IfOk result (λ yes. IsTrue yes → Grown rows.old (block_bare t.now f.now b.now (drop (k + 1) f.now.blocks)) (block_bare t.now g.now c.now (drop (k + 1) g.now.blocks)) rows.new) }
-    ensures exact { IfOk result (λ yes. BlockGoes t.now f.now g.now k b.now c.now rows.old rows.new yes) }
+    requires first { k < length pair.now.f.now.blocks }
+    requires second { k < length pair.now.g.now.blocks }
+    ensures sides { IfOk result (λ yes. IsTrue yes → Grown rows.old (block_bare t.now pair.now.f.now pair.now.b.now (drop (k + 1) pair.now.f.now.blocks)) (block_bare t.now pair.now.g.now pair.now.c.now (drop (k + 1) pair.now.g.now.blocks)) rows.new) }
+    ensures exact { IfOk result (λ yes. BlockGoes t.now pair.now.f.now pair.now.g.now k pair.now.b.now pair.now.c.now rows.old rows.new yes) }
 {
-    if b.number != c.number {
+    if pair.b.number != pair.c.number {
         return Ok(false);
     }
-    rows.push(Row::BothStart(b.number))?;
-    if !push_instrs(rows, alloc, t, f, g, b, c)? {
+    rows.push(Row::BothStart(pair.b.number))?;
+    if !push_instrs(rows, alloc, t, pair)? {
         return Ok(false);
     }
-    let into = falls_into(t, f, k, b);
-    let other = falls_into(t, g, k, c);
+    let into = falls_into(t, pair.f, k, pair.b);
+    let other = falls_into(t, pair.g, k, pair.c);
     if !same_number(into, other) {
         return Ok(false);
     }
-    let falls = falls_of(alloc, t, f, g, b.number, into)?;
-    let exits = exits_of(alloc, t, f, g, b)?;
+    let falls = falls_of(alloc, t, pair.f, pair.g, pair.b.number, into)?;
+    let exits = exits_of(alloc, t, pair.f, pair.g, pair.b)?;
     rows.push(Row::BothEnd(falls, exits))?;
     Ok(true)
 }
@@ -540,7 +538,8 @@ pub fn rows_of(alloc: Global, t: &Target, f: &Func, g: &Func) -> Result<Option<R
     for k in 0..f.block_count() {
         let b = block_at(f, k);
         let c = block_at(g, k);
-        if !push_block(&mut rows, alloc, t, f, g, k, b, c)? {
+        let pair = BlockPair { f, g, b, c };
+        if !push_block(&mut rows, alloc, t, k, &pair)? {
             return Ok(None);
         }
     }

@@ -12,23 +12,23 @@ use Rattle.alloc_check.proofs.rows.push_next.Goals as goal
 pub returns-then-branch-clause-sides : goal.returns-then-branch-clause-sides
 returns-then-branch-clause-sides c =
     let t = c.args.t.now in
-    let d = c.args.c.now in
+    let d = c.args.pair.now.c.now in
     let old = c.args.rows.now in
     let new = c.push_first.new.rows in
-    let grown : InFirst t c.args.f.now c.args.b.now c.args.i.now old new true = subst (InFirst t c.args.f.now c.args.b.now c.args.i.now old new) c.if-branch.true c.in_ok-push_first.ensures.sides in
+    let grown : InFirst t c.args.pair.now.f.now c.args.pair.now.b.now c.args.i.now old new true = subst (InFirst t c.args.pair.now.f.now c.args.pair.now.b.now c.args.i.now old new) c.if-branch.true c.in_ok-push_first.ensures.sides in
     record {
       within = c.requires.within;
       first = grown.first;
-      second = grown-none (second_bare new) (second_bare old) (items t c.args.g.now d (drop c.args.j d.instrs)) grown.second;
+      second = grown-none (second_bare new) (second_bare old) (items t c.args.pair.now.g.now d (drop c.args.j d.instrs)) grown.second;
     }
 
 pub returns-clause-sides : goal.returns-clause-sides
 returns-clause-sides c =
     let t = c.args.t.now in
-    let f = c.args.f.now in
-    let g = c.args.g.now in
-    let b = c.args.b.now in
-    let d = c.args.c.now in
+    let f = c.args.pair.now.f.now in
+    let g = c.args.pair.now.g.now in
+    let b = c.args.pair.now.b.now in
+    let d = c.args.pair.now.c.now in
     let i = c.args.i.now in
     let r0 = c.args.rows.now in
     let r1 = c.push_first.new.rows in
@@ -48,10 +48,10 @@ returns-clause-sides c =
 pub returns-then-branch-clause-exact : goal.returns-then-branch-clause-exact
 returns-then-branch-clause-exact c alike p q =
     let t = c.args.t.now in
-    let f = c.args.f.now in
-    let g = c.args.g.now in
-    let b = c.args.b.now in
-    let d = c.args.c.now in
+    let f = c.args.pair.now.f.now in
+    let g = c.args.pair.now.g.now in
+    let b = c.args.pair.now.b.now in
+    let d = c.args.pair.now.c.now in
     let i = c.args.i.now in
     let old = c.args.rows.now in
     let new = c.push_first.new.rows in
@@ -61,10 +61,10 @@ returns-then-branch-clause-exact c alike p q =
 pub returns-then-not-branch-clause-exact : goal.returns-then-not-branch-clause-exact
 returns-then-not-branch-clause-exact c alike p q falls exits =
     let t = c.args.t.now in
-    let f = c.args.f.now in
-    let g = c.args.g.now in
-    let b = c.args.b.now in
-    let d = c.args.c.now in
+    let f = c.args.pair.now.f.now in
+    let g = c.args.pair.now.g.now in
+    let b = c.args.pair.now.b.now in
+    let d = c.args.pair.now.c.now in
     let i = c.args.i.now in
     let r0 = c.args.rows.now in
     let r1 = c.push_first.new.rows in
@@ -86,10 +86,10 @@ returns-then-not-branch-clause-exact c alike p q falls exits =
 pub returns-clause-exact : goal.returns-clause-exact
 returns-clause-exact c alike p q =
     let t = c.args.t.now in
-    let f = c.args.f.now in
-    let g = c.args.g.now in
-    let b = c.args.b.now in
-    let d = c.args.c.now in
+    let f = c.args.pair.now.f.now in
+    let g = c.args.pair.now.g.now in
+    let b = c.args.pair.now.b.now in
+    let d = c.args.pair.now.c.now in
     let i = c.args.i.now in
     let r0 = c.args.rows.now in
     let r1 = c.push_first.new.rows in
@@ -111,10 +111,10 @@ returns-clause-exact c alike p q =
 pub returns-then-at-len-clause-exact : goal.returns-then-at-len-clause-exact
 returns-then-at-len-clause-exact c alike p q falls exits =
     let t = c.args.t.now in
-    let f = c.args.f.now in
-    let g = c.args.g.now in
-    let b = c.args.b.now in
-    let d = c.args.c.now in
+    let f = c.args.pair.now.f.now in
+    let g = c.args.pair.now.g.now in
+    let b = c.args.pair.now.b.now in
+    let d = c.args.pair.now.c.now in
     let i = c.args.i.now in
     let r0 = c.args.rows.now in
     let r1 = c.push_first.new.rows in

@@ -11,10 +11,10 @@ use Rattle.alloc_check.proofs.rows.push_pair.Goals as goal
 pub returns-in_ok-push_both-in-Some-clause-sides : goal.returns-in_ok-push_both-in-Some-clause-sides
 returns-in_ok-push_both-in-Some-clause-sides c =
     let t = c.args.t.now in
-    let f = c.args.f.now in
-    let g = c.args.g.now in
-    let b = c.args.b.now in
-    let d = c.args.c.now in
+    let f = c.args.pair.now.f.now in
+    let g = c.args.pair.now.g.now in
+    let b = c.args.pair.now.b.now in
+    let d = c.args.pair.now.c.now in
     let i = c.args.i.now in
     let x = c.args.x.now in
     let left = c.in-Some.both.0 in
@@ -41,13 +41,13 @@ returns-then-not-same_number-clause-exact c h h' alike p q =
     let x = c.args.x.now in
     let own : c.target_of-target.result ≡ target_of i.operands = c.target_of-target.ensures ∙ ap target_of c.as_slice.ensures in
     let other : c.target_of-other.result ≡ target_of x.operands = c.target_of-other.ensures ∙ ap target_of c.as_slice-2.ensures in
-    targets-differ c.args.t.now c.args.f.now c.args.g.now c.args.b.now c.args.c.now alike c.requires i x h h' ((λ k. same_option (sym own k) (sym other k)) ∙ (sym c.same_number.ensures.exact ∙ c.if-not-same_number.true)) p q
+    targets-differ c.args.t.now c.args.pair.now.f.now c.args.pair.now.g.now c.args.pair.now.b.now c.args.pair.now.c.now alike c.requires i x h h' ((λ k. same_option (sym own k) (sym other k)) ∙ (sym c.same_number.ensures.exact ∙ c.if-not-same_number.true)) p q
 
 pub returns-in-None-clause-exact : goal.returns-in-None-clause-exact
 returns-in-None-clause-exact c h h' alike p q =
     let t = c.args.t.now in
-    let f = c.args.f.now in
-    let g = c.args.g.now in
+    let f = c.args.pair.now.f.now in
+    let g = c.args.pair.now.g.now in
     let i = c.args.i.now in
     let x = c.args.x.now in
     absurd
@@ -56,21 +56,21 @@ returns-in-None-clause-exact c h h' alike p q =
 pub returns-then-not-same_rest-clause-exact : goal.returns-then-not-same_rest-clause-exact
 returns-then-not-same_rest-clause-exact c h h' alike p q =
     let t = c.args.t.now in
-    let f = c.args.f.now in
-    let g = c.args.g.now in
+    let f = c.args.pair.now.f.now in
+    let g = c.args.pair.now.g.now in
     let i = c.args.i.now in
     let x = c.args.x.now in
     let left = c.in-Some.both.0 in
     let right = c.in-Some.both.1 in
     let both : Counts t f i left.rest left.reads left.writes × Counts t g x right.rest right.reads right.writes =
     subst (λ o. MatchOption o (is_counted t i ≡ true → is_counted t x ≡ true → ⊥) (λ m. Counts t f i m.0.rest m.0.reads m.0.writes × Counts t g x m.1.rest m.1.reads m.1.writes)) c.in-Some.is c.in_ok-counted_items.ensures.exact in
-    rests-apart t f g c.args.b.now c.args.c.now alike c.requires i x left.rest right.rest left.reads right.reads left.writes right.writes both.0 both.1 p q (sym c.same_rest.ensures.exact ∙ c.if-not-same_rest.true)
+    rests-apart t f g c.args.pair.now.b.now c.args.pair.now.c.now alike c.requires i x left.rest right.rest left.reads right.reads left.writes right.writes both.0 both.1 p q (sym c.same_rest.ensures.exact ∙ c.if-not-same_rest.true)
 
 pub returns-in_ok-push_both-in-Some-clause-exact : goal.returns-in_ok-push_both-in-Some-clause-exact
 returns-in_ok-push_both-in-Some-clause-exact c h h' alike p q =
     let t = c.args.t.now in
-    let f = c.args.f.now in
-    let g = c.args.g.now in
+    let f = c.args.pair.now.f.now in
+    let g = c.args.pair.now.g.now in
     let i = c.args.i.now in
     let x = c.args.x.now in
     let left = c.in-Some.both.0 in
@@ -82,7 +82,7 @@ returns-in_ok-push_both-in-Some-clause-exact c h h' alike p q =
     let e = left.rest.effect in
     let asked = needed_reads e left.reads right.reads in
     let asked' = needed_reads e right.reads left.reads in
-    pair-goes t f g c.args.b.now c.args.c.now alike c.requires i x left.rest right.rest left.reads right.reads left.writes right.writes both.0 both.1 p q c.args.rows.now c.push_both.new.rows asked asked' c.in_ok-ways-in-Some.ways.0 c.in_ok-ways-in-Some.ways.1
+    pair-goes t f g c.args.pair.now.b.now c.args.pair.now.c.now alike c.requires i x left.rest right.rest left.reads right.reads left.writes right.writes both.0 both.1 p q c.args.rows.now c.push_both.new.rows asked asked' c.in_ok-ways-in-Some.ways.0 c.in_ok-ways-in-Some.ways.1
     (sym c.same_rest.ensures.exact ∙ c.if-not-same_rest.false)
     ((λ k. same_option (sym own k) (sym other k)) ∙ (sym c.same_number.ensures.exact ∙ c.if-not-same_number.false))
     refl refl
