@@ -172,26 +172,37 @@ fn before_end(
     add_ways(alloc, family, exits.as_slice(), needs)
 }
 
-/// What a counted instruction leaves behind.
-pub fn before_writes(
+/// What a pair of counted instructions leaves behind: what both write, and the ways that paths take
+/// from it.
+#[derive(Clone, Copy)]
+struct Leaving<'a> {
+    /// What the first function's instruction writes.
+    first: &'a [Write],
+    /// What the second function's writes.
+    second: &'a [Write],
+    /// The way to its target, if it has one.
+    target: &'a Option<Ways>,
+    /// The ways from its exit, beside the next instruction.
+    exits: &'a List<Ways>,
+}
+
+/// Takes needs to the place before what a pair of counted instructions leaves behind.
+fn before_writes(
     alloc: Global,
     family: &Family,
-    first: &[Write],
-    second: &[Write],
-    target: &Option<Ways>,
-    exits: &List<Ways>,
+    leaving: &Leaving<'_>,
     needs: &mut Needs,
 ) -> Result<bool, AllocError>
-    ensures enough { IfOk result (λ yes. IsTrue yes → Leave family.now first.now second.now target.now exits.now (asked needs.old) (asked needs.new)) }
-    ensures least { IfOk result (λ yes. Least (writes_ask family.now first.now second.now target.now exits.now (asked needs.old)) yes (asked needs.new)) }
+    ensures enough { IfOk result (λ yes. IsTrue yes → Leave family.now leaving.now.first.now leaving.now.second.now leaving.now.target.now leaving.now.exits.now (asked needs.old) (asked needs.new)) }
+    ensures least { IfOk result (λ yes. Least (writes_ask family.now leaving.now.first.now leaving.now.second.now leaving.now.target.now leaving.now.exits.now (asked needs.old)) yes (asked needs.new)) }
 {
-    if !add_target(alloc, family, target, needs)? {
+    if !add_target(alloc, family, leaving.target, needs)? {
         return Ok(false);
     }
-    if !add_ways(alloc, family, exits.as_slice(), needs)? {
+    if !add_ways(alloc, family, leaving.exits.as_slice(), needs)? {
         return Ok(false);
     }
-    step_both(alloc, first, second, needs)
+    step_both(alloc, leaving.first, leaving.second, needs)
 }
 
 fn before_first_silent(
@@ -246,7 +257,13 @@ pub fn before_row(
         Row::SecondSilent(_, writes) => before_second_silent(alloc, writes, needs),
         Row::BothCounted(_, left, right, first, second, target, exits) => {
             let (first, second) = (first.as_slice(), second.as_slice());
-            if !before_writes(alloc, family, first, second, target, exits, needs)? {
+            let leaving = Leaving {
+                first,
+                second,
+                target,
+                exits,
+            };
+            if !before_writes(alloc, family, &leaving, needs)? {
                 return Ok(false);
             }
             before_reads(alloc, left, right, needs)
@@ -272,7 +289,13 @@ pub fn before_asking(
     match row {
         Row::BothCounted(_, _, _, first, second, target, exits) => {
             let (first, second) = (first.as_slice(), second.as_slice());
-            before_writes(alloc, family, first, second, target, exits, needs)
+            let leaving = Leaving {
+                first,
+                second,
+                target,
+                exits,
+            };
+            before_writes(alloc, family, &leaving, needs)
         }
         _ => before_row(alloc, family, row, needs),
     }
