@@ -15,7 +15,7 @@ returns-clause-sides c =
     let d = c.args.pair.now.c.now in
     let k = c.args.k in
     λ yes. grown-block t f g b d (drop (k + 1) f.blocks) (drop (k + 1) g.blocks) c.args.rows.now c.push.new.self c.push_instrs.new.rows c.push-2.new.self c.falls_into-into.result c.falls_into-other.result c.in_ok-falls.falls c.in_ok-exits.exits
-    c.if-b-c.false c.falls_into-into.ensures c.falls_into-other.ensures (c.same_number.ensures.equal c.if-not-same_number.false)
+    c.if-pair.false c.falls_into-into.ensures c.falls_into-other.ensures (c.same_number.ensures.equal c.if-not-same_number.false)
     c.in_ok-push.ensures.ok (c.in_ok-push_instrs.ensures.sides c.if-not-branch.false)
     c.in_ok-falls.ensures.0 c.in_ok-falls.ensures.1 c.in_ok-push-2.ensures.ok
 
@@ -56,5 +56,5 @@ returns-then-not-same_number-clause-exact c alike at at' =
     ends-apart t f g alike c.args.k b d c.requires.first c.requires.second at at' c.args.rows.now c.push.new.self c.in_ok-push.ensures.ok c.push_instrs.new.rows through
     ((λ j. same_option (sym c.falls_into-into.ensures j) (sym c.falls_into-other.ensures j)) ∙ (sym c.same_number.ensures.exact ∙ c.if-not-same_number.true))
 
-pub returns-then-b-c-clause-exact : goal.returns-then-b-c-clause-exact
-returns-then-b-c-clause-exact c alike at at' = absurd (c.if-b-c.true (numbers-alike c.args.t.now c.args.pair.now.f.now c.args.pair.now.g.now alike c.args.k c.args.pair.now.b.now c.args.pair.now.c.now c.requires.first c.requires.second at at'))
+pub returns-then-pair-clause-exact : goal.returns-then-pair-clause-exact
+returns-then-pair-clause-exact c alike at at' = absurd (c.if-pair.true (numbers-alike c.args.t.now c.args.pair.now.f.now c.args.pair.now.g.now alike c.args.k c.args.pair.now.b.now c.args.pair.now.c.now c.requires.first c.requires.second at at'))
