@@ -17,3 +17,15 @@ pub mod ReservedUnits
 pub mod Least
 pub mod Greatest
 pub mod Passing
+pub mod Reordered
+pub mod Comparing
+pub mod Ordered
+pub mod Stepping
+pub mod Blocks
+pub mod Asking
+pub mod Asked
+pub mod Markers
+pub mod Places
+pub mod Uncounted
+pub mod Matching
+pub mod Told

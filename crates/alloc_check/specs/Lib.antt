@@ -8,3 +8,6 @@ pub mod Looks
 pub mod LookRows
 pub mod Written
 pub mod Families
+pub mod Compared
+pub mod Asking
+pub mod Doubt

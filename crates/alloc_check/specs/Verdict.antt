@@ -11,6 +11,7 @@ use Rattle.mir_meaning.specs.Valid.{IsValid, names_virtual}
 use Rattle.mir_meaning.specs.Codes.{refines}
 use Rattle.mir_meaning.specs.Agreement.{block_doubt, partner_doubt}
 use Rattle.alloc_check.specs.Families.{HoldsWith}
+use Rattle.alloc_check.specs.Doubt.{SharedFactsHold, LacksFact, Confirms, Doubts}
 use Rattle.alloc_check.specs.declared.check.Verdict.{Verdict}
 use Rattle.alloc_check.specs.declared.check.Verdict.TheVariants.{Yes, No}
 
@@ -18,6 +19,11 @@ use Rattle.alloc_check.specs.declared.check.Verdict.TheVariants.{Yes, No}
 abbrev pub IfYes : Type 0 → Verdict → Type 0
 IfYes P Yes = P
 IfYes P (No place) = Unit {0}
+
+-- a No says this, a Yes nothing
+abbrev pub IfNo : (Place → Type 0) → Verdict → Type 0
+IfNo P Yes = Unit {0}
+IfNo P (No place) = P place
 
 -- Of rows of two functions: a Yes just where they hold with some family of facts, from the start of both
 abbrev pub Judges : Target → Function → Function → List Row → Verdict → Type 0
@@ -31,9 +37,19 @@ pub record AreAlike (t : Target) (f g : Function) : Type 0 where
   pub blocks : block_doubt t f g ≡ None
   pub partners : partner_doubt t f g ≡ None
 
+-- Of functions that match: a Yes just where the facts hold that are compared, and else the first place whose pair lacks one
+abbrev pub JudgesFacts : Target → Function → Function → Verdict → Type 0
+JudgesFacts t f g Yes = SharedFactsHold t f g
+JudgesFacts t f g (No place) = (SharedFactsHold t f g → ⊥) × LacksFact t f g place
+
 -- where the functions don't match, the verdict is No with the first place at which they don't
 abbrev pub TellsUnlike : Target → Function → Function → Verdict → Type 0
 TellsUnlike t f g v = (p : Place) → option_or (block_doubt t f g) (partner_doubt t f g) ≡ Some p → v ≡ No p
+
+-- What a verdict says of agreement.
+abbrev pub TellsAgreement : Target → Function → Function → Verdict → Type 0
+TellsAgreement t f g Yes = Confirms t f g
+TellsAgreement t f g (No place) = Doubts t f g place
 
 -- The allocated function is right for its source: it is valid in the allocated form, names no virtual register, matches
 -- the source, and does all that the source does.

@@ -95,6 +95,7 @@ fn marks_of(alloc: Global, slots: u32, writes: &[Write]) -> Result<Vec<u8>, Allo
     Ok(marks)
 }
 
+/// Whether a slot has a mark that isn't 0. One that lies beyond the marks counts as marked.
 pub fn is_marked(marks: &[u8], slot: usize) -> bool
     ensures { result ≡ is_marked marks.now slot }
 {
@@ -108,6 +109,19 @@ pub struct Marked {
     coarse: Vec<u8>,
     /// By more slots, for the facts of one cell.
     fine: Vec<u8>,
+}
+
+/// What both functions write, with where its lanes are marked.
+#[derive(Drop)]
+pub struct MarkedWrites<'a> {
+    /// What the first function writes.
+    pub first: &'a [Write],
+    /// What the second function writes.
+    pub second: &'a [Write],
+    /// The marks of the first function's lanes.
+    pub first_marks: Marked,
+    /// The marks of the second function's lanes.
+    pub second_marks: Marked,
 }
 
 /// The marks of the lanes that are written, with so many slots in cells.
@@ -161,21 +175,14 @@ fn stays_by(slots: u32, marks: &Marked, writes: &[Write], source: &Source) -> bo
 }
 
 /// Whether the writes of both leave all facts as they are.
-fn all_stay(
-    slots: u32,
-    first_marks: &Marked,
-    second_marks: &Marked,
-    first: &[Write],
-    second: &[Write],
-    facts: &[Fact],
-) -> bool
-    requires first { IsMarked slots first_marks.now first.now }
-    requires second { IsMarked slots second_marks.now second.now }
-    ensures { result ≡ list_all (stays_both first.now second.now) facts.now }
+fn all_stay(slots: u32, writes: &MarkedWrites<'_>, facts: &[Fact]) -> bool
+    requires first { IsMarked slots writes.now.first_marks writes.now.first.now }
+    requires second { IsMarked slots writes.now.second_marks writes.now.second.now }
+    ensures { result ≡ list_all (stays_both writes.now.first.now writes.now.second.now) facts.now }
 {
     for f in facts {
-        if !stays_by(slots, first_marks, first, &f.0)
-            || !stays_by(slots, second_marks, second, &f.1)
+        if !stays_by(slots, &writes.first_marks, writes.first, &f.0)
+            || !stays_by(slots, &writes.second_marks, writes.second, &f.1)
         {
             return false;
         }
@@ -212,32 +219,22 @@ fn split(
 pub fn take_from(
     alloc: Global,
     slots: u32,
-    first_marks: &Marked,
-    second_marks: &Marked,
-    first: &[Write],
-    second: &[Write],
+    writes: &MarkedWrites<'_>,
     cell: &mut Cell,
     taken: &mut Facts,
 ) -> Result<(), AllocError>
-    requires first { IsMarked slots first_marks.now first.now }
-    requires second { IsMarked slots second_marks.now second.now }
-    ensures { OnOk result (CellTakes slots first.now second.now cell.old taken.old cell.new taken.new) }
+    requires first { IsMarked slots writes.now.first_marks writes.now.first.now }
+    requires second { IsMarked slots writes.now.second_marks writes.now.second.now }
+    ensures { OnOk result (CellTakes slots writes.now.first.now writes.now.second.now cell.old taken.old cell.new taken.new) }
 {
-    let left = is_marked(first_marks.coarse.as_slice(), cell.left);
-    let right = is_marked(second_marks.coarse.as_slice(), cell.right);
+    let left = is_marked(writes.first_marks.coarse.as_slice(), cell.left);
+    let right = is_marked(writes.second_marks.coarse.as_slice(), cell.right);
     if !left && !right {
         return Ok(());
     }
-    if all_stay(
-        slots,
-        first_marks,
-        second_marks,
-        first,
-        second,
-        cell.facts.as_slice(),
-    ) {
+    if all_stay(slots, writes, cell.facts.as_slice()) {
         return Ok(());
     }
-    cell.facts = split(alloc, slots, first, second, cell, taken)?;
+    cell.facts = split(alloc, slots, writes.first, writes.second, cell, taken)?;
     Ok(())
 }

@@ -1,12 +1,15 @@
 //! The verdict on a source and an allocated function.
 
-ghost use Rattle.std.specs.Prelude.{◌≡◌, IsTrue, IfOk, true, false};
+ghost use Rattle.std.specs.Prelude.{◌≡◌, IsTrue, IfOk, None, true, false};
 ghost use Rattle.meaning.specs.Agree.{rows_hold};
 ghost use Rattle.meaning.specs.Facts.{known_at_start};
+ghost use Rattle.mir_meaning.specs.Agreement.{block_doubt, partner_doubt};
 ghost use Rattle.mir_meaning.specs.Codes.{refines, given_of};
 ghost use Rattle.alloc_check.specs.Bare.{AreSides};
 ghost use Rattle.alloc_check.specs.Families.{HoldsWith, Decides};
-ghost use Rattle.alloc_check.specs.Verdict.{IfYes, Judges, AreAlike, TellsUnlike};
+ghost use Rattle.alloc_check.specs.Asking.{is_pair, counted_rows};
+ghost use Rattle.alloc_check.specs.Doubt.{LacksAt, Lacking};
+ghost use Rattle.alloc_check.specs.Verdict.{IfYes, IfNo, Judges, JudgesFacts, AreAlike, TellsUnlike};
 ghost use Rattle.std.specs.List.{list_any};
 ghost use Rattle.mir_meaning.specs.Valid.{names_virtual};
 
@@ -49,43 +52,66 @@ pub(crate) fn holds(
     }
 }
 
-/// Whether some number of the first counted pairs, up to a greatest, has no family.
-fn lacks(
-    alloc: Global,
-    t: &Target,
-    f: &Func,
-    g: &Func,
-    rows: &[Row],
-    shape: &Shape,
-    asking: usize,
-) -> Result<bool, AllocError> {
-    Ok(family_of(alloc, t, f, g, rows, shape, asking)?.is_none())
-}
-
-/// The first counted instruction that lacks a fact: the first pairs up to it have no family, and
-/// those before it have one.
+/// The first row that lacks a fact: with some family the rows before it have what they need, and with
+/// none these and it.
 fn first_lacking(
     alloc: Global,
     t: &Target,
     f: &Func,
     g: &Func,
     rows: &[Row],
-    shape: &Shape,
-) -> Result<Place, AllocError> {
+) -> Result<usize, AllocError>
+    requires { HoldsWith t.now f.now g.now rows.now → ⊥ }
+    ensures { IfOk result (λ at. LacksAt t.now f.now g.now rows.now at) }
+{
     let mut low: usize = 0;
-    let mut high = shape.counted();
-    for _ in 0..64 {
-        if low >= high {
-            break;
-        }
+    let mut high = rows.len();
+    'halves: while high - low > 1 {
         let middle = low + (high - low) / 2;
-        if lacks(alloc, t, f, g, rows, shape, middle)? {
-            high = middle;
+        if decide(alloc, t, f, g, rows, middle)? {
+            low = middle;
         } else {
-            low = middle + 1;
+            high = middle;
         }
     }
-    Ok(counted_place(t, f, low.saturating_sub(1)))
+    Ok(low)
+}
+
+/// How many rows are pairs of counted instructions.
+fn counted_rows(rows: &[Row]) -> usize
+    ensures { result ≡ counted_rows rows.now }
+{
+    let mut count: usize = 0;
+    for k in 0..rows.len() {
+        if is_pair(&rows[k]) {
+            count += 1;
+        }
+    }
+    count
+}
+
+fn is_pair(row: &Row) -> bool
+    ensures { result ≡ is_pair row.now }
+{
+    match row {
+        Row::BothCounted(_, _, _, _, _, _, _) => true,
+        _ => false,
+    }
+}
+
+/// The place of the first counted instruction that lacks a fact.
+fn lacking_place(
+    alloc: Global,
+    t: &Target,
+    f: &Func,
+    g: &Func,
+    rows: &[Row],
+) -> Result<Place, AllocError>
+    requires { HoldsWith t.now f.now g.now rows.now → ⊥ }
+    ensures { IfOk result (λ p. Lacking t.now f.now g.now rows.now p) }
+{
+    let at = first_lacking(alloc, t, f, g, rows)?;
+    counted_place(alloc, t, f, counted_rows(&rows[..at]))
 }
 
 /// Whether the quick search finds a family with which rows hold from the start of both functions.
@@ -100,7 +126,7 @@ fn finds(
 ) -> Result<bool, AllocError>
     ensures { IfOk result (λ yes. IsTrue yes → HoldsWith t.now f.now g.now rows.now) }
 {
-    match family_of(alloc, t, f, g, rows, shape, usize::MAX)? {
+    match family_of(alloc, t, f, g, rows, shape)? {
         None => Ok(false),
         Some(family) => holds(alloc, t, f, g, rows, &family),
     }
@@ -121,7 +147,7 @@ fn have_family(
     if finds(alloc, t, f, g, rows, shape)? {
         return Ok(true);
     }
-    decide(alloc, t, f, g, rows)
+    decide(alloc, t, f, g, rows, rows.len())
 }
 
 /// Yes just where some family gives the rows what they need, and else the first instruction that lacks
@@ -135,13 +161,14 @@ fn judged(
 ) -> Result<Verdict, AllocError>
     requires { AreSides t.now f.now g.now rows.now }
     ensures exact { IfOk result (Judges t.now f.now g.now rows.now) }
+    ensures first { IfOk result (IfNo (Lacking t.now f.now g.now rows.now)) }
     ensures refines { IfOk result (IfYes (refines t.now f.now g.now)) }
 {
     let shape = shape_of(alloc, rows)?;
     if have_family(alloc, t, f, g, rows, &shape)? {
         return Ok(Verdict::Yes);
     }
-    Ok(Verdict::No(first_lacking(alloc, t, f, g, rows, &shape)?))
+    Ok(Verdict::No(lacking_place(alloc, t, f, g, rows)?))
 }
 
 /// Whether the functions match, and a family of facts gives what is needed.
@@ -154,12 +181,14 @@ fn compared(
     ensures alike { IfOk result (IfYes (AreAlike target.now source.now allocated.now)) }
     ensures refines { IfOk result (IfYes (refines target.now source.now allocated.now)) }
     ensures unlike { IfOk result (TellsUnlike target.now source.now allocated.now) }
+    ensures facts { IfOk result (λ v. block_doubt target.now source.now allocated.now ≡ None → partner_doubt target.now source.now allocated.now ≡ None → JudgesFacts target.now source.now allocated.now v) }
 {
+    let _next = source.next_id;
     if let Some(place) = first_unlike(alloc, target, source, allocated)? {
         return Ok(Verdict::No(place));
     }
     match rows_of(alloc, target, source, allocated)? {
-        None => Ok(Verdict::No(counted_place(target, source, 0))),
+        None => Ok(Verdict::No(counted_place(alloc, target, source, 0)?)),
         Some(rows) => judged(alloc, target, source, allocated, rows.as_slice()),
     }
 }
@@ -179,6 +208,7 @@ pub fn agree(
     ensures alike { IfOk result (IfYes (AreAlike target.now source.now allocated.now)) }
     ensures refines { IfOk result (IfYes (refines target.now source.now allocated.now)) }
     ensures unlike { list_any names_virtual allocated.now.blocks ≡ false → IfOk result (TellsUnlike target.now source.now allocated.now) }
+    ensures facts { list_any names_virtual allocated.now.blocks ≡ false → IfOk result (λ v. block_doubt target.now source.now allocated.now ≡ None → partner_doubt target.now source.now allocated.now ≡ None → JudgesFacts target.now source.now allocated.now v) }
 {
     if func_names_virtual(allocated) {
         return Ok(Verdict::No(entry_place(source)));

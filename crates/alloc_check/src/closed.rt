@@ -12,6 +12,7 @@ ghost use Rattle.meaning.specs.declared.types.Ways.{Ways as SomeWays};
 ghost use Rattle.meaning.specs.Lanes.{Reads, Writes as SomeWrites};
 ghost use Rattle.alloc_check.specs.Needs.{Lead, Adds, Least, Carry, Suffice, behind_falls, Leave, writes_ask, row_asks};
 ghost use Rattle.alloc_check.specs.Cells.{asked};
+ghost use Rattle.alloc_check.specs.Asking.{asking};
 
 use crate::facts::{Fact, Facts};
 use crate::needs::{Needs, add_along, add_before, add_operands, needs_of};
@@ -171,26 +172,37 @@ fn before_end(
     add_ways(alloc, family, exits.as_slice(), needs)
 }
 
-/// What a counted instruction leaves behind.
-pub fn before_writes(
+/// What a pair of counted instructions leaves behind: what both write, and the ways that paths take
+/// from it.
+#[derive(Clone, Copy)]
+struct Leaving<'a> {
+    /// What the first function's instruction writes.
+    first: &'a [Write],
+    /// What the second function's writes.
+    second: &'a [Write],
+    /// The way to its target, if it has one.
+    target: &'a Option<Ways>,
+    /// The ways from its exit, beside the next instruction.
+    exits: &'a List<Ways>,
+}
+
+/// Takes needs to the place before what a pair of counted instructions leaves behind.
+fn before_writes(
     alloc: Global,
     family: &Family,
-    first: &[Write],
-    second: &[Write],
-    target: &Option<Ways>,
-    exits: &List<Ways>,
+    leaving: &Leaving<'_>,
     needs: &mut Needs,
 ) -> Result<bool, AllocError>
-    ensures enough { IfOk result (λ yes. IsTrue yes → Leave family.now first.now second.now target.now exits.now (asked needs.old) (asked needs.new)) }
-    ensures least { IfOk result (λ yes. Least (writes_ask family.now first.now second.now target.now exits.now (asked needs.old)) yes (asked needs.new)) }
+    ensures enough { IfOk result (λ yes. IsTrue yes → Leave family.now leaving.now.first.now leaving.now.second.now leaving.now.target.now leaving.now.exits.now (asked needs.old) (asked needs.new)) }
+    ensures least { IfOk result (λ yes. Least (writes_ask family.now leaving.now.first.now leaving.now.second.now leaving.now.target.now leaving.now.exits.now (asked needs.old)) yes (asked needs.new)) }
 {
-    if !add_target(alloc, family, target, needs)? {
+    if !add_target(alloc, family, leaving.target, needs)? {
         return Ok(false);
     }
-    if !add_ways(alloc, family, exits.as_slice(), needs)? {
+    if !add_ways(alloc, family, leaving.exits.as_slice(), needs)? {
         return Ok(false);
     }
-    step_both(alloc, first, second, needs)
+    step_both(alloc, leaving.first, leaving.second, needs)
 }
 
 fn before_first_silent(
@@ -245,11 +257,47 @@ pub fn before_row(
         Row::SecondSilent(_, writes) => before_second_silent(alloc, writes, needs),
         Row::BothCounted(_, left, right, first, second, target, exits) => {
             let (first, second) = (first.as_slice(), second.as_slice());
-            if !before_writes(alloc, family, first, second, target, exits, needs)? {
+            let leaving = Leaving {
+                first,
+                second,
+                target,
+                exits,
+            };
+            if !before_writes(alloc, family, &leaving, needs)? {
                 return Ok(false);
             }
             before_reads(alloc, left, right, needs)
         }
+    }
+}
+
+/// Takes needs to the place before a row, of which a counted pair asks for what it reads only where
+/// `reads` says so.
+pub fn before_asking(
+    alloc: Global,
+    family: &Family,
+    row: &Row,
+    reads: bool,
+    needs: &mut Needs,
+) -> Result<bool, AllocError>
+    ensures enough { IfOk result (λ yes. IsTrue yes → Carry family.now (asking reads row.now) (asked needs.old) (asked needs.new)) }
+    ensures least { IfOk result (λ yes. Least (row_asks family.now (asking reads row.now) (asked needs.old)) yes (asked needs.new)) }
+{
+    if reads {
+        return before_row(alloc, family, row, needs);
+    }
+    match row {
+        Row::BothCounted(_, _, _, first, second, target, exits) => {
+            let (first, second) = (first.as_slice(), second.as_slice());
+            let leaving = Leaving {
+                first,
+                second,
+                target,
+                exits,
+            };
+            before_writes(alloc, family, &leaving, needs)
+        }
+        _ => before_row(alloc, family, row, needs),
     }
 }
 

@@ -1,9 +1,10 @@
 //! Where two functions don't match: their blocks, and their counted instructions in pairs.
 
-ghost use Rattle.std.specs.Prelude.{◌≡◌, ◌∷◌, ◌≤◌, ◌<◌, ◌^◌, [], filter, length, option_map, IfSome, MatchOption, IfOk, map};
+ghost use Rattle.std.specs.Prelude.{◌≡◌, ◌∷◌, ◌≤◌, ◌<◌, ◌^◌, [], filter, length, option_map, flat_map, ◌++◌, IfSome, MatchOption, IfOk, OnOk, map};
 ghost use Rattle.std.specs.List.{All, list_all};
 ghost use Rattle.std.specs.Option.{option_or};
-ghost use Rattle.mir_meaning.specs.Agreement.{blocks_alike, entries_alike, unlike_block, further_block, block_doubt, is_counted, unpaired, unpaired_in, partner_doubt, place};
+ghost use Rattle.mir_meaning.specs.Agreement.{blocks_alike, entries_alike, unlike_block, further_block, block_doubt, is_counted, unpaired, unpaired_in, partner_doubt, place, counted_from, counted_places};
+ghost use Rattle.alloc_check.specs.Doubt.{IsNth};
 ghost use Rattle.mir_meaning.specs.Registers.{has_number};
 ghost use Rattle.mir_meaning.specs.Rules.{successors_of};
 ghost use Rattle.mir_meaning.specs.Valid.{listed_units};
@@ -13,7 +14,7 @@ use mir_func::opcodes::effect_of;
 use mir_func::{Block, Func, Instr, Place};
 use std::alloc::{AllocError, Global};
 use target_base::roles::is_silent;
-use target_base::{Boxed, Target, Unit};
+use target_base::{Boxed, List, Target, Unit};
 
 /// Whether an instruction counts in a run.
 pub fn is_counted(t: &Target, i: &Instr) -> bool
@@ -307,20 +308,48 @@ pub fn first_unlike(
     }
 }
 
-/// The place of the n-th counted instruction in layout; the function's start where there is none.
-pub fn counted_place(t: &Target, f: &Func, n: usize) -> Place {
-    let mut left = n;
-    for b in f.blocks.as_slice() {
-        for k in 0..b.instrs.len() {
-            if is_counted(t, b.instrs.get(k)) {
-                if left == 0 {
-                    return place(b, k);
-                }
-                left -= 1;
-            }
+/// Adds the places of a block's counted instructions.
+fn push_counted(places: &mut List<Place>, t: &Target, b: &Block) -> Result<(), AllocError>
+    requires { length b.now.instrs < 2 ^ 32 }
+    ensures { OnOk result (places.new ≡ places.old ++ counted_from t.now b.now.number 0 b.now.instrs) }
+{
+    for k in 0..b.instrs.len() {
+        if is_counted(t, b.instrs.get(k)) {
+            places.push(place(b, k))?;
         }
     }
+    Ok(())
+}
+
+/// The places of the counted instructions of blocks in layout.
+fn places_in(alloc: Global, t: &Target, blocks: &[Block]) -> Result<List<Place>, AllocError>
+    requires { All (λ b. length b.instrs < 2 ^ 32) blocks.now }
+    ensures { IfOk result (λ made. made ≡ flat_map (λ b. counted_from t.now b.number 0 b.instrs) blocks.now) }
+{
+    let mut made = List::new(alloc);
+    for b in blocks {
+        push_counted(&mut made, t, b)?;
+    }
+    Ok(made)
+}
+
+/// The n-th of places; the function's start where there is none.
+fn place_at(f: &Func, places: &[Place], n: usize) -> Place
+    ensures { IsNth places.now n result }
+{
+    if n < places.len() {
+        return places[n];
+    }
     entry_place(f)
+}
+
+/// The place of the n-th counted instruction in layout; the function's start where there is none.
+pub fn counted_place(alloc: Global, t: &Target, f: &Func, n: usize) -> Result<Place, AllocError>
+    ensures { IfOk result (IsNth (counted_places t.now f.now) n) }
+{
+    let _last = f.next_id;
+    let places = places_in(alloc, t, f.blocks.as_slice())?;
+    Ok(place_at(f, places.as_slice(), n))
 }
 
 /// The start of the function.

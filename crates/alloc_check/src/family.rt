@@ -1,7 +1,7 @@
 //! A family of facts by iteration: the least one that gives what is needed. Nothing rests on it,
 //! since `closed` tests what comes out.
 
-use crate::closed::{Family, before_row, before_writes, facts_at};
+use crate::closed::{Family, before_row, facts_at};
 use crate::facts::{Fact, Facts};
 use crate::needs::{Needs, needs_of};
 use crate::start::all_start;
@@ -17,8 +17,6 @@ pub struct Shape {
     numbers: Vec<u32>,
     /// The places of their starts among the rows, and the number of rows.
     starts: Vec<usize>,
-    /// How many counted pairs stand before each start.
-    counts: Vec<usize>,
     /// The places in layout of the blocks from which ways lead into each block.
     predecessors: Vec<Vec<usize>>,
 }
@@ -65,37 +63,22 @@ fn add_ways_from(shape: &mut Shape, from: usize, row: &Row) -> Result<(), AllocE
     }
 }
 
-fn is_counted(row: &Row) -> bool {
-    match row {
-        Row::BothCounted(_, _, _, _, _, _, _) => true,
-        _ => false,
-    }
-}
-
 /// The shape without ways.
 fn bare_shape(alloc: Global, rows: &[Row]) -> Result<Shape, AllocError> {
     let mut numbers = Vec::new(alloc);
     let mut starts = Vec::new(alloc);
-    let mut counts = Vec::new(alloc);
     let mut predecessors = Vec::new(alloc);
-    let mut count: usize = 0;
     for (k, row) in rows.iter().enumerate() {
         if let Row::BothStart(n) = row {
             numbers.push(*n)?;
             starts.push(k)?;
-            counts.push(count)?;
             predecessors.push(Vec::new(alloc))?;
-        }
-        if is_counted(row) {
-            count = count.saturating_add(1);
         }
     }
     starts.push(rows.len())?;
-    counts.push(count)?;
     Ok(Shape {
         numbers,
         starts,
-        counts,
         predecessors,
     })
 }
@@ -114,20 +97,8 @@ pub fn shape_of(alloc: Global, rows: &[Row]) -> Result<Shape, AllocError> {
 }
 
 impl Shape {
-    /// How many counted pairs there are.
-    pub fn counted(&self) -> usize {
-        match self.counts.as_slice().last() {
-            None => 0,
-            Some(count) => *count,
-        }
-    }
-
     fn start(&self, k: usize) -> usize {
         self.starts.get(k).copied().unwrap_or(0)
-    }
-
-    fn count(&self, k: usize) -> usize {
-        self.counts.get(k).copied().unwrap_or(0)
     }
 
     fn number(&self, k: usize) -> Option<u32> {
@@ -135,53 +106,26 @@ impl Shape {
     }
 }
 
-/// What one row asks; a counted pair asks for what it reads only where `reads` says so.
-fn step(
-    alloc: Global,
-    family: &Family,
-    row: &Row,
-    reads: bool,
-    needs: &mut Needs,
-) -> Result<bool, AllocError> {
-    match row {
-        Row::BothCounted(_, _, _, first, second, target, exits) => {
-            if reads {
-                return before_row(alloc, family, row, needs);
-            }
-            let (first, second) = (first.as_slice(), second.as_slice());
-            before_writes(alloc, family, first, second, target, exits, needs)
-        }
-        _ => before_row(alloc, family, row, needs),
-    }
-}
-
-/// What is asked at the start of the k-th block, where the first `asking` counted pairs ask for
-/// what they read. None where it can't hold.
+/// What is asked at the start of the k-th block. None where it can't hold.
 fn block_needs(
     alloc: Global,
     family: &Family,
     rows: &[Row],
     shape: &Shape,
     k: usize,
-    asking: usize,
 ) -> Result<Option<Needs>, AllocError> {
     let mut needs = match shape.number(k.saturating_add(1)) {
         None => Needs::new(alloc)?,
         Some(next) => needs_of(alloc, facts_at(family, next))?,
     };
     let first = shape.start(k).saturating_add(1);
-    let mut count = shape.count(k.saturating_add(1));
     let mut at = shape.start(k.saturating_add(1));
     while at > first {
         at -= 1;
         if at >= rows.len() {
             return Ok(None);
         }
-        let row = &rows[at];
-        if is_counted(row) {
-            count = count.saturating_sub(1);
-        }
-        if !step(alloc, family, row, count < asking, &mut needs)? {
+        if !before_row(alloc, family, &rows[at], &mut needs)? {
             return Ok(None);
         }
     }
@@ -233,14 +177,13 @@ fn update(
     rows: &[Row],
     shape: &Shape,
     k: usize,
-    asking: usize,
     rounds: &mut Rounds,
 ) -> Result<bool, AllocError> {
     if k >= rounds.waiting.len() || k >= rounds.family.len() || !rounds.waiting[k] {
         return Ok(true);
     }
     rounds.waiting[k] = false;
-    match block_needs(alloc, &rounds.family, rows, shape, k, asking)? {
+    match block_needs(alloc, &rounds.family, rows, shape, k)? {
         None => Ok(false),
         Some(needs) => {
             if grow(
@@ -261,20 +204,19 @@ fn round(
     alloc: Global,
     rows: &[Row],
     shape: &Shape,
-    asking: usize,
     rounds: &mut Rounds,
 ) -> Result<bool, AllocError> {
     let mut k = shape.numbers.len();
     while k > 0 {
         k -= 1;
-        if !update(alloc, rows, shape, k, asking, rounds)? {
+        if !update(alloc, rows, shape, k, rounds)? {
             return Ok(false);
         }
     }
     Ok(true)
 }
 
-/// The least family that gives what the first `asking` counted pairs need. None where none does.
+/// The least family that gives what the rows need. None where none does.
 pub fn family_of(
     alloc: Global,
     t: &Target,
@@ -282,7 +224,6 @@ pub fn family_of(
     g: &Func,
     rows: &[Row],
     shape: &Shape,
-    asking: usize,
 ) -> Result<Option<Family>, AllocError> {
     let mut rounds = Rounds {
         family: empty_family(alloc, shape)?,
@@ -294,7 +235,7 @@ pub fn family_of(
             break;
         }
         rounds.changed = false;
-        if !round(alloc, rows, shape, asking, &mut rounds)? {
+        if !round(alloc, rows, shape, &mut rounds)? {
             return Ok(None);
         }
     }

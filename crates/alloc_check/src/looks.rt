@@ -110,7 +110,7 @@ fn hold_with_looks(
     let rows = rows_with_looks(alloc, looked.as_slice(), rows)?;
     let rows = rows.as_slice();
     let shape = shape_of(alloc, rows)?;
-    match family_of(alloc, t, f, g, rows, &shape, usize::MAX)? {
+    match family_of(alloc, t, f, g, rows, &shape)? {
         None => Ok(false),
         Some(family) => holds(alloc, t, f, g, rows, &family),
     }

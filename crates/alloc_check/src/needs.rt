@@ -6,7 +6,7 @@ ghost use Rattle.meaning.specs.Agree.{known_along};
 ghost use Rattle.alloc_check.specs.Needs.{Has, Lead, Adds, Least, IsInstead};
 ghost use Rattle.alloc_check.specs.Cells.{asked, asked_in, counting, IsCellOf, IsMarked, Puts, Takes};
 
-use crate::cells::{Cell, Marked, belongs, is_among, marks_for, source_slot, take_from};
+use crate::cells::{Cell, MarkedWrites, belongs, is_among, marks_for, source_slot, take_from};
 use crate::facts::{
     Fact, Facts, back_both, back_first, back_second, fits_both, fits_first, same_source,
 };
@@ -244,15 +244,13 @@ impl Needs {
         }
         let first_marks = marks_for(alloc, self.slots, first)?;
         let second_marks = marks_for(alloc, self.slots, second)?;
-        let taken = take_from_all(
-            alloc,
-            self.slots,
-            &first_marks,
-            &second_marks,
+        let writes = MarkedWrites {
             first,
             second,
-            &mut self.cells,
-        )?;
+            first_marks,
+            second_marks,
+        };
+        let taken = take_from_all(alloc, self.slots, &writes, &mut self.cells)?;
         self.count = self.count.saturating_sub(taken.len());
         Ok(taken)
     }
@@ -262,29 +260,17 @@ impl Needs {
 fn take_from_all(
     alloc: Global,
     slots: u32,
-    first_marks: &Marked,
-    second_marks: &Marked,
-    first: &[Write],
-    second: &[Write],
+    writes: &MarkedWrites<'_>,
     cells: &mut List<Cell>,
 ) -> Result<Facts, AllocError>
-    requires first { IsMarked slots first_marks.now first.now }
-    requires second { IsMarked slots second_marks.now second.now }
-    ensures { IfOk result (λ taken. Takes first.now second.now (asked_in slots cells.old) taken (asked_in slots cells.new)) }
+    requires first { IsMarked slots writes.now.first_marks writes.now.first.now }
+    requires second { IsMarked slots writes.now.second_marks writes.now.second.now }
+    ensures { IfOk result (λ taken. Takes writes.now.first.now writes.now.second.now (asked_in slots cells.old) taken (asked_in slots cells.new)) }
 {
     let mut taken = List::new(alloc);
     for i in 0..cells.len() {
         let cell = cells.get_mut(i);
-        take_from(
-            alloc,
-            slots,
-            first_marks,
-            second_marks,
-            first,
-            second,
-            cell,
-            &mut taken,
-        )?;
+        take_from(alloc, slots, writes, cell, &mut taken)?;
     }
     Ok(taken)
 }

@@ -1,7 +1,8 @@
 //! The checker of allocations by anybody.
 
 ghost use Rattle.std.specs.Prelude.{IfOk};
-ghost use Rattle.alloc_check.specs.Verdict.{IfYes, IsRight};
+ghost use Rattle.machine_verify.specs.Lives.{FitsTarget};
+ghost use Rattle.alloc_check.specs.Verdict.{IfYes, IsRight, TellsAgreement};
 
 use crate::check::{Verdict, agree};
 use crate::doubts::entry_place;
@@ -26,7 +27,8 @@ pub fn check_pair(
     source: &Valid,
     allocated: &Func,
 ) -> Result<Verdict, AllocError>
-    ensures { IfOk result (IfYes (IsRight target.now source.now.func allocated.now)) }
+    ensures right { IfOk result (IfYes (IsRight target.now source.now.func allocated.now)) }
+    ensures agreement { FitsTarget target.now allocated.now → IfOk result (TellsAgreement target.now source.now.func allocated.now) }
 {
     if !fits(target, allocated) {
         return Ok(Verdict::No(entry_place(allocated)));

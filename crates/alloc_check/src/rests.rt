@@ -78,7 +78,7 @@ pub fn same_numbers(a: &[u32], b: &[u32]) -> bool
 }
 
 fn same_widths(a: &[Numbers], b: &[Numbers]) -> bool
-    ensures { IsTrue result → same_list same_numbers a.now b.now ≡ true }
+    ensures { result ≡ same_list same_numbers a.now b.now }
 {
     if a.len() != b.len() {
         return false;
@@ -98,7 +98,7 @@ fn same_integer(a: i128, b: i128) -> bool
 }
 
 fn same_flags(a: &[bool], b: &[bool]) -> bool
-    ensures { IsTrue result → same_list beq a.now b.now ≡ true }
+    ensures { result ≡ same_list beq a.now b.now }
 {
     if a.len() != b.len() {
         return false;
@@ -113,7 +113,8 @@ fn same_flags(a: &[bool], b: &[bool]) -> bool
 
 /// Whether all that names no register is alike.
 pub fn same_rest(r: &Rest, s: &Rest) -> bool
-    ensures { IsTrue result → r.now ≡ s.now }
+    ensures equal { IsTrue result → r.now ≡ s.now }
+    ensures exact { result ≡ same_rest r.now s.now }
 {
     if !same_effect(r.effect, s.effect) {
         return false;

@@ -6,9 +6,10 @@
 ghost use Rattle.std.specs.Prelude.{[], IfOk, OnOk, true};
 ghost use Rattle.meaning.specs.declared.types.Row.TheVariants.{BothStart};
 ghost use Rattle.meaning.specs.Agree.{Family as SomeFamily};
+ghost use Rattle.alloc_check.specs.Asking.{asking, asked_to};
 ghost use Rattle.alloc_check.specs.Families.{IsPassed, MeetsRow, Passes, Decides, PutsAt};
 
-use crate::closed::{Family, before_row, facts_at};
+use crate::closed::{Family, before_asking, facts_at};
 use crate::facts::Facts;
 use crate::needs::{Needs, needs_of};
 use crate::start::all_start;
@@ -64,40 +65,49 @@ fn pass_start(alloc: Global, family: &mut Family, n: u32, pass: &mut Pass) -> Re
     put(alloc, family, n, asked)
 }
 
-/// Takes a pass to the place before a row. False where the row can't hold.
+/// Takes a pass to the place before a row, of which a counted pair asks for what it reads only where
+/// `reads` says so. False where the row can't hold.
 fn pass_row(
     alloc: Global,
     family: &mut Family,
     row: &Row,
+    reads: bool,
     pass: &mut Pass,
 ) -> Result<bool, AllocError>
-    ensures { IfOk result (λ yes. MeetsRow family.old row.now pass.old yes family.new pass.new) }
+    ensures { IfOk result (λ yes. MeetsRow family.old (asking reads row.now) pass.old yes family.new pass.new) }
 {
     match row {
         Row::BothStart(n) => {
             pass_start(alloc, family, *n, pass)?;
             Ok(true)
         }
-        _ => before_row(alloc, family, row, &mut pass.needs),
+        _ => before_asking(alloc, family, row, reads, &mut pass.needs),
     }
 }
 
-/// One pass over all rows. None where some row can't hold.
-fn pass_over(alloc: Global, family: &mut Family, rows: &[Row]) -> Result<Option<Pass>, AllocError>
-    ensures { IfOk result (λ made. Passes family.old rows.now family.new made) }
+/// One pass over all rows, of which those from a place on ask for nothing that they read. None where
+/// some row can't hold.
+fn pass_over(
+    alloc: Global,
+    family: &mut Family,
+    rows: &[Row],
+    asking: usize,
+) -> Result<Option<Pass>, AllocError>
+    ensures { IfOk result (λ made. Passes family.old (asked_to asking rows.now) family.new made) }
 {
     let mut pass = new_pass(alloc)?;
     let mut k = rows.len();
     while k > 0 {
         k -= 1;
-        if !pass_row(alloc, family, &rows[k], &mut pass)? {
+        if !pass_row(alloc, family, &rows[k], k < asking, &mut pass)? {
             return Ok(None);
         }
     }
     Ok(Some(pass))
 }
 
-/// Whether some family of facts gives the rows what they need, from the start of both functions. Each
+/// Whether some family of facts gives the rows before a place what they need, from the start of both
+/// functions; those from it on ask for nothing that they read. Each
 /// pass but the last needs facts that weren't needed before; so many passes that their number hasn't
 /// 32 bits would need more facts than memory has room for, and end as it does.
 pub fn decide(
@@ -106,12 +116,13 @@ pub fn decide(
     f: &Func,
     g: &Func,
     rows: &[Row],
+    asking: usize,
 ) -> Result<bool, AllocError>
-    ensures { IfOk result (Decides t.now f.now g.now rows.now) }
+    ensures { IfOk result (Decides t.now f.now g.now (asked_to asking rows.now)) }
 {
     let mut family = List::new(alloc);
     for _ in 0..u32::MAX {
-        match pass_over(alloc, &mut family, rows)? {
+        match pass_over(alloc, &mut family, rows, asking)? {
             None => return Ok(false),
             Some(pass) => {
                 if pass.settled {

@@ -17,3 +17,6 @@ returns-then-branch-clause-refines c =
 
 pub returns-clause-exact : goal.returns-clause-exact
 returns-clause-exact c = subst (Decides c.args.t.now c.args.f.now c.args.g.now c.args.rows.now) c.if-branch.false c.in_ok-have_family.ensures
+
+pub lacking_place-requires : goal.lacking_place-requires
+lacking_place-requires c = subst (Decides c.args.t.now c.args.f.now c.args.g.now c.args.rows.now) c.if-branch.false c.in_ok-have_family.ensures
