@@ -32,7 +32,7 @@ fn are_classes(target: &Target, classes: &[Option<ClassId>]) -> bool
 /// Whether each virtual register of a function is of a class of the target, and their numbers have
 /// 32 bits.
 #[tactic(auto, using(crate::proofs::Classes::fits_of, crate::proofs::Classes::few_of, crate::proofs::Classes::classes_of))]
-pub(crate) fn fits(target: &Target, f: &Func) -> bool
+pub fn fits(target: &Target, f: &Func) -> bool
     ensures fits { IsTrue result → FitsTarget target.now f.now }
     ensures exact { FitsTarget target.now f.now → IsTrue result }
 {

@@ -21,5 +21,6 @@ mod start;
 mod written;
 
 pub use check::{Verdict, agree};
+pub use fitting::fits;
 pub use looks::check_reserved;
 pub use pair::check_pair;
