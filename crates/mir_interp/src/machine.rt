@@ -5,7 +5,7 @@ ghost use Rattle.target_base.specs.Storage.{unit_width};
 ghost use Rattle.target_base.specs.Registers.{units_of};
 ghost use Rattle.std.specs.HashMap.{get};
 ghost use Rattle.meaning.specs.Environment.{Environment, entry_value};
-ghost use Rattle.meaning.specs.State.{fill, values, written, nth};
+ghost use Rattle.meaning.specs.State.{fill, written, nth};
 ghost use Rattle.meaning.specs.Perform as meaning;
 ghost use Rattle.meaning.specs.Code.{Code, Goes, walk, runs, run, ended, continued, entered, start_state, found, target_place};
 ghost use Rattle.mir_meaning.specs.Codes.{meaning_of, given_of};
@@ -14,20 +14,20 @@ ghost use Rattle.mir_interp.specs.Holds.{held_by};
 ghost use Rattle.mir_interp.specs.Stands.{Stands, StandsFor, Answers, given_by, end_of};
 ghost use Rattle.mir_interp.specs.Remembers.{Remembers};
 ghost use Rattle.mir_interp.specs.Decoded.{edge_of, item_of_step, code_of_steps};
-ghost use Rattle.mir_interp.specs.Kinds.{control_of, Did};
+ghost use Rattle.mir_interp.specs.Kinds.{control_of};
 ghost use Rattle.mir_interp.specs.Running.{Continues, Stepped, put_in, put_in_turn, reads_no_lane, read_no_lane, given_units, passed_on, gone_on, onward};
 
 use crate::fetch::Surroundings;
 use crate::names::symbols_of;
 use crate::numbers::with_room;
 use crate::outside::Outside;
-use crate::perform::{Control, Performed, Performer};
+use crate::perform::{Control, Performer};
 use crate::steps::{Step, Way, places_of, steps_of};
 use crate::store::Store;
 use crate::types::{End, Events, Lanes, Outcome};
 use crate::world::World;
 use instr_effects::items::counted::low_bits;
-use meaning::{Fill, Lane, Reads, Rest, Source, Write};
+use meaning::{Fill, Lane, Source, Write};
 use mir_func::Func;
 use std::alloc::{AllocError, Global};
 use std::collections::HashMap;
@@ -313,6 +313,17 @@ struct Machine {
     events: Events,
 }
 
+/// How an instruction that was done passes control on.
+#[derive(Clone, Copy)]
+struct Transfer<'a> {
+    /// The place of the instruction.
+    at: usize,
+    /// Its branch target.
+    target: &'a Option<Way>,
+    /// Which way it chose.
+    control: Control,
+}
+
 /// Where a run goes on behind an instruction that was done.
 fn go_on<W: World>(
     alloc: Global,
@@ -320,45 +331,20 @@ fn go_on<W: World>(
     store: &mut Store,
     steps: &[Step],
     places: &HashMap<u32, usize>,
-    at: usize,
-    target: &Option<Way>,
-    control: Control,
+    transfer: &Transfer,
 ) -> Result<Result<usize, End>, AllocError>
-    requires room { at < length steps.now }
+    requires room { transfer.now.at < length steps.now }
     requires places { (n : ℕ) → found n (code_of_steps steps.now) ≡ drop (unwrap_or (get nat_eq places.now n) (length steps.now)) (code_of_steps steps.now) }
-    ensures { IfOk result (λ r. (m : ℕ) (env : Environment) → Stands (given_by W.entry W.byte W.frame W.symbol W.answer around.now.world.now) around.now.symbols.now m env → (next : Goes) (o : meaning.Outside) → continued (control_of control) (next (drop (suc at) (code_of_steps steps.now)) (held_by store.old) o) (next (target_place (code_of_steps steps.now) (option_map edge_of target.now)) (entered env (option_map edge_of target.now) (held_by store.old)) o) ≡ onward (code_of_steps steps.now) next r (held_by store.new) o) }
+    ensures { IfOk result (λ r. (m : ℕ) (env : Environment) → Stands (given_by W.entry W.byte W.frame W.symbol W.answer around.now.world.now) around.now.symbols.now m env → (next : Goes) (o : meaning.Outside) → continued (control_of transfer.now.control) (next (drop (suc transfer.now.at) (code_of_steps steps.now)) (held_by store.old) o) (next (target_place (code_of_steps steps.now) (option_map edge_of transfer.now.target.now)) (entered env (option_map edge_of transfer.now.target.now) (held_by store.old)) o) ≡ onward (code_of_steps steps.now) next r (held_by store.new) o) }
 {
-    match control {
-        Control::Next => Ok(Ok(at + 1)),
+    match transfer.control {
+        Control::Next => Ok(Ok(transfer.at + 1)),
         Control::Taken => {
-            let place = enter(alloc, around, store, steps, places, target)?;
+            let place = enter(alloc, around, store, steps, places, transfer.target)?;
             Ok(Ok(place))
         }
         Control::Stop(end) => Ok(Err(end)),
     }
-}
-
-/// Performs a counted instruction on what lies outside the lanes.
-fn perform<'a, W: World>(
-    alloc: Global,
-    around: &'a Surroundings<'a, W>,
-    store: &'a Store,
-    rest: &'a Rest,
-    reads: &'a Reads,
-    outside: &mut Outside,
-    events: &mut Events,
-) -> Result<Performed, AllocError>
-    ensures calls { OnOk result (outside.new.calls ≤ outside.old.calls + 1) }
-    ensures did { IfOk result (λ p. (m : ℕ) (env : Environment) → Stands (given_by W.entry W.byte W.frame W.symbol W.answer around.now.world.now) around.now.symbols.now m env → (o : meaning.Outside) → Remembers env outside.old o → o.calls < m → Did env p outside.new events.old events.new (meaning.perform rest.now env o (values env (held_by store.now) reads.now))) }
-{
-    let performer = Performer {
-        around,
-        store,
-        rest,
-        reads,
-    };
-    let performed = performer.perform(alloc, outside, events)?;
-    Ok(performed)
 }
 
 /// Does the counted instruction at a place; the place to go on at, or the end.
@@ -379,12 +365,14 @@ fn step<W: World>(
     }
     match &steps[at] {
         Step::Counted(rest, reads, writes, target) => {
-            let (results, control) = perform(
-                alloc,
-                &*around,
-                &machine.store,
+            let performer = Performer {
+                around: &*around,
+                store: &machine.store,
                 rest,
                 reads,
+            };
+            let (results, control) = performer.perform(
+                alloc,
                 &mut machine.outside,
                 &mut machine.events,
             )?;
@@ -396,15 +384,18 @@ fn step<W: World>(
                 computed,
                 writes.as_slice(),
             )?;
+            let transfer = Transfer {
+                at,
+                target,
+                control,
+            };
             let onward = go_on(
                 alloc,
                 around,
                 &mut machine.store,
                 steps,
                 places,
-                at,
-                target,
-                control,
+                &transfer,
             )?;
             Ok(onward)
         }

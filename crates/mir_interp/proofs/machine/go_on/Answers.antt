@@ -8,7 +8,7 @@ use Rattle.mir_interp.proofs.machine.go_on.Goals as goal
 
 pub returns-in_ok-place-in-Taken : goal.returns-in_ok-place-in-Taken
 returns-in_ok-place-in-Taken g c = λ m env h next o.
-    let after = entered env (option_map edge_of c.args.target.now) (held_by c.args.store.now) in
-    ap (λ k. continued (control_of k) (next (drop (suc c.args.at) (code_of_steps c.args.steps.now)) (held_by c.args.store.now) o) (next (target_place (code_of_steps c.args.steps.now) (option_map edge_of c.args.target.now)) (entered env (option_map edge_of c.args.target.now) (held_by c.args.store.now)) o)) c.in-Taken.is
-    ∙ (ap (λ p. next p (entered env (option_map edge_of c.args.target.now) (held_by c.args.store.now)) o) (sym c.in_ok-place-in-Taken.ensures.place)
+    let edge = option_map edge_of c.args.transfer.now.target.now in
+    ap (λ k. continued (control_of k) (next (drop (suc c.args.transfer.now.at) (code_of_steps c.args.steps.now)) (held_by c.args.store.now) o) (next (target_place (code_of_steps c.args.steps.now) edge) (entered env edge (held_by c.args.store.now)) o)) c.in-Taken.is
+    ∙ (ap (λ p. next p (entered env edge (held_by c.args.store.now)) o) (sym c.in_ok-place-in-Taken.ensures.place)
     ∙ ap (λ s. next (drop c.in_ok-place-in-Taken.place (code_of_steps c.args.steps.now)) s o) (sym (c.in_ok-place-in-Taken.ensures.state m env h)))
