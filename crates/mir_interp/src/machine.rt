@@ -389,14 +389,7 @@ fn step<W: World>(
                 target,
                 control,
             };
-            let onward = go_on(
-                alloc,
-                around,
-                &mut machine.store,
-                steps,
-                places,
-                &transfer,
-            )?;
+            let onward = go_on(alloc, around, &mut machine.store, steps, places, &transfer)?;
             Ok(onward)
         }
         // (`advance` stops at none of these)
