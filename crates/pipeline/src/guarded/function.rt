@@ -21,6 +21,14 @@ use mir_func::{Func, Valid};
 use std::alloc::Global;
 use target_base::{Bytes, Copied, Target};
 
+/// A run of an allocator.
+#[derive(Clone, Copy)]
+struct AllocatorRun {
+    allocator: Allocator,
+    /// The number of the function in its file, with which the run begins.
+    number: u32,
+}
+
 /// The refusal of a valid function of this name for want of registers.
 fn refused(name: Bytes, stop: RegisterStop) -> FunctionStop
     ensures late { (t : TargetValue) → (f : Function) → SaysOfPlaces t f stop → IsOnceTaken t f name result }
@@ -41,8 +49,7 @@ fn allocated_valid<W: Watcher>(
     target: &Target,
     name: Bytes,
     source: LiveSource,
-    allocator: Allocator,
-    number: u32,
+    run: AllocatorRun,
     watchers: &mut Vec<W>,
 ) -> Result<Allocation, FunctionStop>
     requires { IsComputed target.now source.source.func source.table.table }
@@ -51,12 +58,13 @@ fn allocated_valid<W: Watcher>(
     ensures serve { OnOk result (AllServe target.now source.source.func) }
     ensures err { IfErr result (IsOnceTaken target.now source.source.func name) }
     ensures untold { IfErr result (λ stop. comes_before_run stop ≡ true → watchers.new ≡ watchers.old) }
-    ensures told { OnOk result (ToldRun (W.next target.now) number watchers.old.items watchers.new.items) }
+    ensures told { OnOk result (ToldRun (W.next target.now) run.number watchers.old.items watchers.new.items) }
     ensures part { OnErr result (ToldPart (W.next target.now) watchers.old.items watchers.new.items) }
 {
     // (lowering takes the function to pieces, and the guard needs it whole)
     let copy = source.source.func.copy(alloc)?;
     let kept = Valid { func: copy };
+    let AllocatorRun { allocator, number } = run;
     let made = match with_registers(alloc, target, source, allocator, number, watchers) {
         Ok(made) => made,
         Err(stop) => return Err(refused(name, stop)),
@@ -96,7 +104,10 @@ pub fn allocated<W: Watcher>(
     }
     let name = f.name.copied(alloc)?;
     match verify_live(alloc, target, f) {
-        Ok(source) => allocated_valid(alloc, target, name, source, allocator, number, watchers),
+        Ok(source) => {
+            let run = AllocatorRun { allocator, number };
+            allocated_valid(alloc, target, name, source, run, watchers)
+        }
         Err(VerifyStop::Invalid(invalid)) => Err(FunctionStop::Invalid(name, invalid)),
         Err(VerifyStop::Memory(e)) => Err(FunctionStop::Memory(e)),
     }
