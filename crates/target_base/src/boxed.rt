@@ -175,7 +175,9 @@ impl<T: Drop> BoxedList<T> {
 
 impl<T: Copied> Copied for BoxedList<T> {
     fn copied(&self, alloc: Global) -> Result<Self, AllocError> {
-        let mut made = BoxedList::new(alloc);
+        let mut made = BoxedList {
+            items: Vec::with_capacity(alloc, self.items.len())?,
+        };
         for x in self.items.as_slice() {
             made.push(x.get().copied(alloc)?)?;
         }

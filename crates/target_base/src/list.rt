@@ -140,7 +140,9 @@ pub trait Copied: Drop {
 
 impl<T: Copied> Copied for List<T> {
     fn copied(&self, alloc: Global) -> Result<Self, AllocError> {
-        let mut made = List::new(alloc);
+        let mut made = List {
+            items: Vec::with_capacity(alloc, self.items.len())?,
+        };
         for x in self.items.as_slice() {
             made.push(x.copied(alloc)?)?;
         }

@@ -314,8 +314,8 @@ impl Target {
 impl Copied for RegDesc {
     fn copied(&self, alloc: Global) -> Result<RegDesc, AllocError> {
         Ok(RegDesc {
-            name: self.name.copied(alloc)?,
-            units: self.units.copied(alloc)?,
+            name: Bytes::from_slice(alloc, self.name.as_slice())?,
+            units: List::from_slice(alloc, self.units.as_slice())?,
         })
     }
 }
@@ -347,7 +347,7 @@ impl Copied for Role {
 impl Copied for OpcodeDesc {
     fn copied(&self, alloc: Global) -> Result<OpcodeDesc, AllocError> {
         Ok(OpcodeDesc {
-            name: self.name.copied(alloc)?,
+            name: Bytes::from_slice(alloc, self.name.as_slice())?,
             effect: self.effect,
             roles: self.roles.copied(alloc)?,
         })
@@ -357,7 +357,7 @@ impl Copied for OpcodeDesc {
 impl Copied for UnitDesc {
     fn copied(&self, alloc: Global) -> Result<UnitDesc, AllocError> {
         Ok(UnitDesc {
-            name: self.name.copied(alloc)?,
+            name: Bytes::from_slice(alloc, self.name.as_slice())?,
             width: self.width,
         })
     }
@@ -366,8 +366,8 @@ impl Copied for UnitDesc {
 impl Copied for IndexDesc {
     fn copied(&self, alloc: Global) -> Result<IndexDesc, AllocError> {
         Ok(IndexDesc {
-            name: self.name.copied(alloc)?,
-            lanes: self.lanes.copied(alloc)?,
+            name: Bytes::from_slice(alloc, self.name.as_slice())?,
+            lanes: List::from_slice(alloc, self.lanes.as_slice())?,
         })
     }
 }
@@ -375,8 +375,8 @@ impl Copied for IndexDesc {
 impl Copied for ClassDesc {
     fn copied(&self, alloc: Global) -> Result<ClassDesc, AllocError> {
         Ok(ClassDesc {
-            name: self.name.copied(alloc)?,
-            regs: self.regs.copied(alloc)?,
+            name: Bytes::from_slice(alloc, self.name.as_slice())?,
+            regs: List::from_slice(alloc, self.regs.as_slice())?,
         })
     }
 }
@@ -384,8 +384,8 @@ impl Copied for ClassDesc {
 impl Copied for MaskDesc {
     fn copied(&self, alloc: Global) -> Result<MaskDesc, AllocError> {
         Ok(MaskDesc {
-            name: self.name.copied(alloc)?,
-            regs: self.regs.copied(alloc)?,
+            name: Bytes::from_slice(alloc, self.name.as_slice())?,
+            regs: List::from_slice(alloc, self.regs.as_slice())?,
         })
     }
 }
@@ -405,7 +405,7 @@ impl Copied for TextOptions {
 impl Copied for Target {
     fn copied(&self, alloc: Global) -> Result<Target, AllocError> {
         Ok(Target {
-            name: self.name.copied(alloc)?,
+            name: Bytes::from_slice(alloc, self.name.as_slice())?,
             version: self.version,
             units: self.units.copied(alloc)?,
             regs: self.regs.copied(alloc)?,
