@@ -111,6 +111,17 @@ fn class_if(names: &Names, class: &Option<Bytes>) -> Option<Given>
     }
 }
 
+/// What the names of a line are looked up in.
+#[derive(Clone, Copy)]
+pub struct Scope<'a> {
+    /// The names of the target.
+    pub names: &'a Names,
+    /// The headers of blocks on the lines before.
+    pub headers: &'a Headers,
+    /// The registers of the keys.
+    pub keyed: &'a Ranges,
+}
+
 /// Where an operand lies and its index; its register is named and given what is written. None where a
 /// name isn't known.
 #[tactic(auto, unfolding(crate::specs::Resolving::placed))]
@@ -172,25 +183,24 @@ fn are_flags(names: &Names, flags: &[Bytes]) -> bool
 #[tactic(auto, unfolding(crate::specs::Resolving::operand_named))]
 fn operand(
     alloc: Global,
-    names: &Names,
-    headers: &Headers,
-    keyed: &Ranges,
+    scope: &Scope,
     ranges: &mut Ranges,
     raw: &RawOperand,
 ) -> Result<Option<Operand>, AllocError>
     requires { length ranges.old.names < 4294967295 }
-    ensures value { IfOk result (λ o. option_map (λ p. (ranges.new, p)) o ≡ operand_named names.now headers.now keyed.now ranges.old raw.now) }
+    ensures value { IfOk result (λ o. option_map (λ p. (ranges.new, p)) o ≡ operand_named scope.now.names.now scope.now.headers.now scope.now.keyed.now ranges.old raw.now) }
     ensures more { IfOk result (λ o. IfSome o (λ p. length ranges.new.names ≤ length ranges.old.names + 1)) }
     ensures given { IfOk result (λ o. IfSome o (λ p. length ranges.new.given ≤ length ranges.old.given + 1)) }
 {
+    let names = scope.names;
     match raw {
-        RawOperand::Reg(o) => match place(alloc, names, keyed, ranges, &o.place)? {
+        RawOperand::Reg(o) => match place(alloc, names, scope.keyed, ranges, &o.place)? {
             None => Ok(None),
             Some((loc, index)) => Ok(Some(Operand::Reg(reg_op(loc, index, o)))),
         },
         RawOperand::Imm(n) => Ok(Some(Operand::Imm(*n))),
         RawOperand::Block(n, name) => {
-            if headers.differs(*n, name) {
+            if scope.headers.differs(*n, name) {
                 return Ok(None);
             }
             Ok(Some(Operand::Block(*n)))
@@ -218,19 +228,17 @@ fn operand(
 /// where a name isn't known.
 fn operands(
     alloc: Global,
-    names: &Names,
-    headers: &Headers,
-    keyed: &Ranges,
+    scope: &Scope,
     ranges: &mut Ranges,
     raw: &[RawOperand],
 ) -> Result<Option<Operands>, AllocError>
     requires { length ranges.old.names + length raw.now < 4294967295 }
-    ensures value { IfOk result (λ o. option_map (λ p. (ranges.new, p)) o ≡ operands_named names.now headers.now keyed.now ranges.old raw.now) }
+    ensures value { IfOk result (λ o. option_map (λ p. (ranges.new, p)) o ≡ operands_named scope.now.names.now scope.now.headers.now scope.now.keyed.now ranges.old raw.now) }
     ensures more { IfOk result (λ o. IfSome o (λ p. HasMore ranges.old (length raw.now) (ranges.new, p))) }
 {
     let mut made: Operands = ShortList::new(alloc);
     for o in raw {
-        match operand(alloc, names, headers, keyed, ranges, o)? {
+        match operand(alloc, scope, ranges, o)? {
             None => return Ok(None),
             Some(operand) => made.push(operand)?,
         }
@@ -256,29 +264,20 @@ fn opcode(alloc: Global, names: &Names, raw: &RawInstr) -> Result<Option<Op>, Al
 #[tactic(auto, unfolding(crate::specs::Resolving::instr_named, crate::specs::Resolving::instr_of))]
 pub fn instruction(
     alloc: Global,
-    names: &Names,
-    headers: &Headers,
-    keyed: &Ranges,
+    scope: &Scope,
     ranges: &mut Ranges,
     id: u32,
     raw: RawInstr,
 ) -> Result<Option<Instr>, AllocError>
     requires { length ranges.old.names + length raw.operands < 4294967295 }
-    ensures value { IfOk result (λ o. option_map (λ i. (ranges.new, i)) o ≡ instr_named names.now headers.now keyed.now ranges.old id raw) }
+    ensures value { IfOk result (λ o. option_map (λ i. (ranges.new, i)) o ≡ instr_named scope.now.names.now scope.now.headers.now scope.now.keyed.now ranges.old id raw) }
     ensures more { IfOk result (λ o. IfSome o (λ i. HasMore ranges.old (length raw.operands) (ranges.new, i.operands))) }
     ensures id { IfOk result (λ o. IfSome o (λ i. i.id ≡ id)) }
 {
-    let Some(op) = opcode(alloc, names, &raw)? else {
+    let Some(op) = opcode(alloc, scope.names, &raw)? else {
         return Ok(None);
     };
-    match operands(
-        alloc,
-        names,
-        headers,
-        keyed,
-        ranges,
-        raw.operands.as_slice(),
-    )? {
+    match operands(alloc, scope, ranges, raw.operands.as_slice())? {
         None => Ok(None),
         Some(operands) => Ok(Some(Instr {
             id,

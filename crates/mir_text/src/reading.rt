@@ -14,7 +14,7 @@ use mir_read::body::Body;
 use mir_read::keys::Keys;
 use mir_read::names::Names;
 use mir_read::ranges::Ranges;
-use mir_read::resolve::{self, Headers};
+use mir_read::resolve::{self, Headers, Scope};
 use mir_read::{ReadStop, TextKind};
 use std::alloc::{AllocError, Global};
 use target_base::{Boxed, Bytes, List, Target};
@@ -173,15 +173,12 @@ impl Reading {
             mut body,
         } = self;
         let id = body.get().next_id();
-        let named = resolve::instruction(
-            alloc,
+        let scope = Scope {
             names,
-            headers.get(),
-            &keys.get().registers,
-            ranges.get_mut(),
-            id,
-            raw,
-        )?;
+            headers: headers.get(),
+            keyed: &keys.get().registers,
+        };
+        let named = resolve::instruction(alloc, &scope, ranges.get_mut(), id, raw)?;
         match named {
             None => Err(ReadStop::Fault(TextKind::Name)),
             Some(instr) => {

@@ -12,5 +12,5 @@ loop-o-preserved c =
       ranges = omega (arith, more, c.loop-o.invariant.ranges);
       given = omega (arith, given, c.loop-o.invariant.given);
       made = rw c.in_ok-push-in-Some.ensures.ok (omega (arith, length-append c.loop-o.made (c.in-Some.operand ∷ []), c.loop-o.invariant.made));
-      same = operand_goes c.args.names.now c.args.headers.now c.args.keyed.now c.loop-o.made c.push.new.self c.loop-o.ranges c.operand.new.ranges c.args.raw.now c.loop-o.o-index c.o-item.result c.in-Some.operand (operands_named c.args.names.now c.args.headers.now c.args.keyed.now c.args.ranges.now c.args.raw.now) c.loop-o.invariant.same c.loop-o-test.true c.o-item.is (sym some) c.in_ok-push-in-Some.ensures.ok;
+      same = operand_goes c.args.scope.now.names.now c.args.scope.now.headers.now c.args.scope.now.keyed.now c.loop-o.made c.push.new.self c.loop-o.ranges c.operand.new.ranges c.args.raw.now c.loop-o.o-index c.o-item.result c.in-Some.operand (operands_named c.args.scope.now.names.now c.args.scope.now.headers.now c.args.scope.now.keyed.now c.args.ranges.now c.args.raw.now) c.loop-o.invariant.same c.loop-o-test.true c.o-item.is (sym some) c.in_ok-push-in-Some.ensures.ok;
     }
