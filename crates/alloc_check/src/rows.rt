@@ -16,7 +16,7 @@ use instr_effects::items::results::counted_writes;
 use instr_effects::items::silent::push_silent_writes;
 use instr_effects::items::ways::{fallen_into, push_phis, target_of};
 use meaning::{Reads, Rest, Row, Source, Ways, Writes};
-use mir_func::opcodes::{effect_of, ends_block, is_early_clobber, roles_of};
+use mir_func::opcodes::{effect_of, ends_block};
 use mir_func::{Block, Func, Instr};
 use std::alloc::{AllocError, Global};
 use target_base::roles::is_silent;
@@ -64,8 +64,7 @@ fn silent_writes(
                 return Ok(None);
             }
             let mut writes = List::new(alloc);
-            let early = is_early_clobber(roles_of(t, i));
-            push_silent_writes(&mut writes, alloc, t, f, e, early, i.operands.as_slice())?;
+            push_silent_writes(&mut writes, alloc, t, f, e, i)?;
             Ok(Some(writes))
         }
     }

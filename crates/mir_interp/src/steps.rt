@@ -13,7 +13,7 @@ use instr_effects::items::results::counted_writes;
 use instr_effects::items::silent::push_silent_writes;
 use instr_effects::items::ways::{fallen_into, push_phis, target_of};
 use meaning::{Reads, Rest, Writes};
-use mir_func::opcodes::{effect_of, is_early_clobber, roles_of};
+use mir_func::opcodes::effect_of;
 use mir_func::{Block, Func, Instr};
 use std::alloc::{AllocError, Global};
 use std::collections::HashMap;
@@ -67,8 +67,7 @@ fn silent_step(
     ensures { IfOk result (λ made. (b : Block) → item_of_step made ≡ bare (effect_item t.now f.now b i.now e)) }
 {
     let mut writes = List::new(alloc);
-    let early = is_early_clobber(roles_of(t, i));
-    push_silent_writes(&mut writes, alloc, t, f, e, early, i.operands.as_slice())?;
+    push_silent_writes(&mut writes, alloc, t, f, e, i)?;
     Ok(Step::Silent(writes))
 }
 

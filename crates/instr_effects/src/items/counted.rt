@@ -1,6 +1,6 @@
 //! What a counted instruction reads, writes and does.
 
-ghost use Rattle.std.specs.Prelude.{◌≡◌, ◌+◌, ◌<◌, ◌≤◌, ◌-◌, ◌^◌, ◌%◌, ◌++◌, ◌∷◌, [], map, filter, filter_map, OnOk, IfOk, IfSome, None, Some, option_to_list, cond, not, sum, List};
+ghost use Rattle.std.specs.Prelude.{◌≡◌, ◌+◌, ◌<◌, ◌≤◌, ◌-◌, ◌^◌, ◌%◌, ◌++◌, ◌∷◌, [], map, filter, filter_map, OnOk, IfOk, IfSome, None, Some, option_to_list, cond, not, sum, List, false};
 ghost use Rattle.target_base.specs.Roles.{is_address, is_implicit};
 ghost use Rattle.meaning.specs.Environment.{residue, constant_source};
 ghost use Rattle.meaning.specs.declared.types.Constant.TheVariants.{Immediate};
@@ -246,12 +246,11 @@ fn push_explicit(
     t: &Target,
     f: &Func,
     e: Effect,
-    w: u32,
     operands: &[Operand],
 ) -> Result<(), AllocError>
-    requires { w ≤ 128 }
-    ensures { OnOk result (out.new ≡ out.old ++ filter_map (value_of t.now f.now e w) (explicit_operands operands.now)) }
+    ensures { OnOk result (out.new ≡ out.old ++ filter_map (value_of t.now f.now e (first_width t.now f.now (registers operands.now))) (explicit_operands operands.now)) }
 {
+    let w = first_width(alloc, t, f, operands)?;
     for o in operands {
         if !is_implicit_operand(o) {
             push_some(out, value_of(alloc, t, f, e, w, o)?)?;
@@ -315,21 +314,29 @@ fn flag_value(
     ))
 }
 
+/// What a conditional jump asks of flags.
+#[derive(Clone, Copy)]
+struct Condition<'a> {
+    /// The condition code.
+    code: i128,
+    /// The roles of the opcode; the first implicit one names the flags.
+    roles: &'a [Role],
+}
+
 /// Appends the flags that a conditional jump reads.
 fn push_flags(
     out: &mut Values,
     alloc: Global,
     t: &Target,
     f: &Func,
-    c: i128,
-    roles: &[Role],
+    condition: &Condition,
     operands: &[RegOp],
 ) -> Result<(), AllocError>
-    ensures { OnOk result (out.new ≡ out.old ++ map (flag_value t.now f.now c) (filter (is_flags (implicit_roles roles.now)) operands.now)) }
+    ensures { OnOk result (out.new ≡ out.old ++ map (flag_value t.now f.now condition.now.code) (filter (is_flags (implicit_roles condition.now.roles.now)) operands.now)) }
 {
     for o in operands {
-        if is_flags(roles, o) {
-            out.push(flag_value(alloc, t, f, c, o)?)?;
+        if is_flags(condition.roles, o) {
+            out.push(flag_value(alloc, t, f, condition.code, o)?)?;
         }
     }
     Ok(())
@@ -352,6 +359,21 @@ fn push_others(
         }
     }
     Ok(())
+}
+
+/// Appends what a conditional jump reads implicitly.
+fn push_tested(
+    out: &mut Values,
+    alloc: Global,
+    t: &Target,
+    f: &Func,
+    condition: &Condition,
+    operands: &[RegOp],
+) -> Result<(), AllocError>
+    ensures { OnOk result (out.new ≡ out.old ++ implicit_values t.now f.now effects.Jcc condition.now.code (implicit_roles condition.now.roles.now) operands.now) }
+{
+    push_flags(out, alloc, t, f, condition, operands)?;
+    push_others(out, alloc, t, f, condition.roles, operands)
 }
 
 /// Appends uses.
@@ -377,18 +399,21 @@ fn push_implicit(
     t: &Target,
     f: &Func,
     e: Effect,
-    c: i128,
-    roles: &[Role],
-    operands: &[RegOp],
+    i: &Instr,
 ) -> Result<(), AllocError>
-    ensures { OnOk result (out.new ≡ out.old ++ implicit_values t.now f.now e c (implicit_roles roles.now) operands.now) }
+    ensures { OnOk result (out.new ≡ out.old ++ implicit_values t.now f.now e (immediate_of i.now.operands) (implicit_roles (roles_of t.now i.now)) (filter (λ o. beq o.def false) (implicit_registers i.now.operands))) }
 {
+    let operands = i.operands.as_slice();
+    let uses = implicit_of(alloc, operands, false)?;
     match e {
         Effect::Jcc => {
-            push_flags(out, alloc, t, f, c, roles, operands)?;
-            push_others(out, alloc, t, f, roles, operands)
+            let condition = Condition {
+                code: immediate_of(operands),
+                roles: roles_of(t, i),
+            };
+            push_tested(out, alloc, t, f, &condition, uses.as_slice())
         }
-        _ => push_uses(out, alloc, t, f, operands),
+        _ => push_uses(out, alloc, t, f, uses.as_slice()),
     }
 }
 
@@ -417,22 +442,9 @@ pub fn values(
 ) -> Result<Values, AllocError>
     ensures { IfOk result (λ made. made ≡ values t.now f.now e i.now) }
 {
-    let operands = i.operands.as_slice();
     let mut made = List::new(alloc);
-    let w = first_width(alloc, t, f, operands)?;
-    push_explicit(&mut made, alloc, t, f, e, w, operands)?;
-    let uses = implicit_of(alloc, operands, false)?;
-    let c = immediate_of(operands);
-    push_implicit(
-        &mut made,
-        alloc,
-        t,
-        f,
-        e,
-        c,
-        roles_of(t, i),
-        uses.as_slice(),
-    )?;
+    push_explicit(&mut made, alloc, t, f, e, i.operands.as_slice())?;
+    push_implicit(&mut made, alloc, t, f, e, i)?;
     Ok(made)
 }
 

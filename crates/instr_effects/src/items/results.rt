@@ -1,9 +1,9 @@
 //! What a counted instruction writes.
 
-ghost use Rattle.std.specs.Prelude.{◌≡◌, ◌+◌, ◌<◌, ◌-◌, ◌++◌, [], length, map, filter, flat_map, OnOk, IfOk, None, Some, cond, not};
+ghost use Rattle.std.specs.Prelude.{◌≡◌, ◌+◌, ◌<◌, ◌-◌, ◌++◌, [], length, map, filter, flat_map, OnOk, IfOk, None, Some, cond, not, false};
 ghost use Rattle.mir_func.specs.Binding.{roles_of, implicit_roles, definitions};
 ghost use Rattle.mir_meaning.specs.Registers.{numbers, operand_lanes, operand_widths, is_reserved};
-ghost use Rattle.mir_meaning.specs.Items.{is_flags, values, explicit_definitions, implicit_definitions, result_writes, results, unreserved, all_lanes, answered, preserves, clobbered, kept, implicit_writes, opaque_clobbers, opaque_implicit, defined_lanes, further_writes, counted_writes, lane_width, result_widths};
+ghost use Rattle.mir_meaning.specs.Items.{is_flags, values, explicit_definitions, implicit_definitions, result_writes, results, unreserved, all_lanes, answered, preserves, clobbered, kept, implicit_writes, opaque_clobbers, computed, defined_lanes, counted_writes, lane_width, result_widths};
 ghost use Rattle.std.specs.List.{list_any};
 ghost use Rattle.meaning.specs.declared.types.Lane.TheVariants.{UnitLane};
 ghost use Rattle.target_base.specs.declared.types.Effect.TheVariants as effects;
@@ -227,13 +227,13 @@ fn push_implicit_writes(
     t: &Target,
     f: &Func,
     e: Effect,
-    roles: &[Role],
-    operands: &[Operand],
+    i: &Instr,
 ) -> Result<(), AllocError>
-    ensures { OnOk result (out.new ≡ out.old ++ implicit_writes t.now f.now e (implicit_roles roles.now) operands.now) }
+    ensures { OnOk result (out.new ≡ out.old ++ implicit_writes t.now f.now e (implicit_roles (roles_of t.now i.now)) i.now.operands) }
 {
+    let operands = i.operands.as_slice();
     match e {
-        Effect::Cmp => push_compared(out, alloc, t, f, roles, operands),
+        Effect::Cmp => push_compared(out, alloc, t, f, roles_of(t, i), operands),
         Effect::Call => {
             let answered = implicit_lanes(alloc, t, f, operands)?;
             push_computed(out, false, 0, answered.as_slice())?;
@@ -266,44 +266,23 @@ fn push_opaque_clobbers(
     }
 }
 
-/// Appends what implicit definitions of an opaque instruction write: lanes of the answer from
+/// Appends what implicit definitions of an opaque instruction take of its answer: the lanes from
 /// `first` on, in reserved units too.
-fn push_opaque_implicit(
+fn push_opaque_answer(
     out: &mut Writes,
     alloc: Global,
     t: &Target,
     f: &Func,
-    kind: OpaqueKind,
     first: u32,
     operands: &[Operand],
 ) -> Result<(), AllocError>
-    ensures { OnOk result (out.new ≡ out.old ++ opaque_implicit t.now f.now kind first operands.now) }
+    ensures { OnOk result (out.new ≡ out.old ++ computed false first (all_lanes t.now f.now (implicit_definitions operands.now))) }
 {
     let definitions = definitions(alloc, operands, true)?;
     let mut lanes = List::new(alloc);
     push_all_lanes(&mut lanes, t, f, definitions.as_slice())?;
     push_computed(out, false, first, lanes.as_slice())?;
-    push_opaque_clobbers(out, alloc, t, kind, operands)
-}
-
-/// Appends what is written beside explicit definitions, whose lanes end before the number `first`.
-fn push_further_writes(
-    out: &mut Writes,
-    alloc: Global,
-    t: &Target,
-    f: &Func,
-    e: Effect,
-    first: u32,
-    i: &Instr,
-) -> Result<(), AllocError>
-    requires { first ≡ length (defined_lanes t.now f.now (definitions (roles_of t.now i.now) i.now.operands)) }
-    ensures { OnOk result (out.new ≡ out.old ++ further_writes t.now f.now e i.now) }
-{
-    let operands = i.operands.as_slice();
-    match e {
-        Effect::Opaque(kind) => push_opaque_implicit(out, alloc, t, f, kind, first, operands),
-        _ => push_implicit_writes(out, alloc, t, f, e, roles_of(t, i), operands),
-    }
+    Ok(())
 }
 
 /// All that a counted instruction writes.
@@ -316,17 +295,20 @@ pub fn counted_writes(
 ) -> Result<Writes, AllocError>
     ensures { IfOk result (λ made. made ≡ counted_writes t.now f.now e i.now) }
 {
+    let operands = i.operands.as_slice();
     let mut made = List::new(alloc);
-    let first = push_results(
-        &mut made,
-        alloc,
-        t,
-        f,
-        roles_of(t, i),
-        i.operands.as_slice(),
-    )?;
-    push_further_writes(&mut made, alloc, t, f, e, first, i)?;
-    Ok(made)
+    let first = push_results(&mut made, alloc, t, f, roles_of(t, i), operands)?;
+    match e {
+        Effect::Opaque(kind) => {
+            push_opaque_answer(&mut made, alloc, t, f, first, operands)?;
+            push_opaque_clobbers(&mut made, alloc, t, kind, operands)?;
+            Ok(made)
+        }
+        _ => {
+            push_implicit_writes(&mut made, alloc, t, f, e, i)?;
+            Ok(made)
+        }
+    }
 }
 
 /// The widths of lanes that are units.

@@ -4,6 +4,7 @@ ghost use Rattle.std.specs.Prelude.{◌≡◌, false, sum, ◌+◌, ◌*◌, ◌
 ghost use Rattle.meaning.specs.declared.types.Lane.TheVariants.{SlotLane};
 ghost use Rattle.meaning.specs.declared.types.Source.TheVariants.{FromLane};
 ghost use Rattle.meaning.specs.Environment.{constant_source};
+ghost use Rattle.mir_func.specs.Binding.{is_early_clobber, roles_of};
 ghost use Rattle.mir_meaning.specs.Registers.{numbers, operand_lanes, use_sources, operand_widths, slot_lane_numbers, slot_lanes, has_number};
 ghost use Rattle.mir_meaning.specs.Items.{moved, undefined, copied, defined_undef, parts, sequenced, inserted, constant_bits, constant_lanes, constant_of, given_constant, widths_once, at_all_widths, spilled, reloaded, silent_writes};
 
@@ -14,7 +15,8 @@ use crate::items::lanes::{
 };
 use crate::items::writes::{number, push_defined, push_moved, push_undefined};
 use meaning::{Constant, Lane, Source, Writes};
-use mir_func::{Func, Operand, RegOp};
+use mir_func::opcodes::{is_early_clobber, roles_of};
+use mir_func::{Func, Instr, Operand, RegOp};
 use std::alloc::{AllocError, Global};
 use target_base::{Copied, Effect, List, Numbers, Target};
 
@@ -31,7 +33,7 @@ fn push_copied(
     match operands {
         [Operand::Reg(d), Operand::Reg(s), ..] => {
             let sources = use_sources(alloc, t, f, s)?;
-            push_defined(out, alloc, t, f, false, d, sources.as_slice())
+            push_defined(out, alloc, t, f, (false, *d), sources.as_slice())
         }
         _ => Ok(()),
     }
@@ -260,7 +262,7 @@ fn push_constant(
     match operands {
         [Operand::Reg(d), o, ..] => {
             let sources = constant_lanes(alloc, t, f, d, o)?;
-            push_defined(out, alloc, t, f, early, d, sources.as_slice())
+            push_defined(out, alloc, t, f, (early, *d), sources.as_slice())
         }
         _ => Ok(()),
     }
@@ -420,7 +422,7 @@ fn push_reloaded(
             let numbers = slot_numbers(alloc, t, widths.as_slice(), k)?;
             let lanes = slot_lanes(alloc, *s, numbers.as_slice(), widths.as_slice())?;
             let sources = sources_of(alloc, lanes.as_slice())?;
-            push_defined(out, alloc, t, f, early, o, sources.as_slice())
+            push_defined(out, alloc, t, f, (early, *o), sources.as_slice())
         }
         _ => Ok(()),
     }
@@ -434,11 +436,12 @@ pub fn push_silent_writes(
     t: &Target,
     f: &Func,
     e: Effect,
-    early: bool,
-    operands: &[Operand],
+    i: &Instr,
 ) -> Result<(), AllocError>
-    ensures { OnOk result (out.new ≡ out.old ++ silent_writes t.now f.now e early operands.now) }
+    ensures { OnOk result (out.new ≡ out.old ++ silent_writes t.now f.now e (is_early_clobber (roles_of t.now i.now)) i.now.operands) }
 {
+    let operands = i.operands.as_slice();
+    let early = is_early_clobber(roles_of(t, i));
     match e {
         Effect::Copy => push_copied(out, alloc, t, f, operands),
         Effect::ImplicitDef => push_defined_undef(out, alloc, t, f, operands),

@@ -14,6 +14,15 @@ use mir_meaning::ends::is_open;
 use std::alloc::{AllocError, Global};
 use target_base::{Boxed, Effect, Target};
 
+/// A phi.
+#[derive(Clone, Copy)]
+struct Phi<'a> {
+    /// The register that it defines.
+    result: RegOp,
+    /// Pairs of a register and of the block from which the phi takes it.
+    incoming: &'a [Operand],
+}
+
 /// Appends what a phi writes where its block is entered from block n.
 fn push_phi_pair(
     out: &mut Writes,
@@ -21,16 +30,15 @@ fn push_phi_pair(
     t: &Target,
     f: &Func,
     n: u32,
-    d: &RegOp,
-    operands: &[Operand],
+    phi: &Phi,
 ) -> Result<(), AllocError>
-    ensures { OnOk result (out.new ≡ out.old ++ phi_pair t.now f.now n d.now operands.now) }
+    ensures { OnOk result (out.new ≡ out.old ++ phi_pair t.now f.now n phi.now.result phi.now.incoming.now) }
 {
-    let mut rest = operands;
+    let mut rest = phi.incoming;
     while let [Operand::Reg(s), Operand::Block(m), more @ ..] = rest {
         if *m == n {
             let sources = use_sources(alloc, t, f, s)?;
-            return push_defined(out, alloc, t, f, false, d, sources.as_slice());
+            return push_defined(out, alloc, t, f, (false, phi.result), sources.as_slice());
         }
         rest = more;
     }
@@ -49,10 +57,14 @@ fn push_phi_operands(
 ) -> Result<(), AllocError>
     ensures { OnOk result (out.new ≡ out.old ++ phi_operands t.now f.now n operands.now) }
 {
-    let Some(d) = register_at(operands, 0) else {
+    let Some(result) = register_at(operands, 0) else {
         return Ok(());
     };
-    push_phi_pair(out, alloc, t, f, n, &d, &operands[1..])
+    let phi = Phi {
+        result,
+        incoming: &operands[1..],
+    };
+    push_phi_pair(out, alloc, t, f, n, &phi)
 }
 
 /// Appends what an instruction of a block writes on the way in from block n: phis alone do.

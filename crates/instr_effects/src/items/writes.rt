@@ -4,9 +4,10 @@ ghost use Rattle.std.specs.Prelude.{◌≡◌, ◌+◌, ◌++◌, length, OnOk, 
 ghost use Rattle.mir_meaning.specs.Registers.{operand_lanes, undefined_lanes};
 ghost use Rattle.mir_meaning.specs.Items.{moved, undefined, computed, defined};
 
+use crate::definitions::Definition;
 use crate::items::lanes::{push_operand_lanes, push_undefined_lanes};
 use meaning::{Fill, Lane, Source, Write, Writes};
-use mir_func::{Func, RegOp};
+use mir_func::Func;
 use std::alloc::{AllocError, Global};
 use target_base::{Copied, List, Target};
 
@@ -84,21 +85,21 @@ pub fn push_computed(
 
 /// Appends the writes of a definition that is given sources; where it is `undef` the other lanes
 /// become Undef.
-pub fn push_defined(
+pub(crate) fn push_defined(
     out: &mut Writes,
     alloc: Global,
     t: &Target,
     f: &Func,
-    early: bool,
-    d: &RegOp,
+    definition: Definition,
     sources: &[Source],
 ) -> Result<(), AllocError>
-    ensures { OnOk result (out.new ≡ out.old ++ defined t.now f.now early d.now sources.now) }
+    ensures { OnOk result (out.new ≡ out.old ++ defined t.now f.now definition.0 definition.1 sources.now) }
 {
+    let (early, d) = definition;
     let mut lanes = List::new(alloc);
-    push_operand_lanes(&mut lanes, t, f, d)?;
+    push_operand_lanes(&mut lanes, t, f, &d)?;
     push_moved(out, alloc, early, lanes.as_slice(), sources)?;
     let mut others = List::new(alloc);
-    push_undefined_lanes(&mut others, t, f, d)?;
+    push_undefined_lanes(&mut others, t, f, &d)?;
     push_undefined(out, early, others.as_slice())
 }

@@ -17,12 +17,9 @@ returns-in_ok-push_silent_writes-in-Some-clause-sides c =
     let i = c.args.i.now in
     let e = c.in-Some.e in
     let s : is_silent e ≡ true = sym c.is_silent.ensures ∙ c.if-not-is_silent.false in
-    let early : c.is_early_clobber-early.result ≡ is_early_clobber (roles_of t i) = c.is_early_clobber-early.ensures ∙ ap is_early_clobber c.roles_of.ensures in
     let made : c.push_silent_writes.new.out ≡ silent_writes t f e (is_early_clobber (roles_of t i)) i.operands =
     c.in_ok-push_silent_writes-in-Some.ensures
-    ∙ (ap (λ ws. ws ++ silent_writes t f e c.is_early_clobber-early.result c.as_slice.result.now) c.new-writes.ensures
-    ∙ (ap (λ x. silent_writes t f e x c.as_slice.result.now) early
-    ∙ ap (λ os. silent_writes t f e (is_early_clobber (roles_of t i)) os) c.as_slice.ensures)) in
+    ∙ ap (λ ws. ws ++ silent_writes t f e (is_early_clobber (roles_of t i)) i.operands) c.new-writes.ensures in
     item-silent t f c.args.b.now i e (sym c.in-Some.ensures) s ∙ ap (Silent []) (sym made)
 
 pub returns-in-None-clause-exact : goal.returns-in-None-clause-exact
@@ -40,10 +37,7 @@ returns-in_ok-push_silent_writes-in-Some-clause-exact c =
     let i = c.args.i.now in
     let e = c.in-Some.e in
     let s : is_silent e ≡ true = sym c.is_silent.ensures ∙ c.if-not-is_silent.false in
-    let early : c.is_early_clobber-early.result ≡ is_early_clobber (roles_of t i) = c.is_early_clobber-early.ensures ∙ ap is_early_clobber c.roles_of.ensures in
     let made : c.push_silent_writes.new.out ≡ silent_writes t f e (is_early_clobber (roles_of t i)) i.operands =
     c.in_ok-push_silent_writes-in-Some.ensures
-    ∙ (ap (λ ws. ws ++ silent_writes t f e c.is_early_clobber-early.result c.as_slice.result.now) c.new-writes.ensures
-    ∙ (ap (λ x. silent_writes t f e x c.as_slice.result.now) early
-    ∙ ap (λ os. silent_writes t f e (is_early_clobber (roles_of t i)) os) c.as_slice.ensures)) in
+    ∙ ap (λ ws. ws ++ silent_writes t f e (is_early_clobber (roles_of t i)) i.operands) c.new-writes.ensures in
     some-silent t f i e _ (sym c.in-Some.ensures) s made

@@ -5,4 +5,4 @@ use Rattle.std.specs.Prelude.{filter}
 use Rattle.instr_effects.proofs.items.counted.push_flags.Given as goal
 
 abbrev pub invariant-loop-o : goal.invariant-loop-o
-invariant-loop-o l = l.out ++ map (flag_value l.t l.f l.c) (filter (is_flags (implicit_roles l.roles)) (drop l.o-index l.operands)) ≡ l.initial.out ++ map (flag_value l.t l.f l.c) (filter (is_flags (implicit_roles l.roles)) l.operands)
+invariant-loop-o l = l.out ++ map (flag_value l.t l.f l.condition.code) (filter (is_flags (implicit_roles l.condition.roles.now)) (drop l.o-index l.operands)) ≡ l.initial.out ++ map (flag_value l.t l.f l.condition.code) (filter (is_flags (implicit_roles l.condition.roles.now)) l.operands)
