@@ -13,6 +13,21 @@ use crate::row::{Cause, Cell, End, Piece, Reading, exit_rank, is_never, rank};
 use crate::table::Rows;
 use slot_index::Slots;
 
+/// A piece of a lane, with where it stands.
+#[derive(Clone, Copy)]
+pub(crate) struct PieceAt<'a> {
+    /// The lane.
+    pub lane: u32,
+    /// The place of the cell among those of the lane.
+    pub place: usize,
+    /// The cell.
+    pub cell: &'a Cell,
+    /// The place of the piece among those of the cell.
+    pub index: usize,
+    /// The piece.
+    pub piece: &'a Piece,
+}
+
 /// The later of two ends.
 fn later(slots: &Slots, a: End, b: End) -> End
     ensures { result ≡ later slots.now a b }
@@ -92,49 +107,33 @@ impl Rows {
     }
 
     /// The last exit of a piece from which a path leads to a block where the lane is live.
-    fn exit_of(
-        &self,
-        order: &Order,
-        flow: &[Ways],
-        lane: u32,
-        place: usize,
-        cell: &Cell,
-        index: usize,
-        piece: &Piece,
-    ) -> End
-        ensures { rises_from order.now.slots 0 (seen_cell cell.now).segments ≡ true
-            → result ≡ last_exit order.now.slots flow.now (causes self.now.rows.items) (shape (seen_cell cell.now)) lane cell.now.block index piece.now.cause }
+    fn exit_of(&self, order: &Order, flow: &[Ways], at: &PieceAt) -> End
+        ensures { rises_from order.now.slots 0 (seen_cell at.now.cell.now).segments ≡ true
+            → result ≡ last_exit order.now.slots flow.now (causes self.now.rows.items) (shape (seen_cell at.now.cell.now)) at.now.lane at.now.cell.now.block at.now.index at.now.piece.now.cause }
     {
-        let exit = if index == cell.segments.len() {
+        let cell = at.cell;
+        let exit = if at.index == cell.segments.len() {
             End::Last
         } else {
-            last_exit(&order.slots, cell, index, terminators(flow, cell.block))
+            last_exit(&order.slots, cell, at.index, terminators(flow, cell.block))
         };
-        if is_never(exit) || !self.leads_on(flow, lane, place, cell.block, piece.cause) {
+        if is_never(exit) || !self.leads_on(flow, at.lane, at.place, cell.block, at.piece.cause) {
             return End::Never;
         }
         exit
     }
 
     /// Up to where the lane is live in a live piece.
-    pub fn end_of(
-        &self,
-        order: &Order,
-        flow: &[Ways],
-        lane: u32,
-        place: usize,
-        cell: &Cell,
-        index: usize,
-        piece: &Piece,
-    ) -> End
-        ensures { AllRise order.now.slots self.now.rows.items → rises_from order.now.slots 0 (seen_cell cell.now).segments ≡ true
-            → result ≡ live_end order.now.slots flow.now (causes self.now.rows.items) (shapes self.now.rows.items) (shape (seen_cell cell.now)) lane cell.now.block index piece.now.cause piece.now.readings.items }
+    pub fn end_of(&self, order: &Order, flow: &[Ways], at: &PieceAt) -> End
+        ensures { AllRise order.now.slots self.now.rows.items → rises_from order.now.slots 0 (seen_cell at.now.cell.now).segments ≡ true
+            → result ≡ live_end order.now.slots flow.now (causes self.now.rows.items) (shapes self.now.rows.items) (shape (seen_cell at.now.cell.now)) at.now.lane at.now.cell.now.block at.now.index at.now.piece.now.cause at.now.piece.now.readings.items }
     {
-        if cell.is_read_last && index == cell.segments.len() {
+        let cell = at.cell;
+        if cell.is_read_last && at.index == cell.segments.len() {
             return End::Last;
         }
-        let exit = self.exit_of(order, flow, lane, place, cell, index, piece);
-        let entry = self.last_entry(order, cell.block, piece.readings.as_slice());
+        let exit = self.exit_of(order, flow, at);
+        let entry = self.last_entry(order, cell.block, at.piece.readings.as_slice());
         later(&order.slots, exit, entry)
     }
 
@@ -152,7 +151,14 @@ impl Rows {
         if !piece.is_live() {
             return End::Never;
         }
-        self.end_of(order, flow, lane, place, cell, index, piece)
+        let at = PieceAt {
+            lane,
+            place,
+            cell,
+            index,
+            piece,
+        };
+        self.end_of(order, flow, &at)
     }
 
     fn set_end(&mut self, lane: u32, place: usize, index: usize, end: End)

@@ -12,6 +12,21 @@ use crate::row::{Cause, End, rank};
 use crate::table::{Rows, Spot};
 use std::alloc::{AllocError, Global};
 
+/// Where a lane may end, in a block.
+#[derive(Clone, Copy)]
+struct LaneEnd {
+    lane: u32,
+    block: u32,
+    end: End,
+}
+
+/// A way of control from one block into another.
+#[derive(Clone, Copy)]
+struct FlowEdge {
+    from: u32,
+    to: u32,
+}
+
 impl Rows {
     /// Makes live a piece of a lane, by the place of its cell, where it needs no other lane, and
     /// adds it to a list.
@@ -76,17 +91,16 @@ impl Rows {
     fn raise(
         &mut self,
         order: &Order,
-        lane: u32,
-        block: u32,
-        end: End,
+        until: LaneEnd,
         cause: Cause,
         risen: &mut Vec<Spot>,
     ) -> Result<(), AllocError>
-        ensures { OnOk result (lane < length self.old.rows.items
-            → IsTrue (rises_from order.now.slots 0 (rows_seen self.old.rows.items lane block).segments)
-            → Raised order.now.slots self.old.rows.items self.new.rows.items lane block (end_rank order.now.slots end) cause risen.old.items risen.new.items) }
+        ensures { OnOk result (until.lane < length self.old.rows.items
+            → IsTrue (rises_from order.now.slots 0 (rows_seen self.old.rows.items until.lane until.block).segments)
+            → Raised order.now.slots self.old.rows.items self.new.rows.items until.lane until.block (end_rank order.now.slots until.end) cause risen.old.items risen.new.items) }
     {
         let alloc = self.alloc;
+        let LaneEnd { lane, block, end } = until;
         let at = lane as usize;
         if at >= self.rows.len() {
             return Ok(());
@@ -103,17 +117,27 @@ impl Rows {
         &mut self,
         order: &Order,
         lane: u32,
-        block: u32,
-        from: u32,
+        edge: FlowEdge,
         terminators: &[u32],
         risen: &mut Vec<Spot>,
     ) -> Result<(), AllocError>
-        ensures { OnOk result (RaisesExits order.now.slots self.old.rows.items self.new.rows.items lane block from terminators.now risen.old.items risen.new.items) }
+        ensures { OnOk result (RaisesExits order.now.slots self.old.rows.items self.new.rows.items lane edge.from edge.to terminators.now risen.old.items risen.new.items) }
     {
-        let cause = Cause::Follower(from);
-        self.raise(order, lane, block, End::Last, cause, risen)?;
+        let cause = Cause::Follower(edge.to);
+        let block = edge.from;
+        let last = LaneEnd {
+            lane,
+            block,
+            end: End::Last,
+        };
+        self.raise(order, last, cause, risen)?;
         'terminators: for id in terminators {
-            self.raise(order, lane, block, End::Exit(*id), cause, risen)?;
+            let exit = LaneEnd {
+                lane,
+                block,
+                end: End::Exit(*id),
+            };
+            self.raise(order, exit, cause, risen)?;
         }
         Ok(())
     }
@@ -130,7 +154,11 @@ impl Rows {
     {
         'predecessors: for before in predecessors(flow, piece.block) {
             let ids = terminators(flow, *before);
-            self.raise_exits(order, piece.lane, *before, piece.block, ids, risen)?;
+            let edge = FlowEdge {
+                from: *before,
+                to: piece.block,
+            };
+            self.raise_exits(order, piece.lane, edge, ids, risen)?;
         }
         Ok(())
     }
@@ -159,14 +187,14 @@ impl Rows {
             return self.raise_predecessors(order, flow, piece, risen);
         }
         match self.moved(piece) {
-            Some((id, from)) => self.raise(
-                order,
-                from,
-                piece.block,
-                End::Entry(id),
-                Cause::Reading(id),
-                risen,
-            ),
+            Some((id, from)) => {
+                let entry = LaneEnd {
+                    lane: from,
+                    block: piece.block,
+                    end: End::Entry(id),
+                };
+                self.raise(order, entry, Cause::Reading(id), risen)
+            }
             None => Ok(()),
         }
     }

@@ -4,6 +4,7 @@
 //! with it fall the pieces that are live for its sake. What then still has a reason to be live comes
 //! alive again, and all that leads to it. At last the pieces concerned get their ends anew.
 
+use crate::compute::ends::PieceAt;
 use crate::compute::flow::{predecessors, successors, terminators};
 use crate::edit::edit_log::Log;
 use crate::row::{Cause, Cell, End, Piece, Reading, Row, entry_rank, exit_rank, rank};
@@ -512,14 +513,13 @@ impl Table {
             Cause::Follower(_) if spot.index == cell.segments.len() => return End::Last,
             _ => {}
         }
-        self.rows.end_of(
-            &self.order,
-            self.flow.as_slice(),
-            spot.lane,
+        let at = PieceAt {
+            lane: spot.lane,
             place,
             cell,
-            spot.index,
+            index: spot.index,
             piece,
-        )
+        };
+        self.rows.end_of(&self.order, self.flow.as_slice(), &at)
     }
 }

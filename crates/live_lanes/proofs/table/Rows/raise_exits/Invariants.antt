@@ -8,5 +8,5 @@ use Rattle.live_lanes.proofs.table.Rows.raise_exits.Given as goal
 
 abbrev pub invariant-terminators : goal.invariant-terminators
 invariant-terminators l =
-    (code : Code) (flow : List Ways) → IsTableOf code l.order.slots flow l.fn.self.rows.items → is_live (causes l.fn.self.rows.items l.lane l.from 0) ≡ true → Among l.from (exits_of code l.block) → l.terminators ≡ terminators flow l.block
-    → SomeExits code l.order.slots l.fn.self.rows.items l.self.rows.items l.lane l.block (take l.id-index l.terminators) l.fn.risen.items l.risen.items
+    (code : Code) (flow : List Ways) → IsTableOf code l.order.slots flow l.fn.self.rows.items → is_live (causes l.fn.self.rows.items l.lane l.fn.edge.to 0) ≡ true → Among l.fn.edge.to (exits_of code l.fn.edge.from) → l.terminators ≡ terminators flow l.fn.edge.from
+    → SomeExits code l.order.slots l.fn.self.rows.items l.self.rows.items l.lane l.fn.edge.from (take l.id-index l.terminators) l.fn.risen.items l.risen.items
