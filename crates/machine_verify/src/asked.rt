@@ -40,6 +40,15 @@ pub(crate) struct Before {
     pub terminator: bool,
 }
 
+/// How control comes into the block of an instruction.
+#[derive(Clone, Copy)]
+pub(crate) struct Incoming<'a> {
+    /// Whether the block is the entry.
+    pub is_entry: bool,
+    /// The blocks that come before it.
+    pub preds: &'a [u32],
+}
+
 /// An instruction whose opcode the target has, with its operands sorted.
 #[derive(Drop)]
 pub(crate) struct Asked<'a> {
@@ -138,14 +147,8 @@ fn phi_stands(
 
 /// V7: phis stand first in a block that isn't the entry, and name each predecessor once. Allocated:
 /// no phi, REG_SEQUENCE or INSERT_SUBREG is left.
-fn v7(
-    q: &Question,
-    a: &Asked,
-    is_entry: bool,
-    only_phis: bool,
-    preds: &[u32],
-) -> Result<bool, AllocError>
-    ensures { IfOk result (λ holds. holds ≡ phis_fit q.now.form is_entry only_phis preds.now a.now.desc.now.effect a.now.instr.now) }
+fn v7(q: &Question, a: &Asked, incoming: &Incoming, only_phis: bool) -> Result<bool, AllocError>
+    ensures { IfOk result (λ holds. holds ≡ phis_fit q.now.form incoming.now.is_entry only_phis incoming.now.preds.now a.now.desc.now.effect a.now.instr.now) }
 {
     let effect = a.desc.effect;
     match q.form {
@@ -155,9 +158,9 @@ fn v7(
             }
             phi_stands(
                 q.alloc,
-                is_entry,
+                incoming.is_entry,
                 only_phis,
-                preds,
+                incoming.preds,
                 a.instr.operands.as_slice(),
             )
         }
@@ -245,13 +248,12 @@ fn other_rule(
     q: &Question,
     slots: &NumberSet,
     a: &Asked,
-    is_entry: bool,
+    incoming: &Incoming,
     before: Before,
-    preds: &[u32],
 ) -> Result<Option<u8>, AllocError>
     requires asked { IsAsked q.now.target.now a.now.instr.now a.now }
     requires slots { HoldsSlots slots.now q.now.f.now }
-    ensures { IfOk result (λ rule. rule ≡ valid.first_failing (other_rules q.now.target.now q.now.form q.now.f.now is_entry before preds.now a.now.desc.now.effect a.now.instr.now)) }
+    ensures { IfOk result (λ rule. rule ≡ valid.first_failing (other_rules q.now.target.now q.now.form q.now.f.now incoming.now.is_entry before incoming.now.preds.now a.now.desc.now.effect a.now.instr.now)) }
 {
     if !v2(q, a)? {
         return Ok(Some(2));
@@ -262,7 +264,7 @@ fn other_rule(
     if !v4(q, a) {
         return Ok(Some(4));
     }
-    if !v7(q, a, is_entry, before.only_phis, preds)? {
+    if !v7(q, a, incoming, before.only_phis)? {
         return Ok(Some(7));
     }
     if !v8(a, before.terminator) {
@@ -286,38 +288,35 @@ fn known_rule(
     slots: &NumberSet,
     instr: &Instr,
     desc: &OpcodeDesc,
-    is_entry: bool,
+    incoming: &Incoming,
     before: Before,
-    preds: &[u32],
 ) -> Result<Option<u8>, AllocError>
     requires known { binding.known_opcode q.now.target.now instr.now.op ≡ Some desc.now }
     requires slots { HoldsSlots slots.now q.now.f.now }
-    ensures { IfOk result (λ rule. rule ≡ known_rule q.now.target.now q.now.form q.now.f.now is_entry before preds.now instr.now desc.now) }
+    ensures { IfOk result (λ rule. rule ≡ known_rule q.now.target.now q.now.form q.now.f.now incoming.now.is_entry before incoming.now.preds.now instr.now desc.now) }
 {
     if !v1(q, instr, desc)? {
         return Ok(Some(1));
     }
     let a = sorted(q, instr, desc)?;
-    other_rule(q, slots, &a, is_entry, before, preds)
+    other_rule(q, slots, &a, incoming, before)
 }
 
-/// The least rule that fails for an instruction, of which is told whether its block is the entry,
-/// what stands before it, and which blocks come before its block. An excluded opcode breaks V16 and
-/// is asked nothing else.
+/// The least rule that fails for an instruction, of which is told how control comes into its block
+/// and what stands before it there. An excluded opcode breaks V16 and is asked nothing else.
 pub(crate) fn instr_rule(
     q: &Question,
     slots: &NumberSet,
     instr: &Instr,
-    is_entry: bool,
+    incoming: &Incoming,
     before: Before,
-    preds: &[u32],
 ) -> Result<Option<u8>, AllocError>
     requires { HoldsSlots slots.now q.now.f.now }
-    ensures { IfOk result (λ rule. rule ≡ instr_rule q.now.target.now q.now.form q.now.f.now is_entry before preds.now instr.now) }
+    ensures { IfOk result (λ rule. rule ≡ instr_rule q.now.target.now q.now.form q.now.f.now incoming.now.is_entry before incoming.now.preds.now instr.now) }
 {
     match desc_of(q.target, &instr.op) {
         None => Ok(Some(16)),
-        Some(desc) => known_rule(q, slots, instr, desc, is_entry, before, preds),
+        Some(desc) => known_rule(q, slots, instr, desc, incoming, before),
     }
 }
 

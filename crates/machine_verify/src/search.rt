@@ -7,7 +7,7 @@ ghost use Rattle.machine_verify.specs.Sets.{Holds, HoldsSlots};
 ghost use Rattle.machine_verify.specs.Asked.{before_at};
 ghost use Rattle.machine_verify.specs.Faults.{fault_of};
 
-use crate::asked::{Before, Question, after, instr_rule};
+use crate::asked::{Before, Incoming, Question, after, instr_rule};
 use crate::blocks::{names_are_there, predecessors, v9, v10, v16};
 use crate::numbers::NumberSet;
 use crate::stop::Invalid;
@@ -142,10 +142,14 @@ fn later_fault(
     ensures { IfOk result (λ fault. option_map fault_of fault ≡ valid.instrs_fault q.now.target.now q.now.form q.now.f.now k b.now 1 (drop 1 b.now.instrs)) }
 {
     let instrs = b.instrs.as_slice();
+    let incoming = Incoming {
+        is_entry: k == 0,
+        preds,
+    };
     let mut before = first;
     'instrs: for j in 1..instrs.len() {
         let i = instrs[j].get();
-        if let Some(rule) = instr_rule(q, &known.slots, i, k == 0, before, preds)? {
+        if let Some(rule) = instr_rule(q, &known.slots, i, &incoming, before)? {
             return Ok(Some(fault_at(b, j as u32, rule)));
         }
         before = after(q.target, before, i);
@@ -173,7 +177,11 @@ fn fault_in(q: &Question, known: &Known, k: usize, b: &Block) -> Result<Option<I
         only_phis: true,
         terminator: false,
     };
-    let rule = instr_rule(q, &known.slots, i, k == 0, start, preds.as_slice())?;
+    let incoming = Incoming {
+        is_entry: k == 0,
+        preds: preds.as_slice(),
+    };
+    let rule = instr_rule(q, &known.slots, i, &incoming, start)?;
     if let Some(r) = least(own, rule) {
         return Ok(Some(fault_at(b, 0, r)));
     }
