@@ -51,24 +51,14 @@ pub fn use_sum(alloc: Global, live: &LiveFunc, v: u32, freqs: &Freqs) -> Result<
     Ok(sum)
 }
 
-/// The use sum of a range, which may be known.
-fn uses_or(
-    alloc: Global,
-    live: &LiveFunc,
-    v: u32,
-    freqs: &Freqs,
-    known: Option<u128>,
-) -> Result<u128, AllocError>
-    ensures { IfOk result (λ sum. TellsInstrs live.now.func live.now.table → IfSome known (IsUseSum live.now.func.blocks freqs.now v)
-        → IsUseSum live.now.func.blocks freqs.now v sum) }
+/// The spill weight of a range of this use sum: 1024 times the sum, divided by 8 more than its points.
+fn weight_for(live: &LiveFunc, v: u32, uses: u128) -> u128
+    ensures { (freqs : List ℕ) → InOrder live.now.table → TellsInstrs live.now.func live.now.table → IsUseSum live.now.func.blocks freqs v uses
+        → range_held live.now.table live.now.func.blocks v < 2 ^ 64 → 1024 * use_sum live.now.func.blocks freqs v < 2 ^ 128
+        → result ≡ weight_of live.now.func.blocks freqs v (range_held live.now.table live.now.func.blocks v) }
 {
-    match known {
-        Some(uses) => Ok(uses),
-        None => {
-            let uses = use_sum(alloc, live, v, freqs)?;
-            Ok(uses)
-        }
-    }
+    let points = live.points(v) as u128;
+    uses.saturating_mul(1024) / (points + 8)
 }
 
 /// The spill weight of a range whose use sum may be known.
@@ -83,9 +73,13 @@ pub fn weight_by(
         → range_held live.now.table live.now.func.blocks v < 2 ^ 64 → 1024 * use_sum live.now.func.blocks freqs.now v < 2 ^ 128
         → weight ≡ weight_of live.now.func.blocks freqs.now v (range_held live.now.table live.now.func.blocks v)) }
 {
-    let uses = uses_or(alloc, live, v, freqs, known)?;
-    let points = live.points(v) as u128;
-    Ok(uses.saturating_mul(1024) / (points + 8))
+    match known {
+        Some(uses) => Ok(weight_for(live, v, uses)),
+        None => {
+            let uses = use_sum(alloc, live, v, freqs)?;
+            Ok(weight_for(live, v, uses))
+        }
+    }
 }
 
 /// The points of a block, or 2^64 - 1 where these are fewer.

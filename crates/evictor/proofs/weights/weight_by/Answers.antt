@@ -1,10 +1,7 @@
-use Rattle.live_lanes.specs.Held.{range_held}
-use Rattle.block_freq.specs.Weights.{use_sum}
-use Rattle.evictor.proofs.Uses.{weighed}
 use Rattle.evictor.proofs.weights.weight_by.Goals as goal
 
-pub returns : goal.returns
-returns c = λ order tells known few small.
-    let a = c.args in
-    let f = a.live.now.func in
-    weighed (use_sum f.blocks a.freqs.now a.v) c.in_ok-uses.uses c.saturating_mul.result c.points-points.result (range_held a.live.now.table f.blocks a.v) small (c.in_ok-uses.ensures tells known) c.saturating_mul.ensures (c.points-points.ensures order tells.finds.ranked few)
+pub returns-in-Some : goal.returns-in-Some
+returns-in-Some c = λ order tells known few small. c.weight_for.ensures c.args.freqs.now order tells (rw c.in-Some.is at known) few small
+
+pub returns-in_ok-uses-in-None : goal.returns-in_ok-uses-in-None
+returns-in_ok-uses-in-None c = λ order tells known few small. c.weight_for-in-None.ensures c.args.freqs.now order tells (c.in_ok-uses-in-None.ensures tells) few small
