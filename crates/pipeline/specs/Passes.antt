@@ -1,2 +1,3 @@
 pub mod Allocators
 pub mod Stops
+pub mod Ready

@@ -10,6 +10,6 @@ mod stop;
 pub use crate::passes::allocator::Allocator;
 pub use crate::passes::chosen::with_registers;
 pub use crate::passes::places::served;
-pub use crate::passes::ready::{Prepared, lowered, prepare};
+pub use crate::passes::ready::{Prepared, live_anew, lowered, prepare};
 pub use crate::passes::stop::RegisterStop;
 pub use greedy_core::Watcher;

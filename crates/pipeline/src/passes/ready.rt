@@ -1,13 +1,17 @@
 //! A function made ready for the run.
 
-ghost use Rattle.std.specs.Prelude.{◌≡◌, ◌≤◌, ◌^◌, IfOk};
+ghost use Rattle.std.specs.Prelude.{◌≡◌, ◌≤◌, ◌^◌, IfOk, IfSome};
 ghost use Rattle.block_freq.specs.Frequencies.{frequencies_of};
 ghost use Rattle.phi_elim.specs.Bulk.{bulk};
 ghost use Rattle.two_address.specs.Lowered.{lowered};
+ghost use Rattle.pipeline.specs.Passes.Ready.{IsLive};
 
+use crate::guarded::verify_live;
+use alloc_check::fits;
 use block_freq::{Freqs, frequencies};
 use coalescer::coalesce;
 use live_lanes::LiveFunc;
+use machine_verify::VerifyStop;
 use mir_func::{Func, Valid};
 use phi_elim::lower_phis;
 use std::alloc::{AllocError, Global};
@@ -42,4 +46,29 @@ pub fn prepare(alloc: Global, target: &Target, source: LiveFunc) -> Result<Prepa
     let live = LiveFunc::compute_within(alloc, own_target, f)?;
     let (live, _) = coalesce(alloc, target, live, &freqs)?;
     Ok(Prepared { live, freqs })
+}
+
+/// The function that was made ready, with what is live in it computed anew; what was known of it
+/// before, by edits of the table, is let go. None where the function isn't valid as a source, of which
+/// nothing is known: never seen.
+pub fn live_anew(
+    alloc: Global,
+    target: &Target,
+    made: Prepared,
+) -> Result<Option<Prepared>, AllocError>
+    ensures { IfOk result (λ again. IfSome again (λ now. IsLive target.now now × (now.freqs ≡ made.freqs))) }
+{
+    let Prepared { live, freqs } = made;
+    let f = live.into_func();
+    if !fits(target, &f) {
+        return Ok(None);
+    }
+    match verify_live(alloc, target, f) {
+        Ok(source) => {
+            let live = source.into_live(alloc, target)?;
+            Ok(Some(Prepared { live, freqs }))
+        }
+        Err(VerifyStop::Invalid(_)) => Ok(None),
+        Err(VerifyStop::Memory(e)) => Err(e),
+    }
 }
