@@ -4,3 +4,4 @@ pub mod Read
 pub mod Refused
 pub mod Watched
 pub mod Taken
+pub mod Answered

@@ -8,6 +8,7 @@ pub mod ending;
 pub mod generated;
 pub mod generator;
 mod numbers;
+pub mod reading;
 pub mod report;
 pub mod run;
 pub mod stream;

@@ -10,7 +10,7 @@ ghost use Rattle.ra_top.specs.Watched.{ToldAs, ToldJob, ToldWords, IfTells, is_t
 
 use crate::check::check;
 use crate::commands::status::write_line;
-use crate::commands::{Job, Status};
+use crate::commands::{Job, Status, Task};
 use crate::devices::{Files, Sink};
 use crate::ending::Ending;
 use crate::generated::generate;
@@ -18,9 +18,32 @@ use crate::stream::{ends, stream};
 use crate::target::named_target;
 use crate::words::{Command, read_words};
 use mir_meaning::Form;
+use mir_text::Reader;
 use std::alloc::Global;
 use target_base::Target;
 use watchers::Watcher;
+
+/// A command over the documents of a file.
+#[derive(Clone, Copy)]
+struct FileCommand<'a> {
+    /// What is done with each document.
+    job: Job<'a>,
+    /// The word of the target.
+    target: &'a str,
+    /// The word of the file.
+    file: &'a str,
+}
+
+/// The command `check` over two files.
+#[derive(Clone, Copy)]
+struct CheckCommand<'a> {
+    /// The word of the target.
+    target: &'a str,
+    /// The word of the source file.
+    source: &'a str,
+    /// The word of the file with its functions allocated.
+    allocated: &'a str,
+}
 
 /// Does all that the program does: reads its words, which are those after its name, treats the
 /// documents of the file that they name one at a time, each before the next is read, and writes a
@@ -54,54 +77,41 @@ pub fn top<F: Files, O: Sink, E: Sink, W: Watcher>(
         Ok(None) => tell(err, ends(alloc, Status::Usage), ""),
         Ok(Some(Command::Alloc(allocator, target, file))) => {
             let job = Job::Alloc(allocator);
-            over_file(alloc, job, target, file, files, out, err, watchers)
+            let command = FileCommand { job, target, file };
+            over_file(alloc, command, files, out, err, watchers)
         }
         Ok(Some(Command::VerifySource(target, file))) => {
-            over_file(
-                alloc,
-                Job::Verify(Form::Source),
-                target,
-                file,
-                files,
-                out,
-                err,
-                watchers,
-            )
+            let job = Job::Verify(Form::Source);
+            let command = FileCommand { job, target, file };
+            over_file(alloc, command, files, out, err, watchers)
         }
         Ok(Some(Command::VerifyAllocated(target, file))) => {
-            over_file(
-                alloc,
-                Job::Verify(Form::Allocated),
-                target,
-                file,
-                files,
-                out,
-                err,
-                watchers,
-            )
+            let job = Job::Verify(Form::Allocated);
+            let command = FileCommand { job, target, file };
+            over_file(alloc, command, files, out, err, watchers)
         }
         Ok(Some(Command::Run(target, file, name, n, seed))) => {
             let job = Job::Run(name, n, seed);
-            over_file(alloc, job, target, file, files, out, err, watchers)
+            let command = FileCommand { job, target, file };
+            over_file(alloc, command, files, out, err, watchers)
         }
         Ok(Some(Command::Intervals(target, file))) => {
-            over_file(
-                alloc,
-                Job::Intervals,
-                target,
-                file,
-                files,
-                out,
-                err,
-                watchers,
-            )
+            let job = Job::Intervals;
+            let command = FileCommand { job, target, file };
+            over_file(alloc, command, files, out, err, watchers)
         }
         Ok(Some(Command::Trace(allocator, target, file))) => {
             let job = Job::Trace(allocator);
-            over_file(alloc, job, target, file, files, out, err, watchers)
+            let command = FileCommand { job, target, file };
+            over_file(alloc, command, files, out, err, watchers)
         }
         Ok(Some(Command::Check(target, source, allocated))) => {
-            over_files(alloc, target, source, allocated, files, out, err)
+            let command = CheckCommand {
+                target,
+                source,
+                allocated,
+            };
+            over_files(alloc, command, files, out, err)
         }
         Ok(Some(Command::Gen(seed))) => {
             let ending = generate(alloc, seed, out, watchers);
@@ -125,26 +135,24 @@ fn tell<E: Sink>(err: &mut E, ending: Ending, file: &str) -> Status
 /// A command that treats the documents of a file in turn, over the target of a word.
 fn over_file<F: Files, O: Sink, E: Sink, W: Watcher>(
     alloc: Global,
-    job: Job,
-    target: &str,
-    file: &str,
+    command: FileCommand<'_>,
     files: &mut F,
     out: &mut O,
     err: &mut E,
     watchers: &mut Vec<W>,
 ) -> Status
     ensures contents { (n : List ℕ) → F.contents files.new n ≡ F.contents files.old n }
-    ensures does { DoesJobAll job.entry target.now file.now (F.contents files.old) (F.left files.new) (O.written out.old) (O.written out.new) (E.faults err.old) (E.faults err.new) (E.written err.old) (E.written err.new) result }
+    ensures does { DoesJobAll command.entry.job command.entry.target.now command.entry.file.now (F.contents files.old) (F.left files.new) (O.written out.old) (O.written out.new) (E.faults err.old) (E.faults err.new) (E.written err.old) (E.written err.new) result }
     ensures cause { HasStatusCause result (F.faults files.old) (F.faults files.new) (O.faults out.old) (O.faults out.new) }
-    ensures leaves { tells job.entry ≡ false → watchers.new ≡ watchers.old }
-    ensures told { IfTells job.entry (ToldJob W.next target.now (F.contents files.old target.now) (F.contents files.old file.now) watchers.old.items watchers.new.items result) }
-    ensures traced { is_trace job.entry ≡ true → WritesLines (lines_of W.count W.text watchers.new.items) (O.written out.old) (O.written out.new) result }
+    ensures leaves { tells command.entry.job ≡ false → watchers.new ≡ watchers.old }
+    ensures told { IfTells command.entry.job (ToldJob W.next command.entry.target.now (F.contents files.old command.entry.target.now) (F.contents files.old command.entry.file.now) watchers.old.items watchers.new.items result) }
+    ensures traced { is_trace command.entry.job ≡ true → WritesLines (lines_of W.count W.text watchers.new.items) (O.written out.old) (O.written out.new) result }
 {
-    match named_target(alloc, target, files) {
-        Err(ending) => tell(err, ending, target),
+    match named_target(alloc, command.target, files) {
+        Err(ending) => tell(err, ending, command.target),
         Ok(read) => {
-            let ending = over_target(alloc, job, &read, file, files, out, watchers);
-            tell(err, ending, file)
+            let ending = over_target(alloc, &read, command, files, out, watchers);
+            tell(err, ending, command.file)
         }
     }
 }
@@ -152,17 +160,20 @@ fn over_file<F: Files, O: Sink, E: Sink, W: Watcher>(
 /// The command `check` over the files of two words and the target of a word.
 fn over_files<F: Files, O: Sink, E: Sink>(
     alloc: Global,
-    target: &str,
-    source: &str,
-    allocated: &str,
+    command: CheckCommand<'_>,
     files: &mut F,
     out: &mut O,
     err: &mut E,
 ) -> Status
     ensures contents { (n : List ℕ) → F.contents files.new n ≡ F.contents files.old n }
-    ensures does { DoesCheckAll target.now source.now allocated.now (F.contents files.old) (F.left files.new) (O.written out.old) (O.written out.new) (E.faults err.old) (E.faults err.new) (E.written err.old) (E.written err.new) result }
+    ensures does { DoesCheckAll command.entry.target.now command.entry.source.now command.entry.allocated.now (F.contents files.old) (F.left files.new) (O.written out.old) (O.written out.new) (E.faults err.old) (E.faults err.new) (E.written err.old) (E.written err.new) result }
     ensures cause { HasStatusCause result (F.faults files.old) (F.faults files.new) (O.faults out.old) (O.faults out.new) }
 {
+    let CheckCommand {
+        target,
+        source,
+        allocated,
+    } = command;
     match named_target(alloc, target, files) {
         Err(ending) => tell(err, ending, target),
         Ok(read) => {
@@ -172,25 +183,52 @@ fn over_files<F: Files, O: Sink, E: Sink>(
     }
 }
 
-/// Treats the documents of a file over a target.
+/// The same, over the target that was read. Its reader is made once for all documents.
 fn over_target<F: Files, O: Sink, W: Watcher>(
     alloc: Global,
-    job: Job,
     target: &Target,
+    command: FileCommand<'_>,
+    files: &mut F,
+    out: &mut O,
+    watchers: &mut Vec<W>,
+) -> Ending
+    ensures contents { (n : List ℕ) → F.contents files.new n ≡ F.contents files.old n }
+    ensures streamed { IfSome (F.contents files.old command.entry.file.now) (λ bytes. Streamed command.entry.job target.now bytes (F.left files.new) (O.written out.old) (O.written out.new) result.status result.detail) }
+    ensures cause { HasStatusCause result.status (F.faults files.old) (F.faults files.new) (O.faults out.old) (O.faults out.new) }
+    ensures leaves { tells command.entry.job ≡ false → watchers.new ≡ watchers.old }
+    ensures told { tells command.entry.job ≡ true → ToldAs (W.next target.now) target.now (F.contents files.old command.entry.file.now) watchers.old.items watchers.new.items result.status }
+    ensures traced { is_trace command.entry.job ≡ true → WritesLines (lines_of W.count W.text watchers.new.items) (O.written out.old) (O.written out.new) result.status }
+{
+    match Reader::new(alloc, target) {
+        Err(_) => ends(alloc, Status::Memory),
+        Ok(reader) => {
+            let task = Task {
+                alloc,
+                job: command.job,
+                reader: &reader,
+            };
+            over_reader(task, command.file, files, out, watchers)
+        }
+    }
+}
+
+/// The same, with the reader over the target.
+fn over_reader<F: Files, O: Sink, W: Watcher>(
+    task: Task<'_>,
     file: &str,
     files: &mut F,
     out: &mut O,
     watchers: &mut Vec<W>,
 ) -> Ending
     ensures contents { (n : List ℕ) → F.contents files.new n ≡ F.contents files.old n }
-    ensures streamed { IfSome (F.contents files.old file.now) (λ bytes. Streamed job.entry target.now bytes (F.left files.new) (O.written out.old) (O.written out.new) result.status result.detail) }
+    ensures streamed { IfSome (F.contents files.old file.now) (λ bytes. Streamed task.entry.job task.entry.reader.now bytes (F.left files.new) (O.written out.old) (O.written out.new) result.status result.detail) }
     ensures cause { HasStatusCause result.status (F.faults files.old) (F.faults files.new) (O.faults out.old) (O.faults out.new) }
-    ensures leaves { tells job.entry ≡ false → watchers.new ≡ watchers.old }
-    ensures told { tells job.entry ≡ true → ToldAs (W.next target.now) target.now (F.contents files.old file.now) watchers.old.items watchers.new.items result.status }
-    ensures traced { is_trace job.entry ≡ true → WritesLines (lines_of W.count W.text watchers.new.items) (O.written out.old) (O.written out.new) result.status }
+    ensures leaves { tells task.entry.job ≡ false → watchers.new ≡ watchers.old }
+    ensures told { tells task.entry.job ≡ true → ToldAs (W.next task.entry.reader.now) task.entry.reader.now (F.contents files.old file.now) watchers.old.items watchers.new.items result.status }
+    ensures traced { is_trace task.entry.job ≡ true → WritesLines (lines_of W.count W.text watchers.new.items) (O.written out.old) (O.written out.new) result.status }
 {
     match files.start(file) {
-        Err(_) => ends(alloc, Status::ReadFault),
-        Ok(()) => stream(alloc, job, target, files, out, watchers),
+        Err(_) => ends(task.alloc, Status::ReadFault),
+        Ok(()) => stream(task, files, out, watchers),
     }
 }

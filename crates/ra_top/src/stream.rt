@@ -2,19 +2,20 @@
 
 ghost use Rattle.std.specs.Prelude.{◌≡◌, ◌≤◌, ◌<◌, ◌+◌, ◌++◌, ℕ, List, length, IfSome, [], Some, false, true};
 ghost use Rattle.ra_top.specs.Devices.Pieces.{held_most};
-ghost use Rattle.ra_top.specs.Commands.Spot.{file_most, after};
+ghost use Rattle.ra_top.specs.Commands.Spot.{file_most, first_spot, after};
 ghost use Rattle.ra_top.specs.Told.{HasStatusCause, Streamed};
 ghost use Rattle.ra_top.specs.Steps.{HasStepCause, AfterPiece, AfterDocument, Moves, Advances, IsFinished, ToldAtPiece, ToldStep};
 ghost use Rattle.ra_top.specs.Commands.Documents.{tells, end_status};
 ghost use Rattle.ra_top.specs.Commands.Told.{lines_of};
 ghost use Rattle.ra_top.specs.Watched.{ToldAs, is_trace, WritesLines, TracesStep};
 
-use crate::commands::{Answer, Job, Spot, Status, answer_at, end_status, end_text};
+use crate::commands::{Answer, Job, Spot, Status, Task, answer_at, end_status, end_text};
 use crate::devices::moves::{ReadStop, write_all};
-use crate::devices::{Chunk, Files, Pieces, Sink, read_piece};
+use crate::devices::{Files, Sink, read_piece};
 use crate::ending::{Ending, Step};
+use crate::reading::Reading;
 use std::alloc::Global;
-use target_base::{Bytes, Target};
+use target_base::Bytes;
 use watchers::Watcher;
 
 /// Ends with a status whose line has no detail. It takes no memory.
@@ -30,9 +31,7 @@ pub fn ends(alloc: Global, status: Status) -> Ending
 /// Treats a piece that was read: its text is made whole, and then written. The spot moves behind the
 /// piece where the run goes on.
 fn treat<O: Sink, W: Watcher>(
-    alloc: Global,
-    job: Job,
-    target: &Target,
+    task: Task<'_>,
     spot: &mut Spot,
     piece: &[u8],
     out: &mut O,
@@ -42,21 +41,21 @@ fn treat<O: Sink, W: Watcher>(
     requires line { spot.old.line ≤ spot.old.offset + 1 }
     requires within { spot.old.offset ≤ file_most }
     requires filled { 0 < length piece.now }
-    ensures step { AfterPiece job.entry target.now spot.old piece.now (O.written out.old) (O.written out.new) result }
+    ensures step { AfterPiece task.entry.job task.entry.reader.now spot.old piece.now (O.written out.old) (O.written out.new) result }
     ensures moves { Moves spot.old piece.now spot.new result }
     ensures cause { HasStepCause result 0 0 (O.faults out.old) (O.faults out.new) }
-    ensures leaves { tells job.entry ≡ false → watchers.new ≡ watchers.old }
-    ensures told { tells job.entry ≡ true → ToldAtPiece (W.next target.now) target.now spot.old piece.now number.old number.new watchers.old.items watchers.new.items result }
+    ensures leaves { tells task.entry.job ≡ false → watchers.new ≡ watchers.old }
+    ensures told { tells task.entry.job ≡ true → ToldAtPiece (W.next task.entry.reader.now) task.entry.reader.now spot.old piece.now number.old number.new watchers.old.items watchers.new.items result }
 {
-    match answer_at(alloc, job, target, *spot, piece, number, watchers) {
-        Err(_) => Step::End(ends(alloc, Status::Memory)),
+    match answer_at(task, *spot, piece, number, watchers) {
+        Err(_) => Step::End(ends(task.alloc, Status::Memory)),
         Ok(Answer::Refused(status, detail)) => Step::End(Ending { status, detail }),
         Ok(Answer::Last(text)) => match write_all(out, text.as_slice()) {
-            Err(_) => Step::End(ends(alloc, Status::WriteFault)),
-            Ok(()) => Step::End(ends(alloc, Status::Done)),
+            Err(_) => Step::End(ends(task.alloc, Status::WriteFault)),
+            Ok(()) => Step::End(ends(task.alloc, Status::Done)),
         },
         Ok(Answer::Text(text)) => match write_all(out, text.as_slice()) {
-            Err(_) => Step::End(ends(alloc, Status::WriteFault)),
+            Err(_) => Step::End(ends(task.alloc, Status::WriteFault)),
             Ok(()) => {
                 *spot = spot.after(piece);
                 Step::More
@@ -82,45 +81,33 @@ fn finish<O: Sink, W: Watcher>(alloc: Global, job: Job, out: &mut O, watchers: &
 
 /// Reads the next document and treats it. No read is made before it is treated.
 fn document<F: Files, O: Sink, W: Watcher>(
-    alloc: Global,
-    job: Job,
-    target: &Target,
-    spot: &mut Spot,
+    task: Task<'_>,
     files: &mut F,
-    chunk: &mut Chunk,
+    reading: &mut Reading,
     out: &mut O,
-    piece: &mut Pieces,
     number: &mut u32,
     watchers: &mut Vec<W>,
 ) -> Step
-    requires line { spot.old.line ≤ spot.old.offset + 1 }
-    requires within { spot.old.offset ≤ file_most }
+    requires line { reading.old.spot.line ≤ reading.old.spot.offset + 1 }
+    requires within { reading.old.spot.offset ≤ file_most }
     ensures contents { (n : List ℕ) → F.contents files.new n ≡ F.contents files.old n }
-    ensures step { IfSome (F.left files.old) (λ l. AfterDocument job.entry target.now spot.old spot.new (chunk.old ++ l) (F.left files.new) chunk.new (O.written out.old) (O.written out.new) result) }
-    ensures moves { Advances spot.old spot.new result }
+    ensures step { IfSome (F.left files.old) (λ l. AfterDocument task.entry.job task.entry.reader.now reading.old.spot reading.new.spot (reading.old.chunk ++ l) (F.left files.new) reading.new.chunk (O.written out.old) (O.written out.new) result) }
+    ensures moves { Advances reading.old.spot reading.new.spot result }
     ensures cause { HasStepCause result (F.faults files.old) (F.faults files.new) (O.faults out.old) (O.faults out.new) }
-    ensures leaves { tells job.entry ≡ false → watchers.new ≡ watchers.old }
-    ensures told { tells job.entry ≡ true → ToldStep (W.next target.now) target.now spot.old spot.new (F.left files.old) chunk.old (F.left files.new) chunk.new number.old number.new watchers.old.items watchers.new.items result }
-    ensures traced { is_trace job.entry ≡ true → TracesStep (lines_of W.count W.text watchers.new.items) (O.written out.old) (O.written out.new) result }
+    ensures leaves { tells task.entry.job ≡ false → watchers.new ≡ watchers.old }
+    ensures told { tells task.entry.job ≡ true → ToldStep (W.next task.entry.reader.now) task.entry.reader.now reading.old.spot reading.new.spot (F.left files.old) reading.old.chunk (F.left files.new) reading.new.chunk number.old number.new watchers.old.items watchers.new.items result }
+    ensures traced { is_trace task.entry.job ≡ true → TracesStep (lines_of W.count W.text watchers.new.items) (O.written out.old) (O.written out.new) result }
 {
-    piece.clear();
-    match read_piece(files, chunk, piece) {
-        Err(ReadStop::Failed) => Step::End(ends(alloc, Status::ReadFault)),
-        Err(ReadStop::Memory(_)) => Step::End(ends(alloc, Status::Memory)),
+    reading.piece.clear();
+    match read_piece(files, &mut reading.chunk, &mut reading.piece) {
+        Err(ReadStop::Failed) => Step::End(ends(task.alloc, Status::ReadFault)),
+        Err(ReadStop::Memory(_)) => Step::End(ends(task.alloc, Status::Memory)),
         Ok(()) => {
-            if piece.bytes().is_empty() {
-                finish(alloc, job, out, watchers.as_slice())
+            let piece = reading.piece.bytes();
+            if piece.is_empty() {
+                finish(task.alloc, task.job, out, watchers.as_slice())
             } else {
-                treat(
-                    alloc,
-                    job,
-                    target,
-                    spot,
-                    piece.bytes(),
-                    out,
-                    number,
-                    watchers,
-                )
+                treat(task, &mut reading.spot, piece, out, number, watchers)
             }
         }
     }
@@ -128,61 +115,45 @@ fn document<F: Files, O: Sink, W: Watcher>(
 
 /// Treats the documents of a file that was begun, each before the next is read.
 pub fn stream<F: Files, O: Sink, W: Watcher>(
-    alloc: Global,
-    job: Job,
-    target: &Target,
+    task: Task<'_>,
     files: &mut F,
     out: &mut O,
     watchers: &mut Vec<W>,
 ) -> Ending
     ensures contents { (n : List ℕ) → F.contents files.new n ≡ F.contents files.old n }
-    ensures streamed { IfSome (F.left files.old) (λ file. Streamed job.entry target.now file (F.left files.new) (O.written out.old) (O.written out.new) result.status result.detail) }
+    ensures streamed { IfSome (F.left files.old) (λ file. Streamed task.entry.job task.entry.reader.now file (F.left files.new) (O.written out.old) (O.written out.new) result.status result.detail) }
     ensures cause { HasStatusCause result.status (F.faults files.old) (F.faults files.new) (O.faults out.old) (O.faults out.new) }
-    ensures leaves { tells job.entry ≡ false → watchers.new ≡ watchers.old }
-    ensures told { tells job.entry ≡ true → ToldAs (W.next target.now) target.now (F.left files.old) watchers.old.items watchers.new.items result.status }
-    ensures traced { is_trace job.entry ≡ true → WritesLines (lines_of W.count W.text watchers.new.items) (O.written out.old) (O.written out.new) result.status }
+    ensures leaves { tells task.entry.job ≡ false → watchers.new ≡ watchers.old }
+    ensures told { tells task.entry.job ≡ true → ToldAs (W.next task.entry.reader.now) task.entry.reader.now (F.left files.old) watchers.old.items watchers.new.items result.status }
+    ensures traced { is_trace task.entry.job ≡ true → WritesLines (lines_of W.count W.text watchers.new.items) (O.written out.old) (O.written out.new) result.status }
 {
-    match Chunk::new(alloc) {
-        Err(_) => ends(alloc, Status::Memory),
-        Ok(chunk) => stream_chunks(alloc, job, target, files, out, chunk, watchers),
+    match Reading::new(task.alloc) {
+        Err(_) => ends(task.alloc, Status::Memory),
+        Ok(begun) => stream_from(task, files, out, begun, watchers),
     }
 }
 
-/// The same, each read going into a chunk.
-fn stream_chunks<F: Files, O: Sink, W: Watcher>(
-    alloc: Global,
-    job: Job,
-    target: &Target,
+/// The same, where nothing of the file is read yet.
+fn stream_from<F: Files, O: Sink, W: Watcher>(
+    task: Task<'_>,
     files: &mut F,
     out: &mut O,
-    empty: Chunk,
+    begun: Reading,
     watchers: &mut Vec<W>,
 ) -> Ending
-    requires empty { empty ≡ [] }
+    requires first { begun.spot ≡ first_spot }
+    requires empty { begun.chunk ≡ [] }
     ensures contents { (n : List ℕ) → F.contents files.new n ≡ F.contents files.old n }
-    ensures streamed { IfSome (F.left files.old) (λ file. Streamed job.entry target.now file (F.left files.new) (O.written out.old) (O.written out.new) result.status result.detail) }
+    ensures streamed { IfSome (F.left files.old) (λ file. Streamed task.entry.job task.entry.reader.now file (F.left files.new) (O.written out.old) (O.written out.new) result.status result.detail) }
     ensures cause { HasStatusCause result.status (F.faults files.old) (F.faults files.new) (O.faults out.old) (O.faults out.new) }
-    ensures leaves { tells job.entry ≡ false → watchers.new ≡ watchers.old }
-    ensures told { tells job.entry ≡ true → ToldAs (W.next target.now) target.now (F.left files.old) watchers.old.items watchers.new.items result.status }
-    ensures traced { is_trace job.entry ≡ true → WritesLines (lines_of W.count W.text watchers.new.items) (O.written out.old) (O.written out.new) result.status }
+    ensures leaves { tells task.entry.job ≡ false → watchers.new ≡ watchers.old }
+    ensures told { tells task.entry.job ≡ true → ToldAs (W.next task.entry.reader.now) task.entry.reader.now (F.left files.old) watchers.old.items watchers.new.items result.status }
+    ensures traced { is_trace task.entry.job ≡ true → WritesLines (lines_of W.count W.text watchers.new.items) (O.written out.old) (O.written out.new) result.status }
 {
-    let mut chunk = empty;
-    let mut piece = Pieces::new(alloc);
-    let mut spot = Spot::first();
+    let mut reading = begun;
     let mut number = 0u32;
     'documents: loop {
-        match document(
-            alloc,
-            job,
-            target,
-            &mut spot,
-            files,
-            &mut chunk,
-            out,
-            &mut piece,
-            &mut number,
-            watchers,
-        ) {
+        match document(task, files, &mut reading, out, &mut number, watchers) {
             Step::More => {}
             Step::End(ending) => return ending,
         }

@@ -48,3 +48,11 @@ ends_at_allocated t source allocated contents now left old fs r s detail same re
   file_is = refl;
   unwritten = refl;
 }
+
+-- memory ran out before the source file was read
+pub memory_at_source : (t : Target) (source allocated : List ℕ) (contents : List ℕ → Option (List ℕ)) (left old : Option (List ℕ)) (s : Status) (detail : List ℕ) → s ≡ status.Memory → ChecksFiles t source allocated contents left old old s source detail
+memory_at_source t source allocated contents left old s detail is = at_source (record {
+  broken = subst (λ z. IfSome (contents source) (λ bytes. IsSourceBroken t bytes left z detail)) (sym is) (memory_breaks (IsTaken t) (SourceRefuses t) t (contents source) left detail);
+  file_is = refl;
+  unwritten = refl;
+})

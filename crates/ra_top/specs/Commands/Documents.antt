@@ -174,11 +174,6 @@ IsDocAnswer job t d (answers.Text text) = IsTextOf job t d text
 IsDocAnswer job t d (answers.Last text) = IsLastTextOf job t d text
 IsDocAnswer job t d (answers.Refused s detail) = RefusesDoc job t d s detail
 
-abbrev pub IsFunctionAnswer : Job → Target → List ℕ → Function → Answer → Type 0
-IsFunctionAnswer job t before f (answers.Text text) = IsFunctionText job t before f text
-IsFunctionAnswer job t before f (answers.Last text) = IsLastFunctionText job t f text
-IsFunctionAnswer job t before f (answers.Refused s detail) = FunctionRefuses job t f s detail
-
 abbrev pub IsAllocAnswer : Target → List ℕ → Function → Answer → Type 0
 IsAllocAnswer t before f (answers.Text text) = IsAllocation t before f text
 IsAllocAnswer t before f (answers.Last text) = ⊥

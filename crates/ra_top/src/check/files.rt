@@ -8,16 +8,16 @@ ghost use Rattle.ra_top.specs.Checked.{SourceRefuses, LimitRefuses, RefusesFunct
 ghost use Rattle.ra_top.specs.Reading.{HasCauseOf, plain, AddsSource, AddsLine, SaysOfFile, EndsAs};
 ghost use Rattle.ra_top.specs.Told.{HasStatusCause};
 
-use crate::check::reading::{begin, next_document};
 use crate::commands::pairs::{put_left, put_pair};
 use crate::commands::verify::source_of;
 use crate::commands::{Refusal, Status};
 use crate::devices::{Files, Sink};
 use crate::ending::Ending;
 use crate::generated::written;
+use crate::reading::{begin, next_document};
 use crate::stream::ends;
 use mir_func::Valid;
-use mir_text::Doc;
+use mir_text::{Doc, Reader};
 use pipeline::guarded::passed_limit;
 use std::alloc::{AllocError, Global};
 use target_base::{Bytes, Target};
@@ -37,16 +37,16 @@ fn keep(sources: &mut Vec<Valid>, source: Valid) -> Result<(), Refusal>
 /// `verify source` refuses.
 fn add_source(
     alloc: Global,
-    target: &Target,
+    reader: &Reader,
     doc: Doc,
     sources: &mut Vec<Valid>,
 ) -> Result<(), Refusal>
-    requires { DocFits target.now doc }
-    ensures ok { OnOk result (AddsSource target.now doc sources.old.items sources.new.items) }
-    ensures err { IfErr result (IfBy (RefusesFunction (SourceRefuses target.now) doc)) }
+    requires { DocFits reader.now doc }
+    ensures ok { OnOk result (AddsSource reader.now doc sources.old.items sources.new.items) }
+    ensures err { IfErr result (IfBy (RefusesFunction (SourceRefuses reader.now) doc)) }
 {
     match doc {
-        Doc::Function(_, f) => keep(sources, source_of(alloc, target, f)?),
+        Doc::Function(_, f) => keep(sources, source_of(alloc, reader.target(), f)?),
         Doc::Ir(_) => Ok(()),
         Doc::Rest(_) => Ok(()),
     }
@@ -55,20 +55,20 @@ fn add_source(
 /// The functions of the source file of a name.
 fn sources_of<F: Files>(
     alloc: Global,
-    target: &Target,
+    reader: &Reader,
     name: &str,
     files: &mut F,
 ) -> Result<Vec<Valid>, Refusal>
     ensures contents { (n : List ℕ) → F.contents files.new n ≡ F.contents files.old n }
-    ensures ok { IfOk result (λ sources. IfSome (F.contents files.old name.now) (λ bytes. IsRead (IsTaken target.now) target.now bytes (plain sources.items))) }
-    ensures err { IfErr result (IfBy (λ s detail. IfSome (F.contents files.old name.now) (λ bytes. IsSourceBroken target.now bytes (F.left files.new) s detail))) }
+    ensures ok { IfOk result (λ sources. IfSome (F.contents files.old name.now) (λ bytes. IsRead (IsTaken reader.now) reader.now bytes (plain sources.items))) }
+    ensures err { IfErr result (IfBy (λ s detail. IfSome (F.contents files.old name.now) (λ bytes. IsSourceBroken reader.now bytes (F.left files.new) s detail))) }
     ensures cause { HasCauseOf (F.faults files.old) (F.faults files.new) result }
 {
     let mut reading = begin(alloc, name, files)?;
     let mut sources = Vec::new(alloc);
     'documents: loop {
-        match next_document(alloc, target, files, &mut reading)? {
-            Some(doc) => add_source(alloc, target, doc, &mut sources)?,
+        match next_document(alloc, reader, files, &mut reading)? {
+            Some(doc) => add_source(alloc, reader, doc, &mut sources)?,
             None => return Ok(sources),
         }
     }
@@ -78,19 +78,19 @@ fn sources_of<F: Files>(
 /// functions of the source file that have no partner yet. Refused is a function that passes a limit.
 fn add_line<'a>(
     alloc: Global,
-    target: &Target,
+    reader: &Reader,
     doc: Doc,
     left: &'a [Valid],
     lines: &mut Bytes,
 ) -> Result<&'a [Valid], Refusal>
-    requires { DocFits target.now doc }
-    ensures ok { IfOk result (λ rest. AddsLine target.now doc (plain left.now) (plain rest.now) lines.old lines.new) }
+    requires { DocFits reader.now doc }
+    ensures ok { IfOk result (λ rest. AddsLine reader.now doc (plain left.now) (plain rest.now) lines.old lines.new) }
     ensures err { IfErr result (IfBy (RefusesFunction LimitRefuses doc)) }
 {
     match doc {
         Doc::Function(_, g) => match passed_limit(&g) {
             Some(limit) => Err(Refusal::By(Status::Limit(limit), Bytes::new(alloc))),
-            None => Ok(put_pair(alloc, target, left, &g, lines)?),
+            None => Ok(put_pair(alloc, reader.target(), left, &g, lines)?),
         },
         Doc::Ir(_) => Ok(left),
         Doc::Rest(_) => Ok(left),
@@ -101,22 +101,22 @@ fn add_line<'a>(
 /// name.
 fn lines_of<F: Files>(
     alloc: Global,
-    target: &Target,
+    reader: &Reader,
     sources: &[Valid],
     name: &str,
     files: &mut F,
 ) -> Result<Bytes, Refusal>
     ensures contents { (n : List ℕ) → F.contents files.new n ≡ F.contents files.old n }
-    ensures ok { IfOk result (SaysOfFile target.now (plain sources.now) (F.contents files.old name.now)) }
-    ensures err { IfErr result (IfBy (λ s detail. IfSome (F.contents files.old name.now) (λ bytes. IsAllocatedBroken target.now bytes (F.left files.new) s detail))) }
+    ensures ok { IfOk result (SaysOfFile reader.now (plain sources.now) (F.contents files.old name.now)) }
+    ensures err { IfErr result (IfBy (λ s detail. IfSome (F.contents files.old name.now) (λ bytes. IsAllocatedBroken reader.now bytes (F.left files.new) s detail))) }
     ensures cause { HasCauseOf (F.faults files.old) (F.faults files.new) result }
 {
     let mut reading = begin(alloc, name, files)?;
     let mut lines = Bytes::new(alloc);
     let mut left = sources;
     'documents: loop {
-        match next_document(alloc, target, files, &mut reading)? {
-            Some(doc) => left = add_line(alloc, target, doc, left, &mut lines)?,
+        match next_document(alloc, reader, files, &mut reading)? {
+            Some(doc) => left = add_line(alloc, reader, doc, left, &mut lines)?,
             None => break,
         }
     }
@@ -151,11 +151,30 @@ pub fn check<'a, F: Files, O: Sink>(
     ensures checks { ChecksFiles target.now source.now allocated.now (F.contents files.old) (F.left files.new) (O.written out.old) (O.written out.new) result.0.status result.1.now result.0.detail }
     ensures cause { HasStatusCause result.0.status (F.faults files.old) (F.faults files.new) (O.faults out.old) (O.faults out.new) }
 {
-    let sources = match sources_of(alloc, target, source, files) {
+    match Reader::new(alloc, target) {
+        Ok(reader) => checked(alloc, &reader, source, allocated, files, out),
+        Err(_) => (ends(alloc, Status::Memory), source),
+    }
+}
+
+/// The same, by a reader over the target.
+fn checked<'a, F: Files, O: Sink>(
+    alloc: Global,
+    reader: &Reader,
+    source: &'a str,
+    allocated: &'a str,
+    files: &mut F,
+    out: &mut O,
+) -> (Ending, &'a str)
+    ensures contents { (n : List ℕ) → F.contents files.new n ≡ F.contents files.old n }
+    ensures checks { ChecksFiles reader.now source.now allocated.now (F.contents files.old) (F.left files.new) (O.written out.old) (O.written out.new) result.0.status result.1.now result.0.detail }
+    ensures cause { HasStatusCause result.0.status (F.faults files.old) (F.faults files.new) (O.faults out.old) (O.faults out.new) }
+{
+    let sources = match sources_of(alloc, reader, source, files) {
         Ok(sources) => sources,
         Err(refusal) => return (refused(alloc, refusal), source),
     };
-    match lines_of(alloc, target, sources.as_slice(), allocated, files) {
+    match lines_of(alloc, reader, sources.as_slice(), allocated, files) {
         Ok(text) => (written(alloc, text, out), allocated),
         Err(refusal) => (refused(alloc, refusal), allocated),
     }

@@ -1,6 +1,5 @@
 //! The command `check`: whether each function of a file is an allocation of its partner in another.
 
 mod files;
-mod reading;
 
 pub use crate::check::files::check;

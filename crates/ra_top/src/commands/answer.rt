@@ -13,9 +13,10 @@ use crate::commands::refusal::Refusal;
 use crate::commands::spot::Spot;
 use crate::commands::status::Status;
 use mir_meaning::Form;
+use mir_text::Reader;
 use pipeline::guarded::Allocator;
 use std::alloc::{AllocError, Global};
-use target_base::{Bytes, Target};
+use target_base::Bytes;
 use watchers::Watcher;
 
 /// What is done with each document of a file.
@@ -31,6 +32,26 @@ pub enum Job<'a> {
     Intervals,
     /// Each function is allocated by this allocator for the watchers, whose lines are written at the end.
     Trace(Allocator),
+}
+
+/// What is done with the documents of a file, and how they are read.
+#[derive(Clone, Copy)]
+pub struct Task<'a> {
+    /// The allocator of memory.
+    pub alloc: Global,
+    /// What is done with each document.
+    pub job: Job<'a>,
+    /// The reader of documents over the target.
+    pub reader: &'a Reader<'a>,
+}
+
+/// A run of an allocator over a function.
+#[derive(Clone, Copy)]
+pub struct AllocatorRun {
+    /// The allocator.
+    pub allocator: Allocator,
+    /// The number of the function.
+    pub number: u32,
 }
 
 /// What is answered at a piece.
@@ -64,9 +85,7 @@ pub fn end_status(job: Job) -> Status
 /// document nothing.
 #[tactic(auto, using(crate::proofs::CommandLemmas::Refused::unspelled))]
 pub fn answer_at<W: Watcher>(
-    alloc: Global,
-    job: Job,
-    target: &Target,
+    task: Task<'_>,
     spot: Spot,
     piece: &[u8],
     number: &mut u32,
@@ -74,13 +93,16 @@ pub fn answer_at<W: Watcher>(
 ) -> Result<Answer, AllocError>
     requires line { spot.line ≤ spot.offset + 1 }
     requires within { spot.offset ≤ file_most }
-    ensures answer { IfOk result (λ a. IsAnswer job.entry target.now spot piece.now a) }
-    ensures leaves { tells job.entry ≡ false → watchers.new ≡ watchers.old }
-    ensures told { tells job.entry ≡ true → IfOk result (ToldPiece (W.next target.now) target.now spot piece.now number.old number.new watchers.old.items watchers.new.items) }
-    ensures part { OnErr result (ToldPart (W.next target.now) watchers.old.items watchers.new.items) }
+    ensures answer { IfOk result (λ a. IsAnswer task.entry.job task.entry.reader.now spot piece.now a) }
+    ensures leaves { tells task.entry.job ≡ false → watchers.new ≡ watchers.old }
+    ensures told { tells task.entry.job ≡ true → IfOk result (ToldPiece (W.next task.entry.reader.now) task.entry.reader.now spot piece.now number.old number.new watchers.old.items watchers.new.items) }
+    ensures part { OnErr result (ToldPart (W.next task.entry.reader.now) watchers.old.items watchers.new.items) }
 {
-    match doc_at(alloc, target, spot, piece) {
-        Ok(doc) => at_document(alloc, job, target, doc, number, watchers),
+    match doc_at(task.alloc, task.reader, spot, piece) {
+        Ok(doc) => {
+            let target = task.reader.target();
+            at_document(task.alloc, task.job, target, doc, number, watchers)
+        }
         Err(Refusal::By(status, detail)) => Ok(Answer::Refused(status, detail)),
         Err(Refusal::Memory(e)) => Err(e),
     }

@@ -7,9 +7,9 @@ ghost use Rattle.pipeline.specs.Guarded.Function.{IfRefused};
 ghost use Rattle.pipeline.specs.Guarded.Told.{ToldPart};
 ghost use Rattle.ra_top.specs.Commands.Told as watched;
 ghost use Rattle.ra_top.specs.Commands.Told.{next_number, ToldAnswer, ToldOne, IsEndOf};
-ghost use Rattle.ra_top.specs.Commands.Documents.{DocFits, IsDocAnswer, IsFunctionAnswer, IsAllocAnswer, IsAllocRefusal, IsEndText, tells, text_of_lines};
+ghost use Rattle.ra_top.specs.Commands.Documents.{DocFits, IsDocAnswer, IsAllocAnswer, IsAllocRefusal, IsEndText, tells, text_of_lines};
 
-use crate::commands::answer::{Answer, Job};
+use crate::commands::answer::{AllocatorRun, Answer, Job};
 use crate::commands::intervals::intervals_of;
 use crate::commands::run::at_named;
 use crate::commands::status::Status;
@@ -19,7 +19,7 @@ use crate::commands::verify::verified_function;
 use crate::commands::words::{invalid_words, unassignable_words};
 use mir_func::Func;
 use mir_text::Doc;
-use pipeline::guarded::{Allocator, FunctionStop, allocated};
+use pipeline::guarded::{FunctionStop, allocated};
 use std::alloc::{AllocError, Global};
 use target_base::{Bytes, Target};
 use watchers::Watcher;
@@ -45,23 +45,22 @@ pub(crate) fn refused(alloc: Global, stop: FunctionStop) -> Result<Answer, Alloc
     }
 }
 
-/// The command `alloc` at a function document: the lines before it, and its function of a number,
-/// allocated by an allocator.
+/// The command `alloc` at a function document: the lines before it, and its function, allocated by a run
+/// of an allocator.
 fn allocated_function<W: Watcher>(
     alloc: Global,
     target: &Target,
     before: Bytes,
     f: Func,
-    allocator: Allocator,
-    number: u32,
+    run: AllocatorRun,
     watchers: &mut Vec<W>,
 ) -> Result<Answer, AllocError>
     requires { FitsTarget target.now f }
     ensures answer { IfOk result (IsAllocAnswer target.now before f) }
-    ensures told { IfOk result (ToldOne (W.next target.now) number watchers.old.items watchers.new.items) }
+    ensures told { IfOk result (ToldOne (W.next target.now) run.number watchers.old.items watchers.new.items) }
     ensures part { OnErr result (ToldPart (W.next target.now) watchers.old.items watchers.new.items) }
 {
-    match allocated(alloc, target, f, allocator, number, watchers) {
+    match allocated(alloc, target, f, run.allocator, run.number, watchers) {
         Ok(made) => {
             let mut text = before;
             text.extend(made.text.as_slice())?;
@@ -79,34 +78,6 @@ fn next(number: &mut u32) -> u32
     let now = *number;
     *number = now.saturating_add(1);
     now
-}
-
-/// What is answered at a function document.
-fn at_function<W: Watcher>(
-    alloc: Global,
-    job: Job,
-    target: &Target,
-    before: Bytes,
-    f: Func,
-    number: &mut u32,
-    watchers: &mut Vec<W>,
-) -> Result<Answer, AllocError>
-    requires { FitsTarget target.now f }
-    ensures answer { IfOk result (IsFunctionAnswer job.entry target.now before f) }
-    ensures leaves { tells job.entry ≡ false → watchers.new ≡ watchers.old }
-    ensures told { tells job.entry ≡ true → IfOk result (ToldAnswer (W.next target.now) (docs.Function before f) number.old number.new watchers.old.items watchers.new.items) }
-    ensures part { OnErr result (ToldPart (W.next target.now) watchers.old.items watchers.new.items) }
-{
-    match job {
-        Job::Alloc(allocator) => {
-            let number = next(number);
-            allocated_function(alloc, target, before, f, allocator, number, watchers)
-        }
-        Job::Verify(form) => verified_function(alloc, target, form, f),
-        Job::Run(name, n, seed) => at_named(alloc, target, name, n, seed, f),
-        Job::Intervals => intervals_of(alloc, target, f),
-        Job::Trace(allocator) => traced(alloc, target, f, allocator, next(number), watchers),
-    }
 }
 
 /// What is answered at a document that is no function: `alloc` writes its bytes, and the other
@@ -139,7 +110,21 @@ pub fn at_document<W: Watcher>(
     ensures part { OnErr result (ToldPart (W.next target.now) watchers.old.items watchers.new.items) }
 {
     match doc {
-        Doc::Function(before, f) => at_function(alloc, job, target, before, f, number, watchers),
+        Doc::Function(before, f) => match job {
+            Job::Alloc(allocator) => {
+                let number = next(number);
+                let run = AllocatorRun { allocator, number };
+                allocated_function(alloc, target, before, f, run, watchers)
+            }
+            Job::Verify(form) => verified_function(alloc, target, form, f),
+            Job::Run(name, n, seed) => at_named(alloc, target, name, n, seed, f),
+            Job::Intervals => intervals_of(alloc, target, f),
+            Job::Trace(allocator) => {
+                let number = next(number);
+                let run = AllocatorRun { allocator, number };
+                traced(alloc, target, f, run, watchers)
+            }
+        },
         Doc::Ir(lines) => Ok(Answer::Text(at_lines(alloc, job, lines))),
         Doc::Rest(lines) => Ok(Answer::Text(at_lines(alloc, job, lines))),
     }

@@ -16,7 +16,7 @@ mod trace;
 pub mod verify;
 mod words;
 
-pub use crate::commands::answer::{Answer, Job, answer_at, end_status};
+pub use crate::commands::answer::{Answer, Job, Task, answer_at, end_status};
 pub use crate::commands::documents::end_text;
 pub use crate::commands::generated::gen_answer;
 pub use crate::commands::refusal::Refusal;

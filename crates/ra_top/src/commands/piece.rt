@@ -10,9 +10,9 @@ use crate::commands::refusal::Refusal;
 use crate::commands::spot::Spot;
 use crate::commands::status::Status;
 use crate::numbers::digits;
-use mir_text::{Doc, TextStop, read_doc};
+use mir_text::{Doc, Reader, TextStop};
 use std::alloc::Global;
-use target_base::{Bytes, Target};
+use target_base::Bytes;
 
 /// The document that a piece spells which begins at a spot; the piece may be 4,194,305 bytes long, which
 /// are the first ones of a longer piece. Refused are a piece that passes a limit on lengths, and then one
@@ -20,20 +20,20 @@ use target_base::{Bytes, Target};
 #[tactic(auto, using(crate::proofs::CommandLemmas::Read::doc_fits))]
 pub(crate) fn doc_at(
     alloc: Global,
-    target: &Target,
+    reader: &Reader,
     spot: Spot,
     piece: &[u8],
 ) -> Result<Doc, Refusal>
     requires line { spot.line ≤ spot.offset + 1 }
     requires within { spot.offset ≤ file_most }
-    ensures ok { IfOk result (IsSpelled target.now spot piece.now) }
-    ensures fits { IfOk result (DocFits target.now) }
-    ensures err { IfErr result (IfBy (IsUnspelled target.now spot piece.now)) }
+    ensures ok { IfOk result (IsSpelled reader.now spot piece.now) }
+    ensures fits { IfOk result (DocFits reader.now) }
+    ensures err { IfErr result (IfBy (IsUnspelled reader.now spot piece.now)) }
 {
     if let Some(limit) = spot.length_fault(piece.len()) {
         return Err(Refusal::By(Status::Limit(limit), Bytes::new(alloc)));
     }
-    match read_doc(alloc, target, spot.offset == 0, spot.line, piece) {
+    match reader.read(alloc, spot.offset == 0, spot.line, piece) {
         Ok(doc) => Ok(doc),
         Err(TextStop::Fault(fault)) => {
             let detail = digits(alloc, fault.line as u128)?;

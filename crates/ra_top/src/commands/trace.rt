@@ -10,12 +10,12 @@ ghost use Rattle.ra_top.specs.Commands.Documents.{IsTraceAnswer, IsTakenAnswer, 
 ghost use Rattle.pipeline.specs.Guarded.Told.{ToldPart};
 ghost use Rattle.ra_top.specs.Commands.Told.{ToldOne};
 
-use crate::commands::answer::Answer;
+use crate::commands::answer::{AllocatorRun, Answer};
 use crate::commands::status::Status;
 use crate::commands::words::{invalid_words, unassignable_words};
 use machine_verify::{LiveSource, VerifyStop};
 use mir_func::Func;
-use pipeline::guarded::{Allocator, LimitName, passed_limit, verify_live};
+use pipeline::guarded::{LimitName, passed_limit, verify_live};
 use pipeline::passes::{RegisterStop, with_registers};
 use std::alloc::{AllocError, Global};
 use target_base::{Bytes, Copied, Target};
@@ -43,40 +43,39 @@ fn refused(alloc: Global, name: &[u8], stop: RegisterStop) -> Result<Answer, All
     }
 }
 
-/// Allocates a valid function of a name by an allocator for the watchers. Nothing is written of it, so that the checker of
-/// allocations isn't asked.
+/// Allocates a valid function of a name by a run of an allocator, for the watchers. Nothing is written
+/// of it, so that the checker of allocations isn't asked.
 fn traced_valid<W: Watcher>(
     alloc: Global,
     target: &Target,
     name: &[u8],
     source: LiveSource,
-    allocator: Allocator,
-    number: u32,
+    run: AllocatorRun,
     watchers: &mut Vec<W>,
 ) -> Result<Answer, AllocError>
     requires { IsComputed target.now source.source.func source.table.table }
     ensures answer { IfOk result (IsTakenAnswer target.now source.source.func name.now) }
-    ensures told { IfOk result (ToldOne (W.next target.now) number watchers.old.items watchers.new.items) }
+    ensures told { IfOk result (ToldOne (W.next target.now) run.number watchers.old.items watchers.new.items) }
     ensures part { OnErr result (ToldPart (W.next target.now) watchers.old.items watchers.new.items) }
 {
+    let AllocatorRun { allocator, number } = run;
     if let Err(stop) = with_registers(alloc, target, source, allocator, number, watchers) {
         return refused(alloc, name, stop);
     }
     Ok(Answer::Text(Bytes::new(alloc)))
 }
 
-/// Allocates a function of a number by an allocator for the watchers.
+/// Allocates a function by a run of an allocator, for the watchers.
 pub(crate) fn traced<W: Watcher>(
     alloc: Global,
     target: &Target,
     f: Func,
-    allocator: Allocator,
-    number: u32,
+    run: AllocatorRun,
     watchers: &mut Vec<W>,
 ) -> Result<Answer, AllocError>
     requires { FitsTarget target.now f }
     ensures answer { IfOk result (IsTraceAnswer target.now f) }
-    ensures told { IfOk result (ToldOne (W.next target.now) number watchers.old.items watchers.new.items) }
+    ensures told { IfOk result (ToldOne (W.next target.now) run.number watchers.old.items watchers.new.items) }
     ensures part { OnErr result (ToldPart (W.next target.now) watchers.old.items watchers.new.items) }
 {
     if let Some(limit) = passed_limit(&f) {
@@ -84,15 +83,7 @@ pub(crate) fn traced<W: Watcher>(
     }
     let name = f.name.copied(alloc)?;
     match verify_live(alloc, target, f) {
-        Ok(source) => traced_valid(
-            alloc,
-            target,
-            name.as_slice(),
-            source,
-            allocator,
-            number,
-            watchers,
-        ),
+        Ok(source) => traced_valid(alloc, target, name.as_slice(), source, run, watchers),
         Err(VerifyStop::Invalid(invalid)) => {
             let detail = invalid_words(alloc, name.as_slice(), invalid)?;
             Ok(Answer::Refused(Status::Invalid(invalid), detail))

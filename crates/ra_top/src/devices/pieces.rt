@@ -39,7 +39,7 @@ impl Scanned {
         }
     }
 
-    /// What is known with one more byte.
+    /// What is known with one more byte. (Most bytes stand behind the third of a line.)
     fn step(self, b: u8) -> Scanned
         ensures { result ≡ scan_step self b }
     {
@@ -50,6 +50,11 @@ impl Scanned {
                 dashes: true,
                 dots: true,
                 whole: self.len == 3 && self.dots && self.begun,
+            }
+        } else if self.len == 4 && !self.dots {
+            Scanned {
+                whole: false,
+                ..self
             }
         } else {
             Scanned {

@@ -6,6 +6,6 @@ use Rattle.ra_top.proofs.stream.stream.Goals as goal
 
 pub returns-in-Err-clause-told : goal.returns-in-Err-clause-told
 returns-in-Err-clause-told g c = λ tells.
-    let next = g.W.Watcher.next c.args.target.now in
+    let next = g.W.Watcher.next c.args.task.reader.now in
     let old = c.args.watchers.now.items in
-    as_part next c.args.target.now (g.F.Files.left c.args.files.now) c.ends.result.status old old (undone c.ends.result.status status.Memory c.ends.ensures.0 tt) (part_of_none next old old refl)
+    as_part next c.args.task.reader.now (g.F.Files.left c.args.files.now) c.ends.result.status old old (undone c.ends.result.status status.Memory c.ends.ensures.0 tt) (part_of_none next old old refl)

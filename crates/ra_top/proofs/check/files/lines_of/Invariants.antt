@@ -12,8 +12,8 @@ invariant-documents g l = record {
   faults : g.F.Files.faults l.files ≡ g.F.Files.faults l.fn.files;
   line : l.reading.spot.line ≤ l.reading.spot.offset + 1;
   within : l.reading.spot.offset ≤ file_most;
-  said : (gs : List Function) × IsReadSoFar IsWithin l.target (g.F.Files.contents l.fn.files l.name) l.reading.spot l.reading.chunk (g.F.Files.left l.files) gs
-      × AddsLines l.target (plain l.sources) gs (plain l.left) [] l.lines;
+  said : (gs : List Function) × IsReadSoFar IsWithin l.reader (g.F.Files.contents l.fn.files l.name) l.reading.spot l.reading.chunk (g.F.Files.left l.files) gs
+      × AddsLines l.reader (plain l.sources) gs (plain l.left) [] l.lines;
 }
 
 abbrev pub decreases-documents : goal.decreases-documents

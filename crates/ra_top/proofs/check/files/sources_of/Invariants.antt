@@ -11,7 +11,7 @@ invariant-documents g l = record {
   faults : g.F.Files.faults l.files ≡ g.F.Files.faults l.fn.files;
   line : l.reading.spot.line ≤ l.reading.spot.offset + 1;
   within : l.reading.spot.offset ≤ file_most;
-  read : IsReadSoFar (IsTaken l.target) l.target (g.F.Files.contents l.fn.files l.name) l.reading.spot l.reading.chunk (g.F.Files.left l.files) (plain l.sources.items);
+  read : IsReadSoFar (IsTaken l.reader) l.reader (g.F.Files.contents l.fn.files l.name) l.reading.spot l.reading.chunk (g.F.Files.left l.files) (plain l.sources.items);
 }
 
 abbrev pub decreases-documents : goal.decreases-documents

@@ -3,23 +3,23 @@ use Rattle.std.specs.Prelude.{IfOk}
 use Rattle.pipeline.proofs.GuardLemmas.Told.{part_of_none, on_err}
 use Rattle.ra_top.specs.Commands.Told.{ToldOne}
 use Rattle.ra_top.proofs.CommandLemmas.Watched.{answer_of_one}
-use Rattle.ra_top.proofs.commands.documents.at_function.Goals as goal
+use Rattle.ra_top.proofs.commands.documents.at_document.Goals as goal
 
 pub returns-in-Alloc-clause-told : goal.returns-in-Alloc-clause-told
 returns-in-Alloc-clause-told g c = λ tells.
     let next = g.W.Watcher.next c.args.target.now in
     let old = c.args.watchers.now.items in
     let new = c.allocated_function.new.watchers.items in
-    answer_of_one next c.args.before c.args.f c.allocated_function.result c.args.number.now c.next-number.new.number old new c.next-number.ensures.next
-    (subst (λ n. IfOk c.allocated_function.result (ToldOne next n old new)) c.next-number.ensures.now c.allocated_function.ensures.told)
+    rw c.in-Function.is (answer_of_one next c.in-Function.before c.in-Function.f c.allocated_function.result c.args.number.now c.next-number.new.number old new c.next-number.ensures.next
+    (subst (λ n. IfOk c.allocated_function.result (ToldOne next n old new)) c.next-number.ensures.now c.allocated_function.ensures.told))
 
 pub returns-in-Trace-clause-told : goal.returns-in-Trace-clause-told
 returns-in-Trace-clause-told g c = λ tells.
     let next = g.W.Watcher.next c.args.target.now in
     let old = c.args.watchers.now.items in
     let new = c.traced.new.watchers.items in
-    answer_of_one next c.args.before c.args.f c.traced.result c.args.number.now c.next.new.number old new c.next.ensures.next
-    (subst (λ n. IfOk c.traced.result (ToldOne next n old new)) c.next.ensures.now c.traced.ensures.told)
+    rw c.in-Function.is (answer_of_one next c.in-Function.before c.in-Function.f c.traced.result c.args.number.now c.next-number-in-Trace.new.number old new c.next-number-in-Trace.ensures.next
+    (subst (λ n. IfOk c.traced.result (ToldOne next n old new)) c.next-number-in-Trace.ensures.now c.traced.ensures.told))
 
 pub returns-in-Verify-clause-part : goal.returns-in-Verify-clause-part
 returns-in-Verify-clause-part g c = on_err c.verified_function.result (part_of_none (g.W.Watcher.next c.args.target.now) c.args.watchers.now.items c.args.watchers.now.items refl)

@@ -1,4 +1,4 @@
-//! The documents of a file, for a command that writes nothing while it reads.
+//! How far a file is read, and its documents for a command that writes nothing while it reads.
 
 ghost use Rattle.std.specs.Prelude.{◌≡◌, ◌≤◌, ◌+◌, ◌++◌, ℕ, List, [], Some, IfOk, IfErr, IfSome};
 ghost use Rattle.ra_top.specs.Commands.Spot.{file_most, first_spot};
@@ -12,9 +12,9 @@ use crate::commands::piece::doc_at;
 use crate::commands::{Refusal, Spot, Status};
 use crate::devices::moves::ReadStop;
 use crate::devices::{Chunk, Files, Pieces, read_piece};
-use mir_text::Doc;
-use std::alloc::Global;
-use target_base::{Bytes, Target};
+use mir_text::{Doc, Reader};
+use std::alloc::{AllocError, Global};
+use target_base::Bytes;
 
 /// How far a file is read.
 #[derive(Drop)]
@@ -25,6 +25,19 @@ pub struct Reading {
     pub piece: Pieces,
     /// Where the next document begins.
     pub spot: Spot,
+}
+
+impl Reading {
+    /// Nothing of a file is read yet.
+    pub fn new(alloc: Global) -> Result<Reading, AllocError>
+        ensures { IfOk result (λ r. (r.spot ≡ first_spot) × (r.chunk ≡ [])) }
+    {
+        Ok(Reading {
+            chunk: Chunk::new(alloc)?,
+            piece: Pieces::new(alloc),
+            spot: Spot::first(),
+        })
+    }
 }
 
 /// A call of the files failed.
@@ -43,11 +56,7 @@ pub fn begin<F: Files>(alloc: Global, name: &str, files: &mut F) -> Result<Readi
     ensures cause { HasCauseOf (F.faults files.old) (F.faults files.new) result }
 {
     match files.start(name) {
-        Ok(()) => Ok(Reading {
-            chunk: Chunk::new(alloc)?,
-            piece: Pieces::new(alloc),
-            spot: Spot::first(),
-        }),
+        Ok(()) => Ok(Reading::new(alloc)?),
         Err(_) => Err(unread(alloc)),
     }
 }
@@ -55,15 +64,15 @@ pub fn begin<F: Files>(alloc: Global, name: &str, files: &mut F) -> Result<Readi
 /// The next document of a file; None where the file ends. No read is made behind it.
 pub fn next_document<F: Files>(
     alloc: Global,
-    target: &Target,
+    reader: &Reader,
     files: &mut F,
     reading: &mut Reading,
 ) -> Result<Option<Doc>, Refusal>
     requires line { reading.old.spot.line ≤ reading.old.spot.offset + 1 }
     requires within { reading.old.spot.offset ≤ file_most }
     ensures contents { (n : List ℕ) → F.contents files.new n ≡ F.contents files.old n }
-    ensures read { IfSome (F.left files.old) (λ l. AfterReading target.now reading.old.spot reading.new.spot (reading.old.chunk ++ l) (F.left files.new) reading.new.chunk result) }
-    ensures fits { IfOk result (λ doc. IfSome doc (DocFits target.now)) }
+    ensures read { IfSome (F.left files.old) (λ l. AfterReading reader.now reading.old.spot reading.new.spot (reading.old.chunk ++ l) (F.left files.new) reading.new.chunk result) }
+    ensures fits { IfOk result (λ doc. IfSome doc (DocFits reader.now)) }
     ensures moves { IfOk result (MovesOn reading.old.spot reading.new.spot) }
     ensures cause { HasCauseOf (F.faults files.old) (F.faults files.new) result }
 {
@@ -77,7 +86,7 @@ pub fn next_document<F: Files>(
     if piece.is_empty() {
         return Ok(None);
     }
-    let doc = doc_at(alloc, target, reading.spot, piece)?;
+    let doc = doc_at(alloc, reader, reading.spot, piece)?;
     reading.spot = reading.spot.after(piece);
     Ok(Some(doc))
 }
