@@ -32,8 +32,8 @@ RULES = {
     10: "the last block falls out of the function",
     11: "a tie or an early-clobber flag isn't that of the target file, or tied registers don't fit",
     12: "definitions of one instruction share a register, or an early one shares with a use",
-    13: "a register is read on a path on which nothing defines it",
-    14: "live-ins don't fit",
+    13: "live-ins don't fit",
+    14: "a register is read on a path on which nothing defines it",
     15: "a spill slot where none may be",
     16: "an opcode or a block that isn't taken (exception pads, inline assembly, debug values ..)",
 }
