@@ -5,3 +5,4 @@ pub mod Refused
 pub mod Watched
 pub mod Taken
 pub mod Answered
+pub mod Pairs

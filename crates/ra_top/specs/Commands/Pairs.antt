@@ -6,7 +6,8 @@ use Rattle.target_base.specs.declared.types.Target.{Target}
 use Rattle.mir_func.specs.Value.{Function}
 use Rattle.mir_func.specs.declared.func.Block.{Block}
 use Rattle.mir_func.specs.declared.func.Place.{Place}
-use Rattle.alloc_check.specs.Verdict.{IfYes, IsRight}
+use Rattle.machine_verify.specs.Lives.{FitsTarget}
+use Rattle.alloc_check.specs.Verdict.{IfYes, IsRight, TellsAgreement}
 use Rattle.alloc_check.specs.declared.check.Verdict.{Verdict}
 use Rattle.alloc_check.specs.declared.check.Verdict.TheVariants.{Yes, No}
 use Rattle.ra_top.specs.Commands.Documents.{is_named}
@@ -28,9 +29,16 @@ abbrev pub start_of : List Block → Place
 start_of [] = record { block = 0; at = 0 }
 start_of (b ∷ bs) = record { block = b.number; at = 0 }
 
+-- What the checker of allocations says of g beside f: by a Yes that g is right. Of a g whose virtual registers are of
+-- classes of the target, as those of each function are that is read under it, it is a Yes exactly where both agree, and a No
+-- has exactly the first doubt.
+pub record IsVerdictOf (t : Target) (f g : Function) (v : Verdict) : Type 0 where
+  pub right : IfYes (IsRight t f g) v
+  pub agreement : FitsTarget t g → TellsAgreement t f g v
+
 -- a verdict of the checker of allocations where both names are one; else No with the start of f
 abbrev pub IsVerdictIf : Bool → Target → Function → Function → Verdict → Type 0
-IsVerdictIf true t f g v = IfYes (IsRight t f g) v
+IsVerdictIf true t f g v = IsVerdictOf t f g v
 IsVerdictIf false t f g v = v ≡ No (start_of f.blocks)
 
 -- the verdict on f and its partner g

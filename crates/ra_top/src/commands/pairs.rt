@@ -24,6 +24,7 @@ fn start_of(f: &Func) -> Place
 
 /// The verdict on a function of the source file and its partner: that of the checker of allocations
 /// where both have one name, and else No with the start of the first.
+#[tactic(auto, using(crate::proofs::CommandLemmas::Pairs::verdict))]
 fn verdict_on(
     alloc: Global,
     target: &Target,
