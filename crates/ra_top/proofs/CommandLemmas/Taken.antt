@@ -16,7 +16,7 @@ use Rattle.ra_top.specs.declared.commands.answer.Answer.TheVariants as answers
 use Rattle.ra_top.specs.declared.commands.status.Status.{Status}
 use Rattle.ra_top.specs.declared.commands.status.Status.TheVariants as status
 use Rattle.ra_top.specs.Commands.Status.{unassignable_words}
-use Rattle.ra_top.specs.Commands.Documents.{AllocRefuses, IntervalsRefuses, LateRefuses, PlaceRefuses, IsTakenRefusal, IsTakenAnswer, IsTraceAnswer, IsPlaceRefusal, IsLiveAnswer, IsLiveText, IsIntervalsAnswer}
+use Rattle.ra_top.specs.Commands.Documents.{AllocRefuses, IntervalsRefuses, LateRefuses, PlaceRefuses, IsTakenRefusal, IsTakenAnswer, IsTraceAnswer, IsPlaceRefusal, IsLiveAnswer, IsIntervals, IsIntervalsAnswer}
 
 late : (t : Target) (f s : Function) (name : List ℕ) (x : Status) (detail : List ℕ) → IsTaken t f → AreClasses t f → s ≡ f → name ≡ f.name → LateRefuses t s name x detail → AllocRefuses t f x detail
 late t f s name (status.Limit limits.Variables) detail taken classes same named h = (taken, subst (HasMany t) same h)
@@ -54,7 +54,7 @@ placed t f s name (status.Limit limits.Blocks) detail taken classes same named h
 placed t f s name (status.Limit limits.Instructions) detail taken classes same named h = absurd h
 placed t f s name (status.Limit limits.Registers) detail taken classes same named h = absurd h
 placed t f s name (status.Unassignable p) detail taken classes same named h = late t f s name (status.Unassignable p) detail taken classes same named h
-placed t f s name status.NotYet detail taken classes same named h = absurd h
+placed t f s name status.NotYet detail taken classes same named h = late t f s name status.NotYet detail taken classes same named h
 placed t f s name status.Done detail taken classes same named h = absurd h
 placed t f s name status.Usage detail taken classes same named h = absurd h
 placed t f s name (status.Target e) detail taken classes same named h = absurd h
@@ -65,7 +65,7 @@ placed t f s name status.WriteFault detail taken classes same named h = absurd h
 placed t f s name status.Memory detail taken classes same named h = absurd h
 
 pub shows : {E : Type 0} (t : Target) (f s : Function) (name : List ℕ) (result : Result Answer E) → IsTaken t f → AreClasses t f → s ≡ f → name ≡ f.name → IfOk result (IsLiveAnswer t s name) → IfOk result (IsIntervalsAnswer t f)
-shows t f s name (Ok (answers.Text text)) taken classes same named h = (taken, serving t f s taken classes same h.0, subst (λ n. IsLiveText n text) named h.1)
+shows t f s name (Ok (answers.Text text)) taken classes same named h = (taken, serving t f s taken classes same h.0, subst (λ n. IsIntervals t f n text) named (subst (λ g. IsIntervals t g name text) same h.1))
 shows t f s name (Ok (answers.Last text)) taken classes same named h = absurd h
 shows t f s name (Ok (answers.Refused x detail)) taken classes same named h = placed t f s name x detail taken classes same named h
 shows t f s name (Err e) taken classes same named h = tt

@@ -1,1 +1,5 @@
 pub mod BlockLines
+pub mod Numbers
+pub mod Uses
+pub mod Rows
+pub mod Text

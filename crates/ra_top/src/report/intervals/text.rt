@@ -1,7 +1,9 @@
 //! The whole text of a function.
 
-ghost use Rattle.std.specs.Prelude.{◌≡◌, ◌++◌, IfOk, OnOk};
-ghost use Rattle.ra_top.specs.Report.Intervals.Lines.{block_lines, head_lines, BeginsWith};
+ghost use Rattle.std.specs.Prelude.{◌≡◌, ◌≤◌, ◌^◌, ◌++◌, IfOk, OnOk, length};
+ghost use Rattle.ra_top.specs.Report.Intervals.Lines.{function_line, block_lines, class_text};
+ghost use Rattle.ra_top.specs.Report.Intervals.Told.{IsReady, start_numbers, used_lines, uses_lines, AreRangeLines, IsToldText};
+ghost use Rattle.mir_func.specs.Binding.{class_of};
 
 use crate::report::intervals::lanes::put_lanes;
 use crate::report::intervals::numbers::starts_of;
@@ -26,7 +28,9 @@ fn put_blocks(out: &mut Bytes, blocks: &[Block], freqs: &[u64]) -> Result<(), Al
 }
 
 /// The name of the class of a range; none where it has none.
-fn name_of_class<'a>(target: &'a Target, f: &Func, v: u32) -> &'a [u8] {
+fn name_of_class<'a>(target: &'a Target, f: &Func, v: u32) -> &'a [u8]
+    ensures { result.now ≡ class_text target.now (class_of f.now v) }
+{
     match class_of(f, v) {
         Some(class) => class_name(target, class),
         None => &[],
@@ -38,10 +42,14 @@ fn put_used(
     out: &mut Bytes,
     target: &Target,
     live: &LiveFunc,
-    starts: &[u64],
+    starts: &[u128],
     v: u32,
     own: Use,
-) -> Result<(), AllocError> {
+) -> Result<(), AllocError>
+    requires ready { IsReady live.now.table live.now.func.blocks }
+    requires starts { starts.now ≡ start_numbers 0 live.now.func.blocks }
+    ensures { OnOk result (out.new ≡ out.old ++ used_lines target.now live.now.table live.now.func v own) }
+{
     if !own.is_named {
         return Ok(());
     }
@@ -55,13 +63,16 @@ fn put_ranges(
     out: &mut Bytes,
     target: &Target,
     live: &LiveFunc,
-    starts: &[u64],
+    starts: &[u128],
     uses: &[Use],
-) -> Result<(), AllocError> {
-    let mut v = 0u32;
-    'ranges: for own in uses {
-        put_used(out, target, live, starts, v, *own)?;
-        v = v.saturating_add(1);
+) -> Result<(), AllocError>
+    requires ready { IsReady live.now.table live.now.func.blocks }
+    requires starts { starts.now ≡ start_numbers 0 live.now.func.blocks }
+    requires few { length uses.now ≤ 2 ^ 32 }
+    ensures { OnOk result (out.new ≡ out.old ++ uses_lines target.now live.now.table live.now.func 0 uses.now) }
+{
+    'list: for v in 0..uses.len() {
+        put_used(out, target, live, starts, v as u32, uses[v])?;
     }
     Ok(())
 }
@@ -72,7 +83,11 @@ fn text_of_ranges(
     target: &Target,
     live: &LiveFunc,
     freqs: &Freqs,
-) -> Result<Bytes, AllocError> {
+) -> Result<Bytes, AllocError>
+    requires ready { IsReady live.now.table live.now.func.blocks }
+    requires few { length live.now.func.classes ≤ 2 ^ 32 }
+    ensures { IfOk result (AreRangeLines target.now live.now.table live.now.func freqs.now) }
+{
     let f = live.func();
     let starts = starts_of(alloc, f.blocks.as_slice())?;
     let uses = uses_of(alloc, f, freqs.as_slice())?;
@@ -89,7 +104,9 @@ pub(crate) fn text_of(
     live: &LiveFunc,
     freqs: &Freqs,
 ) -> Result<Bytes, AllocError>
-    ensures { IfOk result (BeginsWith (head_lines name.now freqs.now live.now.func.blocks)) }
+    requires ready { IsReady live.now.table live.now.func.blocks }
+    requires few { length live.now.func.classes ≤ 2 ^ 32 }
+    ensures { IfOk result (IsToldText target.now live.now.table live.now.func name.now freqs.now) }
 {
     let ranges = text_of_ranges(alloc, target, live, freqs)?;
     let mut out = Bytes::new(alloc);
