@@ -79,13 +79,13 @@ module _ (slots : Numbers) (bs : List Block) where
       go (c ∷ cs) = append-nil out
 
 -- a row of texts, where a list is gone through by its places
-pub row-more : {A : Type 0} (text : ℕ → A → List ℕ) (whole : ℕ → List A → List ℕ) → ((k : ℕ) (a : A) (rest : List A) → whole k (a ∷ rest) ≡ text k a ++ whole (suc k) rest) → (k : ℕ) (xs : List A) (a : A) (out more : List ℕ) → k < length xs → a ≡ get_or xs k a → more ≡ out ++ text k a → more ++ whole (k + 1) (drop (k + 1) xs) ≡ out ++ whole k (drop k xs)
-row-more text whole by k xs a out more within at e =
+pub row-more : {A : Type 0} (text : ℕ → A → List ℕ) (whole : ℕ → List A → List ℕ) → ((k : ℕ) (a : A) (rest : List A) → whole k (a ∷ rest) ≡ text k a ++ whole (suc k) rest) → (k : ℕ) (xs : List A) (d a : A) (out more : List ℕ) → k < length xs → a ≡ get_or xs k d → more ≡ out ++ text k a → more ++ whole (k + 1) (drop (k + 1) xs) ≡ out ++ whole k (drop k xs)
+row-more text whole by k xs d a out more within at e =
     ap (λ ys. ys ++ whole (k + 1) (drop (k + 1) xs)) e
     ∙ append_assoc out (text k a) (whole (k + 1) (drop (k + 1) xs))
     ∙ (let one : k + 1 ≡ suc k = omega arith in ap (λ n. out ++ (text k a ++ whole n (drop (k + 1) xs))) one)
     ∙ ap (λ ys. out ++ ys) (sym (by k a (drop (k + 1) xs)))
-    ∙ ap (λ ys. out ++ whole k ys) (sym (drop_more xs k a within ∙ ap (λ x. x ∷ drop (k + 1) xs) (sym at)))
+    ∙ ap (λ ys. out ++ whole k ys) (sym (drop_more xs k d within ∙ ap (λ x. x ∷ drop (k + 1) xs) (sym at)))
 
 pub drop-none : {A : Type 0} (k : ℕ) (xs : List A) → length xs ≤ k → drop k xs ≡ []
 drop-none zero [] le = refl

@@ -156,6 +156,21 @@ pub own-use : (freq p : ℕ) (op : RegOp) (u : Use) → op.loc ≡ Virtual p →
 own-use freq p op u e =
     ap (λ b. cond b (record { is_named = true; sum = cond (counts op) (min (u.sum + freq) most) u.sum }) u) (ap (is_range p) e ∙ eq-eqb p p refl)
 
+-- what is put back for the range of a register operand
+pub added-each : (freq p : ℕ) (op : RegOp) (us : List Use) (test : Bool) (more : Use) → op.loc ≡ Virtual p → test ≡ counts op → more ≡ record { is_named = true; sum = cond test (min ((get_or us p unused).sum + freq) most) (get_or us p unused).sum } → (w : ℕ) → slice_get (set us p more) w ≡ option_map (with_register freq w op) (slice_get us w)
+added-each freq p op us test more loc counted e =
+    changed-each (λ w. with_register freq w op) us p more
+    (λ u is. e
+    ∙ ap (λ (b : Bool). record { is_named = true; sum = cond b (min ((get_or us p unused).sum + freq) most) (get_or us p unused).sum }) counted
+    ∙ ap (λ (x : Use). record { is_named = true; sum = cond (counts op) (min (x.sum + freq) most) x.sum }) (read us p unused u is)
+    ∙ sym (own-use freq p op u loc))
+    (λ w u apart. other-use freq p w op u loc apart)
+  where
+    read : (us : List Use) (p : ℕ) (d u : Use) → slice_get us p ≡ Some u → get_or us p d ≡ u
+    read [] p d u is = absurd (cc)
+    read (x ∷ xs) zero d u is = cc
+    read (x ∷ xs) (suc p) d u is = read xs p d u is
+
 -- the uses of all ranges
 pub uses-right : (freqs : List ℕ) (bs : List Block) (n : ℕ) (us : List Use) → length us ≡ n → ((v : ℕ) → slice_get us v ≡ option_map (with_blocks freqs v bs) (slice_get (replicate n unused) v)) → AreUses freqs bs us
 uses-right freqs bs n us all each v within =
