@@ -74,8 +74,9 @@ pub record IsRunOf (t : Target) (f : Function) (n seed : ℕ) (text : List ℕ) 
   pub valid : IsRunnable t f
   pub run : IsTextOfRun t f n seed text
 
--- The text, behind a name, says what is live where in a function that is valid as a source: what f became when it was made ready for
--- the allocator's run, by lowering and joins of copies. The frequencies are those of f's blocks, lowered.
+-- The text, behind a name, is the whole text of some function that is valid as a source: how often its blocks run, and what is live
+-- where in it. The frequencies are those of f's blocks, lowered. That this function is what f becomes when it is made ready for the
+-- allocator's run, by lowering and joins of copies, isn't said: besides the frequencies nothing here ties it to f.
 pub record IsIntervals (t : Target) (f : Function) (name text : List ℕ) : Type 0 where
   pub func : Function
   pub valid : IsValid t forms.Source func
@@ -84,7 +85,7 @@ pub record IsIntervals (t : Target) (f : Function) (name text : List ℕ) : Type
   pub is : IsLiveText t name freqs func text
 
 -- What is written for a function document where the run of the program goes on: the printed allocation, that the
--- function is valid, what is live where in it, or nothing where `run` passes over it or `trace` only tells the watchers.
+-- function is valid, what is live where (`IsIntervals`), or nothing where `run` passes over it or `trace` only tells the watchers.
 -- For `intervals` and `trace`, as for `alloc`, the function is taken, and each of its places has few enough variables and
 -- admits a choice of registers.
 abbrev pub IsFunctionText : Job → Target → List ℕ → Function → List ℕ → Type 0

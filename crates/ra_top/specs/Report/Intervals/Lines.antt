@@ -60,7 +60,7 @@ abbrev pub is_operand : ℕ → Operand → Bool
 is_operand v (operands.Reg o) = is_range v o.loc
 is_operand v _ = false
 
--- an operand of these blocks is
+-- an operand of these blocks is that range
 abbrev pub is_named : ℕ → List Block → Bool
 is_named v bs = list_any (λ b. list_any (λ i. list_any (is_operand v) i.operands) b.instrs) bs
 
