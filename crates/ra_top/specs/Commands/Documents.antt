@@ -75,8 +75,8 @@ pub record IsRunOf (t : Target) (f : Function) (n seed : ℕ) (text : List ℕ) 
   pub run : IsTextOfRun t f n seed text
 
 -- The text, behind a name, is the whole text of some function that is valid as a source: how often its blocks run, and what is live
--- where in it. The frequencies are those of f's blocks, lowered. That this function is what f becomes when it is made ready for the
--- allocator's run, by lowering and joins of copies, isn't said: besides the frequencies nothing here ties it to f.
+-- where in it. The frequencies are those of f's blocks, lowered, where the bulk of f is at most 2^24. That this function is what f
+-- becomes when it is made ready for the allocator's run, by lowering and joins of copies, isn't said: nothing else here ties it to f.
 pub record IsIntervals (t : Target) (f : Function) (name text : List ℕ) : Type 0 where
   pub func : Function
   pub valid : IsValid t forms.Source func
