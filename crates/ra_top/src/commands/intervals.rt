@@ -5,6 +5,7 @@ ghost use Rattle.target_base.specs.declared.types.Target.{Target as TargetValue}
 ghost use Rattle.mir_func.specs.Value.{Function};
 ghost use Rattle.mir_meaning.specs.Places.{FirstPlace, TooMany};
 ghost use Rattle.place_solve.specs.Own.{IfVariables, IfUnassignable};
+ghost use Rattle.pipeline.specs.Passes.Ready.{IsLive};
 ghost use Rattle.pipeline.specs.Passes.Stops.{FirstRefused};
 ghost use Rattle.machine_verify.specs.Lives.{FitsTarget};
 ghost use Rattle.live_lanes.specs.Doing.{IsComputed};
@@ -39,6 +40,20 @@ fn refused(alloc: Global, name: &[u8], stop: PlaceStop) -> Result<Answer, AllocE
     }
 }
 
+/// The text of a function of a name, of which what is live was computed anew.
+fn text_of_live(
+    alloc: Global,
+    target: &Target,
+    name: &[u8],
+    made: &Prepared,
+) -> Result<Answer, AllocError>
+    requires { IsLive target.now made.now }
+    ensures { IfOk result (IsReadyAnswer target.now made.now.freqs name.now) }
+{
+    let text = text_of_intervals(alloc, target, name, made)?;
+    Ok(Answer::Text(text))
+}
+
 /// What is live where in a function of a name that was made ready for the allocator's run. It is refused
 /// as not yet made ready where it isn't valid any more: never seen.
 fn intervals_of_ready(
@@ -49,11 +64,9 @@ fn intervals_of_ready(
 ) -> Result<Answer, AllocError>
     ensures { IfOk result (IsReadyAnswer target.now made.freqs name.now) }
 {
-    match live_anew(alloc, target, made)? {
-        Some(now) => {
-            let text = text_of_intervals(alloc, target, name, &now)?;
-            Ok(Answer::Text(text))
-        }
+    let again = live_anew(alloc, target, made)?;
+    match again {
+        Some(now) => text_of_live(alloc, target, name, &now),
         None => Ok(Answer::Refused(Status::NotYet, Bytes::new(alloc))),
     }
 }

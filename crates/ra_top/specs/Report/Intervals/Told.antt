@@ -105,12 +105,14 @@ unused = record { is_named = false; sum = 0 }
 abbrev pub AreUses : List ℕ → List Block → List Use → Type 0
 AreUses freqs bs uses = (v : ℕ) → v < length uses → slice_get uses v ≡ Some (record { is_named = is_named v bs; sum = min (use_sum bs freqs v) most })
 
+-- the lines of a range that an operand names, where its uses have this sum
+abbrev pub named_lines : Target → Table → Function → ℕ → ℕ → List ℕ
+named_lines t x f v sum =
+    range_line v (class_text t (class_of f v)) (min (sum * 1024) most / (range_held x f.blocks v + 8)) ++ flat_map (λ k. lane_line k (range_segments x f.blocks v k)) (numbers 0 (lanes_count (slice_get x.lanes.ranges.items v)))
+
 -- the lines of a range that is used so often
 abbrev pub used_lines : Target → Table → Function → ℕ → Use → List ℕ
-used_lines t x f v own =
-    cond own.is_named
-    (range_line v (class_text t (class_of f v)) (min (own.sum * 1024) most / (range_held x f.blocks v + 8)) ++ flat_map (λ k. lane_line k (range_segments x f.blocks v k)) (numbers 0 (lanes_count (slice_get x.lanes.ranges.items v))))
-    []
+used_lines t x f v own = cond own.is_named (named_lines t x f v own.sum) []
 
 -- those of ranges from v on
 abbrev pub uses_lines : Target → Table → Function → ℕ → List Use → List ℕ

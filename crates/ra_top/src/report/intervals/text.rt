@@ -2,7 +2,7 @@
 
 ghost use Rattle.std.specs.Prelude.{◌≡◌, ◌≤◌, ◌^◌, ◌++◌, IfOk, OnOk, length};
 ghost use Rattle.ra_top.specs.Report.Intervals.Lines.{function_line, block_lines, class_text};
-ghost use Rattle.ra_top.specs.Report.Intervals.Told.{IsReady, start_numbers, used_lines, uses_lines, AreRangeLines, IsToldText};
+ghost use Rattle.ra_top.specs.Report.Intervals.Told.{AreShort, IsReady, start_numbers, named_lines, used_lines, uses_lines, AreRangeLines, IsToldText};
 ghost use Rattle.mir_func.specs.Binding.{class_of};
 
 use crate::report::intervals::lanes::put_lanes;
@@ -37,6 +37,25 @@ fn name_of_class<'a>(target: &'a Target, f: &Func, v: u32) -> &'a [u8]
     }
 }
 
+/// Adds the lines of a range that an operand names, where its uses have this sum.
+fn put_named(
+    out: &mut Bytes,
+    target: &Target,
+    live: &LiveFunc,
+    starts: &[u128],
+    v: u32,
+    sum: u128,
+) -> Result<(), AllocError>
+    requires ready { IsReady live.now.table live.now.func.blocks }
+    requires starts { starts.now ≡ start_numbers 0 live.now.func.blocks }
+    ensures { OnOk result (out.new ≡ out.old ++ named_lines target.now live.now.table live.now.func v sum) }
+{
+    let class = name_of_class(target, live.func(), v);
+    let weight = weight_of(sum, live.points(v));
+    put_range(out, v, class, weight)?;
+    put_lanes(out, live, starts, v)
+}
+
 /// Adds the lines of a range, if an operand names it.
 fn put_used(
     out: &mut Bytes,
@@ -50,12 +69,11 @@ fn put_used(
     requires starts { starts.now ≡ start_numbers 0 live.now.func.blocks }
     ensures { OnOk result (out.new ≡ out.old ++ used_lines target.now live.now.table live.now.func v own) }
 {
-    if !own.is_named {
-        return Ok(());
+    if own.is_named {
+        put_named(out, target, live, starts, v, own.sum)
+    } else {
+        Ok(())
     }
-    let weight = weight_of(own.sum, live.points(v));
-    put_range(out, v, name_of_class(target, live.func(), v), weight)?;
-    put_lanes(out, live, starts, v)
 }
 
 /// Adds the lines of the ranges that operands name.
@@ -77,6 +95,14 @@ fn put_ranges(
     Ok(())
 }
 
+/// The numbers of the starts of a function's blocks.
+fn starts_in(alloc: Global, f: &Func) -> Result<Vec<u128>, AllocError>
+    requires { AreShort f.now.blocks }
+    ensures { IfOk result (λ starts. starts.items ≡ start_numbers 0 f.now.blocks) }
+{
+    starts_of(alloc, f.blocks.as_slice())
+}
+
 /// The lines of the ranges that operands name.
 fn text_of_ranges(
     alloc: Global,
@@ -89,11 +115,23 @@ fn text_of_ranges(
     ensures { IfOk result (AreRangeLines target.now live.now.table live.now.func freqs.now) }
 {
     let f = live.func();
-    let starts = starts_of(alloc, f.blocks.as_slice())?;
-    let uses = uses_of(alloc, f, freqs.as_slice())?;
+    let freqs = freqs.as_slice();
+    let starts = starts_in(alloc, f)?;
+    let uses = uses_of(alloc, f, freqs)?;
+    let numbers = starts.as_slice();
+    let used = uses.as_slice();
     let mut out = Bytes::new(alloc);
-    put_ranges(&mut out, target, live, starts.as_slice(), uses.as_slice())?;
+    put_ranges(&mut out, target, live, numbers, used)?;
     Ok(out)
+}
+
+/// Adds the lines of a function's blocks with these frequencies.
+fn put_blocks_of(out: &mut Bytes, f: &Func, freqs: &Freqs) -> Result<(), AllocError>
+    ensures { OnOk result (out.new ≡ out.old ++ block_lines freqs.now f.now.blocks) }
+{
+    let blocks = f.blocks.as_slice();
+    let freqs = freqs.as_slice();
+    put_blocks(out, blocks, freqs)
 }
 
 /// What is live where in a function of a name, whose blocks run so often.
@@ -109,9 +147,10 @@ pub(crate) fn text_of(
     ensures { IfOk result (IsToldText target.now live.now.table live.now.func name.now freqs.now) }
 {
     let ranges = text_of_ranges(alloc, target, live, freqs)?;
+    let f = live.func();
     let mut out = Bytes::new(alloc);
     put_function(&mut out, name)?;
-    put_blocks(&mut out, live.func().blocks.as_slice(), freqs.as_slice())?;
+    put_blocks_of(&mut out, f, freqs)?;
     out.extend(ranges.as_slice())?;
     Ok(out)
 }
