@@ -101,7 +101,10 @@ module _ (t : Target) (f : Function) (x : Table) (computed : IsComputed t f x) (
       ∙ ap (λ n. flat_map (λ k. lane_line k (segments v k)) (numbers 0 n)) (lanes-few t x.lanes.ranges.items f.classes v computed.numbers.ranges)
 
   product : (s : ℕ) → min (min s most * 1024) most ≡ min (1024 * s) (2 ^ 128 - 1)
-  product s = omega arith
+  product s = bounded s most
+    where
+      bounded : (s m : ℕ) → min (min s m * 1024) m ≡ min (1024 * s) m
+      bounded s m = omega arith
 
   used-same : (freqs : List ℕ) (v : ℕ) → used_lines t x f v (record { is_named = is_named v f.blocks; sum = min (use_sum f.blocks freqs v) most }) ≡ range_lines t freqs f segments (λ w. range_held x f.blocks w) v
   used-same freqs v =
