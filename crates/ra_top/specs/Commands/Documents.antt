@@ -1,5 +1,5 @@
 -- What each command says of a document, and why it refuses one.
-use Rattle.std.specs.Prelude.{◌≡◌, ◌⊎◌, ℕ, Bool, true, false, List, [], ◌++◌, codes, Some, None, nat_eq}
+use Rattle.std.specs.Prelude.{◌≡◌, ◌≤◌, ◌^◌, ◌⊎◌, ℕ, Bool, true, false, List, [], ◌++◌, codes, Some, None, nat_eq}
 use Rattle.std.specs.Cmp.Lexicographic.{pointwise}
 use Rattle.target_base.specs.declared.types.Target.{Target}
 use Rattle.mir_func.specs.Value.{Function}
@@ -24,7 +24,10 @@ use Rattle.pipeline.specs.declared.guarded.stop.FunctionStop.{FunctionStop}
 use Rattle.pipeline.specs.declared.guarded.stop.FunctionStop.TheVariants as stops
 use Rattle.mir_text.specs.declared.doc.Doc.{Doc}
 use Rattle.mir_text.specs.declared.doc.Doc.TheVariants as docs
-use Rattle.ra_top.specs.Report.Intervals.Lines.{function_line}
+use Rattle.block_freq.specs.Frequencies.{frequencies_of}
+use Rattle.phi_elim.specs.Bulk.{bulk}
+use Rattle.two_address.specs.Lowered.{lowered}
+use Rattle.ra_top.specs.Report.Intervals.Lines.{IsLiveText}
 use Rattle.ra_top.specs.declared.commands.answer.Job.{Job}
 use Rattle.ra_top.specs.declared.commands.answer.Job.TheVariants as jobs
 use Rattle.ra_top.specs.declared.commands.answer.Answer.{Answer}
@@ -71,19 +74,25 @@ pub record IsRunOf (t : Target) (f : Function) (n seed : ℕ) (text : List ℕ) 
   pub valid : IsRunnable t f
   pub run : IsTextOfRun t f n seed text
 
--- the text that says what is live where in a function of a name: the line `function NAME` and others
-abbrev pub IsLiveText : List ℕ → List ℕ → Type 0
-IsLiveText name text = (rest : List ℕ) × (text ≡ function_line name ++ rest)
+-- The text, behind a name, is the whole text of some function that is valid as a source: how often its blocks run, and what is live
+-- where in it. The frequencies are those of f's blocks, lowered, where the bulk of f is at most 2^24. That this function is what f
+-- becomes when it is made ready for the allocator's run, by lowering and joins of copies, isn't said: nothing else here ties it to f.
+pub record IsIntervals (t : Target) (f : Function) (name text : List ℕ) : Type 0 where
+  pub func : Function
+  pub valid : IsValid t forms.Source func
+  pub freqs : List ℕ
+  pub frequencies : bulk f ≤ 2 ^ 24 → freqs ≡ frequencies_of (lowered t f).blocks
+  pub is : IsLiveText t name freqs func text
 
 -- What is written for a function document where the run of the program goes on: the printed allocation, that the
--- function is valid, what is live where in it, or nothing where `run` passes over it or `trace` only tells the watchers.
+-- function is valid, what is live where (`IsIntervals`), or nothing where `run` passes over it or `trace` only tells the watchers.
 -- For `intervals` and `trace`, as for `alloc`, the function is taken, and each of its places has few enough variables and
 -- admits a choice of registers.
 abbrev pub IsFunctionText : Job → Target → List ℕ → Function → List ℕ → Type 0
 IsFunctionText (jobs.Alloc how) t before f text = IsAllocation t before f text
 IsFunctionText (jobs.Verify form) t before f text = IsValidLine t form f text
 IsFunctionText (jobs.Run name n seed) t before f text = (is_named name.now f ≡ false) × (text ≡ [])
-IsFunctionText jobs.Intervals t before f text = IsTaken t f × PlacesServe t f × IsLiveText f.name text
+IsFunctionText jobs.Intervals t before f text = IsTaken t f × PlacesServe t f × IsIntervals t f f.name text
 IsFunctionText (jobs.Trace how) t before f text = IsTaken t f × PlacesServe t f × (text ≡ [])
 
 -- what is written for a document that is no function: `alloc` writes its bytes, and the other commands nothing
@@ -130,10 +139,9 @@ AllocRefuses t f (status.Unassignable p) detail = IfRefused t f (stops.Unassigna
 AllocRefuses t f status.NotYet detail = IfRefused t f stops.NotYet
 AllocRefuses t f _ detail = ⊥
 
--- why `intervals` refuses a function: as `alloc` does up to its places
+-- why `intervals` refuses a function: as `alloc` does, but for the limit of range numbers
 abbrev pub IntervalsRefuses : Target → Function → Status → List ℕ → Type 0
 IntervalsRefuses t f (status.Limit limits.Ranges) detail = ⊥
-IntervalsRefuses t f status.NotYet detail = ⊥
 IntervalsRefuses t f s detail = AllocRefuses t f s detail
 
 -- why `verify` refuses a function: a limit that it passes; within the limits, its first fault
@@ -190,7 +198,7 @@ IsTraceAnswer t f (answers.Last text) = ⊥
 IsTraceAnswer t f (answers.Refused s detail) = AllocRefuses t f s detail
 
 abbrev pub IsIntervalsAnswer : Target → Function → Answer → Type 0
-IsIntervalsAnswer t f (answers.Text text) = IsTaken t f × PlacesServe t f × IsLiveText f.name text
+IsIntervalsAnswer t f (answers.Text text) = IsTaken t f × PlacesServe t f × IsIntervals t f f.name text
 IsIntervalsAnswer t f (answers.Last text) = ⊥
 IsIntervalsAnswer t f (answers.Refused s detail) = IntervalsRefuses t f s detail
 
@@ -236,17 +244,24 @@ IsTakenAnswer t f name (answers.Text text) = AllServe t f × (text ≡ [])
 IsTakenAnswer t f name (answers.Last text) = ⊥
 IsTakenAnswer t f name (answers.Refused s detail) = LateRefuses t f name s detail
 
--- a refusal of a valid function within the limits for one of its places, by a name
+-- a refusal of a valid function within the limits, by a name: for one of its places, or where all serve as not yet made ready
 abbrev pub PlaceRefuses : Target → Function → List ℕ → Status → List ℕ → Type 0
 PlaceRefuses t f name (status.Limit limits.Variables) detail = HasMany t f
 PlaceRefuses t f name (status.Unassignable p) detail = (detail ≡ unassignable_words name p) × FirstRefused t f p
+PlaceRefuses t f name status.NotYet detail = AllServe t f
 PlaceRefuses t f name s detail = ⊥
 
 abbrev pub IsPlaceRefusal : Target → Function → List ℕ → Answer → Type 0
 IsPlaceRefusal t f name (answers.Refused s detail) = PlaceRefuses t f name s detail
 IsPlaceRefusal t f name a = ⊥
 
+-- the text says what is live where in a valid function whose blocks run so often, or there is none
+abbrev pub IsReadyAnswer : Target → List ℕ → List ℕ → Answer → Type 0
+IsReadyAnswer t freqs name (answers.Text text) = (f : Function) × IsValid t forms.Source f × IsLiveText t name freqs f text
+IsReadyAnswer t freqs name (answers.Refused status.NotYet detail) = Unit {0}
+IsReadyAnswer t freqs name a = ⊥
+
 abbrev pub IsLiveAnswer : Target → Function → List ℕ → Answer → Type 0
-IsLiveAnswer t f name (answers.Text text) = AllServe t f × IsLiveText name text
+IsLiveAnswer t f name (answers.Text text) = AllServe t f × IsIntervals t f name text
 IsLiveAnswer t f name (answers.Last text) = ⊥
 IsLiveAnswer t f name (answers.Refused s detail) = PlaceRefuses t f name s detail

@@ -5,10 +5,11 @@ ghost use Rattle.target_base.specs.declared.types.Target.{Target as TargetValue}
 ghost use Rattle.mir_func.specs.Value.{Function};
 ghost use Rattle.mir_meaning.specs.Places.{FirstPlace, TooMany};
 ghost use Rattle.place_solve.specs.Own.{IfVariables, IfUnassignable};
+ghost use Rattle.pipeline.specs.Passes.Ready.{IsLive};
 ghost use Rattle.pipeline.specs.Passes.Stops.{FirstRefused};
 ghost use Rattle.machine_verify.specs.Lives.{FitsTarget};
 ghost use Rattle.live_lanes.specs.Doing.{IsComputed};
-ghost use Rattle.ra_top.specs.Commands.Documents.{IsIntervalsAnswer, IsLiveAnswer, IsPlaceRefusal};
+ghost use Rattle.ra_top.specs.Commands.Documents.{IsIntervalsAnswer, IsLiveAnswer, IsReadyAnswer, IsPlaceRefusal};
 
 use crate::commands::answer::Answer;
 use crate::commands::status::Status;
@@ -17,7 +18,7 @@ use crate::report::intervals::text_of_intervals;
 use machine_verify::{LiveSource, VerifyStop};
 use mir_func::Func;
 use pipeline::guarded::{LimitName, passed_limit, verify_live};
-use pipeline::passes::{prepare, served};
+use pipeline::passes::{Prepared, live_anew, prepare, served};
 use place_solve::PlaceStop;
 use std::alloc::{AllocError, Global};
 use target_base::{Bytes, Copied, Target};
@@ -39,6 +40,37 @@ fn refused(alloc: Global, name: &[u8], stop: PlaceStop) -> Result<Answer, AllocE
     }
 }
 
+/// The text of a function of a name, of which what is live was computed anew.
+fn text_of_live(
+    alloc: Global,
+    target: &Target,
+    name: &[u8],
+    made: &Prepared,
+) -> Result<Answer, AllocError>
+    requires { IsLive target.now made.now }
+    ensures { IfOk result (IsReadyAnswer target.now made.now.freqs name.now) }
+{
+    let text = text_of_intervals(alloc, target, name, made)?;
+    Ok(Answer::Text(text))
+}
+
+/// What is live where in a function of a name that was made ready for the allocator's run. It is refused
+/// as not yet made ready where it isn't valid any more: never seen.
+fn intervals_of_ready(
+    alloc: Global,
+    target: &Target,
+    name: &[u8],
+    made: Prepared,
+) -> Result<Answer, AllocError>
+    ensures { IfOk result (IsReadyAnswer target.now made.freqs name.now) }
+{
+    let again = live_anew(alloc, target, made)?;
+    match again {
+        Some(now) => text_of_live(alloc, target, name, &now),
+        None => Ok(Answer::Refused(Status::NotYet, Bytes::new(alloc))),
+    }
+}
+
 /// What is live where in a valid function of a name, once it is made ready for the allocator's run.
 fn intervals_of_valid(
     alloc: Global,
@@ -51,9 +83,8 @@ fn intervals_of_valid(
 {
     match served(alloc, target, source) {
         Ok(live) => {
-            let prepared = prepare(alloc, target, live)?;
-            let text = text_of_intervals(alloc, target, name, &prepared)?;
-            Ok(Answer::Text(text))
+            let made = prepare(alloc, target, live)?;
+            intervals_of_ready(alloc, target, name, made)
         }
         Err(stop) => refused(alloc, name, stop),
     }

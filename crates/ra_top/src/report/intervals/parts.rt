@@ -1,7 +1,8 @@
 //! Parts of lines, added to a text.
 
 ghost use Rattle.std.specs.Prelude.{◌≡◌, ◌++◌, ◌∷◌, [], OnOk, codes};
-ghost use Rattle.ra_top.specs.Report.Intervals.Lines.{function_line, block_line, range_line, lane_head, point_text, segment_text};
+ghost use Rattle.ra_top.specs.Report.Intervals.Lines.{function_line, block_line, range_line, lane_head, mark_text, segment_text};
+ghost use Rattle.ra_top.specs.Report.Intervals.Told.{mark_of};
 
 use crate::numbers::{put_number, put_numbered};
 use std::alloc::AllocError;
@@ -12,7 +13,7 @@ use target_base::Bytes;
 pub struct Point {
     /// The number of its block's start or of its instruction; 16 times the list's length at the end of
     /// the last block.
-    pub number: u64,
+    pub number: u128,
     /// `B` at the border of a block, `r` at a reading or a writing, `e` at an early-clobber one, `d`
     /// where only the writing's exit is occupied.
     pub letter: u8,
@@ -61,15 +62,15 @@ pub(crate) fn put_lane_head(out: &mut Bytes, k: u32) -> Result<(), AllocError>
 
 /// Adds a point.
 fn put_point(out: &mut Bytes, p: Point) -> Result<(), AllocError>
-    ensures { OnOk result (out.new ≡ out.old ++ point_text p) }
+    ensures { OnOk result (out.new ≡ out.old ++ mark_text (mark_of p)) }
 {
-    put_number(out, p.number as u128)?;
+    put_number(out, p.number)?;
     out.push(p.letter)
 }
 
 /// Adds a segment from a point up to another.
 pub(crate) fn put_segment(out: &mut Bytes, from: Point, to: Point) -> Result<(), AllocError>
-    ensures { OnOk result (out.new ≡ out.old ++ segment_text from to) }
+    ensures { OnOk result (out.new ≡ out.old ++ segment_text (mark_of from, mark_of to)) }
 {
     out.extend(b" [")?;
     put_point(out, from)?;

@@ -1,14 +1,16 @@
 //! The text of a function that was made ready for the run.
 
 ghost use Rattle.std.specs.Prelude.{IfOk};
-ghost use Rattle.ra_top.specs.Report.Intervals.Lines.{head_lines, BeginsWith};
+ghost use Rattle.pipeline.specs.Passes.Ready.{IsLive};
+ghost use Rattle.ra_top.specs.Report.Intervals.Lines.{IsLiveText};
 
 use crate::report::intervals::text::text_of;
 use pipeline::passes::Prepared;
 use std::alloc::{AllocError, Global};
 use target_base::{Bytes, Target};
 
-/// What is live where in a function of a name that was made ready for the run. It has the line
+/// What is live where in a function of a name that was made ready for the run, from a table that was
+/// computed of it. It has the line
 /// `function NAME`; for each block, in layout, the line `bb.N freq F`; and for each range that an
 /// operand names, by its number, the line `%V CLASS weight W` and for each of its lanes a line of two
 /// spaces, `lane K` and its segments, each behind one space. A segment stays in one block and is
@@ -23,7 +25,8 @@ pub fn text_of_intervals(
     name: &[u8],
     prepared: &Prepared,
 ) -> Result<Bytes, AllocError>
-    ensures { IfOk result (BeginsWith (head_lines name.now prepared.now.freqs prepared.now.live.func.blocks)) }
+    requires { IsLive target.now prepared.now }
+    ensures { IfOk result (IsLiveText target.now name.now prepared.now.freqs prepared.now.live.func) }
 {
     text_of(alloc, target, name, &prepared.live, &prepared.freqs)
 }

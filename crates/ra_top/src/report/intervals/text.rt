@@ -1,7 +1,9 @@
 //! The whole text of a function.
 
-ghost use Rattle.std.specs.Prelude.{◌≡◌, ◌++◌, IfOk, OnOk};
-ghost use Rattle.ra_top.specs.Report.Intervals.Lines.{block_lines, head_lines, BeginsWith};
+ghost use Rattle.std.specs.Prelude.{◌≡◌, ◌≤◌, ◌^◌, ◌++◌, IfOk, OnOk, length};
+ghost use Rattle.ra_top.specs.Report.Intervals.Lines.{function_line, block_lines, class_text};
+ghost use Rattle.ra_top.specs.Report.Intervals.Told.{AreShort, IsReady, start_numbers, named_lines, used_lines, uses_lines, AreRangeLines, IsToldText};
+ghost use Rattle.mir_func.specs.Binding.{class_of};
 
 use crate::report::intervals::lanes::put_lanes;
 use crate::report::intervals::numbers::starts_of;
@@ -26,11 +28,32 @@ fn put_blocks(out: &mut Bytes, blocks: &[Block], freqs: &[u64]) -> Result<(), Al
 }
 
 /// The name of the class of a range; none where it has none.
-fn name_of_class<'a>(target: &'a Target, f: &Func, v: u32) -> &'a [u8] {
+fn name_of_class<'a>(target: &'a Target, f: &Func, v: u32) -> &'a [u8]
+    ensures { result.now ≡ class_text target.now (class_of f.now v) }
+{
     match class_of(f, v) {
         Some(class) => class_name(target, class),
         None => &[],
     }
+}
+
+/// Adds the lines of a range that an operand names, where its uses have this sum.
+fn put_named(
+    out: &mut Bytes,
+    target: &Target,
+    live: &LiveFunc,
+    starts: &[u128],
+    v: u32,
+    sum: u128,
+) -> Result<(), AllocError>
+    requires ready { IsReady live.now.table live.now.func.blocks }
+    requires starts { starts.now ≡ start_numbers 0 live.now.func.blocks }
+    ensures { OnOk result (out.new ≡ out.old ++ named_lines target.now live.now.table live.now.func v sum) }
+{
+    let class = name_of_class(target, live.func(), v);
+    let weight = weight_of(sum, live.points(v));
+    put_range(out, v, class, weight)?;
+    put_lanes(out, live, starts, v)
 }
 
 /// Adds the lines of a range, if an operand names it.
@@ -38,16 +61,19 @@ fn put_used(
     out: &mut Bytes,
     target: &Target,
     live: &LiveFunc,
-    starts: &[u64],
+    starts: &[u128],
     v: u32,
     own: Use,
-) -> Result<(), AllocError> {
-    if !own.is_named {
-        return Ok(());
+) -> Result<(), AllocError>
+    requires ready { IsReady live.now.table live.now.func.blocks }
+    requires starts { starts.now ≡ start_numbers 0 live.now.func.blocks }
+    ensures { OnOk result (out.new ≡ out.old ++ used_lines target.now live.now.table live.now.func v own) }
+{
+    if own.is_named {
+        put_named(out, target, live, starts, v, own.sum)
+    } else {
+        Ok(())
     }
-    let weight = weight_of(own.sum, live.points(v));
-    put_range(out, v, name_of_class(target, live.func(), v), weight)?;
-    put_lanes(out, live, starts, v)
 }
 
 /// Adds the lines of the ranges that operands name.
@@ -55,15 +81,26 @@ fn put_ranges(
     out: &mut Bytes,
     target: &Target,
     live: &LiveFunc,
-    starts: &[u64],
+    starts: &[u128],
     uses: &[Use],
-) -> Result<(), AllocError> {
-    let mut v = 0u32;
-    'ranges: for own in uses {
-        put_used(out, target, live, starts, v, *own)?;
-        v = v.saturating_add(1);
+) -> Result<(), AllocError>
+    requires ready { IsReady live.now.table live.now.func.blocks }
+    requires starts { starts.now ≡ start_numbers 0 live.now.func.blocks }
+    requires few { length uses.now ≤ 2 ^ 32 }
+    ensures { OnOk result (out.new ≡ out.old ++ uses_lines target.now live.now.table live.now.func 0 uses.now) }
+{
+    'list: for v in 0..uses.len() {
+        put_used(out, target, live, starts, v as u32, uses[v])?;
     }
     Ok(())
+}
+
+/// The numbers of the starts of a function's blocks.
+fn starts_in(alloc: Global, f: &Func) -> Result<Vec<u128>, AllocError>
+    requires { AreShort f.now.blocks }
+    ensures { IfOk result (λ starts. starts.items ≡ start_numbers 0 f.now.blocks) }
+{
+    starts_of(alloc, f.blocks.as_slice())
 }
 
 /// The lines of the ranges that operands name.
@@ -72,13 +109,29 @@ fn text_of_ranges(
     target: &Target,
     live: &LiveFunc,
     freqs: &Freqs,
-) -> Result<Bytes, AllocError> {
+) -> Result<Bytes, AllocError>
+    requires ready { IsReady live.now.table live.now.func.blocks }
+    requires few { length live.now.func.classes ≤ 2 ^ 32 }
+    ensures { IfOk result (AreRangeLines target.now live.now.table live.now.func freqs.now) }
+{
     let f = live.func();
-    let starts = starts_of(alloc, f.blocks.as_slice())?;
-    let uses = uses_of(alloc, f, freqs.as_slice())?;
+    let freqs = freqs.as_slice();
+    let starts = starts_in(alloc, f)?;
+    let uses = uses_of(alloc, f, freqs)?;
+    let numbers = starts.as_slice();
+    let used = uses.as_slice();
     let mut out = Bytes::new(alloc);
-    put_ranges(&mut out, target, live, starts.as_slice(), uses.as_slice())?;
+    put_ranges(&mut out, target, live, numbers, used)?;
     Ok(out)
+}
+
+/// Adds the lines of a function's blocks with these frequencies.
+fn put_blocks_of(out: &mut Bytes, f: &Func, freqs: &Freqs) -> Result<(), AllocError>
+    ensures { OnOk result (out.new ≡ out.old ++ block_lines freqs.now f.now.blocks) }
+{
+    let blocks = f.blocks.as_slice();
+    let freqs = freqs.as_slice();
+    put_blocks(out, blocks, freqs)
 }
 
 /// What is live where in a function of a name, whose blocks run so often.
@@ -89,12 +142,15 @@ pub(crate) fn text_of(
     live: &LiveFunc,
     freqs: &Freqs,
 ) -> Result<Bytes, AllocError>
-    ensures { IfOk result (BeginsWith (head_lines name.now freqs.now live.now.func.blocks)) }
+    requires ready { IsReady live.now.table live.now.func.blocks }
+    requires few { length live.now.func.classes ≤ 2 ^ 32 }
+    ensures { IfOk result (IsToldText target.now live.now.table live.now.func name.now freqs.now) }
 {
     let ranges = text_of_ranges(alloc, target, live, freqs)?;
+    let f = live.func();
     let mut out = Bytes::new(alloc);
     put_function(&mut out, name)?;
-    put_blocks(&mut out, live.func().blocks.as_slice(), freqs.as_slice())?;
+    put_blocks_of(&mut out, f, freqs)?;
     out.extend(ranges.as_slice())?;
     Ok(out)
 }
