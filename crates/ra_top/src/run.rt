@@ -53,8 +53,9 @@ struct CheckCommand<'a> {
 /// end. After the first fault of `files` or `out` it calls neither again; a fault of `err` changes
 /// nothing. Every form of `alloc` and of `trace`, and `gen`, tell the watchers each step of each run, in
 /// order; the other commands leave them as they were. With Done each watcher was told one run for each
-/// function of the file, in order, from the number 0 on, and else a first part of these steps. With
-/// Done a form of `trace` has written the watchers' lines as they then stand.
+/// function of the file, in order, from the number 0 on; after a refusal it was told some steps, of
+/// which the clause says no more. With Done a form of `trace` has written the watchers' lines as they
+/// then stand.
 #[tactic(auto, using(crate::proofs::Watched::words_told))]
 pub fn top<F: Files, O: Sink, E: Sink, W: Watcher>(
     alloc: Global,
