@@ -21,7 +21,7 @@ use Rattle.ra_top.specs.Commands.Answer.{IsText, IsLast}
 use Rattle.ra_top.specs.Commands.Documents.{IsEndText}
 use Rattle.ra_top.specs.Commands.Generated.{GenRefuses}
 use Rattle.ra_top.specs.Report.Summary.Generated.{IsGenText}
-use Rattle.ra_top.specs.Due.{IsHeld, IsUnfinished, IsWrittenEnd, Treatment, output, Treated, Due}
+use Rattle.ra_top.specs.Due.{IsHeld, IsUnfinished, Treatment, output, Treated, Due}
 use Rattle.ra_top.specs.Checked.{ChecksFiles}
 
 -- which faults rose for a status

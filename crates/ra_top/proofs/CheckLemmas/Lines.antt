@@ -1,9 +1,9 @@
 -- What is said of the functions of two files, one function of the second file behind another.
-use Rattle.std.proofs.Common.{◌≡◌, ℕ, suc, List, [], ◌∷◌, ◌++◌, drop, length, refl, ap, sym, ◌∙◌, subst, append_assoc, append-nil}
+use Rattle.std.proofs.Common.{◌≡◌, ℕ, suc, List, [], ◌∷◌, ◌++◌, drop, length, refl, ap, sym, ◌∙◌, subst, append_assoc}
 use Rattle.std.proofs.Math.Seq.{drop-nil}
 use Rattle.target_base.specs.declared.types.Target.{Target}
 use Rattle.mir_func.specs.Value.{Function}
-use Rattle.ra_top.specs.Commands.Pairs.{alone_lines, IsLineOf, AreLinesOf, IsCheckText, PutsLine}
+use Rattle.ra_top.specs.Commands.Pairs.{alone_lines, AreLinesOf, IsCheckText}
 use Rattle.ra_top.specs.Reading.{AddsLines}
 
 drop_more : (n : ℕ) (fs : List Function) → drop n (drop 1 fs) ≡ drop (suc n) fs

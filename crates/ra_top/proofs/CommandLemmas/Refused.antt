@@ -1,5 +1,5 @@
 -- A piece that spells no document is refused by every command.
-use Rattle.std.proofs.Common.{◌≡◌, ℕ, List, inl}
+use Rattle.std.proofs.Common.{ℕ, List, inl}
 use Rattle.target_base.specs.declared.types.Target.{Target}
 use Rattle.ra_top.specs.declared.commands.answer.Job.{Job}
 use Rattle.ra_top.specs.declared.commands.spot.Spot.{Spot}

@@ -1,10 +1,9 @@
 -- What comes of a function that is taken, by `trace` and by `intervals`.
-use Rattle.std.specs.Prelude.{◌≡◌, ◌≤◌, ◌^◌, ℕ, List, [], Result, Ok, Err, IfOk}
+use Rattle.std.specs.Prelude.{◌≡◌, ◌≤◌, ◌^◌, ℕ, List, Result, Ok, Err, IfOk}
 use Rattle.std.proofs.Common.{subst, ap, refl, ◌∙◌}
 use Rattle.target_base.specs.declared.types.Target.{Target}
 use Rattle.mir_func.specs.Value.{Function}
 use Rattle.live_laws.specs.Effects.Shaped.{AreClasses}
-use Rattle.pipeline.specs.declared.guarded.stop.LimitName.{LimitName}
 use Rattle.pipeline.specs.declared.guarded.stop.LimitName.TheVariants as limits
 use Rattle.block_freq.specs.Frequencies.{frequencies_of}
 use Rattle.phi_elim.specs.Bulk.{bulk}

@@ -1,6 +1,6 @@
 -- The lines of blocks, one block after the other.
-use Rattle.std.proofs.Common.{◌≡◌, ℕ, ◌+◌, ◌<◌, ◌≤◌, min, List, [], ◌∷◌, ◌++◌, length, get_or, drop, arith, refl, zero, suc, ap, ◌∙◌, append_assoc}
-use Rattle.std.specs.List.{flat_map, zip}
+use Rattle.std.proofs.Common.{◌≡◌, ℕ, ◌+◌, ◌<◌, ◌≤◌, min, List, [], ◌∷◌, ◌++◌, length, get_or, drop, arith, refl, zero, suc, append_assoc}
+use Rattle.std.specs.List.{zip}
 use Rattle.std.proofs.lemmas.List.{drop_more}
 use Rattle.mir_func.specs.declared.func.Block.{Block}
 use Rattle.ra_top.specs.Report.Intervals.Lines.{block_line, block_lines}

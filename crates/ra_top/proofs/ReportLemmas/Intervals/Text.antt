@@ -1,6 +1,6 @@
 -- What is told of a computed table is what live points say.
-use Rattle.std.proofs.Common.{◌≡◌, ◌≤◌, ◌<◌, ℕ, zero, suc, ◌+◌, ◌*◌, ◌/◌, ◌^◌, ◌-◌, Bool, true, false, cond, min, List, [], ◌∷◌, ◌++◌, length, map, Option, None, Some, refl, sym, ap, ◌∙◌, subst, arith, length-append}
-use Rattle.std.specs.Prelude.{slice_get, nat_lt}
+use Rattle.std.proofs.Common.{◌≡◌, ◌≤◌, ◌<◌, ℕ, zero, suc, ◌+◌, ◌*◌, ◌/◌, ◌^◌, ◌-◌, true, cond, min, List, [], ◌∷◌, ◌++◌, length, Option, None, Some, refl, sym, ap, ◌∙◌, arith, length-append}
+use Rattle.std.specs.Prelude.{slice_get}
 use Rattle.std.specs.List.{flat_map}
 use Rattle.std.proofs.lemmas.Bool.{lt-ltb}
 use Rattle.target_base.specs.declared.types.ClassId.{ClassId}
@@ -13,7 +13,7 @@ use Rattle.mir_func.specs.declared.func.Instr.{Instr}
 use Rattle.mir_func.specs.Value.{Function}
 use Rattle.mir_func.specs.Binding.{class_of}
 use Rattle.mir_meaning.specs.declared.Form.TheVariants as forms
-use Rattle.mir_meaning.specs.Points.{Point, Start, Entry, Exit, block_points, all_points}
+use Rattle.mir_meaning.specs.Points.{Entry, Exit, block_points}
 use Rattle.mir_meaning.specs.Registers.{numbers, range_widths}
 use Rattle.mir_meaning.specs.Rules.{V8}
 use Rattle.instr_effects.specs.declared.row.Lanes.{Lanes}
@@ -36,8 +36,8 @@ use Rattle.interval_laws.proofs.Law.{segments-law}
 use Rattle.pipeline.specs.declared.passes.ready.Prepared.{Prepared}
 use Rattle.pipeline.specs.Passes.Ready.{IsLive}
 use Rattle.ra_top.specs.declared.report.intervals.uses.Use.{Use}
-use Rattle.ra_top.specs.Report.Intervals.Lines.{function_line, block_lines, lane_line, range_line, class_text, is_named, weight, range_lines, lines_of, IsLiveText}
-use Rattle.ra_top.specs.Report.Intervals.Told.{most, AreShort, IsReady, AreUses, range_segments, used_lines, uses_lines, AreRangeLines, IsToldText}
+use Rattle.ra_top.specs.Report.Intervals.Lines.{function_line, block_lines, lane_line, range_line, class_text, is_named, weight, range_lines, IsLiveText}
+use Rattle.ra_top.specs.Report.Intervals.Told.{most, IsReady, range_segments, used_lines, uses_lines, IsToldText}
 
 -- all numbers that are written fit
 

@@ -1,5 +1,5 @@
 -- Runs as lines.
-use Rattle.std.specs.Prelude.{ℕ, List, [], ◌++◌, Some, None, codes}
+use Rattle.std.specs.Prelude.{ℕ, List, ◌++◌, Some, None, codes}
 use Rattle.std.specs.List.{flat_map}
 use Rattle.std.specs.Fmt.{decimal}
 use Rattle.meaning.specs.Environment.{Value}

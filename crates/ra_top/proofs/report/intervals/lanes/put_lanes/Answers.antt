@@ -1,4 +1,4 @@
-use Rattle.std.proofs.Common.{◌≡◌, ◌++◌, ◌-◌, ◌∙◌, ℕ, List, ap, sym, arith}
+use Rattle.std.proofs.Common.{◌++◌, ◌∙◌, ℕ, List, ap, sym, arith}
 use Rattle.std.specs.Prelude.{slice_get}
 use Rattle.live_lanes.specs.Extents.{lanes_count}
 use Rattle.ra_top.specs.Report.Intervals.Lines.{lane_line}
