@@ -28,3 +28,15 @@ pub mod Retied
 pub mod Inserted
 pub mod Sequenced
 pub mod Ties
+pub mod Made
+pub mod Rolled
+pub mod Widths
+pub mod Found
+pub mod Tying
+pub mod Defined
+pub mod Filling
+pub mod Counting
+pub mod Built
+pub mod Parted
+pub mod Assembled
+pub mod Puts
