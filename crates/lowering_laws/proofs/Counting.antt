@@ -1126,11 +1126,11 @@ module _ (t : Target) (f : Function) (bare' : (n m : ℕ) → (way t (ties_lower
         o-def = first_of_both o.def (not o.implicit) there-is.is
 
         module-none : (v : ℕ) → o.loc ≡ Virtual v → o.undef ≡ true → is_lane_of v a ≡ true → (q : RegOp) → Among (operands.Reg q) os → q.def ≡ true → place (operand_lanes t H q) a ≡ None
-        module-none v at u own' q i def = by (place (operand_lanes t H q) a) refl (same_loc q.loc o.loc) refl
+        module-none v at u own' q q-there def = by (place (operand_lanes t H q) a) refl (same_loc q.loc o.loc) refl
           where
             by : (x : Option ℕ) → place (operand_lanes t H q) a ≡ x → (y : Bool) → same_loc q.loc o.loc ≡ y → place (operand_lanes t H q) a ≡ None
             by None e y s = e
-            by (Some p) e true s = absurd (let same = named-once t f i r.twelve o q (register-in o os there-is.there') o-def u (same-own o.loc) (register-in q os i) (ap (λ (y : Bool). y || not q.undef) def) s in let z : Some p ≡ None = sym e ∙ (ap (λ (x : RegOp). place (operand_lanes t H x) a) same ∙ without) in cc)
+            by (Some p) e true s = absurd (let same = named-once t f i r.twelve o q (register-in o os there-is.there') o-def u (same-own o.loc) (register-in q os q-there) (ap (λ (y : Bool). y || not q.undef) def) s in let z : Some p ≡ None = sym e ∙ (ap (λ (x : RegOp). place (operand_lanes t H x) a) same ∙ without) in cc)
             by (Some p) e false s = absurd (let z = lanes-apart t H v q.loc q.index (subst (λ l. same_loc q.loc l ≡ false) at s) a (place-there (operand_lanes t H q) a p e).0 in cc)
 
         virtual-lane : (v : ℕ) → is_lane_of v a ≡ true → (j : ℕ) × (a ≡ VirtualLane v j)
@@ -1143,7 +1143,7 @@ module _ (t : Target) (f : Function) (bare' : (n m : ℕ) → (way t (ties_lower
 
         at-last : (v : ℕ) → o.loc ≡ Virtual v → o.undef ≡ true → Blank t H R Comes a a' from-there ds F
         at-last v at u = (
-          (λ q i. let z = defined-is q i in none q.1 z.there' (first_of_both q.1.def (not q.1.implicit) z.is)),
+          (λ q k. let z = defined-is q k in none q.1 z.there' (first_of_both q.1.def (not q.1.implicit) z.is)),
           (λ x. filled F (same x)) ∙ (filled-free F a unwritten ∙ ap (λ l. Moved (FromLane l)) (sym same)),
           (refl, (λ x. traced pre (FromLane (same x))) ∙ undef-before),
         )
