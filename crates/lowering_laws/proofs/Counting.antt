@@ -19,7 +19,9 @@ use Rattle.target_base.proofs.Tests.{first_of_both, second_of_both}
 use Rattle.meaning.specs.Code.{Counted, Item, Silent}
 use Rattle.meaning.specs.Lanes.{Writes, filled, settled, through}
 use Rattle.meaning.specs.Live.{Among, here, there}
-use Rattle.meaning.specs.Relations.{AlikeFill, AlikeOperands, AlikeReads, Rel}
+use Rattle.meaning.specs.Relations.{AlikeFill, AlikeOperands, AlikeReads, Rel, Within as RelWithin, after_both, along}
+use Rattle.meaning.specs.Rows.{first_edges, first_target, second_edges, second_target}
+use Rattle.meaning.specs.declared.types.Ways.{Ways}
 use Rattle.meaning.specs.declared.types.Constant.{Constant}
 use Rattle.meaning.specs.declared.types.Fill.{Fill}
 use Rattle.meaning.specs.declared.types.Fill.TheVariants.{Computed, Moved}
@@ -27,7 +29,7 @@ use Rattle.meaning.specs.declared.types.Lane.{Lane}
 use Rattle.meaning.specs.declared.types.Lane.TheVariants.{SlotLane, UnitLane, VirtualLane}
 use Rattle.meaning.specs.declared.types.Source.{Source}
 use Rattle.meaning.specs.declared.types.Source.TheVariants.{Bits, FromLane, Undef}
-use Rattle.laws.proofs.Core.{Plan}
+use Rattle.laws.proofs.Core.{Plan, Reaches}
 use Rattle.mir_func.specs.declared.func.Loc.{Loc}
 use Rattle.mir_func.specs.declared.func.Loc.TheVariants.{Fixed, Virtual}
 use Rattle.mir_func.specs.declared.func.RegOp.{RegOp}
@@ -45,7 +47,7 @@ use Rattle.mir_meaning.specs.Rules.{V2, has_class, has_lanes, in_operand_class, 
 use Rattle.phi_elim.specs.Moves.{copy_of, destination_of, source_of, undefining, whole_definition, whole_use}
 use Rattle.two_address.specs.Classes.{class_asked, first_register, seated}
 use Rattle.two_address.specs.Lowered.{class_aside, form_lowered, instr_lowered, ties_lowered}
-use Rattle.two_address.specs.Ties.{copies, defined_aside, defined_use, definition_class, reads_besides, retied, retied_operand, retied_use, tie_aside, tie_to, ties_in, undef_fixed, undef_use_of, undefined_first, undefined_whole, untied, use_of, with_operands}
+use Rattle.two_address.specs.Ties.{ties_among, copies, defined_aside, defined_use, definition_class, reads_besides, retied, retied_operand, retied_use, tie_aside, tie_to, ties_in, undef_fixed, undef_use_of, undefined_first, undefined_whole, untied, use_of, with_operands}
 use Rattle.two_address.specs.declared.ties.Move.{Move}
 use Rattle.two_address.specs.declared.ties.Tie.{Tie}
 use Rattle.instr_effects.proofs.Members.{either-elim, filter-in, filter-of, flat-of, left-in, map-in, map-of, member-elim, member-none}
@@ -66,15 +68,16 @@ use Rattle.lowering_laws.proofs.Operands.{named, shaped}
 use Rattle.lowering_laws.proofs.Placed.{copy-effect, copy-item, undef-item}
 use Rattle.lowering_laws.proofs.Places.{AllInPlace, InPlace, Replaces, definitions-alike, further-same, reads-alike, registers-in, rest-same, target-same}
 use Rattle.lowering_laws.proofs.Plain.{other-form, same-classes}
-use Rattle.lowering_laws.proofs.Replaced.{EndsAlike, InstrStep, K, h, made}
+use Rattle.lowering_laws.proofs.Replaced.{EndsAlike, InstrStep, K, along-equal, h, made}
 use Rattle.lowering_laws.proofs.Retied.{known-item, loc-sym, map-length, moves-none, none-of, further-moves}
-use Rattle.lowering_laws.proofs.Rolled.{DefinedBy, defined-by, fit-operands, numbers-differ}
+use Rattle.lowering_laws.proofs.Rolled.{DefinedBy, defined-by, fit-operands, numbers-differ, terminator-plain, terminator-untied}
+use Rattle.lowering_laws.proofs.Chained.{both-ways, ends-ways, exits-within, first-ways, second-ways}
 use Rattle.lowering_laws.proofs.Ruled.{InstrRules}
 use Rattle.lowering_laws.proofs.Same.{copied-alike, counted-alike, undef-alike}
 use Rattle.lowering_laws.proofs.Seated.{IsPair, bound-operand, pair-fits, pair-is, pair-of, pair_with, register-in, register-there, same-numbers, seated-pair, seated-use, some-role, told-in, told-of}
 use Rattle.lowering_laws.proofs.Silently.{lanes-apart, lanes-count, same-own}
 use Rattle.lowering_laws.proofs.Steps.{Before, one-counted}
-use Rattle.lowering_laws.proofs.Stretches.{Stretch}
+use Rattle.lowering_laws.proofs.Stretches.{Stretch, along-more, both-counted, lessened}
 use Rattle.lowering_laws.proofs.Tied.{copied-reads, gives-lanes, lane_numbers, lanes-numbered, numbers-distinct}
 use Rattle.lowering_laws.proofs.Traced.{filled-free, is_lane_of, is_written, lanes_by, silents, traced, traced-append, traced-bits, traced-undef}
 use Rattle.lowering_laws.proofs.Tying.{Between, IsTie, Kind, all-placed, aside, asides-differ, between, blank, copied as copied_kind, fixed, found-or, is_read, numbers-apart, own, tie-found, tie_numbers, ties-are}
@@ -1269,6 +1272,32 @@ module _ (t : Target) (f : Function) (bare' : (n m : ℕ) → (way t (ties_lower
     all-items : map (item_of t G d) (pre-instrs ++ (new ∷ post-instrs)) ≡ silents pre ++ (item_of t G d new ∷ silents post)
     all-items = map-append (item_of t G d) pre-instrs (new ∷ post-instrs) ∙ (λ k. pre-items k ++ (item_of t G d new ∷ post-items k))
 
+  fixed-in : (xs ys : List RegOp) → AllInPlace t H R Comes xs ys → ((o : RegOp) → Among o xs → o.implicit ≡ true → IsFixed o.loc) → (o : RegOp) → Among o ys → o.implicit ≡ true → IsFixed o.loc
+  fixed-in [] [] z g o m q = absurd (member-none o m)
+  fixed-in [] (x ∷ ys) z g o m q = absurd (z)
+  fixed-in (x ∷ xs) [] z g o m q = absurd (z)
+  fixed-in (x ∷ xs) (y ∷ ys) z g o m q =
+      member-elim o y ys
+      (λ s. let imp : x.implicit ≡ true = sym z.0.implicit ∙ (ap (λ (w : RegOp). w.implicit) (sym s) ∙ q) in subst (λ (w : RegOp). IsFixed w.loc) (sym (s ∙ z.0.stays imp)) (g x here imp))
+      (λ k. fixed-in xs ys z.1 (λ w l. g w (there l)) o k q) m
+
+  bits : (x : Constant) (low width : ℕ) → R (Bits x low width) (Bits x low width)
+  bits x low width = (refl, traced-bits pre x low width)
+
+  units : (w : ℕ) → R (FromLane (UnitLane w)) (FromLane (UnitLane w))
+  units w = (refl, untouched T all-within (UnitLane w) (record { wholes = λ d a g u v at. register-missed v (numbers 0 (length (range_widths t H v))) (UnitLane w) refl; moves = λ tie a m g. by (move-is tie a m g) }))
+    where
+      by : {tie : Tie} {m : Move} → MoveIs tie m → place (operand_lanes t H m.to) (UnitLane w) ≡ None
+      by (into_new x s z q) = subst (λ (d : Move). place (operand_lanes t H d.to) (UnitLane w) ≡ None) (sym q) (register-missed x (numbers 0 (length (range_widths t H x))) (UnitLane w) refl)
+      by (into_own z q) =
+          let v = virtual z.pair z.member z.virtual_use in
+          let d = z.pair.definition in
+          subst (λ (d : Move). place (operand_lanes t H d.to) (UnitLane w) ≡ None) (sym q)
+          ((λ x. place (located_lanes t H (v.1 x) d.index) (UnitLane w)) ∙ ((λ x. place (lanes-numbered t H v.0 d.index x) (UnitLane w)) ∙ register-missed v.0 (lane_numbers t H v.0 d.index) (UnitLane w) refl))
+
+  alike : AlikeOperands R (map (λ v. v.0) (values t H e i)) (map (λ v. v.0) (values t H e new))
+  alike = reads-alike t H R Comes bits units undef-same i os' placed e implicit-fixed
+
   module _ (to : target_of i.operands ≡ None) (goes : is_terminator e ≡ false) where
     abbrev old-item : Item
     old-item = Counted (rest_of t H e i) (map (λ v. v.0) (values t H e i)) (counted_writes t H e i) None []
@@ -1281,38 +1310,12 @@ module _ (t : Target) (f : Function) (bare' : (n m : ℕ) → (way t (ties_lower
         known-item t H b i e known
         ∙ (λ k. cond (counts k) (Silent (silent_reads t H e i.operands) (silent_writes t H e (is_early_clobber (roles_of t i)) i.operands)) (Counted (rest_of t H e i) (map (λ v. v.0) (values t H e i)) (counted_writes t H e i) (option_map (way t H b.number) (to k)) (cond (goes k) (ways_out t H b) [])))
 
-    fixed-in : (xs ys : List RegOp) → AllInPlace t H R Comes xs ys → ((o : RegOp) → Among o xs → o.implicit ≡ true → IsFixed o.loc) → (o : RegOp) → Among o ys → o.implicit ≡ true → IsFixed o.loc
-    fixed-in [] [] z g o m q = absurd (member-none o m)
-    fixed-in [] (x ∷ ys) z g o m q = absurd (z)
-    fixed-in (x ∷ xs) [] z g o m q = absurd (z)
-    fixed-in (x ∷ xs) (y ∷ ys) z g o m q =
-        member-elim o y ys
-        (λ s. let imp : x.implicit ≡ true = sym z.0.implicit ∙ (ap (λ (w : RegOp). w.implicit) (sym s) ∙ q) in subst (λ (w : RegOp). IsFixed w.loc) (sym (s ∙ z.0.stays imp)) (g x here imp))
-        (λ k. fixed-in xs ys z.1 (λ w l. g w (there l)) o k q) m
-
-    bits : (x : Constant) (low width : ℕ) → R (Bits x low width) (Bits x low width)
-    bits x low width = (refl, traced-bits pre x low width)
-
-    units : (w : ℕ) → R (FromLane (UnitLane w)) (FromLane (UnitLane w))
-    units w = (refl, untouched T all-within (UnitLane w) (record { wholes = λ d a g u v at. register-missed v (numbers 0 (length (range_widths t H v))) (UnitLane w) refl; moves = λ tie a m g. by (move-is tie a m g) }))
-      where
-        by : {tie : Tie} {m : Move} → MoveIs tie m → place (operand_lanes t H m.to) (UnitLane w) ≡ None
-        by (into_new x s z q) = subst (λ (d : Move). place (operand_lanes t H d.to) (UnitLane w) ≡ None) (sym q) (register-missed x (numbers 0 (length (range_widths t H x))) (UnitLane w) refl)
-        by (into_own z q) =
-            let v = virtual z.pair z.member z.virtual_use in
-            let d = z.pair.definition in
-            subst (λ (d : Move). place (operand_lanes t H d.to) (UnitLane w) ≡ None) (sym q)
-            ((λ x. place (located_lanes t H (v.1 x) d.index) (UnitLane w)) ∙ ((λ x. place (lanes-numbered t H v.0 d.index x) (UnitLane w)) ∙ register-missed v.0 (lane_numbers t H v.0 d.index) (UnitLane w) refl))
-
     second-item : (d : Block) → item_of t G d new ≡ new-item
     second-item d =
         let same = counted-alike t H G (same-classes t f) bare' new (fixed-in (registers os) (registers os') (registers-in t H R Comes placed) (λ o m. (named t f site b j i r o m).fixed)) e known counts in
         known-item t G d new e known
         ∙ ((λ k. cond (counts k) (Silent (silent_reads t G e os') (silent_writes t G e (is_early_clobber (roles_of t i)) os')) (Counted (same.0 k) (same.1 k) (same.2 k) (option_map (way t G d.number) ((target-same t H R Comes placed ∙ to) k)) (cond (goes k) (ways_out t G d) [])))
         ∙ (λ k. Counted (rest-same t H R Comes bits units undef-same i os' placed e implicit-fixed k) (map (λ v. v.0) (values t H e new)) (counted_writes t H e new) None []))
-
-    alike : AlikeOperands R (map (λ v. v.0) (values t H e i)) (map (λ v. v.0) (values t H e new))
-    alike = reads-alike t H R Comes bits units undef-same i os' placed e implicit-fixed
 
     behind : (a : Lane) → is_old n a ≡ true → AlikeFill R (filled (counted_writes t H e i) a) (through (counted_writes t H e new) (traced post (FromLane a)))
     behind a o = let z = comes-from a o in subst (λ s. AlikeFill R (filled (counted_writes t H e i) a) (through (counted_writes t H e new) s)) (sym z.1) (both-fill a z.0 o z.2)
@@ -1360,4 +1363,100 @@ module _ (t : Target) (f : Function) (bare' : (n m : ℕ) → (way t (ties_lower
           (subst (λ x. Stretch P E E (old-item ∷ []) (silents pre ++ (x ∷ silents post))) (sym (second-item d))
           (one-counted P n (rest_of t H e i) (map (λ v. v.0) (values t H e i)) (map (λ v. v.0) (values t H e new)) (counted_writes t H e i) (counted_writes t H e new) pre post alike behind))));
       ends = subst (λ is. EndsAlike t i is) (sym lowered) (ends-by pre-instrs new post-instrs (refl, refl) (quiet-all T));
+    }
+
+  -- a terminator ties and defines nothing, so that it reads alone
+  module _ (bare : (n m : ℕ) → (way t (h t f) n m).phis ≡ []) (ends : is_terminator e ≡ true) where
+    untied-all : T ≡ []
+    untied-all = ap (ties_among bs c) (terminator-untied t f i e known rolled r.one ends)
+
+    none-defined : (o : RegOp) → Among (operands.Reg o) os → is_definition o ≡ false
+    none-defined o m = terminator-plain t f i e known rolled r.one ends o m
+
+    instrs-none : (xs : List Operand) → ((x : Operand) → Among x xs → Among x os) → flat_map undefined_first xs ≡ []
+    instrs-none [] w = refl
+    instrs-none (x ∷ xs) w = λ k. one x (w x here) k ++ instrs-none xs (λ y m. w y (there m)) k
+      where
+        one : (x : Operand) → Among x os → undefined_first x ≡ []
+        one (operands.Reg o) m = λ k. cond (none-defined o m k && o.undef) (undefined_whole o.loc) []
+        one x m = refl
+
+    undefs-none : (xs : List Operand) → ((x : Operand) → Among x xs → Among x os) → flat_map undef_writes xs ≡ []
+    undefs-none [] w = refl
+    undefs-none (x ∷ xs) w = λ k. one x (w x here) k ++ undefs-none xs (λ y m. w y (there m)) k
+      where
+        one : (x : Operand) → Among x os → undef_writes x ≡ []
+        one (operands.Reg o) m = λ k. cond (none-defined o m k && o.undef) (whole_writes o.loc) []
+        one x m = refl
+
+    pre-none : pre ≡ []
+    pre-none = λ k. undefs-none os (λ x m. m) k ++ befores (untied-all k)
+
+    alone : instr_lowered t f.classes c i ≡ new ∷ []
+    alone = lowered ∙ (λ k. (instrs-none os (λ x m. m) k ++ flat_map (λ (tie : Tie). copies tie.before) (untied-all k)) ++ (new ∷ flat_map (λ (tie : Tie). copies tie.after) (untied-all k)))
+
+    reads-level : AlikeOperands E (map (λ v. v.0) (values t H e i)) (map (λ v. v.0) (values t H e new))
+    reads-level = subst (λ (p : List Writes). AlikeOperands (Before P n p) (map (λ v. v.0) (values t H e i)) (map (λ v. v.0) (values t H e new))) pre-none alike
+
+    gives-level : (a : Lane) → is_old n a ≡ true → AlikeFill E (filled (counted_writes t H e i) a) (filled (counted_writes t H e new) a)
+    gives-level a o =
+        let z = comes-from a o in
+        let same : FromLane z.0 ≡ FromLane a = sym z.1 ∙ (λ k. traced (afters (untied-all k)) (FromLane a)) in
+        subst (λ (p : List Writes). AlikeFill (Before P n p) (filled (counted_writes t H e i) a) (filled (counted_writes t H e new) a)) pre-none
+        (subst (λ (s : Source). AlikeFill R (filled (counted_writes t H e i) a) (through (counted_writes t H e new) s)) same (both-fill a z.0 o z.2))
+
+    abbrev both-written : Rel
+    both-written = after_both (counted_writes t H e i) (counted_writes t H e new) E
+
+    level : RelWithin E both-written
+    level s u k = subst (λ z. AlikeFill E (through (counted_writes t H e i) s) (through (counted_writes t H e new) z)) (sym k.1) (by s k.0)
+      where
+        by : (s : Source) → old_source n s ≡ true → AlikeFill E (through (counted_writes t H e i) s) (through (counted_writes t H e new) s)
+        by (FromLane a) o = gives-level a o
+        by Undef o = (refl, refl)
+        by (Bits x low width) o = (refl, refl)
+
+    into : (m : ℕ) → RelWithin (P m) (along (both-ways t H G P b.number m) both-written)
+    into m s u k = along-more (both-ways t H G P b.number m) both-written E level s u (along-equal t f b.number m (bare b.number m) (bare' b.number m) s u k)
+
+    abbrev goal : Option Ways
+    goal = option_map (both-ways t H G P b.number) (target_of i.operands)
+
+    abbrev ways : List Ways
+    ways = ends-ways t H G P b.number b.successors
+
+    first-to : (q : Option ℕ) → first_target (option_map (both-ways t H G P b.number) q) ≡ option_map (way t H b.number) q
+    first-to None = refl
+    first-to (Some m) = refl
+
+    second-to : (q : Option ℕ) → second_target (option_map (both-ways t H G P b.number) q) ≡ option_map (way t G b.number) q
+    second-to None = refl
+    second-to (Some m) = refl
+
+    reaches : (q : Option ℕ) → Reaches P (option_map (both-ways t H G P b.number) q) both-written
+    reaches None = tt
+    reaches (Some m) = into m
+
+    first-side : item_of t H b i ≡ Counted (rest_of t H e i) (map (λ v. v.0) (values t H e i)) (counted_writes t H e i) (first_target goal) (first_edges ways)
+    first-side =
+        known-item t H b i e known
+        ∙ (λ k. cond (counts k) (Silent (silent_reads t H e i.operands) (silent_writes t H e (is_early_clobber (roles_of t i)) i.operands)) (Counted (rest_of t H e i) (map (λ v. v.0) (values t H e i)) (counted_writes t H e i) (sym (first-to (target_of i.operands)) k) (cond (ends k) (sym (first-ways t H G P b.number b.successors) k) [])))
+
+    second-side : (d : Block) → d.number ≡ b.number → d.successors ≡ b.successors → item_of t G d new ≡ Counted (rest_of t H e i) (map (λ v. v.0) (values t H e new)) (counted_writes t H e new) (second_target goal) (second_edges ways)
+    second-side d number successors =
+        let same = counted-alike t H G (same-classes t f) bare' new (fixed-in (registers os) (registers os') (registers-in t H R Comes placed) (λ o m. (named t f site b j i r o m).fixed)) e known counts in
+        known-item t G d new e known
+        ∙ ((λ k. cond (counts k) (Silent (silent_reads t G e os') (silent_writes t G e (is_early_clobber (roles_of t i)) os')) (Counted (same.0 k) (same.1 k) (same.2 k) (option_map (way t G (number k)) (target-same t H R Comes placed k)) (cond (ends k) (map (λ s. way t G (number k) s.block) (successors k)) [])))
+        ∙ (λ k. Counted (rest-same t H R Comes bits units undef-same i os' placed e implicit-fixed k) (map (λ v. v.0) (values t H e new)) (counted_writes t H e new) (sym (second-to (target_of i.operands)) k) (sym (second-ways t H G P b.number b.successors) k)))
+
+    pub ending-step : InstrStep t f b c i
+    ending-step = record {
+      keeps = λ js.
+          let d : Block = record b { instrs = js } in
+          subst (λ is. Stretch P E E (item_of t H b i ∷ []) (map (item_of t G d) is)) (sym alone)
+          (subst (λ x. Stretch P E E (x ∷ []) (item_of t G d new ∷ [])) (sym first-side)
+          (subst (λ x. Stretch P E E (Counted (rest_of t H e i) (map (λ v. v.0) (values t H e i)) (counted_writes t H e i) (first_target goal) (first_edges ways) ∷ []) (x ∷ [])) (sym (second-side d refl refl))
+          (lessened P E both-written E (Counted (rest_of t H e i) (map (λ v. v.0) (values t H e i)) (counted_writes t H e i) (first_target goal) (first_edges ways) ∷ []) (Counted (rest_of t H e i) (map (λ v. v.0) (values t H e new)) (counted_writes t H e new) (second_target goal) (second_edges ways) ∷ []) level
+          (both-counted P E (rest_of t H e i) (map (λ v. v.0) (values t H e i)) (map (λ v. v.0) (values t H e new)) (counted_writes t H e i) (counted_writes t H e new) goal ways reads-level (reaches (target_of i.operands)) (exits-within t H G P b.number both-written b.successors (λ s m. into s.block))))));
+      ends = record { front = []; last = new; are = alone; control = refl; terminator = refl };
     }

@@ -29,7 +29,6 @@ use Rattle.two_address.specs.Classes.{class_asked, first_register, seated}
 use Rattle.two_address.specs.Lowered.{copy_form, form_lowered, form_of, insertion_form, instr_lowered, part_of_two, sequence_form, ties_lowered, virtual_in}
 use Rattle.two_address.specs.Ties.{retied, retied_operand, tie_to, tied_lowered, ties_among, ties_in, undef_fixed, undefined_first, undefined_whole, with_ties}
 use Rattle.two_address.specs.declared.forms.Form.TheVariants as forms
-use Rattle.lowering_laws.specs.Laws.{is_undef}
 use Rattle.lowering_laws.proofs.Alike.{CountedPart, Equal, SilentPart, both-silent, equal-stays, parts-of}
 use Rattle.lowering_laws.proofs.Chained.{both-ways, ends-ways, exits-within, first-ways, second-ways}
 use Rattle.lowering_laws.proofs.Classes.{AllNamed, AreNamed, item-stays, none-among}
@@ -138,6 +137,11 @@ module _ (t : Target) (f : Function) where
         go (inr z) = counted-stays z
 
 -- instructions without ties and `undef` operands
+
+-- an `undef` operand
+abbrev pub is_undef : Operand → Bool
+is_undef (operands.Reg o) = o.undef
+is_undef o = false
 
 not-true : (b : Bool) → not b ≡ true → b ≡ false
 not-true true e = absurd (cc)

@@ -25,14 +25,14 @@ use Rattle.mir_func.specs.declared.func.Op.{Op}
 use Rattle.mir_func.specs.declared.func.Op.TheVariants as ops
 use Rattle.mir_func.specs.declared.func.Instr.{Instr}
 use Rattle.mir_func.specs.Value.{Function}
-use Rattle.mir_func.specs.Binding.{TiedPair, effect_of, explicit_bound, explicit_operands, explicit_roles, is_definition, is_implicit_operand, is_terminator, known_opcode, passes, register_at, roles_of, takes_many, tied_number, tied_pair}
-use Rattle.mir_meaning.specs.Rules.{V1, explicit_fit, fits_at, implicit_last, is_opaque}
+use Rattle.mir_func.specs.Binding.{TiedPair, effect_of, explicit_bound, explicit_operands, explicit_roles, is_definition, is_implicit_operand, is_terminator, is_use, is_virtual, known_opcode, passes, register_at, roles_of, takes_many, tied_number, tied_pair}
+use Rattle.mir_meaning.specs.Rules.{V1, explicit_fit, fits_at, implicit_last, is_opaque, is_reserved_register}
 use Rattle.two_address.specs.Classes.{seated}
-use Rattle.instr_effects.proofs.Members.{flat-in, map-of, member-elim, member-none}
+use Rattle.instr_effects.proofs.Members.{filter-in, filter-of, flat-in, map-of, member-elim, member-none}
 use Rattle.live_laws.proofs.Effects.Blocks.{slice-member}
 use Rattle.live_laws.proofs.Effects.Lists.{all-of, distinct-apart}
 use Rattle.live_laws.proofs.Effects.Moved.{Apart}
-use Rattle.live_laws.proofs.Touch.Roles.{has_roles, known-shape, met, none-counted, roles-sound}
+use Rattle.live_laws.proofs.Touch.Roles.{fit-role, has_roles, known-shape, met, none-counted, roles-sound}
 use Rattle.lowering_laws.proofs.Seated.{bound-role, last-fits, none-explicit, pair-is, register-of, role-tied, told-of}
 
 -- the role of that number is a definition's, and so are those before it
@@ -441,3 +441,84 @@ undef-untied t i known = by i.op known
     by : (o : Op) → option_map (λ (d : OpcodeDesc). d.effect) (known_opcode t o) ≡ Some effects.ImplicitDef → list_any is_tied (elim (known_opcode t o) as (λ q. List Role) [ None ↦ [] | Some d ↦ d.roles ]) ≡ false
     by (ops.Known o) h = at (slice_get t.opcodes o.0) o.0 refl h
     by (ops.Excluded name) h = refl
+
+-- a terminator has no explicit definition
+
+abbrev NoneDefine : List (Role → Bool) → Type 0
+NoneDefine [] = Unit {0}
+NoneDefine (test ∷ tests) = ((q : Role) → test q ≡ true → is_definition_role q ≡ false) × NoneDefine tests
+
+none-by-shape : (tests : List (Role → Bool)) → NoneDefine tests → (rs : List Role) → has_shape tests rs ≡ true → (r : Role) → Among r rs → is_definition_role r ≡ false
+none-by-shape [] h rs e r m = implicit-plain r (all-of is_implicit r rs m e)
+none-by-shape (test ∷ tests) h [] e r m = absurd (member-none r m)
+none-by-shape (test ∷ tests) h (q ∷ rs) e r m = member-elim r q rs (λ z. ap is_definition_role z ∙ h.0 q (first_of_both (test q) (has_shape tests rs) e)) (λ k. none-by-shape tests h.1 rs (second_of_both (test q) (has_shape tests rs) e) r k) m
+
+block-none : (q : Role) → is_block q ≡ true → is_definition_role q ≡ false
+block-none roles.Target e = refl
+block-none q e = absurd (cc)
+
+use-none : (q : Role) → is_use_role q ≡ true → is_definition_role q ≡ false
+use-none (roles.Read k) e = refl
+use-none (roles.Tied k n) e = refl
+use-none q e = absurd (cc)
+
+rest-none : (q : Role) → is_rest q ≡ true → is_definition_role q ≡ false
+rest-none roles.Rest e = refl
+rest-none q e = absurd (cc)
+
+immediate-none : (q : Role) → is_immediate q ≡ true → is_definition_role q ≡ false
+immediate-none roles.Imm e = refl
+immediate-none q e = absurd (cc)
+
+terminator-roles : (t : Target) (e : Effect) (rs : List Role) → roles_fit t.units t.regs t.classes e rs ≡ true → is_terminator e ≡ true → (r : Role) → Among r rs → is_definition_role r ≡ false
+terminator-roles t effects.Jump rs h g r m = none-by-shape (is_block ∷ []) (block-none, tt) rs (known-shape t effects.Jump rs (is_block ∷ []) refl h) r m
+terminator-roles t effects.Jcc rs h g r m = none-by-shape (is_block ∷ is_immediate ∷ []) (block-none, (immediate-none, tt)) rs (known-shape t effects.Jcc rs (is_block ∷ is_immediate ∷ []) refl h) r m
+terminator-roles t effects.Jnz rs h g r m = none-by-shape (is_use_role ∷ is_block ∷ []) (use-none, (block-none, tt)) rs (known-shape t effects.Jnz rs (is_use_role ∷ is_block ∷ []) refl h) r m
+terminator-roles t effects.Ret rs h g r m = none-by-shape (is_rest ∷ []) (rest-none, tt) rs (known-shape t effects.Ret rs (is_rest ∷ []) refl h) r m
+terminator-roles t (effects.Opaque kinds.Branch) rs h g r m = none-counted is_definition_role rs r (first_of_both _ _ (first_of_both _ _ (second_of_both _ _ h))) m
+terminator-roles t (effects.Opaque kinds.Return) rs h g r m = none-counted is_definition_role rs r (first_of_both _ _ (first_of_both _ _ (second_of_both _ _ h))) m
+terminator-roles t e rs h g r m = absurd (cc)
+
+-- an explicit definition takes a definition's role
+
+defined-role : (t : Target) (e : Effect) (r : Role) (d : RegOp) → is_definition d ≡ true → fits_at t e r (operands.Reg d) ≡ true → is_definition_role r ≡ true
+defined-role t e r d g h = by r h
+  where
+    unused : is_use d ≡ false
+    unused = λ k. not (first_of_both d.def (not d.implicit) g k) && not d.implicit
+
+    plain : (a : Bool) → (false || (a && false)) ≡ false
+    plain true = refl
+    plain false = refl
+
+    value : (a b : Bool) → (false || (a && (false && b))) ≡ false
+    value true b = refl
+    value false b = refl
+
+    used : ((is_use d || (is_opaque e && false)) ≡ true) → ⊥
+    used h = let z = sym ((λ k. unused k || (is_opaque e && false)) ∙ plain (is_opaque e)) ∙ h in cc
+
+    by : (r : Role) → fits_at t e r (operands.Reg d) ≡ true → is_definition_role r ≡ true
+    by (roles.Def k) h = refl
+    by (roles.Early k) h = refl
+    by (roles.Read k) h = absurd (used h)
+    by (roles.Tied k n) h = absurd (used h)
+    by (roles.Address k) h = absurd (used h)
+    by (roles.Value None) h = absurd (let z = sym ((λ k. false || (is_opaque e && (unused k && is_reserved_register t d.loc))) ∙ value (is_opaque e) (is_reserved_register t d.loc)) ∙ h in cc)
+    by (roles.Value (Some k)) h = absurd (let z = sym ((λ k. false || (is_opaque e && unused k)) ∙ plain (is_opaque e)) ∙ h in cc)
+    by roles.Any h = absurd (let z = sym ((λ k. unused k || (is_opaque e && (unused k && is_reserved_register t d.loc))) ∙ value (is_opaque e) (is_reserved_register t d.loc)) ∙ h in cc)
+    by roles.Rest h = absurd (let z = sym ((λ k. (unused k && not (is_virtual d.loc)) || (is_opaque e && false)) ∙ plain (is_opaque e)) ∙ h in cc)
+    by r h = absurd (let z = sym (plain (is_opaque e)) ∙ h in cc)
+
+pub terminator-plain : (t : Target) (f : Function) (i : Instr) (e : Effect) → effect_of t i ≡ Some e → has_roles e ≡ true → V1 t f i ≡ true → is_terminator e ≡ true → (o : RegOp) → Among (operands.Reg o) i.operands → is_definition o ≡ false
+terminator-plain t f i e known h one ends o m = go (is_definition o) refl
+  where
+    go : (y : Bool) → is_definition o ≡ y → is_definition o ≡ false
+    go false g = g
+    go true g =
+        let explicit : not (is_implicit_operand (operands.Reg o)) ≡ true = second_of_both o.def (not o.implicit) g in
+        let z = fit-role t e (explicit_roles (roles_of t i)) (explicit_operands i.operands) (operands.Reg o) (fit-operands t f i e known h one).1 (filter-in (λ x. not (is_implicit_operand x)) (operands.Reg o) i.operands m explicit) in
+        let y = filter-of (λ (r : Role). not (is_implicit r)) z.0 (roles_of t i) z.1 in
+        let a = terminator-roles t e (roles_of t i) (fit-roles t f i e known h one) ends z.0 y.0 in
+        let b = defined-role t e z.0 o g z.2 in
+        absurd (let c : true ≡ false = sym b ∙ a in cc)

@@ -1,5 +1,5 @@
 -- Lowering of ties keeps the meaning of a function without phis.
-use Rattle.std.proofs.Common.{◌≡◌, ◌∷◌, ◌++◌, ◌∙◌, ◌||◌, ◌+◌, not, ℕ, Bool, true, false, List, Option, Some, map, length, refl, sym, ap, subst, []}
+use Rattle.std.proofs.Common.{flat_map, ◌≡◌, ◌∷◌, ◌++◌, ◌∙◌, ◌+◌, not, ℕ, Bool, true, false, List, Option, Some, length, refl, sym, ap, subst, []}
 use Rattle.std.specs.Prelude.{slice_get}
 use Rattle.std.specs.List.{list_all}
 use Rattle.target_base.specs.declared.types.Effect.{Effect}
@@ -11,30 +11,26 @@ use Rattle.meaning.specs.Live.{Among, here, there}
 use Rattle.mir_func.specs.declared.func.Instr.{Instr}
 use Rattle.mir_func.specs.declared.func.Block.{Block}
 use Rattle.mir_func.specs.Value.{Function}
-use Rattle.mir_func.specs.Binding.{does, effect_of, passes, puts_together}
-use Rattle.mir_meaning.specs.Codes.{item_of, refines}
+use Rattle.mir_func.specs.Binding.{does, effect_of, is_terminator, passes, puts_together, roles_of}
+use Rattle.mir_meaning.specs.Codes.{refines}
 use Rattle.mir_meaning.specs.Points.{has_no_phis}
 use Rattle.mir_meaning.specs.Rules.{V15, spills_or_reloads}
-use Rattle.two_address.specs.Lowered.{classes_made, form_classes, instr_classes, instr_lowered, next_range, ties_lowered}
+use Rattle.two_address.specs.Lowered.{class_aside, classes_made, form_classes, instr_classes, next_range, ties_lowered}
 use Rattle.live_laws.proofs.Effects.Lists.{all-of}
-use Rattle.lowering_laws.proofs.Alike.{Equal}
 use Rattle.lowering_laws.proofs.Classes.{AllNamed}
-use Rattle.lowering_laws.proofs.Operands.{known-effect, named}
-use Rattle.lowering_laws.proofs.Plain.{left-alone, other-form, stays}
-use Rattle.lowering_laws.proofs.Replaced.{AllStep, InstrStep, InstrsStep, K, bound, h, ties-by-steps}
+use Rattle.lowering_laws.proofs.Operands.{known-effect}
+use Rattle.lowering_laws.proofs.Plain.{other-form}
+use Rattle.lowering_laws.proofs.Replaced.{AllStep, InstrStep, InstrsStep, bound, h, ties-by-steps}
 use Rattle.lowering_laws.proofs.Ruled.{AllRules, InstrRules, all-rules}
 use Rattle.lowering_laws.proofs.Silently.{addr-step, const-step, copy-step, undef-step}
 use Rattle.lowering_laws.proofs.Sources.{all-named, rules-at}
-use Rattle.lowering_laws.proofs.Stretches.{Stretch}
-use Rattle.mir_func.specs.Binding.{is_terminator}
-use Rattle.two_address.specs.Classes.{seated}
-use Rattle.two_address.specs.Ties.{ties_among}
+use Rattle.two_address.specs.Ties.{ties_in}
 use Rattle.live_laws.proofs.Touch.Roles.{has_roles}
-use Rattle.lowering_laws.specs.Laws.{LoweredTiedRefine, is_undef, ends_plainly}
+use Rattle.lowering_laws.specs.Laws.{LoweredTiedRefine}
 use Rattle.lowering_laws.proofs.Ends.{names-none, no-branch}
-use Rattle.lowering_laws.proofs.Counting.{counted-step}
+use Rattle.lowering_laws.proofs.Counting.{counted-step, ending-step}
 use Rattle.lowering_laws.proofs.Made.{Stands, all-stand, made-append, stands-left, stands-right}
-use Rattle.lowering_laws.proofs.Rolled.{addr-untied, const-untied, terminator-untied, undef-untied}
+use Rattle.lowering_laws.proofs.Rolled.{addr-untied, const-untied, undef-untied}
 use Rattle.live_laws.specs.Effects.Shaped.{AreClasses}
 use Rattle.phi_elim.specs.Phis.{all_instrs}
 use Rattle.target_base.specs.declared.types.ClassId.{ClassId}
@@ -55,31 +51,21 @@ module _ (t : Target) (f : Function) (plain : has_no_phis t f.blocks ≡ true) (
     abbrev StandsAt : ℕ → List (Option ClassId) → Type 0
     StandsAt c xs = Stands (h t f).classes (bound t f) c xs
 
-    module _ (place : ℕ) (b : Block) (j : ℕ) (i : Instr) (r : InstrRules t f place b j i) (no-phi : does is_phi t i ≡ false) (plainly : ends_plainly t i ≡ true) (c : ℕ) (stands : StandsAt c (instr_classes t f.classes c i)) where
+    module _ (place : ℕ) (b : Block) (j : ℕ) (i : Instr) (r : InstrRules t f place b j i) (no-phi : does is_phi t i ≡ false) (c : ℕ) (stands : StandsAt c (instr_classes t f.classes c i)) where
       none-spilled : does spills_or_reloads t i ≡ false
       unfolding V15
       none-spilled = not-true (does spills_or_reloads t i) r.fifteen
 
       module _ (e : Effect) (q : effect_of t i ≡ Some e) (one : is_copy e ≡ false) (two : puts_together e ≡ false) (three : is_silent e ≡ false) (rolled : has_roles e ≡ true) where
-        -- a terminator is left as it is
-        ends-step : is_terminator e ≡ true → InstrStep t f b c i
-        ends-step goes = record {
-          keeps = λ js. subst (λ is. Stretch (K t f) (Equal (length f.classes)) (Equal (length f.classes)) (item_of t (h t f) b i ∷ []) (map (item_of t (ties_lowered t f) (record b { instrs = js })) is)) (sym lowered) (stays t f (bare t f plain) (bare-lowered t f plain) names b js i (λ o m. named t f place b j i r o m));
-          ends = record { front = []; last = i; are = lowered; control = refl; terminator = refl };
-        }
-          where
-            defined : list_all (λ o. not (is_undef o)) i.operands ≡ true
-            defined = subst (λ y. (not y || list_all (λ o. not (is_undef o)) i.operands) ≡ true) (ap (passes is_terminator) q ∙ goes) plainly
-
-            lowered : instr_lowered t f.classes c i ≡ i ∷ []
-            lowered = left-alone t i e q f.classes c one two (ap (ties_among (seated t i) c) (terminator-untied t f i e q rolled r.one goes)) defined
-
         counted : InstrStep t f b c i
         counted = go (is_terminator e) refl
           where
+            stands-too : StandsAt c (flat_map (class_aside (roles_of t i)) (ties_in t c i))
+            stands-too = subst (λ x. StandsAt c (form_classes t f.classes c i x)) (other-form t i e q one two) stands
+
             go : (y : Bool) → is_terminator e ≡ y → InstrStep t f b c i
-            go true goes = ends-step goes
-            go false goes = counted-step t f (bare-lowered t f plain) names classes place b j i r e q three rolled (one, two) c (subst (λ x. StandsAt c (form_classes t f.classes c i x)) (other-form t i e q one two) stands) (names-none t f i e q r.one no-phi (no-branch t i e q (ap (passes is_terminator) q ∙ goes))) goes
+            go true goes = ending-step t f (bare-lowered t f plain) names classes place b j i r e q three rolled (one, two) c stands-too (bare t f plain) goes
+            go false goes = counted-step t f (bare-lowered t f plain) names classes place b j i r e q three rolled (one, two) c stands-too (names-none t f i e q r.one no-phi (no-branch t i e q (ap (passes is_terminator) q ∙ goes))) goes
 
       by-effect : (e : Effect) → effect_of t i ≡ Some e → InstrStep t f b c i
       by-effect effects.Copy q = copy-step t f (bare-lowered t f plain) names place b j i r q c
@@ -96,27 +82,25 @@ module _ (t : Target) (f : Function) (plain : has_no_phis t f.blocks ≡ true) (
       one-step : InstrStep t f b c i
       one-step = let e = known-effect t f place b j i r in by-effect e.0 e.1
 
-    module _ (untied : list_all (λ (b : Block). list_all (ends_plainly t) b.instrs) f.blocks ≡ true) where
-      instrs-step : (b : Block) → Among b f.blocks → (c : ℕ) (is : List Instr) → ((i : Instr) → Among i is → Among i b.instrs) → StandsAt c (classes_made t f.classes c is) → InstrsStep t f b c is
-      instrs-step b mb c [] w s = tt
-      instrs-step b mb c (i ∷ is) w s =
-          let z = rules-at t f rules b i mb (w i here) in
-          let no-phi = not-true (does is_phi t i) (all-of (λ x. not (does is_phi t x)) i b.instrs (w i here) (all-of (λ (d : Block). list_all (λ x. not (does is_phi t x)) d.instrs) b f.blocks mb plain)) in
-          let free = all-of (ends_plainly t) i b.instrs (w i here) (all-of (λ (d : Block). list_all (ends_plainly t) d.instrs) b f.blocks mb untied) in
-          let xs = instr_classes t f.classes c i in
-          let ys = classes_made t f.classes (next_range t f.classes c i) is in
-          (one-step z.0 b z.1 i z.2 no-phi free c (stands-left (h t f).classes (bound t f) c xs ys s), instrs-step b mb (next_range t f.classes c i) is (λ x m. w x (there m)) (stands-right (h t f).classes (bound t f) c xs ys s))
+    instrs-step : (b : Block) → Among b f.blocks → (c : ℕ) (is : List Instr) → ((i : Instr) → Among i is → Among i b.instrs) → StandsAt c (classes_made t f.classes c is) → InstrsStep t f b c is
+    instrs-step b mb c [] w s = tt
+    instrs-step b mb c (i ∷ is) w s =
+        let z = rules-at t f rules b i mb (w i here) in
+        let no-phi = not-true (does is_phi t i) (all-of (λ x. not (does is_phi t x)) i b.instrs (w i here) (all-of (λ (d : Block). list_all (λ x. not (does is_phi t x)) d.instrs) b f.blocks mb plain)) in
+        let xs = instr_classes t f.classes c i in
+        let ys = classes_made t f.classes (next_range t f.classes c i) is in
+        (one-step z.0 b z.1 i z.2 no-phi c (stands-left (h t f).classes (bound t f) c xs ys s), instrs-step b mb (next_range t f.classes c i) is (λ x m. w x (there m)) (stands-right (h t f).classes (bound t f) c xs ys s))
 
-      all-step : (c : ℕ) (bs : List Block) → ((b : Block) → Among b bs → Among b f.blocks) → StandsAt c (classes_made t f.classes c (all_instrs bs)) → AllStep t f c bs
-      all-step c [] w s = tt
-      all-step c (b ∷ bs) w s =
-          let xs = classes_made t f.classes c b.instrs in
-          let ys = classes_made t f.classes (c + length xs) (all_instrs bs) in
-          let s' : StandsAt c (xs ++ ys) = subst (StandsAt c) (made-append t f.classes c b.instrs (all_instrs bs)) s in
-          (instrs-step b (w b here) c b.instrs (λ i m. m) (stands-left (h t f).classes (bound t f) c xs ys s'), all-step (c + length xs) bs (λ x m. w x (there m)) (stands-right (h t f).classes (bound t f) c xs ys s'))
+    all-step : (c : ℕ) (bs : List Block) → ((b : Block) → Among b bs → Among b f.blocks) → StandsAt c (classes_made t f.classes c (all_instrs bs)) → AllStep t f c bs
+    all-step c [] w s = tt
+    all-step c (b ∷ bs) w s =
+        let xs = classes_made t f.classes c b.instrs in
+        let ys = classes_made t f.classes (c + length xs) (all_instrs bs) in
+        let s' : StandsAt c (xs ++ ys) = subst (StandsAt c) (made-append t f.classes c b.instrs (all_instrs bs)) s in
+        (instrs-step b (w b here) c b.instrs (λ i m. m) (stands-left (h t f).classes (bound t f) c xs ys s'), all-step (c + length xs) bs (λ x m. w x (there m)) (stands-right (h t f).classes (bound t f) c xs ys s'))
 
-      refine : refines t f (ties_lowered t f)
-      refine = ties-by-steps t f (bare t f plain) (bare-lowered t f plain) names (all-step (bound t f) f.blocks (λ b m. m) (all-stand t f))
+    refine : refines t f (ties_lowered t f)
+    refine = ties-by-steps t f (bare t f plain) (bare-lowered t f plain) names (all-step (bound t f) f.blocks (λ b m. m) (all-stand t f))
 
 pub lowered_tied_refine : LoweredTiedRefine
-lowered_tied_refine t f shape classes plain untied = refine t f plain classes (all-rules t f shape) untied
+lowered_tied_refine t f shape classes plain = refine t f plain classes (all-rules t f shape)

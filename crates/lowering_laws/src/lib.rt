@@ -14,7 +14,7 @@ pub fn gone_law()
     ensures { PhisAreGone }
 {}
 
-/// In two-address form a function without phis does what it did, where its terminators have no `undef` operands.
+/// In two-address form a function without phis does what it did.
 pub fn tied_law()
     ensures { LoweredTiedRefine }
 {}
