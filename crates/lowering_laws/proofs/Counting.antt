@@ -3,7 +3,6 @@
 use Rattle.std.proofs.Common.{◌≡◌, ◌⊎◌, inl, inr, ◌∷◌, ◌++◌, ◌∙◌, ◌&&◌, ◌||◌, ◌+◌, ◌≤◌, not, ℕ, suc, Bool, true, false, cond, List, Option, Some, None, map, flat_map, length, refl, sym, ap, subst, append-nil, append_assoc, eqb-true, eq-eqb, arith, []}
 use Rattle.std.specs.Prelude.{filter_map, nat_eq, option_and_then, option_map, slice_get, unwrap_or}
 use Rattle.std.specs.List.{list_all}
-use Rattle.std.proofs.lemmas.Bool.{ltb-true}
 use Rattle.target_base.specs.declared.types.ClassId.{ClassId}
 use Rattle.target_base.specs.declared.types.Effect.{Effect}
 use Rattle.target_base.specs.declared.types.OpcodeDesc.{OpcodeDesc}
@@ -57,6 +56,7 @@ use Rattle.live_laws.proofs.Effects.Shapes.{lanes-there}
 use Rattle.live_laws.proofs.Touch.Roles.{has_roles}
 use Rattle.live_laws.specs.Effects.Shaped.{AreClasses}
 use Rattle.lowering_laws.proofs.Alike.{Equal}
+use Rattle.lowering_laws.proofs.Built.{old-not-new}
 use Rattle.lowering_laws.proofs.Classes.{AllNamed, lanes-stay, widths-stay}
 use Rattle.lowering_laws.proofs.Defined.{lanes-differ, named-once, undef-virtual}
 use Rattle.lowering_laws.proofs.Filling.{Blank, NoneNames, fills, further-missed}
@@ -69,7 +69,7 @@ use Rattle.lowering_laws.proofs.Placed.{copy-effect, copy-item, undef-item}
 use Rattle.lowering_laws.proofs.Places.{AllInPlace, InPlace, Replaces, definitions-alike, further-same, reads-alike, registers-in, rest-same, target-same}
 use Rattle.lowering_laws.proofs.Plain.{other-form, same-classes}
 use Rattle.lowering_laws.proofs.Replaced.{EndsAlike, InstrStep, K, along-equal, h, made}
-use Rattle.lowering_laws.proofs.Retied.{known-item, loc-sym, map-length, moves-none, none-of, further-moves}
+use Rattle.lowering_laws.proofs.Unmoved.{known-item, loc-sym, map-length, moves-none, none-of, further-moves}
 use Rattle.lowering_laws.proofs.Rolled.{DefinedBy, defined-by, fit-operands, numbers-differ, terminator-plain, terminator-untied}
 use Rattle.lowering_laws.proofs.Chained.{both-ways, ends-ways, exits-within, first-ways, second-ways}
 use Rattle.lowering_laws.proofs.Ruled.{InstrRules}
@@ -88,16 +88,6 @@ not-true true e = absurd (cc)
 not-true false e = refl
 
 -- lanes and writes
-
--- an old lane is none of a further register
-old-not-new : (n x : ℕ) (l : Lane) → is_old n l ≡ true → n ≤ x → is_lane_of x l ≡ false
-old-not-new n x (UnitLane u) o h = refl
-old-not-new n x (SlotLane s k w) o h = refl
-old-not-new n x (VirtualLane v k) o h = go (nat_eq x v) refl
-  where
-    go : (y : Bool) → nat_eq x v ≡ y → nat_eq x v ≡ false
-    go false e = e
-    go true e = absurd (let a = eqb-true x v e in let b = ltb-true v n o in omega arith)
 
 lane-once : (x y : ℕ) (l : Lane) → is_lane_of x l ≡ true → (x ≡ y → ⊥) → is_lane_of y l ≡ false
 lane-once x y (UnitLane u) e far = absurd (cc)

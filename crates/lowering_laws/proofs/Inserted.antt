@@ -41,7 +41,7 @@ use Rattle.lowering_laws.proofs.Classes.{AllNamed, class-stays, lanes-stay}
 use Rattle.lowering_laws.proofs.Lowering.{map-append}
 use Rattle.lowering_laws.proofs.Operands.{named, shaped}
 use Rattle.lowering_laws.proofs.Replaced.{InstrStep, h, made}
-use Rattle.lowering_laws.proofs.Retied.{known-item, loc-sym}
+use Rattle.lowering_laws.proofs.Unmoved.{known-item, loc-sym}
 use Rattle.lowering_laws.proofs.Ruled.{InstrRules}
 use Rattle.lowering_laws.proofs.Silently.{first-used, lanes-apart, lanes-count}
 use Rattle.lowering_laws.proofs.Traced.{is_lane_of, is_written, lanes_by, moved-apart, silents, undefined-apart}

@@ -24,7 +24,7 @@ pub mod Bare
 pub mod Places
 pub mod Seated
 pub mod Tied
-pub mod Retied
+pub mod Unmoved
 pub mod Inserted
 pub mod Sequenced
 pub mod Ties

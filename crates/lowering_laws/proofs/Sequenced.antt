@@ -47,7 +47,7 @@ use Rattle.lowering_laws.proofs.Operands.{named, shaped}
 use Rattle.lowering_laws.proofs.Placed.{undef-item}
 use Rattle.lowering_laws.proofs.Plain.{same-classes}
 use Rattle.lowering_laws.proofs.Replaced.{InstrStep, h, made}
-use Rattle.lowering_laws.proofs.Retied.{known-item, loc-sym}
+use Rattle.lowering_laws.proofs.Unmoved.{known-item, loc-sym}
 use Rattle.lowering_laws.proofs.Ruled.{InstrRules}
 use Rattle.lowering_laws.proofs.Same.{undef-alike}
 use Rattle.lowering_laws.proofs.Silently.{first-used, lanes-apart, lanes-count}

@@ -1,4 +1,4 @@
--- What counted instructions give, and some facts on lists, locations and items.
+-- Counted instructions move nothing; and some facts on lists, locations and items.
 use Rattle.std.proofs.Common.{◌≡◌, ◌∷◌, ◌++◌, ◌∙◌, ◌||◌, ◌+◌, not, ℕ, suc, Bool, true, false, cond, List, Some, None, map, filter, length, refl, ap, []}
 use Rattle.std.specs.List.{list_any}
 use Rattle.target_base.specs.declared.types.Effect.{Effect}
