@@ -40,3 +40,4 @@ pub mod Built
 pub mod Parted
 pub mod Assembled
 pub mod Puts
+pub mod Away

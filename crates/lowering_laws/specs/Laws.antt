@@ -1,7 +1,9 @@
 -- Lowering keeps the meaning.
-use Rattle.std.specs.Prelude.{◌≡◌, true, None}
+use Rattle.std.specs.Prelude.{◌≡◌, true, not, None}
+use Rattle.std.specs.List.{list_all}
 use Rattle.target_base.specs.declared.types.Target.{Target}
 use Rattle.mir_func.specs.Value.{Function}
+use Rattle.mir_func.specs.Binding.{does, is_lowered_away}
 use Rattle.mir_meaning.specs.declared.Form.TheVariants as forms
 use Rattle.mir_meaning.specs.Codes.{refines}
 use Rattle.mir_meaning.specs.Points.{has_no_phis}
@@ -22,3 +24,7 @@ PhisAreGone = (t : Target) (f : Function) → has_no_phis t (phis_lowered t f).b
 -- classes are the target's, as those of each function that is read are.
 abbrev pub LoweredTiedRefine : Type 0
 LoweredTiedRefine = (t : Target) (f : Function) → shape_fault t forms.Source f ≡ None → AreClasses t f → has_no_phis t f.blocks ≡ true → refines t f (ties_lowered t f)
+
+-- Behind it no instruction is a phi, REG_SEQUENCE or INSERT_SUBREG.
+abbrev pub NoneLoweredAway : Type 0
+NoneLoweredAway = (t : Target) (f : Function) → shape_fault t forms.Source f ≡ None → has_no_phis t f.blocks ≡ true → list_all (λ b. list_all (λ i. not (does is_lowered_away t i)) b.instrs) (ties_lowered t f).blocks ≡ true
