@@ -1,5 +1,5 @@
 -- An instruction with other uses in the places of its own, each as wide, does the same with what these read.
-use Rattle.std.proofs.Common.{◌≡◌, ◌∷◌, ◌++◌, ◌∙◌, ◌&&◌, ◌||◌, not, ℕ, zero, suc, Bool, true, false, cond, List, Option, Some, None, map, filter, flat_map, length, refl, sym, ap, subst, []}
+use Rattle.std.proofs.Common.{◌≡◌, ◌∷◌, ◌++◌, ◌∙◌, ◌&&◌, ◌||◌, ◌+◌, append_assoc, arith, length-append, not, ℕ, zero, suc, Bool, true, false, cond, List, Option, Some, None, map, filter, flat_map, length, refl, sym, ap, subst, []}
 use Rattle.std.specs.Prelude.{filter_map, pos, sum}
 use Rattle.std.specs.List.{cons_option, list_any}
 use Rattle.target_base.specs.declared.types.Effect.{Effect}
@@ -18,6 +18,7 @@ use Rattle.meaning.specs.Perform.{condition_lane}
 use Rattle.meaning.specs.Relations.{AlikeOperands, AlikeReads, Rel}
 use Rattle.meaning.specs.declared.types.Constant.{Constant}
 use Rattle.meaning.specs.declared.types.Constant.TheVariants.{FixedStackAddress, Immediate, StackAddress, SymbolAddress}
+use Rattle.meaning.specs.declared.types.Lane.{Lane}
 use Rattle.meaning.specs.declared.types.Lane.TheVariants.{UnitLane}
 use Rattle.meaning.specs.declared.types.Source.{Source}
 use Rattle.meaning.specs.declared.types.Source.TheVariants.{Bits, FromLane, Undef}
@@ -28,24 +29,31 @@ use Rattle.mir_func.specs.declared.func.Operand.{Operand}
 use Rattle.mir_func.specs.declared.func.Operand.TheVariants as operands
 use Rattle.mir_func.specs.declared.func.Instr.{Instr}
 use Rattle.mir_func.specs.Value.{Function}
-use Rattle.mir_func.specs.Binding.{Bound, as_register, definition_in, definitions, explicit_bound, explicit_operands, explicit_roles, immediate_of, implicit_registers, implicit_roles, is_early, is_implicit_operand, passes, registers, roles_of, takes_many}
+use Rattle.mir_func.specs.Binding.{Bound, Definition, is_definition, as_register, definition_in, definitions, explicit_bound, explicit_operands, explicit_roles, immediate_of, implicit_registers, implicit_roles, is_early, is_implicit_operand, passes, registers, roles_of, takes_many}
 use Rattle.mir_func.specs.Spelling.{op_name, word_of}
-use Rattle.mir_meaning.specs.Registers.{located_lanes, numbers, operand_widths, unit_lanes, use_sources}
-use Rattle.mir_meaning.specs.Items.{Value, all_lanes, clobbered, computed, computes_with_immediates, counted_writes, defined_lanes, explicit_definitions, first_width, flag_value, further_writes, has_base, implicit_definitions, implicit_values, implicit_writes, is_flags, kept, lane_width, named_symbol, needed_of, needs_value, opaque_clobbers, pick, preserves, read_widths, rest_of, result_widths, results, symbol_of, undefined, unreserved, use_value, value_of, values}
+use Rattle.mir_meaning.specs.Registers.{located_lanes, numbers, operand_lanes, operand_widths, unit_lanes, use_sources}
+use Rattle.mir_meaning.specs.Items.{Value, all_lanes, clobbered, computed, computes_with_immediates, defined_lanes, explicit_definitions, first_width, flag_value, further_writes, has_base, implicit_definitions, implicit_values, implicit_writes, is_flags, kept, lane_width, named_symbol, needed_of, needs_value, opaque_clobbers, pick, preserves, read_widths, rest_of, result_widths, symbol_of, undefined, unreserved, use_value, value_of, values}
 use Rattle.mir_meaning.specs.Codes.{target_of}
 use Rattle.mir_meaning.specs.Renaming.{IsFixed}
 use Rattle.instr_effects.proofs.Members.{filter-of}
+use Rattle.lowering_laws.proofs.Found.{place}
+use Rattle.lowering_laws.proofs.Silently.{lanes-count}
 
-module _ (t : Target) (f : Function) (R : Rel) where
-  -- An operand in the place of another: a use as wide, which reads what is related to what the other reads. Definitions
-  -- and implicit operands stay.
+module _ (t : Target) (f : Function) (R : Rel) (Comes : Lane → Lane → Type 0) where
+  -- An operand in the place of another, as wide: a use reads what is related to what the other reads, and a lane that comes
+  -- from one has the place in an explicit definition that this one has in the other. Implicit operands stay.
   pub record InPlace (o o' : RegOp) : Type 0 where
     pub def : o'.def ≡ o.def
     pub implicit : o'.implicit ≡ o.implicit
     pub widths : operand_widths t f o' ≡ operand_widths t f o
-    pub defines : o.def ≡ true → o' ≡ o
     pub stays : o.implicit ≡ true → o' ≡ o
     pub reads : o.def ≡ false → AlikeReads R (use_sources t f o) (use_sources t f o')
+    pub clear : is_definition o ≡ true → o'.undef ≡ false
+    pub lanes : is_definition o ≡ true → (a a' : Lane) → Comes a a' → place (operand_lanes t f o) a ≡ place (operand_lanes t f o') a'
+
+  -- it has as many lanes
+  pub lanes-long : {o o' : RegOp} → InPlace o o' → length (operand_lanes t f o') ≡ length (operand_lanes t f o)
+  lanes-long {o = o} {o' = o'} z = lanes-count t f o'.loc o'.index ∙ (ap length z.widths ∙ sym (lanes-count t f o.loc o.index))
 
   -- operands in the places of others
   pub data Replaces : List Operand → List Operand → Type 0 where
@@ -74,11 +82,11 @@ module _ (t : Target) (f : Function) (R : Rel) where
       go true e ih = λ k. z.0.stays e k ∷ ih k
       go false e ih = ih
 
-  explicit-in : (os ps : List RegOp) → AllInPlace os ps → filter (λ o. o.def && not o.implicit) ps ≡ filter (λ o. o.def && not o.implicit) os
+  explicit-in : (os ps : List RegOp) → AllInPlace os ps → flat_map (operand_widths t f) (filter (λ o. o.def && not o.implicit) ps) ≡ flat_map (operand_widths t f) (filter (λ o. o.def && not o.implicit) os)
   explicit-in [] [] z = refl
   explicit-in [] (p ∷ ps) z = absurd (z)
   explicit-in (o ∷ os) [] z = absurd (z)
-  explicit-in (o ∷ os) (p ∷ ps) z = go o.def refl (explicit-in os ps z.1)
+  explicit-in (o ∷ os) (p ∷ ps) z = (λ k. flat_map (operand_widths t f) (cond (z.0.def k && not (z.0.implicit k)) (p ∷ its) its)) ∙ go (o.def && not o.implicit) (explicit-in os ps z.1)
     where
       mine : List RegOp
       mine = filter (λ q. q.def && not q.implicit) os
@@ -86,15 +94,19 @@ module _ (t : Target) (f : Function) (R : Rel) where
       its : List RegOp
       its = filter (λ q. q.def && not q.implicit) ps
 
-      go : (b : Bool) → o.def ≡ b → its ≡ mine → cond (p.def && not p.implicit) (p ∷ its) its ≡ cond (o.def && not o.implicit) (o ∷ mine) mine
-      go true e ih = λ k. cond ((z.0.defines e k).def && not (z.0.defines e k).implicit) (z.0.defines e k ∷ ih k) (ih k)
-      go false e ih = (λ k. cond ((z.0.def ∙ e) k && not p.implicit) (p ∷ its) its) ∙ (ih ∙ sym (λ k. cond (e k && not o.implicit) (o ∷ mine) mine))
+      go : (b : Bool) → flat_map (operand_widths t f) its ≡ flat_map (operand_widths t f) mine → flat_map (operand_widths t f) (cond b (p ∷ its) its) ≡ flat_map (operand_widths t f) (cond b (o ∷ mine) mine)
+      go true ih = λ k. z.0.widths k ++ ih k
+      go false ih = ih
+
+  flat-append : {A B : Type 0} (g : A → List B) (xs ys : List A) → flat_map g (xs ++ ys) ≡ flat_map g xs ++ flat_map g ys
+  flat-append g [] ys = refl
+  flat-append g (x ∷ xs) ys = ap (λ zs. g x ++ zs) (flat-append g xs ys) ∙ sym (append_assoc (g x) (flat_map g xs) (flat_map g ys))
 
   module _ {os os' : List Operand} (xs : Replaces os os') where
     implicit-same : implicit_registers os' ≡ implicit_registers os
     implicit-same = implicit-in (registers os) (registers os') (registers-in xs)
 
-    explicit-same : explicit_definitions os' ≡ explicit_definitions os
+    explicit-same : flat_map (operand_widths t f) (explicit_definitions os') ≡ flat_map (operand_widths t f) (explicit_definitions os)
     explicit-same = explicit-in (registers os) (registers os') (registers-in xs)
 
     implicit-definitions-same : implicit_definitions os' ≡ implicit_definitions os
@@ -131,12 +143,46 @@ module _ (t : Target) (f : Function) (R : Rel) where
   told-same g h [] (other {x = x} e xs) = ap (cons_option (g (None, x))) (told-same g h [] xs)
   told-same g h (r ∷ rs) (other {x = x} e xs) = ap (cons_option (g (Some r, x))) (told-same g h (cond (takes_many r) (r ∷ rs) rs) xs)
 
-  definition-same : (r : Option Role) (o o' : RegOp) → InPlace o o' → definition_in (r, operands.Reg o') ≡ definition_in (r, operands.Reg o)
-  definition-same r o o' z = go o.def refl
+  -- explicit definitions in the places of others, and whether each is an early-clobber one
+  abbrev pub AlikeDefinitions : List Definition → List Definition → Type 0
+  AlikeDefinitions [] [] = Unit {0}
+  AlikeDefinitions [] (d' ∷ ds') = ⊥
+  AlikeDefinitions (d ∷ ds) [] = ⊥
+  AlikeDefinitions (d ∷ ds) (d' ∷ ds') = InPlace d.1 d'.1 × (is_definition d.1 ≡ true) × AlikeDefinitions ds ds'
+
+  told-definition : (r : Option Role) (o o' : RegOp) (ds ds' : List Definition) → InPlace o o' → AlikeDefinitions ds ds' → AlikeDefinitions (cons_option (definition_in (r, operands.Reg o)) ds) (cons_option (definition_in (r, operands.Reg o')) ds')
+  told-definition r o o' ds ds' z m = subst (λ (b : Bool). AlikeDefinitions (cons_option (definition_in (r, operands.Reg o)) ds) (cons_option (cond b (Some (passes is_early r, o')) None) ds')) (λ k. sym z.def k && not (sym z.implicit k)) (go (is_definition o) refl)
     where
-      go : (b : Bool) → o.def ≡ b → definition_in (r, operands.Reg o') ≡ definition_in (r, operands.Reg o)
-      go true e = ap (λ p. definition_in (r, operands.Reg p)) (z.defines e)
-      go false e = (λ k. cond ((z.def ∙ e) k && not o'.implicit) (Some (passes is_early r, o')) None) ∙ sym (λ k. cond (e k && not o.implicit) (Some (passes is_early r, o)) None)
+      go : (b : Bool) → is_definition o ≡ b → AlikeDefinitions (cons_option (cond b (Some (passes is_early r, o)) None) ds) (cons_option (cond b (Some (passes is_early r, o')) None) ds')
+      go true e = (z, e, m)
+      go false e = m
+
+  other-definition : (r : Option Role) (x : Operand) (ds ds' : List Definition) → as_register x ≡ None → AlikeDefinitions ds ds' → AlikeDefinitions (cons_option (definition_in (r, x)) ds) (cons_option (definition_in (r, x)) ds')
+  other-definition r (operands.Reg o) ds ds' e m = absurd (cc)
+  other-definition r x ds ds' e m = m
+
+  told-definitions : (rs : List Role) {os os' : List Operand} → Replaces os os' → AlikeDefinitions (filter_map definition_in (explicit_bound rs os)) (filter_map definition_in (explicit_bound rs os'))
+  told-definitions rs none = tt
+  told-definitions [] (register {o = o} {o' = o'} {os = os} {os' = os'} z xs) = told-definition None o o' (filter_map definition_in (explicit_bound [] os)) (filter_map definition_in (explicit_bound [] os')) z (told-definitions [] xs)
+  told-definitions (r ∷ rs) (register {o = o} {o' = o'} {os = os} {os' = os'} z xs) =
+      let rest = cond (takes_many r) (r ∷ rs) rs in
+      told-definition (Some r) o o' (filter_map definition_in (explicit_bound rest os)) (filter_map definition_in (explicit_bound rest os')) z (told-definitions rest xs)
+  told-definitions [] (other {x = x} {os = os} {os' = os'} e xs) = other-definition None x (filter_map definition_in (explicit_bound [] os)) (filter_map definition_in (explicit_bound [] os')) e (told-definitions [] xs)
+  told-definitions (r ∷ rs) (other {x = x} {os = os} {os' = os'} e xs) =
+      let rest = cond (takes_many r) (r ∷ rs) rs in
+      other-definition (Some r) x (filter_map definition_in (explicit_bound rest os)) (filter_map definition_in (explicit_bound rest os')) e (told-definitions rest xs)
+
+  -- they have as many lanes
+  defined-long : (ds ds' : List Definition) → AlikeDefinitions ds ds' → length (defined_lanes t f ds') ≡ length (defined_lanes t f ds)
+  defined-long [] [] z = refl
+  defined-long [] (d' ∷ ds') z = absurd (z)
+  defined-long (d ∷ ds) [] z = absurd (z)
+  defined-long (d ∷ ds) (d' ∷ ds') z =
+      let one = length-append (operand_lanes t f d'.1) (defined_lanes t f ds') in
+      let two = length-append (operand_lanes t f d.1) (defined_lanes t f ds) in
+      let three = lanes-long z.0 in
+      let four = defined-long ds ds' z.2 in
+      omega (arith, one, two, three, four)
 
   needs-same : (r : Option Role) (o o' : RegOp) → InPlace o o' → needs_value (r, operands.Reg o') ≡ needs_value (r, operands.Reg o)
   needs-same r o o' z = λ k. cond (z.def k) None (Some (passes is_address r))
@@ -207,15 +253,12 @@ module _ (t : Target) (f : Function) (R : Rel) where
     abbrev i' : Instr
     i' = record i { operands = os' }
 
-    definitions-same : definitions (roles_of t i) os' ≡ definitions (roles_of t i) i.operands
-    definitions-same = told-same definition_in definition-same (explicit_roles (roles_of t i)) (explicit-replaces xs)
+    pub definitions-alike : AlikeDefinitions (definitions (roles_of t i) i.operands) (definitions (roles_of t i) os')
+    definitions-alike = told-definitions (explicit_roles (roles_of t i)) (explicit-replaces xs)
 
-    further-same : (x : Effect) → further_writes t f x i' ≡ further_writes t f x i
-    further-same (effects.Opaque kind) = λ k. computed false (length (defined_lanes t f (definitions-same k))) (all_lanes t f (implicit-definitions-same xs k)) ++ clobbers-same kind xs k
+    pub further-same : (x : Effect) → further_writes t f x i' ≡ further_writes t f x i
+    further-same (effects.Opaque kind) = λ k. computed false (defined-long (definitions (roles_of t i) i.operands) (definitions (roles_of t i) os') definitions-alike k) (all_lanes t f (implicit-definitions-same xs k)) ++ clobbers-same kind xs k
     further-same x = implicit-writes-same x (implicit_roles (roles_of t i)) xs
-
-    pub writes-same : counted_writes t f e i' ≡ counted_writes t f e i
-    writes-same = λ k. results t f 0 (definitions-same k) ++ further-same e k
 
     symbols-same : (x : Effect) → named_symbol t x i' ≡ named_symbol t x i
     symbols-same effects.Call = symbol-same xs
@@ -228,8 +271,11 @@ module _ (t : Target) (f : Function) (R : Rel) where
 
     result-same : (x : Effect) → result_widths t f x os' ≡ result_widths t f x i.operands
     result-same effects.Call = ap (λ ds. map (lane_width t) (unreserved t (all_lanes t f ds))) (implicit-definitions-same xs)
-    result-same (effects.Opaque kind) = λ k. flat_map (operand_widths t f) (explicit-same xs k ++ implicit-definitions-same xs k)
-    result-same x = ap (flat_map (operand_widths t f)) (explicit-same xs)
+    result-same (effects.Opaque kind) =
+        flat-append (operand_widths t f) (explicit_definitions os') (implicit_definitions os')
+        ∙ ((λ k. explicit-same xs k ++ flat_map (operand_widths t f) (implicit-definitions-same xs k))
+        ∙ sym (flat-append (operand_widths t f) (explicit_definitions i.operands) (implicit_definitions i.operands)))
+    result-same x = explicit-same xs
 
   -- reads
 

@@ -1,6 +1,6 @@
--- Instructions that lowering of ties leaves as they are do in both functions the same.
-use Rattle.std.proofs.Common.{◌≡◌, ◌⊎◌, inl, inr, ◌∷◌, ◌++◌, ◌∙◌, ◌&&◌, ◌||◌, not, ℕ, suc, Bool, true, false, cond, List, Option, Some, None, map, flat_map, length, refl, sym, ap, subst, []}
-use Rattle.std.specs.Prelude.{filter_map, option_and_then, option_map, slice_get, unwrap_or}
+-- Instructions without ties and `undef` operands, and those that have no form of their own.
+use Rattle.std.proofs.Common.{◌≡◌, ◌∷◌, ◌++◌, ◌∙◌, ◌&&◌, ◌||◌, not, ℕ, suc, Bool, true, false, cond, List, Option, Some, None, map, flat_map, refl, sym, ap, []}
+use Rattle.std.specs.Prelude.{filter_map, option_and_then, slice_get, unwrap_or}
 use Rattle.std.specs.List.{cons_option, list_all, list_any}
 use Rattle.target_base.specs.declared.types.ClassId.{ClassId}
 use Rattle.target_base.specs.declared.types.Effect.{Effect}
@@ -10,32 +10,17 @@ use Rattle.target_base.specs.declared.types.Target.{Target}
 use Rattle.target_base.specs.Roles.{is_implicit, is_tied}
 use Rattle.target_base.specs.Rules.{is_copy, is_insert_subreg, is_reg_sequence}
 use Rattle.target_base.proofs.Tests.{first_of_both, second_of_both}
-use Rattle.meaning.specs.Code.{Counted, Item, Silent}
-use Rattle.meaning.specs.Lanes.{Writes}
-use Rattle.meaning.specs.Live.{reads_of, writes_of}
-use Rattle.meaning.specs.Relations.{Rel, Within, after_both, along}
-use Rattle.meaning.specs.Rows.{first_edges, first_target, second_edges, second_target}
-use Rattle.meaning.specs.declared.types.Ways.{Ways}
-use Rattle.laws.proofs.Core.{Exits, Plan, Reaches}
 use Rattle.mir_func.specs.declared.func.RegOp.{RegOp}
 use Rattle.mir_func.specs.declared.func.Operand.{Operand}
 use Rattle.mir_func.specs.declared.func.Operand.TheVariants as operands
 use Rattle.mir_func.specs.declared.func.Instr.{Instr}
-use Rattle.mir_func.specs.declared.func.Block.{Block}
 use Rattle.mir_func.specs.Value.{Function}
-use Rattle.mir_func.specs.Binding.{TiedPair, does, effect_of, explicit_bound, explicit_roles, is_definition, is_terminator, is_virtual, numbered, passes, puts_together, register_at, roles_of, takes_many, tied_number, tied_pair}
-use Rattle.mir_meaning.specs.Codes.{item_of, target_of, way, ways_out}
+use Rattle.mir_func.specs.Binding.{TiedPair, effect_of, explicit_bound, explicit_roles, is_definition, is_virtual, numbered, passes, puts_together, register_at, roles_of, takes_many, tied_number, tied_pair}
 use Rattle.two_address.specs.Classes.{class_asked, first_register, seated}
-use Rattle.two_address.specs.Lowered.{copy_form, form_lowered, form_of, insertion_form, instr_lowered, part_of_two, sequence_form, ties_lowered, virtual_in}
-use Rattle.two_address.specs.Ties.{retied, retied_operand, tie_to, tied_lowered, ties_among, ties_in, undef_fixed, undefined_first, undefined_whole, with_ties}
+use Rattle.two_address.specs.Lowered.{copy_form, form_of, insertion_form, part_of_two, sequence_form, ties_lowered, virtual_in}
+use Rattle.two_address.specs.Ties.{retied, retied_operand, tie_to, ties_among, ties_in, undef_fixed, undefined_first, undefined_whole}
 use Rattle.two_address.specs.declared.forms.Form.TheVariants as forms
-use Rattle.lowering_laws.specs.Laws.{is_undef}
-use Rattle.lowering_laws.proofs.Alike.{CountedPart, Equal, SilentPart, both-silent, equal-stays, parts-of}
-use Rattle.lowering_laws.proofs.Chained.{both-ways, ends-ways, exits-within, first-ways, second-ways}
-use Rattle.lowering_laws.proofs.Classes.{AllNamed, AreNamed, item-stays, none-among}
-use Rattle.lowering_laws.proofs.Olds.{AllOld, ReadsOld, alike-operands, reads-are-old, writes-are-old}
-use Rattle.lowering_laws.proofs.Replaced.{K, along-equal, h, made}
-use Rattle.lowering_laws.proofs.Stretches.{Stretch, along-more, both-counted, lessened}
+use Rattle.lowering_laws.proofs.Replaced.{h}
 
 module _ (t : Target) (f : Function) where
   -- both functions have the same classes
@@ -43,101 +28,12 @@ module _ (t : Target) (f : Function) where
   unfolding ties_lowered
   same-classes = refl
 
-  module _ (bare : (n m : ℕ) → (way t (h t f) n m).phis ≡ []) (bare' : (n m : ℕ) → (way t (ties_lowered t f) n m).phis ≡ []) (named : AllNamed f f.blocks) (b : Block) (js : List Instr) (i : Instr) (own : AreNamed f i.operands) where
-    abbrev H : Function
-    H = h t f
-
-    abbrev G : Function
-    G = ties_lowered t f
-
-    abbrev c' : Block
-    c' = record b { instrs = js }
-
-    abbrev n : ℕ
-    n = length f.classes
-
-    abbrev E : Rel
-    E = Equal n
-
-    abbrev P : Plan
-    P = K t f
-
-    writes-old : AllOld n (writes_of (item_of t H b i))
-    writes-old = subst (λ y. AllOld n (writes_of y)) (sym (item-stays t f (made t f) named b i own)) (writes-are-old t f b i own)
-
-    reads-old : does puts_together t i ≡ false → ReadsOld n (reads_of (item_of t H b i))
-    reads-old e = subst (λ y. ReadsOld n (reads_of y)) (sym (item-stays t f (made t f) named b i own)) (reads-are-old t f b i e own)
-
-    into : (ws : Writes) → AllOld n ws → (m : ℕ) → Within (P m) (along (both-ways t H G P b.number m) (after_both ws ws E))
-    into ws old m s u k = along-more (both-ways t H G P b.number m) (after_both ws ws E) E (equal-stays n ws old) s u (along-equal t f b.number m (bare b.number m) (bare' b.number m) s u k)
-
-    counted-stays : CountedPart t H G b c' i (item_of t H b i) (item_of t G c' i) → Stretch P E E (item_of t H b i ∷ []) (item_of t G c' i ∷ [])
-    counted-stays z =
-        subst (λ p. Stretch P E E (p ∷ []) (item_of t G c' i ∷ [])) (sym first-side)
-        (subst (λ q. Stretch P E E (one-code ∷ []) (q ∷ [])) (sym second-side)
-        (lessened P E (after_both z.writes z.writes E) E (one-code ∷ []) (other-code ∷ []) (equal-stays n z.writes old)
-        (both-counted P E z.rest z.reads z.reads z.writes z.writes goal exits (alike-operands n E z.reads (λ s k. (k, refl)) (subst (ReadsOld n) (ap reads_of z.one) (reads-old z.apart))) (reaches (target_of i.operands)) (leaving (does is_terminator t i)))))
-      where
-        goal : Option Ways
-        goal = option_map (both-ways t H G P b.number) (target_of i.operands)
-
-        ends : List Ways
-        ends = ends-ways t H G P b.number b.successors
-
-        exits : List Ways
-        exits = cond (does is_terminator t i) ends []
-
-        one-code : Item
-        one-code = Counted z.rest z.reads z.writes (first_target goal) (first_edges exits)
-
-        other-code : Item
-        other-code = Counted z.rest z.reads z.writes (second_target goal) (second_edges exits)
-
-        old : AllOld n z.writes
-        old = subst (AllOld n) (ap writes_of z.one) writes-old
-
-        first-to : (q : Option ℕ) → first_target (option_map (both-ways t H G P b.number) q) ≡ option_map (way t H b.number) q
-        first-to None = refl
-        first-to (Some m) = refl
-
-        second-to : (q : Option ℕ) → second_target (option_map (both-ways t H G P b.number) q) ≡ option_map (way t G b.number) q
-        second-to None = refl
-        second-to (Some m) = refl
-
-        first-out : (y : Bool) → first_edges (cond y ends []) ≡ cond y (ways_out t H b) []
-        first-out true = first-ways t H G P b.number b.successors
-        first-out false = refl
-
-        second-out : (y : Bool) → second_edges (cond y ends []) ≡ cond y (ways_out t G c') []
-        second-out true = second-ways t H G P b.number b.successors
-        second-out false = refl
-
-        first-side : item_of t H b i ≡ one-code
-        first-side = z.one ∙ (λ k. Counted z.rest z.reads z.writes (sym (first-to (target_of i.operands)) k) (sym (first-out (does is_terminator t i)) k))
-
-        second-side : item_of t G c' i ≡ other-code
-        second-side = z.other ∙ (λ k. Counted z.rest z.reads z.writes (sym (second-to (target_of i.operands)) k) (sym (second-out (does is_terminator t i)) k))
-
-        reaches : (q : Option ℕ) → Reaches P (option_map (both-ways t H G P b.number) q) (after_both z.writes z.writes E)
-        reaches None = tt
-        reaches (Some m) = into z.writes old m
-
-        leaving : (y : Bool) → Exits P (cond y ends []) (after_both z.writes z.writes E)
-        leaving true = exits-within t H G P b.number (after_both z.writes z.writes E) b.successors (λ s m. into z.writes old s.block)
-        leaving false = λ e m. absurd (none-among e m)
-
-    -- an instruction that is left as it is
-    pub stays : Stretch P E E (item_of t H b i ∷ []) (item_of t G c' i ∷ [])
-    stays = go (parts-of t H G same-classes bare' b c' i (λ o m. (own o m).fixed))
-      where
-        go : SilentPart (item_of t H b i) (item_of t G c' i) ⊎ CountedPart t H G b c' i (item_of t H b i) (item_of t G c' i) → Stretch P E E (item_of t H b i ∷ []) (item_of t G c' i ∷ [])
-        go (inl z) =
-            subst (λ p. Stretch P E E (p ∷ []) (item_of t G c' i ∷ [])) (sym z.one)
-            (subst (λ q. Stretch P E E (Silent z.reads z.writes ∷ []) (q ∷ [])) (sym z.other)
-            (both-silent n P z.reads z.reads z.writes (subst (AllOld n) (ap writes_of z.one) writes-old)))
-        go (inr z) = counted-stays z
-
 -- instructions without ties and `undef` operands
+
+-- an `undef` operand
+abbrev pub is_undef : Operand → Bool
+is_undef (operands.Reg o) = o.undef
+is_undef o = false
 
 not-true : (b : Bool) → not b ≡ true → b ≡ false
 not-true true e = absurd (cc)
@@ -227,11 +123,3 @@ module _ (t : Target) (i : Instr) (e : Effect) (known : effect_of t i ≡ Some e
   -- an opcode that ties nothing
   pub none-tied : (c : ℕ) → list_any is_tied (roles_of t i) ≡ false → ties_in t c i ≡ []
   none-tied c h = ap (ties_among (seated t i) c) (untied-pairs i.operands (explicit_roles (roles_of t i)) i.operands (explicit-untied (roles_of t i) h))
-
-  -- without ties and `undef` operands an instruction is left as it is
-  pub left-alone : (cs : List (Option ClassId)) (c : ℕ) → is_copy e ≡ false → puts_together e ≡ false → ties_in t c i ≡ [] → list_all (λ o. not (is_undef o)) i.operands ≡ true → instr_lowered t cs c i ≡ i ∷ []
-  left-alone cs c one two ties plain =
-      ap (λ form. flat_map undefined_first i.operands ++ form_lowered t cs c i form) (other-form one two)
-      ∙ (ap (λ js. js ++ tied_lowered t cs c i) (none-before i.operands plain)
-      ∙ (ap (λ list. with_ties t cs list i) ties
-      ∙ ap (λ os. record i { operands = os } ∷ []) (same-operands t cs 0 (explicit_roles (roles_of t i)) i.operands plain)))

@@ -56,7 +56,7 @@ told-in {X} {Y} g y x (z ∷ xs) m e = member-elim x z xs (λ q. subst (λ w. Am
 pub register-in : (o : RegOp) (os : List Operand) → Among (operands.Reg o) os → Among o (registers os)
 register-in o os m = told-in as_register o (operands.Reg o) os m refl
 
-register-of : (x : Operand) (o : RegOp) → as_register x ≡ Some o → x ≡ operands.Reg o
+pub register-of : (x : Operand) (o : RegOp) → as_register x ≡ Some o → x ≡ operands.Reg o
 register-of (operands.Reg p) o e = ap operands.Reg (some-one p o e)
 register-of x o e = absurd (cc)
 
@@ -76,7 +76,7 @@ bound-operand (s ∷ rs) (x ∷ os) r o m =
     let rest = cond (takes_many s) (s ∷ rs) rs in
     member-elim (r, o) (Some s, x) (explicit_bound rest os) (λ q. subst (λ y. Among y (x ∷ os)) (sym (ap (λ b. b.1) q)) here) (λ k. there (bound-operand rest os r o k)) m
 
-bound-role : (rs : List Role) (os : List Operand) (r : Role) (o : Operand) → Among (Some r, o) (explicit_bound rs os) → Among r rs
+pub bound-role : (rs : List Role) (os : List Operand) (r : Role) (o : Operand) → Among (Some r, o) (explicit_bound rs os) → Among r rs
 bound-role rs [] r o m = absurd (member-none (Some r, o) m)
 bound-role [] (x ∷ os) r o m = member-elim (Some r, o) (None, x) (explicit_bound [] os) (λ q. absurd (let z : Some r ≡ None = ap (λ b. b.0) q in cc)) (λ k. bound-role [] os r o k) m
 bound-role (s ∷ rs) (x ∷ os) r o m =
@@ -97,7 +97,7 @@ some-role (s ∷ rs) (x ∷ os) o m =
 
 -- tied operands stand among the explicit ones
 
-none-explicit : (os : List Operand) → list_all is_implicit_operand os ≡ true → explicit_operands os ≡ []
+pub none-explicit : (os : List Operand) → list_all is_implicit_operand os ≡ true → explicit_operands os ≡ []
 none-explicit [] e = refl
 none-explicit (x ∷ os) e = (λ k. cond (not (first_of_both (is_implicit_operand x) (list_all is_implicit_operand os) e k)) (x ∷ explicit_operands os) (explicit_operands os)) ∙ none-explicit os (second_of_both (is_implicit_operand x) (list_all is_implicit_operand os) e)
 
@@ -174,7 +174,7 @@ pair-is os r o p e = absurd (cc)
 pub pair-of : (os : List Operand) (r : Option Role) (u : RegOp) (n : ℕ) (d : RegOp) → option_and_then tied_number r ≡ Some n → register_at os n ≡ Some d → tied_pair os (r, operands.Reg u) ≡ Some (pair_with n d u)
 pair-of os r u n d f g = ap (paired_with os u) f ∙ ap (option_map (λ (x : RegOp). pair_with n x u)) g
 
-role-tied : (r : Option Role) (n : ℕ) → option_and_then tied_number r ≡ Some n → (q : Role) × (r ≡ Some q) × (is_tied q ≡ true)
+pub role-tied : (r : Option Role) (n : ℕ) → option_and_then tied_number r ≡ Some n → (q : Role) × (r ≡ Some q) × (is_tied q ≡ true)
 role-tied None n e = absurd (cc)
 role-tied (Some (roles.Tied k m)) n e = (roles.Tied k m, refl, refl)
 role-tied (Some q) n e = absurd (cc)
@@ -189,7 +189,7 @@ tied-to (Some q) n e = go (tied_number q) e
 
 -- an instruction's pairs by all operands are those by its explicit ones
 
-last-fits : (t : Target) (f : Function) (d : OpcodeDesc) (os : List Operand) (e : Effect) → has_roles e ≡ true → operands_fit t f d os e ≡ true → (implicit_last os ≡ true) × (explicit_fit t e (explicit_roles d.roles) (explicit_operands os) ≡ true)
+pub last-fits : (t : Target) (f : Function) (d : OpcodeDesc) (os : List Operand) (e : Effect) → has_roles e ≡ true → operands_fit t f d os e ≡ true → (implicit_last os ≡ true) × (explicit_fit t e (explicit_roles d.roles) (explicit_operands os) ≡ true)
 last-fits t f d os effects.Copy h g = absurd (cc)
 last-fits t f d os effects.ImplicitDef h g = absurd (cc)
 last-fits t f d os effects.Phi h g = absurd (cc)

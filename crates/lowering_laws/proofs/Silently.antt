@@ -50,7 +50,6 @@ use Rattle.instr_effects.proofs.Members.{filter-in, member-elim, member-none}
 use Rattle.live_laws.proofs.Effects.Lists.{all-of}
 use Rattle.live_laws.proofs.Effects.Shapes.{lanes-there, same-lanes, widths-of}
 use Rattle.live_laws.proofs.Touch.Roles.{TakeAll, Takes, addr-takes, const-takes, met}
-use Rattle.lowering_laws.specs.Laws.{is_undef}
 use Rattle.lowering_laws.proofs.Alike.{Equal}
 use Rattle.lowering_laws.proofs.Arrivals.{eqb-sym}
 use Rattle.lowering_laws.proofs.Classes.{AllNamed, item-stays, lanes-stay}
@@ -58,7 +57,7 @@ use Rattle.lowering_laws.proofs.Lowering.{map-append}
 use Rattle.lowering_laws.proofs.Olds.{AllOld, writes-are-old}
 use Rattle.lowering_laws.proofs.Operands.{lanes-long, named, shaped}
 use Rattle.lowering_laws.proofs.Placed.{undef-effect, undef-item}
-use Rattle.lowering_laws.proofs.Plain.{none-before, none-tied, other-form, same-classes, same-operands}
+use Rattle.lowering_laws.proofs.Plain.{is_undef, none-before, none-tied, other-form, same-classes, same-operands}
 use Rattle.lowering_laws.proofs.Replaced.{EndsAlike, InstrStep, K, h, made}
 use Rattle.lowering_laws.proofs.Ruled.{InstrRules}
 use Rattle.lowering_laws.proofs.Same.{copied-alike, lanes-alike, undef-alike, widths-alike}

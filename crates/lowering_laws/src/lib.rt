@@ -2,7 +2,7 @@
 //! that a check proves it.
 #![tactic(auto)]
 
-ghost use Rattle.lowering_laws.specs.Laws.{LoweredPhisRefine, LoweredTiedRefine, PhisAreGone};
+ghost use Rattle.lowering_laws.specs.Laws.{LoweredPhisRefine, LoweredTiedRefine, NoneLoweredAway, PhisAreGone};
 
 /// A valid source without its phis does what it did.
 pub fn phis_law()
@@ -14,7 +14,12 @@ pub fn gone_law()
     ensures { PhisAreGone }
 {}
 
-/// In two-address form a function without phis does what it did, where each instruction ties at most one use.
+/// In two-address form a function without phis does what it did.
 pub fn tied_law()
     ensures { LoweredTiedRefine }
+{}
+
+/// Behind it no instruction is left that is lowered away.
+pub fn away_law()
+    ensures { NoneLoweredAway }
 {}

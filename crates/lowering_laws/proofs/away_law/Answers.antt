@@ -1,0 +1,5 @@
+use Rattle.lowering_laws.proofs.Away.{none_lowered_away}
+use Rattle.lowering_laws.proofs.away_law.Goals as goal
+
+pub returns : goal.returns
+returns c = none_lowered_away
