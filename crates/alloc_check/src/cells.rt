@@ -6,7 +6,8 @@ ghost use Rattle.std.specs.List.{list_all, list_any};
 ghost use Rattle.alloc_check.specs.Marks.{spread, lane_slot, source_slot, is_marked, Marks, unwritten, stays};
 ghost use Rattle.alloc_check.specs.Cells.{IsMarked, belongs, same_fact, stays_both, Splits, CellTakes};
 
-use crate::facts::{Fact, Facts, same_lane, same_source};
+use crate::facts::{Fact, Facts, same_source};
+use machine_verify::same_lane;
 use meaning::{Lane, Source, Write};
 use std::alloc::{AllocError, Global};
 use target_base::{Copied, List};

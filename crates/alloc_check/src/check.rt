@@ -13,13 +13,13 @@ ghost use Rattle.alloc_check.specs.Verdict.{IfYes, IfNo, Judges, JudgesFacts, Ar
 ghost use Rattle.std.specs.List.{list_any};
 ghost use Rattle.mir_meaning.specs.Valid.{names_virtual};
 
-use crate::chosen::func_names_virtual;
 use crate::closed::{Family, needs_before};
 use crate::doubts::{counted_place, entry_place, first_unlike};
 use crate::family::{Shape, family_of, shape_of};
 use crate::rows::rows_of;
 use crate::settle::decide;
 use crate::start::all_start;
+use machine_verify::names_virtual;
 use meaning::Row;
 use mir_func::{Func, Place};
 use std::alloc::{AllocError, Global};
@@ -36,7 +36,7 @@ pub enum Verdict {
 }
 
 /// Whether the family shows that rows hold from the start of both functions. False says nothing.
-pub(crate) fn holds(
+fn holds(
     alloc: Global,
     t: &Target,
     f: &Func,
@@ -116,7 +116,7 @@ fn lacking_place(
 
 /// Whether the quick search finds a family with which rows hold from the start of both functions.
 /// False says nothing.
-fn finds(
+pub(crate) fn finds(
     alloc: Global,
     t: &Target,
     f: &Func,
@@ -210,7 +210,7 @@ pub fn agree(
     ensures unlike { list_any names_virtual allocated.now.blocks ≡ false → IfOk result (TellsUnlike target.now source.now allocated.now) }
     ensures facts { list_any names_virtual allocated.now.blocks ≡ false → IfOk result (λ v. block_doubt target.now source.now allocated.now ≡ None → partner_doubt target.now source.now allocated.now ≡ None → JudgesFacts target.now source.now allocated.now v) }
 {
-    if func_names_virtual(allocated) {
+    if names_virtual(allocated) {
         return Ok(Verdict::No(entry_place(source)));
     }
     compared(alloc, target, source, allocated)

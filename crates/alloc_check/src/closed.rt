@@ -240,15 +240,17 @@ fn before_reads(
     add_operands(alloc, needs, left.as_slice(), right.as_slice())
 }
 
-/// Takes needs to the place before a row. False where the row can't hold.
-pub fn before_row(
+/// Takes needs to the place before a row, of which a counted pair asks for what it reads only where
+/// `reads` says so. False where the row can't hold.
+pub fn before_asking(
     alloc: Global,
     family: &Family,
     row: &Row,
+    reads: bool,
     needs: &mut Needs,
 ) -> Result<bool, AllocError>
-    ensures enough { IfOk result (λ yes. IsTrue yes → Carry family.now row.now (asked needs.old) (asked needs.new)) }
-    ensures least { IfOk result (λ yes. Least (row_asks family.now row.now (asked needs.old)) yes (asked needs.new)) }
+    ensures enough { IfOk result (λ yes. IsTrue yes → Carry family.now (asking reads row.now) (asked needs.old) (asked needs.new)) }
+    ensures least { IfOk result (λ yes. Least (row_asks family.now (asking reads row.now) (asked needs.old)) yes (asked needs.new)) }
 {
     match row {
         Row::BothStart(n) => before_start(alloc, family, *n, needs),
@@ -266,39 +268,25 @@ pub fn before_row(
             if !before_writes(alloc, family, &leaving, needs)? {
                 return Ok(false);
             }
+            if !reads {
+                return Ok(true);
+            }
             before_reads(alloc, left, right, needs)
         }
     }
 }
 
-/// Takes needs to the place before a row, of which a counted pair asks for what it reads only where
-/// `reads` says so.
-pub fn before_asking(
+/// Takes needs to the place before a row. False where the row can't hold.
+pub fn before_row(
     alloc: Global,
     family: &Family,
     row: &Row,
-    reads: bool,
     needs: &mut Needs,
 ) -> Result<bool, AllocError>
-    ensures enough { IfOk result (λ yes. IsTrue yes → Carry family.now (asking reads row.now) (asked needs.old) (asked needs.new)) }
-    ensures least { IfOk result (λ yes. Least (row_asks family.now (asking reads row.now) (asked needs.old)) yes (asked needs.new)) }
+    ensures enough { IfOk result (λ yes. IsTrue yes → Carry family.now row.now (asked needs.old) (asked needs.new)) }
+    ensures least { IfOk result (λ yes. Least (row_asks family.now row.now (asked needs.old)) yes (asked needs.new)) }
 {
-    if reads {
-        return before_row(alloc, family, row, needs);
-    }
-    match row {
-        Row::BothCounted(_, _, _, first, second, target, exits) => {
-            let (first, second) = (first.as_slice(), second.as_slice());
-            let leaving = Leaving {
-                first,
-                second,
-                target,
-                exits,
-            };
-            before_writes(alloc, family, &leaving, needs)
-        }
-        _ => before_row(alloc, family, row, needs),
-    }
+    before_asking(alloc, family, row, true, needs)
 }
 
 /// What must be known before the rows, so that they hold with this family. None where they can't.

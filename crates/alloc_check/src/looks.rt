@@ -10,14 +10,13 @@ ghost use Rattle.alloc_check.specs.Verdict.{AreAlike, IsRight};
 ghost use Rattle.alloc_check.specs.Looks.{looking, looked_at, KeepsReserved};
 ghost use Rattle.alloc_check.specs.LookRows.{look_row, row_with_look, rows_with_looks};
 
-use crate::check::holds;
-use crate::chosen::func_names_virtual;
+use crate::check::finds;
 use crate::doubts::first_unlike;
-use crate::family::{family_of, shape_of};
+use crate::family::shape_of;
 use crate::fitting::fits;
 use crate::rows::{Rows, rows_of};
 use crate::written::written_units;
-use machine_verify::{VerifyStop, verify_allocated};
+use machine_verify::{VerifyStop, names_virtual, verify_allocated};
 use meaning::{Lane, Reads, Rest, Row, Source};
 use mir_func::{Func, Valid};
 use std::alloc::{AllocError, Global};
@@ -110,10 +109,7 @@ fn hold_with_looks(
     let rows = rows_with_looks(alloc, looked.as_slice(), rows)?;
     let rows = rows.as_slice();
     let shape = shape_of(alloc, rows)?;
-    match family_of(alloc, t, f, g, rows, &shape)? {
-        None => Ok(false),
-        Some(family) => holds(alloc, t, f, g, rows, &family),
-    }
+    finds(alloc, t, f, g, rows, &shape)
 }
 
 /// Whether the functions match, and a family of facts gives what is needed, and shows the same of
@@ -151,7 +147,7 @@ pub fn check_reserved(
     ensures right { IfOk result (λ yes. IsTrue yes → IsRight target.now source.now.func allocated.now) }
     ensures reserved { IfOk result (λ yes. IsTrue yes → KeepsReserved target.now source.now.func allocated.now) }
 {
-    if !fits(target, allocated) || func_names_virtual(allocated) {
+    if !fits(target, allocated) || names_virtual(allocated) {
         return Ok(false);
     }
     match verify_allocated(alloc, target, allocated) {

@@ -112,19 +112,7 @@ fn in_operand_classes(target: &Target, f: &Func, effect: Effect, bound: &[BoundO
 fn same_numbers(a: &[u32], b: &[u32]) -> bool
     ensures { result ≡ same_numbers a.now b.now }
 {
-    let mut rest = b;
-    for x in a {
-        match rest {
-            [] => return false,
-            [y, more @ ..] => {
-                if *x != *y {
-                    return false;
-                }
-                rest = more;
-            }
-        }
-    }
-    rest.is_empty()
+    a == b
 }
 
 /// The lane widths of an operand.

@@ -16,6 +16,9 @@ mod ties;
 mod verify;
 mod words;
 
+pub use blocks::has_successor;
+pub use liveins::names_virtual;
 pub use mir_func::{Place, Valid};
 pub use stop::{Invalid, VerifyStop};
+pub use ties::same_lane;
 pub use verify::{LiveSource, verify_allocated, verify_live, verify_source};

@@ -11,7 +11,7 @@ ghost use Rattle.mir_meaning.specs.Valid as valid;
 ghost use Rattle.machine_verify.specs.Liveins.{is_set, wanted, wanted_at, chosen_of, standing, register_numbers};
 
 use mir_func::operands::is_virtual;
-use mir_func::{Block, Instr, Operand};
+use mir_func::{Block, Func, Instr, Operand};
 use mir_meaning::Form;
 use std::alloc::{AllocError, Global};
 use target_base::{Boxed, Reg, Target, Unit};
@@ -290,11 +290,11 @@ fn instrs_name_virtual(instrs: &[Boxed<Instr>]) -> bool
     false
 }
 
-/// Whether some instruction names a virtual register.
-pub(crate) fn names_virtual(blocks: &[Block]) -> bool
-    ensures { result ≡ list_any valid.names_virtual blocks.now }
+/// Whether some instruction of the function names a virtual register.
+pub fn names_virtual(f: &Func) -> bool
+    ensures { result ≡ list_any valid.names_virtual f.now.blocks }
 {
-    for b in blocks {
+    for b in f.blocks.as_slice() {
         if instrs_name_virtual(b.instrs.as_slice()) {
             return true;
         }

@@ -107,7 +107,7 @@ fn v14(q: &Question, live: &LiveTable, first: &Block) -> bool
     let f = q.f;
     match q.form {
         Form::Source => !some_register_lives(q, live, first.number),
-        Form::Allocated => !names_virtual(f.blocks.as_slice()),
+        Form::Allocated => !names_virtual(f),
     }
 }
 

@@ -111,10 +111,7 @@ fn kind_of(e: Effect) -> Kind
 fn bits_of(widths: &[u32]) -> Result<u32, AllocError>
     ensures { IfOk result (λ w. (w ≡ sum widths.now) × (w ≤ 128)) }
 {
-    match total(widths) {
-        None => Err(AllocError),
-        Some(w) => Ok(w),
-    }
+    total(widths).ok_or(AllocError)
 }
 
 /// The bits of an operand, by its number; 0 where there is none.

@@ -49,35 +49,25 @@ pub struct Keys {
     pub registers: Ranges,
 }
 
-fn is_outside(key: Key) -> bool
-    ensures { result ≡ is_key key Key.Outside }
+/// Whether two keys are one.
+fn is_key(a: Key, b: Key) -> bool
+    ensures { result ≡ is_key a b }
 {
-    matches!(key, Key::Outside)
-}
-
-fn is_registers(key: Key) -> bool
-    ensures { result ≡ is_key key Key.Registers }
-{
-    matches!(key, Key::Registers)
-}
-
-fn is_liveins(key: Key) -> bool
-    ensures { result ≡ is_key key Key.Liveins }
-{
-    matches!(key, Key::Liveins)
-}
-
-fn is_stack(key: Key) -> bool
-    ensures { result ≡ is_key key Key.Stack }
-{
-    matches!(key, Key::Stack)
+    match a {
+        Key::Outside => matches!(b, Key::Outside),
+        Key::Registers => matches!(b, Key::Registers),
+        Key::Liveins => matches!(b, Key::Liveins),
+        Key::Stack => matches!(b, Key::Stack),
+        Key::Body => matches!(b, Key::Body),
+        Key::Other => matches!(b, Key::Other),
+    }
 }
 
 /// Whether a key is that of the body.
 pub fn is_body(key: Key) -> bool
     ensures { result ≡ is_key key Key.Body }
 {
-    matches!(key, Key::Body)
+    is_key(key, Key::Body)
 }
 
 fn find_colon(line: &[u8]) -> Option<usize>
@@ -325,7 +315,7 @@ impl Keys {
         ensures value { LeavesLine result self.now (continued self.now) }
         ensures adds { OnOk result (AddsToKeys 0 self.now self.now) }
     {
-        if is_outside(self.key) {
+        if is_key(self.key, Key::Outside) {
             Err(ReadStop::Fault(TextKind::Layout))
         } else {
             Ok(())
@@ -400,10 +390,10 @@ impl Keys {
         ensures value { LeavesLine result self.new (declared names.now self.old line.now) }
         ensures adds { OnOk result (AddsToKeys (length line.now) self.old self.new) }
     {
-        if is_registers(self.key) {
+        if is_key(self.key, Key::Registers) {
             return self.declare_class(alloc, names, line);
         }
-        if is_stack(self.key) {
+        if is_key(self.key, Key::Stack) {
             self.declare_frame(line)?;
         }
         Ok(())
@@ -415,7 +405,7 @@ impl Keys {
         ensures value { OnOk result (self.new ≡ kept self.old line.now) }
         ensures adds { OnOk result (AddsToKeys 0 self.old self.new) }
     {
-        if !(is_registers(self.key) || is_liveins(self.key)) {
+        if !(is_key(self.key, Key::Registers) || is_key(self.key, Key::Liveins)) {
             self.head.extend(line)?;
             self.head.extend(b"\n")?;
         }

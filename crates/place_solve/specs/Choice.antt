@@ -1,13 +1,12 @@
 -- The first choice of registers, one of each variable's list, that keeps apart what must be apart.
-use Rattle.std.specs.Prelude.{◌≡◌, ℕ, Bool, true, false, cond, not, ◌&&◌, List, [], ◌∷◌, ◌++◌, map, filter, length, drop, ◌+◌, ◌-◌, nat_lt, Option, Some, None, slice_get}
+use Rattle.std.specs.Prelude.{◌≡◌, ℕ, Bool, true, false, cond, not, ◌&&◌, List, [], ◌∷◌, ◌++◌, map, filter, length, drop, ◌+◌, ◌-◌, nat_lt, Option, Some, None}
 use Rattle.std.specs.List.{zip, list_all, list_any, All}
 use Rattle.target_base.specs.declared.types.Reg.{Reg}
 use Rattle.target_base.specs.declared.types.Target.{Target}
 use Rattle.target_base.specs.declared.types.Unit.{Unit as UnitNumber}
 use Rattle.target_base.specs.Registers.{units_of}
 use Rattle.target_base.specs.Rules.{regs_of_some}
-use Rattle.target_base.specs.declared.types.UnitDesc.{UnitDesc}
-use Rattle.target_base.specs.Storage.{is_among, unit_width}
+use Rattle.target_base.specs.Storage.{is_among}
 use Rattle.mir_meaning.specs.Places.{Using, Copying, Defining, Kind as Use, Variable as Need, variable, is_defining, reaches_back, must_be_apart, share_a_unit, all_apart, choices}
 use Rattle.live_lanes.specs.declared.table.Table.{Table}
 use Rattle.place_solve.specs.Around.{at_entry, at_exit}
@@ -101,7 +100,3 @@ options_in t x a v = filter (may_lie t x a (use_of v.kind)) (regs_of_some t.clas
 -- the first choice of these that keeps all apart
 abbrev pub first_apart : Target → Table → Around → List Variable → Option (List Reg)
 first_apart t x a vs = first (completions t vs [] (map (options_in t x a) vs))
-
--- the width of one of these units, by its place; 0 where there is none
-abbrev pub width_at : List UnitDesc → List UnitNumber → ℕ → ℕ
-width_at units us k = elim (slice_get us k) [ None ↦ 0 | Some u ↦ unit_width units u ]

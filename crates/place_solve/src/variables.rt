@@ -9,13 +9,14 @@ ghost use Rattle.mir_meaning.specs.Places as places;
 ghost use Rattle.place_solve.specs.Choice.{use_of, need_of};
 ghost use Rattle.place_solve.specs.Once as once;
 
-use crate::widths::{class_of_widths, operand_widths};
+use crate::widths::class_of_widths;
 use bound_operands::{BoundOperand, bind};
+use instr_effects::items::lanes::push_operand_widths;
 use mir_func::opcodes::{effect_of, is_copy, is_early, is_tied, roles_of, ties_to};
 use mir_func::operands::{is_virtual, same_index};
 use mir_func::{Func, Instr, Loc, Operand, RegOp};
 use std::alloc::{AllocError, Global};
-use target_base::{Boxed, ClassId, Effect, IndexId, Role, Target};
+use target_base::{Boxed, ClassId, Effect, IndexId, List, Role, Target};
 use two_address::classes::class_asked;
 
 /// How a variable is used at its place.
@@ -115,7 +116,8 @@ pub fn copy_variable(
 ) -> Result<Variable, AllocError>
     ensures { IfOk result (λ v. need_of v ≡ places.copy_variable target.now (operand_widths target.now f.now o)) }
 {
-    let widths = operand_widths(alloc, target, f, o)?;
+    let mut widths = List::new(alloc);
+    push_operand_widths(&mut widths, target, f, &o)?;
     Ok(Variable {
         kind: Kind::Copying,
         range: 0,

@@ -21,6 +21,11 @@ fn class_beside(view: View<'_>, op: &RegOp) -> ClassId {
     }
 }
 
+/// The class whose opcodes move the lanes of the range that an index picks.
+fn move_class(view: View<'_>, index: Option<IndexId>) -> ClassId {
+    view.target.move_at(view.class, index).unwrap_or(view.class)
+}
+
 /// The lanes that an operand names in the range, or that an index picks of its slot.
 fn have_same_lanes(view: View<'_>, a: Option<IndexId>, b: Option<IndexId>) -> bool {
     match (a, b) {
@@ -33,9 +38,8 @@ fn have_same_lanes(view: View<'_>, a: Option<IndexId>, b: Option<IndexId>) -> bo
 
 /// Whether an index picks all lanes of the range in order.
 fn picks_all(view: View<'_>, index: IndexId) -> bool {
-    let lanes = view.target.lanes_at(index);
-    lanes.len() == view.live.lane_count(view.v) as usize
-        && (0u8..u8::MAX).zip(lanes).all(|(k, lane)| k == *lane)
+    view.target.lanes_at(index).len() == view.live.lane_count(view.v) as usize
+        && is_first_lanes(view, index)
 }
 
 /// Changes the place of one instruction that isn't a terminator.
@@ -47,8 +51,7 @@ pub(crate) fn change_single(
 ) -> Result<(), AllocError> {
     match effect_of(view.target, instr) {
         Some(Effect::Copy) => change_copy(view, instr, remat, plan),
-        Some(Effect::Spill) => change_store(view, instr, plan),
-        Some(Effect::Reload) => change_reload(view, instr, plan),
+        Some(Effect::Spill) | Some(Effect::Reload) => change_slot_access(view, instr, plan),
         Some(Effect::ImplicitDef) => change_undefined(view, instr, plan),
         _ if remat.is_deleted(instr.id) => plan.erase(instr.id),
         _ => change_instr(view, instr, remat, plan),
@@ -92,10 +95,7 @@ fn change_own_copy(
     }
     let source = plan.own_part(from.index);
     let goal = plan.own_part(to.index);
-    let class = view
-        .target
-        .move_at(view.class, to.index)
-        .unwrap_or(view.class);
+    let class = move_class(view, to.index);
     through_tiny(view, instr, source, goal, class, plan)
 }
 
@@ -175,36 +175,20 @@ fn is_first_lanes(view: View<'_>, index: IndexId) -> bool {
     (0u8..u8::MAX).zip(lanes).all(|(k, lane)| k == *lane)
 }
 
-/// A store of the range.
-fn change_store(view: View<'_>, instr: &Instr, plan: &mut Plan) -> Result<(), AllocError> {
+/// A store or a reload of the range.
+fn change_slot_access(view: View<'_>, instr: &Instr, plan: &mut Plan) -> Result<(), AllocError> {
     let Some((register, there)) = slot_sides(instr) else {
         return Ok(());
     };
     if is_own_slot(view, plan, &register, there) {
         return plan.erase(instr.id);
     }
-    let class = view
-        .target
-        .move_at(view.class, register.index)
-        .unwrap_or(view.class);
+    let class = move_class(view, register.index);
     let own = plan.own_part(register.index);
-    through_tiny(view, instr, own, there, class, plan)
-}
-
-/// A reload of the range.
-fn change_reload(view: View<'_>, instr: &Instr, plan: &mut Plan) -> Result<(), AllocError> {
-    let Some((register, there)) = slot_sides(instr) else {
-        return Ok(());
-    };
-    if is_own_slot(view, plan, &register, there) {
-        return plan.erase(instr.id);
+    match effect_of(view.target, instr) {
+        Some(Effect::Spill) => through_tiny(view, instr, own, there, class, plan),
+        _ => through_tiny(view, instr, there, own, class, plan),
     }
-    let class = view
-        .target
-        .move_at(view.class, register.index)
-        .unwrap_or(view.class);
-    let own = plan.own_part(register.index);
-    through_tiny(view, instr, there, own, class, plan)
 }
 
 /// A definition without a value becomes a store of nothing, or goes.

@@ -1,6 +1,6 @@
 //! What a counted instruction writes.
 
-ghost use Rattle.std.specs.Prelude.{◌≡◌, ◌+◌, ◌<◌, ◌-◌, ◌++◌, [], length, map, filter, flat_map, OnOk, IfOk, None, Some, cond, not, false};
+ghost use Rattle.std.specs.Prelude.{◌≡◌, ◌+◌, ◌<◌, ◌-◌, ◌++◌, length, map, filter, flat_map, OnOk, IfOk, None, Some, not, false};
 ghost use Rattle.mir_func.specs.Binding.{roles_of, implicit_roles, definitions};
 ghost use Rattle.mir_meaning.specs.Registers.{numbers, operand_lanes, operand_widths, is_reserved};
 ghost use Rattle.mir_meaning.specs.Items.{is_flags, values, explicit_definitions, implicit_definitions, result_writes, results, unreserved, all_lanes, answered, preserves, clobbered, kept, implicit_writes, opaque_clobbers, computed, defined_lanes, counted_writes, lane_width, result_widths};
@@ -19,18 +19,29 @@ use mir_func::{Func, Instr, Operand, RegOp};
 use std::alloc::{AllocError, Global};
 use target_base::{Copied, Effect, List, Numbers, OpaqueKind, Role, Target};
 
-/// The register operands of an instruction that are definitions, explicit ones or implicit ones.
-fn definitions(
-    alloc: Global,
-    operands: &[Operand],
-    implicit: bool,
-) -> Result<List<RegOp>, AllocError>
-    ensures { IfOk result (λ made. made ≡ cond implicit (implicit_definitions operands.now) (explicit_definitions operands.now)) }
+/// The explicit definitions of an instruction.
+fn explicit_definitions(alloc: Global, operands: &[Operand]) -> Result<List<RegOp>, AllocError>
+    ensures { IfOk result (λ made. made ≡ explicit_definitions operands.now) }
 {
     let mut made = List::new(alloc);
     for o in operands {
         if let Operand::Reg(r) = o {
-            if r.def && r.implicit == implicit {
+            if r.def && !r.implicit {
+                made.push(*r)?;
+            }
+        }
+    }
+    Ok(made)
+}
+
+/// The implicit definitions of an instruction.
+fn implicit_definitions(alloc: Global, operands: &[Operand]) -> Result<List<RegOp>, AllocError>
+    ensures { IfOk result (λ made. made ≡ implicit_definitions operands.now) }
+{
+    let mut made = List::new(alloc);
+    for o in operands {
+        if let Operand::Reg(r) = o {
+            if r.implicit && r.def {
                 made.push(*r)?;
             }
         }
@@ -96,16 +107,17 @@ pub fn is_reserved(t: &Target, l: Lane) -> bool
     }
 }
 
-/// Appends the lanes that aren't reserved.
-fn push_unreserved(out: &mut Lanes, t: &Target, lanes: &[Lane]) -> Result<(), AllocError>
-    ensures { OnOk result (out.new ≡ out.old ++ unreserved t.now lanes.now) }
+/// Those of these lanes that aren't reserved.
+pub fn unreserved(alloc: Global, t: &Target, lanes: &[Lane]) -> Result<Lanes, AllocError>
+    ensures { IfOk result (λ made. made ≡ unreserved t.now lanes.now) }
 {
+    let mut made = List::new(alloc);
     for l in lanes {
         if !is_reserved(t, *l) {
-            out.push(*l)?;
+            made.push(*l)?;
         }
     }
-    Ok(())
+    Ok(made)
 }
 
 /// Appends the lanes of several register operands.
@@ -132,12 +144,10 @@ fn implicit_lanes(
 ) -> Result<Lanes, AllocError>
     ensures { IfOk result (λ made. made ≡ answered t.now f.now operands.now) }
 {
-    let definitions = definitions(alloc, operands, true)?;
+    let definitions = implicit_definitions(alloc, operands)?;
     let mut lanes = List::new(alloc);
     push_all_lanes(&mut lanes, t, f, definitions.as_slice())?;
-    let mut made = List::new(alloc);
-    push_unreserved(&mut made, t, lanes.as_slice())?;
-    Ok(made)
+    unreserved(alloc, t, lanes.as_slice())
 }
 
 /// The units outside the mask of a call.
@@ -158,9 +168,7 @@ fn clobbered(alloc: Global, t: &Target, operands: &[Operand]) -> Result<Lanes, A
     ensures { IfOk result (λ made. made ≡ clobbered t.now operands.now) }
 {
     let units = unpreserved(alloc, t, operands)?;
-    let mut made = List::new(alloc);
-    push_unreserved(&mut made, t, units.as_slice())?;
-    Ok(made)
+    unreserved(alloc, t, units.as_slice())
 }
 
 /// The flags that an instruction defines.
@@ -210,7 +218,7 @@ fn push_compared(
 ) -> Result<(), AllocError>
     ensures { OnOk result (out.new ≡ out.old ++ implicit_writes t.now f.now effects.Cmp (implicit_roles roles.now) operands.now) }
 {
-    let definitions = definitions(alloc, operands, true)?;
+    let definitions = implicit_definitions(alloc, operands)?;
     let flags = flag_lanes(alloc, t, f, roles, definitions.as_slice())?;
     let mut all = List::new(alloc);
     push_all_lanes(&mut all, t, f, definitions.as_slice())?;
@@ -278,7 +286,7 @@ fn push_opaque_answer(
 ) -> Result<(), AllocError>
     ensures { OnOk result (out.new ≡ out.old ++ computed false first (all_lanes t.now f.now (implicit_definitions operands.now))) }
 {
-    let definitions = definitions(alloc, operands, true)?;
+    let definitions = implicit_definitions(alloc, operands)?;
     let mut lanes = List::new(alloc);
     push_all_lanes(&mut lanes, t, f, definitions.as_slice())?;
     push_computed(out, false, first, lanes.as_slice())?;
@@ -350,23 +358,33 @@ fn push_all_widths(
     Ok(())
 }
 
-/// The lane widths of definitions: of explicit ones, then, where `all`, of implicit ones.
+/// The lane widths of explicit definitions.
+fn explicit_widths(
+    alloc: Global,
+    t: &Target,
+    f: &Func,
+    operands: &[Operand],
+) -> Result<Numbers, AllocError>
+    ensures { IfOk result (λ made. made ≡ flat_map (operand_widths t.now f.now) (explicit_definitions operands.now)) }
+{
+    let mut made = List::new(alloc);
+    let explicit = explicit_definitions(alloc, operands)?;
+    push_all_widths(&mut made, t, f, explicit.as_slice())?;
+    Ok(made)
+}
+
+/// The lane widths of definitions: of explicit ones, then of implicit ones.
 fn definition_widths(
     alloc: Global,
     t: &Target,
     f: &Func,
-    all: bool,
     operands: &[Operand],
 ) -> Result<Numbers, AllocError>
-    ensures { IfOk result (λ made. made ≡ flat_map (operand_widths t.now f.now) (explicit_definitions operands.now ++ cond all (implicit_definitions operands.now) [])) }
+    ensures { IfOk result (λ made. made ≡ flat_map (operand_widths t.now f.now) (explicit_definitions operands.now ++ implicit_definitions operands.now)) }
 {
-    let mut made = List::new(alloc);
-    let explicit = definitions(alloc, operands, false)?;
-    push_all_widths(&mut made, t, f, explicit.as_slice())?;
-    if all {
-        let implicit = definitions(alloc, operands, true)?;
-        push_all_widths(&mut made, t, f, implicit.as_slice())?;
-    }
+    let mut made = explicit_widths(alloc, t, f, operands)?;
+    let implicit = implicit_definitions(alloc, operands)?;
+    push_all_widths(&mut made, t, f, implicit.as_slice())?;
     Ok(made)
 }
 
@@ -385,7 +403,7 @@ pub(crate) fn result_widths(
             let lanes = implicit_lanes(alloc, t, f, operands)?;
             lane_widths(alloc, t, lanes.as_slice())
         }
-        Effect::Opaque(_) => definition_widths(alloc, t, f, true, operands),
-        _ => definition_widths(alloc, t, f, false, operands),
+        Effect::Opaque(_) => definition_widths(alloc, t, f, operands),
+        _ => explicit_widths(alloc, t, f, operands),
     }
 }

@@ -8,7 +8,7 @@ ghost use Rattle.mir_func.specs.Binding.{is_early_clobber, roles_of};
 ghost use Rattle.mir_meaning.specs.Registers.{numbers, operand_lanes, use_sources, operand_widths, slot_lane_numbers, slot_lanes, has_number};
 ghost use Rattle.mir_meaning.specs.Items.{moved, undefined, copied, defined_undef, parts, sequenced, inserted, constant_bits, constant_lanes, constant_of, given_constant, widths_once, at_all_widths, spilled, reloaded, silent_writes};
 
-use crate::items::counted::{low_bits, residue};
+use crate::items::counted::{low_bits, residue, total};
 use crate::items::lanes::{
     Lanes, Sources, push_located_lanes, push_operand_lanes, push_operand_widths,
     push_undefined_lanes, use_sources,
@@ -201,20 +201,6 @@ fn constant_bits(alloc: Global, c: &Constant, widths: &[u32]) -> Result<Sources,
     Ok(made)
 }
 
-/// The sum of widths of at most 128 bits.
-fn bits_in(widths: &[u32]) -> Result<u32, AllocError>
-    ensures { IfOk result (λ n. (n ≡ sum widths.now) × (n ≤ 128)) }
-{
-    let mut total: u32 = 0;
-    for w in widths {
-        if *w > 128 - total {
-            return Err(AllocError);
-        }
-        total += *w;
-    }
-    Ok(total)
-}
-
 /// An operand that is a constant; an immediate counts modulo 2^w.
 fn constant_of(alloc: Global, w: u32, o: &Operand) -> Result<Option<Constant>, AllocError>
     requires { w ≤ 128 }
@@ -241,8 +227,8 @@ fn constant_lanes(
 {
     let mut widths = List::new(alloc);
     push_operand_widths(&mut widths, t, f, d)?;
-    let total = bits_in(widths.as_slice())?;
-    match constant_of(alloc, total, o)? {
+    let bits = total(widths.as_slice()).ok_or(AllocError)?;
+    match constant_of(alloc, bits, o)? {
         None => Ok(List::new(alloc)),
         Some(c) => constant_bits(alloc, &c, widths.as_slice()),
     }
