@@ -55,9 +55,9 @@ pub(crate) struct Run {
 /// Runs the allocator over a function from its first state to the one in which no range waits.
 /// Each watcher is told every step, in order, from the beginning of the run over the function of
 /// this number. Ranges comes where a step gives more range numbers than the limit allows. After a
-/// refusal each watcher was told a first part of the steps. Each range is spilled at most once, and
-/// tinies are placed at most as often as there are tinies: Unfinished would come before a step that
-/// breaks this.
+/// refusal each watcher was told a first part of the steps. Behind the beginning no run begins, each
+/// range is spilled at most once, and tinies are placed at most as often as there are tinies:
+/// Unfinished would come before a step that breaks this.
 pub fn allocate<W: Watcher>(
     alloc: Global,
     target: &Target,
@@ -67,8 +67,7 @@ pub fn allocate<W: Watcher>(
     number: u32,
     watchers: &mut Vec<W>,
 ) -> Result<Allocated, RunStop>
-    ensures told { OnOk result ((steps : List Step) × AllTold (W.next target.now) (Step.Begin number ∷ steps) watchers.old.items watchers.new.items) }
-    ensures bounds { OnOk result ((steps : List Step) × AllTold (W.next target.now) (Step.Begin number ∷ steps) watchers.old.items watchers.new.items × AreBounded steps) }
+    ensures told { OnOk result ((steps : List Step) × AllTold (W.next target.now) (Step.Begin number ∷ steps) watchers.old.items watchers.new.items × AreBounded steps) }
     ensures part { OnErr result ((steps : List Step) × PartTold (W.next target.now) steps watchers.old.items watchers.new.items) }
 {
     let mut run = Run::new(alloc, policy, f, freqs)?;

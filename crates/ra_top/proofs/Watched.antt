@@ -1,12 +1,15 @@
 -- What watchers were told, and what `trace` wrote, by the time that a run ends with a status.
 use Rattle.std.proofs.Common.{◌≡◌, ℕ, ◌+◌, ◌<◌, ◌≤◌, true, List, [], ◌∷◌, ◌++◌, length, Option, Some, None, refl, sym, ◌∙◌, ap, subst, inl, inr, arith, append-nil}
 use Rattle.std.specs.Prelude.{IfSome, codes}
+use Rattle.std.specs.List.{All}
 use Rattle.std.proofs.lemmas.List.{length_push}
+use Rattle.std.proofs.lemmas.List.Elements.{All-nil, All-push}
 use Rattle.target_base.specs.declared.types.Target.{Target}
 use Rattle.mir_func.specs.Value.{Function}
 use Rattle.watchers.specs.declared.steps.Step.{Step as RunStep}
 use Rattle.watchers.specs.Told.{AllTold}
 use Rattle.watchers.proofs.Runs.{none_told}
+use Rattle.greedy_core.specs.Bounds.{AreBounded}
 use Rattle.mir_text.specs.declared.doc.Doc.{Doc}
 use Rattle.mir_text.specs.declared.doc.Doc.TheVariants as docs
 use Rattle.ra_top.specs.Devices.Device.{WritesPart, WritesAll}
@@ -68,7 +71,7 @@ module _ {W : Type 0} (next : W → RunStep → W) where
 
   -- the file was begun, which leaves what it holds
   pub as_begun : (t : Target) (file left : Option (List ℕ)) (s : Status) (old new : List W) → IfSome file (λ bytes. left ≡ Some bytes) → ToldAs next t left old new s → ToldAs next t file old new s
-  as_begun t None left status.Done old new is told = record { functions = told.functions; read = tt; runs = told.runs; each = told.each; told = told.told }
+  as_begun t None left status.Done old new is told = record { functions = told.functions; read = tt; runs = told.runs; each = told.each; bounded = told.bounded; told = told.told }
   as_begun t (Some bytes) left status.Done old new is told = subst (λ o. ToldAs next t o old new status.Done) is told
   as_begun t file left s old new is told = told
 
@@ -98,6 +101,7 @@ module _ {W : Type 0} (next : W → RunStep → W) where
     pub read : IsReadSoFar (λ f. Unit {0}) t file spot chunk left functions
     pub runs : List (List RunStep)
     pub each : length runs ≡ length functions
+    pub bounded : All AreBounded runs
     pub told : AllTold next (steps_of 0 runs) old new
     pub number : n ≡ length runs
     pub few : n ≤ spot.offset
@@ -109,6 +113,7 @@ module _ {W : Type 0} (next : W → RunStep → W) where
     read = begun (λ f. Unit {0}) t file spot chunk file [] (is_left file) is empty refl;
     runs = [];
     each = refl;
+    bounded = All-nil AreBounded;
     told = none_told next old;
     number = refl;
     few = omega arith;
@@ -120,6 +125,7 @@ module _ {W : Type 0} (next : W → RunStep → W) where
     read = goes_on (λ f. Unit {0}) t file spot behind chunk now_chunk left now_left a.functions a.functions d a.read b meets (sym (append-nil a.functions) ∙ ap (λ fs. a.functions ++ fs) (sym none));
     runs = a.runs;
     each = a.each;
+    bounded = a.bounded;
     told = subst (λ ws. AllTold next (steps_of 0 a.runs) old ws) (sym same) a.told;
     number = is ∙ a.number;
     few = omega (arith, is, on, a.few);
@@ -129,13 +135,14 @@ module _ {W : Type 0} (next : W → RunStep → W) where
   pub told_more : (t : Target) (file : Option (List ℕ)) (spot behind : Spot) (chunk now_chunk : List ℕ) (left now_left : Option (List ℕ)) (n m : ℕ) (old now new : List W) (d : Doc) → spot.offset < behind.offset → spot.offset ≤ file_most → ToldSoFar t file spot chunk left n old now → IfSome left (λ l. Behind t spot behind (chunk ++ l) now_left now_chunk d) → ToldDoc next d n m now new → ToldSoFar t file behind now_chunk now_left m old new
   told_more t file spot behind chunk now_chunk left now_left n m old now new (docs.Ir lines) on within a b told = lines_more t file spot behind chunk now_chunk left now_left n m old now new (docs.Ir lines) on refl tt a b told.0 told.1
   told_more t file spot behind chunk now_chunk left now_left n m old now new (docs.Rest lines) on within a b told = lines_more t file spot behind chunk now_chunk left now_left n m old now new (docs.Rest lines) on refl tt a b told.0 told.1
-  told_more t file spot behind chunk now_chunk left now_left n m old now new (docs.Function before f) on within a b ((run, all), is) =
+  told_more t file spot behind chunk now_chunk left now_left n m old now new (docs.Function before f) on within a b ((run, all, bounds), is) =
       let next_is : m ≡ n + 1 = omega (arith, is, within, a.few) in
       record {
         functions = a.functions ++ f ∷ [];
         read = goes_on (λ f. Unit {0}) t file spot behind chunk now_chunk left now_left a.functions (a.functions ++ f ∷ []) (docs.Function before f) a.read b tt refl;
         runs = a.runs ++ run ∷ [];
         each = length_push a.runs run ∙ ap (λ k. k + 1) a.each ∙ sym (length_push a.functions f);
+        bounded = All-push AreBounded a.runs run a.bounded bounds;
         told = run_more next n a.runs run old now new a.number a.told all;
         number = next_is ∙ ap (λ k. k + 1) a.number ∙ sym (length_push a.runs run);
         few = omega (arith, next_is, on, a.few);
@@ -148,6 +155,7 @@ module _ {W : Type 0} (next : W → RunStep → W) where
     read = over (λ f. Unit {0}) t file spot chunk left a.functions a.read e.0;
     runs = a.runs;
     each = a.each;
+    bounded = a.bounded;
     told = subst (λ ws. AllTold next (steps_of 0 a.runs) old ws) (sym e.1) a.told;
   }
   told_end t file spot chunk left n old now new s a e = (steps_of 0 a.runs ++ e.0, part_joined next old now new (steps_of 0 a.runs) e.0 a.told e.1)

@@ -9,6 +9,7 @@ ghost use Rattle.ra_top.specs.Reading.{HasCauseOf, plain, AddsSource, AddsLine, 
 ghost use Rattle.ra_top.specs.Told.{HasStatusCause};
 
 use crate::commands::pairs::{put_left, put_pair};
+use crate::commands::refusal::refusal_of;
 use crate::commands::verify::source_of;
 use crate::commands::{Refusal, Status};
 use crate::devices::{Files, Sink};
@@ -18,7 +19,7 @@ use crate::reading::{begin, next_document};
 use crate::stream::ends;
 use mir_func::Valid;
 use mir_text::{Doc, Reader};
-use pipeline::guarded::passed_limit;
+use pipeline::guarded::within_limits;
 use std::alloc::{AllocError, Global};
 use target_base::{Bytes, Target};
 
@@ -76,6 +77,7 @@ fn sources_of<F: Files>(
 
 /// Adds the line of the function of a document of the second file, if it has one. Answers the
 /// functions of the source file that have no partner yet. Refused is a function that passes a limit.
+#[tactic(auto, using(crate::proofs::CommandLemmas::Causes::limit_refused))]
 fn add_line<'a>(
     alloc: Global,
     reader: &Reader,
@@ -88,9 +90,9 @@ fn add_line<'a>(
     ensures err { IfErr result (IfBy (RefusesFunction LimitRefuses doc)) }
 {
     match doc {
-        Doc::Function(_, g) => match passed_limit(&g) {
-            Some(limit) => Err(Refusal::By(Status::Limit(limit), Bytes::new(alloc))),
-            None => Ok(put_pair(alloc, reader.target(), left, &g, lines)?),
+        Doc::Function(_, g) => match within_limits(&g) {
+            Ok(()) => Ok(put_pair(alloc, reader.target(), left, &g, lines)?),
+            Err(stop) => Err(refusal_of(alloc, stop)),
         },
         Doc::Ir(_) => Ok(left),
         Doc::Rest(_) => Ok(left),

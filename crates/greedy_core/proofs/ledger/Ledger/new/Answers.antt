@@ -7,4 +7,4 @@ use Rattle.std.specs.BTreeMap.{is_at}
 use Rattle.greedy_core.proofs.ledger.Ledger.new.Goals as goal
 
 pub returns : goal.returns
-returns c = record { spilled = λ v. ap (list_any (is_at (nat_cmp v))) c.new.ensures.empty; once = IsDistinct-from_count nat_eq_equiv [] refl; spare = omega arith }
+returns c = record { behind = refl; spilled = λ v. ap (list_any (is_at (nat_cmp v))) c.new.ensures.empty; once = IsDistinct-from_count nat_eq_equiv [] refl; spare = omega arith }

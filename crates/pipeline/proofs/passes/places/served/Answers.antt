@@ -3,7 +3,7 @@ use Rattle.mir_meaning.specs.declared.Form.TheVariants as forms
 use Rattle.mir_meaning.specs.Valid.{IsValid}
 use Rattle.live_laws.specs.Effects.Shaped.{AreClasses}
 use Rattle.place_solve.specs.Own.{HasFew, IfUnassignable, IfVariables}
-use Rattle.pipeline.proofs.PassLemmas.Stops.{moved}
+use Rattle.pipeline.proofs.PassLemmas.Like.{moved}
 use Rattle.pipeline.proofs.passes.places.served.Goals as goal
 
 pub returns-in-Ok-clause-few_at_ok : goal.returns-in-Ok-clause-few_at_ok
