@@ -4,7 +4,7 @@ use Rattle.std.proofs.lemmas.List.{at_drop_more, at_drop_all}
 use Rattle.target_base.specs.declared.types.Target.{Target}
 use Rattle.meaning.specs.declared.types.Row.{Row}
 use Rattle.meaning.specs.declared.types.Row.TheVariants.{BothStart, BothEnd, FirstSilent, SecondSilent, BothCounted}
-use Rattle.meaning.specs.declared.types.Ways.{Ways}
+use Rattle.meaning.specs.declared.types.EdgePair.{EdgePair}
 use Rattle.meaning.specs.Facts.{Knowledge, known_both, known_at_start}
 use Rattle.meaning.specs.Agree.{Family, rows_hold, target_holds, ways_hold}
 use Rattle.mir_func.specs.Value.{Function}
@@ -69,11 +69,11 @@ asking-inside false (SecondSilent reads ws) e = refl
 asking-inside false (BothCounted r reads reads' ws ws' target exits) e = refl
 
 -- rows of which none asks hold with no facts
-no-ways : (k : Knowledge) (es : List Ways) → ways_hold [] k es ≡ true
+no-ways : (k : Knowledge) (es : List EdgePair) → ways_hold [] k es ≡ true
 no-ways k [] = refl
 no-ways k (e ∷ es) = no-ways k es
 
-no-target : (k : Knowledge) (o : Option Ways) → target_holds [] k o ≡ true
+no-target : (k : Knowledge) (o : Option EdgePair) → target_holds [] k o ≡ true
 no-target k None = refl
 no-target k (Some e) = refl
 

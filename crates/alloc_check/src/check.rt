@@ -152,7 +152,7 @@ fn have_family(
 
 /// Yes just where some family gives the rows what they need, and else the first instruction that lacks
 /// a fact.
-fn judged(
+fn judge_rows(
     alloc: Global,
     t: &Target,
     f: &Func,
@@ -172,7 +172,7 @@ fn judged(
 }
 
 /// Whether the functions match, and a family of facts gives what is needed.
-fn compared(
+fn compare_functions(
     alloc: Global,
     target: &Target,
     source: &Func,
@@ -189,7 +189,7 @@ fn compared(
     }
     match rows_of(alloc, target, source, allocated)? {
         None => Ok(Verdict::No(counted_place(alloc, target, source, 0)?)),
-        Some(rows) => judged(alloc, target, source, allocated, rows.as_slice()),
+        Some(rows) => judge_rows(alloc, target, source, allocated, rows.as_slice()),
     }
 }
 
@@ -213,5 +213,5 @@ pub fn agree(
     if names_virtual(allocated) {
         return Ok(Verdict::No(entry_place(source)));
     }
-    compared(alloc, target, source, allocated)
+    compare_functions(alloc, target, source, allocated)
 }

@@ -189,7 +189,7 @@ fn next_counted<'a>(
 
 /// The first counted instruction whose partner among the others is missing or differs; or
 /// instruction 0, where more of the others count.
-fn unpaired(
+fn first_unpaired(
     alloc: Global,
     t: &Target,
     f: &Func,
@@ -242,7 +242,7 @@ fn unpaired_place(
     requires { length b.now.instrs < 2 ^ 32 }
     ensures { IfOk result (λ p. p ≡ option_map (place b.now.number) (unpaired t.now f.now g.now 0 b.now.instrs (filter (is_counted t.now) c.now.instrs))) }
 {
-    match unpaired(alloc, t, f, g, b.instrs.as_slice(), c.instrs.as_slice())? {
+    match first_unpaired(alloc, t, f, g, b.instrs.as_slice(), c.instrs.as_slice())? {
         Some(at) => Ok(Some(place(b, at))),
         None => Ok(None),
     }

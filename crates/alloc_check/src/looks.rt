@@ -23,7 +23,7 @@ use std::alloc::{AllocError, Global};
 use target_base::{Effect, List, OpaqueKind, Target, Unit};
 
 /// An opaque instruction that has no name, writes nothing and goes on.
-fn looking(alloc: Global) -> Rest
+fn look_rest(alloc: Global) -> Rest
     ensures { result ≡ looking }
 {
     Rest {
@@ -56,7 +56,7 @@ fn look_row(alloc: Global, units: &[Unit]) -> Result<Row, AllocError>
     let first = looked_at(alloc, units)?;
     let second = looked_at(alloc, units)?;
     Ok(Row::BothCounted(
-        looking(alloc),
+        look_rest(alloc),
         first,
         second,
         List::new(alloc),
@@ -114,7 +114,7 @@ fn hold_with_looks(
 
 /// Whether the functions match, and a family of facts gives what is needed, and shows the same of
 /// reserved units.
-fn compared(
+fn compare_with_looks(
     alloc: Global,
     target: &Target,
     source: &Func,
@@ -151,7 +151,7 @@ pub fn check_reserved(
         return Ok(false);
     }
     match verify_allocated(alloc, target, allocated) {
-        Ok(()) => compared(alloc, target, &source.func, allocated),
+        Ok(()) => compare_with_looks(alloc, target, &source.func, allocated),
         Err(VerifyStop::Invalid(_)) => Ok(false),
         Err(VerifyStop::Memory(e)) => Err(e),
     }

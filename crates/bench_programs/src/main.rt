@@ -24,7 +24,7 @@ mod regions;
 
 use crate::cuts::{MOST_ARCS, MOST_NODES, cost_of_cut};
 use crate::documents::{LONGEST, function_of, source_of, target_of};
-use crate::regions::{Prepared, answer_range, prepared_of};
+use crate::regions::{AllocatorInput, answer_range, prepared_of};
 use alloc_check::{Verdict, check_pair, check_reserved};
 use anyhow::{Context, Result, bail};
 use mir_func::Func;

@@ -22,7 +22,7 @@ use live_lanes::{LiveFunc, Mark, Spot};
 use mir_func::operands::class_of;
 use mir_func::{Func, Gap, Valid};
 use phi_elim::lower_phis;
-use split_choose::{Placing, Region, Row, cut_region, region_net};
+use split_choose::{BlockNodes, Region, RegionNet, cut_region, region_net};
 use std::alloc::{AllocError, Global};
 use std::rt::HostRuntime;
 use target_base::{Reg, Target};
@@ -30,23 +30,23 @@ use two_address::lower_tied;
 
 /// A function as the allocator takes it: lowered, with its copies joined. No range is assigned yet.
 #[derive(Drop)]
-pub struct Prepared {
+pub struct AllocatorInput {
     matrix: Matrix,
     freqs: Freqs,
 }
 
 /// A valid source, made ready as before a run of the allocator.
-fn prepare(alloc: Global, target: &Target, source: Valid) -> Result<Prepared, AllocError> {
+fn prepare(alloc: Global, target: &Target, source: Valid) -> Result<AllocatorInput, AllocError> {
     let f = lower_tied(alloc, target, lower_phis(alloc, target, source)?)?;
     let freqs = frequencies(alloc, &f)?;
     let live = LiveFunc::compute(alloc, target, f)?;
     let (live, _) = coalesce(alloc, target, live, &freqs)?;
     let matrix = Matrix::new(alloc, live)?;
-    Ok(Prepared { matrix, freqs })
+    Ok(AllocatorInput { matrix, freqs })
 }
 
 /// The function of a document, made ready.
-pub fn prepared_of(rt: &HostRuntime, target: &Target, path: &str) -> Result<Prepared> {
+pub fn prepared_of(rt: &HostRuntime, target: &Target, path: &str) -> Result<AllocatorInput> {
     let Some(f) = function_of(rt, target, path)? else {
         bail!("no function");
     };
@@ -78,7 +78,7 @@ fn range_of(f: &Func, word: &str) -> Result<u32> {
 }
 
 /// Assigns a range to the register of a name.
-fn hold(prepared: &mut Prepared, range: &str, name: &str) -> Result<()> {
+fn hold(prepared: &mut AllocatorInput, range: &str, name: &str) -> Result<()> {
     let live = prepared.matrix.live();
     let v = range_of(live.func(), range)?;
     let Some(register) = register_of(live.target(), name) else {
@@ -90,7 +90,7 @@ fn hold(prepared: &mut Prepared, range: &str, name: &str) -> Result<()> {
 
 /// Does what a word says: `V=R` assigns the range V to the register R, and `V` prints the region of
 /// the range V.
-pub fn answer_range(rt: &HostRuntime, prepared: &mut Prepared, word: &str) -> Result<()> {
+pub fn answer_range(rt: &HostRuntime, prepared: &mut AllocatorInput, word: &str) -> Result<()> {
     match word.split_once('=') {
         Some((range, name)) => hold(prepared, range, name),
         None => tell_region(rt, prepared, word),
@@ -98,7 +98,7 @@ pub fn answer_range(rt: &HostRuntime, prepared: &mut Prepared, word: &str) -> Re
 }
 
 /// Prints the region of a range.
-fn tell_region(rt: &HostRuntime, prepared: &Prepared, word: &str) -> Result<()> {
+fn tell_region(rt: &HostRuntime, prepared: &AllocatorInput, word: &str) -> Result<()> {
     let m = &prepared.matrix;
     let v = range_of(m.live().func(), word)?;
     let Some(region) = cut_region(rt.alloc(), m, v, &prepared.freqs)? else {
@@ -134,7 +134,7 @@ fn number_of(f: &Func, position: u32) -> u32 {
 }
 
 /// Prints what the blocks have.
-fn tell_blocks(rt: &HostRuntime, f: &Func, net: &Placing) -> Result<()> {
+fn tell_blocks(rt: &HostRuntime, f: &Func, net: &RegionNet) -> Result<()> {
     for row in net.rows.as_slice() {
         let number = number_of(f, row.position);
         let frequency = row.frequency;
@@ -160,7 +160,7 @@ fn tell_part(
 }
 
 /// Prints the borders of the blocks that belong to a node, and the inside that it is.
-fn tell_parts(rt: &HostRuntime, f: &Func, rows: &[Row], node: u32) -> Result<()> {
+fn tell_parts(rt: &HostRuntime, f: &Func, rows: &[BlockNodes], node: u32) -> Result<()> {
     for row in rows {
         let number = number_of(f, row.position);
         tell_part(rt, node, row.entry, number, "start")?;
@@ -180,7 +180,7 @@ fn role_of(node: u32) -> &'static str {
 }
 
 /// Prints the nodes, and on which side of the cut they are.
-fn tell_nodes(rt: &HostRuntime, f: &Func, net: &Placing, inside: &[bool]) -> Result<()> {
+fn tell_nodes(rt: &HostRuntime, f: &Func, net: &RegionNet, inside: &[bool]) -> Result<()> {
     for node in 0..net.net.nodes {
         let side = match inside.get(node as usize) {
             Some(true) => "in",
@@ -195,7 +195,7 @@ fn tell_nodes(rt: &HostRuntime, f: &Func, net: &Placing, inside: &[bool]) -> Res
 }
 
 /// Prints the arcs, with what flows through them.
-fn tell_arcs(rt: &HostRuntime, net: &Placing, flow: &[u128]) -> Result<()> {
+fn tell_arcs(rt: &HostRuntime, net: &RegionNet, flow: &[u128]) -> Result<()> {
     for (arc, flows) in net.net.arcs.as_slice().iter().zip(flow) {
         let from = arc.from;
         let to = arc.to;

@@ -12,19 +12,19 @@ use watchers::{Step, Steps};
 
 /// What is kept of the steps that were done.
 #[derive(Drop)]
-pub(crate) struct Ledger {
+pub(crate) struct StepBudget {
     /// The ranges that were spilled.
     spilled: BTreeSet<u32>,
     /// The tinies that were made, less the steps that placed some.
     spare: u64,
 }
 
-impl Ledger {
+impl StepBudget {
     /// No step was done.
-    pub fn new(alloc: Global) -> Ledger
+    pub fn new(alloc: Global) -> StepBudget
         ensures { Records result [] }
     {
-        Ledger {
+        StepBudget {
             spilled: BTreeSet::new(alloc),
             spare: 0,
         }

@@ -22,9 +22,9 @@ use Rattle.phi_elim.specs.Phis.{located_class}
 use Rattle.two_address.specs.Lowered.{blocks_lowered, classes_made, form_lowered, form_of, instr_lowered, instrs_lowered, next_range, ties_lowered}
 use Rattle.two_address.specs.Sequences.{at_last, beginning, built, fill_all, into_part, is_input, keeping_text, parts_of}
 use Rattle.two_address.specs.Ties.{copies, ties_in, undefined_first, undefined_whole, with_operands}
-use Rattle.two_address.specs.declared.forms.Form.{Form}
-use Rattle.two_address.specs.declared.forms.Form.TheVariants as forms
-use Rattle.two_address.specs.declared.sequences.Part.{Part}
+use Rattle.two_address.specs.declared.forms.InstrLowering.{InstrLowering}
+use Rattle.two_address.specs.declared.forms.InstrLowering.TheVariants as forms
+use Rattle.two_address.specs.declared.sequences.SubregInput.{SubregInput}
 use Rattle.two_address.specs.declared.ties.Move.{Move}
 use Rattle.two_address.specs.declared.ties.Tie.{Tie}
 use Rattle.lowering_laws.proofs.Placed.{copy-effect, undef-effect}
@@ -92,18 +92,18 @@ module _ (t : Target) where
       go true = undef-plain (undefining to) refl
       go false = copied-plain (copy_of to (source_of from)) refl
 
-  parts-none : (to : ℕ) (ps : List Part) → AllKept t (map (into_part to) ps)
+  parts-none : (to : ℕ) (ps : List SubregInput) → AllKept t (map (into_part to) ps)
   parts-none to [] = tt
   parts-none to (p ∷ ps) = (move-plain (record (whole_definition to) { index = Some p.index }) p.input, parts-none to ps)
 
-  last-none : (c v : ℕ) (ps : List Part) → AllKept t (at_last c v ps)
+  last-none : (c v : ℕ) (ps : List SubregInput) → AllKept t (at_last c v ps)
   last-none c v ps = go (is_input (Virtual v) ps)
     where
       go : (y : Bool) → AllKept t (cond y (copy_of (whole_definition v) (whole_use c) ∷ []) [])
       go true = (copied-plain (copy_of (whole_definition v) (whole_use c)) refl, tt)
       go false = tt
 
-  begun-none : (k : Option ClassId) (to : ℕ) (ps : List Part) → AllKept t (beginning t k to ps)
+  begun-none : (k : Option ClassId) (to : ℕ) (ps : List SubregInput) → AllKept t (beginning t k to ps)
   begun-none k to ps = go (fill_all t k ps)
     where
       go : (y : Bool) → AllKept t (cond y [] (undefining (whole_definition to) ∷ []))
@@ -125,12 +125,12 @@ module _ (t : Target) where
         let to = built c v ps in
         kept-none i (beginning t (located_class cs (Virtual v)) to ps ++ (map (into_part to) ps ++ at_last c v ps)) (kept-append t (beginning t (located_class cs (Virtual v)) to ps) (map (into_part to) ps ++ at_last c v ps) (begun-none (located_class cs (Virtual v)) to ps) (kept-append t (map (into_part to) ps) (at_last c v ps) (parts-none to ps) (last-none c v ps)))
 
-    insertion-none : (c : ℕ) (i : Instr) (v : ℕ) (a : RegOp) (p : Part) → AllKept t (form_lowered t cs c i (forms.Insertion v a p))
+    insertion-none : (c : ℕ) (i : Instr) (v : ℕ) (a : RegOp) (p : SubregInput) → AllKept t (form_lowered t cs c i (forms.Insertion v a p))
     insertion-none c i v a p =
         let to = built c v (p ∷ []) in
         kept-none i (move_of (whole_definition to) a ∷ into_part to p ∷ at_last c v (p ∷ [])) (move-plain (whole_definition to) a, (move-plain (record (whole_definition to) { index = Some p.index }) p.input, last-none c v (p ∷ [])))
 
-    form-none : (c : ℕ) (i : Instr) → does is_lowered_away t i ≡ false → (form : Form) → AllKept t (form_lowered t cs c i form)
+    form-none : (c : ℕ) (i : Instr) → does is_lowered_away t i ≡ false → (form : InstrLowering) → AllKept t (form_lowered t cs c i form)
     form-none c i e (forms.Copy d s) = (go s.undef, tt)
       where
         go : (y : Bool) → does is_lowered_away t (cond y (record i { op = ops.Known implicit_def_op; operands = operands.Reg (destination_of d) ∷ [] }) (record i { operands = operands.Reg (record d { undef = false }) ∷ operands.Reg s ∷ [] })) ≡ false
@@ -169,7 +169,7 @@ module _ (t : Target) where
         where
           at : (d a s : RegOp) (x : IndexId) → i.operands ≡ operands.Reg d ∷ operands.Reg a ∷ operands.Reg s ∷ operands.Index x ∷ [] → (l : Loc) → d.loc ≡ l → is_virtual l ≡ true → AllKept t (form_lowered t cs c i (form_of t i))
           at d a s x are (Virtual v) loc e =
-              let p : Part = record { input = s; index = x } in
+              let p : SubregInput = record { input = s; index = x } in
               let form : form_of t i ≡ forms.Insertion v a p =
               (λ k. cond (passes is_copy (known k)) (copy_form (register_at i.operands 0) (register_at i.operands 1))
               (cond (passes is_reg_sequence (known k)) (sequence_form (virtual_in (register_at i.operands 0)))

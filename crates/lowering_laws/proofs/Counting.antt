@@ -20,7 +20,7 @@ use Rattle.meaning.specs.Lanes.{Writes, filled, settled, through}
 use Rattle.meaning.specs.Live.{Among, here, there}
 use Rattle.meaning.specs.Relations.{AlikeFill, AlikeOperands, AlikeReads, Rel, Within as RelWithin, after_both, along}
 use Rattle.meaning.specs.Rows.{first_edges, first_target, second_edges, second_target}
-use Rattle.meaning.specs.declared.types.Ways.{Ways}
+use Rattle.meaning.specs.declared.types.EdgePair.{EdgePair}
 use Rattle.meaning.specs.declared.types.Constant.{Constant}
 use Rattle.meaning.specs.declared.types.Fill.{Fill}
 use Rattle.meaning.specs.declared.types.Fill.TheVariants.{Computed, Moved}
@@ -1409,10 +1409,10 @@ module _ (t : Target) (f : Function) (bare' : (n m : ℕ) → (way t (ties_lower
     into : (m : ℕ) → RelWithin (P m) (along (both-ways t H G P b.number m) both-written)
     into m s u k = along-more (both-ways t H G P b.number m) both-written E level s u (along-equal t f b.number m (bare b.number m) (bare' b.number m) s u k)
 
-    abbrev goal : Option Ways
+    abbrev goal : Option EdgePair
     goal = option_map (both-ways t H G P b.number) (target_of i.operands)
 
-    abbrev ways : List Ways
+    abbrev ways : List EdgePair
     ways = ends-ways t H G P b.number b.successors
 
     first-to : (q : Option ℕ) → first_target (option_map (both-ways t H G P b.number) q) ≡ option_map (way t H b.number) q

@@ -32,8 +32,8 @@ use Rattle.phi_elim.specs.Phis.{located_class}
 use Rattle.two_address.specs.Lowered.{copy_form, form_lowered, form_of, insertion_form, instr_lowered, part_of_two, sequence_form, ties_lowered, virtual_in, virtual_loc}
 use Rattle.two_address.specs.Sequences.{filled_lanes, into_part, is_input, keeping_text}
 use Rattle.two_address.specs.Ties.{undefined_first}
-use Rattle.two_address.specs.declared.forms.Form.TheVariants as forms
-use Rattle.two_address.specs.declared.sequences.Part.{Part}
+use Rattle.two_address.specs.declared.forms.InstrLowering.TheVariants as forms
+use Rattle.two_address.specs.declared.sequences.SubregInput.{SubregInput}
 use Rattle.live_laws.proofs.Effects.Moved.{Apart}
 use Rattle.live_laws.proofs.Effects.Shapes.{lanes-there, same-lanes, subregs-there, widths-of}
 use Rattle.live_laws.proofs.Touch.Roles.{met}
@@ -78,10 +78,10 @@ module _ (t : Target) (f : Function) (all : AllNamed f f.blocks) (classes : AreC
   n = length f.classes
 
   module _ (known : effect_of t i ≡ Some effects.InsertSubreg) (c : ℕ) (stands : Stands (h t f).classes (length f.classes) c (instr_classes t f.classes c i)) (d a s : RegOp) (x : IndexId) (are : i.operands ≡ operands.Reg d ∷ operands.Reg a ∷ operands.Reg s ∷ operands.Index x ∷ []) (is-def : is_definition d ≡ true) (v : ℕ) (at : d.loc ≡ Virtual v) (index : d.index ≡ None) (a-used : is_virtual_use a ≡ true) (s-used : is_virtual_use s ≡ true) where
-    abbrev p : Part
+    abbrev p : SubregInput
     p = record { input = s; index = x }
 
-    abbrev ps : List Part
+    abbrev ps : List SubregInput
     ps = p ∷ []
 
     abbrev N : ℕ

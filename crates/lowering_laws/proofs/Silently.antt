@@ -45,7 +45,7 @@ use Rattle.mir_meaning.specs.declared.Form.TheVariants as source_form
 use Rattle.phi_elim.specs.Moves.{destination_of, implicit_def_op, undefining, whole_definition}
 use Rattle.two_address.specs.Lowered.{copy_form, form_lowered, insertion_form, instr_lowered, part_of_two, sequence_form, ties_lowered, virtual_in}
 use Rattle.two_address.specs.Ties.{copy_lowered, retied, retied_operand, retied_use, undefined_first, undefined_whole, with_ties}
-use Rattle.two_address.specs.declared.forms.Form.TheVariants as forms
+use Rattle.two_address.specs.declared.forms.InstrLowering.TheVariants as forms
 use Rattle.instr_effects.proofs.Members.{filter-in, member-elim, member-none}
 use Rattle.live_laws.proofs.Effects.Lists.{all-of}
 use Rattle.live_laws.proofs.Effects.Shapes.{lanes-there, same-lanes, widths-of}

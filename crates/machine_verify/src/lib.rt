@@ -2,9 +2,9 @@
 //! the first place in layout at which a rule fails, with the least rule there.
 #![tactic(auto)]
 
-mod asked;
 mod blocks;
 mod classes;
+mod instr_rules;
 mod lanes;
 mod liveins;
 mod numbers;

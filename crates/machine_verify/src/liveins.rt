@@ -165,7 +165,7 @@ fn first_holding(target: &Target, u: usize, rs: &[Reg]) -> Option<Reg>
 }
 
 /// The register that stands for a live unit, among the unreserved ones.
-fn chosen(target: &Target, live: &[bool], u: usize, rs: &[Reg]) -> Option<Reg>
+fn cover_register(target: &Target, live: &[bool], u: usize, rs: &[Reg]) -> Option<Reg>
     ensures { result ≡ chosen_of target.now rs.now (is_set live.now) u }
 {
     match first_whole(target, live, u, rs) {
@@ -187,14 +187,19 @@ fn push_wanted(
     if !is_set(live, u) {
         return Ok(());
     }
-    if let Some(r) = chosen(target, live, u, rs) {
+    if let Some(r) = cover_register(target, live, u, rs) {
         out.push(r)?;
     }
     Ok(())
 }
 
 /// The registers that stand for live units, unit by unit.
-fn wanted(alloc: Global, target: &Target, live: &[bool], rs: &[Reg]) -> Result<Vec<Reg>, AllocError>
+fn cover_registers(
+    alloc: Global,
+    target: &Target,
+    live: &[bool],
+    rs: &[Reg],
+) -> Result<Vec<Reg>, AllocError>
     ensures { IfOk result (λ made. made.items ≡ wanted target.now rs.now (is_set live.now) (numbers 0 (length target.now.units))) }
 {
     let mut made = Vec::new(alloc);
@@ -237,7 +242,7 @@ fn cover_fits(alloc: Global, target: &Target, b: &Block, live: &[bool]) -> Resul
     ensures { IfOk result (λ is_right. is_right ≡ same_numbers (map (λ r. r.0) b.now.liveins) (map (λ r. r.0) (valid.cover target.now (is_set live.now)))) }
 {
     let rs = unreserved_registers(alloc, target)?;
-    let stands = wanted(alloc, target, live, rs.as_slice())?;
+    let stands = cover_registers(alloc, target, live, rs.as_slice())?;
     Ok(lists_cover(b.liveins.as_slice(), rs.as_slice(), stands.as_slice()))
 }
 

@@ -15,7 +15,7 @@ use crate::lanes::has_lanes;
 use crate::numbers::{NumberSet, set_of};
 use crate::words::is_slot;
 use bound_operands::{BoundOperand, tied_pair};
-use instr_effects::items::lanes::{Lanes, push_operand_lanes};
+use instr_effects::items::lanes::{LaneList, push_operand_lanes};
 use instr_effects::items::results::unreserved;
 use meaning::Lane;
 use mir_func::opcodes::{is_early, tied_number, ties_to};
@@ -166,7 +166,7 @@ pub(crate) fn undefs_fit(form: Form, named: &[RegOp]) -> bool
 }
 
 /// The lanes of an operand: none where they aren't known.
-fn known_lanes(alloc: Global, target: &Target, f: &Func, o: &RegOp) -> Result<Lanes, AllocError>
+fn known_lanes(alloc: Global, target: &Target, f: &Func, o: &RegOp) -> Result<LaneList, AllocError>
     ensures { IfOk result (λ made. made ≡ rules.defined_lanes target.now f.now true o.now) }
 {
     let mut lanes = List::new(alloc);
@@ -177,7 +177,12 @@ fn known_lanes(alloc: Global, target: &Target, f: &Func, o: &RegOp) -> Result<La
 }
 
 /// The lanes of an operand that count for clashes: none where they aren't known.
-fn clashing_lanes(alloc: Global, target: &Target, f: &Func, o: &RegOp) -> Result<Lanes, AllocError>
+fn clashing_lanes(
+    alloc: Global,
+    target: &Target,
+    f: &Func,
+    o: &RegOp,
+) -> Result<LaneList, AllocError>
     ensures { IfOk result (λ made. made ≡ rules.clashing_lanes target.now f.now o.now) }
 {
     let lanes = known_lanes(alloc, target, f, o)?;
@@ -192,7 +197,7 @@ fn defined_lanes(
     f: &Func,
     opaque: bool,
     d: &RegOp,
-) -> Result<Lanes, AllocError>
+) -> Result<LaneList, AllocError>
     ensures { IfOk result (λ made. made ≡ rules.defined_lanes target.now f.now opaque d.now) }
 {
     if opaque {
@@ -234,7 +239,7 @@ fn lanes_of_definitions(
     f: &Func,
     opaque: bool,
     named: &[RegOp],
-) -> Result<Vec<Lanes>, AllocError>
+) -> Result<Vec<LaneList>, AllocError>
     ensures { IfOk result (λ made. made.items ≡ map (rules.defined_lanes target.now f.now opaque) (filter (λ o. o.def) named.now)) }
 {
     let mut made = Vec::new(alloc);
@@ -246,14 +251,14 @@ fn lanes_of_definitions(
     Ok(made)
 }
 
-fn shares_with_some(ls: &[Lane], lists: &[Lanes]) -> bool
+fn shares_with_some(ls: &[Lane], lists: &[LaneList]) -> bool
     ensures { result ≡ list_any (rules.share_a_lane ls.now) lists.now }
 {
     lists.iter().any(|ms| share_a_lane(ls, ms.as_slice()))
 }
 
 /// Whether no two of these lists have a lane in common.
-fn no_two_share(lists: &[Lanes]) -> bool
+fn no_two_share(lists: &[LaneList]) -> bool
     ensures { result ≡ rules.no_two_share lists.now }
 {
     let mut rest = lists;

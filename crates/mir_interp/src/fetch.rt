@@ -8,7 +8,7 @@ ghost use Rattle.mir_interp.specs.Holds.{held_by};
 ghost use Rattle.mir_interp.specs.Stands.{Stands, given_by};
 
 use crate::names::is_same;
-use crate::numbers::{put_above, shifted};
+use crate::numbers::{put_above, shift_right};
 use crate::store::Store;
 use crate::types::Lanes;
 use crate::world::World;
@@ -19,7 +19,7 @@ use target_base::Bytes;
 
 /// What a run finds: the world, and the symbols of the function by first appearance.
 #[derive(Drop)]
-pub struct Surroundings<'a, W> {
+pub struct RunContext<'a, W> {
     /// The world.
     pub world: &'a W,
     /// The symbols.
@@ -39,7 +39,7 @@ fn place_of(names: &[Bytes], name: &[u8]) -> Result<usize, AllocError>
     Err(AllocError)
 }
 
-impl<'a, W: World> Surroundings<'a, W> {
+impl<'a, W: World> RunContext<'a, W> {
     /// A constant as a number.
     fn number_of(&self, c: &Constant) -> Result<u128, AllocError>
         ensures { IfOk result (λ v. (n : ℕ) (env : Environment) → Stands (given_by W.entry W.byte W.frame W.symbol W.answer self.now.world.now) self.now.symbols.now n env → (w : ℕ) → constant_residue env c.now w ≡ v % 2 ^ w) }
@@ -64,7 +64,7 @@ impl<'a, W: World> Surroundings<'a, W> {
             return Err(AllocError);
         };
         let number = self.number_of(c)?;
-        Ok(shifted(low_bits(number, end), low))
+        Ok(shift_right(low_bits(number, end), low))
     }
 
     /// What a source gives.
@@ -119,13 +119,13 @@ impl<'a, W: World> Surroundings<'a, W> {
         let sources = picked.as_slice();
         let own = widths.get(k);
         let own_widths = own.as_slice();
-        let number = self.joined(store, own_widths, sources)?;
+        let number = self.join_sources(store, own_widths, sources)?;
         Ok(number)
     }
 
     /// What sources of these widths give as one number, the lowest first; None where one is Undef or
     /// missing.
-    fn joined(
+    fn join_sources(
         &self,
         store: &Store,
         widths: &[u32],

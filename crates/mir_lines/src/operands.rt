@@ -43,7 +43,7 @@ pub fn take_numbered(text: &[u8]) -> Result<(u32, Option<&[u8]>, &[u8]), LineSto
     }
 }
 
-fn copied(alloc: Global, label: Option<&[u8]>) -> Result<Option<Bytes>, LineStop>
+fn copy_label(alloc: Global, label: Option<&[u8]>) -> Result<Option<Bytes>, LineStop>
     ensures { Reads it result (Some (option_map (λ l. l.now) label.entry)) }
 {
     match label {
@@ -59,7 +59,7 @@ fn take_block(alloc: Global, text: &[u8]) -> Result<(RawOperand, &[u8]), LineSto
     ensures len { IfOk result (λ r. length r.1.now ≤ length text.now) }
 {
     let (n, label, rest) = take_numbered(text)?;
-    Ok((RawOperand::Block(n, copied(alloc, label)?), rest))
+    Ok((RawOperand::Block(n, copy_label(alloc, label)?), rest))
 }
 
 /// A frame object behind `%stack.`, and the rest.

@@ -7,8 +7,8 @@ ghost use Rattle.mir_read.specs.Names.{NameLists};
 ghost use Rattle.mir_read.specs.Reading.{LeavesLine};
 ghost use Rattle.mir_read.specs.Keys.{no_keys, unquoted, name_value, is_body_value, declared_number, ends_class, class_word, declared_class, contains, frame_in, declared_frame, is_key, key_named, name_begun, body_begun, key_begun, continued, colon_cut, begun_with, found, with_declared, with_frame, declared, kept, key_line, AddsToKeys};
 
-use crate::names::Names;
-use crate::ranges::{Given, Ranges};
+use crate::names::TargetNames;
+use crate::ranges::{AnnotatedClass, Ranges};
 use crate::stop::{ReadStop, TextKind};
 use mir_func::Frames;
 use mir_lines::lexer::{Sort, before_word, behind_word, is, is_letter, skip, skip_back, span};
@@ -89,7 +89,7 @@ fn colon_cut(line: &[u8]) -> Option<(&[u8], &[u8])>
 
 /// A text without one pair of single quotes.
 #[tactic(auto, unfolding(crate::specs::Keys::unquoted))]
-fn unquoted(text: &[u8]) -> &[u8]
+fn strip_quotes(text: &[u8]) -> &[u8]
     ensures { result.now ≡ unquoted text.now }
 {
     match behind_word(text, b"'") {
@@ -107,7 +107,7 @@ fn unquoted(text: &[u8]) -> &[u8]
 fn name_value(text: &[u8]) -> Option<&[u8]>
     ensures { option_map now_of result ≡ name_value text.now }
 {
-    let value = unquoted(skip_back(skip(text)));
+    let value = strip_quotes(skip_back(skip(text)));
     if value.is_empty() { None } else { Some(value) }
 }
 
@@ -354,7 +354,12 @@ impl Keys {
     }
 
     /// Adds the class that a line of `registers` declares.
-    fn declare_class(&mut self, alloc: Global, names: &Names, line: &[u8]) -> Result<(), ReadStop>
+    fn declare_class(
+        &mut self,
+        alloc: Global,
+        names: &TargetNames,
+        line: &[u8],
+    ) -> Result<(), ReadStop>
         requires { length self.old.registers.names < 4294967295 }
         ensures value { LeavesLine result self.new (with_declared names.now self.old (declared_class line.now)) }
         ensures adds { OnOk result (AddsToKeys (length line.now) self.old self.new) }
@@ -364,8 +369,12 @@ impl Keys {
             Some((name, class)) => match names.class(class) {
                 None => Err(ReadStop::Fault(TextKind::Name)),
                 Some(c) => {
-                    self.registers
-                        .mention(alloc, name, Given::Nothing, Given::One(c))?;
+                    self.registers.mention(
+                        alloc,
+                        name,
+                        AnnotatedClass::Nothing,
+                        AnnotatedClass::One(c),
+                    )?;
                     Ok(())
                 }
             },
@@ -385,7 +394,7 @@ impl Keys {
 
     /// Adds what a line declares.
     #[tactic(auto, unfolding(crate::specs::Keys::declared))]
-    fn declare(&mut self, alloc: Global, names: &Names, line: &[u8]) -> Result<(), ReadStop>
+    fn declare(&mut self, alloc: Global, names: &TargetNames, line: &[u8]) -> Result<(), ReadStop>
         requires { length self.old.registers.names < 4294967295 }
         ensures value { LeavesLine result self.new (declared names.now self.old line.now) }
         ensures adds { OnOk result (AddsToKeys (length line.now) self.old self.new) }
@@ -414,7 +423,7 @@ impl Keys {
 
     /// Takes one line before the body, or answers the first test that the line fails.
     #[tactic(auto, unfolding(crate::specs::Keys::key_line))]
-    pub fn line(&mut self, alloc: Global, names: &Names, line: &[u8]) -> Result<(), ReadStop>
+    pub fn line(&mut self, alloc: Global, names: &TargetNames, line: &[u8]) -> Result<(), ReadStop>
         requires { length self.old.registers.names < 4294967295 }
         ensures value { LeavesLine result self.new (key_line names.now self.old line.now) }
         ensures adds { OnOk result (AddsToKeys (length line.now) self.old self.new) }

@@ -16,8 +16,8 @@ use Rattle.ra_top.specs.declared.commands.status.Status.{Status}
 use Rattle.ra_top.specs.declared.commands.status.Status.TheVariants as status
 use Rattle.ra_top.specs.Commands.Told.{steps_of}
 use Rattle.ra_top.specs.Checked.{IsRead}
-use Rattle.ra_top.specs.declared.ending.Step.{Step}
-use Rattle.ra_top.specs.declared.ending.Step.TheVariants as steps
+use Rattle.ra_top.specs.declared.ending.StreamStep.{StreamStep}
+use Rattle.ra_top.specs.declared.ending.StreamStep.TheVariants as steps
 use Rattle.ra_top.specs.Told.{NamesTarget}
 
 -- the status isn't that all was done
@@ -87,6 +87,6 @@ WritesLines lines old new status.WriteFault = WritesPart old new lines
 WritesLines lines old new s = WritesAll old new []
 
 -- the same of a step; nothing is written where it goes on
-abbrev pub TracesStep : List ℕ → Option (List ℕ) → Option (List ℕ) → Step → Type 0
+abbrev pub TracesStep : List ℕ → Option (List ℕ) → Option (List ℕ) → StreamStep → Type 0
 TracesStep lines old new steps.More = WritesAll old new []
 TracesStep lines old new (steps.End e) = WritesLines lines old new e.status

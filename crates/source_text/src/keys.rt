@@ -36,7 +36,7 @@ fn begins_stack(line: &[u8]) -> bool
 }
 
 /// The first line of the key `stack` without `[]`.
-fn opened(line: &[u8]) -> &[u8]
+fn strip_empty_list(line: &[u8]) -> &[u8]
     ensures { result.now ≡ opened line.now }
 {
     match behind_word(line, b"stack:") {
@@ -140,7 +140,7 @@ fn push_around_stack(
         if begins_stack(line) {
             left -= 1;
             if left == 0 {
-                push_line(above, opened(line))?;
+                push_line(above, strip_empty_list(line))?;
                 return push_around_key(above, below, behind);
             }
         }
@@ -198,7 +198,7 @@ fn between<'a>(parts: &Parts, text: &'a [u8]) -> Option<&'a [u8]>
 
 /// What key lines have besides those of the source where lines of new slots go; None where the others
 /// aren't the source's.
-pub(crate) fn added<'a>(
+pub(crate) fn added_lines<'a>(
     alloc: Global,
     source: &[u8],
     head: &'a [u8],

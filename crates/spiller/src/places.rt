@@ -1,8 +1,8 @@
 //! How each kind of place changes when its range is spilled.
 
 use crate::kinds::{first_unreserved, home, reload_op, spill_op};
-use crate::plan::{Plan, SlotPart, View, plain, slot_operands, undefined, whole};
-use crate::remat::{Key, Remat};
+use crate::plan::{Plan, SlotPart, SpillView, plain, slot_operands, undef_use, whole};
+use crate::remat::{Remat, UseKey};
 use crate::seats::change_instr;
 use mir_func::opcodes::effect_of;
 use mir_func::operands::{class_of, register_at};
@@ -11,7 +11,7 @@ use std::alloc::AllocError;
 use target_base::{ClassId, Effect, IndexId};
 
 /// The class whose opcode moves a register side of a copy.
-fn class_beside(view: View<'_>, op: &RegOp) -> ClassId {
+fn class_beside(view: SpillView<'_>, op: &RegOp) -> ClassId {
     match op.loc {
         Loc::Fixed(r) => home(view.target, r),
         Loc::Virtual(w) => {
@@ -22,12 +22,12 @@ fn class_beside(view: View<'_>, op: &RegOp) -> ClassId {
 }
 
 /// The class whose opcodes move the lanes of the range that an index picks.
-fn move_class(view: View<'_>, index: Option<IndexId>) -> ClassId {
+fn move_class(view: SpillView<'_>, index: Option<IndexId>) -> ClassId {
     view.target.move_at(view.class, index).unwrap_or(view.class)
 }
 
 /// The lanes that an operand names in the range, or that an index picks of its slot.
-fn have_same_lanes(view: View<'_>, a: Option<IndexId>, b: Option<IndexId>) -> bool {
+fn have_same_lanes(view: SpillView<'_>, a: Option<IndexId>, b: Option<IndexId>) -> bool {
     match (a, b) {
         (None, None) => true,
         (Some(a), Some(b)) => view.target.lanes_at(a) == view.target.lanes_at(b),
@@ -37,14 +37,14 @@ fn have_same_lanes(view: View<'_>, a: Option<IndexId>, b: Option<IndexId>) -> bo
 }
 
 /// Whether an index picks all lanes of the range in order.
-fn picks_all(view: View<'_>, index: IndexId) -> bool {
+fn picks_all(view: SpillView<'_>, index: IndexId) -> bool {
     view.target.lanes_at(index).len() == view.live.lane_count(view.v) as usize
         && is_first_lanes(view, index)
 }
 
 /// Changes the place of one instruction that isn't a terminator.
 pub(crate) fn change_single(
-    view: View<'_>,
+    view: SpillView<'_>,
     instr: &Instr,
     remat: &Remat,
     plan: &mut Plan,
@@ -60,7 +60,7 @@ pub(crate) fn change_single(
 
 /// A copy becomes a reload, a store or both.
 fn change_copy(
-    view: View<'_>,
+    view: SpillView<'_>,
     instr: &Instr,
     remat: &Remat,
     plan: &mut Plan,
@@ -84,7 +84,7 @@ fn change_copy(
 
 /// A copy between lanes of the range.
 fn change_own_copy(
-    view: View<'_>,
+    view: SpillView<'_>,
     instr: &Instr,
     to: &RegOp,
     from: &RegOp,
@@ -101,7 +101,7 @@ fn change_own_copy(
 
 /// A copy from the range to another register.
 fn change_copy_from(
-    view: View<'_>,
+    view: SpillView<'_>,
     instr: &Instr,
     to: &RegOp,
     from: &RegOp,
@@ -109,9 +109,9 @@ fn change_copy_from(
     plan: &mut Plan,
 ) -> Result<(), AllocError> {
     let register = plain(to.loc, to.index, true, false);
-    let key = Key {
+    let key = UseKey {
         at: instr.id,
-        naming: None,
+        indexed_class: None,
     };
     if let Some(source) = remat.source(key) {
         plan.put_repeated(view, source, instr.id, register)?;
@@ -125,7 +125,7 @@ fn change_copy_from(
 
 /// An instruction becomes a reload into a new range and a store of it.
 fn through_tiny(
-    view: View<'_>,
+    view: SpillView<'_>,
     instr: &Instr,
     from: SlotPart,
     to: SlotPart,
@@ -156,7 +156,7 @@ fn slot_sides(instr: &Instr) -> Option<(RegOp, SlotPart)> {
 }
 
 /// Whether these lanes of a slot are those of the range's own slot that stand for the operand.
-fn is_own_slot(view: View<'_>, plan: &Plan, register: &RegOp, part: SlotPart) -> bool {
+fn is_own_slot(view: SpillView<'_>, plan: &Plan, register: &RegOp, part: SlotPart) -> bool {
     if part.slot != plan.slot {
         return false;
     }
@@ -170,13 +170,17 @@ fn is_own_slot(view: View<'_>, plan: &Plan, register: &RegOp, part: SlotPart) ->
 }
 
 /// Whether an index picks the first lanes in order.
-fn is_first_lanes(view: View<'_>, index: IndexId) -> bool {
+fn is_first_lanes(view: SpillView<'_>, index: IndexId) -> bool {
     let lanes = view.target.lanes_at(index);
     (0u8..u8::MAX).zip(lanes).all(|(k, lane)| k == *lane)
 }
 
 /// A store or a reload of the range.
-fn change_slot_access(view: View<'_>, instr: &Instr, plan: &mut Plan) -> Result<(), AllocError> {
+fn change_slot_access(
+    view: SpillView<'_>,
+    instr: &Instr,
+    plan: &mut Plan,
+) -> Result<(), AllocError> {
     let Some((register, there)) = slot_sides(instr) else {
         return Ok(());
     };
@@ -192,7 +196,7 @@ fn change_slot_access(view: View<'_>, instr: &Instr, plan: &mut Plan) -> Result<
 }
 
 /// A definition without a value becomes a store of nothing, or goes.
-fn change_undefined(view: View<'_>, instr: &Instr, plan: &mut Plan) -> Result<(), AllocError> {
+fn change_undefined(view: SpillView<'_>, instr: &Instr, plan: &mut Plan) -> Result<(), AllocError> {
     let Some(op) = register_at(instr.operands.as_slice(), 0) else {
         return Ok(());
     };
@@ -205,6 +209,6 @@ fn change_undefined(view: View<'_>, instr: &Instr, plan: &mut Plan) -> Result<()
         .unwrap_or(view.class);
     let r = first_unreserved(view.target, class);
     let own = plan.own_part(op.index);
-    let operands = slot_operands(view.alloc, undefined(r), own)?;
+    let operands = slot_operands(view.alloc, undef_use(r), own)?;
     plan.replace(instr.id, spill_op(view.target, class), operands)
 }

@@ -9,7 +9,7 @@ use target_base::{ClassId, Copied, IndexId, OpId, Reg, Target};
 
 /// What spilling looks at: the function as it stands before.
 #[derive(Clone, Copy)]
-pub(crate) struct View<'a> {
+pub(crate) struct SpillView<'a> {
     pub alloc: Global,
     pub target: &'a Target,
     pub live: &'a LiveFunc,
@@ -37,7 +37,7 @@ pub(crate) struct Plan {
 
 impl Plan {
     /// No edits of a function, with the slot of the range and with room for so many edits.
-    pub fn new(view: View<'_>, slot: u32, room: usize) -> Result<Plan, AllocError> {
+    pub fn new(view: SpillView<'_>, slot: u32, room: usize) -> Result<Plan, AllocError> {
         let f = view.live.func();
         Ok(Plan {
             alloc: view.alloc,
@@ -75,7 +75,7 @@ impl Plan {
     /// Notes that a register of a class is reloaded before an instruction.
     pub fn put_reload(
         &mut self,
-        view: View<'_>,
+        view: SpillView<'_>,
         at: u32,
         class: ClassId,
         register: RegOp,
@@ -88,7 +88,7 @@ impl Plan {
     /// Notes that the instruction of a definition is repeated before another, for this register.
     pub fn put_repeated(
         &mut self,
-        view: View<'_>,
+        view: SpillView<'_>,
         source: u32,
         at: u32,
         register: RegOp,
@@ -96,7 +96,7 @@ impl Plan {
         let Some(instr) = view.live.instr(source) else {
             return Ok(());
         };
-        let operands = repeated(view.alloc, instr, register)?;
+        let operands = rematerialised_operands(view.alloc, instr, register)?;
         self.put(view.gap_before(at), op_of(instr), operands)
     }
 
@@ -155,7 +155,7 @@ pub(crate) fn whole(v: u32, def: bool) -> RegOp {
 }
 
 /// A fixed register read as undefined.
-pub(crate) fn undefined(r: Reg) -> RegOp {
+pub(crate) fn undef_use(r: Reg) -> RegOp {
     plain(Loc::Fixed(r), None, false, true)
 }
 
@@ -186,7 +186,11 @@ pub(crate) fn slot_operands(
 
 /// The operands of a constant or an address with another register in the place of its one definition,
 /// which is its first operand.
-fn repeated(alloc: Global, instr: &Instr, register: RegOp) -> Result<Operands, AllocError> {
+fn rematerialised_operands(
+    alloc: Global,
+    instr: &Instr,
+    register: RegOp,
+) -> Result<Operands, AllocError> {
     let mut operands = Operands::new(alloc);
     operands.push(Operand::Reg(register))?;
     'operands: for operand in instr.operands.as_slice().iter().skip(1) {
@@ -195,7 +199,7 @@ fn repeated(alloc: Global, instr: &Instr, register: RegOp) -> Result<Operands, A
     Ok(operands)
 }
 
-impl<'a> View<'a> {
+impl<'a> SpillView<'a> {
     /// The number of the block of an instruction.
     pub fn block_number(&self, id: u32) -> u32 {
         let position = self.live.position_of(id) as usize;

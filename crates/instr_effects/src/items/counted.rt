@@ -269,7 +269,7 @@ fn push_some(out: &mut Values, v: Option<(Sources, Numbers)>) -> Result<(), Allo
 }
 
 /// A list of the element at a place alone, or an empty list.
-fn picked<T: Copied>(alloc: Global, k: usize, items: &[T]) -> Result<List<T>, AllocError>
+fn element_list<T: Copied>(alloc: Global, k: usize, items: &[T]) -> Result<List<T>, AllocError>
     ensures { IfOk result (λ made. made ≡ pick k items.now) }
 {
     if k >= items.len() {
@@ -308,8 +308,8 @@ fn flag_value(
     push_operand_widths(&mut widths, t, f, o)?;
     let sources = use_sources(alloc, t, f, o)?;
     Ok((
-        picked(alloc, k, sources.as_slice())?,
-        picked(alloc, k, widths.as_slice())?,
+        element_list(alloc, k, sources.as_slice())?,
+        element_list(alloc, k, widths.as_slice())?,
     ))
 }
 

@@ -10,7 +10,9 @@ ghost use Rattle.target_base.specs.declared.types.Effect.TheVariants as effects;
 
 use crate::definitions::{Definition, next_definition};
 use crate::items::counted::is_flags;
-use crate::items::lanes::{Lanes, push_operand_lanes, push_operand_widths, push_undefined_lanes};
+use crate::items::lanes::{
+    LaneList, push_operand_lanes, push_operand_widths, push_undefined_lanes,
+};
 use crate::items::writes::{push_computed, push_undefined};
 use crate::masks::is_preserved;
 use meaning::{Lane, Write, Writes};
@@ -108,7 +110,7 @@ pub fn is_reserved(t: &Target, l: Lane) -> bool
 }
 
 /// Those of these lanes that aren't reserved.
-pub fn unreserved(alloc: Global, t: &Target, lanes: &[Lane]) -> Result<Lanes, AllocError>
+pub fn unreserved(alloc: Global, t: &Target, lanes: &[Lane]) -> Result<LaneList, AllocError>
     ensures { IfOk result (λ made. made ≡ unreserved t.now lanes.now) }
 {
     let mut made = List::new(alloc);
@@ -122,7 +124,7 @@ pub fn unreserved(alloc: Global, t: &Target, lanes: &[Lane]) -> Result<Lanes, Al
 
 /// Appends the lanes of several register operands.
 fn push_all_lanes(
-    out: &mut Lanes,
+    out: &mut LaneList,
     t: &Target,
     f: &Func,
     operands: &[RegOp],
@@ -141,7 +143,7 @@ fn implicit_lanes(
     t: &Target,
     f: &Func,
     operands: &[Operand],
-) -> Result<Lanes, AllocError>
+) -> Result<LaneList, AllocError>
     ensures { IfOk result (λ made. made ≡ answered t.now f.now operands.now) }
 {
     let definitions = implicit_definitions(alloc, operands)?;
@@ -151,7 +153,11 @@ fn implicit_lanes(
 }
 
 /// The units outside the mask of a call.
-fn unpreserved(alloc: Global, t: &Target, operands: &[Operand]) -> Result<Lanes, AllocError>
+fn unpreserved_units(
+    alloc: Global,
+    t: &Target,
+    operands: &[Operand],
+) -> Result<LaneList, AllocError>
     ensures { IfOk result (λ made. made ≡ map UnitLane (filter (λ u. not (list_any (preserves t.now u) operands.now)) (numbers 0 (length t.now.units)))) }
 {
     let mut made = List::new(alloc);
@@ -164,10 +170,10 @@ fn unpreserved(alloc: Global, t: &Target, operands: &[Operand]) -> Result<Lanes,
 }
 
 /// The unreserved units outside the mask of a call.
-fn clobbered(alloc: Global, t: &Target, operands: &[Operand]) -> Result<Lanes, AllocError>
+fn clobbered_units(alloc: Global, t: &Target, operands: &[Operand]) -> Result<LaneList, AllocError>
     ensures { IfOk result (λ made. made ≡ clobbered t.now operands.now) }
 {
-    let units = unpreserved(alloc, t, operands)?;
+    let units = unpreserved_units(alloc, t, operands)?;
     unreserved(alloc, t, units.as_slice())
 }
 
@@ -178,7 +184,7 @@ fn flag_lanes(
     f: &Func,
     roles: &[Role],
     operands: &[RegOp],
-) -> Result<Lanes, AllocError>
+) -> Result<LaneList, AllocError>
     ensures { IfOk result (λ made. made ≡ all_lanes t.now f.now (filter (is_flags (implicit_roles roles.now)) operands.now)) }
 {
     let mut made = List::new(alloc);
@@ -245,7 +251,7 @@ fn push_implicit_writes(
         Effect::Call => {
             let answered = implicit_lanes(alloc, t, f, operands)?;
             push_computed(out, false, 0, answered.as_slice())?;
-            let clobbered = clobbered(alloc, t, operands)?;
+            let clobbered = clobbered_units(alloc, t, operands)?;
             push_undefined(out, false, clobbered.as_slice())
         }
         _ => {
@@ -267,7 +273,7 @@ fn push_opaque_clobbers(
 {
     match kind {
         OpaqueKind::Call => {
-            let units = clobbered(alloc, t, operands)?;
+            let units = clobbered_units(alloc, t, operands)?;
             push_undefined(out, false, units.as_slice())
         }
         _ => Ok(()),

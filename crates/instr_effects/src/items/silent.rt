@@ -10,7 +10,7 @@ ghost use Rattle.mir_meaning.specs.Items.{moved, undefined, copied, defined_unde
 
 use crate::items::counted::{low_bits, residue, total};
 use crate::items::lanes::{
-    Lanes, Sources, push_located_lanes, push_operand_lanes, push_operand_widths,
+    LaneList, Sources, push_located_lanes, push_operand_lanes, push_operand_widths,
     push_undefined_lanes, use_sources,
 };
 use crate::items::writes::{number, push_defined, push_moved, push_undefined};
@@ -292,7 +292,7 @@ fn first_numbers(alloc: Global, count: u32) -> Result<Numbers, AllocError>
 }
 
 /// Lanes of a slot by their numbers, each at its width; what lacks a partner is left out.
-fn slot_lanes(alloc: Global, s: u32, lanes: &[u32], widths: &[u32]) -> Result<Lanes, AllocError>
+fn slot_lanes(alloc: Global, s: u32, lanes: &[u32], widths: &[u32]) -> Result<LaneList, AllocError>
     ensures { IfOk result (λ made. made ≡ slot_lanes s lanes.now widths.now) }
 {
     let mut made = List::new(alloc);
@@ -327,7 +327,7 @@ fn unit_widths(alloc: Global, t: &Target) -> Result<List<u32>, AllocError>
 }
 
 /// Appends one lane of a slot at these widths.
-fn push_at_widths(out: &mut Lanes, s: u32, k: u32, widths: &[u32]) -> Result<(), AllocError>
+fn push_at_widths(out: &mut LaneList, s: u32, k: u32, widths: &[u32]) -> Result<(), AllocError>
     ensures { OnOk result (out.new ≡ out.old ++ map (λ w. SlotLane s k w) widths.now) }
 {
     for w in widths {
@@ -337,7 +337,7 @@ fn push_at_widths(out: &mut Lanes, s: u32, k: u32, widths: &[u32]) -> Result<(),
 }
 
 /// Lanes of a slot at these widths.
-fn at_widths(alloc: Global, s: u32, lanes: &[u32], widths: &[u32]) -> Result<Lanes, AllocError>
+fn at_widths(alloc: Global, s: u32, lanes: &[u32], widths: &[u32]) -> Result<LaneList, AllocError>
     ensures { IfOk result (λ made. made ≡ flat_map (λ k. map (λ w. SlotLane s k w) widths.now) lanes.now) }
 {
     let mut made = List::new(alloc);
@@ -348,7 +348,7 @@ fn at_widths(alloc: Global, s: u32, lanes: &[u32], widths: &[u32]) -> Result<Lan
 }
 
 /// Lanes of a slot at every width.
-fn at_all_widths(alloc: Global, t: &Target, s: u32, lanes: &[u32]) -> Result<Lanes, AllocError>
+fn at_all_widths(alloc: Global, t: &Target, s: u32, lanes: &[u32]) -> Result<LaneList, AllocError>
     ensures { IfOk result (λ made. made ≡ at_all_widths t.now s lanes.now) }
 {
     let widths = unit_widths(alloc, t)?;

@@ -5,7 +5,7 @@ ghost use Rattle.machine_verify.specs.Lives.{FitsTarget};
 ghost use Rattle.pipeline.specs.Guarded.Function.{Allocates, IsTextFor, IfRefused, comes_before_run};
 ghost use Rattle.pipeline.specs.Guarded.Told.{ToldRun, ToldPart};
 
-use crate::guarded::guard::guarded;
+use crate::guarded::guard::check_allocation;
 use crate::guarded::source::{ServedSource, served_source};
 use crate::guarded::spelled::Allocation;
 use crate::guarded::stop::FunctionStop;
@@ -22,7 +22,7 @@ use target_base::Target;
 /// place of which admits no choice of registers, and one whose run passes the limit of range numbers.
 /// The function is dropped at a refusal. The watchers are told nothing of a function that is refused
 /// before its run, and a first part of the run at another refusal.
-pub fn allocated<W: Watcher>(
+pub fn allocate_function<W: Watcher>(
     alloc: Global,
     target: &Target,
     f: Func,
@@ -43,7 +43,7 @@ pub fn allocated<W: Watcher>(
     let func = live.func().copy(alloc)?;
     let kept = Valid { func };
     let made = with_registers(alloc, target, live, allocator, number, watchers)?;
-    match guarded(alloc, target, &kept, made)? {
+    match check_allocation(alloc, target, &kept, made)? {
         Some(made) => Ok(made),
         None => Err(FunctionStop::NotYet),
     }

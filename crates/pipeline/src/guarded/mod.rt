@@ -9,7 +9,7 @@ pub mod spelled;
 pub mod stop;
 pub mod valid;
 
-pub use crate::guarded::function::allocated;
+pub use crate::guarded::function::allocate_function;
 pub use crate::guarded::source::{
     NamedSource, ServedSource, allocated_name, live_source, served_source, within_limits,
 };

@@ -13,7 +13,7 @@ ghost use Rattle.pipeline.specs.Guarded.Function.{IsTaken, IfPassed, IfRefused, 
 use crate::guarded::limits::passed_limit;
 use crate::guarded::stop::FunctionStop;
 use crate::guarded::valid::{verify_allocated, verify_live};
-use crate::passes::served;
+use crate::passes::check_source_places;
 use live_lanes::LiveFunc;
 use machine_verify::LiveSource;
 use mir_func::Func;
@@ -92,7 +92,7 @@ pub fn served_source(alloc: Global, target: &Target, f: Func) -> Result<ServedSo
     ensures early { IfErr result IfBeforeRun }
 {
     let NamedSource { name, live } = live_source(alloc, target, f)?;
-    match served(alloc, target, live) {
+    match check_source_places(alloc, target, live) {
         Ok(live) => Ok(ServedSource { name, live }),
         Err(stop) => Err(FunctionStop::of_places(name, stop)),
     }

@@ -78,7 +78,7 @@ fn read_alone(
 /// text is longer than a document may be that is read. None where it spells none, or one with other
 /// key lines: a reader drops the keys `registers` and `liveins`, which no answer has.
 #[tactic(auto, using(crate::proofs::GuardLemmas::Texts::texts))]
-pub(crate) fn printed(
+pub(crate) fn print_and_read(
     alloc: Global,
     target: &Target,
     f: Func,

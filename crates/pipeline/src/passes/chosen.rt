@@ -7,7 +7,7 @@ ghost use Rattle.watchers.specs.Told.{AllTold, PartTold};
 ghost use Rattle.greedy_core.specs.Bounds.{AreBounded};
 
 use crate::passes::allocator::Allocator;
-use crate::passes::ready::{Prepared, prepare};
+use crate::passes::ready::{PreparedFunc, prepare};
 use greedy_core::{Watcher, allocate};
 use live_lanes::LiveFunc;
 use mir_func::Func;
@@ -32,7 +32,7 @@ pub fn with_registers<W: Watcher>(
     ensures told { OnOk result ((steps : List Step) × AllTold (W.next target.now) (Begin number ∷ steps) watchers.old.items watchers.new.items × AreBounded steps) }
     ensures part { OnErr result ((steps : List Step) × PartTold (W.next target.now) steps watchers.old.items watchers.new.items) }
 {
-    let Prepared { live, freqs } = prepare(alloc, target, source)?;
+    let PreparedFunc { live, freqs } = prepare(alloc, target, source)?;
     let done = allocate(
         alloc,
         target,

@@ -13,11 +13,11 @@ use crate::commands::intervals::intervals_of;
 use crate::commands::refusal::refused;
 use crate::commands::run::at_named;
 use crate::commands::told::lines_of;
-use crate::commands::trace::traced;
+use crate::commands::trace::trace_function;
 use crate::commands::verify::verified_function;
 use mir_func::Func;
 use mir_text::Doc;
-use pipeline::guarded::allocated;
+use pipeline::guarded::allocate_function;
 use std::alloc::{AllocError, Global};
 use target_base::{Bytes, Target};
 use watchers::Watcher;
@@ -37,7 +37,7 @@ fn allocated_function<W: Watcher>(
     ensures told { IfOk result (ToldOne (W.next target.now) run.number watchers.old.items watchers.new.items) }
     ensures part { OnErr result (ToldPart (W.next target.now) watchers.old.items watchers.new.items) }
 {
-    match allocated(alloc, target, f, run.allocator, run.number, watchers) {
+    match allocate_function(alloc, target, f, run.allocator, run.number, watchers) {
         Ok(made) => {
             let mut text = before;
             text.extend(made.text.as_slice())?;
@@ -99,7 +99,7 @@ pub fn at_document<W: Watcher>(
             Job::Trace(allocator) => {
                 let number = next(number);
                 let run = AllocatorRun { allocator, number };
-                traced(alloc, target, f, run, watchers)
+                trace_function(alloc, target, f, run, watchers)
             }
         },
         Doc::Ir(lines) => Ok(Answer::Text(at_lines(alloc, job, lines))),

@@ -11,7 +11,7 @@ use crate::commands::refusal::refused;
 use crate::report::intervals::text_of_intervals;
 use mir_func::Func;
 use pipeline::guarded::{FunctionStop, ServedSource, served_source};
-use pipeline::passes::{Prepared, live_anew, prepare};
+use pipeline::passes::{PreparedFunc, live_anew, prepare};
 use std::alloc::{AllocError, Global};
 use target_base::{Bytes, Target};
 
@@ -21,7 +21,7 @@ fn text_of_ready(
     alloc: Global,
     target: &Target,
     name: &[u8],
-    made: Prepared,
+    made: PreparedFunc,
 ) -> Result<Option<Bytes>, AllocError>
     ensures { IfOk result (λ text. IfSome text (IsReadyText target.now made.freqs name.now)) }
 {

@@ -39,7 +39,7 @@ fn run_over<W: Watcher>(
 }
 
 /// Allocates a function by a run of an allocator, for the watchers.
-pub(crate) fn traced<W: Watcher>(
+pub(crate) fn trace_function<W: Watcher>(
     alloc: Global,
     target: &Target,
     f: Func,

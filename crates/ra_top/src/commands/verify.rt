@@ -19,7 +19,12 @@ use std::alloc::{AllocError, Global};
 use target_base::{Bytes, Target};
 
 /// The name of a function that lies within the limits and is valid in a form.
-fn verified(alloc: Global, target: &Target, form: Form, f: Func) -> Result<Bytes, FunctionStop>
+fn verify_in_form(
+    alloc: Global,
+    target: &Target,
+    form: Form,
+    f: Func,
+) -> Result<Bytes, FunctionStop>
     requires { FitsTarget target.now f }
     ensures ok { IfOk result (λ name. (name ≡ f.name) × (passed_limit f ≡ None) × IsValid target.now form f) }
     ensures err { IfErr result (IfUnfit target.now form f) }
@@ -70,7 +75,7 @@ pub(crate) fn verified_function(
     requires { FitsTarget target.now f }
     ensures { IfOk result (IsVerifyAnswer target.now form f) }
 {
-    match verified(alloc, target, form, f) {
+    match verify_in_form(alloc, target, form, f) {
         Ok(name) => {
             let line = valid_line(alloc, name.as_slice())?;
             Ok(Answer::Text(line))

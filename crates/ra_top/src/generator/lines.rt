@@ -3,7 +3,7 @@
 ghost use Rattle.std.specs.Prelude.{◌≡◌, ◌++◌, OnOk};
 ghost use Rattle.ra_top.specs.Generator.Text.{register_line, operation_line, move_line, store_line, instr_line, jump_lines};
 
-use crate::generator::source::{Jump, Numbers};
+use crate::generator::source::{InstrNumbers, Jump};
 use crate::numbers::put_numbered;
 use std::alloc::AllocError;
 use target_base::Bytes;
@@ -56,7 +56,7 @@ fn put_store(out: &mut Bytes, a: u64, c: u64) -> Result<(), AllocError>
 }
 
 /// Adds an instruction of a block.
-pub(crate) fn put_instr(out: &mut Bytes, of: Numbers) -> Result<(), AllocError>
+pub(crate) fn put_instr(out: &mut Bytes, of: InstrNumbers) -> Result<(), AllocError>
     ensures { OnOk result (out.new ≡ out.old ++ instr_line of) }
 {
     match of.kind {

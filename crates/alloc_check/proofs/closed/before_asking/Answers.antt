@@ -2,7 +2,7 @@ use Rattle.std.proofs.Common.{◌≡◌, Bool, true, false, List, Option, refl, 
 use Rattle.meaning.specs.declared.types.Row.{Row}
 use Rattle.meaning.specs.declared.types.Row.TheVariants.{BothCounted}
 use Rattle.meaning.specs.declared.types.Rest.{Rest}
-use Rattle.meaning.specs.declared.types.Ways.{Ways}
+use Rattle.meaning.specs.declared.types.EdgePair.{EdgePair}
 use Rattle.meaning.specs.Lanes.{Reads, Writes}
 use Rattle.meaning.specs.Facts.{Facts}
 use Rattle.meaning.specs.Agree.{Family}
@@ -21,7 +21,7 @@ carries family b row r old new is other h = subst (λ x. Carry family (asking b 
 least : (family : Family) (b : Bool) (row r : Row) (old new : Facts) (yes : Bool) → row ≡ r → is_pair r ≡ false → Least (row_asks family r old) yes new → Least (row_asks family (asking b row) old) yes new
 least family b row r old new yes is other h = subst (λ x. Least (row_asks family (asking b x) old) yes new) (sym is) (subst (λ x. Least (row_asks family x old) yes new) (sym (asking-other b r other)) h)
 
-never : (family : Family) (b : Bool) (r : Rest) (reads reads' : Reads) (ws vs : Writes) (target : Option Ways) (exits : List Ways) (old new : Facts)
+never : (family : Family) (b : Bool) (r : Rest) (reads reads' : Reads) (ws vs : Writes) (target : Option EdgePair) (exits : List EdgePair) (old new : Facts)
     → Least (writes_ask family ws vs target exits old) false new → Least (row_asks family (asking b (BothCounted r reads reads' ws vs target exits)) old) false new
 never family true r reads reads' ws vs target exits old new h = counted-never family r reads reads' ws vs target exits old new h
 never family false r reads reads' ws vs target exits old new h = h
