@@ -11,7 +11,7 @@ use target_base::classes::{are_within, have_subs, hold_subs, regs_at};
 use target_base::{ClassId, Copied, IndexId, List, OpId, Reg, Target};
 
 /// The opcode COPY of every target.
-const COPY: OpId = OpId(0);
+pub(crate) const COPY: OpId = OpId(0);
 
 /// A join of two ranges.
 #[derive(Clone, Copy, Debug, PartialEq, Eq)]

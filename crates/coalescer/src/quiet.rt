@@ -1,13 +1,10 @@
 //! Whether a join loses no value: where a lane is written, no other lane that would be one with it
 //! is live behind the instruction or written by it.
 
-use crate::joins::Join;
+use crate::joins::{COPY, Join};
 use live_lanes::{LiveFunc, Stretch};
 use mir_func::{Instr, Loc, Op, Operand, RegOp};
-use target_base::{IndexId, OpId, Target};
-
-/// The opcode COPY of every target.
-const COPY: OpId = OpId(0);
+use target_base::{IndexId, Target};
 
 /// A lane of a range.
 #[derive(Clone, Copy, PartialEq, Eq)]

@@ -13,7 +13,7 @@ ghost use Rattle.instr_effects.specs.Runs.{of_kind, unit_clobbered};
 ghost use Rattle.instr_effects.specs.Steps.{act_writings};
 ghost use Rattle.instr_effects.specs.declared.owner.Owner.TheVariants as owners;
 
-use crate::definitions::{Definition, next_definition};
+use crate::definitions::{Definition, LATE, next_definition};
 use crate::effects::EffectReader;
 use crate::items::counted::condition_lane;
 use crate::masks::is_preserved;
@@ -63,7 +63,7 @@ impl<'a> EffectReader<'a> {
         ensures { OnOk result (writes.new.items ≡ writes.old.items ++ unit_clobbered self.entry.target.now (number_in self.entry.lanes.now) operands.now u) }
     {
         if !is_preserved(self.target, operands, u) {
-            push_writing(self.lanes.unit(u), false, writes)?;
+            push_writing(self.lanes.unit(u), LATE, writes)?;
         }
         Ok(())
     }
@@ -141,7 +141,7 @@ impl<'a> EffectReader<'a> {
     {
         if let Operand::Reg(op) = operand {
             if op.implicit && op.def {
-                self.fill_register(op, false, writes)?;
+                self.fill_register(op, LATE, writes)?;
             }
         }
         Ok(())

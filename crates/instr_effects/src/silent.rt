@@ -10,6 +10,7 @@ ghost use Rattle.instr_effects.specs.Runs.{run_numbers, of_kind};
 ghost use Rattle.instr_effects.specs.Steps.{act_writings, act_readings};
 ghost use Rattle.instr_effects.specs.declared.owner.Owner.TheVariants as owners;
 
+use crate::definitions::LATE;
 use crate::effects::{EffectReader, Effects};
 use crate::registers::operand_at;
 use crate::run::{LaneSequence, move_lanes};
@@ -55,7 +56,7 @@ impl<'a> EffectReader<'a> {
         let Some(to) = register_at(operands, 0) else {
             return Ok(());
         };
-        self.fill_result(&to, false, writes)
+        self.fill_result(&to, LATE, writes)
     }
 
     /// Adds what REG_SEQUENCE and INSERT_SUBREG write.
@@ -66,7 +67,7 @@ impl<'a> EffectReader<'a> {
         let Some(to) = register_at(operands, 0) else {
             return Ok(());
         };
-        self.fill_register(&to, false, writes)
+        self.fill_register(&to, LATE, writes)
     }
 
     /// What an immediate or an address gives the lanes of a definition: nothing that a lane held.
@@ -132,7 +133,7 @@ impl<'a> EffectReader<'a> {
         move_lanes(
             self.slot_lanes(slot, lanes, given.len()),
             given,
-            false,
+            LATE,
             effects,
         )?;
         Ok(())

@@ -9,7 +9,7 @@ use crate::lexer::{Sort, behind_word, is, is_ascii, is_blank, is_op_name, skip, 
 use crate::operands::{begins_register, take_operand};
 use crate::parts::join_words;
 use crate::raw::{RawInstr, RawOperand, RawOperands};
-use crate::registers::{continues, is_tail_word, take_register, take_words};
+use crate::registers::{BEFORE_EQUALS, continues, is_tail_word, take_register, take_words};
 use crate::stop::LineStop;
 use std::alloc::Global;
 use target_base::{Bytes, Effect, List, Target, TextOptions};
@@ -86,7 +86,7 @@ fn take_definition(alloc: Global, text: &[u8]) -> Result<(RawOperand, &[u8]), Li
     ensures len { IfOk result (λ r. length r.1.now ≤ length text.now) }
 {
     let (words, rest) = take_words(alloc, text)?;
-    let (reg, after) = take_register(alloc, true, words.as_slice(), rest)?;
+    let (reg, after) = take_register(alloc, BEFORE_EQUALS, words.as_slice(), rest)?;
     Ok((RawOperand::Reg(reg), after))
 }
 

@@ -344,6 +344,12 @@ fn with_tie(reg: RawReg, text: &[u8]) -> Result<(RawReg, &[u8]), LineStop>
     Ok((reg, rest))
 }
 
+/// Says of a register that it stands before the equals sign.
+pub const BEFORE_EQUALS: bool = true;
+
+/// Says of a register that it stands behind the equals sign, or where no such sign is.
+pub const BEHIND_EQUALS: bool = false;
+
 /// A register operand behind these flags, and the rest. `def` says that it stands before the
 /// equals sign.
 #[tactic(auto, unfolding(crate::specs::Registers::register_at))]

@@ -1,12 +1,13 @@
 //! How each kind of place changes when its range is spilled.
 
 use crate::kinds::{first_unreserved, home, reload_op, spill_op};
-use crate::plan::{Plan, SlotPart, SpillView, plain, slot_operands, undef_use, whole};
+use crate::plan::{Plan, SlotPart, SpillView, definition_of, slot_operands, undef_use, use_of};
 use crate::remat::{Remat, UseKey};
 use crate::seats::change_instr;
 use mir_func::opcodes::effect_of;
 use mir_func::operands::{class_of, register_at};
 use mir_func::{Instr, Loc, Operand, RegOp};
+use phi_elim::moves::{whole_definition, whole_use};
 use std::alloc::AllocError;
 use target_base::{ClassId, Effect, IndexId};
 
@@ -75,7 +76,7 @@ fn change_copy(
         _ => {
             let class = class_beside(view, &from);
             let part = plan.own_part(to.index);
-            let register = plain(from.loc, from.index, false, false);
+            let register = use_of(from.loc, from.index);
             let operands = slot_operands(view.alloc, register, part)?;
             plan.replace(instr.id, spill_op(view.target, class), operands)
         }
@@ -108,7 +109,7 @@ fn change_copy_from(
     remat: &Remat,
     plan: &mut Plan,
 ) -> Result<(), AllocError> {
-    let register = plain(to.loc, to.index, true, false);
+    let register = definition_of(to.loc, to.index);
     let key = UseKey {
         at: instr.id,
         indexed_class: None,
@@ -133,9 +134,9 @@ fn through_tiny(
     plan: &mut Plan,
 ) -> Result<(), AllocError> {
     let tiny = plan.tiny(class, plan.next_id())?;
-    let operands = slot_operands(view.alloc, whole(tiny, true), from)?;
+    let operands = slot_operands(view.alloc, whole_definition(tiny), from)?;
     plan.replace(instr.id, reload_op(view.target, class), operands)?;
-    let operands = slot_operands(view.alloc, whole(tiny, false), to)?;
+    let operands = slot_operands(view.alloc, whole_use(tiny), to)?;
     plan.put(
         view.gap_behind(instr.id),
         spill_op(view.target, class),

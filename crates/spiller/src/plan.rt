@@ -4,6 +4,7 @@ use crate::kinds::reload_op;
 use interference::{Tinies, Tiny};
 use live_lanes::{Edit, LiveFunc};
 use mir_func::{Gap, Instr, Loc, Op, Operand, Operands, RegOp};
+use phi_elim::moves::{whole_definition, whole_use};
 use std::alloc::{AllocError, Global};
 use target_base::{ClassId, Copied, IndexId, OpId, Reg, Target};
 
@@ -135,28 +136,30 @@ pub(crate) fn op_of(instr: &Instr) -> OpId {
     }
 }
 
-/// A register operand without flags.
-pub(crate) fn plain(loc: Loc, index: Option<IndexId>, def: bool, undef: bool) -> RegOp {
+/// A use of lanes of a register, without flags.
+pub(crate) fn use_of(loc: Loc, index: Option<IndexId>) -> RegOp {
     RegOp {
         loc,
         index,
-        def,
-        implicit: false,
-        undef,
-        early: false,
-        renamable: false,
-        tie: None,
+        ..whole_use(0)
     }
 }
 
-/// The whole of a range, read or defined.
-pub(crate) fn whole(v: u32, def: bool) -> RegOp {
-    plain(Loc::Virtual(v), None, def, false)
+/// A definition of lanes of a register, without flags.
+pub(crate) fn definition_of(loc: Loc, index: Option<IndexId>) -> RegOp {
+    RegOp {
+        loc,
+        index,
+        ..whole_definition(0)
+    }
 }
 
-/// A fixed register read as undefined.
+/// A use of a fixed register as undefined.
 pub(crate) fn undef_use(r: Reg) -> RegOp {
-    plain(Loc::Fixed(r), None, false, true)
+    RegOp {
+        undef: true,
+        ..use_of(Loc::Fixed(r), None)
+    }
 }
 
 /// Lanes of a spill slot.

@@ -1,11 +1,12 @@
 //! The tinies of a place: one for each way of reading the range, and one for each definition of it.
 
 use crate::kinds::spill_op;
-use crate::plan::{Plan, SpillView, op_of, plain, slot_operands, whole};
+use crate::plan::{Plan, SpillView, op_of, slot_operands};
 use crate::remat::{Remat, UseKey};
 use crate::roles::{IndexedClass, naming_of, operand_of_range};
 use mir_func::opcodes::{is_tied, next_role, roles_of, tied_number, ties_to};
-use mir_func::{Instr, Loc, Operand, Operands, RegOp};
+use mir_func::{Instr, Operand, Operands, RegOp};
+use phi_elim::moves::{whole_definition, whole_use};
 use std::alloc::AllocError;
 use target_base::{Boxed, Copied, Role};
 
@@ -124,10 +125,16 @@ impl PlaceTinies {
             indexed_class: Some(indexed_class),
         };
         match remat.source(key) {
-            Some(source) => plan.put_repeated(view, source, self.at, whole(range, true)),
+            Some(source) => plan.put_repeated(view, source, self.at, whole_definition(range)),
             None => {
                 let part = plan.own_part(indexed_class.index);
-                plan.put_reload(view, self.at, indexed_class.class, whole(range, true), part)
+                plan.put_reload(
+                    view,
+                    self.at,
+                    indexed_class.class,
+                    whole_definition(range),
+                    part,
+                )
             }
         }
     }
@@ -190,7 +197,7 @@ impl PlaceTinies {
             if let Some(op) = operand_of_range(view, operand) {
                 if ties_to(role, tiny.number) && !op.undef {
                     let part = plan.own_part(op.index);
-                    let register = whole(tiny.range, true);
+                    let register = whole_definition(tiny.range);
                     plan.put_reload(view, self.at, tiny.indexed_class.class, register, part)?;
                 }
             }
@@ -278,7 +285,11 @@ impl PlaceTinies {
             self.tiny_used(view, by, role, &op)
         };
         match tiny {
-            Some(range) => plain(Loc::Virtual(range), None, op.def, !op.def && op.undef),
+            Some(range) if op.def => whole_definition(range),
+            Some(range) => RegOp {
+                undef: op.undef,
+                ..whole_use(range)
+            },
             None => op,
         }
     }
@@ -288,7 +299,7 @@ impl PlaceTinies {
         'definitions: for tiny in &self.definitions {
             if view.is_live_behind(tiny.indexed_class.index, tiny.by) {
                 let part = plan.own_part(tiny.indexed_class.index);
-                let operands = slot_operands(view.alloc, whole(tiny.range, false), part)?;
+                let operands = slot_operands(view.alloc, whole_use(tiny.range), part)?;
                 let store = spill_op(view.target, tiny.indexed_class.class);
                 plan.put(view.gap_behind(self.last), store, operands)?;
             }

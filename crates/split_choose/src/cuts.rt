@@ -218,7 +218,7 @@ fn labels_of(view: RegionView<'_>, choice: &RegionCut) -> Result<Labels, AllocEr
 }
 
 /// Whether a node is in; without a node what else is.
-fn is_in(inside: &[bool], node: Option<u32>, otherwise: bool) -> bool
+fn is_in_or(inside: &[bool], node: Option<u32>, otherwise: bool) -> bool
     ensures { result ≡ is_node_in inside.now node otherwise }
 {
     match node {
@@ -232,11 +232,11 @@ fn is_in(inside: &[bool], node: Option<u32>, otherwise: bool) -> bool
 fn sides_of(inside: &[bool], row: BlockNodes) -> Sides
     ensures { result ≡ sides_of inside.now row }
 {
-    let own = is_in(inside, row.inside, false);
+    let own = is_in_or(inside, row.inside, false);
     Sides {
-        start: is_in(inside, row.entry, own),
+        start: is_in_or(inside, row.entry, own),
         inside: own,
-        end: is_in(inside, row.exit, own),
+        end: is_in_or(inside, row.exit, own),
     }
 }
 

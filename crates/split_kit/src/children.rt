@@ -4,11 +4,9 @@ use interference::Matrix;
 use live_lanes::{Edit, Labels, LiveFunc, Mark, Spot};
 use mir_func::operands::class_of;
 use mir_func::{Gap, Instr, Loc, Op, Operand, Operands, RegOp};
+use phi_elim::moves::{COPY, whole_definition, whole_use};
 use std::alloc::{AllocError, Global};
-use target_base::{ClassId, Copied, Numbers, OpId};
-
-/// The opcode COPY of every target.
-const COPY: OpId = OpId(0);
+use target_base::{ClassId, Copied, Numbers};
 
 /// What is split: the function as it stands before, the range, and its parts, the remainder first.
 #[derive(Clone, Copy)]
@@ -202,8 +200,8 @@ fn change_label(
         return Ok(());
     }
     let mut operands = Operands::new(view.alloc);
-    operands.push(Operand::Reg(whole(child(view, to), true)))?;
-    operands.push(Operand::Reg(whole(child(view, from), false)))?;
+    operands.push(Operand::Reg(whole_definition(child(view, to))))?;
+    operands.push(Operand::Reg(whole_use(child(view, from))))?;
     edits.push(Edit::Put(gap, COPY, operands))?;
     Ok(())
 }
@@ -211,20 +209,6 @@ fn change_label(
 /// The part of a label.
 fn child(view: SplitView<'_>, label: u16) -> u32 {
     view.children.get(label as usize).copied().unwrap_or(view.v)
-}
-
-/// The whole of a range, read or defined.
-fn whole(v: u32, def: bool) -> RegOp {
-    RegOp {
-        loc: Loc::Virtual(v),
-        index: None,
-        def,
-        implicit: false,
-        undef: false,
-        early: false,
-        renamable: false,
-        tie: None,
-    }
 }
 
 /// Puts the part of a label into the operands of instructions.

@@ -8,7 +8,7 @@ ghost use Rattle.std.specs.List.{list_any};
 ghost use Rattle.meaning.specs.declared.types.Lane.TheVariants.{UnitLane};
 ghost use Rattle.target_base.specs.declared.types.Effect.TheVariants as effects;
 
-use crate::definitions::{Definition, next_definition};
+use crate::definitions::{Definition, LATE, next_definition};
 use crate::items::counted::is_flags;
 use crate::items::lanes::{
     LaneList, push_operand_lanes, push_operand_widths, push_undefined_lanes,
@@ -229,8 +229,8 @@ fn push_compared(
     let mut all = List::new(alloc);
     push_all_lanes(&mut all, t, f, definitions.as_slice())?;
     let mut writes = List::new(alloc);
-    push_computed(&mut writes, false, 0, flags.as_slice())?;
-    push_undefined(&mut writes, false, all.as_slice())?;
+    push_computed(&mut writes, LATE, 0, flags.as_slice())?;
+    push_undefined(&mut writes, LATE, all.as_slice())?;
     push_kept(out, alloc, t, writes.as_slice())
 }
 
@@ -250,13 +250,13 @@ fn push_implicit_writes(
         Effect::Cmp => push_compared(out, alloc, t, f, roles_of(t, i), operands),
         Effect::Call => {
             let answered = implicit_lanes(alloc, t, f, operands)?;
-            push_computed(out, false, 0, answered.as_slice())?;
+            push_computed(out, LATE, 0, answered.as_slice())?;
             let clobbered = clobbered_units(alloc, t, operands)?;
-            push_undefined(out, false, clobbered.as_slice())
+            push_undefined(out, LATE, clobbered.as_slice())
         }
         _ => {
             let lanes = implicit_lanes(alloc, t, f, operands)?;
-            push_undefined(out, false, lanes.as_slice())
+            push_undefined(out, LATE, lanes.as_slice())
         }
     }
 }
@@ -274,7 +274,7 @@ fn push_opaque_clobbers(
     match kind {
         OpaqueKind::Call => {
             let units = clobbered_units(alloc, t, operands)?;
-            push_undefined(out, false, units.as_slice())
+            push_undefined(out, LATE, units.as_slice())
         }
         _ => Ok(()),
     }
@@ -295,7 +295,7 @@ fn push_opaque_answer(
     let definitions = implicit_definitions(alloc, operands)?;
     let mut lanes = List::new(alloc);
     push_all_lanes(&mut lanes, t, f, definitions.as_slice())?;
-    push_computed(out, false, first, lanes.as_slice())?;
+    push_computed(out, LATE, first, lanes.as_slice())?;
     Ok(())
 }
 

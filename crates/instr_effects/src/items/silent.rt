@@ -8,6 +8,7 @@ ghost use Rattle.mir_func.specs.Binding.{is_early_clobber, roles_of};
 ghost use Rattle.mir_meaning.specs.Registers.{numbers, operand_lanes, use_sources, operand_widths, slot_lane_numbers, slot_lanes, has_number};
 ghost use Rattle.mir_meaning.specs.Items.{moved, undefined, copied, defined_undef, parts, sequenced, inserted, constant_bits, constant_lanes, constant_of, given_constant, widths_once, at_all_widths, spilled, reloaded, silent_writes};
 
+use crate::definitions::LATE;
 use crate::items::counted::{low_bits, residue, total};
 use crate::items::lanes::{
     LaneList, Sources, push_located_lanes, push_operand_lanes, push_operand_widths,
@@ -33,7 +34,7 @@ fn push_copied(
     match operands {
         [Operand::Reg(d), Operand::Reg(s), ..] => {
             let sources = use_sources(alloc, t, f, s)?;
-            push_defined(out, alloc, t, f, (false, *d), sources.as_slice())
+            push_defined(out, alloc, t, f, (LATE, *d), sources.as_slice())
         }
         _ => Ok(()),
     }
@@ -54,7 +55,7 @@ fn push_defined_undef(
             let mut lanes = List::new(alloc);
             push_operand_lanes(&mut lanes, t, f, d)?;
             push_undefined_lanes(&mut lanes, t, f, d)?;
-            push_undefined(out, false, lanes.as_slice())
+            push_undefined(out, LATE, lanes.as_slice())
         }
         _ => Ok(()),
     }
@@ -72,7 +73,7 @@ fn push_part(
     ensures { OnOk result (out.new ≡ out.old ++ moved false lanes.now (use_sources t.now f.now s.now)) }
 {
     let sources = use_sources(alloc, t, f, s)?;
-    push_moved(out, alloc, false, lanes, sources.as_slice())
+    push_moved(out, alloc, LATE, lanes, sources.as_slice())
 }
 
 /// The parts of a REG_SEQUENCE, each in the lanes of its index.
@@ -110,7 +111,7 @@ fn push_sequence(
     push_parts(out, alloc, t, f, d, inputs)?;
     let mut lanes = List::new(alloc);
     push_operand_lanes(&mut lanes, t, f, d)?;
-    push_undefined(out, false, lanes.as_slice())
+    push_undefined(out, LATE, lanes.as_slice())
 }
 
 /// REG_SEQUENCE: its parts.
@@ -373,7 +374,7 @@ fn push_spilled(
             let lanes = slot_lanes(alloc, *s, numbers.as_slice(), widths.as_slice())?;
             push_part(out, alloc, t, f, lanes.as_slice(), o)?;
             let others = at_all_widths(alloc, t, *s, numbers.as_slice())?;
-            push_undefined(out, false, others.as_slice())
+            push_undefined(out, LATE, others.as_slice())
         }
         _ => Ok(()),
     }

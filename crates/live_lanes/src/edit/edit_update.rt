@@ -37,6 +37,15 @@ pub(crate) struct Need {
     pub cause: Cause,
 }
 
+/// What becomes of a live piece that has no end yet where ends are given anew.
+#[derive(Clone, Copy, PartialEq, Eq)]
+enum Endless {
+    /// It is left as it is.
+    Kept,
+    /// It gets its end too.
+    Given,
+}
+
 /// How far the cells that were looked for last had moved behind the places where they had been found,
 /// for some lanes: the cell of a block nearby has mostly moved as far.
 #[derive(Clone, Copy)]
@@ -200,10 +209,10 @@ impl Table {
         self.ask(others, &mut reasons)?;
         let risen = self.rise(reasons.as_slice(), &mut around, log)?;
         // Those that came alive and have no end get theirs last.
-        self.end_again(suspects.as_slice(), false, log)?;
-        self.end_again(others, false, log)?;
-        self.end_again(around.as_slice(), false, log)?;
-        self.end_again(risen.as_slice(), true, log)
+        self.end_again(suspects.as_slice(), Endless::Kept, log)?;
+        self.end_again(others, Endless::Kept, log)?;
+        self.end_again(around.as_slice(), Endless::Kept, log)?;
+        self.end_again(risen.as_slice(), Endless::Given, log)
     }
 
     /// Looks at the causes of pieces again, and answers those that fell.
@@ -460,17 +469,17 @@ impl Table {
         }
     }
 
-    /// Gives pieces their ends anew, those that have no end yet too where this is said.
+    /// Gives pieces their ends anew.
     fn end_again(
         &mut self,
         pieces: &[PieceRef],
-        is_last: bool,
+        endless: Endless,
         log: &mut Log,
     ) -> Result<(), AllocError> {
         let mut moves = Moves::new();
         'pieces: for piece_ref in pieces {
             if let Some(place) = self.place_again(*piece_ref, &mut moves) {
-                self.end_piece(piece_ref.spot, place, is_last, log)?;
+                self.end_piece(piece_ref.spot, place, endless, log)?;
             }
         }
         Ok(())
@@ -489,21 +498,21 @@ impl Table {
         &mut self,
         spot: PieceSpot,
         place: usize,
-        is_last: bool,
+        endless: Endless,
         log: &mut Log,
     ) -> Result<(), AllocError> {
-        match self.new_end(spot, place, is_last) {
+        match self.new_end(spot, place, endless) {
             Some(end) => self.set_end(spot, place, end, log),
             None => Ok(()),
         }
     }
 
     /// Up to where the piece at a spot is live now, where this is another end than it has.
-    fn new_end(&self, spot: PieceSpot, place: usize, is_last: bool) -> Option<PieceEnd> {
+    fn new_end(&self, spot: PieceSpot, place: usize, endless: Endless) -> Option<PieceEnd> {
         let row = self.rows.rows.get(spot.lane as usize)?;
         let cell = row.cells.get(place)?;
         let piece = cell.piece(spot.index)?;
-        if !is_last && piece.is_live() && piece.end == PieceEnd::Never {
+        if endless == Endless::Kept && piece.is_live() && piece.end == PieceEnd::Never {
             return None;
         }
         let end = self.end_now(spot, place, cell, piece);

@@ -17,7 +17,7 @@ use std::alloc::{AllocError, Global};
 use target_base::{Boxed, OpId, Target};
 
 /// The opcode COPY of every target.
-const COPY: OpId = OpId(0);
+pub(crate) const COPY: OpId = OpId(0);
 
 /// An edit of a function.
 #[derive(Drop)]

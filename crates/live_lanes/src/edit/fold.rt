@@ -1,15 +1,12 @@
 //! Folds: a range, or lanes of it, stands for another one.
 
-use crate::edit::edits::Edit;
+use crate::edit::edits::{COPY, Edit};
 use crate::live::LiveFunc;
 use mir_func::operands::class_of;
 use mir_func::{Loc, Op, Operand, Operands, RegOp};
 use std::alloc::{AllocError, Global};
 use target_base::classes::{are_within, regs_at};
 use target_base::{Copied, IndexId, OpId, Reg, Target};
-
-/// The opcode COPY of every target.
-const COPY: OpId = OpId(0);
 
 /// A fold: `keep`, or its lanes of an index, stands for `gone`.
 #[derive(Clone, Copy)]
