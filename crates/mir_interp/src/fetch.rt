@@ -39,6 +39,12 @@ fn place_of(names: &[Bytes], name: &[u8]) -> Result<usize, AllocError>
     Err(AllocError)
 }
 
+/// Says of a frame object that it is a fixed one, as `%fixed-stack.n`.
+const FIXED: bool = true;
+
+/// Says of a frame object that it is no fixed one, as `%stack.n`.
+const MOVABLE: bool = false;
+
 impl<'a, W: World> RunContext<'a, W> {
     /// A constant as a number.
     fn number_of(&self, c: &Constant) -> Result<u128, AllocError>
@@ -46,8 +52,8 @@ impl<'a, W: World> RunContext<'a, W> {
     {
         match c {
             Constant::Immediate(n) => Ok(*n),
-            Constant::StackAddress(n) => Ok(low_bits(self.world.frame(false, *n), 64)),
-            Constant::FixedStackAddress(n) => Ok(low_bits(self.world.frame(true, *n), 64)),
+            Constant::StackAddress(n) => Ok(low_bits(self.world.frame(MOVABLE, *n), 64)),
+            Constant::FixedStackAddress(n) => Ok(low_bits(self.world.frame(FIXED, *n), 64)),
             Constant::SymbolAddress(name) => {
                 let m = place_of(self.symbols, name.as_slice())?;
                 Ok(low_bits(self.world.symbol(m), 64))

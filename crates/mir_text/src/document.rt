@@ -285,6 +285,12 @@ impl<'a> DocReader<'a> {
     }
 }
 
+/// Says of a document that it is the first of its file, so that IR may stand here.
+pub const FIRST: bool = true;
+
+/// Says of a document that it isn't the first of its file, so that no IR may stand here.
+pub const LATER: bool = false;
+
 /// Reads one document, whose first line has the number `line`; `first` says whether IR may stand
 /// here. Fault comes exactly where the bytes spell no document, with the first line that can't
 /// stand behind those before it and the first of Layout, Token and Name that fails there, or with
