@@ -1,7 +1,7 @@
 #!/usr/bin/env python3
 """Compares the program with a reference model over targets with opaque instructions.
 
-Run: compare_opaque.py MODEL PROGRAM SEED COUNT [texts [all]]
+Run: compare_opaque.py MODEL PROGRAM SEED COUNT [texts [all]], by python3, or by pypy3 in a third of the time
 
 MODEL is the folder of the reference model (the package `llra_ref` and the modules `fuzz_opaque` and
 `fuzz_opaque_text`), PROGRAM the executable of `llra`. For each of COUNT seeds from SEED it makes a target with opaque
@@ -16,6 +16,8 @@ With `texts` it makes six functions for each seed, most of them with the text, t
 `alloc`, `run` and `check` alone, and both verifiers and the checker of what is allocated: more inputs in less time. With
 `texts all` every command is asked of these."""
 import collections
+import functools
+import json
 import os
 import random
 import subprocess
@@ -41,13 +43,29 @@ if TEXTS and not ALL:
     OF_SOURCE, OF_ALLOCATION = ["run T IN f 60 3", "check T IN IN"], ["verify allocated T OUT", "check T IN OUT"]
 
 
+# Starts the program again and again. A process of its own, since one that holds the model takes long to start another.
+STARTER = """
+import json, subprocess, sys
+for line in sys.stdin.buffer:
+    words, folder = json.loads(line)
+    done = subprocess.run(words, cwd=folder, capture_output=True, timeout=120)
+    sys.stdout.buffer.write(b"%d %d %d\\n" % (done.returncode, len(done.stdout), len(done.stderr)))
+    sys.stdout.buffer.write(done.stdout + done.stderr)
+    sys.stdout.buffer.flush()
+"""
+starter = subprocess.Popen(["python3", "-c", STARTER], stdin=subprocess.PIPE, stdout=subprocess.PIPE)
+cli.read_target = functools.lru_cache(64)(cli.read_target)
+
+
 def model(words, files):
     return cli.top([w.encode() for w in words.split()], cli.MemFiles({k.encode(): v for k, v in files.items()}))
 
 
 def program(words, folder):
-    done = subprocess.run([PROGRAM, *words.split()], cwd=folder, capture_output=True, timeout=120)
-    return done.returncode, done.stdout, done.stderr
+    starter.stdin.write(json.dumps([[PROGRAM, *words.split()], folder]).encode() + b"\n")
+    starter.stdin.flush()
+    status, output, errors = (int(word) for word in starter.stdout.readline().split())
+    return status, starter.stdout.read(output), starter.stdout.read(errors)
 
 
 def cases(seed, mutated):
