@@ -3,9 +3,9 @@
 ghost use Rattle.std.specs.Prelude.{◌≡◌, ◌≤◌, ◌++◌, length, OnOk, IfOk};
 ghost use Rattle.ra_top.specs.Generator.Text.{register_lines, behind_registers, instr_lines, behind_instrs, block_lines, behind_block, blocks_lines, behind_blocks, generated_text};
 
-use crate::generator::lines::{put, put_instr, put_jump, put_register};
+use crate::generator::lines::{put_instr, put_jump, put_register};
 use crate::generator::source::{BLOCKS, NumberSource, REGISTERS};
-use crate::numbers::put_numbered;
+use crate::numbers::{put, put_numbered};
 use std::alloc::{AllocError, Global};
 use target_base::Bytes;
 
