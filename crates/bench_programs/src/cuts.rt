@@ -82,8 +82,12 @@ fn random_net(alloc: Global, nodes: u32, arcs: u32, seed: u64) -> Result<Net, Al
 
 /// The arc that a word spells.
 fn arc_of(word: &str) -> Result<Arc> {
-    let (from, rest) = word.split_once('-').context("an arc is FROM-TO:CAPACITY")?;
-    let (to, cap) = rest.split_once(':').context("an arc is FROM-TO:CAPACITY")?;
+    let Some((from, rest)) = word.split_once('-') else {
+        bail!("an arc is FROM-TO:CAPACITY");
+    };
+    let Some((to, cap)) = rest.split_once(':') else {
+        bail!("an arc is FROM-TO:CAPACITY");
+    };
     Ok(Arc {
         from: from.parse::<u32>().context("reading a node")?,
         to: to.parse::<u32>().context("reading a node")?,

@@ -23,7 +23,10 @@ pub fn tell(rt: &HostRuntime, line: &str) -> Result<()> {
 
 /// The text of bytes; empty where they spell none.
 pub fn text_of(bytes: &[u8]) -> &str {
-    str::from_utf8(bytes).unwrap_or("")
+    match str::from_utf8(bytes) {
+        Ok(text) => text,
+        Err(_) => "",
+    }
 }
 
 /// The target of a word.
@@ -78,11 +81,7 @@ fn printed_length(alloc: Global, target: &Target, doc: &Doc) -> Result<usize, Al
 }
 
 /// How many bytes are printed of the document in a file, or else the line of the file's fault.
-fn document_length(
-    rt: &HostRuntime,
-    target: &Target,
-    path: &str,
-) -> Result<core::result::Result<usize, u64>> {
+fn document_length(rt: &HostRuntime, target: &Target, path: &str) -> Result<Result<usize, u64>> {
     let bytes = bytes_of(rt, path, "reading the file")?;
     match read_doc(rt.alloc(), target, true, 1, bytes.as_slice()) {
         Ok(doc) => Ok(Ok(printed_length(rt.alloc(), target, &doc)?)),
