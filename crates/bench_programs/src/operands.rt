@@ -85,8 +85,11 @@ pub fn answer_operand(rt: &HostRuntime, target: &Target, words: &[String]) -> Re
     let [path, id, place, register, words @ ..] = words else {
         bail!("a file, an instruction, an operand and a register are missing");
     };
-    let id = id.parse::<u32>().context("reading an id")?;
-    let place = place.parse::<usize>().context("reading an operand")?;
+    let id = id.as_str().parse::<u32>().context("reading an id")?;
+    let place = place
+        .as_str()
+        .parse::<usize>()
+        .context("reading an operand")?;
     let operand = operand_of(target, register.as_str(), words)?;
     tell_replaced(rt, target, path.as_str(), id, place, operand)
 }

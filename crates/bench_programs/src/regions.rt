@@ -83,7 +83,7 @@ fn hold(m: &mut Matrix, range: &str, name: &str) -> Result<()> {
 /// range V.
 fn answer_ranges(rt: &HostRuntime, m: &mut Matrix, freqs: &Freqs, words: &[String]) -> Result<()> {
     for word in words {
-        match word.split_once('=') {
+        match word.as_str().split_once('=') {
             Some((range, name)) => hold(m, range, name)?,
             None => tell_region(rt, m, freqs, word.as_str())?,
         }

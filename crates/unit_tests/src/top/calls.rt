@@ -15,7 +15,7 @@ fn file(alloc: Global, name: &str, bytes: &[u8]) -> Result<(String, Vec<u8>), Al
 fn files(alloc: Global, all: &[(&str, &[u8])]) -> Result<Vec<(String, Vec<u8>)>, AllocError> {
     let mut made = Vec::new(alloc);
     for (name, bytes) in all {
-        made.push(file(alloc, name, bytes)?)?;
+        made.push(file(alloc, *name, *bytes)?)?;
     }
     Ok(made)
 }

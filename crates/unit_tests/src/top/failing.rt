@@ -33,8 +33,10 @@ static FILES_CALLS: [(FilesCall, Option<usize>, &[u8; 4]); 13] = [
 
 fn answer(files: &mut MemFiles, call: FilesCall, piece: &mut [u8; 4]) -> Option<usize> {
     match call {
-        FilesCall::Start(name) if files.start(name).is_ok() => Some(0),
-        FilesCall::Start(_) => None,
+        FilesCall::Start(name) => match files.start(name) {
+            Ok(()) => Some(0),
+            Err(_) => None,
+        },
         FilesCall::Read => files.read(piece).ok(),
         FilesCall::Step(most) => {
             if most > 0 {
@@ -81,9 +83,9 @@ fn check_sink(rt: &HostRuntime, sink: &mut MemSink) {
         if *most > 0 {
             sink.step(*most);
         }
-        assert_eq!(rt; sink.write(bytes).ok(), *answered, "call {k}");
+        assert_eq!(rt; sink.write(*bytes).ok(), *answered, "call {k}");
     }
-    assert!(rt; sink.bytes() == b"abcde");
+    assert!(rt; sink.bytes() == b"abcde".as_slice());
 }
 
 #[test]

@@ -119,18 +119,14 @@ static LINES: [(&str, &[u64], usize, &[u8]); 3] = [
     ("GONE", &[], 20, b"llra: cannot read GO"),
 ];
 
+/// What the calls for these names give besides the line.
+static GONE: Row = (RET, &[], &[], 4096, 4096, 3, b"");
+
 #[test]
 fn a_fault_of_the_error_sink_changes_nothing(rt: HostRuntime) -> Result<(), Fail> {
     for (k, (name, fails, room, line)) in LINES.iter().enumerate() {
-        let mut err = sink_of(rt.alloc(), *room, fails, 0)?;
-        check_line(
-            &rt,
-            k,
-            name,
-            &(RET, &[], &[], 4096, 4096, 3, b""),
-            &mut err,
-            line,
-        )?;
+        let mut err = sink_of(rt.alloc(), *room, *fails, 0)?;
+        check_line(&rt, k, *name, &GONE, &mut err, *line)?;
     }
     Ok(())
 }
