@@ -13,14 +13,14 @@
 //! - `label bb.N start L` or `label bb.N before I L`: from the block's start on, or from before its instruction I on
 //!   (counted from 0; the last gap has the number of instructions), the label L holds.
 
-use crate::documents::{function_of, source_of};
+use crate::documents::{function_of, source_of, text_of};
 use anyhow::{Context, Result, bail};
 use block_freq::{Freqs, frequencies};
 use coalescer::coalesce;
 use interference::Matrix;
 use live_lanes::{LiveFunc, Mark, Spot};
 use mir_func::operands::class_of;
-use mir_func::{Func, Gap, Valid};
+use mir_func::{Func, Gap};
 use phi_elim::lower_phis;
 use split_choose::{BlockNodes, Region, RegionNet, cut_region, region_net};
 use std::alloc::{AllocError, Global};
@@ -28,36 +28,27 @@ use std::rt::HostRuntime;
 use target_base::{Reg, Target};
 use two_address::lower_tied;
 
-/// A function as the allocator takes it: lowered, with its copies joined. No range is assigned yet.
-#[derive(Drop)]
-pub struct AllocatorInput {
-    matrix: Matrix,
-    freqs: Freqs,
-}
-
-/// A valid source, made ready as before a run of the allocator.
-fn prepare(alloc: Global, target: &Target, source: Valid) -> Result<AllocatorInput, AllocError> {
-    let f = lower_tied(alloc, target, lower_phis(alloc, target, source)?)?;
-    let freqs = frequencies(alloc, &f)?;
-    let live = LiveFunc::compute(alloc, target, f)?;
-    let (live, _) = coalesce(alloc, target, live, &freqs)?;
-    let matrix = Matrix::new(alloc, live)?;
-    Ok(AllocatorInput { matrix, freqs })
-}
-
-/// The function of a document, made ready.
-pub fn prepared_of(rt: &HostRuntime, target: &Target, path: &str) -> Result<AllocatorInput> {
+/// The function of a document, a valid source, without phis and ties.
+fn lowered_of(rt: &HostRuntime, target: &Target, path: &str) -> Result<Func> {
     let Some(f) = function_of(rt, target, path)? else {
         bail!("no function");
     };
     let Some(source) = source_of(rt, target, f)? else {
         bail!("no valid source");
     };
-    Ok(prepare(rt.alloc(), target, source)?)
+    let f = lower_phis(rt.alloc(), target, source)?;
+    Ok(lower_tied(rt.alloc(), target, f)?)
+}
+
+/// A lowered function with its copies joined, as the allocator takes it. No range is assigned yet.
+fn joined(alloc: Global, target: &Target, f: Func, freqs: &Freqs) -> Result<Matrix, AllocError> {
+    let live = LiveFunc::compute(alloc, target, f)?;
+    let (live, _) = coalesce(alloc, target, live, freqs)?;
+    Matrix::new(alloc, live)
 }
 
 /// The register of a name.
-fn register_of(target: &Target, name: &str) -> Option<Reg> {
+pub fn register_of(target: &Target, name: &str) -> Option<Reg> {
     let mut number = 0;
     for register in target.regs.as_slice() {
         if register.name.as_slice() == name.as_bytes() {
@@ -78,47 +69,88 @@ fn range_of(f: &Func, word: &str) -> Result<u32> {
 }
 
 /// Assigns a range to the register of a name.
-fn hold(prepared: &mut AllocatorInput, range: &str, name: &str) -> Result<()> {
-    let live = prepared.matrix.live();
+fn hold(m: &mut Matrix, range: &str, name: &str) -> Result<()> {
+    let live = m.live();
     let v = range_of(live.func(), range)?;
     let Some(register) = register_of(live.target(), name) else {
         bail!("no such register");
     };
-    prepared.matrix.assign(v, register)?;
+    m.assign(v, register)?;
     Ok(())
 }
 
-/// Does what a word says: `V=R` assigns the range V to the register R, and `V` prints the region of
-/// the range V.
-pub fn answer_range(rt: &HostRuntime, prepared: &mut AllocatorInput, word: &str) -> Result<()> {
-    match word.split_once('=') {
-        Some((range, name)) => hold(prepared, range, name),
-        None => tell_region(rt, prepared, word),
+/// Does what words say: `V=R` assigns the range V to the register R, and `V` prints the region of the
+/// range V.
+fn answer_ranges(rt: &HostRuntime, m: &mut Matrix, freqs: &Freqs, words: &[String]) -> Result<()> {
+    for word in words {
+        match word.as_str().split_once('=') {
+            Some((range, name)) => hold(m, range, name)?,
+            None => tell_region(rt, m, freqs, word.as_str())?,
+        }
     }
+    Ok(())
+}
+
+/// Does what words say of a lowered function.
+fn answer_lowered(rt: &HostRuntime, target: &Target, f: Func, words: &[String]) -> Result<()> {
+    let freqs = frequencies(rt.alloc(), &f)?;
+    let mut m = joined(rt.alloc(), target, f, &freqs)?;
+    answer_ranges(rt, &mut m, &freqs, words)
+}
+
+/// Answers `--region`.
+pub fn answer_region(rt: &HostRuntime, target: &Target, words: &[String]) -> Result<()> {
+    let [path, words @ ..] = words else {
+        bail!("a target and a file are missing");
+    };
+    let f = lowered_of(rt, target, path.as_str())?;
+    answer_lowered(rt, target, f, words)
 }
 
 /// Prints the region of a range.
-fn tell_region(rt: &HostRuntime, prepared: &AllocatorInput, word: &str) -> Result<()> {
-    let m = &prepared.matrix;
+fn tell_region(rt: &HostRuntime, m: &Matrix, freqs: &Freqs, word: &str) -> Result<()> {
     let v = range_of(m.live().func(), word)?;
-    let Some(region) = cut_region(rt.alloc(), m, v, &prepared.freqs)? else {
-        println!(rt; "range %{} has no region", v)?;
-        return Ok(());
-    };
-    let net = region_net(rt.alloc(), m, v, &prepared.freqs, region.reg)?;
-    tell_head(rt, m.live().target(), v, &region)?;
-    tell_blocks(rt, m.live().func(), &net)?;
-    tell_nodes(rt, m.live().func(), &net, region.cut.inside.as_slice())?;
-    tell_arcs(rt, &net, region.cut.flow.as_slice())?;
-    tell_labels(rt, m.live().func(), region.labels.as_slice())
+    match cut_region(rt.alloc(), m, v, freqs)? {
+        Some(region) => tell_found(rt, m, freqs, v, &region),
+        None => {
+            println!(rt; "range %{v} has no region")?;
+            Ok(())
+        }
+    }
+}
+
+/// Prints a region of a range and its net.
+fn tell_found(rt: &HostRuntime, m: &Matrix, freqs: &Freqs, v: u32, region: &Region) -> Result<()> {
+    let net = region_net(rt.alloc(), m, v, freqs, region.reg)?;
+    tell_lines(rt, m.live(), v, region, &net)
+}
+
+/// Prints the lines of a region of a range.
+fn tell_lines(
+    rt: &HostRuntime,
+    live: &LiveFunc,
+    v: u32,
+    region: &Region,
+    net: &RegionNet,
+) -> Result<()> {
+    tell_head(rt, live.target(), v, region)?;
+    tell_blocks(rt, live.func(), net)?;
+    tell_nodes(rt, live.func(), net, region.cut.inside.as_slice())?;
+    tell_arcs(rt, net, region.cut.flow.as_slice())?;
+    tell_labels(rt, live.func(), region.labels.as_slice())
+}
+
+/// The name of a register.
+fn name_of(target: &Target, register: Reg) -> &str {
+    match target.regs.as_slice().get(register.0 as usize) {
+        Some(register) => text_of(register.name.as_slice()),
+        None => "",
+    }
 }
 
 /// Prints the range, the register and the costs.
 fn tell_head(rt: &HostRuntime, target: &Target, v: u32, region: &Region) -> Result<()> {
-    let name = match target.regs.as_slice().get(region.reg.0 as usize) {
-        Some(register) => String::from_utf8_lossy(rt.alloc(), register.name.as_slice())?,
-        None => String::new(rt.alloc()),
-    };
+    let name = name_of(target, region.reg);
     let base = region.base;
     let cost = region.cut.cost;
     println!(rt; "range %{v} register ${name} base {base} cost {cost}")?;

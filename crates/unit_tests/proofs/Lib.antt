@@ -1,2 +1,1 @@
 pub mod BaseLemmas
-pub mod MoreArcs

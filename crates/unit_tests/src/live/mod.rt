@@ -1,4 +1,0 @@
-//! Tests of what is live in functions that are read.
-
-#[cfg(test)]
-mod worked;

@@ -1,4 +1,0 @@
-//! Tests of the verifiers over functions that no text spells.
-
-#[cfg(test)]
-mod unspelled;
