@@ -1,6 +1,8 @@
 use Rattle.std.proofs.Common.{refl, sym, subst}
 use Rattle.std.proofs.lemmas.Result.{err_from_is_err_and}
+use Rattle.target_base.specs.declared.types.Target.{Target}
 use Rattle.pipeline.specs.Guarded.Function.{IfRefused}
+use Rattle.pipeline.specs.Guarded.Told.{ToldRun}
 use Rattle.pipeline.proofs.GuardLemmas.Refused.{refused_late, untold_late}
 use Rattle.pipeline.proofs.GuardLemmas.Told.{part_of_none, part_of_run, on_err}
 use Rattle.pipeline.proofs.guarded.function.allocate_function.Goals as goal
@@ -33,7 +35,14 @@ returns-in_err-made-clause-part g c = on_err c.from_residual-in_err-made.result 
 -- the run had come to its end
 pub returns-in_err-made-2-clause-part : goal.returns-in_err-made-2-clause-part
 returns-in_err-made-2-clause-part g c =
-    on_err c.from_residual-in_err-made-2.result (part_of_run (g.W.Watcher.next c.args.reader.now) c.args.number c.args.watchers.now.items c.with_registers.new.watchers.items (rw c.target-target.ensures at c.in_ok-made.ensures.told))
+    let old = c.args.watchers.now.items in
+    let new = c.with_registers.new.watchers.items in
+    let run = subst (λ (t : Target). ToldRun (g.W.Watcher.next t) c.args.number old new) c.target-target.ensures c.in_ok-made.ensures.told in
+    on_err c.from_residual-in_err-made-2.result (part_of_run (g.W.Watcher.next c.args.reader.now) c.args.number old new run)
 
-pub returns-clause-part : goal.returns-clause-part
-returns-clause-part g c = part_of_run (g.W.Watcher.next c.args.reader.now) c.args.number c.args.watchers.now.items c.with_registers.new.watchers.items (rw c.target-target.ensures at c.in_ok-made.ensures.told)
+pub returns-in-None-clause-part : goal.returns-in-None-clause-part
+returns-in-None-clause-part g c =
+    let old = c.args.watchers.now.items in
+    let new = c.with_registers.new.watchers.items in
+    let run = subst (λ (t : Target). ToldRun (g.W.Watcher.next t) c.args.number old new) c.target-target.ensures c.in_ok-made.ensures.told in
+    part_of_run (g.W.Watcher.next c.args.reader.now) c.args.number old new run
