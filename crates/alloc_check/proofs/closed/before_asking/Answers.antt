@@ -18,8 +18,8 @@ use Rattle.alloc_check.proofs.closed.before_asking.Goals as goal
 carries : (family : Family) (b : Bool) (row r : Row) (old new : Facts) → row ≡ r → is_pair r ≡ false → Carry family r old new → Carry family (asking b row) old new
 carries family b row r old new is other h = subst (λ x. Carry family (asking b x) old new) (sym is) (subst (λ x. Carry family x old new) (sym (asking-other b r other)) h)
 
-least : (family : Family) (b : Bool) (row r : Row) (old new : Facts) (yes : Bool) → row ≡ r → is_pair r ≡ false → Least (row_asks family r old) yes new → Least (row_asks family (asking b row) old) yes new
-least family b row r old new yes is other h = subst (λ x. Least (row_asks family (asking b x) old) yes new) (sym is) (subst (λ x. Least (row_asks family x old) yes new) (sym (asking-other b r other)) h)
+least : (family : Family) (b : Bool) (row r : Row) (old new : Facts) (answer : Bool) → row ≡ r → is_pair r ≡ false → Least (row_asks family r old) answer new → Least (row_asks family (asking b row) old) answer new
+least family b row r old new answer is other h = subst (λ x. Least (row_asks family (asking b x) old) answer new) (sym is) (subst (λ x. Least (row_asks family x old) answer new) (sym (asking-other b r other)) h)
 
 never : (family : Family) (b : Bool) (r : Rest) (reads reads' : Reads) (ws vs : Writes) (target : Option EdgePair) (exits : List EdgePair) (old new : Facts)
     → Least (writes_ask family ws vs target exits old) false new → Least (row_asks family (asking b (BothCounted r reads reads' ws vs target exits)) old) false new
