@@ -121,5 +121,8 @@ fn tell_all(rt: &HostRuntime, live: &LiveFunc) -> Result<()> {
 /// Prints what is live in a function.
 pub fn tell_live(rt: &HostRuntime, target: &Target, f: Func) -> Result<()> {
     let live = LiveFunc::compute(rt.alloc(), target, f)?;
-    tell_all(rt, &live)
+    let answer = tell_all(rt, &live);
+    // what was computed of the function is given back by its own crate, which proves how
+    live.into_func();
+    answer
 }

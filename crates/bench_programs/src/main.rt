@@ -121,10 +121,13 @@ fn begins_group(word: &str) -> bool {
 /// The words behind this many, up to the next that begins a group.
 fn words_behind(words: &[String], count: usize) -> &[String] {
     let (_, behind) = words.split_at(count.min(words.len()));
-    let length = behind
-        .iter()
-        .position(|word| begins_group(word.as_str()))
-        .unwrap_or(behind.len());
+    let mut length: usize = 0;
+    for word in behind {
+        if begins_group(word.as_str()) {
+            break;
+        }
+        length = length.saturating_add(1);
+    }
     let (own, _) = behind.split_at(length.min(behind.len()));
     own
 }

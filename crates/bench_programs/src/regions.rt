@@ -20,12 +20,12 @@ use coalescer::coalesce;
 use interference::Matrix;
 use live_lanes::{LiveFunc, Mark, Spot};
 use mir_func::operands::class_of;
-use mir_func::{Func, Gap};
+use mir_func::{Func, Gap, Instr};
 use phi_elim::lower_phis;
 use split_choose::{BlockNodes, Region, RegionNet, cut_region, region_net};
 use std::alloc::{AllocError, Global};
 use std::rt::HostRuntime;
-use target_base::{Reg, Target};
+use target_base::{Boxed, Reg, Target};
 use two_address::lower_tied;
 
 /// The function of a document, a valid source, without phis and ties.
@@ -95,7 +95,10 @@ fn answer_ranges(rt: &HostRuntime, m: &mut Matrix, freqs: &Freqs, words: &[Strin
 fn answer_lowered(rt: &HostRuntime, target: &Target, f: Func, words: &[String]) -> Result<()> {
     let freqs = frequencies(rt.alloc(), &f)?;
     let mut m = joined(rt.alloc(), target, f, &freqs)?;
-    answer_ranges(rt, &mut m, &freqs, words)
+    let answer = answer_ranges(rt, &mut m, &freqs, words);
+    // what was computed of the function is given back by its own crates, which prove how
+    m.into_live().into_func();
+    answer
 }
 
 /// Answers `--region`.
@@ -237,15 +240,23 @@ fn tell_arcs(rt: &HostRuntime, net: &RegionNet, flow: &[u128]) -> Result<()> {
     Ok(())
 }
 
+/// The place of the instruction of an id among these, or behind them.
+fn place_in(instrs: &[Boxed<Instr>], id: Option<u32>) -> usize {
+    let mut place: usize = 0;
+    for instr in instrs {
+        if Some(instr.get().id) == id {
+            return place;
+        }
+        place = place.saturating_add(1);
+    }
+    place
+}
+
 /// The place of the instruction before which a gap is, in its block.
 fn place_of(f: &Func, gap: Gap) -> usize {
     for block in f.blocks.as_slice() {
         if block.number == gap.block {
-            let instrs = block.instrs.as_slice();
-            let found = instrs
-                .iter()
-                .position(|instr| Some(instr.get().id) == gap.before);
-            return found.unwrap_or(instrs.len());
+            return place_in(block.instrs.as_slice(), gap.before);
         }
     }
     0
