@@ -79,7 +79,7 @@ pub fn at_document<W: Watcher>(
     number: &mut u32,
     watchers: &mut Vec<W>,
 ) -> Result<Answer, AllocError>
-    requires same { target.now ≡ task.entry.reader.now }
+    requires same { target.now ≡ task.reader.now }
     requires fits { DocFits target.now doc }
     ensures answer { IfOk result (IsDocAnswer task.entry.job target.now doc) }
     ensures leaves { tells task.entry.job ≡ false → watchers.new ≡ watchers.old }
