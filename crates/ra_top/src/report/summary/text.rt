@@ -10,7 +10,6 @@ ghost use Rattle.target_base.specs.Mini.{mini_target};
 use crate::generator::generate;
 use crate::report::summary::ran::summary;
 use mir_func::Func;
-use mir_text::DocReader;
 use pipeline::guarded::{Allocator, FunctionStop, Watcher, allocate_function};
 use std::alloc::Global;
 use target_base::{Bytes, Target, mini};
@@ -30,17 +29,16 @@ fn text_of<W: Watcher>(
     ensures part { OnErr result (ToldPart (W.next target.now) watchers.old.items watchers.new.items) }
 {
     let copy = source.copy(alloc)?;
-    let reader = DocReader::new(alloc, target)?;
-    match allocate_function(alloc, &reader, copy, Allocator::Greedy, 0, watchers) {
+    match allocate_function(alloc, target, copy, Allocator::Greedy, 0, watchers) {
         Ok(made) => Ok(summary(alloc, target, seed, source, &made.func)?),
         Err(stop) => Err(stop),
     }
 }
 
 /// The summary of the function that is generated for a seed over the built-in target, once it is
-/// allocated under guard with the number 0: the five lines that begin with `gen`, `source`, `allocated`,
-/// `source` and `allocated`. The watchers are told every step of the allocator's run, and a first part
-/// of them where it is refused, as each function is that isn't allocated.
+/// allocated under guard with the number 0: the five lines that begin with `gen`, `source`,
+/// `allocate_function`, `source` and `allocate_function`. The watchers are told every step of the allocator's run, and a
+/// first part of them where it is refused, as each function is that isn't allocated.
 #[tactic(auto, using(crate::proofs::ReportLemmas::Summary::Fitting::generated_fits))]
 pub fn text_of_gen<W: Watcher>(
     alloc: Global,
