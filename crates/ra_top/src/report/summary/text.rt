@@ -37,7 +37,7 @@ fn text_of<W: Watcher>(
 
 /// The summary of the function that is generated for a seed over the built-in target, once it is
 /// allocated under guard with the number 0: the five lines that begin with `gen`, `source`,
-/// `allocate_function`, `source` and `allocate_function`. The watchers are told every step of the allocator's run, and a
+/// `allocated`, `source` and `allocated`. The watchers are told every step of the allocator's run, and a
 /// first part of them where it is refused, as each function is that isn't allocated.
 #[tactic(auto, using(crate::proofs::ReportLemmas::Summary::Fitting::generated_fits))]
 pub fn text_of_gen<W: Watcher>(
