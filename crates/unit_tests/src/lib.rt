@@ -1,7 +1,15 @@
-//! Tests that cross crates: what no contract says, and what no program shows (tests/tables shows the rest).
+//! Tests that cross crates: what no contract says, and what the program doesn't show (tests/tables shows the rest).
 #![tactic(auto)]
 
 #[cfg(test)]
 mod base;
 #[cfg(test)]
+mod colouring;
+#[cfg(test)]
+mod cuts;
+#[cfg(test)]
+mod live;
+#[cfg(test)]
 mod top;
+#[cfg(test)]
+mod verifiers;

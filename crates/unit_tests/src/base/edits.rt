@@ -80,31 +80,24 @@ fn begins_with(f: &Func, loc: Loc) -> bool {
     }
 }
 
-/// An instruction is put in, its operand is renamed, and it is taken out; a copy keeps it.
-fn check_edits(rt: &HostRuntime, f: &mut Func) -> Result<(), Fail>
-    requires block { HasBlock f.old 7 }
-    requires next { f.old.next_id ≡ 0 }
-{
+#[test]
+fn edits_a_function(rt: HostRuntime) -> Result<(), Fail> {
+    let alloc = rt.alloc();
+    let mut f = empty_function(alloc)?;
     let gap = Gap {
         block: 7,
         before: None,
     };
-    let operands = one_operand(rt.alloc(), register(Loc::Virtual(0), true))?;
+    let operands = one_operand(alloc, register(Loc::Virtual(0), true))?;
     assert_eq!(rt; f.insert(gap, OpId(5), operands)?, 0);
-    assert!(rt; begins_with(f, Loc::Virtual(0)));
+    assert!(rt; begins_with(&f, Loc::Virtual(0)));
     f.rename(0, 0, register(Loc::Fixed(Reg(1)), true));
-    assert!(rt; begins_with(f, Loc::Fixed(Reg(1))));
-    let copy = f.copy(rt.alloc())?;
+    assert!(rt; begins_with(&f, Loc::Fixed(Reg(1))));
+    let copy = f.copy(alloc)?;
     f.delete(0);
-    assert_eq!(rt; instr_count(f), 0);
+    assert_eq!(rt; instr_count(&f), 0);
     assert_eq!(rt; instr_count(&copy), 1);
     Ok(())
-}
-
-#[test]
-fn edits_a_function(rt: HostRuntime) -> Result<(), Fail> {
-    let mut f = empty_function(rt.alloc())?;
-    check_edits(&rt, &mut f)
 }
 
 #[test]

@@ -1,5 +1,6 @@
 //! The look-ups of the built-in target against values that an independent model gives.
 
+use std::process::Abort;
 use std::test::Fail;
 use target_base::{ClassId, IndexId, OpId, Reg, Target, mini};
 
@@ -64,7 +65,7 @@ fn index(i: u16) -> Option<IndexId> {
     }
 }
 
-fn check_subs(rt: &HostRuntime, t: &Target) {
+fn check_subs(rt: &impl Abort, t: &Target) {
     for (r, i, want) in &SUBS {
         assert!(rt; (*r as usize) < t.regs.len());
         assert!(rt; (*i as usize) < t.indexes.len());
@@ -76,7 +77,7 @@ fn check_subs(rt: &HostRuntime, t: &Target) {
     }
 }
 
-fn check_part(rt: &HostRuntime, t: &Target, c: ClassId, i: Option<IndexId>) -> (u16, u16) {
+fn check_part(rt: &impl Abort, t: &Target, c: ClassId, i: Option<IndexId>) -> (u16, u16) {
     assert!(rt; (c.0 as usize) < t.classes.len());
     if let Some(i) = i {
         assert!(rt; (i.0 as usize) < t.indexes.len());
@@ -85,7 +86,7 @@ fn check_part(rt: &HostRuntime, t: &Target, c: ClassId, i: Option<IndexId>) -> (
     (t.part(c, i).0, t.move_of(c, i).0)
 }
 
-fn check_slot_ops(rt: &HostRuntime, t: &Target) {
+fn check_slot_ops(rt: &impl Abort, t: &Target) {
     for (c, spill, reload) in &SLOT_OPS {
         assert!(rt; (*c as usize) < t.classes.len());
         assert_eq!(rt; t.spill_op(ClassId(*c)), OpId(*spill));
@@ -93,7 +94,7 @@ fn check_slot_ops(rt: &HostRuntime, t: &Target) {
     }
 }
 
-fn check_aliases(rt: &HostRuntime, t: &Target) {
+fn check_aliases(rt: &impl Abort, t: &Target) {
     for (a, b, want) in &ALIASES {
         assert!(rt; (*a as usize) < t.regs.len());
         assert!(rt; (*b as usize) < t.regs.len());
@@ -101,33 +102,24 @@ fn check_aliases(rt: &HostRuntime, t: &Target) {
     }
 }
 
-fn check_parts(rt: &HostRuntime, t: &Target) {
+#[test]
+fn answers_as_the_model(rt: HostRuntime) -> Result<(), Fail> {
+    let alloc = rt.alloc();
+    let t = mini(alloc)?.copy(alloc)?;
+    assert_eq!(rt; t.version(), 1);
+    check_subs(&rt, &t);
     for (c, i, part, moved) in &PARTS {
-        assert_eq!(rt; check_part(rt, t, ClassId(*c), index(*i)), (*part, *moved));
+        assert_eq!(rt;
+            check_part(&rt, &t, ClassId(*c), index(*i)),
+            (*part, *moved)
+        );
     }
-}
-
-fn check_misfits(rt: &HostRuntime, t: &Target) {
     for (c, i) in &MISFITS {
         assert!(rt; (*c as usize) < t.classes.len());
         assert!(rt; (*i as usize) < t.indexes.len());
         assert!(rt; !t.fits(ClassId(*c), Some(IndexId(*i))));
     }
-}
-
-fn check_target(rt: &HostRuntime, t: &Target) {
-    assert_eq!(rt; t.version(), 1);
-    check_subs(rt, t);
-    check_parts(rt, t);
-    check_misfits(rt, t);
-    check_slot_ops(rt, t);
-    check_aliases(rt, t);
-}
-
-#[test]
-fn answers_as_the_model(rt: HostRuntime) -> Result<(), Fail> {
-    let t = mini(rt.alloc())?;
-    let t = t.copy(rt.alloc())?;
-    check_target(&rt, &t);
+    check_slot_ops(&rt, &t);
+    check_aliases(&rt, &t);
     Ok(())
 }

@@ -1,20 +1,27 @@
-//! The top call over files and sinks in memory that fail, or move few bytes at a time: what it answers and writes.
+//! The top call over files and sinks in memory that fail, or move few bytes at a time: what it answers, writes and tells.
 
-use crate::top::calls::{call, files_of, sink_of};
-use ra_top::{Files, MemFiles, MemSink, Sink, Status};
+use ra_top::{Files, MemFiles, MemSink, Sink, Status, top};
+use std::alloc::{AllocError, Global};
+use std::process::Abort;
 use std::test::Fail;
+use watchers::TraceWatcher;
 
-/// One call: the file IN, the calls of the files and of the output that fail, the room of the output,
-/// the most bytes that a call moves, the status's code, and what is written.
-type Row = (
-    &'static [u8],
-    &'static [u64],
-    &'static [u64],
-    usize,
-    usize,
-    u8,
-    &'static [u8],
-);
+/// One call: the words, the file IN, the calls of the files and of the output that fail, the room of
+/// the output and the most bytes that a call moves; and what is expected.
+#[derive(Clone, Copy)]
+struct Row {
+    words: &'static [&'static str],
+    file: &'static [u8],
+    file_fails: &'static [u64],
+    out_fails: &'static [u64],
+    room: usize,
+    step: usize,
+    status: Status,
+    out: &'static [u8],
+    err: &'static [u8],
+}
+
+const WORDS: &[&str] = &["alloc", "-", "IN"];
 
 const RET: &[u8] = b"---\nname: f\nbody: |\n  bb.0:\n    RET\n...\n";
 
@@ -24,6 +31,111 @@ const MEMORY: &[u8] =
 const ALLOCATED_MEMORY: &[u8] =
     b"---\nname: f\nbody: |\n  bb.0:\n    renamable $eax = MOV32ri 5\n    renamable $ecx = LOAD32rm renamable $eax, 4\n    STORE32mr renamable $eax, 8, renamable $ecx\n    RET\n...\n";
 
+/// A call that succeeds and writes `out`.
+fn done(file: &'static [u8], out: &'static [u8]) -> Row {
+    Row {
+        words: WORDS,
+        file,
+        file_fails: &[],
+        out_fails: &[],
+        room: 4096,
+        step: 4096,
+        status: Status::Done,
+        out,
+        err: b"",
+    }
+}
+
+/// A call that writes nothing.
+fn refused(
+    words: &'static [&'static str],
+    file: &'static [u8],
+    status: Status,
+    err: &'static [u8],
+) -> Row {
+    Row {
+        words,
+        status,
+        err,
+        ..done(file, b"")
+    }
+}
+
+fn strings(alloc: Global, words: &[&str]) -> Result<Vec<String>, AllocError> {
+    let mut all = Vec::new(alloc);
+    for word in words {
+        all.push(String::from_str(alloc, word)?)?;
+    }
+    Ok(all)
+}
+
+fn files_of(alloc: Global, row: &Row) -> Result<MemFiles, AllocError> {
+    let mut files = Vec::new(alloc);
+    files.push((
+        String::from_str(alloc, "OTHER")?,
+        Vec::from_slice(alloc, b"other")?,
+    ))?;
+    files.push((
+        String::from_str(alloc, "IN")?,
+        Vec::from_slice(alloc, row.file)?,
+    ))?;
+    let mut made = MemFiles::new(alloc, files, Vec::from_slice(alloc, row.file_fails)?);
+    if row.step > 0 {
+        made.step(row.step);
+    }
+    Ok(made)
+}
+
+fn sink_of(alloc: Global, row: &Row) -> Result<MemSink, AllocError> {
+    let mut made = MemSink::new(alloc, row.room, Vec::from_slice(alloc, row.out_fails)?)?;
+    if row.step > 0 {
+        made.step(row.step);
+    }
+    Ok(made)
+}
+
+/// A watcher of the steps.
+fn watchers_of(alloc: Global) -> Result<Vec<TraceWatcher>, AllocError> {
+    let mut watchers = Vec::new(alloc);
+    watchers.push(TraceWatcher::new(alloc))?;
+    Ok(watchers)
+}
+
+fn check_rows(rt: &impl Abort, alloc: Global, rows: &[Row]) -> Result<(), Fail> {
+    for (k, row) in rows.iter().enumerate() {
+        let words = strings(alloc, row.words)?;
+        let mut files = files_of(alloc, row)?;
+        let mut out = sink_of(alloc, row)?;
+        let mut err = MemSink::new(alloc, 100, Vec::new(alloc))?;
+        let mut watchers = watchers_of(alloc)?;
+        let status = top(
+            alloc,
+            words.as_slice(),
+            &mut files,
+            &mut out,
+            &mut err,
+            &mut watchers,
+        );
+        assert_eq!(rt; status, row.status, "row {k}");
+        assert!(rt; out.bytes() == row.out, "output of row {k}");
+        assert!(rt; err.bytes() == row.err, "line of row {k}");
+    }
+    Ok(())
+}
+
+#[test]
+fn allocates(rt: HostRuntime) -> Result<(), Fail> {
+    let one_by_one = Row {
+        step: 1,
+        ..done(MEMORY, ALLOCATED_MEMORY)
+    };
+    let just_room = Row {
+        room: RET.len(),
+        ..done(RET, RET)
+    };
+    check_rows(&rt, rt.alloc(), &[one_by_one, just_room])
+}
+
 const TWICE: &[u8] =
     b"---\nname: f\nbody: |\n  bb.0:\n    RET\n...\n---\nname: f\nbody: |\n  bb.0:\n    RET\n...\n";
 
@@ -32,128 +144,185 @@ const CUT_TWICE: &[u8] = b"---\nname: f\nbody: |\n  bb.0:\n    RET\n...\n---\nna
 const THRICE: &[u8] =
     b"---\nname: f\nbody: |\n  bb.0:\n    RET\n...\n---\nname: f\nbody: |\n  bb.0:\n    RET\n...\n---\nname: f\nbody: |\n  bb.0:\n    RET\n...\n";
 
-/// The documents have 40 bytes: those before a fault are written. The second row has just room.
-static ROWS: [Row; 19] = [
-    (MEMORY, &[], &[], 4096, 1, 0, ALLOCATED_MEMORY),
-    (RET, &[], &[], 40, 4096, 0, RET),
-    (THRICE, &[], &[], 4096, 1, 0, THRICE),
-    (TWICE, &[42], &[], 4096, 1, 3, RET),
-    (TWICE, &[41], &[], 4096, 1, 3, b""),
-    (TWICE, &[1], &[], 4096, 4096, 3, b""),
-    (TWICE, &[2], &[], 4096, 4096, 3, b""),
-    (TWICE, &[3], &[], 4096, 4096, 3, TWICE),
-    (THRICE, &[], &[1], 4096, 4096, 4, b""),
-    (THRICE, &[], &[2], 4096, 4096, 4, RET),
-    (THRICE, &[], &[3], 4096, 4096, 4, TWICE),
-    (THRICE, &[], &[60], 4096, 1, 4, CUT_TWICE),
-    (RET, &[1], &[], 4096, 4096, 3, b""),
-    (RET, &[2], &[], 4096, 4096, 3, b""),
-    (RET, &[9], &[], 4096, 2, 3, b""),
-    (RET, &[], &[1], 4096, 4096, 4, b""),
-    (RET, &[], &[], 0, 4096, 4, b""),
-    (RET, &[], &[], 5, 4096, 4, b"---\nn"),
-    (RET, &[], &[3], 4096, 3, 4, b"---\nna"),
-];
-
-/// A row that fails says which it is.
-fn check(rt: &HostRuntime, k: usize, what: &str, holds: bool) {
-    assert!(rt; holds, "{what} of row {k}");
+/// Documents of 40 bytes: those before a refused one, or before a fault, are written.
+#[test]
+fn writes_document_by_document(rt: HostRuntime) -> Result<(), Fail> {
+    let no_read = Row {
+        status: Status::ReadFault,
+        err: b"llra: cannot read IN\n",
+        ..done(TWICE, RET)
+    };
+    let no_write = Row {
+        status: Status::WriteFault,
+        err: b"llra: cannot write\n",
+        ..done(THRICE, RET)
+    };
+    check_rows(
+        &rt,
+        rt.alloc(),
+        &[
+            Row {
+                step: 1,
+                ..done(THRICE, THRICE)
+            },
+            Row {
+                step: 1,
+                file_fails: &[42],
+                ..no_read
+            },
+            Row {
+                step: 1,
+                file_fails: &[41],
+                out: b"",
+                ..no_read
+            },
+            Row {
+                file_fails: &[1],
+                out: b"",
+                ..no_read
+            },
+            Row {
+                file_fails: &[2],
+                out: b"",
+                ..no_read
+            },
+            Row {
+                file_fails: &[3],
+                out: TWICE,
+                ..no_read
+            },
+            Row {
+                out_fails: &[1],
+                out: b"",
+                ..no_write
+            },
+            Row {
+                out_fails: &[2],
+                ..no_write
+            },
+            Row {
+                out_fails: &[3],
+                out: TWICE,
+                ..no_write
+            },
+            Row {
+                step: 1,
+                out_fails: &[60],
+                out: CUT_TWICE,
+                ..no_write
+            },
+        ],
+    )
 }
 
-/// The call of a row, over the output and the place for lines.
-fn check_call(
-    rt: &HostRuntime,
-    k: usize,
-    name: &str,
-    row: &Row,
-    out: &mut MemSink,
-    err: &mut MemSink,
-) -> Result<(), Fail> {
-    let (bytes, fails, _, _, step, code, written) = *row;
-    let all = [("OTHER", b"other".as_slice()), ("IN", bytes)];
-    let mut files = files_of(rt.alloc(), &all, fails, step)?;
-    let status = call(rt.alloc(), name, &mut files, out, err)?;
-    check(rt, k, "status", status.code() == code);
-    check(rt, k, "output", out.bytes() == written);
-    Ok(())
+/// A row of which a read or the start fails.
+fn no_read(file_fails: &'static [u64], step: usize) -> Row {
+    Row {
+        file_fails,
+        step,
+        ..refused(WORDS, RET, Status::ReadFault, b"llra: cannot read IN\n")
+    }
 }
 
-/// The call of a row over its output, and the line that is told.
-fn check_line(
-    rt: &HostRuntime,
-    k: usize,
-    name: &str,
-    row: &Row,
-    err: &mut MemSink,
-    line: &[u8],
-) -> Result<(), Fail> {
-    let (_, _, fails, room, step, _, _) = *row;
-    let mut out = sink_of(rt.alloc(), room, fails, step)?;
-    check_call(rt, k, name, row, &mut out, err)?;
-    check(rt, k, "line", err.bytes() == line);
-    Ok(())
-}
-
-/// The line that comes with a status's code.
-fn line_of(code: u8) -> &'static [u8] {
-    match code {
-        0 => b"",
-        3 => b"llra: cannot read IN\n",
-        _ => b"llra: cannot write\n",
+/// A row of which a write fails, after `out` was written.
+fn no_write(out_fails: &'static [u64], room: usize, step: usize, out: &'static [u8]) -> Row {
+    Row {
+        out_fails,
+        room,
+        step,
+        out,
+        ..refused(WORDS, RET, Status::WriteFault, b"llra: cannot write\n")
     }
 }
 
 #[test]
 fn stops_at_the_first_fault(rt: HostRuntime) -> Result<(), Fail> {
-    for (k, row) in ROWS.iter().enumerate() {
-        let mut err = sink_of(rt.alloc(), 100, &[], 0)?;
-        check_line(&rt, k, "IN", row, &mut err, line_of(row.5))?;
-    }
-    Ok(())
+    check_rows(
+        &rt,
+        rt.alloc(),
+        &[
+            refused(
+                &["alloc", "-", "-"],
+                RET,
+                Status::ReadFault,
+                b"llra: cannot read -\n",
+            ),
+            no_read(&[1], 4096),
+            no_read(&[2], 4096),
+            no_read(&[9], 2),
+            no_write(&[1], 4096, 4096, b""),
+            no_write(&[], 0, 4096, b""),
+            no_write(&[], 5, 4096, b"---\nn"),
+            no_write(&[3], 4096, 3, b"---\nna"),
+        ],
+    )
 }
-
-/// Names that aren't files, over places for lines: calls that fail there, room, and the line that is told.
-static LINES: [(&str, &[u64], usize, &[u8]); 3] = [
-    ("-", &[], 100, b"llra: cannot read -\n"),
-    ("GONE", &[1], 20, b""),
-    ("GONE", &[], 20, b"llra: cannot read GO"),
-];
-
-/// What the calls for these names give besides the line.
-static GONE: Row = (RET, &[], &[], 4096, 4096, 3, b"");
 
 #[test]
 fn a_fault_of_the_error_sink_changes_nothing(rt: HostRuntime) -> Result<(), Fail> {
-    for (k, (name, fails, room, line)) in LINES.iter().enumerate() {
-        let mut err = sink_of(rt.alloc(), *room, *fails, 0)?;
-        check_line(&rt, k, *name, &GONE, &mut err, *line)?;
+    let alloc = rt.alloc();
+    let row = refused(
+        &["alloc", "-", "GONE"],
+        RET,
+        Status::ReadFault,
+        b"llra: cannot read GO",
+    );
+    for fails in [true, false] {
+        let words = strings(alloc, row.words)?;
+        let mut files = files_of(alloc, &row)?;
+        let mut out = sink_of(alloc, &row)?;
+        let mut failing = Vec::new(alloc);
+        if fails {
+            failing.push(1)?;
+        }
+        let mut err = MemSink::new(alloc, 20, failing)?;
+        let mut watchers = watchers_of(alloc)?;
+        let status = top(
+            alloc,
+            words.as_slice(),
+            &mut files,
+            &mut out,
+            &mut err,
+            &mut watchers,
+        );
+        assert_eq!(rt; status, Status::ReadFault);
+        assert_eq!(rt; out.bytes(), b"".as_slice());
+        let told: &[u8] = if fails { b"" } else { row.err };
+        assert!(rt; err.bytes() == told, "first call fails: {fails}");
     }
     Ok(())
 }
 
 /// The call after the failed one is to fail too: it does so where the top call hasn't made it.
-fn check_next_calls(
-    rt: &HostRuntime,
-    files: &mut MemFiles,
-    out: &mut MemSink,
-    err: &mut MemSink,
-) -> Result<(), Fail> {
-    let status = call(rt.alloc(), "IN", files, out, err)?;
+#[test]
+fn calls_no_device_after_its_fault(rt: HostRuntime) -> Result<(), Fail> {
+    let alloc = rt.alloc();
+    let words = strings(alloc, WORDS)?;
+    let mut err = MemSink::new(alloc, 100, Vec::new(alloc))?;
+    let mut out = sink_of(alloc, &no_write(&[1, 2], 4096, 4096, b""))?;
+    let mut files = files_of(alloc, &no_read(&[2, 3], 4096))?;
+    let mut watchers = watchers_of(alloc)?;
+    let status = top(
+        alloc,
+        words.as_slice(),
+        &mut files,
+        &mut out,
+        &mut err,
+        &mut watchers,
+    );
     assert_eq!(rt; status, Status::ReadFault);
     assert!(rt; files.start("IN").is_err());
     assert!(rt; files.start("IN").is_ok());
-    let status = call(rt.alloc(), "IN", files, out, err)?;
+    let status = top(
+        alloc,
+        words.as_slice(),
+        &mut files,
+        &mut out,
+        &mut err,
+        &mut watchers,
+    );
     assert_eq!(rt; status, Status::WriteFault);
     assert!(rt; out.write(b"x").is_err());
     assert!(rt; out.write(b"x").is_ok());
     Ok(())
-}
-
-#[test]
-fn calls_no_device_after_its_fault(rt: HostRuntime) -> Result<(), Fail> {
-    let all = [("IN", RET)];
-    let mut files = files_of(rt.alloc(), &all, &[2, 3], 0)?;
-    let mut out = sink_of(rt.alloc(), 4096, &[1, 2], 0)?;
-    let mut err = sink_of(rt.alloc(), 100, &[], 0)?;
-    check_next_calls(&rt, &mut files, &mut out, &mut err)
 }

@@ -1,0 +1,4 @@
+//! Tests of the verifiers over functions that no text spells.
+
+#[cfg(test)]
+mod unspelled;
