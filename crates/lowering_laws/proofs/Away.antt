@@ -41,8 +41,7 @@ use Rattle.live_laws.proofs.Effects.Lists.{all-of}
 use Rattle.live_laws.proofs.Touch.Roles.{met}
 use Rattle.lowering_laws.specs.Laws.{NoneLoweredAway}
 use Rattle.lowering_laws.proofs.Operands.{known-effect}
-use Rattle.lowering_laws.proofs.Ruled.{AllRules, all-rules}
-use Rattle.lowering_laws.proofs.Sources.{rules-at}
+use Rattle.lowering_laws.proofs.Ruled.{EachRules, all-rules, each-rules}
 use Rattle.std.proofs.Common.{sym, subst, ◌∙◌}
 
 not-true : (b : Bool) → not b ≡ true → b ≡ false
@@ -192,14 +191,14 @@ module _ (t : Target) where
       instr-kept effects.Phi q p = absurd (cc)
       instr-kept e q p = with-form c i (form-none c i (ap (passes is_lowered_away) q) (form_of t i))
 
-module _ (t : Target) (f : Function) (plain : has_no_phis t f.blocks ≡ true) (rules : (n : ℕ) (b : Block) → slice_get f.blocks n ≡ Some b → AllRules t f n b) where
+module _ (t : Target) (f : Function) (plain : has_no_phis t f.blocks ≡ true) (rules : EachRules t f) where
   instrs-kept : (b : Block) → Among b f.blocks → (c : ℕ) (is : List Instr) → ((i : Instr) → Among i is → Among i b.instrs) → AllKept t (instrs_lowered t f.classes c is)
   instrs-kept b mb c [] w = tt
   instrs-kept b mb c (i ∷ is) w =
-      let z = rules-at t f rules b i mb (w i here) in
+      let r = rules b i mb (w i here) in
       let no-phi = not-true (does is_phi t i) (all-of (λ x. not (does is_phi t x)) i b.instrs (w i here) (all-of (λ (d : Block). list_all (λ x. not (does is_phi t x)) d.instrs) b f.blocks mb plain)) in
-      let e = known-effect t f z.0 b z.1 i z.2 in
-      kept-append t (instr_lowered t f.classes c i) (instrs_lowered t f.classes (next_range t f.classes c i) is) (instr-kept t f.classes f i z.2.one c e.0 e.1 (sym (ap (passes is_phi) e.1) ∙ no-phi)) (instrs-kept b mb (next_range t f.classes c i) is (λ x m. w x (there m)))
+      let e = known-effect t f i r in
+      kept-append t (instr_lowered t f.classes c i) (instrs_lowered t f.classes (next_range t f.classes c i) is) (instr-kept t f.classes f i r.one c e.0 e.1 (sym (ap (passes is_phi) e.1) ∙ no-phi)) (instrs-kept b mb (next_range t f.classes c i) is (λ x m. w x (there m)))
 
   blocks-kept : (n c : ℕ) (bs : List Block) → ((b : Block) → Among b bs → Among b f.blocks) → list_all (λ (b : Block). list_all (λ i. not (does is_lowered_away t i)) b.instrs) (blocks_numbered n (blocks_lowered t f.classes c bs)) ≡ true
   blocks-kept n c [] w = refl
@@ -209,4 +208,4 @@ module _ (t : Target) (f : Function) (plain : has_no_phis t f.blocks ≡ true) (
 
 pub none_lowered_away : NoneLoweredAway
 unfolding ties_lowered
-none_lowered_away t f shape plain = blocks-kept t f plain (all-rules t f shape) 0 (length f.classes) f.blocks (λ b m. m)
+none_lowered_away t f shape plain = blocks-kept t f plain (each-rules t f (all-rules t f shape)) 0 (length f.classes) f.blocks (λ b m. m)

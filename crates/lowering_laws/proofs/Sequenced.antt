@@ -96,7 +96,7 @@ pairs-used : {os : List Operand} {ps : List SubregInput} → Pairs os ps → (o 
 pairs-used done o m = absurd (member-none o m)
 pairs-used (more {s = s} {os = os} e xs) o m = member-elim o s (registers os) (λ q. ap (λ (x : RegOp). x.def) q ∙ not-true s.def (first_of_both (not s.def) (not s.implicit) (first_of_both (is_use s) (is_virtual s.loc) e))) (λ k. pairs-used xs o k) m
 
-module _ (t : Target) (f : Function) (all : AllNamed f f.blocks) (classes : AreClasses t f) (site : ℕ) (b : Block) (j : ℕ) (i : Instr) (r : InstrRules t f site b j i) where
+module _ (t : Target) (f : Function) (all : AllNamed f f.blocks) (classes : AreClasses t f) (b : Block) (i : Instr) (r : InstrRules t f i) where
   abbrev H : Function
   H = h t f
 
@@ -181,7 +181,7 @@ module _ (t : Target) (f : Function) (all : AllNamed f f.blocks) (classes : AreC
     there' o m = subst (λ os. Among o (registers os)) (sym are) m
 
     has : (o : RegOp) → Among o (d ∷ registers rest) → (has_class f o.loc ≡ true) × (has_lanes t f o ≡ true)
-    has o m = ((named t f site b j i r o (there' o m)).class, lanes-there t f i (shaped t f site b j i r) o (there' o m))
+    has o m = ((named t f i r o (there' o m)).class, lanes-there t f i (shaped t f i r) o (there' o m))
 
     own-class : has_class f (Virtual v) ≡ true
     own-class = ap (has_class f) (sym at) ∙ (has d here).0
@@ -190,7 +190,7 @@ module _ (t : Target) (f : Function) (all : AllNamed f f.blocks) (classes : AreC
     widths = subst (λ os. widths_fit t f effects.RegSequence os ≡ true) are (widths-of t f i effects.RegSequence known r.two)
 
     indexes : list_all (λ x. index_fits t f d.loc (Some x)) (flat_map index_of rest) ≡ true
-    indexes = subst (λ os. subregs_fit t f os ≡ true) are (subregs-there t f i (shaped t f site b j i r) (ap (passes puts_together) known))
+    indexes = subst (λ os. subregs_fit t f os ≡ true) are (subregs-there t f i (shaped t f i r) (ap (passes puts_together) known))
 
     fit : (w : ℕ) → ((s : RegOp) → Among s (registers rest) → s.undef ≡ false → (l : Lane) → Among l (operand_lanes t H s) → is_lane_of w l ≡ false) → AllFit t H w qs
     fit w apart = all-fit w d (pairs-of rest pairs) (λ s m. has s (there m)) (has d here).0 v at indexes (second_of_both (are_apart t rest) (parts_fit t f d rest) widths) apart
@@ -326,7 +326,7 @@ module _ (t : Target) (f : Function) (all : AllNamed f f.blocks) (classes : AreC
       where
         go : (y : Bool) → is_input (Virtual v) qs ≡ y → InstrStep t f b c i
         go false is =
-            puts t f all site b j i r effects.RegSequence known (refl, refl) c d is-def v at (silent_reads t H effects.RegSequence i.operands) ws own-item (front v ++ []) (starts v ++ into t H v qs) (append-moves (front v) [] (front-moves v) tt) (some-front v []) (lowers false is) (λ a. ap (map (item_of t G a)) (append-nil (front v)) ∙ front-items v refl own-fit a)
+            puts t f all b i r effects.RegSequence known (refl, refl) c d is-def v at (silent_reads t H effects.RegSequence i.operands) ws own-item (front v ++ []) (starts v ++ into t H v qs) (append-moves (front v) [] (front-moves v) tt) (some-front v []) (lowers false is) (λ a. ap (map (item_of t G a)) (append-nil (front v)) ∙ front-items v refl own-fit a)
             (with-undef d.undef refl (starts v ++ into t H v qs) (in-own t H v N qs base starts n (works v own-fit)))
           where
             none-is : (ps : List SubregInput) {os : List Operand} → Pairs os ps → is_input (Virtual v) ps ≡ false → (s : RegOp) → Among s (registers os) → same_loc (Virtual v) s.loc ≡ false
@@ -338,7 +338,7 @@ module _ (t : Target) (f : Function) (all : AllNamed f f.blocks) (classes : AreC
             own-fit : AllFit t H v qs
             own-fit = fit v (λ s m plain l k. lanes-apart t H v s.loc s.index (loc-sym (Virtual v) s.loc ∙ none-is qs (pairs-of rest pairs) is s m) l k)
         go true is =
-            puts t f all site b j i r effects.RegSequence known (refl, refl) c d is-def v at (silent_reads t H effects.RegSequence i.operands) ws own-item (front c ++ copy-whole true) ((starts c ++ into t H c qs) ++ (whole_copy v c N ∷ [])) (append-moves (front c) (copy-whole true) (front-moves c) (inl refl, tt)) (some-front c (copy-whole true)) (lowers true is)
+            puts t f all b i r effects.RegSequence known (refl, refl) c d is-def v at (silent_reads t H effects.RegSequence i.operands) ws own-item (front c ++ copy-whole true) ((starts c ++ into t H c qs) ++ (whole_copy v c N ∷ [])) (append-moves (front c) (copy-whole true) (front-moves c) (inl refl, tt)) (some-front c (copy-whole true)) (lowers true is)
             (λ a. map-append (item_of t G a) (front c) (copy-whole true) ∙ ((λ k. front-items c same other-fit a k ++ (copy-whole-item t f v c same a k ∷ [])) ∙ sym (map-append (λ ws. Silent [] ws) (starts c ++ into t H c qs) (whole_copy v c N ∷ []))))
             (with-undef d.undef refl ((starts c ++ into t H c qs) ++ (whole_copy v c N ∷ []))
             (in-other t H v N qs base starts n c stands.above (works c other-fit) (base-own c) (λ k g. covered-undefined v c N k g) (λ l q. undefined-missed false (lanes_by v (numbers 0 N)) l q) within))
