@@ -6,6 +6,7 @@ use Rattle.std.specs.BTreeMap.{get}
 use Rattle.target_base.specs.declared.types.ClassId.{ClassId}
 use Rattle.target_base.specs.declared.types.IndexId.{IndexId}
 use Rattle.target_base.specs.declared.types.Target.{Target}
+use Rattle.target_base.specs.declared.types.Unit.{Unit as UnitNumber}
 use Rattle.target_base.specs.Registers.{lanes_of, units_of, widths_of_some}
 use Rattle.slot_index.specs.Order.{ids, IsNumbered}
 use Rattle.meaning.specs.declared.types.Lane.TheVariants.{UnitLane, VirtualLane}
@@ -117,7 +118,7 @@ module _ (t : Target) (f g : Function) (old new : LaneTable) (rules : KeepsRules
       subst (λ q. Paired (SameLane t f g (number_in old) (number_in new)) (range_lanes t f v) (map (VirtualLane v) (numbers 0 (length (widths_of_some t q))))) (class-same v h)
       (map-paired (VirtualLane v) (VirtualLane v) (numbers 0 (length (widths_of_some t (class_of f v)))) (λ k m. range-same v h k))
   lanes-agree (Virtual v) h (Some x) = map-paired (VirtualLane v) (VirtualLane v) (lanes_of t x) (λ k m. range-same v h k)
-  lanes-agree (Fixed r) h x = map-paired (λ u. UnitLane u.0) (λ u. UnitLane u.0) (units_of t r) (λ u m. unit-same u.0)
+  lanes-agree (Fixed r) h x = map-paired (λ (u : UnitNumber). UnitLane u.0) (λ (u : UnitNumber). UnitLane u.0) (units_of t r) (λ u m. unit-same u.0)
 
   widths-agree : (l : Loc) (x : Option IndexId) → has_class f l ≡ true → located_widths t f l x ≡ located_widths t g l x
   widths-agree (Virtual v) None h = ap (widths_of_some t) (class-same v h)
@@ -210,7 +211,7 @@ slot-kept old new table keeps s h = go (row_number_in (get nat_cmp old.slots s) 
   where
     there : (q : Option LaneSpan) (n : ℕ) → row_number_in q 0 ≡ Some n → IsSome q
     there None n e = absurd (cc)
-    there (Some x) n e = tt
+    there (Some x) n e = refl
 
     go : (q : Option ℕ) → row_number_in (get nat_cmp old.slots s) 0 ≡ q → is_some q ≡ true → HasSlot new s
     go None e g = absurd (cc)

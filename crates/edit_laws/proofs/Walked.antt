@@ -115,14 +115,14 @@ module _ (t : Target) (f g : Function) (num num' : Numbering) where
   moved-paired early (pair {x = l} {y = m} e p) (pair {x = s} {y = r} d q) = pair (moved-write early l m s r e d) (moved-paired early p q)
 
   undefined-paired : (early : Bool) {ls ms : List Lane} → Paired SameLane ls ms → Paired SameWrite (undefined early ls) (undefined early ms)
-  undefined-paired early p = mapped-paired (λ l. write early l (Moved Undef)) (λ l. write early l (Moved Undef)) (λ l m e. moved-write early l m Undef Undef e refl) p
+  undefined-paired early p = mapped-paired {R = SameLane} (λ l. write early l (Moved Undef)) (λ l. write early l (Moved Undef)) (λ l m e. moved-write early l m Undef Undef e refl) p
 
   computed-paired : (early : Bool) (i j : ℕ) {ls ms : List Lane} → Paired SameLane ls ms → Paired SameWrite (computed early i ls) (computed early j ms)
   computed-paired early i j no_pairs = no_pairs
   computed-paired early i j (pair {x = l} {y = m} e p) = pair (computed-write early l m i j e) (computed-paired early (suc i) (suc j) p)
 
   lanes-read : {ls ms : List Lane} → Paired SameLane ls ms → Paired SameSource (map FromLane ls) (map FromLane ms)
-  lanes-read p = mapped-paired FromLane FromLane (λ l m e. e) p
+  lanes-read p = mapped-paired {R = SameLane} FromLane FromLane (λ l m e. e) p
 
   slots-paired : (s : ℕ) → ((k : ℕ) → num (owners.Slot s k) ≡ num' (owners.Slot s k)) → (ks ws : List ℕ) → Paired SameLane (slot_lanes s ks ws) (slot_lanes s ks ws)
   slots-paired s h [] ws = no_pairs
@@ -132,7 +132,7 @@ module _ (t : Target) (f g : Function) (num num' : Numbering) where
   bits-paired : (c : Constant) (low : ℕ) (ws : List ℕ) → Paired SameSource (constant_bits c low ws) (constant_bits c low ws)
   bits-paired c low [] = no_pairs
   bits-paired c low (w ∷ ws) =
-      pair ((λ k. option_and_then num (constant-unowned c low w k)) ∙ sym (λ k. option_and_then num' (constant-unowned c low w k))) (bits-paired c (low + w) ws)
+      pair (ap (option_and_then num) (constant-unowned c low w) ∙ sym (ap (option_and_then num') (constant-unowned c low w))) (bits-paired c (low + w) ws)
 
   -- an operand, whose lanes have the same numbers and widths in both
   pub record IsAgreed (o : RegOp) : Type 0 where
@@ -157,7 +157,7 @@ module _ (t : Target) (f g : Function) (num num' : Numbering) where
   sources o h = go o.undef
     where
       go : (u : Bool) → Paired SameSource (map (cond u (λ l. Undef) FromLane) (operand_lanes t f o)) (map (cond u (λ l. Undef) FromLane) (operand_lanes t g o))
-      go true = mapped-paired (λ (l : Lane). Undef) (λ (l : Lane). Undef) (λ l m e. refl) (h.lanes o.index)
+      go true = mapped-paired {R = SameLane} (λ (l : Lane). Undef) (λ (l : Lane). Undef) (λ l m e. refl) (h.lanes o.index)
       go false = lanes-read (h.lanes o.index)
 
   beside : (o : RegOp) (s : ℕ) (k : Operand) → IsAgreed o → ((j : ℕ) → num (owners.Slot s j) ≡ num' (owners.Slot s j)) → Paired SameLane (lanes_beside t f o s k) (lanes_beside t g o s k)
@@ -270,7 +270,7 @@ module _ (t : Target) (f g : Function) (num num' : Numbering) where
     SameValue v u = Paired SameSource v.0 u.0
 
     constant-pair : (c d : Constant) (w v : ℕ) → SameValue (constant_value c w) (constant_value d v)
-    constant-pair c d w v = pair ((λ k. option_and_then num (constant-unowned c 0 w k)) ∙ sym (λ k. option_and_then num' (constant-unowned d 0 v k))) no_pairs
+    constant-pair c d w v = pair (ap (option_and_then num) (constant-unowned c 0 w) ∙ sym (ap (option_and_then num') (constant-unowned d 0 v))) no_pairs
 
     value-paired : (e : Effect) (w v : ℕ) (o : Operand) → AreAgreed (o ∷ []) → BothOrNone SameValue (value_of t f e w o) (value_of t g e v o)
     value-paired e w v (operands.Reg o) h = go o.def
@@ -328,7 +328,7 @@ module _ (t : Target) (f g : Function) (num num' : Numbering) where
       where
         go : (u : Bool) → Paired (Paired SameSource) (cond u (silent_reads t f e i.operands) (map (λ (v : Value). v.0) (values t f e i))) (cond u (silent_reads t g e i.operands) (map (λ (v : Value). v.0) (values t g e i)))
         go true = silent-read e
-        go false = mapped-paired (λ (v : Value). v.0) (λ (v : Value). v.0) (λ v u p. p) (values-paired e)
+        go false = mapped-paired {R = SameValue} (λ (v : Value). v.0) (λ (v : Value). v.0) (λ v u p. p) (values-paired e)
 
     reads-paired : Paired (Paired SameSource) (entered_reads t f i) (entered_reads t g i)
     unfolding entered_reads
