@@ -248,8 +248,11 @@ range-kept (owners.Unit u) n e = e
 range-kept (owners.Range v k) n e = e
 range-kept (owners.Slot s k) n e = absurd (cc)
 
+other-number : (a b : ℕ) → a ≡ suc b → Some a ≡ Some b → ⊥
+other-number a b e h = let x : a ≡ b = some-same a b h in omega (arith, e, x)
+
 range-moved : KeepsNumbers (range_from 2) (range_from 3) → ⊥
-range-moved h = let z : Some 3 ≡ Some 2 = h (owners.Range 0 0) 2 refl in let y : 3 ≡ 2 = some-same 3 2 z in omega arith
+range-moved h = other-number 3 2 refl (h (owners.Range 0 0) 2 refl)
 
 pub numbers-grow : NumbersGrow
 numbers-grow = (units-kept, range-kept, range-moved)

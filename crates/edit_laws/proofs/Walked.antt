@@ -52,6 +52,7 @@ cons-later x None ys m = m
 cons-later x (Some y) ys m = there m
 
 register-in : (o : Operand) (os : List Operand) → Among o os → (x : RegOp) → Among x (registers (o ∷ [])) → Among x (registers os)
+register-in o [] k x m = elim k [ ]
 register-in o (p ∷ os) here x m = cons-in x (as_register o) (registers os) m
 register-in o (p ∷ os) (there k) x m = cons-later x (as_register p) (registers os) (register-in o os k x m)
 
@@ -356,9 +357,12 @@ module _ (t : Target) (f g : Function) (num num' : Numbering) where
         go false = refl
 
     pub doing-same : doing_of t f num i ≡ doing_of t g num' i
-    doing-same = λ k. (record {
-      id = i.id;
-      reads = reads-same reads-paired k ++ readings-same writes-paired k;
-      writes = writings-same writes-paired k;
-      leaves = does is_terminator t i;
-    }, ends-same k)
+    doing-same = λ k. (
+      record {
+        id = i.id;
+        reads = reads-same reads-paired k ++ readings-same writes-paired k;
+        writes = writings-same writes-paired k;
+        leaves = does is_terminator t i;
+      },
+      ends-same k,
+    )

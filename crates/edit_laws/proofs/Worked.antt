@@ -155,7 +155,7 @@ answer-changes =
       copied _ _ here (there here) (_, here, refl, refl) itself first,
       is_one (_, _, record { block = here; instr = there (there (there (there here))); named = refl }, refl),
       refuted (test (VirtualLane 3 0)) refl
-      (led mini_target sample answer_other test (λ s k w x. refl) refl (others-concerned mini_target sample 4 (op_number COPY) (answer 2) (VirtualLane 3 0) refl) (VirtualLane 3 0)),
+          (led mini_target sample answer_other test (λ s k w x. refl) refl (others-concerned mini_target sample 4 (op_number COPY) (answer 2) (VirtualLane 3 0) refl) (VirtualLane 3 0)),
     )
 
 pub value-changes : ValueChanges
@@ -165,5 +165,5 @@ value-changes =
       is_one (_, _, record { block = here; instr = there (there (there here)); named = refl }, refl),
       is_one (_, _, record { block = here; instr = there (there (there here)); named = refl }, refl),
       refuted (test (VirtualLane 2 0)) refl
-      (led mini_target based value_other test (λ s k w x. refl) refl (others-concerned mini_target based 3 (op_number STORE32mr) (store_at 3) (VirtualLane 2 0) refl) (VirtualLane 2 0)),
+          (led mini_target based value_other test (λ s k w x. refl) refl (others-concerned mini_target based 3 (op_number STORE32mr) (store_at 3) (VirtualLane 2 0) refl) (VirtualLane 2 0)),
     )
