@@ -51,7 +51,12 @@ fn ran(alloc: Global, target: &Target, n: u64, seed: u64, f: Func) -> Result<Ans
         Err(FunctionStop::Invalid(_, invalid)) => {
             ran_allocated(alloc, target, n, seed, &f, invalid)
         }
-        Err(stop) => refused(alloc, stop),
+        Err(FunctionStop::Limit(limit)) => refused(alloc, FunctionStop::Limit(limit)),
+        Err(FunctionStop::Unassignable(name, place)) => {
+            refused(alloc, FunctionStop::Unassignable(name, place))
+        }
+        Err(FunctionStop::NotYet) => refused(alloc, FunctionStop::NotYet),
+        Err(FunctionStop::Memory(e)) => Err(e),
     }
 }
 
