@@ -1,4 +1,3 @@
-use Rattle.std.proofs.Common.{absurd}
 use Rattle.pipeline.specs.declared.guarded.stop.FunctionStop.TheVariants as stops
 use Rattle.ra_top.proofs.CommandLemmas.Runs.{runs_source, run_limited}
 use Rattle.ra_top.proofs.commands.run.ran.Goals as goal
