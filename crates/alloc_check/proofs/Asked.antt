@@ -4,9 +4,7 @@ use Rattle.std.proofs.lemmas.List.{at_drop_more, at_drop_all}
 use Rattle.target_base.specs.declared.types.Target.{Target}
 use Rattle.meaning.specs.declared.types.Row.{Row}
 use Rattle.meaning.specs.declared.types.Row.TheVariants.{BothStart, BothEnd, FirstSilent, SecondSilent, BothCounted}
-use Rattle.meaning.specs.declared.types.Rest.{Rest}
-use Rattle.meaning.specs.declared.types.Ways.{Ways}
-use Rattle.meaning.specs.Lanes.{Reads, Writes}
+use Rattle.meaning.specs.declared.types.EdgePair.{EdgePair}
 use Rattle.meaning.specs.Facts.{Knowledge, known_both, known_at_start}
 use Rattle.meaning.specs.Agree.{Family, rows_hold, target_holds, ways_hold}
 use Rattle.mir_func.specs.Value.{Function}
@@ -71,11 +69,11 @@ asking-inside false (SecondSilent reads ws) e = refl
 asking-inside false (BothCounted r reads reads' ws ws' target exits) e = refl
 
 -- rows of which none asks hold with no facts
-no-ways : (k : Knowledge) (es : List Ways) → ways_hold [] k es ≡ true
+no-ways : (k : Knowledge) (es : List EdgePair) → ways_hold [] k es ≡ true
 no-ways k [] = refl
 no-ways k (e ∷ es) = no-ways k es
 
-no-target : (k : Knowledge) (o : Option Ways) → target_holds [] k o ≡ true
+no-target : (k : Knowledge) (o : Option EdgePair) → target_holds [] k o ≡ true
 no-target k None = refl
 no-target k (Some e) = refl
 
@@ -103,12 +101,10 @@ counted-at rows k row lt at = at_drop_more counted_rows rows k row lt ∙ ap (λ
 
 -- a row that is no pair asks the same anyway
 pub asking-other :
-    (x : Bool) (row : Row) →
-    ((r : Rest) (reads reads' : Reads) (ws ws' : Writes) (target : Option Ways) (exits : List Ways) → row ≡ BothCounted r reads reads' ws ws' target exits → ⊥) →
-    asking x row ≡ row
+    (x : Bool) (row : Row) → is_pair row ≡ false → asking x row ≡ row
 asking-other true row other = refl
 asking-other false (BothStart n) other = refl
 asking-other false (BothEnd falls exits) other = refl
 asking-other false (FirstSilent reads ws) other = refl
 asking-other false (SecondSilent reads ws) other = refl
-asking-other false (BothCounted r reads reads' ws ws' target exits) other = absurd (other r reads reads' ws ws' target exits refl)
+asking-other false (BothCounted r reads reads' ws ws' target exits) other = absurd (cc)

@@ -6,7 +6,7 @@ use Rattle.meaning.specs.declared.types.Fill.{Fill}
 use Rattle.meaning.specs.declared.types.Fill.TheVariants.{Moved, Computed}
 use Rattle.meaning.specs.declared.types.Row.{Row}
 use Rattle.meaning.specs.declared.types.Row.TheVariants.{BothStart, BothEnd, FirstSilent, SecondSilent, BothCounted}
-use Rattle.meaning.specs.declared.types.Ways.{Ways}
+use Rattle.meaning.specs.declared.types.EdgePair.{EdgePair}
 use Rattle.meaning.specs.declared.types.Rest.{Rest}
 use Rattle.meaning.specs.Lanes.{Writes, Reads, settled, through}
 use Rattle.meaning.specs.Facts.{Fact, Facts, Knowledge, all_known, everything, known, known_left, known_first, known_second, known_both, one_result, reads_known, operands_known}
@@ -269,7 +269,7 @@ module _ (a b : Family) where
         | inr e ↦ or-right r l' (second-above vs (known_first ws k) (known_first ws k') (first-above ws k k' up) s t e)
       ]
 
-  along-above : (e : Ways) (k k' : Knowledge) → Above k k' → Above (known_along e k) (known_along e k')
+  along-above : (e : EdgePair) (k k' : Knowledge) → Above k k' → Above (known_along e k) (known_along e k')
   along-above e k k' up = second-above e.second (known_first e.first k) (known_first e.first k') (first-above e.first k k' up)
 
   after-above : (x : Family) → Under x → (row : Row) (k k' : Knowledge) → Above k k' → Above (row_after x row k) (row_after j row k')
@@ -294,7 +294,7 @@ module _ (a b : Family) where
       let p = both-true (reads_known k s t) (operands_known k ss ts) h in
       and_from (reads_known k' s t) (operands_known k' ss ts) (reads-above k k' up s t p.0) (operands-above k k' up ss ts p.1)
 
-  ways-joined : (k ka kb : Knowledge) → Above ka k → Above kb k → (es : List Ways) → ways_hold a ka es ≡ true → ways_hold b kb es ≡ true → ways_hold j k es ≡ true
+  ways-joined : (k ka kb : Knowledge) → Above ka k → Above kb k → (es : List EdgePair) → ways_hold a ka es ≡ true → ways_hold b kb es ≡ true → ways_hold j k es ≡ true
   ways-joined k ka kb up vp [] h g = refl
   ways-joined k ka kb up vp (e ∷ es) h g =
       let p = both-true (way_holds a ka e) (ways_hold a ka es) h in
@@ -303,7 +303,7 @@ module _ (a b : Family) where
       (facts-joined e.block (known_along e k) (known_along e ka) (known_along e kb) (along-above e ka k up) (along-above e kb k vp) p.0 q.0)
       (ways-joined k ka kb up vp es p.1 q.1)
 
-  target-joined : (k ka kb : Knowledge) → Above ka k → Above kb k → (o : Option Ways) → target_holds a ka o ≡ true → target_holds b kb o ≡ true → target_holds j k o ≡ true
+  target-joined : (k ka kb : Knowledge) → Above ka k → Above kb k → (o : Option EdgePair) → target_holds a ka o ≡ true → target_holds b kb o ≡ true → target_holds j k o ≡ true
   target-joined k ka kb up vp None h g = refl
   target-joined k ka kb up vp (Some e) h g = facts-joined e.block (known_along e k) (known_along e ka) (known_along e kb) (along-above e ka k up) (along-above e kb k vp) h g
 

@@ -5,7 +5,7 @@ use Rattle.std.proofs.lemmas.List.{at_drop_more, at_drop_all, append-nil}
 use Rattle.target_base.specs.declared.types.Target.{Target}
 use Rattle.meaning.specs.declared.types.Row.{Row}
 use Rattle.meaning.specs.declared.types.Row.TheVariants.{BothStart, BothEnd, FirstSilent, SecondSilent, BothCounted}
-use Rattle.meaning.specs.declared.types.Ways.{Ways}
+use Rattle.meaning.specs.declared.types.EdgePair.{EdgePair}
 use Rattle.meaning.specs.Lanes.{Writes, Reads}
 use Rattle.meaning.specs.Code.{Edge, Item, BlockStart, BlockEnd, Silent, Counted, Code}
 use Rattle.meaning.specs.Rows.{first_falls, second_falls}
@@ -97,7 +97,7 @@ module _ (t : Target) (f g : Function) (alike : AreAll f.blocks g.blocks) (k : �
   end-is : E' ≡ BlockEnd (option_map G other) (ways_out t h (in_order b c))
   end-is = λ j. BlockEnd (option_map (λ m. (way-second t f g b c alike numbers-alike m j).phis) (falls-other j)) (ways_out t h (in_order b c))
 
-  pub ends-meet : (falls : Option (Writes × Writes)) (exits : List Ways) → into ≡ other → first_falls falls ≡ option_map F into → second_falls falls ≡ option_map G into → exits ≡ both_ways t f g b → pair_item E E' ≡ Some (BothEnd falls exits)
+  pub ends-meet : (falls : Option (Writes × Writes)) (exits : List EdgePair) → into ≡ other → first_falls falls ≡ option_map F into → second_falls falls ≡ option_map G into → exits ≡ both_ways t f g b → pair_item E E' ≡ Some (BothEnd falls exits)
   ends-meet falls exits same one two e =
       let falling : pair_falls (option_map F into) (option_map G other) ≡ Some falls =
       (λ j. pair_falls (sym one j) ((ap (option_map G) (sym same) ∙ sym two) j)) ∙ falls-pair falls in
@@ -133,7 +133,7 @@ module _ (t : Target) (f g : Function) (alike : AreAll f.blocks g.blocks) (k : �
 
     -- the whole block
     pub block-goes :
-        (r2 r3 : List Row) (falls : Option (Writes × Writes)) (exits : List Ways) → GoesThrough t f g b c r1 r2 true → into ≡ other →
+        (r2 r3 : List Row) (falls : Option (Writes × Writes)) (exits : List EdgePair) → GoesThrough t f g b c r1 r2 true → into ≡ other →
         first_falls falls ≡ option_map F into → second_falls falls ≡ option_map G into → exits ≡ both_ways t f g b → r3 ≡ r2 ++ BothEnd falls exits ∷ [] →
         Goes true r0 (first_from t f k) (second_from t f g k) r3 (first_from t f (k + 1)) (second_from t f g (k + 1))
     block-goes r2 r3 falls exits through same one two e end =

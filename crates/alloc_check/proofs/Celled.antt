@@ -13,7 +13,7 @@ use Rattle.laws.proofs.Closed.{either-true}
 use Rattle.alloc_check.specs.Marks.{source_slot, is_marked, stays, Marks}
 use Rattle.alloc_check.specs.Needs.{Has}
 use Rattle.alloc_check.specs.Cells.{belongs, counting, asked_in, same_fact, stays_both, Puts, Splits, CellTakes, Takes, TakenTo}
-use Rattle.alloc_check.specs.declared.cells.Cell.{Cell}
+use Rattle.alloc_check.specs.declared.cells.FactBucket.{FactBucket}
 use Rattle.alloc_check.proofs.Lawful.{all-append}
 use Rattle.alloc_check.proofs.Marked.{stays-unmarked, known-stays}
 
@@ -134,7 +134,7 @@ known-counts ws vs k counts f rest true own stay more = λ j. known-stays ws vs 
 known-counts ws vs k counts f rest false own stay more = more
 
 -- a cell whose facts all stay
-pub takes-nothing : (slots : ℕ) (ws vs : Writes) (c : Cell) (taken : Facts) → list_all (stays_both ws vs) c.facts ≡ true → CellTakes slots ws vs c taken c taken
+pub takes-nothing : (slots : ℕ) (ws vs : Writes) (c : FactBucket) (taken : Facts) → list_all (stays_both ws vs) c.facts ≡ true → CellTakes slots ws vs c taken c taken
 takes-nothing slots ws vs c taken e k = ap (λ b. b && all_known (known_both ws vs k) taken) (go c.facts e)
   where
     go : (facts : Facts) → list_all (stays_both ws vs) facts ≡ true → all_known (known_both ws vs k) (filter (belongs slots c) facts) ≡ all_known k (filter (belongs slots c) facts)
@@ -145,7 +145,7 @@ takes-nothing slots ws vs c taken e k = ap (λ b. b && all_known (known_both ws 
 
 -- a cell whose slots aren't marked
 pub takes-unmarked :
-    (slots : ℕ) (ws vs : Writes) (marks marks' : List ℕ) (c : Cell) (taken : Facts) → Marks slots marks ws → Marks slots marks' vs →
+    (slots : ℕ) (ws vs : Writes) (marks marks' : List ℕ) (c : FactBucket) (taken : Facts) → Marks slots marks ws → Marks slots marks' vs →
     is_marked marks c.left ≡ false → is_marked marks' c.right ≡ false → CellTakes slots ws vs c taken c taken
 takes-unmarked slots ws vs marks marks' c taken m m' e e' k = ap (λ b. b && all_known (known_both ws vs k) taken) (go c.facts)
   where
@@ -161,23 +161,23 @@ takes-unmarked slots ws vs marks marks' c taken m m' e e' k = ap (λ b. b && all
     go (f ∷ facts) = known-counts ws vs k (belongs slots c) f (filter (belongs slots c) facts) (belongs slots c f) refl (stay f) (go facts)
 
 -- cell after cell
-asked-append : (slots : ℕ) (cs ds : List Cell) → asked_in slots (cs ++ ds) ≡ asked_in slots cs ++ asked_in slots ds
+asked-append : (slots : ℕ) (cs ds : List FactBucket) → asked_in slots (cs ++ ds) ≡ asked_in slots cs ++ asked_in slots ds
 asked-append slots [] ds = refl
 asked-append slots (c ∷ cs) ds = ap (λ fs. counting slots c ++ fs) (asked-append slots cs ds) ∙ sym (append_assoc (counting slots c) (asked_in slots cs) (asked_in slots ds))
 
-pub asked-more : (slots : ℕ) (cs : List Cell) (c : Cell) → asked_in slots (cs ++ c ∷ []) ≡ asked_in slots cs ++ counting slots c
+pub asked-more : (slots : ℕ) (cs : List FactBucket) (c : FactBucket) → asked_in slots (cs ++ c ∷ []) ≡ asked_in slots cs ++ counting slots c
 asked-more slots cs c = asked-append slots cs (c ∷ []) ∙ ap (λ fs. asked_in slots cs ++ fs) (append-nil (counting slots c))
 
-pub asked-next : (slots : ℕ) (cells : List Cell) (i : ℕ) (c : Cell) → i < length cells → c ≡ get_or cells i c → asked_in slots (take (i + 1) cells) ≡ asked_in slots (take i cells) ++ counting slots c
+pub asked-next : (slots : ℕ) (cells : List FactBucket) (i : ℕ) (c : FactBucket) → i < length cells → c ≡ get_or cells i c → asked_in slots (take (i + 1) cells) ≡ asked_in slots (take i cells) ++ counting slots c
 asked-next slots cells i c lt at = ap (asked_in slots) (take_more cells i c lt ∙ ap (λ x. take i cells ++ x ∷ []) (sym at)) ∙ asked-more slots (take i cells) c
 
-pub asked-empty : (slots : ℕ) (cs : List Cell) (c : Cell) → asked_in slots cs ≡ [] → c.facts ≡ [] → asked_in slots (cs ++ c ∷ []) ≡ []
+pub asked-empty : (slots : ℕ) (cs : List FactBucket) (c : FactBucket) → asked_in slots cs ≡ [] → c.facts ≡ [] → asked_in slots (cs ++ c ∷ []) ≡ []
 asked-empty slots cs c e h = asked-more slots cs c ∙ (λ i. e i ++ filter (belongs slots c) (h i))
 
-asked-one : (slots : ℕ) (k : Knowledge) (cs : List Cell) (c : Cell) → all_known k (asked_in slots (cs ++ c ∷ [])) ≡ all_known k (asked_in slots cs) && all_known k (counting slots c)
+asked-one : (slots : ℕ) (k : Knowledge) (cs : List FactBucket) (c : FactBucket) → all_known k (asked_in slots (cs ++ c ∷ [])) ≡ all_known k (asked_in slots cs) && all_known k (counting slots c)
 asked-one slots k cs c = ap (all_known k) (asked-more slots cs c) ∙ all-append k (asked_in slots cs) (counting slots c)
 
-pub taken-none : (slots : ℕ) (ws vs : Writes) (cells : List Cell) → TakenTo slots ws vs 0 cells cells []
+pub taken-none : (slots : ℕ) (ws vs : Writes) (cells : List FactBucket) → TakenTo slots ws vs 0 cells cells []
 taken-none slots ws vs cells = record { same = refl; rest = λ j c h. refl; done = λ k. refl }
 
 regroup : (a b c : Bool) → (a && b) && c ≡ a && (c && b)
@@ -185,7 +185,7 @@ regroup true b c = and-swap b c
 regroup false b c = refl
 
 pub taken-more :
-    (slots : ℕ) (ws vs : Writes) (i : ℕ) (old now : List Cell) (taken : Facts) (c c' : Cell) (taken' : Facts) → i < length now → c ≡ get_or now i c →
+    (slots : ℕ) (ws vs : Writes) (i : ℕ) (old now : List FactBucket) (taken : Facts) (c c' : FactBucket) (taken' : Facts) → i < length now → c ≡ get_or now i c →
     TakenTo slots ws vs i old now taken → CellTakes slots ws vs c taken c' taken' → TakenTo slots ws vs (i + 1) old (set now i c') taken'
 taken-more slots ws vs i old now taken c c' taken' lt at to takes =
     let within : i < length old = subst (λ n. i < n) to.same lt in
@@ -210,7 +210,7 @@ taken-more slots ws vs i old now taken c c' taken' lt at to takes =
           ∙ (sym (inner n y t') ∙ ap (λ b. b && t') (sym new))))));
     }
 
-pub taken-all : (slots : ℕ) (ws vs : Writes) (i : ℕ) (old now : List Cell) (taken : Facts) → length now ≤ i → TakenTo slots ws vs i old now taken → Takes ws vs (asked_in slots old) taken (asked_in slots now)
+pub taken-all : (slots : ℕ) (ws vs : Writes) (i : ℕ) (old now : List FactBucket) (taken : Facts) → length now ≤ i → TakenTo slots ws vs i old now taken → Takes ws vs (asked_in slots old) taken (asked_in slots now)
 taken-all slots ws vs i old now taken le to k =
     let after = known_both ws vs k in
     ap (λ cs. all_known after (asked_in slots cs)) (sym (take_all i old (subst (λ n. n ≤ i) to.same le)))
@@ -219,7 +219,7 @@ taken-all slots ws vs i old now taken le to k =
 -- facts that are put
 -- a fact behind those of its cell
 pub cell-puts :
-    (slots : ℕ) (c c' : Cell) (f : Fact) → c'.left ≡ c.left → c'.right ≡ c.right → c'.facts ≡ c.facts ++ f ∷ [] → source_slot slots f.0 ≡ c.left → source_slot slots f.1 ≡ c.right →
+    (slots : ℕ) (c c' : FactBucket) (f : Fact) → c'.left ≡ c.left → c'.right ≡ c.right → c'.facts ≡ c.facts ++ f ∷ [] → source_slot slots f.0 ≡ c.left → source_slot slots f.1 ≡ c.right →
     Puts (counting slots c) f (counting slots c')
 cell-puts slots c c' f l r e a b k =
     let own : belongs slots c f ≡ true = and_from (eqb (source_slot slots f.0) c.left) (eqb (source_slot slots f.1) c.right) (eq-eqb (source_slot slots f.0) c.left a) (eq-eqb (source_slot slots f.1) c.right b) in
@@ -230,7 +230,7 @@ cell-puts slots c c' f l r e a b k =
     ∙ behind (all_known k (counting slots c)) (k f.0 f.1)))
 
 pub puts-at :
-    (slots : ℕ) (cells : List Cell) (i : ℕ) (c c' : Cell) (f : Fact) → i < length cells → c ≡ get_or cells i c → Puts (counting slots c) f (counting slots c') → Puts (asked_in slots cells) f (asked_in slots (set cells i c'))
+    (slots : ℕ) (cells : List FactBucket) (i : ℕ) (c c' : FactBucket) (f : Fact) → i < length cells → c ≡ get_or cells i c → Puts (counting slots c) f (counting slots c') → Puts (asked_in slots cells) f (asked_in slots (set cells i c'))
 puts-at slots [] i c c' f lt at puts k = absurd (let x : ⊥ = omega (arith, lt) in x)
 puts-at slots (d ∷ cells) zero c c' f lt at puts k =
     all-append k (counting slots c') (asked_in slots cells)
@@ -244,7 +244,7 @@ puts-at slots (d ∷ cells) (suc i) c c' f lt at puts k =
     ∙ ap (λ b. k f.0 f.1 && b) (sym (all-append k (counting slots d) (asked_in slots cells)))))
 
 -- a cell of its own
-pub puts-behind : (slots : ℕ) (cells : List Cell) (c : Cell) (f : Fact) → c.facts ≡ [] ++ f ∷ [] → source_slot slots f.0 ≡ c.left → source_slot slots f.1 ≡ c.right → Puts (asked_in slots cells) f (asked_in slots (cells ++ c ∷ []))
+pub puts-behind : (slots : ℕ) (cells : List FactBucket) (c : FactBucket) (f : Fact) → c.facts ≡ [] ++ f ∷ [] → source_slot slots f.0 ≡ c.left → source_slot slots f.1 ≡ c.right → Puts (asked_in slots cells) f (asked_in slots (cells ++ c ∷ []))
 puts-behind slots cells c f e a b k =
     asked-one slots k cells c
     ∙ (ap (λ x. all_known k (asked_in slots cells) && x) (cell-puts slots (record { left = c.left; right = c.right; facts = [] }) c f refl refl e a b k)
@@ -267,7 +267,7 @@ pub puts-all : (k : Knowledge) (facts old new : Facts) → old ≡ [] → all_kn
 puts-all k facts old new e h = h ∙ (ap (λ fs. all_known k facts && all_known k fs) e ∙ and-true (all_known k facts))
 
 -- a fact that is found in its cell
-asked-at : (slots : ℕ) (k : Knowledge) (cells : List Cell) (i : ℕ) (d : Cell) → i < length cells → all_known k (asked_in slots cells) ≡ true → all_known k (counting slots (get_or cells i d)) ≡ true
+asked-at : (slots : ℕ) (k : Knowledge) (cells : List FactBucket) (i : ℕ) (d : FactBucket) → i < length cells → all_known k (asked_in slots cells) ≡ true → all_known k (counting slots (get_or cells i d)) ≡ true
 asked-at slots k [] i d lt h = absurd (let x : ⊥ = omega (arith, lt) in x)
 asked-at slots k (c ∷ cells) zero d lt h = (known-append k (counting slots c) (asked_in slots cells) h).0
 asked-at slots k (c ∷ cells) (suc i) d lt h = asked-at slots k cells i d (omega (arith, lt)) (known-append k (counting slots c) (asked_in slots cells) h).1
@@ -290,7 +290,7 @@ found k counts f own (g ∷ facts) e h =
     rest false x = x
 
 pub has-found :
-    (slots : ℕ) (cells : List Cell) (i : ℕ) (c : Cell) (f : Fact) → i < length cells → c ≡ get_or cells i c → source_slot slots f.0 ≡ c.left → source_slot slots f.1 ≡ c.right →
+    (slots : ℕ) (cells : List FactBucket) (i : ℕ) (c : FactBucket) (f : Fact) → i < length cells → c ≡ get_or cells i c → source_slot slots f.0 ≡ c.left → source_slot slots f.1 ≡ c.right →
     list_any (λ g. same_fact g f) c.facts ≡ true → Has (asked_in slots cells) f
 has-found slots cells i c f lt at a b e k h =
     let own : belongs slots c f ≡ true = and_from (eqb (source_slot slots f.0) c.left) (eqb (source_slot slots f.1) c.right) (eq-eqb (source_slot slots f.0) c.left a) (eq-eqb (source_slot slots f.1) c.right b) in

@@ -5,7 +5,7 @@ use Rattle.std.proofs.lemmas.Bool.{eq-eqb}
 use Rattle.meaning.specs.declared.types.Row.{Row}
 use Rattle.meaning.specs.declared.types.Row.TheVariants.{BothStart, BothEnd, FirstSilent, SecondSilent, BothCounted}
 use Rattle.meaning.specs.declared.types.Rest.{Rest}
-use Rattle.meaning.specs.declared.types.Ways.{Ways}
+use Rattle.meaning.specs.declared.types.EdgePair.{EdgePair}
 use Rattle.meaning.specs.Lanes.{Writes, Reads}
 use Rattle.meaning.specs.Code.{Edge, Item, BlockStart, BlockEnd, Silent, Counted, Code}
 use Rattle.meaning.specs.Sameness.{same_rest, same_option}
@@ -81,7 +81,7 @@ starts-meet n m p q e = ap (λ b. option_map (map compared_row) (paired (cond b 
 abbrev pub edge : ℕ → Writes → Edge
 edge m ws = record { block = m; phis = ws }
 
-abbrev pub ways : ℕ → Writes → Writes → Ways
+abbrev pub ways : ℕ → Writes → Writes → EdgePair
 ways m ws vs = record { block = m; first = ws; second = vs }
 
 module _ (first second : ℕ → Writes) where

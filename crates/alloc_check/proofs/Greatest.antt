@@ -3,7 +3,7 @@ use Rattle.std.proofs.Common.{◌≡◌, ◌∷◌, ◌++◌, ◌&&◌, ℕ, Boo
 use Rattle.std.proofs.lemmas.Bool.{and_from}
 use Rattle.meaning.specs.declared.types.Row.{Row}
 use Rattle.meaning.specs.declared.types.Row.TheVariants.{BothStart, BothEnd, FirstSilent, SecondSilent, BothCounted}
-use Rattle.meaning.specs.declared.types.Ways.{Ways}
+use Rattle.meaning.specs.declared.types.EdgePair.{EdgePair}
 use Rattle.meaning.specs.Facts.{Facts, Knowledge, all_known, everything, known, known_first, known_second, known_both, operands_known}
 use Rattle.meaning.specs.Agree.{Family, facts_at, known_along, way_holds, ways_hold, target_holds, rows_hold}
 use Rattle.laws.proofs.Following.{both-true}
@@ -20,16 +20,16 @@ module _ (a b : Family) (below : IsBelow a b) where
   pub below-known : (k : Knowledge) → IsClosed k → (n : ℕ) → all_known k (facts_at b n) ≡ true → all_known k (facts_at a n) ≡ true
   below-known k c n h = all-alike (known (facts_at b n)) k (known-known k c (facts_at b n) h) (facts_at a n) (below n)
 
-  below-way : (k : Knowledge) → IsClosed k → (e : Ways) → way_holds b k e ≡ true → way_holds a k e ≡ true
+  below-way : (k : Knowledge) → IsClosed k → (e : EdgePair) → way_holds b k e ≡ true → way_holds a k e ≡ true
   below-way k c e h = below-known (known_along e k) (closed-second (known_first e.first k) (closed-first k c e.first) e.second) e.block h
 
-  below-ways : (k : Knowledge) → IsClosed k → (es : List Ways) → ways_hold b k es ≡ true → ways_hold a k es ≡ true
+  below-ways : (k : Knowledge) → IsClosed k → (es : List EdgePair) → ways_hold b k es ≡ true → ways_hold a k es ≡ true
   below-ways k c [] h = refl
   below-ways k c (e ∷ es) h =
       let p = both-true (way_holds b k e) (ways_hold b k es) h in
       and_from (way_holds a k e) (ways_hold a k es) (below-way k c e p.0) (below-ways k c es p.1)
 
-  below-target : (k : Knowledge) → IsClosed k → (e : Option Ways) → target_holds b k e ≡ true → target_holds a k e ≡ true
+  below-target : (k : Knowledge) → IsClosed k → (e : Option EdgePair) → target_holds b k e ≡ true → target_holds a k e ≡ true
   below-target k c None h = refl
   below-target k c (Some e) h = below-way k c e h
 

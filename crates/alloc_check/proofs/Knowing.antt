@@ -4,7 +4,7 @@ use Rattle.std.proofs.lemmas.Bool.{and_from}
 use Rattle.meaning.specs.declared.types.Source.{Source}
 use Rattle.meaning.specs.declared.types.Fill.{Fill}
 use Rattle.meaning.specs.declared.types.Fill.TheVariants.{Moved, Computed}
-use Rattle.meaning.specs.declared.types.Ways.{Ways}
+use Rattle.meaning.specs.declared.types.EdgePair.{EdgePair}
 use Rattle.meaning.specs.Lanes.{Writes, Reads, settled, through}
 use Rattle.meaning.specs.Facts.{Facts, Knowledge, all_known, known_left, known_first, known_second, known_both, one_result, reads_known, operands_known}
 use Rattle.meaning.specs.Agree.{known_along}
@@ -56,5 +56,5 @@ module _ (k k' : Knowledge) (more : Knows k k') where
       let p = both-true (reads_known k s t) (operands_known k ss ts) h in
       and_from (reads_known k' s t) (operands_known k' ss ts) (reads-more s t p.0) (operands-more ss ts p.1)
 
-pub along-more : (e : Ways) (k k' : Knowledge) → Knows k k' → Knows (known_along e k) (known_along e k')
+pub along-more : (e : EdgePair) (k k' : Knowledge) → Knows k k' → Knows (known_along e k) (known_along e k')
 along-more e k k' more = second-more (known_first e.first k) (known_first e.first k') (first-more k k' more e.first) e.second

@@ -11,7 +11,7 @@ use Rattle.target_base.specs.Roles.{is_silent}
 use Rattle.meaning.specs.declared.types.Row.{Row}
 use Rattle.meaning.specs.declared.types.Row.TheVariants.{BothStart, BothEnd, FirstSilent, SecondSilent, BothCounted}
 use Rattle.meaning.specs.declared.types.Rest.{Rest}
-use Rattle.meaning.specs.declared.types.Ways.{Ways}
+use Rattle.meaning.specs.declared.types.EdgePair.{EdgePair}
 use Rattle.meaning.specs.Lanes.{Writes, Reads}
 use Rattle.meaning.specs.Code.{Edge, Item, BlockStart, BlockEnd, Silent, Counted, Code}
 use Rattle.meaning.specs.Rows.{first_falls, second_falls}
@@ -230,7 +230,7 @@ module _ (t : Target) (f g : Function) (b c : Block) (alike : AreAll f.blocks g.
 
     pub apart-target : same_option (target_of i.operands) (target_of x.operands) ≡ false → pair_item (left to exits) (right to' exits') ≡ None
     apart-target differ =
-        ap (λ (o : Option (Option Ways)). cond (same_rest r r') (elim o [ None ↦ None | Some w ↦ elim (pair_edges exits exits') [ None ↦ None | Some ways ↦ Some (BothCounted r reads reads' ws ws' w ways) ] ]) None)
+        ap (λ (o : Option (Option EdgePair)). cond (same_rest r r') (elim o [ None ↦ None | Some w ↦ elim (pair_edges exits exits') [ None ↦ None | Some ways ↦ Some (BothCounted r reads reads' ws ws' w ways) ] ]) None)
         (targets-apart (λ m. (way t f b.number m).phis) (λ m. (way t g b.number m).phis) (target_of i.operands) (target_of x.operands) differ)
         ∙ none (same_rest r r')
       where

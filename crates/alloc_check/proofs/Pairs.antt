@@ -7,7 +7,7 @@ use Rattle.target_base.specs.declared.types.Target.{Target}
 use Rattle.meaning.specs.declared.types.Rest.{Rest}
 use Rattle.meaning.specs.declared.types.Row.{Row}
 use Rattle.meaning.specs.declared.types.Row.TheVariants.{BothStart, BothEnd, FirstSilent, SecondSilent, BothCounted}
-use Rattle.meaning.specs.declared.types.Ways.{Ways}
+use Rattle.meaning.specs.declared.types.EdgePair.{EdgePair}
 use Rattle.meaning.specs.Lanes.{Writes, Reads}
 use Rattle.meaning.specs.Code.{Item, BlockStart, BlockEnd, Counted, Code}
 use Rattle.meaning.specs.Rows.{first_target, second_target, first_falls, second_falls}
@@ -42,7 +42,7 @@ pub shared-end : (reads others made : Reads) (k : ℕ) → length others ≤ k �
 shared-end reads others made k le h = sym (append-nil made) ∙ (ap (λ r. made ++ r) (sym (at_drop_all (λ o. shared_reads (drop k reads) o) others k le ∙ shared-none (drop k reads))) ∙ h)
 
 pub in-both :
-    (t : Target) (f g : Function) (b c : Block) (i x : Instr) (old new : List Row) (r r' : Rest) (reads reads' asked asked' : Reads) (ws ws' : Writes) (target : Option Ways) (exits : List Ways) →
+    (t : Target) (f g : Function) (b c : Block) (i x : Instr) (old new : List Row) (r r' : Rest) (reads reads' asked asked' : Reads) (ws ws' : Writes) (target : Option EdgePair) (exits : List EdgePair) →
     CountedItem t f b i r reads ws → CountedItem t g c x r' reads' ws' → r ≡ r' → used_reads r.effect asked ≡ used_reads r.effect reads → used_reads r.effect asked' ≡ used_reads r.effect reads' →
     target_of i.operands ≡ target_of x.operands → b.number ≡ c.number →
     first_target target ≡ option_map (way t f b.number) (target_of i.operands) → second_target target ≡ option_map (way t g b.number) (target_of i.operands) →
@@ -78,7 +78,7 @@ blocks-at t f bs k b h e = at_drop_more (blocks_bare t f) bs k b h ∙ (ap (λ x
 
 -- a block whose start, instructions and end are among the rows
 pub grown-block :
-    (t : Target) (f g : Function) (b c : Block) (after after' : List Block) (r0 r1 r2 r3 : List Row) (into other : Option ℕ) (falls : Option (Writes × Writes)) (exits : List Ways) →
+    (t : Target) (f g : Function) (b c : Block) (after after' : List Block) (r0 r1 r2 r3 : List Row) (into other : Option ℕ) (falls : Option (Writes × Writes)) (exits : List EdgePair) →
     b.number ≡ c.number → into ≡ fallen_into t b after → other ≡ fallen_into t c after' → into ≡ other →
     r1 ≡ r0 ++ BothStart b.number ∷ [] → Grown r1 (items t f b b.instrs) (items t g c c.instrs) r2 →
     first_falls falls ≡ option_map (λ m. (way t f b.number m).phis) into → second_falls falls ≡ option_map (λ m. (way t g b.number m).phis) into →

@@ -9,7 +9,7 @@ use Rattle.target_base.specs.Numbers.{unit_number}
 use Rattle.target_base.specs.Registers.{units_of, is_reserved_unit}
 use Rattle.meaning.specs.declared.types.Lane.TheVariants.{UnitLane}
 use Rattle.meaning.specs.declared.types.Source.TheVariants.{FromLane, Undef, Bits}
-use Rattle.meaning.specs.declared.types.Ways.{Ways}
+use Rattle.meaning.specs.declared.types.EdgePair.{EdgePair}
 use Rattle.meaning.specs.declared.types.Row.{Row}
 use Rattle.meaning.specs.declared.types.Row.TheVariants.{BothStart, BothEnd, FirstSilent, SecondSilent, BothCounted}
 use Rattle.meaning.specs.Code.{BlockStart, BlockEnd, Silent, Counted, Code, Function as Meaning}
@@ -86,16 +86,16 @@ keeps_reserved t f g family rows both sides e h =
     record { looked = refined }
 
 module _ (family : Family) (k k' : Knowledge) (more : Knows k k') where
-  way-more : (e : Ways) → way_holds family k e ≡ true → way_holds family k' e ≡ true
+  way-more : (e : EdgePair) → way_holds family k e ≡ true → way_holds family k' e ≡ true
   way-more e h = all-more (known_along e k) (known_along e k') (along-more e k k' more) (facts_at family e.block) h
 
-  ways-more : (exits : List Ways) → ways_hold family k exits ≡ true → ways_hold family k' exits ≡ true
+  ways-more : (exits : List EdgePair) → ways_hold family k exits ≡ true → ways_hold family k' exits ≡ true
   ways-more [] h = refl
   ways-more (e ∷ exits) h =
       let p = both-true (way_holds family k e) (ways_hold family k exits) h in
       and_from (way_holds family k' e) (ways_hold family k' exits) (way-more e p.0) (ways-more exits p.1)
 
-  target-more : (target : Option Ways) → target_holds family k target ≡ true → target_holds family k' target ≡ true
+  target-more : (target : Option EdgePair) → target_holds family k target ≡ true → target_holds family k' target ≡ true
   target-more None h = refl
   target-more (Some e) h = way-more e h
 

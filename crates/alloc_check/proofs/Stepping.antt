@@ -5,7 +5,7 @@ use Rattle.target_base.specs.declared.types.Target.{Target}
 use Rattle.meaning.specs.declared.types.Row.{Row}
 use Rattle.meaning.specs.declared.types.Row.TheVariants.{BothStart, BothEnd, FirstSilent, SecondSilent, BothCounted}
 use Rattle.meaning.specs.declared.types.Rest.{Rest}
-use Rattle.meaning.specs.declared.types.Ways.{Ways}
+use Rattle.meaning.specs.declared.types.EdgePair.{EdgePair}
 use Rattle.meaning.specs.Lanes.{Writes, Reads}
 use Rattle.meaning.specs.Code.{Edge, Item, BlockStart, BlockEnd, Silent, Counted, Code}
 use Rattle.meaning.specs.Rows.{first_falls, second_falls}
@@ -91,7 +91,7 @@ module _ (t : Target) (f g : Function) (b c : Block) (alike : AreAll f.blocks g.
     second-is' = second-is t f g b c alike number i x r r' reads reads' ws ws' left right
 
     pub pair-goes :
-        (old new : List Row) (asked asked' : Reads) (over : Option Ways) (exits : List Ways) → same_rest r r' ≡ true → same_option (target_of i.operands) (target_of x.operands) ≡ true →
+        (old new : List Row) (asked asked' : Reads) (over : Option EdgePair) (exits : List EdgePair) → same_rest r r' ≡ true → same_option (target_of i.operands) (target_of x.operands) ≡ true →
         asked ≡ needed_reads r.effect reads reads' → asked' ≡ needed_reads r.effect reads' reads → over ≡ option_map (both_way t f g b.number) (target_of i.operands) → exits ≡ cond (does is_terminator t i) (both_ways t f g b) [] →
         new ≡ old ++ BothCounted r asked asked' ws ws' over exits ∷ [] → Goes true old (one ∷ p) (two ∷ q) new p q
     pair-goes old new asked asked' over exits same goal a a' w e grown =

@@ -6,7 +6,7 @@ use Rattle.meaning.specs.declared.types.Fill.{Fill}
 use Rattle.meaning.specs.declared.types.Fill.TheVariants.{Moved, Computed}
 use Rattle.meaning.specs.declared.types.Row.{Row}
 use Rattle.meaning.specs.declared.types.Row.TheVariants.{BothStart, BothEnd, FirstSilent, SecondSilent, BothCounted}
-use Rattle.meaning.specs.declared.types.Ways.{Ways}
+use Rattle.meaning.specs.declared.types.EdgePair.{EdgePair}
 use Rattle.meaning.specs.declared.types.Rest.{Rest}
 use Rattle.meaning.specs.Lanes.{Writes, Reads, settled, through}
 use Rattle.meaning.specs.Facts.{Fact, Facts, Knowledge, all_known, everything, known, known_left, known_first, known_second, known_both, one_result, operands_known}
@@ -85,14 +85,14 @@ both-never ws vs f fits k = go (through ws f.0) (through vs f.1) fits
     go : (g h : Fill) → one_number (result_of g) (result_of h) || is_moved (result_of g) ≡ false → one_result g h || known_left k g (settled h) ≡ false
     go g h e = subst (λ b. b || known_left k g (settled h) ≡ false) (same-number g h) (choose (one_number (result_of g) (result_of h)) g h e)
 
-pub along-instead : (w : Ways) (f : Fact) → fits_first w.first f ≡ true → IsInstead (known_along w) f (Some (before_second w.second (before_first w.first f)))
+pub along-instead : (w : EdgePair) (f : Fact) → fits_first w.first f ≡ true → IsInstead (known_along w) f (Some (before_second w.second (before_first w.first f)))
 along-instead w f fits k l = go (through w.first f.0) fits
   where
     go : (g : Fill) → is_moved (result_of g) ≡ true → known_left k g (settled (through w.second f.1)) ≡ true → k (settled g) (settled (through w.second f.1)) ≡ true
     go (Moved s) e h = h
     go (Computed i) e h = absurd (cc)
 
-pub along-never : (w : Ways) (f : Fact) → fits_first w.first f ≡ false → IsInstead (known_along w) f None
+pub along-never : (w : EdgePair) (f : Fact) → fits_first w.first f ≡ false → IsInstead (known_along w) f None
 along-never w f fits k = go (through w.first f.0) fits
   where
     go : (g : Fill) → is_moved (result_of g) ≡ false → known_left k g (settled (through w.second f.1)) ≡ false
@@ -113,7 +113,7 @@ taken-least ws vs old taken middle answer new takes least k l h =
     least k l (and_from (all_known (known_both ws vs k) taken) (all_known k middle) p.1 p.0)
 
 -- along a way
-pub along-known : (w : Ways) (k : Knowledge) (f : Fact) → fits_first w.first f ≡ true → k (before_second w.second (before_first w.first f)).0 (before_second w.second (before_first w.first f)).1 ≡ true → known_along w k f.0 f.1 ≡ true
+pub along-known : (w : EdgePair) (k : Knowledge) (f : Fact) → fits_first w.first f ≡ true → k (before_second w.second (before_first w.first f)).0 (before_second w.second (before_first w.first f)).1 ≡ true → known_along w k f.0 f.1 ≡ true
 along-known w k f e h = first-known w.first k (f.0, settled (through w.second f.1)) e h
 
 module _ (family : Family) where
@@ -130,7 +130,7 @@ module _ (family : Family) where
       let e : all_known (known at) old ≡ true = covers (known at) (lawful-known at) (same (known at) ∙ facts-known at) in
       and_from (all_known k at) (rows_hold family rows (known at)) (sym (same k) ∙ h) (suffice (known at) (lawful-known at) e)
 
-  pub carry-end : (falls : Option (Writes × Writes)) (exits : List Ways) (old middle new : Facts) → ((rows : List Row) → Suffice family rows old → Lead middle (λ k. rows_hold family rows (behind_falls falls k))) → Adds middle (λ k. ways_hold family k exits) new → Carry family (BothEnd falls exits) old new
+  pub carry-end : (falls : Option (Writes × Writes)) (exits : List EdgePair) (old middle new : Facts) → ((rows : List Row) → Suffice family rows old → Lead middle (λ k. rows_hold family rows (behind_falls falls k))) → Adds middle (λ k. ways_hold family k exits) new → Carry family (BothEnd falls exits) old new
   carry-end falls exits old middle new lead adds rows suffice k l h =
       let p = both-true (ways_hold family k exits) (all_known k middle) (adds k l h) in
       go falls p.0 (lead rows suffice k l p.1)
@@ -139,7 +139,7 @@ module _ (family : Family) where
       go None a b = and_from (ways_hold family k exits) (rows_hold family rows everything) a b
       go (Some e) a b = and_from (ways_hold family k exits) (rows_hold family rows (known_second e.1 (known_first e.0 k))) a b
 
-  pub leave : (ws vs : Writes) (target : Option Ways) (exits : List Ways) (old one two new : Facts) → Adds old (λ k. target_holds family k target) one → Adds one (λ k. ways_hold family k exits) two → Lead new (λ k. all_known (known_both ws vs k) two) → Leave family ws vs target exits old new
+  pub leave : (ws vs : Writes) (target : Option EdgePair) (exits : List EdgePair) (old one two new : Facts) → Adds old (λ k. target_holds family k target) one → Adds one (λ k. ways_hold family k exits) two → Lead new (λ k. all_known (known_both ws vs k) two) → Leave family ws vs target exits old new
   leave ws vs target exits old one two new a b c k l h =
       let k' = known_both ws vs k in
       let l' = lawful-both ws vs k l in
@@ -147,7 +147,7 @@ module _ (family : Family) where
       let q = both-true (target_holds family k' target) (all_known k' old) (a k' l' p.1) in
       and_from (target_holds family k' target) (ways_hold family k' exits && all_known k' old) q.0 (and_from (ways_hold family k' exits) (all_known k' old) p.0 q.1)
 
-  pub carry-counted : (r : Rest) (reads reads' : Reads) (ws vs : Writes) (target : Option Ways) (exits : List Ways) (old middle new : Facts) → Leave family ws vs target exits old middle → Adds middle (λ k. operands_known k reads reads') new → Carry family (BothCounted r reads reads' ws vs target exits) old new
+  pub carry-counted : (r : Rest) (reads reads' : Reads) (ws vs : Writes) (target : Option EdgePair) (exits : List EdgePair) (old middle new : Facts) → Leave family ws vs target exits old middle → Adds middle (λ k. operands_known k reads reads') new → Carry family (BothCounted r reads reads' ws vs target exits) old new
   carry-counted r reads reads' ws vs target exits old middle new leaves adds rows suffice k l h =
       let k' = known_both ws vs k in
       let l' = lawful-both ws vs k l in
@@ -159,12 +159,12 @@ module _ (family : Family) where
       (and_from (ways_hold family k' exits) (rows_hold family rows k') r.0 (suffice k' l' r.1)))
 
   -- a pair that asks for nothing that it reads
-  pub carry-unread : (r : Rest) (ws vs : Writes) (target : Option Ways) (exits : List Ways) (old new : Facts) → Leave family ws vs target exits old new → Carry family (BothCounted r [] [] ws vs target exits) old new
+  pub carry-unread : (r : Rest) (ws vs : Writes) (target : Option EdgePair) (exits : List EdgePair) (old new : Facts) → Leave family ws vs target exits old new → Carry family (BothCounted r [] [] ws vs target exits) old new
   carry-unread r ws vs target exits old new leaves = carry-counted r [] [] ws vs target exits old new new leaves (λ k l h. h)
 
   -- what the exits and the branch target ask in front of the writes
   pub writes-least :
-      (ws vs : Writes) (target : Option Ways) (exits : List Ways) (old one two new : Facts) (answer : Bool) → Least (λ k. target_holds family k target && all_known k old) true one →
+      (ws vs : Writes) (target : Option EdgePair) (exits : List EdgePair) (old one two new : Facts) (answer : Bool) → Least (λ k. target_holds family k target && all_known k old) true one →
       Least (λ k. ways_hold family k exits && all_known k one) true two → Least (λ k. all_known (known_both ws vs k) two) answer new → Least (writes_ask family ws vs target exits old) answer new
   writes-least ws vs target exits old one two new answer a b c k l h =
       let k' = known_both ws vs k in
@@ -177,7 +177,7 @@ module _ (family : Family) where
 
   -- the same where the target or an exit can't have its facts
   pub target-never :
-      (ws vs : Writes) (target : Option Ways) (exits : List Ways) (old new new' : Facts) → Least (λ k. target_holds family k target && all_known k old) false new → Least (writes_ask family ws vs target exits old) false new'
+      (ws vs : Writes) (target : Option EdgePair) (exits : List EdgePair) (old new new' : Facts) → Least (λ k. target_holds family k target && all_known k old) false new → Least (writes_ask family ws vs target exits old) false new'
   target-never ws vs target exits old new new' a k l h =
       let k' = known_both ws vs k in
       let p = both-true (target_holds family k' target) (ways_hold family k' exits && all_known k' old) h in
@@ -186,7 +186,7 @@ module _ (family : Family) where
       absurd (cc)
 
   pub exits-never :
-      (ws vs : Writes) (target : Option Ways) (exits : List Ways) (old one new new' : Facts) → Least (λ k. target_holds family k target && all_known k old) true one →
+      (ws vs : Writes) (target : Option EdgePair) (exits : List EdgePair) (old one new new' : Facts) → Least (λ k. target_holds family k target && all_known k old) true one →
       Least (λ k. ways_hold family k exits && all_known k one) false new → Least (writes_ask family ws vs target exits old) false new'
   exits-never ws vs target exits old one new new' a b k l h =
       let k' = known_both ws vs k in
@@ -203,25 +203,25 @@ module _ (family : Family) where
 
   -- what the end of a block asks
   pub end-least :
-      (falls : Option (Writes × Writes)) (exits : List Ways) (old middle new : Facts) (answer : Bool) → Least (λ k. all_known (behind_falls falls k) old) true middle →
+      (falls : Option (Writes × Writes)) (exits : List EdgePair) (old middle new : Facts) (answer : Bool) → Least (λ k. all_known (behind_falls falls k) old) true middle →
       Least (λ k. ways_hold family k exits && all_known k middle) answer new → Least (row_asks family (BothEnd falls exits) old) answer new
   end-least falls exits old middle new answer a b k l h =
       let p = both-true (ways_hold family k exits) (all_known (behind_falls falls k) old) h in
       b k l (and_from (ways_hold family k exits) (all_known k middle) p.0 (a k l p.1).1)
 
-  pub end-never : (falls : Option (Writes × Writes)) (exits : List Ways) (old new : Facts) → Least (λ k. all_known (behind_falls falls k) old) false new → Least (row_asks family (BothEnd falls exits) old) false new
+  pub end-never : (falls : Option (Writes × Writes)) (exits : List EdgePair) (old new : Facts) → Least (λ k. all_known (behind_falls falls k) old) false new → Least (row_asks family (BothEnd falls exits) old) false new
   end-never falls exits old new a k l h = a k l (both-true (ways_hold family k exits) (all_known (behind_falls falls k) old) h).1
 
   -- what a pair asks
   pub counted-least :
-      (r : Rest) (reads reads' : Reads) (ws vs : Writes) (target : Option Ways) (exits : List Ways) (old middle new : Facts) (answer : Bool) → Least (writes_ask family ws vs target exits old) true middle →
+      (r : Rest) (reads reads' : Reads) (ws vs : Writes) (target : Option EdgePair) (exits : List EdgePair) (old middle new : Facts) (answer : Bool) → Least (writes_ask family ws vs target exits old) true middle →
       Least (λ k. operands_known k reads reads' && all_known k middle) answer new → Least (row_asks family (BothCounted r reads reads' ws vs target exits) old) answer new
   counted-least r reads reads' ws vs target exits old middle new answer a b k l h =
       let p = both-true (operands_known k reads reads') (writes_ask family ws vs target exits old k) h in
       b k l (and_from (operands_known k reads reads') (all_known k middle) p.0 (a k l p.1).1)
 
   pub counted-never :
-      (r : Rest) (reads reads' : Reads) (ws vs : Writes) (target : Option Ways) (exits : List Ways) (old new : Facts) → Least (writes_ask family ws vs target exits old) false new →
+      (r : Rest) (reads reads' : Reads) (ws vs : Writes) (target : Option EdgePair) (exits : List EdgePair) (old new : Facts) → Least (writes_ask family ws vs target exits old) false new →
       Least (row_asks family (BothCounted r reads reads' ws vs target exits) old) false new
   counted-never r reads reads' ws vs target exits old new a k l h = a k l (both-true (operands_known k reads reads') (writes_ask family ws vs target exits old k) h).1
 

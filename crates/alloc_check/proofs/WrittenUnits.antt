@@ -10,7 +10,7 @@ use Rattle.meaning.specs.declared.types.Lane.{Lane}
 use Rattle.meaning.specs.declared.types.Lane.TheVariants.{UnitLane}
 use Rattle.meaning.specs.declared.types.Source.{Source}
 use Rattle.meaning.specs.declared.types.Source.TheVariants.{FromLane}
-use Rattle.meaning.specs.declared.types.Ways.{Ways}
+use Rattle.meaning.specs.declared.types.EdgePair.{EdgePair}
 use Rattle.meaning.specs.declared.types.Row.{Row}
 use Rattle.meaning.specs.declared.types.Row.TheVariants.{BothStart, BothEnd, FirstSilent, SecondSilent, BothCounted}
 use Rattle.meaning.specs.Lanes.{Writes, settled}
@@ -204,18 +204,18 @@ module _ (family : Family) (idle : List UnitNumber) (ns : List ℕ) where
   abbrev wide : Family
   wide = widened family (alike idle) ns
 
-  way-wider : (k k' : Knowledge) → Wider idle k k' → (e : Ways) → Leave idle (λ l. way_leaves l e) → way_holds family k e ≡ true → way_holds wide k' e ≡ true
+  way-wider : (k k' : Knowledge) → Wider idle k k' → (e : EdgePair) → Leave idle (λ l. way_leaves l e) → way_holds family k e ≡ true → way_holds wide k' e ≡ true
   way-wider k k' wider e leave h =
       widened-asks family (alike idle) ns e.block (known_along e k') (wider-all idle (known_along e k) (known_along e k') (wider-along idle k k' e.first e.second wider leave) (facts_at family e.block) h)
 
-  ways-wider : (k k' : Knowledge) → Wider idle k k' → (exits : List Ways) → Leave idle (λ l. list_all (way_leaves l) exits) → ways_hold family k exits ≡ true → ways_hold wide k' exits ≡ true
+  ways-wider : (k k' : Knowledge) → Wider idle k k' → (exits : List EdgePair) → Leave idle (λ l. list_all (way_leaves l) exits) → ways_hold family k exits ≡ true → ways_hold wide k' exits ≡ true
   ways-wider k k' wider [] leave h = refl
   ways-wider k k' wider (e ∷ exits) leave h =
       let p = both-true (way_holds family k e) (ways_hold family k exits) h in
       and_from (way_holds wide k' e) (ways_hold wide k' exits) (way-wider k k' wider e (first-leaves idle (λ l. way_leaves l e) (λ l. list_all (way_leaves l) exits) leave) p.0)
       (ways-wider k k' wider exits (second-leaves idle (λ l. way_leaves l e) (λ l. list_all (way_leaves l) exits) leave) p.1)
 
-  target-wider : (k k' : Knowledge) → Wider idle k k' → (target : Option Ways) → Leave idle (λ l. target_leaves l target) → target_holds family k target ≡ true → target_holds wide k' target ≡ true
+  target-wider : (k k' : Knowledge) → Wider idle k k' → (target : Option EdgePair) → Leave idle (λ l. target_leaves l target) → target_holds family k target ≡ true → target_holds wide k' target ≡ true
   target-wider k k' wider None leave h = refl
   target-wider k k' wider (Some e) leave h = way-wider k k' wider e leave h
 

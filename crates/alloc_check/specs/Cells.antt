@@ -5,24 +5,24 @@ use Rattle.meaning.specs.Lanes.{Writes}
 use Rattle.meaning.specs.Facts.{Fact, Facts, Knowledge, all_known, known_both}
 use Rattle.meaning.specs.Sameness.{same_source}
 use Rattle.alloc_check.specs.Marks.{source_slot, stays, Marks}
-use Rattle.alloc_check.specs.declared.cells.Cell.{Cell}
-use Rattle.alloc_check.specs.declared.cells.Marked.{Marked}
+use Rattle.alloc_check.specs.declared.cells.FactBucket.{FactBucket}
+use Rattle.alloc_check.specs.declared.cells.LaneMarks.{LaneMarks}
 use Rattle.alloc_check.specs.declared.needs.Needs.{Needs}
 
 -- each lane that is written is marked, by its slot in cells and by one of 256
-pub record IsMarked (slots : ℕ) (marks : Marked) (ws : Writes) : Type 0 where
+pub record IsMarked (slots : ℕ) (marks : LaneMarks) (ws : Writes) : Type 0 where
   pub coarse : Marks slots marks.coarse.items ws
   pub fine : Marks 256 marks.fine.items ws
 
 -- the fact has the slots of the cell
-abbrev pub belongs : ℕ → Cell → Fact → Bool
+abbrev pub belongs : ℕ → FactBucket → Fact → Bool
 belongs slots c f = nat_eq (source_slot slots f.0) c.left && nat_eq (source_slot slots f.1) c.right
 
 -- the facts of a cell that count
-abbrev pub counting : ℕ → Cell → Facts
+abbrev pub counting : ℕ → FactBucket → Facts
 counting slots c = filter (belongs slots c) c.facts
 
-abbrev pub asked_in : ℕ → List Cell → Facts
+abbrev pub asked_in : ℕ → List FactBucket → Facts
 asked_in slots [] = []
 asked_in slots (c ∷ cs) = counting slots c ++ asked_in slots cs
 
@@ -34,10 +34,10 @@ abbrev pub same_fact : Fact → Fact → Bool
 same_fact f g = same_source f.0 g.0 && same_source f.1 g.1
 
 -- the cell at a place has these slots
-pub record IsCellOf (cells : List Cell) (left right at : ℕ) : Type 0 where
+pub record IsCellOf (cells : List FactBucket) (left right at : ℕ) : Type 0 where
   pub within : at < length cells
-  pub first : (c : Cell) → (slice_index_or cells at c).left ≡ left
-  pub second : (c : Cell) → (slice_index_or cells at c).right ≡ right
+  pub first : (c : FactBucket) → (slice_index_or cells at c).left ≡ left
+  pub second : (c : FactBucket) → (slice_index_or cells at c).right ≡ right
 
 -- the new facts are the old ones and this one
 abbrev pub Puts : Facts → Fact → Facts → Type 0
@@ -55,7 +55,7 @@ Splits counts ws vs old before kept taken =
     all_known (known_both ws vs k) (filter counts old) && all_known (known_both ws vs k) before ≡ all_known k (filter counts kept) && all_known (known_both ws vs k) taken
 
 -- the same of one cell
-abbrev pub CellTakes : ℕ → Writes → Writes → Cell → Facts → Cell → Facts → Type 0
+abbrev pub CellTakes : ℕ → Writes → Writes → FactBucket → Facts → FactBucket → Facts → Type 0
 CellTakes slots ws vs old before new taken =
     (k : Knowledge) →
     all_known (known_both ws vs k) (counting slots old) && all_known (known_both ws vs k) before ≡ all_known k (counting slots new) && all_known (known_both ws vs k) taken
@@ -65,7 +65,7 @@ abbrev pub Takes : Writes → Writes → Facts → Facts → Facts → Type 0
 Takes ws vs old taken new = (k : Knowledge) → all_known (known_both ws vs k) old ≡ all_known k new && all_known (known_both ws vs k) taken
 
 -- the first cells are as they are behind taking, the others as they were
-pub record TakenTo (slots : ℕ) (ws vs : Writes) (i : ℕ) (old now : List Cell) (taken : Facts) : Type 0 where
+pub record TakenTo (slots : ℕ) (ws vs : Writes) (i : ℕ) (old now : List FactBucket) (taken : Facts) : Type 0 where
   pub same : length now ≡ length old
-  pub rest : (j : ℕ) (c : Cell) → i ≤ j → slice_index_or now j c ≡ slice_index_or old j c
+  pub rest : (j : ℕ) (c : FactBucket) → i ≤ j → slice_index_or now j c ≡ slice_index_or old j c
   pub done : (k : Knowledge) → all_known (known_both ws vs k) (asked_in slots (take i old)) ≡ all_known k (asked_in slots (take i now)) && all_known (known_both ws vs k) taken

@@ -4,7 +4,7 @@ use Rattle.std.specs.List.{list_all}
 use Rattle.target_base.specs.declared.types.Target.{Target}
 use Rattle.meaning.specs.declared.types.Row.{Row}
 use Rattle.meaning.specs.declared.types.Row.TheVariants.{BothStart, BothEnd, FirstSilent, SecondSilent, BothCounted}
-use Rattle.meaning.specs.declared.types.Ways.{Ways}
+use Rattle.meaning.specs.declared.types.EdgePair.{EdgePair}
 use Rattle.meaning.specs.declared.types.Rest.{Rest}
 use Rattle.meaning.specs.Lanes.{Reads, Writes}
 use Rattle.meaning.specs.Code.{Edge, Item, BlockEnd, Counted, Code}
@@ -59,11 +59,11 @@ abbrev pub second_items : Target → Function → Function → Block → Block �
 second_items t f g b c xs = map (item_of t (ordered f g) (in_order b c)) xs
 
 -- the way from block n to block m in two functions
-abbrev pub both_way : Target → Function → Function → ℕ → ℕ → Ways
+abbrev pub both_way : Target → Function → Function → ℕ → ℕ → EdgePair
 both_way t f g n m = record { block = m; first = (way t f n m).phis; second = (way t g n m).phis }
 
 -- the ways out of a block of the first function, in both
-abbrev pub both_ways : Target → Function → Function → Block → List Ways
+abbrev pub both_ways : Target → Function → Function → Block → List EdgePair
 both_ways t f g b = map (λ e. both_way t f g b.number e.block) b.successors
 
 -- what a silent instruction writes; an excluded opcode writes nothing

@@ -8,7 +8,7 @@ use Rattle.meaning.specs.declared.types.Fill.{Fill}
 use Rattle.meaning.specs.declared.types.Fill.TheVariants.{Moved, Computed}
 use Rattle.meaning.specs.declared.types.Row.{Row}
 use Rattle.meaning.specs.declared.types.Row.TheVariants.{BothStart, BothEnd, FirstSilent, SecondSilent, BothCounted}
-use Rattle.meaning.specs.declared.types.Ways.{Ways}
+use Rattle.meaning.specs.declared.types.EdgePair.{EdgePair}
 use Rattle.meaning.specs.Lanes.{Writes, settled, through}
 use Rattle.meaning.specs.Facts.{Fact, Facts, Knowledge, all_known, everything, known_first, known_second, known_both, operands_known}
 use Rattle.meaning.specs.Agree.{Family, rows_hold, target_holds, ways_hold}
@@ -91,12 +91,12 @@ behind_falls None k = everything
 behind_falls (Some e) k = known_second e.1 (known_first e.0 k)
 
 -- needs before the writes of a counted pair, from needs behind it
-abbrev pub Leave : Family → Writes → Writes → Option Ways → List Ways → Facts → Facts → Type 0
+abbrev pub Leave : Family → Writes → Writes → Option EdgePair → List EdgePair → Facts → Facts → Type 0
 Leave family ws vs target exits old new =
     Lead new (λ k. target_holds family (known_both ws vs k) target && (ways_hold family (known_both ws vs k) exits && all_known (known_both ws vs k) old))
 
 -- the same as a test
-abbrev pub writes_ask : Family → Writes → Writes → Option Ways → List Ways → Facts → Knowledge → Bool
+abbrev pub writes_ask : Family → Writes → Writes → Option EdgePair → List EdgePair → Facts → Knowledge → Bool
 writes_ask family ws vs target exits old k = target_holds family (known_both ws vs k) target && (ways_hold family (known_both ws vs k) exits && all_known (known_both ws vs k) old)
 
 -- what a row asks, with the needs behind it; what the start of a block asks isn't said here

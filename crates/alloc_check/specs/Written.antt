@@ -4,17 +4,17 @@ use Rattle.std.specs.List.{list_all, filter}
 use Rattle.target_base.specs.declared.types.Unit.{Unit as UnitNumber}
 use Rattle.meaning.specs.declared.types.Lane.{Lane}
 use Rattle.meaning.specs.declared.types.Lane.TheVariants.{UnitLane}
-use Rattle.meaning.specs.declared.types.Ways.{Ways}
+use Rattle.meaning.specs.declared.types.EdgePair.{EdgePair}
 use Rattle.meaning.specs.declared.types.Row.{Row}
 use Rattle.meaning.specs.declared.types.Row.TheVariants.{BothStart, BothEnd, FirstSilent, SecondSilent, BothCounted}
 use Rattle.meaning.specs.Lanes.{Writes}
 use Rattle.alloc_check.specs.Marks.{is_marked, unwritten}
 
 -- no phi of either code writes the lane on this way
-abbrev pub way_leaves : Lane → Ways → Bool
+abbrev pub way_leaves : Lane → EdgePair → Bool
 way_leaves l e = unwritten e.first l && unwritten e.second l
 
-abbrev pub target_leaves : Lane → Option Ways → Bool
+abbrev pub target_leaves : Lane → Option EdgePair → Bool
 target_leaves l None = true
 target_leaves l (Some e) = way_leaves l e
 

@@ -6,14 +6,15 @@ ghost use Rattle.std.specs.List.{list_all, list_any};
 ghost use Rattle.alloc_check.specs.Marks.{spread, lane_slot, source_slot, is_marked, Marks, unwritten, stays};
 ghost use Rattle.alloc_check.specs.Cells.{IsMarked, belongs, same_fact, stays_both, Splits, CellTakes};
 
-use crate::facts::{Fact, Facts, same_lane, same_source};
+use crate::facts::{Fact, Facts, same_source};
+use machine_verify::same_lane;
 use meaning::{Lane, Source, Write};
 use std::alloc::{AllocError, Global};
 use target_base::{Copied, List};
 
 /// Facts whose sources have these slots. A fact of other slots doesn't count here.
 #[derive(Drop)]
-pub struct Cell {
+pub struct FactBucket {
     /// The slot of the first source.
     pub left: usize,
     /// The slot of the second source.
@@ -55,7 +56,7 @@ pub fn source_slot(source: &Source, slots: u32) -> usize
 }
 
 /// Whether the fact has the cell's slots.
-pub fn belongs(slots: u32, cell: &Cell, fact: &Fact) -> bool
+pub fn belongs(slots: u32, cell: &FactBucket, fact: &Fact) -> bool
     ensures { result ≡ belongs slots cell.now fact.now }
 {
     source_slot(&fact.0, slots) == cell.left && source_slot(&fact.1, slots) == cell.right
@@ -104,7 +105,7 @@ pub fn is_marked(marks: &[u8], slot: usize) -> bool
 
 /// Where the lanes that an instruction writes are marked.
 #[derive(Drop)]
-pub struct Marked {
+pub struct LaneMarks {
     /// By their slots in cells.
     coarse: Vec<u8>,
     /// By more slots, for the facts of one cell.
@@ -119,23 +120,23 @@ pub struct MarkedWrites<'a> {
     /// What the second function writes.
     pub second: &'a [Write],
     /// The marks of the first function's lanes.
-    pub first_marks: Marked,
+    pub first_marks: LaneMarks,
     /// The marks of the second function's lanes.
-    pub second_marks: Marked,
+    pub second_marks: LaneMarks,
 }
 
 /// The marks of the lanes that are written, with so many slots in cells.
-pub fn marks_for(alloc: Global, slots: u32, writes: &[Write]) -> Result<Marked, AllocError>
+pub fn marks_for(alloc: Global, slots: u32, writes: &[Write]) -> Result<LaneMarks, AllocError>
     ensures { IfOk result (λ made. IsMarked slots made writes.now) }
 {
-    Ok(Marked {
+    Ok(LaneMarks {
         coarse: marks_of(alloc, slots, writes)?,
         fine: marks_of(alloc, 256, writes)?,
     })
 }
 
 /// Whether the lane is none of those written.
-fn unwritten(writes: &[Write], lane: Lane) -> bool
+fn is_unwritten(writes: &[Write], lane: Lane) -> bool
     ensures { result ≡ unwritten writes.now lane }
 {
     for w in writes {
@@ -151,7 +152,7 @@ fn stays(writes: &[Write], source: &Source) -> bool
     ensures { result ≡ stays writes.now source.now }
 {
     match source {
-        Source::FromLane(l) => unwritten(writes, *l),
+        Source::FromLane(l) => is_unwritten(writes, *l),
         Source::Undef => true,
         Source::Bits(_, _, _) => true,
     }
@@ -164,7 +165,7 @@ fn stays_both(first: &[Write], second: &[Write], fact: &Fact) -> bool
 }
 
 /// The same as `stays`, without a look at the writes where the source isn't marked.
-fn stays_by(slots: u32, marks: &Marked, writes: &[Write], source: &Source) -> bool
+fn stays_by(slots: u32, marks: &LaneMarks, writes: &[Write], source: &Source) -> bool
     requires { IsMarked slots marks.now writes.now }
     ensures { result ≡ stays writes.now source.now }
 {
@@ -196,7 +197,7 @@ fn split(
     slots: u32,
     first: &[Write],
     second: &[Write],
-    cell: &Cell,
+    cell: &FactBucket,
     taken: &mut Facts,
 ) -> Result<Facts, AllocError>
     ensures { IfOk result (λ kept. Splits (belongs slots cell.now) first.now second.now cell.now.facts taken.old kept taken.new) }
@@ -220,7 +221,7 @@ pub fn take_from(
     alloc: Global,
     slots: u32,
     writes: &MarkedWrites<'_>,
-    cell: &mut Cell,
+    cell: &mut FactBucket,
     taken: &mut Facts,
 ) -> Result<(), AllocError>
     requires first { IsMarked slots writes.now.first_marks writes.now.first.now }

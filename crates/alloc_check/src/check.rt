@@ -13,13 +13,13 @@ ghost use Rattle.alloc_check.specs.Verdict.{IfYes, IfNo, Judges, JudgesFacts, Ar
 ghost use Rattle.std.specs.List.{list_any};
 ghost use Rattle.mir_meaning.specs.Valid.{names_virtual};
 
-use crate::chosen::func_names_virtual;
 use crate::closed::{Family, needs_before};
 use crate::doubts::{counted_place, entry_place, first_unlike};
 use crate::family::{Shape, family_of, shape_of};
 use crate::rows::rows_of;
 use crate::settle::decide;
 use crate::start::all_start;
+use machine_verify::names_virtual;
 use meaning::Row;
 use mir_func::{Func, Place};
 use std::alloc::{AllocError, Global};
@@ -36,7 +36,7 @@ pub enum Verdict {
 }
 
 /// Whether the family shows that rows hold from the start of both functions. False says nothing.
-pub(crate) fn holds(
+fn holds(
     alloc: Global,
     t: &Target,
     f: &Func,
@@ -116,7 +116,7 @@ fn lacking_place(
 
 /// Whether the quick search finds a family with which rows hold from the start of both functions.
 /// False says nothing.
-fn finds(
+pub(crate) fn finds(
     alloc: Global,
     t: &Target,
     f: &Func,
@@ -152,7 +152,7 @@ fn have_family(
 
 /// Yes just where some family gives the rows what they need, and else the first instruction that lacks
 /// a fact.
-fn judged(
+fn judge_rows(
     alloc: Global,
     t: &Target,
     f: &Func,
@@ -172,7 +172,7 @@ fn judged(
 }
 
 /// Whether the functions match, and a family of facts gives what is needed.
-fn compared(
+fn compare_functions(
     alloc: Global,
     target: &Target,
     source: &Func,
@@ -189,7 +189,7 @@ fn compared(
     }
     match rows_of(alloc, target, source, allocated)? {
         None => Ok(Verdict::No(counted_place(alloc, target, source, 0)?)),
-        Some(rows) => judged(alloc, target, source, allocated, rows.as_slice()),
+        Some(rows) => judge_rows(alloc, target, source, allocated, rows.as_slice()),
     }
 }
 
@@ -210,8 +210,8 @@ pub fn agree(
     ensures unlike { list_any names_virtual allocated.now.blocks ≡ false → IfOk result (TellsUnlike target.now source.now allocated.now) }
     ensures facts { list_any names_virtual allocated.now.blocks ≡ false → IfOk result (λ v. block_doubt target.now source.now allocated.now ≡ None → partner_doubt target.now source.now allocated.now ≡ None → JudgesFacts target.now source.now allocated.now v) }
 {
-    if func_names_virtual(allocated) {
+    if names_virtual(allocated) {
         return Ok(Verdict::No(entry_place(source)));
     }
-    compared(alloc, target, source, allocated)
+    compare_functions(alloc, target, source, allocated)
 }

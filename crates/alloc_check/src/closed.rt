@@ -8,7 +8,7 @@ ghost use Rattle.meaning.specs.declared.types.Row.TheVariants.{BothStart, BothEn
 ghost use Rattle.meaning.specs.Facts.{Facts as SomeFacts, Knowledge, all_known, known_first, known_second, known_both, operands_known};
 ghost use Rattle.meaning.specs.Agree.{Family as SomeFamily, facts_at, ways_hold, target_holds, rows_hold};
 ghost use Rattle.meaning.specs.declared.types.Rest.{Rest as ARest};
-ghost use Rattle.meaning.specs.declared.types.Ways.{Ways as SomeWays};
+ghost use Rattle.meaning.specs.declared.types.EdgePair.{EdgePair as SomeWays};
 ghost use Rattle.meaning.specs.Lanes.{Reads, Writes as SomeWrites};
 ghost use Rattle.alloc_check.specs.Needs.{Lead, Adds, Least, Carry, Suffice, behind_falls, Leave, writes_ask, row_asks};
 ghost use Rattle.alloc_check.specs.Cells.{asked};
@@ -16,7 +16,7 @@ ghost use Rattle.alloc_check.specs.Asking.{asking};
 
 use crate::facts::{Fact, Facts};
 use crate::needs::{Needs, add_along, add_before, add_operands, needs_of};
-use meaning::{Row, Source, Ways, Write, Writes};
+use meaning::{EdgePair, Row, Source, Write, Writes};
 use std::alloc::{AllocError, Global};
 use target_base::List;
 
@@ -39,7 +39,7 @@ pub fn facts_at(family: &Family, n: u32) -> &[Fact]
 fn add_ways(
     alloc: Global,
     family: &Family,
-    exits: &[Ways],
+    exits: &[EdgePair],
     needs: &mut Needs,
 ) -> Result<bool, AllocError>
     ensures enough { IfOk result (λ yes. IsTrue yes → Adds (asked needs.old) (λ k. ways_hold family.now k exits.now) (asked needs.new)) }
@@ -56,7 +56,7 @@ fn add_ways(
 fn add_target(
     alloc: Global,
     family: &Family,
-    target: &Option<Ways>,
+    target: &Option<EdgePair>,
     needs: &mut Needs,
 ) -> Result<bool, AllocError>
     ensures enough { IfOk result (λ yes. IsTrue yes → Adds (asked needs.old) (λ k. target_holds family.now k target.now) (asked needs.new)) }
@@ -160,7 +160,7 @@ fn before_end(
     alloc: Global,
     family: &Family,
     falls: &Option<(Writes, Writes)>,
-    exits: &List<Ways>,
+    exits: &List<EdgePair>,
     needs: &mut Needs,
 ) -> Result<bool, AllocError>
     ensures enough { IfOk result (λ yes. IsTrue yes → Carry family.now (BothEnd falls.now exits.now) (asked needs.old) (asked needs.new)) }
@@ -175,22 +175,22 @@ fn before_end(
 /// What a pair of counted instructions leaves behind: what both write, and the ways that paths take
 /// from it.
 #[derive(Clone, Copy)]
-struct Leaving<'a> {
+struct PairExit<'a> {
     /// What the first function's instruction writes.
     first: &'a [Write],
     /// What the second function's writes.
     second: &'a [Write],
     /// The way to its target, if it has one.
-    target: &'a Option<Ways>,
+    target: &'a Option<EdgePair>,
     /// The ways from its exit, beside the next instruction.
-    exits: &'a List<Ways>,
+    exits: &'a List<EdgePair>,
 }
 
 /// Takes needs to the place before what a pair of counted instructions leaves behind.
 fn before_writes(
     alloc: Global,
     family: &Family,
-    leaving: &Leaving<'_>,
+    leaving: &PairExit<'_>,
     needs: &mut Needs,
 ) -> Result<bool, AllocError>
     ensures enough { IfOk result (λ yes. IsTrue yes → Leave family.now leaving.now.first.now leaving.now.second.now leaving.now.target.now leaving.now.exits.now (asked needs.old) (asked needs.new)) }
@@ -240,39 +240,8 @@ fn before_reads(
     add_operands(alloc, needs, left.as_slice(), right.as_slice())
 }
 
-/// Takes needs to the place before a row. False where the row can't hold.
-pub fn before_row(
-    alloc: Global,
-    family: &Family,
-    row: &Row,
-    needs: &mut Needs,
-) -> Result<bool, AllocError>
-    ensures enough { IfOk result (λ yes. IsTrue yes → Carry family.now row.now (asked needs.old) (asked needs.new)) }
-    ensures least { IfOk result (λ yes. Least (row_asks family.now row.now (asked needs.old)) yes (asked needs.new)) }
-{
-    match row {
-        Row::BothStart(n) => before_start(alloc, family, *n, needs),
-        Row::BothEnd(falls, exits) => before_end(alloc, family, falls, exits, needs),
-        Row::FirstSilent(_, writes) => before_first_silent(alloc, writes, needs),
-        Row::SecondSilent(_, writes) => before_second_silent(alloc, writes, needs),
-        Row::BothCounted(_, left, right, first, second, target, exits) => {
-            let (first, second) = (first.as_slice(), second.as_slice());
-            let leaving = Leaving {
-                first,
-                second,
-                target,
-                exits,
-            };
-            if !before_writes(alloc, family, &leaving, needs)? {
-                return Ok(false);
-            }
-            before_reads(alloc, left, right, needs)
-        }
-    }
-}
-
 /// Takes needs to the place before a row, of which a counted pair asks for what it reads only where
-/// `reads` says so.
+/// `reads` says so. False where the row can't hold.
 pub fn before_asking(
     alloc: Global,
     family: &Family,
@@ -283,22 +252,41 @@ pub fn before_asking(
     ensures enough { IfOk result (λ yes. IsTrue yes → Carry family.now (asking reads row.now) (asked needs.old) (asked needs.new)) }
     ensures least { IfOk result (λ yes. Least (row_asks family.now (asking reads row.now) (asked needs.old)) yes (asked needs.new)) }
 {
-    if reads {
-        return before_row(alloc, family, row, needs);
-    }
     match row {
-        Row::BothCounted(_, _, _, first, second, target, exits) => {
+        Row::BothStart(n) => before_start(alloc, family, *n, needs),
+        Row::BothEnd(falls, exits) => before_end(alloc, family, falls, exits, needs),
+        Row::FirstSilent(_, writes) => before_first_silent(alloc, writes, needs),
+        Row::SecondSilent(_, writes) => before_second_silent(alloc, writes, needs),
+        Row::BothCounted(_, left, right, first, second, target, exits) => {
             let (first, second) = (first.as_slice(), second.as_slice());
-            let leaving = Leaving {
+            let leaving = PairExit {
                 first,
                 second,
                 target,
                 exits,
             };
-            before_writes(alloc, family, &leaving, needs)
+            if !before_writes(alloc, family, &leaving, needs)? {
+                return Ok(false);
+            }
+            if !reads {
+                return Ok(true);
+            }
+            before_reads(alloc, left, right, needs)
         }
-        _ => before_row(alloc, family, row, needs),
     }
+}
+
+/// Takes needs to the place before a row. False where the row can't hold.
+pub fn before_row(
+    alloc: Global,
+    family: &Family,
+    row: &Row,
+    needs: &mut Needs,
+) -> Result<bool, AllocError>
+    ensures enough { IfOk result (λ yes. IsTrue yes → Carry family.now row.now (asked needs.old) (asked needs.new)) }
+    ensures least { IfOk result (λ yes. Least (row_asks family.now row.now (asked needs.old)) yes (asked needs.new)) }
+{
+    before_asking(alloc, family, row, true, needs)
 }
 
 /// What must be known before the rows, so that they hold with this family. None where they can't.

@@ -10,6 +10,7 @@ ghost use Rattle.mir_meaning.specs.Rules.{successors_of};
 ghost use Rattle.mir_meaning.specs.Valid.{listed_units};
 
 use crate::alike::are_paired;
+use machine_verify::has_successor;
 use mir_func::opcodes::effect_of;
 use mir_func::{Block, Func, Instr, Place};
 use std::alloc::{AllocError, Global};
@@ -26,23 +27,12 @@ pub fn is_counted(t: &Target, i: &Instr) -> bool
     }
 }
 
-fn has_successor(b: &Block, n: u32) -> bool
-    ensures { result ≡ has_number (successors_of b.now) n }
-{
-    for e in b.successors.as_slice() {
-        if n == e.block {
-            return true;
-        }
-    }
-    false
-}
-
 /// Whether each successor of the first is one of the second.
 fn has_successors(b: &Block, c: &Block) -> bool
     ensures { result ≡ list_all (has_number (successors_of c.now)) (successors_of b.now) }
 {
     for e in b.successors.as_slice() {
-        if !has_successor(c, e.block) {
+        if !has_successor(c.successors.as_slice(), e.block) {
             return false;
         }
     }
@@ -199,7 +189,7 @@ fn next_counted<'a>(
 
 /// The first counted instruction whose partner among the others is missing or differs; or
 /// instruction 0, where more of the others count.
-fn unpaired(
+fn first_unpaired(
     alloc: Global,
     t: &Target,
     f: &Func,
@@ -252,7 +242,7 @@ fn unpaired_place(
     requires { length b.now.instrs < 2 ^ 32 }
     ensures { IfOk result (λ p. p ≡ option_map (place b.now.number) (unpaired t.now f.now g.now 0 b.now.instrs (filter (is_counted t.now) c.now.instrs))) }
 {
-    match unpaired(alloc, t, f, g, b.instrs.as_slice(), c.instrs.as_slice())? {
+    match first_unpaired(alloc, t, f, g, b.instrs.as_slice(), c.instrs.as_slice())? {
         Some(at) => Ok(Some(place(b, at))),
         None => Ok(None),
     }

@@ -2,11 +2,12 @@
 
 ghost use Rattle.std.specs.Prelude.{◌≡◌, IfOk, OnOk};
 ghost use Rattle.target_base.specs.Storage.{same_numbers};
-ghost use Rattle.meaning.specs.Lanes.{same_lane, filled, settled, through};
+ghost use Rattle.meaning.specs.Lanes.{filled, settled, through};
 ghost use Rattle.meaning.specs.declared.types.Lane.{Lane};
 ghost use Rattle.meaning.specs.Sameness.{same_constant, same_source};
 ghost use Rattle.alloc_check.specs.Needs.{result_of, one_number, is_moved, or_lane, before_first, before_second, before_both, fits_first, fits_both};
 
+use machine_verify::same_lane;
 use meaning::{Constant, Fill, Lane, Source, Write};
 use std::alloc::{AllocError, Global};
 use target_base::{Copied, List};
@@ -17,18 +18,6 @@ pub type Fact = (Source, Source);
 
 /// Facts in any order.
 pub type Facts = List<Fact>;
-
-/// Whether two lanes are one.
-pub fn same_lane(a: Lane, b: Lane) -> bool
-    ensures { result ≡ same_lane a b }
-{
-    match (a, b) {
-        (Lane::VirtualLane(v, k), Lane::VirtualLane(w, l)) => v == w && k == l,
-        (Lane::UnitLane(u), Lane::UnitLane(w)) => u == w,
-        (Lane::SlotLane(s, k, a), Lane::SlotLane(t, l, b)) => s == t && (k == l && a == b),
-        _ => false,
-    }
-}
 
 /// Whether two texts are equal, byte by byte.
 pub fn same_bytes(a: &[u8], b: &[u8]) -> bool

@@ -5,7 +5,7 @@ use crate::closed::{Family, before_row, facts_at};
 use crate::facts::{Fact, Facts};
 use crate::needs::{Needs, needs_of};
 use crate::start::all_start;
-use meaning::{Row, Ways};
+use meaning::{EdgePair, Row};
 use mir_func::Func;
 use std::alloc::{AllocError, Global};
 use target_base::{List, Target};
@@ -35,7 +35,7 @@ fn add_predecessor(shape: &mut Shape, from: usize, to: u32) -> Result<(), AllocE
     Ok(())
 }
 
-fn add_predecessors(shape: &mut Shape, from: usize, ways: &[Ways]) -> Result<(), AllocError> {
+fn add_predecessors(shape: &mut Shape, from: usize, ways: &[EdgePair]) -> Result<(), AllocError> {
     for e in ways {
         add_predecessor(shape, from, e.block)?;
     }

@@ -5,7 +5,6 @@
 mod alike;
 mod cells;
 pub mod check;
-mod chosen;
 mod closed;
 mod doubts;
 mod facts;

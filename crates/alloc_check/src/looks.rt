@@ -10,21 +10,20 @@ ghost use Rattle.alloc_check.specs.Verdict.{AreAlike, IsRight};
 ghost use Rattle.alloc_check.specs.Looks.{looking, looked_at, KeepsReserved};
 ghost use Rattle.alloc_check.specs.LookRows.{look_row, row_with_look, rows_with_looks};
 
-use crate::check::holds;
-use crate::chosen::func_names_virtual;
+use crate::check::finds;
 use crate::doubts::first_unlike;
-use crate::family::{family_of, shape_of};
+use crate::family::shape_of;
 use crate::fitting::fits;
 use crate::rows::{Rows, rows_of};
 use crate::written::written_units;
-use machine_verify::{VerifyStop, verify_allocated};
+use machine_verify::{VerifyStop, names_virtual, verify_allocated};
 use meaning::{Lane, Reads, Rest, Row, Source};
 use mir_func::{Func, Valid};
 use std::alloc::{AllocError, Global};
 use target_base::{Effect, List, OpaqueKind, Target, Unit};
 
 /// An opaque instruction that has no name, writes nothing and goes on.
-fn looking(alloc: Global) -> Rest
+fn look_rest(alloc: Global) -> Rest
     ensures { result ≡ looking }
 {
     Rest {
@@ -57,7 +56,7 @@ fn look_row(alloc: Global, units: &[Unit]) -> Result<Row, AllocError>
     let first = looked_at(alloc, units)?;
     let second = looked_at(alloc, units)?;
     Ok(Row::BothCounted(
-        looking(alloc),
+        look_rest(alloc),
         first,
         second,
         List::new(alloc),
@@ -110,15 +109,12 @@ fn hold_with_looks(
     let rows = rows_with_looks(alloc, looked.as_slice(), rows)?;
     let rows = rows.as_slice();
     let shape = shape_of(alloc, rows)?;
-    match family_of(alloc, t, f, g, rows, &shape)? {
-        None => Ok(false),
-        Some(family) => holds(alloc, t, f, g, rows, &family),
-    }
+    finds(alloc, t, f, g, rows, &shape)
 }
 
 /// Whether the functions match, and a family of facts gives what is needed, and shows the same of
 /// reserved units.
-fn compared(
+fn compare_with_looks(
     alloc: Global,
     target: &Target,
     source: &Func,
@@ -151,11 +147,11 @@ pub fn check_reserved(
     ensures right { IfOk result (λ yes. IsTrue yes → IsRight target.now source.now.func allocated.now) }
     ensures reserved { IfOk result (λ yes. IsTrue yes → KeepsReserved target.now source.now.func allocated.now) }
 {
-    if !fits(target, allocated) || func_names_virtual(allocated) {
+    if !fits(target, allocated) || names_virtual(allocated) {
         return Ok(false);
     }
     match verify_allocated(alloc, target, allocated) {
-        Ok(()) => compared(alloc, target, &source.func, allocated),
+        Ok(()) => compare_with_looks(alloc, target, &source.func, allocated),
         Err(VerifyStop::Invalid(_)) => Ok(false),
         Err(VerifyStop::Memory(e)) => Err(e),
     }

@@ -6,11 +6,13 @@ ghost use Rattle.meaning.specs.Agree.{known_along};
 ghost use Rattle.alloc_check.specs.Needs.{Has, Lead, Adds, Least, IsInstead};
 ghost use Rattle.alloc_check.specs.Cells.{asked, asked_in, counting, IsCellOf, IsMarked, Puts, Takes};
 
-use crate::cells::{Cell, MarkedWrites, belongs, is_among, marks_for, source_slot, take_from};
+use crate::cells::{
+    FactBucket, MarkedWrites, belongs, is_among, marks_for, source_slot, take_from,
+};
 use crate::facts::{
     Fact, Facts, back_both, back_first, back_second, fits_both, fits_first, same_source,
 };
-use meaning::{Source, Ways, Write};
+use meaning::{EdgePair, Source, Write};
 use std::alloc::{AllocError, Global};
 use target_base::{Copied, List};
 
@@ -20,7 +22,7 @@ pub struct Needs {
     /// How many slots a source can have.
     slots: u32,
     /// For each two slots a cell of the facts that have them.
-    cells: List<Cell>,
+    cells: List<FactBucket>,
     /// How many facts there are.
     count: usize,
 }
@@ -53,7 +55,7 @@ fn slots_for(count: usize) -> u32 {
 }
 
 /// Empty cells for the slots.
-fn empty_cells(alloc: Global, slots: u32) -> Result<List<Cell>, AllocError>
+fn empty_cells(alloc: Global, slots: u32) -> Result<List<FactBucket>, AllocError>
     ensures { IfOk result (λ made. asked_in slots made ≡ []) }
 {
     let mut cells = List::new(alloc);
@@ -61,7 +63,7 @@ fn empty_cells(alloc: Global, slots: u32) -> Result<List<Cell>, AllocError>
     let mut right: usize = 0;
     for _ in 0..slots.saturating_mul(slots) {
         let facts = List::new(alloc);
-        cells.push(Cell { left, right, facts })?;
+        cells.push(FactBucket { left, right, facts })?;
         right = right.wrapping_add(1);
         if right >= slots as usize {
             right = 0;
@@ -72,7 +74,12 @@ fn empty_cells(alloc: Global, slots: u32) -> Result<List<Cell>, AllocError>
 }
 
 /// Puts the facts of a cell at the end.
-fn list_cell(alloc: Global, slots: u32, cell: &Cell, facts: &mut Facts) -> Result<(), AllocError>
+fn list_cell(
+    alloc: Global,
+    slots: u32,
+    cell: &FactBucket,
+    facts: &mut Facts,
+) -> Result<(), AllocError>
     ensures { OnOk result (facts.new ≡ facts.old ++ counting slots cell.now) }
 {
     for f in cell.facts.as_slice() {
@@ -148,7 +155,7 @@ impl Needs {
             None => {
                 let mut facts = List::new(alloc);
                 facts.push(fact)?;
-                self.cells.push(Cell { left, right, facts })
+                self.cells.push(FactBucket { left, right, facts })
             }
         }
     }
@@ -261,7 +268,7 @@ fn take_from_all(
     alloc: Global,
     slots: u32,
     writes: &MarkedWrites<'_>,
-    cells: &mut List<Cell>,
+    cells: &mut List<FactBucket>,
 ) -> Result<Facts, AllocError>
     requires first { IsMarked slots writes.now.first_marks writes.now.first.now }
     requires second { IsMarked slots writes.now.second_marks writes.now.second.now }
@@ -364,7 +371,7 @@ pub fn add_operands(
 }
 
 /// What a fact behind the phis of a way asks in front of them. None where it asks for a result.
-fn before_way(alloc: Global, way: &Ways, fact: &Fact) -> Result<Option<Fact>, AllocError>
+fn before_way(alloc: Global, way: &EdgePair, fact: &Fact) -> Result<Option<Fact>, AllocError>
     ensures enough { IfOk result (λ asked. IfSome asked (λ f. (k : Knowledge) → k f.0 f.1 ≡ true → known_along way.now k fact.now.0 fact.now.1 ≡ true)) }
     ensures least { IfOk result (λ asked. IsInstead (known_along way.now) fact.now asked) }
 {
@@ -381,7 +388,7 @@ fn before_way(alloc: Global, way: &Ways, fact: &Fact) -> Result<Option<Fact>, Al
 pub fn add_along(
     alloc: Global,
     needs: &mut Needs,
-    way: &Ways,
+    way: &EdgePair,
     facts: &[Fact],
 ) -> Result<bool, AllocError>
     ensures enough { IfOk result (λ yes. IsTrue yes → Adds (asked needs.old) (λ k. all_known (known_along way.now k) facts.now) (asked needs.new)) }

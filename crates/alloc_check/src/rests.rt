@@ -100,15 +100,7 @@ fn same_integer(a: i128, b: i128) -> bool
 fn same_flags(a: &[bool], b: &[bool]) -> bool
     ensures { result ≡ same_list beq a.now b.now }
 {
-    if a.len() != b.len() {
-        return false;
-    }
-    for k in 0..a.len() {
-        if a[k] != b[k] {
-            return false;
-        }
-    }
-    true
+    a == b
 }
 
 /// Whether all that names no register is alike.

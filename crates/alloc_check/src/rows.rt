@@ -15,7 +15,7 @@ use instr_effects::items::counted::{reads_of, rest_of, values};
 use instr_effects::items::results::counted_writes;
 use instr_effects::items::silent::push_silent_writes;
 use instr_effects::items::ways::{fallen_into, push_phis, target_of};
-use meaning::{Reads, Rest, Row, Source, Ways, Writes};
+use meaning::{EdgePair, Reads, Rest, Row, Source, Writes};
 use mir_func::opcodes::{effect_of, ends_block};
 use mir_func::{Block, Func, Instr};
 use std::alloc::{AllocError, Global};
@@ -40,7 +40,7 @@ struct BlockPair<'a> {
 
 /// What a counted instruction does.
 #[derive(Drop)]
-struct Counted {
+struct CountedInstr {
     rest: Rest,
     reads: Reads,
     writes: Writes,
@@ -77,7 +77,7 @@ fn counted_item(
     f: &Func,
     b: &Block,
     i: &Instr,
-) -> Result<Option<Counted>, AllocError>
+) -> Result<Option<CountedInstr>, AllocError>
     ensures sides { IfOk result (λ made. IfSome made (λ c. CountedItem t.now f.now b.now i.now c.rest c.reads c.writes)) }
     ensures exact { IfOk result (λ made. MatchOption made (is_counted t.now i.now ≡ false) (λ c. Counts t.now f.now i.now c.rest c.reads c.writes)) }
 {
@@ -91,7 +91,7 @@ fn counted_item(
             let rest = rest_of(alloc, t, f, e, i, read.as_slice())?;
             let reads = reads_of(alloc, read.as_slice())?;
             let writes = counted_writes(alloc, t, f, e, i)?;
-            Ok(Some(Counted {
+            Ok(Some(CountedInstr {
                 rest,
                 reads,
                 writes,
@@ -167,7 +167,14 @@ fn push_seconds(
 }
 
 /// A way into block m from block n, in both functions.
-fn way_to(alloc: Global, t: &Target, f: &Func, g: &Func, n: u32, m: u32) -> Result<Ways, AllocError>
+fn way_to(
+    alloc: Global,
+    t: &Target,
+    f: &Func,
+    g: &Func,
+    n: u32,
+    m: u32,
+) -> Result<EdgePair, AllocError>
     ensures sides { IfOk result (λ w. (first_edge w ≡ way t.now f.now n m) × (second_edge w ≡ way t.now g.now n m)) }
     ensures exact { IfOk result (λ w. w ≡ both_way t.now f.now g.now n m) }
 {
@@ -175,7 +182,7 @@ fn way_to(alloc: Global, t: &Target, f: &Func, g: &Func, n: u32, m: u32) -> Resu
     push_phis(&mut first, alloc, t, f, n, m)?;
     let mut second = List::new(alloc);
     push_phis(&mut second, alloc, t, g, n, m)?;
-    Ok(Ways {
+    Ok(EdgePair {
         block: m,
         first,
         second,
@@ -190,7 +197,7 @@ fn target_way(
     g: &Func,
     n: u32,
     target: Option<u32>,
-) -> Result<Option<Ways>, AllocError>
+) -> Result<Option<EdgePair>, AllocError>
     ensures sides { IfOk result (λ w. (first_target w ≡ option_map (way t.now f.now n) target) × (second_target w ≡ option_map (way t.now g.now n) target)) }
     ensures exact { IfOk result (λ w. w ≡ option_map (both_way t.now f.now g.now n) target) }
 {
@@ -227,7 +234,7 @@ fn exits_of(
     f: &Func,
     g: &Func,
     b: &Block,
-) -> Result<List<Ways>, AllocError>
+) -> Result<List<EdgePair>, AllocError>
     ensures { IfOk result (λ made. made ≡ both_ways t.now f.now g.now b.now) }
 {
     let mut made = List::new(alloc);
@@ -245,7 +252,7 @@ fn exits_at(
     g: &Func,
     b: &Block,
     i: &Instr,
-) -> Result<List<Ways>, AllocError>
+) -> Result<List<EdgePair>, AllocError>
     ensures { IfOk result (λ made. made ≡ cond (does is_terminator t.now i.now) (both_ways t.now f.now g.now b.now) []) }
 {
     match effect_of(t, i) {
@@ -336,7 +343,7 @@ fn counted_items(
     pair: &BlockPair<'_>,
     i: &Instr,
     x: &Instr,
-) -> Result<Option<(Counted, Counted)>, AllocError>
+) -> Result<Option<(CountedInstr, CountedInstr)>, AllocError>
     ensures sides { IfOk result (λ made. IfSome made (λ both. CountedItem t.now pair.now.f.now pair.now.b.now i.now both.0.rest both.0.reads both.0.writes × CountedItem t.now pair.now.g.now pair.now.c.now x.now both.1.rest both.1.reads both.1.writes)) }
     ensures exact { IfOk result (λ made. MatchOption made (is_counted t.now i.now ≡ true → is_counted t.now x.now ≡ true → ⊥) (λ both. Counts t.now pair.now.f.now i.now both.0.rest both.0.reads both.0.writes × Counts t.now pair.now.g.now x.now both.1.rest both.1.reads both.1.writes)) }
 {
@@ -357,7 +364,7 @@ fn ways_from(
     g: &Func,
     b: &Block,
     i: &Instr,
-) -> Result<(Option<Ways>, List<Ways>), AllocError>
+) -> Result<(Option<EdgePair>, List<EdgePair>), AllocError>
     ensures sides { IfOk result (λ ways. (first_target ways.0 ≡ option_map (way t.now f.now b.now.number) (target_of i.now.operands)) × (second_target ways.0 ≡ option_map (way t.now g.now b.now.number) (target_of i.now.operands))) }
     ensures exact { IfOk result (λ ways. (ways.0 ≡ option_map (both_way t.now f.now g.now b.now.number) (target_of i.now.operands)) × (ways.1 ≡ cond (does is_terminator t.now i.now) (both_ways t.now f.now g.now b.now) [])) }
 {
@@ -371,10 +378,10 @@ fn ways_from(
 fn push_both(
     rows: &mut Rows,
     alloc: Global,
-    left: Counted,
-    right: Counted,
-    way: Option<Ways>,
-    exits: List<Ways>,
+    left: CountedInstr,
+    right: CountedInstr,
+    way: Option<EdgePair>,
+    exits: List<EdgePair>,
 ) -> Result<(), AllocError>
     ensures { OnOk result (rows.new ≡ rows.old ++ BothCounted left.rest (needed_reads left.rest.effect left.reads right.reads) (needed_reads left.rest.effect right.reads left.reads) left.writes right.writes way exits ∷ []) }
 {

@@ -99,7 +99,8 @@ fn pass_over(
     let mut k = rows.len();
     while k > 0 {
         k -= 1;
-        if !pass_row(alloc, family, &rows[k], k < asking, &mut pass)? {
+        let reads = k < asking;
+        if !pass_row(alloc, family, &rows[k], reads, &mut pass)? {
             return Ok(None);
         }
     }

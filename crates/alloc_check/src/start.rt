@@ -1,32 +1,16 @@
 //! What is known where a function starts.
 
 ghost use Rattle.std.specs.Prelude.{◌≡◌};
-ghost use Rattle.target_base.specs.Storage.{is_among};
-ghost use Rattle.target_base.specs.Numbers.{unit_number};
-ghost use Rattle.target_base.specs.Registers.{units_of, is_reserved_unit};
-ghost use Rattle.std.specs.List.{list_any};
 ghost use Rattle.meaning.specs.Facts.{all_known, known_at_start};
 ghost use Rattle.meaning.specs.declared.types.Lane.TheVariants.{UnitLane};
 ghost use Rattle.meaning.specs.declared.types.Source.TheVariants.{FromLane};
 ghost use Rattle.mir_meaning.specs.Codes.{is_given, given_of};
 
 use crate::facts::{Fact, same_source};
+use instr_effects::masks::have_unit;
 use meaning::{Lane, Source};
 use mir_func::Func;
-use target_base::registers::has_unit_number;
-use target_base::{Reg, Target};
-
-/// Whether one of the registers has the unit of a number.
-fn have_unit(t: &Target, regs: &[Reg], u: u32) -> bool
-    ensures { result ≡ list_any (λ r. is_among (units_of t.now r) (unit_number u)) regs.now }
-{
-    for r in regs {
-        if has_unit_number(t.units_at(*r), u) {
-            return true;
-        }
-    }
-    false
-}
+use target_base::Target;
 
 /// Whether the unit has a value at the function's start: it is reserved, or the entry block lists it.
 fn is_given(t: &Target, f: &Func, u: u32) -> bool

@@ -8,7 +8,7 @@ ghost use Rattle.alloc_check.specs.Marks.{is_marked, unwritten};
 ghost use Rattle.alloc_check.specs.Written.{AddsMarks, way_leaves, target_leaves, falls_leave, row_leaves, rows_leave, written_units};
 
 use crate::cells::{is_marked, set_mark};
-use meaning::{Lane, Row, Ways, Write, Writes};
+use meaning::{EdgePair, Lane, Row, Write, Writes};
 use std::alloc::{AllocError, Global};
 use target_base::{List, Unit};
 
@@ -41,7 +41,7 @@ fn mark_both(marks: &mut Vec<u8>, first: &[Write], second: &[Write])
 }
 
 /// The same of the phis on ways into blocks.
-fn mark_ways(marks: &mut Vec<u8>, ways: &[Ways])
+fn mark_ways(marks: &mut Vec<u8>, ways: &[EdgePair])
     ensures { AddsMarks marks.old.items (λ l. list_all (way_leaves l) ways.now) marks.new.items }
 {
     for e in ways {
@@ -50,7 +50,7 @@ fn mark_ways(marks: &mut Vec<u8>, ways: &[Ways])
 }
 
 /// The same on the way to a branch target.
-fn mark_target(marks: &mut Vec<u8>, target: &Option<Ways>)
+fn mark_target(marks: &mut Vec<u8>, target: &Option<EdgePair>)
     ensures { AddsMarks marks.old.items (λ l. target_leaves l target.now) marks.new.items }
 {
     if let Some(e) = target {

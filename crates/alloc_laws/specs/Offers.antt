@@ -8,7 +8,7 @@ use Rattle.mir_func.specs.Value.{Function}
 use Rattle.mir_meaning.specs.Points.{has_no_phis}
 use Rattle.mir_meaning.specs.Rules.{V8}
 use Rattle.live_laws.specs.Effects.Coded.{KeepsRules}
-use Rattle.live_lanes.specs.declared.row.End.TheVariants as ends
+use Rattle.live_lanes.specs.declared.row.PieceEnd.TheVariants as ends
 use Rattle.live_lanes.specs.declared.table.Table.{Table}
 use Rattle.live_lanes.specs.Graph.{is_live}
 use Rattle.live_lanes.specs.Table.{descends}

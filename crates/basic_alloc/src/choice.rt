@@ -11,7 +11,7 @@ ghost use Rattle.basic_alloc.specs.Settings.{ousting_by, basic_setting};
 
 use crate::tinies::ranks_of;
 use block_freq::Freqs;
-use evictor::{Eviction, Ranks, View, candidates, eviction_at, first_free, view_of};
+use evictor::{Eviction, EvictionQuery, Ranks, candidates, eviction_at, first_free, view_of};
 use interference::Matrix;
 use std::alloc::{AllocError, Global};
 use target_base::{Numbers, Reg, Target};
@@ -28,7 +28,7 @@ pub enum Choice {
 }
 
 /// The first of these registers that the range may take from others, with those.
-fn first_ousting(view: View<'_>, found: &[Reg]) -> Result<Option<Eviction>, AllocError>
+fn first_ousting(view: EvictionQuery<'_>, found: &[Reg]) -> Result<Option<Eviction>, AllocError>
     ensures { IfOk result (λ first. IsOrdered view.entry.m.now → Weighs view.entry.m.now.live.table view.entry.m.now.live.func view.entry.freqs.now view.entry.ranks.now.uses
         → view.entry.number ≡ number (ranking_of view.entry.ranks.now) view.entry.range
         → view.entry.weight ≡ limit (setting_of view.entry.m.now view.entry.freqs.now view.entry.ranks.now view.entry.range)

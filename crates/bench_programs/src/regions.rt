@@ -13,51 +13,42 @@
 //! - `label bb.N start L` or `label bb.N before I L`: from the block's start on, or from before its instruction I on
 //!   (counted from 0; the last gap has the number of instructions), the label L holds.
 
-use crate::documents::{function_of, source_of};
+use crate::documents::{function_of, source_of, text_of};
 use anyhow::{Context, Result, bail};
 use block_freq::{Freqs, frequencies};
 use coalescer::coalesce;
 use interference::Matrix;
 use live_lanes::{LiveFunc, Mark, Spot};
 use mir_func::operands::class_of;
-use mir_func::{Func, Gap, Valid};
+use mir_func::{Func, Gap, Instr};
 use phi_elim::lower_phis;
-use split_choose::{Placing, Region, Row, cut_region, region_net};
+use split_choose::{BlockNodes, Region, RegionNet, cut_region, region_net};
 use std::alloc::{AllocError, Global};
 use std::rt::HostRuntime;
-use target_base::{Reg, Target};
+use target_base::{Boxed, Reg, Target};
 use two_address::lower_tied;
 
-/// A function as the allocator takes it: lowered, with its copies joined. No range is assigned yet.
-#[derive(Drop)]
-pub struct Prepared {
-    matrix: Matrix,
-    freqs: Freqs,
-}
-
-/// A valid source, made ready as before a run of the allocator.
-fn prepare(alloc: Global, target: &Target, source: Valid) -> Result<Prepared, AllocError> {
-    let f = lower_tied(alloc, target, lower_phis(alloc, target, source)?)?;
-    let freqs = frequencies(alloc, &f)?;
-    let live = LiveFunc::compute(alloc, target, f)?;
-    let (live, _) = coalesce(alloc, target, live, &freqs)?;
-    let matrix = Matrix::new(alloc, live)?;
-    Ok(Prepared { matrix, freqs })
-}
-
-/// The function of a document, made ready.
-pub fn prepared_of(rt: &HostRuntime, target: &Target, path: &str) -> Result<Prepared> {
+/// The function of a document, a valid source, without phis and ties.
+fn lowered_of(rt: &HostRuntime, target: &Target, path: &str) -> Result<Func> {
     let Some(f) = function_of(rt, target, path)? else {
         bail!("no function");
     };
     let Some(source) = source_of(rt, target, f)? else {
         bail!("no valid source");
     };
-    Ok(prepare(rt.alloc(), target, source)?)
+    let f = lower_phis(rt.alloc(), target, source)?;
+    Ok(lower_tied(rt.alloc(), target, f)?)
+}
+
+/// A lowered function with its copies joined, as the allocator takes it. No range is assigned yet.
+fn joined(alloc: Global, target: &Target, f: Func, freqs: &Freqs) -> Result<Matrix, AllocError> {
+    let live = LiveFunc::compute(alloc, target, f)?;
+    let (live, _) = coalesce(alloc, target, live, freqs)?;
+    Matrix::new(alloc, live)
 }
 
 /// The register of a name.
-fn register_of(target: &Target, name: &str) -> Option<Reg> {
+pub fn register_of(target: &Target, name: &str) -> Option<Reg> {
     let mut number = 0;
     for register in target.regs.as_slice() {
         if register.name.as_slice() == name.as_bytes() {
@@ -78,47 +69,91 @@ fn range_of(f: &Func, word: &str) -> Result<u32> {
 }
 
 /// Assigns a range to the register of a name.
-fn hold(prepared: &mut Prepared, range: &str, name: &str) -> Result<()> {
-    let live = prepared.matrix.live();
+fn hold(m: &mut Matrix, range: &str, name: &str) -> Result<()> {
+    let live = m.live();
     let v = range_of(live.func(), range)?;
     let Some(register) = register_of(live.target(), name) else {
         bail!("no such register");
     };
-    prepared.matrix.assign(v, register)?;
+    m.assign(v, register)?;
     Ok(())
 }
 
-/// Does what a word says: `V=R` assigns the range V to the register R, and `V` prints the region of
-/// the range V.
-pub fn answer_range(rt: &HostRuntime, prepared: &mut Prepared, word: &str) -> Result<()> {
-    match word.split_once('=') {
-        Some((range, name)) => hold(prepared, range, name),
-        None => tell_region(rt, prepared, word),
+/// Does what words say: `V=R` assigns the range V to the register R, and `V` prints the region of the
+/// range V.
+fn answer_ranges(rt: &HostRuntime, m: &mut Matrix, freqs: &Freqs, words: &[String]) -> Result<()> {
+    for word in words {
+        match word.as_str().split_once('=') {
+            Some((range, name)) => hold(m, range, name)?,
+            None => tell_region(rt, m, freqs, word.as_str())?,
+        }
     }
+    Ok(())
+}
+
+/// Does what words say of a lowered function.
+fn answer_lowered(rt: &HostRuntime, target: &Target, f: Func, words: &[String]) -> Result<()> {
+    let freqs = frequencies(rt.alloc(), &f)?;
+    let mut m = joined(rt.alloc(), target, f, &freqs)?;
+    let answer = answer_ranges(rt, &mut m, &freqs, words);
+    // what was computed of the function is given back by its own crates, which prove how
+    m.into_live().into_func();
+    answer
+}
+
+/// Answers `--region`.
+pub fn answer_region(rt: &HostRuntime, target: &Target, words: &[String]) -> Result<()> {
+    let [path, words @ ..] = words else {
+        bail!("a target and a file are missing");
+    };
+    let f = lowered_of(rt, target, path.as_str())?;
+    answer_lowered(rt, target, f, words)
 }
 
 /// Prints the region of a range.
-fn tell_region(rt: &HostRuntime, prepared: &Prepared, word: &str) -> Result<()> {
-    let m = &prepared.matrix;
+fn tell_region(rt: &HostRuntime, m: &Matrix, freqs: &Freqs, word: &str) -> Result<()> {
     let v = range_of(m.live().func(), word)?;
-    let Some(region) = cut_region(rt.alloc(), m, v, &prepared.freqs)? else {
-        println!(rt; "range %{} has no region", v)?;
-        return Ok(());
-    };
-    let net = region_net(rt.alloc(), m, v, &prepared.freqs, region.reg)?;
-    tell_head(rt, m.live().target(), v, &region)?;
-    tell_blocks(rt, m.live().func(), &net)?;
-    tell_nodes(rt, m.live().func(), &net, region.cut.inside.as_slice())?;
-    tell_arcs(rt, &net, region.cut.flow.as_slice())?;
-    tell_labels(rt, m.live().func(), region.labels.as_slice())
+    match cut_region(rt.alloc(), m, v, freqs)? {
+        Some(region) => tell_found(rt, m, freqs, v, &region),
+        None => {
+            println!(rt; "range %{v} has no region")?;
+            Ok(())
+        }
+    }
+}
+
+/// Prints a region of a range and its net.
+fn tell_found(rt: &HostRuntime, m: &Matrix, freqs: &Freqs, v: u32, region: &Region) -> Result<()> {
+    let net = region_net(rt.alloc(), m, v, freqs, region.reg)?;
+    tell_lines(rt, m.live(), v, region, &net)
+}
+
+/// Prints the lines of a region of a range.
+fn tell_lines(
+    rt: &HostRuntime,
+    live: &LiveFunc,
+    v: u32,
+    region: &Region,
+    net: &RegionNet,
+) -> Result<()> {
+    tell_head(rt, live.target(), v, region)?;
+    tell_blocks(rt, live.func(), net)?;
+    tell_nodes(rt, live.func(), net, region.cut.inside.as_slice())?;
+    tell_arcs(rt, net, region.cut.flow.as_slice())?;
+    tell_labels(rt, live.func(), region.labels.as_slice())
+}
+
+/// The name of a register.
+fn name_of(target: &Target, register: Reg) -> &str {
+    match target.regs.as_slice().get(register.0 as usize) {
+        Some(register) => text_of(register.name.as_slice()),
+        None => "",
+    }
 }
 
 /// Prints the range, the register and the costs.
 fn tell_head(rt: &HostRuntime, target: &Target, v: u32, region: &Region) -> Result<()> {
-    let name = match target.regs.as_slice().get(region.reg.0 as usize) {
-        Some(register) => String::from_utf8_lossy(rt.alloc(), register.name.as_slice())?,
-        None => String::new(rt.alloc()),
-    };
+    let name = name_of(target, region.reg);
     let base = region.base;
     let cost = region.cut.cost;
     println!(rt; "range %{v} register ${name} base {base} cost {cost}")?;
@@ -134,7 +169,7 @@ fn number_of(f: &Func, position: u32) -> u32 {
 }
 
 /// Prints what the blocks have.
-fn tell_blocks(rt: &HostRuntime, f: &Func, net: &Placing) -> Result<()> {
+fn tell_blocks(rt: &HostRuntime, f: &Func, net: &RegionNet) -> Result<()> {
     for row in net.rows.as_slice() {
         let number = number_of(f, row.position);
         let frequency = row.frequency;
@@ -160,7 +195,7 @@ fn tell_part(
 }
 
 /// Prints the borders of the blocks that belong to a node, and the inside that it is.
-fn tell_parts(rt: &HostRuntime, f: &Func, rows: &[Row], node: u32) -> Result<()> {
+fn tell_parts(rt: &HostRuntime, f: &Func, rows: &[BlockNodes], node: u32) -> Result<()> {
     for row in rows {
         let number = number_of(f, row.position);
         tell_part(rt, node, row.entry, number, "start")?;
@@ -180,7 +215,7 @@ fn role_of(node: u32) -> &'static str {
 }
 
 /// Prints the nodes, and on which side of the cut they are.
-fn tell_nodes(rt: &HostRuntime, f: &Func, net: &Placing, inside: &[bool]) -> Result<()> {
+fn tell_nodes(rt: &HostRuntime, f: &Func, net: &RegionNet, inside: &[bool]) -> Result<()> {
     for node in 0..net.net.nodes {
         let side = match inside.get(node as usize) {
             Some(true) => "in",
@@ -195,7 +230,7 @@ fn tell_nodes(rt: &HostRuntime, f: &Func, net: &Placing, inside: &[bool]) -> Res
 }
 
 /// Prints the arcs, with what flows through them.
-fn tell_arcs(rt: &HostRuntime, net: &Placing, flow: &[u128]) -> Result<()> {
+fn tell_arcs(rt: &HostRuntime, net: &RegionNet, flow: &[u128]) -> Result<()> {
     for (arc, flows) in net.net.arcs.as_slice().iter().zip(flow) {
         let from = arc.from;
         let to = arc.to;
@@ -205,15 +240,23 @@ fn tell_arcs(rt: &HostRuntime, net: &Placing, flow: &[u128]) -> Result<()> {
     Ok(())
 }
 
+/// The place of the instruction of an id among these, or behind them.
+fn place_in(instrs: &[Boxed<Instr>], id: Option<u32>) -> usize {
+    let mut place: usize = 0;
+    for instr in instrs {
+        if Some(instr.get().id) == id {
+            return place;
+        }
+        place = place.saturating_add(1);
+    }
+    place
+}
+
 /// The place of the instruction before which a gap is, in its block.
 fn place_of(f: &Func, gap: Gap) -> usize {
     for block in f.blocks.as_slice() {
         if block.number == gap.block {
-            let instrs = block.instrs.as_slice();
-            let found = instrs
-                .iter()
-                .position(|instr| Some(instr.get().id) == gap.before);
-            return found.unwrap_or(instrs.len());
+            return place_in(block.instrs.as_slice(), gap.before);
         }
     }
     0

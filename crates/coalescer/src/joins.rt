@@ -3,7 +3,7 @@
 use crate::quiet::is_quiet;
 use block_freq::Freqs;
 use live_lanes::LiveFunc;
-use live_lanes::edit::fold::composed;
+use live_lanes::edit::fold::compose_indexes;
 use mir_func::operands::class_of;
 use mir_func::{Block, Instr, Loc, Op, Operand, RegOp};
 use std::alloc::{AllocError, Global};
@@ -11,7 +11,7 @@ use target_base::classes::{are_within, have_subs, hold_subs, regs_at};
 use target_base::{ClassId, Copied, IndexId, List, OpId, Reg, Target};
 
 /// The opcode COPY of every target.
-const COPY: OpId = OpId(0);
+pub(crate) const COPY: OpId = OpId(0);
 
 /// A join of two ranges.
 #[derive(Clone, Copy, Debug, PartialEq, Eq)]
@@ -230,7 +230,7 @@ fn all_compose(
 }
 
 fn composes(target: &Target, own: &[Reg], outer: IndexId, inner: IndexId) -> bool {
-    match composed(target, outer, inner) {
+    match compose_indexes(target, outer, inner) {
         Some(index) => have_subs(target.regs.as_slice(), target.lanes_at(index), own),
         None => false,
     }

@@ -1,24 +1,21 @@
 //! Whether a join loses no value: where a lane is written, no other lane that would be one with it
 //! is live behind the instruction or written by it.
 
-use crate::joins::Join;
+use crate::joins::{COPY, Join};
 use live_lanes::{LiveFunc, Stretch};
 use mir_func::{Instr, Loc, Op, Operand, RegOp};
-use target_base::{IndexId, OpId, Target};
-
-/// The opcode COPY of every target.
-const COPY: OpId = OpId(0);
+use target_base::{IndexId, Target};
 
 /// A lane of a range.
 #[derive(Clone, Copy, PartialEq, Eq)]
-struct Lane {
+struct RangeLane {
     range: u32,
     k: u32,
 }
 
 /// What is looked at.
 #[derive(Clone, Copy)]
-struct View<'a> {
+struct JoinView<'a> {
     target: &'a Target,
     live: &'a LiveFunc,
     join: Join,
@@ -26,24 +23,24 @@ struct View<'a> {
 
 /// Whether a join is quiet.
 pub(crate) fn is_quiet(target: &Target, live: &LiveFunc, join: Join) -> bool {
-    let view = View { target, live, join };
+    let view = JoinView { target, live, join };
     is_quiet_for(view, join.keep) && is_quiet_for(view, join.gone)
 }
 
-fn is_quiet_for(view: View<'_>, v: u32) -> bool {
-    (0..view.live.lane_count(v)).all(|k| is_quiet_along(view, Lane { range: v, k }))
+fn is_quiet_for(view: JoinView<'_>, v: u32) -> bool {
+    (0..view.live.lane_count(v)).all(|k| is_quiet_along(view, RangeLane { range: v, k }))
 }
 
 /// A lane in one of the blocks in which it has a cell.
 #[derive(Clone, Copy)]
-struct Spot {
+struct LaneCell {
     number: u32,
     place: usize,
 }
 
 /// Whether the join is quiet at the writings of a lane. In a block in which the other lane has no
 /// cell it is neither live nor written, so that the blocks of the lane that has fewer are looked at.
-fn is_quiet_along(view: View<'_>, lane: Lane) -> bool {
+fn is_quiet_along(view: JoinView<'_>, lane: RangeLane) -> bool {
     let live = view.live;
     let (Some(own), Some(other)) = (
         number_of(live, Some(lane)),
@@ -53,7 +50,7 @@ fn is_quiet_along(view: View<'_>, lane: Lane) -> bool {
     };
     if live.cell_count(other) < live.cell_count(own) {
         return (0..live.cell_count(other)).all(|place| {
-            let there = Spot {
+            let there = LaneCell {
                 number: other,
                 place,
             };
@@ -64,7 +61,7 @@ fn is_quiet_along(view: View<'_>, lane: Lane) -> bool {
         });
     }
     (0..live.cell_count(own)).all(|place| {
-        let here = Spot { number: own, place };
+        let here = LaneCell { number: own, place };
         match beside(live, other, here) {
             Some(there) => is_quiet_in(view, lane, here, there),
             None => true,
@@ -73,13 +70,13 @@ fn is_quiet_along(view: View<'_>, lane: Lane) -> bool {
 }
 
 /// The number of a lane, where there is one.
-fn number_of(live: &LiveFunc, lane: Option<Lane>) -> Option<u32> {
+fn number_of(live: &LiveFunc, lane: Option<RangeLane>) -> Option<u32> {
     let lane = lane?;
     live.lane_of(lane.range, lane.k as usize)
 }
 
 /// A lane in the block in which another lane stands.
-fn beside(live: &LiveFunc, number: u32, other: Spot) -> Option<Spot> {
+fn beside(live: &LiveFunc, number: u32, other: LaneCell) -> Option<LaneCell> {
     let block = live.cell_block(other.number, other.place)?;
     let (mut low, mut high) = (0usize, live.cell_count(number));
     'halves: for _ in 0..usize::BITS {
@@ -93,20 +90,20 @@ fn beside(live: &LiveFunc, number: u32, other: Spot) -> Option<Spot> {
         }
     }
     if live.cell_block(number, low) == Some(block) {
-        Some(Spot { number, place: low })
+        Some(LaneCell { number, place: low })
     } else {
         None
     }
 }
 
 /// The number of pieces of a lane in a block.
-fn pieces(live: &LiveFunc, spot: Spot) -> usize {
+fn pieces(live: &LiveFunc, spot: LaneCell) -> usize {
     live.piece_count(spot.number, spot.place)
 }
 
 /// Whether the join is quiet at the writings of a lane in a block in which the other lane stands too.
 /// Away from the other's points it is, so that where the other has fewer pieces it is asked along them.
-fn is_quiet_in(view: View<'_>, lane: Lane, here: Spot, there: Spot) -> bool {
+fn is_quiet_in(view: JoinView<'_>, lane: RangeLane, here: LaneCell, there: LaneCell) -> bool {
     let live = view.live;
     if pieces(live, there) < pieces(live, here) {
         return (0..pieces(live, there)).all(|index| {
@@ -131,7 +128,7 @@ fn is_quiet_in(view: View<'_>, lane: Lane, here: Spot, there: Spot) -> bool {
 
 /// Whether the join is quiet at the writings of a lane in a block whose entry or exit is one of these
 /// points.
-fn is_quiet_along_extent(view: View<'_>, lane: Lane, here: Spot, at: Stretch) -> bool {
+fn is_quiet_along_extent(view: JoinView<'_>, lane: RangeLane, here: LaneCell, at: Stretch) -> bool {
     let live = view.live;
     'writings: for index in first_writing(live, here, at.first)..pieces(live, here) {
         let Some(id) = live.start_of(here.number, here.place, index) else {
@@ -149,7 +146,7 @@ fn is_quiet_along_extent(view: View<'_>, lane: Lane, here: Spot, at: Stretch) ->
 
 /// The first piece of a lane in a block that begins with a writing whose exit is at a point or behind
 /// it; the number of pieces where none does.
-fn first_writing(live: &LiveFunc, here: Spot, point: u128) -> usize {
+fn first_writing(live: &LiveFunc, here: LaneCell, point: u128) -> usize {
     let (mut low, mut high) = (1usize, pieces(live, here));
     'halves: for _ in 0..usize::BITS {
         if low >= high {
@@ -164,7 +161,7 @@ fn first_writing(live: &LiveFunc, here: Spot, point: u128) -> usize {
     low
 }
 
-fn is_quiet_lane(view: View<'_>, lane: Lane, id: u32) -> bool {
+fn is_quiet_lane(view: JoinView<'_>, lane: RangeLane, id: u32) -> bool {
     let live = view.live;
     let Some(other) = partner(view, lane) else {
         return true;
@@ -177,25 +174,25 @@ fn is_quiet_lane(view: View<'_>, lane: Lane, id: u32) -> bool {
 }
 
 /// The lane of the other range that becomes one with a lane.
-fn partner(view: View<'_>, lane: Lane) -> Option<Lane> {
+fn partner(view: JoinView<'_>, lane: RangeLane) -> Option<RangeLane> {
     let Join { keep, gone, index } = view.join;
     if lane.range == keep {
         let k = inner_of(view, index, lane.k)?;
-        return at(view, gone, k);
+        return range_lane_at(view, gone, k);
     }
-    at(view, keep, outer_of(view, index, lane.k)?)
+    range_lane_at(view, keep, outer_of(view, index, lane.k)?)
 }
 
-fn at(view: View<'_>, v: u32, k: u32) -> Option<Lane> {
+fn range_lane_at(view: JoinView<'_>, v: u32, k: u32) -> Option<RangeLane> {
     if k < view.live.lane_count(v) {
-        Some(Lane { range: v, k })
+        Some(RangeLane { range: v, k })
     } else {
         None
     }
 }
 
 /// The lane of `keep` that stands for a lane of `gone`.
-fn outer_of(view: View<'_>, index: Option<IndexId>, k: u32) -> Option<u32> {
+fn outer_of(view: JoinView<'_>, index: Option<IndexId>, k: u32) -> Option<u32> {
     match index {
         None => Some(k),
         Some(index) => {
@@ -206,7 +203,7 @@ fn outer_of(view: View<'_>, index: Option<IndexId>, k: u32) -> Option<u32> {
 }
 
 /// The lane of `gone` that a lane of `keep` stands for.
-fn inner_of(view: View<'_>, index: Option<IndexId>, k: u32) -> Option<u32> {
+fn inner_of(view: JoinView<'_>, index: Option<IndexId>, k: u32) -> Option<u32> {
     match index {
         None => Some(k),
         Some(index) => {
@@ -221,7 +218,7 @@ fn inner_of(view: View<'_>, index: Option<IndexId>, k: u32) -> Option<u32> {
 }
 
 /// Whether an instruction copies the one lane from the other.
-fn copies(view: View<'_>, lane: Lane, other: Lane, id: u32) -> bool {
+fn copies(view: JoinView<'_>, lane: RangeLane, other: RangeLane, id: u32) -> bool {
     let Some(instr) = view.live.instr(id) else {
         return false;
     };
@@ -247,6 +244,6 @@ fn copy_sides(instr: &Instr) -> Option<(RegOp, RegOp)> {
 }
 
 /// The place of a lane among those that an index picks.
-fn place_in(view: View<'_>, index: Option<IndexId>, k: u32) -> Option<u32> {
+fn place_in(view: JoinView<'_>, index: Option<IndexId>, k: u32) -> Option<u32> {
     inner_of(view, index, k)
 }

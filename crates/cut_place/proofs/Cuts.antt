@@ -2,7 +2,7 @@
 use Rattle.std.proofs.Common.{◌≡◌, ℕ, ◌+◌, ◌-◌, ◌<◌, ◌≤◌, ◌≢◌, Bool, true, false, cond, not, nat_lt, zero, suc, List, [], ◌∷◌, length, get_or, replicate, refl, sym, ◌∙◌, ap, subst, arith}
 use Rattle.std.proofs.Math.ListN.{get_or-replicate, length-replicate}
 use Rattle.cut_place.specs.declared.net.Arc.{Arc}
-use Rattle.cut_place.specs.declared.steps.Step.{Step}
+use Rattle.cut_place.specs.declared.steps.ResidualArc.{ResidualArc}
 use Rattle.cut_place.specs.Flows.{arc_at, flow_where, capacity_leaving, HasEnds, IsWithin, IsBalanced, IsCut, in_set}
 use Rattle.cut_place.specs.Residual.{tail_of, head_of, residual_of}
 use Rattle.cut_place.specs.Searches.{reached, Stays, IsClosed, IsSearch}
@@ -81,7 +81,7 @@ pub flags_least : (arcs : List Arc) (flow : List ℕ) (value : ℕ) → IsWithin
     → (nodes : ℕ → Bool) → IsCut nodes → value ≤ capacity_leaving nodes arcs
 flags_least arcs flow value w b nodes cut = value_at_most nodes arcs flow value w b cut.0 cut.1
 
-pub flags_smallest : (flags : List Bool) (levels : List ℕ) (before : List Step) (queue : List ℕ) (arcs : List Arc) (flow : List ℕ) (value : ℕ)
+pub flags_smallest : (flags : List Bool) (levels : List ℕ) (before : List ResidualArc) (queue : List ℕ) (arcs : List Arc) (flow : List ℕ) (value : ℕ)
     → Flagged flags levels → IsWithin arcs flow → IsBalanced arcs flow value → IsSearch arcs flow levels before queue
     → (nodes : ℕ → Bool) → IsCut nodes → capacity_leaving nodes arcs ≡ value → (v : ℕ) → in_set flags v ≡ true → nodes v ≡ true
 flags_smallest flags levels before queue arcs flow value f w b search nodes cut cost v there =
@@ -117,7 +117,7 @@ zero_balanced arcs flow e nodes =
     in omega (arith, out, into, nothing (nodes 0), nothing (nodes 1))
 
 -- the source was reached, and the sink wasn't
-pub flags_cut : (flags : List Bool) (levels : List ℕ) (before : List Step) (queue : List ℕ) (arcs : List Arc) (flow : List ℕ) → Flagged flags levels
+pub flags_cut : (flags : List Bool) (levels : List ℕ) (before : List ResidualArc) (queue : List ℕ) (arcs : List Arc) (flow : List ℕ) → Flagged flags levels
     → IsSearch arcs flow levels before queue → 4096 ≤ get_or levels 1 0 → IsCut (in_set flags)
 flags_cut flags levels before queue arcs flow f search far =
     let source : get_or levels 0 0 ≡ 0 = search.source

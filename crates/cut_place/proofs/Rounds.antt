@@ -2,7 +2,7 @@
 use Rattle.std.proofs.Common.{◌≡◌, ℕ, ◌+◌, ◌-◌, ◌<◌, ◌≤◌, ◌≢◌, Bool, true, false, cond, nat_lt, zero, suc, List, [], ◌∷◌, ◌++◌, length, get_or, replicate, refl, sym, ◌∙◌, ap, subst, arith, get_or-set_other, get_or-set_same, below_more}
 use Rattle.std.proofs.Math.ListN.{set, length-set, get_or-replicate, length-replicate}
 use Rattle.cut_place.specs.declared.net.Arc.{Arc}
-use Rattle.cut_place.specs.declared.steps.Step.{Step}
+use Rattle.cut_place.specs.declared.steps.ResidualArc.{ResidualArc}
 use Rattle.cut_place.specs.Trails.{IsTree, LeadsTo, step_at, no_step}
 use Rattle.cut_place.specs.Searches.{reached, unreached, Stays, IsClosed, IsSearch}
 use Rattle.cut_place.proofs.Searches.{one_fewer, unreached_most, Same, same_or, same, other}
@@ -11,7 +11,7 @@ use Rattle.cut_place.proofs.Searches.{one_fewer, unreached_most, Same, same_or, 
 abbrev pub ClosedBelow : List ℕ → List Arc → List ℕ → ℕ → Type 0
 ClosedBelow levels arcs flow i = (along : Bool) (k : ℕ) → k < i → Stays (reached levels) arcs flow (record { arc = k; along = along })
 
-pub record RoundFacts (arcs : List Arc) (flow first levels : List ℕ) (before : List Step) (queue : List ℕ) (changed : Bool) (i : ℕ) : Type 0 where
+pub record RoundFacts (arcs : List Arc) (flow first levels : List ℕ) (before : List ResidualArc) (queue : List ℕ) (changed : Bool) (i : ℕ) : Type 0 where
   pub search : IsSearch arcs flow levels before queue
   pub nodes : length levels ≡ length first
   pub most : unreached levels ≤ unreached first
@@ -19,7 +19,7 @@ pub record RoundFacts (arcs : List Arc) (flow first levels : List ℕ) (before :
   pub same : changed ≡ false → levels ≡ first
   pub closed : changed ≡ false → ClosedBelow first arcs flow i
 
-pub round_closed : (arcs : List Arc) (flow first levels : List ℕ) (before : List Step) (queue : List ℕ) (i : ℕ) → length arcs ≤ i
+pub round_closed : (arcs : List Arc) (flow first levels : List ℕ) (before : List ResidualArc) (queue : List ℕ) (i : ℕ) → length arcs ≤ i
     → RoundFacts arcs flow first levels before queue false i → IsClosed (reached levels) arcs flow
 round_closed arcs flow first levels before queue i le f s inside =
     subst (λ (l : List ℕ). Stays (reached l) arcs flow s) (sym (f.same refl)) (f.closed refl s.along s.arc (omega arith))

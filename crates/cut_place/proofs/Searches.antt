@@ -4,7 +4,7 @@ use Rattle.std.proofs.Math.ListN.{set, length-set}
 use Rattle.std.proofs.lemmas.Bool.Decides.{nat_tests}
 use Rattle.std.proofs.lemmas.Grind.{common_steps}
 use Rattle.cut_place.specs.declared.net.Arc.{Arc}
-use Rattle.cut_place.specs.declared.steps.Step.{Step}
+use Rattle.cut_place.specs.declared.steps.ResidualArc.{ResidualArc}
 use Rattle.cut_place.specs.Flows.{arc_at, HasEnds, IsWithin}
 use Rattle.cut_place.specs.Residual.{tail_of, head_of, residual_of}
 use Rattle.cut_place.specs.Trails.{IsTree, LeadsTo, step_at, no_step}
@@ -58,7 +58,7 @@ same_or zero (suc h) = other (λ e. absurd (omega arith))
 same_or (suc v) zero = other (λ e. absurd (omega arith))
 same_or (suc v) (suc h) = elim (same_or v h) [ same e ↦ same (ap suc e) | other n ↦ other (λ e. n (omega arith)) ]
 
-module _ (arcs : List Arc) (flow levels : List ℕ) (before : List Step) (queue : List ℕ) (s : Step)
+module _ (arcs : List Arc) (flow levels : List ℕ) (before : List ResidualArc) (queue : List ℕ) (s : ResidualArc)
     (f : IsSearch arcs flow levels before queue) (ends : HasEnds (length levels) arcs) (inside : s.arc < length arcs)
     (lo : get_or levels (tail_of arcs s) 0 < 4096) (hi : 4096 ≤ get_or levels (head_of arcs s) 0) (room : 1 ≤ residual_of arcs flow s) where
   abbrev to : ℕ
@@ -103,7 +103,7 @@ module _ (arcs : List Arc) (flow levels : List ℕ) (before : List Step) (queue 
   leads_new : LeadsTo arcs flow now to s
   leads_new = (inside, refl, room, omega (arith, tail_now, now_same))
 
-  leads_old : (v : ℕ) (r : Step) → get_or levels v 0 < 4096 → v ≢ to → LeadsTo arcs flow levels v r → LeadsTo arcs flow now v r
+  leads_old : (v : ℕ) (r : ResidualArc) → get_or levels v 0 < 4096 → v ≢ to → LeadsTo arcs flow levels v r → LeadsTo arcs flow now v r
   leads_old v r h n l =
       let e : get_or levels (tail_of arcs r) 0 + 1 ≡ get_or levels v 0 = l.3
       in let t : get_or now (tail_of arcs r) 0 ≡ get_or levels (tail_of arcs r) 0 = now_other (tail_of arcs r) (low_is_other (tail_of arcs r) (omega arith))
@@ -113,10 +113,10 @@ module _ (arcs : List Arc) (flow levels : List ℕ) (before : List Step) (queue 
   tree_now v h n r =
       elim (same_or v to) [
         | same e ↦ subst (λ (w : ℕ). LeadsTo arcs flow now w (step_at (set before to s) w)) (sym e)
-            (subst (λ (p : Step). LeadsTo arcs flow now to p) (sym (get_or-set_same before to s no_step (omega (arith, to_node, f.same)))) leads_new)
+            (subst (λ (p : ResidualArc). LeadsTo arcs flow now to p) (sym (get_or-set_same before to s no_step (omega (arith, to_node, f.same)))) leads_new)
         | other d ↦
             let was : get_or levels v 0 < 4096 = omega (arith, r, now_other v d)
-            in subst (λ (p : Step). LeadsTo arcs flow now v p) (sym (get_or-set_other before to v s no_step d))
+            in subst (λ (p : ResidualArc). LeadsTo arcs flow now v p) (sym (get_or-set_other before to v s no_step d))
             (leads_old v (step_at before v) was d (f.tree v (omega (arith, h, length-set levels to (level + 1))) n was))
       ]
 

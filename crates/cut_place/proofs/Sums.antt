@@ -2,7 +2,7 @@
 use Rattle.std.proofs.Common.{◌≡◌, ℕ, ◌+◌, ◌-◌, ◌<◌, ◌≤◌, ◌≢◌, ◌*◌, ◌^◌, ◌==◌, Bool, true, false, cond, not, zero, suc, List, [], ◌∷◌, length, get_or, refl, sym, ◌∙◌, ap, subst, arith}
 use Rattle.std.proofs.Math.ListN.{set}
 use Rattle.cut_place.specs.declared.net.Arc.{Arc}
-use Rattle.cut_place.specs.declared.steps.Step.{Step}
+use Rattle.cut_place.specs.declared.steps.ResidualArc.{ResidualArc}
 use Rattle.cut_place.specs.Flows.{no_arc, arc_at, flow_where, capacity_where, flow_out, flow_in, capacity_leaving, HasSmallCapacities, IsWithin, IsBalanced}
 use Rattle.cut_place.specs.Residual.{tail_of, head_of, residual_of, pushed}
 
@@ -59,7 +59,7 @@ balanced_start arcs flow value amount b nodes = omega (arith, b nodes, cond_add 
 pub balanced_end : (arcs : List Arc) (flow : List ℕ) (value amount : ℕ) → IsBalancedAt arcs flow value amount 0 → IsBalanced arcs flow (value + amount)
 balanced_end arcs flow value amount b nodes = omega (arith, b nodes, cond_add (nodes 0) value amount)
 
-pub balanced_push : (arcs : List Arc) (flow : List ℕ) (value amount : ℕ) (s : Step) → s.arc < length arcs → length flow ≡ length arcs
+pub balanced_push : (arcs : List Arc) (flow : List ℕ) (value amount : ℕ) (s : ResidualArc) → s.arc < length arcs → length flow ≡ length arcs
     → amount ≤ residual_of arcs flow s → IsBalancedAt arcs flow value amount (head_of arcs s)
     → IsBalancedAt arcs (pushed flow s amount) value amount (tail_of arcs s)
 balanced_push arcs flow value amount s h e r b nodes =

@@ -6,7 +6,7 @@ ghost use Rattle.cut_place.specs.Residual.{head_of};
 ghost use Rattle.cut_place.specs.Links.{AreLinks, HasLinks, HasLists};
 
 use crate::net::Arc;
-use crate::steps::{Step, head};
+use crate::steps::{ResidualArc, head};
 use std::alloc::{AllocError, Global};
 
 /// A residual arc that leaves a node.
@@ -15,7 +15,7 @@ pub(crate) struct Link {
     /// The node that it enters.
     pub(crate) to: usize,
     /// The residual arc.
-    pub(crate) step: Step,
+    pub(crate) step: ResidualArc,
 }
 
 /// The residual arcs that leave each node.
@@ -81,7 +81,7 @@ fn link_of(arcs: &[Arc], number: usize) -> Link
     ensures to { result.to ≡ head_of arcs.now result.step }
 {
     let place = number - 1;
-    let step = Step {
+    let step = ResidualArc {
         arc: place / 2,
         along: place % 2 == 0,
     };

@@ -5,7 +5,7 @@ ghost use Rattle.cut_place.specs.Flows.{HasEnds, HasSmallCapacities, IsBalanced,
 ghost use Rattle.cut_place.specs.Trails.{IsTrail, IsTree, LeadsTo};
 
 use crate::net::Arc;
-use crate::steps::{Step, head, push, residual, tail};
+use crate::steps::{ResidualArc, head, push, residual, tail};
 use std::alloc::AllocError;
 
 /// The number of the source.
@@ -15,7 +15,13 @@ pub(crate) const SOURCE: usize = 0;
 pub(crate) const SINK: usize = 1;
 
 /// Whether a residual arc has room and enters a node from one a level lower.
-pub(crate) fn leads_to(arcs: &[Arc], flow: &[u128], levels: &[usize], at: usize, step: Step) -> bool
+pub(crate) fn leads_to(
+    arcs: &[Arc],
+    flow: &[u128],
+    levels: &[usize],
+    at: usize,
+    step: ResidualArc,
+) -> bool
     requires within { IsWithin arcs.now flow.now }
     requires ends { HasEnds (length levels.now) arcs.now }
     requires at_node { at < length levels.now }
@@ -37,8 +43,8 @@ fn trace(
     arcs: &[Arc],
     flow: &[u128],
     levels: &[usize],
-    before: &[Step],
-    steps: &mut Vec<Step>,
+    before: &[ResidualArc],
+    steps: &mut Vec<ResidualArc>,
 ) -> Result<Option<u128>, AllocError>
     requires within { IsWithin arcs.now flow.now }
     requires ends { HasEnds (length levels.now) arcs.now }
@@ -63,7 +69,7 @@ fn trace(
 }
 
 /// Sends an amount along a path.
-fn augment(arcs: &[Arc], flow: &mut [u128], steps: &[Step], amount: u128)
+fn augment(arcs: &[Arc], flow: &mut [u128], steps: &[ResidualArc], amount: u128)
     requires within { IsWithin arcs.now flow.old }
     requires small { HasSmallCapacities arcs.now }
     requires trail { (levels : List ℕ) × IsTrail arcs.now flow.old levels amount 1 steps.now 0 }
@@ -81,9 +87,9 @@ pub(crate) fn send(
     arcs: &[Arc],
     flow: &mut [u128],
     levels: &[usize],
-    before: &[Step],
+    before: &[ResidualArc],
     value: u128,
-    steps: &mut Vec<Step>,
+    steps: &mut Vec<ResidualArc>,
 ) -> Result<u128, AllocError>
     requires within { IsWithin arcs.now flow.old }
     requires small { HasSmallCapacities arcs.now }

@@ -8,7 +8,7 @@ ghost use Rattle.cut_place.specs.Searches.{IsClosed, IsSearch, Stays, reached, u
 use crate::links::{Link, Links};
 use crate::net::Arc;
 use crate::paths::{SINK, SOURCE};
-use crate::steps::{Step, head, residual, tail};
+use crate::steps::{ResidualArc, head, residual, tail};
 use std::alloc::{AllocError, Global};
 
 /// The level of a node that wasn't reached. Each other level is lower.
@@ -20,13 +20,18 @@ pub(crate) struct Search {
     /// Of each node, its level, or `UNREACHED`.
     pub(crate) levels: Vec<usize>,
     /// Of each node that was reached, the residual arc that reached it.
-    pub(crate) before: Vec<Step>,
+    pub(crate) before: Vec<ResidualArc>,
     /// The nodes that were reached, in order.
     pub(crate) queue: Vec<usize>,
 }
 
 /// Reaches the head of a residual arc with room from its tail. Says whether it wasn't reached yet.
-fn reach(arcs: &[Arc], flow: &[u128], search: &mut Search, step: Step) -> Result<bool, AllocError>
+fn reach(
+    arcs: &[Arc],
+    flow: &[u128],
+    search: &mut Search,
+    step: ResidualArc,
+) -> Result<bool, AllocError>
     requires inside { step.arc < length arcs.now }
     requires within { IsWithin arcs.now flow.now }
     requires ends { HasEnds (length search.old.levels.items) arcs.now }
@@ -128,8 +133,8 @@ fn close_round(arcs: &[Arc], flow: &[u128], search: &mut Search) -> Result<bool,
 {
     let mut changed = false;
     for arc in 0..arcs.len() {
-        let forth = reach(arcs, flow, search, Step { arc, along: true })?;
-        let back = reach(arcs, flow, search, Step { arc, along: false })?;
+        let forth = reach(arcs, flow, search, ResidualArc { arc, along: true })?;
+        let back = reach(arcs, flow, search, ResidualArc { arc, along: false })?;
         changed = changed || forth || back;
     }
     Ok(changed)
@@ -171,7 +176,7 @@ pub(crate) fn search_from(
     let nodes = links.nodes;
     let mut levels = Vec::from_elem(alloc, UNREACHED, nodes)?;
     levels[SOURCE] = 0;
-    let none = Step {
+    let none = ResidualArc {
         arc: 0,
         along: false,
     };

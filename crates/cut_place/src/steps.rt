@@ -8,7 +8,7 @@ use crate::net::Arc;
 
 /// A residual arc: an arc of the net, along it or against it.
 #[derive(Clone, Copy, Debug, PartialEq, Eq)]
-pub(crate) struct Step {
+pub(crate) struct ResidualArc {
     /// The number of the arc.
     pub(crate) arc: usize,
     /// Whether it goes along the arc.
@@ -16,7 +16,7 @@ pub(crate) struct Step {
 }
 
 /// The node that a residual arc leaves.
-pub(crate) fn tail(arcs: &[Arc], step: Step) -> usize
+pub(crate) fn tail(arcs: &[Arc], step: ResidualArc) -> usize
     requires { step.arc < length arcs.now }
     ensures { result ≡ tail_of arcs.now step }
 {
@@ -29,7 +29,7 @@ pub(crate) fn tail(arcs: &[Arc], step: Step) -> usize
 }
 
 /// The node that a residual arc enters.
-pub(crate) fn head(arcs: &[Arc], step: Step) -> usize
+pub(crate) fn head(arcs: &[Arc], step: ResidualArc) -> usize
     requires { step.arc < length arcs.now }
     ensures { result ≡ head_of arcs.now step }
 {
@@ -42,7 +42,7 @@ pub(crate) fn head(arcs: &[Arc], step: Step) -> usize
 }
 
 /// What more can flow along a residual arc.
-pub(crate) fn residual(arcs: &[Arc], flow: &[u128], step: Step) -> u128
+pub(crate) fn residual(arcs: &[Arc], flow: &[u128], step: ResidualArc) -> u128
     requires inside { step.arc < length arcs.now }
     requires within { IsWithin arcs.now flow.now }
     ensures { result ≡ residual_of arcs.now flow.now step }
@@ -55,7 +55,7 @@ pub(crate) fn residual(arcs: &[Arc], flow: &[u128], step: Step) -> u128
 }
 
 /// Sends an amount along a residual arc.
-pub(crate) fn push(arcs: &[Arc], flow: &mut [u128], step: Step, amount: u128)
+pub(crate) fn push(arcs: &[Arc], flow: &mut [u128], step: ResidualArc, amount: u128)
     requires inside { step.arc < length arcs.now }
     requires within { IsWithin arcs.now flow.old }
     requires small { HasSmallCapacities arcs.now }

@@ -7,7 +7,7 @@ ghost use Rattle.cut_place.specs.Links.{HasLinks, IsWalk};
 use crate::links::Links;
 use crate::net::Arc;
 use crate::paths::{SINK, SOURCE, send};
-use crate::steps::{Step, residual};
+use crate::steps::{ResidualArc, residual};
 use std::alloc::{AllocError, Global};
 
 /// The most steps of a walk: 4,096 nodes times 32,768 residual arcs. By Dinic's bound on a phase no
@@ -20,7 +20,7 @@ struct Walk {
     /// Of each node, the place of its current link.
     current: Vec<usize>,
     /// Of each node on the way, the residual arc that leads to it.
-    before: Vec<Step>,
+    before: Vec<ResidualArc>,
     /// The nodes on the way, from the sink on.
     stack: Vec<usize>,
     /// The node where the walk is.
@@ -28,10 +28,10 @@ struct Walk {
 }
 
 /// The residual arc of the same arc the other way.
-fn reverse_of(step: Step) -> Step
+fn reverse_of(step: ResidualArc) -> ResidualArc
     ensures { result.arc ≡ step.arc }
 {
-    Step {
+    ResidualArc {
         arc: step.arc,
         along: !step.along,
     }
@@ -142,7 +142,7 @@ pub(crate) fn blocking_flow(
     ensures balanced { IfOk result (λ v. IsBalanced arcs.now flow.new v) }
     ensures grows { IfOk result (λ v. value ≤ v) }
 {
-    let none = Step {
+    let none = ResidualArc {
         arc: 0,
         along: false,
     };

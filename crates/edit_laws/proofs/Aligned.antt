@@ -19,7 +19,9 @@ use Rattle.mir_meaning.specs.Codes.{block_end, blocks_code, instrs_of, phi_opera
 use Rattle.mir_meaning.specs.Points.{from_instr, point_item, points_of}
 use Rattle.laws.proofs.Flow.{none_among}
 use Rattle.edit_laws.specs.Named.{Names, reads, copies, writes}
-use Rattle.edit_laws.proofs.Beside.{IsClosed, NamesOnly, IsAlone, IsChanged, IsKept, Beside, none, starts, stays, changes, goes, comes, Facing, neither, at_alike, at_both}
+use Rattle.edit_laws.specs.Treated.{alike_at, treat_alike}
+use Rattle.edit_laws.proofs.Alike.{same-kept, treated-kept}
+use Rattle.edit_laws.proofs.Beside.{IsClosed, NamesOnly, IsAlone, IsKept, Beside, none, starts, stays, goes, comes, Facing, neither, at_alike}
 use Rattle.edit_laws.proofs.Shell.{phi-same, reads-same, writes-same, exits-are, is-plain}
 
 -- instructions of which some go, some come, and some change
@@ -41,13 +43,12 @@ pub record IsFree (t : Target) (f : Function) (Led : Lane → Type 0) (i : Instr
   pub terminator : does is_terminator t i ≡ false
   pub names : (b : Block) → NamesOnly Led (point_item t f b i)
 
--- one that changes stays a terminator, or none
+-- one that changes stays a terminator, or none, and treats all other lanes as it did
 pub record IsTurned (t : Target) (f : Function) (Led : Lane → Type 0) (i j : Instr) : Type 0 where
   pub phi : does is_phi t i ≡ false
   pub phi' : does is_phi t j ≡ false
   pub terminator : does is_terminator t i ≡ does is_terminator t j
-  pub names : (b : Block) → NamesOnly Led (point_item t f b i)
-  pub names' : (b : Block) → NamesOnly Led (point_item t f b j)
+  pub differ : (b : Block) (l : Lane) → treat_alike (point_item t f b i) (point_item t f b j) l ≡ false → Led l
 
 pub names-alike : {i j : Item} {l : Lane} → reads_of i ≡ reads_of j → writes_of i ≡ writes_of j → Names i l → Names j l
 names-alike e g (reads ss m s) = reads ss (subst (Among ss) e m) s
@@ -117,16 +118,10 @@ module _ (t : Target) (f g : Function) (same : f.classes ≡ g.classes) (Led : L
       -- items
 
       kept-item : (i : Instr) → IsClosed Led (point_item t f b i) → IsKept Led (point_item t f b i) (point_item t g c i)
-      kept-item i closed = record {
-        inside = (is-plain t f b i).1 ∙ sym (is-plain t g c i).1;
-        alike = record {
-          reads = reads-same t f g same b c i;
-          writes = writes-same t f g same b c i;
-          exits = exits-are t f b i ∙ (ap (λ es. cond (does is_terminator t i) es []) (out-same b c number successors) ∙ sym (exits-are t g c i));
-          order = (is-plain t f b i).0 ∙ sym (is-plain t g c i).0;
-        };
-        closed = closed;
-      }
+      kept-item i closed =
+          same-kept Led (point_item t f b i) (point_item t g c i) closed ((is-plain t f b i).1 ∙ sym (is-plain t g c i).1)
+          (exits-are t f b i ∙ (ap (λ es. cond (does is_terminator t i) es []) (out-same b c number successors) ∙ sym (exits-are t g c i)))
+          ((is-plain t f b i).0 ∙ sym (is-plain t g c i).0) (reads-same t f g same b c i) (writes-same t f g same b c i)
 
       goes-alone : (i : Instr) → IsFree t f Led i → IsAlone Led (point_item t f b i)
       goes-alone i h = record {
@@ -147,27 +142,20 @@ module _ (t : Target) (f g : Function) (same : f.classes ≡ g.classes) (Led : L
         names = in-second j (h.names c);
       }
 
-      changed-item : (i j : Instr) → IsTurned t f Led i j → IsChanged Led (point_item t f b i) (point_item t g c j)
-      changed-item i j h = record {
-        inside = (is-plain t f b i).1;
-        inside' = (is-plain t g c j).1;
-        exits = exits-are t f b i ∙ ((λ k. cond (h.terminator k) (out-same b c number successors k) []) ∙ sym (exits-are t g c j));
-        order = (is-plain t f b i).0 ∙ sym (is-plain t g c j).0;
-        names = h.names b;
-        names' = in-second j (h.names' c);
-      }
+      changed-item : (i j : Instr) → IsClosed Led (point_item t f b i) → IsTurned t f Led i j → IsKept Led (point_item t f b i) (point_item t g c j)
+      changed-item i j closed h =
+          treated-kept Led (point_item t f b i) (point_item t g c j) closed ((is-plain t f b i).1 ∙ sym (is-plain t g c j).1)
+          (exits-are t f b i ∙ ((λ k. cond (h.terminator k) (out-same b c number successors k) []) ∙ sym (exits-are t g c j)))
+          ((is-plain t f b i).0 ∙ sym (is-plain t g c j).0)
+          (λ l e. h.differ b l ((λ k. alike_at (reads_of (point_item t f b i)) (writes_of (point_item t f b i)) (reads-same t f g same b c j k) (writes-same t f g same b c j k) l) ∙ e))
 
       end-kept : (bs cs : List Block) → IsKept Led (block_end t f b bs) (block_end t g c cs)
-      end-kept bs cs = record {
-        inside = refl;
-        alike = record { reads = refl; writes = refl; exits = out-same b c number successors; order = refl };
-        closed = λ l a d m one x. absurd (none_among m.0 m.1);
-      }
+      end-kept bs cs = same-kept Led (block_end t f b bs) (block_end t g c cs) (λ l a d m one x. absurd (none_among m.0 m.1)) refl (out-same b c number successors) refl refl refl
 
       instrs-beside : {is js : List Instr} {p q : Code} → AreInstrs Goes Comes Both is js → ((i : Instr) → Among i is → IsClosed Led (point_item t f b i)) → Beside Led p q → Beside Led (map (point_item t f b) is ++ p) (map (point_item t g c) js ++ q)
       instrs-beside no_instrs closed r = r
       instrs-beside (instr_stays {i = i} a) closed r = stays (is-plain t f b i).1 (kept-item i (closed i here)) (instrs-beside a (λ j m. closed j (there m)) r)
-      instrs-beside (instr_changes {i = i} {j = j} h a) closed r = changes (changed-item i j (turns i j h)) (instrs-beside a (λ x m. closed x (there m)) r)
+      instrs-beside (instr_changes {i = i} {j = j} h a) closed r = stays (is-plain t f b i).1 (changed-item i j (closed i here) (turns i j h)) (instrs-beside a (λ x m. closed x (there m)) r)
       instrs-beside (instr_goes {i = i} h a) closed r = goes (goes-alone i (goes-free i h)) (instrs-beside a (λ x m. closed x (there m)) r)
       instrs-beside (instr_comes {j = j} h a) closed r = comes (comes-alone j (comes-free j h)) (instrs-beside a closed r)
 
@@ -186,7 +174,7 @@ module _ (t : Target) (f g : Function) (same : f.classes ≡ g.classes) (Led : L
           (go (nat_eq i.id id) (rest-facing id away came one a (λ x m. closed x (there m)) r o))
         where
           go : (u : Bool) → Facing Led (rest_from (point_item t f b) id is p other) (rest_from (point_item t g c) id js q other') → Facing Led (cond u (map (point_item t f b) (i ∷ is) ++ p) (rest_from (point_item t f b) id is p other)) (cond u (map (point_item t g c) (j ∷ js) ++ q) (rest_from (point_item t g c) id js q other'))
-          go true ih = at_both (changed-item i j (turns i j h)) (instrs-beside a (λ x m. closed x (there m)) r)
+          go true ih = at_alike (is-plain t f b i).1 (changed-item i j (closed i here) (turns i j h)) (instrs-beside a (λ x m. closed x (there m)) r)
           go false ih = ih
       rest-facing id away came one {p = p} {q = q} {other = other} {other' = other'} (instr_goes {i = i} {is = is} {js = js} h a) closed r o =
           subst (λ u. Facing Led (cond u (map (point_item t f b) (i ∷ is) ++ p) (rest_from (point_item t f b) id is p other)) (rest_from (point_item t g c) id js q other')) (sym (away i h))

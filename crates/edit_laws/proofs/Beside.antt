@@ -1,8 +1,9 @@
 -- A code and an edit of it: a lane that is live at a place of the one is live at the same place of the other, or it leads to an edited lane.
-use Rattle.std.proofs.Common.{◌≡◌, ◌⊎◌, ◌∙◌, ℕ, Bool, true, false, cond, [], ◌∷◌, refl, sym, ap, subst, inl, inr}
+use Rattle.std.proofs.Common.{◌≡◌, ◌⊎◌, ◌∙◌, ℕ, Bool, true, false, cond, List, [], ◌∷◌, refl, sym, ap, subst, inl, inr}
 use Rattle.std.specs.Prelude.{nat_eq}
 use Rattle.meaning.specs.declared.types.Lane.{Lane}
 use Rattle.meaning.specs.declared.types.Lane.TheVariants.{SlotLane}
+use Rattle.meaning.specs.declared.types.Source.{Source}
 use Rattle.meaning.specs.declared.types.Source.TheVariants.{FromLane}
 use Rattle.meaning.specs.declared.types.Fill.TheVariants.{Moved}
 use Rattle.meaning.specs.declared.types.Write.{Write}
@@ -12,7 +13,7 @@ use Rattle.meaning.specs.Live.{Among, here, there, reads_of, writes_of, exits_of
 use Rattle.mir_meaning.specs.Points.{AtFirst}
 use Rattle.laws.proofs.Flow.{lane-inj, none_among}
 use Rattle.laws.proofs.Quiet.{same-true}
-use Rattle.edit_laws.specs.Named.{Copies, Names, reads, copies, writes, IsOneLane, itself, at_width}
+use Rattle.edit_laws.specs.Named.{Copies, Names, reads, copies, writes, IsOneLane}
 
 -- no block begins with the item
 abbrev pub is_inside : Item → Bool
@@ -20,13 +21,6 @@ is_inside (BlockStart n) = false
 is_inside (BlockEnd falls exits) = true
 is_inside (Silent asked ws) = true
 is_inside (Counted r asked ws target exits) = true
-
--- the items do the same to lanes, and paths lead on from them alike
-pub record Alike (i j : Item) : Type 0 where
-  pub reads : reads_of i ≡ reads_of j
-  pub writes : writes_of i ≡ writes_of j
-  pub exits : exits_of i ≡ exits_of j
-  pub order : in_order i ≡ in_order j
 
 -- the item copies no other lane into one of these
 abbrev pub IsClosed : (Lane → Type 0) → Item → Type 0
@@ -43,49 +37,44 @@ pub record IsAlone (Led : Lane → Type 0) (i : Item) : Type 0 where
   pub exits : exits_of i ≡ []
   pub names : NamesOnly Led i
 
--- items that differ
-pub record IsChanged (Led : Lane → Type 0) (i j : Item) : Type 0 where
-  pub inside : is_inside i ≡ true
-  pub inside' : is_inside j ≡ true
-  pub exits : exits_of i ≡ exits_of j
-  pub order : in_order i ≡ in_order j
-  pub names : NamesOnly Led i
-  pub names' : NamesOnly Led j
+-- the item reads the lane
+abbrev pub IsRead : Item → Lane → Type 0
+IsRead i l = (ss : List Source) × Among ss (reads_of i) × Among (FromLane l) ss
 
--- items that don't
+-- what the first item does to another lane than these the second does too, and it gives none of them to one of these
+pub record DoesToo (Led : Lane → Type 0) (i j : Item) : Type 0 where
+  pub read : (l : Lane) → IsRead i l → IsRead j l ⊎ Led l
+  pub fed : (l a : Lane) → Feeds i l a → Feeds j l a ⊎ Led l
+  pub written : (l : Lane) → Writing i l → Writing j l ⊎ Led l
+  pub early : (l : Lane) → WritingEarly i l → WritingEarly j l ⊎ Led l
+  pub closed : (l a : Lane) → Feeds i l a → Led a → Led l
+  pub stored : (l : Lane) (s k w x : ℕ) → is_slot l ≡ false → Feeds i l (SlotLane s k w) → Led (SlotLane s k x) → Led l
+
+-- items that do the same to all other lanes, and from which paths lead on alike
 pub record IsKept (Led : Lane → Type 0) (i j : Item) : Type 0 where
   pub inside : is_inside i ≡ is_inside j
-  pub alike : Alike i j
-  pub closed : IsClosed Led i
+  pub exits : exits_of i ≡ exits_of j
+  pub order : in_order i ≡ in_order j
+  pub forth : DoesToo Led i j
+  pub back : DoesToo Led j i
 
--- places of two codes that differ at items which name these lanes alone
+-- places of two codes whose items do the same to all lanes but these
 pub data Beside (Led : Lane → Type 0) : Code → Code → Type 0 where
   none : Beside Led [] []
   starts : {n : ℕ} {p q : Code} → Beside Led p q → Beside Led (BlockStart n ∷ p) (BlockStart n ∷ q)
   stays : {i j : Item} {p q : Code} → is_inside i ≡ true → IsKept Led i j → Beside Led p q → Beside Led (i ∷ p) (j ∷ q)
-  changes : {i j : Item} {p q : Code} → IsChanged Led i j → Beside Led p q → Beside Led (i ∷ p) (j ∷ q)
   goes : {i : Item} {p q : Code} → IsAlone Led i → Beside Led p q → Beside Led (i ∷ p) q
   comes : {j : Item} {p q : Code} → IsAlone Led j → Beside Led p q → Beside Led p (j ∷ q)
 
 -- the same from the other side
 
-pub alike-turned : {i j : Item} → Alike i j → Alike j i
-alike-turned h = record { reads = sym h.reads; writes = sym h.writes; exits = sym h.exits; order = sym h.order }
-
-pub closed-turned : {Led : Lane → Type 0} {i j : Item} → Alike i j → IsClosed Led i → IsClosed Led j
-closed-turned h c = λ l a e m one d. c l a e (m.0, subst (Among m.0) (sym h.writes) m.1, m.2, m.3) one d
-
 pub kept-turned : {Led : Lane → Type 0} {i j : Item} → IsKept Led i j → IsKept Led j i
-kept-turned h = record { inside = sym h.inside; alike = alike-turned h.alike; closed = closed-turned h.alike h.closed }
-
-pub changed-turned : {Led : Lane → Type 0} {i j : Item} → IsChanged Led i j → IsChanged Led j i
-changed-turned h = record { inside = h.inside'; inside' = h.inside; exits = sym h.exits; order = sym h.order; names = h.names'; names' = h.names }
+kept-turned h = record { inside = sym h.inside; exits = sym h.exits; order = sym h.order; forth = h.back; back = h.forth }
 
 pub turned : {Led : Lane → Type 0} {p q : Code} → Beside Led p q → Beside Led q p
 turned none = none
 turned (starts b) = starts (turned b)
 turned (stays g h b) = stays (sym h.inside ∙ g) (kept-turned h) (turned b)
-turned (changes h b) = changes (changed-turned h) (turned b)
 turned (goes h b) = comes h (turned b)
 turned (comes h b) = goes h (turned b)
 
@@ -108,28 +97,31 @@ found-beside {Led = Led} n (starts {n = m} {p = p} {q = q} b) = go (nat_eq m n) 
     go true f = b
     go false f = f
 found-beside n (stays {i = i} {j = j} {p = p} {q = q} g h b) = placed (sym (found-inside n i p g)) (sym (found-inside n j q (sym h.inside ∙ g))) (found-beside n b)
-found-beside n (changes {i = i} {j = j} {p = p} {q = q} h b) = placed (sym (found-inside n i p h.inside)) (sym (found-inside n j q h.inside')) (found-beside n b)
 found-beside n (goes {i = i} {p = p} h b) = placed (sym (found-inside n i p h.inside)) refl (found-beside n b)
 found-beside n (comes {j = j} {q = q} h b) = placed refl (sym (found-inside n j q h.inside)) (found-beside n b)
 
 -- an item that has a place in the first code, and where the second code goes on behind what came before it
 pub data Met (Led : Lane → Type 0) (i : Item) (p : Code) : Code → Type 0 where
   at_kept : {j : Item} {q : Code} → IsKept Led i j → Beside Led p q → Met Led i p (j ∷ q)
-  at_changed : {j : Item} {q : Code} → IsChanged Led i j → Beside Led p q → Met Led i p (j ∷ q)
   at_none : {q : Code} → IsAlone Led i → Beside Led p q → Met Led i p q
 
-start-kept : (Led : Lane → Type 0) (n : ℕ) → IsKept Led (BlockStart n) (BlockStart n)
-start-kept Led n = record {
-  inside = refl;
-  alike = record { reads = refl; writes = refl; exits = refl; order = refl };
-  closed = λ l a c m one d. absurd (none_among m.0 m.1);
+start-does : (Led : Lane → Type 0) (n : ℕ) → DoesToo Led (BlockStart n) (BlockStart n)
+start-does Led n = record {
+  read = λ l z. inl z;
+  fed = λ l a f. inl f;
+  written = λ l w. inl w;
+  early = λ l w. inl w;
+  closed = λ l a f d. subst Led (lane-inj a l f) d;
+  stored = λ l s k w x ns f d. absurd (let z : true ≡ false = ap is_slot (lane-inj (SlotLane s k w) l f) ∙ ns in cc);
 }
+
+start-kept : (Led : Lane → Type 0) (n : ℕ) → IsKept Led (BlockStart n) (BlockStart n)
+start-kept Led n = record { inside = refl; exits = refl; order = refl; forth = start-does Led n; back = start-does Led n }
 
 -- what came before the item is passed
 peel : {Led : Lane → Type 0} {i : Item} {p q : Code} (Goal : Code → Type 0) → ((j : Item) (r : Code) → IsAlone Led j → Goal r → Goal (j ∷ r)) → ((r : Code) → Met Led i p r → Goal r) → Beside Led (i ∷ p) q → Goal q
 peel {Led = Led} Goal past on (starts {n = n} {q = r} b) = on (BlockStart n ∷ r) (at_kept (start-kept Led n) b)
 peel Goal past on (stays {j = j} {q = r} g h b) = on (j ∷ r) (at_kept h b)
-peel Goal past on (changes {j = j} {q = r} h b) = on (j ∷ r) (at_changed h b)
 peel Goal past on (goes {q = r} h b) = on r (at_none h b)
 peel Goal past on (comes {j = j} {q = r} h b) = past j r h (peel Goal past on b)
 
@@ -158,9 +150,6 @@ kept-or-written (v ∷ ws) l = go (same_lane v.lane l) refl (kept-or-written ws 
 
 pub feeds-case : (i : Item) (l a : Lane) → Feeds i l a → (l ≡ a) ⊎ Copies i l a
 feeds-case i l a f = filled-case (writes_of i) l a f
-
-feeds-alike : (i j : Item) → Alike i j → (l a : Lane) → Feeds i l a → Feeds j l a
-feeds-alike i j h l a f = sym (ap (λ ws. filled ws a) h.writes) ∙ f
 
 -- a lane that isn't the slot's is stored
 pub stored : (i : Item) (l : Lane) (s k w : ℕ) → is_slot l ≡ false → Feeds i l (SlotLane s k w) → Copies i l (SlotLane s k w)
@@ -213,24 +202,12 @@ module _ (reserved : Lane → Bool) (Led : Lane → Type 0) (first second : Code
 
   -- what feeds a lane behind an item, before its counterpart
   fed-kept : (i j : Item) (q : Code) → IsKept Led i j → (l b : Lane) → reserved l ≡ false → Feeds i l b → After j q b → Goal l (j ∷ q)
-  fed-kept i j q k l b free f (inl h) = inl (live-behind j q l b h (feeds-alike i j k.alike l b f) free)
-  fed-kept i j q k l b free f (inr d) = go (feeds-case i l b f)
+  fed-kept i j q k l b free f behind = go (k.forth.fed l b f) behind
     where
-      go : (l ≡ b) ⊎ Copies i l b → Goal l (j ∷ q)
-      go (inl e) = inr (subst Led (sym e) d)
-      go (inr m) = inr (k.closed l b b m itself d)
-
-  fed-changed : (i j : Item) (q : Code) → IsChanged Led i j → (l b : Lane) → reserved l ≡ false → Feeds i l b → After j q b → Goal l (j ∷ q)
-  fed-changed i j q k l b free f behind = go (feeds-case i l b f)
-    where
-      same : l ≡ b → After j q b → Feeds j l l ⊎ Writing j l → Goal l (j ∷ q)
-      same e (inr d) u = inr (subst Led (sym e) d)
-      same e (inl h) (inl g) = inl (live-behind j q l b h (subst (λ x. Feeds j l x) e g) free)
-      same e (inl h) (inr w) = inr (k.names' l (writes w))
-
-      go : (l ≡ b) ⊎ Copies i l b → Goal l (j ∷ q)
-      go (inl e) = same e behind (kept-or-written (writes_of j) l)
-      go (inr m) = inr (k.names l (copies b m))
+      go : Feeds j l b ⊎ Led l → After j q b → Goal l (j ∷ q)
+      go (inl g) (inl h) = inl (live-behind j q l b h g free)
+      go (inl g) (inr d) = inr (k.forth.closed l b f d)
+      go (inr d) h = inr d
 
   fed-none : (i : Item) (q : Code) → IsAlone Led i → (l a : Lane) → Feeds i l a → Goal a q → Goal l q
   fed-none i q k l a f h = go (feeds-case i l a f)
@@ -245,43 +222,46 @@ module _ (reserved : Lane → Bool) (Led : Lane → Type 0) (first second : Code
   pub still : {p : Code} {l : Lane} → Live reserved first p l → (q : Code) → Beside Led p q → Goal l q
   still (read {i = i} {p = p} {ss = ss} {l = l} m s free) q b = peel (Goal l) (past l free) on b
     where
+      too : (j : Item) (r : Code) → IsRead j l ⊎ Led l → Goal l (j ∷ r)
+      too j r (inl z) = inl (read z.1 z.2 free)
+      too j r (inr d) = inr d
+
       on : (r : Code) → Met Led i p r → Goal l r
-      on r (at_kept k c) = inl (read (subst (Among ss) k.alike.reads m) s free)
-      on r (at_changed k c) = inr (k.names l (reads ss m s))
+      on r (at_kept {j = j} {q = y} k c) = too j y (k.forth.read l (ss, m, s))
       on r (at_none k c) = inr (k.names l (reads ss m s))
   still (next {i = i} {p = p} {l = l} {a = a} o h f free) q b = peel (Goal l) (past l free) (on (λ r c. still h r c)) b
     where
       on : ((r : Code) → Beside Led p r → Goal a r) → (r : Code) → Met Led i p r → Goal l r
-      on ih r (at_kept {j = j} {q = y} k c) = fed-kept i j y k l a free f (by-next j y a (sym k.alike.order ∙ o) (ih y c))
-      on ih r (at_changed {j = j} {q = y} k c) = fed-changed i j y k l a free f (by-next j y a (sym k.order ∙ o) (ih y c))
+      on ih r (at_kept {j = j} {q = y} k c) = fed-kept i j y k l a free f (by-next j y a (sym k.order ∙ o) (ih y c))
       on ih r (at_none k c) = fed-none i r k l a f (ih r c)
   still (leap {i = i} {p = p} {e = e} {l = l} {a = a} {b = d} m h g f free) q b = peel (Goal l) (past l free) (on (still h (found e.block second) (found-beside e.block beside))) b
     where
       on : Goal a (found e.block second) → (r : Code) → Met Led i p r → Goal l r
-      on ih r (at_kept {j = j} {q = y} k c) = fed-kept i j y k l d free f (by-leap j y e a d (subst (Among e) k.alike.exits m) g ih)
-      on ih r (at_changed {j = j} {q = y} k c) = fed-changed i j y k l d free f (by-leap j y e a d (subst (Among e) k.exits m) g ih)
+      on ih r (at_kept {j = j} {q = y} k c) = fed-kept i j y k l d free f (by-leap j y e a d (subst (Among e) k.exits m) g ih)
       on ih r (at_none k c) = absurd (no-exit i k e m)
   still (phi {i = i} {p = p} {e = e} {w = w} {l = l} {b = d} m n g f free) q b = peel (Goal l) (past l free) on b
     where
       on : (r : Code) → Met Led i p r → Goal l r
-      on r (at_kept {j = j} {q = y} k c) = fed-kept i j y k l d free f (inl (after_phi (subst (Among e) k.alike.exits m) n g))
-      on r (at_changed {j = j} {q = y} k c) = fed-changed i j y k l d free f (inl (after_phi (subst (Among e) k.exits m) n g))
+      on r (at_kept {j = j} {q = y} k c) = fed-kept i j y k l d free f (inl (after_phi (subst (Among e) k.exits m) n g))
       on r (at_none k c) = absurd (no-exit i k e m)
   still (store w {i = i} {p = p} {s = s} {k = n} {x = x} {l = l} o h f ns free) q b = peel (Goal l) (past l free) (on (λ r c. still h r c)) b
     where
-      behind : (j : Item) (r : Code) → IsKept Led i j → Goal (SlotLane s n x) r → Goal l (j ∷ r)
-      behind j r k (inl g) = inl (store w (sym k.alike.order ∙ o) g (feeds-alike i j k.alike l (SlotLane s n w) f) ns free)
-      behind j r k (inr d) = inr (k.closed l (SlotLane s n w) (SlotLane s n x) (stored i l s n w ns f) at_width d)
+      behind : (j : Item) (r : Code) → IsKept Led i j → Feeds j l (SlotLane s n w) ⊎ Led l → Goal (SlotLane s n x) r → Goal l (j ∷ r)
+      behind j r k (inl g) (inl y) = inl (store w (sym k.order ∙ o) y g ns free)
+      behind j r k (inl g) (inr d) = inr (k.forth.stored l s n w x ns f d)
+      behind j r k (inr d) y = inr d
 
       on : ((r : Code) → Beside Led p r → Goal (SlotLane s n x) r) → (r : Code) → Met Led i p r → Goal l r
-      on ih r (at_kept {j = j} {q = y} k c) = behind j y k (ih y c)
-      on ih r (at_changed k c) = inr (k.names l (copies (SlotLane s n w) (stored i l s n w ns f)))
+      on ih r (at_kept {j = j} {q = y} k c) = behind j y k (k.forth.fed l (SlotLane s n w) f) (ih y c)
       on ih r (at_none k c) = inr (k.names l (copies (SlotLane s n w) (stored i l s n w ns f)))
   still (kept {i = i} {p = p} {l = l} {a = a} u f free) q b = peel (Goal l) (past l free) on b
     where
+      too : (j : Item) (r : Code) → Feeds j l a ⊎ Led l → Goal l (j ∷ r)
+      too j r (inl g) = inl (kept u g free)
+      too j r (inr d) = inr d
+
       on : (r : Code) → Met Led i p r → Goal l r
-      on r (at_kept {j = j} k c) = inl (kept u (feeds-alike i j k.alike l a f) free)
-      on r (at_changed k c) = inr (k.names l (copies a (kept-copy reserved i l a free u f)))
+      on r (at_kept {j = j} {q = y} k c) = too j y (k.forth.fed l a f)
       on r (at_none k c) = inr (k.names l (copies a (kept-copy reserved i l a free u f)))
 
   -- the same at the exits of two items
@@ -294,17 +274,14 @@ module _ (reserved : Lane → Bool) (Led : Lane → Type 0) (first second : Code
 pub data Facing (Led : Lane → Type 0) : Code → Code → Type 0 where
   neither : Facing Led [] []
   at_alike : {i j : Item} {p q : Code} → is_inside i ≡ true → IsKept Led i j → Beside Led p q → Facing Led (i ∷ p) (j ∷ q)
-  at_both : {i j : Item} {p q : Code} → IsChanged Led i j → Beside Led p q → Facing Led (i ∷ p) (j ∷ q)
 
 pub facing-beside : {Led : Lane → Type 0} {p q : Code} → Facing Led p q → Beside Led p q
 facing-beside neither = none
 facing-beside (at_alike g h b) = stays g h b
-facing-beside (at_both h b) = changes h b
 
 pub facing-turned : {Led : Lane → Type 0} {p q : Code} → Facing Led p q → Facing Led q p
 facing-turned neither = neither
 facing-turned (at_alike g h b) = at_alike (sym h.inside ∙ g) (kept-turned h) (turned b)
-facing-turned (at_both h b) = at_both (changed-turned h) (turned b)
 
 module _ (reserved : Lane → Bool) (Led : Lane → Type 0) (first second : Code) (beside : Beside Led first second) (l : Lane) where
   -- at the exit of an instruction, and where the lane is live or occupied
@@ -319,8 +296,7 @@ module _ (reserved : Lane → Bool) (Led : Lane → Type 0) (first second : Code
 
   pub still-exit : {p q : Code} → Facing Led p q → ExitIn first p → ExitIn second q ⊎ Led l
   still-exit neither h = absurd h
-  still-exit (at_alike {i = i} {j = j} {p = p} {q = q} g k b) h = still-after reserved Led first second beside i j p q l k.alike.exits k.alike.order b h
-  still-exit (at_both {i = i} {j = j} {p = p} {q = q} k b) h = still-after reserved Led first second beside i j p q l k.exits k.order b h
+  still-exit (at_alike {i = i} {j = j} {p = p} {q = q} g k b) h = still-after reserved Led first second beside i j p q l k.exits k.order b h
 
   pub still-entry-held : {p q : Code} → Facing Led p q → EntryHeld first p → EntryHeld second q ⊎ Led l
   still-entry-held neither h = absurd h
@@ -330,18 +306,13 @@ module _ (reserved : Lane → Bool) (Led : Lane → Type 0) (first second : Code
       on (inl x) = inl (inl x, h.1)
       on (inr d) = inr d
 
-      go : Live reserved first (i ∷ p) l ⊎ WritingEarly i l → EntryHeld second (j ∷ q) ⊎ Led l
-      go (inl x) = on (still reserved Led first second beside x (j ∷ q) (stays g k b))
-      go (inr w) = inl (inr (w.0, subst (Among w.0) k.alike.writes w.1, w.2, w.3), h.1)
-  still-entry-held (at_both {i = i} {j = j} {p = p} {q = q} k b) h = go h.0
-    where
-      on : Live reserved second (j ∷ q) l ⊎ Led l → EntryHeld second (j ∷ q) ⊎ Led l
-      on (inl x) = inl (inl x, h.1)
-      on (inr d) = inr d
+      too : WritingEarly j l ⊎ Led l → EntryHeld second (j ∷ q) ⊎ Led l
+      too (inl w) = inl (inr w, h.1)
+      too (inr d) = inr d
 
       go : Live reserved first (i ∷ p) l ⊎ WritingEarly i l → EntryHeld second (j ∷ q) ⊎ Led l
-      go (inl x) = on (still reserved Led first second beside x (j ∷ q) (changes k b))
-      go (inr w) = inr (k.names l (writes (w.0, w.1, w.2)))
+      go (inl x) = on (still reserved Led first second beside x (j ∷ q) (stays g k b))
+      go (inr w) = too (k.forth.early l w)
 
   pub still-exit-held : {p q : Code} → Facing Led p q → ExitHeld first p → ExitHeld second q ⊎ Led l
   still-exit-held neither h = absurd h
@@ -351,15 +322,10 @@ module _ (reserved : Lane → Bool) (Led : Lane → Type 0) (first second : Code
       on (inl x) = inl (inl x, h.1)
       on (inr d) = inr d
 
-      go : LiveAfter reserved first i p l ⊎ Writing i l → ExitHeld second (j ∷ q) ⊎ Led l
-      go (inl x) = on (still-after reserved Led first second beside i j p q l k.alike.exits k.alike.order b x)
-      go (inr w) = inl (inr (w.0, subst (Among w.0) k.alike.writes w.1, w.2), h.1)
-  still-exit-held (at_both {i = i} {j = j} {p = p} {q = q} k b) h = go h.0
-    where
-      on : LiveAfter reserved second j q l ⊎ Led l → ExitHeld second (j ∷ q) ⊎ Led l
-      on (inl x) = inl (inl x, h.1)
-      on (inr d) = inr d
+      too : Writing j l ⊎ Led l → ExitHeld second (j ∷ q) ⊎ Led l
+      too (inl w) = inl (inr w, h.1)
+      too (inr d) = inr d
 
       go : LiveAfter reserved first i p l ⊎ Writing i l → ExitHeld second (j ∷ q) ⊎ Led l
       go (inl x) = on (still-after reserved Led first second beside i j p q l k.exits k.order b x)
-      go (inr w) = inr (k.names l (writes w))
+      go (inr w) = too (k.forth.written l w)

@@ -1,16 +1,18 @@
 -- Edits one after the other.
-use Rattle.std.proofs.Common.{◌∷◌, ◌∙◌, ℕ, Bool, List, [], refl, sym, subst}
+use Rattle.std.proofs.Common.{◌≡◌, ◌∷◌, ◌∙◌, ℕ, Bool, List, [], refl, sym}
+use Rattle.mir_func.specs.Value.{Function}
 use Rattle.mir_meaning.specs.Paths.{Code, Step}
 use Rattle.instr_effects.specs.Numbered.{number_in}
-use Rattle.live_lanes.specs.Doing.{lane_code}
+use Rattle.live_lanes.specs.declared.table.Table.{Table}
+use Rattle.live_lanes.specs.Doing.{IsComputed, lane_code}
 use Rattle.live_laws.proofs.Exact.Inside.{all}
 use Rattle.edit_laws.specs.Codes.{AllCodesLaw}
-use Rattle.edit_laws.specs.Edits.{edited, all_edited}
-use Rattle.edit_laws.specs.Kept.{code_in}
+use Rattle.edit_laws.specs.Edits.{Edit, edited, all_edited}
 use Rattle.edit_laws.specs.Steps.{AreAlike, IsApart, AreSteps, no_steps, step_stays, step_goes, step_comes, AreCodes}
 use Rattle.edit_laws.specs.Tables.{AllTableLaw}
 use Rattle.edit_laws.proofs.Codes.{codes-law, lane-codes}
 use Rattle.edit_laws.proofs.Edited.{Never, NeverBoth}
+use Rattle.edit_laws.proofs.Further.{classes-stay, with-lanes}
 use Rattle.edit_laws.proofs.Kept.{kept-law}
 use Rattle.edit_laws.proofs.Placed.{same-blocks}
 
@@ -55,8 +57,12 @@ all-codes-law t f [] num told keeps tells =
 all-codes-law t f (e ∷ es) num told keeps tells =
     codes-then told (lane_code t f num) (lane_code t (edited f e) num) (lane_code t (all_edited (edited f e) es) num) (codes-law t f e num told keeps.0 tells.0) (all-codes-law t (edited f e) es num told keeps.1 tells.1)
 
+all-classes-stay : (f : Function) (es : List Edit) → (all_edited f es).classes ≡ f.classes
+all-classes-stay f [] = refl
+all-classes-stay f (e ∷ es) = all-classes-stay (edited f e) es ∙ classes-stay f e
+
 pub all-table-law : AllTableLaw
-all-table-law t f es x y told keeps computed rules last lanes tells laid rows right =
-    kept-law t f (all_edited f es) x y told computed (all t f x computed rules last) laid
-    (subst (λ ls. AreCodes told (code_in t f x) (lane_code t (all_edited f es) (number_in ls))) (sym lanes) (all-codes-law t f es (number_in x.lanes) told keeps tells))
-    rows right
+all-table-law t f es x y told keeps computed rules last numbers tells laid rows right =
+    let z : Table = record x { lanes = y.lanes } in
+    let still : IsComputed t f z = with-lanes t f (all_edited f es) x y.lanes computed rules last laid.numbers (all-classes-stay f es) numbers in
+    kept-law t f (all_edited f es) z y told still (all t f z still rules last) laid (all-codes-law t f es (number_in y.lanes) told keeps tells) rows right

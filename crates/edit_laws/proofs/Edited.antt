@@ -1,4 +1,4 @@
--- An edit changes the live points of no lane but those that its instruction names and those that lead to them.
+-- An edit changes the live points of no lane but those that it concerns and those that lead to them.
 use Rattle.std.proofs.Common.{◌≡◌, ◌∷◌, ◌⊎◌, ◌∙◌, ℕ, Bool, true, false, List, [], refl, sym, ap, inl, inr}
 use Rattle.std.specs.Prelude.{nat_eq}
 use Rattle.std.proofs.lemmas.Bool.{eq-eqb, eqb-true}
@@ -18,6 +18,7 @@ use Rattle.mir_meaning.specs.Points.{Point, Start, Entry, Exit, from_instr, poin
 use Rattle.edit_laws.specs.Named.{is_one, copied}
 use Rattle.edit_laws.specs.Edits.{Edit, Put, Replace, Erase, edited, with_op, Stands, before, after, KeepsWays, is_of}
 use Rattle.edit_laws.specs.Laws.{IsSameBut, LeadsToEdit, EditedLaw, LeadingLaw, EditsLaw}
+use Rattle.edit_laws.specs.Treated.{alike_at, treat_alike}
 use Rattle.edit_laws.proofs.Beside.{Beside, Facing, IsClosed}
 use Rattle.edit_laws.proofs.Shell.{reads-same, writes-same}
 use Rattle.edit_laws.proofs.Aligned.{AreBlocks, IsFree, IsTurned, names-alike, codes-beside, places-facing}
@@ -165,19 +166,23 @@ module _ (t : Target) (f : Function) (id : ℕ) (op : OpId) (os : List Operand) 
   new-comes : (j : Instr) → NewComes j → IsFree t f NewLed j
   new-comes j z = absurd z.3
 
+  -- the blocks that they stand in make no difference
+  treated-there : (b c : Block) (i j k : Instr) → j ≡ k → (l : Lane) → treat_alike (point_item t f c i) (point_item t f c k) l ≡ treat_alike (point_item t f b i) (point_item t f b j) l
+  treated-there b c i j k e l =
+      (λ n. alike_at (reads-same t f f refl c b i n) (writes-same t f f refl c b i n) (reads-same t f f refl c b k n) (writes-same t f f refl c b k n) l)
+      ∙ ap (λ x. treat_alike (point_item t f b i) (point_item t f b x) l) (sym e)
+
   one-id : (i j : Instr) → NewBoth i j → i.id ≡ j.id
   one-id i j z = sym (ap (λ (x : Instr). x.id) z.6.1)
 
   new-both : (i j : Instr) → NewBoth i j → IsTurned t f NewLed i j
   new-both i j z =
       let stands : Stands f id z.0 i = record { block = z.2; instr = z.4; named = z.6.0 } in
-      let stands' : Stands new-in id z.1 j = record { block = z.3; instr = z.5; named = sym (one-id i j z) ∙ z.6.0 } in
       record {
         phi = (keeps z.0 i stands).0;
         phi' = ap (does is_phi t) z.6.1 ∙ (keeps z.0 i stands).1;
         terminator = (keeps z.0 i stands).2 ∙ sym (ap (does is_terminator t) z.6.1);
-        names = λ b l n. is_one (before z.0 i stands (names-alike (reads-same t f f refl b z.0 i) (writes-same t f f refl b z.0 i) n));
-        names' = λ b l n. is_one (after z.1 j stands' (names-alike (reads-same t f new-in refl b z.1 j) (writes-same t f new-in refl b z.1 j) n));
+        differ = λ b l e. is_one (z.0, i, stands, treated-there b z.0 i j (with_op op os i) z.6.1 l ∙ e);
       }
 
   new-aligned : AreBlocks NewGoes NewComes NewBoth f.blocks new-in.blocks

@@ -2,8 +2,8 @@
 use Rattle.std.proofs.Common.{◌≡◌, ◌<◌, ◌≤◌, ◌⊎◌, ℕ, ◌+◌, ◌*◌, Bool, true, false, List, [], ◌∷◌, ◌++◌, refl, sym, ap, ◌∙◌, subst, inl, inr, arith, append_assoc}
 use Rattle.slot_index.specs.Order.{number_of}
 use Rattle.mir_meaning.specs.Paths.{Among, Step, Code, steps_of, Into, use_of}
-use Rattle.live_lanes.specs.declared.row.End.{End}
-use Rattle.live_lanes.specs.declared.row.End.TheVariants as ends
+use Rattle.live_lanes.specs.declared.row.PieceEnd.{PieceEnd}
+use Rattle.live_lanes.specs.declared.row.PieceEnd.TheVariants as ends
 use Rattle.live_lanes.specs.Graph.{Causes, is_live, writes_in}
 use Rattle.live_lanes.specs.Table.{Numbers, end_rank}
 use Rattle.live_lanes.specs.Entered.{Rises, IsNumbered}
@@ -19,7 +19,7 @@ others-turned h = λ l b n o. sym (h l b n o)
 
 module _ (told : ℕ → Bool) (old new : Code) (why why' : Causes) (codes : AreCodes told old new) (others : KeepOthers told why why') where
   -- the points that count are the same
-  pub counts-new : {l b n : ℕ} {e : End} → told l ≡ false → Counts old why l b n e → Counts new why' l b n e
+  pub counts-new : {l b n : ℕ} {e : PieceEnd} → told l ≡ false → Counts old why l b n e → Counts new why' l b n e
   counts-new {l = l} {b = b} {n = n} o (reads before s rest e w u) = go (locate told (steps-turned (codes.steps b)) before s rest e)
     where
       go : Located told (steps_of new b) before s rest → Counts new why' l b n (ends.Entry s.id)
@@ -46,12 +46,12 @@ module _ (told : ℕ → Bool) (old new : Code) (why why' : Causes) (codes : Are
   counts-new {l = l} {b = b} o (phi w m) = phi (sym (same-all told (codes.steps b) l o) ∙ w) (subst (Among l) (codes.last b) m)
 
 -- a point that counts: the block's end, or the entry or the exit of an instruction that doesn't come by an edit
-data AtPoint (told : ℕ → Bool) (code : Code) (b : ℕ) : End → Type 0 where
+data AtPoint (told : ℕ → Bool) (code : Code) (b : ℕ) : PieceEnd → Type 0 where
   at_end : AtPoint told code b ends.Last
   at_entry : (before : List Step) (s : Step) (rest : List Step) → steps_of code b ≡ before ++ s ∷ rest → (IsApart told s → ⊥) → AtPoint told code b (ends.Entry s.id)
   at_exit : (before : List Step) (s : Step) (rest : List Step) → steps_of code b ≡ before ++ s ∷ rest → (IsApart told s → ⊥) → AtPoint told code b (ends.Exit s.id)
 
-point-of : (told : ℕ → Bool) {code : Code} {why : Causes} {l b n : ℕ} {e : End} → told l ≡ false → Counts code why l b n e → AtPoint told code b e
+point-of : (told : ℕ → Bool) {code : Code} {why : Causes} {l b n : ℕ} {e : PieceEnd} → told l ≡ false → Counts code why l b n e → AtPoint told code b e
 point-of told {l = l} o (reads before s rest e w u) = at_entry before s rest e (λ k. certain-apart told s l k o u)
 point-of told {l = l} o (moves a before s rest e w u live) = at_entry before s rest e (λ k. into-apart told s l a k o u)
 point-of told o (leaves x before s rest e w t m live) = at_exit before s rest e (λ k. leaves-apart told s k t)
@@ -114,7 +114,7 @@ module _ (told : ℕ → Bool) (old new : Code) (slots slots' : Numbers) (codes 
           is_more (ahead ws r z.1 s us' (g ∙ ap (λ xs. ws ++ r ∷ xs) tail) firm' firm)
 
   -- the order of points that count
-  keeps-order : (p q : End) → AtPoint told new b p → AtPoint told new b q → end_rank slots p ≤ end_rank slots q → end_rank slots' p ≤ end_rank slots' q
+  keeps-order : (p q : PieceEnd) → AtPoint told new b p → AtPoint told new b q → end_rank slots p ≤ end_rank slots q → end_rank slots' p ≤ end_rank slots' q
   keeps-order p q at_end at_end h = omega arith
   keeps-order p q (at_entry us s us' e firm) at_end h = let z = bounded' us s us' e in omega (arith, z)
   keeps-order p q (at_exit us s us' e firm) at_end h = let z = bounded' us s us' e in omega (arith, z)
@@ -146,7 +146,7 @@ module _ (told : ℕ → Bool) (old new : Code) (slots slots' : Numbers) (codes 
       go (is_more a) = absurd (omega (arith, a, h))
 
   -- each point that counts has a rank
-  has-rank : (p : End) → AtPoint told new b p → 0 < end_rank slots p
+  has-rank : (p : PieceEnd) → AtPoint told new b p → 0 < end_rank slots p
   has-rank p at_end = omega arith
   has-rank p (at_entry us s us' e firm) = let z = (held us s us' e firm).0 in omega (arith, z)
   has-rank p (at_exit us s us' e firm) = omega arith
@@ -158,7 +158,7 @@ ends-law told old new slots slots' why why' codes numbered numbered' others l b 
     counts (inl e) = inl e
     counts (inr c) = inr (counts-new told old new why why' codes others o c)
 
-    last : (p : End) → Counts new why' l b n p → (end ≡ ends.Never) ⊎ Counts old why l b n end → end_rank slots' p ≤ end_rank slots' end
+    last : (p : PieceEnd) → Counts new why' l b n p → (end ≡ ends.Never) ⊎ Counts old why l b n end → end_rank slots' p ≤ end_rank slots' end
     last p c (inl e) =
         let h = is.last p (counts-new told new old why' why (codes-turned codes) (others-turned others) o c) in
         let z = has-rank told old new slots slots' codes numbered numbered' b p (point-of told o c) in

@@ -2,7 +2,7 @@
 use Rattle.std.proofs.Common.{◌≡◌, ℕ, Bool, true, false, List, refl, sym, ap, subst}
 use Rattle.target_base.specs.declared.types.Target.{Target}
 use Rattle.mir_func.specs.Value.{Function}
-use Rattle.live_lanes.specs.declared.row.Row.{Row}
+use Rattle.live_lanes.specs.declared.row.LaneRange.{LaneRange}
 use Rattle.live_lanes.specs.declared.table.Table.{Table}
 use Rattle.live_lanes.specs.Graph.{IsGrown}
 use Rattle.live_lanes.specs.Table.{cause_in, end_in}
@@ -16,10 +16,10 @@ use Rattle.edit_laws.proofs.Grown.{grown-law}
 use Rattle.edit_laws.proofs.Ended.{ends-law}
 
 module _ (t : Target) (f g : Function) (x y : Table) (told : ℕ → Bool) (computed : IsComputed t f x) (matched : AllMatched (code_in t f x)) (laid : IsLaidOut t g y) (codes : AreCodes told (code_in t f x) (code_in t g y)) (rows : KeepRows told x y) (right : AreRightIn told (code_in t g y) y.order.slots y.rows.rows.items) where
-  abbrev old-rows : List Row
+  abbrev old-rows : List LaneRange
   old-rows = x.rows.rows.items
 
-  abbrev new-rows : List Row
+  abbrev new-rows : List LaneRange
   new-rows = y.rows.rows.items
 
   others : KeepOthers told (causes old-rows) (causes new-rows)

@@ -1,5 +1,6 @@
 pub mod Beside
 pub mod Shell
+pub mod Alike
 pub mod Aligned
 pub mod Placed
 pub mod Points
@@ -14,3 +15,6 @@ pub mod Tables
 pub mod Composed
 pub mod Chains
 pub mod Numbers
+pub mod Paired
+pub mod Walked
+pub mod Further

@@ -8,7 +8,7 @@ use Rattle.mir_func.specs.Value.{Function}
 use Rattle.mir_meaning.specs.Points.{all_points}
 use Rattle.mir_meaning.specs.Paths.{has, Code}
 use Rattle.instr_effects.specs.Numbered.{number_in, NumbersAll}
-use Rattle.live_lanes.specs.declared.row.Row.{Row}
+use Rattle.live_lanes.specs.declared.row.LaneRange.{LaneRange}
 use Rattle.live_lanes.specs.declared.table.Table.{Table}
 use Rattle.live_lanes.specs.Table.{Numbers}
 use Rattle.live_lanes.specs.Entered.{causes, rows_seen, IsTableOf}
@@ -40,7 +40,7 @@ abbrev pub KeepRows : (ℕ → Bool) → Table → Table → Type 0
 KeepRows told x y = (l b : ℕ) → told l ≡ false → rows_seen y.rows.rows.items l b ≡ rows_seen x.rows.rows.items l b
 
 -- the pieces of the lanes that the test tells are right in the table
-pub record AreRightIn (told : ℕ → Bool) (code : Code) (slots : Numbers) (rows : List Row) : Type 0 where
+pub record AreRightIn (told : ℕ → Bool) (code : Code) (slots : Numbers) (rows : List LaneRange) : Type 0 where
   pub live : AreRight told code (causes rows)
   pub ends : (l b n : ℕ) → told l ≡ true → IsEnd code slots (causes rows) l b n (row_end rows l b n)
 

@@ -7,7 +7,8 @@ use Rattle.mir_func.specs.declared.func.Instr.{Instr}
 use Rattle.mir_func.specs.Value.{Function}
 use Rattle.mir_meaning.specs.Points.{Point, Entry, Exit, LiveAt, OccupiedAt, point_item}
 use Rattle.edit_laws.specs.Named.{Leads, Names}
-use Rattle.edit_laws.specs.Edits.{Edit, edited, Stands, Touches, IsPlain, KeepsWays, comes_or_goes, all_edited}
+use Rattle.edit_laws.specs.Edits.{Edit, edited, Stands, IsPlain, KeepsWays, comes_or_goes, all_edited}
+use Rattle.edit_laws.specs.Treated.{Concerns}
 
 -- a lane is live at a point of both functions or of neither, and so is it live or occupied
 pub record IsSame (t : Target) (f g : Function) (p : Point) (l : Lane) : Type 0 where
@@ -21,11 +22,12 @@ pub record IsSameBut (t : Target) (f g : Function) (p : Point) (Led : Lane → T
   pub occupied : OccupiedAt t f p l → OccupiedAt t g p l ⊎ Led l
   pub occupied_back : OccupiedAt t g p l → OccupiedAt t f p l ⊎ Led l
 
--- a lane that leads to one which the edited instruction names
+-- a lane that leads to one which the edit concerns
 abbrev pub LeadsToEdit : Target → Function → Edit → Lane → Type 0
-LeadsToEdit t f e l = Leads t f (Touches t f e) l
+LeadsToEdit t f e l = Leads t f (Concerns t f e) l
 
--- An edit changes the live points of no lane but those that the edited instruction names and those that lead to them through copies.
+-- An edit changes the live points of no lane but those that the edited instruction reads, writes or gives to others otherwise than it
+-- did, and those that lead to them through copies. One that comes or goes is read for one that did, or does, nothing.
 abbrev pub EditedLaw : Type 0
 EditedLaw =
     (t : Target) (f : Function) (e : Edit) → KeepsWays t f e
@@ -47,7 +49,7 @@ abbrev pub Remains : Function → List Edit → Point → Type 0
 Remains f [] p = Unit {0}
 Remains f (e ∷ es) p = (comes_or_goes f e p ≡ false) × Remains (edited f e) es p
 
--- the lane leads to one that an edit of the list names, in the function as it stands then
+-- the lane leads to one that an edit of the list concerns, in the function as it stands then
 abbrev pub LeadsToSome : Target → Function → List Edit → Lane → Type 0
 LeadsToSome t f [] l = ⊥
 LeadsToSome t f (e ∷ es) l = LeadsToEdit t f e l ⊎ LeadsToSome t (edited f e) es l

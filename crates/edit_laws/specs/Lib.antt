@@ -1,5 +1,6 @@
 pub mod Named
 pub mod Edits
+pub mod Treated
 pub mod Laws
 pub mod Rows
 pub mod Steps
@@ -8,3 +9,4 @@ pub mod Codes
 pub mod Tables
 pub mod Chains
 pub mod Numbers
+pub mod Further

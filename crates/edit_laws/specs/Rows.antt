@@ -72,8 +72,21 @@ put_copy = Put (record { block = 0; before = Some 3 }) (op_number COPY) (def 3 �
 abbrev pub store_other : Edit
 store_other = Replace 3 (op_number STORE32mr) (store 3)
 
+abbrev pub answer : ℕ → List Operand
+answer v = operands.Reg (record eax { def = true }) ∷ val v ∷ []
+
 abbrev pub answer_other : Edit
-answer_other = Replace 4 (op_number COPY) (operands.Reg (record eax { def = true }) ∷ val 2 ∷ [])
+answer_other = Replace 4 (op_number COPY) (answer 2)
+
+-- at the address in %2 a register is stored, and then another
+abbrev pub store_at : ℕ → List Operand
+store_at v = val 2 ∷ operands.Imm (pos 0) ∷ val v ∷ []
+
+abbrev pub based : Function
+based = function 6 (head ++ (instr 3 STORE32mr (store_at 0) ∷ tail 1))
+
+abbrev pub value_other : Edit
+value_other = Replace 3 (op_number STORE32mr) (store_at 3)
 
 -- what the edits make of the function
 abbrev pub EditsMake : Type 0
@@ -97,3 +110,10 @@ AnswerChanges =
     × LeadsToEdit mini_target sample answer_other (VirtualLane 0 0)
     × LeadsToEdit mini_target sample answer_other (VirtualLane 2 0)
     × (LeadsToEdit mini_target sample answer_other (VirtualLane 3 0) → ⊥)
+
+-- where another register is stored, both lead there, but not the address, which is read as it was
+abbrev pub ValueChanges : Type 0
+ValueChanges =
+    LeadsToEdit mini_target based value_other (VirtualLane 0 0)
+    × LeadsToEdit mini_target based value_other (VirtualLane 3 0)
+    × (LeadsToEdit mini_target based value_other (VirtualLane 2 0) → ⊥)

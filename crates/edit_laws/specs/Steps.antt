@@ -1,7 +1,7 @@
 -- What instructions do to lanes that go by numbers, before and after edits, and which pieces of lanes are right.
 use Rattle.std.specs.Prelude.{◌≡◌, ℕ, Bool, true, false, List, [], ◌∷◌, ◌++◌}
 use Rattle.mir_meaning.specs.Paths.{Among, Step, Code, steps_of, last_of, exits_of, Unused, Certain, Into, use_of, is_written}
-use Rattle.live_lanes.specs.declared.row.End.{End}
+use Rattle.live_lanes.specs.declared.row.PieceEnd.{PieceEnd}
 use Rattle.live_lanes.specs.Graph.{Causes, is_live, writes_in, Founded, IsGrown}
 use Rattle.live_lanes.specs.Table.{Numbers}
 use Rattle.live_lanes.specs.Entered.{IsNumbered}
@@ -57,4 +57,4 @@ GrownLaw = (told : ℕ → Bool) (old new : Code) (why why' : Causes) → AreCod
 abbrev pub EndsLaw : Type 0
 EndsLaw =
     (told : ℕ → Bool) (old new : Code) (slots slots' : Numbers) (why why' : Causes) → AreCodes told old new → IsNumbered old slots → IsNumbered new slots' → KeepOthers told why why'
-    → (l b n : ℕ) → told l ≡ false → (end : End) → IsEnd old slots why l b n end → IsEnd new slots' why' l b n end
+    → (l b n : ℕ) → told l ≡ false → (end : PieceEnd) → IsEnd old slots why l b n end → IsEnd new slots' why' l b n end

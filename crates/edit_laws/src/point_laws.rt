@@ -1,10 +1,10 @@
 //! Laws of the points of functions before and after edits.
 
 ghost use Rattle.edit_laws.specs.Laws.{EditedLaw, EditsLaw, LeadingLaw, PassingLaw};
-ghost use Rattle.edit_laws.specs.Rows.{AnswerChanges, EditsMake, StoreGoes};
+ghost use Rattle.edit_laws.specs.Rows.{AnswerChanges, EditsMake, StoreGoes, ValueChanges};
 
-/// An edit changes the live points of no lane but those that the edited instruction names and those
-/// that lead to them through copies.
+/// An edit changes the live points of no lane but those that it concerns, which the edited instruction
+/// reads, writes or gives to others otherwise than it did, and those that lead to them through copies.
 pub fn edited_law()
     ensures { EditedLaw }
 {}
@@ -30,4 +30,5 @@ pub fn rows()
     ensures edits_make { EditsMake }
     ensures store_goes { StoreGoes }
     ensures answer_changes { AnswerChanges }
+    ensures value_changes { ValueChanges }
 {}

@@ -2,6 +2,7 @@
 //! the whole table is.
 
 ghost use Rattle.edit_laws.specs.Codes.{AllCodesLaw, CodesLaw};
+ghost use Rattle.edit_laws.specs.Further.{DoesSameLaw, FurtherLanesLaw, FurtherRangesLaw, NumbersGrow};
 ghost use Rattle.edit_laws.specs.Kept.{KeptLaw};
 ghost use Rattle.edit_laws.specs.Numbers.{NumbersLaw};
 ghost use Rattle.edit_laws.specs.Steps.{EndsLaw, GrownLaw};
@@ -47,4 +48,24 @@ pub fn all_table_law()
 /// A computed table stays so where more lanes get numbers, by which instructions do what they did.
 pub fn numbers_law()
     ensures { NumbersLaw }
+{}
+
+/// Where lanes keep their numbers while others get some, instructions do by them what they did.
+pub fn does_same_law()
+    ensures { DoesSameLaw }
+{}
+
+/// So a computed table stays so where further lanes get numbers.
+pub fn further_lanes_law()
+    ensures { FurtherLanesLaw }
+{}
+
+/// It is one of a function with further classes where the lanes of their ranges get numbers.
+pub fn further_ranges_law()
+    ensures { FurtherRangesLaw }
+{}
+
+/// Worked rows: numbers that lanes keep.
+pub fn rows()
+    ensures { NumbersGrow }
 {}

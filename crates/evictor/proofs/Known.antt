@@ -7,7 +7,7 @@ use Rattle.std.proofs.lemmas.Bool.Decides.{nat_tests}
 use Rattle.target_base.specs.declared.types.Reg.{Reg}
 use Rattle.interference.specs.declared.matrix.Matrix.{Matrix}
 use Rattle.interference.specs.Clashes.{IsOrdered, Points, holds, touches, is_taken_at, points_in, is_in_way}
-use Rattle.interference.specs.declared.held.Held.{Held}
+use Rattle.interference.specs.declared.held.RangeExtent.{RangeExtent}
 use Rattle.evictor.proofs.Tops.{and_parts}
 
 above : (n r : ℕ) → nat_le n r ≡ false → r < n
@@ -37,5 +37,5 @@ some_known range hold g n w all (p ∷ ps) t = go (or_cases (list_any (λ h. nat
 pub way_known : (m : Matrix) (v w : ℕ) (p : Reg) → IsOrdered m → is_in_way m v p w ≡ true → w < length m.live.func.classes
 way_known m v w p o h =
     let taken = and_parts (not (nat_eq w v)) (list_any (is_taken_at m w) (points_in m v p)) h in
-    let less = some_known (λ (x : Held). x.range) (λ (s : Points). holds m s.unit s.block) (λ (s : Points). touches m.live.table.order.slots s.at) (length m.registers.items) w (λ s. o.known s.unit s.block) (points_in m v p) taken.1 in
+    let less = some_known (λ (x : RangeExtent). x.range) (λ (s : Points). holds m s.unit s.block) (λ (s : Points). touches m.live.table.order.slots s.at) (length m.registers.items) w (λ s. o.known s.unit s.block) (points_in m v p) taken.1 in
     omega (arith, o.registers)

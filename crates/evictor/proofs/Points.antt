@@ -8,7 +8,7 @@ use Rattle.std.proofs.lemmas.List.{length-map}
 use Rattle.std.proofs.lemmas.List.Sums.{sum_by_more, sum_by-cons}
 use Rattle.mir_func.specs.declared.func.Instr.{Instr}
 use Rattle.mir_func.specs.declared.func.Block.{Block}
-use Rattle.instr_effects.specs.declared.row.Lanes.{Lanes}
+use Rattle.instr_effects.specs.declared.row.LaneSpan.{LaneSpan}
 use Rattle.live_lanes.specs.declared.table.Table.{Table}
 use Rattle.live_lanes.specs.Table.{Numbers, entry_rank, exit_rank}
 use Rattle.live_lanes.specs.Ordered.{ids_of}
@@ -60,7 +60,7 @@ all_most f (h ∷ bs) le =
 pub range_most : (x : Table) (bs : List Block) (v : ℕ) → range_held x bs v ≤ points_in bs
 range_most x bs v = go (slice_get x.lanes.ranges.items v)
   where
-    go : (q : Option Lanes) → lanes_held x bs q ≤ points_in bs
+    go : (q : Option LaneSpan) → lanes_held x bs q ≤ points_in bs
     go None = omega arith
     go (Some own) = all_most (block_held x bs own.first own.count) bs (block_most x bs own.first own.count)
 

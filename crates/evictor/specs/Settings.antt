@@ -8,7 +8,7 @@ use Rattle.live_lanes.specs.declared.table.Table.{Table}
 use Rattle.interference.specs.declared.matrix.Matrix.{Matrix}
 use Rattle.evictor.specs.declared.ranks.Ranks.{Ranks}
 use Rattle.evictor.specs.declared.choice.Eviction.{Eviction}
-use Rattle.evictor.specs.declared.choice.Weighed.{Weighed}
+use Rattle.evictor.specs.declared.choice.RangeWeight.{RangeWeight}
 use Rattle.live_lanes.specs.Held.{range_held}
 use Rattle.live_lanes.specs.Looks.{InOrder}
 use Rattle.interference.specs.Clashes.{is_fixed, is_in_way}
@@ -50,11 +50,11 @@ pub record Weighs (x : Table) (f : Function) (freqs : List ℕ) (sums : List (Op
   pub known : (w : ℕ) → IfSome (known_uses sums w) (IsUseSum f.blocks freqs w)
 
 -- a range with its weight
-abbrev pub weighed : ℕ → ℕ → Weighed
+abbrev pub weighed : ℕ → ℕ → RangeWeight
 weighed w n = record { range = w; weight = n }
 
 -- that is the weight of the range
-abbrev pub IsWeighed : Matrix → List ℕ → Weighed → Type 0
+abbrev pub IsWeighed : Matrix → List ℕ → RangeWeight → Type 0
 IsWeighed m freqs k = k.weight ≡ weight_in m freqs k.range
 
 -- the weight that those in the way must have less of; none where the range is a tiny

@@ -33,7 +33,7 @@ pub fn first_free(m: &Matrix, v: u32, found: &[Reg]) -> Option<Reg>
 
 /// What an eviction for a range is asked by.
 #[derive(Clone, Copy)]
-pub struct View<'a> {
+pub struct EvictionQuery<'a> {
     /// The allocator of memory.
     pub alloc: Global,
     /// The function with what is live in it, and what the assigned ranges hold.
@@ -52,18 +52,18 @@ pub struct View<'a> {
 
 /// A range and its weight, which was found before.
 #[derive(Clone, Copy)]
-struct Weighed {
+struct RangeWeight {
     range: u32,
     weight: u128,
 }
 
 /// What is known of the ranges in the way in a register when one of them was looked at.
 #[derive(Clone, Copy)]
-struct Way {
+struct EvictionCheck {
     /// Whether it may not lose its register.
     is_kept: bool,
     /// Its weight, where that was found and it may.
-    known: Option<Weighed>,
+    known: Option<RangeWeight>,
 }
 
 /// A register and the ranges in the way there.
@@ -120,7 +120,7 @@ fn answer_of(best: Option<Eviction>) -> Option<(Reg, Numbers)>
 }
 
 /// Whether a range in the way may lose its register, but for its weight.
-fn may_lose(view: View<'_>, w: u32) -> bool
+fn may_lose(view: EvictionQuery<'_>, w: u32) -> bool
     ensures { result ≡ (not (is_tiny (ranking_of view.entry.ranks.now) w) && nat_lt (cascade (ranking_of view.entry.ranks.now) w) view.entry.number) }
 {
     !view.ranks.is_tiny(w) && view.ranks.cascade(w) < view.number
@@ -128,7 +128,7 @@ fn may_lose(view: View<'_>, w: u32) -> bool
 
 /// Whether all ranges in the way may lose their registers, but for their weights.
 #[tactic(auto, using(crate::proofs::Evicted::alls))]
-fn all_may_lose(view: View<'_>, victims: &[u32]) -> bool
+fn all_may_lose(view: EvictionQuery<'_>, victims: &[u32]) -> bool
     ensures { result ≡ list_all (λ w. not (is_tiny (ranking_of view.entry.ranks.now) w) && nat_lt (cascade (ranking_of view.entry.ranks.now) w) view.entry.number) victims.now }
 {
     'victims: for w in victims {
@@ -150,7 +150,7 @@ fn is_within(limit: Option<u128>, weight: u128) -> bool
 }
 
 /// The weight of a range.
-fn weight_of(view: View<'_>, w: u32) -> Result<u128, AllocError>
+fn weight_of(view: EvictionQuery<'_>, w: u32) -> Result<u128, AllocError>
     ensures { IfOk result (λ own. Weighs view.entry.m.now.live.table view.entry.m.now.live.func view.entry.freqs.now view.entry.ranks.now.uses → own ≡ weight_in view.entry.m.now view.entry.freqs.now w) }
 {
     let known = view.ranks.known_uses(w);
@@ -159,7 +159,11 @@ fn weight_of(view: View<'_>, w: u32) -> Result<u128, AllocError>
 }
 
 /// The same, which may be known.
-fn weight_or(view: View<'_>, w: u32, known: Option<Weighed>) -> Result<u128, AllocError>
+fn weight_or(
+    view: EvictionQuery<'_>,
+    w: u32,
+    known: Option<RangeWeight>,
+) -> Result<u128, AllocError>
     ensures { IfOk result (λ own. Weighs view.entry.m.now.live.table view.entry.m.now.live.func view.entry.freqs.now view.entry.ranks.now.uses
         → IfSome known (IsWeighed view.entry.m.now view.entry.freqs.now) → own ≡ weight_in view.entry.m.now view.entry.freqs.now w) }
 {
@@ -176,9 +180,9 @@ fn weight_or(view: View<'_>, w: u32, known: Option<Weighed>) -> Result<u128, All
 /// heavy.
 #[tactic(auto, using(crate::proofs::Evicted::costs))]
 fn cost_of(
-    view: View<'_>,
+    view: EvictionQuery<'_>,
     victims: &[u32],
-    known: Option<Weighed>,
+    known: Option<RangeWeight>,
 ) -> Result<Option<u128>, AllocError>
     ensures { IfOk result (λ cost. Weighs view.entry.m.now.live.table view.entry.m.now.live.func view.entry.freqs.now view.entry.ranks.now.uses
         → IfSome known (IsWeighed view.entry.m.now view.entry.freqs.now) → cost ≡ cost_within view.entry.weight (map (weight_in view.entry.m.now view.entry.freqs.now) victims.now)) }
@@ -195,7 +199,7 @@ fn cost_of(
 }
 
 /// The eviction of these ranges at a cost, if there is one.
-fn evicted(r: Reg, victims: Numbers, cost: Option<u128>) -> Option<Eviction>
+fn eviction_of(r: Reg, victims: Numbers, cost: Option<u128>) -> Option<Eviction>
     ensures { result ≡ option_map (eviction_of r victims) cost }
 {
     match cost {
@@ -209,11 +213,11 @@ fn evicted(r: Reg, victims: Numbers, cost: Option<u128>) -> Option<Eviction>
 }
 
 /// The eviction of these ranges, which are those in the way in a register, where they may be evicted.
-fn evicting(
-    view: View<'_>,
+fn try_eviction(
+    view: EvictionQuery<'_>,
     r: Reg,
     victims: Numbers,
-    known: Option<Weighed>,
+    known: Option<RangeWeight>,
 ) -> Result<Option<Eviction>, AllocError>
     ensures { IfOk result (λ found. Weighs view.entry.m.now.live.table view.entry.m.now.live.func view.entry.freqs.now view.entry.ranks.now.uses
         → IfSome known (IsWeighed view.entry.m.now view.entry.freqs.now)
@@ -227,12 +231,12 @@ fn evicting(
         return Ok(None);
     }
     let cost = cost_of(view, victims.as_slice(), known)?;
-    Ok(evicted(r, victims, cost))
+    Ok(eviction_of(r, victims, cost))
 }
 
 /// Whether the use sum of a range in the way alone says that it is too heavy, whatever points it has:
 /// these take longer to count.
-fn is_too_heavy(view: View<'_>, w: u32) -> bool
+fn is_too_heavy(view: EvictionQuery<'_>, w: u32) -> bool
     ensures { result ≡ true → Weighs view.entry.m.now.live.table view.entry.m.now.live.func view.entry.freqs.now view.entry.ranks.now.uses
         → is_within view.entry.weight (weight_in view.entry.m.now view.entry.freqs.now w) ≡ false }
 {
@@ -243,7 +247,7 @@ fn is_too_heavy(view: View<'_>, w: u32) -> bool
 }
 
 /// The weight of a range in the way, where it may lose its register.
-fn lost_weight(view: View<'_>, w: u32) -> Result<Option<u128>, AllocError>
+fn lost_weight(view: EvictionQuery<'_>, w: u32) -> Result<Option<u128>, AllocError>
     ensures keeps { IfOk result (λ own. Weighs view.entry.m.now.live.table view.entry.m.now.live.func view.entry.freqs.now view.entry.ranks.now.uses
         → view.entry.number ≡ number (ranking_of view.entry.ranks.now) view.entry.range
         → view.entry.weight ≡ limit (setting_of view.entry.m.now view.entry.freqs.now view.entry.ranks.now view.entry.range)
@@ -265,25 +269,25 @@ fn lost_weight(view: View<'_>, w: u32) -> Result<Option<u128>, AllocError>
 }
 
 /// What is known of a range in the way that may lose its register at this weight, or may not.
-fn way_of(range: u32, lost: Option<u128>) -> Way
+fn way_of(range: u32, lost: Option<u128>) -> EvictionCheck
     ensures kept { result.is_kept ≡ is_none lost }
     ensures known { result.known ≡ option_map (weighed range) lost }
 {
     match lost {
-        None => Way {
+        None => EvictionCheck {
             is_kept: true,
             known: None,
         },
-        Some(weight) => Way {
+        Some(weight) => EvictionCheck {
             is_kept: false,
-            known: Some(Weighed { range, weight }),
+            known: Some(RangeWeight { range, weight }),
         },
     }
 }
 
 /// What is known of the range in the way that is found first. That it may not lose its register
 /// mostly settles it, before all those in the way are found.
-fn look(view: View<'_>, r: Reg) -> Result<Way, AllocError>
+fn look(view: EvictionQuery<'_>, r: Reg) -> Result<EvictionCheck, AllocError>
     ensures kept { IfOk result (λ way. IsOrdered view.entry.m.now → Weighs view.entry.m.now.live.table view.entry.m.now.live.func view.entry.freqs.now view.entry.ranks.now.uses
         → view.entry.number ≡ number (ranking_of view.entry.ranks.now) view.entry.range
         → view.entry.weight ≡ limit (setting_of view.entry.m.now view.entry.freqs.now view.entry.ranks.now view.entry.range)
@@ -292,7 +296,7 @@ fn look(view: View<'_>, r: Reg) -> Result<Way, AllocError>
         → IfSome way.known (IsWeighed view.entry.m.now view.entry.freqs.now)) }
 {
     match view.m.some_clasher(view.range, r) {
-        None => Ok(Way {
+        None => Ok(EvictionCheck {
             is_kept: false,
             known: None,
         }),
@@ -304,7 +308,7 @@ fn look(view: View<'_>, r: Reg) -> Result<Way, AllocError>
 }
 
 /// The eviction that gives the range a register, where it may take it.
-pub fn eviction_at(view: View<'_>, r: Reg) -> Result<Option<Eviction>, AllocError>
+pub fn eviction_at(view: EvictionQuery<'_>, r: Reg) -> Result<Option<Eviction>, AllocError>
     ensures { IfOk result (λ found. IsOrdered view.entry.m.now → Weighs view.entry.m.now.live.table view.entry.m.now.live.func view.entry.freqs.now view.entry.ranks.now.uses
         → view.entry.number ≡ number (ranking_of view.entry.ranks.now) view.entry.range
         → view.entry.weight ≡ limit (setting_of view.entry.m.now view.entry.freqs.now view.entry.ranks.now view.entry.range)
@@ -317,7 +321,7 @@ pub fn eviction_at(view: View<'_>, r: Reg) -> Result<Option<Eviction>, AllocErro
     match view.m.clashers(view.range, r)? {
         Clash::Fixed => Ok(None),
         Clash::Ranges(victims) => {
-            let found = evicting(view, r, victims, way.known)?;
+            let found = try_eviction(view, r, victims, way.known)?;
             Ok(found)
         }
     }
@@ -347,14 +351,14 @@ pub fn view_of<'a>(
     v: u32,
     freqs: &'a Freqs,
     ranks: &'a Ranks,
-) -> Result<View<'a>, AllocError>
+) -> Result<EvictionQuery<'a>, AllocError>
     ensures given { IfOk result (λ view. (view.m.now ≡ m.now) × (view.freqs.now ≡ freqs.now) × (view.ranks.now ≡ ranks.now) × (view.range ≡ v)) }
     ensures number { IfOk result (λ view. ranks.now.greatest + 1 < 2 ^ 32 → view.number ≡ number (ranking_of ranks.now) v) }
     ensures weight { IfOk result (λ view. Weighs m.now.live.table m.now.live.func freqs.now ranks.now.uses → view.weight ≡ limit (setting_of m.now freqs.now ranks.now v)) }
 {
     let number = ranks.number(v);
     let weight = limit(alloc, m, v, freqs, ranks)?;
-    Ok(View {
+    Ok(EvictionQuery {
         alloc,
         m,
         freqs,

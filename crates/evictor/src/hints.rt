@@ -91,7 +91,7 @@ fn if_candidate(m: &Matrix, v: u32, found: Option<Reg>) -> Option<Reg>
 }
 
 /// The register that an instruction hints at for a range, if it is a copy that does.
-fn hinted(m: &Matrix, v: u32, instr: &Instr) -> Option<Reg>
+fn hint_of_copy(m: &Matrix, v: u32, instr: &Instr) -> Option<Reg>
     ensures { result ≡ hinted m.now.live.target m.now.live.func (assignment_of m.now) v instr.now }
 {
     if !is_copy(m.live().target(), instr) {
@@ -111,7 +111,7 @@ fn hint_at(m: &Matrix, v: u32, id: u32, freqs: &Freqs) -> Option<(u64, Reg)>
     let live = m.live();
     match live.instr(id) {
         None => None,
-        Some(instr) => match hinted(m, v, instr) {
+        Some(instr) => match hint_of_copy(m, v, instr) {
             None => None,
             Some(r) => Some((frequency_at(freqs, live.position_of(id)), r)),
         },
@@ -188,7 +188,7 @@ fn push_other(
 }
 
 /// The list of a register, if there is one.
-fn listed(alloc: Global, first: Option<Reg>) -> Result<Vec<Reg>, AllocError>
+fn list_of(alloc: Global, first: Option<Reg>) -> Result<Vec<Reg>, AllocError>
     ensures { IfOk result (λ found. found.items ≡ option_to_list first) }
 {
     let mut found = Vec::new(alloc);
@@ -208,7 +208,7 @@ pub fn candidates(alloc: Global, m: &Matrix, v: u32, freqs: &Freqs) -> Result<Ve
 {
     let live = m.live();
     let first = hint(alloc, m, v, freqs)?;
-    let mut found = listed(alloc, first)?;
+    let mut found = list_of(alloc, first)?;
     'regs: for r in own_regs(live, v) {
         push_other(&mut found, live.target(), first, *r)?;
     }

@@ -6,7 +6,9 @@ mod hints;
 pub mod ranks;
 pub mod weights;
 
-pub use choice::{Eviction, View, cheapest, cheapest_of, eviction_at, first_free, view_of};
+pub use choice::{
+    Eviction, EvictionQuery, cheapest, cheapest_of, eviction_at, first_free, view_of,
+};
 pub use hints::candidates;
 pub use ranks::{Ranks, Stage, Stages, UseSums};
 pub use weights::{use_sum, weight, weight_by};

@@ -1,8 +1,13 @@
--- How often the steps of a run spill ranges and place tinies.
-use Rattle.std.specs.Prelude.{ℕ, Bool, true, false, ◌≤◌, nat_eq, List, [], ◌∷◌, flat_map, length, count_by}
-use Rattle.std.specs.List.{IsDistinct}
+-- How often the steps behind the beginning of a run begin another one, spill ranges and place tinies.
+use Rattle.std.specs.Prelude.{◌≡◌, ℕ, Bool, true, false, ◌≤◌, nat_eq, List, [], ◌∷◌, flat_map, length, count_by}
+use Rattle.std.specs.List.{list_any, IsDistinct}
 use Rattle.watchers.specs.declared.steps.Step.{Step}
 use Rattle.watchers.specs.declared.steps.Step.TheVariants as steps
+
+-- the step begins a run
+abbrev pub is_begin : Step → Bool
+is_begin (steps.Begin number) = true
+is_begin _ = false
 
 -- the range that a step spills
 abbrev pub spilled_by : Step → List ℕ
@@ -19,7 +24,8 @@ abbrev pub is_place : Step → Bool
 is_place (steps.Place choices) = true
 is_place _ = false
 
--- Each range is spilled at most once, and tinies are placed at most as often as there are tinies.
+-- None begins a run, each range is spilled at most once, and tinies are placed at most as often as there are tinies.
 pub record AreBounded (es : List Step) : Type 0 where
+  pub behind : list_any is_begin es ≡ false
   pub once : IsDistinct nat_eq (flat_map spilled_by es)
   pub few : count_by is_place es ≤ length (flat_map tinies_of es)

@@ -2,7 +2,7 @@
 
 use crate::run::{Policy, Run};
 use live_lanes::Labels;
-use spiller::RunStop;
+use spiller::{MOST_RANGES, RunStop};
 use split_choose::{cut_region_over, local, per_block, region_over};
 use split_kit::split;
 use std::alloc::AllocError;
@@ -11,9 +11,6 @@ use watchers::{Kind, Step};
 
 /// How often a range may come from a split before it isn't split any more.
 const MOST_DEPTH: u32 = 3;
-
-/// The most range numbers that are given for one function.
-const MOST_RANGES: usize = 1_048_576;
 
 /// A split that is offered.
 #[derive(Drop)]

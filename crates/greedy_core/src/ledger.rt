@@ -12,26 +12,27 @@ use watchers::{Step, Steps};
 
 /// What is kept of the steps that were done.
 #[derive(Drop)]
-pub(crate) struct Ledger {
+pub(crate) struct StepBudget {
     /// The ranges that were spilled.
     spilled: BTreeSet<u32>,
     /// The tinies that were made, less the steps that placed some.
     spare: u64,
 }
 
-impl Ledger {
+impl StepBudget {
     /// No step was done.
-    pub fn new(alloc: Global) -> Ledger
+    pub fn new(alloc: Global) -> StepBudget
         ensures { Records result [] }
     {
-        Ledger {
+        StepBudget {
             spilled: BTreeSet::new(alloc),
             spare: 0,
         }
     }
 
-    /// Puts steps behind those that were done. Unfinished comes where one of them spills a range that
-    /// was spilled before, or where tinies were placed as often as there are tinies.
+    /// Puts steps behind those that were done. Unfinished comes where one of them begins a run, where
+    /// one spills a range that was spilled before, or where tinies were placed as often as there are
+    /// tinies.
     pub fn enter_all(&mut self, steps: &Steps) -> Result<(), RunStop>
         ensures { OnOk result ((done : List Step) → Records self.old done → Records self.new (done ++ steps.now)) }
     {
@@ -46,6 +47,8 @@ impl Ledger {
         ensures { OnOk result ((done : List Step) → Records self.old done → Records self.new (done ++ step.now ∷ [])) }
     {
         match step {
+            // a run begins once, before its first step
+            Step::Begin(_) => Err(RunStop::Unfinished),
             Step::Spill(v, tinies) => self.enter_spill(*v, tinies.len()),
             Step::Place(_) => self.enter_place(),
             _ => Ok(()),

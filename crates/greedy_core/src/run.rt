@@ -5,7 +5,7 @@ ghost use Rattle.watchers.specs.declared.steps.Step.{Step};
 ghost use Rattle.watchers.specs.Told.{AllTold, PartTold};
 ghost use Rattle.greedy_core.specs.Bounds.{AreBounded};
 
-use crate::ledger::Ledger;
+use crate::ledger::StepBudget;
 use crate::queue::Queue;
 use block_freq::Freqs;
 use evictor::{Ranks, Stage, Stages, UseSums, use_sum};
@@ -55,9 +55,9 @@ pub(crate) struct Run {
 /// Runs the allocator over a function from its first state to the one in which no range waits.
 /// Each watcher is told every step, in order, from the beginning of the run over the function of
 /// this number. Ranges comes where a step gives more range numbers than the limit allows. After a
-/// refusal each watcher was told a first part of the steps. Each range is spilled at most once, and
-/// tinies are placed at most as often as there are tinies: Unfinished would come before a step that
-/// breaks this.
+/// refusal each watcher was told a first part of the steps. Behind the beginning no run begins, each
+/// range is spilled at most once, and tinies are placed at most as often as there are tinies:
+/// Unfinished would come before a step that breaks this.
 pub fn allocate<W: Watcher>(
     alloc: Global,
     target: &Target,
@@ -67,16 +67,15 @@ pub fn allocate<W: Watcher>(
     number: u32,
     watchers: &mut Vec<W>,
 ) -> Result<Allocated, RunStop>
-    ensures told { OnOk result ((steps : List Step) × AllTold (W.next target.now) (Step.Begin number ∷ steps) watchers.old.items watchers.new.items) }
-    ensures bounds { OnOk result ((steps : List Step) × AllTold (W.next target.now) (Step.Begin number ∷ steps) watchers.old.items watchers.new.items × AreBounded steps) }
+    ensures told { OnOk result ((steps : List Step) × AllTold (W.next target.now) (Step.Begin number ∷ steps) watchers.old.items watchers.new.items × AreBounded steps) }
     ensures part { OnErr result ((steps : List Step) × PartTold (W.next target.now) steps watchers.old.items watchers.new.items) }
 {
     let mut run = Run::new(alloc, policy, f, freqs)?;
-    let mut ledger = Ledger::new(alloc);
+    let mut ledger = StepBudget::new(alloc);
     tell_all(watchers, target, &Step::Begin(number))?;
     'steps: for _ in 0..u64::MAX {
         let Some(v) = run.queue.pop() else {
-            return Ok(run.finished());
+            return Ok(run.into_allocated());
         };
         run.step(target, v, &mut ledger, watchers)?;
     }
@@ -105,7 +104,7 @@ fn mark_block(block: &Block, named: &mut Vec<bool>) {
 }
 
 /// Whether each range is named by an operand.
-fn named(alloc: Global, f: &Func) -> Result<Vec<bool>, AllocError> {
+fn named_ranges(alloc: Global, f: &Func) -> Result<Vec<bool>, AllocError> {
     let mut named = Vec::from_elem(alloc, false, f.classes.len())?;
     'blocks: for block in f.blocks.as_slice() {
         mark_block(block, &mut named);
@@ -115,7 +114,7 @@ fn named(alloc: Global, f: &Func) -> Result<Vec<bool>, AllocError> {
 
 impl Run {
     fn new(alloc: Global, policy: Policy, f: LiveFunc, freqs: &Freqs) -> Result<Run, AllocError> {
-        let named = named(alloc, f.func())?;
+        let named = named_ranges(alloc, f.func())?;
         let mut run = Run::empty(alloc, policy, f, freqs)?;
         run.add_ranges()?;
         run.enqueue_named(named.as_slice())?;
@@ -158,7 +157,7 @@ impl Run {
         Ok(())
     }
 
-    fn finished(self) -> Allocated {
+    fn into_allocated(self) -> Allocated {
         let Run { matrix, slots, .. } = self;
         Allocated { matrix, slots }
     }

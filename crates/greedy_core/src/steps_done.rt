@@ -5,7 +5,7 @@ ghost use Rattle.watchers.specs.declared.steps.Step.{Step};
 ghost use Rattle.watchers.specs.Told.{AllTold, PartTold};
 ghost use Rattle.greedy_core.specs.Ledgers.{Records};
 
-use crate::ledger::Ledger;
+use crate::ledger::StepBudget;
 use crate::run::{Policy, Run};
 use evictor::{Stage, candidates, cheapest_of, first_free};
 use interference::{Clash, Tinies, Tiny};
@@ -22,7 +22,7 @@ impl Run {
         &mut self,
         target: &Target,
         v: u32,
-        ledger: &mut Ledger,
+        ledger: &mut StepBudget,
         watchers: &mut Vec<W>,
     ) -> Result<(), RunStop>
         ensures told { OnOk result ((steps : List Step) × AllTold (W.next target.now) steps watchers.old.items watchers.new.items

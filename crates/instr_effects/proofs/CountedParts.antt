@@ -17,7 +17,7 @@ use Rattle.mir_meaning.specs.Registers.{numbers, operand_lanes, undefined_lanes}
 use Rattle.mir_meaning.specs.Items.{pick, preserves, implicit_definitions}
 use Rattle.instr_effects.specs.declared.owner.Owner.{Owner}
 use Rattle.instr_effects.specs.declared.owner.Owner.TheVariants as owners
-use Rattle.mir_meaning.specs.declared.writing.Writing.{Writing}
+use Rattle.mir_meaning.specs.declared.writing.LaneDef.{LaneDef}
 use Rattle.instr_effects.specs.Owners.{owner_of, operand_owners}
 use Rattle.instr_effects.specs.Acts.{plain, acts_of, result_acts, is_call, unpreserved, call_writes, counted_acts, use_owners, flag_owners, takes_some, tested_role, explicit_uses, implicit_uses, implicit_owners, counted_owners}
 use Rattle.instr_effects.specs.Steps.{Numbering, act_writing, act_writings, act_reading, act_readings}
@@ -80,11 +80,11 @@ module _ (t : Target) (num : Numbering) (os : List Operand) where
   clobbered [] = refl
   clobbered (n ∷ ns) = go (list_any (preserves t n) os) (clobbered ns)
     where
-      one : (m : Option ℕ) (xs ys : List Writing) → xs ≡ ys → one_writing false m ++ xs ≡ cons_option (elim m [ None ↦ None | Some k ↦ Some (record { lane = k; from = None; early = false }) ]) ys
+      one : (m : Option ℕ) (xs ys : List LaneDef) → xs ≡ ys → one_writing false m ++ xs ≡ cons_option (elim m [ None ↦ None | Some k ↦ Some (record { lane = k; from = None; early = false }) ]) ys
       one None xs ys h = h
       one (Some k) xs ys h = ap (λ x. record { lane = k; from = None; early = false } ∷ x) h
 
-      rest : List Writing
+      rest : List LaneDef
       rest = act_writings num (map (λ u. plain false (owners.Unit u)) (filter (λ u. not (list_any (preserves t u) os)) ns))
 
       go : (b : Bool) → flat_map (unit_clobbered t num os) ns ≡ act_writings num (map (λ u. plain false (owners.Unit u)) (filter (λ u. not (list_any (preserves t u) os)) ns)) → cond b [] (one_writing false (num (owners.Unit n))) ++ flat_map (unit_clobbered t num os) ns ≡ act_writings num (map (λ u. plain false (owners.Unit u)) (cond (not b) (n ∷ filter (λ u. not (list_any (preserves t u) os)) ns) (filter (λ u. not (list_any (preserves t u) os)) ns)))
@@ -116,10 +116,10 @@ result-unread t f num early o =
 -- all that is written
 
 module _ (t : Target) (f : Function) (num : Numbering) (e : Effect) (rs : List Role) (os : List Operand) where
-  abbrev explicit-step : Definition → List Writing
+  abbrev explicit-step : Definition → List LaneDef
   explicit-step d = act_writings num (result_acts t f d.0 d.1)
 
-  abbrev implicit-step : RegOp → List Writing
+  abbrev implicit-step : RegOp → List LaneDef
   implicit-step o = act_writings num (map (plain false) (operand_owners t f o))
 
   pub counted-writings : act_writings num (acts_of (counted_acts t f e rs os)) ≡ flat_map explicit-step (definitions rs os) ++ (flat_map (of_kind (λ o. o.implicit && o.def) implicit-step) os ++ act_writings num (acts_of (call_writes t e os)))
@@ -134,7 +134,7 @@ module _ (t : Target) (f : Function) (num : Numbering) (e : Effect) (rs : List R
       (part-flat (act_writing num) (λ d. result_acts t f d.0 d.1) (definitions rs os))
       (part-flat (act_writing num) (λ o. map (plain false) (operand_owners t f o)) (implicit_definitions os) ∙ ap (flat_map implicit-step) (filter-two (λ (o : RegOp). o.def) (λ (o : RegOp). o.implicit) (registers os)) ∙ sym (each-flat (λ o. o.implicit && o.def) implicit-step os))
 
-  pub written-in-parts : (start a b c : List Writing) → a ≡ start ++ flat_map explicit-step (definitions rs os) → b ≡ a ++ flat_map (of_kind (λ o. o.implicit && o.def) implicit-step) os → c ≡ b ++ act_writings num (acts_of (call_writes t e os)) → c ≡ start ++ act_writings num (acts_of (counted_acts t f e rs os))
+  pub written-in-parts : (start a b c : List LaneDef) → a ≡ start ++ flat_map explicit-step (definitions rs os) → b ≡ a ++ flat_map (of_kind (λ o. o.implicit && o.def) implicit-step) os → c ≡ b ++ act_writings num (acts_of (call_writes t e os)) → c ≡ start ++ act_writings num (acts_of (counted_acts t f e rs os))
   written-in-parts start a b c x y z =
       let one = flat_map explicit-step (definitions rs os) in
       let two = flat_map (of_kind (λ o. o.implicit && o.def) implicit-step) os in

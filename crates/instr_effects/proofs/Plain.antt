@@ -12,7 +12,7 @@ use Rattle.meaning.specs.declared.types.Write.{Write}
 use Rattle.meaning.specs.Lanes.{Writes, Reads, same_lane, filled}
 use Rattle.meaning.specs.Code.{Edge, Item}
 use Rattle.meaning.specs.Live.{Among as Member, here as first, there as later, reads_of, writes_of, exits_of as edges_of, Feeds, is_slot}
-use Rattle.mir_meaning.specs.declared.writing.Writing.{Writing}
+use Rattle.mir_meaning.specs.declared.writing.LaneDef.{LaneDef}
 use Rattle.mir_meaning.specs.Paths.{Step, has, writing_of, is_some_number, Unused, Certain, Into, move_of, use_of, is_written, is_present}
 use Rattle.mir_meaning.specs.Stands.{Tags, IsTagging, ReadBy, IsStep}
 use Rattle.instr_effects.specs.declared.owner.Owner.{Owner}
@@ -169,10 +169,10 @@ writing-in : (num : Numbering) (w : Write) (n : ℕ) (ws : Writes) → Member w 
 writing-in num w n [] m e = absurd (member-none w m)
 writing-in num w n (v ∷ ws) m e = member-elim w v ws (λ f. at (num (owner_of v.lane)) (ap (λ x. num (owner_of x.lane)) (sym f) ∙ e)) (λ k. past (act_writing num (act_of v)) (writing-in num w n ws k e)) m
   where
-    rest : List Writing
+    rest : List LaneDef
     rest = act_writings num (acts_of ws)
 
-    past : (q : Option Writing) → is_present (writing_of n rest) ≡ true → is_present (writing_of n (cons_option q rest)) ≡ true
+    past : (q : Option LaneDef) → is_present (writing_of n rest) ≡ true → is_present (writing_of n (cons_option q rest)) ≡ true
     past None h = h
     past (Some x) h = by (nat_eq x.lane n)
       where
@@ -188,7 +188,7 @@ writing-from : (num : Numbering) (n : ℕ) (ws : Writes) → is_present (writing
 writing-from num n [] e = absurd (cc)
 writing-from num n (v ∷ ws) e = go (num (owner_of v.lane)) refl e (writing-from num n ws)
   where
-    rest : List Writing
+    rest : List LaneDef
     rest = act_writings num (acts_of ws)
 
     more : ((w : Write) × Member w ws × (num (owner_of w.lane) ≡ Some n)) → (w : Write) × Member w (v ∷ ws) × (num (owner_of w.lane) ≡ Some n)
@@ -219,7 +219,7 @@ unmoved-moves : (num : Numbering) (n : ℕ) (ws : Writes) → ((w : Write) → M
 unmoved-moves num n [] h = refl
 unmoved-moves num n (v ∷ ws) h = go (num (owner_of v.lane)) (unmoved-moves num n ws (λ w m. h w (later m)))
   where
-    rest : List Writing
+    rest : List LaneDef
     rest = act_writings num (acts_of ws)
 
     go : (q : Option ℕ) → move_of n rest ≡ Unused → move_of n (cons_option (elim q [ None ↦ None | Some k ↦ Some (writing num (act_of v) k) ]) rest) ≡ Unused

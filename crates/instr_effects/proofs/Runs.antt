@@ -14,7 +14,7 @@ use Rattle.mir_meaning.specs.Registers.{unit_lanes, use_sources, undefined_lanes
 use Rattle.instr_effects.specs.declared.lanes.LaneTable.{LaneTable}
 use Rattle.instr_effects.specs.declared.acts.Act.{Act}
 use Rattle.instr_effects.specs.declared.owner.Owner.{Owner}
-use Rattle.instr_effects.specs.declared.row.Lanes.{Lanes}
+use Rattle.instr_effects.specs.declared.row.LaneSpan.{LaneSpan}
 use Rattle.instr_effects.specs.Owners.{owner_of, source_owner, operand_owners}
 use Rattle.instr_effects.specs.Row.{lane_in}
 use Rattle.instr_effects.specs.Numbers.{unit_number_in, row_number_in}
@@ -94,7 +94,7 @@ moved_all f start now xs ys k h so = gathered_all f start now (zip xs ys) k long
 
 -- the lanes of operands
 
-pub range_run : (x : Lanes) (tab : LaneTable) (v : ℕ) → ((k : ℕ) → lane_in x.first x.count k ≡ row_number_in (slice_get tab.ranges.items v) k) → (ks : List ℕ) → map (lane_in x.first x.count) ks ≡ map (number_in tab) (map owner_of (map (VirtualLane v) ks))
+pub range_run : (x : LaneSpan) (tab : LaneTable) (v : ℕ) → ((k : ℕ) → lane_in x.first x.count k ≡ row_number_in (slice_get tab.ranges.items v) k) → (ks : List ℕ) → map (lane_in x.first x.count) ks ≡ map (number_in tab) (map owner_of (map (VirtualLane v) ks))
 range_run x tab v h [] = refl
 range_run x tab v h (k ∷ ks) = ap₂ (λ a b. a ∷ b) (h k) (range_run x tab v h ks)
 

@@ -14,14 +14,14 @@ use Rattle.mir_meaning.specs.Registers.{numbers, use_sources, undefined_lanes}
 use Rattle.mir_meaning.specs.Items.{copied, defined_undef, given_constant, reloaded, silent_reads, uses}
 use Rattle.instr_effects.specs.declared.lanes.LaneTable.{LaneTable}
 use Rattle.instr_effects.specs.declared.owner.Owner.TheVariants as owners
-use Rattle.instr_effects.specs.declared.row.Lanes.{Lanes}
+use Rattle.instr_effects.specs.declared.row.LaneSpan.{LaneSpan}
 use Rattle.instr_effects.specs.Row.{lane_in}
 use Rattle.instr_effects.specs.Numbers.{row_number_in}
 use Rattle.instr_effects.specs.Numbered.{number_in}
 use Rattle.instr_effects.specs.Owners.{owner_of, source_owner, operand_owners}
 use Rattle.instr_effects.specs.Acts.{plain, acts_of, result_acts, use_owners, read_owners, is_constant, slot_numbers, filled_whole, stored}
 use Rattle.mir_func.specs.Binding.{register_at, slot_at, puts_together}
-use Rattle.mir_meaning.specs.declared.writing.Writing.{Writing}
+use Rattle.mir_meaning.specs.declared.writing.LaneDef.{LaneDef}
 use Rattle.instr_effects.specs.Steps.{Numbering, act_writings, act_readings}
 use Rattle.instr_effects.specs.Runs.{one_writing, one_move, one_kept, of_kind}
 use Rattle.instr_effects.proofs.Runs.{moves, kept, somes, no_run, none_given, define_writings, define_readings, unread, map-long, no-number}
@@ -29,7 +29,7 @@ use Rattle.instr_effects.proofs.CountedParts.{each-flat, part-flat, result-unrea
 use Rattle.instr_effects.proofs.Readings.{together_read, other_read}
 use Rattle.instr_effects.proofs.Writes.{copied_acts, undefined_none, undefined_acts, whole_none, whole_acts, constant_acts, stored_acts, reloaded_acts}
 
-pub slot_run : (x : Lanes) (tab : LaneTable) (s : ℕ) → ((k : ℕ) → lane_in x.first x.count k ≡ row_number_in (get nat_cmp tab.slots s) k) → (ks : List ℕ) → map (lane_in x.first x.count) ks ≡ map (number_in tab) (map (owners.Slot s) ks)
+pub slot_run : (x : LaneSpan) (tab : LaneTable) (s : ℕ) → ((k : ℕ) → lane_in x.first x.count k ≡ row_number_in (get nat_cmp tab.slots s) k) → (ks : List ℕ) → map (lane_in x.first x.count) ks ≡ map (number_in tab) (map (owners.Slot s) ks)
 slot_run x tab s h [] = refl
 slot_run x tab s h (k ∷ ks) = ap₂ (λ a b. a ∷ b) (h k) (slot_run x tab s h ks)
 
@@ -42,7 +42,7 @@ first_numbers t n o h = refl
 
 module _ (t : Target) (f : Function) (num : Numbering) where
   -- what is entered of a definition that is given what stands at lanes
-  abbrev pub filled : Bool → RegOp → List (Option ℕ) → List Writing
+  abbrev pub filled : Bool → RegOp → List (Option ℕ) → List LaneDef
   filled early d xs = flat_map (one_move early) (zip (map num (operand_owners t f d)) xs) ++ flat_map (one_writing early) (map num (map owner_of (undefined_lanes t f d)))
 
   abbrev pub left : RegOp → List (Option ℕ) → List ℕ

@@ -8,7 +8,7 @@ use Rattle.mir_meaning.specs.Registers.{numbers}
 use Rattle.target_base.specs.Registers.{is_reserved_unit}
 use Rattle.instr_effects.specs.declared.owner.Owner.{Owner}
 use Rattle.instr_effects.specs.declared.owner.Owner.TheVariants as owners
-use Rattle.instr_effects.specs.declared.row.Lanes.{Lanes}
+use Rattle.instr_effects.specs.declared.row.LaneSpan.{LaneSpan}
 use Rattle.instr_effects.specs.Row.{lane_in}
 use Rattle.instr_effects.specs.Numbers.{unit_number_in, row_number_in}
 use Rattle.instr_effects.specs.declared.lanes.LaneTable.{LaneTable}
@@ -52,7 +52,7 @@ unit-owned reserved count u n long e = go (slice_get reserved u) refl e
     go (Some b) f g = by b f g
 
 -- lanes in a row stand where their numbers say
-pub row-owned : (g : ℕ → Owner) (before : List Owner) (x : Lanes) (count k n : ℕ) → x.first ≡ length before → x.count ≡ count → lane_in x.first x.count k ≡ Some n → slice_get (before ++ map g (numbers 0 count)) n ≡ Some (g k)
+pub row-owned : (g : ℕ → Owner) (before : List Owner) (x : LaneSpan) (count k n : ℕ) → x.first ≡ length before → x.count ≡ count → lane_in x.first x.count k ≡ Some n → slice_get (before ++ map g (numbers 0 count)) n ≡ Some (g k)
 row-owned g before x count k n a b e = go (nat_lt k x.count) refl e
   where
     go : (q : Bool) → nat_lt k x.count ≡ q → cond q (Some (x.first + k)) None ≡ Some n → slice_get (before ++ map g (numbers 0 count)) n ≡ Some (g k)
@@ -64,7 +64,7 @@ row-owned g before x count k n a b e = go (nat_lt k x.count) refl e
         ap (slice_get (before ++ map g (numbers 0 count))) (sym at) ∙ slice-right before (map g (numbers 0 count)) k ∙ slice-numbers g 0 count k (omega (arith, lt, b)) ∙ ap (λ m. Some (g m)) z
 
 -- a row behind others is the last, or one of these
-pub rows-split : (xs : List Lanes) (x : Lanes) (v : ℕ) (y : Lanes) → slice_get (xs ++ x ∷ []) v ≡ Some y → (slice_get xs v ≡ Some y) ⊎ ((v ≡ length xs) × (y ≡ x))
+pub rows-split : (xs : List LaneSpan) (x : LaneSpan) (v : ℕ) (y : LaneSpan) → slice_get (xs ++ x ∷ []) v ≡ Some y → (slice_get xs v ≡ Some y) ⊎ ((v ≡ length xs) × (y ≡ x))
 rows-split [] x zero y e = inr (refl, sym (some-same x y e))
 rows-split [] x (suc v) y e = absurd (cc)
 rows-split (z ∷ xs) x zero y e = inl e
@@ -75,7 +75,7 @@ rows-split (z ∷ xs) x (suc v) y e = go (rows-split xs x v y e)
     go (inr h) = inr (ap (λ m. suc m) h.0, h.1)
 
 -- a table with a further range is one
-pub with-range : (old new : LaneTable) (x : Lanes) (count : ℕ) → IsTable old → new.owners.items ≡ old.owners.items ++ map (owners.Range (length old.ranges.items)) (numbers 0 count) → new.ranges.items ≡ old.ranges.items ++ x ∷ [] → x.first ≡ length old.owners.items → x.count ≡ count → new.reserved.items ≡ old.reserved.items → ((s : ℕ) → get nat_cmp new.slots s ≡ get nat_cmp old.slots s) → IsTable new
+pub with-range : (old new : LaneTable) (x : LaneSpan) (count : ℕ) → IsTable old → new.owners.items ≡ old.owners.items ++ map (owners.Range (length old.ranges.items)) (numbers 0 count) → new.ranges.items ≡ old.ranges.items ++ x ∷ [] → x.first ≡ length old.owners.items → x.count ≡ count → new.reserved.items ≡ old.reserved.items → ((s : ℕ) → get nat_cmp new.slots s ≡ get nat_cmp old.slots s) → IsTable new
 with-range old new x count table os rs first long reserved slots = record { owned = owned; units = units; full = λ s y e. table.full s y (sym (slots s) ∙ e) }
   where
     units : (u : ℕ) → u < length new.reserved.items → slice_get new.owners.items u ≡ Some (owners.Unit u)
@@ -84,7 +84,7 @@ with-range old new x count table os rs first long reserved slots = record { owne
     kept : (o : Owner) (n : ℕ) → number_in old o ≡ Some n → slice_get new.owners.items n ≡ Some o
     kept o n e = ap (λ l. slice_get l n) os ∙ slice-left old.owners.items (map (owners.Range (length old.ranges.items)) (numbers 0 count)) n o (table.owned o n e)
 
-    range : (v k n : ℕ) (q : Option Lanes) → slice_get new.ranges.items v ≡ q → row_number_in q k ≡ Some n → slice_get new.owners.items n ≡ Some (owners.Range v k)
+    range : (v k n : ℕ) (q : Option LaneSpan) → slice_get new.ranges.items v ≡ q → row_number_in q k ≡ Some n → slice_get new.owners.items n ≡ Some (owners.Range v k)
     range v k n None f e = absurd (cc)
     range v k n (Some y) f e = at (rows-split old.ranges.items x v y (ap (λ l. slice_get l v) (sym rs) ∙ f))
       where
@@ -101,7 +101,7 @@ with-range old new x count table os rs first long reserved slots = record { owne
     owned (owners.Slot s k) n e = kept (owners.Slot s k) n (ap (λ q. row_number_in q k) (sym (slots s)) ∙ e)
 
 -- a table with a further slot is one
-pub with-slot : (old new : LaneTable) (x : Lanes) (slot : ℕ) → IsTable old → get nat_cmp old.slots slot ≡ None → new.owners.items ≡ old.owners.items ++ map (owners.Slot slot) (numbers 0 32) → x.first ≡ length old.owners.items → x.count ≡ 32 → new.reserved.items ≡ old.reserved.items → new.ranges.items ≡ old.ranges.items → get nat_cmp new.slots slot ≡ Some x → ((s : ℕ) → (s ≡ slot → ⊥) → get nat_cmp new.slots s ≡ get nat_cmp old.slots s) → IsTable new
+pub with-slot : (old new : LaneTable) (x : LaneSpan) (slot : ℕ) → IsTable old → get nat_cmp old.slots slot ≡ None → new.owners.items ≡ old.owners.items ++ map (owners.Slot slot) (numbers 0 32) → x.first ≡ length old.owners.items → x.count ≡ 32 → new.reserved.items ≡ old.reserved.items → new.ranges.items ≡ old.ranges.items → get nat_cmp new.slots slot ≡ Some x → ((s : ℕ) → (s ≡ slot → ⊥) → get nat_cmp new.slots s ≡ get nat_cmp old.slots s) → IsTable new
 with-slot old new x slot table none os first long reserved ranges at others = record { owned = owned; units = units; full = λ s y e. full s y (nat_eq s slot) refl e }
   where
     units : (u : ℕ) → u < length new.reserved.items → slice_get new.owners.items u ≡ Some (owners.Unit u)
@@ -110,7 +110,7 @@ with-slot old new x slot table none os first long reserved ranges at others = re
     kept : (o : Owner) (n : ℕ) → number_in old o ≡ Some n → slice_get new.owners.items n ≡ Some o
     kept o n e = ap (λ l. slice_get l n) os ∙ slice-left old.owners.items (map (owners.Slot slot) (numbers 0 32)) n o (table.owned o n e)
 
-    full : (s : ℕ) (y : Lanes) (b : Bool) → nat_eq s slot ≡ b → get nat_cmp new.slots s ≡ Some y → y.count ≡ 32
+    full : (s : ℕ) (y : LaneSpan) (b : Bool) → nat_eq s slot ≡ b → get nat_cmp new.slots s ≡ Some y → y.count ≡ 32
     full s y true f e = let g : get nat_cmp new.slots s ≡ Some x = ap (get nat_cmp new.slots) (eqb-true s slot f) ∙ at in ap (λ r. r.count) (some-same y x (sym e ∙ g)) ∙ long
     full s y false f e = table.full s y (sym (others s (eqb-false s slot f)) ∙ e)
 

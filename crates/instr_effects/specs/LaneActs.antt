@@ -2,7 +2,7 @@
 use Rattle.std.specs.Prelude.{ℕ, Bool, true, cond, not, ◌&&◌, nat_eq, List, [], ◌∷◌, find, Option, Some, None}
 use Rattle.std.specs.Option.{option_or}
 use Rattle.std.specs.List.{list_any}
-use Rattle.mir_meaning.specs.declared.writing.Writing.{Writing}
+use Rattle.mir_meaning.specs.declared.writing.LaneDef.{LaneDef}
 use Rattle.instr_effects.specs.declared.lane_acts.LaneAct.{LaneAct}
 use Rattle.instr_effects.specs.declared.lane_acts.LaneRead.{LaneRead}
 use Rattle.instr_effects.specs.declared.lane_acts.LaneWrite.{LaneWrite}
@@ -17,15 +17,15 @@ abbrev pub read_at : ℕ → ℕ → Option LaneRead
 read_at l n = cond (nat_eq n l) (Some (record { into = None })) None
 
 -- the move of a lane
-abbrev pub move_at : ℕ → Writing → Option LaneRead
+abbrev pub move_at : ℕ → LaneDef → Option LaneRead
 move_at l w = elim w.from [ None ↦ None | Some n ↦ cond (nat_eq n l) (Some (record { into = Some w.lane })) None ]
 
 -- the writing of a lane
-abbrev pub write_at : ℕ → Writing → Option LaneWrite
+abbrev pub write_at : ℕ → LaneDef → Option LaneWrite
 write_at l w = cond (nat_eq w.lane l) (Some (record { from = w.from; early = w.early })) None
 
 -- a lane's reading is the first of those in any case, and then of the moves; its writing is the first
-abbrev pub lane_act : List ℕ → List Writing → ℕ → LaneAct
+abbrev pub lane_act : List ℕ → List LaneDef → ℕ → LaneAct
 lane_act rs ws l = record { lane = l; read = option_or (first_of (read_at l) rs) (first_of (move_at l) ws); write = first_of (write_at l) ws }
 
 -- nothing is done to the lane

@@ -12,7 +12,7 @@ use Rattle.mir_meaning.specs.Registers.{numbers}
 use Rattle.instr_effects.specs.declared.lanes.LaneTable.{LaneTable}
 use Rattle.instr_effects.specs.declared.owner.Owner.{Owner}
 use Rattle.instr_effects.specs.declared.owner.Owner.TheVariants as owners
-use Rattle.instr_effects.specs.declared.row.Lanes.{Lanes}
+use Rattle.instr_effects.specs.declared.row.LaneSpan.{LaneSpan}
 use Rattle.mir_func.specs.Binding.{slot_at}
 use Rattle.instr_effects.specs.Numbers.{owner_number}
 
@@ -25,7 +25,7 @@ number_in t o = owner_number t.reserved.items t.ranges.items t.slots o
 pub record IsTable (t : LaneTable) : Type 0 where
   pub owned : (o : Owner) (n : ℕ) → number_in t o ≡ Some n → slice_get t.owners.items n ≡ Some o
   pub units : (u : ℕ) → u < length t.reserved.items → slice_get t.owners.items u ≡ Some (owners.Unit u)
-  pub full : (s : ℕ) (x : Lanes) → get nat_cmp t.slots s ≡ Some x → x.count ≡ 32
+  pub full : (s : ℕ) (x : LaneSpan) → get nat_cmp t.slots s ≡ Some x → x.count ≡ 32
 
 -- the slot has numbers
 abbrev pub HasSlot : LaneTable → ℕ → Type 0
@@ -36,7 +36,7 @@ abbrev pub reserved_units : Target → List Bool
 reserved_units t = map (is_reserved_unit t) (numbers 0 (length t.units))
 
 -- how many lanes each range has
-abbrev pub counts : List Lanes → List ℕ
+abbrev pub counts : List LaneSpan → List ℕ
 counts xs = map (λ x. x.count) xs
 
 abbrev pub class_counts : Target → List (Option ClassId) → List ℕ

@@ -5,9 +5,9 @@ use Rattle.mir_func.specs.declared.func.RegOp.{RegOp}
 use Rattle.mir_func.specs.declared.func.Operand.{Operand}
 use Rattle.mir_func.specs.Binding.{as_register}
 use Rattle.mir_meaning.specs.Registers.{numbers}
-use Rattle.mir_meaning.specs.declared.writing.Writing.{Writing}
-use Rattle.instr_effects.specs.declared.run.Run.{Run}
-use Rattle.instr_effects.specs.declared.run.Run.TheVariants as runs
+use Rattle.mir_meaning.specs.declared.writing.LaneDef.{LaneDef}
+use Rattle.instr_effects.specs.declared.run.LaneSequence.{LaneSequence}
+use Rattle.instr_effects.specs.declared.run.LaneSequence.TheVariants as runs
 use Rattle.std.specs.List.{list_any}
 use Rattle.mir_meaning.specs.Items.{preserves}
 use Rattle.instr_effects.specs.declared.owner.Owner.TheVariants as owners
@@ -16,7 +16,7 @@ use Rattle.instr_effects.specs.Row.{lane_in}
 use Rattle.instr_effects.specs.Numbers.{unit_number_in}
 
 -- the number of each lane, where it has one
-abbrev pub run_numbers : Run → List (Option ℕ)
+abbrev pub run_numbers : LaneSequence → List (Option ℕ)
 run_numbers (runs.Units us reserved) = map (λ u. unit_number_in reserved.now u.0) us.now
 run_numbers (runs.First x n) = map (lane_in x.first x.count) (numbers 0 n)
 run_numbers (runs.Picked x ks) = map (lane_in x.first x.count) ks.now
@@ -28,7 +28,7 @@ one_lane None = []
 one_lane (Some n) = n ∷ []
 
 -- the writing of a lane that gets nothing that another lane held
-abbrev pub one_writing : Bool → Option ℕ → List Writing
+abbrev pub one_writing : Bool → Option ℕ → List LaneDef
 one_writing early None = []
 one_writing early (Some n) = record { lane = n; from = None; early = early } ∷ []
 
@@ -37,7 +37,7 @@ abbrev pub Pair : Type 0
 Pair = Option ℕ × Option ℕ
 
 -- the writing of a lane that another one is moved to
-abbrev pub one_move : Bool → Pair → List Writing
+abbrev pub one_move : Bool → Pair → List LaneDef
 one_move early p = elim p.0 [ None ↦ [] | Some n ↦ record { lane = n; from = p.1; early = early } ∷ [] ]
 
 -- what goes to a lane that takes no part is read in any case
@@ -49,5 +49,5 @@ abbrev pub of_kind : {X : Type 0} → (RegOp → Bool) → (RegOp → List X) �
 of_kind p g o = elim (as_register o) [ None ↦ [] | Some r ↦ cond (p r) (g r) [] ]
 
 -- the writing of a unit, if no mask among the operands preserves it
-abbrev pub unit_clobbered : Target → Numbering → List Operand → ℕ → List Writing
+abbrev pub unit_clobbered : Target → Numbering → List Operand → ℕ → List LaneDef
 unit_clobbered t num os u = cond (list_any (preserves t u) os) [] (one_writing false (num (owners.Unit u)))

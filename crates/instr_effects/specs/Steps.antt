@@ -2,7 +2,7 @@
 use Rattle.std.specs.Prelude.{ℕ, Bool, true, false, cond, List, filter_map, Option, Some, None, option_and_then}
 use Rattle.instr_effects.specs.declared.owner.Owner.{Owner}
 use Rattle.instr_effects.specs.declared.acts.Act.{Act}
-use Rattle.mir_meaning.specs.declared.writing.Writing.{Writing}
+use Rattle.mir_meaning.specs.declared.writing.LaneDef.{LaneDef}
 use Rattle.instr_effects.specs.declared.effects.PhiRead.{PhiRead}
 use Rattle.target_base.specs.declared.types.Target.{Target}
 use Rattle.mir_func.specs.declared.func.RegOp.{RegOp}
@@ -14,14 +14,14 @@ abbrev pub Numbering : Type 0
 Numbering = Owner → Option ℕ
 
 -- a writing of the lane of that number
-abbrev pub writing : Numbering → Act → ℕ → Writing
+abbrev pub writing : Numbering → Act → ℕ → LaneDef
 writing num a n = record { lane = n; from = option_and_then num a.from; early = a.early }
 
 -- the writing of a lane that has a number
-abbrev pub act_writing : Numbering → Act → Option Writing
+abbrev pub act_writing : Numbering → Act → Option LaneDef
 act_writing num a = elim (num a.lane) [ None ↦ None | Some n ↦ Some (writing num a n) ]
 
-abbrev pub act_writings : Numbering → List Act → List Writing
+abbrev pub act_writings : Numbering → List Act → List LaneDef
 act_writings num acts = filter_map (act_writing num) acts
 
 abbrev pub is_unnumbered : Option ℕ → Bool

@@ -13,14 +13,14 @@ ghost use Rattle.instr_effects.specs.Runs.{of_kind, unit_clobbered};
 ghost use Rattle.instr_effects.specs.Steps.{act_writings};
 ghost use Rattle.instr_effects.specs.declared.owner.Owner.TheVariants as owners;
 
-use crate::definitions::{Definition, next_definition};
-use crate::effects::Reader;
+use crate::definitions::{Definition, LATE, next_definition};
+use crate::effects::EffectReader;
 use crate::items::counted::condition_lane;
 use crate::masks::is_preserved;
 use crate::run::{push_lane, push_writing};
 use mir_func::operands::immediate_of;
 use mir_func::{Operand, RegOp, operands};
-use mir_meaning::Writing;
+use mir_meaning::LaneDef;
 use std::alloc::AllocError;
 use target_base::roles::{first_implicit, is_implicit};
 use target_base::{Effect, OpaqueKind, OpcodeDesc, Role, Target};
@@ -52,18 +52,18 @@ fn tested_role(effect: Effect, roles: &[Role]) -> Option<Role>
     }
 }
 
-impl<'a> Reader<'a> {
+impl<'a> EffectReader<'a> {
     /// Adds the writing of a unit, if no mask among the operands preserves it.
     fn clobber_unit(
         self,
         operands: &[Operand],
         u: u32,
-        writes: &mut Vec<Writing>,
+        writes: &mut Vec<LaneDef>,
     ) -> Result<(), AllocError>
         ensures { OnOk result (writes.new.items ≡ writes.old.items ++ unit_clobbered self.entry.target.now (number_in self.entry.lanes.now) operands.now u) }
     {
         if !is_preserved(self.target, operands, u) {
-            push_writing(self.lanes.unit(u), false, writes)?;
+            push_writing(self.lanes.unit(u), LATE, writes)?;
         }
         Ok(())
     }
@@ -73,7 +73,7 @@ impl<'a> Reader<'a> {
     fn clobber_units(
         self,
         operands: &[Operand],
-        writes: &mut Vec<Writing>,
+        writes: &mut Vec<LaneDef>,
     ) -> Result<(), AllocError>
         ensures { OnOk result (writes.new.items ≡ writes.old.items ++ act_writings (number_in self.entry.lanes.now) (map (λ u. plain false (owners.Unit u)) (unpreserved self.entry.target.now operands.now))) }
     {
@@ -92,7 +92,7 @@ impl<'a> Reader<'a> {
         self,
         effect: Effect,
         operands: &[Operand],
-        writes: &mut Vec<Writing>,
+        writes: &mut Vec<LaneDef>,
     ) -> Result<(), AllocError>
         ensures { OnOk result (writes.new.items ≡ writes.old.items ++ act_writings (number_in self.entry.lanes.now) (acts_of (call_writes self.entry.target.now effect operands.now))) }
     {
@@ -106,7 +106,7 @@ impl<'a> Reader<'a> {
     fn write_explicit(
         self,
         definition: Option<Definition>,
-        writes: &mut Vec<Writing>,
+        writes: &mut Vec<LaneDef>,
     ) -> Result<(), AllocError>
         ensures { OnOk result (writes.new.items ≡ writes.old.items ++ flat_map (λ d. act_writings (number_in self.entry.lanes.now) (result_acts self.entry.target.now self.entry.func.now d.0 d.1)) (option_to_list definition)) }
     {
@@ -122,7 +122,7 @@ impl<'a> Reader<'a> {
         self,
         roles: &[Role],
         operands: &[Operand],
-        writes: &mut Vec<Writing>,
+        writes: &mut Vec<LaneDef>,
     ) -> Result<(), AllocError>
         ensures { OnOk result (writes.new.items ≡ writes.old.items ++ flat_map (λ d. act_writings (number_in self.entry.lanes.now) (result_acts self.entry.target.now self.entry.func.now d.0 d.1)) (definitions roles.now operands.now)) }
     {
@@ -136,12 +136,12 @@ impl<'a> Reader<'a> {
     }
 
     /// Adds what an operand writes, if it is an implicit definition.
-    fn write_implicit(self, operand: &Operand, writes: &mut Vec<Writing>) -> Result<(), AllocError>
+    fn write_implicit(self, operand: &Operand, writes: &mut Vec<LaneDef>) -> Result<(), AllocError>
         ensures { OnOk result (writes.new.items ≡ writes.old.items ++ of_kind (λ o. o.implicit && o.def) (λ o. act_writings (number_in self.entry.lanes.now) (map (plain false) (operand_owners self.entry.target.now self.entry.func.now o))) operand.now) }
     {
         if let Operand::Reg(op) = operand {
             if op.implicit && op.def {
-                self.fill_register(op, false, writes)?;
+                self.fill_register(op, LATE, writes)?;
             }
         }
         Ok(())
@@ -152,7 +152,7 @@ impl<'a> Reader<'a> {
     fn write_implicits(
         self,
         operands: &[Operand],
-        writes: &mut Vec<Writing>,
+        writes: &mut Vec<LaneDef>,
     ) -> Result<(), AllocError>
         ensures { OnOk result (writes.new.items ≡ writes.old.items ++ flat_map (of_kind (λ o. o.implicit && o.def) (λ o. act_writings (number_in self.entry.lanes.now) (map (plain false) (operand_owners self.entry.target.now self.entry.func.now o)))) operands.now) }
     {
@@ -168,7 +168,7 @@ impl<'a> Reader<'a> {
         self,
         desc: &OpcodeDesc,
         operands: &[Operand],
-        writes: &mut Vec<Writing>,
+        writes: &mut Vec<LaneDef>,
     ) -> Result<(), AllocError>
         ensures { OnOk result (writes.new.items ≡ writes.old.items ++ act_writings (number_in self.entry.lanes.now) (acts_of (counted_acts self.entry.target.now self.entry.func.now desc.now.effect desc.now.roles operands.now))) }
     {

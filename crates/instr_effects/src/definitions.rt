@@ -10,6 +10,9 @@ use mir_func::operands::{is_definition, is_implicit_operand};
 use mir_func::{Operand, RegOp};
 use target_base::Role;
 
+/// Says of a write that it isn't by an early-clobber definition.
+pub(crate) const LATE: bool = false;
+
 /// An explicit definition, and whether it is an early-clobber one.
 pub(crate) type Definition = (bool, RegOp);
 

@@ -10,7 +10,7 @@ use crate::lanes::LaneTable;
 use mir_func::opcodes::{desc_of, is_early_clobber};
 use mir_func::operands::register_at;
 use mir_func::{Func, Instr, Operand, RegOp};
-use mir_meaning::Writing;
+use mir_meaning::LaneDef;
 use std::alloc::{AllocError, Global};
 use target_base::roles::{is_phi, is_silent};
 use target_base::{OpcodeDesc, Target};
@@ -22,7 +22,7 @@ pub struct Effects {
     /// The lanes that it reads whatever is live behind it.
     pub reads: Vec<u32>,
     /// The lanes that it writes.
-    pub writes: Vec<Writing>,
+    pub writes: Vec<LaneDef>,
 }
 
 /// The lanes that a phi reads at the end of a block before it.
@@ -49,7 +49,7 @@ impl Effects {
 
 /// What the effects of instructions are read from.
 #[derive(Clone, Copy)]
-pub struct Reader<'a> {
+pub struct EffectReader<'a> {
     /// Where lists are made.
     pub alloc: Global,
     /// The target.
@@ -60,7 +60,7 @@ pub struct Reader<'a> {
     pub lanes: &'a LaneTable,
 }
 
-impl<'a> Reader<'a> {
+impl<'a> EffectReader<'a> {
     /// Adds what an instruction with this opcode does to lanes.
     #[tactic(auto, using(crate::proofs::CountedParts::no_readings))]
     fn add(

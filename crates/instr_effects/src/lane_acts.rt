@@ -4,7 +4,7 @@ ghost use Rattle.std.specs.Prelude.{◌≡◌, ℕ, true, cond, nat_eq, find, po
 ghost use Rattle.instr_effects.specs.LaneActs.{first_of, read_at, move_at, write_at, lane_act, is_on, has_act, act_on, is_once, add_read, add_write};
 
 use crate::effects::Effects;
-use mir_meaning::Writing;
+use mir_meaning::LaneDef;
 use std::alloc::{AllocError, Global};
 
 /// How an instruction reads a lane.
@@ -146,7 +146,7 @@ fn note_reads(reads: &[u32], acts: &mut Vec<LaneAct>) -> Result<(), AllocError>
 }
 
 /// Notes the lane that is moved, if one is.
-fn note_move(w: &Writing, acts: &mut Vec<LaneAct>) -> Result<(), AllocError>
+fn note_move(w: &LaneDef, acts: &mut Vec<LaneAct>) -> Result<(), AllocError>
     ensures told { OnOk result ((l : ℕ) → act_on acts.new.items l ≡ add_read (act_on acts.old.items l) (move_at l w.now)) }
     ensures once { OnOk result (is_once acts.old.items ≡ true → is_once acts.new.items ≡ true) }
 {
@@ -160,7 +160,7 @@ fn note_move(w: &Writing, acts: &mut Vec<LaneAct>) -> Result<(), AllocError>
 }
 
 /// Notes the lanes that are moved.
-fn note_moves(writes: &[Writing], acts: &mut Vec<LaneAct>) -> Result<(), AllocError>
+fn note_moves(writes: &[LaneDef], acts: &mut Vec<LaneAct>) -> Result<(), AllocError>
     ensures told { OnOk result ((l : ℕ) → act_on acts.new.items l ≡ add_read (act_on acts.old.items l) (first_of (move_at l) writes.now)) }
     ensures once { OnOk result (is_once acts.old.items ≡ true → is_once acts.new.items ≡ true) }
 {
@@ -171,7 +171,7 @@ fn note_moves(writes: &[Writing], acts: &mut Vec<LaneAct>) -> Result<(), AllocEr
 }
 
 /// Notes the lanes that are written.
-fn note_writes(writes: &[Writing], acts: &mut Vec<LaneAct>) -> Result<(), AllocError>
+fn note_writes(writes: &[LaneDef], acts: &mut Vec<LaneAct>) -> Result<(), AllocError>
     ensures told { OnOk result ((l : ℕ) → act_on acts.new.items l ≡ add_write (act_on acts.old.items l) (first_of (write_at l) writes.now)) }
     ensures once { OnOk result (is_once acts.old.items ≡ true → is_once acts.new.items ≡ true) }
 {

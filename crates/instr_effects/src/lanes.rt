@@ -1,7 +1,7 @@
 //! Numbers for lanes: first the units, then the lanes of ranges and of spill slots as they come.
 
 use crate::owner::Owner;
-use crate::row::Lanes;
+use crate::row::LaneSpan;
 use std::collections::BTreeMap;
 
 /// Numbers for lanes, and whose lane each number is.
@@ -12,7 +12,7 @@ pub struct LaneTable {
     /// Whether each unit is reserved; reserved units take no part.
     pub reserved: Vec<bool>,
     /// The lanes of each range.
-    pub ranges: Vec<Lanes>,
+    pub ranges: Vec<LaneSpan>,
     /// The lanes of each slot.
-    pub slots: BTreeMap<u32, Lanes>,
+    pub slots: BTreeMap<u32, LaneSpan>,
 }

@@ -21,11 +21,11 @@ pub mod silent;
 pub mod whole;
 
 pub use acts::Act;
-pub use effects::{Effects, PhiRead, Reader};
+pub use effects::{EffectReader, Effects, PhiRead};
 pub use lane_acts::{LaneAct, LaneRead, LaneWrite};
 pub use lanes::LaneTable;
-pub use mir_meaning::Writing;
+pub use mir_meaning::LaneDef;
 pub use owner::Owner;
-pub use row::Lanes;
-pub use run::Run;
+pub use row::LaneSpan;
+pub use run::LaneSequence;
 pub use whole::lanes_of;

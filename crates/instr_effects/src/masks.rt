@@ -11,8 +11,8 @@ use mir_func::Operand;
 use target_base::registers::has_unit_number;
 use target_base::{Reg, Target};
 
-/// Whether one of these registers has a unit.
-fn have_unit(target: &Target, regs: &[Reg], u: u32) -> bool
+/// Whether one of these registers has the unit of a number.
+pub fn have_unit(target: &Target, regs: &[Reg], u: u32) -> bool
     ensures { result ≡ list_any (λ r. is_among (units_of target.now r) (unit_number u)) regs.now }
 {
     regs.iter().any(|r| has_unit_number(target.units_at(*r), u))

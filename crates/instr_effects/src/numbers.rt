@@ -13,7 +13,7 @@ ghost use Rattle.instr_effects.specs.declared.owner.Owner.TheVariants as owners;
 use crate::lanes::LaneTable;
 use crate::owner::Owner;
 use crate::registers::{first_owners, first_slots};
-use crate::row::{Lanes, no_lanes};
+use crate::row::{LaneSpan, no_lanes};
 use std::alloc::{AllocError, Global};
 use std::collections::BTreeMap;
 use target_base::Target;
@@ -40,7 +40,7 @@ impl LaneTable {
     }
 
     /// The lanes of a range; none where there is no such range.
-    pub fn of_range(&self, v: u32) -> Lanes
+    pub fn of_range(&self, v: u32) -> LaneSpan
         ensures { (k : ℕ) → lane_in result.first result.count k ≡ row_number_in (slice_get self.now.ranges.items v) k }
     {
         match self.ranges.get(v as usize) {
@@ -64,7 +64,7 @@ impl LaneTable {
     }
 
     /// The lanes of a slot; none where it has no numbers.
-    pub fn of_slot(&self, s: u32) -> Lanes
+    pub fn of_slot(&self, s: u32) -> LaneSpan
         ensures { (k : ℕ) → lane_in result.first result.count k ≡ row_number_in (get nat_cmp self.now.slots s) k }
     {
         match self.slots.get(&s) {
@@ -93,7 +93,7 @@ impl LaneTable {
 }
 
 /// So many lanes from a number on.
-fn lanes_at(first: usize, count: usize) -> Result<Lanes, AllocError>
+fn lanes_at(first: usize, count: usize) -> Result<LaneSpan, AllocError>
     ensures first { IfOk result (λ x. x.first ≡ first) }
     ensures count { IfOk result (λ x. x.count ≡ count) }
 {
@@ -103,7 +103,7 @@ fn lanes_at(first: usize, count: usize) -> Result<Lanes, AllocError>
     if first.checked_add(count).is_none() {
         return Err(AllocError);
     }
-    Ok(Lanes { first, count })
+    Ok(LaneSpan { first, count })
 }
 
 /// The first units as lanes.

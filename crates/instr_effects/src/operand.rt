@@ -9,40 +9,43 @@ ghost use Rattle.instr_effects.specs.Numbered.{number_in};
 ghost use Rattle.instr_effects.specs.Runs.{run_numbers, one_writing, one_move, one_kept};
 ghost use Rattle.instr_effects.specs.Steps.{act_writings};
 
-use crate::effects::{Effects, Reader};
+use crate::effects::{EffectReader, Effects};
 use crate::registers::lane_count;
-use crate::run::{Run, move_lanes, push_lanes, push_writings};
+use crate::run::{LaneSequence, move_lanes, push_lanes, push_writings};
 use mir_func::{Loc, RegOp};
-use mir_meaning::Writing;
+use mir_meaning::LaneDef;
 use std::alloc::AllocError;
 use target_base::IndexId;
 
-impl<'a> Reader<'a> {
+impl<'a> EffectReader<'a> {
     /// The lanes of a virtual register, or those that an index picks.
     #[tactic(auto, using(crate::proofs::Runs::range_run))]
-    fn range_lanes(self, v: u32, index: Option<IndexId>) -> Run<'a>
+    fn range_lanes(self, v: u32, index: Option<IndexId>) -> LaneSequence<'a>
         ensures { run_numbers result ≡ map (number_in self.entry.lanes.now) (located_owners self.entry.target.now self.entry.func.now (locs.Virtual v) index) }
     {
         let own = self.lanes.of_range(v);
         match index {
-            None => Run::First(own, lane_count(self.target, self.func, v)),
-            Some(x) => Run::Picked(own, self.target.lanes_at(x)),
+            None => LaneSequence::First(own, lane_count(self.target, self.func, v)),
+            Some(x) => LaneSequence::Picked(own, self.target.lanes_at(x)),
         }
     }
 
     /// The lanes of a location.
     #[tactic(auto, using(crate::proofs::Runs::unit_run))]
-    fn location_lanes(self, loc: Loc, index: Option<IndexId>) -> Run<'a>
+    fn location_lanes(self, loc: Loc, index: Option<IndexId>) -> LaneSequence<'a>
         ensures { run_numbers result ≡ map (number_in self.entry.lanes.now) (located_owners self.entry.target.now self.entry.func.now loc index) }
     {
         match loc {
-            Loc::Fixed(r) => Run::Units(self.target.units_at(r), self.lanes.reserved.as_slice()),
+            Loc::Fixed(r) => LaneSequence::Units(
+                self.target.units_at(r),
+                self.lanes.reserved.as_slice(),
+            ),
             Loc::Virtual(v) => self.range_lanes(v, index),
         }
     }
 
     /// The lanes of a register operand.
-    pub(crate) fn operand_lanes(self, op: &RegOp) -> Run<'a>
+    pub(crate) fn operand_lanes(self, op: &RegOp) -> LaneSequence<'a>
         ensures { run_numbers result ≡ map (number_in self.entry.lanes.now) (operand_owners self.entry.target.now self.entry.func.now op.now) }
     {
         self.location_lanes(op.loc, op.index)
@@ -50,26 +53,26 @@ impl<'a> Reader<'a> {
 
     /// The lanes that an `undef` definition makes undefined beside those that it gives a value.
     #[tactic(auto, using(crate::proofs::Operands::other_owners_of))]
-    fn other_lanes(self, op: &RegOp) -> Run<'a>
+    fn other_lanes(self, op: &RegOp) -> LaneSequence<'a>
         ensures { run_numbers result ≡ map (number_in self.entry.lanes.now) (map owner_of (undefined_lanes self.entry.target.now self.entry.func.now op.now)) }
     {
         if !op.def || !op.undef {
-            return Run::Nothing(0);
+            return LaneSequence::Nothing(0);
         }
         match op.loc {
             Loc::Virtual(_) => self.location_lanes(op.loc, None),
-            Loc::Fixed(_) => Run::Nothing(0),
+            Loc::Fixed(_) => LaneSequence::Nothing(0),
         }
     }
 
     /// What a use gives: its lanes, or nothing where it is `undef`.
     #[tactic(auto, using(crate::proofs::Runs::given_run, crate::proofs::Runs::undef_run))]
-    pub(crate) fn given_lanes(self, op: &RegOp) -> Run<'a>
+    pub(crate) fn given_lanes(self, op: &RegOp) -> LaneSequence<'a>
         ensures { run_numbers result ≡ map (option_and_then (number_in self.entry.lanes.now)) (map source_owner (use_sources self.entry.target.now self.entry.func.now op.now)) }
     {
         let lanes = self.operand_lanes(op);
         if op.undef {
-            return Run::Nothing(lanes.len());
+            return LaneSequence::Nothing(lanes.len());
         }
         lanes
     }
@@ -89,7 +92,7 @@ impl<'a> Reader<'a> {
     pub(crate) fn define(
         self,
         op: &RegOp,
-        from: Run<'_>,
+        from: LaneSequence<'_>,
         early: bool,
         effects: &mut Effects,
     ) -> Result<(), AllocError>
@@ -106,7 +109,7 @@ impl<'a> Reader<'a> {
         self,
         op: &RegOp,
         early: bool,
-        writes: &mut Vec<Writing>,
+        writes: &mut Vec<LaneDef>,
     ) -> Result<(), AllocError>
         ensures { OnOk result (writes.new.items ≡ writes.old.items ++ act_writings (number_in self.entry.lanes.now) (map (plain early) (operand_owners self.entry.target.now self.entry.func.now op.now))) }
     {
@@ -119,7 +122,7 @@ impl<'a> Reader<'a> {
         self,
         op: &RegOp,
         early: bool,
-        writes: &mut Vec<Writing>,
+        writes: &mut Vec<LaneDef>,
     ) -> Result<(), AllocError>
         ensures { OnOk result (writes.new.items ≡ writes.old.items ++ act_writings (number_in self.entry.lanes.now) (result_acts self.entry.target.now self.entry.func.now early op.now)) }
     {

@@ -5,7 +5,7 @@ ghost use Rattle.instr_effects.specs.Row.{lane_in};
 
 /// The lanes of a virtual register or of a slot, which have numbers in a row.
 #[derive(Clone, Copy)]
-pub struct Lanes {
+pub struct LaneSpan {
     /// The number of lane 0.
     pub first: u32,
     /// How many lanes there are.
@@ -13,7 +13,7 @@ pub struct Lanes {
     ghost fits: { first + count < 4294967296 },
 }
 
-impl Lanes {
+impl LaneSpan {
     /// The number of lane `k`, where there is one.
     pub fn lane(self, k: u32) -> Option<u32>
         ensures { result ≡ lane_in self.first self.count k }
@@ -38,8 +38,8 @@ impl Lanes {
 }
 
 /// No lanes.
-pub(crate) fn no_lanes() -> Lanes
+pub(crate) fn no_lanes() -> LaneSpan
     ensures { result.count ≡ 0 }
 {
-    Lanes { first: 0, count: 0 }
+    LaneSpan { first: 0, count: 0 }
 }

@@ -8,20 +8,20 @@ ghost use Rattle.instr_effects.specs.Runs.{run_numbers, one_lane, one_writing, o
 
 use crate::effects::Effects;
 use crate::numbers::unit_number;
-use crate::row::Lanes;
-use mir_meaning::Writing;
+use crate::row::LaneSpan;
+use mir_meaning::LaneDef;
 use std::alloc::AllocError;
 use target_base::Unit;
 
 /// The numbers of lanes, one after another; some may have none.
 #[derive(Clone, Copy)]
-pub enum Run<'a> {
+pub enum LaneSequence<'a> {
     /// Those of units, and which units are reserved; these have none.
     Units(&'a [Unit], &'a [bool]),
     /// Those of so many lanes in a row, from the first on.
-    First(Lanes, usize),
+    First(LaneSpan, usize),
     /// Those of the lanes in a row that an index picks.
-    Picked(Lanes, &'a [u8]),
+    Picked(LaneSpan, &'a [u8]),
     /// So many lanes without a number.
     Nothing(usize),
 }
@@ -39,7 +39,7 @@ fn unit_at(units: &[Unit], reserved: &[bool], k: usize) -> Option<u32>
 
 /// The number of the lane that an index picks at a place.
 #[tactic(auto, using(crate::proofs::Runs::map_at))]
-fn picked_at(own: Lanes, picked: &[u8], k: usize) -> Option<u32>
+fn picked_at(own: LaneSpan, picked: &[u8], k: usize) -> Option<u32>
     ensures { result ≡ get_or (map (lane_in own.first own.count) picked.now) k None }
 {
     match picked.get(k) {
@@ -50,23 +50,23 @@ fn picked_at(own: Lanes, picked: &[u8], k: usize) -> Option<u32>
 
 /// The number of the lane at a place among so many in a row.
 #[tactic(auto, using(crate::proofs::Runs::first_at, crate::proofs::Runs::past_first))]
-fn first_at(own: Lanes, count: usize, k: usize) -> Option<u32>
+fn first_at(own: LaneSpan, count: usize, k: usize) -> Option<u32>
     ensures { result ≡ get_or (map (lane_in own.first own.count) (numbers 0 count)) k None }
 {
     if k < count { own.lane_at(k) } else { None }
 }
 
-impl<'a> Run<'a> {
+impl<'a> LaneSequence<'a> {
     /// How many lanes there are.
     #[tactic(auto, using(crate::proofs::Runs::numbers_many))]
     pub fn len(self) -> usize
         ensures { result ≡ length (run_numbers self.entry) }
     {
         match self {
-            Run::Units(units, _) => units.len(),
-            Run::First(_, count) => count,
-            Run::Picked(_, picked) => picked.len(),
-            Run::Nothing(count) => count,
+            LaneSequence::Units(units, _) => units.len(),
+            LaneSequence::First(_, count) => count,
+            LaneSequence::Picked(_, picked) => picked.len(),
+            LaneSequence::Nothing(count) => count,
         }
     }
 
@@ -76,10 +76,10 @@ impl<'a> Run<'a> {
         ensures { result ≡ get_or (run_numbers self.entry) k None }
     {
         match self {
-            Run::Units(units, reserved) => unit_at(units, reserved, k),
-            Run::First(own, count) => first_at(own, count, k),
-            Run::Picked(own, picked) => picked_at(own, picked, k),
-            Run::Nothing(_) => None,
+            LaneSequence::Units(units, reserved) => unit_at(units, reserved, k),
+            LaneSequence::First(own, count) => first_at(own, count, k),
+            LaneSequence::Picked(own, picked) => picked_at(own, picked, k),
+            LaneSequence::Nothing(_) => None,
         }
     }
 }
@@ -96,7 +96,7 @@ pub(crate) fn push_lane(lane: Option<u32>, lanes: &mut Vec<u32>) -> Result<(), A
 
 /// Adds the numbers of lanes, without those that have none.
 #[tactic(auto, using(crate::proofs::Runs::gathered_at, crate::proofs::Loops::gathered_all))]
-pub(crate) fn push_lanes(run: Run<'_>, lanes: &mut Vec<u32>) -> Result<(), AllocError>
+pub(crate) fn push_lanes(run: LaneSequence<'_>, lanes: &mut Vec<u32>) -> Result<(), AllocError>
     ensures { OnOk result (lanes.new.items ≡ lanes.old.items ++ flat_map one_lane (run_numbers run.entry)) }
 {
     'lanes: for k in 0..run.len() {
@@ -109,12 +109,12 @@ pub(crate) fn push_lanes(run: Run<'_>, lanes: &mut Vec<u32>) -> Result<(), Alloc
 pub(crate) fn push_writing(
     lane: Option<u32>,
     early: bool,
-    writes: &mut Vec<Writing>,
+    writes: &mut Vec<LaneDef>,
 ) -> Result<(), AllocError>
     ensures { OnOk result (writes.new.items ≡ writes.old.items ++ one_writing early lane) }
 {
     if let Some(lane) = lane {
-        writes.push(Writing {
+        writes.push(LaneDef {
             lane,
             from: None,
             early,
@@ -126,9 +126,9 @@ pub(crate) fn push_writing(
 /// Adds the writings of lanes that get nothing that other lanes held.
 #[tactic(auto, using(crate::proofs::Runs::gathered_at, crate::proofs::Loops::gathered_all))]
 pub(crate) fn push_writings(
-    run: Run<'_>,
+    run: LaneSequence<'_>,
     early: bool,
-    writes: &mut Vec<Writing>,
+    writes: &mut Vec<LaneDef>,
 ) -> Result<(), AllocError>
     ensures { OnOk result (writes.new.items ≡ writes.old.items ++ flat_map (one_writing early) (run_numbers run.entry)) }
 {
@@ -149,7 +149,7 @@ fn move_lane(
     ensures writes { OnOk result (effects.new.writes.items ≡ effects.old.writes.items ++ one_move early (to, from)) }
 {
     match to {
-        Some(lane) => effects.writes.push(Writing { lane, from, early })?,
+        Some(lane) => effects.writes.push(LaneDef { lane, from, early })?,
         None => push_lane(from, &mut effects.reads)?,
     }
     Ok(())
@@ -158,8 +158,8 @@ fn move_lane(
 /// Adds the moves of lanes to others, as far as both go.
 #[tactic(auto, using(crate::proofs::Runs::moved_at, crate::proofs::Runs::moved_all))]
 pub(crate) fn move_lanes(
-    to: Run<'_>,
-    from: Run<'_>,
+    to: LaneSequence<'_>,
+    from: LaneSequence<'_>,
     early: bool,
     effects: &mut Effects,
 ) -> Result<(), AllocError>

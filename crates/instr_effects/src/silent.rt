@@ -10,13 +10,14 @@ ghost use Rattle.instr_effects.specs.Runs.{run_numbers, of_kind};
 ghost use Rattle.instr_effects.specs.Steps.{act_writings, act_readings};
 ghost use Rattle.instr_effects.specs.declared.owner.Owner.TheVariants as owners;
 
-use crate::effects::{Effects, Reader};
+use crate::definitions::LATE;
+use crate::effects::{EffectReader, Effects};
 use crate::registers::operand_at;
-use crate::run::{Run, move_lanes};
+use crate::run::{LaneSequence, move_lanes};
 use mir_func::opcodes::puts_together;
 use mir_func::operands::{register_at, slot_at};
 use mir_func::{Operand, RegOp};
-use mir_meaning::Writing;
+use mir_meaning::LaneDef;
 use std::alloc::AllocError;
 use target_base::Effect;
 
@@ -30,7 +31,7 @@ fn is_constant(operand: &Operand) -> bool
     )
 }
 
-impl<'a> Reader<'a> {
+impl<'a> EffectReader<'a> {
     /// Adds what COPY reads and writes.
     #[tactic(auto, using(crate::proofs::SilentParts::copy_writings, crate::proofs::SilentParts::copy_readings, crate::proofs::Writes::copied_none, crate::proofs::Writes::copied_one, crate::proofs::Runs::nothing_written, crate::proofs::Runs::nothing_read))]
     fn copy(self, operands: &[Operand], effects: &mut Effects) -> Result<(), AllocError>
@@ -49,35 +50,35 @@ impl<'a> Reader<'a> {
 
     /// Adds what IMPLICIT_DEF writes, and a phi where it stands.
     #[tactic(auto, using(crate::proofs::SilentParts::undefined_writings, crate::proofs::SilentParts::undefined_nothing))]
-    fn undefine(self, operands: &[Operand], writes: &mut Vec<Writing>) -> Result<(), AllocError>
+    fn undefine(self, operands: &[Operand], writes: &mut Vec<LaneDef>) -> Result<(), AllocError>
         ensures { OnOk result (writes.new.items ≡ writes.old.items ++ act_writings (number_in self.entry.lanes.now) (acts_of (defined_undef self.entry.target.now self.entry.func.now operands.now))) }
     {
         let Some(to) = register_at(operands, 0) else {
             return Ok(());
         };
-        self.fill_result(&to, false, writes)
+        self.fill_result(&to, LATE, writes)
     }
 
     /// Adds what REG_SEQUENCE and INSERT_SUBREG write.
     #[tactic(auto, using(crate::proofs::SilentParts::whole_writings, crate::proofs::SilentParts::whole_nothing))]
-    fn put_together(self, operands: &[Operand], writes: &mut Vec<Writing>) -> Result<(), AllocError>
+    fn put_together(self, operands: &[Operand], writes: &mut Vec<LaneDef>) -> Result<(), AllocError>
         ensures { OnOk result (writes.new.items ≡ writes.old.items ++ act_writings (number_in self.entry.lanes.now) (acts_of (filled_whole self.entry.target.now self.entry.func.now operands.now))) }
     {
         let Some(to) = register_at(operands, 0) else {
             return Ok(());
         };
-        self.fill_register(&to, false, writes)
+        self.fill_register(&to, LATE, writes)
     }
 
     /// What an immediate or an address gives the lanes of a definition: nothing that a lane held.
     #[tactic(auto, using(crate::proofs::SilentParts::constant_run))]
-    fn constant_lanes(self, op: &RegOp, constant: &Operand) -> Run<'a>
+    fn constant_lanes(self, op: &RegOp, constant: &Operand) -> LaneSequence<'a>
         ensures { run_numbers result ≡ cond (is_constant constant.now) (map (λ o. None) (operand_owners self.entry.target.now self.entry.func.now op.now)) [] }
     {
         if !is_constant(constant) {
-            return Run::Nothing(0);
+            return LaneSequence::Nothing(0);
         }
-        Run::Nothing(self.operand_lanes(op).len())
+        LaneSequence::Nothing(self.operand_lanes(op).len())
     }
 
     /// Adds what a definition writes that is given an immediate or an address.
@@ -103,13 +104,13 @@ impl<'a> Reader<'a> {
 
     /// The lanes of a slot beside so many lanes of a register.
     #[tactic(auto, using(crate::proofs::SilentParts::slot_run))]
-    fn slot_lanes(self, slot: u32, lanes: &Operand, count: usize) -> Run<'a>
+    fn slot_lanes(self, slot: u32, lanes: &Operand, count: usize) -> LaneSequence<'a>
         ensures { run_numbers result ≡ map (number_in self.entry.lanes.now) (map (owners.Slot slot) (slot_numbers self.entry.target.now count lanes.now)) }
     {
         let own = self.lanes.of_slot(slot);
         match lanes {
-            Operand::Index(x) => Run::Picked(own, self.target.lanes_at(*x)),
-            _ => Run::First(own, count),
+            Operand::Index(x) => LaneSequence::Picked(own, self.target.lanes_at(*x)),
+            _ => LaneSequence::First(own, count),
         }
     }
 
@@ -132,7 +133,7 @@ impl<'a> Reader<'a> {
         move_lanes(
             self.slot_lanes(slot, lanes, given.len()),
             given,
-            false,
+            LATE,
             effects,
         )?;
         Ok(())

@@ -8,8 +8,8 @@ use Rattle.target_base.specs.declared.types.Reg.{Reg}
 use Rattle.live_lanes.specs.Looks.{InOrder}
 use Rattle.live_lanes.proofs.Held.{or-none}
 use Rattle.interference.specs.declared.held.HeldList.{HeldList}
-use Rattle.interference.specs.declared.matrix.AllHeld.{AllHeld}
-use Rattle.interference.specs.declared.matrix.UnitHeld.{UnitHeld}
+use Rattle.interference.specs.declared.matrix.UnitTable.{UnitTable}
+use Rattle.interference.specs.declared.matrix.UnitExtents.{UnitExtents}
 use Rattle.interference.specs.declared.matrix.Matrix.{Matrix}
 use Rattle.interference.specs.Clashes.{IsOrdered, AreApart, AreKnown, register_in, part_of, held_of_some, list_in}
 use Rattle.interference.specs.Parts.{has_parts, has_lists}
@@ -51,11 +51,11 @@ no-items : {X : Type 0} (xs : List X) → nat_lt 0 (length xs) ≡ false → xs 
 no-items [] e = refl
 no-items (x ∷ xs) e = absurd (let h = ltb-false 0 (length (x ∷ xs)) e in omega arith)
 
-module _ (a : AllHeld) (none : list_any has_lists a.units.items ≡ false) where
+module _ (a : UnitTable) (none : list_any has_lists a.units.items ≡ false) where
   empty-list : (u b : ℕ) (h : HeldList) → list_in a u b ≡ Some h → h.parts.items ≡ []
   empty-list u b h e = go (slice_get a.units.items u) refl e
     where
-      go : (o : Option UnitHeld) → slice_get a.units.items u ≡ o → elim o [ None ↦ None | Some r ↦ slice_get r.blocks.items b ] ≡ Some h → h.parts.items ≡ []
+      go : (o : Option UnitExtents) → slice_get a.units.items u ≡ o → elim o [ None ↦ None | Some r ↦ slice_get r.blocks.items b ] ≡ Some h → h.parts.items ≡ []
       go None f g = absurd (cc)
       go (Some r) f g = no-items h.parts.items (none-at has_parts r.blocks.items b h (none-at has_lists a.units.items u r none f) g)
 

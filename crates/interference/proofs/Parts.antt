@@ -11,24 +11,24 @@ use Rattle.live_lanes.specs.declared.ask.extent.Stretch.{Stretch}
 use Rattle.live_lanes.specs.Table.{Numbers, leading, entry_rank, exit_rank, end_rank}
 use Rattle.live_lanes.specs.Extents.{first_rank, last_rank}
 use Rattle.live_lanes.proofs.Held.{or-none, and-none, le-false}
-use Rattle.interference.specs.declared.held.Gap.{Gap}
-use Rattle.interference.specs.declared.held.Held.{Held}
+use Rattle.interference.specs.declared.held.ListPosition.{ListPosition}
+use Rattle.interference.specs.declared.held.RangeExtent.{RangeExtent}
 use Rattle.interference.specs.declared.held.HeldList.{HeldList}
 use Rattle.interference.specs.Clashes.{part_of, held_of, is_none, AreApart, begins_by, touches}
 use Rattle.interference.specs.Parts.{parts_of, part_in, part_before, before, part_begins, lies_before}
 
-abbrev pub flat : List (List Held) → List Held
+abbrev pub flat : List (List RangeExtent) → List RangeExtent
 flat [] = []
 flat (p ∷ ps) = p ++ flat ps
 
-flat-map : (vs : List (Vec Held Global)) → flat (map part_of vs) ≡ flat_map part_of vs
+flat-map : (vs : List (Vec RangeExtent Global)) → flat (map part_of vs) ≡ flat_map part_of vs
 flat-map [] = refl
 flat-map (v ∷ vs) = ap (λ hs. part_of v ++ hs) (flat-map vs)
 
 pub flat-held : (h : HeldList) → flat (parts_of h) ≡ held_of h
 flat-held h = flat-map h.parts.items
 
-pub part-there : (vs : List (Vec Held Global)) (k : ℕ) (v : Vec Held Global) → k < length vs → v ≡ get_or vs k v → v.items ≡ part_in (map part_of vs) k
+pub part-there : (vs : List (Vec RangeExtent Global)) (k : ℕ) (v : Vec RangeExtent Global) → k < length vs → v ≡ get_or vs k v → v.items ≡ part_in (map part_of vs) k
 part-there [] k v h e = absurd (omega arith)
 part-there (x ∷ xs) zero v h e = ap part_of e
 part-there (x ∷ xs) (suc k) v h e = part-there xs k v (omega arith) e
@@ -46,11 +46,11 @@ module _ (slots : Numbers) where
   pub extent-le : (e : Extent) → first_rank slots e ≤ last_rank slots e
   extent-le e = extent-in e.start e.early (end_rank slots e.end)
 
-  pub apart-low : (n m : ℕ) (hs : List Held) → n ≤ m → AreApart slots m hs → AreApart slots n hs
+  pub apart-low : (n m : ℕ) (hs : List RangeExtent) → n ≤ m → AreApart slots m hs → AreApart slots n hs
   apart-low n m [] le a = tt
   apart-low n m (h ∷ hs) le a = let b = a.0 in (omega arith, a.1)
 
-  pub apart-filter : (test : Held → Bool) (n : ℕ) (hs : List Held) → AreApart slots n hs → AreApart slots n (filter test hs)
+  pub apart-filter : (test : RangeExtent → Bool) (n : ℕ) (hs : List RangeExtent) → AreApart slots n hs → AreApart slots n (filter test hs)
   apart-filter test n [] a = tt
   apart-filter test n (h ∷ hs) a = go (test h) (apart-filter test (last_rank slots h.extent) hs a.1)
     where
@@ -59,28 +59,28 @@ module _ (slots : Numbers) where
       go false ih = let b = a.0 in let c = extent-le h.extent in apart-low n (last_rank slots h.extent) (filter test hs) (omega arith) ih
 
   -- the last point of the last of them
-  abbrev pub behind_all : ℕ → List Held → ℕ
+  abbrev pub behind_all : ℕ → List RangeExtent → ℕ
   behind_all n [] = n
   behind_all n (h ∷ hs) = behind_all (last_rank slots h.extent) hs
 
-  pub apart-left : (n : ℕ) (xs ys : List Held) → AreApart slots n (xs ++ ys) → AreApart slots n xs
+  pub apart-left : (n : ℕ) (xs ys : List RangeExtent) → AreApart slots n (xs ++ ys) → AreApart slots n xs
   apart-left n [] ys a = tt
   apart-left n (x ∷ xs) ys a = (a.0, apart-left (last_rank slots x.extent) xs ys a.1)
 
-  pub apart-right : (n : ℕ) (xs ys : List Held) → AreApart slots n (xs ++ ys) → AreApart slots (behind_all n xs) ys
+  pub apart-right : (n : ℕ) (xs ys : List RangeExtent) → AreApart slots n (xs ++ ys) → AreApart slots (behind_all n xs) ys
   apart-right n [] ys a = a
   apart-right n (x ∷ xs) ys a = apart-right (last_rank slots x.extent) xs ys a.1
 
-  behind-low : (n : ℕ) (hs : List Held) → AreApart slots n hs → n ≤ behind_all n hs
+  behind-low : (n : ℕ) (hs : List RangeExtent) → AreApart slots n hs → n ≤ behind_all n hs
   behind-low n [] a = omega arith
   behind-low n (h ∷ hs) a = let ih = behind-low (last_rank slots h.extent) hs a.1 in let b = a.0 in let c = extent-le h.extent in omega arith
 
   -- they begin at their first one's first point, at the lowest
-  pub from-first : (n : ℕ) (h : Held) (hs : List Held) → AreApart slots n (h ∷ hs) → AreApart slots (first_rank slots h.extent) (h ∷ hs)
+  pub from-first : (n : ℕ) (h : RangeExtent) (hs : List RangeExtent) → AreApart slots n (h ∷ hs) → AreApart slots (first_rank slots h.extent) (h ∷ hs)
   from-first n h hs a = (omega arith, a.1)
 
   -- where one of them lies before a point, so does all that stands ahead of them
-  pub lies-low : (t n : ℕ) (hs : List Held) → AreApart slots n hs → list_any (lies_before slots t) hs ≡ true → n < t
+  pub lies-low : (t n : ℕ) (hs : List RangeExtent) → AreApart slots n hs → list_any (lies_before slots t) hs ≡ true → n < t
   lies-low t n [] a e = absurd (cc)
   lies-low t n (h ∷ hs) a e = go (lies_before slots t h) refl (λ f. lies-low t (last_rank slots h.extent) hs a.1 f)
     where
@@ -90,22 +90,22 @@ module _ (slots : Numbers) where
           let rest : list_any (lies_before slots t) hs ≡ true = sym (ap (λ b. b || list_any (lies_before slots t) hs) f) ∙ e in
           let low = ih rest in let b = a.0 in let c = extent-le h.extent in omega arith
 
-  module _ (at : Stretch) (test : Held → Bool) where
-    abbrev pub touched : List Held → Bool
+  module _ (at : Stretch) (test : RangeExtent → Bool) where
+    abbrev pub touched : List RangeExtent → Bool
     touched hs = list_any (λ h. test h && touches slots at h) hs
 
-    pub past-none : (h : Held) → last_rank slots h.extent < at.first → (test h && touches slots at h) ≡ false
+    pub past-none : (h : RangeExtent) → last_rank slots h.extent < at.first → (test h && touches slots at h) ≡ false
     past-none h low = and-none (test h) (touches slots at h) (and-none (begins_by slots at.last h) (nat_le at.first (last_rank slots h.extent)) (le-false at.first (last_rank slots h.extent) low))
 
     -- what lies before the points touches none
-    pub none-past : (n : ℕ) (hs : List Held) → AreApart slots n hs → behind_all n hs < at.first → touched hs ≡ false
+    pub none-past : (n : ℕ) (hs : List RangeExtent) → AreApart slots n hs → behind_all n hs < at.first → touched hs ≡ false
     none-past n [] a le = refl
     none-past n (h ∷ hs) a le =
         let low = behind-low (last_rank slots h.extent) hs a.1 in
         or-none (test h && touches slots at h) (touched hs) (past-none h (omega arith)) (none-past (last_rank slots h.extent) hs a.1 le)
 
     -- nor does what begins behind them
-    pub only-begun : (hs : List Held) → touched (filter (begins_by slots at.last) hs) ≡ touched hs
+    pub only-begun : (hs : List RangeExtent) → touched (filter (begins_by slots at.last) hs) ≡ touched hs
     only-begun [] = refl
     only-begun (h ∷ hs) = go (begins_by slots at.last h) refl (only-begun hs)
       where
@@ -114,31 +114,31 @@ module _ (slots : Numbers) where
         go false f ih = ih ∙ sym (ap (λ b. b || touched hs) (and-none (test h) (touches slots at h) (and-left-none (begins_by slots at.last h) (nat_le at.first (last_rank slots h.extent)) f)))
 
   module _ (at : ℕ) where
-    abbrev begun : List Held → List Held
+    abbrev begun : List RangeExtent → List RangeExtent
     begun hs = filter (begins_by slots at) hs
 
-    keep-more : (h : Held) (hs : List Held) → begins_by slots at h ≡ true → begun (h ∷ hs) ≡ h ∷ begun hs
+    keep-more : (h : RangeExtent) (hs : List RangeExtent) → begins_by slots at h ≡ true → begun (h ∷ hs) ≡ h ∷ begun hs
     keep-more h hs e = ap (λ b. cond b (h ∷ begun hs) (begun hs)) e
 
-    keep-none : (h : Held) (hs : List Held) → begins_by slots at h ≡ false → begun (h ∷ hs) ≡ begun hs
+    keep-none : (h : RangeExtent) (hs : List RangeExtent) → begins_by slots at h ≡ false → begun (h ∷ hs) ≡ begun hs
     keep-none h hs e = ap (λ b. cond b (h ∷ begun hs) (begun hs)) e
 
-    late : (n : ℕ) (h : Held) → at < n → n ≤ first_rank slots h.extent → begins_by slots at h ≡ false
+    late : (n : ℕ) (h : RangeExtent) → at < n → n ≤ first_rank slots h.extent → begins_by slots at h ≡ false
     late n h lt le = le-false (first_rank slots h.extent) at (omega arith)
 
-    none-begun : (n : ℕ) (hs : List Held) → AreApart slots n hs → at < n → begun hs ≡ []
+    none-begun : (n : ℕ) (hs : List RangeExtent) → AreApart slots n hs → at < n → begun hs ≡ []
     none-begun n [] a lt = refl
     none-begun n (h ∷ hs) a lt =
         let b = a.0 in let c = extent-le h.extent in
         keep-none h hs (late n h lt a.0) ∙ none-begun (last_rank slots h.extent) hs a.1 (omega arith)
 
-    all-begun : (n : ℕ) (hs : List Held) → AreApart slots n hs → behind_all n hs ≤ at → begun hs ≡ hs
+    all-begun : (n : ℕ) (hs : List RangeExtent) → AreApart slots n hs → behind_all n hs ≤ at → begun hs ≡ hs
     all-begun n [] a le = refl
     all-begun n (h ∷ hs) a le =
         let low = behind-low (last_rank slots h.extent) hs a.1 in let c = extent-le h.extent in
         keep-more h hs (le-leb (first_rank slots h.extent) at (omega arith)) ∙ ap (λ xs. h ∷ xs) (all-begun (last_rank slots h.extent) hs a.1 le)
 
-    lead-begun : (n : ℕ) (hs : List Held) → AreApart slots n hs → take (leading (begins_by slots at) hs) hs ≡ begun hs
+    lead-begun : (n : ℕ) (hs : List RangeExtent) → AreApart slots n hs → take (leading (begins_by slots at) hs) hs ≡ begun hs
     lead-begun n [] a = refl
     lead-begun n (h ∷ hs) a = go (begins_by slots at h) refl (lead-begun (last_rank slots h.extent) hs a.1)
       where
@@ -148,10 +148,10 @@ module _ (slots : Numbers) where
             let low = leb-false (first_rank slots h.extent) at e in let c = extent-le h.extent in
             ap (λ b. take (cond b (suc (leading (begins_by slots at) hs)) 0) (h ∷ hs)) e ∙ sym (keep-none h hs e ∙ none-begun (last_rank slots h.extent) hs a.1 (omega arith))
 
-    abbrev pub lead : List (List Held) → ℕ
+    abbrev pub lead : List (List RangeExtent) → ℕ
     lead ps = leading (part_begins slots at) ps
 
-    abbrev pub gap_at : List (List Held) → ℕ → Gap
+    abbrev pub gap_at : List (List RangeExtent) → ℕ → ListPosition
     gap_at ps k = record { part = k; count = leading (begins_by slots at) (part_in ps k) }
 
     eqb-suc : (j k : ℕ) → nat_eq (suc j) (suc k) ≡ nat_eq j k
@@ -161,17 +161,17 @@ module _ (slots : Numbers) where
         go (inl e) = eq-eqb (suc j) (suc k) (ap suc e) ∙ sym (eq-eqb j k e)
         go (inr n) = ne_eqb (suc j) (suc k) (λ h. n (omega (arith, h))) ∙ sym (ne_eqb j k n)
 
-    shift : (q : List Held) (ps : List (List Held)) (k c j : ℕ) → before (q ∷ ps) (record { part = suc k; count = c }) (suc j) ≡ q ++ before ps (record { part = k; count = c }) j
+    shift : (q : List RangeExtent) (ps : List (List RangeExtent)) (k c j : ℕ) → before (q ∷ ps) (record { part = suc k; count = c }) (suc j) ≡ q ++ before ps (record { part = k; count = c }) j
     shift q ps k c zero = ap (λ b. [] ++ cond b (take c q) q) (ne_eqb 0 (suc k) (λ e. omega arith)) ∙ sym (append-nil q)
     shift q ps k c (suc j) = ap (λ b. before (q ∷ ps) (record { part = suc k; count = c }) (suc j) ++ cond b (take c (part_in ps j)) (part_in ps j)) (eqb-suc j k) ∙ ap (λ xs. xs ++ part_before ps (record { part = k; count = c }) j) (shift q ps k c j) ∙ append_assoc q (before ps (record { part = k; count = c }) j) (part_before ps (record { part = k; count = c }) j)
 
-    head-none : (r : List Held) (rs : List (List Held)) (n : ℕ) → is_none r ≡ false → part_begins slots at r ≡ false → AreApart slots n (r ++ flat rs) → begun (r ++ flat rs) ≡ []
+    head-none : (r : List RangeExtent) (rs : List (List RangeExtent)) (n : ℕ) → is_none r ≡ false → part_begins slots at r ≡ false → AreApart slots n (r ++ flat rs) → begun (r ++ flat rs) ≡ []
     head-none [] rs n e f a = absurd (cc)
     head-none (h ∷ hs) rs n e f a =
         let low = leb-false (first_rank slots h.extent) at f in
         none-begun (first_rank slots h.extent) (h ∷ (hs ++ flat rs)) (from-first n h (hs ++ flat rs) a) low
 
-    head-begun : (r : List Held) (rs : List (List Held)) (n : ℕ) → part_begins slots at r ≡ true → AreApart slots n (r ++ flat rs) → n ≤ at
+    head-begun : (r : List RangeExtent) (rs : List (List RangeExtent)) (n : ℕ) → part_begins slots at r ≡ true → AreApart slots n (r ++ flat rs) → n ≤ at
     head-begun [] rs n f a = absurd (cc)
     head-begun (h ∷ hs) rs n f a = let low = leb-true (first_rank slots h.extent) at f in let b = a.0 in omega arith
 
@@ -184,7 +184,7 @@ module _ (slots : Numbers) where
     parts-right false b e = e
 
     -- the first part begins by the point
-    walk : (n : ℕ) (q : List Held) (rest : List (List Held)) → AreApart slots n (q ++ flat rest) → list_any is_none rest ≡ false → part_begins slots at q ≡ true
+    walk : (n : ℕ) (q : List RangeExtent) (rest : List (List RangeExtent)) → AreApart slots n (q ++ flat rest) → list_any is_none rest ≡ false → part_begins slots at q ≡ true
         → before (q ∷ rest) (gap_at (q ∷ rest) (lead rest)) (suc (lead rest)) ≡ begun (q ++ flat rest)
     walk n q [] a full begins = lead-begun n q (apart-left n q [] a) ∙ sym (ap begun (append-nil q))
     walk n q (r ∷ rs) a full begins = go (part_begins slots at r) refl (λ b f e. walk (behind_all n q) r rs b f e)
@@ -211,11 +211,11 @@ module _ (slots : Numbers) where
             ap (λ j. before (q ∷ r ∷ rs) (gap_at (q ∷ r ∷ rs) j) (suc j)) k
             ∙ lead-begun n q left ∙ sym (append-nil (begun q)) ∙ ap (λ xs. begun q ++ xs) (sym none) ∙ sym (filter-append (begins_by slots at) q (r ++ flat rs))
 
-    lead-late : (q : List Held) → is_none q ≡ false → part_begins slots at q ≡ false → leading (begins_by slots at) q ≡ 0
+    lead-late : (q : List RangeExtent) → is_none q ≡ false → part_begins slots at q ≡ false → leading (begins_by slots at) q ≡ 0
     lead-late [] e f = refl
     lead-late (h ∷ hs) e f = ap (λ b. cond b (suc (leading (begins_by slots at) hs)) 0) f
 
-    pub behind-is : (n : ℕ) (ps : List (List Held)) → AreApart slots n (flat ps) → (1 < length ps → list_any is_none ps ≡ false) → before ps (gap_at ps (lead ps - 1)) (suc (lead ps - 1)) ≡ begun (flat ps)
+    pub behind-is : (n : ℕ) (ps : List (List RangeExtent)) → AreApart slots n (flat ps) → (1 < length ps → list_any is_none ps ≡ false) → before ps (gap_at ps (lead ps - 1)) (suc (lead ps - 1)) ≡ begun (flat ps)
     behind-is n [] a full = refl
     behind-is n (q ∷ []) a full = go (part_begins slots at q) refl
       where
@@ -237,13 +237,13 @@ module _ (slots : Numbers) where
             ap (λ j. before (q ∷ r ∷ rs) (gap_at (q ∷ r ∷ rs) j) (suc j)) k
             ∙ ap (λ c. take c q) (lead-late q some e) ∙ sym (head-none q (r ∷ rs) n some e a)
 
-    late-parts : (n : ℕ) (ps : List (List Held)) (i : ℕ) (d : List Held) → AreApart slots n (flat ps) → at < n → i < length ps → part_begins slots at (get_or ps i d) ≡ false
+    late-parts : (n : ℕ) (ps : List (List RangeExtent)) (i : ℕ) (d : List RangeExtent) → AreApart slots n (flat ps) → at < n → i < length ps → part_begins slots at (get_or ps i d) ≡ false
     late-parts n [] i d a lt h = absurd (omega arith)
     late-parts n ([] ∷ ps) zero d a lt h = refl
     late-parts n ((x ∷ xs) ∷ ps) zero d a lt h = late n x lt a.0
     late-parts n (p ∷ ps) (suc i) d a lt h = let low = behind-low n p (apart-left n p (flat ps) a) in late-parts (behind_all n p) ps i d (apart-right n p (flat ps) a) (omega arith) (omega arith)
 
-    parted-full : (n : ℕ) (ps : List (List Held)) → AreApart slots n (flat ps) → list_any is_none ps ≡ false → IsPartitionedBy (part_begins slots at) ps
+    parted-full : (n : ℕ) (ps : List (List RangeExtent)) → AreApart slots n (flat ps) → list_any is_none ps ≡ false → IsPartitionedBy (part_begins slots at) ps
     parted-full n [] a full i j d w h e = absurd (omega arith)
     parted-full n (p ∷ ps) a full zero zero d w h e = e
     parted-full n ([] ∷ ps) a full zero (suc j) d w h e = absurd (cc)
@@ -260,19 +260,19 @@ module _ (slots : Numbers) where
     parted-full n (p ∷ ps) a full (suc i) zero d w h e = absurd (omega arith)
     parted-full n (p ∷ ps) a full (suc i) (suc j) d w h e = parted-full (behind_all n p) ps (apart-right n p (flat ps) a) (parts-right (is_none p) (list_any is_none ps) full) i j d (omega arith) (omega arith) e
 
-    pub parts-parted : (n : ℕ) (ps : List (List Held)) → AreApart slots n (flat ps) → (1 < length ps → list_any is_none ps ≡ false) → IsPartitionedBy (part_begins slots at) ps
+    pub parts-parted : (n : ℕ) (ps : List (List RangeExtent)) → AreApart slots n (flat ps) → (1 < length ps → list_any is_none ps ≡ false) → IsPartitionedBy (part_begins slots at) ps
     parts-parted n [] a full i j d w h e = absurd (omega arith)
     parts-parted n (p ∷ []) a full zero zero d w h e = e
     parts-parted n (p ∷ []) a full zero (suc j) d w h e = absurd (omega arith)
     parts-parted n (p ∷ []) a full (suc i) j d w h e = absurd (omega arith)
     parts-parted n (p ∷ q ∷ qs) a full i j d w h e = parted-full n (p ∷ q ∷ qs) a (full (omega arith)) i j d w h e
 
-    late-held : (n : ℕ) (hs : List Held) (i : ℕ) (d : Held) → AreApart slots n hs → at < n → i < length hs → begins_by slots at (get_or hs i d) ≡ false
+    late-held : (n : ℕ) (hs : List RangeExtent) (i : ℕ) (d : RangeExtent) → AreApart slots n hs → at < n → i < length hs → begins_by slots at (get_or hs i d) ≡ false
     late-held n [] i d a lt h = absurd (omega arith)
     late-held n (x ∷ xs) zero d a lt h = late n x lt a.0
     late-held n (x ∷ xs) (suc i) d a lt h = let c = extent-le x.extent in let b = a.0 in late-held (last_rank slots x.extent) xs i d a.1 (omega arith) (omega arith)
 
-    pub held-parted : (n : ℕ) (hs : List Held) → AreApart slots n hs → IsPartitionedBy (begins_by slots at) hs
+    pub held-parted : (n : ℕ) (hs : List RangeExtent) → AreApart slots n hs → IsPartitionedBy (begins_by slots at) hs
     held-parted n [] a i j d w h e = absurd (omega arith)
     held-parted n (x ∷ xs) a zero zero d w h e = e
     held-parted n (x ∷ xs) a zero (suc j) d w h e = go (begins_by slots at x) refl
@@ -287,7 +287,7 @@ module _ (slots : Numbers) where
     held-parted n (x ∷ xs) a (suc i) (suc j) d w h e = held-parted (last_rank slots x.extent) xs a.1 i j d (omega arith) (omega arith) e
 
   -- the stretches of each part lie apart
-  pub some-apart : (n : ℕ) (ps : List (List Held)) (k : ℕ) → AreApart slots n (flat ps) → (m : ℕ) × AreApart slots m (part_in ps k)
+  pub some-apart : (n : ℕ) (ps : List (List RangeExtent)) (k : ℕ) → AreApart slots n (flat ps) → (m : ℕ) × AreApart slots m (part_in ps k)
   some-apart n [] k a = (n, tt)
   some-apart n (p ∷ ps) zero a = (n, apart-left n p (flat ps) a)
   some-apart n (p ∷ ps) (suc k) a = some-apart (behind_all n p) ps k (apart-right n p (flat ps) a)

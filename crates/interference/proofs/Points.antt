@@ -20,7 +20,7 @@ use Rattle.live_lanes.specs.Extents.{extent_in, stretch_of}
 use Rattle.live_lanes.proofs.Cells.{both, both-left, both-right}
 use Rattle.live_lanes.proofs.Held.{or-left, or-right}
 use Rattle.live_lanes.proofs.Extents.{any-in}
-use Rattle.interference.specs.declared.held.Held.{Held}
+use Rattle.interference.specs.declared.held.RangeExtent.{RangeExtent}
 use Rattle.interference.specs.declared.held.HeldList.{HeldList}
 use Rattle.interference.specs.declared.matrix.Matrix.{Matrix}
 use Rattle.interference.specs.Clashes.{Points, IsOrdered, AreApart, AreFilled, AreKnown, held_of, held_of_some, list_in, holds, touches, is_taken, is_taken_by, cell_points, some_cell_points, lane_points, range_points, points_in, is_fixed_at, is_held_at, is_taken_at, are_taken, is_fixed, is_in_way, ranges_of, is_free}
@@ -117,7 +117,7 @@ from-not true e = absurd (cc)
 from-not false e = refl
 
 -- another range than one holds some of the points where a range that is another one does
-pub by-taken : (slots : Numbers) (hs : List Held) (but w : ℕ) (at : Stretch) → nat_eq w but ≡ false → is_taken_by slots hs w at ≡ true → is_taken slots hs but at ≡ true
+pub by-taken : (slots : Numbers) (hs : List RangeExtent) (but w : ℕ) (at : Stretch) → nat_eq w but ≡ false → is_taken_by slots hs w at ≡ true → is_taken slots hs but at ≡ true
 by-taken slots hs but w at ne e = any-cases (λ h. nat_eq h.range w && touches slots at h) hs (is_taken slots hs but at ≡ true)
     (λ h p lift.
     let same : h.range ≡ w = eqb-true h.range w (both-left (nat_eq h.range w) (touches slots at h) p) in
@@ -125,20 +125,20 @@ by-taken slots hs but w at ne e = any-cases (λ h. nat_eq h.range w && touches s
     lift (λ g. not (nat_eq g.range but) && touches slots at g) (both (not (nat_eq h.range but)) (touches slots at h) (not-false (nat_eq h.range but) other) (both-right (nat_eq h.range w) (touches slots at h) p))) e
 
 -- the range that does is known
-pub taken-by : (slots : Numbers) (hs : List Held) (but n : ℕ) (at : Stretch) (G : Type 0) → AreKnown n hs → ((w : ℕ) → w < n → nat_eq w but ≡ false → is_taken_by slots hs w at ≡ true → G) → is_taken slots hs but at ≡ true → G
+pub taken-by : (slots : Numbers) (hs : List RangeExtent) (but n : ℕ) (at : Stretch) (G : Type 0) → AreKnown n hs → ((w : ℕ) → w < n → nat_eq w but ≡ false → is_taken_by slots hs w at ≡ true → G) → is_taken slots hs but at ≡ true → G
 taken-by slots hs but n at G known k e = any-cases (λ h. not (nat_eq h.range but) && touches slots at h) hs G
     (λ h p lift. k h.range (low h lift (cases_lt h.range n)) (from-not (nat_eq h.range but) (both-left (not (nat_eq h.range but)) (touches slots at h) p))
     (lift (λ g. nat_eq g.range h.range && touches slots at g) (both (nat_eq h.range h.range) (touches slots at h) (eq-eqb h.range h.range refl) (both-right (not (nat_eq h.range but)) (touches slots at h) p)))) e
   where
-    low : (h : Held) → ((g : Held → Bool) → g h ≡ true → list_any g hs ≡ true) → (h.range < n) ⊎ (n ≤ h.range) → h.range < n
+    low : (h : RangeExtent) → ((g : RangeExtent → Bool) → g h ≡ true → list_any g hs ≡ true) → (h.range < n) ⊎ (n ≤ h.range) → h.range < n
     low h lift (inl lt) = lt
     low h lift (inr le) = absurd (let z = lift (λ g. nat_le n g.range) (le-leb n h.range le) in cc)
 
-pub known-taken : (slots : Numbers) (hs : List Held) (w n : ℕ) (at : Stretch) → AreKnown n hs → is_taken_by slots hs w at ≡ true → w < n
+pub known-taken : (slots : Numbers) (hs : List RangeExtent) (w n : ℕ) (at : Stretch) → AreKnown n hs → is_taken_by slots hs w at ≡ true → w < n
 known-taken slots hs w n at known e = any-cases (λ h. nat_eq h.range w && touches slots at h) hs (w < n)
     (λ h p lift. let same : h.range ≡ w = eqb-true h.range w (both-left (nat_eq h.range w) (touches slots at h) p) in low h lift same (cases_lt w n)) e
   where
-    low : (h : Held) → ((g : Held → Bool) → g h ≡ true → list_any g hs ≡ true) → h.range ≡ w → (w < n) ⊎ (n ≤ w) → w < n
+    low : (h : RangeExtent) → ((g : RangeExtent → Bool) → g h ≡ true → list_any g hs ≡ true) → h.range ≡ w → (w < n) ⊎ (n ≤ w) → w < n
     low h lift same (inl lt) = lt
     low h lift same (inr le) = absurd (let z = lift (λ g. nat_le n g.range) (le-leb n h.range (omega arith)) in cc)
 
@@ -224,7 +224,7 @@ pub more-way : (m : Matrix) (v w : ℕ) (rest xs more : List Points) → rest �
 more-way m v w rest xs more e h = ap (λ ps. are_taken m v ps w) e ∙ taken-append m v xs more w ∙ or-right (are_taken m v xs w) (are_taken m v more w) h
 
 -- some other range is found where there is one
-pub other-meets : (ns : Numbers) (hs : List Held) (but : ℕ) (at : Stretch) (o : Option ℕ) → MatchOption o (is_taken ns hs but at ≡ false) (λ w. (nat_eq w but ≡ false) × (is_taken_by ns hs w at ≡ true)) → is_some o ≡ is_taken ns hs but at
+pub other-meets : (ns : Numbers) (hs : List RangeExtent) (but : ℕ) (at : Stretch) (o : Option ℕ) → MatchOption o (is_taken ns hs but at ≡ false) (λ w. (nat_eq w but ≡ false) × (is_taken_by ns hs w at ≡ true)) → is_some o ≡ is_taken ns hs but at
 other-meets ns hs but at None m = sym m
 other-meets ns hs but at (Some w) m = sym (by-taken ns hs but w at m.0 m.1)
 

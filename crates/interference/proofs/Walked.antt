@@ -9,8 +9,8 @@ use Rattle.live_lanes.specs.Table.{Numbers}
 use Rattle.live_lanes.specs.Extents.{last_rank}
 use Rattle.live_lanes.proofs.Cells.{both, both-left, both-right}
 use Rattle.live_lanes.proofs.Held.{or-left, or-right}
-use Rattle.interference.specs.declared.held.Gap.{Gap}
-use Rattle.interference.specs.declared.held.Held.{Held}
+use Rattle.interference.specs.declared.held.ListPosition.{ListPosition}
+use Rattle.interference.specs.declared.held.RangeExtent.{RangeExtent}
 use Rattle.interference.specs.Clashes.{AreApart, begins_by, touches, is_taken_by}
 use Rattle.interference.specs.Parts.{part_before, before, lies_before}
 use Rattle.interference.proofs.Parts.{extent-le, apart-filter, apart-left, apart-right, behind_all, lies-low, touched, past-none, none-past, only-begun}
@@ -40,30 +40,30 @@ none-drop p (x ∷ xs) zero h = absurd (omega arith)
 none-drop p (x ∷ xs) (suc i) h = none-drop p xs i (omega arith)
 
 module _ (slots : Numbers) where
-  apart-last : (n : ℕ) (hs : List Held) (i : ℕ) (d : Held) → AreApart slots n hs → i < length hs → n ≤ last_rank slots (get_or hs i d).extent
+  apart-last : (n : ℕ) (hs : List RangeExtent) (i : ℕ) (d : RangeExtent) → AreApart slots n hs → i < length hs → n ≤ last_rank slots (get_or hs i d).extent
   apart-last n [] i d a h = absurd (omega arith)
   apart-last n (x ∷ xs) zero d a h = let b = a.0 in let c = extent-le slots x.extent in omega arith
   apart-last n (x ∷ xs) (suc i) d a h = let ih = apart-last (last_rank slots x.extent) xs i d a.1 (omega arith) in let b = a.0 in let c = extent-le slots x.extent in omega arith
 
-  module _ (at : Stretch) (test : Held → Bool) where
+  module _ (at : Stretch) (test : RangeExtent → Bool) where
     -- where one lies before the points, only those behind it touch some
-    pub from-behind : (n : ℕ) (hs : List Held) (i : ℕ) (d : Held) → AreApart slots n hs → i < length hs → last_rank slots (get_or hs i d).extent < at.first → touched slots at test hs ≡ touched slots at test (drop (suc i) hs)
+    pub from-behind : (n : ℕ) (hs : List RangeExtent) (i : ℕ) (d : RangeExtent) → AreApart slots n hs → i < length hs → last_rank slots (get_or hs i d).extent < at.first → touched slots at test hs ≡ touched slots at test (drop (suc i) hs)
     from-behind n [] i d a h low = absurd (omega arith)
     from-behind n (x ∷ xs) zero d a h low = ap (λ b. b || touched slots at test xs) (past-none slots at test x low)
     from-behind n (x ∷ xs) (suc i) d a h low =
         let up = apart-last (last_rank slots x.extent) xs i d a.1 (omega arith) in
         ap (λ b. b || touched slots at test xs) (past-none slots at test x (omega arith)) ∙ from-behind (last_rank slots x.extent) xs i d a.1 (omega arith) low
 
-  pub met-other : (at : Stretch) (hs : List Held) (i : ℕ) (d : Held) → list_all (begins_by slots at.last) hs ≡ true → i < length hs → at.first ≤ last_rank slots (get_or hs i d).extent → is_taken_by slots hs (get_or hs i d).range at ≡ true
+  pub met-other : (at : Stretch) (hs : List RangeExtent) (i : ℕ) (d : RangeExtent) → list_all (begins_by slots at.last) hs ≡ true → i < length hs → at.first ≤ last_rank slots (get_or hs i d).extent → is_taken_by slots hs (get_or hs i d).range at ≡ true
   met-other at hs i d all h le =
       list_any_at (λ g. nat_eq g.range (get_or hs i d).range && touches slots at g) hs i d h
       (both (nat_eq (get_or hs i d).range (get_or hs i d).range) (touches slots at (get_or hs i d)) (eq-eqb (get_or hs i d).range (get_or hs i d).range refl)
       (both (begins_by slots at.last (get_or hs i d)) (nat_le at.first (last_rank slots (get_or hs i d).extent)) (all-get (begins_by slots at.last) hs i d all h) (le-leb at.first (last_rank slots (get_or hs i d).extent) le)))
 
-  pub met-behind : (at : Stretch) (hs : List Held) (i : ℕ) (d : Held) → i < length hs → last_rank slots (get_or hs i d).extent < at.first → list_any (lies_before slots at.first) hs ≡ true
+  pub met-behind : (at : Stretch) (hs : List RangeExtent) (i : ℕ) (d : RangeExtent) → i < length hs → last_rank slots (get_or hs i d).extent < at.first → list_any (lies_before slots at.first) hs ≡ true
   met-behind at hs i d h low = list_any_at (lies_before slots at.first) hs i d h (lt-ltb (last_rank slots (get_or hs i d).extent) at.first low)
 
-  module _ (ps : List (List Held)) (gap : Gap) (hs : List Held) (at : Stretch) (apart : AreApart slots 0 hs) (same : before ps gap (suc gap.part) ≡ filter (begins_by slots at.last) hs) where
+  module _ (ps : List (List RangeExtent)) (gap : ListPosition) (hs : List RangeExtent) (at : Stretch) (apart : AreApart slots 0 hs) (same : before ps gap (suc gap.part) ≡ filter (begins_by slots at.last) hs) where
     apart-all : AreApart slots 0 (before ps gap (suc gap.part))
     apart-all = subst (AreApart slots 0) (sym same) (apart-filter slots (begins_by slots at.last) 0 hs apart)
 
@@ -81,7 +81,7 @@ module _ (slots : Numbers) where
         begun-down i j (both-left (list_all (begins_by slots at.last) (before ps gap (i + j))) (list_all (begins_by slots at.last) (part_before ps gap (i + j)))
         (sym (list_all-append (begins_by slots at.last) (before ps gap (i + j)) (part_before ps gap (i + j))) ∙ subst (λ k. list_all (begins_by slots at.last) (before ps gap k) ≡ true) e a))
 
-    any-up : (p : Held → Bool) (i j : ℕ) → list_any p (before ps gap j) ≡ true → list_any p (before ps gap (i + j)) ≡ true
+    any-up : (p : RangeExtent → Bool) (i j : ℕ) → list_any p (before ps gap j) ≡ true → list_any p (before ps gap (i + j)) ≡ true
     any-up p zero j a = let e : j ≡ zero + j = omega arith in subst (λ k. list_any p (before ps gap k) ≡ true) e a
     any-up p (suc i) j a =
         let e : suc (i + j) ≡ suc i + j = omega arith in
@@ -99,7 +99,7 @@ module _ (slots : Numbers) where
         both-right (list_all (begins_by slots at.last) (before ps gap j)) (list_all (begins_by slots at.last) (part_before ps gap j))
         (sym (list_all-append (begins_by slots at.last) (before ps gap j) (part_before ps gap j)) ∙ begun-down (gap.part - j) (suc j) (subst (λ k. list_all (begins_by slots at.last) (before ps gap k) ≡ true) (sym e) begun-all))
 
-    module _ (test : Held → Bool) where
+    module _ (test : RangeExtent → Bool) where
       pub touched-all : touched slots at test (before ps gap (suc gap.part)) ≡ touched slots at test hs
       touched-all = ap (touched slots at test) same ∙ only-begun slots at test hs
 

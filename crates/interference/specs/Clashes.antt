@@ -15,9 +15,9 @@ use Rattle.live_lanes.specs.Table.{Numbers}
 use Rattle.live_lanes.specs.Entered.{cells_of}
 use Rattle.live_lanes.specs.Looks.{InOrder}
 use Rattle.live_lanes.specs.Extents.{cell_extents, first_rank, last_rank, stretch_of, is_met}
-use Rattle.interference.specs.declared.held.Held.{Held}
+use Rattle.interference.specs.declared.held.RangeExtent.{RangeExtent}
 use Rattle.interference.specs.declared.held.HeldList.{HeldList}
-use Rattle.interference.specs.declared.matrix.AllHeld.{AllHeld}
+use Rattle.interference.specs.declared.matrix.UnitTable.{UnitTable}
 use Rattle.interference.specs.declared.matrix.Matrix.{Matrix}
 use Rattle.interference.specs.declared.matrix.Clash.{Clash}
 use Rattle.interference.specs.declared.matrix.Clash.TheVariants as clashes
@@ -26,32 +26,32 @@ use Rattle.interference.specs.declared.matrix.Clash.TheVariants as clashes
 abbrev pub register_in : List (Option Reg) → ℕ → Option Reg
 register_in rs v = elim (slice_get rs v) [ None ↦ None | Some r ↦ r ]
 
-abbrev pub part_of : Vec Held Global → List Held
+abbrev pub part_of : Vec RangeExtent Global → List RangeExtent
 part_of p = p.items
 
 -- the stretches of a list, part by part
-abbrev pub held_of : HeldList → List Held
+abbrev pub held_of : HeldList → List RangeExtent
 held_of h = flat_map part_of h.parts.items
 
 -- the list of a unit in the block at a position
-abbrev pub list_in : AllHeld → ℕ → ℕ → Option HeldList
+abbrev pub list_in : UnitTable → ℕ → ℕ → Option HeldList
 list_in h u b = elim (slice_get h.units.items u) [ None ↦ None | Some r ↦ slice_get r.blocks.items b ]
 
-abbrev pub held_of_some : Option HeldList → List Held
+abbrev pub held_of_some : Option HeldList → List RangeExtent
 held_of_some None = []
 held_of_some (Some h) = held_of h
 
 -- what ranges hold of a unit in the block at a position
-abbrev pub holds : Matrix → ℕ → ℕ → List Held
+abbrev pub holds : Matrix → ℕ → ℕ → List RangeExtent
 holds m u b = held_of_some (list_in m.held u b)
 
 -- each stretch begins behind the one before it, or at its last point, as where a piece of a range ends with a reading by
 -- an instruction that begins the next piece early
-abbrev pub AreApart : Numbers → ℕ → List Held → Type 0
+abbrev pub AreApart : Numbers → ℕ → List RangeExtent → Type 0
 AreApart slots n [] = Unit {0}
 AreApart slots n (h ∷ hs) = (n ≤ first_rank slots h.extent) × AreApart slots (last_rank slots h.extent) hs
 
-abbrev pub is_none : List Held → Bool
+abbrev pub is_none : List RangeExtent → Bool
 is_none [] = true
 is_none (h ∷ hs) = false
 
@@ -60,7 +60,7 @@ abbrev pub AreFilled : HeldList → Type 0
 AreFilled h = 1 < length h.parts.items → list_any is_none (map part_of h.parts.items) ≡ false
 
 -- each holding range has a place among the registers
-abbrev pub AreKnown : ℕ → List Held → Type 0
+abbrev pub AreKnown : ℕ → List RangeExtent → Type 0
 AreKnown n hs = list_any (λ h. nat_le n h.range) hs ≡ false
 
 -- the stretches that are held of each unit in each block stand in order
@@ -72,19 +72,19 @@ pub record IsOrdered (m : Matrix) : Type 0 where
   pub known : (u b : ℕ) → AreKnown (length m.registers.items) (holds m u b)
 
 -- it begins at the point or before it
-abbrev pub begins_by : Numbers → ℕ → Held → Bool
+abbrev pub begins_by : Numbers → ℕ → RangeExtent → Bool
 begins_by slots at h = nat_le (first_rank slots h.extent) at
 
 -- the range holds one of these points
-abbrev pub touches : Numbers → Stretch → Held → Bool
+abbrev pub touches : Numbers → Stretch → RangeExtent → Bool
 touches slots at h = begins_by slots at.last h && nat_le at.first (last_rank slots h.extent)
 
 -- another range than one holds some of these points
-abbrev pub is_taken : Numbers → List Held → ℕ → Stretch → Bool
+abbrev pub is_taken : Numbers → List RangeExtent → ℕ → Stretch → Bool
 is_taken slots hs but at = list_any (λ h. not (nat_eq h.range but) && touches slots at h) hs
 
 -- that range does
-abbrev pub is_taken_by : Numbers → List Held → ℕ → Stretch → Bool
+abbrev pub is_taken_by : Numbers → List RangeExtent → ℕ → Stretch → Bool
 is_taken_by slots hs w at = list_any (λ h. nat_eq h.range w && touches slots at h) hs
 
 -- a unit is live or occupied by itself, or another range than `but` holds it, at one of these points of the block at a position

@@ -17,21 +17,21 @@ const MOST_IN_A_PART: usize = 64;
 
 /// Points in a row at which a range holds the unit.
 #[derive(Clone, Copy, PartialEq, Eq)]
-pub(crate) struct Held {
+pub(crate) struct RangeExtent {
     pub range: u32,
     pub extent: Extent,
 }
 
 /// A place between two stretches of a list: behind so many of one part.
 #[derive(Clone, Copy)]
-struct Gap {
+struct ListPosition {
     part: usize,
     count: usize,
 }
 
 /// What is known of some points when those that are held of them are gone through.
 #[derive(Clone, Copy, PartialEq, Eq)]
-enum Met {
+enum OverlapResult {
     /// Another range, this one, holds the unit there.
     Other(u32),
     /// All that is held from there on lies before these points.
@@ -42,7 +42,7 @@ enum Met {
 
 /// Whether a stretch is among some.
 #[derive(Clone, Copy, PartialEq, Eq)]
-enum Sought {
+enum SearchResult {
     /// It is the last one of so many.
     UpTo(usize),
     /// It isn't there.
@@ -57,11 +57,11 @@ enum Sought {
 pub(crate) struct HeldList {
     alloc: Global,
     /// Each has some stretches, but for one that is alone.
-    parts: Vec<Vec<Held>>,
+    parts: Vec<Vec<RangeExtent>>,
 }
 
 /// Whether the first stretch of a part begins at or before a point.
-fn begins_by(slots: &Slots, part: &Vec<Held>, at: u128) -> bool
+fn begins_by(slots: &Slots, part: &Vec<RangeExtent>, at: u128) -> bool
     ensures { result ≡ part_begins slots.now at part.now.items }
 {
     match part.first() {
@@ -71,7 +71,7 @@ fn begins_by(slots: &Slots, part: &Vec<Held>, at: u128) -> bool
 }
 
 /// How many stretches of a part begin at or before a point.
-fn count_by(slots: &Slots, part: &Vec<Held>, at: u128) -> usize
+fn count_by(slots: &Slots, part: &Vec<RangeExtent>, at: u128) -> usize
     ensures within { result ≤ length part.now.items }
     ensures count { (n : ℕ) → AreApart slots.now n part.now.items → result ≡ leading (begins_by slots.now at) part.now.items }
 {
@@ -81,24 +81,30 @@ fn count_by(slots: &Slots, part: &Vec<Held>, at: u128) -> usize
 
 /// Whether another range than one holds the unit at some of these points, by some stretches that
 /// begin before their end.
-fn met_by(slots: &Slots, stretches: &[Held], at: Stretch, but: u32) -> Met
+fn met_by(slots: &Slots, stretches: &[RangeExtent], at: Stretch, but: u32) -> OverlapResult
     ensures { list_all (begins_by slots.now at.last) stretches.now ≡ true → (n : ℕ) → AreApart slots.now n stretches.now → IsMet slots.now stretches.now at but result }
 {
     'stretches: for k in (0..stretches.len()).rev() {
         let held = &stretches[k];
         if held.extent.last(slots) < at.first {
-            return Met::Behind;
+            return OverlapResult::Behind;
         }
         if held.range != but {
-            return Met::Other(held.range);
+            return OverlapResult::Other(held.range);
         }
     }
-    Met::Open
+    OverlapResult::Open
 }
 
 /// Marks the ranges other than one that hold the unit at some of these points, by some stretches that
 /// begin before their end. Answers whether there may be more.
-fn mark_met(slots: &Slots, stretches: &[Held], at: Stretch, but: u32, marks: &mut Marks) -> bool
+fn mark_met(
+    slots: &Slots,
+    stretches: &[RangeExtent],
+    at: Stretch,
+    but: u32,
+    marks: &mut Marks,
+) -> bool
     ensures room { length marks.new.words.items ≡ length marks.old.words.items }
     ensures marked { list_all (begins_by slots.now at.last) stretches.now ≡ true → (n : ℕ) → AreApart slots.now n stretches.now → (w : ℕ) → w < length marks.old.words.items * 64
         → is_marked marks.new.words.items w ≡ ((not (nat_eq w but) && is_taken_by slots.now stretches.now w at) || is_marked marks.old.words.items w) }
@@ -118,18 +124,24 @@ fn mark_met(slots: &Slots, stretches: &[Held], at: Stretch, but: u32, marks: &mu
 
 /// Looks for a stretch of a range that begins with an instruction or with the block, among some whose
 /// last ones are those that begin at the first of some points or behind it.
-fn seek(slots: &Slots, stretches: &[Held], range: u32, start: Option<u32>, first: u128) -> Sought {
+fn seek(
+    slots: &Slots,
+    stretches: &[RangeExtent],
+    range: u32,
+    start: Option<u32>,
+    first: u128,
+) -> SearchResult {
     let mut count = stretches.len();
     'stretches: for held in stretches.iter().rev() {
         if held.range == range && held.extent.start == start {
-            return Sought::UpTo(count);
+            return SearchResult::UpTo(count);
         }
         if held.extent.first(slots) < first {
-            return Sought::Nowhere;
+            return SearchResult::Nowhere;
         }
         count = count.saturating_sub(1);
     }
-    Sought::Open
+    SearchResult::Open
 }
 
 impl HeldList {
@@ -144,7 +156,7 @@ impl HeldList {
     }
 
     /// The place behind the stretches that begin at or before a point.
-    fn behind(&self, slots: &Slots, at: u128) -> Gap
+    fn behind(&self, slots: &Slots, at: u128) -> ListPosition
         ensures part { result.part ≤ length self.now.parts.items }
         ensures within { result.count ≤ length (part_in (parts_of self.now) result.part) }
         ensures before { AreFilled self.now → AreApart slots.now 0 (held_of self.now)
@@ -158,11 +170,11 @@ impl HeldList {
             Some(there) => count_by(slots, there, at),
             None => 0,
         };
-        Gap { part, count }
+        ListPosition { part, count }
     }
 
     /// The stretches of a part that stand before a place.
-    fn part_before(&self, part: usize, gap: Gap) -> &[Held]
+    fn part_before(&self, part: usize, gap: ListPosition) -> &[RangeExtent]
         ensures { gap.count ≤ length (part_in (parts_of self.now) gap.part) → result.now ≡ part_before (parts_of self.now) gap part }
     {
         let Some(there) = self.parts.get(part) else {
@@ -192,9 +204,9 @@ impl HeldList {
         let gap = self.behind(slots, at.last);
         'parts: for part in (0..gap.part + 1).rev() {
             match met_by(slots, self.part_before(part, gap), at, but) {
-                Met::Other(range) => return Some(range),
-                Met::Behind => return None,
-                Met::Open => {}
+                OverlapResult::Other(range) => return Some(range),
+                OverlapResult::Behind => return None,
+                OverlapResult::Open => {}
             }
         }
         None
@@ -217,11 +229,11 @@ impl HeldList {
     /// Adds points that a range holds. After a refusal nothing is added.
     pub fn add(&mut self, slots: &Slots, range: u32, extent: Extent) -> Result<(), AllocError> {
         let gap = self.gap_for(slots, extent.first(slots))?;
-        self.insert(gap, Held { range, extent })
+        self.insert(gap, RangeExtent { range, extent })
     }
 
     /// The place behind the stretches that begin at or before a point, in a part that has room.
-    fn gap_for(&mut self, slots: &Slots, at: u128) -> Result<Gap, AllocError> {
+    fn gap_for(&mut self, slots: &Slots, at: u128) -> Result<ListPosition, AllocError> {
         let gap = self.behind(slots, at);
         if self.parts.is_empty() {
             self.parts.push(Vec::new(self.alloc))?;
@@ -259,7 +271,7 @@ impl HeldList {
         Ok(())
     }
 
-    fn insert(&mut self, gap: Gap, held: Held) -> Result<(), AllocError> {
+    fn insert(&mut self, gap: ListPosition, held: RangeExtent) -> Result<(), AllocError> {
         if let Some(there) = self.parts.get_mut(gap.part) {
             let at = gap.count.min(there.len());
             there.insert(at, held)?;
@@ -268,7 +280,7 @@ impl HeldList {
     }
 
     /// The place behind the points of a range that begin with an instruction or with the block.
-    fn find(&self, slots: &Slots, range: u32, start: Option<u32>) -> Option<Gap> {
+    fn find(&self, slots: &Slots, range: u32, start: Option<u32>) -> Option<ListPosition> {
         let low = match start {
             None => 0,
             Some(id) => slots.number(id) as u128 * 2,
@@ -280,9 +292,9 @@ impl HeldList {
         let gap = self.behind(slots, high);
         'parts: for part in (0..=gap.part).rev() {
             match seek(slots, self.part_before(part, gap), range, start, low) {
-                Sought::UpTo(count) => return Some(Gap { part, count }),
-                Sought::Nowhere => return None,
-                Sought::Open => {}
+                SearchResult::UpTo(count) => return Some(ListPosition { part, count }),
+                SearchResult::Nowhere => return None,
+                SearchResult::Open => {}
             }
         }
         None
@@ -296,7 +308,7 @@ impl HeldList {
     }
 
     /// Takes away the stretch before a place.
-    fn cut(&mut self, gap: Gap) {
+    fn cut(&mut self, gap: ListPosition) {
         let Some(there) = self.parts.get_mut(gap.part) else {
             return;
         };

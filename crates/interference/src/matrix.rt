@@ -15,7 +15,7 @@ ghost use Rattle.interference.specs.Marked.{is_marked};
 
 use crate::held::HeldList;
 use crate::marks::Marks;
-use live_lanes::{Changes, Edit, LiveFunc, Mended, Stretch};
+use live_lanes::{ChangedPiece, Changes, Edit, LiveFunc, Stretch};
 use mir_func::{Gap, Operand, Operands, RegOp};
 use slot_index::Slots;
 use std::alloc::{AllocError, Global};
@@ -32,14 +32,14 @@ pub enum Clash {
 
 /// What ranges hold of a unit, by the positions of blocks in the layout.
 #[derive(Drop)]
-struct UnitHeld {
+struct UnitExtents {
     blocks: Vec<HeldList>,
 }
 
 /// What ranges hold of each unit.
 #[derive(Drop)]
-struct AllHeld {
-    units: Vec<UnitHeld>,
+struct UnitTable {
+    units: Vec<UnitExtents>,
 }
 
 /// A function with what is live in it, and the registers of the ranges that are assigned. No two
@@ -50,34 +50,34 @@ pub struct Matrix {
     live: LiveFunc,
     /// By range.
     registers: Vec<Option<Reg>>,
-    held: AllHeld,
+    held: UnitTable,
 }
 
 /// The range and the unit that hold a lane, where its range is assigned.
 #[derive(Clone, Copy)]
-struct Holding {
+struct LaneHolder {
     lane: u32,
     holder: Option<(u32, u32)>,
 }
 
 /// A piece of a range that is assigned, and the unit that it holds.
 #[derive(Clone, Copy, PartialEq, Eq)]
-struct HeldPiece {
+struct AssignedPiece {
     range: u32,
     unit: u32,
-    piece: Mended,
+    piece: ChangedPiece,
 }
 
 /// Adds a piece of a lane that is held, unless it is the one that was added last.
 fn add_held(
-    holding: Holding,
-    piece: Mended,
-    pieces: &mut Vec<HeldPiece>,
+    holding: LaneHolder,
+    piece: ChangedPiece,
+    pieces: &mut Vec<AssignedPiece>,
 ) -> Result<(), AllocError> {
     let Some((range, unit)) = holding.holder else {
         return Ok(());
     };
-    let held = HeldPiece { range, unit, piece };
+    let held = AssignedPiece { range, unit, piece };
     if pieces.last() != Some(&held) {
         pieces.push(held)?;
     }
@@ -85,26 +85,26 @@ fn add_held(
 }
 
 #[tactic(auto, using(crate::proofs::Empty::empties))]
-fn empty_unit(alloc: Global, blocks: usize) -> Result<UnitHeld, AllocError>
+fn empty_unit(alloc: Global, blocks: usize) -> Result<UnitExtents, AllocError>
     ensures { IfOk result (λ r. has_lists r ≡ false) }
 {
     let mut lists = Vec::new(alloc);
     'each: for _ in 0..blocks {
         lists.push(HeldList::new(alloc))?;
     }
-    Ok(UnitHeld { blocks: lists })
+    Ok(UnitExtents { blocks: lists })
 }
 
-impl AllHeld {
+impl UnitTable {
     #[tactic(auto, using(crate::proofs::Empty::empties))]
-    fn new(alloc: Global, units: usize, blocks: usize) -> Result<AllHeld, AllocError>
+    fn new(alloc: Global, units: usize, blocks: usize) -> Result<UnitTable, AllocError>
         ensures { IfOk result (λ a. list_any has_lists a.units.items ≡ false) }
     {
         let mut all = Vec::new(alloc);
         'each: for _ in 0..units {
             all.push(empty_unit(alloc, blocks)?)?;
         }
-        Ok(AllHeld { units: all })
+        Ok(UnitTable { units: all })
     }
 
     fn list(&self, unit: u32, block: u32) -> Option<&HeldList>
@@ -119,7 +119,7 @@ impl AllHeld {
         live: &LiveFunc,
         range: u32,
         unit: u32,
-        piece: Mended,
+        piece: ChangedPiece,
     ) -> Result<(), AllocError> {
         let Some(extent) = live.extent_from(piece.lane, piece.block, piece.start) else {
             return Ok(());
@@ -134,7 +134,7 @@ impl AllHeld {
     }
 
     /// Takes away the points of a piece of a range.
-    fn remove_piece(&mut self, slots: &Slots, range: u32, unit: u32, piece: Mended) {
+    fn remove_piece(&mut self, slots: &Slots, range: u32, unit: u32, piece: ChangedPiece) {
         let Some(row) = self.units.get_mut(unit as usize) else {
             return;
         };
@@ -244,7 +244,7 @@ impl Matrix {
         ensures ordered { IfOk result (λ m. InOrder f.table → IsOrdered m) }
     {
         let units = f.target().units.len();
-        let held = AllHeld::new(alloc, units, f.func().blocks.len())?;
+        let held = UnitTable::new(alloc, units, f.func().blocks.len())?;
         let registers = no_registers(alloc, f.func().classes.len())?;
         Ok(Matrix {
             alloc,
@@ -580,7 +580,7 @@ impl Matrix {
     /// once, after the last of them. After a refusal the function and the registers are unchanged.
     pub fn edit_all(&mut self, edits: Vec<Edit>) -> Result<(), AllocError> {
         let changes = self.live.begin_edits(edits)?;
-        self.settle(changes)
+        self.commit_or_roll_back(changes)
     }
 
     /// Does edits as `edit_all` does, which is done sooner where these edit each instruction that
@@ -595,15 +595,15 @@ impl Matrix {
             return self.edit_all(edits);
         }
         let changes = self.live.begin_edits_of(edits, v, touched)?;
-        self.settle(changes)
+        self.commit_or_roll_back(changes)
     }
 
     /// Brings what the assigned ranges hold up to date after edits, and keeps these.
-    fn settle(&mut self, changes: Changes) -> Result<(), AllocError> {
+    fn commit_or_roll_back(&mut self, changes: Changes) -> Result<(), AllocError> {
         let mut changes = changes;
         match self.settle_pieces(&mut changes) {
             Ok(()) => {
-                self.live.keep(changes);
+                self.live.commit(changes);
                 Ok(())
             }
             Err(e) => Err(e),
@@ -616,14 +616,14 @@ impl Matrix {
         let pieces = match self.held_pieces(changes) {
             Ok(pieces) => pieces,
             Err(e) => {
-                self.live.take_back(changes);
+                self.live.roll_back(changes);
                 return Err(e);
             }
         };
-        self.let_go(pieces.as_slice());
+        self.release_pieces(pieces.as_slice());
         if let Err(e) = self.hold(pieces.as_slice()) {
-            self.let_go(pieces.as_slice());
-            self.live.take_back(changes);
+            self.release_pieces(pieces.as_slice());
+            self.live.roll_back(changes);
             // Where this is refused too, ranges hold less than they should, and the run is given up.
             let _ = self.hold(pieces.as_slice());
             return Err(e);
@@ -633,16 +633,16 @@ impl Matrix {
 
     /// The pieces of assigned ranges that edits changed. One that comes several times in a row is
     /// given once.
-    fn held_pieces(&self, changes: &Changes) -> Result<Vec<HeldPiece>, AllocError> {
+    fn held_pieces(&self, changes: &Changes) -> Result<Vec<AssignedPiece>, AllocError> {
         let mut pieces = Vec::new(self.alloc);
-        let mut last = Holding {
+        let mut last = LaneHolder {
             lane: u32::MAX,
             holder: None,
         };
         'steps: for k in 0..changes.len() {
-            if let Some(piece) = changes.mended(k) {
+            if let Some(piece) = changes.changed_piece(k) {
                 if piece.lane != last.lane {
-                    last = self.holding(piece.lane);
+                    last = self.holder_of(piece.lane);
                 }
                 add_held(last, piece, &mut pieces)?;
             }
@@ -651,8 +651,8 @@ impl Matrix {
     }
 
     /// Who holds a lane.
-    fn holding(&self, lane: u32) -> Holding {
-        Holding {
+    fn holder_of(&self, lane: u32) -> LaneHolder {
+        LaneHolder {
             lane,
             holder: self.holder(lane),
         }
@@ -667,20 +667,20 @@ impl Matrix {
     }
 
     /// Takes away the points of the pieces that edits changed, as they were held before.
-    fn let_go(&mut self, pieces: &[HeldPiece]) {
+    fn release_pieces(&mut self, pieces: &[AssignedPiece]) {
         'pieces: for held in pieces {
             self.let_go_piece(held);
         }
     }
 
-    fn let_go_piece(&mut self, held: &HeldPiece) {
+    fn let_go_piece(&mut self, held: &AssignedPiece) {
         let slots = self.live.slots();
         self.held
             .remove_piece(slots, held.range, held.unit, held.piece);
     }
 
     /// Adds the points of the pieces that edits changed, as they are now.
-    fn hold(&mut self, pieces: &[HeldPiece]) -> Result<(), AllocError> {
+    fn hold(&mut self, pieces: &[AssignedPiece]) -> Result<(), AllocError> {
         'pieces: for held in pieces {
             self.hold_piece(held)?;
         }
@@ -688,7 +688,7 @@ impl Matrix {
     }
 
     /// Adds the points of a piece. It may have been added by an earlier step.
-    fn hold_piece(&mut self, held: &HeldPiece) -> Result<(), AllocError> {
+    fn hold_piece(&mut self, held: &AssignedPiece) -> Result<(), AllocError> {
         self.let_go_piece(held);
         self.held
             .add_piece(&self.live, held.range, held.unit, held.piece)

@@ -6,7 +6,7 @@ use Rattle.std.proofs.lemmas.Bool.{ltb-true, eqb-true, ne_eqb, eq-eqb, lt-ltb}
 use Rattle.mir_func.specs.declared.func.Block.{Block}
 use Rattle.mir_meaning.specs.Registers.{numbers}
 use Rattle.live_lanes.specs.declared.ask.extent.Extent.{Extent}
-use Rattle.live_lanes.specs.declared.row.Segment.{Segment as Part}
+use Rattle.live_lanes.specs.declared.row.DefPiece.{DefPiece as Part}
 use Rattle.live_lanes.specs.declared.row.Cell.{Cell}
 use Rattle.live_lanes.specs.Table.{Numbers, Seen, seen_cell, begun, find_cell, is_below, descends}
 use Rattle.live_lanes.specs.Reach.{is_never}

@@ -18,7 +18,7 @@ use Rattle.live_laws.proofs.Exact.Inside.{all, numbered}
 use Rattle.live_laws.proofs.Exact.Occupied.{occupied-law}
 use Rattle.live_lanes.specs.declared.ask.extent.Extent.{Extent}
 use Rattle.live_lanes.specs.declared.row.Cell.{Cell}
-use Rattle.live_lanes.specs.declared.row.Row.{Row}
+use Rattle.live_lanes.specs.declared.row.LaneRange.{LaneRange}
 use Rattle.live_lanes.specs.declared.table.Table.{Table}
 use Rattle.live_lanes.specs.Table.{Seen, seen, find_cell, descends, end_in, entry_rank, exit_rank}
 use Rattle.live_lanes.specs.Entered.{rows_seen, cells_of, causes}
@@ -39,15 +39,15 @@ use Rattle.interval_laws.proofs.Written.{written-is, early-is, Agrees, agrees, s
 use Rattle.interval_laws.proofs.Live.{step, tests, steps-are, pieces-are, live-entry, live-exit, live-start}
 
 -- cells stand from the last block to the first
-in-order : (rows : List Row) (l : ℕ) → descends (cells_of rows l) ≡ true
+in-order : (rows : List LaneRange) (l : ℕ) → descends (cells_of rows l) ≡ true
 in-order rows l = go (slice_get rows l)
   where
-    go : (o : Option Row) → descends (elim o [ None ↦ [] | Some r ↦ r.cells.items ]) ≡ true
+    go : (o : Option LaneRange) → descends (elim o [ None ↦ [] | Some r ↦ r.cells.items ]) ≡ true
     go None = refl
     go (Some r) = r.sorted
 
 module _ (t : Target) (f : Function) (x : Table) (computed : IsComputed t f x) (rules : KeepsRules t f) (last : (b : Block) (j : ℕ) (i : Instr) → Member b f.blocks → slice_get b.instrs j ≡ Some i → V8 t b j i ≡ true) (v k n : ℕ) (e : number_in x.lanes (owners.Range v k) ≡ Some n) where
-  abbrev rows : List Row
+  abbrev rows : List LaneRange
   rows = x.rows.rows.items
 
   abbrev cells : List Cell

@@ -27,7 +27,7 @@ use Rattle.live_laws.proofs.Exact.Everywhere.{spot-at, numbered-at, no-start, no
 use Rattle.live_laws.proofs.Exact.Inside.{all, has-id, inside-law}
 use Rattle.live_laws.proofs.Exact.Occupied.{occupied-law}
 use Rattle.live_laws.proofs.Touch.Stepped.{steps-there}
-use Rattle.live_lanes.specs.declared.row.Row.{Row}
+use Rattle.live_lanes.specs.declared.row.LaneRange.{LaneRange}
 use Rattle.live_lanes.specs.declared.table.Table.{Table}
 use Rattle.live_lanes.specs.Graph.{writes_in}
 use Rattle.live_lanes.specs.Table.{Numbers, Begun, Seen, entry_rank, exit_rank, end_rank, end_in, piece_at, rises_from}
@@ -107,7 +107,7 @@ module _ (t : Target) (f : Function) (x : Table) (computed : IsComputed t f x) (
   abbrev slots : Numbers
   slots = x.order.slots
 
-  abbrev rows : List Row
+  abbrev rows : List LaneRange
   rows = x.rows.rows.items
 
   abbrev code : Code

@@ -4,12 +4,12 @@ use Rattle.std.specs.Prelude.{nat_eq, slice_get}
 use Rattle.std.proofs.lemmas.Bool.{ne_eqb, eq-eqb}
 use Rattle.slot_index.specs.Order.{number_of}
 use Rattle.mir_func.specs.declared.func.Instr.{Instr}
-use Rattle.mir_meaning.specs.declared.writing.Writing.{Writing}
+use Rattle.mir_meaning.specs.declared.writing.LaneDef.{LaneDef}
 use Rattle.mir_meaning.specs.Points.{Point, Entry, Exit}
 use Rattle.mir_meaning.specs.Paths.{Step, Code, steps_of, writing_of, is_present, is_written}
 use Rattle.live_laws.specs.Effects.Coded.{is_early}
-use Rattle.live_lanes.specs.declared.row.End.{End}
-use Rattle.live_lanes.specs.declared.row.End.TheVariants as ends
+use Rattle.live_lanes.specs.declared.row.PieceEnd.{PieceEnd}
+use Rattle.live_lanes.specs.declared.row.PieceEnd.TheVariants as ends
 use Rattle.live_lanes.specs.Graph.{Causes, writes_in}
 use Rattle.live_lanes.specs.Table.{Numbers, Begun, Seen, entry_rank, exit_rank, end_rank, end_in, begun_end}
 use Rattle.live_lanes.specs.Entered.{Start as Beginning, start_of, starts, readings_until}
@@ -62,7 +62,7 @@ module _ (l : ℕ) (step : Instr → Step) (named : (i : Instr) → (step i).id 
   last-at (i ∷ w) = inr (inr (writes_in l (map step w), refl, last-at w))
 
   -- an end behind a writing lies among the instructions that follow
-  past : (u w : List Instr) (k : ℕ) (e : End) → IsAt writes (u ++ w) (writes_in l (map step u) + suc k) e → IsAt writes w (suc k) e
+  past : (u w : List Instr) (k : ℕ) (e : PieceEnd) → IsAt writes (u ++ w) (writes_in l (map step u) + suc k) e → IsAt writes w (suc k) e
   past [] w k e z = subst (λ n. IsAt writes w n e) (let q : 0 + suc k ≡ suc k = omega arith in q) z
   past (y ∷ u) w k e z = go (writes y) refl z (past u w k e)
     where
@@ -97,13 +97,13 @@ module _ (l : ℕ) (step : Instr → Step) (named : (i : Instr) → (step i).id 
         go (i ∷ w) (y ∷ before) low r f = go w before (number_of slots i.id) r.2 (rest-of (step i) y (map step w) (before ++ s ∷ rest) f)
 
     -- the end of a piece comes at one of its points
-    end-at : (k : ℕ) (e : End) → IsEnd code slots why l p k e → (e ≡ ends.Never) ⊎ IsAt writes is k e
+    end-at : (k : ℕ) (e : PieceEnd) → IsEnd code slots why l p k e → (e ≡ ends.Never) ⊎ IsAt writes is k e
     end-at k e end = go end.counts
       where
         at-last : writes_in l (steps_of code p) ≡ k → IsAt writes is k ends.Last
         at-last piece = subst (λ n. IsAt writes is n ends.Last) (ap (writes_in l) (sym steps) ∙ piece) (last-at is)
 
-        counted : (d : End) → ((q : End) → Counts code why l p k q → end_rank slots q ≤ end_rank slots d) → Counts code why l p k d → IsAt writes is k d
+        counted : (d : PieceEnd) → ((q : PieceEnd) → Counts code why l p k q → end_rank slots q ≤ end_rank slots d) → Counts code why l p k d → IsAt writes is k d
         counted d most (reads before s rest split piece used) = subst (λ n. IsAt writes is n (ends.Entry s.id)) piece (entry-at is before s rest (sym steps ∙ split))
         counted d most (moves a before s rest split piece used living) = subst (λ n. IsAt writes is n (ends.Entry s.id)) piece (entry-at is before s rest (sym steps ∙ split))
         counted d most (leaves x before s [] split piece out a living) =
@@ -212,21 +212,21 @@ module _ (l : ℕ) (step : Instr → Step) (named : (i : Instr) → (step i).id 
           tail-is : {a b : Beginning} {xs ys : List Beginning} → a ∷ xs ≡ b ∷ ys → xs ≡ ys
           tail-is h = cc
 
-          go : (o : Option Writing) → writing_of l (step i).writes ≡ o → (ss : List Begun) → map start_of ss ≡ elim o [ None ↦ starts l (map step w) | Some x ↦ record { start = (step i).id; early = x.early; from = x.from; readings = readings_until l (map step w) } ∷ starts l (map step w) ] → ((j : ℕ) → slice_get ss j ≡ slice_get v.segments (writes_in l (map step u) + j))
+          go : (o : Option LaneDef) → writing_of l (step i).writes ≡ o → (ss : List Begun) → map start_of ss ≡ elim o [ None ↦ starts l (map step w) | Some x ↦ record { start = (step i).id; early = x.early; from = x.from; readings = readings_until l (map step w) } ∷ starts l (map step w) ] → ((j : ℕ) → slice_get ss j ≡ slice_get v.segments (writes_in l (map step u) + j))
               → ((xs : List Begun) → map start_of xs ≡ starts l (map step w) → ((j : ℕ) → slice_get xs j ≡ slice_get v.segments (writes_in l (map step (u ++ i ∷ [])) + j)) → map segment-of xs ≡ written_segments live writes early end (at (u ++ i ∷ [])) w)
               → map segment-of ss ≡ written_segments live writes early end (at u) (i ∷ w)
           go None f ss begins there ih =
-              let quiet : writes i ≡ false = ap (λ (o : Option Writing). is_present o) f in
+              let quiet : writes i ≡ false = ap (λ (o : Option LaneDef). is_present o) f in
               let kept : writes_in l (map step (u ++ i ∷ [])) ≡ writes_in l (map step u) = count-more u i ∙ ap (λ b. cond b (suc (writes_in l (map step u))) (writes_in l (map step u))) quiet in
               ih ss begins (λ j. there j ∙ ap (λ n. slice_get v.segments (n + j)) (sym kept))
               ∙ ap (λ n. written_segments live writes early end n w) next-number
               ∙ sym (ap (λ b. cond b (written_segment live writes (early i) end (at u) i w ∷ []) [] ++ written_segments live writes early end (at u + 16) w) quiet)
           go (Some x) f [] begins there ih = absurd (cc)
           go (Some x) f (s ∷ ss) begins there ih =
-              let writing : writes i ≡ true = ap (λ (o : Option Writing). is_present o) f in
+              let writing : writes i ≡ true = ap (λ (o : Option LaneDef). is_present o) f in
               let counted : writes_in l (map step (u ++ i ∷ [])) ≡ suc (writes_in l (map step u)) = count-more u i ∙ ap (λ b. cond b (suc (writes_in l (map step u))) (writes_in l (map step u))) writing in
               let first : start_of s ≡ record { start = (step i).id; early = x.early; from = x.from; readings = readings_until l (map step w) } = head-is begins in
-              let is-early : early i ≡ x.early = ap (λ (o : Option Writing). elim o [ None ↦ false | Some y ↦ y.early ]) f in
+              let is-early : early i ≡ x.early = ap (λ (o : Option LaneDef). elim o [ None ↦ false | Some y ↦ y.early ]) f in
               let zero-on : writes_in l (map step u) ≡ writes_in l (map step u) + 0 = omega arith in
               ap (λ y. y ∷ map segment-of ss) (written u i w s e writing (ap (λ (b : Beginning). b.start) first ∙ named i) (ap (λ (b : Beginning). b.early) first ∙ sym is-early) (ap (slice_get v.segments) zero-on ∙ sym (there 0)))
               ∙ ap (λ ys. written_segment live writes (early i) end (at u) i w ∷ ys) (ih ss (tail-is begins) (λ j. there (suc j) ∙ (let one-on : writes_in l (map step u) + suc j ≡ writes_in l (map step (u ++ i ∷ [])) + j = omega (arith, counted) in ap (slice_get v.segments) one-on)) ∙ ap (λ n. written_segments live writes early end n w) next-number)

@@ -5,8 +5,8 @@ use Rattle.std.proofs.lemmas.Bool.{ne_eqb, eq-eqb, le-leb, lt-leb, le-ltb, lt-lt
 use Rattle.slot_index.specs.Order.{number_of}
 use Rattle.mir_func.specs.declared.func.Instr.{Instr}
 use Rattle.mir_meaning.specs.Points.{Point, Entry, Exit}
-use Rattle.live_lanes.specs.declared.row.End.{End}
-use Rattle.live_lanes.specs.declared.row.End.TheVariants as ends
+use Rattle.live_lanes.specs.declared.row.PieceEnd.{PieceEnd}
+use Rattle.live_lanes.specs.declared.row.PieceEnd.TheVariants as ends
 use Rattle.live_lanes.specs.Table.{Numbers, leading, entry_rank, exit_rank, end_rank}
 use Rattle.live_lanes.specs.Ordered.{ids_of, AreRising}
 use Rattle.live_lanes.specs.Reach.{is_never, reaches}
@@ -66,7 +66,7 @@ IsMore (i ∷ w) = Unit {0}
 
 -- The end of the k-th stretch among these instructions comes there: the stretch of number 0 begins before them, and each other
 -- one with a writing. No end is the exit of the last instruction of a block.
-abbrev pub IsAt : (Instr → Bool) → List Instr → ℕ → End → Type 0
+abbrev pub IsAt : (Instr → Bool) → List Instr → ℕ → PieceEnd → Type 0
 IsAt writes [] k e = (k ≡ 0) × (e ≡ ends.Last)
 IsAt writes (i ∷ w) k e =
     ((k ≡ 0) × (e ≡ ends.Entry i.id))
@@ -81,16 +81,16 @@ abbrev pub rest_points : (Instr → Bool) → ℕ → ℕ → Instr → List Ins
 rest_points writes end n i w = (Exit i.id, exit_mark end (at_instr n) w) ∷ points_until writes end (n + 16) w
 
 -- up to the next writing the lane is live as far as the end reaches
-abbrev pub LiveIn : Numbers → (Point → Bool) → (Instr → Bool) → End → List Instr → Type 0
+abbrev pub LiveIn : Numbers → (Point → Bool) → (Instr → Bool) → PieceEnd → List Instr → Type 0
 LiveIn slots live writes e [] = Unit {0}
 LiveIn slots live writes e (i ∷ w) = (live (Entry i.id) ≡ reaches slots e (entry_rank slots i.id)) × (writes i ≡ false → (live (Exit i.id) ≡ reaches slots e (exit_rank slots i.id)) × LiveIn slots live writes e w)
 
 -- how the end of an extent is written that begins with the instruction whose exit has rank X
-abbrev pub written_mark : Numbers → ℕ → (ℕ → ℕ) → End → ℕ → Mark
+abbrev pub written_mark : Numbers → ℕ → (ℕ → ℕ) → PieceEnd → ℕ → Mark
 written_mark slots end number e X =
     cond (nat_eq (max (end_rank slots e) X) top) (at_border end) (cond (nat_eq (max (end_rank slots e) X) X) (at_exit (number (max (end_rank slots e) X))) (at_instr (number (max (end_rank slots e) X))))
 
-module _ (slots : Numbers) (live : Point → Bool) (writes : Instr → Bool) (end : ℕ) (number : ℕ → ℕ) (e : End) where
+module _ (slots : Numbers) (live : Point → Bool) (writes : Instr → Bool) (end : ℕ) (number : ℕ → ℕ) (e : PieceEnd) where
   abbrev R : ℕ
   R = end_rank slots e
 

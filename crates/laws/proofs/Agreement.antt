@@ -20,7 +20,7 @@ use Rattle.meaning.specs.declared.types.Row.{Row}
 use Rattle.meaning.specs.declared.types.Row.TheVariants.{BothCounted, BothEnd, BothStart, FirstSilent, SecondSilent}
 use Rattle.meaning.specs.declared.types.Source.{Source}
 use Rattle.meaning.specs.declared.types.Source.TheVariants.{Bits, FromLane, Undef}
-use Rattle.meaning.specs.declared.types.Ways.{Ways}
+use Rattle.meaning.specs.declared.types.EdgePair.{EdgePair}
 use Rattle.laws.proofs.Agreeing.{Agrees}
 use Rattle.laws.proofs.Closed.{IsClosed, closed-both, closed-everything, closed-first, closed-known, closed-second, closed-start, either-true, known-known}
 use Rattle.laws.proofs.Core.{Coupled, Exits, Plan, Reaches, law_of_rows}
@@ -65,18 +65,18 @@ module _ (family : Family) where
   plan n = rel (known (facts_at family n))
 
   module _ (k : Knowledge) (T : Rel) (c : IsClosed k) (w : Within (rel k) T) where
-    way-from : (e : Ways) → way_holds family k e ≡ true → Within (plan e.block) (along e T)
+    way-from : (e : EdgePair) → way_holds family k e ≡ true → Within (plan e.block) (along e T)
     unfolding plan
     way-from e h s t g =
         let c' : IsClosed (known_along e k) = closed-second (known_first e.first k) (closed-first k c e.first) e.second in
         first-from k T w e.first s (settled (through e.second t)) (known-known (known_along e k) c' (facts_at family e.block) h s t g)
 
-    ways-from : (exits : List Ways) → ways_hold family k exits ≡ true → Exits plan exits T
+    ways-from : (exits : List EdgePair) → ways_hold family k exits ≡ true → Exits plan exits T
     ways-from [] h e x = elim x [ ]
     ways-from (e ∷ exits) h f here = way-from e (both-true (way_holds family k e) (ways_hold family k exits) h).0
     ways-from (e ∷ exits) h f (there x) = ways-from exits (both-true (way_holds family k e) (ways_hold family k exits) h).1 f x
 
-    target-from : (target : Option Ways) → target_holds family k target ≡ true → Reaches plan target T
+    target-from : (target : Option EdgePair) → target_holds family k target ≡ true → Reaches plan target T
     target-from None h = tt
     target-from (Some e) h = way-from e h
 

@@ -11,7 +11,7 @@ use Rattle.meaning.specs.Rows.{first_of_rows, first_target, found_row, second_of
 use Rattle.meaning.specs.State.{State, values, written}
 use Rattle.meaning.specs.declared.types.Row.{Row}
 use Rattle.meaning.specs.declared.types.Row.TheVariants.{BothCounted, BothEnd, BothStart, FirstSilent, SecondSilent}
-use Rattle.meaning.specs.declared.types.Ways.{Ways}
+use Rattle.meaning.specs.declared.types.EdgePair.{EdgePair}
 use Rattle.laws.proofs.Agreeing.{Agrees, agrees-both, agrees-first, agrees-second, alike-operands, narrowed}
 use Rattle.laws.proofs.Following.{IfDefined, never, extended-does-more}
 use Rattle.laws.proofs.Monotone.{monotone}
@@ -22,13 +22,13 @@ use Rattle.laws.specs.Monotone.{OutsideAtLeast, PerformedAtLeast}
 abbrev pub Plan : Type 1
 Plan = ℕ → Rel
 
-abbrev pub Reaches : Plan → Option Ways → Rel → Type 0
+abbrev pub Reaches : Plan → Option EdgePair → Rel → Type 0
 Reaches K None R = Unit {0}
 Reaches K (Some e) R = Within (K e.block) (along e R)
 
 -- the same along each path from an exit
-abbrev pub Exits : Plan → List Ways → Rel → Type 0
-Exits K exits R = (e : Ways) → Among e exits → Within (K e.block) (along e R)
+abbrev pub Exits : Plan → List EdgePair → Rel → Type 0
+Exits K exits R = (e : EdgePair) → Among e exits → Within (K e.block) (along e R)
 
 abbrev pub Coupled : Plan → List Row → Rel → Type 0
 Coupled K [] R = Unit {0}
@@ -79,7 +79,7 @@ module _ (K : Plan) where
   found-coupled n (SecondSilent reads ws ∷ rows) R c = found-coupled n rows (after_second ws R) c
   found-coupled n (BothCounted r reads reads' ws ws' target exits ∷ rows) R c = found-coupled n rows (after_both ws ws' R) c.3
 
-agrees-along : (env : Environment) (e : Ways) (R : Rel) (state state' : State) → Agrees env R state state' → Agrees env (along e R) (written env [] e.first state) (written env [] e.second state')
+agrees-along : (env : Environment) (e : EdgePair) (R : Rel) (state state' : State) → Agrees env R state state' → Agrees env (along e R) (written env [] e.first state) (written env [] e.second state')
 agrees-along env e R state state' agrees =
     agrees-second env (after_first e.first R) (written env [] e.first state) state' (agrees-first env R state state' agrees e.first) e.second
 
@@ -89,7 +89,7 @@ Follows env K next next' =
     (rows : List Row) (R : Rel) → Coupled K rows R → (state state' : State) (o o' : Outside) → OutsideAtLeast o o' → Agrees env R state state' → IfDefined (next (first_of_rows rows) state o) (next' (second_of_rows rows) state' o')
 
 module _ (env : Environment) (K : Plan) (all : List Row) (coupled_all : (n : ℕ) → Coupled K (found_row n all) (K n)) (next next' : Goes) (follows : Follows env K next next') where
-  leaps : (target : Option Ways) (R : Rel) → Reaches K target R → (state state' : State) (o o' : Outside) → OutsideAtLeast o o' → Agrees env R state state' → IfDefined (next (target_place (first_of_rows all) (first_target target)) (entered env (first_target target) state) o) (next' (target_place (second_of_rows all) (second_target target)) (entered env (second_target target) state') o')
+  leaps : (target : Option EdgePair) (R : Rel) → Reaches K target R → (state state' : State) (o o' : Outside) → OutsideAtLeast o o' → Agrees env R state state' → IfDefined (next (target_place (first_of_rows all) (first_target target)) (entered env (first_target target) state) o) (next' (target_place (second_of_rows all) (second_target target)) (entered env (second_target target) state') o')
   leaps None R h state state' o o' l agrees = follows [] Nothing tt state state' o o' l (λ s t e. absurd e)
   leaps (Some e) R h state state' o o' l agrees =
       let n = e.block in

@@ -14,7 +14,7 @@ use Rattle.meaning.specs.declared.types.Fill.TheVariants.{Computed, Moved}
 use Rattle.meaning.specs.declared.types.Row.{Row}
 use Rattle.meaning.specs.declared.types.Row.TheVariants.{BothCounted, BothEnd, BothStart, FirstSilent, SecondSilent}
 use Rattle.meaning.specs.declared.types.Source.{Source}
-use Rattle.meaning.specs.declared.types.Ways.{Ways}
+use Rattle.meaning.specs.declared.types.EdgePair.{EdgePair}
 use Rattle.laws.proofs.Core.{Coupled, Exits, Plan, Reaches, law_of_rows}
 use Rattle.laws.proofs.Defined.{value-same}
 use Rattle.laws.proofs.Flow.{none_among}
@@ -57,10 +57,10 @@ fill-forward R S w (Moved s) (Computed j) h = absurd h
 fill-forward R S w (Computed i) (Moved t) h = absurd h
 
 module _ (K : Plan) where
-  exits-more : (exits : List Ways) (R S : Rel) → Within S R → Exits K exits S → Exits K exits R
+  exits-more : (exits : List EdgePair) (R S : Rel) → Within S R → Exits K exits S → Exits K exits R
   exits-more exits R S w h e x s t k = w (settled (through e.first s)) (settled (through e.second t)) (h e x s t k)
 
-  reaches-more : (target : Option Ways) (R S : Rel) → Within S R → Reaches K target S → Reaches K target R
+  reaches-more : (target : Option EdgePair) (R S : Rel) → Within S R → Reaches K target S → Reaches K target R
   reaches-more None R S w h = tt
   reaches-more (Some e) R S w h = λ s t k. w (settled (through e.first s)) (settled (through e.second t)) (h s t k)
 
@@ -81,14 +81,14 @@ module _ (K : Plan) where
       )
 
 -- the sides changed
-abbrev pub turned_way : Ways → Ways
+abbrev pub turned_way : EdgePair → EdgePair
 turned_way e = record { block = e.block; first = e.second; second = e.first }
 
-abbrev pub turned_ways : List Ways → List Ways
+abbrev pub turned_ways : List EdgePair → List EdgePair
 turned_ways [] = []
 turned_ways (e ∷ es) = turned_way e ∷ turned_ways es
 
-abbrev pub turned_target : Option Ways → Option Ways
+abbrev pub turned_target : Option EdgePair → Option EdgePair
 turned_target None = None
 turned_target (Some e) = Some (turned_way e)
 
@@ -104,19 +104,19 @@ turned (FirstSilent reads ws ∷ rows) = SecondSilent reads ws ∷ turned rows
 turned (SecondSilent reads ws ∷ rows) = FirstSilent reads ws ∷ turned rows
 turned (BothCounted r reads reads' ws ws' target exits ∷ rows) = BothCounted r reads' reads ws' ws (turned_target target) (turned_ways exits) ∷ turned rows
 
-first-edges-turned : (es : List Ways) → first_edges (turned_ways es) ≡ second_edges es
+first-edges-turned : (es : List EdgePair) → first_edges (turned_ways es) ≡ second_edges es
 first-edges-turned [] = refl
 first-edges-turned (e ∷ es) = ap (λ rest. second_edge e ∷ rest) (first-edges-turned es)
 
-second-edges-turned : (es : List Ways) → second_edges (turned_ways es) ≡ first_edges es
+second-edges-turned : (es : List EdgePair) → second_edges (turned_ways es) ≡ first_edges es
 second-edges-turned [] = refl
 second-edges-turned (e ∷ es) = ap (λ rest. first_edge e ∷ rest) (second-edges-turned es)
 
-first-target-turned : (e : Option Ways) → first_target (turned_target e) ≡ second_target e
+first-target-turned : (e : Option EdgePair) → first_target (turned_target e) ≡ second_target e
 first-target-turned None = refl
 first-target-turned (Some e) = refl
 
-second-target-turned : (e : Option Ways) → second_target (turned_target e) ≡ first_target e
+second-target-turned : (e : Option EdgePair) → second_target (turned_target e) ≡ first_target e
 second-target-turned None = refl
 second-target-turned (Some e) = refl
 
@@ -173,12 +173,12 @@ module _ (K : Plan) where
   abbrev pub turned_plan : Plan
   turned_plan n = converse (K n)
 
-  exits-turned : (exits : List Ways) (R S : Rel) → Turns S R → Exits K exits S → Exits turned_plan (turned_ways exits) R
+  exits-turned : (exits : List EdgePair) (R S : Rel) → Turns S R → Exits K exits S → Exits turned_plan (turned_ways exits) R
   exits-turned [] R S w h e x = absurd (none_among e x)
   exits-turned (e ∷ es) R S w h f here = λ s t k. w (settled (through e.first t)) (settled (through e.second s)) (h e here t s k)
   exits-turned (e ∷ es) R S w h f (there x) = exits-turned es R S w (λ g y. h g (there y)) f x
 
-  reaches-turned : (target : Option Ways) (R S : Rel) → Turns S R → Reaches K target S → Reaches turned_plan (turned_target target) R
+  reaches-turned : (target : Option EdgePair) (R S : Rel) → Turns S R → Reaches K target S → Reaches turned_plan (turned_target target) R
   reaches-turned None R S w h = tt
   reaches-turned (Some e) R S w h = λ s t k. w (settled (through e.first t)) (settled (through e.second s)) (h t s k)
 

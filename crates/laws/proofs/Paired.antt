@@ -8,7 +8,7 @@ use Rattle.meaning.specs.Rows.{first_edge, first_edges, first_falls, first_of_ro
 use Rattle.meaning.specs.Sameness.{same_rest}
 use Rattle.meaning.specs.declared.types.Row.{Row}
 use Rattle.meaning.specs.declared.types.Row.TheVariants.{BothCounted, BothEnd, BothStart, FirstSilent, SecondSilent}
-use Rattle.meaning.specs.declared.types.Ways.{Ways}
+use Rattle.meaning.specs.declared.types.EdgePair.{EdgePair}
 use Rattle.laws.proofs.Same.{rest-true}
 
 bind-some : {A B : Type 0} (x : Option A) (f : A → Option B) (b : B) → elim x [ None ↦ None | Some a ↦ f a ] ≡ Some b → (a : A) × (x ≡ Some a) × (f a ≡ Some b)
@@ -23,18 +23,18 @@ cond-some true x y e = (refl, e)
 cond-some false x y e = absurd (cc)
 
 -- a pair's first and second parts
-abbrev EdgeIs : Ways → Edge → Edge → Type 0
+abbrev EdgeIs : EdgePair → Edge → Edge → Type 0
 EdgeIs w e f = (first_edge w ≡ e) × (second_edge w ≡ f)
 
-edge-right : (e f : Edge) (w : Ways) → pair_edge e f ≡ Some w → EdgeIs w e f
+edge-right : (e f : Edge) (w : EdgePair) → pair_edge e f ≡ Some w → EdgeIs w e f
 edge-right e f w h =
-    let v : Ways = record { block = e.block; first = e.phis; second = f.phis } in
+    let v : EdgePair = record { block = e.block; first = e.phis; second = f.phis } in
     let k = cond-some (eqb e.block f.block) (Some v) w h in
     let x = eqb-true e.block f.block k.0 in
     let at : EdgeIs v e f = (refl, λ i. record { block = x i; phis = f.phis }) in
     subst (λ u. EdgeIs u e f) (some-same v w k.1) at
 
-edges-right : (es fs : List Edge) (ws : List Ways) → pair_edges es fs ≡ Some ws → (first_edges ws ≡ es) × (second_edges ws ≡ fs)
+edges-right : (es fs : List Edge) (ws : List EdgePair) → pair_edges es fs ≡ Some ws → (first_edges ws ≡ es) × (second_edges ws ≡ fs)
 edges-right [] [] ws h = subst (λ u. (first_edges u ≡ []) × (second_edges u ≡ [])) (some-same [] ws h) (refl, refl)
 edges-right [] (f ∷ fs) ws h = absurd (cc)
 edges-right (e ∷ es) [] ws h = absurd (cc)
@@ -45,7 +45,7 @@ edges-right (e ∷ es) (f ∷ fs) ws h =
     let y = edges-right es fs b.0 b.1 in
     subst (λ u. (first_edges u ≡ e ∷ es) × (second_edges u ≡ f ∷ fs)) (some-same (a.0 ∷ b.0) ws b.2) ((λ i. x.0 i ∷ y.0 i), (λ i. x.1 i ∷ y.1 i))
 
-target-right : (e f : Option Edge) (w : Option Ways) → pair_target e f ≡ Some w → (first_target w ≡ e) × (second_target w ≡ f)
+target-right : (e f : Option Edge) (w : Option EdgePair) → pair_target e f ≡ Some w → (first_target w ≡ e) × (second_target w ≡ f)
 target-right None None w h = subst (λ u. (first_target u ≡ None) × (second_target u ≡ None)) (some-same None w h) (refl, refl)
 target-right None (Some f) w h = absurd (cc)
 target-right (Some e) None w h = absurd (cc)
@@ -76,7 +76,7 @@ item-right (BlockEnd falls exits) (BlockEnd falls' exits') r h =
     let at : RowIs (BothEnd a.0 b.0) (BlockEnd falls exits) (BlockEnd falls' exits') = λ rows. ((λ i. BlockEnd (x.0 i) (y.0 i) ∷ first_of_rows rows), (λ i. BlockEnd (x.1 i) (y.1 i) ∷ second_of_rows rows)) in
     subst (λ u. RowIs u (BlockEnd falls exits) (BlockEnd falls' exits')) (some-same (BothEnd a.0 b.0) r b.2) at
 item-right (Counted s reads ws target exits) (Counted s' reads' ws' goal' exits') r h =
-    let pairs : Option Ways → Option Row = λ to. elim (pair_edges exits exits') [ None ↦ None | Some ways ↦ Some (BothCounted s reads reads' ws ws' to ways) ] in
+    let pairs : Option EdgePair → Option Row = λ to. elim (pair_edges exits exits') [ None ↦ None | Some ways ↦ Some (BothCounted s reads reads' ws ws' to ways) ] in
     let c = cond-some (same_rest s s') (elim (pair_target target goal') [ None ↦ None | Some to ↦ pairs to ]) r h in
     let a = bind-some (pair_target target goal') pairs r c.1 in
     let b = bind-some (pair_edges exits exits') (λ ways. Some (BothCounted s reads reads' ws ws' a.0 ways)) r a.2 in

@@ -17,7 +17,7 @@ use Rattle.meaning.specs.declared.types.Row.{Row}
 use Rattle.meaning.specs.declared.types.Row.TheVariants.{BothCounted, BothEnd, BothStart, FirstSilent, SecondSilent}
 use Rattle.meaning.specs.declared.types.Source.{Source}
 use Rattle.meaning.specs.declared.types.Source.TheVariants.{Bits, FromLane, Undef}
-use Rattle.meaning.specs.declared.types.Ways.{Ways}
+use Rattle.meaning.specs.declared.types.EdgePair.{EdgePair}
 use Rattle.laws.proofs.Agreeing.{Agrees}
 use Rattle.laws.proofs.Core.{Coupled, Exits, Plan, Reaches, law_of_rows}
 use Rattle.laws.proofs.Defined.{value-same}
@@ -111,17 +111,17 @@ module _ (reserved : Lane → Bool) (code : Code) (at : AtStarts) where
   laid-behind h (BothCounted r reads reads' ws ws' None exits ∷ rows) p S c s = laid-behind h rows p (after_both ws ws' S) c.3 s
   laid-behind h (BothCounted r reads reads' ws ws' (Some n) exits ∷ rows) p S c s = laid-behind h rows p (after_both ws ws' S) c.3 s.1
 
-  along-within : (e : Ways) (R S : Rel) → Within S R → Within (along e S) (along e R)
+  along-within : (e : EdgePair) (R S : Rel) → Within S R → Within (along e S) (along e R)
   along-within e R S w s t k = w (settled (through e.first s)) (settled (through e.second t)) k
 
-  way-within : (e : Ways) (R S : Rel) → Within S R → WayHolds reserved code at S e → Within (plan e.block) (along e R)
+  way-within : (e : EdgePair) (R S : Rel) → Within S R → WayHolds reserved code at S e → Within (plan e.block) (along e R)
   way-within e R S w h = plan-within e.block (along e R) (λ s k. along-within e R S w s (placed (at e.block) s) (h s k))
 
-  target-reaches : (target : Option Ways) (R S : Rel) → Within S R → TargetHolds reserved code at target S → Reaches plan target R
+  target-reaches : (target : Option EdgePair) (R S : Rel) → Within S R → TargetHolds reserved code at target S → Reaches plan target R
   target-reaches None R S w h = tt
   target-reaches (Some e) R S w h = way-within e R S w h
 
-  exits-reach : (exits : List Ways) (R S : Rel) → Within S R → ExitsHold reserved code at exits S → Exits plan exits R
+  exits-reach : (exits : List EdgePair) (R S : Rel) → Within S R → ExitsHold reserved code at exits S → Exits plan exits R
   exits-reach exits R S w h e x = way-within e R S w (h e x)
 
   passes-coupled : (h : Homes) (rows rest : List Row) (p : Code) (R S : Rel) → Within S R → Passes reserved code at h p rows S → ((T : Rel) → Holds reserved code h p T → Coupled plan rest T) → Coupled plan (rows ++ rest) R

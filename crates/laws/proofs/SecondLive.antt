@@ -17,7 +17,7 @@ use Rattle.meaning.specs.declared.types.Row.{Row}
 use Rattle.meaning.specs.declared.types.Row.TheVariants.{BothCounted, BothEnd, BothStart, FirstSilent, SecondSilent}
 use Rattle.meaning.specs.declared.types.Source.{Source}
 use Rattle.meaning.specs.declared.types.Source.TheVariants.{Bits, FromLane, Undef}
-use Rattle.meaning.specs.declared.types.Ways.{Ways}
+use Rattle.meaning.specs.declared.types.EdgePair.{EdgePair}
 use Rattle.meaning.specs.declared.types.Write.{Write}
 use Rattle.laws.proofs.Core.{Coupled, Exits, Plan, found-second}
 use Rattle.laws.proofs.Flow.{lane-inj, none_among}
@@ -33,7 +33,7 @@ WritesHaveSources reserved ws R =
     ((a b : Lane) → reserved a ≡ true → filled ws a ≡ Moved (FromLane b) → reserved b ≡ false → HasSource R b)
     × ((s k w : ℕ) (b : Lane) → filled ws (SlotLane s k w) ≡ Moved (FromLane b) → is_slot b ≡ false → HasSource R b)
 
-abbrev pub NoSecondPhis : List Ways → Type 0
+abbrev pub NoSecondPhis : List EdgePair → Type 0
 NoSecondPhis [] = Unit {0}
 NoSecondPhis (e ∷ es) = (e.second ≡ []) × NoSecondPhis es
 
@@ -65,12 +65,12 @@ fill-source R (Moved s) g b e h = (s, subst (λ x. AlikeFill R (Moved s) x) e h)
 fill-source R (Computed i) g b e h = absurd (subst (λ x. AlikeFill R (Computed i) x) e h)
 
 -- a way of the second is that of a pair
-way-of : (exits : List Ways) (e : Edge) → Among e (second_edges exits) → (w : Ways) × Among w exits × (second_edge w ≡ e)
+way-of : (exits : List EdgePair) (e : Edge) → Among e (second_edges exits) → (w : EdgePair) × Among w exits × (second_edge w ≡ e)
 way-of [] e x = absurd (none_among e x)
 way-of (w ∷ exits) e here = (w, here, refl)
 way-of (w ∷ exits) e (there x) = let z = way-of exits e x in (z.0, there z.1, z.2)
 
-no-phis-of : (exits : List Ways) (w : Ways) → NoSecondPhis exits → Among w exits → w.second ≡ []
+no-phis-of : (exits : List EdgePair) (w : EdgePair) → NoSecondPhis exits → Among w exits → w.second ≡ []
 no-phis-of [] w n x = absurd (none_among w x)
 no-phis-of (v ∷ exits) w n here = n.0
 no-phis-of (v ∷ exits) w n (there x) = no-phis-of exits w n.1 x
@@ -105,19 +105,19 @@ module _ (reserved : Lane → Bool) (K : Plan) (all : List Row) where
       absurd (cc)
 
   -- along a way of the second a lane keeps its source
-  along-way : (exits : List Ways) (R : Rel) (e : Edge) (a c : Lane) → Exits K exits R → NoSecondPhis exits → Among e (second_edges exits) → HasSource (K e.block) a → filled e.phis a ≡ Moved (FromLane c) → HasSource R c
+  along-way : (exits : List EdgePair) (R : Rel) (e : Edge) (a c : Lane) → Exits K exits R → NoSecondPhis exits → Among e (second_edges exits) → HasSource (K e.block) a → filled e.phis a ≡ Moved (FromLane c) → HasSource R c
   along-way exits R e a c w n x z f = go (way-of exits e x)
     where
-      go : (v : Ways) × Among v exits × (second_edge v ≡ e) → HasSource R c
+      go : (v : EdgePair) × Among v exits × (second_edge v ≡ e) → HasSource R c
       go (v, y, g) =
           let k : K v.block z.0 (FromLane a) = subst (λ d. K d.block z.0 (FromLane a)) (sym g) z.1 in
           let f' : filled v.second a ≡ Moved (FromLane c) = subst (λ d. filled d.phis a ≡ Moved (FromLane c)) (sym g) f in
           (settled (through v.first z.0), subst (λ t. R (settled (through v.first z.0)) t) (ap settled f') (w v y z.0 (FromLane a) k))
 
-  no-phi : (exits : List Ways) (e : Edge) (w : Write) → NoSecondPhis exits → Among e (second_edges exits) → Among w e.phis → ⊥
+  no-phi : (exits : List EdgePair) (e : Edge) (w : Write) → NoSecondPhis exits → Among e (second_edges exits) → Among w e.phis → ⊥
   no-phi exits e w n x y = go (way-of exits e x)
     where
-      go : (v : Ways) × Among v exits × (second_edge v ≡ e) → ⊥
+      go : (v : EdgePair) × Among v exits × (second_edge v ≡ e) → ⊥
       go (v, z, g) = none_among w (subst (λ ws. Among w ws) (no-phis-of exits v n z) (subst (λ d. Among w d.phis) (sym g) y))
 
   at_start : (n : ℕ) (rows : List Row) (R : Rel) (b : Lane) → Within (K n) R → Coupled K rows (K n) → RowsHaveSources reserved K rows (K n) → Cause (BlockStart n) (second_of_rows rows) b → HasSource R b
@@ -130,7 +130,7 @@ module _ (reserved : Lane → Bool) (K : Plan) (all : List Row) where
   at_start n rows R b w c d (by_store s k v e t) = absurd (no-slot s k v b e t)
   at_start n rows R b w c d (by_kept a r e s) = absurd (apart a b r s e)
 
-  at_end : (falls : Option Writes) (exits : List Ways) (p : Code) (R : Rel) (b : Lane) → Exits K exits R → NoSecondPhis exits → Cause (BlockEnd falls (second_edges exits)) p b → HasSource R b
+  at_end : (falls : Option Writes) (exits : List EdgePair) (p : Code) (R : Rel) (b : Lane) → Exits K exits R → NoSecondPhis exits → Cause (BlockEnd falls (second_edges exits)) p b → HasSource R b
   at_end falls exits p R b w n (by_read ss x y) = absurd (none_among ss x)
   at_end falls exits p R b w n (by_next a o ih e) = absurd (cc)
   at_end falls exits p R b w n (by_leap m a l x z f e) = let y = along-way exits R m a l w n x z f in (y.0, subst (λ q. R y.0 (FromLane q)) (lane-inj l b e) y.1)
@@ -148,7 +148,7 @@ module _ (reserved : Lane → Bool) (K : Plan) (all : List Row) where
   at_silent reads ws rows R b g c sw d (by_store s k v e t) = sw.1 s k v b e t
   at_silent reads ws rows R b g c sw d (by_kept a r e s) = sw.0 a b r e s
 
-  at_counted : (r : Rest) (reads reads' : Reads) (ws ws' : Writes) (target : Option Edge) (exits : List Ways) (rows : List Row) (R : Rel) (b : Lane) → AlikeOperands R reads reads' → Exits K exits (after_both ws ws' R) → NoSecondPhis exits → Coupled K rows (after_both ws ws' R) → WritesHaveSources reserved ws' R → RowsHaveSources reserved K rows (after_both ws ws' R) → Cause (Counted r reads' ws' target (second_edges exits)) (second_of_rows rows) b → HasSource R b
+  at_counted : (r : Rest) (reads reads' : Reads) (ws ws' : Writes) (target : Option Edge) (exits : List EdgePair) (rows : List Row) (R : Rel) (b : Lane) → AlikeOperands R reads reads' → Exits K exits (after_both ws ws' R) → NoSecondPhis exits → Coupled K rows (after_both ws ws' R) → WritesHaveSources reserved ws' R → RowsHaveSources reserved K rows (after_both ws ws' R) → Cause (Counted r reads' ws' target (second_edges exits)) (second_of_rows rows) b → HasSource R b
   at_counted r reads reads' ws ws' target exits rows R b h w n c sw d (by_read ss x y) = operand-source R reads reads' ss b h x y
   at_counted r reads reads' ws ws' target exits rows R b h w n c sw d (by_next a o ih e) =
       let z = ih rows (after_both ws ws' R) c d refl in

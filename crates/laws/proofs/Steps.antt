@@ -19,7 +19,7 @@ use Rattle.meaning.specs.declared.types.Row.{Row}
 use Rattle.meaning.specs.declared.types.Row.TheVariants.{BothCounted, BothEnd, BothStart, FirstSilent, SecondSilent}
 use Rattle.meaning.specs.declared.types.Source.{Source}
 use Rattle.meaning.specs.declared.types.Source.TheVariants.{Bits, FromLane, Undef}
-use Rattle.meaning.specs.declared.types.Ways.{Ways}
+use Rattle.meaning.specs.declared.types.EdgePair.{EdgePair}
 use Rattle.laws.proofs.Core.{Exits, Plan, Reaches}
 use Rattle.laws.proofs.Exact.{AlikeExact, CoupledExact, after_exact, law_of_exact_rows}
 use Rattle.laws.proofs.Flow.{flow, kept_along, kept_falls, kept_next, kept_start, known-source, none_among, read_kept}
@@ -29,11 +29,11 @@ pub settled-from : (f : Fill) (l : Lane) → settled f ≡ FromLane l → f ≡ 
 settled-from (Moved s) l e = ap Moved e
 settled-from (Computed i) l e = absurd (cc)
 
-abbrev pub both_ways : List Edge → List Ways
+abbrev pub both_ways : List Edge → List EdgePair
 both_ways [] = []
 both_ways (e ∷ es) = record { block = e.block; first = e.phis; second = e.phis } ∷ both_ways es
 
-abbrev pub both_into : Option Edge → Option Ways
+abbrev pub both_into : Option Edge → Option EdgePair
 both_into None = None
 both_into (Some e) = Some (record { block = e.block; first = e.phis; second = e.phis })
 

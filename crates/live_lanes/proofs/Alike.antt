@@ -5,11 +5,11 @@ use Rattle.std.proofs.Common.{◌≡◌, ◌≢◌, ◌⊎◌, inl, inr, eqb, ge
 use Rattle.std.specs.Prelude.{slice_get, nat_eq, nat_le}
 use Rattle.std.specs.List.{list_any}
 use Rattle.mir_func.specs.declared.func.Block.{Block}
-use Rattle.live_lanes.specs.declared.row.End.{End}
-use Rattle.live_lanes.specs.declared.row.End.TheVariants as ends
+use Rattle.live_lanes.specs.declared.row.PieceEnd.{PieceEnd}
+use Rattle.live_lanes.specs.declared.row.PieceEnd.TheVariants as ends
 use Rattle.live_lanes.specs.declared.row.Cell.{Cell}
-use Rattle.live_lanes.specs.declared.row.Segment.{Segment}
-use Rattle.live_lanes.specs.declared.row.Row.{Row}
+use Rattle.live_lanes.specs.declared.row.DefPiece.{DefPiece}
+use Rattle.live_lanes.specs.declared.row.LaneRange.{LaneRange}
 use Rattle.live_lanes.specs.declared.table.Table.{Table}
 use Rattle.live_lanes.specs.Table.{Numbers, Begun, begun, Seen, unseen, seen, seen_cell, seen_in, find_cell, leading, is_begun, piece_at, begun_end, end_in, entry_rank, exit_rank}
 use Rattle.live_lanes.specs.Reach.{reaches, seen_at}
@@ -27,11 +27,11 @@ begins-by slots at b = nat_le (exit_rank slots b.start) at
 abbrev writes-by : Numbers → ℕ → Bounds → Bool
 writes-by slots at b = nat_eq (exit_rank slots b.start) at || (b.early && nat_eq (entry_rank slots b.start) at)
 
-abbrev end-of : Option Bounds → End
+abbrev end-of : Option Bounds → PieceEnd
 end-of None = ends.Never
 end-of (Some b) = b.end
 
-abbrev end-by : Outline → ℕ → End
+abbrev end-by : Outline → ℕ → PieceEnd
 end-by o zero = o.end
 end-by o (suc k) = end-of (slice_get o.pieces k)
 
@@ -91,7 +91,7 @@ agree-more {X = X} P xs ys k a b h wx wy ea eb p = λ j x y w e f. go (eqb j k) 
 abbrev pub SameCell : Cell → Cell → Type 0
 SameCell a b = (a.block ≡ b.block) × (outline (seen_cell a) ≡ outline (seen_cell b))
 
-both-maps : (ss : List Segment) → map bounds (map begun ss) ≡ map (λ s. bounds (begun s)) ss
+both-maps : (ss : List DefPiece) → map bounds (map begun ss) ≡ map (λ s. bounds (begun s)) ss
 both-maps [] = refl
 both-maps (s ∷ ss) = ap (λ xs. bounds (begun s) ∷ xs) (both-maps ss)
 
@@ -113,19 +113,19 @@ cells-agree (x ∷ xs) (y ∷ ys) e h n =
     go false true e f g = absurd (cc)
     go false false e f g = g
 
-pub seen-cells : (rows : List Row) (l n : ℕ) → rows_seen rows l n ≡ seen_in (cells_of rows l) n
+pub seen-cells : (rows : List LaneRange) (l n : ℕ) → rows_seen rows l n ≡ seen_in (cells_of rows l) n
 seen-cells rows l n = go (slice_get rows l)
   where
-    go : (r : Option Row) → elim r [ None ↦ unseen | Some c ↦ seen_in c.cells.items n ] ≡ seen_in (elim r [ None ↦ [] | Some c ↦ c.cells.items ]) n
+    go : (r : Option LaneRange) → elim r [ None ↦ unseen | Some c ↦ seen_in c.cells.items n ] ≡ seen_in (elim r [ None ↦ [] | Some c ↦ c.cells.items ]) n
     go None = refl
     go (Some r) = refl
 
 -- one lane for all of the same outlines
 
-pub lanes-first : (rows : List Row) (first j n : ℕ) → j < 1 → outline (rows_seen rows first n) ≡ outline (rows_seen rows (first + j) n)
+pub lanes-first : (rows : List LaneRange) (first j n : ℕ) → j < 1 → outline (rows_seen rows first n) ≡ outline (rows_seen rows (first + j) n)
 lanes-first rows first j n w = let e : first ≡ first + j = omega (arith, w) in ap (λ l. outline (rows_seen rows l n)) e
 
-pub lanes-more : (rows : List Row) (first k : ℕ) (xs ys : List Cell) → ((j n : ℕ) → j < k → outline (rows_seen rows first n) ≡ outline (rows_seen rows (first + j) n)) → xs ≡ cells_of rows first → ys ≡ cells_of rows (first + k) → ((n : ℕ) → outline (seen_in xs n) ≡ outline (seen_in ys n)) → (j n : ℕ) → j < k + 1 → outline (rows_seen rows first n) ≡ outline (rows_seen rows (first + j) n)
+pub lanes-more : (rows : List LaneRange) (first k : ℕ) (xs ys : List Cell) → ((j n : ℕ) → j < k → outline (rows_seen rows first n) ≡ outline (rows_seen rows (first + j) n)) → xs ≡ cells_of rows first → ys ≡ cells_of rows (first + k) → ((n : ℕ) → outline (seen_in xs n) ≡ outline (seen_in ys n)) → (j n : ℕ) → j < k + 1 → outline (rows_seen rows first n) ≡ outline (rows_seen rows (first + j) n)
 lanes-more rows first k xs ys h ex ey p j n w = go (eqb j k) (eqb_tells j k)
   where
     last : outline (rows_seen rows first n) ≡ outline (rows_seen rows (first + k) n)
@@ -139,7 +139,7 @@ or-same : (a : Bool) → (a || a) ≡ a
 or-same true = refl
 or-same false = refl
 
-module _ (slots : Numbers) (rows : List Row) (first b at : ℕ) where
+module _ (slots : Numbers) (rows : List LaneRange) (first b at : ℕ) where
   abbrev here : Bool
   here = held_at slots (rows_seen rows first b) at
 

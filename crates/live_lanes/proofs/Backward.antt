@@ -3,10 +3,10 @@ use Rattle.std.proofs.Common.{◌≡◌, ◌<◌, ℕ, suc, Bool, true, false, c
 use Rattle.std.proofs.Math.Seq.{drop-cons}
 use Rattle.std.specs.Prelude.{nat_eq}
 use Rattle.std.specs.List.{list_any}
-use Rattle.mir_meaning.specs.declared.writing.Writing.{Writing}
+use Rattle.mir_meaning.specs.declared.writing.LaneDef.{LaneDef}
 use Rattle.mir_func.specs.declared.func.Block.{Block}
-use Rattle.live_lanes.specs.declared.row.Reading.{Reading}
-use Rattle.live_lanes.specs.declared.row.Row.{Row}
+use Rattle.live_lanes.specs.declared.row.LaneUse.{LaneUse}
+use Rattle.live_lanes.specs.declared.row.LaneRange.{LaneRange}
 use Rattle.live_lanes.specs.Table.{Seen, is_none, with_reading, with_segment, starts_last, read_at_end}
 use Rattle.live_lanes.specs.Entered.{reading}
 use Rattle.live_lanes.specs.Coded.{Doing, entries}
@@ -35,7 +35,7 @@ with-last : (u : Bool) (x y : Seen) → cond u (read_at_end x) (read_at_end y) �
 with-last true x y = refl
 with-last false x y = refl
 
-with-reading : (r : Reading) → Commutes (with_reading r)
+with-reading : (r : LaneUse) → Commutes (with_reading r)
 with-reading r true v = with-last (is_none v.segments) _ _
 with-reading r false v = refl
 
@@ -58,7 +58,7 @@ module _ (place : ℕ → Option ℕ) (l b : ℕ) where
   with-source block id to None t v = refl
   with-source block id to (Some lane) t v = with-spot lane block (with_reading (reading id (Some to))) (with-reading (reading id (Some to))) t v
 
-  with-write : (block id : ℕ) (w : Writing) → Commutes (write_entered block id l b w)
+  with-write : (block id : ℕ) (w : LaneDef) → Commutes (write_entered block id l b w)
   with-write block id w = with-spot w.lane block (with_segment id w.early w.from) (with-segment id w.early w.from)
 
   with-ends : (rs : List (ℕ × List ℕ)) → Commutes (ends_entered place rs l b)
@@ -96,7 +96,7 @@ module _ (place : ℕ → Option ℕ) (l b : ℕ) where
           ap (blocks_entered place (suc n) ess l b) (block-away place l b n f es v) ∙ with-blocks (suc n) ess marks v ∙ sym (block-away place l b n f es (blocks_entered place (suc n) ess l b v))
 
 -- the block before those that are entered
-pub enters-before : (doing : Doing) (place : ℕ → Option ℕ) (old mid new : List Row) (bs : List Block) (k : ℕ) (c : Block) → k < length bs → c ≡ get_or bs k c → Enters old mid (blocks_entered place (suc k) (entries doing (drop (suc k) bs))) → Enters mid new (block_entered place k (map doing c.instrs)) → Enters old new (blocks_entered place k (entries doing (drop k bs)))
+pub enters-before : (doing : Doing) (place : ℕ → Option ℕ) (old mid new : List LaneRange) (bs : List Block) (k : ℕ) (c : Block) → k < length bs → c ≡ get_or bs k c → Enters old mid (blocks_entered place (suc k) (entries doing (drop (suc k) bs))) → Enters mid new (block_entered place k (map doing c.instrs)) → Enters old new (blocks_entered place k (entries doing (drop k bs)))
 enters-before doing place old mid new bs k c h e x y =
     let rest = entries doing (drop (suc k) bs) in
     let split : drop k bs ≡ c ∷ drop (suc k) bs = drop-cons bs k c h ∙ ap (λ d. d ∷ drop (suc k) bs) (sym e) in

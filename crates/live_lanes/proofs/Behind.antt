@@ -5,7 +5,7 @@ use Rattle.std.specs.List.Sorted.{IsPartitionedBy}
 use Rattle.std.proofs.lemmas.Bool.{ltb-true, leb-true, leb-false, le-leb, eqb-true, ne_eqb, eq-eqb}
 use Rattle.std.proofs.lemmas.Option.{slice_get-get_or, slice_get_past}
 use Rattle.live_lanes.specs.declared.row.Cell.{Cell}
-use Rattle.live_lanes.specs.declared.row.Row.{Row}
+use Rattle.live_lanes.specs.declared.row.LaneRange.{LaneRange}
 use Rattle.live_lanes.specs.Table.{leading, find_cell, is_below, descends, seen, seen_in, unseen}
 use Rattle.live_lanes.specs.Entered.{rows_seen}
 use Rattle.live_lanes.specs.Held.{IsLastBefore, later_place, AreUnseen}
@@ -98,7 +98,7 @@ later-both P Q R bound (Some a) (Some c) f x y =
     let low' = y.0 in
     (omega arith, λ b more lt. f b (x.1 b (omega (arith, more)) lt) (y.1 b (omega (arith, more)) lt))
 
-pub more-unseen : (rows : List Row) (first k b : ℕ) → rows_seen rows (first + k) b ≡ unseen → AreUnseen rows first k b → AreUnseen rows first (suc k) b
+pub more-unseen : (rows : List LaneRange) (first k b : ℕ) → rows_seen rows (first + k) b ≡ unseen → AreUnseen rows first k b → AreUnseen rows first (suc k) b
 more-unseen rows first k b h hs j lt = go (nat_eq j k) refl
   where
     go : (u : Bool) → nat_eq j k ≡ u → rows_seen rows (first + j) b ≡ unseen

@@ -16,7 +16,7 @@ use Rattle.instr_effects.specs.Acts.{acts_of, read_owners, use_owners, entered_r
 use Rattle.instr_effects.specs.Ends.{end_uses}
 use Rattle.instr_effects.specs.Numbered.{number_in, IsTable}
 use Rattle.instr_effects.specs.Steps.{Numbering, writing, act_writings, is_unnumbered, act_readings, phi_read_of}
-use Rattle.live_lanes.specs.declared.row.Row.{Row}
+use Rattle.live_lanes.specs.declared.row.LaneRange.{LaneRange}
 use Rattle.mir_meaning.specs.Paths.{has, is_some_number}
 use Rattle.live_lanes.specs.Table.{Seen, unseen, seen_in, with_reading, with_segment, read_at_end}
 use Rattle.live_lanes.specs.Entered.{reading, rows_seen}
@@ -135,7 +135,7 @@ module _ (num : Numbering) (l : ℕ) (free : Free num l) where
   blocks-free t f place n b (c ∷ bs) v = ap (λ u. blocks_entered place (suc n) (entries (doing_of t f num) bs) l b u) (block-free t f place n b c.instrs v) ∙ blocks-free t f place (suc n) b bs v
 
 -- all lanes, those that have no row too
-pub seen-all : (t : Target) (f : Function) (tab : LaneTable) (place : ℕ → Option ℕ) (bs : List Block) (old new : List Row) → length old ≡ length tab.owners.items → ((l b : ℕ) → rows_seen old l b ≡ unseen) → Enters old new (blocks_entered place 0 (entries (doing_of t f (number_in tab)) bs)) → IsTable tab
+pub seen-all : (t : Target) (f : Function) (tab : LaneTable) (place : ℕ → Option ℕ) (bs : List Block) (old new : List LaneRange) → length old ≡ length tab.owners.items → ((l b : ℕ) → rows_seen old l b ≡ unseen) → Enters old new (blocks_entered place 0 (entries (doing_of t f (number_in tab)) bs)) → IsTable tab
     → (l b : ℕ) → rows_seen new l b ≡ blocks_entered place 0 (entries (doing_of t f (number_in tab)) bs) l b unseen
 seen-all t f tab place bs old new long none entered table l b = ⊎_elim within past (cases_lt l (length old))
   where

@@ -10,8 +10,8 @@ use Rattle.mir_func.specs.declared.func.Edge.{Edge}
 use Rattle.mir_func.specs.declared.func.Instr.{Instr}
 use Rattle.mir_func.specs.Binding.{does, is_terminator}
 use Rattle.slot_index.specs.Order.{number_of}
-use Rattle.live_lanes.specs.declared.compute.flow.Ways.{Ways}
-use Rattle.live_lanes.specs.declared.row.Row.{Row}
+use Rattle.live_lanes.specs.declared.compute.flow.BlockFlow.{BlockFlow}
+use Rattle.live_lanes.specs.declared.row.LaneRange.{LaneRange}
 use Rattle.mir_meaning.specs.Paths.{Among, here, there, Step, Body, Code, steps_of, last_of, exits_of, has}
 use Rattle.live_lanes.specs.Ways.{predecessors, terminators}
 use Rattle.live_lanes.specs.Table.{Numbers}
@@ -68,7 +68,7 @@ none-times x (y ∷ xs) h = go (nat_eq y x) h (none-times x xs)
     go true h ih = absurd (omega (arith, h))
     go false h ih = ih h
 
-module _ (t : Target) (doing : Doing) (place : ℕ → Option ℕ) (bs : List Block) (slots : Numbers) (flow : List Ways) (rows : List Row) (made : IsMade t doing place bs slots flow rows) where
+module _ (t : Target) (doing : Doing) (place : ℕ → Option ℕ) (bs : List Block) (slots : Numbers) (flow : List BlockFlow) (rows : List LaneRange) (made : IsMade t doing place bs slots flow rows) where
   abbrev code : Code
   code = code_of doing place bs
 

@@ -9,8 +9,8 @@ use Rattle.mir_func.specs.declared.func.Block.{Block}
 use Rattle.mir_func.specs.Value.{Function}
 use Rattle.mir_meaning.specs.Points.{all_points}
 use Rattle.instr_effects.specs.Steps.{Numbering}
-use Rattle.live_lanes.specs.declared.compute.flow.Ways.{Ways}
-use Rattle.live_lanes.specs.declared.row.Row.{Row}
+use Rattle.live_lanes.specs.declared.compute.flow.BlockFlow.{BlockFlow}
+use Rattle.live_lanes.specs.declared.row.LaneRange.{LaneRange}
 use Rattle.live_lanes.specs.declared.table.Table.{Table}
 use Rattle.std.specs.Ordering.{nat_cmp}
 use Rattle.std.specs.BTreeMap.{get}
@@ -49,13 +49,13 @@ place-below n (b ∷ bs) p e = go (nat_eq b.number n) e (place-below n bs)
     go false e ih = up (place_of n bs) e ih
 
 -- what holds of a table in the end
-pub record Told (code : Code) (slots : Numbers) (flow : List Ways) (rows : List Row) : Type 0 where
+pub record Told (code : Code) (slots : Numbers) (flow : List BlockFlow) (rows : List LaneRange) : Type 0 where
   pub table : IsTableOf code slots flow rows
   pub grown : IsGrown code (causes rows)
   pub ended : AreEnds code slots rows
 
 -- pieces that are grown get their ends
-pub ended-told : (code : Code) (slots : Numbers) (flow : List Ways) (grown ended : List Row) → IsTableOf code slots flow grown → AreOutward code slots flow → IsGrown code (causes grown) → KeepsCauses grown ended
+pub ended-told : (code : Code) (slots : Numbers) (flow : List BlockFlow) (grown ended : List LaneRange) → IsTableOf code slots flow grown → AreOutward code slots flow → IsGrown code (causes grown) → KeepsCauses grown ended
     → (AllRise slots grown → length grown < 4294967296 → (l b n : ℕ) → Lasts slots flow grown ended l b n) → Told code slots flow ended
 ended-told code slots flow grown ended table out is keeps ends =
     let kept : causes grown ≡ causes ended = fun_ext (λ l. fun_ext (λ b. fun_ext (λ n. sym (keeps.causes l b n)))) in
@@ -66,7 +66,7 @@ ended-told code slots flow grown ended table out is keeps ends =
       ended = λ l b n. subst (λ why. IsEnd code slots why l b n (row_end ended l b n)) kept (subst (λ e. IsEnd code slots (causes grown) l b n e) (sym (ends rises table.few l b n)) (right-law code slots flow grown table out is l b n));
     }
 
-pub computed : (t : Target) (f : Function) (num : Numbering) (got : ℕ → Option ℕ) (slots : Numbers) (flow : List Ways) (entered grown ended : List Row)
+pub computed : (t : Target) (f : Function) (num : Numbering) (got : ℕ → Option ℕ) (slots : Numbers) (flow : List BlockFlow) (entered grown ended : List LaneRange)
     → ((n : ℕ) → got n ≡ place_of n f.blocks) → ids slots ≡ all_ids f.blocks → AreSingle (all_ids f.blocks) → IsNumbered slots → low_end (last_id (ids slots)) slots < 18446744073709551616 → AreWays t got f.blocks flow
     → length entered < 4294967296 → ((l b : ℕ) → rows_seen entered l b ≡ blocks_entered got 0 (entries (doing_of t f num) f.blocks) l b unseen)
     → GrowsAll slots flow entered grown → KeepsCauses grown ended → (AllRise slots grown → length grown < 4294967296 → (l b n : ℕ) → Lasts slots flow grown ended l b n)

@@ -1,7 +1,7 @@
 -- What is entered makes nothing live.
 use Rattle.std.proofs.Common.{◌≡◌, ℕ, zero, suc, Bool, true, false, cond, ◌&&◌, List, [], ◌∷◌, ◌++◌, Option, Some, None, refl, ap, ◌∙◌}
 use Rattle.std.specs.Prelude.{nat_eq, slice_get}
-use Rattle.live_lanes.specs.declared.row.Reading.{Reading}
+use Rattle.live_lanes.specs.declared.row.LaneUse.{LaneUse}
 use Rattle.live_lanes.specs.Graph.{is_live}
 use Rattle.live_lanes.specs.Table.{Begun, Seen, unseen, cause_in, begun_cause, with_last, changed_last, is_none, with_reading, new_begun, starts_last, with_segment, read_at_end}
 use Rattle.live_lanes.specs.Entered.{reading}
@@ -15,14 +15,14 @@ IsDead v = (n : ℕ) → is_live (cause_in v n) ≡ false
 abbrev IsMild : (Seen → Seen) → Type 0
 IsMild g = (v : Seen) → IsDead v → IsDead (g v)
 
-changed-cause : (r : Reading) (ss : List Begun) (k : ℕ) → begun_cause (slice_get (changed_last (λ s. record s { readings = with_last r s.readings }) ss) k) ≡ begun_cause (slice_get ss k)
+changed-cause : (r : LaneUse) (ss : List Begun) (k : ℕ) → begun_cause (slice_get (changed_last (λ s. record s { readings = with_last r s.readings }) ss) k) ≡ begun_cause (slice_get ss k)
 changed-cause r [] k = refl
 changed-cause r (s ∷ []) zero = refl
 changed-cause r (s ∷ []) (suc k) = refl
 changed-cause r (s ∷ t ∷ ss) zero = refl
 changed-cause r (s ∷ t ∷ ss) (suc k) = changed-cause r (t ∷ ss) k
 
-reading-mild : (r : Reading) → IsMild (with_reading r)
+reading-mild : (r : LaneUse) → IsMild (with_reading r)
 reading-mild r v dead n = go (is_none v.segments)
   where
     by : (m : ℕ) → cause_in (record v { segments = changed_last (λ s. record s { readings = with_last r s.readings }) v.segments }) m ≡ cause_in v m

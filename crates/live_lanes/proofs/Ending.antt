@@ -2,8 +2,8 @@
 use Rattle.std.proofs.Common.{◌≡◌, ◌<◌, ◌≤◌, ℕ, zero, suc, ◌+◌, ◌*◌, Bool, true, false, List, [], ◌∷◌, ◌++◌, ◌⊎◌, refl, sym, ap, ◌∙◌, subst, inl, inr, arith, append_assoc, append-nil}
 use Rattle.std.proofs.lemmas.Bool.{leb-true, le-leb}
 use Rattle.slot_index.specs.Order.{number_of}
-use Rattle.live_lanes.specs.declared.row.End.{End}
-use Rattle.live_lanes.specs.declared.row.End.TheVariants as ends
+use Rattle.live_lanes.specs.declared.row.PieceEnd.{PieceEnd}
+use Rattle.live_lanes.specs.declared.row.PieceEnd.TheVariants as ends
 use Rattle.live_lanes.specs.Paths.{Live, reads, moves, passes, next, leaps, goes, phi}
 use Rattle.mir_meaning.specs.Paths.{Among, here, there, Step, Code, steps_of, exits_of, Into, use_of, is_present, is_written, Point, Entry, Exit}
 use Rattle.live_lanes.specs.Graph.{Causes, is_live, writes_in, IsGrown}
@@ -21,13 +21,13 @@ use Rattle.live_lanes.proofs.Basics.{none-among}
 
 -- ranks and ends
 
-reach-true : (slots : Numbers) (e : End) (at : ℕ) → 0 < at → at ≤ end_rank slots e → reaches slots e at ≡ true
+reach-true : (slots : Numbers) (e : PieceEnd) (at : ℕ) → 0 < at → at ≤ end_rank slots e → reaches slots e at ≡ true
 reach-true slots ends.Never at p h = absurd (omega arith)
 reach-true slots (ends.Entry id) at p h = le-leb at (end_rank slots (ends.Entry id)) h
 reach-true slots (ends.Exit id) at p h = le-leb at (end_rank slots (ends.Exit id)) h
 reach-true slots ends.Last at p h = le-leb at (end_rank slots ends.Last) h
 
-reach-rank : (slots : Numbers) (e : End) (at : ℕ) → reaches slots e at ≡ true → at ≤ end_rank slots e
+reach-rank : (slots : Numbers) (e : PieceEnd) (at : ℕ) → reaches slots e at ≡ true → at ≤ end_rank slots e
 reach-rank slots ends.Never at h = absurd (cc)
 reach-rank slots (ends.Entry id) at h = leb-true at (end_rank slots (ends.Entry id)) h
 reach-rank slots (ends.Exit id) at h = leb-true at (end_rank slots (ends.Exit id)) h
@@ -90,7 +90,7 @@ module _ (code : Code) (slots : Numbers) (why : Causes) (matched : AllMatched co
   ended b l rest n h = subst (λ ss. Live code b (Entry ss) l) (append-nil rest) (back code b l rest [] n h)
 
   -- a point that counts at an entry or behind it makes the lane live there
-  entry-live : {l b n : ℕ} {end : End} (before : List Step) (s : Step) (rest : List Step) → steps_of code b ≡ before ++ s ∷ rest → writes_in l before ≡ n → Counts code why l b n end → entry_rank slots s.id ≤ end_rank slots end → Live code b (Entry (s ∷ rest)) l
+  entry-live : {l b n : ℕ} {end : PieceEnd} (before : List Step) (s : Step) (rest : List Step) → steps_of code b ≡ before ++ s ∷ rest → writes_in l before ≡ n → Counts code why l b n end → entry_rank slots s.id ≤ end_rank slots end → Live code b (Entry (s ∷ rest)) l
   entry-live {l} {b} {n} before s rest e m (counting.reads before' t rest' f k u) h =
       let z = at-or-behind b before s rest before' t rest' e f (omega arith) in
       let c = ap (writes_in l) z.1 ∙ writes-append l before z.0 in
@@ -113,7 +113,7 @@ module _ (code : Code) (slots : Numbers) (why : Causes) (matched : AllMatched co
       ended b l (s ∷ rest) (omega arith) (phi a)
 
   -- the same of an exit
-  exit-live : {l b n : ℕ} {end : End} (before : List Step) (s : Step) (rest : List Step) → steps_of code b ≡ before ++ s ∷ rest → writes_in l (before ++ s ∷ []) ≡ n → Counts code why l b n end → exit_rank slots s.id ≤ end_rank slots end → Live code b (Exit s rest) l
+  exit-live : {l b n : ℕ} {end : PieceEnd} (before : List Step) (s : Step) (rest : List Step) → steps_of code b ≡ before ++ s ∷ rest → writes_in l (before ++ s ∷ []) ≡ n → Counts code why l b n end → exit_rank slots s.id ≤ end_rank slots end → Live code b (Exit s rest) l
   exit-live {l} {b} {n} before s rest e m (counting.reads before' t rest' f k u) h =
       let z = behind b before s rest before' t rest' e f (omega arith) in
       let c = ap (writes_in l) z.1 ∙ writes-append l (before ++ s ∷ []) z.0 in
@@ -149,8 +149,8 @@ module _ (code : Code) (slots : Numbers) (why : Causes) (matched : AllMatched co
   rank_of (s ∷ rest) = entry_rank slots s.id
 
   abbrev Counted : ℕ → ℕ → List Step → Point → Type 0
-  Counted b l before (Entry rest) = steps_of code b ≡ before ++ rest → (end : End) × Counts code why l b (writes_in l before) end × (rank_of rest ≤ end_rank slots end)
-  Counted b l before (Exit s rest) = steps_of code b ≡ before ++ s ∷ rest → (end : End) × Counts code why l b (writes_in l (before ++ s ∷ [])) end × (exit_rank slots s.id ≤ end_rank slots end)
+  Counted b l before (Entry rest) = steps_of code b ≡ before ++ rest → (end : PieceEnd) × Counts code why l b (writes_in l before) end × (rank_of rest ≤ end_rank slots end)
+  Counted b l before (Exit s rest) = steps_of code b ≡ before ++ s ∷ rest → (end : PieceEnd) × Counts code why l b (writes_in l (before ++ s ∷ [])) end × (exit_rank slots s.id ≤ end_rank slots end)
 
   -- the point behind an exit has a greater rank
   rank-behind : (b : ℕ) (before : List Step) (s : Step) (rest : List Step) → steps_of code b ≡ before ++ s ∷ rest → exit_rank slots s.id ≤ rank_of rest
@@ -183,7 +183,7 @@ module _ (code : Code) (slots : Numbers) (why : Causes) (matched : AllMatched co
 
   -- both ways
 
-  of-end : {l b n : ℕ} {end : End} (at : ℕ) → IsEnd code slots why l b n end → reaches slots end at ≡ true → Counts code why l b n end
+  of-end : {l b n : ℕ} {end : PieceEnd} (at : ℕ) → IsEnd code slots why l b n end → reaches slots end at ≡ true → Counts code why l b n end
   of-end {l} {b} {n} {end} at h r = go h.counts
     where
       go : (end ≡ ends.Never) ⊎ Counts code why l b n end → Counts code why l b n end

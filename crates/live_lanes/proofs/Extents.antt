@@ -7,15 +7,15 @@ use Rattle.std.proofs.lemmas.Bool.{ltb-true, ltb-false, lt-ltb, leb-true, leb-fa
 use Rattle.std.proofs.lemmas.Option.{slice_get-map}
 use Rattle.slot_index.specs.Order.{number_of}
 use Rattle.mir_meaning.specs.Registers.{numbers}
-use Rattle.instr_effects.specs.declared.row.Lanes.{Lanes}
+use Rattle.instr_effects.specs.declared.row.LaneSpan.{LaneSpan}
 use Rattle.instr_effects.specs.Row.{lane_in}
 use Rattle.instr_effects.specs.Numbers.{row_number_in}
 use Rattle.live_lanes.specs.declared.ask.extent.Extent.{Extent}
 use Rattle.live_lanes.specs.declared.ask.extent.Stretch.{Stretch}
-use Rattle.live_lanes.specs.declared.row.Segment.{Segment}
+use Rattle.live_lanes.specs.declared.row.DefPiece.{DefPiece}
 use Rattle.live_lanes.specs.declared.row.Cell.{Cell}
-use Rattle.live_lanes.specs.declared.row.End.{End}
-use Rattle.live_lanes.specs.declared.row.End.TheVariants as ends
+use Rattle.live_lanes.specs.declared.row.PieceEnd.{PieceEnd}
+use Rattle.live_lanes.specs.declared.row.PieceEnd.TheVariants as ends
 use Rattle.live_lanes.specs.Table.{Numbers, Begun, Seen, unseen, begun, seen_cell, leading, entry_rank, exit_rank, end_rank, end_in, begun_end, rises_from, piece_at}
 use Rattle.live_lanes.specs.Reach.{is_never, reaches, seen_at}
 use Rattle.live_lanes.specs.Held.{writes_at, held_at, hold_rank}
@@ -35,7 +35,7 @@ beyond first count k h = go (ltb k count) refl
     go false e = ap (λ b. cond b (Some (first + k)) None) e
 
 -- lanes of the same numbers are as many
-pub same-count : (first count : ℕ) (o : Option Lanes) → ((k : ℕ) → lane_in first count k ≡ row_number_in o k) → count ≡ lanes_count o
+pub same-count : (first count : ℕ) (o : Option LaneSpan) → ((k : ℕ) → lane_in first count k ≡ row_number_in o k) → count ≡ lanes_count o
 same-count first zero None h = refl
 same-count first (suc n) None h = absurd (let a = within first (suc n) 0 (omega arith) in let b = h 0 in cc)
 same-count first count (Some own) h = go (ltb count own.count) refl (ltb own.count count) refl
@@ -60,7 +60,7 @@ pub none-in : (test : ℕ → Bool) (a n : ℕ) → ((x : ℕ) → a ≤ x → x
 none-in test a zero h = refl
 none-in test a (suc n) h = or-none (test a) (list_any test (numbers (suc a) n)) (h a (omega arith) (omega arith)) (none-in test (suc a) n (λ x lo hi. h x (omega arith) (omega arith)))
 
-never-last : (slots : Numbers) (e : End) → is_never e ≡ true → end_rank slots e ≡ 0
+never-last : (slots : Numbers) (e : PieceEnd) → is_never e ≡ true → end_rank slots e ≡ 0
 never-last slots ends.Never h = refl
 never-last slots (ends.Entry id) h = absurd (cc)
 never-last slots (ends.Exit id) h = absurd (cc)
@@ -245,7 +245,7 @@ abbrev pub lasts : Numbers → ℕ → Option Extent → Bool
 lasts slots from None = false
 lasts slots from (Some e) = nat_le from (last_rank slots e)
 
-block-lasts : (slots : Numbers) (from : ℕ) (e : End) → lasts slots from (block_extent e) ≡ reaches slots e from
+block-lasts : (slots : Numbers) (from : ℕ) (e : PieceEnd) → lasts slots from (block_extent e) ≡ reaches slots e from
 block-lasts slots from e = go (is_never e)
   where
     go : (u : Bool) → lasts slots from (cond u None (Some (record { start = None; early = false; end = e }))) ≡ (not u && nat_le from (end_rank slots e))
@@ -255,7 +255,7 @@ block-lasts slots from e = go (is_never e)
 pub met-is : (slots : Numbers) (c : Cell) (at : Stretch) → rises_from slots 0 (seen_cell c).segments ≡ true → at.first ≤ at.last → is_met_in slots (seen_cell c) at ≡ lasts slots at.first (extent_in (Some c) (begun_by slots at.last (seen_cell c).segments))
 met-is slots c at r le = go (begun_by slots at.last (seen_cell c).segments) refl
   where
-    later : (j : ℕ) → begun_by slots at.last (seen_cell c).segments ≡ suc j → (o : Option Segment) → slice_get c.segments.items j ≡ o → is_met_in slots (seen_cell c) at ≡ lasts slots at.first (option_map segment_extent o)
+    later : (j : ℕ) → begun_by slots at.last (seen_cell c).segments ≡ suc j → (o : Option DefPiece) → slice_get c.segments.items j ≡ o → is_met_in slots (seen_cell c) at ≡ lasts slots at.first (option_map segment_extent o)
     later j e None g = absurd (top-none slots at.last (seen_cell c).segments j e (slice_get-map begun c.segments.items j ∙ ap (option_map begun) g))
     later j e (Some s) g = met-later slots at.last (seen_cell c) r at.first le j (begun s) e (slice_get-map begun c.segments.items j ∙ ap (option_map begun) g)
 

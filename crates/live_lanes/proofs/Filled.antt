@@ -3,7 +3,7 @@ use Rattle.std.proofs.Common.{◌≡◌, ◌<◌, ℕ, suc, Bool, true, false, c
 use Rattle.std.specs.Prelude.{nat_eq}
 use Rattle.std.specs.List.{list_any}
 use Rattle.std.proofs.lemmas.Bool.{ne_eqb}
-use Rattle.mir_meaning.specs.declared.writing.Writing.{Writing}
+use Rattle.mir_meaning.specs.declared.writing.LaneDef.{LaneDef}
 use Rattle.mir_meaning.specs.Paths.{Step, has, Use, Unused, Certain, Into, use_of, writing_of}
 use Rattle.live_lanes.specs.Table.{Seen, unseen, is_none, with_reading, with_segment, read_at_end}
 use Rattle.live_lanes.specs.Entered.{reading, readings_until, starts}
@@ -91,11 +91,11 @@ module _ (place : ℕ → Option ℕ) (l b : ℕ) where
     source-away id to None v = refl
     source-away id to (Some lane) v = away lane (with_reading (reading id (Some to))) v
 
-    moves-away : (id : ℕ) (ws : List Writing) (v : Seen) → moves_entered block id ws l b v ≡ v
+    moves-away : (id : ℕ) (ws : List LaneDef) (v : Seen) → moves_entered block id ws l b v ≡ v
     moves-away id [] v = refl
     moves-away id (w ∷ ws) v = ap (λ u. moves_entered block id ws l b u) (source-away id w.lane w.from v) ∙ moves-away id ws v
 
-    writes-away : (id : ℕ) (ws : List Writing) (v : Seen) → writes_entered block id ws l b v ≡ v
+    writes-away : (id : ℕ) (ws : List LaneDef) (v : Seen) → writes_entered block id ws l b v ≡ v
     writes-away id [] v = refl
     writes-away id (w ∷ ws) v = ap (λ u. writes_entered block id ws l b u) (away w.lane (with_segment id w.early w.from) v) ∙ writes-away id ws v
 
@@ -119,7 +119,7 @@ module _ (place : ℕ → Option ℕ) (l b : ℕ) where
   last-written : (s : Step) (v : Seen) → (after_step l s v).is_read_last ≡ v.is_read_last
   last-written s v = go (writing_of l s.writes) ∙ by (use_of l s)
     where
-      go : (q : Option Writing) → (written s.id q (used s.id (use_of l s) v)).is_read_last ≡ (used s.id (use_of l s) v).is_read_last
+      go : (q : Option LaneDef) → (written s.id q (used s.id (use_of l s) v)).is_read_last ≡ (used s.id (use_of l s) v).is_read_last
       go None = refl
       go (Some w) = refl
 

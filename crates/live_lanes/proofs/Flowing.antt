@@ -8,7 +8,7 @@ use Rattle.std.proofs.lemmas.Option.{slice_get-get_or, slice_get_past}
 use Rattle.target_base.specs.declared.types.Target.{Target}
 use Rattle.mir_func.specs.declared.func.Block.{Block}
 use Rattle.mir_func.specs.declared.func.Edge.{Edge}
-use Rattle.live_lanes.specs.declared.compute.flow.Ways.{Ways}
+use Rattle.live_lanes.specs.declared.compute.flow.BlockFlow.{BlockFlow}
 use Rattle.mir_meaning.specs.Paths.{has}
 use Rattle.live_lanes.specs.Ways.{predecessors, terminators, successors}
 use Rattle.live_lanes.specs.Flowing.{edge_places, exits_at, terminators_at, terminator_ids, Notes, NotesAll, AreOut, AreWays}
@@ -20,17 +20,17 @@ get-set (x ∷ xs) zero (suc l) y h = sym (ap (λ t. cond t (Some y) (slice_get 
 get-set (x ∷ xs) (suc k) zero y h = sym (ap (λ t. cond t (Some y) (Some x)) (eqb-suc-zero k))
 get-set (x ∷ xs) (suc k) (suc l) y h = get-set xs k l y (omega arith) ∙ sym (ap (λ t. cond t (Some y) (slice_get xs l)) (eqb-suc-suc k l))
 
-abbrev before_of : Option Ways → List ℕ
+abbrev before_of : Option BlockFlow → List ℕ
 before_of q = elim q [ None ↦ [] | Some w ↦ w.predecessors.items ]
 
-abbrev behind_of : Option Ways → List ℕ
+abbrev behind_of : Option BlockFlow → List ℕ
 behind_of q = elim q [ None ↦ [] | Some w ↦ w.successors.items ]
 
-abbrev leaving_of : Option Ways → List ℕ
+abbrev leaving_of : Option BlockFlow → List ℕ
 leaving_of q = elim q [ None ↦ [] | Some w ↦ w.terminators.items ]
 
 -- a block that isn't there
-pub note-past : (flow : List Ways) (next at : ℕ) → length flow ≤ next → Notes flow flow next at
+pub note-past : (flow : List BlockFlow) (next at : ℕ) → length flow ≤ next → Notes flow flow next at
 note-past flow next at past = record { predecessors = λ x h. go x h (nat_eq next x) refl; successors = λ b. refl; terminators = λ b. refl; blocks = refl }
   where
     go : (x : ℕ) → x < length flow → (t : Bool) → nat_eq next x ≡ t → predecessors flow x ≡ cond (nat_eq next x) (predecessors flow x ++ at ∷ []) (predecessors flow x)
@@ -38,7 +38,7 @@ note-past flow next at past = record { predecessors = λ x h. go x h (nat_eq nex
     go x h false e = sym (ap (λ t. cond t (predecessors flow x ++ at ∷ []) (predecessors flow x)) e)
 
 -- a block that is there
-pub note-row : (flow : List Ways) (next at : ℕ) (w v : Ways) → next < length flow → w ≡ get_or flow next w → v.predecessors.items ≡ w.predecessors.items ++ at ∷ [] → v.successors ≡ w.successors → v.terminators ≡ w.terminators → Notes flow (set flow next v) next at
+pub note-row : (flow : List BlockFlow) (next at : ℕ) (w v : BlockFlow) → next < length flow → w ≡ get_or flow next w → v.predecessors.items ≡ w.predecessors.items ++ at ∷ [] → v.successors ≡ w.successors → v.terminators ≡ w.terminators → Notes flow (set flow next v) next at
 note-row flow next at w v within e added same kept = record {
   predecessors = λ x h. ap before_of (get-set flow next x v within) ∙ before x (nat_eq next x) refl;
   successors = λ b. ap behind_of (get-set flow next b v within) ∙ behind b (nat_eq next b) refl;
@@ -119,7 +119,7 @@ take-past (x ∷ xs) (suc k) h = ap (λ ys. x ∷ ys) (take-past xs k (omega ari
 
 -- noting a block at several
 
-pub notes-none : (flow : List Ways) (nexts : List ℕ) (at : ℕ) → NotesAll flow flow (take 0 nexts) at
+pub notes-none : (flow : List BlockFlow) (nexts : List ℕ) (at : ℕ) → NotesAll flow flow (take 0 nexts) at
 notes-none flow nexts at = record { predecessors = λ x b h. sym (go (has b (predecessors flow x)) (nat_eq at b)); successors = λ b. refl; terminators = λ b. refl; blocks = refl }
   where
     go : (t u : Bool) → t || u && false ≡ t
@@ -127,7 +127,7 @@ notes-none flow nexts at = record { predecessors = λ x b h. sym (go (has b (pre
     go false true = refl
     go false false = refl
 
-pub notes-more : (old mid new : List Ways) (nexts : List ℕ) (k at : ℕ) → k < length nexts → NotesAll old mid (take k nexts) at → Notes mid new (get_or nexts k 0) at → NotesAll old new (take (k + 1) nexts) at
+pub notes-more : (old mid new : List BlockFlow) (nexts : List ℕ) (k at : ℕ) → k < length nexts → NotesAll old mid (take k nexts) at → Notes mid new (get_or nexts k 0) at → NotesAll old new (take (k + 1) nexts) at
 notes-more old mid new nexts k at h so now = record {
   predecessors = λ x b w. ap (has b) (now.predecessors x (subst (λ n. x < n) (sym so.blocks) w)) ∙ by x b w (nat_eq (get_or nexts k 0) x) refl;
   successors = λ b. now.successors b ∙ so.successors b;
@@ -150,7 +150,7 @@ notes-more old mid new nexts k at h so now = record {
     by x b w false f =
         ap (λ q. has b (cond q (predecessors mid x ++ at ∷ []) (predecessors mid x))) f ∙ so.predecessors x b w ∙ no (has b (predecessors old x)) (nat_eq at b) (has x (take k nexts)) ∙ ap (λ q. has b (predecessors old x) || (nat_eq at b && q)) (ap (λ q. has x (take k nexts) || q) (sym f) ∙ sym (has-more x nexts k h))
 
-pub notes-all : (old new : List Ways) (nexts : List ℕ) (k at : ℕ) → length nexts ≤ k → NotesAll old new (take k nexts) at → NotesAll old new nexts at
+pub notes-all : (old new : List BlockFlow) (nexts : List ℕ) (k at : ℕ) → length nexts ≤ k → NotesAll old new (take k nexts) at → NotesAll old new nexts at
 notes-all old new nexts k at h so = subst (λ xs. NotesAll old new xs at) (take-past nexts k h) so
 
 -- edges
@@ -192,7 +192,7 @@ length-one : {X : Type 0} (xs : List X) (y : X) → length (xs ++ y ∷ []) ≡ 
 length-one [] y = refl
 length-one (x ∷ xs) y = ap (λ n. suc n) (length-one xs y)
 
-pub out-push : (t : Target) (place : ℕ → Option ℕ) (bs : List Block) (flow : List Ways) (c : Block) (w : Ways) → AreOut t place bs flow → w.predecessors.items ≡ [] → ((x : ℕ) → has x w.successors.items ≡ has x (edge_places place c.successors)) → w.terminators.items ≡ terminator_ids t c.instrs → AreOut t place (bs ++ c ∷ []) (flow ++ w ∷ [])
+pub out-push : (t : Target) (place : ℕ → Option ℕ) (bs : List Block) (flow : List BlockFlow) (c : Block) (w : BlockFlow) → AreOut t place bs flow → w.predecessors.items ≡ [] → ((x : ℕ) → has x w.successors.items ≡ has x (edge_places place c.successors)) → w.terminators.items ≡ terminator_ids t c.instrs → AreOut t place (bs ++ c ∷ []) (flow ++ w ∷ [])
 out-push t place bs flow c w so none exits ids = record {
   predecessors = λ b. ap before_of (get-push flow w b) ∙ before b (nat_eq (length flow) b);
   successors = λ b x. ap (λ q. has x (behind_of q)) (get-push flow w b) ∙ behind b x (nat_eq (length flow) b) ∙ sym (ap (λ q. has x (exits_of_some place q)) (get-push bs c b ∙ ap (λ n. cond (nat_eq n b) (Some c) (slice_get bs b)) (sym so.blocks)));
@@ -220,20 +220,20 @@ take-next (y ∷ xs) (suc k) x h e = ap (λ ys. y ∷ ys) (take-next xs k x (ome
 take-one : {X : Type 0} (xs : List X) (k : ℕ) (x : X) → k < length xs → x ≡ get_or xs k x → take (k + 1) xs ≡ take k xs ++ x ∷ []
 take-one xs k x h e = ap (λ n. take n xs) (add-one k) ∙ take-next xs k x h e
 
-pub out-more : (t : Target) (place : ℕ → Option ℕ) (bs : List Block) (k : ℕ) (flow : List Ways) (c : Block) (w : Ways) → k < length bs → c ≡ get_or bs k c → AreOut t place (take k bs) flow → w.predecessors.items ≡ [] → ((x : ℕ) → has x w.successors.items ≡ has x (edge_places place c.successors)) → w.terminators.items ≡ terminator_ids t c.instrs → AreOut t place (take (k + 1) bs) (flow ++ w ∷ [])
+pub out-more : (t : Target) (place : ℕ → Option ℕ) (bs : List Block) (k : ℕ) (flow : List BlockFlow) (c : Block) (w : BlockFlow) → k < length bs → c ≡ get_or bs k c → AreOut t place (take k bs) flow → w.predecessors.items ≡ [] → ((x : ℕ) → has x w.successors.items ≡ has x (edge_places place c.successors)) → w.terminators.items ≡ terminator_ids t c.instrs → AreOut t place (take (k + 1) bs) (flow ++ w ∷ [])
 out-more t place bs k flow c w h e so none exits ids = subst (λ cs. AreOut t place cs (flow ++ w ∷ [])) (sym (take-one bs k c h e)) (out-push t place (take k bs) flow c w so none exits ids)
 
-pub out-all : (t : Target) (place : ℕ → Option ℕ) (bs : List Block) (k : ℕ) (flow : List Ways) → length bs ≤ k → AreOut t place (take k bs) flow → AreOut t place bs flow
+pub out-all : (t : Target) (place : ℕ → Option ℕ) (bs : List Block) (k : ℕ) (flow : List BlockFlow) → length bs ≤ k → AreOut t place (take k bs) flow → AreOut t place bs flow
 out-all t place bs k flow h so = subst (λ cs. AreOut t place cs flow) (take-past bs k h) so
 
 -- the first blocks are noted at those behind them
-pub record IsNoted (t : Target) (place : ℕ → Option ℕ) (bs : List Block) (flow : List Ways) (k : ℕ) : Type 0 where
+pub record IsNoted (t : Target) (place : ℕ → Option ℕ) (bs : List Block) (flow : List BlockFlow) (k : ℕ) : Type 0 where
   pub predecessors : (x b : ℕ) → x < length bs → has b (predecessors flow x) ≡ nat_lt b k && has x (exits_at place bs b)
   pub successors : (b x : ℕ) → has x (successors flow b) ≡ has x (exits_at place bs b)
   pub terminators : (b : ℕ) → terminators flow b ≡ terminators_at t bs b
   pub blocks : length flow ≡ length bs
 
-pub noted-none : (t : Target) (place : ℕ → Option ℕ) (bs : List Block) (flow : List Ways) → AreOut t place bs flow → IsNoted t place bs flow 0
+pub noted-none : (t : Target) (place : ℕ → Option ℕ) (bs : List Block) (flow : List BlockFlow) → AreOut t place bs flow → IsNoted t place bs flow 0
 noted-none t place bs flow so = record {
   predecessors = λ x b h. ap (has b) (so.predecessors x) ∙ sym (ap (λ u. u && has x (exits_at place bs b)) (le-ltb b 0 (omega arith)));
   successors = so.successors;
@@ -241,7 +241,7 @@ noted-none t place bs flow so = record {
   blocks = so.blocks;
 }
 
-pub noted-more : (t : Target) (place : ℕ → Option ℕ) (bs : List Block) (old new : List Ways) (k : ℕ) → IsNoted t place bs old k → NotesAll old new (successors old k) k → IsNoted t place bs new (k + 1)
+pub noted-more : (t : Target) (place : ℕ → Option ℕ) (bs : List Block) (old new : List BlockFlow) (k : ℕ) → IsNoted t place bs old k → NotesAll old new (successors old k) k → IsNoted t place bs new (k + 1)
 noted-more t place bs old new k so now = record {
   predecessors = λ x b h. now.predecessors x b (subst (λ n. x < n) (sym so.blocks) h) ∙ ap (λ u. u || (nat_eq k b && has x (successors old k))) (so.predecessors x b h) ∙ go x b (nat_eq k b) refl;
   successors = λ b x. ap (has x) (now.successors b) ∙ so.successors b x;
@@ -260,7 +260,7 @@ noted-more t place bs old new k so now = record {
     go x b true f = ap (λ u. (nat_lt b k && has x (exits_at place bs b)) || (u && has x (successors old k))) f ∙ same x b (eqb-true k b f)
     go x b false f = ap (λ u. (nat_lt b k && has x (exits_at place bs b)) || (u && has x (successors old k))) f ∙ or-false (nat_lt b k && has x (exits_at place bs b)) ∙ ap (λ u. u && has x (exits_at place bs b)) (other x b f)
 
-pub noted-all : (t : Target) (place : ℕ → Option ℕ) (bs : List Block) (flow : List Ways) (k : ℕ) → length bs ≤ k → IsNoted t place bs flow k → AreWays t place bs flow
+pub noted-all : (t : Target) (place : ℕ → Option ℕ) (bs : List Block) (flow : List BlockFlow) (k : ℕ) → length bs ≤ k → IsNoted t place bs flow k → AreWays t place bs flow
 noted-all t place bs flow k h so = record {
   predecessors = λ x b w. so.predecessors x b w ∙ ⊎_elim (λ lt. ap (λ u. u && has x (exits_at place bs b)) (lt-ltb b k lt)) (λ ge. ap (λ u. u && has x (exits_at place bs b)) (le-ltb b k ge) ∙ sym (ap (λ q. has x (exits_of_some place q)) (slice_get_past bs b (omega arith)))) (cases_lt b k);
   successors = so.successors;

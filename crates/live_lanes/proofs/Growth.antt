@@ -5,8 +5,8 @@ use Rattle.std.proofs.lemmas.Bool.Decides.{eqb_tells}
 use Rattle.std.proofs.Math.Dec.{eqb-zero-suc, eqb-suc-zero, eqb-suc-suc}
 use Rattle.live_lanes.specs.declared.row.Cause.{Cause}
 use Rattle.live_lanes.specs.declared.row.Cause.TheVariants as why
-use Rattle.live_lanes.specs.declared.row.Row.{Row}
-use Rattle.live_lanes.specs.declared.table.Spot.{Spot}
+use Rattle.live_lanes.specs.declared.row.LaneRange.{LaneRange}
+use Rattle.live_lanes.specs.declared.table.PieceSpot.{PieceSpot}
 use Rattle.mir_meaning.specs.Paths.{Among, here, there, Step, Code, steps_of, exits_of}
 use Rattle.live_lanes.specs.Graph.{Causes, is_live, writes_in, Founded, by_reading, by_move, by_exit, by_end, by_phi}
 use Rattle.live_lanes.specs.Table.{Numbers, Seen, Begun, leading, is_begun, piece_at, cause_in, begun_cause, with_cause, changed_at, begun_with_cause, raised_seen}
@@ -67,7 +67,7 @@ raised-shape : (t : Bool) (v : Seen) (n : ℕ) (c : Cause) → shape (raised_see
 raised-shape true v n c = refl
 raised-shape false v n c = shape-cause v n c
 
-pub grew-refl : (code : Code) (rows : List Row) (from : List Spot) → Grew code rows rows from from
+pub grew-refl : (code : Code) (rows : List LaneRange) (from : List PieceSpot) → Grew code rows rows from from
 grew-refl code rows from = record {
   shapes = λ l b. refl;
   kept = λ l b n h. refl;
@@ -79,7 +79,7 @@ grew-refl code rows from = record {
   lanes = refl;
 }
 
-pub grew-trans : (code : Code) (a b c : List Row) (x y z : List Spot) → Grew code a b x y → Grew code b c y z → Grew code a c x z
+pub grew-trans : (code : Code) (a b c : List LaneRange) (x y z : List PieceSpot) → Grew code a b x y → Grew code b c y z → Grew code a c x z
 grew-trans code a b c x y z f g = record {
   shapes = λ l n. g.shapes l n ∙ f.shapes l n;
   kept = λ l n k h. g.kept l n k (ap is_live (f.kept l n k h) ∙ h) ∙ f.kept l n k h;
@@ -99,7 +99,7 @@ grew-trans code a b c x y z f g = record {
     second l n k (inl h) = first l n k (f.listed l n k h)
     second l n k (inr m) = inr (among-right (spot l n k) f.added g.added m)
 
-    go : (s : Spot) → Among s f.added ⊎ Among s g.added → is_live (causes c s.lane s.block s.index) ≡ true
+    go : (s : PieceSpot) → Among s f.added ⊎ Among s g.added → is_live (causes c s.lane s.block s.index) ≡ true
     go s (inl m) = let h = f.risen s m in ap is_live (g.kept s.lane s.block s.index h) ∙ h
     go s (inr m) = g.risen s m
 
@@ -108,7 +108,7 @@ one x y here = refl
 one x y (there a) = absurd (none-among x a)
 
 -- a raised piece with a right cause
-module _ (code : Code) (old new : List Row) (lane block n : ℕ) (cause : Cause) (from to : List Spot) (within : n ≤ length (rows_seen old lane block).segments) (r : RaisedAt old new lane block n cause from to) (alive : is_live cause ≡ true) where
+module _ (code : Code) (old new : List LaneRange) (lane block n : ℕ) (cause : Cause) (from to : List PieceSpot) (within : n ≤ length (rows_seen old lane block).segments) (r : RaisedAt old new lane block n cause from to) (alive : is_live cause ≡ true) where
   abbrev live : Bool
   live = is_live (causes old lane block n)
 
@@ -187,7 +187,7 @@ module _ (code : Code) (old new : List Row) (lane block n : ℕ) (cause : Cause)
           inr (subst (λ t. Among (spot l b k) (raised_spots t (spot lane block n))) (sym z.0) (subst (λ x. Among x (spot lane block n ∷ [])) e here))
       listed l b k h (inr e) = inl (ap is_live (sym e) ∙ h)
 
-      risen : (t : Bool) (x : Spot) → Among x (raised_spots t (spot lane block n)) → is_live (causes new x.lane x.block x.index) ≡ true
+      risen : (t : Bool) (x : PieceSpot) → Among x (raised_spots t (spot lane block n)) → is_live (causes new x.lane x.block x.index) ≡ true
       risen true x a = absurd (none-among x a)
       risen false x a = only (among-split x [] (spot lane block n ∷ []) a)
         where
@@ -203,7 +203,7 @@ module _ (code : Code) (old new : List Row) (lane block n : ℕ) (cause : Cause)
       founded f l b k h (inr e) = founded-kept code (causes old) (causes new) kept (f l b k (ap is_live (sym e) ∙ h))
 
 -- the same of the piece at the point of a rank
-module _ (code : Code) (slots : Numbers) (old new : List Row) (lane block at : ℕ) (cause : Cause) (from to : List Spot) (r : Raised slots old new lane block at cause from to) (alive : is_live cause ≡ true) where
+module _ (code : Code) (slots : Numbers) (old new : List LaneRange) (lane block at : ℕ) (cause : Cause) (from to : List PieceSpot) (r : Raised slots old new lane block at cause from to) (alive : is_live cause ≡ true) where
   pub raised-live : is_live (causes new lane block (piece_in_rows slots old lane block at)) ≡ true
   raised-live = at-live code old new lane block (piece_in_rows slots old lane block at) cause from to (leading-le (is_begun slots at) (rows_seen old lane block).segments) r alive
 

@@ -4,7 +4,7 @@ use Rattle.std.specs.Prelude.{◌||◌, not, nat_eq, nat_le, slice_get}
 use Rattle.std.specs.List.{list_any}
 use Rattle.std.proofs.lemmas.Bool.{ltb-true, leb-true, leb-false, le-leb, eqb-true, ne_eqb, eq-eqb}
 use Rattle.slot_index.specs.Order.{number_of}
-use Rattle.live_lanes.specs.declared.row.End.{End}
+use Rattle.live_lanes.specs.declared.row.PieceEnd.{PieceEnd}
 use Rattle.live_lanes.specs.Table.{Numbers, Begun, Seen, entry_rank, exit_rank, end_rank, end_in, is_begun, rises_from, piece_at}
 use Rattle.live_lanes.specs.Reach.{is_never, reaches, seen_at}
 use Rattle.live_lanes.specs.Held.{writes_at, held_at, hold_rank, next_rank, exits_at, begins_at}
@@ -176,17 +176,17 @@ module _ (slots : Numbers) where
   begins-back at ss zero ne = absurd (ne refl)
   begins-back at ss (suc k) ne = let one : suc k - 1 ≡ k = omega arith in ap (λ j. exits_at slots at (slice_get ss j)) one
 
-  reach-on : (e : End) (at x : ℕ) → reaches slots e at ≡ true → x ≤ end_rank slots e → reaches slots e x ≡ true
+  reach-on : (e : PieceEnd) (at x : ℕ) → reaches slots e at ≡ true → x ≤ end_rank slots e → reaches slots e x ≡ true
   reach-on e at x r le = both (not (is_never e)) (nat_le x (end_rank slots e)) (both-left (not (is_never e)) (nat_le at (end_rank slots e)) r) (le-leb x (end_rank slots e) le)
 
-  pub reach-off : (e : End) (at x : ℕ) → reaches slots e at ≡ false → at ≤ x → reaches slots e x ≡ false
+  pub reach-off : (e : PieceEnd) (at x : ℕ) → reaches slots e at ≡ false → at ≤ x → reaches slots e x ≡ false
   reach-off e at x r le = go (not (is_never e)) r
     where
       go : (u : Bool) → (u && nat_le at (end_rank slots e)) ≡ false → (u && nat_le x (end_rank slots e)) ≡ false
       go false h = refl
       go true h = let z = leb-false at (end_rank slots e) h in le-false x (end_rank slots e) (omega arith)
 
-  pub reached : (e : End) (at : ℕ) → reaches slots e at ≡ true → at ≤ end_rank slots e
+  pub reached : (e : PieceEnd) (at : ℕ) → reaches slots e at ≡ true → at ≤ end_rank slots e
   reached e at r = leb-true at (end_rank slots e) (both-right (not (is_never e)) (nat_le at (end_rank slots e)) r)
 
   module _ (v : Seen) (rises : rises_from slots 0 v.segments ≡ true) (at : ℕ) where

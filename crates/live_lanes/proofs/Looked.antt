@@ -1,8 +1,8 @@
 -- What a table answers inside blocks is where lanes are live.
 use Rattle.std.proofs.Common.{◌≡◌, ℕ, true, List, [], ◌∷◌, ◌++◌, refl, sym, ap, ◌∙◌, subst}
 use Rattle.std.specs.Prelude.{◌↔◌}
-use Rattle.live_lanes.specs.declared.compute.flow.Ways.{Ways}
-use Rattle.live_lanes.specs.declared.row.Row.{Row}
+use Rattle.live_lanes.specs.declared.compute.flow.BlockFlow.{BlockFlow}
+use Rattle.live_lanes.specs.declared.row.LaneRange.{LaneRange}
 use Rattle.live_lanes.specs.Paths.{Live}
 use Rattle.mir_meaning.specs.Paths.{Step, Code, steps_of, Point, Entry, Exit}
 use Rattle.live_lanes.specs.Graph.{writes_in}

@@ -2,7 +2,7 @@
 use Rattle.std.proofs.Common.{◌≡◌, ◌<◌, ◌≤◌, ℕ, suc, Bool, true, false, cond, ◌&&◌, leb, ltb, List, [], ◌∷◌, ◌++◌, ◌⊎◌, Option, None, Some, refl, sym, ap, ◌∙◌, subst, inl, inr, arith, map, append_assoc, append-nil}
 use Rattle.std.proofs.lemmas.Bool.{ltb-true, le-leb, lt-ltb, lt-leb}
 use Rattle.slot_index.specs.Order.{number_of}
-use Rattle.mir_meaning.specs.declared.writing.Writing.{Writing}
+use Rattle.mir_meaning.specs.declared.writing.LaneDef.{LaneDef}
 use Rattle.mir_meaning.specs.Paths.{Among, here, there, Step, Code, steps_of, writing_of, is_present}
 use Rattle.live_lanes.specs.Graph.{writes_in}
 use Rattle.live_lanes.specs.Table.{Numbers, entry_rank, exit_rank, leading, Begun, rises_from, piece_at}
@@ -71,7 +71,7 @@ module _ (l : ℕ) (test : ℕ → Bool) where
   none-pass [] h = refl
   none-pass (y ∷ ys) h = go (writing_of l y.writes) (none-pass ys (λ t a. h t (there a)))
     where
-      go : (o : Option Writing) → leading (λ (s : Start). test s.start) (starts l ys) ≡ 0 → leading (λ (s : Start). test s.start) (elim o [ None ↦ starts l ys | Some w ↦ record { start = y.id; early = w.early; from = w.from; readings = readings_until l ys } ∷ starts l ys ]) ≡ 0
+      go : (o : Option LaneDef) → leading (λ (s : Start). test s.start) (starts l ys) ≡ 0 → leading (λ (s : Start). test s.start) (elim o [ None ↦ starts l ys | Some w ↦ record { start = y.id; early = w.early; from = w.from; readings = readings_until l ys } ∷ starts l ys ]) ≡ 0
       go None ih = ih
       go (Some w) ih = ap (λ b. cond b (suc (leading (λ (s : Start). test s.start) (starts l ys))) 0) (h y here)
 
@@ -79,7 +79,7 @@ module _ (l : ℕ) (test : ℕ → Bool) where
   count-before [] ys p q = none-pass ys q
   count-before (x ∷ xs) ys p q = go (writing_of l x.writes) (count-before xs ys (λ t a. p t (there a)) q)
     where
-      go : (o : Option Writing) → leading (λ (s : Start). test s.start) (starts l (xs ++ ys)) ≡ writes_in l xs → leading (λ (s : Start). test s.start) (elim o [ None ↦ starts l (xs ++ ys) | Some w ↦ record { start = x.id; early = w.early; from = w.from; readings = readings_until l (xs ++ ys) } ∷ starts l (xs ++ ys) ]) ≡ cond (is_present o) (suc (writes_in l xs)) (writes_in l xs)
+      go : (o : Option LaneDef) → leading (λ (s : Start). test s.start) (starts l (xs ++ ys)) ≡ writes_in l xs → leading (λ (s : Start). test s.start) (elim o [ None ↦ starts l (xs ++ ys) | Some w ↦ record { start = x.id; early = w.early; from = w.from; readings = readings_until l (xs ++ ys) } ∷ starts l (xs ++ ys) ]) ≡ cond (is_present o) (suc (writes_in l xs)) (writes_in l xs)
       go None ih = ih
       go (Some w) ih = ap (λ b. cond b (suc (leading (λ (s : Start). test s.start) (starts l (xs ++ ys)))) 0) (p x here) ∙ ap suc ih
 
@@ -162,7 +162,7 @@ starts-rise : (slots : Numbers) (l n : ℕ) (ss : List Step) → Rises slots n s
 starts-rise slots l n [] r = refl
 starts-rise slots l n (s ∷ ss) r = go (writing_of l s.writes) (starts-rise slots l (number_of slots s.id) ss r.2)
   where
-    go : (o : Option Writing) → ids-rise slots (number_of slots s.id) (map (λ (s : Start). s.start) (starts l ss)) ≡ true → ids-rise slots n (map (λ (s : Start). s.start) (elim o [ None ↦ starts l ss | Some w ↦ record { start = s.id; early = w.early; from = w.from; readings = readings_until l ss } ∷ starts l ss ])) ≡ true
+    go : (o : Option LaneDef) → ids-rise slots (number_of slots s.id) (map (λ (s : Start). s.start) (starts l ss)) ≡ true → ids-rise slots n (map (λ (s : Start). s.start) (elim o [ None ↦ starts l ss | Some w ↦ record { start = s.id; early = w.early; from = w.from; readings = readings_until l ss } ∷ starts l ss ])) ≡ true
     go None ih = ids-lower slots n (number_of slots s.id) (map (λ (s : Start). s.start) (starts l ss)) (let h = r.0 in omega arith) ih
     go (Some w) ih = both (ltb n (number_of slots s.id)) (ids-rise slots (number_of slots s.id) (map (λ (s : Start). s.start) (starts l ss))) (lt-ltb n (number_of slots s.id) r.0) ih
 

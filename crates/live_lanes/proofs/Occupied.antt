@@ -4,11 +4,11 @@ use Rattle.std.specs.Prelude.{◌↔◌, ◌||◌, nat_eq, nat_le, not}
 use Rattle.std.specs.List.{list_any}
 use Rattle.std.proofs.lemmas.Bool.{eq-eqb, ne_eqb, leb-true, le-leb}
 use Rattle.slot_index.specs.Order.{number_of}
-use Rattle.mir_meaning.specs.declared.writing.Writing.{Writing}
-use Rattle.live_lanes.specs.declared.compute.flow.Ways.{Ways}
-use Rattle.live_lanes.specs.declared.row.End.{End}
-use Rattle.live_lanes.specs.declared.row.End.TheVariants as ends
-use Rattle.live_lanes.specs.declared.row.Row.{Row}
+use Rattle.mir_meaning.specs.declared.writing.LaneDef.{LaneDef}
+use Rattle.live_lanes.specs.declared.compute.flow.BlockFlow.{BlockFlow}
+use Rattle.live_lanes.specs.declared.row.PieceEnd.{PieceEnd}
+use Rattle.live_lanes.specs.declared.row.PieceEnd.TheVariants as ends
+use Rattle.live_lanes.specs.declared.row.LaneRange.{LaneRange}
 use Rattle.live_lanes.specs.Paths.{Live}
 use Rattle.mir_meaning.specs.Paths.{Step, Code, steps_of, writing_of, is_written, is_present, Entry, Exit}
 use Rattle.live_lanes.specs.Graph.{Causes, is_live, writes_in, IsClosed, IsGrown}
@@ -33,7 +33,7 @@ any-starts : (slots : Numbers) (at : ℕ) (ss : List Begun) → list_any (writes
 any-starts slots at [] = refl
 any-starts slots at (s ∷ ss) = ap (λ b. writes_at slots at s || b) (any-starts slots at ss)
 
-abbrev begin : ℕ → Step → List Step → Writing → Start
+abbrev begin : ℕ → Step → List Step → LaneDef → Start
 begin l s ss w = record { start = s.id; early = w.early; from = w.from; readings = readings_until l ss }
 
 and-false : (a b : Bool) → b ≡ false → (a && b) ≡ false
@@ -54,12 +54,12 @@ module _ (slots : Numbers) (l : ℕ) where
   none-behind at n [] r h = refl
   none-behind at n (s ∷ ss) r h = go (writing_of l s.writes) (let low = r.0 in none-behind at (number_of slots s.id) ss r.2 (omega arith))
     where
-      none : (w : Writing) → start_writes slots at (begin l s ss w) ≡ false
+      none : (w : LaneDef) → start_writes slots at (begin l s ss w) ≡ false
       none w =
           let low = r.0 in
           or-first (nat_eq (exit_rank slots s.id) at) (w.early && nat_eq (entry_rank slots s.id) at) (ne_eqb (exit_rank slots s.id) at (λ e. omega arith)) ∙ and-false w.early (nat_eq (entry_rank slots s.id) at) (ne_eqb (entry_rank slots s.id) at (λ e. omega arith))
 
-      go : (o : Option Writing) → list_any (start_writes slots at) (starts l ss) ≡ false → list_any (start_writes slots at) (elim o [ None ↦ starts l ss | Some w ↦ begin l s ss w ∷ starts l ss ]) ≡ false
+      go : (o : Option LaneDef) → list_any (start_writes slots at) (starts l ss) ≡ false → list_any (start_writes slots at) (elim o [ None ↦ starts l ss | Some w ↦ begin l s ss w ∷ starts l ss ]) ≡ false
       go None ih = ih
       go (Some w) ih = or-first (start_writes slots at (begin l s ss w)) (list_any (start_writes slots at) (starts l ss)) (none w) ∙ ih
 
@@ -72,17 +72,17 @@ module _ (slots : Numbers) (l : ℕ) where
   skip : (at : ℕ) (x : Step) (ss : List Step) → exit_rank slots x.id < at → list_any (start_writes slots at) (starts l (x ∷ ss)) ≡ list_any (start_writes slots at) (starts l ss)
   skip at x ss h = go (writing_of l x.writes)
     where
-      none : (w : Writing) → start_writes slots at (begin l x ss w) ≡ false
+      none : (w : LaneDef) → start_writes slots at (begin l x ss w) ≡ false
       none w = or-first (nat_eq (exit_rank slots x.id) at) (w.early && nat_eq (entry_rank slots x.id) at) (ne_eqb (exit_rank slots x.id) at (λ e. omega arith)) ∙ and-false w.early (nat_eq (entry_rank slots x.id) at) (ne_eqb (entry_rank slots x.id) at (λ e. omega arith))
 
-      go : (o : Option Writing) → list_any (start_writes slots at) (elim o [ None ↦ starts l ss | Some w ↦ begin l x ss w ∷ starts l ss ]) ≡ list_any (start_writes slots at) (starts l ss)
+      go : (o : Option LaneDef) → list_any (start_writes slots at) (elim o [ None ↦ starts l ss | Some w ↦ begin l x ss w ∷ starts l ss ]) ≡ list_any (start_writes slots at) (starts l ss)
       go None = refl
       go (Some w) = or-first (start_writes slots at (begin l x ss w)) (list_any (start_writes slots at) (starts l ss)) (none w)
 
   exit-writes : (n : ℕ) (before : List Step) (s : Step) (rest : List Step) → Rises slots n (before ++ s ∷ rest) → list_any (start_writes slots (exit_rank slots s.id)) (starts l (before ++ s ∷ rest)) ≡ is_written l s
   exit-writes n [] s rest r = go (writing_of l s.writes) (none-behind (exit_rank slots s.id) (number_of slots s.id) rest r.2 (omega arith))
     where
-      go : (o : Option Writing) → list_any (start_writes slots (exit_rank slots s.id)) (starts l rest) ≡ false → list_any (start_writes slots (exit_rank slots s.id)) (elim o [ None ↦ starts l rest | Some w ↦ begin l s rest w ∷ starts l rest ]) ≡ is_present o
+      go : (o : Option LaneDef) → list_any (start_writes slots (exit_rank slots s.id)) (starts l rest) ≡ false → list_any (start_writes slots (exit_rank slots s.id)) (elim o [ None ↦ starts l rest | Some w ↦ begin l s rest w ∷ starts l rest ]) ≡ is_present o
       go None e = e
       go (Some w) e = ap (λ b. (b || (w.early && nat_eq (entry_rank slots s.id) (exit_rank slots s.id))) || list_any (start_writes slots (exit_rank slots s.id)) (starts l rest)) (eq-eqb (exit_rank slots s.id) (exit_rank slots s.id) refl)
   exit-writes n (x ∷ before) s rest r =
@@ -96,7 +96,7 @@ module _ (slots : Numbers) (l : ℕ) where
       here true = eq-eqb (entry_rank slots s.id) (entry_rank slots s.id) refl
       here false = refl
 
-      go : (o : Option Writing) → list_any (start_writes slots (entry_rank slots s.id)) (starts l rest) ≡ false → list_any (start_writes slots (entry_rank slots s.id)) (elim o [ None ↦ starts l rest | Some w ↦ begin l s rest w ∷ starts l rest ]) ≡ writes_early o
+      go : (o : Option LaneDef) → list_any (start_writes slots (entry_rank slots s.id)) (starts l rest) ≡ false → list_any (start_writes slots (entry_rank slots s.id)) (elim o [ None ↦ starts l rest | Some w ↦ begin l s rest w ∷ starts l rest ]) ≡ writes_early o
       go None e = e
       go (Some w) e =
           or-last (start_writes slots (entry_rank slots s.id) (begin l s rest w)) (list_any (start_writes slots (entry_rank slots s.id)) (starts l rest)) e
@@ -123,7 +123,7 @@ self : {A : Type 0} → A ↔ A
 self = ((λ a. a), (λ a. a))
 
 -- a piece with points that count is live
-counts-live : (code : Code) (why : Causes) (l b n : ℕ) (e : End) → IsClosed code why → Counts code why l b n e → is_live (why l b n) ≡ true
+counts-live : (code : Code) (why : Causes) (l b n : ℕ) (e : PieceEnd) → IsClosed code why → Counts code why l b n e → is_live (why l b n) ≡ true
 counts-live code why l b n e closed (counting.reads before s rest eq w u) = subst (λ k. is_live (why l b k) ≡ true) w (closed.reading b l before s rest eq u)
 counts-live code why l b n e closed (counting.moves a before s rest eq w u h) = subst (λ k. is_live (why l b k) ≡ true) w (closed.move b l a before s rest eq u h)
 counts-live code why l b n e closed (counting.leaves x before s rest eq w g a h) = subst (λ k. is_live (why l b k) ≡ true) w (closed.exit b l x before s rest eq g a h)
@@ -138,11 +138,11 @@ first-piece slots (s ∷ ss) = ap (λ b. cond b (suc (piece_at slots 0 ss)) 0) (
     late true e = let z = leb-true (exit_rank slots s.start) 0 e in absurd (omega arith)
     late false e = e
 
-module _ (code : Code) (slots : Numbers) (flow : List Ways) (rows : List Row) (t : IsTableOf code slots flow rows) (grown : IsGrown code (causes rows)) (ended : AreEnds code slots rows) (l b : ℕ) where
+module _ (code : Code) (slots : Numbers) (flow : List BlockFlow) (rows : List LaneRange) (t : IsTableOf code slots flow rows) (grown : IsGrown code (causes rows)) (ended : AreEnds code slots rows) (l b : ℕ) where
   abbrev v : Seen
   v = rows_seen rows l b
 
-  abbrev last : End
+  abbrev last : PieceEnd
   last = row_end rows l b 0
 
   are : map start_of v.segments ≡ starts l (steps_of code b)
@@ -153,7 +153,7 @@ module _ (code : Code) (slots : Numbers) (flow : List Ways) (rows : List Row) (t
   none-at-start : list_any (writes_at slots 0) v.segments ≡ false
   none-at-start = any-starts slots 0 v.segments ∙ ap (list_any (start_writes slots 0)) are ∙ none-behind slots l 0 0 (steps_of code b) (t.numbered b) (omega arith)
 
-  never-none : (e : End) → e ≡ ends.Never → reaches slots e 0 ≡ true → ⊥
+  never-none : (e : PieceEnd) → e ≡ ends.Never → reaches slots e 0 ≡ true → ⊥
   never-none e q r = let z : false ≡ true = ap (λ x. reaches slots x 0) (sym q) ∙ r in absurd (cc)
 
   start-live : reaches slots last 0 ≡ true → Live code b (Entry (steps_of code b)) l
@@ -163,7 +163,7 @@ module _ (code : Code) (slots : Numbers) (flow : List Ways) (rows : List Row) (t
       go (inl q) = absurd (never-none last q r)
       go (inr c) = counts-live code (causes rows) l b 0 last grown.closed c
 
-  ranked : (e : End) → 0 < end_rank slots e → reaches slots e 0 ≡ true
+  ranked : (e : PieceEnd) → 0 < end_rank slots e → reaches slots e 0 ≡ true
   ranked ends.Never h = absurd (omega arith)
   ranked (ends.Entry id) h = le-leb 0 (end_rank slots (ends.Entry id)) (omega arith)
   ranked (ends.Exit id) h = le-leb 0 (end_rank slots (ends.Exit id)) (omega arith)
@@ -175,7 +175,7 @@ module _ (code : Code) (slots : Numbers) (flow : List Ways) (rows : List Row) (t
       let high = (ended l b 0).last z.0 z.1 in
       ranked last (above-zero z.0 z.1 high)
     where
-      above-zero : (e : End) → Counts code (causes rows) l b 0 e → end_rank slots e ≤ end_rank slots last → 0 < end_rank slots last
+      above-zero : (e : PieceEnd) → Counts code (causes rows) l b 0 e → end_rank slots e ≤ end_rank slots last → 0 < end_rank slots last
       above-zero e (counting.reads before s rest eq w u) h = let low = above slots l 0 before s rest (subst (Rises slots 0) eq (t.numbered b)) in omega (arith, low, h)
       above-zero e (counting.moves a before s rest eq w u g) h = let low = above slots l 0 before s rest (subst (Rises slots 0) eq (t.numbered b)) in omega (arith, low, h)
       above-zero e (counting.leaves x before s rest eq w g a i) h = omega (arith, h)

@@ -6,8 +6,8 @@ use Rattle.target_base.specs.declared.types.Target.{Target}
 use Rattle.mir_func.specs.declared.func.Block.{Block}
 use Rattle.mir_func.specs.declared.func.Instr.{Instr}
 use Rattle.mir_func.specs.Binding.{does, is_terminator}
-use Rattle.live_lanes.specs.declared.compute.flow.Ways.{Ways}
-use Rattle.live_lanes.specs.declared.row.Row.{Row}
+use Rattle.live_lanes.specs.declared.compute.flow.BlockFlow.{BlockFlow}
+use Rattle.live_lanes.specs.declared.row.LaneRange.{LaneRange}
 use Rattle.mir_meaning.specs.Paths.{Among, exits_of, has}
 use Rattle.live_lanes.specs.Ways.{successors}
 use Rattle.live_lanes.specs.Table.{Numbers}
@@ -30,7 +30,7 @@ some-rising slots test n (i ∷ is) r = go (test i) (some-rising slots test (num
     go true ih = (r.0, r.1, ih)
     go false ih = rising-lower slots n (number_of slots i.id) (map (λ j. j.id) (filter test is)) (let low = r.0 in omega (arith, low)) ih
 
-pub outward : (t : Target) (doing : Doing) (place : ℕ → Option ℕ) (bs : List Block) (slots : Numbers) (flow : List Ways) (rows : List Row) → IsMade t doing place bs slots flow rows → AreOutward (code_of doing place bs) slots flow
+pub outward : (t : Target) (doing : Doing) (place : ℕ → Option ℕ) (bs : List Block) (slots : Numbers) (flow : List BlockFlow) (rows : List LaneRange) → IsMade t doing place bs slots flow rows → AreOutward (code_of doing place bs) slots flow
 outward t doing place bs slots flow rows made = record {
   onward = λ b x m. has-among x (exits_of (code_of doing place bs) b) (ap (has x) (exits-is t doing place bs slots flow rows made b) ∙ sym (made.ways.successors b x) ∙ among-has x (successors flow b) m);
   whole = λ b x m. has-among x (successors flow b) (made.ways.successors b x ∙ ap (has x) (sym (exits-is t doing place bs slots flow rows made b)) ∙ among-has x (exits_of (code_of doing place bs) b) m);

@@ -5,13 +5,13 @@ use mathlib.Core.List.{reverse_aux}
 use Rattle.std.specs.List.{find}
 use Rattle.std.proofs.lemmas.List.{length-map}
 use Rattle.std.proofs.lemmas.Option.{slice_get-get_or, slice_get_cases}
-use Rattle.mir_meaning.specs.declared.writing.Writing.{Writing}
+use Rattle.mir_meaning.specs.declared.writing.LaneDef.{LaneDef}
 use Rattle.live_lanes.specs.declared.row.Cause.{Cause}
 use Rattle.live_lanes.specs.declared.row.Cause.TheVariants as why
 use Rattle.live_lanes.specs.declared.row.Cell.{Cell}
-use Rattle.live_lanes.specs.declared.row.Reading.{Reading}
-use Rattle.live_lanes.specs.declared.row.Row.{Row}
-use Rattle.live_lanes.specs.declared.table.Spot.{Spot}
+use Rattle.live_lanes.specs.declared.row.LaneUse.{LaneUse}
+use Rattle.live_lanes.specs.declared.row.LaneRange.{LaneRange}
+use Rattle.live_lanes.specs.declared.table.PieceSpot.{PieceSpot}
 use Rattle.mir_meaning.specs.Paths.{Among, here, there, Step, Code, steps_of, last_of, has, Use, Unused, Certain, Into, use_of, writing_of, is_written, is_present}
 use Rattle.live_lanes.specs.Graph.{Causes, is_live, writes_in, Founded, by_reading, by_phi}
 use Rattle.live_lanes.specs.Table.{Seen, seen_in, Begun, begun_readings, readings_in, is_certain, cause_of, certain_cause, cause_in, with_cause, raised_seen}
@@ -27,11 +27,11 @@ use Rattle.live_lanes.proofs.Sources.{starts-at}
 some-inj : {X : Type 0} (x y : X) → Some x ≡ Some y → x ≡ y
 some-inj x y e = cc
 
-abbrev pub start_readings : Option Start → List Reading
+abbrev pub start_readings : Option Start → List LaneUse
 start_readings None = []
 start_readings (Some s) = s.readings
 
-abbrev pub shape_readings : Shape → ℕ → List Reading
+abbrev pub shape_readings : Shape → ℕ → List LaneUse
 shape_readings h zero = h.readings
 shape_readings h (suc k) = start_readings (slice_get h.segments k)
 
@@ -53,14 +53,14 @@ certain-shape v n = ap (λ r. cond (v.is_read_last && nat_eq n (length v.segment
 pub certain-same : (v w : Seen) (n : ℕ) → shape v ≡ shape w → certain_cause v n ≡ certain_cause w n
 certain-same v w n e = certain-shape v n ∙ ap (λ h. shape_certain h n) e ∙ sym (certain-shape w n)
 
-pub done-kept : (code : Code) (old new : List Row) (x y : List Spot) (l b n : ℕ) → Grew code old new x y → Done old l b n → Done new l b n
+pub done-kept : (code : Code) (old new : List LaneRange) (x y : List PieceSpot) (l b n : ℕ) → Grew code old new x y → Done old l b n → Done new l b n
 done-kept code old new x y l b n g d c = let h = d (ap is_live (certain-same (rows_seen old l b) (rows_seen new l b) n (sym (g.shapes l b))) ∙ c) in ap is_live (g.kept l b n h) ∙ h
 
-pub same-length : (code : Code) (old new : List Row) (x y : List Spot) (l b : ℕ) → Grew code old new x y → length (rows_seen new l b).segments ≡ length (rows_seen old l b).segments
+pub same-length : (code : Code) (old new : List LaneRange) (x y : List PieceSpot) (l b : ℕ) → Grew code old new x y → length (rows_seen new l b).segments ≡ length (rows_seen old l b).segments
 same-length code old new x y l b g = sym (length-map (rows_seen new l b).segments start_of) ∙ ap (λ h. length h.segments) (g.shapes l b) ∙ length-map (rows_seen old l b).segments start_of
 
 -- a certain reading of a piece
-find-some : (test : Reading → Bool) (xs : List Reading) (r : Reading) → find test xs ≡ Some r → (test r ≡ true) × Among r xs
+find-some : (test : LaneUse → Bool) (xs : List LaneUse) (r : LaneUse) → find test xs ≡ Some r → (test r ≡ true) × Among r xs
 find-some test [] r e = absurd (cc)
 find-some test (x ∷ xs) r e = go (test x) refl e (λ f. find-some test xs r f)
   where
@@ -68,7 +68,7 @@ find-some test (x ∷ xs) r e = go (test x) refl e (λ f. find-some test xs r f)
     go true f g ih = let s = some-inj x r g in (ap test (sym s) ∙ f, subst (λ y. Among r (y ∷ xs)) (sym s) here)
     go false f g ih = let z = ih g in (z.0, there z.1)
 
-among-reversed : (r : Reading) (xs ys : List Reading) → Among r (reverse_aux xs ys) → Among r xs ⊎ Among r ys
+among-reversed : (r : LaneUse) (xs ys : List LaneUse) → Among r (reverse_aux xs ys) → Among r xs ⊎ Among r ys
 among-reversed r [] ys a = inr a
 among-reversed r (x ∷ xs) ys a = go (among-reversed r xs (x ∷ ys) a)
   where
@@ -80,7 +80,7 @@ among-reversed r (x ∷ xs) ys a = go (among-reversed r xs (x ∷ ys) a)
     go (inl b) = inl (there b)
     go (inr b) = last (among-cases r x ys b)
 
-among-reverse : (r : Reading) (xs : List Reading) → Among r (reverse xs) → Among r xs
+among-reverse : (r : LaneUse) (xs : List LaneUse) → Among r (reverse xs) → Among r xs
 among-reverse r xs a = go (among-reversed r xs [] a)
   where
     go : Among r xs ⊎ Among r [] → Among r xs
@@ -88,7 +88,7 @@ among-reverse r xs a = go (among-reversed r xs [] a)
     go (inr b) = absurd (none-among r b)
 
 -- an instruction with a reading up to the next writing
-pub record ReadsAt (l : ℕ) (r : Reading) (steps : List Step) : Type 0 where
+pub record ReadsAt (l : ℕ) (r : LaneUse) (steps : List Step) : Type 0 where
   pub before : List Step
   pub step : Step
   pub rest : List Step
@@ -96,7 +96,7 @@ pub record ReadsAt (l : ℕ) (r : Reading) (steps : List Step) : Type 0 where
   pub unwritten : writes_in l before ≡ 0
   pub reads : Among r (reading_of step.id (use_of l step))
 
-pub reads-at : (l : ℕ) (r : Reading) (steps : List Step) → Among r (readings_until l steps) → ReadsAt l r steps
+pub reads-at : (l : ℕ) (r : LaneUse) (steps : List Step) → Among r (readings_until l steps) → ReadsAt l r steps
 reads-at l r [] a = absurd (none-among r a)
 reads-at l r (s ∷ ss) a = go (is_written l s) refl (among-split r (reading_of s.id (use_of l s)) (cond (is_written l s) [] (readings_until l ss)) a) (λ b. reads-at l r ss b)
   where
@@ -107,7 +107,7 @@ reads-at l r (s ∷ ss) a = go (is_written l s) refl (among-split r (reading_of 
         let z = ih (subst (λ t. Among r (cond t [] (readings_until l ss))) e b) in
         record { before = s ∷ z.before; step = z.step; rest = z.rest; split = ap (λ t. s ∷ t) z.split; unwritten = ap (λ t. cond t (suc (writes_in l z.before)) (writes_in l z.before)) e ∙ z.unwritten; reads = z.reads }
 
-use-certain : (id : ℕ) (u : Use) (r : Reading) → Among r (reading_of id u) → is_certain r ≡ true → (u ≡ Certain) × (r.id ≡ id)
+use-certain : (id : ℕ) (u : Use) (r : LaneUse) → Among r (reading_of id u) → is_certain r ≡ true → (u ≡ Certain) × (r.id ≡ id)
 use-certain id Unused r a e = absurd (none-among r a)
 use-certain id Certain r a e = go (among-cases r (reading id None) [] a)
   where
@@ -124,7 +124,7 @@ pub length-starts : (l : ℕ) (steps : List Step) → length (starts l steps) �
 length-starts l [] = refl
 length-starts l (s ∷ ss) = go (writing_of l s.writes) (length-starts l ss)
   where
-    go : (o : Option Writing) → length (starts l ss) ≡ writes_in l ss → length {A = Start} (elim o [ None ↦ starts l ss | Some w ↦ record { start = s.id; early = w.early; from = w.from; readings = readings_until l ss } ∷ starts l ss ]) ≡ cond (is_present o) (suc (writes_in l ss)) (writes_in l ss)
+    go : (o : Option LaneDef) → length (starts l ss) ≡ writes_in l ss → length {A = Start} (elim o [ None ↦ starts l ss | Some w ↦ record { start = s.id; early = w.early; from = w.from; readings = readings_until l ss } ∷ starts l ss ]) ≡ cond (is_present o) (suc (writes_in l ss)) (writes_in l ss)
     go None ih = ih
     go (Some w) ih = let h = ih in omega (arith, h)
 
@@ -139,7 +139,7 @@ has-among l (x ∷ xs) e = go (nat_eq x l) refl e (λ f. has-among l xs f)
 -- where a piece needs no other lane, its cause is right
 module _ (code : Code) (new : Causes) (l b : ℕ) where
   -- the piece n holds a certain reading
-  by-certain : (n : ℕ) (r : Reading) → is_certain r ≡ true → Among r (shape_readings (shape_of code l b) n) → new l b n ≡ why.Reading r.id → Founded code new l b n
+  by-certain : (n : ℕ) (r : LaneUse) → is_certain r ≡ true → Among r (shape_readings (shape_of code l b) n) → new l b n ≡ why.Reading r.id → Founded code new l b n
   by-certain zero r e a c =
       let z = reads-at l r (steps_of code b) a in
       let u = use-certain z.step.id (use_of l z.step) r z.reads e in
@@ -160,7 +160,7 @@ module _ (code : Code) (new : Causes) (l b : ℕ) where
   pub certain-founded : (n : ℕ) → is_live (shape_certain (shape_of code l b) n) ≡ true → new l b n ≡ shape_certain (shape_of code l b) n → Founded code new l b n
   certain-founded n live c = go (has l (last_of code b)) (nat_eq n (length (starts l (steps_of code b)))) refl refl live c
     where
-      reading' : (o : Option Reading) → find is_certain (reverse (shape_readings (shape_of code l b) n)) ≡ o → is_live (cause_of o) ≡ true → new l b n ≡ cause_of o → Founded code new l b n
+      reading' : (o : Option LaneUse) → find is_certain (reverse (shape_readings (shape_of code l b) n)) ≡ o → is_live (cause_of o) ≡ true → new l b n ≡ cause_of o → Founded code new l b n
       reading' None f h k = absurd (cc)
       reading' (Some r) f h k = let z = find-some is_certain (reverse (shape_readings (shape_of code l b) n)) r f in by-certain n r z.0 (among-reverse r (shape_readings (shape_of code l b) n) z.1) k
 
@@ -172,7 +172,7 @@ module _ (code : Code) (new : Causes) (l b : ℕ) where
       go false u f g h k = reading' (find is_certain (reverse (shape_readings (shape_of code l b) n))) refl h k
 
 -- rows of which nothing that is seen has changed
-pub grew-same : (code : Code) (old new : List Row) (from : List Spot) → ((l b : ℕ) → rows_seen new l b ≡ rows_seen old l b) → length new ≡ length old → Grew code old new from from
+pub grew-same : (code : Code) (old new : List LaneRange) (from : List PieceSpot) → ((l b : ℕ) → rows_seen new l b ≡ rows_seen old l b) → length new ≡ length old → Grew code old new from from
 grew-same code old new from e n = record {
   shapes = λ l b. ap shape (e l b);
   kept = λ l b k h. ap (λ v. cause_in v k) (e l b);
@@ -202,25 +202,25 @@ certain-within v (suc k) e = go v.is_read_last (nat_eq (suc k) (length v.segment
         none None p q = cc
         none (Some x) p q = cc
 
-module _ (rows : List Row) (lane place index : ℕ) (x y : Row) (h : lane < length rows) (is : x ≡ get_or rows lane x) where
+module _ (rows : List LaneRange) (lane place index : ℕ) (x y : LaneRange) (h : lane < length rows) (is : x ≡ get_or rows lane x) where
   cells-are : cells_of rows lane ≡ x.cells.items
   cells-are = ap cells_in (slice_get-get_or rows lane x h ∙ ap Some (sym is))
     where
-      cells_in : Option Row → List Cell
+      cells_in : Option LaneRange → List Cell
       cells_in None = []
       cells_in (Some r) = r.cells.items
 
   pub keeps-blocks : blocks_of y.cells.items ≡ blocks_of x.cells.items → KeepsBlocks rows (set rows lane y)
   keeps-blocks e l = go (nat_eq lane l) refl
     where
-      cells_in : Option Row → List Cell
+      cells_in : Option LaneRange → List Cell
       cells_in o = elim o [ None ↦ [] | Some r ↦ r.cells.items ]
 
       go : (t : Bool) → nat_eq lane l ≡ t → row_blocks (set rows lane y) l ≡ row_blocks rows l
       go true f = ap (λ o. blocks_of (cells_in o)) (get-set rows lane l y h ∙ ap (λ t. cond t (Some y) (slice_get rows l)) f) ∙ e ∙ ap blocks_of (sym cells-are) ∙ ap (row_blocks rows) (eqb-true lane l f)
       go false f = ap (λ o. blocks_of (cells_in o)) (get-set rows lane l y h ∙ ap (λ t. cond t (Some y) (slice_get rows l)) f)
 
-  pub piece-kept : (from : List Spot) → KeepsCertain x.cells.items y.cells.items place index → RaisesPiece rows (set rows lane y) lane place index from from
+  pub piece-kept : (from : List PieceSpot) → KeepsCertain x.cells.items y.cells.items place index → RaisesPiece rows (set rows lane y) lane place index from from
   piece-kept from k code slots flow t = (grew-same code rows (set rows lane y) from same (length-set rows lane y), λ b e m c. done b e c)
     where
       same : (l b : ℕ) → rows_seen (set rows lane y) l b ≡ rows_seen rows l b
@@ -236,7 +236,7 @@ module _ (rows : List Row) (lane place index : ℕ) (x y : Row) (h : lane < leng
           let d = k.done b (ap (λ cs. slice_get (blocks_of cs) place) (sym cells-are) ∙ e) (ap (λ v. is_live (certain_cause v index)) (at ∙ sym (same lane b)) ∙ c) in
           ap (λ v. is_live (cause_in v index)) (same lane b ∙ sym at) ∙ d
 
-  pub piece-raised : (block : ℕ) (from to : List Spot) → slice_get (blocks_of x.cells.items) place ≡ Some block → RaisesCertain x.cells.items y.cells.items block index → to ≡ from ++ spot lane block index ∷ [] → RaisesPiece rows (set rows lane y) lane place index from to
+  pub piece-raised : (block : ℕ) (from to : List PieceSpot) → slice_get (blocks_of x.cells.items) place ≡ Some block → RaisesCertain x.cells.items y.cells.items block index → to ≡ from ++ spot lane block index ∷ [] → RaisesPiece rows (set rows lane y) lane place index from to
   piece-raised block from to e r g code slots flow t = (at-grew code rows (set rows lane y) lane block index cause from to within raised r.certain right, λ b f m c. done b f)
     where
       old : Seen
@@ -277,17 +277,17 @@ module _ (rows : List Row) (lane place index : ℕ) (x y : Row) (h : lane < leng
           subst (λ z. is_live (causes (set rows lane y) lane z index) ≡ true) (some-inj block b k) (at-live code rows (set rows lane y) lane block index cause from to within raised r.certain)
 
 -- a lane without a row has no cells
-pub no-row : (rows : List Row) (lane : ℕ) → length rows ≤ lane → row_blocks rows lane ≡ []
+pub no-row : (rows : List LaneRange) (lane : ℕ) → length rows ≤ lane → row_blocks rows lane ≡ []
 no-row rows lane h = go (slice_get_cases rows lane).1
   where
-    cells_in : Option Row → List Cell
+    cells_in : Option LaneRange → List Cell
     cells_in o = elim o [ None ↦ [] | Some r ↦ r.cells.items ]
 
-    go : ((x : Row) × (lane < length rows) × (slice_get rows lane ≡ Some x) × (get_or rows lane x ≡ x)) ⊎ ((length rows ≤ lane) × (slice_get rows lane ≡ None)) → row_blocks rows lane ≡ []
+    go : ((x : LaneRange) × (lane < length rows) × (slice_get rows lane ≡ Some x) × (get_or rows lane x ≡ x)) ⊎ ((length rows ≤ lane) × (slice_get rows lane ≡ None)) → row_blocks rows lane ≡ []
     go (inl z) = absurd (let w = z.1 in omega arith)
     go (inr z) = ap (λ o. blocks_of (cells_in o)) z.1
 
-pub piece-none : (rows : List Row) (lane place index : ℕ) (from : List Spot) → length rows ≤ lane → RaisesPiece rows rows lane place index from from
+pub piece-none : (rows : List LaneRange) (lane place index : ℕ) (from : List PieceSpot) → length rows ≤ lane → RaisesPiece rows rows lane place index from from
 piece-none rows lane place index from h code slots flow t = (grew-same code rows rows from (λ l b. refl) refl, λ b e m c. absurd (no b (ap (λ bs. slice_get bs place) (sym (no-row rows lane h)) ∙ e)))
   where
     no : (b : ℕ) → slice_get {X = ℕ} [] place ≡ Some b → ⊥

@@ -4,10 +4,10 @@ use Rattle.std.specs.Prelude.{slice_get, nat_eq, Result, Ok, Err, OnOk}
 use Rattle.std.proofs.lemmas.Option.{slice_get-get_or, slice_get_cases}
 use Rattle.live_lanes.specs.declared.row.Cause.{Cause}
 use Rattle.live_lanes.specs.declared.row.Cell.{Cell}
-use Rattle.live_lanes.specs.declared.row.End.{End}
+use Rattle.live_lanes.specs.declared.row.PieceEnd.{PieceEnd}
 use Rattle.live_lanes.specs.declared.row.Piece.{Piece}
-use Rattle.live_lanes.specs.declared.row.Reading.{Reading}
-use Rattle.live_lanes.specs.declared.row.Segment.{Segment}
+use Rattle.live_lanes.specs.declared.row.LaneUse.{LaneUse}
+use Rattle.live_lanes.specs.declared.row.DefPiece.{DefPiece}
 use Rattle.live_lanes.specs.Graph.{is_live}
 use Rattle.live_lanes.specs.Table.{Numbers, Seen, seen, seen_in, seen_cell, cause_in, piece_at, rises_from, with_cause, with_end, with_end_at, raised_index, raised_seen, IsRaised, find_cell, descends, begun, with_last}
 use Rattle.live_lanes.proofs.Cells.{set-descends, set-find, found-block, is-found}
@@ -40,7 +40,7 @@ raise-stay slots old new block at cause index e live f = record {
     both b false g = refl
 
 -- a piece of the cell at a place gets an end
-pub ended : (cs : List Cell) (at : ℕ) (x y : Cell) (index : ℕ) (end : End) → descends cs ≡ true → at < length cs → x ≡ get_or cs at x → y.block ≡ x.block → seen_cell y ≡ with_end (seen_cell x) index end → (descends (set cs at y) ≡ true) × ((b : ℕ) → seen_in (set cs at y) b ≡ with_end_at (slice_get cs at) index end (seen_in cs b) b)
+pub ended : (cs : List Cell) (at : ℕ) (x y : Cell) (index : ℕ) (end : PieceEnd) → descends cs ≡ true → at < length cs → x ≡ get_or cs at x → y.block ≡ x.block → seen_cell y ≡ with_end (seen_cell x) index end → (descends (set cs at y) ≡ true) × ((b : ℕ) → seen_in (set cs at y) b ≡ with_end_at (slice_get cs at) index end (seen_in cs b) b)
 ended cs at x y index end s h e block f = (set-descends cs at x y s found block, λ b. ap seen (set-find b cs at x y s found block) ∙ out b (nat_eq x.block b) refl ∙ sym (ap (λ o. with_end_at o index end (seen_in cs b) b) found))
   where
     found : slice_get cs at ≡ Some x
@@ -50,14 +50,14 @@ ended cs at x y index end s h e block f = (set-descends cs at x y s found block,
     out b true g = f ∙ ap (λ v. with_end v index end) (sym (ap seen (subst (λ n. find_cell n cs ≡ Some x) (eqb-true x.block b g) (is-found cs at x s found))))
     out b false g = refl
 
-pub not-ended : (cs : List Cell) (at : ℕ) (index : ℕ) (end : End) → length cs ≤ at → (b : ℕ) → seen_in cs b ≡ with_end_at (slice_get cs at) index end (seen_in cs b) b
+pub not-ended : (cs : List Cell) (at : ℕ) (index : ℕ) (end : PieceEnd) → length cs ≤ at → (b : ℕ) → seen_in cs b ≡ with_end_at (slice_get cs at) index end (seen_in cs b) b
 not-ended cs at index end h b = go (slice_get_cases cs at).1
   where
     go : ((x : Cell) × (at < length cs) × (slice_get cs at ≡ Some x) × (get_or cs at x ≡ x)) ⊎ ((length cs ≤ at) × (slice_get cs at ≡ None)) → seen_in cs b ≡ with_end_at (slice_get cs at) index end (seen_in cs b) b
     go (inl z) = absurd (let w = z.1 in omega arith)
     go (inr z) = sym (ap (λ o. with_end_at o index end (seen_in cs b) b) z.1)
 
-pub same-begun : (x : Segment) (p : Piece) (r : Reading) → p.cause ≡ x.piece.cause → p.end ≡ x.piece.end → p.readings.items ≡ with_last r x.piece.readings.items → begun (record x { piece = p }) ≡ record (begun x) { readings = with_last r (begun x).readings }
+pub same-begun : (x : DefPiece) (p : Piece) (r : LaneUse) → p.cause ≡ x.piece.cause → p.end ≡ x.piece.end → p.readings.items ≡ with_last r x.piece.readings.items → begun (record x { piece = p }) ≡ record (begun x) { readings = with_last r (begun x).readings }
 same-begun x p r c e f =
     ap (λ t. record (begun x) { cause = t; end = p.end; readings = p.readings.items }) c
     ∙ ap (λ t. record (begun x) { end = t; readings = p.readings.items }) e

@@ -4,14 +4,14 @@ use Rattle.std.specs.Prelude.{slice_get, nat_eq}
 use Rattle.std.specs.List.{list_any}
 use Rattle.std.proofs.lemmas.Bool.{ltb-true, ltb-false}
 use Rattle.slot_index.specs.Order.{number_of}
-use Rattle.mir_meaning.specs.declared.writing.Writing.{Writing}
-use Rattle.live_lanes.specs.declared.compute.flow.Ways.{Ways}
+use Rattle.mir_meaning.specs.declared.writing.LaneDef.{LaneDef}
+use Rattle.live_lanes.specs.declared.compute.flow.BlockFlow.{BlockFlow}
 use Rattle.live_lanes.specs.declared.row.Cause.{Cause}
 use Rattle.live_lanes.specs.declared.row.Cause.TheVariants as whys
-use Rattle.live_lanes.specs.declared.row.End.{End}
-use Rattle.live_lanes.specs.declared.row.End.TheVariants as ends
-use Rattle.live_lanes.specs.declared.row.Reading.{Reading}
-use Rattle.live_lanes.specs.declared.row.Row.{Row}
+use Rattle.live_lanes.specs.declared.row.PieceEnd.{PieceEnd}
+use Rattle.live_lanes.specs.declared.row.PieceEnd.TheVariants as ends
+use Rattle.live_lanes.specs.declared.row.LaneUse.{LaneUse}
+use Rattle.live_lanes.specs.declared.row.LaneRange.{LaneRange}
 use Rattle.mir_meaning.specs.Paths.{Among, here, there, Step, Code, steps_of, last_of, exits_of, has, Use, Unused, Certain, Into, use_of, is_written, is_present}
 use Rattle.live_lanes.specs.Graph.{Causes, is_live, writes_in, Founded, by_reading, by_move, by_exit, by_end, by_phi, IsGrown}
 use Rattle.live_lanes.specs.Ways.{successors, terminators}
@@ -107,7 +107,7 @@ readings-same code l b (suc k) = go (slice_get (starts l (steps_of code b)) k)
     go None = refl
     go (Some s) = refl
 
-abbrev number : Numbers → Reading → ℕ
+abbrev number : Numbers → LaneUse → ℕ
 number slots r = number_of slots r.id
 
 readings-ascend : (slots : Numbers) (l m : ℕ) (ss : List Step) → Rises slots m ss → Ascends (number slots) m (readings_until l ss)
@@ -128,7 +128,7 @@ rises-suffix slots m [] s rest r = r.2
 rises-suffix slots m (x ∷ before) s rest r = rises-suffix slots (number_of slots x.id) before s rest r.2
 
 -- where a reading of a piece stands
-record Stands (code : Code) (l b n : ℕ) (r : Reading) : Type 0 where
+record Stands (code : Code) (l b n : ℕ) (r : LaneUse) : Type 0 where
   before : List Step
   step : Step
   rest : List Step
@@ -136,7 +136,7 @@ record Stands (code : Code) (l b n : ℕ) (r : Reading) : Type 0 where
   piece : writes_in l before ≡ n
   used : Among r (reading_of step.id (use_of l step))
 
-stands : (code : Code) (l b n : ℕ) (r : Reading) → Among r (readings_of (shape_of code l b) n) → Stands code l b n r
+stands : (code : Code) (l b n : ℕ) (r : LaneUse) → Among r (readings_of (shape_of code l b) n) → Stands code l b n r
 stands code l b zero r a = let z = reads-at l r (steps_of code b) a in record { before = z.before; step = z.step; rest = z.rest; split = z.split; piece = z.unwritten; used = z.reads }
 stands code l b (suc k) r a = go (slice_get (starts l (steps_of code b)) k) refl a
   where
@@ -169,7 +169,7 @@ piece-ascends code slots l b (suc k) r = go (slice_get (starts l (steps_of code 
         subst (Ascends (number slots) 0) (sym g.readings) (ascends-lower (number slots) 0 (number_of slots g.step.id) (readings_until l g.rest) (omega arith) (readings-ascend slots l (number_of slots g.step.id) g.rest above))
 
 -- how a reading came about
-reading-use : (id : ℕ) (u : Use) (r : Reading) → Among r (reading_of id u) → ((u ≡ Certain) × (r ≡ reading id None)) ⊎ ((a : ℕ) × (u ≡ Into a) × (r ≡ reading id (Some a)))
+reading-use : (id : ℕ) (u : Use) (r : LaneUse) → Among r (reading_of id u) → ((u ≡ Certain) × (r ≡ reading id None)) ⊎ ((a : ℕ) × (u ≡ Into a) × (r ≡ reading id (Some a)))
 reading-use id Unused r m = absurd (none-among r m)
 reading-use id Certain r m = go (among-cases r (reading id None) [] m)
   where
@@ -182,22 +182,22 @@ reading-use id (Into c) r m = go (among-cases r (reading id (Some c)) [] m)
     go (inl e) = inr (c, refl, e)
     go (inr k) = absurd (none-among r k)
 
-abbrev is_entry : End → Bool
+abbrev is_entry : PieceEnd → Bool
 is_entry ends.Never = false
 is_entry (ends.Entry id) = true
 is_entry (ends.Exit id) = false
 is_entry ends.Last = false
 
 -- the last of the entries that count, or of the other points
-record Part (code : Code) (slots : Numbers) (why : Causes) (l b n : ℕ) (entry : Bool) (x : End) : Type 0 where
+record Part (code : Code) (slots : Numbers) (why : Causes) (l b n : ℕ) (entry : Bool) (x : PieceEnd) : Type 0 where
   some : (x ≡ ends.Never) ⊎ Counts code why l b n x
-  last : (p : End) → Counts code why l b n p → is_entry p ≡ entry → end_rank slots p ≤ end_rank slots x
+  last : (p : PieceEnd) → Counts code why l b n p → is_entry p ≡ entry → end_rank slots p ≤ end_rank slots x
 
 rising-ascends : (slots : Numbers) (m : ℕ) (ids : List ℕ) → AreRising slots m ids → Ascends (number_of slots) m ids
 rising-ascends slots m [] r = tt
 rising-ascends slots m (id ∷ ids) r = (r.0, rising-ascends slots (number_of slots id) ids r.2)
 
-module _ (code : Code) (slots : Numbers) (flow : List Ways) (rows : List Row) (t : IsTableOf code slots flow rows) (out : AreOutward code slots flow) (grown : IsGrown code (causes rows)) where
+module _ (code : Code) (slots : Numbers) (flow : List BlockFlow) (rows : List LaneRange) (t : IsTableOf code slots flow rows) (out : AreOutward code slots flow) (grown : IsGrown code (causes rows)) where
   abbrev why : Causes
   why = causes rows
 
@@ -214,7 +214,7 @@ module _ (code : Code) (slots : Numbers) (flow : List Ways) (rows : List Row) (t
   among b before s rest e = subst (Among s) (sym e) (among-append s before rest)
 
   -- a piece with a point that counts is live
-  counts-live : {l b n : ℕ} {p : End} → Counts code why l b n p → is_live (why l b n) ≡ true
+  counts-live : {l b n : ℕ} {p : PieceEnd} → Counts code why l b n p → is_live (why l b n) ≡ true
   counts-live {l} {b} {n} (reads before s rest e k u) = subst (λ m. is_live (why l b m) ≡ true) k (grown.closed.reading b l before s rest e u)
   counts-live {l} {b} {n} (moves a before s rest e k u g) = subst (λ m. is_live (why l b m) ≡ true) k (grown.closed.move b l a before s rest e u g)
   counts-live {l} {b} {n} (leaves x before s rest e k f a g) = subst (λ m. is_live (why l b m) ≡ true) k (grown.closed.exit b l x before s rest e f a g)
@@ -222,7 +222,7 @@ module _ (code : Code) (slots : Numbers) (flow : List Ways) (rows : List Row) (t
   counts-live {l} {b} {n} (phi k a) = subst (λ m. is_live (why l b m) ≡ true) k (grown.closed.phi b l a)
 
   -- none comes behind the block's end
-  below-last : {l b n : ℕ} {p : End} → Counts code why l b n p → end_rank slots p ≤ end_rank slots ends.Last
+  below-last : {l b n : ℕ} {p : PieceEnd} → Counts code why l b n p → end_rank slots p ≤ end_rank slots ends.Last
   below-last {l} {b} {n} (reads before s rest e k u) = let f = rises-bounded slots 0 (steps_of code b) s (t.numbered b) (among b before s rest e) in omega (arith, f)
   below-last {l} {b} {n} (moves a before s rest e k u g) = let f = rises-bounded slots 0 (steps_of code b) s (t.numbered b) (among b before s rest e) in omega (arith, f)
   below-last {l} {b} {n} (leaves x before s rest e k y a g) = let f = rises-bounded slots 0 (steps_of code b) s (t.numbered b) (among b before s rest e) in omega (arith, f)
@@ -282,7 +282,7 @@ module _ (code : Code) (slots : Numbers) (flow : List Ways) (rows : List Row) (t
     no-exits : (Follows l b → ⊥) → (Among l (last_of code b) → writes_in l (steps_of code b) ≡ n → ⊥) → Part code slots why l b n false ends.Never
     no-exits none silent = record { some = inl refl; last = λ p c g. below c g }
       where
-        below : {p : End} → Counts code why l b n p → is_entry p ≡ false → end_rank slots p ≤ 0
+        below : {p : PieceEnd} → Counts code why l b n p → is_entry p ≡ false → end_rank slots p ≤ 0
         below (reads before s rest e k u) g = absurd (cc)
         below (moves a before s rest e k u m) g = absurd (cc)
         below (leaves x before s rest e k y a m) g = absurd (none (x, a, m))
@@ -295,7 +295,7 @@ module _ (code : Code) (slots : Numbers) (flow : List Ways) (rows : List Row) (t
         go : (q : Option ℕ) → last_with lies ids ≡ q → Part code slots why l b n false (exit_end q)
         go None f = record { some = inl refl; last = λ p c g. below c g }
           where
-            below : {p : End} → Counts code why l b n p → is_entry p ≡ false → end_rank slots p ≤ 0
+            below : {p : PieceEnd} → Counts code why l b n p → is_entry p ≡ false → end_rank slots p ≤ 0
             below (reads before s rest e k u) g = absurd (cc)
             below (moves a before s rest e k u m) g = absurd (cc)
             below (leaves x before s rest e k y a m) g = absurd (let w = left before s rest e k y in let v = sym f ∙ w.1 in cc)
@@ -312,7 +312,7 @@ module _ (code : Code) (slots : Numbers) (flow : List Ways) (rows : List Row) (t
                 let at : writes_in l (w.0 ++ w.1 ∷ []) ≡ n = sym (exit-at l b w.0 w.1 w.2 w.3) ∙ ap (λ i. piece_of slots (exit_rank slots i) (h l b)) w.4 ∙ eqb-true (piece_of slots (exit_rank slots id) (h l b)) n found.0 in
                 subst (λ i. Counts code why l b n (ends.Exit i)) w.4 (leaves z.0 w.0 w.1 w.2 w.3 at w.5 z.1 z.2)
 
-            below : {p : End} → Counts code why l b n p → is_entry p ≡ false → end_rank slots p ≤ end_rank slots (ends.Exit id)
+            below : {p : PieceEnd} → Counts code why l b n p → is_entry p ≡ false → end_rank slots p ≤ end_rank slots (ends.Exit id)
             below (reads before s rest e k u) g = absurd (cc)
             below (moves a before s rest e k u m) g = absurd (cc)
             below (leaves x before s rest e k y a m) g =
@@ -334,16 +334,16 @@ module _ (code : Code) (slots : Numbers) (flow : List Ways) (rows : List Row) (t
             record { some = inr (goes z.0 (sym (eqb-true n (length (h l b).segments) f ∙ pieces l b)) z.1 z.2); last = λ p c g. below-last c }
         go true e false f = exits-part (leads l b n live e) (λ k. absurd (let w : true ≡ false = sym (eq-eqb n (length (h l b).segments) (sym (pieces l b ∙ k))) ∙ f in cc))
 
-    abbrev rs : List Reading
+    abbrev rs : List LaneUse
     rs = readings_of (h l b) n
 
-    abbrev counting : Reading → Bool
+    abbrev counting : LaneUse → Bool
     counting = reading_counts slots why h b
 
     readings-are : readings_of (shape_of code l b) n ≡ rs
     readings-are = ap (λ z. readings_of z n) (sym (t.entered l b))
 
-    read : (before : List Step) (s : Step) (rest : List Step) (r : Reading) → steps_of code b ≡ before ++ s ∷ rest → writes_in l before ≡ n → Among r (reading_of s.id (use_of l s)) → counting r ≡ true → (q : Reading) × (last_with counting rs ≡ Some q) × (number slots r ≤ number slots q)
+    read : (before : List Step) (s : Step) (rest : List Step) (r : LaneUse) → steps_of code b ≡ before ++ s ∷ rest → writes_in l before ≡ n → Among r (reading_of s.id (use_of l s)) → counting r ≡ true → (q : LaneUse) × (last_with counting rs ≡ Some q) × (number slots r ≤ number slots q)
     read before s rest r e k a c =
         let there' = readings-there l r before s rest a in
         let in' : Among r rs = subst (Among r) (readings-same code l b n ∙ readings-are) (subst (λ m. Among r (piece-readings l (steps_of code b) m)) k (subst (λ ss. Among r (piece-readings l ss (writes_in l before))) (sym e) there')) in
@@ -352,19 +352,19 @@ module _ (code : Code) (slots : Numbers) (flow : List Ways) (rows : List Row) (t
     entry-part : Part code slots why l b n true (last_entry slots why h b rs)
     entry-part = go (last_with counting rs) refl
       where
-        reading-is : (s : Step) (u : Use) → use_of l s ≡ u → (r : Reading) → Among r (reading_of s.id u) → Among r (reading_of s.id (use_of l s))
+        reading-is : (s : Step) (u : Use) → use_of l s ≡ u → (r : LaneUse) → Among r (reading_of s.id u) → Among r (reading_of s.id (use_of l s))
         reading-is s u e r a = subst (λ v. Among r (reading_of s.id v)) (sym e) a
 
-        of-reads : (before : List Step) (s : Step) (rest : List Step) → steps_of code b ≡ before ++ s ∷ rest → writes_in l before ≡ n → use_of l s ≡ Certain → (q : Reading) × (last_with counting rs ≡ Some q) × (number_of slots s.id ≤ number slots q)
+        of-reads : (before : List Step) (s : Step) (rest : List Step) → steps_of code b ≡ before ++ s ∷ rest → writes_in l before ≡ n → use_of l s ≡ Certain → (q : LaneUse) × (last_with counting rs ≡ Some q) × (number_of slots s.id ≤ number slots q)
         of-reads before s rest e k u = read before s rest (reading s.id None) e k (reading-is s Certain u (reading s.id None) here) refl
 
-        of-moves : (a : ℕ) (before : List Step) (s : Step) (rest : List Step) → steps_of code b ≡ before ++ s ∷ rest → writes_in l before ≡ n → use_of l s ≡ Into a → is_live (why a b (writes_in a (before ++ s ∷ []))) ≡ true → (q : Reading) × (last_with counting rs ≡ Some q) × (number_of slots s.id ≤ number slots q)
+        of-moves : (a : ℕ) (before : List Step) (s : Step) (rest : List Step) → steps_of code b ≡ before ++ s ∷ rest → writes_in l before ≡ n → use_of l s ≡ Into a → is_live (why a b (writes_in a (before ++ s ∷ []))) ≡ true → (q : LaneUse) × (last_with counting rs ≡ Some q) × (number_of slots s.id ≤ number slots q)
         of-moves a before s rest e k u g = read before s rest (reading s.id (Some a)) e k (reading-is s (Into a) u (reading s.id (Some a)) here) (ap (λ m. is_live (why a b m)) (exit-at a b before s rest e) ∙ g)
 
-        go : (q : Option Reading) → last_with counting rs ≡ q → Part code slots why l b n true (entry_end q)
+        go : (q : Option LaneUse) → last_with counting rs ≡ q → Part code slots why l b n true (entry_end q)
         go None f = record { some = inl refl; last = λ p c g. below c g }
           where
-            below : {p : End} → Counts code why l b n p → is_entry p ≡ true → end_rank slots p ≤ 0
+            below : {p : PieceEnd} → Counts code why l b n p → is_entry p ≡ true → end_rank slots p ≤ 0
             below (reads before s rest e k u) g = absurd (let w = of-reads before s rest e k u in let v = sym f ∙ w.1 in cc)
             below (moves a before s rest e k u m) g = absurd (let w = of-moves a before s rest e k u m in let v = sym f ∙ w.1 in cc)
             below (leaves x before s rest e k y a m) g = absurd (cc)
@@ -387,14 +387,14 @@ module _ (code : Code) (slots : Numbers) (flow : List Ways) (rows : List Row) (t
             counted : Counts code why l b n (ends.Entry r.id)
             counted = by (reading-use at.step.id (use_of l at.step) r at.used)
 
-            least : (id : ℕ) → (q : Reading) × (last_with counting rs ≡ Some q) × (number_of slots id ≤ number slots q) → entry_rank slots id ≤ entry_rank slots r.id
+            least : (id : ℕ) → (q : LaneUse) × (last_with counting rs ≡ Some q) × (number_of slots id ≤ number slots q) → entry_rank slots id ≤ entry_rank slots r.id
             least id w =
                 let same : w.0 ≡ r = some-inj w.0 r (sym w.1 ∙ f) in
                 let le = w.2 in
                 let n' = ap (number slots) same in
                 omega (arith, le, n')
 
-            below : {p : End} → Counts code why l b n p → is_entry p ≡ true → end_rank slots p ≤ entry_rank slots r.id
+            below : {p : PieceEnd} → Counts code why l b n p → is_entry p ≡ true → end_rank slots p ≤ entry_rank slots r.id
             below (reads before s rest e k u) g = least s.id (of-reads before s rest e k u)
             below (moves a before s rest e k u m) g = least s.id (of-moves a before s rest e k u m)
             below (leaves x before s rest e k y a m) g = absurd (cc)
@@ -402,18 +402,18 @@ module _ (code : Code) (slots : Numbers) (flow : List Ways) (rows : List Row) (t
             below (phi k a) g = absurd (cc)
 
     -- the later of both
-    both : (x y : End) → Part code slots why l b n false x → Part code slots why l b n true y → IsEnd code slots why l b n (later slots x y)
+    both : (x y : PieceEnd) → Part code slots why l b n false x → Part code slots why l b n true y → IsEnd code slots why l b n (later slots x y)
     both x y px py = go (ltb (end_rank slots x) (end_rank slots y)) refl
       where
         go : (u : Bool) → ltb (end_rank slots x) (end_rank slots y) ≡ u → IsEnd code slots why l b n (cond u y x)
         go true e = record { counts = py.some; last = λ p c. below p c (is_entry p) refl }
           where
-            below : (p : End) → Counts code why l b n p → (v : Bool) → is_entry p ≡ v → end_rank slots p ≤ end_rank slots y
+            below : (p : PieceEnd) → Counts code why l b n p → (v : Bool) → is_entry p ≡ v → end_rank slots p ≤ end_rank slots y
             below p c true f = py.last p c f
             below p c false f = let k = px.last p c f in let m = ltb-true (end_rank slots x) (end_rank slots y) e in omega (arith, k, m)
         go false e = record { counts = px.some; last = λ p c. below p c (is_entry p) refl }
           where
-            below : (p : End) → Counts code why l b n p → (v : Bool) → is_entry p ≡ v → end_rank slots p ≤ end_rank slots x
+            below : (p : PieceEnd) → Counts code why l b n p → (v : Bool) → is_entry p ≡ v → end_rank slots p ≤ end_rank slots x
             below p c true f = let k = py.last p c f in let m = ltb-false (end_rank slots x) (end_rank slots y) e in omega (arith, k, m)
             below p c false f = px.last p c f
 

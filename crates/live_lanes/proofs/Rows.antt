@@ -4,34 +4,34 @@ use Rattle.std.specs.Prelude.{slice_get, nat_eq}
 use Rattle.std.proofs.lemmas.Option.{slice_get-get_or}
 use Rattle.std.proofs.Math.Dec.{eqb-zero-suc, eqb-suc-zero, eqb-suc-suc}
 use Rattle.live_lanes.specs.declared.row.Cause.{Cause}
-use Rattle.live_lanes.specs.declared.row.Row.{Row}
-use Rattle.live_lanes.specs.declared.table.Spot.{Spot}
+use Rattle.live_lanes.specs.declared.row.LaneRange.{LaneRange}
+use Rattle.live_lanes.specs.declared.table.PieceSpot.{PieceSpot}
 use Rattle.live_lanes.specs.Graph.{is_live}
 use Rattle.live_lanes.specs.Table.{Numbers, Seen, unseen, seen_in, cause_in, piece_at, raised_index, raised_seen, IsRaised}
 use Rattle.live_lanes.specs.Entered.{rows_seen, causes}
 use Rattle.live_lanes.specs.Growth.{spot, piece_in_rows, raised_spots, Raised}
 
-abbrev pub row_seen : Option Row → ℕ → Seen
+abbrev pub row_seen : Option LaneRange → ℕ → Seen
 row_seen o b = elim o [ None ↦ unseen | Some r ↦ seen_in r.cells.items b ]
 
-pub get-set : (rows : List Row) (k l : ℕ) (y : Row) → k < length rows → slice_get (set rows k y) l ≡ cond (nat_eq k l) (Some y) (slice_get rows l)
+pub get-set : (rows : List LaneRange) (k l : ℕ) (y : LaneRange) → k < length rows → slice_get (set rows k y) l ≡ cond (nat_eq k l) (Some y) (slice_get rows l)
 get-set [] k l y h = absurd (omega arith)
 get-set (x ∷ rows) zero zero y h = refl
 get-set (x ∷ rows) zero (suc l) y h = sym (ap (λ t. cond t (Some y) (slice_get rows l)) (eqb-zero-suc l))
 get-set (x ∷ rows) (suc k) zero y h = sym (ap (λ t. cond t (Some y) (Some x)) (eqb-suc-zero k))
 get-set (x ∷ rows) (suc k) (suc l) y h = get-set rows k l y (omega arith) ∙ sym (ap (λ t. cond t (Some y) (slice_get rows l)) (eqb-suc-suc k l))
 
-pub rows-set : (rows : List Row) (k l b : ℕ) (y : Row) → k < length rows → rows_seen (set rows k y) l b ≡ cond (nat_eq k l) (seen_in y.cells.items b) (rows_seen rows l b)
+pub rows-set : (rows : List LaneRange) (k l b : ℕ) (y : LaneRange) → k < length rows → rows_seen (set rows k y) l b ≡ cond (nat_eq k l) (seen_in y.cells.items b) (rows_seen rows l b)
 rows-set rows k l b y h = ap (λ o. row_seen o b) (get-set rows k l y h) ∙ go (nat_eq k l)
   where
     go : (t : Bool) → row_seen (cond t (Some y) (slice_get rows l)) b ≡ cond t (seen_in y.cells.items b) (rows_seen rows l b)
     go true = refl
     go false = refl
 
-pub row-of : (rows : List Row) (k b : ℕ) (x : Row) → k < length rows → x ≡ get_or rows k x → seen_in x.cells.items b ≡ rows_seen rows k b
+pub row-of : (rows : List LaneRange) (k b : ℕ) (x : LaneRange) → k < length rows → x ≡ get_or rows k x → seen_in x.cells.items b ≡ rows_seen rows k b
 row-of rows k b x h e = sym (ap (λ o. row_seen o b) (slice_get-get_or rows k x h ∙ ap Some (sym e)))
 
-module _ (slots : Numbers) (rows : List Row) (lane block at : ℕ) (cause : Cause) (x y : Row) (index : Option ℕ) (h : lane < length rows) (e : x ≡ get_or rows lane x) (r : IsRaised slots x.cells.items y.cells.items block at cause index) where
+module _ (slots : Numbers) (rows : List LaneRange) (lane block at : ℕ) (cause : Cause) (x y : LaneRange) (index : Option ℕ) (h : lane < length rows) (e : x ≡ get_or rows lane x) (r : IsRaised slots x.cells.items y.cells.items block at cause index) where
   abbrev n : ℕ
   n = piece_in_rows slots rows lane block at
 
@@ -52,7 +52,7 @@ module _ (slots : Numbers) (rows : List Row) (lane block at : ℕ) (cause : Caus
       go true false f g = g ∙ ap (λ k. rows_seen rows k b) (eqb-true lane l f)
       go false u f g = refl
 
-  pub listed : (k : ℕ) (from to : List Spot) → index ≡ Some k → to ≡ from ++ spot lane block k ∷ [] → Raised slots rows (set rows lane y) lane block at cause from to
+  pub listed : (k : ℕ) (from to : List PieceSpot) → index ≡ Some k → to ≡ from ++ spot lane block k ∷ [] → Raised slots rows (set rows lane y) lane block at cause from to
   listed k from to f g = go live refl (sym f ∙ index-is)
     where
       go : (t : Bool) → live ≡ t → Some k ≡ raised_index live n → Raised slots rows (set rows lane y) lane block at cause from to
@@ -62,7 +62,7 @@ module _ (slots : Numbers) (rows : List Row) (lane block at : ℕ) (cause : Caus
           let kn : k ≡ n = cc in
           record { seen = seen; list = g ∙ ap (λ m. from ++ spot lane block m ∷ []) kn ∙ sym (ap (λ t. from ++ raised_spots t (spot lane block n)) p); lanes = length-set rows lane y }
 
-  pub unlisted : (from : List Spot) → ((k : ℕ) → index ≡ Some k → ⊥) → Raised slots rows (set rows lane y) lane block at cause from from
+  pub unlisted : (from : List PieceSpot) → ((k : ℕ) → index ≡ Some k → ⊥) → Raised slots rows (set rows lane y) lane block at cause from from
   unlisted from none = go live refl index-is
     where
       go : (t : Bool) → live ≡ t → index ≡ raised_index live n → Raised slots rows (set rows lane y) lane block at cause from from

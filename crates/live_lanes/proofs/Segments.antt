@@ -5,10 +5,10 @@ use Rattle.std.specs.Prelude.{slice_get}
 use Rattle.std.specs.List.Sorted.{IsPartitionedBy}
 use Rattle.std.proofs.lemmas.Bool.{ltb-true, leb-true, le-leb}
 use Rattle.slot_index.specs.Order.{number_of}
-use Rattle.live_lanes.specs.declared.row.Segment.{Segment}
+use Rattle.live_lanes.specs.declared.row.DefPiece.{DefPiece}
 use Rattle.live_lanes.specs.declared.row.Cell.{Cell}
 use Rattle.live_lanes.specs.declared.row.Cause.{Cause}
-use Rattle.live_lanes.specs.declared.row.End.{End}
+use Rattle.live_lanes.specs.declared.row.PieceEnd.{PieceEnd}
 use Rattle.live_lanes.specs.Table.{Numbers, exit_rank, is_begun, rises_from, changed_at, Seen, with_cause, with_end, Begun, begun, seen_cell, begun_with_cause, begun_with_end, leading, begun_move, moved_at, moved_in}
 use Rattle.live_lanes.proofs.Cells.{both-left, both-right}
 
@@ -61,7 +61,7 @@ map-set f g [] k x y h e q = absurd (omega arith)
 map-set f g (z ∷ xs) zero x y h e q = ap (λ t. t ∷ map f xs) (q ∙ ap (λ t. g (f t)) e)
 map-set f g (z ∷ xs) (suc k) x y h e q = ap (λ t. f z ∷ t) (map-set f g xs k x y (omega arith) e q)
 
-module _ (c : Cell) (x y : Segment) where
+module _ (c : Cell) (x y : DefPiece) where
   pub set-cause : (index : ℕ) (cause : Cause) → (index ≡ 0 → ⊥) → index - 1 < length c.segments.items → x ≡ get_or c.segments.items (index - 1) x → begun y ≡ begun_with_cause cause (begun x) → record (seen_cell c) { segments = map begun (set c.segments.items (index - 1) y) } ≡ with_cause (seen_cell c) index cause
   set-cause zero cause ne h e f = absurd (ne refl)
   set-cause (suc k) cause ne h e f =
@@ -70,7 +70,7 @@ module _ (c : Cell) (x y : Segment) where
       let e' : x ≡ get_or c.segments.items k x = e ∙ ap (λ n. get_or c.segments.items n x) one in
       ap (λ n. record (seen_cell c) { segments = map begun (set c.segments.items n y) }) one ∙ ap (λ ss. record (seen_cell c) { segments = ss }) (map-set begun (begun_with_cause cause) c.segments.items k x y h' e' f)
 
-  pub set-end : (index : ℕ) (end : End) → (index ≡ 0 → ⊥) → index - 1 < length c.segments.items → x ≡ get_or c.segments.items (index - 1) x → begun y ≡ begun_with_end end (begun x) → record (seen_cell c) { segments = map begun (set c.segments.items (index - 1) y) } ≡ with_end (seen_cell c) index end
+  pub set-end : (index : ℕ) (end : PieceEnd) → (index ≡ 0 → ⊥) → index - 1 < length c.segments.items → x ≡ get_or c.segments.items (index - 1) x → begun y ≡ begun_with_end end (begun x) → record (seen_cell c) { segments = map begun (set c.segments.items (index - 1) y) } ≡ with_end (seen_cell c) index end
   set-end zero end ne h e f = absurd (ne refl)
   set-end (suc k) end ne h e f =
       let one : suc k - 1 ≡ k = omega arith in
@@ -82,7 +82,7 @@ pub past-cause : (v : Seen) (index : ℕ) (cause : Cause) → (index ≡ 0 → �
 past-cause v zero cause ne h = absurd (ne refl)
 past-cause v (suc k) cause ne h = ap (λ ss. record v { segments = ss }) (sym (changed-past (begun_with_cause cause) v.segments k (omega arith)))
 
-pub past-end : (v : Seen) (index : ℕ) (end : End) → (index ≡ 0 → ⊥) → length v.segments ≤ index - 1 → v ≡ with_end v index end
+pub past-end : (v : Seen) (index : ℕ) (end : PieceEnd) → (index ≡ 0 → ⊥) → length v.segments ≤ index - 1 → v ≡ with_end v index end
 past-end v zero end ne h = absurd (ne refl)
 past-end v (suc k) end ne h = ap (λ ss. record v { segments = ss }) (sym (changed-past (begun_with_end end) v.segments k (omega arith)))
 
@@ -96,7 +96,7 @@ get-past [] k h = refl
 get-past (x ∷ xs) zero h = absurd (omega arith)
 get-past (x ∷ xs) (suc k) h = get-past xs k (omega arith)
 
-pub moved-here : (c : Cell) (index : ℕ) (x : Segment) → (index ≡ 0 → ⊥) → index ≤ length c.segments.items → x ≡ get_or c.segments.items (index - 1) x → begun_move (begun x) ≡ moved_in (seen_cell c) index
+pub moved-here : (c : Cell) (index : ℕ) (x : DefPiece) → (index ≡ 0 → ⊥) → index ≤ length c.segments.items → x ≡ get_or c.segments.items (index - 1) x → begun_move (begun x) ≡ moved_in (seen_cell c) index
 moved-here c zero x ne h e = absurd (ne refl)
 moved-here c (suc k) x ne h e =
     let one : suc k - 1 ≡ k = omega arith in

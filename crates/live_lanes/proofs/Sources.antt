@@ -2,12 +2,12 @@
 use Rattle.std.proofs.Common.{◌≡◌, ◌<◌, ◌≤◌, ℕ, zero, suc, true, cond, length, List, [], ◌∷◌, ◌++◌, ◌⊎◌, Option, None, Some, refl, sym, ap, ◌∙◌, subst, inl, inr, arith, map, get_or, append-nil}
 use Rattle.std.specs.Prelude.{slice_get, option_map}
 use Rattle.std.proofs.lemmas.Option.{slice_get_cases}
-use Rattle.mir_meaning.specs.declared.writing.Writing.{Writing}
-use Rattle.live_lanes.specs.declared.compute.flow.Ways.{Ways}
+use Rattle.mir_meaning.specs.declared.writing.LaneDef.{LaneDef}
+use Rattle.live_lanes.specs.declared.compute.flow.BlockFlow.{BlockFlow}
 use Rattle.live_lanes.specs.declared.row.Cause.TheVariants as why
-use Rattle.live_lanes.specs.declared.row.Reading.{Reading}
-use Rattle.live_lanes.specs.declared.row.Row.{Row}
-use Rattle.live_lanes.specs.declared.table.Spot.{Spot}
+use Rattle.live_lanes.specs.declared.row.LaneUse.{LaneUse}
+use Rattle.live_lanes.specs.declared.row.LaneRange.{LaneRange}
+use Rattle.live_lanes.specs.declared.table.PieceSpot.{PieceSpot}
 use Rattle.mir_meaning.specs.Paths.{Among, Step, Code, steps_of, Use, Unused, Certain, Into, use_of, writing_of, is_written, is_present, IsMatched}
 use Rattle.live_lanes.specs.Graph.{is_live, writes_in, Founded, by_reading, by_move}
 use Rattle.live_lanes.specs.Table.{Numbers, Seen, unseen, Begun, moved_at, moved_in, entry_rank}
@@ -30,7 +30,7 @@ pub record Begins (l k : ℕ) (st : Start) (steps : List Step) : Type 0 where
   pub before : List Step
   pub step : Step
   pub rest : List Step
-  pub writing : Writing
+  pub writing : LaneDef
   pub split : steps ≡ before ++ step ∷ rest
   pub writes : writing_of l step.writes ≡ Some writing
   pub id : st.start ≡ step.id
@@ -38,7 +38,7 @@ pub record Begins (l k : ℕ) (st : Start) (steps : List Step) : Type 0 where
   pub number : writes_in l (before ++ step ∷ []) ≡ suc k
   pub readings : st.readings ≡ readings_until l rest
 
-written : (l : ℕ) (s : Step) (w : Writing) → writing_of l s.writes ≡ Some w → is_written l s ≡ true
+written : (l : ℕ) (s : Step) (w : LaneDef) → writing_of l s.writes ≡ Some w → is_written l s ≡ true
 written l s w e = ap is_present e
 
 pub starts-at : (l : ℕ) (steps : List Step) (k : ℕ) (st : Start) → slice_get (starts l steps) k ≡ Some st → Begins l k st steps
@@ -59,7 +59,7 @@ starts-at l (s ∷ ss) k st e = go (writing_of l s.writes) refl k e (λ k' e'. s
       readings = z.readings;
     }
 
-    past : (w : Writing) → writing_of l s.writes ≡ Some w → (k : ℕ) → Begins l k st ss → Begins l (suc k) st (s ∷ ss)
+    past : (w : LaneDef) → writing_of l s.writes ≡ Some w → (k : ℕ) → Begins l k st ss → Begins l (suc k) st (s ∷ ss)
     past w n k z = record {
       before = s ∷ z.before;
       step = z.step;
@@ -73,7 +73,7 @@ starts-at l (s ∷ ss) k st e = go (writing_of l s.writes) refl k e (λ k' e'. s
       readings = z.readings;
     }
 
-    first : (w : Writing) → writing_of l s.writes ≡ Some w → record { start = s.id; early = w.early; from = w.from; readings = readings_until l ss } ≡ st → Begins l 0 st (s ∷ ss)
+    first : (w : LaneDef) → writing_of l s.writes ≡ Some w → record { start = s.id; early = w.early; from = w.from; readings = readings_until l ss } ≡ st → Begins l 0 st (s ∷ ss)
     first w n f = record {
       before = [];
       step = s;
@@ -90,17 +90,17 @@ starts-at l (s ∷ ss) k st e = go (writing_of l s.writes) refl k e (λ k' e'. s
     some : (x y : Start) → Some x ≡ Some y → x ≡ y
     some x y f = cc
 
-    go : (o : Option Writing) → writing_of l s.writes ≡ o → (k : ℕ) → slice_get (elim o [ None ↦ starts l ss | Some w ↦ record { start = s.id; early = w.early; from = w.from; readings = readings_until l ss } ∷ starts l ss ]) k ≡ Some st → ((k' : ℕ) → slice_get (starts l ss) k' ≡ Some st → Begins l k' st ss) → Begins l k st (s ∷ ss)
+    go : (o : Option LaneDef) → writing_of l s.writes ≡ o → (k : ℕ) → slice_get (elim o [ None ↦ starts l ss | Some w ↦ record { start = s.id; early = w.early; from = w.from; readings = readings_until l ss } ∷ starts l ss ]) k ≡ Some st → ((k' : ℕ) → slice_get (starts l ss) k' ≡ Some st → Begins l k' st ss) → Begins l k st (s ∷ ss)
     go None n k f ih = skip n k (ih k f)
     go (Some w) n zero f ih = first w n (some (record { start = s.id; early = w.early; from = w.from; readings = readings_until l ss }) st f)
     go (Some w) n (suc k) f ih = past w n k (ih k f)
 
 -- a piece that an instruction begins is there
-pub starts-there : (l : ℕ) (before : List Step) (s : Step) (rest : List Step) (w : Writing) → writing_of l s.writes ≡ Some w → slice_get (starts l (before ++ s ∷ rest)) (writes_in l before) ≡ Some (record { start = s.id; early = w.early; from = w.from; readings = readings_until l rest })
+pub starts-there : (l : ℕ) (before : List Step) (s : Step) (rest : List Step) (w : LaneDef) → writing_of l s.writes ≡ Some w → slice_get (starts l (before ++ s ∷ rest)) (writes_in l before) ≡ Some (record { start = s.id; early = w.early; from = w.from; readings = readings_until l rest })
 starts-there l [] s rest w e = ap (λ o. slice_get (elim o [ None ↦ starts l rest | Some w ↦ record { start = s.id; early = w.early; from = w.from; readings = readings_until l rest } ∷ starts l rest ]) 0) e
 starts-there l (x ∷ before) s rest w e = go (writing_of l x.writes) (starts-there l before s rest w e)
   where
-    go : (o : Option Writing) → slice_get (starts l (before ++ s ∷ rest)) (writes_in l before) ≡ Some (record { start = s.id; early = w.early; from = w.from; readings = readings_until l rest }) → slice_get (elim o [ None ↦ starts l (before ++ s ∷ rest) | Some w' ↦ record { start = x.id; early = w'.early; from = w'.from; readings = readings_until l (before ++ s ∷ rest) } ∷ starts l (before ++ s ∷ rest) ]) (cond (is_present o) (suc (writes_in l before)) (writes_in l before)) ≡ Some (record { start = s.id; early = w.early; from = w.from; readings = readings_until l rest })
+    go : (o : Option LaneDef) → slice_get (starts l (before ++ s ∷ rest)) (writes_in l before) ≡ Some (record { start = s.id; early = w.early; from = w.from; readings = readings_until l rest }) → slice_get (elim o [ None ↦ starts l (before ++ s ∷ rest) | Some w' ↦ record { start = x.id; early = w'.early; from = w'.from; readings = readings_until l (before ++ s ∷ rest) } ∷ starts l (before ++ s ∷ rest) ]) (cond (is_present o) (suc (writes_in l before)) (writes_in l before)) ≡ Some (record { start = s.id; early = w.early; from = w.from; readings = readings_until l rest })
     go None ih = ih
     go (Some w') ih = ih
 
@@ -159,7 +159,7 @@ moved-segment v (suc k) id from e = go (slice_get v.segments k) refl e
     go None f g = absurd (cc)
     go (Some s) f g = let z = source s.from s.start g in record { k = k; segment = s; index_is = refl; there = f; start = z.0; source = z.1 }
 
-module _ (code : Code) (slots : Numbers) (flow : List Ways) (rows : List Row) (t : IsTableOf code slots flow rows) where
+module _ (code : Code) (slots : Numbers) (flow : List BlockFlow) (rows : List LaneRange) (t : IsTableOf code slots flow rows) where
   starts-are : (l b : ℕ) → map start_of (rows_seen rows l b).segments ≡ starts l (steps_of code b)
   starts-are l b = ap (λ s. s.segments) (t.entered l b)
 
@@ -174,25 +174,25 @@ module _ (code : Code) (slots : Numbers) (flow : List Ways) (rows : List Row) (t
   unused a [] (x ∷ before) s rest e n r = absurd (cc)
   unused a (y ∷ steps) (x ∷ before) s rest e n r = let tail-same : steps ≡ before ++ s ∷ rest = cc in go (writing_of a y.writes) refl n r (λ n' r'. unused a steps before s rest tail-same n' r')
     where
-      tail : (xs ys : List Reading) → xs ++ ys ≡ [] → ys ≡ []
+      tail : (xs ys : List LaneUse) → xs ++ ys ≡ [] → ys ≡ []
       tail [] ys f = f
       tail (z ∷ xs) ys f = absurd (cc)
 
-      go : (o : Option Writing) → writing_of a y.writes ≡ o → ◌≡◌ {A = List Start} (elim o [ None ↦ starts a steps | Some w ↦ record { start = y.id; early = w.early; from = w.from; readings = readings_until a steps } ∷ starts a steps ]) [] → reading_of y.id (use_of a y) ++ cond (is_present (writing_of a y.writes)) [] (readings_until a steps) ≡ [] → (starts a steps ≡ [] → readings_until a steps ≡ [] → use_of a s ≡ Unused) → use_of a s ≡ Unused
+      go : (o : Option LaneDef) → writing_of a y.writes ≡ o → ◌≡◌ {A = List Start} (elim o [ None ↦ starts a steps | Some w ↦ record { start = y.id; early = w.early; from = w.from; readings = readings_until a steps } ∷ starts a steps ]) [] → reading_of y.id (use_of a y) ++ cond (is_present (writing_of a y.writes)) [] (readings_until a steps) ≡ [] → (starts a steps ≡ [] → readings_until a steps ≡ [] → use_of a s ≡ Unused) → use_of a s ≡ Unused
       go None f g h ih = ih g (tail (reading_of y.id (use_of a y)) (readings_until a steps) (ap (λ o. reading_of y.id (use_of a y) ++ cond (is_present o) [] (readings_until a steps)) (sym f) ∙ h))
       go (Some w) f g h ih = absurd (cc)
 
   used-in : (a b : ℕ) (before : List Step) (s : Step) (rest : List Step) → steps_of code b ≡ before ++ s ∷ rest → (use_of a s ≡ Unused → ⊥) → a < length rows
   used-in a b before s rest e ne = go (slice_get_cases rows a).1
     where
-      go : ((x : Row) × (a < length rows) × (slice_get rows a ≡ Some x) × (get_or rows a x ≡ x)) ⊎ ((length rows ≤ a) × (slice_get rows a ≡ None)) → a < length rows
+      go : ((x : LaneRange) × (a < length rows) × (slice_get rows a ≡ Some x) × (get_or rows a x ≡ x)) ⊎ ((length rows ≤ a) × (slice_get rows a ≡ None)) → a < length rows
       go (inl z) = z.1
       go (inr z) =
           let none : shape unseen ≡ shape_of code a b = sym (ap (λ o. shape (row_seen o b)) z.1) ∙ t.entered a b in
           absurd (ne (unused a (steps_of code b) before s rest e (sym (ap (λ h. h.segments) none)) (sym (ap (λ h. h.readings) none))))
 
   -- nothing moves into a lane that begins no piece
-  pub sources-none : (l b n : ℕ) (x : List Spot) → (n ≡ 0 → ⊥) → moved_in (rows_seen rows l b) n ≡ None → Grew code rows rows x x × SourcesLive code (causes rows) l b n
+  pub sources-none : (l b n : ℕ) (x : List PieceSpot) → (n ≡ 0 → ⊥) → moved_in (rows_seen rows l b) n ≡ None → Grew code rows rows x x × SourcesLive code (causes rows) l b n
   sources-none l b n x ne none = (grew-refl code rows x, record { exits = λ z. absurd (ne z); move = λ a before s rest e u m. absurd (no a before s rest e u m) })
     where
       no : (a : ℕ) (before : List Step) (s : Step) (rest : List Step) → steps_of code b ≡ before ++ s ∷ rest → use_of a s ≡ Into l → n ≡ writes_in l (before ++ s ∷ []) → ⊥
@@ -206,7 +206,7 @@ module _ (code : Code) (slots : Numbers) (flow : List Ways) (rows : List Row) (t
           some-none (g.0.start, a) (sym move ∙ none)
 
 -- a piece that begins with its block: its lane is raised at the exits before
-pub sources-first : (code : Code) (slots : Numbers) (flow : List Ways) (old new : List Row) (l b n : ℕ) (x y : List Spot) → IsTableOf code slots flow old → n ≡ 0 → is_live (causes old l b n) ≡ true → RaisesPredecessors slots flow old new l b x y → Grew code old new x y × SourcesLive code (causes new) l b n
+pub sources-first : (code : Code) (slots : Numbers) (flow : List BlockFlow) (old new : List LaneRange) (l b n : ℕ) (x y : List PieceSpot) → IsTableOf code slots flow old → n ≡ 0 → is_live (causes old l b n) ≡ true → RaisesPredecessors slots flow old new l b x y → Grew code old new x y × SourcesLive code (causes new) l b n
 sources-first code slots flow old new l b n x y t z live r =
     let g = r code t (ap (λ k. is_live (causes old l b k)) (sym z) ∙ live) in
     (g.0, record { exits = λ _ p a. g.1 p a; move = λ a before s rest e u m. absurd (no a before s rest e u m) })
@@ -218,7 +218,7 @@ sources-first code slots flow old new l b n x y t z live r =
         absurd (omega (arith, m, z, more))
 
 -- a piece that begins with a move: the lane that is moved is raised at the instruction
-module _ (code : Code) (slots : Numbers) (flow : List Ways) (old new : List Row) (l b n id from : ℕ) (x y : List Spot) (t : IsTableOf code slots flow old) (live : is_live (causes old l b n) ≡ true) (m : Moved (rows_seen old l b) n id from) where
+module _ (code : Code) (slots : Numbers) (flow : List BlockFlow) (old new : List LaneRange) (l b n id from : ℕ) (x y : List PieceSpot) (t : IsTableOf code slots flow old) (live : is_live (causes old l b n) ≡ true) (m : Moved (rows_seen old l b) n id from) where
   begins : Begins l m.k (start_of m.segment) (steps_of code b)
   begins = starts-at l (steps_of code b) m.k (start_of m.segment) (ap (λ ss. slice_get ss m.k) (sym (starts-are code slots flow old t l b)) ∙ map-get start_of (rows_seen old l b).segments m.k m.segment m.there)
 

@@ -4,7 +4,7 @@ use Rattle.std.specs.Prelude.{nat_eq, nat_lt, nat_le, slice_get, option_map, fin
 use Rattle.std.proofs.lemmas.Bool.{eq-eqb, ltb-true, leb-true, leb-false}
 use Rattle.std.proofs.lemmas.Option.{slice_get-get_or, slice_get-map}
 use Rattle.slot_index.specs.Order.{number_of}
-use Rattle.live_lanes.specs.declared.row.Segment.{Segment}
+use Rattle.live_lanes.specs.declared.row.DefPiece.{DefPiece}
 use Rattle.live_lanes.specs.Table.{Begun, Numbers, begun, exit_rank, is_begun, leading, piece_at, rises_from}
 use Rattle.live_lanes.specs.Touching.{begun_by}
 use Rattle.live_lanes.proofs.Cells.{both-left, both-right}
@@ -68,18 +68,18 @@ module _ (slots : Numbers) (id : ℕ) where
   starts-at : (ss : List Begun) (k : ℕ) (s : Begun) → slice_get ss k ≡ Some s → suc k ≡ piece_at slots (exit_rank slots id) ss → rises_from slots 0 ss ≡ true → cond (nat_eq s.start id) (Some s) None ≡ begun_by id ss
   starts-at ss k s there e r = sym (ap (here id) there) ∙ ap (begun_there id ss) e ∙ begun-found 0 ss r
 
-  starts-it : (items : List Segment) (index : ℕ) (s : Segment) → (index ≡ 0 → ⊥) → index ≤ length items → s ≡ get_or items (index - 1) s → index ≡ piece_at slots (exit_rank slots id) (map begun items) → rises_from slots 0 (map begun items) ≡ true → cond (nat_eq s.start id) (Some (begun s)) None ≡ begun_by id (map begun items)
+  starts-it : (items : List DefPiece) (index : ℕ) (s : DefPiece) → (index ≡ 0 → ⊥) → index ≤ length items → s ≡ get_or items (index - 1) s → index ≡ piece_at slots (exit_rank slots id) (map begun items) → rises_from slots 0 (map begun items) ≡ true → cond (nat_eq s.start id) (Some (begun s)) None ≡ begun_by id (map begun items)
   starts-it items index s more within own e r =
       let there : slice_get (map begun items) (index - 1) ≡ Some (begun s) = slice_get-map begun items (index - 1) ∙ ap (option_map begun) (slice_get-get_or items (index - 1) s (omega (arith, more)) ∙ ap Some (sym own)) in
       let up : suc (index - 1) ≡ index = omega (arith, more) in
       starts-at (map begun items) (index - 1) (begun s) there (up ∙ e) r
 
-  pub starts-other : (items : List Segment) (index : ℕ) (s : Segment) → (index ≡ 0 → ⊥) → index ≤ length items → s ≡ get_or items (index - 1) s → index ≡ piece_at slots (exit_rank slots id) (map begun items) → (s.start ≡ id → ⊥) → rises_from slots 0 (map begun items) ≡ true → None ≡ begun_by id (map begun items)
+  pub starts-other : (items : List DefPiece) (index : ℕ) (s : DefPiece) → (index ≡ 0 → ⊥) → index ≤ length items → s ≡ get_or items (index - 1) s → index ≡ piece_at slots (exit_rank slots id) (map begun items) → (s.start ≡ id → ⊥) → rises_from slots 0 (map begun items) ≡ true → None ≡ begun_by id (map begun items)
   starts-other items index s more within own e other r = go (nat_eq s.start id) refl (starts-it items index s more within own e r)
     where
       go : (t : Bool) → nat_eq s.start id ≡ t → cond t (Some (begun s)) None ≡ begun_by id (map begun items) → None ≡ begun_by id (map begun items)
       go true f h = absurd (other (eqb-true s.start id f))
       go false f h = h
 
-  pub starts-own : (items : List Segment) (index : ℕ) (s : Segment) → (index ≡ 0 → ⊥) → index ≤ length items → s ≡ get_or items (index - 1) s → index ≡ piece_at slots (exit_rank slots id) (map begun items) → s.start ≡ id → rises_from slots 0 (map begun items) ≡ true → Some (begun s) ≡ begun_by id (map begun items)
+  pub starts-own : (items : List DefPiece) (index : ℕ) (s : DefPiece) → (index ≡ 0 → ⊥) → index ≤ length items → s ≡ get_or items (index - 1) s → index ≡ piece_at slots (exit_rank slots id) (map begun items) → s.start ≡ id → rises_from slots 0 (map begun items) ≡ true → Some (begun s) ≡ begun_by id (map begun items)
   starts-own items index s more within own e same r = ap (λ b. cond b (Some (begun s)) None) (sym (eq-eqb s.start id same)) ∙ starts-it items index s more within own e r

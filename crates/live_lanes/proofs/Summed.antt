@@ -4,10 +4,10 @@ use Rattle.std.specs.Prelude.{nat_eq, nat_lt, slice_get, min, ◌||◌}
 use Rattle.std.proofs.lemmas.Bool.{eqb-true, eq-eqb, lt-ltb, ltb-true, ltb-false}
 use Rattle.std.proofs.lemmas.Option.{slice_get-get_or, slice_get_past}
 use Rattle.mir_func.specs.declared.func.Block.{Block}
-use Rattle.instr_effects.specs.declared.row.Lanes.{Lanes}
+use Rattle.instr_effects.specs.declared.row.LaneSpan.{LaneSpan}
 use Rattle.instr_effects.specs.Row.{lane_in}
 use Rattle.instr_effects.specs.Numbers.{row_number_in}
-use Rattle.live_lanes.specs.declared.row.Row.{Row}
+use Rattle.live_lanes.specs.declared.row.LaneRange.{LaneRange}
 use Rattle.live_lanes.specs.declared.table.Table.{Table}
 use Rattle.live_lanes.specs.Table.{Numbers, unseen, entry_rank, exit_rank}
 use Rattle.live_lanes.specs.Entered.{rows_seen}
@@ -16,7 +16,7 @@ use Rattle.live_lanes.specs.Held.{held_at, any_held, inside, passing, block_held
 use Rattle.live_lanes.proofs.Tallied.{passing-zero}
 
 -- where nothing is seen of the lanes, none is live or occupied
-none-any : (slots : Numbers) (rows : List Row) (first count b at : ℕ) → AreUnseen rows first count b → any_held slots rows first count b at ≡ false
+none-any : (slots : Numbers) (rows : List LaneRange) (first count b at : ℕ) → AreUnseen rows first count b → any_held slots rows first count b at ≡ false
 none-any slots rows first zero b at h = refl
 none-any slots rows first (suc n) b at h =
     ap (λ v. held_at slots v at || any_held slots rows first n b at) (h n (omega arith)) ∙ none-any slots rows first n b at (λ k lt. h k (omega arith))
@@ -119,7 +119,7 @@ passing-same slots p q h ids = ap (λ b. cond b 1 0 + inside slots p ids) (h 0) 
 pub range-same : (x : Table) (bs : List Block) (v first count : ℕ) → ((k : ℕ) → lane_in first count k ≡ row_number_in (slice_get x.lanes.ranges.items v) k) → range_held x bs v ≡ sum_below (block_held x bs first count) (length bs)
 range-same x bs v first count h = go (slice_get x.lanes.ranges.items v) refl
   where
-    block-same : (own : Lanes) → ((k : ℕ) → lane_in first count k ≡ lane_in own.first own.count k) → (b : ℕ) → block_held x bs own.first own.count b ≡ block_held x bs first count b
+    block-same : (own : LaneSpan) → ((k : ℕ) → lane_in first count k ≡ lane_in own.first own.count k) → (b : ℕ) → block_held x bs own.first own.count b ≡ block_held x bs first count b
     block-same own g b = each (slice_get bs b)
       where
         each : (q : Option Block) → told x bs own.first own.count q b ≡ told x bs first count q b
@@ -129,7 +129,7 @@ range-same x bs v first count h = go (slice_get x.lanes.ranges.items v) refl
     no-lanes : ((k : ℕ) → lane_in first count k ≡ None) → (b : ℕ) → AreUnseen x.rows.rows.items first count b
     no-lanes g b k lt = absurd (let z : Some (first + k) ≡ None = sym (ap (λ t. cond t (Some (first + k)) None) (lt-ltb k count lt)) ∙ g k in cc)
 
-    go : (q : Option Lanes) → slice_get x.lanes.ranges.items v ≡ q → range_held x bs v ≡ sum_below (block_held x bs first count) (length bs)
+    go : (q : Option LaneSpan) → slice_get x.lanes.ranges.items v ≡ q → range_held x bs v ≡ sum_below (block_held x bs first count) (length bs)
     go None e =
         ap (lanes_held x bs) e
         ∙ sym (sum-none (block_held x bs first count) (length bs) (λ b lt. block-none x bs first count b (no-lanes (λ k. h k ∙ ap (λ q. row_number_in q k) e) b)))

@@ -13,11 +13,11 @@ use Rattle.std.proofs.lemmas.List.Folds.{list_any-append, list_any_at, list_any_
 use Rattle.std.proofs.lemmas.List.Sorted.{list_any-IsPermutation, IsPermutation-reverse}
 use Rattle.std.proofs.lemmas.Map.Keys.{sorted_from_strictly_increasing, IsStrictlyIncreasing-from_sorted}
 use Rattle.std.proofs.lemmas.Option.{slice_get-get_or, get_or_from_slice_get}
-use Rattle.instr_effects.specs.declared.row.Lanes.{Lanes}
+use Rattle.instr_effects.specs.declared.row.LaneSpan.{LaneSpan}
 use Rattle.instr_effects.specs.Row.{lane_in}
 use Rattle.instr_effects.specs.Numbers.{row_number_in}
 use Rattle.live_lanes.specs.declared.table.Table.{Table}
-use Rattle.live_lanes.specs.declared.ask.touch.Found.{Found}
+use Rattle.live_lanes.specs.declared.ask.touch.TouchList.{TouchList}
 use Rattle.live_lanes.specs.Table.{Numbers}
 use Rattle.live_lanes.specs.Ends.{row_at}
 use Rattle.mir_meaning.specs.Paths.{has}
@@ -26,32 +26,32 @@ use Rattle.live_lanes.proofs.Flowing.{has-any, push-has, kept-has, or-assoc, or-
 
 -- meeting nothing, and meeting more
 
-pub meets-none : (slots : Numbers) (f : Found) (test : ℕ → Bool) → ((x : ℕ) → test x ≡ false) → Meets slots f f test
+pub meets-none : (slots : Numbers) (f : TouchList) (test : ℕ → Bool) → ((x : ℕ) → test x ≡ false) → Meets slots f f test
 meets-none slots f test none = record {
   named = λ x. sym (or-false (has x f.ids.items)) ∙ ap (λ t. has x f.ids.items || t) (sym (none x));
   line = λ h. h;
 }
 
-pub meets-more : (slots : Numbers) (a b c : Found) (one other both : ℕ → Bool) → Meets slots a b one → Meets slots b c other → ((x : ℕ) → (one x || other x) ≡ both x) → Meets slots a c both
+pub meets-more : (slots : Numbers) (a b c : TouchList) (one other both : ℕ → Bool) → Meets slots a b one → Meets slots b c other → ((x : ℕ) → (one x || other x) ≡ both x) → Meets slots a c both
 meets-more slots a b c one other both first next same = record {
   named = λ x. next.named x ∙ ap (λ t. t || other x) (first.named x) ∙ or-assoc (has x a.ids.items) (one x) (other x) ∙ ap (λ t. has x a.ids.items || t) (same x);
   line = λ h. next.line (first.line h);
 }
 
-pub meets-reset : (slots : Numbers) (a b : Found) (test : ℕ → Bool) → a.ids ≡ b.ids → a.is_mixed ≡ b.is_mixed → ((x : ℕ) → test x ≡ false) → Meets slots a b test
+pub meets-reset : (slots : Numbers) (a b : TouchList) (test : ℕ → Bool) → a.ids ≡ b.ids → a.is_mixed ≡ b.is_mixed → ((x : ℕ) → test x ≡ false) → Meets slots a b test
 meets-reset slots a b test ids mixed none = record {
   named = λ x. ap (λ v. has x v.items) (sym ids) ∙ sym (or-false (has x a.ids.items)) ∙ ap (λ t. has x a.ids.items || t) (sym (none x));
   line = λ h m. subst (λ v. IsStrictlySortedBy nat_cmp (map (layout_key slots) v.items)) ids (h (mixed ∙ m));
 }
 
-pub meets-same : (slots : Numbers) (a b : Found) (one other : ℕ → Bool) → Meets slots a b one → ((x : ℕ) → one x ≡ other x) → Meets slots a b other
+pub meets-same : (slots : Numbers) (a b : TouchList) (one other : ℕ → Bool) → Meets slots a b one → ((x : ℕ) → one x ≡ other x) → Meets slots a b other
 meets-same slots a b one other first same = record {
   named = λ x. first.named x ∙ ap (λ t. has x a.ids.items || t) (same x);
   line = first.line;
 }
 
 -- an instruction that is there
-pub meets-there : (slots : Numbers) (a b : Found) (id : ℕ) → has id a.ids.items ≡ true → b.ids ≡ a.ids → b.is_mixed ≡ a.is_mixed → Meets slots a b (nat_eq id)
+pub meets-there : (slots : Numbers) (a b : TouchList) (id : ℕ) → has id a.ids.items ≡ true → b.ids ≡ a.ids → b.is_mixed ≡ a.is_mixed → Meets slots a b (nat_eq id)
 meets-there slots a b id there ids mixed = record {
   named = λ x. ap (λ v. has x v.items) ids ∙ kept-has a.ids.items id x (sym (has-any id a.ids.items) ∙ there);
   line = λ h m. subst (λ v. IsStrictlySortedBy nat_cmp (map (layout_key slots) v.items)) (sym ids) (h (sym mixed ∙ m));
@@ -61,23 +61,23 @@ pub has-there : (xs items : List ℕ) (k id other : ℕ) → xs ≡ items → k 
 has-there xs items k id other e h own same = ap (has id) (sym e) ∙ has-any id xs ∙ list_any_at (λ y. nat_eq y id) xs k other h (ap (λ y. nat_eq y id) (sym own) ∙ same)
 
 -- elements one after the other
-pub meets-element : {X : Type 0} (slots : Numbers) (a b c : Found) (f : ℕ → X → Bool) (xs : List X) (k : ℕ) (d : X) → k < length xs → Meets slots a b (λ x. list_any (f x) (take k xs)) → Meets slots b c (λ x. f x (get_or xs k d)) → Meets slots a c (λ x. list_any (f x) (take (k + 1) xs))
+pub meets-element : {X : Type 0} (slots : Numbers) (a b c : TouchList) (f : ℕ → X → Bool) (xs : List X) (k : ℕ) (d : X) → k < length xs → Meets slots a b (λ x. list_any (f x) (take k xs)) → Meets slots b c (λ x. f x (get_or xs k d)) → Meets slots a c (λ x. list_any (f x) (take (k + 1) xs))
 meets-element slots a b c f xs k d h first next = meets-more slots a b c (λ x. list_any (f x) (take k xs)) (λ x. f x (get_or xs k d)) (λ x. list_any (f x) (take (k + 1) xs)) first next (λ x. sym (list_any_more (f x) xs k d h))
 
-pub meets-item : {X : Type 0} (slots : Numbers) (a b c : Found) (f : ℕ → X → Bool) (xs : List X) (k : ℕ) (d : X) → k < length xs → d ≡ get_or xs k d → Meets slots a b (λ x. list_any (f x) (take k xs)) → Meets slots b c (λ x. f x d) → Meets slots a c (λ x. list_any (f x) (take (k + 1) xs))
+pub meets-item : {X : Type 0} (slots : Numbers) (a b c : TouchList) (f : ℕ → X → Bool) (xs : List X) (k : ℕ) (d : X) → k < length xs → d ≡ get_or xs k d → Meets slots a b (λ x. list_any (f x) (take k xs)) → Meets slots b c (λ x. f x d) → Meets slots a c (λ x. list_any (f x) (take (k + 1) xs))
 meets-item slots a b c f xs k d h own first next = meets-element slots a b c f xs k d h first (subst (λ e. Meets slots b c (λ x. f x e)) own next)
 
-pub meets-all : {X : Type 0} (slots : Numbers) (a b : Found) (f : ℕ → X → Bool) (xs : List X) (k : ℕ) → length xs ≤ k → Meets slots a b (λ x. list_any (f x) (take k xs)) → Meets slots a b (λ x. list_any (f x) xs)
+pub meets-all : {X : Type 0} (slots : Numbers) (a b : TouchList) (f : ℕ → X → Bool) (xs : List X) (k : ℕ) → length xs ≤ k → Meets slots a b (λ x. list_any (f x) (take k xs)) → Meets slots a b (λ x. list_any (f x) xs)
 meets-all slots a b f xs k h all = meets-same slots a b (λ x. list_any (f x) (take k xs)) (λ x. list_any (f x) xs) all (λ x. ap (list_any (f x)) (take_all k xs h))
 
-pub meets-reversed : {X : Type 0} (slots : Numbers) (a b : Found) (f : ℕ → X → Bool) (xs ys : List X) → ys ≡ reverse xs → Meets slots a b (λ x. list_any (f x) ys) → Meets slots a b (λ x. list_any (f x) xs)
+pub meets-reversed : {X : Type 0} (slots : Numbers) (a b : TouchList) (f : ℕ → X → Bool) (xs ys : List X) → ys ≡ reverse xs → Meets slots a b (λ x. list_any (f x) ys) → Meets slots a b (λ x. list_any (f x) xs)
 meets-reversed slots a b f xs ys e all = meets-same slots a b (λ x. list_any (f x) ys) (λ x. list_any (f x) xs) all (λ x. ap (list_any (f x)) e ∙ sym (list_any-IsPermutation (f x) xs (reverse xs) (IsPermutation-reverse xs)))
 
-pub meets-pushed : {X : Type 0} (slots : Numbers) (a b c : Found) (f : ℕ → X → Bool) (xs ys : List X) (y : X) → ys ≡ xs ++ y ∷ [] → Meets slots a b (λ x. list_any (f x) xs) → Meets slots b c (λ x. f x y) → Meets slots a c (λ x. list_any (f x) ys)
+pub meets-pushed : {X : Type 0} (slots : Numbers) (a b c : TouchList) (f : ℕ → X → Bool) (xs ys : List X) (y : X) → ys ≡ xs ++ y ∷ [] → Meets slots a b (λ x. list_any (f x) xs) → Meets slots b c (λ x. f x y) → Meets slots a c (λ x. list_any (f x) ys)
 meets-pushed slots a b c f xs ys y e first next = meets-more slots a b c (λ x. list_any (f x) xs) (λ x. f x y) (λ x. list_any (f x) ys) first next (λ x. sym (ap (list_any (f x)) e ∙ list_any-append (f x) xs (y ∷ []) ∙ ap (λ t. list_any (f x) xs || t) (or-false (f x y))))
 
 -- lanes one after the other
-pub meets-lane : (slots : Numbers) (a b c : Found) (f : ℕ → ℕ → Bool) (first k l : ℕ) → l ≡ first + k → Meets slots a b (λ x. some_below (f x) first k) → Meets slots b c (λ x. f x l) → Meets slots a c (λ x. some_below (f x) first (k + 1))
+pub meets-lane : (slots : Numbers) (a b c : TouchList) (f : ℕ → ℕ → Bool) (first k l : ℕ) → l ≡ first + k → Meets slots a b (λ x. some_below (f x) first k) → Meets slots b c (λ x. f x l) → Meets slots a c (λ x. some_below (f x) first (k + 1))
 meets-lane slots a b c f first k l e old next = meets-more slots a b c (λ x. some_below (f x) first k) (λ x. f x l) (λ x. some_below (f x) first (k + 1)) old next (λ x. or-flip (some_below (f x) first k) (f x l) ∙ ap (λ n. f x n || some_below (f x) first k) e ∙ ap (some_below (f x) first) (sym (add-one k)))
   where
     or-flip : (t u : Bool) → (t || u) ≡ (u || t)
@@ -125,7 +125,7 @@ pub line-first : (slots : Numbers) (ids : List ℕ) (id : ℕ) → slice_get ids
 line-first slots [] id none = sorted_from_strictly_increasing (layout_key slots id ∷ []) (λ k h. absurd (omega arith))
 line-first slots (x ∷ xs) id none = absurd (let there = slice_get-get_or (x ∷ xs) (length (x ∷ xs) - 1) x (omega arith) in let z : None ≡ Some (get_or (x ∷ xs) (length (x ∷ xs) - 1) x) = sym none ∙ there in cc)
 
-pub meets-added : (slots : Numbers) (a b : Found) (id : ℕ) (behind : Bool) → b.ids.items ≡ a.ids.items ++ id ∷ [] → b.is_mixed ≡ (a.is_mixed || not behind) → (behind ≡ true → IsStrictlySortedBy nat_cmp (map (layout_key slots) a.ids.items) → IsStrictlySortedBy nat_cmp (map (layout_key slots) (a.ids.items ++ id ∷ []))) → Meets slots a b (nat_eq id)
+pub meets-added : (slots : Numbers) (a b : TouchList) (id : ℕ) (behind : Bool) → b.ids.items ≡ a.ids.items ++ id ∷ [] → b.is_mixed ≡ (a.is_mixed || not behind) → (behind ≡ true → IsStrictlySortedBy nat_cmp (map (layout_key slots) a.ids.items) → IsStrictlySortedBy nat_cmp (map (layout_key slots) (a.ids.items ++ id ∷ []))) → Meets slots a b (nat_eq id)
 meets-added slots a b id behind ids mixed keeps = record {
   named = λ x. ap (has x) ids ∙ push-has a.ids.items id x;
   line = λ h m. subst (λ xs. IsStrictlySortedBy nat_cmp (map (layout_key slots) xs)) (sym ids) (keeps (right a.is_mixed behind (sym mixed ∙ m)) (h (left a.is_mixed behind (sym mixed ∙ m))));
@@ -256,7 +256,7 @@ module _ (test : ℕ → Bool) where
   no-lanes first zero h = refl
   no-lanes first (suc n) h = absurd (let z : Some (first + n) ≡ None = sym (lane-some first (suc n) n (lt-ltb n (suc n) (omega arith))) ∙ h n in cc)
 
-  some-of : (first count : ℕ) (q : Option Lanes) → ((k : ℕ) → lane_in first count k ≡ row_number_in q k) → some_below test first count ≡ some_of test q
+  some-of : (first count : ℕ) (q : Option LaneSpan) → ((k : ℕ) → lane_in first count k ≡ row_number_in q k) → some_below test first count ≡ some_of test q
   some-of first count None h = no-lanes first count h
   some-of first count (Some own) h = some-same first own.first count own.count h
 
@@ -264,7 +264,7 @@ module _ (test : ℕ → Bool) where
   range-lanes x v first count h = some-of first count (slice_get x.lanes.ranges.items v) h
 
 -- the instructions that name a range
-pub touched-found : (x : Table) (v first count : ℕ) (empty found : Found) (ids : List ℕ) → empty.ids.items ≡ [] → ((k : ℕ) → lane_in first count k ≡ row_number_in (slice_get x.lanes.ranges.items v) k) → Meets x.order.slots empty found (λ id. some_below (names_lane id x.rows.rows.items) first count) → ((id : ℕ) → has id ids ≡ has id found.ids.items) → (InLine x.order.slots found → IsStrictlySortedBy nat_cmp (map (layout_key x.order.slots) ids)) → AreTouched x v ids
+pub touched-found : (x : Table) (v first count : ℕ) (empty found : TouchList) (ids : List ℕ) → empty.ids.items ≡ [] → ((k : ℕ) → lane_in first count k ≡ row_number_in (slice_get x.lanes.ranges.items v) k) → Meets x.order.slots empty found (λ id. some_below (names_lane id x.rows.rows.items) first count) → ((id : ℕ) → has id ids ≡ has id found.ids.items) → (InLine x.order.slots found → IsStrictlySortedBy nat_cmp (map (layout_key x.order.slots) ids)) → AreTouched x v ids
 touched-found x v first count empty found ids none own all same line = record {
   order = line (all.line (λ m. subst (λ xs. IsStrictlySortedBy nat_cmp (map (layout_key x.order.slots) xs)) (sym none) (sorted_from_strictly_increasing [] (λ k lt. absurd (omega arith)))));
   named = λ id. same id ∙ all.named id ∙ ap (λ xs. has id xs || some_below (names_lane id x.rows.rows.items) first count) none ∙ range-lanes (names_lane id x.rows.rows.items) x v first count own;

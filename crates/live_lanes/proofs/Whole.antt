@@ -4,12 +4,12 @@ use mathlib.Core.List.{reverse_aux}
 use Rattle.std.specs.Prelude.{slice_get, nat_eq}
 use Rattle.std.specs.List.{find}
 use Rattle.std.proofs.lemmas.List.{length-map}
-use Rattle.mir_meaning.specs.declared.writing.Writing.{Writing}
-use Rattle.live_lanes.specs.declared.compute.flow.Ways.{Ways}
+use Rattle.mir_meaning.specs.declared.writing.LaneDef.{LaneDef}
+use Rattle.live_lanes.specs.declared.compute.flow.BlockFlow.{BlockFlow}
 use Rattle.live_lanes.specs.declared.row.Cause.TheVariants as why
-use Rattle.live_lanes.specs.declared.row.Reading.{Reading}
-use Rattle.live_lanes.specs.declared.row.Row.{Row}
-use Rattle.live_lanes.specs.declared.table.Spot.{Spot}
+use Rattle.live_lanes.specs.declared.row.LaneUse.{LaneUse}
+use Rattle.live_lanes.specs.declared.row.LaneRange.{LaneRange}
+use Rattle.live_lanes.specs.declared.table.PieceSpot.{PieceSpot}
 use Rattle.mir_meaning.specs.Paths.{Among, here, there, Step, Code, steps_of, last_of, has, Certain, use_of, writing_of, is_present}
 use Rattle.live_lanes.specs.Graph.{is_live, writes_in, IsClosed, IsGrown}
 use Rattle.live_lanes.specs.Table.{Numbers, is_certain, cause_of}
@@ -21,20 +21,20 @@ use Rattle.live_lanes.proofs.Growth.{grew-trans}
 use Rattle.live_lanes.proofs.Numbered.{among-left, among-right, among-cases}
 use Rattle.live_lanes.proofs.Pieces.{certain-shape, done-kept, start_readings, shape_readings, shape_certain, length-starts}
 
-pub sources-kept : (code : Code) (old new : List Row) (x y : List Spot) (l b n : ℕ) → Grew code old new x y → SourcesLive code (causes old) l b n → SourcesLive code (causes new) l b n
+pub sources-kept : (code : Code) (old new : List LaneRange) (x y : List PieceSpot) (l b n : ℕ) → Grew code old new x y → SourcesLive code (causes old) l b n → SourcesLive code (causes new) l b n
 sources-kept code old new x y l b n g s = record {
   exits = λ z p a. exits-kept code old new x y l p g (s.exits z p a);
   move = λ a before i rest e u m. let h = s.move a before i rest e u m in ap is_live (g.kept a b (writes_in a before) h) ∙ h;
 }
 
 -- as far as the loop over the listed pieces has come
-pub record SomeGrown (code : Code) (old new : List Row) (k : ℕ) (risen : List Spot) : Type 0 where
+pub record SomeGrown (code : Code) (old new : List LaneRange) (k : ℕ) (risen : List PieceSpot) : Type 0 where
   pub grew : Grew code old new [] risen
   pub done : (l b n : ℕ) → n ≤ length (rows_seen old l b).segments → Done new l b n
-  pub told : (x : Spot) → Among x (take k risen) → SourcesLive code (causes new) x.lane x.block x.index
+  pub told : (x : PieceSpot) → Among x (take k risen) → SourcesLive code (causes new) x.lane x.block x.index
 
 -- the first elements of a longer list
-take-among : (x : Spot) (xs ys : List Spot) (k : ℕ) (d : Spot) → k < length xs → Among x (take (suc k) (xs ++ ys)) → Among x (take k xs) ⊎ (x ≡ get_or xs k d)
+take-among : (x : PieceSpot) (xs ys : List PieceSpot) (k : ℕ) (d : PieceSpot) → k < length xs → Among x (take (suc k) (xs ++ ys)) → Among x (take k xs) ⊎ (x ≡ get_or xs k d)
 take-among x [] ys k d h a = absurd (omega arith)
 take-among x (z ∷ xs) ys zero d h a = go (among-cases x z [] a)
   where
@@ -51,12 +51,12 @@ take-among x (z ∷ xs) ys (suc k) d h a = go (among-cases x z (take (suc k) (xs
     go (inl e) f = inl (subst (λ y. Among x (y ∷ take k xs)) e here)
     go (inr b) f = more (f b)
 
-get-among : (xs : List Spot) (k : ℕ) (d : Spot) → k < length xs → Among (get_or xs k d) xs
+get-among : (xs : List PieceSpot) (k : ℕ) (d : PieceSpot) → k < length xs → Among (get_or xs k d) xs
 get-among [] k d h = absurd (omega arith)
 get-among (x ∷ xs) zero d h = here
 get-among (x ∷ xs) (suc k) d h = there (get-among xs k d (omega arith))
 
-pub grown-more : (code : Code) (slots : Numbers) (flow : List Ways) (old mid new : List Row) (k : ℕ) (x : Spot) (risen to : List Spot) → IsTableOf code slots flow old → SomeGrown code old mid k risen → k < length risen → x ≡ get_or risen k x → RaisesSources slots flow mid new x risen to → SomeGrown code old new (k + 1) to
+pub grown-more : (code : Code) (slots : Numbers) (flow : List BlockFlow) (old mid new : List LaneRange) (k : ℕ) (x : PieceSpot) (risen to : List PieceSpot) → IsTableOf code slots flow old → SomeGrown code old mid k risen → k < length risen → x ≡ get_or risen k x → RaisesSources slots flow mid new x risen to → SomeGrown code old new (k + 1) to
 grown-more code slots flow old mid new k x risen to t so h is r = record {
   grew = grew-trans code old mid new [] risen to so.grew step.0;
   done = λ l b n w. done-kept code mid new risen to l b n step.0 (so.done l b n w);
@@ -69,32 +69,32 @@ grown-more code slots flow old mid new k x risen to t so h is r = record {
     step : Grew code mid new risen to × SourcesLive code (causes new) x.lane x.block x.index
     step = r code (table-kept code slots flow old mid [] risen t so.grew) live
 
-    go : (y : Spot) → Among y (take k risen) ⊎ (y ≡ get_or risen k x) → SourcesLive code (causes new) y.lane y.block y.index
+    go : (y : PieceSpot) → Among y (take k risen) ⊎ (y ≡ get_or risen k x) → SourcesLive code (causes new) y.lane y.block y.index
     go y (inl a) = sources-kept code mid new risen to y.lane y.block y.index step.0 (so.told y a)
     go y (inr e) = subst (λ z. SourcesLive code (causes new) z.lane z.block z.index) (is ∙ sym e) step.1
 
-take-all : (xs : List Spot) (k : ℕ) → length xs ≤ k → take k xs ≡ xs
+take-all : (xs : List PieceSpot) (k : ℕ) → length xs ≤ k → take k xs ≡ xs
 take-all [] zero h = refl
 take-all [] (suc k) h = refl
 take-all (x ∷ xs) zero h = absurd (omega arith)
 take-all (x ∷ xs) (suc k) h = ap (λ t. x ∷ t) (take-all xs k (omega arith))
 
 -- the readings of a piece, by its number
-abbrev pub piece-readings : ℕ → List Step → ℕ → List Reading
+abbrev pub piece-readings : ℕ → List Step → ℕ → List LaneUse
 piece-readings l steps zero = readings_until l steps
 piece-readings l steps (suc k) = start_readings (slice_get (starts l steps) k)
 
-pub readings-there : (l : ℕ) (r : Reading) (before : List Step) (s : Step) (rest : List Step) → Among r (reading_of s.id (use_of l s)) → Among r (piece-readings l (before ++ s ∷ rest) (writes_in l before))
+pub readings-there : (l : ℕ) (r : LaneUse) (before : List Step) (s : Step) (rest : List Step) → Among r (reading_of s.id (use_of l s)) → Among r (piece-readings l (before ++ s ∷ rest) (writes_in l before))
 readings-there l r [] s rest a = among-left r (reading_of s.id (use_of l s)) (cond (is_present (writing_of l s.writes)) [] (readings_until l rest)) a
 readings-there l r (x ∷ before) s rest a = go (writing_of l x.writes) refl (writes_in l before) refl (readings-there l r before s rest a)
   where
-    go : (o : Option Writing) → writing_of l x.writes ≡ o → (n : ℕ) → writes_in l before ≡ n → Among r (piece-readings l (before ++ s ∷ rest) (writes_in l before)) → Among r (piece-readings l (x ∷ (before ++ s ∷ rest)) (cond (is_present (writing_of l x.writes)) (suc (writes_in l before)) (writes_in l before)))
+    go : (o : Option LaneDef) → writing_of l x.writes ≡ o → (n : ℕ) → writes_in l before ≡ n → Among r (piece-readings l (before ++ s ∷ rest) (writes_in l before)) → Among r (piece-readings l (x ∷ (before ++ s ∷ rest)) (cond (is_present (writing_of l x.writes)) (suc (writes_in l before)) (writes_in l before)))
     go None e zero f ih = subst (λ o. Among r (piece-readings l (x ∷ (before ++ s ∷ rest)) (cond (is_present o) (suc (writes_in l before)) (writes_in l before)))) (sym e) (subst (λ n. Among r (piece-readings l (x ∷ (before ++ s ∷ rest)) n)) (sym f) (among-right r (reading_of x.id (use_of l x)) (cond (is_present (writing_of l x.writes)) [] (readings_until l (before ++ s ∷ rest))) (subst (λ o. Among r (cond (is_present o) [] (readings_until l (before ++ s ∷ rest)))) (sym e) (subst (λ n. Among r (piece-readings l (before ++ s ∷ rest) n)) f ih))))
     go None e (suc k) f ih = subst (λ o. Among r (piece-readings l (x ∷ (before ++ s ∷ rest)) (cond (is_present o) (suc (writes_in l before)) (writes_in l before)))) (sym e) (subst (λ n. Among r (piece-readings l (x ∷ (before ++ s ∷ rest)) n)) (sym f) (subst (λ o. Among r (start_readings (slice_get {X = Start} (elim o [ None ↦ starts l (before ++ s ∷ rest) | Some w ↦ record { start = x.id; early = w.early; from = w.from; readings = readings_until l (before ++ s ∷ rest) } ∷ starts l (before ++ s ∷ rest) ]) k))) (sym e) (subst (λ n. Among r (piece-readings l (before ++ s ∷ rest) n)) f ih)))
     go (Some w) e zero f ih = subst (λ o. Among r (piece-readings l (x ∷ (before ++ s ∷ rest)) (cond (is_present o) (suc (writes_in l before)) (writes_in l before)))) (sym e) (subst (λ n. Among r (piece-readings l (x ∷ (before ++ s ∷ rest)) (suc n))) (sym f) (subst (λ o. Among r (start_readings (slice_get {X = Start} (elim o [ None ↦ starts l (before ++ s ∷ rest) | Some v ↦ record { start = x.id; early = v.early; from = v.from; readings = readings_until l (before ++ s ∷ rest) } ∷ starts l (before ++ s ∷ rest) ]) 0))) (sym e) (subst (λ n. Among r (piece-readings l (before ++ s ∷ rest) n)) f ih)))
     go (Some w) e (suc k) f ih = subst (λ o. Among r (piece-readings l (x ∷ (before ++ s ∷ rest)) (cond (is_present o) (suc (writes_in l before)) (writes_in l before)))) (sym e) (subst (λ n. Among r (piece-readings l (x ∷ (before ++ s ∷ rest)) (suc n))) (sym f) (subst (λ o. Among r (start_readings (slice_get {X = Start} (elim o [ None ↦ starts l (before ++ s ∷ rest) | Some v ↦ record { start = x.id; early = v.early; from = v.from; readings = readings_until l (before ++ s ∷ rest) } ∷ starts l (before ++ s ∷ rest) ]) (suc k)))) (sym e) (subst (λ n. Among r (piece-readings l (before ++ s ∷ rest) n)) f ih)))
 
-among-onto : (r : Reading) (xs ys : List Reading) → Among r xs ⊎ Among r ys → Among r (reverse_aux xs ys)
+among-onto : (r : LaneUse) (xs ys : List LaneUse) → Among r xs ⊎ Among r ys → Among r (reverse_aux xs ys)
 among-onto r [] ys (inl a) = absurd (none-among r a)
 among-onto r [] ys (inr a) = a
 among-onto r (x ∷ xs) ys a = among-onto r xs (x ∷ ys) (go a)
@@ -107,7 +107,7 @@ among-onto r (x ∷ xs) ys a = among-onto r xs (x ∷ ys) (go a)
     go (inl b) = first (among-cases r x xs b)
     go (inr b) = inr (there b)
 
-find-there : (test : Reading → Bool) (r : Reading) (xs : List Reading) → Among r xs → test r ≡ true → is_live (cause_of (find test xs)) ≡ true
+find-there : (test : LaneUse → Bool) (r : LaneUse) (xs : List LaneUse) → Among r xs → test r ≡ true → is_live (cause_of (find test xs)) ≡ true
 find-there test r [] a e = absurd (none-among r a)
 find-there test r (x ∷ xs) a e = go (test x) refl (among-cases r x xs a) (λ b. find-there test r xs b e)
   where
@@ -154,7 +154,7 @@ module _ (code : Code) (l b : ℕ) where
 writes-within : (l : ℕ) (before rest steps : List Step) → steps ≡ before ++ rest → writes_in l before ≤ writes_in l steps
 writes-within l before rest steps e = let h = ap (writes_in l) e ∙ writes-append l before rest in omega arith
 
-pub grown-all : (code : Code) (slots : Numbers) (flow : List Ways) (old new : List Row) (k : ℕ) (risen : List Spot) → IsTableOf code slots flow old → ((l b n : ℕ) → is_live (causes old l b n) ≡ false) → length risen ≤ k → SomeGrown code old new k risen → ((l b : ℕ) → shape (rows_seen new l b) ≡ shape (rows_seen old l b)) × IsGrown code (causes new) × (length new ≡ length old)
+pub grown-all : (code : Code) (slots : Numbers) (flow : List BlockFlow) (old new : List LaneRange) (k : ℕ) (risen : List PieceSpot) → IsTableOf code slots flow old → ((l b n : ℕ) → is_live (causes old l b n) ≡ false) → length risen ≤ k → SomeGrown code old new k risen → ((l b : ℕ) → shape (rows_seen new l b) ≡ shape (rows_seen old l b)) × IsGrown code (causes new) × (length new ≡ length old)
 grown-all code slots flow old new k risen t dead h so = (so.grew.shapes, record { closed = closed; founded = so.grew.founded (λ l b n e. absurd (alive l b n e)) }, so.grew.lanes)
   where
     alive : (l b n : ℕ) → is_live (causes old l b n) ≡ true → ⊥

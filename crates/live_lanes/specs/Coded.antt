@@ -4,8 +4,8 @@ use Rattle.target_base.specs.declared.types.Target.{Target}
 use Rattle.mir_func.specs.declared.func.Block.{Block}
 use Rattle.mir_func.specs.declared.func.Instr.{Instr}
 use Rattle.mir_func.specs.Binding.{does, is_terminator}
-use Rattle.live_lanes.specs.declared.compute.flow.Ways.{Ways}
-use Rattle.live_lanes.specs.declared.row.Row.{Row}
+use Rattle.live_lanes.specs.declared.compute.flow.BlockFlow.{BlockFlow}
+use Rattle.live_lanes.specs.declared.row.LaneRange.{LaneRange}
 use Rattle.mir_meaning.specs.Paths.{Body, Code}
 use Rattle.live_lanes.specs.Table.{Numbers, unseen}
 use Rattle.live_lanes.specs.Entered.{rows_seen}
@@ -39,7 +39,7 @@ abbrev pub code_of : Doing → (ℕ → Option ℕ) → List Block → Code
 code_of doing place bs = bodies_from doing place bs 0 bs
 
 -- rows into which the instructions of these blocks are entered, with the order and the ways of the blocks
-pub record IsMade (t : Target) (doing : Doing) (place : ℕ → Option ℕ) (bs : List Block) (slots : Numbers) (flow : List Ways) (rows : List Row) : Type 0 where
+pub record IsMade (t : Target) (doing : Doing) (place : ℕ → Option ℕ) (bs : List Block) (slots : Numbers) (flow : List BlockFlow) (rows : List LaneRange) : Type 0 where
   pub named : (i : Instr) → (doing i).0.id ≡ i.id
   pub leaving : (i : Instr) → (doing i).0.leaves ≡ does is_terminator t i
   pub within : (n p : ℕ) → place n ≡ Some p → p < length bs

@@ -1,8 +1,8 @@
 -- Entering instructions into rows one after the other.
 use Rattle.std.specs.Prelude.{◌≡◌, ◌<◌, ℕ, suc, Bool, false, cond, ◌&&◌, nat_eq, List, [], ◌∷◌, Option, None, Some, length, map}
 use Rattle.std.specs.List.{list_any}
-use Rattle.mir_meaning.specs.declared.writing.Writing.{Writing}
-use Rattle.live_lanes.specs.declared.row.Row.{Row}
+use Rattle.mir_meaning.specs.declared.writing.LaneDef.{LaneDef}
+use Rattle.live_lanes.specs.declared.row.LaneRange.{LaneRange}
 use Rattle.mir_meaning.specs.Paths.{Step, has}
 use Rattle.live_lanes.specs.Table.{Seen, with_reading, with_segment, read_at_end}
 use Rattle.live_lanes.specs.Entered.{reading, rows_seen}
@@ -25,11 +25,11 @@ abbrev pub source_entered : ℕ → ℕ → ℕ → ℕ → ℕ → Option ℕ �
 source_entered block id l b to None v = v
 source_entered block id l b to (Some lane) v = at_spot lane block (with_reading (reading id (Some to))) l b v
 
-abbrev pub move_entered : ℕ → ℕ → ℕ → ℕ → Writing → Seen → Seen
+abbrev pub move_entered : ℕ → ℕ → ℕ → ℕ → LaneDef → Seen → Seen
 move_entered block id l b w v = source_entered block id l b w.lane w.from v
 
 -- a lane that is written
-abbrev pub write_entered : ℕ → ℕ → ℕ → ℕ → Writing → Seen → Seen
+abbrev pub write_entered : ℕ → ℕ → ℕ → ℕ → LaneDef → Seen → Seen
 write_entered block id l b w v = at_spot w.lane block (with_segment id w.early w.from) l b v
 
 -- a lane that a phi reads at the end of a block
@@ -43,10 +43,10 @@ Entering = ℕ → ℕ → Seen → Seen
 abbrev pub reads_entered : ℕ → ℕ → List ℕ → Entering
 reads_entered block id lanes l b v = enter_all (read_entered block id l b) lanes v
 
-abbrev pub moves_entered : ℕ → ℕ → List Writing → Entering
+abbrev pub moves_entered : ℕ → ℕ → List LaneDef → Entering
 moves_entered block id ws l b v = enter_all (move_entered block id l b) ws v
 
-abbrev pub writes_entered : ℕ → ℕ → List Writing → Entering
+abbrev pub writes_entered : ℕ → ℕ → List LaneDef → Entering
 writes_entered block id ws l b v = enter_all (write_entered block id l b) ws v
 
 abbrev pub lasts_entered : ℕ → List ℕ → Entering
@@ -60,7 +60,7 @@ abbrev pub ends_entered : (ℕ → Option ℕ) → List (ℕ × List ℕ) → En
 ends_entered place rs l b v = enter_all (end_entered place l b) rs v
 
 -- rows of as many lanes, after that
-pub record Enters (old new : List Row) (entering : Entering) : Type 0 where
+pub record Enters (old new : List LaneRange) (entering : Entering) : Type 0 where
   pub seen : (l b : ℕ) → l < length old → rows_seen new l b ≡ entering l b (rows_seen old l b)
   pub lanes : length new ≡ length old
 

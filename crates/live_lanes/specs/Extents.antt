@@ -2,9 +2,9 @@
 use Rattle.std.specs.Prelude.{ℕ, zero, suc, ◌+◌, ◌-◌, Bool, false, cond, List, Option, None, Some, max, nat_le, slice_get, option_map}
 use Rattle.std.specs.List.{list_any, filter_map}
 use Rattle.mir_meaning.specs.Registers.{numbers}
-use Rattle.instr_effects.specs.declared.row.Lanes.{Lanes}
-use Rattle.live_lanes.specs.declared.row.End.{End}
-use Rattle.live_lanes.specs.declared.row.Segment.{Segment}
+use Rattle.instr_effects.specs.declared.row.LaneSpan.{LaneSpan}
+use Rattle.live_lanes.specs.declared.row.PieceEnd.{PieceEnd}
+use Rattle.live_lanes.specs.declared.row.DefPiece.{DefPiece}
 use Rattle.live_lanes.specs.declared.row.Cell.{Cell}
 use Rattle.live_lanes.specs.declared.ask.extent.Extent.{Extent}
 use Rattle.live_lanes.specs.declared.ask.extent.Stretch.{Stretch}
@@ -15,16 +15,16 @@ use Rattle.live_lanes.specs.Reach.{is_never}
 use Rattle.live_lanes.specs.Held.{held_at, hold_rank}
 
 -- how many lanes a range has
-abbrev pub lanes_count : Option Lanes → ℕ
+abbrev pub lanes_count : Option LaneSpan → ℕ
 lanes_count None = 0
 lanes_count (Some own) = own.count
 
 -- the points of the piece that begins with the block, if it has any
-abbrev pub block_extent : End → Option Extent
+abbrev pub block_extent : PieceEnd → Option Extent
 block_extent e = cond (is_never e) None (Some (record { start = None; early = false; end = e }))
 
 -- those of a piece that begins with a writing
-abbrev pub segment_extent : Segment → Extent
+abbrev pub segment_extent : DefPiece → Extent
 segment_extent s = record { start = Some s.start; early = s.early; end = s.piece.end }
 
 -- those of a piece of a cell, by its number

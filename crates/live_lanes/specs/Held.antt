@@ -2,9 +2,9 @@
 use Rattle.std.specs.Prelude.{◌≡◌, ◌<◌, ◌≤◌, ℕ, zero, suc, ◌+◌, Bool, false, cond, ◌&&◌, ◌||◌, nat_eq, List, [], ◌∷◌, Option, None, Some, slice_get, length, max}
 use Rattle.std.specs.List.{list_any}
 use Rattle.mir_func.specs.declared.func.Block.{Block}
-use Rattle.instr_effects.specs.declared.row.Lanes.{Lanes}
-use Rattle.live_lanes.specs.declared.ask.points.Span.{Span}
-use Rattle.live_lanes.specs.declared.row.Row.{Row}
+use Rattle.instr_effects.specs.declared.row.LaneSpan.{LaneSpan}
+use Rattle.live_lanes.specs.declared.ask.points.LiveSpan.{LiveSpan}
+use Rattle.live_lanes.specs.declared.row.LaneRange.{LaneRange}
 use Rattle.live_lanes.specs.declared.table.Table.{Table}
 use Rattle.live_lanes.specs.Table.{Numbers, Begun, Seen, unseen, entry_rank, exit_rank}
 use Rattle.live_lanes.specs.Entered.{rows_seen}
@@ -41,12 +41,12 @@ begins_at slots at ss zero = false
 begins_at slots at ss (suc k) = exits_at slots at (slice_get ss k)
 
 -- one of so many lanes, whose numbers stand in a row, is
-abbrev pub any_held : Numbers → List Row → ℕ → ℕ → ℕ → ℕ → Bool
+abbrev pub any_held : Numbers → List LaneRange → ℕ → ℕ → ℕ → ℕ → Bool
 any_held slots rows first zero b at = false
 any_held slots rows first (suc n) b at = held_at slots (rows_seen rows (first + n) b) at || any_held slots rows first n b at
 
 -- the test answers the same from a point on up to before the span's end, which is behind it
-pub record IsSpan (test : ℕ → Bool) (at : ℕ) (span : Span) : Type 0 where
+pub record IsSpan (test : ℕ → Bool) (at : ℕ) (span : LiveSpan) : Type 0 where
   pub further : at < span.end
   pub same : (x : ℕ) → at ≤ x → x < span.end → test x ≡ span.is_held
 
@@ -72,7 +72,7 @@ sum_below f zero = 0
 sum_below f (suc n) = f n + sum_below f n
 
 -- those of all blocks
-abbrev pub lanes_held : Table → List Block → Option Lanes → ℕ
+abbrev pub lanes_held : Table → List Block → Option LaneSpan → ℕ
 lanes_held x bs None = 0
 lanes_held x bs (Some own) = sum_below (block_held x bs own.first own.count) (length bs)
 
@@ -96,5 +96,5 @@ later_place (Some a) None = Some a
 later_place (Some a) (Some b) = Some (max a b)
 
 -- nothing is read, written or live in that block of so many lanes
-abbrev pub AreUnseen : List Row → ℕ → ℕ → ℕ → Type 0
+abbrev pub AreUnseen : List LaneRange → ℕ → ℕ → ℕ → Type 0
 AreUnseen rows first count b = (k : ℕ) → k < count → rows_seen rows (first + k) b ≡ unseen

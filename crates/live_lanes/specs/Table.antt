@@ -3,11 +3,11 @@ use Rattle.std.specs.Prelude.{◌≡◌, ◌≢◌, ℕ, zero, suc, ◌+◌, ◌
 use Rattle.slot_index.specs.Order.{number_of}
 use Rattle.live_lanes.specs.declared.row.Cause.{Cause}
 use Rattle.live_lanes.specs.declared.row.Cause.TheVariants as causes
-use Rattle.live_lanes.specs.declared.row.End.{End}
-use Rattle.live_lanes.specs.declared.row.End.TheVariants as ends
-use Rattle.live_lanes.specs.declared.row.Reading.{Reading}
+use Rattle.live_lanes.specs.declared.row.PieceEnd.{PieceEnd}
+use Rattle.live_lanes.specs.declared.row.PieceEnd.TheVariants as ends
+use Rattle.live_lanes.specs.declared.row.LaneUse.{LaneUse}
 use Rattle.live_lanes.specs.declared.row.Piece.{Piece}
-use Rattle.live_lanes.specs.declared.row.Segment.{Segment}
+use Rattle.live_lanes.specs.declared.row.DefPiece.{DefPiece}
 use Rattle.live_lanes.specs.declared.row.Cell.{Cell}
 use Rattle.live_lanes.specs.Graph.{is_live}
 
@@ -26,7 +26,7 @@ entry_rank slots id = number_of slots id * 2
 abbrev pub exit_rank : Numbers → ℕ → ℕ
 exit_rank slots id = number_of slots id * 2 + 1
 
-abbrev pub end_rank : Numbers → End → ℕ
+abbrev pub end_rank : Numbers → PieceEnd → ℕ
 end_rank slots ends.Never = 0
 end_rank slots (ends.Entry id) = entry_rank slots id
 end_rank slots (ends.Exit id) = exit_rank slots id
@@ -55,21 +55,21 @@ pub record Begun : Type 0 where
   pub early : Bool
   pub from : Option ℕ
   pub cause : Cause
-  pub end : End
-  pub readings : List Reading
+  pub end : PieceEnd
+  pub readings : List LaneUse
 
 -- what a lane's cell in a block tells; where there is none, nothing is read, written or live
 pub record Seen : Type 0 where
   pub is_read_last : Bool
   pub cause : Cause
-  pub end : End
-  pub readings : List Reading
+  pub end : PieceEnd
+  pub readings : List LaneUse
   pub segments : List Begun
 
 abbrev pub unseen : Seen
 unseen = record { is_read_last = false; cause = causes.None; end = ends.Never; readings = []; segments = [] }
 
-abbrev pub begun : Segment → Begun
+abbrev pub begun : DefPiece → Begun
 begun s = record { start = s.start; early = s.early; from = s.from; cause = s.piece.cause; end = s.piece.end; readings = s.piece.readings.items }
 
 abbrev pub seen_cell : Cell → Seen
@@ -92,28 +92,28 @@ abbrev pub cause_in : Seen → ℕ → Cause
 cause_in v zero = v.cause
 cause_in v (suc k) = begun_cause (slice_get v.segments k)
 
-abbrev pub begun_end : Option Begun → End
+abbrev pub begun_end : Option Begun → PieceEnd
 begun_end None = ends.Never
 begun_end (Some s) = s.end
 
 -- up to where a piece is live
-abbrev pub end_in : Seen → ℕ → End
+abbrev pub end_in : Seen → ℕ → PieceEnd
 end_in v zero = v.end
 end_in v (suc k) = begun_end (slice_get v.segments k)
 
-abbrev pub begun_readings : Option Begun → List Reading
+abbrev pub begun_readings : Option Begun → List LaneUse
 begun_readings None = []
 begun_readings (Some s) = s.readings
 
 -- the readings of a piece
-abbrev pub readings_in : Seen → ℕ → List Reading
+abbrev pub readings_in : Seen → ℕ → List LaneUse
 readings_in v zero = v.readings
 readings_in v (suc k) = begun_readings (slice_get v.segments k)
 
 abbrev pub begun_with_cause : Cause → Begun → Begun
 begun_with_cause c s = record s { cause = c }
 
-abbrev pub begun_with_end : End → Begun → Begun
+abbrev pub begun_with_end : PieceEnd → Begun → Begun
 begun_with_end e s = record s { end = e }
 
 -- the list with its element at a place changed
@@ -128,7 +128,7 @@ with_cause v zero c = record v { cause = c }
 with_cause v (suc k) c = record v { segments = changed_at k (begun_with_cause c) v.segments }
 
 -- a piece has another end
-abbrev pub with_end : Seen → ℕ → End → Seen
+abbrev pub with_end : Seen → ℕ → PieceEnd → Seen
 with_end v zero e = record v { end = e }
 with_end v (suc k) e = record v { segments = changed_at k (begun_with_end e) v.segments }
 
@@ -151,14 +151,14 @@ piece_in c zero = Some c.first
 piece_in c (suc k) = option_map (λ s. s.piece) (slice_get c.segments.items k)
 
 -- the lane is read in any case
-abbrev pub is_certain : Reading → Bool
+abbrev pub is_certain : LaneUse → Bool
 is_certain r = is_no_lane r.into
   where
     is_no_lane : Option ℕ → Bool
     is_no_lane None = true
     is_no_lane (Some a) = false
 
-abbrev pub cause_of : Option Reading → Cause
+abbrev pub cause_of : Option LaneUse → Cause
 cause_of None = causes.None
 cause_of (Some r) = causes.Reading r.id
 
@@ -172,11 +172,11 @@ last_passes test [] = false
 last_passes test (x ∷ []) = test x
 last_passes test (x ∷ y ∷ xs) = last_passes test (y ∷ xs)
 
-abbrev pub ends_with : ℕ → List Reading → Bool
+abbrev pub ends_with : ℕ → List LaneUse → Bool
 ends_with id rs = last_passes (λ r. nat_eq r.id id) rs
 
 -- an instruction's first reading of a lane counts
-abbrev pub with_last : Reading → List Reading → List Reading
+abbrev pub with_last : LaneUse → List LaneUse → List LaneUse
 with_last r rs = cond (ends_with r.id rs) rs (rs ++ r ∷ [])
 
 -- the last element changed
@@ -190,7 +190,7 @@ is_none [] = true
 is_none (x ∷ xs) = false
 
 -- a reading added to the last piece
-abbrev pub with_reading : Reading → Seen → Seen
+abbrev pub with_reading : LaneUse → Seen → Seen
 with_reading r v = cond (is_none v.segments) (record v { readings = with_last r v.readings }) (record v { segments = changed_last (λ s. record s { readings = with_last r s.readings }) v.segments })
 
 abbrev pub starts_last : ℕ → List Begun → Bool
@@ -220,7 +220,7 @@ pub record IsRaised (slots : Numbers) (old new : List Cell) (block at : ℕ) (ca
   pub seen : let n = piece_at slots at (seen_in old block).segments in (b : ℕ) → seen_in new b ≡ cond (nat_eq block b) (raised_seen (is_live (cause_in (seen_in old block) n)) (seen_in old block) n cause) (seen_in old b)
 
 -- a lane in block b, where a piece of a cell gets an end
-abbrev pub with_end_at : Option Cell → ℕ → End → Seen → ℕ → Seen
+abbrev pub with_end_at : Option Cell → ℕ → PieceEnd → Seen → ℕ → Seen
 with_end_at None index end v b = v
 with_end_at (Some c) index end v b = cond (nat_eq c.block b) (with_end v index end) v
 

@@ -6,13 +6,13 @@ use Rattle.std.specs.List.Sorted.{IsStrictlySortedBy}
 use Rattle.slot_index.specs.Order.{number_of}
 use Rattle.mir_func.specs.declared.func.Block.{Block}
 use Rattle.mir_func.specs.declared.func.Instr.{Instr}
-use Rattle.instr_effects.specs.declared.row.Lanes.{Lanes}
-use Rattle.live_lanes.specs.declared.row.Reading.{Reading}
-use Rattle.live_lanes.specs.declared.row.Segment.{Segment}
+use Rattle.instr_effects.specs.declared.row.LaneSpan.{LaneSpan}
+use Rattle.live_lanes.specs.declared.row.LaneUse.{LaneUse}
+use Rattle.live_lanes.specs.declared.row.DefPiece.{DefPiece}
 use Rattle.live_lanes.specs.declared.row.Cell.{Cell}
-use Rattle.live_lanes.specs.declared.row.Row.{Row}
+use Rattle.live_lanes.specs.declared.row.LaneRange.{LaneRange}
 use Rattle.live_lanes.specs.declared.table.Table.{Table}
-use Rattle.live_lanes.specs.declared.ask.touch.Found.{Found}
+use Rattle.live_lanes.specs.declared.ask.touch.TouchList.{TouchList}
 use Rattle.live_lanes.specs.Table.{Begun, Numbers, Seen, entry_rank, piece_at, readings_in}
 use Rattle.live_lanes.specs.Entered.{causes, cells_of, rows_seen}
 use Rattle.live_lanes.specs.Graph.{is_live}
@@ -23,11 +23,11 @@ use Rattle.live_lanes.specs.Ordered.{AreHomes, AreRising}
 use Rattle.mir_meaning.specs.Paths.{has}
 
 -- the instruction is one of those that read the lane in a piece
-abbrev pub reads_in : ℕ → List Reading → Bool
+abbrev pub reads_in : ℕ → List LaneUse → Bool
 reads_in id rs = list_any (λ r. nat_eq r.id id) rs
 
 -- the instruction begins the piece, or reads the lane in it
-abbrev pub names_segment : ℕ → Segment → Bool
+abbrev pub names_segment : ℕ → DefPiece → Bool
 names_segment id s = nat_eq s.start id || reads_in id s.piece.readings.items
 
 -- the instruction reads or writes the lane in the cell's block
@@ -35,7 +35,7 @@ abbrev pub names_cell : ℕ → Cell → Bool
 names_cell id c = reads_in id c.first.readings.items || list_any (names_segment id) c.segments.items
 
 -- the instruction reads or writes the lane
-abbrev pub names_lane : ℕ → List Row → ℕ → Bool
+abbrev pub names_lane : ℕ → List LaneRange → ℕ → Bool
 names_lane id rows l = list_any (names_cell id) (cells_of rows l)
 
 -- one of so many lanes, whose numbers stand in a row, passes the test
@@ -43,7 +43,7 @@ abbrev pub some_below : (ℕ → Bool) → ℕ → ℕ → Bool
 some_below test first zero = false
 some_below test first (suc n) = test (first + n) || some_below test first n
 
-abbrev pub some_of : (ℕ → Bool) → Option Lanes → Bool
+abbrev pub some_of : (ℕ → Bool) → Option LaneSpan → Bool
 some_of test None = false
 some_of test (Some own) = some_below test own.first own.count
 
@@ -60,7 +60,7 @@ abbrev pub is_touched : Cell → Bool
 is_touched c = nat_lt 0 (length c.first.readings.items) || nat_lt 0 (length c.segments.items)
 
 -- some instruction reads or writes the lane
-abbrev pub touches_lane : List Row → ℕ → Bool
+abbrev pub touches_lane : List LaneRange → ℕ → Bool
 touches_lane rows l = list_any is_touched (cells_of rows l)
 
 -- the piece of these that the instruction begins
@@ -77,14 +77,14 @@ abbrev pub is_early : Option Begun → Bool
 is_early None = false
 is_early (Some s) = s.early
 
-abbrev pub reading_ids : List Reading → List ℕ
+abbrev pub reading_ids : List LaneUse → List ℕ
 reading_ids rs = map (λ r. r.id) rs
 
 -- the numbers of the instructions rise along the readings of each piece
 abbrev pub ReadsInOrder : Table → Type 0
 ReadsInOrder x = (l b n : ℕ) → AreRising x.order.slots 0 (reading_ids (readings_in (rows_seen x.rows.rows.items l b) n))
 
-abbrev pub is_counted : Table → ℕ → Option Reading → Bool
+abbrev pub is_counted : Table → ℕ → Option LaneUse → Bool
 is_counted x b None = false
 is_counted x b (Some r) = reading_counts x.order.slots (causes x.rows.rows.items) (shapes x.rows.rows.items) b r
 
@@ -116,11 +116,11 @@ pub record AreTouched (x : Table) (v : ℕ) (ids : List ℕ) : Type 0 where
   pub named : (id : ℕ) → has id ids ≡ names_range x v id
 
 -- none stands behind another that it should stand before, unless the mark warns of that
-abbrev pub InLine : Numbers → Found → Type 0
+abbrev pub InLine : Numbers → TouchList → Type 0
 InLine slots f = f.is_mixed ≡ false → IsStrictlySortedBy nat_cmp (map (layout_key slots) f.ids.items)
 
 -- the instructions that pass the test are found besides the old ones
-pub record Meets (slots : Numbers) (old new : Found) (test : ℕ → Bool) : Type 0 where
+pub record Meets (slots : Numbers) (old new : TouchList) (test : ℕ → Bool) : Type 0 where
   pub named : (id : ℕ) → has id new.ids.items ≡ (has id old.ids.items || test id)
   pub line : InLine slots old → InLine slots new
 

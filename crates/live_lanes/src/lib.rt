@@ -11,7 +11,7 @@ mod order;
 mod row;
 mod table;
 
-pub use ask::extent::{Extent, Mended, Stretch};
+pub use ask::extent::{ChangedPiece, Extent, Stretch};
 pub use ask::labels::{Labels, Mark, Spot};
 pub use edit::edits::{Changes, Edit};
 pub use live::{LiveFunc, LiveTable};

@@ -9,7 +9,7 @@ ghost use Rattle.live_lanes.specs.Marks.{marked_at};
 ghost use Rattle.live_lanes.specs.Doing.{IsComputed};
 ghost use Rattle.live_lanes.specs.Looks.{InOrder, entry_at, exit_at};
 
-use crate::compute::enter::entered;
+use crate::compute::enter::enter_pieces;
 use crate::compute::flow::flow_of;
 use crate::edit::lanes::Owner;
 use crate::order::Order;
@@ -42,7 +42,7 @@ impl Table {
         let lanes = lanes_of(alloc, target, func)?;
         let order = Order::of(alloc, func)?;
         let flow = flow_of(alloc, target, &order, func)?;
-        let mut rows = entered(alloc, target, &lanes, &order, func)?;
+        let mut rows = enter_pieces(alloc, target, &lanes, &order, func)?;
         rows.grow(&order, flow.as_slice())?;
         rows.end_all(&order, flow.as_slice());
         Ok(Table {

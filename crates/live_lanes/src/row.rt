@@ -15,7 +15,7 @@ use std::alloc::{AllocError, Global};
 
 /// Up to where a lane is live in a piece.
 #[derive(Clone, Copy, PartialEq, Eq)]
-pub(crate) enum End {
+pub(crate) enum PieceEnd {
     /// Nowhere.
     Never,
     /// The entry of an instruction, which reads it.
@@ -50,7 +50,7 @@ impl Cause {
 
 /// An instruction that reads the lane, or that moves it into another one.
 #[derive(Clone, Copy, PartialEq, Eq)]
-pub(crate) struct Reading {
+pub(crate) struct LaneUse {
     /// The instruction.
     pub id: u32,
     /// The lane into which it is moved; none where it is read in any case.
@@ -61,13 +61,13 @@ pub(crate) struct Reading {
 #[derive(Drop)]
 pub(crate) struct Piece {
     pub cause: Cause,
-    pub end: End,
-    pub readings: Vec<Reading>,
+    pub end: PieceEnd,
+    pub readings: Vec<LaneUse>,
 }
 
 /// An instruction that writes the lane, and the piece that begins with this.
 #[derive(Drop)]
-pub(crate) struct Segment {
+pub(crate) struct DefPiece {
     /// The instruction.
     pub start: u32,
     /// Whether the lane is occupied at the instruction's entry too.
@@ -87,13 +87,13 @@ pub(crate) struct Cell {
     /// The piece that begins with the block.
     pub first: Piece,
     /// The other pieces, in order.
-    pub segments: Vec<Segment>,
+    pub segments: Vec<DefPiece>,
 }
 
 /// A lane's cells, from the last block to the first: as lanes are found live from their readings
 /// backwards, new cells mostly come at the end.
 #[derive(Drop)]
-pub(crate) struct Row {
+pub(crate) struct LaneRange {
     pub cells: Vec<Cell>,
     ghost sorted: { IsTrue (descends cells.items) },
 }
@@ -113,26 +113,26 @@ pub(crate) fn exit_rank(slots: &Slots, id: u32) -> u128
 }
 
 /// A number of an end, which rises along the block.
-pub(crate) fn rank(slots: &Slots, end: End) -> u128
+pub(crate) fn rank(slots: &Slots, end: PieceEnd) -> u128
     ensures { result ≡ end_rank slots.now end }
 {
     match end {
-        End::Never => 0,
-        End::Entry(id) => entry_rank(slots, id),
-        End::Exit(id) => exit_rank(slots, id),
-        End::Last => u128::MAX,
+        PieceEnd::Never => 0,
+        PieceEnd::Entry(id) => entry_rank(slots, id),
+        PieceEnd::Exit(id) => exit_rank(slots, id),
+        PieceEnd::Last => u128::MAX,
     }
 }
 
 /// Whether an end is none.
-pub(crate) fn is_never(end: End) -> bool
+pub(crate) fn is_never(end: PieceEnd) -> bool
     ensures { result ≡ is_never end }
 {
-    matches!(end, End::Never)
+    matches!(end, PieceEnd::Never)
 }
 
 /// Whether a piece with this end isn't over before the point of this rank.
-pub(crate) fn reaches(slots: &Slots, end: End, at: u128) -> bool
+pub(crate) fn reaches(slots: &Slots, end: PieceEnd, at: u128) -> bool
     ensures { result ≡ reaches slots.now end at }
 {
     !is_never(end) && at <= rank(slots, end)
@@ -166,12 +166,12 @@ pub(crate) fn insert_one<T: Drop>(
     Ok(())
 }
 
-impl Row {
+impl LaneRange {
     /// No cells, which takes no memory.
-    pub fn new(alloc: Global) -> Row
+    pub fn new(alloc: Global) -> LaneRange
         ensures { result.cells.items ≡ [] }
     {
-        Row {
+        LaneRange {
             cells: Vec::new(alloc),
         }
     }
@@ -269,7 +269,7 @@ impl Row {
     }
 }
 
-impl Row {
+impl LaneRange {
     /// Puts in a cell of a block that has none.
     pub fn put(&mut self, cell: Cell) -> Result<(), AllocError> {
         let block = cell.block;
@@ -319,7 +319,7 @@ impl Row {
     }
 }
 
-impl Row {
+impl LaneRange {
     /// Notes that a phi reads the lane at the end of a block.
     pub fn read_last(&mut self, alloc: Global, block: u32) -> Result<(), AllocError>
         ensures { OnOk result ((b : ℕ) → seen_in self.new.cells.items b
@@ -335,7 +335,7 @@ impl Row {
         &mut self,
         alloc: Global,
         block: u32,
-        reading: Reading,
+        reading: LaneUse,
     ) -> Result<(), AllocError>
         ensures { OnOk result ((b : ℕ) → seen_in self.new.cells.items b
             ≡ cond (nat_eq block b) (with_reading reading (seen_in self.old.cells.items block)) (seen_in self.old.cells.items b)) }
@@ -406,7 +406,7 @@ impl Row {
     }
 
     /// Gives a piece of the cell at a place an end.
-    pub fn set_end(&mut self, place: usize, index: usize, end: End)
+    pub fn set_end(&mut self, place: usize, index: usize, end: PieceEnd)
         ensures blocks { blocks_of self.new.cells.items ≡ blocks_of self.old.cells.items }
         ensures set { (b : ℕ) → seen_in self.new.cells.items b
             ≡ with_end_at (slice_get self.old.cells.items place) index end (seen_in self.old.cells.items b) b }
@@ -418,7 +418,7 @@ impl Row {
 }
 
 /// Whether the last of these readings is that of an instruction.
-fn ends_with(readings: &[Reading], id: u32) -> bool
+fn ends_with(readings: &[LaneUse], id: u32) -> bool
     ensures { result ≡ ends_with id readings.now }
 {
     match readings.last() {
@@ -428,7 +428,7 @@ fn ends_with(readings: &[Reading], id: u32) -> bool
 }
 
 /// Whether the last of these segments begins with an instruction.
-fn starts_last(segments: &[Segment], id: u32) -> bool
+fn starts_last(segments: &[DefPiece], id: u32) -> bool
     ensures { result ≡ starts_last id (map begun segments.now) }
 {
     match segments.last() {
@@ -441,12 +441,12 @@ impl Piece {
     /// A piece without readings, which isn't live.
     fn new(alloc: Global) -> Piece
         ensures cause { result.cause ≡ Cause.None }
-        ensures end { result.end ≡ End.Never }
+        ensures end { result.end ≡ PieceEnd.Never }
         ensures readings { result.readings.items ≡ [] }
     {
         Piece {
             cause: Cause::None,
-            end: End::Never,
+            end: PieceEnd::Never,
             readings: Vec::new(alloc),
         }
     }
@@ -459,7 +459,7 @@ impl Piece {
     }
 
     /// Adds a reading behind the others. An instruction's first reading of the lane counts.
-    fn add_reading(&mut self, reading: Reading) -> Result<(), AllocError>
+    fn add_reading(&mut self, reading: LaneUse) -> Result<(), AllocError>
         ensures cause { self.new.cause ≡ self.old.cause }
         ensures end { self.new.end ≡ self.old.end }
         ensures added { OnOk result (self.new.readings.items ≡ with_last reading self.old.readings.items) }
@@ -473,7 +473,7 @@ impl Piece {
     }
 
     /// Its last reading that needs no other lane.
-    fn certain_reading(&self) -> Option<&Reading>
+    fn certain_reading(&self) -> Option<&LaneUse>
         ensures { option_copied result ≡ find is_certain (reverse self.now.readings.items) }
     {
         self.readings.iter().rev().find(|r| r.into.is_none())
@@ -490,9 +490,9 @@ impl Piece {
     }
 }
 
-impl Segment {
+impl DefPiece {
     /// The instruction, and the lane that it moves here, if it moves one.
-    fn moved(&self) -> Option<(u32, u32)>
+    fn move_source(&self) -> Option<(u32, u32)>
         ensures { result ≡ begun_move (begun self.now) }
     {
         match self.from {
@@ -517,7 +517,7 @@ impl Cell {
     }
 
     /// Adds a reading to the last piece. An instruction's first reading of the lane counts.
-    pub fn add_reading(&mut self, reading: Reading) -> Result<(), AllocError>
+    pub fn add_reading(&mut self, reading: LaneUse) -> Result<(), AllocError>
         ensures block { self.new.block ≡ self.old.block }
         ensures added { OnOk result (seen_cell self.new ≡ with_reading reading (seen_cell self.old)) }
     {
@@ -544,7 +544,7 @@ impl Cell {
             return Ok(());
         }
         make_first_room(&mut self.segments)?;
-        self.segments.push(Segment {
+        self.segments.push(DefPiece {
             start,
             early,
             from,
@@ -578,7 +578,7 @@ impl Cell {
     }
 
     /// The instruction that begins a piece by a move, and the lane that it moves.
-    pub fn moved(&self, index: usize) -> Option<(u32, u32)>
+    pub fn move_source(&self, index: usize) -> Option<(u32, u32)>
         ensures { result ≡ moved_in (seen_cell self.now) index }
     {
         if index == 0 {
@@ -587,7 +587,7 @@ impl Cell {
         if index > self.segments.len() {
             return None;
         }
-        self.segments[index - 1].moved()
+        self.segments[index - 1].move_source()
     }
 
     /// Whether a piece is live.
@@ -613,7 +613,7 @@ impl Cell {
     }
 
     /// Gives a piece an end.
-    pub fn set_end(&mut self, index: usize, end: End)
+    pub fn set_end(&mut self, index: usize, end: PieceEnd)
         ensures block { self.new.block ≡ self.old.block }
         ensures changed { seen_cell self.new ≡ with_end (seen_cell self.old) index end }
     {
@@ -638,12 +638,12 @@ impl Cell {
     }
 
     /// Up to where a piece is live.
-    pub fn end_of(&self, index: usize) -> End
+    pub fn end_of(&self, index: usize) -> PieceEnd
         ensures { result ≡ end_in (seen_cell self.now) index }
     {
         match self.piece(index) {
             Some(piece) => piece.end,
-            None => End::Never,
+            None => PieceEnd::Never,
         }
     }
 

@@ -2,15 +2,15 @@
 
 ghost use Rattle.std.specs.Prelude.{◌≡◌, ◌<◌, option_copied, length, slice_get};
 
-use crate::compute::flow::Ways;
+use crate::compute::flow::BlockFlow;
 use crate::edit::lanes::LaneTable;
 use crate::order::Order;
-use crate::row::{Cell, Row, exit_rank};
+use crate::row::{Cell, LaneRange, exit_rank};
 use std::alloc::{AllocError, Global};
 
 /// Where a piece stands.
 #[derive(Clone, Copy, PartialEq, Eq)]
-pub(crate) struct Spot {
+pub(crate) struct PieceSpot {
     /// The lane.
     pub lane: u32,
     /// The block's position in the layout.
@@ -21,12 +21,12 @@ pub(crate) struct Spot {
 
 /// The pieces of the lanes of a function, by lane.
 #[derive(Drop)]
-pub(crate) struct Rows {
+pub(crate) struct LaneRanges {
     pub alloc: Global,
-    pub rows: Vec<Row>,
+    pub rows: Vec<LaneRange>,
 }
 
-impl Rows {
+impl LaneRanges {
     ghost use Rattle.std.specs.Prelude.{ℕ, IfOk};
     ghost use Rattle.live_lanes.specs.Graph.{is_live};
     ghost use Rattle.live_lanes.specs.Table.{seen, unseen, exit_rank};
@@ -34,15 +34,15 @@ impl Rows {
     ghost use Rattle.live_lanes.specs.Lasting.{AllRise, piece_of, shapes};
 
     /// So many lanes without pieces.
-    pub fn new(alloc: Global, count: usize) -> Result<Rows, AllocError>
+    pub fn new(alloc: Global, count: usize) -> Result<LaneRanges, AllocError>
         ensures lanes { IfOk result (λ x. length x.rows.items ≡ count) }
         ensures seen { IfOk result (λ x. (l b : ℕ) → rows_seen x.rows.items l b ≡ unseen) }
     {
         let mut rows = Vec::new(alloc);
         'lanes: for _ in 0..count {
-            rows.push(Row::new(alloc))?;
+            rows.push(LaneRange::new(alloc))?;
         }
-        Ok(Rows { alloc, rows })
+        Ok(LaneRanges { alloc, rows })
     }
 
     /// The number of lanes, if it fits 32 bits, and else the greatest number that does.
@@ -120,8 +120,8 @@ impl Rows {
 pub(crate) struct Table {
     pub lanes: LaneTable,
     pub order: Order,
-    pub flow: Vec<Ways>,
-    pub rows: Rows,
+    pub flow: Vec<BlockFlow>,
+    pub rows: LaneRanges,
 }
 
 impl Table {

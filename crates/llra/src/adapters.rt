@@ -11,7 +11,7 @@ const INPUT: &str = "-";
 
 /// The file that is read.
 #[derive(Drop)]
-enum Source {
+enum InputFile {
     /// None yet, or one that couldn't be opened.
     Closed,
     /// Standard input.
@@ -24,7 +24,7 @@ enum Source {
 #[derive(Drop)]
 pub struct HostFiles<'a> {
     rt: &'a HostRuntime,
-    source: Source,
+    source: InputFile,
     faults: u64,
 }
 
@@ -33,7 +33,7 @@ impl<'a> HostFiles<'a> {
     pub fn new(rt: &'a HostRuntime) -> HostFiles<'a> {
         HostFiles {
             rt,
-            source: Source::Closed,
+            source: InputFile::Closed,
             faults: 0,
         }
     }
@@ -50,16 +50,16 @@ impl<'a> Files for HostFiles<'a> {
 
     fn start(&mut self, name: &str) -> Result<(), Failed> {
         if name == INPUT {
-            self.source = Source::Input(self.rt.stdin());
+            self.source = InputFile::Input(self.rt.stdin());
             return Ok(());
         }
         match fs::open(self.rt, name) {
             Ok(file) => {
-                self.source = Source::Opened(file);
+                self.source = InputFile::Opened(file);
                 Ok(())
             }
             Err(_) => {
-                self.source = Source::Closed;
+                self.source = InputFile::Closed;
                 self.faults = self.faults.saturating_add(1);
                 Err(Failed)
             }
@@ -68,9 +68,9 @@ impl<'a> Files for HostFiles<'a> {
 
     fn read(&mut self, piece: &mut [u8]) -> Result<usize, Failed> {
         let count = match &mut self.source {
-            Source::Closed => None,
-            Source::Input(stdin) => read_some(stdin, piece),
-            Source::Opened(file) => read_some(file, piece),
+            InputFile::Closed => None,
+            InputFile::Input(stdin) => read_some(stdin, piece),
+            InputFile::Opened(file) => read_some(file, piece),
         };
         match count {
             Some(n) => Ok(n),

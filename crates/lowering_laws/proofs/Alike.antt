@@ -15,7 +15,7 @@ use Rattle.meaning.specs.declared.types.Lane.TheVariants.{SlotLane, UnitLane, Vi
 use Rattle.meaning.specs.declared.types.Rest.{Rest}
 use Rattle.meaning.specs.declared.types.Source.{Source}
 use Rattle.meaning.specs.declared.types.Source.TheVariants.{Bits, FromLane, Undef}
-use Rattle.meaning.specs.declared.types.Ways.{Ways}
+use Rattle.meaning.specs.declared.types.EdgePair.{EdgePair}
 use Rattle.laws.proofs.Core.{Exits, Plan, Reaches}
 use Rattle.mir_func.specs.declared.func.Instr.{Instr}
 use Rattle.mir_func.specs.declared.func.Block.{Block}
@@ -185,7 +185,7 @@ module _ (bound : ℕ) where
 
     -- a terminator, whose ways lead to what holds there
     pub both-ending :
-        (A : List Writes) (moves : MovesRanges A) (r : Rest) (reads : Reads) (ws : Writes) (target : Option Ways) (exits : List Ways) → AllOld bound ws → ((v k : ℕ) → is_written ws (VirtualLane v k) ≡ false) → ReadsOld bound reads →
+        (A : List Writes) (moves : MovesRanges A) (r : Rest) (reads : Reads) (ws : Writes) (target : Option EdgePair) (exits : List EdgePair) → AllOld bound ws → ((v k : ℕ) → is_written ws (VirtualLane v k) ≡ false) → ReadsOld bound reads →
         Reaches K target (after_both ws ws (Behind A)) → Exits K exits (after_both ws ws (Behind A)) →
         Stretch K (Behind A) (Behind A) (Counted r reads ws (first_target target) (first_edges exits) ∷ []) (Counted r reads ws (second_target target) (second_edges exits) ∷ [])
     both-ending A moves r reads ws target exits o free q to out =

@@ -12,7 +12,7 @@ use Rattle.mir_func.specs.Value.{Function}
 use Rattle.mir_meaning.specs.Registers.{numbers, operand_lanes, use_sources}
 use Rattle.mir_meaning.specs.Items.{moved, undefined}
 use Rattle.two_address.specs.Sequences.{filled_lanes}
-use Rattle.two_address.specs.declared.sequences.Part.{Part}
+use Rattle.two_address.specs.declared.sequences.SubregInput.{SubregInput}
 use Rattle.instr_effects.proofs.Members.{in-either, left-in, map-in, member-elim, member-none, right-in}
 use Rattle.live_laws.proofs.Effects.Moved.{Apart}
 use Rattle.lowering_laws.proofs.Built.{elsewhere, old-not-new, renamed-moves, undef-before, whole_copy}
@@ -31,26 +31,26 @@ source-leaves v ws free false (l ∷ ls) h s m = member-elim s (FromLane l) (map
 module _ (t : Target) (H : Function) where
   module _ (v : ℕ) where
     -- a part whose input is long enough, and of another register where it is read
-    pub record PartFits (p : Part) : Type 0 where
+    pub record PartFits (p : SubregInput) : Type 0 where
       pub long : length (lanes_of t p.index) ≤ length (operand_lanes t H p.input)
       pub other : p.input.undef ≡ false → (a : Lane) → Among a (operand_lanes t H p.input) → is_lane_of v a ≡ false
 
-    abbrev pub AllFit : List Part → Type 0
+    abbrev pub AllFit : List SubregInput → Type 0
     AllFit [] = Unit {0}
     AllFit (p ∷ ps) = PartFits p × AllFit ps
 
-    abbrev pub gives : Part → Writes
+    abbrev pub gives : SubregInput → Writes
     gives p = moved false (lanes_by v (lanes_of t p.index)) (use_sources t H p.input)
 
-    abbrev pub given : List Part → Writes
+    abbrev pub given : List SubregInput → Writes
     given [] = []
     given (p ∷ ps) = gives p ++ given ps
 
-    abbrev pub into : List Part → List Writes
+    abbrev pub into : List SubregInput → List Writes
     into [] = []
     into (p ∷ ps) = gives p ∷ into ps
 
-    pub given-lane : (ps : List Part) (l : Lane) → is_written (given ps) l ≡ true → IsOf v (filled_lanes t ps) l
+    pub given-lane : (ps : List SubregInput) (l : Lane) → is_written (given ps) l ≡ true → IsOf v (filled_lanes t ps) l
     given-lane [] l e = absurd (cc)
     given-lane (p ∷ ps) l e = go (is_written (gives p) l) refl (given-lane ps l)
       where
@@ -58,7 +58,7 @@ module _ (t : Target) (H : Function) where
         go true q ih = let z = moved-lane v (lanes_of t p.index) (use_sources t H p.input) l q in (z.0, z.1, left-in z.0 (lanes_of t p.index) (filled_lanes t ps) z.2)
         go false q ih = let z = ih (written-either (gives p) (given ps) l e q) in (z.0, z.1, right-in z.0 (lanes_of t p.index) (filled_lanes t ps) z.2)
 
-    pub given-written : (ps : List Part) → AllFit ps → (k : ℕ) → Among k (filled_lanes t ps) → is_written (given ps) (VirtualLane v k) ≡ true
+    pub given-written : (ps : List SubregInput) → AllFit ps → (k : ℕ) → Among k (filled_lanes t ps) → is_written (given ps) (VirtualLane v k) ≡ true
     given-written [] x k m = absurd (member-none k m)
     given-written (p ∷ ps) x k m = go (in-either k (lanes_of t p.index) (filled_lanes t ps) m) (given-written ps x.1 k)
       where
@@ -70,7 +70,7 @@ module _ (t : Target) (H : Function) where
         go (inr m) ih = written-right (gives p) (given ps) (VirtualLane v k) (ih m)
 
     -- what parts give stands in other registers
-    pub given-leaves : (ws : Writes) → ((l : Lane) → is_lane_of v l ≡ false → is_written ws l ≡ false) → (ps : List Part) → AllFit ps → (l : Lane) → is_written (given ps) l ≡ true → settled (through ws (settled (filled (given ps) l))) ≡ settled (filled (given ps) l)
+    pub given-leaves : (ws : Writes) → ((l : Lane) → is_lane_of v l ≡ false → is_written ws l ≡ false) → (ps : List SubregInput) → AllFit ps → (l : Lane) → is_written (given ps) l ≡ true → settled (through ws (settled (filled (given ps) l))) ≡ settled (filled (given ps) l)
     given-leaves ws free [] x l e = absurd (cc)
     given-leaves ws free (p ∷ ps) x l e = go (is_written (gives p) l) refl (given-leaves ws free ps x.1 l)
       where
@@ -79,7 +79,7 @@ module _ (t : Target) (H : Function) where
         go false q ih = subst (λ z. settled (through ws (settled z)) ≡ settled z) (sym (filled-right (gives p) (given ps) l q)) (ih (written-either (gives p) (given ps) l e q))
 
     -- the parts one after the other give what they give at once
-    pub in-turn : (ps : List Part) → AllFit ps → Apart (filled_lanes t ps) → (l : Lane) → traced (into ps) (FromLane l) ≡ settled (filled (given ps) l)
+    pub in-turn : (ps : List SubregInput) → AllFit ps → Apart (filled_lanes t ps) → (l : Lane) → traced (into ps) (FromLane l) ≡ settled (filled (given ps) l)
     in-turn [] x p l = refl
     in-turn (p ∷ ps) x apart l = go (is_written (given ps) l) refl (in-turn ps x.1 (apart-right (lanes_of t p.index) (filled_lanes t ps) apart) l)
       where
@@ -103,19 +103,19 @@ module _ (t : Target) (H : Function) where
         go false w ih = ap (λ s. settled (through (gives p) s)) (ih ∙ ap settled (filled-free (given ps) l w)) ∙ alone (is_written (gives p) l) refl w
 
     -- behind writes of its other lanes they give the same
-    pub upon : (base : Writes) → ((l : Lane) → is_lane_of v l ≡ false → is_written base l ≡ false) → (ps : List Part) → AllFit ps → Apart (filled_lanes t ps) → (l : Lane) → traced (base ∷ into ps) (FromLane l) ≡ settled (filled (given ps ++ base) l)
+    pub upon : (base : Writes) → ((l : Lane) → is_lane_of v l ≡ false → is_written base l ≡ false) → (ps : List SubregInput) → AllFit ps → Apart (filled_lanes t ps) → (l : Lane) → traced (base ∷ into ps) (FromLane l) ≡ settled (filled (given ps ++ base) l)
     upon base own ps x apart l = ap (λ s. settled (through base s)) (in-turn ps x apart l) ∙ go (is_written (given ps) l) refl
       where
         go : (y : Bool) → is_written (given ps) l ≡ y → settled (through base (settled (filled (given ps) l))) ≡ settled (filled (given ps ++ base) l)
         go true w = given-leaves base own ps x l w ∙ ap settled (sym (filled-left (given ps) base l w))
         go false w = ap (λ q. settled (through base (settled q))) (filled-free (given ps) l w) ∙ ap settled (sym (filled-right (given ps) base l w))
 
-    unwritten : (ps : List Part) (l : Lane) → is_lane_of v l ≡ false → is_written (given ps) l ≡ false
+    unwritten : (ps : List SubregInput) (l : Lane) → is_lane_of v l ≡ false → is_written (given ps) l ≡ false
     unwritten [] l e = refl
     unwritten (p ∷ ps) l e = written-append (gives p) (given ps) l (moved-apart v (lanes_of t p.index) (use_sources t H p.input) l e) (unwritten ps l e)
 
   -- parts give the same to lanes of two registers
-  renamed : (v c : ℕ) (X Y : Writes) (k : ℕ) → filled X (VirtualLane c k) ≡ filled Y (VirtualLane v k) → (ps : List Part) → filled (given c ps ++ X) (VirtualLane c k) ≡ filled (given v ps ++ Y) (VirtualLane v k)
+  renamed : (v c : ℕ) (X Y : Writes) (k : ℕ) → filled X (VirtualLane c k) ≡ filled Y (VirtualLane v k) → (ps : List SubregInput) → filled (given c ps ++ X) (VirtualLane c k) ≡ filled (given v ps ++ Y) (VirtualLane v k)
   renamed v c X Y k e [] = e
   renamed v c X Y k e (p ∷ ps) =
       let ks = lanes_of t p.index in
@@ -125,7 +125,7 @@ module _ (t : Target) (H : Function) where
       ∙ ap (λ ws. filled ws (VirtualLane v k)) (sym (append_assoc (gives v p) (given v ps) Y)))
 
   -- What puts together register v of parts: base is what it is given beside them, and starts what does that before them.
-  module _ (v n : ℕ) (ps : List Part) (base : ℕ → Writes) (starts : ℕ → List Writes) (low : ℕ) where
+  module _ (v n : ℕ) (ps : List SubregInput) (base : ℕ → Writes) (starts : ℕ → List Writes) (low : ℕ) where
     abbrev range : List Lane
     range = lanes_by v (numbers 0 n)
 

@@ -22,9 +22,9 @@ use Rattle.phi_elim.specs.Phis.{located_class}
 use Rattle.two_address.specs.Lowered.{blocks_lowered, classes_made, form_lowered, form_of, instr_lowered, instrs_lowered, next_range, ties_lowered}
 use Rattle.two_address.specs.Sequences.{at_last, beginning, built, fill_all, into_part, is_input, keeping_text, parts_of}
 use Rattle.two_address.specs.Ties.{copies, ties_in, undefined_first, undefined_whole, with_operands}
-use Rattle.two_address.specs.declared.forms.Form.{Form}
-use Rattle.two_address.specs.declared.forms.Form.TheVariants as forms
-use Rattle.two_address.specs.declared.sequences.Part.{Part}
+use Rattle.two_address.specs.declared.forms.InstrLowering.{InstrLowering}
+use Rattle.two_address.specs.declared.forms.InstrLowering.TheVariants as forms
+use Rattle.two_address.specs.declared.sequences.SubregInput.{SubregInput}
 use Rattle.two_address.specs.declared.ties.Move.{Move}
 use Rattle.two_address.specs.declared.ties.Tie.{Tie}
 use Rattle.lowering_laws.proofs.Placed.{copy-effect, undef-effect}
@@ -41,8 +41,7 @@ use Rattle.live_laws.proofs.Effects.Lists.{all-of}
 use Rattle.live_laws.proofs.Touch.Roles.{met}
 use Rattle.lowering_laws.specs.Laws.{NoneLoweredAway}
 use Rattle.lowering_laws.proofs.Operands.{known-effect}
-use Rattle.lowering_laws.proofs.Ruled.{AllRules, all-rules}
-use Rattle.lowering_laws.proofs.Sources.{rules-at}
+use Rattle.lowering_laws.proofs.Ruled.{EachRules, all-rules, each-rules}
 use Rattle.std.proofs.Common.{sym, subst, ◌∙◌}
 
 not-true : (b : Bool) → not b ≡ true → b ≡ false
@@ -92,18 +91,18 @@ module _ (t : Target) where
       go true = undef-plain (undefining to) refl
       go false = copied-plain (copy_of to (source_of from)) refl
 
-  parts-none : (to : ℕ) (ps : List Part) → AllKept t (map (into_part to) ps)
+  parts-none : (to : ℕ) (ps : List SubregInput) → AllKept t (map (into_part to) ps)
   parts-none to [] = tt
   parts-none to (p ∷ ps) = (move-plain (record (whole_definition to) { index = Some p.index }) p.input, parts-none to ps)
 
-  last-none : (c v : ℕ) (ps : List Part) → AllKept t (at_last c v ps)
+  last-none : (c v : ℕ) (ps : List SubregInput) → AllKept t (at_last c v ps)
   last-none c v ps = go (is_input (Virtual v) ps)
     where
       go : (y : Bool) → AllKept t (cond y (copy_of (whole_definition v) (whole_use c) ∷ []) [])
       go true = (copied-plain (copy_of (whole_definition v) (whole_use c)) refl, tt)
       go false = tt
 
-  begun-none : (k : Option ClassId) (to : ℕ) (ps : List Part) → AllKept t (beginning t k to ps)
+  begun-none : (k : Option ClassId) (to : ℕ) (ps : List SubregInput) → AllKept t (beginning t k to ps)
   begun-none k to ps = go (fill_all t k ps)
     where
       go : (y : Bool) → AllKept t (cond y [] (undefining (whole_definition to) ∷ []))
@@ -125,12 +124,12 @@ module _ (t : Target) where
         let to = built c v ps in
         kept-none i (beginning t (located_class cs (Virtual v)) to ps ++ (map (into_part to) ps ++ at_last c v ps)) (kept-append t (beginning t (located_class cs (Virtual v)) to ps) (map (into_part to) ps ++ at_last c v ps) (begun-none (located_class cs (Virtual v)) to ps) (kept-append t (map (into_part to) ps) (at_last c v ps) (parts-none to ps) (last-none c v ps)))
 
-    insertion-none : (c : ℕ) (i : Instr) (v : ℕ) (a : RegOp) (p : Part) → AllKept t (form_lowered t cs c i (forms.Insertion v a p))
+    insertion-none : (c : ℕ) (i : Instr) (v : ℕ) (a : RegOp) (p : SubregInput) → AllKept t (form_lowered t cs c i (forms.Insertion v a p))
     insertion-none c i v a p =
         let to = built c v (p ∷ []) in
         kept-none i (move_of (whole_definition to) a ∷ into_part to p ∷ at_last c v (p ∷ [])) (move-plain (whole_definition to) a, (move-plain (record (whole_definition to) { index = Some p.index }) p.input, last-none c v (p ∷ [])))
 
-    form-none : (c : ℕ) (i : Instr) → does is_lowered_away t i ≡ false → (form : Form) → AllKept t (form_lowered t cs c i form)
+    form-none : (c : ℕ) (i : Instr) → does is_lowered_away t i ≡ false → (form : InstrLowering) → AllKept t (form_lowered t cs c i form)
     form-none c i e (forms.Copy d s) = (go s.undef, tt)
       where
         go : (y : Bool) → does is_lowered_away t (cond y (record i { op = ops.Known implicit_def_op; operands = operands.Reg (destination_of d) ∷ [] }) (record i { operands = operands.Reg (record d { undef = false }) ∷ operands.Reg s ∷ [] })) ≡ false
@@ -169,7 +168,7 @@ module _ (t : Target) where
         where
           at : (d a s : RegOp) (x : IndexId) → i.operands ≡ operands.Reg d ∷ operands.Reg a ∷ operands.Reg s ∷ operands.Index x ∷ [] → (l : Loc) → d.loc ≡ l → is_virtual l ≡ true → AllKept t (form_lowered t cs c i (form_of t i))
           at d a s x are (Virtual v) loc e =
-              let p : Part = record { input = s; index = x } in
+              let p : SubregInput = record { input = s; index = x } in
               let form : form_of t i ≡ forms.Insertion v a p =
               (λ k. cond (passes is_copy (known k)) (copy_form (register_at i.operands 0) (register_at i.operands 1))
               (cond (passes is_reg_sequence (known k)) (sequence_form (virtual_in (register_at i.operands 0)))
@@ -192,14 +191,14 @@ module _ (t : Target) where
       instr-kept effects.Phi q p = absurd (cc)
       instr-kept e q p = with-form c i (form-none c i (ap (passes is_lowered_away) q) (form_of t i))
 
-module _ (t : Target) (f : Function) (plain : has_no_phis t f.blocks ≡ true) (rules : (n : ℕ) (b : Block) → slice_get f.blocks n ≡ Some b → AllRules t f n b) where
+module _ (t : Target) (f : Function) (plain : has_no_phis t f.blocks ≡ true) (rules : EachRules t f) where
   instrs-kept : (b : Block) → Among b f.blocks → (c : ℕ) (is : List Instr) → ((i : Instr) → Among i is → Among i b.instrs) → AllKept t (instrs_lowered t f.classes c is)
   instrs-kept b mb c [] w = tt
   instrs-kept b mb c (i ∷ is) w =
-      let z = rules-at t f rules b i mb (w i here) in
+      let r = rules b i mb (w i here) in
       let no-phi = not-true (does is_phi t i) (all-of (λ x. not (does is_phi t x)) i b.instrs (w i here) (all-of (λ (d : Block). list_all (λ x. not (does is_phi t x)) d.instrs) b f.blocks mb plain)) in
-      let e = known-effect t f z.0 b z.1 i z.2 in
-      kept-append t (instr_lowered t f.classes c i) (instrs_lowered t f.classes (next_range t f.classes c i) is) (instr-kept t f.classes f i z.2.one c e.0 e.1 (sym (ap (passes is_phi) e.1) ∙ no-phi)) (instrs-kept b mb (next_range t f.classes c i) is (λ x m. w x (there m)))
+      let e = known-effect t f i r in
+      kept-append t (instr_lowered t f.classes c i) (instrs_lowered t f.classes (next_range t f.classes c i) is) (instr-kept t f.classes f i r.one c e.0 e.1 (sym (ap (passes is_phi) e.1) ∙ no-phi)) (instrs-kept b mb (next_range t f.classes c i) is (λ x m. w x (there m)))
 
   blocks-kept : (n c : ℕ) (bs : List Block) → ((b : Block) → Among b bs → Among b f.blocks) → list_all (λ (b : Block). list_all (λ i. not (does is_lowered_away t i)) b.instrs) (blocks_numbered n (blocks_lowered t f.classes c bs)) ≡ true
   blocks-kept n c [] w = refl
@@ -209,4 +208,4 @@ module _ (t : Target) (f : Function) (plain : has_no_phis t f.blocks ≡ true) (
 
 pub none_lowered_away : NoneLoweredAway
 unfolding ties_lowered
-none_lowered_away t f shape plain = blocks-kept t f plain (all-rules t f shape) 0 (length f.classes) f.blocks (λ b m. m)
+none_lowered_away t f shape plain = blocks-kept t f plain (each-rules t f (all-rules t f shape)) 0 (length f.classes) f.blocks (λ b m. m)

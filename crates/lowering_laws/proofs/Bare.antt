@@ -24,9 +24,9 @@ use Rattle.phi_elim.specs.Phis.{located_class}
 use Rattle.two_address.specs.Lowered.{blocks_lowered, classes_made, form_lowered, form_of, instr_lowered, instrs_lowered, next_range, ties_lowered}
 use Rattle.two_address.specs.Sequences.{at_last, beginning, built, fill_all, into_part, is_input, keeping_text, parts_of}
 use Rattle.two_address.specs.Ties.{copies, ties_in, undefined_first, undefined_whole, with_operands}
-use Rattle.two_address.specs.declared.forms.Form.{Form}
-use Rattle.two_address.specs.declared.forms.Form.TheVariants as forms
-use Rattle.two_address.specs.declared.sequences.Part.{Part}
+use Rattle.two_address.specs.declared.forms.InstrLowering.{InstrLowering}
+use Rattle.two_address.specs.declared.forms.InstrLowering.TheVariants as forms
+use Rattle.two_address.specs.declared.sequences.SubregInput.{SubregInput}
 use Rattle.two_address.specs.declared.ties.Move.{Move}
 use Rattle.two_address.specs.declared.ties.Tie.{Tie}
 use Rattle.lowering_laws.proofs.Blocks.{append-none, none-written, numbered-none}
@@ -70,18 +70,18 @@ module _ (t : Target) where
       go true = undef-plain (undefining to) refl
       go false = copied-plain (copy_of to (source_of from)) refl
 
-  parts-none : (to : ℕ) (ps : List Part) → NoPhis t (map (into_part to) ps)
+  parts-none : (to : ℕ) (ps : List SubregInput) → NoPhis t (map (into_part to) ps)
   parts-none to [] = tt
   parts-none to (p ∷ ps) = (move-plain (record (whole_definition to) { index = Some p.index }) p.input, parts-none to ps)
 
-  last-none : (c v : ℕ) (ps : List Part) → NoPhis t (at_last c v ps)
+  last-none : (c v : ℕ) (ps : List SubregInput) → NoPhis t (at_last c v ps)
   last-none c v ps = go (is_input (Virtual v) ps)
     where
       go : (y : Bool) → NoPhis t (cond y (copy_of (whole_definition v) (whole_use c) ∷ []) [])
       go true = (copied-plain (copy_of (whole_definition v) (whole_use c)) refl, tt)
       go false = tt
 
-  begun-none : (k : Option ClassId) (to : ℕ) (ps : List Part) → NoPhis t (beginning t k to ps)
+  begun-none : (k : Option ClassId) (to : ℕ) (ps : List SubregInput) → NoPhis t (beginning t k to ps)
   begun-none k to ps = go (fill_all t k ps)
     where
       go : (y : Bool) → NoPhis t (cond y [] (undefining (whole_definition to) ∷ []))
@@ -97,7 +97,7 @@ module _ (t : Target) where
   copies-none (Some m) = (copied-plain (copy_of m.to m.from) refl, tt)
 
   module _ (cs : List (Option ClassId)) where
-    form-none : (c : ℕ) (i : Instr) → does is_phi t i ≡ false → (form : Form) → NoPhis t (form_lowered t cs c i form)
+    form-none : (c : ℕ) (i : Instr) → does is_phi t i ≡ false → (form : InstrLowering) → NoPhis t (form_lowered t cs c i form)
     form-none c i e (forms.Copy d s) = (go s.undef, tt)
       where
         go : (y : Bool) → does is_phi t (cond y (record i { op = ops.Known implicit_def_op; operands = operands.Reg (destination_of d) ∷ [] }) (record i { operands = operands.Reg (record d { undef = false }) ∷ operands.Reg s ∷ [] })) ≡ false

@@ -10,7 +10,7 @@ use Rattle.meaning.specs.Relations.{Everything, Rel, Within, along}
 use Rattle.meaning.specs.Rows.{first_edges, first_falls, first_of_rows, second_edges, second_falls, second_of_rows}
 use Rattle.meaning.specs.declared.types.Row.{Row}
 use Rattle.meaning.specs.declared.types.Row.TheVariants.{BothEnd, BothStart}
-use Rattle.meaning.specs.declared.types.Ways.{Ways}
+use Rattle.meaning.specs.declared.types.EdgePair.{EdgePair}
 use Rattle.laws.proofs.Agreeing.{Agrees}
 use Rattle.laws.proofs.Core.{Coupled, Exits, Plan, law_of_rows}
 use Rattle.mir_func.specs.declared.func.Block.{Block}
@@ -29,10 +29,10 @@ among-none x m = elim m [ ]
 
 module _ (t : Target) (f g : Function) (K : Plan) where
   -- a way from block n into block m in both
-  abbrev pub both-ways : ℕ → ℕ → Ways
+  abbrev pub both-ways : ℕ → ℕ → EdgePair
   both-ways n m = record { block = m; first = (way t f n m).phis; second = (way t g n m).phis }
 
-  abbrev pub ends-ways : ℕ → List Successor → List Ways
+  abbrev pub ends-ways : ℕ → List Successor → List EdgePair
   ends-ways n ss = map (λ e. both-ways n e.block) ss
 
   pub first-ways : (n : ℕ) (ss : List Successor) → first_edges (ends-ways n ss) ≡ map (λ e. way t f n e.block) ss

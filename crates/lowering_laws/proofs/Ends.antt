@@ -263,7 +263,7 @@ module _ (t : Target) where
 
 module _ (t : Target) (f : Function) (k : ℕ) (b : Block) (after : List Block) (behind : drop (suc k) f.blocks ≡ after) (rules : AllRules t f k b) where
   rule-one : (i : Instr) → Member i b.instrs → V1 t f i ≡ true
-  rule-one i m = let j = member-slice i b.instrs m in (rules.instrs j.0 i j.1).one
+  rule-one i m = let j = member-slice i b.instrs m in (rules.instrs j.0 i j.1).own.one
 
   wrong : list_any (λ i. does is_branch t i && not (V1 t f i)) b.instrs ≡ false
   wrong = none-of (λ i. does is_branch t i && not (V1 t f i)) b.instrs (λ i m. and_right (does is_branch t i) (not (V1 t f i)) (ap not (rule-one i m)))

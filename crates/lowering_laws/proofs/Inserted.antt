@@ -32,8 +32,8 @@ use Rattle.phi_elim.specs.Phis.{located_class}
 use Rattle.two_address.specs.Lowered.{copy_form, form_lowered, form_of, insertion_form, instr_lowered, part_of_two, sequence_form, ties_lowered, virtual_in, virtual_loc}
 use Rattle.two_address.specs.Sequences.{filled_lanes, into_part, is_input, keeping_text}
 use Rattle.two_address.specs.Ties.{undefined_first}
-use Rattle.two_address.specs.declared.forms.Form.TheVariants as forms
-use Rattle.two_address.specs.declared.sequences.Part.{Part}
+use Rattle.two_address.specs.declared.forms.InstrLowering.TheVariants as forms
+use Rattle.two_address.specs.declared.sequences.SubregInput.{SubregInput}
 use Rattle.live_laws.proofs.Effects.Moved.{Apart}
 use Rattle.live_laws.proofs.Effects.Shapes.{lanes-there, same-lanes, subregs-there, widths-of}
 use Rattle.live_laws.proofs.Touch.Roles.{met}
@@ -67,7 +67,7 @@ not-true : (b : Bool) → not b ≡ true → b ≡ false
 not-true true e = absurd (cc)
 not-true false e = refl
 
-module _ (t : Target) (f : Function) (all : AllNamed f f.blocks) (classes : AreClasses t f) (site : ℕ) (b : Block) (j : ℕ) (i : Instr) (r : InstrRules t f site b j i) where
+module _ (t : Target) (f : Function) (all : AllNamed f f.blocks) (classes : AreClasses t f) (b : Block) (i : Instr) (r : InstrRules t f i) where
   abbrev H : Function
   H = h t f
 
@@ -78,10 +78,10 @@ module _ (t : Target) (f : Function) (all : AllNamed f f.blocks) (classes : AreC
   n = length f.classes
 
   module _ (known : effect_of t i ≡ Some effects.InsertSubreg) (c : ℕ) (stands : Stands (h t f).classes (length f.classes) c (instr_classes t f.classes c i)) (d a s : RegOp) (x : IndexId) (are : i.operands ≡ operands.Reg d ∷ operands.Reg a ∷ operands.Reg s ∷ operands.Index x ∷ []) (is-def : is_definition d ≡ true) (v : ℕ) (at : d.loc ≡ Virtual v) (index : d.index ≡ None) (a-used : is_virtual_use a ≡ true) (s-used : is_virtual_use s ≡ true) where
-    abbrev p : Part
+    abbrev p : SubregInput
     p = record { input = s; index = x }
 
-    abbrev ps : List Part
+    abbrev ps : List SubregInput
     ps = p ∷ []
 
     abbrev N : ℕ
@@ -100,7 +100,7 @@ module _ (t : Target) (f : Function) (all : AllNamed f f.blocks) (classes : AreC
     there' o m = subst (λ os. Among o (registers os)) (sym are) m
 
     class-there : (o : RegOp) → Among o (d ∷ a ∷ s ∷ []) → has_class f o.loc ≡ true
-    class-there o m = (named t f site b j i r o (there' o m)).class
+    class-there o m = (named t f i r o (there' o m)).class
 
     own-item : item_of t H b i ≡ Silent (silent_reads t H effects.InsertSubreg i.operands) ws
     own-item =
@@ -116,10 +116,10 @@ module _ (t : Target) (f : Function) (all : AllNamed f f.blocks) (classes : AreC
         (first_of_both (same_widths t f a d) (same_widths t f s (at_index d x)) w, second_of_both (same_widths t f a d) (same_widths t f s (at_index d x)) w)
 
     known-lanes : (o : RegOp) → Among o (d ∷ a ∷ s ∷ []) → has_lanes t f o ≡ true
-    known-lanes o m = lanes-there t f i (shaped t f site b j i r) o (there' o m)
+    known-lanes o m = lanes-there t f i (shaped t f i r) o (there' o m)
 
     part-fits : index_fits t f d.loc (Some x) ≡ true
-    part-fits = first_of_both (index_fits t f d.loc (Some x)) true (subst (λ os. subregs_fit t f os ≡ true) are (subregs-there t f i (shaped t f site b j i r) (ap (passes puts_together) known)))
+    part-fits = first_of_both (index_fits t f d.loc (Some x)) true (subst (λ os. subregs_fit t f os ≡ true) are (subregs-there t f i (shaped t f i r) (ap (passes puts_together) known)))
 
     whole-long : N ≤ length (operand_lanes t H a)
     whole-long =
@@ -229,14 +229,14 @@ module _ (t : Target) (f : Function) (all : AllNamed f f.blocks) (classes : AreC
       where
         go : (y : Bool) → is_input (Virtual v) ps ≡ y → InstrStep t f b c i
         go false is =
-            puts t f all site b j i r effects.InsertSubreg known (refl, refl) c d is-def v at (silent_reads t H effects.InsertSubreg i.operands) ws own-item (front v ++ []) (starts v ++ into t H v ps) (front-moves v) (λ e. cc) (lowers false is) (front-items v refl)
+            puts t f all b i r effects.InsertSubreg known (refl, refl) c d is-def v at (silent_reads t H effects.InsertSubreg i.operands) ws own-item (front v ++ []) (starts v ++ into t H v ps) (front-moves v) (λ e. cc) (lowers false is) (front-items v refl)
             (with-undef d.undef refl (starts v ++ into t H v ps) (in-own t H v N ps base starts n (works v (fit-at v (λ plain l m. lanes-apart t H v s.loc s.index (loc-sym (Virtual v) s.loc ∙ apart-from (same_loc (Virtual v) s.loc) is) l m)))))
           where
             apart-from : (y : Bool) → (y || false) ≡ false → y ≡ false
             apart-from false e = refl
             apart-from true e = absurd (cc)
         go true is =
-            puts t f all site b j i r effects.InsertSubreg known (refl, refl) c d is-def v at (silent_reads t H effects.InsertSubreg i.operands) ws own-item (front c ++ copy-whole true) ((starts c ++ into t H c ps) ++ (whole_copy v c N ∷ [])) (append-moves (front c) (copy-whole true) (front-moves c) (inl refl, tt)) (λ e. cc) (lowers true is)
+            puts t f all b i r effects.InsertSubreg known (refl, refl) c d is-def v at (silent_reads t H effects.InsertSubreg i.operands) ws own-item (front c ++ copy-whole true) ((starts c ++ into t H c ps) ++ (whole_copy v c N ∷ [])) (append-moves (front c) (copy-whole true) (front-moves c) (inl refl, tt)) (λ e. cc) (lowers true is)
             (λ q. map-append (item_of t G q) (front c) (copy-whole true) ∙ ((λ k. front-items c same q k ++ (copy-whole-item t f v c same q k ∷ [])) ∙ sym (map-append (λ ws. Silent [] ws) (starts c ++ into t H c ps) (whole_copy v c N ∷ []))))
             (with-undef d.undef refl ((starts c ++ into t H c ps) ++ (whole_copy v c N ∷ []))
             (in-other t H v N ps base starts n c stands.above (works c (fit-at c (λ plain l m. old-not-new n c l (old-lanes t f s (class-there s (there (there here))) l m) stands.above))) (λ l q. moved-apart c (numbers 0 N) (use_sources t H a) l q) (λ k h. covered-moves v c (use_sources t H a) N k sources-long h) (λ l q. moved-missed false (lanes_by v (numbers 0 N)) (use_sources t H a) l q) within))

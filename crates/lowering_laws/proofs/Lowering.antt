@@ -11,7 +11,7 @@ use Rattle.meaning.specs.Relations.{Rel, Within, after_both, after_first, after_
 use Rattle.meaning.specs.Rows.{first_edges, first_target, second_edges, second_target}
 use Rattle.meaning.specs.declared.types.Lane.TheVariants.{VirtualLane}
 use Rattle.meaning.specs.declared.types.Source.{Source}
-use Rattle.meaning.specs.declared.types.Ways.{Ways}
+use Rattle.meaning.specs.declared.types.EdgePair.{EdgePair}
 use Rattle.laws.proofs.Core.{Exits, Plan, Reaches}
 use Rattle.mir_func.specs.declared.func.Edge.{Edge as Successor}
 use Rattle.mir_func.specs.declared.func.Op.TheVariants as ops
@@ -223,10 +223,10 @@ module _ (t : Target) (f : Function) where
             z : CountedPart t h g b c' i (item_of t h b i) (item_of t g c' i)
             z = counted-of t h g classes bare b c' i (λ o m. (e.named o m).fixed) e.ends
 
-            goal : Option Ways
+            goal : Option EdgePair
             goal = option_map (both-ways t h g K b.number) (target_of i.operands)
 
-            exits : List Ways
+            exits : List EdgePair
             exits = ends-ways t h g K b.number b.successors
 
             first-side : item_of t h b i ≡ Counted z.rest z.reads z.writes (first_target goal) (first_edges exits)

@@ -1,6 +1,7 @@
 -- What the rules say of operands: registers have classes, implicit ones are physical, phis have their shape.
 use Rattle.std.proofs.Common.{◌≡◌, ◌∷◌, ◌∙◌, ◌&&◌, ◌≤◌, not, ℕ, suc, Bool, true, false, List, Option, Some, None, map, length, refl, sym, ap, arith, []}
 use Rattle.std.specs.Prelude.{is_none, option_map, slice_index}
+use Rattle.std.specs.List.{list_all}
 use Rattle.target_base.specs.declared.types.Effect.{Effect}
 use Rattle.target_base.specs.declared.types.Effect.TheVariants as effects
 use Rattle.target_base.specs.declared.types.IndexId.{IndexId}
@@ -18,7 +19,6 @@ use Rattle.mir_func.specs.declared.func.RegOp.{RegOp}
 use Rattle.mir_func.specs.declared.func.Operand.{Operand}
 use Rattle.mir_func.specs.declared.func.Operand.TheVariants as operands
 use Rattle.mir_func.specs.declared.func.Instr.{Instr}
-use Rattle.mir_func.specs.declared.func.Block.{Block}
 use Rattle.mir_func.specs.Value.{Function}
 use Rattle.mir_func.specs.Binding.{does, effect_of, implicit_registers, is_definition, is_use, is_virtual, passes, registers}
 use Rattle.mir_meaning.specs.Registers.{located_lanes, located_widths, numbers, operand_lanes, operand_widths, range_widths}
@@ -30,8 +30,8 @@ use Rattle.live_laws.proofs.Effects.Lists.{all-of}
 use Rattle.live_laws.proofs.Effects.Shapes.{lanes-there, same-lanes, widths-of}
 use Rattle.live_laws.proofs.Touch.Effects.{numbers-long}
 use Rattle.live_laws.proofs.Touch.Roles.{Fit, fit-by, met}
-use Rattle.lowering_laws.proofs.Classes.{IsNamed}
-use Rattle.lowering_laws.proofs.Ruled.{InstrRules}
+use Rattle.lowering_laws.proofs.Classes.{AllNamed, IsNamed}
+use Rattle.lowering_laws.proofs.Ruled.{EachRules, InstrRules}
 
 not-true : (b : Bool) → not b ≡ true → b ≡ false
 not-true true e = absurd (cc)
@@ -114,7 +114,7 @@ module _ (t : Target) (f : Function) where
   by-effect d os effects.InsertSubreg h = plainly os (result-plain insertion insertion-plain os h)
   by-effect d os e h = by-fit d os e (fit-by t f d os e refl h)
 
-  module _ (k : ℕ) (b : Block) (j : ℕ) (i : Instr) (r : InstrRules t f k b j i) where
+  module _ (i : Instr) (r : InstrRules t f i) where
     -- the effect of an instruction, and its fit
     pub known-effect : (e : Effect) × (effect_of t i ≡ Some e)
     known-effect = (r.known.0.effect, ap (option_map (λ (d : OpcodeDesc). d.effect)) r.known.1)
@@ -128,6 +128,9 @@ module _ (t : Target) (f : Function) where
 
     pub shaped : IsShaped t f i
     shaped = record { operands = r.one; widths = r.two; classes = r.three; indexes = r.four; definitions = r.twelve }
+
+  pub all-named : EachRules t f → AllNamed f f.blocks
+  all-named rules b i mb mi o m = named i (rules b i mb mi) o m
 
 -- phis
 
@@ -150,7 +153,9 @@ pub record PhiShape (t : Target) (f : Function) (os : List Operand) : Type 0 whe
   pub are : os ≡ operands.Reg d ∷ rest
   pub loc : d.loc ≡ Virtual v
   pub index : d.index ≡ None
+  pub is : is_definition d ≡ true
   pub pairs : phi_pairs rest ≡ true
+  pub wide : list_all (same_widths t f d) (registers rest) ≡ true
   pub long : (s : RegOp) → Among s (registers rest) → length (numbers 0 (length (range_widths t f v))) ≤ length (operand_lanes t f s)
 
 pub pair-virtual : (os : List Operand) (s : RegOp) → phi_pairs os ≡ true → Among s (registers os) → is_virtual s.loc ≡ true
@@ -173,7 +178,7 @@ lanes-long t f (Virtual v) (Some x) e = both (lanes_of t x)
     both (y ∷ xs) = ap suc (both xs)
 lanes-long t f (Fixed r) x e = absurd (cc)
 
-module _ (t : Target) (f : Function) (k : ℕ) (b : Block) (j : ℕ) (i : Instr) (r : InstrRules t f k b j i) (phi : does is_phi t i ≡ true) where
+module _ (t : Target) (f : Function) (i : Instr) (r : InstrRules t f i) (phi : does is_phi t i ≡ true) where
   by-shape : (os : List Operand) → result_and phi_pairs os ≡ true → ((o : RegOp) → Among o (registers os) → has_lanes t f o ≡ true) → widths_fit t f effects.Phi os ≡ true → PhiShape t f os
   by-shape (operands.Reg d ∷ rest) h there' w = at d.loc refl d.index refl (first_of_both (is_whole_definition d) (phi_pairs rest) h)
     where
@@ -190,7 +195,9 @@ module _ (t : Target) (f : Function) (k : ℕ) (b : Block) (j : ℕ) (i : Instr)
         are = refl;
         loc = e;
         index = g;
+        is = first_of_both (is_definition d) (is_virtual d.loc) (first_of_both (is_definition d && is_virtual d.loc) (is_none d.index) (first_of_both (is_whole_definition d) (phi_pairs rest) h));
         pairs = pairs;
+        wide = w;
         long = λ s m.
             let one = same-lanes t f d s (there' d here) (there' s (there m)) (all-of (same_widths t f d) s (registers rest) m w) in
             let two : length (operand_lanes t f s) ≡ length (operand_widths t f s) = lanes-long t f s.loc s.index (pair-virtual rest s pairs m) in
@@ -203,4 +210,4 @@ module _ (t : Target) (f : Function) (k : ℕ) (b : Block) (j : ℕ) (i : Instr)
   pub phi-shape : PhiShape t f i.operands
   phi-shape =
       let e = phi-effect t i phi in
-      by-shape i.operands (met t f i effects.Phi e r.one).3 (lanes-there t f i (shaped t f k b j i r)) (widths-of t f i effects.Phi e r.two)
+      by-shape i.operands (met t f i effects.Phi e r.one).3 (lanes-there t f i (shaped t f i r)) (widths-of t f i effects.Phi e r.two)

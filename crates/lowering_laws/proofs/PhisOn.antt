@@ -37,7 +37,7 @@ use Rattle.lowering_laws.proofs.Classes.{lanes-stay, sources-stay}
 use Rattle.lowering_laws.proofs.Lowering.{bound, counter, ending, further, h}
 use Rattle.lowering_laws.proofs.Olds.{class-old, old_source, use-old}
 use Rattle.lowering_laws.proofs.Operands.{PhiShape, named, phi-shape}
-use Rattle.lowering_laws.proofs.Ruled.{InstrRules}
+use Rattle.lowering_laws.proofs.Ruled.{PlacedRules}
 use Rattle.lowering_laws.proofs.Traced.{Given, given-alike, is_one, lanes_by, traced, undefined-own}
 use Rattle.lowering_laws.proofs.Ways.{PhiOn, PhisOn, done, phi, plain}
 
@@ -55,9 +55,9 @@ module _ (t : Target) (f : Function) where
   H = h t f
 
   -- a phi of block bm, which block c at place x leads to
-  module _ (x : ℕ) (c : Block) (at-x : slice_get f.blocks x ≡ Some c) (place : IsPlace f.blocks c.number x) (k : ℕ) (bm : Block) (leads : has_number (successors_of c) bm.number ≡ true) (j : ℕ) (p : Instr) (r : InstrRules t f k bm j p) (is-phi : does is_phi t p ≡ true) (ci : ℕ) (stands : PhiAt t ci p (bound t f) (all_instrs f.blocks)) where
+  module _ (x : ℕ) (c : Block) (at-x : slice_get f.blocks x ≡ Some c) (place : IsPlace f.blocks c.number x) (k : ℕ) (bm : Block) (leads : has_number (successors_of c) bm.number ≡ true) (j : ℕ) (p : Instr) (r : PlacedRules t f k bm j p) (is-phi : does is_phi t p ≡ true) (ci : ℕ) (stands : PhiAt t ci p (bound t f) (all_instrs f.blocks)) where
     z : PhiShape t f p.operands
-    z = phi-shape t f k bm j p r is-phi
+    z = phi-shape t f p r.own is-phi
 
     abbrev ns : List ℕ
     ns = numbers 0 (length (range_widths t f z.v))
@@ -69,10 +69,10 @@ module _ (t : Target) (f : Function) where
     d-there = subst (λ os. Among z.d (registers os)) (sym z.are) here
 
     class-v : has_class f (Virtual z.v) ≡ true
-    class-v = ap (has_class f) (sym z.loc) ∙ (named t f k bm j p r z.d d-there).class
+    class-v = ap (has_class f) (sym z.loc) ∙ (named t f p r.own z.d d-there).class
 
     rest-there : (s : RegOp) → Among s (registers z.rest) → has_class f s.loc ≡ true
-    rest-there s m = (named t f k bm j p r s (subst (λ os. Among s (registers os)) (sym z.are) (there m))).class
+    rest-there s m = (named t f p r.own s (subst (λ os. Among s (registers os)) (sym z.are) (there m))).class
 
     once : lists_once (named_blocks p) (predecessors f bm.number) ≡ true
     unfolding V7
@@ -180,7 +180,7 @@ module _ (t : Target) (f : Function) where
     abbrev Built : ℕ → List Instr → Type 0
     Built cc' is = PhisOn t H (bound t f) S c.number cc' is
 
-    pub build : (cc' : ℕ) (is : List Instr) → ((i : Instr) → Among i is → (j : ℕ) × InstrRules t f k bm j i) → ((ci : ℕ) (p : Instr) → PhiAt t ci p cc' is → PhiAt t ci p (bound t f) (all_instrs f.blocks)) → Built cc' is
+    pub build : (cc' : ℕ) (is : List Instr) → ((i : Instr) → Among i is → (j : ℕ) × PlacedRules t f k bm j i) → ((ci : ℕ) (p : Instr) → PhiAt t ci p cc' is → PhiAt t ci p (bound t f) (all_instrs f.blocks)) → Built cc' is
     build cc' [] rules stands = done
     build cc' (i ∷ is) rules stands = go (does is_phi t i) refl (build (cc' + phi_number t i) is (λ y m. rules y (there m)) (λ ci p a. stands ci p (later a)))
       where

@@ -19,7 +19,7 @@ use Rattle.mir_func.specs.Binding.{TiedPair, effect_of, explicit_bound, explicit
 use Rattle.two_address.specs.Classes.{class_asked, first_register, seated}
 use Rattle.two_address.specs.Lowered.{copy_form, form_of, insertion_form, part_of_two, sequence_form, ties_lowered, virtual_in}
 use Rattle.two_address.specs.Ties.{retied, retied_operand, tie_to, ties_among, ties_in, undef_fixed, undefined_first, undefined_whole}
-use Rattle.two_address.specs.declared.forms.Form.TheVariants as forms
+use Rattle.two_address.specs.declared.forms.InstrLowering.TheVariants as forms
 use Rattle.lowering_laws.proofs.Replaced.{h}
 
 module _ (t : Target) (f : Function) where

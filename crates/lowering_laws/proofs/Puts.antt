@@ -159,7 +159,7 @@ module _ (t : Target) (f : Function) where
             ∙ (ap (λ qs. copied t H qs) os
             ∙ append-nil (moved false (located_lanes t H (Virtual v) x) (use_sources t H s))))
 
-  module _ (all : AllNamed f f.blocks) (site : ℕ) (b : Block) (j : ℕ) (i : Instr) (r : InstrRules t f site b j i) (e : Effect) (known : effect_of t i ≡ Some e) (quiet : (ends_control e ≡ false) × (is_terminator e ≡ false)) (c : ℕ) (d : RegOp) (is-def : is_definition d ≡ true) (v : ℕ) (at : d.loc ≡ Virtual v) (reads : Reads) (ws : Writes) (own : item_of t H b i ≡ Silent reads ws) where
+  module _ (all : AllNamed f f.blocks) (b : Block) (i : Instr) (r : InstrRules t f i) (e : Effect) (known : effect_of t i ≡ Some e) (quiet : (ends_control e ≡ false) × (is_terminator e ≡ false)) (c : ℕ) (d : RegOp) (is-def : is_definition d ≡ true) (v : ℕ) (at : d.loc ≡ Virtual v) (reads : Reads) (ws : Writes) (own : item_of t H b i ≡ Silent reads ws) where
     -- what is written before an `undef` result
     abbrev pub whole_before : List Writes
     whole_before = cond d.undef (undefined false (range_lanes t H v) ∷ []) []
@@ -172,7 +172,7 @@ module _ (t : Target) (f : Function) where
         go false = refl
 
     old : AllOld n ws
-    old = subst (λ y. AllOld n (writes_of y)) own (subst (λ y. AllOld n (writes_of y)) (sym (item-stays t f (made t f) all b i (λ o m. named t f site b j i r o m))) (writes-are-old t f b i (λ o m. named t f site b j i r o m)))
+    old = subst (λ y. AllOld n (writes_of y)) own (subst (λ y. AllOld n (writes_of y)) (sym (item-stays t f (made t f) all b i (λ o m. named t f i r o m))) (writes-are-old t f b i (λ o m. named t f i r o m)))
 
     pub puts : (made_list : List Instr) (wss : List Writes) → AllMoves made_list → (made_list ≡ [] → ⊥) → instr_lowered t f.classes c i ≡ undefined_first (operands.Reg d) ++ keeping_text i made_list → ((a : Block) → map (item_of t G a) made_list ≡ silents wss) → GivesAlike n ws (whole_before ++ wss) → InstrStep t f b c i
     puts made_list wss moves some lowers items alike = record {

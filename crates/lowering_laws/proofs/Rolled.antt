@@ -14,7 +14,7 @@ use Rattle.target_base.specs.declared.types.Role.{Role}
 use Rattle.target_base.specs.declared.types.Role.TheVariants as roles
 use Rattle.target_base.specs.declared.types.Target.{Target}
 use Rattle.target_base.specs.Roles.{behind, behind_many, defines, defines_within, has_shape, is_block, is_definition as is_definition_role, is_frame_or_symbol, is_immediate, is_implicit, is_operand, is_rest, is_tied, is_use as is_use_role, opaque_tie_fits, roles_fit, tie_fits, tied_to, ties_fit}
-use Rattle.target_base.specs.Rules.{is_implicit_def, is_opcode_desc, starts_with_the_five}
+use Rattle.target_base.specs.Rules.{is_opcode_desc, starts_with_the_five}
 use Rattle.target_base.proofs.Sound.{opcodes_sound}
 use Rattle.target_base.proofs.Tests.{first_of_both, second_of_both}
 use Rattle.meaning.specs.Live.{Among, here, there}
@@ -25,7 +25,7 @@ use Rattle.mir_func.specs.declared.func.Op.{Op}
 use Rattle.mir_func.specs.declared.func.Op.TheVariants as ops
 use Rattle.mir_func.specs.declared.func.Instr.{Instr}
 use Rattle.mir_func.specs.Value.{Function}
-use Rattle.mir_func.specs.Binding.{TiedPair, effect_of, explicit_bound, explicit_operands, explicit_roles, is_definition, is_implicit_operand, is_terminator, is_use, is_virtual, known_opcode, passes, register_at, roles_of, takes_many, tied_number, tied_pair}
+use Rattle.mir_func.specs.Binding.{TiedPair, effect_of, explicit_bound, explicit_operands, explicit_roles, is_definition, is_implicit_operand, is_terminator, is_use, is_virtual, known_opcode, register_at, roles_of, takes_many, tied_number, tied_pair}
 use Rattle.mir_meaning.specs.Rules.{V1, explicit_fit, fits_at, implicit_last, is_opaque, is_reserved_register}
 use Rattle.two_address.specs.Classes.{seated}
 use Rattle.instr_effects.proofs.Members.{filter-in, filter-of, flat-in, map-of, member-elim, member-none}
@@ -408,39 +408,48 @@ const-untied t f i known one = pair-untied is_immediate immediate-untied (roles_
 pub addr-untied : (t : Target) (f : Function) (i : Instr) → effect_of t i ≡ Some effects.Addr → V1 t f i ≡ true → list_any is_tied (roles_of t i) ≡ false
 addr-untied t f i known one = pair-untied is_frame_or_symbol object-untied (roles_of t i) (known-shape t effects.Addr (roles_of t i) (is_definition_role ∷ is_frame_or_symbol ∷ []) refl (fit-roles t f i effects.Addr known refl one))
 
-no-roles : (rs : List Role) → (length rs == 0) ≡ true → list_any is_tied rs ≡ false
+no-roles : (rs : List Role) → (length rs == 0) ≡ true → rs ≡ []
 no-roles [] e = refl
 no-roles (r ∷ rs) e = absurd (let z = eqb-true (length (r ∷ rs)) 0 e in omega arith)
 
-none-shaped : (t : Target) (e : Effect) (rs : List Role) → is_implicit_def e ≡ true → roles_fit t.units t.regs t.classes e rs ≡ true → ⊥
+none-shaped : (t : Target) (e : Effect) (rs : List Role) → has_roles e ≡ false → roles_fit t.units t.regs t.classes e rs ≡ true → ⊥
+none-shaped t effects.Copy rs h g = cc
+none-shaped t effects.Phi rs h g = cc
 none-shaped t effects.ImplicitDef rs h g = cc
+none-shaped t effects.RegSequence rs h g = cc
+none-shaped t effects.InsertSubreg rs h g = cc
 none-shaped t e rs h g = cc
 
-undef-desc : (t : Target) (os : List OpcodeDesc) (k : ℕ) (d : OpcodeDesc) → slice_get os k ≡ Some d → is_implicit_def d.effect ≡ true → starts_with_the_five os ≡ true → list_all (is_opcode_desc t.units t.regs t.classes) (drop 5 os) ≡ true → list_any is_tied d.roles ≡ false
-undef-desc t [] k d g h five rest = absurd (cc)
-undef-desc t (a ∷ []) k d g h five rest = absurd (cc)
-undef-desc t (a ∷ b ∷ []) k d g h five rest = absurd (cc)
-undef-desc t (a ∷ b ∷ c ∷ []) k d g h five rest = absurd (cc)
-undef-desc t (a ∷ b ∷ c ∷ x ∷ []) k d g h five rest = absurd (cc)
-undef-desc t (a ∷ b ∷ c ∷ x ∷ y ∷ os) zero d g h five rest = let q = first_of_both _ _ (first_of_both _ _ (first_of_both _ _ (first_of_both _ _ five))) in subst (λ z. list_any is_tied z.roles ≡ false) (desc-is a d g) (no-roles a.roles (second_of_both _ _ q))
-undef-desc t (a ∷ b ∷ c ∷ x ∷ y ∷ os) (suc zero) d g h five rest = let q = second_of_both _ _ (first_of_both _ _ (first_of_both _ _ (first_of_both _ _ five))) in subst (λ z. list_any is_tied z.roles ≡ false) (desc-is b d g) (no-roles b.roles (second_of_both _ _ q))
-undef-desc t (a ∷ b ∷ c ∷ x ∷ y ∷ os) (suc (suc zero)) d g h five rest = let q = second_of_both _ _ (first_of_both _ _ (first_of_both _ _ five)) in subst (λ z. list_any is_tied z.roles ≡ false) (desc-is c d g) (no-roles c.roles (second_of_both _ _ q))
-undef-desc t (a ∷ b ∷ c ∷ x ∷ y ∷ os) (suc (suc (suc zero))) d g h five rest = let q = second_of_both _ _ (first_of_both _ _ five) in subst (λ z. list_any is_tied z.roles ≡ false) (desc-is x d g) (no-roles x.roles (second_of_both _ _ q))
-undef-desc t (a ∷ b ∷ c ∷ x ∷ y ∷ os) (suc (suc (suc (suc zero)))) d g h five rest = let q = second_of_both _ _ five in subst (λ z. list_any is_tied z.roles ≡ false) (desc-is y d g) (no-roles y.roles (second_of_both _ _ q))
-undef-desc t (a ∷ b ∷ c ∷ x ∷ y ∷ os) (suc (suc (suc (suc (suc k))))) d g h five rest = let good = all-of (is_opcode_desc t.units t.regs t.classes) d os (slice-member os k d g) rest in absurd (none-shaped t d.effect d.roles h (second_of_both _ _ good))
+bare-desc : (t : Target) (os : List OpcodeDesc) (k : ℕ) (d : OpcodeDesc) → slice_get os k ≡ Some d → has_roles d.effect ≡ false → starts_with_the_five os ≡ true → list_all (is_opcode_desc t.units t.regs t.classes) (drop 5 os) ≡ true → d.roles ≡ []
+bare-desc t [] k d g h five rest = absurd (cc)
+bare-desc t (a ∷ []) k d g h five rest = absurd (cc)
+bare-desc t (a ∷ b ∷ []) k d g h five rest = absurd (cc)
+bare-desc t (a ∷ b ∷ c ∷ []) k d g h five rest = absurd (cc)
+bare-desc t (a ∷ b ∷ c ∷ x ∷ []) k d g h five rest = absurd (cc)
+bare-desc t (a ∷ b ∷ c ∷ x ∷ y ∷ os) zero d g h five rest = let q = first_of_both _ _ (first_of_both _ _ (first_of_both _ _ (first_of_both _ _ five))) in subst (λ z. z.roles ≡ []) (desc-is a d g) (no-roles a.roles (second_of_both _ _ q))
+bare-desc t (a ∷ b ∷ c ∷ x ∷ y ∷ os) (suc zero) d g h five rest = let q = second_of_both _ _ (first_of_both _ _ (first_of_both _ _ (first_of_both _ _ five))) in subst (λ z. z.roles ≡ []) (desc-is b d g) (no-roles b.roles (second_of_both _ _ q))
+bare-desc t (a ∷ b ∷ c ∷ x ∷ y ∷ os) (suc (suc zero)) d g h five rest = let q = second_of_both _ _ (first_of_both _ _ (first_of_both _ _ five)) in subst (λ z. z.roles ≡ []) (desc-is c d g) (no-roles c.roles (second_of_both _ _ q))
+bare-desc t (a ∷ b ∷ c ∷ x ∷ y ∷ os) (suc (suc (suc zero))) d g h five rest = let q = second_of_both _ _ (first_of_both _ _ five) in subst (λ z. z.roles ≡ []) (desc-is x d g) (no-roles x.roles (second_of_both _ _ q))
+bare-desc t (a ∷ b ∷ c ∷ x ∷ y ∷ os) (suc (suc (suc (suc zero)))) d g h five rest = let q = second_of_both _ _ five in subst (λ z. z.roles ≡ []) (desc-is y d g) (no-roles y.roles (second_of_both _ _ q))
+bare-desc t (a ∷ b ∷ c ∷ x ∷ y ∷ os) (suc (suc (suc (suc (suc k))))) d g h five rest = let good = all-of (is_opcode_desc t.units t.regs t.classes) d os (slice-member os k d g) rest in absurd (none-shaped t d.effect d.roles h (second_of_both _ _ good))
+
+-- the opcodes that belong to every target have no roles
+pub bare-roles : (t : Target) (i : Instr) (e : Effect) → effect_of t i ≡ Some e → has_roles e ≡ false → roles_of t i ≡ []
+bare-roles t i e known h = by i.op known
+  where
+    at : (q : Option OpcodeDesc) (k : ℕ) → slice_get t.opcodes k ≡ q → option_map (λ (d : OpcodeDesc). d.effect) q ≡ Some e → elim q as (λ q. List Role) [ None ↦ [] | Some d ↦ d.roles ] ≡ []
+    at None k g w = refl
+    at (Some d) k g w =
+        let all = opcodes_sound t.name t.version t.units t.regs t.reserved t.indexes t.classes t.masks t.opcodes t.sound in
+        let same : d.effect ≡ e = cc in
+        bare-desc t t.opcodes k d g (ap has_roles same ∙ h) (second_of_both _ _ (first_of_both _ _ (first_of_both _ _ all))) (second_of_both _ _ (first_of_both _ _ all))
+
+    by : (o : Op) → option_map (λ (d : OpcodeDesc). d.effect) (known_opcode t o) ≡ Some e → elim (known_opcode t o) as (λ q. List Role) [ None ↦ [] | Some d ↦ d.roles ] ≡ []
+    by (ops.Known o) w = at (slice_get t.opcodes o.0) o.0 refl w
+    by (ops.Excluded name) w = refl
 
 pub undef-untied : (t : Target) (i : Instr) → effect_of t i ≡ Some effects.ImplicitDef → list_any is_tied (roles_of t i) ≡ false
-undef-untied t i known = by i.op known
-  where
-    at : (q : Option OpcodeDesc) (k : ℕ) → slice_get t.opcodes k ≡ q → option_map (λ (d : OpcodeDesc). d.effect) q ≡ Some effects.ImplicitDef → list_any is_tied (elim q as (λ q. List Role) [ None ↦ [] | Some d ↦ d.roles ]) ≡ false
-    at None k g h = refl
-    at (Some d) k g h =
-        let all = opcodes_sound t.name t.version t.units t.regs t.reserved t.indexes t.classes t.masks t.opcodes t.sound in
-        undef-desc t t.opcodes k d g (ap (passes is_implicit_def) h) (second_of_both _ _ (first_of_both _ _ (first_of_both _ _ all))) (second_of_both _ _ (first_of_both _ _ all))
-
-    by : (o : Op) → option_map (λ (d : OpcodeDesc). d.effect) (known_opcode t o) ≡ Some effects.ImplicitDef → list_any is_tied (elim (known_opcode t o) as (λ q. List Role) [ None ↦ [] | Some d ↦ d.roles ]) ≡ false
-    by (ops.Known o) h = at (slice_get t.opcodes o.0) o.0 refl h
-    by (ops.Excluded name) h = refl
+undef-untied t i known = ap (list_any is_tied) (bare-roles t i effects.ImplicitDef known refl)
 
 -- a terminator has no explicit definition
 

@@ -34,8 +34,8 @@ use Rattle.phi_elim.specs.Phis.{located_class}
 use Rattle.two_address.specs.Lowered.{copy_form, form_lowered, form_of, insertion_form, instr_lowered, part_of_two, sequence_form, ties_lowered, virtual_in, virtual_loc}
 use Rattle.two_address.specs.Sequences.{beginning, fill_all, filled_lanes, into_part, is_input, keeping_text, parts_of, sequence_lowered}
 use Rattle.two_address.specs.Ties.{undefined_first}
-use Rattle.two_address.specs.declared.forms.Form.TheVariants as forms
-use Rattle.two_address.specs.declared.sequences.Part.{Part}
+use Rattle.two_address.specs.declared.forms.InstrLowering.TheVariants as forms
+use Rattle.two_address.specs.declared.sequences.SubregInput.{SubregInput}
 use Rattle.instr_effects.proofs.Members.{in-either, member-elim, member-none}
 use Rattle.live_laws.proofs.Effects.Lists.{all-of, distinct-apart}
 use Rattle.live_laws.proofs.Effects.Moved.{Apart}
@@ -78,25 +78,25 @@ no-or true b e = absurd (cc)
 no-or false b e = (refl, e)
 
 -- operands in pairs, as parts
-data Pairs : List Operand → List Part → Type 0 where
+data Pairs : List Operand → List SubregInput → Type 0 where
   done : Pairs [] []
-  more : {s : RegOp} {x : IndexId} {os : List Operand} {ps : List Part} → is_virtual_use s ≡ true → Pairs os ps → Pairs (operands.Reg s ∷ operands.Index x ∷ os) (record { input = s; index = x } ∷ ps)
+  more : {s : RegOp} {x : IndexId} {os : List Operand} {ps : List SubregInput} → is_virtual_use s ≡ true → Pairs os ps → Pairs (operands.Reg s ∷ operands.Index x ∷ os) (record { input = s; index = x } ∷ ps)
 
 pairs-of : (os : List Operand) → index_pairs os ≡ true → Pairs os (parts_of os)
 pairs-of [] e = done
 pairs-of (operands.Reg s ∷ operands.Index x ∷ os) e = more (first_of_both (is_virtual_use s) (index_pairs os) e) (pairs-of os (second_of_both (is_virtual_use s) (index_pairs os) e))
 pairs-of os e = absurd (cc)
 
-pairs-first : {os : List Operand} {ps : List Part} → Pairs os ps → flat_map undefined_first os ≡ []
+pairs-first : {os : List Operand} {ps : List SubregInput} → Pairs os ps → flat_map undefined_first os ≡ []
 pairs-first done = refl
 pairs-first (more {s = s} e xs) = λ k. first-used s (first_of_both _ _ e) k ++ pairs-first xs k
 
 -- each is a use
-pairs-used : {os : List Operand} {ps : List Part} → Pairs os ps → (o : RegOp) → Among o (registers os) → o.def ≡ false
+pairs-used : {os : List Operand} {ps : List SubregInput} → Pairs os ps → (o : RegOp) → Among o (registers os) → o.def ≡ false
 pairs-used done o m = absurd (member-none o m)
 pairs-used (more {s = s} {os = os} e xs) o m = member-elim o s (registers os) (λ q. ap (λ (x : RegOp). x.def) q ∙ not-true s.def (first_of_both (not s.def) (not s.implicit) (first_of_both (is_use s) (is_virtual s.loc) e))) (λ k. pairs-used xs o k) m
 
-module _ (t : Target) (f : Function) (all : AllNamed f f.blocks) (classes : AreClasses t f) (site : ℕ) (b : Block) (j : ℕ) (i : Instr) (r : InstrRules t f site b j i) where
+module _ (t : Target) (f : Function) (all : AllNamed f f.blocks) (classes : AreClasses t f) (b : Block) (i : Instr) (r : InstrRules t f i) where
   abbrev H : Function
   H = h t f
 
@@ -107,16 +107,16 @@ module _ (t : Target) (f : Function) (all : AllNamed f f.blocks) (classes : AreC
   n = length f.classes
 
   -- what a sequence gives, by its parts
-  parts-are : (v : ℕ) (d : RegOp) → d.loc ≡ Virtual v → {os : List Operand} {ps : List Part} → Pairs os ps → parts t H d os ≡ given t H v ps
+  parts-are : (v : ℕ) (d : RegOp) → d.loc ≡ Virtual v → {os : List Operand} {ps : List SubregInput} → Pairs os ps → parts t H d os ≡ given t H v ps
   parts-are v d at done = refl
   parts-are v d at (more {s = s} {x = x} e xs) = λ k. moved false (located_lanes t H (at k) (Some x)) (use_sources t H s) ++ parts-are v d at xs k
 
-  numbers-are : {os : List Operand} {ps : List Part} → Pairs os ps → flat_map (lanes_of t) (flat_map index_of os) ≡ filled_lanes t ps
+  numbers-are : {os : List Operand} {ps : List SubregInput} → Pairs os ps → flat_map (lanes_of t) (flat_map index_of os) ≡ filled_lanes t ps
   numbers-are done = refl
   numbers-are (more {x = x} e xs) = ap (λ ns. lanes_of t x ++ ns) (numbers-are xs)
 
   -- the parts of a valid sequence fit register w, where it is none of theirs that are read
-  all-fit : (w : ℕ) (d : RegOp) {os : List Operand} {ps : List Part} → Pairs os ps → ((s : RegOp) → Among s (registers os) → (has_class f s.loc ≡ true) × (has_lanes t f s ≡ true)) → has_class f d.loc ≡ true → (v : ℕ) → d.loc ≡ Virtual v → list_all (λ x. index_fits t f d.loc (Some x)) (flat_map index_of os) ≡ true → parts_fit t f d os ≡ true → ((s : RegOp) → Among s (registers os) → s.undef ≡ false → (l : Lane) → Among l (operand_lanes t H s) → is_lane_of w l ≡ false) → AllFit t H w ps
+  all-fit : (w : ℕ) (d : RegOp) {os : List Operand} {ps : List SubregInput} → Pairs os ps → ((s : RegOp) → Among s (registers os) → (has_class f s.loc ≡ true) × (has_lanes t f s ≡ true)) → has_class f d.loc ≡ true → (v : ℕ) → d.loc ≡ Virtual v → list_all (λ x. index_fits t f d.loc (Some x)) (flat_map index_of os) ≡ true → parts_fit t f d os ≡ true → ((s : RegOp) → Among s (registers os) → s.undef ≡ false → (l : Lane) → Among l (operand_lanes t H s) → is_lane_of w l ≡ false) → AllFit t H w ps
   all-fit w d done known class v at indexes widths apart = tt
   all-fit w d (more {s = s} {x = x} {os = os} {ps = ps} e xs) known class v at indexes widths apart =
       let here' = known s here in
@@ -131,7 +131,7 @@ module _ (t : Target) (f : Function) (all : AllNamed f f.blocks) (classes : AreC
       )
 
   -- an index of a part fits the register
-  part-index : (d : RegOp) {os : List Operand} {ps : List Part} → Pairs os ps → list_all (λ x. index_fits t f d.loc (Some x)) (flat_map index_of os) ≡ true → (k : ℕ) → Among k (filled_lanes t ps) → (x : IndexId) × (index_fits t f d.loc (Some x) ≡ true) × Among k (lanes_of t x)
+  part-index : (d : RegOp) {os : List Operand} {ps : List SubregInput} → Pairs os ps → list_all (λ x. index_fits t f d.loc (Some x)) (flat_map index_of os) ≡ true → (k : ℕ) → Among k (filled_lanes t ps) → (x : IndexId) × (index_fits t f d.loc (Some x) ≡ true) × Among k (lanes_of t x)
   part-index d done indexes k m = absurd (member-none k m)
   part-index d (more {x = x} {os = os} {ps = ps} e xs) indexes k m =
       go (in-either k (lanes_of t x) (filled_lanes t ps) m) (part-index d xs (second_of_both (index_fits t f d.loc (Some x)) (list_all (λ y. index_fits t f d.loc (Some y)) (flat_map index_of os)) indexes) k)
@@ -143,15 +143,15 @@ module _ (t : Target) (f : Function) (all : AllNamed f f.blocks) (classes : AreC
       go (inl q) ih = (x, first_of_both (index_fits t f d.loc (Some x)) (list_all (λ y. index_fits t f d.loc (Some y)) (flat_map index_of os)) indexes, q)
       go (inr q) ih = ih q
 
-  into-items : (w : ℕ) (a : Block) (ps : List Part) → AllFit t H w ps → map (item_of t G a) (map (into_part w) ps) ≡ silents (into t H w ps)
+  into-items : (w : ℕ) (a : Block) (ps : List SubregInput) → AllFit t H w ps → map (item_of t G a) (map (into_part w) ps) ≡ silents (into t H w ps)
   into-items w a [] x = refl
   into-items w a (p ∷ ps) x = λ k. moves-item t f w (Some p.index) p.input (let one = map-length (VirtualLane w) (lanes_of t p.index) in let two = x.0.long in omega (arith, one, two)) a (into_part w p) refl refl k ∷ into-items w a ps x.1 k
 
-  parts-moves : (w : ℕ) (ps : List Part) → AllMoves (map (into_part w) ps)
+  parts-moves : (w : ℕ) (ps : List SubregInput) → AllMoves (map (into_part w) ps)
   parts-moves w [] = tt
   parts-moves w (p ∷ ps) = (move-is (record (whole_definition w) { index = Some p.index }) p.input, parts-moves w ps)
 
-  begun-moves : (k : Option ClassId) (w : ℕ) (ps : List Part) → AllMoves (beginning t k w ps)
+  begun-moves : (k : Option ClassId) (w : ℕ) (ps : List SubregInput) → AllMoves (beginning t k w ps)
   begun-moves k w ps = go (fill_all t k ps)
     where
       go : (y : Bool) → AllMoves (cond y [] (undefining (whole_definition w) ∷ []))
@@ -159,7 +159,7 @@ module _ (t : Target) (f : Function) (all : AllNamed f f.blocks) (classes : AreC
       go false = (inr refl, tt)
 
   module _ (known : effect_of t i ≡ Some effects.RegSequence) (c : ℕ) (stands : Stands (h t f).classes (length f.classes) c (instr_classes t f.classes c i)) (d : RegOp) (rest : List Operand) (are : i.operands ≡ operands.Reg d ∷ rest) (pairs : index_pairs rest ≡ true) (is-def : is_definition d ≡ true) (v : ℕ) (at : d.loc ≡ Virtual v) (index : d.index ≡ None) where
-    abbrev qs : List Part
+    abbrev qs : List SubregInput
     qs = parts_of rest
 
     abbrev N : ℕ
@@ -181,7 +181,7 @@ module _ (t : Target) (f : Function) (all : AllNamed f f.blocks) (classes : AreC
     there' o m = subst (λ os. Among o (registers os)) (sym are) m
 
     has : (o : RegOp) → Among o (d ∷ registers rest) → (has_class f o.loc ≡ true) × (has_lanes t f o ≡ true)
-    has o m = ((named t f site b j i r o (there' o m)).class, lanes-there t f i (shaped t f site b j i r) o (there' o m))
+    has o m = ((named t f i r o (there' o m)).class, lanes-there t f i (shaped t f i r) o (there' o m))
 
     own-class : has_class f (Virtual v) ≡ true
     own-class = ap (has_class f) (sym at) ∙ (has d here).0
@@ -190,7 +190,7 @@ module _ (t : Target) (f : Function) (all : AllNamed f f.blocks) (classes : AreC
     widths = subst (λ os. widths_fit t f effects.RegSequence os ≡ true) are (widths-of t f i effects.RegSequence known r.two)
 
     indexes : list_all (λ x. index_fits t f d.loc (Some x)) (flat_map index_of rest) ≡ true
-    indexes = subst (λ os. subregs_fit t f os ≡ true) are (subregs-there t f i (shaped t f site b j i r) (ap (passes puts_together) known))
+    indexes = subst (λ os. subregs_fit t f os ≡ true) are (subregs-there t f i (shaped t f i r) (ap (passes puts_together) known))
 
     fit : (w : ℕ) → ((s : RegOp) → Among s (registers rest) → s.undef ≡ false → (l : Lane) → Among l (operand_lanes t H s) → is_lane_of w l ≡ false) → AllFit t H w qs
     fit w apart = all-fit w d (pairs-of rest pairs) (λ s m. has s (there m)) (has d here).0 v at indexes (second_of_both (are_apart t rest) (parts_fit t f d rest) widths) apart
@@ -312,7 +312,7 @@ module _ (t : Target) (f : Function) (all : AllNamed f f.blocks) (classes : AreC
         all-none zero l e = absurd (omega arith)
         all-none (suc k) l e = cc
 
-        by : (ps : List Part) → qs ≡ ps → (xs : List Instr) → beginning t class to qs ≡ xs → ⊥
+        by : (ps : List SubregInput) → qs ≡ ps → (xs : List Instr) → beginning t class to qs ≡ xs → ⊥
         by ps is (x ∷ xs) q = let z : ((x ∷ xs) ++ map (into_part to) qs) ++ ys ≡ [] = (λ k. (sym q k ++ map (into_part to) qs) ++ ys) ∙ e in cc
         by (p ∷ ps) is [] q = let z : (map (into_part to) (p ∷ ps)) ++ ys ≡ [] = (λ k. (sym q k ++ map (into_part to) (sym is k)) ++ ys) ∙ e in cc
         by [] is [] q = all-none (length (widths_of_some t class)) some-lane (filled-up (fill_all t class []) refl)
@@ -326,10 +326,10 @@ module _ (t : Target) (f : Function) (all : AllNamed f f.blocks) (classes : AreC
       where
         go : (y : Bool) → is_input (Virtual v) qs ≡ y → InstrStep t f b c i
         go false is =
-            puts t f all site b j i r effects.RegSequence known (refl, refl) c d is-def v at (silent_reads t H effects.RegSequence i.operands) ws own-item (front v ++ []) (starts v ++ into t H v qs) (append-moves (front v) [] (front-moves v) tt) (some-front v []) (lowers false is) (λ a. ap (map (item_of t G a)) (append-nil (front v)) ∙ front-items v refl own-fit a)
+            puts t f all b i r effects.RegSequence known (refl, refl) c d is-def v at (silent_reads t H effects.RegSequence i.operands) ws own-item (front v ++ []) (starts v ++ into t H v qs) (append-moves (front v) [] (front-moves v) tt) (some-front v []) (lowers false is) (λ a. ap (map (item_of t G a)) (append-nil (front v)) ∙ front-items v refl own-fit a)
             (with-undef d.undef refl (starts v ++ into t H v qs) (in-own t H v N qs base starts n (works v own-fit)))
           where
-            none-is : (ps : List Part) {os : List Operand} → Pairs os ps → is_input (Virtual v) ps ≡ false → (s : RegOp) → Among s (registers os) → same_loc (Virtual v) s.loc ≡ false
+            none-is : (ps : List SubregInput) {os : List Operand} → Pairs os ps → is_input (Virtual v) ps ≡ false → (s : RegOp) → Among s (registers os) → same_loc (Virtual v) s.loc ≡ false
             none-is ps done e s m = absurd (member-none s m)
             none-is ps (more {s = q} {os = os} {ps = more-ps} w xs) e s m =
                 let z = no-or (same_loc (Virtual v) q.loc) (is_input (Virtual v) more-ps) e in
@@ -338,7 +338,7 @@ module _ (t : Target) (f : Function) (all : AllNamed f f.blocks) (classes : AreC
             own-fit : AllFit t H v qs
             own-fit = fit v (λ s m plain l k. lanes-apart t H v s.loc s.index (loc-sym (Virtual v) s.loc ∙ none-is qs (pairs-of rest pairs) is s m) l k)
         go true is =
-            puts t f all site b j i r effects.RegSequence known (refl, refl) c d is-def v at (silent_reads t H effects.RegSequence i.operands) ws own-item (front c ++ copy-whole true) ((starts c ++ into t H c qs) ++ (whole_copy v c N ∷ [])) (append-moves (front c) (copy-whole true) (front-moves c) (inl refl, tt)) (some-front c (copy-whole true)) (lowers true is)
+            puts t f all b i r effects.RegSequence known (refl, refl) c d is-def v at (silent_reads t H effects.RegSequence i.operands) ws own-item (front c ++ copy-whole true) ((starts c ++ into t H c qs) ++ (whole_copy v c N ∷ [])) (append-moves (front c) (copy-whole true) (front-moves c) (inl refl, tt)) (some-front c (copy-whole true)) (lowers true is)
             (λ a. map-append (item_of t G a) (front c) (copy-whole true) ∙ ((λ k. front-items c same other-fit a k ++ (copy-whole-item t f v c same a k ∷ [])) ∙ sym (map-append (λ ws. Silent [] ws) (starts c ++ into t H c qs) (whole_copy v c N ∷ []))))
             (with-undef d.undef refl ((starts c ++ into t H c qs) ++ (whole_copy v c N ∷ []))
             (in-other t H v N qs base starts n c stands.above (works c other-fit) (base-own c) (λ k g. covered-undefined v c N k g) (λ l q. undefined-missed false (lanes_by v (numbers 0 N)) l q) within))

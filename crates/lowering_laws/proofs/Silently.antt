@@ -45,7 +45,7 @@ use Rattle.mir_meaning.specs.declared.Form.TheVariants as source_form
 use Rattle.phi_elim.specs.Moves.{destination_of, implicit_def_op, undefining, whole_definition}
 use Rattle.two_address.specs.Lowered.{copy_form, form_lowered, insertion_form, instr_lowered, part_of_two, sequence_form, ties_lowered, virtual_in}
 use Rattle.two_address.specs.Ties.{copy_lowered, retied, retied_operand, retied_use, undefined_first, undefined_whole, with_ties}
-use Rattle.two_address.specs.declared.forms.Form.TheVariants as forms
+use Rattle.two_address.specs.declared.forms.InstrLowering.TheVariants as forms
 use Rattle.instr_effects.proofs.Members.{filter-in, member-elim, member-none}
 use Rattle.live_laws.proofs.Effects.Lists.{all-of}
 use Rattle.live_laws.proofs.Effects.Shapes.{lanes-there, same-lanes, widths-of}
@@ -137,7 +137,7 @@ module _ (t : Target) (cs : List (Option ClassId)) where
   definition-operands [] d rest e h = λ k. operands.Reg (clear-first 0 None d e k) ∷ same-operands t cs 1 [] rest h k
   definition-operands (r ∷ rs) d rest e h = λ k. operands.Reg (clear-first 0 (Some r) d e k) ∷ same-operands t cs 1 (cond (takes_many r) (r ∷ rs) rs) rest h k
 
-module _ (t : Target) (f : Function) (bare' : (n m : ℕ) → (way t (ties_lowered t f) n m).phis ≡ []) (all : AllNamed f f.blocks) (place : ℕ) (b : Block) (j : ℕ) (i : Instr) (r : InstrRules t f place b j i) where
+module _ (t : Target) (f : Function) (bare' : (n m : ℕ) → (way t (ties_lowered t f) n m).phis ≡ []) (all : AllNamed f f.blocks) (b : Block) (i : Instr) (r : InstrRules t f i) where
   abbrev H : Function
   H = h t f
 
@@ -223,7 +223,7 @@ module _ (t : Target) (f : Function) (bare' : (n m : ℕ) → (way t (ties_lower
           (one-silent P n [] all_writes wss old (alike leaves))))
         where
           old : AllOld n all_writes
-          old = subst (λ y. AllOld n (writes_of y)) own (subst (λ y. AllOld n (writes_of y)) (sym (item-stays t f (made t f) all b i (λ o m. named t f place b j i r o m))) (writes-are-old t f b i (λ o m. named t f place b j i r o m)))
+          old = subst (λ y. AllOld n (writes_of y)) own (subst (λ y. AllOld n (writes_of y)) (sym (item-stays t f (made t f) all b i (λ o m. named t f i r o m))) (writes-are-old t f b i (λ o m. named t f i r o m)))
 
           items : map (item_of t G c') (undefined_first (operands.Reg d) ++ last ∷ []) ≡ silents wss
           items =
@@ -267,12 +267,12 @@ module _ (t : Target) (f : Function) (bare' : (n m : ℕ) → (way t (ties_lower
     s-there = subst (λ os. Among s (registers os)) (sym are) (there here)
 
     class-of : (o : RegOp) → Among o (registers i.operands) → has_class f o.loc ≡ true
-    class-of o m = (named t f place b j i r o m).class
+    class-of o m = (named t f i r o m).class
 
     long : length (operand_lanes t H d) ≤ length (operand_lanes t H s)
     long =
         let fits : widths_fit t f effects.Copy (operands.Reg d ∷ operands.Reg s ∷ []) ≡ true = subst (λ os. widths_fit t f effects.Copy os ≡ true) are (widths-of t f i effects.Copy known r.two) in
-        let same = same-lanes t f d s (lanes-there t f i (shaped t f place b j i r) d d-there) (lanes-there t f i (shaped t f place b j i r) s s-there) (first_of_both _ _ (first_of_both _ _ fits)) in
+        let same = same-lanes t f d s (lanes-there t f i (shaped t f i r) d d-there) (lanes-there t f i (shaped t f i r) s s-there) (first_of_both _ _ (first_of_both _ _ fits)) in
         let one = ap length (lanes-stay t f (made t f) d.loc d.index (class-of d d-there)) in
         let two = ap length (lanes-stay t f (made t f) s.loc s.index (class-of s s-there)) in
         let three = lanes-count t f d.loc d.index in

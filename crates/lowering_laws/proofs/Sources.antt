@@ -29,12 +29,11 @@ use Rattle.lowering_laws.specs.Laws.{LoweredPhisRefine}
 use Rattle.lowering_laws.proofs.Alike.{Behind}
 use Rattle.lowering_laws.proofs.Arrivals.{IsPlace, PhiAt, differ, eqb-sym}
 use Rattle.lowering_laws.proofs.Blocks.{BlockFacts, Facts, FirstBare, FromRanges, phis-by-facts}
-use Rattle.lowering_laws.proofs.Classes.{AllNamed}
 use Rattle.lowering_laws.proofs.Ends.{ends-free, falls-followed, names-none, no-branch, target-followed}
 use Rattle.lowering_laws.proofs.Lowering.{AreEnds, IsEnd, NoPhis, Shape, WayOn, arrs, bound, counter, ending, ends, h, none, other, phi}
-use Rattle.lowering_laws.proofs.Operands.{PhiShape, known-effect, named, pair-virtual, phi-shape}
+use Rattle.lowering_laws.proofs.Operands.{PhiShape, all-named, known-effect, named, pair-virtual, phi-shape}
 use Rattle.lowering_laws.proofs.PhisOn.{build, embed, found-or}
-use Rattle.lowering_laws.proofs.Ruled.{AllRules, InstrRules, all-rules}
+use Rattle.lowering_laws.proofs.Ruled.{AllRules, EachRules, PlacedRules, all-rules, each-rules}
 use Rattle.lowering_laws.proofs.Ways.{PhisOn, done}
 
 first-of-three : (a b c : Bool) → (a && b && c) ≡ true → a ≡ true
@@ -150,14 +149,11 @@ module _ (t : Target) (f : Function) (rules : (n : ℕ) (b : Block) → slice_ge
   place : (x : ℕ) (b : Block) → slice_get f.blocks x ≡ Some b → IsPlace f.blocks b.number x
   place x b e = record { at = place-at f.blocks x b e apart; only = place-only f.blocks x b e }
 
-  pub rules-at : (b : Block) (i : Instr) → Among b f.blocks → Among i b.instrs → (k : ℕ) × (j : ℕ) × InstrRules t f k b j i
-  rules-at b i mb mi = let k = member-slice b f.blocks mb in let j = member-slice i b.instrs mi in (k.0, j.0, (rules k.0 b k.1).instrs j.0 i j.1)
-
-  pub all-named : AllNamed f f.blocks
-  all-named b i mb mi o m = let z = rules-at b i mb mi in named t f z.0 b z.1 i z.2 o m
+  each : EachRules t f
+  each = each-rules t f rules
 
   from-ranges : FromRanges (arrs t f)
-  from-ranges = ranges-in t f.blocks (bound t f) (all_instrs f.blocks) (λ i m e. let z = flat-of (λ (b : Block). b.instrs) i f.blocks m in let y = rules-at z.0 i z.1 z.2 in pairs i (phi-shape t f y.0 z.0 y.1 i y.2 e))
+  from-ranges = ranges-in t f.blocks (bound t f) (all_instrs f.blocks) (λ i m e. let z = flat-of (λ (b : Block). b.instrs) i f.blocks m in pairs i (phi-shape t f i (each z.0 i z.1 z.2) e))
     where
       pairs : (i : Instr) → PhiShape t f i.operands → phi_pairs (drop 1 i.operands) ≡ true
       pairs i s = ap (λ os. phi_pairs (drop 1 os)) s.are ∙ s.pairs
@@ -184,7 +180,7 @@ module _ (t : Target) (f : Function) (rules : (n : ℕ) (b : Block) → slice_ge
     at-of : (pre : List Instr) (i : Instr) (is : List Instr) → pre ++ i ∷ is ≡ b.instrs → slice_get b.instrs (length pre) ≡ Some i
     at-of pre i is e = ap (λ js. slice_get js (length pre)) (sym e) ∙ at-length pre i is
 
-    rules-of : (pre : List Instr) (i : Instr) (is : List Instr) → pre ++ i ∷ is ≡ b.instrs → InstrRules t f k b (length pre) i
+    rules-of : (pre : List Instr) (i : Instr) (is : List Instr) → pre ++ i ∷ is ≡ b.instrs → PlacedRules t f k b (length pre) i
     rules-of pre i is e = (rules k b at).instrs (length pre) i (at-of pre i is e)
 
     before-of : (pre rest : List Instr) → pre ++ rest ≡ b.instrs → take (length pre) b.instrs ≡ pre
@@ -218,14 +214,14 @@ module _ (t : Target) (f : Function) (rules : (n : ℕ) (b : Block) → slice_ge
     is-end : (pre : List Instr) (y : Instr) (rest : List Instr) → pre ++ y ∷ rest ≡ b.instrs → does is_phi t y ≡ false → does is_terminator t y ≡ true → IsEnd t f A b y
     is-end pre y rest e n q =
         let r = rules-of pre y rest e in
-        let ke = known-effect t f k b (length pre) y r in
+        let ke = known-effect t f y r.own in
         let last = sym (ap (passes is_terminator) ke.1) ∙ q in
         let m = slice-member b.instrs (length pre) y (at-of pre y rest e) in
         record {
           plain = n;
           ends = q;
-          named = λ o mo. named t f k b (length pre) y r o mo;
-          free = ends-free t f y ke.0 ke.1 r.one last b;
+          named = λ o mo. named t f y r.own o mo;
+          free = ends-free t f y ke.0 ke.1 r.own.one last b;
           target = λ w g. way-on k b at w (target-followed t f k b after behind (rules k b at) y ke.0 ke.1 m n w g);
         }
 
@@ -251,8 +247,8 @@ module _ (t : Target) (f : Function) (rules : (n : ℕ) (b : Block) → slice_ge
         go false g true w rest = ends (is-end pre i is e g w, all-end (pre ++ i ∷ []) is next i last g w)
         go false g false w rest =
             let r = rules-of pre i is e in
-            let ke = known-effect t f k b (length pre) i r in
-            other (g, none-behind (pre ++ i ∷ []) is next i last g) w (λ o mo. named t f k b (length pre) i r o mo) (names-none t f i ke.0 ke.1 r.one g (no-branch t i ke.0 ke.1 w)) rest
+            let ke = known-effect t f i r.own in
+            other (g, none-behind (pre ++ i ∷ []) is next i last g) w (λ o mo. named t f i r.own o mo) (names-none t f i ke.0 ke.1 r.own.one g (no-branch t i ke.0 ke.1 w)) rest
 
     facts-of : (c : ℕ) → counter t (bound t f) f.blocks b.number ≡ c → instrs_of f.blocks b.number ≡ b.instrs → BlockFacts t f k c b after
     facts-of c counted found = record {
@@ -295,7 +291,7 @@ module _ (t : Target) (f : Function) (rules : (n : ℕ) (b : Block) → slice_ge
               by true g h = absurd (let z : false ≡ true = second-of-three (list_all (does is_phi t) (take j.0 b.instrs)) false (lists_once (named_blocks i) (predecessors f b.number)) h in cc)
 
   pub refine : refines t f (phis_lowered t f)
-  refine = phis-by-facts t f all-named from-ranges (laid [] f.blocks refl) first-bare
+  refine = phis-by-facts t f (all-named t f each) from-ranges (laid [] f.blocks refl) first-bare
 
 pub lowered_phis_refine : LoweredPhisRefine
 lowered_phis_refine t f valid = refine t f (all-rules t f valid.shape)

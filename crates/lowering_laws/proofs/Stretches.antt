@@ -11,7 +11,7 @@ use Rattle.meaning.specs.declared.types.Row.{Row}
 use Rattle.meaning.specs.declared.types.Row.TheVariants.{BothCounted, BothEnd, BothStart, FirstSilent, SecondSilent}
 use Rattle.meaning.specs.declared.types.Source.{Source}
 use Rattle.meaning.specs.declared.types.Source.TheVariants.{Undef}
-use Rattle.meaning.specs.declared.types.Ways.{Ways}
+use Rattle.meaning.specs.declared.types.EdgePair.{EdgePair}
 use Rattle.laws.proofs.Core.{Coupled, Exits, Plan, Reaches}
 
 pub first-append : (rows rest : List Row) → first_of_rows (rows ++ rest) ≡ first_of_rows rows ++ first_of_rows rest
@@ -53,15 +53,15 @@ operands-more R S w (s ∷ ss) (t ∷ ts) h = (reads-more R S w s t h.0, operand
 pub both-more : (ws vs : Writes) (R S : Rel) → Within S R → Within (after_both ws vs S) (after_both ws vs R)
 both-more ws vs R S w s t k = fill-more R S w (through ws s) (through vs t) k
 
-pub along-more : (e : Ways) (R S : Rel) → Within S R → Within (along e S) (along e R)
+pub along-more : (e : EdgePair) (R S : Rel) → Within S R → Within (along e S) (along e R)
 along-more e R S w s t k = w (settled (through e.first s)) (settled (through e.second t)) k
 
 module _ (K : Plan) where
-  reaches-more : (target : Option Ways) (R S : Rel) → Within S R → Reaches K target S → Reaches K target R
+  reaches-more : (target : Option EdgePair) (R S : Rel) → Within S R → Reaches K target S → Reaches K target R
   reaches-more None R S w h = tt
   reaches-more (Some e) R S w h = λ s t k. along-more e R S w s t (h s t k)
 
-  exits-more : (exits : List Ways) (R S : Rel) → Within S R → Exits K exits S → Exits K exits R
+  exits-more : (exits : List EdgePair) (R S : Rel) → Within S R → Exits K exits S → Exits K exits R
   exits-more exits R S w h e x = λ s t k. along-more e R S w s t (h e x s t k)
 
   pub coupled-more : (rows : List Row) (R S : Rel) → Within S R → Coupled K rows S → Coupled K rows R
@@ -113,7 +113,7 @@ module _ (K : Plan) where
   second-silent R reads ws = record { rows = SecondSilent reads ws ∷ []; first = refl; second = refl; leads = λ rest c. c }
 
   pub both-counted :
-      (R : Rel) (r : Rest) (reads reads' : Reads) (ws ws' : Writes) (target : Option Ways) (exits : List Ways) →
+      (R : Rel) (r : Rest) (reads reads' : Reads) (ws ws' : Writes) (target : Option EdgePair) (exits : List EdgePair) →
       AlikeOperands R reads reads' → Reaches K target (after_both ws ws' R) → Exits K exits (after_both ws ws' R) →
       Stretch R (after_both ws ws' R) (Counted r reads ws (first_target target) (first_edges exits) ∷ []) (Counted r reads' ws' (second_target target) (second_edges exits) ∷ [])
   both-counted R r reads reads' ws ws' target exits a b c = record { rows = BothCounted r reads reads' ws ws' target exits ∷ []; first = refl; second = refl; leads = λ rest d. (a, b, c, d) }

@@ -10,7 +10,7 @@ use Rattle.mir_meaning.specs.Points.{has_no_phis}
 use Rattle.mir_meaning.specs.Valid.{IsValid, shape_fault}
 use Rattle.live_laws.specs.Effects.Shaped.{AreClasses}
 use Rattle.phi_elim.specs.Phis.{phis_lowered}
-use Rattle.two_address.specs.Lowered.{ties_lowered}
+use Rattle.two_address.specs.Lowered.{lowered, ties_lowered}
 
 -- the function without phis does what a valid source does
 abbrev pub LoweredPhisRefine : Type 0
@@ -28,3 +28,7 @@ LoweredTiedRefine = (t : Target) (f : Function) → shape_fault t forms.Source f
 -- Behind it no instruction is a phi, REG_SEQUENCE or INSERT_SUBREG.
 abbrev pub NoneLoweredAway : Type 0
 NoneLoweredAway = (t : Target) (f : Function) → shape_fault t forms.Source f ≡ None → has_no_phis t f.blocks ≡ true → list_all (λ b. list_all (λ i. not (does is_lowered_away t i)) b.instrs) (ties_lowered t f).blocks ≡ true
+
+-- A valid source behind both passes does what it did. Its classes are the target's.
+abbrev pub LoweredRefine : Type 0
+LoweredRefine = (t : Target) (f : Function) → IsValid t forms.Source f → AreClasses t f → refines t f (lowered t f)

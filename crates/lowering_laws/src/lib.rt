@@ -2,7 +2,7 @@
 //! that a check proves it.
 #![tactic(auto)]
 
-ghost use Rattle.lowering_laws.specs.Laws.{LoweredPhisRefine, LoweredTiedRefine, NoneLoweredAway, PhisAreGone};
+ghost use Rattle.lowering_laws.specs.Laws.{LoweredPhisRefine, LoweredRefine, LoweredTiedRefine, NoneLoweredAway, PhisAreGone};
 
 /// A valid source without its phis does what it did.
 pub fn phis_law()
@@ -22,4 +22,9 @@ pub fn tied_law()
 /// Behind it no instruction is left that is lowered away.
 pub fn away_law()
     ensures { NoneLoweredAway }
+{}
+
+/// A valid source behind both passes, phis first and then ties, does what it did.
+pub fn lowered_law()
+    ensures { LoweredRefine }
 {}

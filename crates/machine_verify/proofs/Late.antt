@@ -24,7 +24,7 @@ use Rattle.mir_func.specs.Binding.{class_of}
 use Rattle.mir_meaning.specs.Points.{Start, LiveAt}
 use Rattle.mir_meaning.specs.Registers.{numbers}
 use Rattle.mir_meaning.specs.Valid.{Fault, IsValid, LiveFault, LiveInto, V13, V13_before, V14, fault_at, first, later, liveins_fit, names_virtual, shape_fault, start}
-use Rattle.instr_effects.specs.declared.row.Lanes.{Lanes}
+use Rattle.instr_effects.specs.declared.row.LaneSpan.{LaneSpan}
 use Rattle.instr_effects.specs.Numbered.{number_in, counts}
 use Rattle.instr_effects.specs.Numbers.{row_number_in}
 use Rattle.instr_effects.specs.Stepping.{tag_of}
@@ -140,9 +140,9 @@ module _ (t : Target) (form : Form) (f : Function) (x : Table) (computed : IsCom
       marked : Option ℕ → Bool
       marked q = marked_at x.rows.rows.items q (get nat_cmp x.order.positions n)
 
-      there : (w : Lanes) → slice_get x.lanes.ranges.items v ≡ Some w → k < w.count → some_register_lives t f x n ≡ true
+      there : (w : LaneSpan) → slice_get x.lanes.ranges.items v ≡ Some w → k < w.count → some_register_lives t f x n ≡ true
       there w e h =
-          let a : slice_get (counts x.lanes.ranges.items) v ≡ Some w.count = in_mapped (λ (y : Lanes). y.count) x.lanes.ranges.items v w e in
+          let a : slice_get (counts x.lanes.ranges.items) v ≡ Some w.count = in_mapped (λ (y : LaneSpan). y.count) x.lanes.ranges.items v w e in
           let z = of_mapped (λ (c : Option ClassId). length (widths_of_some t c)) f.classes v w.count (ap (λ ns. slice_get ns v) (sym computed.numbers.ranges) ∙ a) in
           let q : class_of f v ≡ z.0 = ap (λ (o : Option (Option ClassId)). elim o [ None ↦ None | Some c ↦ c ]) z.1 in
           let long_enough : lane_count t f v ≡ w.count = ap (λ c. length (class_units t.regs (regs_of_some t.classes c))) q ∙ count_is t z.0 ∙ z.2 in
@@ -152,11 +152,11 @@ module _ (t : Target) (form : Form) (f : Function) (x : Table) (computed : IsCom
           let lane : list_any (lane_lives x n v) (numbers 0 (lane_count t f v)) ≡ true = any-in (lane_lives x n v) k (numbers 0 (lane_count t f v)) (numbers-in k 0 (lane_count t f v) (omega arith) (omega (arith, h, long_enough))) m in
           any-in (register_lives t f x n) v (numbers 0 (length f.classes)) (numbers-in v 0 (length f.classes) (omega arith) (omega (arith, within))) (ap (λ b. b && list_any (lane_lives x n v) (numbers 0 (lane_count t f v))) small ∙ lane)
 
-      by : (w : Lanes) (b : Bool) → slice_get x.lanes.ranges.items v ≡ Some w → nat_lt k w.count ≡ b → marked (cond b (Some (w.first + k)) None) ≡ true → some_register_lives t f x n ≡ true
+      by : (w : LaneSpan) (b : Bool) → slice_get x.lanes.ranges.items v ≡ Some w → nat_lt k w.count ≡ b → marked (cond b (Some (w.first + k)) None) ≡ true → some_register_lives t f x n ≡ true
       by w true e g h = there w e (ltb-true k w.count g)
       by w false e g h = absurd (cc)
 
-      go : (q : Option Lanes) → slice_get x.lanes.ranges.items v ≡ q → marked (row_number_in q k) ≡ true → some_register_lives t f x n ≡ true
+      go : (q : Option LaneSpan) → slice_get x.lanes.ranges.items v ≡ q → marked (row_number_in q k) ≡ true → some_register_lives t f x n ≡ true
       go None e h = absurd (cc)
       go (Some w) e h = by w (nat_lt k w.count) e refl h
 

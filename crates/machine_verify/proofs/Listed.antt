@@ -4,7 +4,6 @@ use Rattle.std.specs.Prelude.{◌&&◌, ◌||◌, ◌++◌, not, nat_eq}
 use Rattle.std.specs.List.{list_all, list_any}
 use Rattle.std.proofs.lemmas.List.{drop_more}
 use Rattle.std.proofs.lemmas.List.Folds.{list_all-append}
-use Rattle.target_base.specs.Storage.{same_numbers}
 use Rattle.target_base.specs.Names.{are_distinct_numbers}
 use Rattle.mir_meaning.specs.Registers.{has_number}
 use Rattle.machine_verify.specs.Sets.{Holds, has}
@@ -45,11 +44,6 @@ all_in_set s ms ns h = list_all_alike (has s) (has_number ms) h ns
 
 pub list_all_joined : {X : Type 0} (p : X → Bool) (xs ys : List X) → list_all p (xs ++ ys) ≡ (list_all p xs && list_all p ys)
 list_all_joined p xs ys = list_all-append p xs ys
-
--- one list has ended, and the other hasn't
-pub numbers_stop : (ns : List ℕ) (i : ℕ) (rest : List ℕ) → i < length ns → length rest < 1 → same_numbers (drop i ns) rest ≡ false
-numbers_stop ns i [] h e = ap (λ xs. same_numbers xs []) (drop_more ns i 0 h)
-numbers_stop ns i (m ∷ ms) h e = absurd (omega arith)
 
 -- number j stands again behind its place
 pub twice : (ns : List ℕ) (j k : ℕ) (later : NumberSet) (is_new : Bool) → k ≡ j + 1 → j < length ns → Holds later (drop k ns) → is_new ≡ not (has later (get_or ns j 0)) → is_new ≡ false → false ≡ are_distinct_numbers ns

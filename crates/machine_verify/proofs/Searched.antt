@@ -16,10 +16,10 @@ use Rattle.mir_meaning.specs.declared.Form.TheVariants as forms
 use Rattle.mir_func.specs.Binding.{known_opcode, does, is_terminator}
 use Rattle.mir_meaning.specs.Rules.{V1, V2, V3, V4, V7, V8, predecessors, block_numbers}
 use Rattle.mir_meaning.specs.Valid.{Fault, first_failing, fault_at, instr_fault, instrs_fault, fault_in, block_fault, blocks_fault, least}
-use Rattle.machine_verify.specs.declared.asked.Before.{Before}
+use Rattle.machine_verify.specs.declared.instr_rules.BlockPrefix.{BlockPrefix}
 use Rattle.machine_verify.specs.declared.numbers.NumberSet.{NumberSet}
 use Rattle.machine_verify.specs.Sets.{Holds, has}
-use Rattle.machine_verify.specs.Asked.{instr_rule, phis_fit, terminators_fit, late_rules, before_at, after}
+use Rattle.machine_verify.specs.InstrRules.{instr_rule, phis_fit, terminators_fit, late_rules, before_at, after}
 
 -- behind no instruction
 pub first_before : (t : Target) (is : List Instr) → record { only_phis = true; terminator = false } ≡ before_at t is 0
@@ -78,7 +78,7 @@ blocks_step t form f k bs b h e = rw (drop-cons bs k b h, e) (grind arith)
 
 -- the rule that code finds for instruction j, behind what stands before it
 module _ (t : Target) (form : Form) (f : Function) (k : ℕ) (b : Block) (j : ℕ) (i : Instr) where
-  pub rule_here : (before : Before) (preds : List ℕ) (rule : Option ℕ) → before ≡ before_at t b.instrs j → preds ≡ predecessors f b.number → rule ≡ instr_rule t form f (nat_eq k 0) before preds i → rule ≡ instr_fault t form f k b j i
+  pub rule_here : (before : BlockPrefix) (preds : List ℕ) (rule : Option ℕ) → before ≡ before_at t b.instrs j → preds ≡ predecessors f b.number → rule ≡ instr_rule t form f (nat_eq k 0) before preds i → rule ≡ instr_fault t form f k b j i
   rule_here before preds rule p q r =
       r
       ∙ (ap (λ x. instr_rule t form f (nat_eq k 0) x preds i) p

@@ -1,7 +1,7 @@
 pub mod Sets
 pub mod Operands
 pub mod Ties
-pub mod Asked
+pub mod InstrRules
 pub mod Faults
 pub mod Liveins
 pub mod Lives

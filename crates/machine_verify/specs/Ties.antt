@@ -13,10 +13,6 @@ use Rattle.mir_meaning.specs.Rules.{tie_fits, undef_fits, no_two_share, defined_
 use Rattle.machine_verify.specs.declared.numbers.NumberSet.{NumberSet}
 use Rattle.machine_verify.specs.Sets.{has}
 
--- the definition and the use that share a register
-abbrev pub sides : TiedPair → RegOp × RegOp
-sides p = (p.definition, p.tied_use)
-
 -- a tied pair fits
 abbrev pub pair_fits : Target → Form → Function → TiedPair → Bool
 pair_fits t form f p = tie_fits t form f p.definition p.tied_use

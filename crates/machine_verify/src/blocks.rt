@@ -67,8 +67,8 @@ pub(crate) fn names_are_there(numbers: &NumberSet, b: &Block) -> bool
         && named_are_there(numbers, b.instrs.as_slice())
 }
 
-/// Whether a block has a successor of that number.
-fn has_successor(edges: &[Edge], n: u32) -> bool
+/// Whether one of these edges leads to the block of that number.
+pub fn has_successor(edges: &[Edge], n: u32) -> bool
     ensures { result ≡ has_number (map (λ e. e.block) edges.now) n }
 {
     for e in edges {

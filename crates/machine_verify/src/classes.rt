@@ -54,7 +54,7 @@ fn register_lies_in(target: &Target, f: &Func, k: ClassId, o: &RegOp) -> bool
 }
 
 /// The class that a role asks for, if there is a role and it asks for one.
-fn wanted(role: Option<Role>) -> Option<ClassId>
+fn role_class(role: Option<Role>) -> Option<ClassId>
     ensures { result ≡ option_and_then binding.asked_class role }
 {
     match role {
@@ -85,7 +85,7 @@ fn in_operand_class(target: &Target, f: &Func, effect: Effect, b: &BoundOperand)
     ensures { result ≡ rules.in_operand_class target.now f.now effect (seen b.now) }
 {
     match b.operand {
-        Operand::Reg(o) => match wanted(b.role) {
+        Operand::Reg(o) => match role_class(b.role) {
             None => true,
             Some(k) => {
                 !has_lanes(target, f, o)
@@ -112,19 +112,7 @@ fn in_operand_classes(target: &Target, f: &Func, effect: Effect, bound: &[BoundO
 fn same_numbers(a: &[u32], b: &[u32]) -> bool
     ensures { result ≡ same_numbers a.now b.now }
 {
-    let mut rest = b;
-    for x in a {
-        match rest {
-            [] => return false,
-            [y, more @ ..] => {
-                if *x != *y {
-                    return false;
-                }
-                rest = more;
-            }
-        }
-    }
-    rest.is_empty()
+    a == b
 }
 
 /// The lane widths of an operand.

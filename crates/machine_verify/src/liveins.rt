@@ -11,7 +11,7 @@ ghost use Rattle.mir_meaning.specs.Valid as valid;
 ghost use Rattle.machine_verify.specs.Liveins.{is_set, wanted, wanted_at, chosen_of, standing, register_numbers};
 
 use mir_func::operands::is_virtual;
-use mir_func::{Block, Instr, Operand};
+use mir_func::{Block, Func, Instr, Operand};
 use mir_meaning::Form;
 use std::alloc::{AllocError, Global};
 use target_base::{Boxed, Reg, Target, Unit};
@@ -165,7 +165,7 @@ fn first_holding(target: &Target, u: usize, rs: &[Reg]) -> Option<Reg>
 }
 
 /// The register that stands for a live unit, among the unreserved ones.
-fn chosen(target: &Target, live: &[bool], u: usize, rs: &[Reg]) -> Option<Reg>
+fn cover_register(target: &Target, live: &[bool], u: usize, rs: &[Reg]) -> Option<Reg>
     ensures { result ≡ chosen_of target.now rs.now (is_set live.now) u }
 {
     match first_whole(target, live, u, rs) {
@@ -187,14 +187,19 @@ fn push_wanted(
     if !is_set(live, u) {
         return Ok(());
     }
-    if let Some(r) = chosen(target, live, u, rs) {
+    if let Some(r) = cover_register(target, live, u, rs) {
         out.push(r)?;
     }
     Ok(())
 }
 
 /// The registers that stand for live units, unit by unit.
-fn wanted(alloc: Global, target: &Target, live: &[bool], rs: &[Reg]) -> Result<Vec<Reg>, AllocError>
+fn cover_registers(
+    alloc: Global,
+    target: &Target,
+    live: &[bool],
+    rs: &[Reg],
+) -> Result<Vec<Reg>, AllocError>
     ensures { IfOk result (λ made. made.items ≡ wanted target.now rs.now (is_set live.now) (numbers 0 (length target.now.units))) }
 {
     let mut made = Vec::new(alloc);
@@ -237,7 +242,7 @@ fn cover_fits(alloc: Global, target: &Target, b: &Block, live: &[bool]) -> Resul
     ensures { IfOk result (λ is_right. is_right ≡ same_numbers (map (λ r. r.0) b.now.liveins) (map (λ r. r.0) (valid.cover target.now (is_set live.now)))) }
 {
     let rs = unreserved_registers(alloc, target)?;
-    let stands = wanted(alloc, target, live, rs.as_slice())?;
+    let stands = cover_registers(alloc, target, live, rs.as_slice())?;
     Ok(lists_cover(b.liveins.as_slice(), rs.as_slice(), stands.as_slice()))
 }
 
@@ -290,11 +295,11 @@ fn instrs_name_virtual(instrs: &[Boxed<Instr>]) -> bool
     false
 }
 
-/// Whether some instruction names a virtual register.
-pub(crate) fn names_virtual(blocks: &[Block]) -> bool
-    ensures { result ≡ list_any valid.names_virtual blocks.now }
+/// Whether some instruction of the function names a virtual register.
+pub fn names_virtual(f: &Func) -> bool
+    ensures { result ≡ list_any valid.names_virtual f.now.blocks }
 {
-    for b in blocks {
+    for b in f.blocks.as_slice() {
         if instrs_name_virtual(b.instrs.as_slice()) {
             return true;
         }

@@ -168,13 +168,13 @@ fn implicit_last(operands: &[Operand]) -> bool
     true
 }
 
-fn taking(implicit: &[RegOp], role: Role) -> usize
+fn count_operands_of(implicit: &[RegOp], role: Role) -> usize
     ensures { result ≡ count_by (λ o. binding.takes_role o role) implicit.now }
 {
     implicit.iter().filter(|o| takes_role(o, role)).count()
 }
 
-fn like(roles: &[Role], role: Role) -> usize
+fn count_roles_of(roles: &[Role], role: Role) -> usize
     ensures { result ≡ count_by (rules.same_role role) roles.now }
 {
     roles.iter().filter(|q| same_role(role, **q)).count()
@@ -186,7 +186,9 @@ fn each_stands(roles: &[Role], implicit: &[RegOp]) -> bool
 {
     let mut rest = roles;
     'roles: while let [role, more @ ..] = rest {
-        if is_implicit(*role) && taking(implicit, *role) != like(roles, *role) {
+        if is_implicit(*role)
+            && count_operands_of(implicit, *role) != count_roles_of(roles, *role)
+        {
             return false;
         }
         rest = more;

@@ -4,11 +4,11 @@ ghost use Rattle.std.specs.Prelude.{◌≡◌, ◌<◌, ◌^◌, take, drop, len
 ghost use Rattle.mir_meaning.specs.Rules as rules;
 ghost use Rattle.mir_meaning.specs.Valid as valid;
 ghost use Rattle.machine_verify.specs.Sets.{Holds, HoldsSlots};
-ghost use Rattle.machine_verify.specs.Asked.{before_at};
+ghost use Rattle.machine_verify.specs.InstrRules.{before_at};
 ghost use Rattle.machine_verify.specs.Faults.{fault_of};
 
-use crate::asked::{Before, Incoming, Question, after, instr_rule};
 use crate::blocks::{names_are_there, predecessors, v9, v10, v16};
+use crate::instr_rules::{BlockEntry, BlockPrefix, FuncInForm, after, instr_rule};
 use crate::numbers::NumberSet;
 use crate::stop::Invalid;
 use crate::ties::{spill_slots, v15_frame};
@@ -17,7 +17,7 @@ use std::alloc::{AllocError, Global};
 
 /// The numbers of all blocks, those of the blocks so far, and the spill slots.
 #[derive(Drop)]
-struct Known {
+struct BodyNumbers {
     numbers: NumberSet,
     seen: NumberSet,
     slots: NumberSet,
@@ -36,7 +36,7 @@ fn numbers_of(alloc: Global, blocks: &[Block]) -> Result<NumberSet, AllocError>
 
 /// V5: a block's number differs from those before it, and the blocks that it names are there.
 #[tactic(auto, using(crate::proofs::Meant::v5_is))]
-fn v5(q: &Question, known: &Known, k: usize, b: &Block) -> bool
+fn v5(q: &FuncInForm, known: &BodyNumbers, k: usize, b: &Block) -> bool
     requires numbers { Holds known.now.numbers (rules.block_numbers q.now.f.now.blocks) }
     requires seen { Holds known.now.seen (rules.block_numbers (take k q.now.f.now.blocks)) }
     ensures { result ≡ rules.V5 q.now.f.now k b.now }
@@ -46,7 +46,7 @@ fn v5(q: &Question, known: &Known, k: usize, b: &Block) -> bool
 
 /// V6: the entry block has no predecessor.
 #[tactic(auto, unfolding(mir_meaning::specs::Rules::V6))]
-fn v6(q: &Question, k: usize, b: &Block, preds: &[u32]) -> bool
+fn v6(q: &FuncInForm, k: usize, b: &Block, preds: &[u32]) -> bool
     requires { preds.now ≡ rules.predecessors q.now.f.now b.now.number }
     ensures { result ≡ rules.V6 q.now.f.now k b.now }
 {
@@ -56,8 +56,8 @@ fn v6(q: &Question, k: usize, b: &Block, preds: &[u32]) -> bool
 /// The least rule that fails for a block; V15 of the frame counts at the entry block.
 #[tactic(auto, unfolding(mir_meaning::specs::Valid::block_fault))]
 fn block_fault(
-    q: &Question,
-    known: &Known,
+    q: &FuncInForm,
+    known: &BodyNumbers,
     k: usize,
     b: &Block,
     preds: &[u32],
@@ -128,12 +128,12 @@ fn first_fault_at(b: &Block, rule: Option<u8>) -> Option<Invalid>
 /// The first fault among the instructions of block `k` behind its first one.
 #[tactic(auto, using(crate::proofs::Searched::rule_is, crate::proofs::Searched::instrs_step, crate::proofs::Searched::before_step))]
 fn later_fault(
-    q: &Question,
-    known: &Known,
+    q: &FuncInForm,
+    known: &BodyNumbers,
     k: usize,
     b: &Block,
     preds: &[u32],
-    first: Before,
+    first: BlockPrefix,
 ) -> Result<Option<Invalid>, AllocError>
     requires few { length b.now.instrs < 2 ^ 32 }
     requires slots { HoldsSlots known.now.slots q.now.f.now }
@@ -142,7 +142,7 @@ fn later_fault(
     ensures { IfOk result (λ fault. option_map fault_of fault ≡ valid.instrs_fault q.now.target.now q.now.form q.now.f.now k b.now 1 (drop 1 b.now.instrs)) }
 {
     let instrs = b.instrs.as_slice();
-    let incoming = Incoming {
+    let incoming = BlockEntry {
         is_entry: k == 0,
         preds,
     };
@@ -159,7 +159,12 @@ fn later_fault(
 
 /// The first fault in block `k`, whose own rules count at its first place.
 #[tactic(auto, using(crate::proofs::Searched::rule_is, crate::proofs::Searched::first_before, crate::proofs::Searched::before_step))]
-fn fault_in(q: &Question, known: &Known, k: usize, b: &Block) -> Result<Option<Invalid>, AllocError>
+fn fault_in(
+    q: &FuncInForm,
+    known: &BodyNumbers,
+    k: usize,
+    b: &Block,
+) -> Result<Option<Invalid>, AllocError>
     requires within { k < length q.now.f.now.blocks }
     requires few { length b.now.instrs < 2 ^ 32 }
     requires numbers { Holds known.now.numbers (rules.block_numbers q.now.f.now.blocks) }
@@ -173,11 +178,11 @@ fn fault_in(q: &Question, known: &Known, k: usize, b: &Block) -> Result<Option<I
         return Ok(first_fault_at(b, own));
     };
     let i = i.get();
-    let start = Before {
+    let start = BlockPrefix {
         only_phis: true,
         terminator: false,
     };
-    let incoming = Incoming {
+    let incoming = BlockEntry {
         is_entry: k == 0,
         preds: preds.as_slice(),
     };
@@ -192,13 +197,13 @@ fn fault_in(q: &Question, known: &Known, k: usize, b: &Block) -> Result<Option<I
 /// The first place in layout at which a rule other than V13 and V14 fails, with the least rule
 /// there.
 #[tactic(auto, using(crate::proofs::Searched::blocks_step, live_laws::proofs::Few::few_instrs))]
-pub(crate) fn shape_fault(q: &Question) -> Result<Option<Invalid>, AllocError>
+pub(crate) fn shape_fault(q: &FuncInForm) -> Result<Option<Invalid>, AllocError>
     ensures { IfOk result (λ fault. option_map fault_of fault ≡ valid.shape_fault q.now.target.now q.now.form q.now.f.now) }
 {
     let f = q.f;
     let _last = f.next_id;
     let blocks = f.blocks.as_slice();
-    let mut known = Known {
+    let mut known = BodyNumbers {
         numbers: numbers_of(q.alloc, blocks)?,
         seen: NumberSet::new(q.alloc),
         slots: spill_slots(q.alloc, q.f)?,

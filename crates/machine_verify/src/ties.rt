@@ -1,27 +1,25 @@
 //! V11, V12 and V15: ties, definitions that are apart, and spill slots.
 
-ghost use Rattle.std.specs.Prelude.{◌≡◌, ◌&&◌, ◌||◌, map, filter, filter_map, length, is_none, option_map, option_to_list, true, IfOk};
+ghost use Rattle.std.specs.Prelude.{◌≡◌, ◌&&◌, ◌||◌, map, filter, filter_map, length, is_none, option_to_list, true, IfOk};
 ghost use Rattle.std.specs.List.{list_all, list_any};
 ghost use Rattle.std.specs.Option.{option_map_or};
 ghost use Rattle.meaning.specs.Lanes.{same_lane};
 ghost use Rattle.mir_func.specs.Binding as binding;
-ghost use Rattle.mir_meaning.specs.Items.{unreserved};
-ghost use Rattle.mir_meaning.specs.Registers.{is_reserved};
 ghost use Rattle.mir_meaning.specs.Rules as rules;
 ghost use Rattle.bound_operands.specs.Seen.{seen, seen_all};
 ghost use Rattle.machine_verify.specs.Sets.{HoldsSlots, HoldsSlotsAmong};
-ghost use Rattle.machine_verify.specs.Ties.{sides, pair_fits, reading_besides, slot_fits, spill_numbers};
+ghost use Rattle.machine_verify.specs.Ties.{pair_fits, reading_besides, slot_fits, spill_numbers};
 
 use crate::classes::same_widths;
 use crate::lanes::has_lanes;
 use crate::numbers::{NumberSet, set_of};
 use crate::words::is_slot;
-use bound_operands::BoundOperand;
-use instr_effects::items::lanes::{Lanes, push_operand_lanes};
-use instr_effects::items::results::is_reserved;
+use bound_operands::{BoundOperand, tied_pair};
+use instr_effects::items::lanes::{LaneList, push_operand_lanes};
+use instr_effects::items::results::unreserved;
 use meaning::Lane;
 use mir_func::opcodes::{is_early, tied_number, ties_to};
-use mir_func::operands::{is_virtual, register_at, same_index, same_loc};
+use mir_func::operands::{is_virtual, same_index, same_loc};
 use mir_func::{Func, Loc, Operand, RegOp};
 use mir_meaning::Form;
 use std::alloc::{AllocError, Global};
@@ -56,19 +54,6 @@ fn all_flags_fit(bound: &[BoundOperand]) -> bool
         }
     }
     true
-}
-
-/// The definition and the use that share a register, where the operand's role is tied.
-fn tied_pair(operands: &[Operand], b: &BoundOperand) -> Option<(RegOp, RegOp)>
-    ensures { result ≡ option_map sides (binding.tied_pair operands.now (seen b.now)) }
-{
-    match (b.operand, tied_number(b.role)) {
-        (Operand::Reg(u), Some(number)) => match register_at(operands, number) {
-            Some(d) => Some((d, *u)),
-            None => None,
-        },
-        _ => None,
-    }
 }
 
 /// Whether a tied pair is two virtual operands of equal widths, or one fixed register; of an
@@ -106,9 +91,9 @@ fn pair_fits(
 ) -> Result<bool, AllocError>
     ensures { IfOk result (λ is_right. is_right ≡ option_map_or (pair_fits target.now form f.now) (binding.tied_pair operands.now (seen b.now)) true) }
 {
-    match tied_pair(operands, b) {
+    match tied_pair(operands, *b) {
         None => Ok(true),
-        Some((d, u)) => tie_fits(alloc, target, form, f, &d, &u),
+        Some(p) => tie_fits(alloc, target, form, f, &p.definition, &p.tied_use),
     }
 }
 
@@ -180,21 +165,8 @@ pub(crate) fn undefs_fit(form: Form, named: &[RegOp]) -> bool
     true
 }
 
-/// Those of these lanes that aren't reserved.
-fn unreserved(alloc: Global, target: &Target, lanes: &[Lane]) -> Result<Lanes, AllocError>
-    ensures { IfOk result (λ made. made ≡ unreserved target.now lanes.now) }
-{
-    let mut made = List::new(alloc);
-    for l in lanes {
-        if !is_reserved(target, *l) {
-            made.push(*l)?;
-        }
-    }
-    Ok(made)
-}
-
 /// The lanes of an operand: none where they aren't known.
-fn known_lanes(alloc: Global, target: &Target, f: &Func, o: &RegOp) -> Result<Lanes, AllocError>
+fn known_lanes(alloc: Global, target: &Target, f: &Func, o: &RegOp) -> Result<LaneList, AllocError>
     ensures { IfOk result (λ made. made ≡ rules.defined_lanes target.now f.now true o.now) }
 {
     let mut lanes = List::new(alloc);
@@ -205,7 +177,12 @@ fn known_lanes(alloc: Global, target: &Target, f: &Func, o: &RegOp) -> Result<La
 }
 
 /// The lanes of an operand that count for clashes: none where they aren't known.
-fn clashing_lanes(alloc: Global, target: &Target, f: &Func, o: &RegOp) -> Result<Lanes, AllocError>
+fn clashing_lanes(
+    alloc: Global,
+    target: &Target,
+    f: &Func,
+    o: &RegOp,
+) -> Result<LaneList, AllocError>
     ensures { IfOk result (λ made. made ≡ rules.clashing_lanes target.now f.now o.now) }
 {
     let lanes = known_lanes(alloc, target, f, o)?;
@@ -220,7 +197,7 @@ fn defined_lanes(
     f: &Func,
     opaque: bool,
     d: &RegOp,
-) -> Result<Lanes, AllocError>
+) -> Result<LaneList, AllocError>
     ensures { IfOk result (λ made. made ≡ rules.defined_lanes target.now f.now opaque d.now) }
 {
     if opaque {
@@ -230,7 +207,8 @@ fn defined_lanes(
     }
 }
 
-fn same_lane(a: Lane, b: Lane) -> bool
+/// Whether two lanes are one.
+pub fn same_lane(a: Lane, b: Lane) -> bool
     ensures { result ≡ same_lane a b }
 {
     match (a, b) {
@@ -261,7 +239,7 @@ fn lanes_of_definitions(
     f: &Func,
     opaque: bool,
     named: &[RegOp],
-) -> Result<Vec<Lanes>, AllocError>
+) -> Result<Vec<LaneList>, AllocError>
     ensures { IfOk result (λ made. made.items ≡ map (rules.defined_lanes target.now f.now opaque) (filter (λ o. o.def) named.now)) }
 {
     let mut made = Vec::new(alloc);
@@ -273,14 +251,14 @@ fn lanes_of_definitions(
     Ok(made)
 }
 
-fn shares_with_some(ls: &[Lane], lists: &[Lanes]) -> bool
+fn shares_with_some(ls: &[Lane], lists: &[LaneList]) -> bool
     ensures { result ≡ list_any (rules.share_a_lane ls.now) lists.now }
 {
     lists.iter().any(|ms| share_a_lane(ls, ms.as_slice()))
 }
 
 /// Whether no two of these lists have a lane in common.
-fn no_two_share(lists: &[Lanes]) -> bool
+fn no_two_share(lists: &[LaneList]) -> bool
     ensures { result ≡ rules.no_two_share lists.now }
 {
     let mut rest = lists;

@@ -9,7 +9,7 @@ ghost use Rattle.machine_verify.specs.Faults.{fault_of};
 ghost use Rattle.machine_verify.specs.Lives.{unit_lives, flags_of, lane_lives, register_lives, some_register_lives, block_fits, starts_fit, first_late};
 ghost use Rattle.machine_verify.specs.Verdict.{IsAccepted, IsFault, IfInvalid};
 
-use crate::asked::Question;
+use crate::instr_rules::FuncInForm;
 use crate::liveins::{liveins_fit, names_virtual};
 use crate::search::{fault_at, shape_fault};
 use crate::stop::{Invalid, VerifyStop};
@@ -65,7 +65,7 @@ fn some_lane_lives(live: &LiveTable, v: u32, lanes: usize, block: u32) -> bool
 }
 
 /// Whether a lane of the virtual register of that number is live at the start of a block.
-fn register_lives(q: &Question, live: &LiveTable, v: usize, block: u32) -> bool
+fn register_lives(q: &FuncInForm, live: &LiveTable, v: usize, block: u32) -> bool
     ensures { result ≡ register_lives q.now.target.now q.now.f.now live.now.table block v }
 {
     match u32::try_from(v) {
@@ -79,7 +79,7 @@ fn register_lives(q: &Question, live: &LiveTable, v: usize, block: u32) -> bool
 
 /// Whether a lane of a virtual register is live at the start of a block.
 #[tactic(auto, using(crate::proofs::Lived::numbers_step, crate::proofs::Lived::numbers_end))]
-fn some_register_lives(q: &Question, live: &LiveTable, block: u32) -> bool
+fn some_register_lives(q: &FuncInForm, live: &LiveTable, block: u32) -> bool
     ensures { result ≡ some_register_lives q.now.target.now q.now.f.now live.now.table block }
 {
     let f = q.f;
@@ -92,7 +92,7 @@ fn some_register_lives(q: &Question, live: &LiveTable, block: u32) -> bool
 }
 
 /// V13, of block `k`: its live-ins are those of its live units.
-fn v13(q: &Question, live: &LiveTable, k: usize, b: &Block) -> Result<bool, AllocError>
+fn v13(q: &FuncInForm, live: &LiveTable, k: usize, b: &Block) -> Result<bool, AllocError>
     ensures { IfOk result (λ is_right. is_right ≡ block_fits q.now.target.now q.now.form live.now.table k b.now) }
 {
     let flags = live_units(q.alloc, q.target, live, b.number)?;
@@ -101,19 +101,19 @@ fn v13(q: &Question, live: &LiveTable, k: usize, b: &Block) -> Result<bool, Allo
 
 /// V14: no lane of a virtual register is live at the function's start. Allocated: no virtual
 /// register is named.
-fn v14(q: &Question, live: &LiveTable, first: &Block) -> bool
+fn v14(q: &FuncInForm, live: &LiveTable, first: &Block) -> bool
     ensures { result ≡ starts_fit q.now.target.now q.now.form q.now.f.now live.now.table first.now.number }
 {
     let f = q.f;
     match q.form {
         Form::Source => !some_register_lives(q, live, first.number),
-        Form::Allocated => !names_virtual(f.blocks.as_slice()),
+        Form::Allocated => !names_virtual(f),
     }
 }
 
 /// The first fault of V13 and V14: V13 of the first block, then V14, then V13 of the later blocks.
 #[tactic(auto, using(crate::proofs::Marked::late_step, crate::proofs::Marked::late_end))]
-fn live_fault(q: &Question, live: &LiveTable) -> Result<Option<Invalid>, AllocError>
+fn live_fault(q: &FuncInForm, live: &LiveTable) -> Result<Option<Invalid>, AllocError>
     ensures { IfOk result (λ fault. option_map fault_of fault ≡ first_late q.now.target.now q.now.form q.now.f.now live.now.table q.now.f.now.blocks) }
 {
     let f = q.f;
@@ -136,7 +136,7 @@ fn live_fault(q: &Question, live: &LiveTable) -> Result<Option<Invalid>, AllocEr
 
 /// What is live in a function that is valid in a form.
 #[tactic(auto, using(crate::proofs::Told::told_shape))]
-fn check(q: &Question) -> Result<LiveTable, VerifyStop>
+fn check(q: &FuncInForm) -> Result<LiveTable, VerifyStop>
     ensures ok { OnOk result (IsAccepted q.now.target.now q.now.form q.now.f.now) }
     ensures live { IfOk result (λ x. IsComputed q.now.target.now q.now.f.now x.table) }
     ensures err { IfErr result (IfInvalid (IsFault q.now.target.now q.now.form q.now.f.now)) }
@@ -181,7 +181,7 @@ pub fn verify_live(alloc: Global, target: &Target, f: Func) -> Result<LiveSource
     ensures live { IfOk result (λ v. IsComputed target.now v.source.func v.table.table) }
     ensures err { IfErr result (IfInvalid (IsFault target.now forms.Source f)) }
 {
-    let q = Question {
+    let q = FuncInForm {
         alloc,
         target,
         form: Form::Source,
@@ -211,7 +211,7 @@ pub fn verify_allocated(alloc: Global, target: &Target, f: &Func) -> Result<(), 
     ensures ok { OnOk result (IsAccepted target.now forms.Allocated f.now) }
     ensures err { IfErr result (IfInvalid (IsFault target.now forms.Allocated f.now)) }
 {
-    let q = Question {
+    let q = FuncInForm {
         alloc,
         target,
         form: Form::Allocated,

@@ -1,6 +1,6 @@
 -- Agreement of two functions, by a family of facts for the starts of blocks.
 use Rattle.std.specs.Prelude.{◌≡◌, ℕ, Bool, true, false, cond, ◌&&◌, nat_eq, List, [], ◌∷◌, Option, Some, None}
-use Rattle.meaning.specs.declared.types.Ways.{Ways}
+use Rattle.meaning.specs.declared.types.EdgePair.{EdgePair}
 use Rattle.meaning.specs.declared.types.Row.{Row}
 use Rattle.meaning.specs.declared.types.Row.TheVariants.{BothStart, BothEnd, FirstSilent, SecondSilent, BothCounted}
 use Rattle.meaning.specs.Code.{Function}
@@ -18,18 +18,18 @@ facts_at [] n = []
 facts_at (b ∷ family) n = cond (nat_eq b.0 n) b.1 (facts_at family n)
 
 -- what is known behind the phis of a way into a block
-abbrev pub known_along : Ways → Knowledge → Knowledge
+abbrev pub known_along : EdgePair → Knowledge → Knowledge
 known_along e k = known_second e.second (known_first e.first k)
 
 -- the facts of a block hold on a way into it
-abbrev pub way_holds : Family → Knowledge → Ways → Bool
+abbrev pub way_holds : Family → Knowledge → EdgePair → Bool
 way_holds family k e = all_known (known_along e k) (facts_at family e.block)
 
-abbrev pub ways_hold : Family → Knowledge → List Ways → Bool
+abbrev pub ways_hold : Family → Knowledge → List EdgePair → Bool
 ways_hold family k [] = true
 ways_hold family k (e ∷ es) = way_holds family k e && ways_hold family k es
 
-abbrev pub target_holds : Family → Knowledge → Option Ways → Bool
+abbrev pub target_holds : Family → Knowledge → Option EdgePair → Bool
 target_holds family k None = true
 target_holds family k (Some e) = way_holds family k e
 

@@ -3,7 +3,7 @@ use Rattle.std.specs.Prelude.{◌≡◌, ℕ, Bool, List, [], ◌∷◌, ◌++�
 use Rattle.meaning.specs.declared.types.Lane.{Lane}
 use Rattle.meaning.specs.declared.types.Source.{Source}
 use Rattle.meaning.specs.declared.types.Source.TheVariants.{FromLane, Undef, Bits}
-use Rattle.meaning.specs.declared.types.Ways.{Ways}
+use Rattle.meaning.specs.declared.types.EdgePair.{EdgePair}
 use Rattle.meaning.specs.declared.types.Row.{Row}
 use Rattle.meaning.specs.declared.types.Row.TheVariants.{BothStart, BothEnd, FirstSilent, SecondSilent, BothCounted}
 use Rattle.meaning.specs.Lanes.{Homes, placed}
@@ -35,15 +35,15 @@ abbrev pub AtStarts : Type 0
 AtStarts = ℕ → Homes
 
 -- what is known in a block has its value at home behind the phis of a way into it
-abbrev pub WayHolds : (Lane → Bool) → Code → AtStarts → Rel → Ways → Type 0
+abbrev pub WayHolds : (Lane → Bool) → Code → AtStarts → Rel → EdgePair → Type 0
 WayHolds reserved code at R e = Holds reserved code (at e.block) (found e.block code) (along e R)
 
-abbrev pub TargetHolds : (Lane → Bool) → Code → AtStarts → Option Ways → Rel → Type 0
+abbrev pub TargetHolds : (Lane → Bool) → Code → AtStarts → Option EdgePair → Rel → Type 0
 TargetHolds reserved code at None R = Unit {0}
 TargetHolds reserved code at (Some e) R = WayHolds reserved code at R e
 
-abbrev pub ExitsHold : (Lane → Bool) → Code → AtStarts → List Ways → Rel → Type 0
-ExitsHold reserved code at exits R = (e : Ways) → Among e exits → WayHolds reserved code at R e
+abbrev pub ExitsHold : (Lane → Bool) → Code → AtStarts → List EdgePair → Rel → Type 0
+ExitsHold reserved code at exits R = (e : EdgePair) → Among e exits → WayHolds reserved code at R e
 
 -- the rows of one place, which p follows in the first code, with these homes from there on
 abbrev pub Passes : (Lane → Bool) → Code → AtStarts → Homes → Code → List Row → Rel → Type 0

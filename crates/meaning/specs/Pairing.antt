@@ -1,21 +1,21 @@
 -- The two codes side by side: silent instructions of each alone, all else in pairs.
 use Rattle.std.specs.Prelude.{cond, nat_eq, List, [], ◌∷◌, Option, Some, None}
-use Rattle.meaning.specs.declared.types.Ways.{Ways}
+use Rattle.meaning.specs.declared.types.EdgePair.{EdgePair}
 use Rattle.meaning.specs.declared.types.Row.{Row}
 use Rattle.meaning.specs.declared.types.Row.TheVariants.{BothStart, BothEnd, FirstSilent, SecondSilent, BothCounted}
 use Rattle.meaning.specs.Lanes.{Writes}
 use Rattle.meaning.specs.Code.{Edge, Item, BlockStart, BlockEnd, Silent, Counted, Code}
 use Rattle.meaning.specs.Sameness.{same_rest}
 
-abbrev pub pair_edge : Edge → Edge → Option Ways
+abbrev pub pair_edge : Edge → Edge → Option EdgePair
 pair_edge e f = cond (nat_eq e.block f.block) (Some (record { block = e.block; first = e.phis; second = f.phis })) None
 
-abbrev pub pair_edges : List Edge → List Edge → Option (List Ways)
+abbrev pub pair_edges : List Edge → List Edge → Option (List EdgePair)
 pair_edges [] [] = Some []
 pair_edges (e ∷ es) (f ∷ fs) = elim (pair_edge e f) [ None ↦ None | Some w ↦ elim (pair_edges es fs) [ None ↦ None | Some ws ↦ Some (w ∷ ws) ] ]
 pair_edges _ _ = None
 
-abbrev pub pair_target : Option Edge → Option Edge → Option (Option Ways)
+abbrev pub pair_target : Option Edge → Option Edge → Option (Option EdgePair)
 pair_target None None = Some None
 pair_target (Some e) (Some f) = elim (pair_edge e f) [ None ↦ None | Some w ↦ Some (Some w) ]
 pair_target _ _ = None

@@ -4,7 +4,7 @@ use Rattle.meaning.specs.declared.types.Source.{Source}
 use Rattle.meaning.specs.declared.types.Source.TheVariants.{Undef}
 use Rattle.meaning.specs.declared.types.Fill.{Fill}
 use Rattle.meaning.specs.declared.types.Fill.TheVariants.{Moved, Computed}
-use Rattle.meaning.specs.declared.types.Ways.{Ways}
+use Rattle.meaning.specs.declared.types.EdgePair.{EdgePair}
 use Rattle.meaning.specs.Lanes.{Writes, Reads, settled, through}
 
 -- R s t: source s in the first is Undef or has the value of source t in the second. So R s Undef says that s is Undef.
@@ -28,7 +28,7 @@ abbrev pub after_both : Writes → Writes → Rel → Rel
 after_both ws vs R s t = AlikeFill R (through ws s) (through vs t)
 
 -- behind the phis of a way into a block
-abbrev pub along : Ways → Rel → Rel
+abbrev pub along : EdgePair → Rel → Rel
 along e R = after_second e.second (after_first e.first R)
 
 abbrev pub Everything : Rel

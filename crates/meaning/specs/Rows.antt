@@ -2,29 +2,29 @@
 use Rattle.std.specs.Prelude.{ℕ, cond, nat_eq, List, [], ◌∷◌, Option, Some, None}
 use Rattle.meaning.specs.Lanes.{Writes}
 use Rattle.meaning.specs.Code.{Edge, BlockStart, BlockEnd, Silent, Counted, Code}
-pub use Rattle.meaning.specs.declared.types.Ways.{Ways}
+pub use Rattle.meaning.specs.declared.types.EdgePair.{EdgePair}
 pub use Rattle.meaning.specs.declared.types.Row.{Row}
 pub use Rattle.meaning.specs.declared.types.Row.TheVariants.{BothStart, BothEnd, FirstSilent, SecondSilent, BothCounted}
 
-abbrev pub first_edge : Ways → Edge
+abbrev pub first_edge : EdgePair → Edge
 first_edge e = record { block = e.block; phis = e.first }
 
-abbrev pub second_edge : Ways → Edge
+abbrev pub second_edge : EdgePair → Edge
 second_edge e = record { block = e.block; phis = e.second }
 
-abbrev pub first_edges : List Ways → List Edge
+abbrev pub first_edges : List EdgePair → List Edge
 first_edges [] = []
 first_edges (e ∷ es) = first_edge e ∷ first_edges es
 
-abbrev pub second_edges : List Ways → List Edge
+abbrev pub second_edges : List EdgePair → List Edge
 second_edges [] = []
 second_edges (e ∷ es) = second_edge e ∷ second_edges es
 
-abbrev pub first_target : Option Ways → Option Edge
+abbrev pub first_target : Option EdgePair → Option Edge
 first_target None = None
 first_target (Some e) = Some (first_edge e)
 
-abbrev pub second_target : Option Ways → Option Edge
+abbrev pub second_target : Option EdgePair → Option Edge
 second_target None = None
 second_target (Some e) = Some (second_edge e)
 

@@ -5,4 +5,4 @@
 
 pub mod types;
 
-pub use types::{Constant, Fill, Lane, Reads, Rest, Row, Source, Ways, Widths, Write, Writes};
+pub use types::{Constant, EdgePair, Fill, Lane, Reads, Rest, Row, Source, Widths, Write, Writes};

@@ -89,7 +89,7 @@ pub struct Rest {
 
 /// A way into a block in two codes at once: the block's number, and what the phis of each write.
 #[derive(Drop)]
-pub struct Ways {
+pub struct EdgePair {
     /// The number of the block.
     pub block: u32,
     /// What the phis of the first code write.
@@ -105,14 +105,14 @@ pub enum Row {
     BothStart(u32),
     /// The end of a block in both: what the phis of the block that it falls into write in each, if
     /// it falls into one, and the ways out.
-    BothEnd(Option<(Writes, Writes)>, List<Ways>),
+    BothEnd(Option<(Writes, Writes)>, List<EdgePair>),
     /// A silent instruction of the first alone: what it reads in any case, and what it writes.
     FirstSilent(Reads, Writes),
     /// A silent instruction of the second alone.
     SecondSilent(Reads, Writes),
     /// One counted instruction in both: all that names no register, what each reads, what each
     /// writes, the way to the branch target, and the ways from the exit.
-    BothCounted(Rest, Reads, Reads, Writes, Writes, Option<Ways>, List<Ways>),
+    BothCounted(Rest, Reads, Reads, Writes, Writes, Option<EdgePair>, List<EdgePair>),
 }
 
 impl Copied for Lane {

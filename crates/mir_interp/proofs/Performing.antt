@@ -9,8 +9,8 @@ use Rattle.meaning.specs.declared.types.Rest.{Rest}
 use Rattle.meaning.specs.Perform as meaning
 use Rattle.mir_interp.specs.declared.types.Event.{Event}
 use Rattle.mir_interp.specs.declared.types.End.TheVariants as ends
-use Rattle.mir_interp.specs.declared.outside.Outside as code
-use Rattle.mir_interp.specs.declared.perform.Kind.TheVariants as kinds
+use Rattle.mir_interp.specs.declared.external.ExternalState as code
+use Rattle.mir_interp.specs.declared.perform.EffectKind.TheVariants as kinds
 use Rattle.mir_interp.specs.declared.perform.Control.{Control}
 use Rattle.mir_interp.specs.declared.perform.Control.TheVariants as controls
 use Rattle.mir_interp.specs.Stands.{event_of}
@@ -225,7 +225,7 @@ load_pure r scale env o vs S lanes b a w k e s ew ea el =
 
 -- what is done to the outside
 
-pub did_nothing : (env : Environment) (p : List Value × Control) (m : code.Outside) (es : List Event) (o : Outside) (d : Performed) → Remembers env m o → Pure p o d → Did env p m es es d
+pub did_nothing : (env : Environment) (p : List Value × Control) (m : code.ExternalState) (es : List Event) (o : Outside) (d : Performed) → Remembers env m o → Pure p o d → Did env p m es es d
 did_nothing env p m es o d h q = record {
   results = q.results;
   control = q.control;
@@ -237,10 +237,10 @@ one_more : (es : List Event) (x : Event) (y : meaning.Event) → event_of x ≡ 
 one_more [] x y e = ap (λ t. t ∷ []) e
 one_more (z ∷ es) x y e = ap (λ t. event_of z ∷ t) (one_more es x y e)
 
-did_by : (env : Environment) (p : List Value × Control) (m : code.Outside) (es fs : List Event) (d e : Performed) → d ≡ e → Did env p m es fs e → Did env p m es fs d
+did_by : (env : Environment) (p : List Value × Control) (m : code.ExternalState) (es fs : List Event) (d e : Performed) → d ≡ e → Did env p m es fs e → Did env p m es fs d
 did_by env p m es fs d e h = subst (Did env p m es fs) (sym h)
 
-pub returning_did : (r : Rest) (env : Environment) (o : Outside) (vs : List (List Value)) (m : code.Outside) (es fs : List Event) (lanes : List Value) → kind_of r.effect ≡ kinds.Returning → Remembers env m o → lanes ≡ all_lanes vs → fs ≡ es ++ events.Return lanes ∷ [] → Did env ([], controls.Stop ends.Returned) m es fs (perform r env o vs)
+pub returning_did : (r : Rest) (env : Environment) (o : Outside) (vs : List (List Value)) (m : code.ExternalState) (es fs : List Event) (lanes : List Value) → kind_of r.effect ≡ kinds.Returning → Remembers env m o → lanes ≡ all_lanes vs → fs ≡ es ++ events.Return lanes ∷ [] → Did env ([], controls.Stop ends.Returned) m es fs (perform r env o vs)
 returning_did r env o vs m es fs lanes k h el ef = did_by env _ m es fs _ _ (perform_returning r r.effect env o vs refl k) record {
   results = refl;
   control = refl;
@@ -248,7 +248,7 @@ returning_did r env o vs m es fs lanes k h el ef = did_by env _ m es fs _ _ (per
   events = ap (map event_of) ef ∙ one_more es (events.Return lanes) (ReturnEvent (all_lanes vs)) (ap ReturnEvent el);
 }
 
-pub calling_did : (r : Rest) (env : Environment) (o : Outside) (vs : List (List Value)) (m m' : code.Outside) (es fs : List Event) (lanes answered : List Value) (name : List ℕ) → kind_of r.effect ≡ kinds.Calling → Remembers env m o → m'.bytes ≡ m.bytes → m'.calls ≡ m.calls + 1 → lanes ≡ all_lanes vs → name ≡ r.symbol → answered ≡ answers env m.calls 0 r.result → fs ≡ es ++ events.Call name lanes ∷ [] → Did env (answered, controls.Next) m' es fs (perform r env o vs)
+pub calling_did : (r : Rest) (env : Environment) (o : Outside) (vs : List (List Value)) (m m' : code.ExternalState) (es fs : List Event) (lanes answered : List Value) (name : List ℕ) → kind_of r.effect ≡ kinds.Calling → Remembers env m o → m'.bytes ≡ m.bytes → m'.calls ≡ m.calls + 1 → lanes ≡ all_lanes vs → name ≡ r.symbol → answered ≡ answers env m.calls 0 r.result → fs ≡ es ++ events.Call name lanes ∷ [] → Did env (answered, controls.Next) m' es fs (perform r env o vs)
 calling_did r env o vs m m' es fs lanes answered name k h eb ec el en ea ef = did_by env _ m' es fs _ _ (perform_calling r r.effect env o vs refl k) record {
   results = ea ∙ ap (λ t. answers env t 0 r.result) h.calls;
   control = refl;
@@ -258,7 +258,7 @@ calling_did r env o vs m m' es fs lanes answered name k h eb ec el en ea ef = di
 
 -- opaque instructions
 
-pub leaving_did : (r : Rest) (env : Environment) (o : Outside) (vs : List (List Value)) (m : code.Outside) (es fs : List Event) (lanes : List Value) (name : List ℕ) → Remembers env m o → lanes ≡ all_lanes vs → name ≡ r.symbol → fs ≡ es ++ events.Opaque name lanes ∷ [] → Did env ([], controls.Stop ends.Returned) m es fs (shown opaque_kinds.Return r env o vs)
+pub leaving_did : (r : Rest) (env : Environment) (o : Outside) (vs : List (List Value)) (m : code.ExternalState) (es fs : List Event) (lanes : List Value) (name : List ℕ) → Remembers env m o → lanes ≡ all_lanes vs → name ≡ r.symbol → fs ≡ es ++ events.Opaque name lanes ∷ [] → Did env ([], controls.Stop ends.Returned) m es fs (shown opaque_kinds.Return r env o vs)
 leaving_did r env o vs m es fs lanes name h el en ef = record {
   results = refl;
   control = refl;
@@ -266,7 +266,7 @@ leaving_did r env o vs m es fs lanes name h el en ef = record {
   events = ap (map event_of) ef ∙ one_more es (events.Opaque name lanes) (OpaqueEvent r.symbol (all_lanes vs)) (ap (λ t. OpaqueEvent t lanes) en ∙ ap (OpaqueEvent r.symbol) el);
 }
 
-pub asking_did : (kind : OpaqueKind) (r : Rest) (env : Environment) (o : Outside) (vs : List (List Value)) (m m' : code.Outside) (es fs : List Event) (lanes answered : List Value) (name : List ℕ) (c : Control) → Remembers env m o → m'.bytes ≡ m.bytes → m'.calls ≡ m.calls + 1 → lanes ≡ all_lanes vs → name ≡ r.symbol → answered ≡ answers env m.calls (first_answer kind) r.result → control_of c ≡ answered_control kind env m.calls → fs ≡ es ++ events.Opaque name lanes ∷ [] → Did env (answered, c) m' es fs (asked kind r env o vs)
+pub asking_did : (kind : OpaqueKind) (r : Rest) (env : Environment) (o : Outside) (vs : List (List Value)) (m m' : code.ExternalState) (es fs : List Event) (lanes answered : List Value) (name : List ℕ) (c : Control) → Remembers env m o → m'.bytes ≡ m.bytes → m'.calls ≡ m.calls + 1 → lanes ≡ all_lanes vs → name ≡ r.symbol → answered ≡ answers env m.calls (first_answer kind) r.result → control_of c ≡ answered_control kind env m.calls → fs ≡ es ++ events.Opaque name lanes ∷ [] → Did env (answered, c) m' es fs (asked kind r env o vs)
 asking_did kind r env o vs m m' es fs lanes answered name c h eb ec el en ea ek ef = record {
   results = ea ∙ ap (λ t. answers env t (first_answer kind) r.result) h.calls;
   control = ek ∙ ap (answered_control kind env) h.calls;
@@ -286,26 +286,26 @@ pub shown_asked : (kind : OpaqueKind) (r : Rest) (env : Environment) (o : Outsid
 shown_asked opaque_kinds.Return r env o vs n = absurd (n refl)
 shown_asked kind r env o vs n = refl
 
-pub asked_did : (kind : OpaqueKind) (r : Rest) (env : Environment) (o : Outside) (vs : List (List Value)) (p : List Value × Control) (m : code.Outside) (es fs : List Event) → (kind ≡ opaque_kinds.Return → ⊥) → Did env p m es fs (asked kind r env o vs) → Did env p m es fs (shown kind r env o vs)
+pub asked_did : (kind : OpaqueKind) (r : Rest) (env : Environment) (o : Outside) (vs : List (List Value)) (p : List Value × Control) (m : code.ExternalState) (es fs : List Event) → (kind ≡ opaque_kinds.Return → ⊥) → Did env p m es fs (asked kind r env o vs) → Did env p m es fs (shown kind r env o vs)
 asked_did kind r env o vs p m es fs n h = did_by env p m es fs _ _ (shown_asked kind r env o vs n) h
 
-pub shown_did : (r : Rest) (kind : OpaqueKind) (env : Environment) (o : Outside) (vs : List (List Value)) (p : List Value × Control) (m : code.Outside) (es fs : List Event) (b : Bool) → kind_of r.effect ≡ kinds.Opaque kind → b ≡ lacks r.needed vs → b ≡ false → Did env p m es fs (shown kind r env o vs) → Did env p m es fs (perform r env o vs)
+pub shown_did : (r : Rest) (kind : OpaqueKind) (env : Environment) (o : Outside) (vs : List (List Value)) (p : List Value × Control) (m : code.ExternalState) (es fs : List Event) (b : Bool) → kind_of r.effect ≡ kinds.Opaque kind → b ≡ lacks r.needed vs → b ≡ false → Did env p m es fs (shown kind r env o vs) → Did env p m es fs (perform r env o vs)
 shown_did r kind env o vs p m es fs b k el e h =
     did_by env p m es fs _ _ (perform_opaque r r.effect kind env o vs refl k ∙ ap (λ t. cond t (stopped o Undefined) (shown kind r env o vs)) (sym el ∙ e)) h
 
-pub lacking_did : (r : Rest) (kind : OpaqueKind) (env : Environment) (o : Outside) (vs : List (List Value)) (m : code.Outside) (es : List Event) (b : Bool) → kind_of r.effect ≡ kinds.Opaque kind → Remembers env m o → b ≡ lacks r.needed vs → b ≡ true → Did env ([], controls.Stop ends.Undefined) m es es (perform r env o vs)
+pub lacking_did : (r : Rest) (kind : OpaqueKind) (env : Environment) (o : Outside) (vs : List (List Value)) (m : code.ExternalState) (es : List Event) (b : Bool) → kind_of r.effect ≡ kinds.Opaque kind → Remembers env m o → b ≡ lacks r.needed vs → b ≡ true → Did env ([], controls.Stop ends.Undefined) m es es (perform r env o vs)
 lacking_did r kind env o vs m es b k h el e =
     did_by env _ m es es _ _ (perform_opaque r r.effect kind env o vs refl k ∙ ap (λ t. cond t (stopped o Undefined) (shown kind r env o vs)) (sym el ∙ e))
     record { results = refl; control = refl; outside = h; events = sym (append-nil (map event_of es)) }
 
-store_nowhere : (r : Rest) (env : Environment) (o : Outside) (scale : ℕ) (ls : List Value) (m : code.Outside) (es : List Event) (v : Value) → Remembers env m o → v ≡ None → Did env ([], controls.Stop ends.Undefined) m es es (store_at r o scale ls v)
+store_nowhere : (r : Rest) (env : Environment) (o : Outside) (scale : ℕ) (ls : List Value) (m : code.ExternalState) (es : List Event) (v : Value) → Remembers env m o → v ≡ None → Did env ([], controls.Stop ends.Undefined) m es es (store_at r o scale ls v)
 store_nowhere r env o scale ls m es None h e = record { results = refl; control = refl; outside = h; events = sym (append-nil (map event_of es)) }
 store_nowhere r env o scale ls m es (Some b) h e = absurd (cc)
 
-pub no_base_did : (r : Rest) (scale : ℕ) (env : Environment) (o : Outside) (vs : List (List Value)) (m : code.Outside) (es : List Event) → kind_of r.effect ≡ kinds.Storing scale → Remembers env m o → operand r.widths vs 0 ≡ None → Did env ([], controls.Stop ends.Undefined) m es es (perform r env o vs)
+pub no_base_did : (r : Rest) (scale : ℕ) (env : Environment) (o : Outside) (vs : List (List Value)) (m : code.ExternalState) (es : List Event) → kind_of r.effect ≡ kinds.Storing scale → Remembers env m o → operand r.widths vs 0 ≡ None → Did env ([], controls.Stop ends.Undefined) m es es (perform r env o vs)
 no_base_did r scale env o vs m es k h e = did_by env _ m es es _ _ (perform_storing r r.effect scale env o vs refl k) (store_nowhere r env o scale (lanes_of vs 1) m es (operand r.widths vs 0) h e)
 
-store_somewhere : (r : Rest) (env : Environment) (o : Outside) (scale : ℕ) (ls : List Value) (m' : code.Outside) (es fs : List Event) (v : Value) (b : ℕ) (lanes : List Value) → v ≡ Some b → Matches env m'.bytes (stored (base_width r) (address r scale b) (widths_of r.widths 1) lanes o.bytes) → m'.calls ≡ o.calls → lanes ≡ ls → fs ≡ es ++ events.Store (address r scale b) lanes ∷ [] → Did env ([], controls.Next) m' es fs (store_at r o scale ls v)
+store_somewhere : (r : Rest) (env : Environment) (o : Outside) (scale : ℕ) (ls : List Value) (m' : code.ExternalState) (es fs : List Event) (v : Value) (b : ℕ) (lanes : List Value) → v ≡ Some b → Matches env m'.bytes (stored (base_width r) (address r scale b) (widths_of r.widths 1) lanes o.bytes) → m'.calls ≡ o.calls → lanes ≡ ls → fs ≡ es ++ events.Store (address r scale b) lanes ∷ [] → Did env ([], controls.Next) m' es fs (store_at r o scale ls v)
 store_somewhere r env o scale ls m' es fs None b lanes e h c el ef = absurd (cc)
 store_somewhere r env o scale ls m' es fs (Some d) b lanes e h c el ef =
     let same : b ≡ d = cc in
@@ -316,7 +316,7 @@ store_somewhere r env o scale ls m' es fs (Some d) b lanes e h c el ef =
       events = ap (map event_of) ef ∙ one_more es (events.Store (address r scale b) lanes) (StoreEvent (address r scale d) ls) (ap (λ t. StoreEvent (address r scale t) lanes) same ∙ ap (StoreEvent (address r scale d)) el);
     }
 
-pub storing_did : (r : Rest) (scale : ℕ) (env : Environment) (o : Outside) (vs : List (List Value)) (m' : code.Outside) (es fs : List Event) (b a w : ℕ) (lanes : List Value) → kind_of r.effect ≡ kinds.Storing scale → operand r.widths vs 0 ≡ Some b → w ≡ sum (widths_of r.widths 0) → a ≡ (b + residue r.immediate w * scale) % 2 ^ w → Matches env m'.bytes (stored w a (widths_of r.widths 1) lanes o.bytes) → m'.calls ≡ o.calls → lanes ≡ lanes_of vs 1 → fs ≡ es ++ events.Store a lanes ∷ [] → Did env ([], controls.Next) m' es fs (perform r env o vs)
+pub storing_did : (r : Rest) (scale : ℕ) (env : Environment) (o : Outside) (vs : List (List Value)) (m' : code.ExternalState) (es fs : List Event) (b a w : ℕ) (lanes : List Value) → kind_of r.effect ≡ kinds.Storing scale → operand r.widths vs 0 ≡ Some b → w ≡ sum (widths_of r.widths 0) → a ≡ (b + residue r.immediate w * scale) % 2 ^ w → Matches env m'.bytes (stored w a (widths_of r.widths 1) lanes o.bytes) → m'.calls ≡ o.calls → lanes ≡ lanes_of vs 1 → fs ≡ es ++ events.Store a lanes ∷ [] → Did env ([], controls.Next) m' es fs (perform r env o vs)
 storing_did r scale env o vs m' es fs b a w lanes k e ew ea h c el ef =
     let at = ea ∙ ap (λ t. (b + residue r.immediate t * scale) % 2 ^ t) ew in
     did_by env _ m' es fs _ _ (perform_storing r r.effect scale env o vs refl k)
@@ -327,5 +327,5 @@ storing_did r scale env o vs m' es fs b a w lanes k e ew ea h c el ef =
 pub pure_empty : (ls : List Value) (c : Control) (o : Outside) (d : Performed) → ls ≡ [] → Pure ([], c) o d → Pure (ls, c) o d
 pure_empty ls c o d e h = subst (λ t. Pure (t, c) o d) (sym e) h
 
-pub did_empty : (env : Environment) (ls : List Value) (c : Control) (m : code.Outside) (es fs : List Event) (d : Performed) → ls ≡ [] → Did env ([], c) m es fs d → Did env (ls, c) m es fs d
+pub did_empty : (env : Environment) (ls : List Value) (c : Control) (m : code.ExternalState) (es fs : List Event) (d : Performed) → ls ≡ [] → Did env ([], c) m es fs d → Did env (ls, c) m es fs d
 did_empty env ls c m es fs d e h = subst (λ t. Did env (t, c) m es fs d) (sym e) h

@@ -4,9 +4,9 @@ use Rattle.std.specs.Prelude.{Option, nat_eq, unwrap_or, option_map}
 use Rattle.meaning.specs.declared.types.Rest.{Rest}
 use Rattle.meaning.specs.Lanes.{Writes, Reads}
 use Rattle.meaning.specs.Code.{Item, BlockStart, BlockEnd, Silent, Counted, Code, found}
-use Rattle.mir_interp.specs.declared.steps.Way.{Way}
-use Rattle.mir_interp.specs.declared.steps.Step.{Step}
-use Rattle.mir_interp.specs.declared.steps.Step.TheVariants as steps
+use Rattle.mir_interp.specs.declared.steps.PhiEdge.{PhiEdge}
+use Rattle.mir_interp.specs.declared.steps.DecodedStep.{DecodedStep}
+use Rattle.mir_interp.specs.declared.steps.DecodedStep.TheVariants as steps
 use Rattle.mir_interp.specs.Decoded.{noted, edge_of, item_of_step, code_of_steps}
 use Rattle.mir_interp.proofs.Writing.{drop_mapped}
 
@@ -21,16 +21,16 @@ found_noted n c p (BlockEnd falls exits) at len later e d = d
 found_noted n c p (Silent reads ws) at len later e d = d
 found_noted n c p (Counted r reads ws target exits) at len later e d = d
 
-pub code_at : (ss : List Step) (k : ℕ) (s : Step) → k < length ss → drop k (code_of_steps ss) ≡ (item_of_step (get_or ss k s) ∷ drop (suc k) (code_of_steps ss))
+pub code_at : (ss : List DecodedStep) (k : ℕ) (s : DecodedStep) → k < length ss → drop k (code_of_steps ss) ≡ (item_of_step (get_or ss k s) ∷ drop (suc k) (code_of_steps ss))
 code_at ss k s lt = drop_mapped item_of_step ss k s lt
 
-pub code_here : (ss : List Step) (k : ℕ) (s : Step) → k < length ss → s ≡ get_or ss k s → drop k (code_of_steps ss) ≡ (item_of_step s ∷ drop (suc k) (code_of_steps ss))
+pub code_here : (ss : List DecodedStep) (k : ℕ) (s : DecodedStep) → k < length ss → s ≡ get_or ss k s → drop k (code_of_steps ss) ≡ (item_of_step s ∷ drop (suc k) (code_of_steps ss))
 code_here ss k s lt e = code_at ss k s lt ∙ ap (λ t. item_of_step t ∷ drop (suc k) (code_of_steps ss)) (sym e)
 
-pub counted_here : (ss : List Step) (k : ℕ) (s : Step) (r : Rest) (reads : Reads) (ws : Writes) (target : Option Way) → k < length ss → s ≡ get_or ss k s → s ≡ steps.Counted r reads ws target → drop k (code_of_steps ss) ≡ (Counted r reads ws (option_map edge_of target) [] ∷ drop (suc k) (code_of_steps ss))
+pub counted_here : (ss : List DecodedStep) (k : ℕ) (s : DecodedStep) (r : Rest) (reads : Reads) (ws : Writes) (target : Option PhiEdge) → k < length ss → s ≡ get_or ss k s → s ≡ steps.Counted r reads ws target → drop k (code_of_steps ss) ≡ (Counted r reads ws (option_map edge_of target) [] ∷ drop (suc k) (code_of_steps ss))
 counted_here ss k s r reads ws target lt e h = code_here ss k s lt e ∙ ap (λ t. item_of_step t ∷ drop (suc k) (code_of_steps ss)) h
 
-pub place_next : (n : ℕ) (ss : List Step) (i j k len : ℕ) (s : Step) (later new : Option ℕ) → j ≡ i → k ≡ suc i → i < length ss → s ≡ get_or ss i s → found n (drop k (code_of_steps ss)) ≡ drop (unwrap_or later len) (code_of_steps ss) → new ≡ noted (item_of_step s) (i + 1) n later → found n (drop j (code_of_steps ss)) ≡ drop (unwrap_or new len) (code_of_steps ss)
+pub place_next : (n : ℕ) (ss : List DecodedStep) (i j k len : ℕ) (s : DecodedStep) (later new : Option ℕ) → j ≡ i → k ≡ suc i → i < length ss → s ≡ get_or ss i s → found n (drop k (code_of_steps ss)) ≡ drop (unwrap_or later len) (code_of_steps ss) → new ≡ noted (item_of_step s) (i + 1) n later → found n (drop j (code_of_steps ss)) ≡ drop (unwrap_or new len) (code_of_steps ss)
 place_next n ss i j k len s later new ej ek lt es inv e =
     ap (λ t. found n (drop t (code_of_steps ss))) ej
     ∙ (ap (found n) (code_here ss i s lt es)

@@ -1,20 +1,20 @@
 -- Steps as the items that they are made from.
 use Rattle.std.specs.Prelude.{ℕ, List, [], map, option_map, Option, Some, cond, nat_eq}
 use Rattle.meaning.specs.Code.{Edge, Item, BlockStart, BlockEnd, Silent, Counted, Code}
-use Rattle.mir_interp.specs.declared.steps.Way.{Way}
-use Rattle.mir_interp.specs.declared.steps.Step.{Step}
-use Rattle.mir_interp.specs.declared.steps.Step.TheVariants as steps
+use Rattle.mir_interp.specs.declared.steps.PhiEdge.{PhiEdge}
+use Rattle.mir_interp.specs.declared.steps.DecodedStep.{DecodedStep}
+use Rattle.mir_interp.specs.declared.steps.DecodedStep.TheVariants as steps
 
-abbrev pub edge_of : Way → Edge
+abbrev pub edge_of : PhiEdge → Edge
 edge_of w = record { block = w.block; phis = w.phis }
 
-abbrev pub item_of_step : Step → Item
+abbrev pub item_of_step : DecodedStep → Item
 item_of_step (steps.Start n) = BlockStart n
 item_of_step (steps.End falls) = BlockEnd falls []
 item_of_step (steps.Silent ws) = Silent [] ws
 item_of_step (steps.Counted r reads ws target) = Counted r reads ws (option_map edge_of target) []
 
-abbrev pub code_of_steps : List Step → Code
+abbrev pub code_of_steps : List DecodedStep → Code
 code_of_steps ss = map item_of_step ss
 
 -- an item without what liveness alone asks for

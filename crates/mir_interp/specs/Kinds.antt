@@ -9,15 +9,15 @@ use Rattle.target_base.specs.declared.types.OpaqueKind.{OpaqueKind}
 use Rattle.meaning.specs.Perform as meaning
 use Rattle.mir_interp.specs.declared.types.Event.{Event}
 use Rattle.mir_interp.specs.declared.types.End.TheVariants as ends
-use Rattle.mir_interp.specs.declared.outside.Outside.{Outside}
-use Rattle.mir_interp.specs.declared.perform.Kind.{Kind}
-use Rattle.mir_interp.specs.declared.perform.Kind.TheVariants as kinds
+use Rattle.mir_interp.specs.declared.external.ExternalState.{ExternalState}
+use Rattle.mir_interp.specs.declared.perform.EffectKind.{EffectKind}
+use Rattle.mir_interp.specs.declared.perform.EffectKind.TheVariants as kinds
 use Rattle.mir_interp.specs.declared.perform.Control.{Control}
 use Rattle.mir_interp.specs.declared.perform.Control.TheVariants as controls
 use Rattle.mir_interp.specs.Stands.{event_of, end_of}
 use Rattle.mir_interp.specs.Remembers.{Remembers}
 
-abbrev pub kind_of : Effect → Kind
+abbrev pub kind_of : Effect → EffectKind
 kind_of effects.Add = kinds.Binary
 kind_of effects.Sub = kinds.Binary
 kind_of effects.Mul = kinds.Binary
@@ -96,7 +96,7 @@ pub record Pure (p : List Value × Control) (o : meaning.Outside) (d : meaning.P
   pub events : d.events ≡ []
 
 -- an instruction gave these lanes and this control, left this outside, and added to the events
-pub record Did (env : Environment) (p : List Value × Control) (m : Outside) (old new : List Event) (d : meaning.Performed) : Type 0 where
+pub record Did (env : Environment) (p : List Value × Control) (m : ExternalState) (old new : List Event) (d : meaning.Performed) : Type 0 where
   pub results : p.0 ≡ d.results
   pub control : control_of p.1 ≡ d.control
   pub outside : Remembers env m d.outside

@@ -3,17 +3,17 @@ use Rattle.std.specs.Prelude.{◌≡◌, ℕ, ◌/◌, ◌%◌, nat_eq, cond, Li
 use Rattle.std.specs.Map.{lookup}
 use Rattle.meaning.specs.Environment.{Environment, Value, byte_of}
 use Rattle.meaning.specs.Perform as meaning
-use Rattle.mir_interp.specs.declared.memory.Chunk.{Chunk}
+use Rattle.mir_interp.specs.declared.memory.MemoryLine.{MemoryLine}
 use Rattle.mir_interp.specs.declared.memory.Memory.{Memory}
-use Rattle.mir_interp.specs.declared.outside.Outside.{Outside}
+use Rattle.mir_interp.specs.declared.external.ExternalState.{ExternalState}
 
 -- the cells of a chunk; none where it is missing
-abbrev pub unless_missing : Option Chunk → List (Option Value)
+abbrev pub unless_missing : Option MemoryLine → List (Option Value)
 unless_missing None = []
 unless_missing (Some c) = c.cells
 
 -- the cells of the chunk of a number in the map
-abbrev pub cells_in : List (ℕ × Chunk) → ℕ → List (Option Value)
+abbrev pub cells_in : List (ℕ × MemoryLine) → ℕ → List (Option Value)
 cells_in es n = unless_missing (lookup (nat_eq n) es)
 
 -- the cells of the chunk of a number
@@ -36,6 +36,6 @@ remembered env m a = unless_stored env a (stored_at m a)
 abbrev pub Matches : Environment → Memory → List (ℕ × Value) → Type 0
 Matches env m bs = (a : ℕ) → meaning.byte_at env bs a ≡ remembered env m a
 
-pub record Remembers (env : Environment) (m : Outside) (o : meaning.Outside) : Type 0 where
+pub record Remembers (env : Environment) (m : ExternalState) (o : meaning.Outside) : Type 0 where
   pub bytes : Matches env m.bytes o.bytes
   pub calls : m.calls ≡ o.calls

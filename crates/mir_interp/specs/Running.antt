@@ -15,8 +15,8 @@ use Rattle.meaning.specs.Perform.{Outside, Undefined}
 use Rattle.meaning.specs.Code.{Code, Item, Goes, Run, walk, ended}
 use Rattle.mir_interp.specs.declared.types.Event.{Event}
 use Rattle.mir_interp.specs.declared.types.End.{End}
-use Rattle.mir_interp.specs.declared.machine.Passed.{Passed}
-use Rattle.mir_interp.specs.declared.machine.Passed.TheVariants as passes
+use Rattle.mir_interp.specs.declared.machine.SilentResult.{SilentResult}
+use Rattle.mir_interp.specs.declared.machine.SilentResult.TheVariants as passes
 use Rattle.mir_interp.specs.declared.machine.Machine.{Machine}
 use Rattle.mir_interp.specs.Holds.{held_by, updated}
 use Rattle.mir_interp.specs.Remembers.{Remembers}
@@ -61,7 +61,7 @@ put_in_turn env results [] state = state
 put_in_turn env results (w ∷ ws) state = updated (put_in_turn env results ws state) w.lane (fill env results (put_in_turn env results ws state) w.fill)
 
 -- the run from an item that was passed, or wasn't, before p
-abbrev pub passed_on : Environment → Code → Goes → Item → Code → Passed → State → Outside → Run
+abbrev pub passed_on : Environment → Code → Goes → Item → Code → SilentResult → State → Outside → Run
 passed_on env code next i p passes.On state o = walk env code next p state o
 passed_on env code next i p passes.Stuck state o = ended Undefined
 passed_on env code next i p passes.Counted state o = walk env code next (i ∷ p) state o

@@ -8,7 +8,7 @@ ghost use Rattle.mir_interp.specs.Holds.{held_by};
 ghost use Rattle.mir_interp.specs.Stands.{Stands, given_by};
 
 use crate::names::is_same;
-use crate::numbers::{put_above, shifted};
+use crate::numbers::{put_above, shift_right};
 use crate::store::Store;
 use crate::types::Lanes;
 use crate::world::World;
@@ -19,7 +19,7 @@ use target_base::Bytes;
 
 /// What a run finds: the world, and the symbols of the function by first appearance.
 #[derive(Drop)]
-pub struct Surroundings<'a, W> {
+pub struct RunContext<'a, W> {
     /// The world.
     pub world: &'a W,
     /// The symbols.
@@ -39,15 +39,21 @@ fn place_of(names: &[Bytes], name: &[u8]) -> Result<usize, AllocError>
     Err(AllocError)
 }
 
-impl<'a, W: World> Surroundings<'a, W> {
+/// Says of a frame object that it is a fixed one, as `%fixed-stack.n`.
+const FIXED: bool = true;
+
+/// Says of a frame object that it is no fixed one, as `%stack.n`.
+const MOVABLE: bool = false;
+
+impl<'a, W: World> RunContext<'a, W> {
     /// A constant as a number.
     fn number_of(&self, c: &Constant) -> Result<u128, AllocError>
         ensures { IfOk result (λ v. (n : ℕ) (env : Environment) → Stands (given_by W.entry W.byte W.frame W.symbol W.answer self.now.world.now) self.now.symbols.now n env → (w : ℕ) → constant_residue env c.now w ≡ v % 2 ^ w) }
     {
         match c {
             Constant::Immediate(n) => Ok(*n),
-            Constant::StackAddress(n) => Ok(low_bits(self.world.frame(false, *n), 64)),
-            Constant::FixedStackAddress(n) => Ok(low_bits(self.world.frame(true, *n), 64)),
+            Constant::StackAddress(n) => Ok(low_bits(self.world.frame(MOVABLE, *n), 64)),
+            Constant::FixedStackAddress(n) => Ok(low_bits(self.world.frame(FIXED, *n), 64)),
             Constant::SymbolAddress(name) => {
                 let m = place_of(self.symbols, name.as_slice())?;
                 Ok(low_bits(self.world.symbol(m), 64))
@@ -64,7 +70,7 @@ impl<'a, W: World> Surroundings<'a, W> {
             return Err(AllocError);
         };
         let number = self.number_of(c)?;
-        Ok(shifted(low_bits(number, end), low))
+        Ok(shift_right(low_bits(number, end), low))
     }
 
     /// What a source gives.
@@ -119,13 +125,13 @@ impl<'a, W: World> Surroundings<'a, W> {
         let sources = picked.as_slice();
         let own = widths.get(k);
         let own_widths = own.as_slice();
-        let number = self.joined(store, own_widths, sources)?;
+        let number = self.join_sources(store, own_widths, sources)?;
         Ok(number)
     }
 
     /// What sources of these widths give as one number, the lowest first; None where one is Undef or
     /// missing.
-    fn joined(
+    fn join_sources(
         &self,
         store: &Store,
         widths: &[u32],

@@ -3,12 +3,12 @@
 #![tactic(auto)]
 
 pub mod env;
+pub mod external;
 pub mod fetch;
 pub mod machine;
 pub mod memory;
 pub mod names;
 pub mod numbers;
-pub mod outside;
 pub mod perform;
 pub mod steps;
 pub mod store;

@@ -17,12 +17,12 @@ ghost use Rattle.mir_interp.specs.Decoded.{edge_of, item_of_step, code_of_steps}
 ghost use Rattle.mir_interp.specs.Kinds.{control_of};
 ghost use Rattle.mir_interp.specs.Running.{Continues, Stepped, put_in, put_in_turn, reads_no_lane, read_no_lane, given_units, passed_on, gone_on, onward};
 
-use crate::fetch::Surroundings;
+use crate::external::ExternalState;
+use crate::fetch::RunContext;
 use crate::names::symbols_of;
 use crate::numbers::with_room;
-use crate::outside::Outside;
-use crate::perform::{Control, Performer};
-use crate::steps::{Step, Way, places_of, steps_of};
+use crate::perform::{Control, Executor};
+use crate::steps::{DecodedStep, PhiEdge, places_of, steps_of};
 use crate::store::Store;
 use crate::types::{End, Events, Lanes, Outcome};
 use crate::world::World;
@@ -35,8 +35,8 @@ use target_base::classes::width_of;
 use target_base::{List, Reg, Target, Unit};
 
 /// What a fill gives to its lane.
-fn filled<W: World>(
-    around: &Surroundings<W>,
+fn fill_value<W: World>(
+    around: &RunContext<W>,
     store: &Store,
     results: &[Option<u128>],
     given: &Fill,
@@ -67,7 +67,7 @@ fn nth(values: &[Option<u128>], n: u32) -> Option<u128>
 /// What each write gives to its lane, before any of them is made.
 fn fills<W: World>(
     alloc: Global,
-    around: &Surroundings<W>,
+    around: &RunContext<W>,
     store: &Store,
     results: &[Option<u128>],
     writes: &[Write],
@@ -76,7 +76,7 @@ fn fills<W: World>(
 {
     let mut values = with_room(alloc, writes.len())?;
     for w in writes {
-        let value = filled(around, store, results, &w.fill)?;
+        let value = fill_value(around, store, results, &w.fill)?;
         values.push(value)?;
     }
     Ok(values)
@@ -120,7 +120,7 @@ fn read_no_lane(writes: &[Write]) -> bool
 
 /// Makes writes one after another, from the last on.
 fn put_in_turn<W: World>(
-    around: &Surroundings<W>,
+    around: &RunContext<W>,
     store: &mut Store,
     results: &[Option<u128>],
     writes: &[Write],
@@ -130,7 +130,7 @@ fn put_in_turn<W: World>(
     for k in 0..writes.len() {
         let i = writes.len() - 1 - k;
         let w = &writes[i];
-        let value = filled(around, store, results, &w.fill)?;
+        let value = fill_value(around, store, results, &w.fill)?;
         store.set(&w.lane, value)?;
     }
     Ok(())
@@ -139,7 +139,7 @@ fn put_in_turn<W: World>(
 /// Makes writes, all at once.
 fn write<W: World>(
     alloc: Global,
-    around: &Surroundings<W>,
+    around: &RunContext<W>,
     store: &mut Store,
     results: &[Option<u128>],
     writes: &[Write],
@@ -216,7 +216,7 @@ fn give_all<W: World>(
 
 /// How a step went that may count for nothing.
 #[derive(Clone, Copy)]
-enum Passed {
+enum SilentResult {
     /// It is done, and the run goes on behind it.
     On,
     /// The run goes no further.
@@ -228,26 +228,26 @@ enum Passed {
 /// Does a step that counts for nothing.
 fn pass<W: World>(
     alloc: Global,
-    around: &Surroundings<W>,
+    around: &RunContext<W>,
     store: &mut Store,
-    step: &Step,
-) -> Result<Passed, AllocError>
+    step: &DecodedStep,
+) -> Result<SilentResult, AllocError>
     ensures { IfOk result (λ r. (m : ℕ) (env : Environment) → Stands (given_by W.entry W.byte W.frame W.symbol W.answer around.now.world.now) around.now.symbols.now m env → (code : Code) (next : Goes) (p : Code) (o : meaning.Outside) → walk env code next (item_of_step step.now ∷ p) (held_by store.old) o ≡ passed_on env code next (item_of_step step.now) p r (held_by store.new) o) }
 {
     match step {
-        Step::Start(_) => Ok(Passed::On),
-        Step::End(falls) => match falls {
-            None => Ok(Passed::Stuck),
+        DecodedStep::Start(_) => Ok(SilentResult::On),
+        DecodedStep::End(falls) => match falls {
+            None => Ok(SilentResult::Stuck),
             Some(phis) => {
                 write(alloc, around, store, &[], phis.as_slice())?;
-                Ok(Passed::On)
+                Ok(SilentResult::On)
             }
         },
-        Step::Silent(writes) => {
+        DecodedStep::Silent(writes) => {
             write(alloc, around, store, &[], writes.as_slice())?;
-            Ok(Passed::On)
+            Ok(SilentResult::On)
         }
-        Step::Counted(_, _, _, _) => Ok(Passed::Counted),
+        DecodedStep::Counted(_, _, _, _) => Ok(SilentResult::Counted),
     }
 }
 
@@ -255,9 +255,9 @@ fn pass<W: World>(
 /// there is none.
 fn advance<W: World>(
     alloc: Global,
-    around: &Surroundings<W>,
+    around: &RunContext<W>,
     store: &mut Store,
-    steps: &[Step],
+    steps: &[DecodedStep],
     at: usize,
 ) -> Result<Option<usize>, AllocError>
     ensures { IfOk result (λ r. (m : ℕ) (env : Environment) → Stands (given_by W.entry W.byte W.frame W.symbol W.answer around.now.world.now) around.now.symbols.now m env → (code : Code) (next : Goes) (o : meaning.Outside) → walk env code next (drop at (code_of_steps steps.now)) (held_by store.old) o ≡ gone_on env code next (code_of_steps steps.now) r (held_by store.new) o) }
@@ -265,9 +265,9 @@ fn advance<W: World>(
     for k in at..steps.len() {
         let passed = pass(alloc, around, store, &steps[k])?;
         match passed {
-            Passed::On => {}
-            Passed::Stuck => return Ok(None),
-            Passed::Counted => return Ok(Some(k)),
+            SilentResult::On => {}
+            SilentResult::Stuck => return Ok(None),
+            SilentResult::Counted => return Ok(Some(k)),
         }
     }
     Ok(None)
@@ -286,11 +286,11 @@ fn place_of(places: &HashMap<u32, usize>, count: usize, n: u32) -> usize
 /// Enters the target of a branch; the place to go on at.
 fn enter<W: World>(
     alloc: Global,
-    around: &Surroundings<W>,
+    around: &RunContext<W>,
     store: &mut Store,
-    steps: &[Step],
+    steps: &[DecodedStep],
     places: &HashMap<u32, usize>,
-    target: &Option<Way>,
+    target: &Option<PhiEdge>,
 ) -> Result<usize, AllocError>
     requires { (n : ℕ) → found n (code_of_steps steps.now) ≡ drop (unwrap_or (get nat_eq places.now n) (length steps.now)) (code_of_steps steps.now) }
     ensures place { IfOk result (λ at. drop at (code_of_steps steps.now) ≡ target_place (code_of_steps steps.now) (option_map edge_of target.now)) }
@@ -309,7 +309,7 @@ fn enter<W: World>(
 #[derive(Drop)]
 struct Machine {
     store: Store,
-    outside: Outside,
+    outside: ExternalState,
     events: Events,
 }
 
@@ -319,7 +319,7 @@ struct Transfer<'a> {
     /// The place of the instruction.
     at: usize,
     /// Its branch target.
-    target: &'a Option<Way>,
+    target: &'a Option<PhiEdge>,
     /// Which way it chose.
     control: Control,
 }
@@ -327,9 +327,9 @@ struct Transfer<'a> {
 /// Where a run goes on behind an instruction that was done.
 fn go_on<W: World>(
     alloc: Global,
-    around: &Surroundings<W>,
+    around: &RunContext<W>,
     store: &mut Store,
-    steps: &[Step],
+    steps: &[DecodedStep],
     places: &HashMap<u32, usize>,
     transfer: &Transfer,
 ) -> Result<Result<usize, End>, AllocError>
@@ -350,9 +350,9 @@ fn go_on<W: World>(
 /// Does the counted instruction at a place; the place to go on at, or the end.
 fn step<W: World>(
     alloc: Global,
-    around: &Surroundings<W>,
+    around: &RunContext<W>,
     machine: &mut Machine,
-    steps: &[Step],
+    steps: &[DecodedStep],
     places: &HashMap<u32, usize>,
     at: usize,
 ) -> Result<Result<usize, End>, AllocError>
@@ -364,8 +364,8 @@ fn step<W: World>(
         return Ok(Err(End::Undefined));
     }
     match &steps[at] {
-        Step::Counted(rest, reads, writes, target) => {
-            let performer = Performer {
+        DecodedStep::Counted(rest, reads, writes, target) => {
+            let performer = Executor {
                 around: &*around,
                 store: &machine.store,
                 rest,
@@ -400,9 +400,9 @@ fn step<W: World>(
 /// Goes through n counted instructions; how it ends.
 fn go<W: World>(
     alloc: Global,
-    around: &Surroundings<W>,
+    around: &RunContext<W>,
     machine: &mut Machine,
-    steps: &[Step],
+    steps: &[DecodedStep],
     places: &HashMap<u32, usize>,
     n: u64,
 ) -> Result<End, AllocError>
@@ -441,13 +441,13 @@ pub fn run<W: World>(
     let mut store = Store::new(alloc, target.units.len(), f.classes.len())?;
     begin(&mut store, world, target, f)?;
     let names = symbols.as_slice();
-    let around = Surroundings {
+    let around = RunContext {
         world,
         symbols: names,
     };
     let mut machine = Machine {
         store,
-        outside: Outside::new(alloc),
+        outside: ExternalState::new(alloc),
         events: List::new(alloc),
     };
     let end = go(alloc, &around, &mut machine, decoded, &places, n)?;

@@ -10,16 +10,16 @@ use std::collections::HashMap;
 /// What was stored at 16 addresses, of which the first is a multiple of 16: None where nothing was,
 /// and Some(None) where an undefined byte was.
 #[derive(Clone, Copy)]
-struct Chunk {
+struct MemoryLine {
     cells: [Option<Option<u8>>; 16],
 }
 
-impl Chunk {
+impl MemoryLine {
     /// Nothing stored.
-    fn empty() -> Chunk
+    fn empty() -> MemoryLine
         ensures { (k : ℕ) → slice_index_or result.cells k None ≡ None }
     {
-        Chunk { cells: [None; 16] }
+        MemoryLine { cells: [None; 16] }
     }
 
     /// What was stored in a cell.
@@ -45,11 +45,11 @@ impl Chunk {
 pub struct Memory {
     /// The chunks by their numbers, which are their addresses divided by 16. What stands here under
     /// the number of the chunk at hand is old, and counts for nothing.
-    chunks: HashMap<u128, Chunk>,
+    chunks: HashMap<u128, MemoryLine>,
     /// The number of the chunk at hand.
     number: u128,
     /// The chunk at hand.
-    at_hand: Chunk,
+    at_hand: MemoryLine,
 }
 
 impl Memory {
@@ -60,22 +60,22 @@ impl Memory {
         Memory {
             chunks: HashMap::new(alloc),
             number: 0,
-            at_hand: Chunk::empty(),
+            at_hand: MemoryLine::empty(),
         }
     }
 
     /// The chunk of a number in the map.
-    fn mapped(&self, number: u128) -> Chunk
+    fn line_of(&self, number: u128) -> MemoryLine
         ensures { (k : ℕ) → slice_index_or result.cells k None ≡ slice_index_or (cells_in self.now.chunks.entries number) k None }
     {
         match self.chunks.get(&number) {
-            None => Chunk::empty(),
+            None => MemoryLine::empty(),
             Some(chunk) => *chunk,
         }
     }
 
     /// What was stored to an address, if anything.
-    pub fn stored(&self, a: u128) -> Option<Option<u8>>
+    pub fn stored_byte(&self, a: u128) -> Option<Option<u8>>
         ensures { result ≡ stored_at self.now a }
     {
         let number = a / 16;
@@ -83,7 +83,7 @@ impl Memory {
         if number == self.number {
             self.at_hand.get(k)
         } else {
-            self.mapped(number).get(k)
+            self.line_of(number).get(k)
         }
     }
 
@@ -95,7 +95,7 @@ impl Memory {
         if number == self.number {
             return Ok(());
         }
-        let next = self.mapped(number);
+        let next = self.line_of(number);
         self.chunks.insert(self.number, self.at_hand)?;
         self.number = number;
         self.at_hand = next;

@@ -25,15 +25,7 @@ fn holds(names: &[Bytes], name: &[u8]) -> bool
 pub(crate) fn is_same(a: &[u8], b: &[u8]) -> bool
     ensures { result ≡ same_numbers a.now b.now }
 {
-    if a.len() != b.len() {
-        return false;
-    }
-    for k in 0..a.len() {
-        if a[k] != b[k] {
-            return false;
-        }
-    }
-    true
+    a == b
 }
 
 /// Adds a symbol, if the list lacks it.

@@ -57,7 +57,7 @@ pub fn shl(a: u128, b: u128, w: u32) -> u128
 }
 
 /// A number shifted right by s.
-pub fn shifted(n: u128, s: u32) -> u128
+pub fn shift_right(n: u128, s: u32) -> u128
     ensures { result ≡ n / 2 ^ s }
 {
     if s >= 128 { 0 } else { n >> s }
@@ -71,7 +71,7 @@ pub fn shr(a: u128, b: u128, w: u32) -> u128
     if w == 0 {
         return 0;
     }
-    low_bits(shifted(a, (b % w as u128) as u32), w)
+    low_bits(shift_right(a, (b % w as u128) as u32), w)
 }
 
 /// Half of 2^w; 1 where w is 0.
@@ -92,9 +92,9 @@ pub fn sar(a: u128, b: u128, w: u32) -> u128
     }
     let s = (b % w as u128) as u32;
     if a < half(w) {
-        low_bits(shifted(a, s), w)
+        low_bits(shift_right(a, s), w)
     } else {
-        add(shifted(a, s), ones(w) - ones(w - s), w)
+        add(shift_right(a, s), ones(w) - ones(w - s), w)
     }
 }
 
@@ -128,7 +128,7 @@ pub fn sext(a: u128, from: u32, to: u32) -> u128
 }
 
 /// A number moved up by half of 2^w, which keeps the order of signed numbers.
-pub fn biased(w: u32, n: u128) -> u128
+pub fn bias_signed(w: u32, n: u128) -> u128
     requires { w ≤ 128 }
     ensures { result ≡ biased w n }
 {
@@ -165,7 +165,7 @@ pub fn push_cut(out: &mut Lanes, widths: &[u32], n: u128) -> Result<(), AllocErr
     let mut rest = n;
     for w in widths {
         out.push(Some(low_bits(rest, *w)))?;
-        rest = shifted(rest, *w);
+        rest = shift_right(rest, *w);
     }
     Ok(())
 }

@@ -9,15 +9,15 @@ ghost use Rattle.mir_interp.specs.Holds.{held_by};
 ghost use Rattle.mir_interp.specs.Stands.{Stands, given_by, event_of};
 ghost use Rattle.mir_interp.specs.Remembers.{Matches, Remembers};
 ghost use Rattle.mir_interp.specs.Kinds.{kind_of, two, one, quotient, if_some, passes, control_of, asked, Pure, Did};
-ghost use Rattle.mir_interp.specs.declared.perform.Kind.TheVariants as kinds;
+ghost use Rattle.mir_interp.specs.declared.perform.EffectKind.TheVariants as kinds;
 ghost use Rattle.target_base.specs.declared.types.OpaqueKind.TheVariants as opaque_kinds;
-ghost use Rattle.mir_interp.specs.declared.outside.Outside.{Outside};
+ghost use Rattle.mir_interp.specs.declared.external.ExternalState.{ExternalState};
 
-use crate::fetch::Surroundings;
+use crate::external::ExternalState;
+use crate::fetch::RunContext;
 use crate::numbers::{
-    add, biased, madd, mul, neg, not, push_cut, sar, sext, shl, shr, sub, with_room,
+    add, bias_signed, madd, mul, neg, not, push_cut, sar, sext, shl, shr, sub, with_room,
 };
-use crate::outside::Outside;
 use crate::store::Store;
 use crate::types::{End, Event, Events, Lanes};
 use crate::world::World;
@@ -39,7 +39,7 @@ pub enum Control {
 
 /// Effects by what they ask.
 #[derive(Clone, Copy)]
-pub enum Kind {
+pub enum EffectKind {
     /// A number of two numbers.
     Binary,
     /// A number of one number.
@@ -71,39 +71,39 @@ pub enum Kind {
 }
 
 /// What an instruction gave: the lanes that it computed, and where the run goes on.
-pub type Performed = (Lanes, Control);
+pub type EffectResult = (Lanes, Control);
 
 /// What an effect asks.
-fn kind_of(e: Effect) -> Kind
+fn kind_of(e: Effect) -> EffectKind
     ensures { result ≡ kind_of e }
 {
     match e {
-        Effect::Add => Kind::Binary,
-        Effect::Sub => Kind::Binary,
-        Effect::Mul => Kind::Binary,
-        Effect::And => Kind::Binary,
-        Effect::Or => Kind::Binary,
-        Effect::Xor => Kind::Binary,
-        Effect::Shl => Kind::Binary,
-        Effect::Shr => Kind::Binary,
-        Effect::Sar => Kind::Binary,
-        Effect::Neg => Kind::Unary,
-        Effect::Not => Kind::Unary,
-        Effect::Zext => Kind::Unary,
-        Effect::Sext => Kind::Unary,
-        Effect::Udiv => Kind::Division,
-        Effect::Urem => Kind::Division,
-        Effect::Madd => Kind::Ternary,
-        Effect::Cmp => Kind::Comparison,
-        Effect::Load(scale) => Kind::Loading(scale),
-        Effect::Store(scale) => Kind::Storing(scale),
-        Effect::Jump => Kind::Jumping,
-        Effect::Jcc => Kind::OnFlag,
-        Effect::Jnz => Kind::OnNumber,
-        Effect::Call => Kind::Calling,
-        Effect::Ret => Kind::Returning,
-        Effect::Opaque(kind) => Kind::Opaque(kind),
-        _ => Kind::Idle,
+        Effect::Add => EffectKind::Binary,
+        Effect::Sub => EffectKind::Binary,
+        Effect::Mul => EffectKind::Binary,
+        Effect::And => EffectKind::Binary,
+        Effect::Or => EffectKind::Binary,
+        Effect::Xor => EffectKind::Binary,
+        Effect::Shl => EffectKind::Binary,
+        Effect::Shr => EffectKind::Binary,
+        Effect::Sar => EffectKind::Binary,
+        Effect::Neg => EffectKind::Unary,
+        Effect::Not => EffectKind::Unary,
+        Effect::Zext => EffectKind::Unary,
+        Effect::Sext => EffectKind::Unary,
+        Effect::Udiv => EffectKind::Division,
+        Effect::Urem => EffectKind::Division,
+        Effect::Madd => EffectKind::Ternary,
+        Effect::Cmp => EffectKind::Comparison,
+        Effect::Load(scale) => EffectKind::Loading(scale),
+        Effect::Store(scale) => EffectKind::Storing(scale),
+        Effect::Jump => EffectKind::Jumping,
+        Effect::Jcc => EffectKind::OnFlag,
+        Effect::Jnz => EffectKind::OnNumber,
+        Effect::Call => EffectKind::Calling,
+        Effect::Ret => EffectKind::Returning,
+        Effect::Opaque(kind) => EffectKind::Opaque(kind),
+        _ => EffectKind::Idle,
     }
 }
 
@@ -111,10 +111,7 @@ fn kind_of(e: Effect) -> Kind
 fn bits_of(widths: &[u32]) -> Result<u32, AllocError>
     ensures { IfOk result (λ w. (w ≡ sum widths.now) × (w ≤ 128)) }
 {
-    match total(widths) {
-        None => Err(AllocError),
-        Some(w) => Ok(w),
-    }
+    total(widths).ok_or(AllocError)
 }
 
 /// The bits of an operand, by its number; 0 where there is none.
@@ -143,7 +140,7 @@ fn lanes_of(alloc: Global, widths: &[u32], n: Option<u128>) -> Result<Lanes, All
 }
 
 /// A number of two numbers, by the effect, modulo 2^w.
-fn two(e: Effect, a: u128, b: u128, w: u32) -> u128
+fn binary_number(e: Effect, a: u128, b: u128, w: u32) -> u128
     requires { w ≤ 128 }
     ensures { result ≡ two e w a b }
 {
@@ -161,7 +158,7 @@ fn two(e: Effect, a: u128, b: u128, w: u32) -> u128
 }
 
 /// A number of one number of so many bits, by the effect, modulo 2^w.
-fn changed(e: Effect, from: u32, w: u32, a: u128) -> u128
+fn unary_number(e: Effect, from: u32, w: u32, a: u128) -> u128
     requires from { from ≤ 128 }
     requires w { w ≤ 128 }
     ensures { result ≡ one e from w a }
@@ -175,7 +172,7 @@ fn changed(e: Effect, from: u32, w: u32, a: u128) -> u128
 }
 
 /// The two numbers combined, if both are defined.
-fn both(e: Effect, w: u32, a: Option<u128>, b: Option<u128>) -> Option<u128>
+fn combine_defined(e: Effect, w: u32, a: Option<u128>, b: Option<u128>) -> Option<u128>
     requires { w ≤ 128 }
     ensures { result ≡ combined a b (two e w) }
 {
@@ -183,25 +180,25 @@ fn both(e: Effect, w: u32, a: Option<u128>, b: Option<u128>) -> Option<u128>
         None => None,
         Some(a) => match b {
             None => None,
-            Some(b) => Some(two(e, a, b, w)),
+            Some(b) => Some(binary_number(e, a, b, w)),
         },
     }
 }
 
 /// The number changed, if it is defined.
-fn alone(e: Effect, from: u32, w: u32, a: Option<u128>) -> Option<u128>
+fn unary_defined(e: Effect, from: u32, w: u32, a: Option<u128>) -> Option<u128>
     requires from { from ≤ 128 }
     requires w { w ≤ 128 }
     ensures { result ≡ applied a (one e from w) }
 {
     match a {
         None => None,
-        Some(a) => Some(changed(e, from, w, a)),
+        Some(a) => Some(unary_number(e, from, w, a)),
     }
 }
 
 /// Product and sum of three numbers, if all are defined.
-fn three(w: u32, a: Option<u128>, b: Option<u128>, c: Option<u128>) -> Option<u128>
+fn madd_defined(w: u32, a: Option<u128>, b: Option<u128>, c: Option<u128>) -> Option<u128>
     requires { w ≤ 128 }
     ensures { result ≡ combined (combined a b (λ x y. x * y)) c (λ m z. (m + z) % 2 ^ w) }
 {
@@ -220,7 +217,12 @@ fn flag(holds: bool) -> Option<u128>
 
 /// The flags of a comparison at w bits: equal, signed less, unsigned less; none where a number is
 /// Undef.
-fn compared(alloc: Global, w: u32, a: Option<u128>, b: Option<u128>) -> Result<Lanes, AllocError>
+fn compare_numbers(
+    alloc: Global,
+    w: u32,
+    a: Option<u128>,
+    b: Option<u128>,
+) -> Result<Lanes, AllocError>
     requires { w ≤ 128 }
     ensures { IfOk result (λ made. made ≡ compared w a b) }
 {
@@ -228,7 +230,7 @@ fn compared(alloc: Global, w: u32, a: Option<u128>, b: Option<u128>) -> Result<L
     let Some(a) = a else { return Ok(lanes) };
     let Some(b) = b else { return Ok(lanes) };
     lanes.push(flag(a == b))?;
-    lanes.push(flag(biased(w, a) < biased(w, b)))?;
+    lanes.push(flag(bias_signed(w, a) < bias_signed(w, b)))?;
     lanes.push(flag(a < b))?;
     Ok(lanes)
 }
@@ -268,7 +270,7 @@ fn is_set(number: Option<u128>) -> Option<bool>
 }
 
 /// Where a branch goes whose test may be Undef.
-fn branched(tested: Option<bool>) -> Control
+fn branch_on(tested: Option<bool>) -> Control
     ensures { result ≡ if_some tested }
 {
     match tested {
@@ -296,9 +298,9 @@ fn first_answer(kind: OpaqueKind) -> usize
 
 /// A step of a run: what it may ask.
 #[derive(Drop)]
-pub struct Performer<'a, W> {
+pub struct Executor<'a, W> {
     /// What the run finds.
-    pub around: &'a Surroundings<'a, W>,
+    pub around: &'a RunContext<'a, W>,
     /// What the lanes hold.
     pub store: &'a Store,
     /// The instruction.
@@ -307,7 +309,7 @@ pub struct Performer<'a, W> {
     pub reads: &'a Reads,
 }
 
-impl<'a, W: World> Performer<'a, W> {
+impl<'a, W: World> Executor<'a, W> {
     /// What an operand gives.
     fn operand(&self, k: usize) -> Result<Option<u128>, AllocError>
         ensures { IfOk result (λ v. (n : ℕ) (env : Environment) → Stands (given_by W.entry W.byte W.frame W.symbol W.answer self.now.around.now.world.now) self.now.around.now.symbols.now n env → v ≡ operand self.now.rest.now.widths (values env (held_by self.now.store.now) self.now.reads.now) k) }
@@ -317,7 +319,7 @@ impl<'a, W: World> Performer<'a, W> {
     }
 
     /// An effect of two numbers.
-    fn binary(&self, alloc: Global) -> Result<Performed, AllocError>
+    fn binary(&self, alloc: Global) -> Result<EffectResult, AllocError>
         requires { kind_of self.now.rest.now.effect ≡ kinds.Binary }
         ensures { IfOk result (λ p. (n : ℕ) (env : Environment) → Stands (given_by W.entry W.byte W.frame W.symbol W.answer self.now.around.now.world.now) self.now.around.now.symbols.now n env → (o : meaning.Outside) → Pure p o (perform self.now.rest.now env o (values env (held_by self.now.store.now) self.now.reads.now))) }
     {
@@ -325,13 +327,13 @@ impl<'a, W: World> Performer<'a, W> {
         let w = bits_of(result)?;
         let a = self.operand(0)?;
         let b = self.operand(1)?;
-        let n = both(self.rest.effect, w, a, b);
+        let n = combine_defined(self.rest.effect, w, a, b);
         let lanes = lanes_of(alloc, result, n)?;
         Ok((lanes, Control::Next))
     }
 
     /// An effect of one number.
-    fn unary(&self, alloc: Global) -> Result<Performed, AllocError>
+    fn unary(&self, alloc: Global) -> Result<EffectResult, AllocError>
         requires { kind_of self.now.rest.now.effect ≡ kinds.Unary }
         ensures { IfOk result (λ p. (n : ℕ) (env : Environment) → Stands (given_by W.entry W.byte W.frame W.symbol W.answer self.now.around.now.world.now) self.now.around.now.symbols.now n env → (o : meaning.Outside) → Pure p o (perform self.now.rest.now env o (values env (held_by self.now.store.now) self.now.reads.now))) }
     {
@@ -339,13 +341,13 @@ impl<'a, W: World> Performer<'a, W> {
         let w = bits_of(result)?;
         let from = operand_bits(self.rest, 0)?;
         let a = self.operand(0)?;
-        let n = alone(self.rest.effect, from, w, a);
+        let n = unary_defined(self.rest.effect, from, w, a);
         let lanes = lanes_of(alloc, result, n)?;
         Ok((lanes, Control::Next))
     }
 
     /// The product of two numbers, plus a third.
-    fn ternary(&self, alloc: Global) -> Result<Performed, AllocError>
+    fn ternary(&self, alloc: Global) -> Result<EffectResult, AllocError>
         requires { kind_of self.now.rest.now.effect ≡ kinds.Ternary }
         ensures { IfOk result (λ p. (n : ℕ) (env : Environment) → Stands (given_by W.entry W.byte W.frame W.symbol W.answer self.now.around.now.world.now) self.now.around.now.symbols.now n env → (o : meaning.Outside) → Pure p o (perform self.now.rest.now env o (values env (held_by self.now.store.now) self.now.reads.now))) }
     {
@@ -354,25 +356,25 @@ impl<'a, W: World> Performer<'a, W> {
         let a = self.operand(0)?;
         let b = self.operand(1)?;
         let d = self.operand(2)?;
-        let n = three(w, a, b, d);
+        let n = madd_defined(w, a, b, d);
         let lanes = lanes_of(alloc, result, n)?;
         Ok((lanes, Control::Next))
     }
 
     /// A comparison.
-    fn comparison(&self, alloc: Global) -> Result<Performed, AllocError>
+    fn comparison(&self, alloc: Global) -> Result<EffectResult, AllocError>
         requires { kind_of self.now.rest.now.effect ≡ kinds.Comparison }
         ensures { IfOk result (λ p. (n : ℕ) (env : Environment) → Stands (given_by W.entry W.byte W.frame W.symbol W.answer self.now.around.now.world.now) self.now.around.now.symbols.now n env → (o : meaning.Outside) → Pure p o (perform self.now.rest.now env o (values env (held_by self.now.store.now) self.now.reads.now))) }
     {
         let w = operand_bits(self.rest, 0)?;
         let a = self.operand(0)?;
         let b = self.operand(1)?;
-        let lanes = compared(alloc, w, a, b)?;
+        let lanes = compare_numbers(alloc, w, a, b)?;
         Ok((lanes, Control::Next))
     }
 
     /// A division: a divisor of 0 traps, whatever the dividend is.
-    fn division(&self, alloc: Global) -> Result<Performed, AllocError>
+    fn division(&self, alloc: Global) -> Result<EffectResult, AllocError>
         requires { kind_of self.now.rest.now.effect ≡ kinds.Division }
         ensures { IfOk result (λ p. (n : ℕ) (env : Environment) → Stands (given_by W.entry W.byte W.frame W.symbol W.answer self.now.around.now.world.now) self.now.around.now.symbols.now n env → (o : meaning.Outside) → Pure p o (perform self.now.rest.now env o (values env (held_by self.now.store.now) self.now.reads.now))) }
     {
@@ -393,25 +395,25 @@ impl<'a, W: World> Performer<'a, W> {
     }
 
     /// A jump under a condition on flags.
-    fn on_flag(&self, alloc: Global) -> Result<Performed, AllocError>
+    fn on_flag(&self, alloc: Global) -> Result<EffectResult, AllocError>
         requires { kind_of self.now.rest.now.effect ≡ kinds.OnFlag }
         ensures { IfOk result (λ p. (n : ℕ) (env : Environment) → Stands (given_by W.entry W.byte W.frame W.symbol W.answer self.now.around.now.world.now) self.now.around.now.symbols.now n env → (o : meaning.Outside) → Pure p o (perform self.now.rest.now env o (values env (held_by self.now.store.now) self.now.reads.now))) }
     {
         let a = self.operand(0)?;
         let tested = is_wanted(self.rest, a);
-        let control = branched(tested);
+        let control = branch_on(tested);
         let none = List::new(alloc);
         Ok((none, control))
     }
 
     /// A jump where a register isn't 0.
-    fn on_number(&self, alloc: Global) -> Result<Performed, AllocError>
+    fn on_number(&self, alloc: Global) -> Result<EffectResult, AllocError>
         requires { kind_of self.now.rest.now.effect ≡ kinds.OnNumber }
         ensures { IfOk result (λ p. (n : ℕ) (env : Environment) → Stands (given_by W.entry W.byte W.frame W.symbol W.answer self.now.around.now.world.now) self.now.around.now.symbols.now n env → (o : meaning.Outside) → Pure p o (perform self.now.rest.now env o (values env (held_by self.now.store.now) self.now.reads.now))) }
     {
         let a = self.operand(0)?;
         let tested = is_set(a);
-        let control = branched(tested);
+        let control = branch_on(tested);
         let none = List::new(alloc);
         Ok((none, control))
     }
@@ -426,7 +428,12 @@ impl<'a, W: World> Performer<'a, W> {
     }
 
     /// A load.
-    fn load(&self, alloc: Global, outside: &Outside, scale: u8) -> Result<Performed, AllocError>
+    fn load(
+        &self,
+        alloc: Global,
+        outside: &ExternalState,
+        scale: u8,
+    ) -> Result<EffectResult, AllocError>
         requires { kind_of self.now.rest.now.effect ≡ kinds.Loading scale }
         ensures { IfOk result (λ p. (n : ℕ) (env : Environment) → Stands (given_by W.entry W.byte W.frame W.symbol W.answer self.now.around.now.world.now) self.now.around.now.symbols.now n env → (o : meaning.Outside) → Remembers env outside.now o → Pure p o (perform self.now.rest.now env o (values env (held_by self.now.store.now) self.now.reads.now))) }
     {
@@ -444,31 +451,36 @@ impl<'a, W: World> Performer<'a, W> {
     }
 
     /// An instruction that does nothing to the outside.
-    fn compute(&self, alloc: Global, outside: &Outside, kind: Kind) -> Result<Performed, AllocError>
+    fn compute(
+        &self,
+        alloc: Global,
+        outside: &ExternalState,
+        kind: EffectKind,
+    ) -> Result<EffectResult, AllocError>
         requires { kind ≡ kind_of self.now.rest.now.effect }
         ensures { IfOk result (λ p. (n : ℕ) (env : Environment) → Stands (given_by W.entry W.byte W.frame W.symbol W.answer self.now.around.now.world.now) self.now.around.now.symbols.now n env → (o : meaning.Outside) → Remembers env outside.now o → Pure p o (perform self.now.rest.now env o (values env (held_by self.now.store.now) self.now.reads.now))) }
     {
         match kind {
-            Kind::Binary => self.binary(alloc),
-            Kind::Unary => self.unary(alloc),
-            Kind::Ternary => self.ternary(alloc),
-            Kind::Division => self.division(alloc),
-            Kind::Comparison => self.comparison(alloc),
-            Kind::Loading(scale) => self.load(alloc, outside, scale),
-            Kind::OnFlag => self.on_flag(alloc),
-            Kind::OnNumber => self.on_number(alloc),
-            Kind::Jumping => {
+            EffectKind::Binary => self.binary(alloc),
+            EffectKind::Unary => self.unary(alloc),
+            EffectKind::Ternary => self.ternary(alloc),
+            EffectKind::Division => self.division(alloc),
+            EffectKind::Comparison => self.comparison(alloc),
+            EffectKind::Loading(scale) => self.load(alloc, outside, scale),
+            EffectKind::OnFlag => self.on_flag(alloc),
+            EffectKind::OnNumber => self.on_number(alloc),
+            EffectKind::Jumping => {
                 let jumped = List::new(alloc);
                 Ok((jumped, Control::Taken))
             }
-            Kind::Idle => {
+            EffectKind::Idle => {
                 let idle = List::new(alloc);
                 Ok((idle, Control::Next))
             }
-            Kind::Storing(_) => Err(AllocError),
-            Kind::Calling => Err(AllocError),
-            Kind::Returning => Err(AllocError),
-            Kind::Opaque(_) => Err(AllocError),
+            EffectKind::Storing(_) => Err(AllocError),
+            EffectKind::Calling => Err(AllocError),
+            EffectKind::Returning => Err(AllocError),
+            EffectKind::Opaque(_) => Err(AllocError),
         }
     }
 
@@ -490,7 +502,7 @@ impl<'a, W: World> Performer<'a, W> {
     /// Stores lanes at an address.
     fn put(
         &self,
-        outside: &mut Outside,
+        outside: &mut ExternalState,
         w: u32,
         a: u128,
         lanes: &[Option<u128>],
@@ -513,10 +525,10 @@ impl<'a, W: World> Performer<'a, W> {
     fn store(
         &self,
         alloc: Global,
-        outside: &mut Outside,
+        outside: &mut ExternalState,
         events: &mut Events,
         scale: u8,
-    ) -> Result<Performed, AllocError>
+    ) -> Result<EffectResult, AllocError>
         requires { kind_of self.now.rest.now.effect ≡ kinds.Storing scale }
         ensures calls { OnOk result (outside.new.calls ≤ outside.old.calls + 1) }
         ensures did { IfOk result (λ p. (n : ℕ) (env : Environment) → Stands (given_by W.entry W.byte W.frame W.symbol W.answer self.now.around.now.world.now) self.now.around.now.symbols.now n env → (o : meaning.Outside) → Remembers env outside.old o → Did env p outside.new events.old events.new (perform self.now.rest.now env o (values env (held_by self.now.store.now) self.now.reads.now))) }
@@ -564,9 +576,9 @@ impl<'a, W: World> Performer<'a, W> {
     fn call(
         &self,
         alloc: Global,
-        outside: &mut Outside,
+        outside: &mut ExternalState,
         events: &mut Events,
-    ) -> Result<Performed, AllocError>
+    ) -> Result<EffectResult, AllocError>
         requires { kind_of self.now.rest.now.effect ≡ kinds.Calling }
         ensures calls { OnOk result (outside.new.calls ≤ outside.old.calls + 1) }
         ensures did { IfOk result (λ p. (n : ℕ) (env : Environment) → Stands (given_by W.entry W.byte W.frame W.symbol W.answer self.now.around.now.world.now) self.now.around.now.symbols.now n env → (o : meaning.Outside) → Remembers env outside.old o → o.calls < n → Did env p outside.new events.old events.new (perform self.now.rest.now env o (values env (held_by self.now.store.now) self.now.reads.now))) }
@@ -581,9 +593,9 @@ impl<'a, W: World> Performer<'a, W> {
     }
 
     /// A return.
-    fn give_back(&self, alloc: Global, events: &mut Events) -> Result<Performed, AllocError>
+    fn give_back(&self, alloc: Global, events: &mut Events) -> Result<EffectResult, AllocError>
         requires { kind_of self.now.rest.now.effect ≡ kinds.Returning }
-        ensures { IfOk result (λ p. (n : ℕ) (env : Environment) → Stands (given_by W.entry W.byte W.frame W.symbol W.answer self.now.around.now.world.now) self.now.around.now.symbols.now n env → (o : meaning.Outside) (m : Outside) → Remembers env m o → Did env p m events.old events.new (perform self.now.rest.now env o (values env (held_by self.now.store.now) self.now.reads.now))) }
+        ensures { IfOk result (λ p. (n : ℕ) (env : Environment) → Stands (given_by W.entry W.byte W.frame W.symbol W.answer self.now.around.now.world.now) self.now.around.now.symbols.now n env → (o : meaning.Outside) (m : ExternalState) → Remembers env m o → Did env p m events.old events.new (perform self.now.rest.now env o (values env (held_by self.now.store.now) self.now.reads.now))) }
     {
         let lanes = self.all_lanes(alloc)?;
         events.push(Event::Return(lanes))?;
@@ -645,10 +657,10 @@ impl<'a, W: World> Performer<'a, W> {
     fn ask(
         &self,
         alloc: Global,
-        outside: &mut Outside,
+        outside: &mut ExternalState,
         events: &mut Events,
         kind: OpaqueKind,
-    ) -> Result<Performed, AllocError>
+    ) -> Result<EffectResult, AllocError>
         ensures calls { OnOk result (outside.new.calls ≤ outside.old.calls + 1) }
         ensures did { IfOk result (λ p. (n : ℕ) (env : Environment) → Stands (given_by W.entry W.byte W.frame W.symbol W.answer self.now.around.now.world.now) self.now.around.now.symbols.now n env → (o : meaning.Outside) → Remembers env outside.old o → o.calls < n → Did env p outside.new events.old events.new (asked kind self.now.rest.now env o (values env (held_by self.now.store.now) self.now.reads.now))) }
     {
@@ -664,8 +676,8 @@ impl<'a, W: World> Performer<'a, W> {
     }
 
     /// An opaque return: it shows what it reads, and ends the run.
-    fn leave(&self, alloc: Global, events: &mut Events) -> Result<Performed, AllocError>
-        ensures { IfOk result (λ p. (n : ℕ) (env : Environment) → Stands (given_by W.entry W.byte W.frame W.symbol W.answer self.now.around.now.world.now) self.now.around.now.symbols.now n env → (o : meaning.Outside) (m : Outside) → Remembers env m o → Did env p m events.old events.new (shown opaque_kinds.Return self.now.rest.now env o (values env (held_by self.now.store.now) self.now.reads.now))) }
+    fn leave(&self, alloc: Global, events: &mut Events) -> Result<EffectResult, AllocError>
+        ensures { IfOk result (λ p. (n : ℕ) (env : Environment) → Stands (given_by W.entry W.byte W.frame W.symbol W.answer self.now.around.now.world.now) self.now.around.now.symbols.now n env → (o : meaning.Outside) (m : ExternalState) → Remembers env m o → Did env p m events.old events.new (shown opaque_kinds.Return self.now.rest.now env o (values env (held_by self.now.store.now) self.now.reads.now))) }
     {
         let lanes = self.all_lanes(alloc)?;
         let name = self.rest.symbol.copied(alloc)?;
@@ -678,10 +690,10 @@ impl<'a, W: World> Performer<'a, W> {
     fn show(
         &self,
         alloc: Global,
-        outside: &mut Outside,
+        outside: &mut ExternalState,
         events: &mut Events,
         kind: OpaqueKind,
-    ) -> Result<Performed, AllocError>
+    ) -> Result<EffectResult, AllocError>
         ensures calls { OnOk result (outside.new.calls ≤ outside.old.calls + 1) }
         ensures did { IfOk result (λ p. (n : ℕ) (env : Environment) → Stands (given_by W.entry W.byte W.frame W.symbol W.answer self.now.around.now.world.now) self.now.around.now.symbols.now n env → (o : meaning.Outside) → Remembers env outside.old o → o.calls < n → Did env p outside.new events.old events.new (shown kind self.now.rest.now env o (values env (held_by self.now.store.now) self.now.reads.now))) }
     {
@@ -701,10 +713,10 @@ impl<'a, W: World> Performer<'a, W> {
     fn opaque(
         &self,
         alloc: Global,
-        outside: &mut Outside,
+        outside: &mut ExternalState,
         events: &mut Events,
         kind: OpaqueKind,
-    ) -> Result<Performed, AllocError>
+    ) -> Result<EffectResult, AllocError>
         requires { kind_of self.now.rest.now.effect ≡ kinds.Opaque kind }
         ensures calls { OnOk result (outside.new.calls ≤ outside.old.calls + 1) }
         ensures did { IfOk result (λ p. (n : ℕ) (env : Environment) → Stands (given_by W.entry W.byte W.frame W.symbol W.answer self.now.around.now.world.now) self.now.around.now.symbols.now n env → (o : meaning.Outside) → Remembers env outside.old o → o.calls < n → Did env p outside.new events.old events.new (perform self.now.rest.now env o (values env (held_by self.now.store.now) self.now.reads.now))) }
@@ -722,27 +734,27 @@ impl<'a, W: World> Performer<'a, W> {
     pub fn perform(
         &self,
         alloc: Global,
-        outside: &mut Outside,
+        outside: &mut ExternalState,
         events: &mut Events,
-    ) -> Result<Performed, AllocError>
+    ) -> Result<EffectResult, AllocError>
         ensures calls { OnOk result (outside.new.calls ≤ outside.old.calls + 1) }
         ensures did { IfOk result (λ p. (n : ℕ) (env : Environment) → Stands (given_by W.entry W.byte W.frame W.symbol W.answer self.now.around.now.world.now) self.now.around.now.symbols.now n env → (o : meaning.Outside) → Remembers env outside.old o → o.calls < n → Did env p outside.new events.old events.new (perform self.now.rest.now env o (values env (held_by self.now.store.now) self.now.reads.now))) }
     {
         let kind = kind_of(self.rest.effect);
         match kind {
-            Kind::Storing(scale) => {
+            EffectKind::Storing(scale) => {
                 let stored = self.store(alloc, outside, events, scale)?;
                 Ok(stored)
             }
-            Kind::Calling => {
+            EffectKind::Calling => {
                 let called = self.call(alloc, outside, events)?;
                 Ok(called)
             }
-            Kind::Returning => {
+            EffectKind::Returning => {
                 let returned = self.give_back(alloc, events)?;
                 Ok(returned)
             }
-            Kind::Opaque(opaque) => {
+            EffectKind::Opaque(opaque) => {
                 let answered = self.opaque(alloc, outside, events, opaque)?;
                 Ok(answered)
             }

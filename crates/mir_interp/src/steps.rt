@@ -22,7 +22,7 @@ use target_base::{Boxed, Effect, List, Target};
 
 /// A way into a block, with what its phis write at once.
 #[derive(Drop)]
-pub struct Way {
+pub struct PhiEdge {
     /// The number of the block.
     pub block: u32,
     /// What the phis write.
@@ -31,7 +31,7 @@ pub struct Way {
 
 /// A step of a function in layout.
 #[derive(Drop)]
-pub enum Step {
+pub enum DecodedStep {
     /// The start of a block, by its number.
     Start(u32),
     /// The end of a block: what the phis write of the block that it falls into, if it does.
@@ -40,19 +40,19 @@ pub enum Step {
     Silent(Writes),
     /// A counted instruction: all that names no register, what it reads, what it writes, and the
     /// way to its branch target.
-    Counted(Rest, Reads, Writes, Option<Way>),
+    Counted(Rest, Reads, Writes, Option<PhiEdge>),
 }
 
 /// The steps of a function in layout.
-pub type Steps = List<Step>;
+pub type DecodedSteps = List<DecodedStep>;
 
 /// The way from block n into block m.
-fn way_into(alloc: Global, t: &Target, f: &Func, n: u32, m: u32) -> Result<Way, AllocError>
+fn way_into(alloc: Global, t: &Target, f: &Func, n: u32, m: u32) -> Result<PhiEdge, AllocError>
     ensures { IfOk result (λ made. edge_of made ≡ way t.now f.now n m) }
 {
     let mut phis = List::new(alloc);
     push_phis(&mut phis, alloc, t, f, n, m)?;
-    Ok(Way { block: m, phis })
+    Ok(PhiEdge { block: m, phis })
 }
 
 /// A silent instruction.
@@ -62,13 +62,13 @@ fn silent_step(
     f: &Func,
     i: &Instr,
     e: Effect,
-) -> Result<Step, AllocError>
+) -> Result<DecodedStep, AllocError>
     requires { is_silent e ≡ true }
     ensures { IfOk result (λ made. (b : Block) → item_of_step made ≡ bare (effect_item t.now f.now b i.now e)) }
 {
     let mut writes = List::new(alloc);
     push_silent_writes(&mut writes, alloc, t, f, e, i)?;
-    Ok(Step::Silent(writes))
+    Ok(DecodedStep::Silent(writes))
 }
 
 /// The way to the branch target of an instruction of block n.
@@ -78,7 +78,7 @@ fn target_way(
     f: &Func,
     n: u32,
     i: &Instr,
-) -> Result<Option<Way>, AllocError>
+) -> Result<Option<PhiEdge>, AllocError>
     ensures { IfOk result (λ made. option_map edge_of made ≡ option_map (way t.now f.now n) (target_of i.now.operands)) }
 {
     match target_of(i.operands.as_slice()) {
@@ -95,7 +95,7 @@ fn counted_step(
     n: u32,
     i: &Instr,
     e: Effect,
-) -> Result<Step, AllocError>
+) -> Result<DecodedStep, AllocError>
     requires { is_silent e ≡ false }
     ensures { IfOk result (λ made. (b : Block) → b.number ≡ n → item_of_step made ≡ bare (effect_item t.now f.now b i.now e)) }
 {
@@ -104,17 +104,23 @@ fn counted_step(
     let reads = reads_of(alloc, read.as_slice())?;
     let writes = counted_writes(alloc, t, f, e, i)?;
     let target = target_way(alloc, t, f, n, i)?;
-    Ok(Step::Counted(rest, reads, writes, target))
+    Ok(DecodedStep::Counted(rest, reads, writes, target))
 }
 
 /// An instruction of block n; an excluded opcode does nothing.
-fn step_of(alloc: Global, t: &Target, f: &Func, n: u32, i: &Instr) -> Result<Step, AllocError>
+fn step_of(
+    alloc: Global,
+    t: &Target,
+    f: &Func,
+    n: u32,
+    i: &Instr,
+) -> Result<DecodedStep, AllocError>
     ensures { IfOk result (λ made. (b : Block) → b.number ≡ n → item_of_step made ≡ bare (item_of t.now f.now b i.now)) }
 {
     match effect_of(t, i) {
         None => {
             let nothing = List::new(alloc);
-            Ok(Step::Silent(nothing))
+            Ok(DecodedStep::Silent(nothing))
         }
         Some(e) => {
             if is_silent(e) {
@@ -135,21 +141,21 @@ fn block_end(
     f: &Func,
     b: &Block,
     after: &[Block],
-) -> Result<Step, AllocError>
+) -> Result<DecodedStep, AllocError>
     ensures { IfOk result (λ made. item_of_step made ≡ bare (block_end t.now f.now b.now after.now)) }
 {
     match fallen_into(t, b, after) {
-        None => Ok(Step::End(None)),
+        None => Ok(DecodedStep::End(None)),
         Some(next) => {
             let way = way_into(alloc, t, f, b.number, next)?;
-            Ok(Step::End(Some(way.phis)))
+            Ok(DecodedStep::End(Some(way.phis)))
         }
     }
 }
 
 /// Appends the instructions of block n.
 fn push_instrs(
-    out: &mut Steps,
+    out: &mut DecodedSteps,
     alloc: Global,
     t: &Target,
     f: &Func,
@@ -168,7 +174,7 @@ fn push_instrs(
 
 /// Appends a block that other blocks come after.
 fn push_block(
-    out: &mut Steps,
+    out: &mut DecodedSteps,
     alloc: Global,
     t: &Target,
     f: &Func,
@@ -177,7 +183,7 @@ fn push_block(
 ) -> Result<(), AllocError>
     ensures { OnOk result (code_of_steps out.new ≡ code_of_steps out.old ++ map bare (BlockStart b.now.number ∷ (map (item_of t.now f.now b.now) b.now.instrs ++ (block_end t.now f.now b.now after.now ∷ [])))) }
 {
-    out.push(Step::Start(b.number))?;
+    out.push(DecodedStep::Start(b.number))?;
     push_instrs(out, alloc, t, f, b.number, b.instrs.as_slice())?;
     let end = block_end(alloc, t, f, b, after)?;
     out.push(end)?;
@@ -185,7 +191,7 @@ fn push_block(
 }
 
 /// The steps of a function.
-pub fn steps_of(alloc: Global, t: &Target, f: &Func) -> Result<Steps, AllocError>
+pub fn steps_of(alloc: Global, t: &Target, f: &Func) -> Result<DecodedSteps, AllocError>
     ensures { IfOk result (λ made. code_of_steps made ≡ map bare (code_of t.now f.now)) }
 {
     let mut out = List::new(alloc);
@@ -200,25 +206,25 @@ pub fn steps_of(alloc: Global, t: &Target, f: &Func) -> Result<Steps, AllocError
 /// Notes the place behind a step where it is the start of a block.
 fn note_place(
     places: &mut HashMap<u32, usize>,
-    step: &Step,
+    step: &DecodedStep,
     behind: usize,
 ) -> Result<(), AllocError>
     ensures { OnOk result ((n : ℕ) → get nat_eq places.new n ≡ noted (item_of_step step.now) behind n (get nat_eq places.old n)) }
 {
     match step {
-        Step::Start(n) => {
+        DecodedStep::Start(n) => {
             places.insert(*n, behind)?;
             Ok(())
         }
-        Step::End(_) => Ok(()),
-        Step::Silent(_) => Ok(()),
-        Step::Counted(_, _, _, _) => Ok(()),
+        DecodedStep::End(_) => Ok(()),
+        DecodedStep::Silent(_) => Ok(()),
+        DecodedStep::Counted(_, _, _, _) => Ok(()),
     }
 }
 
 /// The place behind the start of each block, by its number; of two blocks of one number the first
 /// counts.
-pub fn places_of(alloc: Global, steps: &[Step]) -> Result<HashMap<u32, usize>, AllocError>
+pub fn places_of(alloc: Global, steps: &[DecodedStep]) -> Result<HashMap<u32, usize>, AllocError>
     ensures { IfOk result (λ made. (n : ℕ) → found n (code_of_steps steps.now) ≡ drop (unwrap_or (get nat_eq made n) (length steps.now)) (code_of_steps steps.now)) }
 {
     let mut places = HashMap::new(alloc);

@@ -9,7 +9,7 @@ use std::alloc::{AllocError, Global};
 use std::collections::HashMap;
 
 /// A lane as the key of a map: its kind, and up to three numbers.
-type Key = (u8, u32, u32, u32);
+type LaneKey = (u8, u32, u32, u32);
 
 /// What each lane holds. Units, and the first four lanes of each virtual register, have cells of
 /// their own; other lanes, those of spill slots among them, stand in a map.
@@ -17,14 +17,14 @@ type Key = (u8, u32, u32, u32);
 pub struct Store {
     units: Vec<Option<u128>>,
     ranges: Vec<Option<u128>>,
-    others: HashMap<Key, Option<u128>>,
+    others: HashMap<LaneKey, Option<u128>>,
 }
 
 /// The lanes of each virtual register that have cells of their own.
 const DENSE: usize = 4;
 
 /// The key of a lane.
-fn key_of(l: Lane) -> Key
+fn key_of(l: Lane) -> LaneKey
     ensures { result ≡ key_of l }
 {
     match l {

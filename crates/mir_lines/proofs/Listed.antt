@@ -6,7 +6,7 @@ use Rattle.mir_lines.specs.declared.stop.LineStop.{LineStop}
 use Rattle.mir_lines.specs.declared.stop.LineStop.TheVariants as stops
 use Rattle.target_base.specs.declared.types.TextOptions.{TextOptions}
 use Rattle.mir_lines.specs.declared.raw.RawOperand.{RawOperand}
-use Rattle.mir_lines.specs.declared.instructions.Part.{Part}
+use Rattle.mir_lines.specs.declared.instructions.OperandSide.{OperandSide}
 use Rattle.mir_lines.specs.Instructions.{element_at, chained, elements_at}
 use Rattle.mir_lines.specs.Bytes.{is_word_byte, run, behind, skip}
 use Rattle.mir_lines.specs.Registers.{is_flag_ahead, continues, words_from}
@@ -61,16 +61,16 @@ pub words_stop : (whole : Option (List (List ℕ) × List ℕ)) (made : List (Li
 words_stop whole made text go h k some = stops_at go.room whole made text go.enough go.same h k some
 
 -- elements so far, and more bytes than elements may still come
-pub record ElementsGo (options : TextOptions) (part : Part) (whole : Option (List RawOperand × List ℕ)) (made : List RawOperand) (text : List ℕ) : Type 0 where
+pub record ElementsGo (options : TextOptions) (part : OperandSide) (whole : Option (List RawOperand × List ℕ)) (made : List RawOperand) (text : List ℕ) : Type 0 where
   pub room : ℕ
   pub enough : length text < room
   pub same : whole ≡ onto made (chained options part room text)
 
-pub elements_begin : (options : TextOptions) (part : Part) (made : List RawOperand) (text : List ℕ) → ElementsGo options part (onto made (elements_at options part text)) made text
+pub elements_begin : (options : TextOptions) (part : OperandSide) (made : List RawOperand) (text : List ℕ) → ElementsGo options part (onto made (elements_at options part text)) made text
 unfolding elements_at
 elements_begin options part made text = record { room = suc (length text); enough = omega arith; same = refl }
 
-module _ (options : TextOptions) (part : Part) (whole : Option (List RawOperand × List ℕ)) (made : List RawOperand) (text : List ℕ) where
+module _ (options : TextOptions) (part : OperandSide) (whole : Option (List RawOperand × List ℕ)) (made : List RawOperand) (text : List ℕ) where
   fails_at : (room : ℕ) (stop : LineStop) → length text < room → whole ≡ onto made (chained options part room text) → Fails stop (element_at options part text) → Fails stop whole
   fails_at zero stop enough e h = absurd (omega arith)
   fails_at (suc n) stops.Token enough e h = e ∙ rw h refl
@@ -89,13 +89,13 @@ module _ (options : TextOptions) (part : Part) (whole : Option (List RawOperand 
   }
 
 -- an element that is spelled wrongly
-pub elements_fail : (options : TextOptions) (part : Part) (whole : Option (List RawOperand × List ℕ)) (made : List RawOperand) (text : List ℕ) → ElementsGo options part whole made text → (stop : LineStop) → Fails stop (element_at options part text) → Fails stop whole
+pub elements_fail : (options : TextOptions) (part : OperandSide) (whole : Option (List RawOperand × List ℕ)) (made : List RawOperand) (text : List ℕ) → ElementsGo options part whole made text → (stop : LineStop) → Fails stop (element_at options part text) → Fails stop whole
 elements_fail options part whole made text go stop h = fails_at options part whole made text go.room stop go.enough go.same h
 
 -- the last element
-pub elements_end : (options : TextOptions) (part : Part) (whole : Option (List RawOperand × List ℕ)) (made : List RawOperand) (text : List ℕ) → ElementsGo options part whole made text → (o : RawOperand) (rest : List ℕ) → element_at options part text ≡ Some (o, inl rest) → whole ≡ Some (made ++ o ∷ [], rest)
+pub elements_end : (options : TextOptions) (part : OperandSide) (whole : Option (List RawOperand × List ℕ)) (made : List RawOperand) (text : List ℕ) → ElementsGo options part whole made text → (o : RawOperand) (rest : List ℕ) → element_at options part text ≡ Some (o, inl rest) → whole ≡ Some (made ++ o ∷ [], rest)
 elements_end options part whole made text go o rest h = ended_at options part whole made text go.room o rest go.enough go.same h
 
 -- one more element
-pub elements_go : (options : TextOptions) (part : Part) (whole : Option (List RawOperand × List ℕ)) (made : List RawOperand) (text : List ℕ) → ElementsGo options part whole made text → (o : RawOperand) (next : List ℕ) → element_at options part text ≡ Some (o, inr next) → length next < length text → ElementsGo options part whole (made ++ o ∷ []) next
+pub elements_go : (options : TextOptions) (part : OperandSide) (whole : Option (List RawOperand × List ℕ)) (made : List RawOperand) (text : List ℕ) → ElementsGo options part whole made text → (o : RawOperand) (next : List ℕ) → element_at options part text ≡ Some (o, inr next) → length next < length text → ElementsGo options part whole (made ++ o ∷ []) next
 elements_go options part whole made text go o next h shorter = more_at options part whole made text go.room o next go.enough go.same h shorter

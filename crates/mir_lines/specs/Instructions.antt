@@ -10,10 +10,10 @@ use Rattle.target_base.specs.declared.types.Target.{Target}
 use Rattle.mir_lines.specs.declared.raw.RawOperand.{RawOperand}
 use Rattle.mir_lines.specs.declared.raw.RawOperand.TheVariants as operands
 use Rattle.mir_lines.specs.declared.raw.RawInstr.{RawInstr}
-use Rattle.mir_lines.specs.declared.instructions.Part.{Part}
-use Rattle.mir_lines.specs.declared.instructions.Part.TheVariants as parts
-use Rattle.mir_lines.specs.declared.instructions.Link.{Link}
-use Rattle.mir_lines.specs.declared.instructions.Link.TheVariants as links
+use Rattle.mir_lines.specs.declared.instructions.OperandSide.{OperandSide}
+use Rattle.mir_lines.specs.declared.instructions.OperandSide.TheVariants as parts
+use Rattle.mir_lines.specs.declared.instructions.ListTail.{ListTail}
+use Rattle.mir_lines.specs.declared.instructions.ListTail.TheVariants as links
 use Rattle.std.specs.Borrow.{Bor}
 use Rattle.mir_lines.specs.Bytes.{is_word_byte, run, behind, skip, is_word, behind_word, is_ascii, is_blank}
 use Rattle.mir_lines.specs.Parts.{joined}
@@ -48,11 +48,11 @@ linked o (Some rest) next = Some (o, inl rest)
 linked o None None = None
 linked o None (Some next) = Some (o, inr next)
 
-abbrev pub link_of : Link → List ℕ ⊎ List ℕ
+abbrev pub link_of : ListTail → List ℕ ⊎ List ℕ
 link_of (links.End rest) = inl rest.now
 link_of (links.More next) = inr next.now
 
-abbrev pub and_link : RawOperand × Link → RawOperand × (List ℕ ⊎ List ℕ)
+abbrev pub and_link : RawOperand × ListTail → RawOperand × (List ℕ ⊎ List ℕ)
 and_link p = (p.0, link_of p.1)
 
 -- a definition: a register behind its flags
@@ -61,7 +61,7 @@ definition_at text = words_at text >>= λ w. register_at true w.0 w.1 >>= λ r. 
 
 -- An element of a list with commas between them: a definition, the last of which an equals sign follows, or
 -- another operand, the last of which a tail follows or nothing.
-unfoldable pub element_at : TextOptions → Part → List ℕ → Option (RawOperand × (List ℕ ⊎ List ℕ))
+unfoldable pub element_at : TextOptions → OperandSide → List ℕ → Option (RawOperand × (List ℕ ⊎ List ℕ))
 element_at options parts.Definitions text =
     definition_at text >>= λ o. linked o.0 (behind_word (codes "=") (skip o.1)) (behind_word (codes ",") (skip o.1))
 element_at options parts.Others text =
@@ -73,11 +73,11 @@ chained_behind more (inr next) = more next
 
 -- Elements one after another, and the text behind the last. Each takes a byte at least, so n is large enough where
 -- it is more than the bytes of the text.
-abbrev pub chained : TextOptions → Part → ℕ → List ℕ → Option (List RawOperand × List ℕ)
+abbrev pub chained : TextOptions → OperandSide → ℕ → List ℕ → Option (List RawOperand × List ℕ)
 chained options part zero text = None
 chained options part (suc n) text = element_at options part text >>= λ e. before e.0 (chained_behind (chained options part n) e.1)
 
-unfoldable pub elements_at : TextOptions → Part → List ℕ → Option (List RawOperand × List ℕ)
+unfoldable pub elements_at : TextOptions → OperandSide → List ℕ → Option (List RawOperand × List ℕ)
 elements_at options part text = chained options part (suc (length text)) text
 
 abbrev pub operands_behind : TextOptions → List ℕ → Option (List ℕ) → Option (List RawOperand × List ℕ)
@@ -152,12 +152,12 @@ unfoldable pub instruction_of : Target → List ℕ → Option RawInstr
 instruction_of t text = words_at text >>= λ w. instruction_in t text w.0 w.1
 
 -- what follows an element of a text of n bytes is shorter, but for a tail, which may be all of it
-abbrev pub IsShorter : Link → Part → ℕ → Type 0
+abbrev pub IsShorter : ListTail → OperandSide → ℕ → Type 0
 IsShorter (links.More next) part n = length next.now < n
 IsShorter (links.End rest) parts.Definitions n = length rest.now < n
 IsShorter (links.End rest) parts.Others n = length rest.now ≤ n
 
 -- how many elements a text of n bytes may have behind m others
-abbrev pub AreFew : Part → ℕ → ℕ → List RawOperand × Bor (List ℕ) → Type 0
+abbrev pub AreFew : OperandSide → ℕ → ℕ → List RawOperand × Bor (List ℕ) → Type 0
 AreFew parts.Definitions m n p = length p.0 + length p.1.now ≤ m + n
 AreFew parts.Others m n p = length p.0 ≤ m + n + 1

@@ -7,16 +7,16 @@ ghost use Rattle.mir_lines.specs.Instructions.{uncommented, without_comment, is_
 
 use crate::lexer::{Sort, behind_word, is, is_ascii, is_blank, is_op_name, skip, span};
 use crate::operands::{begins_register, take_operand};
-use crate::parts::joined;
+use crate::parts::join_words;
 use crate::raw::{RawInstr, RawOperand, RawOperands};
-use crate::registers::{continues, is_tail_word, take_register, take_words};
+use crate::registers::{BEFORE_EQUALS, continues, is_tail_word, take_register, take_words};
 use crate::stop::LineStop;
 use std::alloc::Global;
 use target_base::{Bytes, Effect, List, Target, TextOptions};
 
 /// A list of operands in a line.
 #[derive(Clone, Copy, Debug, PartialEq, Eq)]
-pub(crate) enum Part {
+pub(crate) enum OperandSide {
     /// The definitions before the equals sign.
     Definitions,
     /// The operands behind the opcode.
@@ -25,7 +25,7 @@ pub(crate) enum Part {
 
 /// What follows an element of a list.
 #[derive(Clone, Copy)]
-pub(crate) enum Link<'a> {
+pub(crate) enum ListTail<'a> {
     /// Nothing; this stands behind the list.
     End(&'a [u8]),
     /// The next element.
@@ -63,18 +63,18 @@ fn tail(text: &[u8]) -> Option<&[u8]>
 }
 
 /// An operand with what follows it: this, where the list ends, or the text of the next element.
-fn linked<'a>(
+fn with_tail<'a>(
     operand: RawOperand,
     end: Option<&'a [u8]>,
     next: Option<&'a [u8]>,
-) -> Result<(RawOperand, Link<'a>), LineStop>
+) -> Result<(RawOperand, ListTail<'a>), LineStop>
     ensures { Reads and_link result (linked operand (option_map (λ t. t.now) end.entry) (option_map (λ t. t.now) next.entry)) }
 {
     match end {
-        Some(rest) => Ok((operand, Link::End(rest))),
+        Some(rest) => Ok((operand, ListTail::End(rest))),
         None => match next {
             None => Err(LineStop::Token),
-            Some(text) => Ok((operand, Link::More(text))),
+            Some(text) => Ok((operand, ListTail::More(text))),
         },
     }
 }
@@ -86,7 +86,7 @@ fn take_definition(alloc: Global, text: &[u8]) -> Result<(RawOperand, &[u8]), Li
     ensures len { IfOk result (λ r. length r.1.now ≤ length text.now) }
 {
     let (words, rest) = take_words(alloc, text)?;
-    let (reg, after) = take_register(alloc, true, words.as_slice(), rest)?;
+    let (reg, after) = take_register(alloc, BEFORE_EQUALS, words.as_slice(), rest)?;
     Ok((RawOperand::Reg(reg), after))
 }
 
@@ -95,25 +95,25 @@ fn take_definition(alloc: Global, text: &[u8]) -> Result<(RawOperand, &[u8]), Li
 fn take_element<'a>(
     alloc: Global,
     options: &TextOptions,
-    part: Part,
+    part: OperandSide,
     text: &'a [u8],
-) -> Result<(RawOperand, Link<'a>), LineStop>
+) -> Result<(RawOperand, ListTail<'a>), LineStop>
     ensures value { Reads and_link result (element_at options.now part text.now) }
     ensures len { IfOk result (λ r. IsShorter r.1 part (length text.now)) }
 {
     match part {
-        Part::Definitions => {
+        OperandSide::Definitions => {
             let (operand, after) = take_definition(alloc, text)?;
             let behind = skip(after);
-            linked(
+            with_tail(
                 operand,
                 behind_word(behind, b"="),
                 behind_word(behind, b","),
             )
         }
-        Part::Others => {
+        OperandSide::Others => {
             let (operand, after) = take_operand(alloc, options, text)?;
-            linked(operand, tail(after), behind_word(skip(after), b","))
+            with_tail(operand, tail(after), behind_word(skip(after), b","))
         }
     }
 }
@@ -123,7 +123,7 @@ fn take_element<'a>(
 fn take_elements<'a>(
     alloc: Global,
     options: &TextOptions,
-    part: Part,
+    part: OperandSide,
     before: RawOperands,
     text: &'a [u8],
 ) -> Result<(RawOperands, &'a [u8]), LineStop>
@@ -137,8 +137,8 @@ fn take_elements<'a>(
         let (operand, link) = take_element(alloc, options, part, rest)?;
         made.push(operand)?;
         match link {
-            Link::End(behind) => return Ok((made, behind)),
-            Link::More(next) => rest = next,
+            ListTail::End(behind) => return Ok((made, behind)),
+            ListTail::More(next) => rest = next,
         }
     }
 }
@@ -155,7 +155,7 @@ fn take_operands<'a>(
     ensures few { IfOk result (λ r. length r.0 ≤ length definitions + length text.now + 1) }
 {
     match tail(text) {
-        None => take_elements(alloc, options, Part::Others, definitions, text),
+        None => take_elements(alloc, options, OperandSide::Others, definitions, text),
         Some(tail) => Ok((definitions, tail)),
     }
 }
@@ -238,7 +238,7 @@ fn behind_opcode(
     ensures value { Reads it result (behind_opcode target.now definitions flags.now opcode.now text.now) }
     ensures few { IfOk result (λ i. length i.operands ≤ length definitions + length text.now + 1) }
 {
-    let flags = joined(alloc, b" ", flags)?;
+    let flags = join_words(alloc, b" ", flags)?;
     let name = List::from_slice(alloc, opcode)?;
     if is_excluded(target, opcode) {
         if !is_ascii(text) {
@@ -286,7 +286,7 @@ fn with_definitions(alloc: Global, target: &Target, text: &[u8]) -> Result<RawIn
     let (definitions, behind) = take_elements(
         alloc,
         &target.options,
-        Part::Definitions,
+        OperandSide::Definitions,
         List::new(alloc),
         text,
     )?;

@@ -8,7 +8,7 @@ use crate::lexer::{Sort, behind_word, is, is_name, span};
 use crate::numbers::{decimal, number};
 use crate::raw::RawOperand;
 use crate::registers::{
-    begins_with_digit, continues, is_tail_word, take_name, take_register, take_words,
+    BEHIND_EQUALS, begins_with_digit, continues, is_tail_word, take_name, take_register, take_words,
 };
 use crate::stop::LineStop;
 use crate::symbols::{begins_symbol, behind_noreg, no_register, take_flagged_symbol, take_symbol};
@@ -43,7 +43,7 @@ pub fn take_numbered(text: &[u8]) -> Result<(u32, Option<&[u8]>, &[u8]), LineSto
     }
 }
 
-fn copied(alloc: Global, label: Option<&[u8]>) -> Result<Option<Bytes>, LineStop>
+fn copy_label(alloc: Global, label: Option<&[u8]>) -> Result<Option<Bytes>, LineStop>
     ensures { Reads it result (Some (option_map (λ l. l.now) label.entry)) }
 {
     match label {
@@ -59,7 +59,7 @@ fn take_block(alloc: Global, text: &[u8]) -> Result<(RawOperand, &[u8]), LineSto
     ensures len { IfOk result (λ r. length r.1.now ≤ length text.now) }
 {
     let (n, label, rest) = take_numbered(text)?;
-    Ok((RawOperand::Block(n, copied(alloc, label)?), rest))
+    Ok((RawOperand::Block(n, copy_label(alloc, label)?), rest))
 }
 
 /// A frame object behind `%stack.`, and the rest.
@@ -241,7 +241,7 @@ fn take_reg<'a>(
     ensures value { Reads and_rest result (as_register words.now text.now) }
     ensures len { IfOk result (λ r. length r.1.now ≤ length text.now) }
 {
-    let (reg, rest) = take_register(alloc, false, words, text)?;
+    let (reg, rest) = take_register(alloc, BEHIND_EQUALS, words, text)?;
     Ok((RawOperand::Reg(reg), rest))
 }
 

@@ -36,7 +36,11 @@ fn put_more_words(made: &mut Bytes, separator: &[u8], words: &[Bytes]) -> Result
 
 /// The words with this separator between them.
 #[tactic(auto, unfolding(crate::specs::Parts::joined))]
-pub(crate) fn joined(alloc: Global, separator: &[u8], words: &[Bytes]) -> Result<Bytes, AllocError>
+pub(crate) fn join_words(
+    alloc: Global,
+    separator: &[u8],
+    words: &[Bytes],
+) -> Result<Bytes, AllocError>
     ensures { IfOk result (λ made. made ≡ joined separator.now words.now) }
 {
     match words {

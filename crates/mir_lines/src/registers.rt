@@ -281,7 +281,7 @@ fn may_flag(def: bool, words: &[Bytes]) -> bool
 
 /// A register with these flags.
 #[tactic(auto, unfolding(crate::specs::Registers::flagged))]
-fn flagged(def: bool, words: &[Bytes], place: RawPlace) -> RawReg
+fn apply_flags(def: bool, words: &[Bytes], place: RawPlace) -> RawReg
     ensures { result ≡ flagged def words.now place }
 {
     let defines = def || has_word(words, b"implicit-def");
@@ -328,7 +328,7 @@ fn take_tie(text: &[u8]) -> Result<(Option<u8>, &[u8]), LineStop>
 
 /// The register with the tie behind it, which only a use may have, and the rest.
 #[tactic(auto, unfolding(crate::specs::Registers::tied))]
-fn tied(reg: RawReg, text: &[u8]) -> Result<(RawReg, &[u8]), LineStop>
+fn with_tie(reg: RawReg, text: &[u8]) -> Result<(RawReg, &[u8]), LineStop>
     ensures value { Reads and_rest result (tied reg text.now) }
     ensures len { IfOk result (λ r. length r.1.now ≤ length text.now) }
 {
@@ -343,6 +343,12 @@ fn tied(reg: RawReg, text: &[u8]) -> Result<(RawReg, &[u8]), LineStop>
     reg.tie = tie;
     Ok((reg, rest))
 }
+
+/// Says of a register that it stands before the equals sign.
+pub const BEFORE_EQUALS: bool = true;
+
+/// Says of a register that it stands behind the equals sign, or where no such sign is.
+pub const BEHIND_EQUALS: bool = false;
 
 /// A register operand behind these flags, and the rest. `def` says that it stands before the
 /// equals sign.
@@ -360,5 +366,5 @@ pub fn take_register<'a>(
         return Err(LineStop::Token);
     }
     let (place, rest) = take_place(alloc, text)?;
-    tied(flagged(def, words, place), rest)
+    with_tie(apply_flags(def, words, place), rest)
 }

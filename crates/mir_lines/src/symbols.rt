@@ -8,7 +8,7 @@ ghost use Rattle.mir_lines.specs.Symbols.{is_mark, bare_symbol_at, quoted_symbol
 
 use crate::lexer::{Sort, behind_word, is, is_ascii, is_flag_word, skip, skip_back, span};
 use crate::numbers::decimal;
-use crate::parts::{joined, next_part};
+use crate::parts::{join_words, next_part};
 use crate::raw::{RawOperand, Words};
 use crate::registers::{continues, without_zeros};
 use crate::stop::LineStop;
@@ -50,7 +50,7 @@ fn find_quote(text: &[u8]) -> Option<usize>
 }
 
 /// The name of a symbol with this text between its quotes.
-fn quoted(alloc: Global, text: &[u8]) -> Result<Bytes, LineStop>
+fn quoted_name(alloc: Global, text: &[u8]) -> Result<Bytes, LineStop>
     ensures { Reads it result (Some (codes "@\"" ++ (text.now ++ codes "\""))) }
 {
     let mut name = List::from_slice(alloc, b"@\"")?;
@@ -72,7 +72,7 @@ fn take_quoted_symbol(alloc: Global, text: &[u8]) -> Result<(Bytes, &[u8]), Line
             if !is_ascii(inside) {
                 return Err(LineStop::Token);
             }
-            Ok((quoted(alloc, inside)?, &text[k + 1..]))
+            Ok((quoted_name(alloc, inside)?, &text[k + 1..]))
         }
     }
 }
@@ -283,7 +283,7 @@ fn take_flags(alloc: Global, text: &[u8]) -> Result<(Words, &[u8]), LineStop>
 fn flagged_name(alloc: Global, flags: &[Bytes], name: &[u8]) -> Result<Bytes, AllocError>
     ensures { IfOk result (λ made. made ≡ flagged_name flags.now name.now) }
 {
-    let words = joined(alloc, b", ", flags)?;
+    let words = join_words(alloc, b", ", flags)?;
     let mut made = List::from_slice(alloc, b"target-flags(")?;
     made.extend(words.as_slice())?;
     made.extend(b") ")?;

@@ -1,6 +1,6 @@
 -- A function by what its instructions do to lanes, which go by numbers, and which lanes are live in it.
 use Rattle.std.specs.Prelude.{◌≡◌, ℕ, zero, suc, ◌+◌, Bool, true, false, cond, nat_eq, List, [], ◌∷◌, ◌++◌, Option, None, Some, slice_get, find}
-use Rattle.mir_meaning.specs.declared.writing.Writing.{Writing}
+use Rattle.mir_meaning.specs.declared.writing.LaneDef.{LaneDef}
 
 -- x is one of them
 pub data Among {A : Type 0} (x : A) : List A → Type 0 where
@@ -11,7 +11,7 @@ pub data Among {A : Type 0} (x : A) : List A → Type 0 where
 pub record Step : Type 0 where
   pub id : ℕ
   pub reads : List ℕ
-  pub writes : List Writing
+  pub writes : List LaneDef
   pub leaves : Bool
 
 -- a block: its instructions, the lanes that phis of blocks that follow read at its end, and the positions of these blocks
@@ -38,7 +38,7 @@ has l [] = false
 has l (x ∷ xs) = cond (nat_eq x l) true (has l xs)
 
 -- of two writings of a lane the first counts
-abbrev pub writing_of : ℕ → List Writing → Option Writing
+abbrev pub writing_of : ℕ → List LaneDef → Option LaneDef
 writing_of l [] = None
 writing_of l (w ∷ ws) = cond (nat_eq w.lane l) (Some w) (writing_of l ws)
 
@@ -52,7 +52,7 @@ pub data Use : Type 0 where
   Into : (lane : ℕ) → Use
 
 -- of two moves of a lane the first counts
-abbrev pub move_of : ℕ → List Writing → Use
+abbrev pub move_of : ℕ → List LaneDef → Use
 move_of l [] = Unused
 move_of l (w ∷ ws) = cond (is_some_number l w.from) (Into w.lane) (move_of l ws)
 
@@ -86,6 +86,6 @@ pub data Live (code : Code) : ℕ → Point → ℕ → Type 0 where
 
 -- a lane is moved exactly into the lane that says so, or it is read in any case
 pub record IsMatched (s : Step) : Type 0 where
-  pub filled : (l a : ℕ) → use_of l s ≡ Into a → (w : Writing) × (writing_of a s.writes ≡ Some w) × (w.from ≡ Some l)
-  pub used : (l a : ℕ) (w : Writing) → writing_of a s.writes ≡ Some w → w.from ≡ Some l → use_of l s ≡ Unused → ⊥
-  pub once : (l a c : ℕ) (w : Writing) → writing_of a s.writes ≡ Some w → w.from ≡ Some l → use_of l s ≡ Into c → c ≡ a
+  pub filled : (l a : ℕ) → use_of l s ≡ Into a → (w : LaneDef) × (writing_of a s.writes ≡ Some w) × (w.from ≡ Some l)
+  pub used : (l a : ℕ) (w : LaneDef) → writing_of a s.writes ≡ Some w → w.from ≡ Some l → use_of l s ≡ Unused → ⊥
+  pub once : (l a c : ℕ) (w : LaneDef) → writing_of a s.writes ≡ Some w → w.from ≡ Some l → use_of l s ≡ Into c → c ≡ a

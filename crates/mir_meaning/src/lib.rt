@@ -15,4 +15,4 @@ pub enum Form {
 pub mod ends;
 mod writing;
 
-pub use writing::Writing;
+pub use writing::LaneDef;

@@ -2,7 +2,7 @@
 
 /// A lane that an instruction writes.
 #[derive(Clone, Copy, PartialEq, Eq)]
-pub struct Writing {
+pub struct LaneDef {
     /// The lane.
     pub lane: u32,
     /// The lane that is moved here, if it is one that isn't reserved.

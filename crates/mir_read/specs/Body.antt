@@ -8,7 +8,7 @@ use Rattle.mir_func.specs.declared.func.Block.{Block}
 use Rattle.mir_func.specs.declared.func.Edge.{Edge}
 use Rattle.mir_func.specs.declared.func.Instr.{Instr}
 use Rattle.mir_lines.specs.declared.raw.RawHeader.{RawHeader}
-use Rattle.mir_read.specs.declared.body.Opened.{Opened}
+use Rattle.mir_read.specs.declared.body.OpenBlock.{OpenBlock}
 use Rattle.mir_meaning.specs.Codes.{falls_through}
 use Rattle.mir_func.specs.Binding.{does, is_branch}
 use Rattle.mir_meaning.specs.Rules.{named_blocks, branch_targets}
@@ -19,7 +19,7 @@ use Rattle.mir_read.specs.Resolving.{equal_shares}
 -- instructions.
 pub record BodyValue : Type 0 where
   pub done : List Block
-  pub opened : Option Opened
+  pub opened : Option OpenBlock
   pub instrs : List Instr
   pub next_id : ℕ
 
@@ -54,7 +54,7 @@ regs_or_none (Some rs) = rs
 
 -- The block of a header, which the block of number next follows. Without a `successors` line its successors are
 -- those that its instructions give.
-unfoldable pub block_of : Target → Opened → List Instr → Option ℕ → Block
+unfoldable pub block_of : Target → OpenBlock → List Instr → Option ℕ → Block
 block_of t o is next = record {
   number = o.header.number;
   name = o.header.name;
@@ -64,7 +64,7 @@ block_of t o is next = record {
   instrs = is;
 }
 
-abbrev pub closed_in : Target → BodyValue → Option ℕ → Option Opened → BodyValue
+abbrev pub closed_in : Target → BodyValue → Option ℕ → Option OpenBlock → BodyValue
 closed_in t b next None = b
 closed_in t b next (Some o) = record { done = b.done ++ block_of t o b.instrs next ∷ []; opened = None; instrs = []; next_id = b.next_id }
 
@@ -72,18 +72,18 @@ closed_in t b next (Some o) = record { done = b.done ++ block_of t o b.instrs ne
 unfoldable pub closed : Target → BodyValue → Option ℕ → BodyValue
 closed t b next = closed_in t b next b.opened
 
-abbrev pub opened_by : RawHeader → Opened
+abbrev pub opened_by : RawHeader → OpenBlock
 opened_by h = record { header = h; successors = None; liveins = None }
 
 -- a header begins a block, and ends the one before
 unfoldable pub with_header : Target → BodyValue → RawHeader → BodyValue
 with_header t b h = record (closed t b (Some h.number)) { opened = Some (opened_by h) }
 
-abbrev pub lacks_successors : Option Opened → Bool
+abbrev pub lacks_successors : Option OpenBlock → Bool
 lacks_successors None = false
 lacks_successors (Some o) = is_none o.successors
 
-abbrev pub lacks_liveins : Option Opened → Bool
+abbrev pub lacks_liveins : Option OpenBlock → Bool
 lacks_liveins None = false
 lacks_liveins (Some o) = is_none o.liveins
 
@@ -94,11 +94,11 @@ takes_successors b = lacks_successors b.opened && length b.instrs == 0
 unfoldable pub takes_liveins : BodyValue → Bool
 takes_liveins b = lacks_liveins b.opened && length b.instrs == 0
 
-abbrev pub with_edges : List Edge → Option Opened → Option Opened
+abbrev pub with_edges : List Edge → Option OpenBlock → Option OpenBlock
 with_edges es None = None
 with_edges es (Some o) = Some (record o { successors = Some es })
 
-abbrev pub with_regs : List Reg → Option Opened → Option Opened
+abbrev pub with_regs : List Reg → Option OpenBlock → Option OpenBlock
 with_regs rs None = None
 with_regs rs (Some o) = Some (record o { liveins = Some rs })
 

@@ -10,7 +10,7 @@ use Rattle.mir_read.specs.declared.stop.TextKind.TheVariants as kinds
 use Rattle.mir_read.specs.declared.keys.Key.{Key}
 use Rattle.mir_read.specs.declared.keys.Key.TheVariants as keys
 use Rattle.mir_read.specs.declared.keys.Keys.{Keys}
-use Rattle.mir_read.specs.declared.ranges.Given.TheVariants as given
+use Rattle.mir_read.specs.declared.ranges.AnnotatedClass.TheVariants as given
 use Rattle.mir_read.specs.Names.{NameLists, class_named}
 use Rattle.mir_read.specs.Ranges.{no_ranges, mentioned}
 use Rattle.mir_read.specs.Reading.{◌>>=◌}

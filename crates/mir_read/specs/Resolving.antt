@@ -20,8 +20,8 @@ use Rattle.mir_lines.specs.declared.raw.RawOperand.{RawOperand}
 use Rattle.mir_lines.specs.declared.raw.RawOperand.TheVariants as raw
 use Rattle.mir_lines.specs.declared.raw.RawInstr.{RawInstr}
 use Rattle.mir_lines.specs.declared.raw.RawEdge.{RawEdge}
-use Rattle.mir_read.specs.declared.ranges.Given.{Given}
-use Rattle.mir_read.specs.declared.ranges.Given.TheVariants as given
+use Rattle.mir_read.specs.declared.ranges.AnnotatedClass.{AnnotatedClass}
+use Rattle.mir_read.specs.declared.ranges.AnnotatedClass.TheVariants as given
 use Rattle.mir_read.specs.declared.ranges.Ranges.{Ranges}
 use Rattle.mir_read.specs.declared.resolve.Headers.{Headers}
 use Rattle.mir_read.specs.Names.{NameLists, reg_named, index_named, class_named, mask_named, op_named, has_flag}
@@ -62,7 +62,7 @@ index_if names None = Some None
 index_if names (Some w) = option_map Some (index_named names w)
 
 -- what a written class gives
-abbrev pub class_if : NameLists → Option (List ℕ) → Option Given
+abbrev pub class_if : NameLists → Option (List ℕ) → Option AnnotatedClass
 class_if names None = Some given.Nothing
 class_if names (Some w) = option_map given.One (class_named names w)
 

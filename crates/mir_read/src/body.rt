@@ -18,7 +18,7 @@ use target_base::{Boxed, BoxedList, List, Regs, Target};
 
 /// The header of the block that is being read, and the lists that have come behind it.
 #[derive(Drop)]
-pub struct Opened {
+pub struct OpenBlock {
     pub header: RawHeader,
     pub successors: Option<Edges>,
     pub liveins: Option<Regs>,
@@ -29,7 +29,7 @@ pub struct Opened {
 #[derive(Drop)]
 pub struct Body {
     pub done: Blocks,
-    pub opened: Option<Opened>,
+    pub opened: Option<OpenBlock>,
     pub instrs: Instrs,
     pub next_id: u32,
 }
@@ -172,7 +172,7 @@ fn due_successors(
 fn block_of(
     alloc: Global,
     target: &Target,
-    opened: Opened,
+    opened: OpenBlock,
     instrs: Instrs,
     next: Option<u32>,
 ) -> Result<Block, AllocError>
@@ -180,7 +180,7 @@ fn block_of(
     ensures value { IfOk result (λ b. b ≡ block_of target.now opened instrs next) }
     ensures instrs { IfOk result (λ b. b.instrs ≡ instrs) }
 {
-    let Opened {
+    let OpenBlock {
         header,
         successors,
         liveins,
@@ -209,18 +209,18 @@ fn block_of(
 }
 
 /// The opened block with its successors.
-fn with_edges(opened: Option<Opened>, edges: Edges) -> Option<Opened>
+fn with_edges(opened: Option<OpenBlock>, edges: Edges) -> Option<OpenBlock>
     ensures { result ≡ with_edges edges opened }
 {
     match opened {
         None => None,
         Some(
-            Opened {
+            OpenBlock {
                 header,
                 successors: _,
                 liveins,
             },
-        ) => Some(Opened {
+        ) => Some(OpenBlock {
             header,
             successors: Some(edges),
             liveins,
@@ -229,18 +229,18 @@ fn with_edges(opened: Option<Opened>, edges: Edges) -> Option<Opened>
 }
 
 /// The opened block with its live-in registers.
-fn with_regs(opened: Option<Opened>, regs: Regs) -> Option<Opened>
+fn with_regs(opened: Option<OpenBlock>, regs: Regs) -> Option<OpenBlock>
     ensures { result ≡ with_regs regs opened }
 {
     match opened {
         None => None,
         Some(
-            Opened {
+            OpenBlock {
                 header,
                 successors,
                 liveins: _,
             },
-        ) => Some(Opened {
+        ) => Some(OpenBlock {
             header,
             successors,
             liveins: Some(regs),
@@ -299,7 +299,7 @@ impl Body {
 
     /// The body where the block that is being read ends, which the block of number `next` follows.
     #[tactic(auto, unfolding(crate::specs::Body::closed))]
-    pub fn closed(
+    pub fn close_block(
         self,
         alloc: Global,
         target: &Target,
@@ -350,8 +350,8 @@ impl Body {
         ensures operands { IfOk result (λ b. operands_of b ≡ operands_of self) }
         ensures ids { IfOk result (λ b. b.next_id ≡ self.next_id) }
     {
-        let mut body = self.closed(alloc, target, Some(header.number))?;
-        body.opened = Some(Opened {
+        let mut body = self.close_block(alloc, target, Some(header.number))?;
+        body.opened = Some(OpenBlock {
             header,
             successors: None,
             liveins: None,

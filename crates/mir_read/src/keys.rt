@@ -7,8 +7,8 @@ ghost use Rattle.mir_read.specs.Names.{NameLists};
 ghost use Rattle.mir_read.specs.Reading.{LeavesLine};
 ghost use Rattle.mir_read.specs.Keys.{no_keys, unquoted, name_value, is_body_value, declared_number, ends_class, class_word, declared_class, contains, frame_in, declared_frame, is_key, key_named, name_begun, body_begun, key_begun, continued, colon_cut, begun_with, found, with_declared, with_frame, declared, kept, key_line, AddsToKeys};
 
-use crate::names::Names;
-use crate::ranges::{Given, Ranges};
+use crate::names::TargetNames;
+use crate::ranges::{AnnotatedClass, Ranges};
 use crate::stop::{ReadStop, TextKind};
 use mir_func::Frames;
 use mir_lines::lexer::{Sort, before_word, behind_word, is, is_letter, skip, skip_back, span};
@@ -49,35 +49,25 @@ pub struct Keys {
     pub registers: Ranges,
 }
 
-fn is_outside(key: Key) -> bool
-    ensures { result ≡ is_key key Key.Outside }
+/// Whether two keys are one.
+fn is_key(a: Key, b: Key) -> bool
+    ensures { result ≡ is_key a b }
 {
-    matches!(key, Key::Outside)
-}
-
-fn is_registers(key: Key) -> bool
-    ensures { result ≡ is_key key Key.Registers }
-{
-    matches!(key, Key::Registers)
-}
-
-fn is_liveins(key: Key) -> bool
-    ensures { result ≡ is_key key Key.Liveins }
-{
-    matches!(key, Key::Liveins)
-}
-
-fn is_stack(key: Key) -> bool
-    ensures { result ≡ is_key key Key.Stack }
-{
-    matches!(key, Key::Stack)
+    match a {
+        Key::Outside => matches!(b, Key::Outside),
+        Key::Registers => matches!(b, Key::Registers),
+        Key::Liveins => matches!(b, Key::Liveins),
+        Key::Stack => matches!(b, Key::Stack),
+        Key::Body => matches!(b, Key::Body),
+        Key::Other => matches!(b, Key::Other),
+    }
 }
 
 /// Whether a key is that of the body.
 pub fn is_body(key: Key) -> bool
     ensures { result ≡ is_key key Key.Body }
 {
-    matches!(key, Key::Body)
+    is_key(key, Key::Body)
 }
 
 fn find_colon(line: &[u8]) -> Option<usize>
@@ -99,7 +89,7 @@ fn colon_cut(line: &[u8]) -> Option<(&[u8], &[u8])>
 
 /// A text without one pair of single quotes.
 #[tactic(auto, unfolding(crate::specs::Keys::unquoted))]
-fn unquoted(text: &[u8]) -> &[u8]
+fn strip_quotes(text: &[u8]) -> &[u8]
     ensures { result.now ≡ unquoted text.now }
 {
     match behind_word(text, b"'") {
@@ -117,7 +107,7 @@ fn unquoted(text: &[u8]) -> &[u8]
 fn name_value(text: &[u8]) -> Option<&[u8]>
     ensures { option_map now_of result ≡ name_value text.now }
 {
-    let value = unquoted(skip_back(skip(text)));
+    let value = strip_quotes(skip_back(skip(text)));
     if value.is_empty() { None } else { Some(value) }
 }
 
@@ -325,7 +315,7 @@ impl Keys {
         ensures value { LeavesLine result self.now (continued self.now) }
         ensures adds { OnOk result (AddsToKeys 0 self.now self.now) }
     {
-        if is_outside(self.key) {
+        if is_key(self.key, Key::Outside) {
             Err(ReadStop::Fault(TextKind::Layout))
         } else {
             Ok(())
@@ -364,7 +354,12 @@ impl Keys {
     }
 
     /// Adds the class that a line of `registers` declares.
-    fn declare_class(&mut self, alloc: Global, names: &Names, line: &[u8]) -> Result<(), ReadStop>
+    fn declare_class(
+        &mut self,
+        alloc: Global,
+        names: &TargetNames,
+        line: &[u8],
+    ) -> Result<(), ReadStop>
         requires { length self.old.registers.names < 4294967295 }
         ensures value { LeavesLine result self.new (with_declared names.now self.old (declared_class line.now)) }
         ensures adds { OnOk result (AddsToKeys (length line.now) self.old self.new) }
@@ -374,8 +369,12 @@ impl Keys {
             Some((name, class)) => match names.class(class) {
                 None => Err(ReadStop::Fault(TextKind::Name)),
                 Some(c) => {
-                    self.registers
-                        .mention(alloc, name, Given::Nothing, Given::One(c))?;
+                    self.registers.mention(
+                        alloc,
+                        name,
+                        AnnotatedClass::Nothing,
+                        AnnotatedClass::One(c),
+                    )?;
                     Ok(())
                 }
             },
@@ -395,15 +394,15 @@ impl Keys {
 
     /// Adds what a line declares.
     #[tactic(auto, unfolding(crate::specs::Keys::declared))]
-    fn declare(&mut self, alloc: Global, names: &Names, line: &[u8]) -> Result<(), ReadStop>
+    fn declare(&mut self, alloc: Global, names: &TargetNames, line: &[u8]) -> Result<(), ReadStop>
         requires { length self.old.registers.names < 4294967295 }
         ensures value { LeavesLine result self.new (declared names.now self.old line.now) }
         ensures adds { OnOk result (AddsToKeys (length line.now) self.old self.new) }
     {
-        if is_registers(self.key) {
+        if is_key(self.key, Key::Registers) {
             return self.declare_class(alloc, names, line);
         }
-        if is_stack(self.key) {
+        if is_key(self.key, Key::Stack) {
             self.declare_frame(line)?;
         }
         Ok(())
@@ -415,7 +414,7 @@ impl Keys {
         ensures value { OnOk result (self.new ≡ kept self.old line.now) }
         ensures adds { OnOk result (AddsToKeys 0 self.old self.new) }
     {
-        if !(is_registers(self.key) || is_liveins(self.key)) {
+        if !(is_key(self.key, Key::Registers) || is_key(self.key, Key::Liveins)) {
             self.head.extend(line)?;
             self.head.extend(b"\n")?;
         }
@@ -424,7 +423,7 @@ impl Keys {
 
     /// Takes one line before the body, or answers the first test that the line fails.
     #[tactic(auto, unfolding(crate::specs::Keys::key_line))]
-    pub fn line(&mut self, alloc: Global, names: &Names, line: &[u8]) -> Result<(), ReadStop>
+    pub fn line(&mut self, alloc: Global, names: &TargetNames, line: &[u8]) -> Result<(), ReadStop>
         requires { length self.old.registers.names < 4294967295 }
         ensures value { LeavesLine result self.new (key_line names.now self.old line.now) }
         ensures adds { OnOk result (AddsToKeys (length line.now) self.old self.new) }

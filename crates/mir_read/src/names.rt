@@ -167,7 +167,7 @@ impl NumberSet {
 
 /// The names of a target, for looking up their numbers, and its words of `target-flags`.
 #[derive(Drop)]
-pub struct Names {
+pub struct TargetNames {
     regs: NameSet,
     indexes: NameSet,
     classes: NameSet,
@@ -176,7 +176,7 @@ pub struct Names {
     flags: WordSet,
 }
 
-impl Model for Names {
+impl Model for TargetNames {
     ghost use Rattle.mir_read.specs.Names.{NameLists, AreFew};
 
     ghost Value = { NameLists };
@@ -273,13 +273,13 @@ fn flag_words(alloc: Global, words: &[Bytes]) -> Result<WordSet, AllocError>
     Ok(flags)
 }
 
-impl Names {
+impl TargetNames {
     /// The names of a target.
     #[tactic(auto, unfolding(crate::specs::Names::name_lists))]
-    pub fn new(alloc: Global, target: &Target) -> Result<Names, AllocError>
+    pub fn new(alloc: Global, target: &Target) -> Result<TargetNames, AllocError>
         ensures { IfOk result (λ names. names ≡ name_lists target.now) }
     {
-        Ok(Names {
+        Ok(TargetNames {
             regs: reg_names(alloc, target.regs.as_slice())?,
             indexes: index_names(alloc, target.indexes.as_slice())?,
             classes: class_names(alloc, target.classes.as_slice())?,

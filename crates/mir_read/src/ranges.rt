@@ -11,7 +11,7 @@ use target_base::{ClassId, List};
 
 /// The classes that annotations give a virtual register.
 #[derive(Clone, Copy, Debug, PartialEq, Eq)]
-pub enum Given {
+pub enum AnnotatedClass {
     /// None yet.
     Nothing,
     /// Just one.
@@ -24,43 +24,49 @@ pub enum Given {
 #[derive(Drop)]
 pub struct Ranges {
     pub names: NameSet,
-    pub given: List<Given>,
+    pub given: List<AnnotatedClass>,
 }
 
 /// What two annotations together give.
-fn joined(a: Given, b: Given) -> Given
+fn join_annotations(a: AnnotatedClass, b: AnnotatedClass) -> AnnotatedClass
     ensures { result ≡ joined a b }
 {
     match a {
-        Given::Nothing => b,
-        Given::Several => Given::Several,
-        Given::One(c) => match b {
-            Given::Nothing => a,
-            Given::Several => Given::Several,
-            Given::One(d) => { if c.0 == d.0 { a } else { Given::Several } }
+        AnnotatedClass::Nothing => b,
+        AnnotatedClass::Several => AnnotatedClass::Several,
+        AnnotatedClass::One(c) => match b {
+            AnnotatedClass::Nothing => a,
+            AnnotatedClass::Several => AnnotatedClass::Several,
+            AnnotatedClass::One(d) => {
+                if c.0 == d.0 {
+                    a
+                } else {
+                    AnnotatedClass::Several
+                }
+            }
         },
     }
 }
 
-fn given_at(given: &[Given], k: usize) -> Given
+fn given_at(given: &[AnnotatedClass], k: usize) -> AnnotatedClass
     ensures { result ≡ given_at given.now k }
 {
     match given.get(k) {
-        None => Given::Nothing,
+        None => AnnotatedClass::Nothing,
         Some(g) => *g,
     }
 }
 
-fn class_in(given: Given) -> Option<ClassId>
+fn class_in(given: AnnotatedClass) -> Option<ClassId>
     ensures { result ≡ class_in given }
 {
     match given {
-        Given::One(c) => Some(c),
+        AnnotatedClass::One(c) => Some(c),
         _ => None,
     }
 }
 
-fn set_given(given: &mut List<Given>, k: usize, g: Given)
+fn set_given(given: &mut List<AnnotatedClass>, k: usize, g: AnnotatedClass)
     ensures { given.new ≡ slice_set given.old k g }
 {
     if k < given.len() {
@@ -80,17 +86,22 @@ impl Ranges {
     }
 
     /// What a register is given.
-    pub fn given_to(&self, name: &[u8]) -> Given
+    pub fn given_to(&self, name: &[u8]) -> AnnotatedClass
         ensures { result ≡ given_to self.now name.now }
     {
         match self.names.place(name) {
-            None => Given::Nothing,
+            None => AnnotatedClass::Nothing,
             Some(k) => given_at(self.given.as_slice(), k as usize),
         }
     }
 
     /// Adds a register, which isn't named yet.
-    fn append(&mut self, alloc: Global, name: &[u8], given: Given) -> Result<(), AllocError>
+    fn append(
+        &mut self,
+        alloc: Global,
+        name: &[u8],
+        given: AnnotatedClass,
+    ) -> Result<(), AllocError>
         requires few { length self.old.names < 4294967295 }
         requires new { position (same_numbers name.now) self.old.names ≡ None }
         ensures value { OnOk result (self.new ≡ appended self.old name.now given) }
@@ -103,12 +114,12 @@ impl Ranges {
     }
 
     /// Gives the register of this place something more.
-    fn give(&mut self, k: usize, given: Given)
+    fn give(&mut self, k: usize, given: AnnotatedClass)
         ensures value { self.new ≡ regiven self.old k given }
         ensures given { length self.new.given ≡ length self.old.given }
     {
         let old = given_at(self.given.as_slice(), k);
-        set_given(&mut self.given, k, joined(old, given));
+        set_given(&mut self.given, k, join_annotations(old, given));
     }
 
     /// Names a register and gives it something; where that is the first time, it has been given
@@ -118,8 +129,8 @@ impl Ranges {
         &mut self,
         alloc: Global,
         name: &[u8],
-        first: Given,
-        given: Given,
+        first: AnnotatedClass,
+        given: AnnotatedClass,
     ) -> Result<(), AllocError>
         requires { length self.old.names < 4294967295 }
         ensures value { OnOk result (self.new ≡ mentioned self.old name.now first given) }
@@ -127,7 +138,7 @@ impl Ranges {
         ensures given { OnOk result (length self.new.given ≤ length self.old.given + 1) }
     {
         match self.names.place(name) {
-            None => self.append(alloc, name, joined(first, given)),
+            None => self.append(alloc, name, join_annotations(first, given)),
             Some(k) => {
                 self.give(k as usize, given);
                 Ok(())
@@ -143,7 +154,7 @@ impl Ranges {
         alloc: Global,
         name: &[u8],
         keyed: &Ranges,
-        given: Given,
+        given: AnnotatedClass,
     ) -> Result<u32, AllocError>
         requires { length self.old.names < 4294967295 }
         ensures value { OnOk result (self.new ≡ mentioned self.old name.now (given_to keyed.now name.now) given) }
@@ -154,7 +165,7 @@ impl Ranges {
         match self.names.place(name) {
             None => {
                 let number = self.names.len();
-                self.append(alloc, name, joined(keyed.given_to(name), given))?;
+                self.append(alloc, name, join_annotations(keyed.given_to(name), given))?;
                 Ok(number)
             }
             Some(k) => {

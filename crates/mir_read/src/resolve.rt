@@ -8,8 +8,8 @@ ghost use Rattle.mir_read.specs.Names.{NameLists, has_flag};
 ghost use Rattle.mir_read.specs.Ranges.{range_number};
 ghost use Rattle.mir_read.specs.Resolving.{no_headers, noted, differs, header_at, index_if, class_if, placed, reg_op, operand_named, operands_named, opcode_named, instr_of, instr_named, regs_named, share, edge, equal_shares, with_share, shared, successors_named, HasMore};
 
-use crate::names::{Names, NumberSet};
-use crate::ranges::{Given, Ranges};
+use crate::names::{NumberSet, TargetNames};
+use crate::ranges::{AnnotatedClass, Ranges};
 use mir_func::{Edge, Edges, Instr, Loc, Op, Operand, Operands, RegOp, ShortList};
 use mir_lines::{RawEdge, RawInstr, RawOperand, RawPlace, RawReg, Words};
 use std::alloc::{AllocError, Global};
@@ -35,7 +35,7 @@ impl Headers {
 
     /// The headers with this one.
     #[tactic(auto, using(crate::proofs::Sets::sets), unfolding(crate::specs::Resolving::noted))]
-    pub fn noted(self, alloc: Global, number: u32, name: &[u8]) -> Result<Headers, AllocError>
+    pub fn add_header(self, alloc: Global, number: u32, name: &[u8]) -> Result<Headers, AllocError>
         requires { length self.numbers < 4294967295 }
         ensures value { IfOk result (λ h. h ≡ noted self number name.now) }
         ensures more { IfOk result (λ h. length h.numbers ≤ length self.numbers + 1) }
@@ -86,7 +86,7 @@ fn are_same(a: &[u8], b: &[u8]) -> bool
 }
 
 /// A written index. None where the target lacks it.
-fn index_if(names: &Names, index: &Option<Bytes>) -> Option<Option<IndexId>>
+fn index_if(names: &TargetNames, index: &Option<Bytes>) -> Option<Option<IndexId>>
     ensures { result ≡ index_if names.now index.now }
 {
     match index {
@@ -99,14 +99,14 @@ fn index_if(names: &Names, index: &Option<Bytes>) -> Option<Option<IndexId>>
 }
 
 /// What a written class gives. None where the target lacks it.
-fn class_if(names: &Names, class: &Option<Bytes>) -> Option<Given>
+fn class_if(names: &TargetNames, class: &Option<Bytes>) -> Option<AnnotatedClass>
     ensures { result ≡ class_if names.now class.now }
 {
     match class {
-        None => Some(Given::Nothing),
+        None => Some(AnnotatedClass::Nothing),
         Some(name) => match names.class(name.as_slice()) {
             None => None,
-            Some(c) => Some(Given::One(c)),
+            Some(c) => Some(AnnotatedClass::One(c)),
         },
     }
 }
@@ -115,7 +115,7 @@ fn class_if(names: &Names, class: &Option<Bytes>) -> Option<Given>
 #[derive(Clone, Copy)]
 pub struct Scope<'a> {
     /// The names of the target.
-    pub names: &'a Names,
+    pub names: &'a TargetNames,
     /// The headers of blocks on the lines before.
     pub headers: &'a Headers,
     /// The registers of the keys.
@@ -127,7 +127,7 @@ pub struct Scope<'a> {
 #[tactic(auto, unfolding(crate::specs::Resolving::placed))]
 fn place(
     alloc: Global,
-    names: &Names,
+    names: &TargetNames,
     keyed: &Ranges,
     ranges: &mut Ranges,
     place: &RawPlace,
@@ -172,7 +172,7 @@ fn reg_op(loc: Loc, index: Option<IndexId>, o: &RawReg) -> RegOp
 }
 
 /// Whether the target has all these words of `target-flags`.
-fn are_flags(names: &Names, flags: &[Bytes]) -> bool
+fn are_flags(names: &TargetNames, flags: &[Bytes]) -> bool
     ensures { result ≡ list_all (has_flag names.now) flags.now }
 {
     flags.iter().all(|w| names.has_flag(w.as_slice()))
@@ -247,7 +247,7 @@ fn operands(
 }
 
 /// The opcode of an instruction. None where the target lacks it.
-fn opcode(alloc: Global, names: &Names, raw: &RawInstr) -> Result<Option<Op>, AllocError>
+fn opcode(alloc: Global, names: &TargetNames, raw: &RawInstr) -> Result<Option<Op>, AllocError>
     ensures { IfOk result (λ o. o ≡ opcode_named names.now raw.now) }
 {
     if raw.excluded {
@@ -290,7 +290,11 @@ pub fn instruction(
 }
 
 /// The registers of a `liveins:` line. None where the target lacks one.
-pub fn liveins(alloc: Global, names: &Names, raw: &[Bytes]) -> Result<Option<Regs>, AllocError>
+pub fn liveins(
+    alloc: Global,
+    names: &TargetNames,
+    raw: &[Bytes],
+) -> Result<Option<Regs>, AllocError>
     ensures { IfOk result (λ rs. rs ≡ regs_named names.now raw.now) }
 {
     let mut made = List::new(alloc);
@@ -347,7 +351,7 @@ fn blocks_of(alloc: Global, raw: &[RawEdge]) -> Result<List<u32>, AllocError>
 }
 
 /// The successors with their probabilities. None where one has none.
-fn shared(alloc: Global, raw: &[RawEdge]) -> Result<Option<Edges>, AllocError>
+fn share_probabilities(alloc: Global, raw: &[RawEdge]) -> Result<Option<Edges>, AllocError>
     ensures { IfOk result (λ es. es ≡ shared raw.now) }
 {
     let mut made = List::new(alloc);
@@ -369,7 +373,7 @@ pub fn successors(alloc: Global, raw: &[RawEdge]) -> Result<Edges, AllocError>
     requires { length raw.now < 4294967296 }
     ensures { IfOk result (λ es. es ≡ successors_named raw.now) }
 {
-    match shared(alloc, raw)? {
+    match share_probabilities(alloc, raw)? {
         None => equal_shares(alloc, blocks_of(alloc, raw)?.as_slice()),
         Some(made) => Ok(made),
     }

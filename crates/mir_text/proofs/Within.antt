@@ -3,7 +3,7 @@ use Rattle.std.proofs.Common.{◌≡◌, ℕ, ◌≤◌, ◌+◌, Ok, Err, arith
 use Rattle.std.proofs.lemmas.List.{length-map}
 use Rattle.std.specs.Prelude.{Result, IfOk}
 use Rattle.mir_read.specs.declared.keys.Keys.{Keys}
-use Rattle.mir_text.specs.declared.reading.Reading.{Reading}
+use Rattle.mir_text.specs.declared.reading.BodyReader.{BodyReader}
 use Rattle.mir_text.specs.declared.document.State.{State}
 use Rattle.mir_text.specs.declared.document.State.TheVariants as states
 use Rattle.mir_func.specs.Value.{Function}
@@ -16,7 +16,7 @@ use Rattle.mir_text.specs.Document.{AreKeysWithin, IsStateWithin}
 pub function_grows : (m n : ℕ) (f : Function) → IsFunctionWithin m f → m ≤ n → IsFunctionWithin n f
 function_grows m n f h le = record { ids = omega (arith, h.ids, le); ranges = omega (arith, h.ranges, le); operands = omega (arith, h.operands, le); frames = omega (arith, h.frames, le) }
 
-pub reading_grows : (m n : ℕ) (r : Reading) → IsReadingWithin m r → m ≤ n → IsReadingWithin n r
+pub reading_grows : (m n : ℕ) (r : BodyReader) → IsReadingWithin m r → m ≤ n → IsReadingWithin n r
 reading_grows m n r h le = record {
   frames = omega (arith, h.frames, le);
   registers = omega (arith, h.registers, le);
@@ -41,7 +41,7 @@ state_grows m n (states.Body before r) h le = reading_grows m n r h le
 state_grows m n states.EndOfIr h le = tt
 state_grows m n (states.Function before f) h le = function_grows m n f h le
 
-pub reading_adds : (m d : ℕ) (r s : Reading) → IsReadingWithin m r → AddsToReading d r s → IsReadingWithin (m + d) s
+pub reading_adds : (m d : ℕ) (r s : BodyReader) → IsReadingWithin m r → AddsToReading d r s → IsReadingWithin (m + d) s
 reading_adds m d r s h a = record {
   frames = omega (arith, h.frames, a.frames);
   registers = omega (arith, h.registers, a.registers);
@@ -64,7 +64,7 @@ reading_begins n k h = record {
 }
 
 -- the function of a body whose last block has ended
-pub function_small : (n : ℕ) (r : Reading) (b : BodyValue) → IsReadingWithin n r → b.next_id ≡ r.body.next_id → operands_of b ≡ operands_of r.body → IsFunctionWithin n (function_of r b)
+pub function_small : (n : ℕ) (r : BodyReader) (b : BodyValue) → IsReadingWithin n r → b.next_id ≡ r.body.next_id → operands_of b ≡ operands_of r.body → IsFunctionWithin n (function_of r b)
 unfolding function_of
 function_small n r b h i o = record {
   ids = omega (arith, i, h.ids);

@@ -18,7 +18,7 @@ use Rattle.mir_text.specs.declared.doc.TextStop.{TextStop}
 use Rattle.mir_text.specs.declared.doc.TextStop.TheVariants as text_stops
 use Rattle.mir_text.specs.declared.doc.Doc.{Doc}
 use Rattle.mir_text.specs.declared.doc.Doc.TheVariants as docs
-use Rattle.mir_text.specs.declared.reading.Reading.{Reading}
+use Rattle.mir_text.specs.declared.reading.BodyReader.{BodyReader}
 use Rattle.mir_text.specs.declared.document.State.{State}
 use Rattle.mir_text.specs.declared.document.State.TheVariants as states
 use Rattle.mir_text.specs.BodyLines.{reading_of, body_line, function_of, IsFunctionWithin, IsReadingWithin}
@@ -31,14 +31,14 @@ lines (b ∷ bs) = if b == 10 then [] ∷ lines bs else onto_first b (lines bs)
 -- Lines of a document.
 
 -- the end of a document, behind a block
-unfoldable pub end_line : Target → List ℕ → Reading → Result State TextKind
+unfoldable pub end_line : Target → List ℕ → BodyReader → Result State TextKind
 end_line t before r =
     if is_begun r.body then Ok (states.Function before (function_of r (closed t r.body None))) else Err kinds.Layout
 
-abbrev pub as_body : List ℕ → Reading → State
+abbrev pub as_body : List ℕ → BodyReader → State
 as_body before r = states.Body before r
 
-unfoldable pub body_or_end : Target → NameLists → List ℕ → Reading → List ℕ → Result State TextKind
+unfoldable pub body_or_end : Target → NameLists → List ℕ → BodyReader → List ℕ → Result State TextKind
 body_or_end t names before r line =
     if is_word line (codes "...") then end_line t before r
     else (body_line t names r line >>= λ s. Ok (states.Body before s))

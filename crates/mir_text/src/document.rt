@@ -7,11 +7,11 @@ ghost use Rattle.mir_text.specs.BodyLines.{IsReadingWithin};
 ghost use Rattle.mir_text.specs.Document.{lines, end_line, body_or_end, with_key_line, begins_comment, outside_line, ir_line, line_after, ended, document_of, stop_at, Gives, IsBulkWithin, AreKeysWithin, IsStateWithin};
 
 use crate::doc::{Doc, TextFault, TextStop};
-use crate::reading::Reading;
+use crate::reading::BodyReader;
 use mir_func::Func;
 use mir_lines::lexer::{behind_word, is, is_blank, skip_back};
 use mir_read::keys::{Keys, is_body};
-use mir_read::names::Names;
+use mir_read::names::TargetNames;
 use mir_read::{ReadStop, TextKind};
 use std::alloc::{AllocError, Global};
 use std::marker::Model;
@@ -27,7 +27,7 @@ pub(crate) enum State {
     /// Lines before a function document, and the key lines of it.
     Keys(Bytes, Boxed<Keys>),
     /// Lines before a function document, and what is read of it.
-    Body(Bytes, Reading),
+    Body(Bytes, BodyReader),
     /// A whole IR document.
     EndOfIr,
     /// Lines before a function document, and its function.
@@ -102,7 +102,7 @@ fn ir_line(line: &[u8]) -> Result<State, ReadStop>
 /// The state behind a line before the body.
 fn key_line(
     alloc: Global,
-    names: &Names,
+    names: &TargetNames,
     before: Bytes,
     keys: Boxed<Keys>,
     line: &[u8],
@@ -114,7 +114,7 @@ fn key_line(
     let mut keys = keys;
     keys.get_mut().line(alloc, names, line)?;
     if is_body(keys.get().key) {
-        Ok(State::Body(before, Reading::new(alloc, keys)?))
+        Ok(State::Body(before, BodyReader::new(alloc, keys)?))
     } else {
         Ok(State::Keys(before, keys))
     }
@@ -125,9 +125,9 @@ fn key_line(
 fn body_or_end(
     alloc: Global,
     target: &Target,
-    names: &Names,
+    names: &TargetNames,
     before: Bytes,
-    reading: Reading,
+    reading: BodyReader,
     line: &[u8],
 ) -> Result<State, ReadStop>
     requires small { IsReadingWithin 8388608 reading }
@@ -152,7 +152,7 @@ impl State {
         self,
         alloc: Global,
         target: &Target,
-        names: &Names,
+        names: &TargetNames,
         first: bool,
         line: &[u8],
     ) -> Result<State, ReadStop>
@@ -202,7 +202,7 @@ fn at_line(number: u64, stop: ReadStop) -> TextStop
 fn read_with(
     alloc: Global,
     target: &Target,
-    names: &Names,
+    names: &TargetNames,
     first: bool,
     line: u64,
     bytes: &[u8],
@@ -237,12 +237,12 @@ fn read_with(
 /// A reader of documents over a target, whose names are found once for all that it reads. Contracts
 /// see it as the target.
 #[derive(Drop)]
-pub struct Reader<'a> {
+pub struct DocReader<'a> {
     target: &'a Target,
-    names: Names,
+    names: TargetNames,
 }
 
-impl<'a> Model for Reader<'a> {
+impl<'a> Model for DocReader<'a> {
     ghost use Rattle.std.specs.Prelude.{◌≡◌};
     ghost use Rattle.target_base.specs.declared.types.Target.{Target};
     ghost use Rattle.mir_read.specs.Names.{name_lists};
@@ -254,13 +254,13 @@ impl<'a> Model for Reader<'a> {
     ghost invariant = { λ r. r.names ≡ name_lists r.target.now };
 }
 
-impl<'a> Reader<'a> {
+impl<'a> DocReader<'a> {
     /// The reader over a target.
-    pub fn new(alloc: Global, target: &'a Target) -> Result<Reader<'a>, AllocError>
+    pub fn new(alloc: Global, target: &'a Target) -> Result<DocReader<'a>, AllocError>
         ensures { IfOk result (λ r. r ≡ target.now) }
     {
-        let names = Names::new(alloc, target)?;
-        Ok(Reader { target, names })
+        let names = TargetNames::new(alloc, target)?;
+        Ok(DocReader { target, names })
     }
 
     /// The target.
@@ -285,11 +285,17 @@ impl<'a> Reader<'a> {
     }
 }
 
+/// Says of a document that it is the first of its file, so that IR may stand here.
+pub const FIRST: bool = true;
+
+/// Says of a document that it isn't the first of its file, so that no IR may stand here.
+pub const LATER: bool = false;
+
 /// Reads one document, whose first line has the number `line`; `first` says whether IR may stand
 /// here. Fault comes exactly where the bytes spell no document, with the first line that can't
 /// stand behind those before it and the first of Layout, Token and Name that fails there, or with
 /// End and the line behind the last. Each of the numbers of ids, virtual registers, operands and
-/// frame objects of the function is at most the number of bytes. A `Reader` finds the names of the
+/// frame objects of the function is at most the number of bytes. A `DocReader` finds the names of the
 /// target once for many documents.
 pub fn read_doc(
     alloc: Global,
@@ -303,6 +309,6 @@ pub fn read_doc(
     ensures exact { Gives result (document_of target.now first line bytes.now) }
     ensures bulk { IfOk result (λ d. IsBulkWithin (length bytes.now) d) }
 {
-    let reader = Reader::new(alloc, target)?;
+    let reader = DocReader::new(alloc, target)?;
     reader.read(alloc, first, line, bytes)
 }

@@ -8,5 +8,5 @@ mod reading;
 pub mod text_laws;
 
 pub use doc::{Doc, TextFault, TextKind, TextStop};
-pub use document::{Reader, read_doc};
+pub use document::{DocReader, FIRST, LATER, read_doc};
 pub use print::print_doc;

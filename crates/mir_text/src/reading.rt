@@ -12,7 +12,7 @@ use mir_lines::lexer::{behind_word, is_blank, skip};
 use mir_lines::{RawHeader, blocks};
 use mir_read::body::Body;
 use mir_read::keys::Keys;
-use mir_read::names::Names;
+use mir_read::names::TargetNames;
 use mir_read::ranges::Ranges;
 use mir_read::resolve::{self, Headers, Scope};
 use mir_read::{ReadStop, TextKind};
@@ -22,7 +22,7 @@ use target_base::{Boxed, Bytes, List, Target};
 /// What is read of a function document whose body has begun. Each part stands in a box, so that
 /// line by line only pointers move.
 #[derive(Drop)]
-pub(crate) struct Reading {
+pub(crate) struct BodyReader {
     pub(crate) keys: Boxed<Keys>,
     pub(crate) ranges: Boxed<Ranges>,
     pub(crate) headers: Boxed<Headers>,
@@ -38,12 +38,12 @@ fn name_or_none(alloc: Global, name: Option<Bytes>) -> Bytes
     }
 }
 
-impl Reading {
+impl BodyReader {
     /// Behind the key lines.
-    pub(crate) fn new(alloc: Global, keys: Boxed<Keys>) -> Result<Reading, AllocError>
+    pub(crate) fn new(alloc: Global, keys: Boxed<Keys>) -> Result<BodyReader, AllocError>
         ensures { IfOk result (λ r. r ≡ reading_of keys) }
     {
-        Ok(Reading {
+        Ok(BodyReader {
             keys,
             ranges: Boxed::new(alloc, Ranges::new(alloc))?,
             headers: Boxed::new(alloc, Headers::new(alloc))?,
@@ -58,21 +58,21 @@ impl Reading {
         alloc: Global,
         target: &Target,
         header: RawHeader,
-    ) -> Result<Reading, AllocError>
+    ) -> Result<BodyReader, AllocError>
         requires { IsReadingWithin 8388608 self }
         ensures value { IfOk result (λ r. r ≡ header_put target.now self header) }
         ensures adds { IfOk result (λ r. AddsToReading 1 self r) }
     {
-        let Reading {
+        let BodyReader {
             keys,
             ranges,
             headers,
             body,
         } = self;
         let headers = headers.into_inner();
-        let headers = headers.noted(alloc, header.number, header.name.as_slice())?;
+        let headers = headers.add_header(alloc, header.number, header.name.as_slice())?;
         let body = body.into_inner().with_header(alloc, target, header)?;
-        Ok(Reading {
+        Ok(BodyReader {
             keys,
             ranges,
             headers: Boxed::new(alloc, headers)?,
@@ -82,7 +82,12 @@ impl Reading {
 
     /// Behind the header of a block.
     #[tactic(auto, unfolding(crate::specs::BodyLines::header_line))]
-    fn header_line(self, alloc: Global, target: &Target, text: &[u8]) -> Result<Reading, ReadStop>
+    fn header_line(
+        self,
+        alloc: Global,
+        target: &Target,
+        text: &[u8],
+    ) -> Result<BodyReader, ReadStop>
         requires { IsReadingWithin 8388608 self }
         ensures value { GivesLine result (header_line target.now self text.now) }
         ensures adds { IfOk result (λ r. AddsToReading 1 self r) }
@@ -93,7 +98,7 @@ impl Reading {
 
     /// Behind a `successors:` line with this list.
     #[tactic(auto, unfolding(crate::specs::BodyLines::successors_line))]
-    fn successors_line(self, alloc: Global, text: &[u8]) -> Result<Reading, ReadStop>
+    fn successors_line(self, alloc: Global, text: &[u8]) -> Result<BodyReader, ReadStop>
         requires { length text.now ≤ 4194304 }
         ensures value { GivesLine result (successors_line self text.now) }
         ensures adds { IfOk result (λ r. AddsToReading 0 self r) }
@@ -103,14 +108,14 @@ impl Reading {
         }
         let raw = blocks::successors(alloc, text)?;
         let edges = resolve::successors(alloc, raw.as_slice())?;
-        let Reading {
+        let BodyReader {
             keys,
             ranges,
             headers,
             body,
         } = self;
         let body = body.into_inner().with_successors(edges);
-        Ok(Reading {
+        Ok(BodyReader {
             keys,
             ranges,
             headers,
@@ -120,7 +125,12 @@ impl Reading {
 
     /// Behind a `liveins:` line with this list.
     #[tactic(auto, unfolding(crate::specs::BodyLines::liveins_line))]
-    fn liveins_line(self, alloc: Global, names: &Names, text: &[u8]) -> Result<Reading, ReadStop>
+    fn liveins_line(
+        self,
+        alloc: Global,
+        names: &TargetNames,
+        text: &[u8],
+    ) -> Result<BodyReader, ReadStop>
         ensures value { GivesLine result (liveins_line names.now self text.now) }
         ensures adds { IfOk result (λ r. AddsToReading 0 self r) }
     {
@@ -131,14 +141,14 @@ impl Reading {
         match resolve::liveins(alloc, names, raw.as_slice())? {
             None => Err(ReadStop::Fault(TextKind::Name)),
             Some(regs) => {
-                let Reading {
+                let BodyReader {
                     keys,
                     ranges,
                     headers,
                     body,
                 } = self;
                 let body = body.into_inner().with_liveins(regs);
-                Ok(Reading {
+                Ok(BodyReader {
                     keys,
                     ranges,
                     headers,
@@ -154,9 +164,9 @@ impl Reading {
         self,
         alloc: Global,
         target: &Target,
-        names: &Names,
+        names: &TargetNames,
         text: &[u8],
-    ) -> Result<Reading, ReadStop>
+    ) -> Result<BodyReader, ReadStop>
         requires small { IsReadingWithin 8388608 self }
         requires short { length text.now ≤ 4194304 }
         ensures value { GivesLine result (instr_line target.now names.now self text.now) }
@@ -166,7 +176,7 @@ impl Reading {
             return Err(ReadStop::Fault(TextKind::Layout));
         }
         let raw = instructions::instruction(alloc, target, text)?;
-        let Reading {
+        let BodyReader {
             keys,
             mut ranges,
             headers,
@@ -183,7 +193,7 @@ impl Reading {
             None => Err(ReadStop::Fault(TextKind::Name)),
             Some(instr) => {
                 body.get_mut().put_instr(instr)?;
-                Ok(Reading {
+                Ok(BodyReader {
                     keys,
                     ranges,
                     headers,
@@ -195,13 +205,13 @@ impl Reading {
 
     /// Behind a header, a list of a block, or an instruction.
     #[tactic(auto, unfolding(crate::specs::BodyLines::worded))]
-    fn worded(
+    fn read_body_line(
         self,
         alloc: Global,
         target: &Target,
-        names: &Names,
+        names: &TargetNames,
         text: &[u8],
-    ) -> Result<Reading, ReadStop>
+    ) -> Result<BodyReader, ReadStop>
         requires small { IsReadingWithin 8388608 self }
         requires short { length text.now ≤ 4194304 }
         ensures value { GivesLine result (worded target.now names.now self text.now) }
@@ -225,9 +235,9 @@ impl Reading {
         self,
         alloc: Global,
         target: &Target,
-        names: &Names,
+        names: &TargetNames,
         line: &[u8],
-    ) -> Result<Reading, ReadStop>
+    ) -> Result<BodyReader, ReadStop>
         requires small { IsReadingWithin 8388608 self }
         requires short { length line.now ≤ 4194304 }
         ensures value { GivesLine result (body_line target.now names.now self line.now) }
@@ -239,7 +249,7 @@ impl Reading {
         }
         match behind_word(text, b" ") {
             None => Err(ReadStop::Fault(TextKind::Layout)),
-            Some(words) => self.worded(alloc, target, names, skip(words)),
+            Some(words) => self.read_body_line(alloc, target, names, skip(words)),
         }
     }
 
@@ -250,7 +260,7 @@ impl Reading {
         ensures value { IfOk result (λ f. f ≡ function_of self (closed target.now self.body None)) }
         ensures within { IfOk result (λ f. (n : ℕ) → IsReadingWithin n self → IsFunctionWithin n f) }
     {
-        let Reading {
+        let BodyReader {
             keys,
             ranges,
             headers: _,
@@ -261,7 +271,7 @@ impl Reading {
             opened: _,
             instrs: _,
             next_id,
-        } = body.into_inner().closed(alloc, target, None)?;
+        } = body.into_inner().close_block(alloc, target, None)?;
         let Keys {
             key: _,
             name,

@@ -65,7 +65,7 @@ pub fn destination_of(o: RegOp) -> RegOp
 }
 
 /// An instruction without flags and tail, whose id is still to be given.
-pub fn made(alloc: Global, op: OpId, operands: Operands) -> Instr
+pub fn new_instr(alloc: Global, op: OpId, operands: Operands) -> Instr
     ensures { result ≡ made 0 op operands }
 {
     Instr {
@@ -84,16 +84,16 @@ pub fn copy_of(alloc: Global, to: RegOp, from: RegOp) -> Result<Instr, AllocErro
     let mut operands = Operands::new(alloc);
     operands.push(Operand::Reg(to))?;
     operands.push(Operand::Reg(from))?;
-    Ok(made(alloc, COPY, operands))
+    Ok(new_instr(alloc, COPY, operands))
 }
 
 /// An instruction that makes lanes undefined.
-pub fn undefining(alloc: Global, to: RegOp) -> Result<Instr, AllocError>
+pub fn implicit_def_of(alloc: Global, to: RegOp) -> Result<Instr, AllocError>
     ensures { IfOk result (λ i. i ≡ undefining to) }
 {
     let mut operands = Operands::new(alloc);
     operands.push(Operand::Reg(to))?;
-    Ok(made(alloc, IMPLICIT_DEF, operands))
+    Ok(new_instr(alloc, IMPLICIT_DEF, operands))
 }
 
 /// What gives `to` the value of an operand: a copy, or nothing of worth where it is `undef`.
@@ -101,7 +101,7 @@ pub fn move_of(alloc: Global, to: RegOp, from: RegOp) -> Result<Instr, AllocErro
     ensures { IfOk result (λ i. i ≡ move_of to from) }
 {
     if from.undef {
-        undefining(alloc, to)
+        implicit_def_of(alloc, to)
     } else {
         copy_of(alloc, to, source_of(from))
     }

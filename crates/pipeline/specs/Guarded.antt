@@ -1,3 +1,4 @@
 pub mod Limits
+pub mod Stops
 pub mod Function
 pub mod Told

@@ -1,3 +1,2 @@
 pub mod Allocators
-pub mod Stops
 pub mod Ready

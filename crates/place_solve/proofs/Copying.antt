@@ -18,8 +18,8 @@ use Rattle.instr_effects.specs.Ends.{first_pair, pairs_of}
 use Rattle.instr_effects.proofs.Pairs.{first_step, pairs_long}
 use Rattle.phi_elim.proofs.Walks.{drop_all}
 use Rattle.live_lanes.specs.declared.table.Table.{Table}
-use Rattle.place_solve.specs.declared.around.Around.{Around}
-use Rattle.place_solve.specs.declared.around.Around.TheVariants as arounds
+use Rattle.place_solve.specs.declared.position.PlacePosition.{PlacePosition}
+use Rattle.place_solve.specs.declared.position.PlacePosition.TheVariants as arounds
 use Rattle.place_solve.specs.Copies.{copy_fits, input_fits, is_in_place, names, operand_fits, pair_fits, reads, reads_besides, tie_fits}
 use Rattle.place_solve.specs.Told.{around_of, copy_solved}
 
@@ -29,7 +29,7 @@ and_true false = refl
 
 -- the place before the terminators
 
-abbrev pub before_from : Target → Around → List Instr → Around
+abbrev pub before_from : Target → PlacePosition → List Instr → PlacePosition
 before_from t a [] = a
 before_from t a (i ∷ is) = cond (does is_terminator t i) (arounds.Before i.id) (before_from t (arounds.Behind i.id) is)
 
@@ -41,15 +41,15 @@ before_is t q (i ∷ is) = go (does is_terminator t i) (before_is t (Exit i.id) 
     go true ih = refl
     go false ih = ih
 
-before_more : (t : Target) (is : List Instr) (k : ℕ) (i : Instr) (a : Around) (b : Bool) → k < length is → i ≡ get_or is k i → does is_terminator t i ≡ b → before_from t a (drop k is) ≡ cond b (arounds.Before i.id) (before_from t (arounds.Behind i.id) (drop (k + 1) is))
+before_more : (t : Target) (is : List Instr) (k : ℕ) (i : Instr) (a : PlacePosition) (b : Bool) → k < length is → i ≡ get_or is k i → does is_terminator t i ≡ b → before_from t a (drop k is) ≡ cond b (arounds.Before i.id) (before_from t (arounds.Behind i.id) (drop (k + 1) is))
 before_more t is k i a b h at e =
     let d : drop k is ≡ i ∷ drop (k + 1) is = rw (← at) at (drop_more is k i h) in
     ap (before_from t a) d ∙ ap (λ q. cond q (arounds.Before i.id) (before_from t (arounds.Behind i.id) (drop (k + 1) is))) e
 
-pub before_found : (t : Target) (is : List Instr) (k : ℕ) (i : Instr) (a total : Around) → k < length is → i ≡ get_or is k i → does is_terminator t i ≡ true → before_from t a (drop k is) ≡ total → arounds.Before i.id ≡ total
+pub before_found : (t : Target) (is : List Instr) (k : ℕ) (i : Instr) (a total : PlacePosition) → k < length is → i ≡ get_or is k i → does is_terminator t i ≡ true → before_from t a (drop k is) ≡ total → arounds.Before i.id ≡ total
 before_found t is k i a total h at holds was = sym (before_more t is k i a true h at holds) ∙ was
 
-pub before_none : (t : Target) (is : List Instr) (k : ℕ) (a total : Around) → length is ≤ k → before_from t a (drop k is) ≡ total → a ≡ total
+pub before_none : (t : Target) (is : List Instr) (k : ℕ) (a total : PlacePosition) → length is ≤ k → before_from t a (drop k is) ≡ total → a ≡ total
 before_none t is k a total h was = sym (ap (before_from t a) (drop_all k is h)) ∙ was
 
 -- the pairs of a phi

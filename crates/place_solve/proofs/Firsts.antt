@@ -9,7 +9,7 @@ use Rattle.target_base.specs.declared.types.Target.{Target}
 use Rattle.target_base.specs.Rules.{regs_of_some}
 use Rattle.mir_meaning.specs.Places.{all_apart}
 use Rattle.live_lanes.specs.declared.table.Table.{Table}
-use Rattle.place_solve.specs.declared.around.Around.{Around}
+use Rattle.place_solve.specs.declared.position.PlacePosition.{PlacePosition}
 use Rattle.place_solve.specs.declared.variables.Variable.{Variable}
 use Rattle.place_solve.specs.Choice.{use_of, need_of, seats, fits, may_lie, options_in, completions, choices_apart, needs_left, first, first_apart}
 use Rattle.place_solve.proofs.Chosen.{apart_kept, seats_push, comp_step, found_with, none_if_broken, nothing_apart, nothing_left, with_next}
@@ -32,7 +32,7 @@ first_missed f xs k total h was = rw (drop_all k xs h) at was
 pub ruleset firsts = (first_next, first_found, first_missed)
 
 -- the first register that fits and that a variable may lie in is the first of its options that fits
-pub first_start : (t : Target) (x : Table) (a : Around) (vs : List Variable) (chosen : List Reg) (v : Variable) (rs : List Reg) → rs ≡ regs_of_some t.classes v.class → first (filter (λ r. fits t (seats vs chosen) (use_of v.kind) r && may_lie t x a (use_of v.kind) r) rs) ≡ first (filter (fits t (seats vs chosen) (use_of v.kind)) (options_in t x a v))
+pub first_start : (t : Target) (x : Table) (a : PlacePosition) (vs : List Variable) (chosen : List Reg) (v : Variable) (rs : List Reg) → rs ≡ regs_of_some t.classes v.class → first (filter (λ r. fits t (seats vs chosen) (use_of v.kind) r && may_lie t x a (use_of v.kind) r) rs) ≡ first (filter (fits t (seats vs chosen) (use_of v.kind)) (options_in t x a v))
 first_start t x a vs chosen v rs is = rw is (ap first (filter_other (fits t (seats vs chosen) (use_of v.kind)) (may_lie t x a (use_of v.kind)) (regs_of_some t.classes v.class)))
 
 -- the first that passes passes
@@ -97,7 +97,7 @@ leads_next t vs f done shown pushed n d answer r is h same made told some was =
     leads_more t vs f done pushed n (get_or vs n d) r (sym is) h (get_or_default vs n d (get_or vs n d) h) made (rw same at (sym told ∙ some)) was
 
 -- the first choice of all options, where none is chosen yet
-pub first_of_all : (t : Target) (x : Table) (a : Around) (vs : List Variable) (options : List (List Reg)) → length options ≡ length vs → options ≡ map (options_in t x a) vs → first (choices_apart t (needs_left vs options) options) ≡ first_apart t x a vs
+pub first_of_all : (t : Target) (x : Table) (a : PlacePosition) (vs : List Variable) (options : List (List Reg)) → length options ≡ length vs → options ≡ map (options_in t x a) vs → first (choices_apart t (needs_left vs options) options) ≡ first_apart t x a vs
 first_of_all t x a vs options long is =
     let none : length vs - length options ≡ 0 = omega arith in
     ap (λ k. first (choices_apart t (drop k (map need_of vs)) options)) none ∙ ap (λ os. first (choices_apart t (map need_of vs) os)) is

@@ -46,7 +46,7 @@ use Rattle.live_laws.proofs.Effects.Moved.{moved-of, undefined-lane}
 use Rattle.live_laws.proofs.Effects.Silent.{map-long}
 use Rattle.live_laws.proofs.Touch.Effects.{defined-by}
 use Rattle.live_laws.proofs.Touch.Roles.{TakeAll, addr-takes, all-explicit, const-takes, fit, has_roles, known-shape, met, no-implicit, none-explicit, roles-sound}
-use Rattle.place_solve.specs.Around.{has_unit, keeps_unit, defines, defines_early, clobbers, writes, writes_early}
+use Rattle.place_solve.specs.Positions.{has_unit, keeps_unit, defines, defines_early, clobbers, writes, writes_early}
 use Rattle.place_solve.proofs.Solved.{units-within}
 use Rattle.place_solve.proofs.Writes.{IsExact, any-of, both, either-true, or-left, unit-of, unit-in, no-other, defined-of, defined-in}
 

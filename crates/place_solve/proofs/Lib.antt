@@ -1,6 +1,5 @@
 pub mod Chosen
 pub mod Covering
-pub mod Lanes
 pub mod Narrowing
 pub mod Once
 pub mod Operands

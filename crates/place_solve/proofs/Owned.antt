@@ -33,9 +33,9 @@ use Rattle.live_lanes.specs.declared.table.Table.{Table}
 use Rattle.live_lanes.specs.Doing.{IsComputed}
 use Rattle.live_lanes.specs.Looks.{entry_at, exit_at}
 use Rattle.live_laws.proofs.Exact.Spots.{Spot, spot, drop-at}
-use Rattle.place_solve.specs.declared.around.Around.{Around}
-use Rattle.place_solve.specs.declared.around.Around.TheVariants as arounds
-use Rattle.place_solve.specs.Around.{entry_tests, exit_tests, is_taken, is_left, enters, leaves, writes, writes_early, entry_of, exit_of}
+use Rattle.place_solve.specs.declared.position.PlacePosition.{PlacePosition}
+use Rattle.place_solve.specs.declared.position.PlacePosition.TheVariants as arounds
+use Rattle.place_solve.specs.Positions.{entry_tests, exit_tests, is_taken, is_left, enters, leaves, writes, writes_early, entry_of, exit_of}
 use Rattle.place_solve.specs.Laws.{PlaceLaw}
 use Rattle.place_solve.specs.Told.{is_solved, Seated}
 use Rattle.place_solve.proofs.Told.{admitted, few-numbered, numbered, same_value, decides-takes, tells, marks-few}
@@ -237,7 +237,7 @@ module _ (t : Target) (f : Function) (x : Table) (computed : IsComputed t f x) (
   exit-takes is good u q m h = let z = map-of (λ i. Exit i.id) q is m in (taking z.0 (good z.0 z.1) u).1 (subst (λ p. OccupiedAt t f p (UnitLane u)) z.2 h)
 
   module _ (is : Bor (List Instr)) (good : AllGood is.now) where
-    abbrev a : Around
+    abbrev a : PlacePosition
     a = arounds.Instrs is
 
     place-entry : Tests (AtEntry t f (place_of t f is.now)) (entry_of t x a)

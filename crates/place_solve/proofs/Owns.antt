@@ -31,9 +31,9 @@ use Rattle.live_laws.proofs.Effects.Lists.{any-in}
 use Rattle.live_laws.proofs.Effects.Valid.{valid-law, ends}
 use Rattle.live_lanes.specs.declared.table.Table.{Table}
 use Rattle.live_lanes.specs.Doing.{IsComputed}
-use Rattle.place_solve.specs.declared.around.Around.{Around}
-use Rattle.place_solve.specs.declared.around.Around.TheVariants as arounds
-use Rattle.place_solve.specs.Around.{enters, leaves}
+use Rattle.place_solve.specs.declared.position.PlacePosition.{PlacePosition}
+use Rattle.place_solve.specs.declared.position.PlacePosition.TheVariants as arounds
+use Rattle.place_solve.specs.Positions.{enters, leaves}
 use Rattle.place_solve.specs.Laws.{OwnLaw}
 use Rattle.place_solve.specs.Own.{own_of, own_found, own_instrs, place_variables}
 use Rattle.place_solve.specs.Told.{around_at, is_solved, own_around, own_solved, IsSource, Seated}
@@ -193,7 +193,7 @@ module _ (t : Target) (f : Function) (x : Table) (computed : IsComputed t f x) (
       let shaped = rules.shaped s.block i (slice-member f.blocks s.position s.block s.is_block) (slice-member s.block.instrs s.place i s.is_instr) in
       exact-given t f i e known given shaped.operands s.block
 
-  solved-none : (a : Around) (vs : List Need) → vs ≡ [] → is_solved t x a vs ≡ true
+  solved-none : (a : PlacePosition) (vs : List Need) → vs ≡ [] → is_solved t x a vs ≡ true
   unfolding solutions
   solved-none a vs e = ap (is_solved t x a) e
 

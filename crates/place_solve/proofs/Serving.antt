@@ -14,9 +14,9 @@ use Rattle.mir_func.specs.Value.{Function}
 use Rattle.mir_func.specs.Binding.{does}
 use Rattle.mir_meaning.specs.Places.{Variable as Need, solutions}
 use Rattle.live_lanes.specs.declared.table.Table.{Table}
-use Rattle.place_solve.specs.declared.around.Around.{Around}
-use Rattle.place_solve.specs.declared.around.Around.TheVariants as arounds
-use Rattle.place_solve.specs.Around.{entry_of, entry_tests, exit_of, exit_tests, takes_part}
+use Rattle.place_solve.specs.declared.position.PlacePosition.{PlacePosition}
+use Rattle.place_solve.specs.declared.position.PlacePosition.TheVariants as arounds
+use Rattle.place_solve.specs.Positions.{entry_of, entry_tests, exit_of, exit_tests, takes_part}
 use Rattle.place_solve.specs.declared.variables.Variable.{Variable}
 use Rattle.place_solve.specs.Choice.{first, need_of}
 use Rattle.place_solve.specs.Own.{own_instrs, place_variables}
@@ -42,7 +42,7 @@ same_solved t x vs w v (i ∷ is) e = go (does is_copy t i)
     go true = refl
     go false = ap (by_instrs t x vs) e
 
-pub own_served : {Y : Type 0} (t : Target) (f : Function) (x : Table) (is : List Instr) (j : ℕ) (w : Bor (List Instr)) (a : Around) (vs : List Need) (q : Option Y) (g : Y → List Reg) (answer : Bool) → w.now ≡ own_instrs t is j → a ≡ around_at t w w.now → vs ≡ place_variables t f w.now → option_map g q ≡ first (solutions t (entry_of t x a) (exit_of t x a) vs) → answer ≡ is_some q → OwnTold t f x is j answer
+pub own_served : {Y : Type 0} (t : Target) (f : Function) (x : Table) (is : List Instr) (j : ℕ) (w : Bor (List Instr)) (a : PlacePosition) (vs : List Need) (q : Option Y) (g : Y → List Reg) (answer : Bool) → w.now ≡ own_instrs t is j → a ≡ around_at t w w.now → vs ≡ place_variables t f w.now → option_map g q ≡ first (solutions t (entry_of t x a) (exit_of t x a) vs) → answer ≡ is_some q → OwnTold t f x is j answer
 own_served t f x is j w a vs q g answer place around variables told some v same =
     let e : w.now ≡ v.now = place ∙ sym same in
     some ∙ first_there q g (solutions t (entry_of t x a) (exit_of t x a) vs) told
@@ -50,7 +50,7 @@ own_served t f x is j w a vs q g answer place around variables told some v same 
     ∙ same_solved t x (place_variables t f w.now) w v w.now e
     ∙ ap (λ us. is_solved t x (around_at t v us) (place_variables t f us)) e
 
-pub own_read : {Y : Type 0} (t t2 : Target) (f f2 : Function) (x : Table) (is : List Instr) (j : ℕ) (w : Bor (List Instr)) (a : Around) (ws items : List Variable) (q : Option Y) (g : Y → List Reg) (answer : Bool) → t2 ≡ t → f2 ≡ f → w.now ≡ own_instrs t2 is j → a ≡ around_at t2 w w.now → map need_of items ≡ place_variables t2 f2 w.now → ws ≡ items → option_map g q ≡ first (solutions t (entry_of t x a) (exit_of t x a) (map need_of ws)) → answer ≡ is_some q → OwnTold t f x is j answer
+pub own_read : {Y : Type 0} (t t2 : Target) (f f2 : Function) (x : Table) (is : List Instr) (j : ℕ) (w : Bor (List Instr)) (a : PlacePosition) (ws items : List Variable) (q : Option Y) (g : Y → List Reg) (answer : Bool) → t2 ≡ t → f2 ≡ f → w.now ≡ own_instrs t2 is j → a ≡ around_at t2 w w.now → map need_of items ≡ place_variables t2 f2 w.now → ws ≡ items → option_map g q ≡ first (solutions t (entry_of t x a) (exit_of t x a) (map need_of ws)) → answer ≡ is_some q → OwnTold t f x is j answer
 own_read t t2 f f2 x is j w a ws items q g answer et ef place around variables slice told some =
     own_served t f x is j w a (map need_of ws) q g answer
     (place ∙ ap (λ s. own_instrs s is j) et)

@@ -21,9 +21,9 @@ use Rattle.instr_effects.proofs.Members.{member-none}
 use Rattle.live_laws.proofs.Effects.Lists.{all-of}
 use Rattle.mir_meaning.specs.Places.{Kind as Use, Variable as Need, all_apart, avoids_units, choices, domain, holds_any, is_defining, reaches_back, solutions}
 use Rattle.live_lanes.specs.declared.table.Table.{Table}
-use Rattle.place_solve.specs.declared.around.Around.{Around}
+use Rattle.place_solve.specs.declared.position.PlacePosition.{PlacePosition}
 use Rattle.place_solve.specs.declared.variables.Variable.{Variable}
-use Rattle.place_solve.specs.Around.{at_entry, at_exit, entry_of, exit_of, takes_part}
+use Rattle.place_solve.specs.Positions.{at_entry, at_exit, entry_of, exit_of, takes_part}
 use Rattle.place_solve.specs.Choice.{need_of, use_of, is_free, may_lie, options_in, first, first_apart}
 
 filter_alike : {X : Type 0} (p q : X → Bool) → ((x : X) → p x ≡ q x) → (xs : List X) → filter p xs ≡ filter q xs
@@ -114,7 +114,7 @@ free_step false true true false true true false exit = refl
 free_step false true true false true false entry exit = refl
 free_step false true true false false all entry exit = refl
 
-module _ (t : Target) (x : Table) (a : Around) where
+module _ (t : Target) (x : Table) (a : PlacePosition) where
   free_of : (k : Use) (us : List UnitNumber) → list_all (is_free t x a k) us ≡ (list_all (λ u. not (is_among t.reserved u)) us && ((not (reaches_back k) || not (list_any (λ u. not (is_among t.reserved u) && at_entry t x a u) us)) && (not (is_defining k) || not (list_any (λ u. not (is_among t.reserved u) && at_exit t x a u) us))))
   free_of k [] = sym (nothing (reaches_back k) (is_defining k))
     where

@@ -51,7 +51,7 @@ use Rattle.live_laws.proofs.Exact.Computed.{computed-law}
 use Rattle.live_laws.proofs.Exact.Inside.{inside-law}
 use Rattle.live_laws.proofs.Exact.Quiet.{is_range_lane, phi-virtual}
 use Rattle.live_laws.proofs.Exact.Spots.{spot, drop-at}
-use Rattle.place_solve.specs.Around.{at_entry, entry_of, exit_of, takes_part}
+use Rattle.place_solve.specs.Positions.{at_entry, entry_of, exit_of, takes_part}
 use Rattle.place_solve.specs.Laws.{CopyLaw}
 use Rattle.place_solve.specs.Told.{is_solved, around_of, IsPoint}
 

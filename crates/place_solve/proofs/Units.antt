@@ -12,7 +12,7 @@ use Rattle.target_base.specs.declared.types.Target.{Target}
 use Rattle.target_base.specs.Storage.{is_among}
 use Rattle.mir_func.specs.declared.func.Instr.{Instr}
 use Rattle.live_lanes.specs.declared.table.Table.{Table}
-use Rattle.place_solve.specs.Around.{is_taken, writes, entry_tests}
+use Rattle.place_solve.specs.Positions.{is_taken, writes, entry_tests}
 
 pub units_any : {X : Type 0} (g : X → List UnitNumber) (xs : List X) (u : UnitNumber) → list_any (λ x. is_among (g x) u) xs ≡ is_among (flat_map g xs) u
 units_any g [] u = refl

@@ -49,7 +49,7 @@ use Rattle.live_laws.proofs.Effects.Instrs.{same-law}
 use Rattle.live_laws.proofs.Effects.Lists.{any-in}
 use Rattle.live_laws.proofs.Effects.Moved.{undefined-lane, undefined-in}
 use Rattle.live_laws.proofs.Effects.Shapes.{numbers-in}
-use Rattle.place_solve.specs.Around.{has_unit, keeps_unit, defines, defines_early, clobbers, writes, writes_early}
+use Rattle.place_solve.specs.Positions.{has_unit, keeps_unit, defines, defines_early, clobbers, writes, writes_early}
 
 pub any-of : {X : Type 0} (p : X → Bool) (xs : List X) → list_any p xs ≡ true → (x : X) × Member x xs × (p x ≡ true)
 any-of p [] e = absurd (cc)

@@ -1,23 +1,22 @@
 -- The first choice of registers, one of each variable's list, that keeps apart what must be apart.
-use Rattle.std.specs.Prelude.{◌≡◌, ℕ, Bool, true, false, cond, not, ◌&&◌, List, [], ◌∷◌, ◌++◌, map, filter, length, drop, ◌+◌, ◌-◌, nat_lt, Option, Some, None, slice_get}
+use Rattle.std.specs.Prelude.{◌≡◌, ℕ, Bool, true, false, cond, not, ◌&&◌, List, [], ◌∷◌, ◌++◌, map, filter, length, drop, ◌+◌, ◌-◌, nat_lt, Option, Some, None}
 use Rattle.std.specs.List.{zip, list_all, list_any, All}
 use Rattle.target_base.specs.declared.types.Reg.{Reg}
 use Rattle.target_base.specs.declared.types.Target.{Target}
 use Rattle.target_base.specs.declared.types.Unit.{Unit as UnitNumber}
 use Rattle.target_base.specs.Registers.{units_of}
 use Rattle.target_base.specs.Rules.{regs_of_some}
-use Rattle.target_base.specs.declared.types.UnitDesc.{UnitDesc}
-use Rattle.target_base.specs.Storage.{is_among, unit_width}
+use Rattle.target_base.specs.Storage.{is_among}
 use Rattle.mir_meaning.specs.Places.{Using, Copying, Defining, Kind as Use, Variable as Need, variable, is_defining, reaches_back, must_be_apart, share_a_unit, all_apart, choices}
 use Rattle.live_lanes.specs.declared.table.Table.{Table}
-use Rattle.place_solve.specs.Around.{at_entry, at_exit}
-use Rattle.place_solve.specs.declared.around.Around.{Around}
-use Rattle.place_solve.specs.declared.variables.Kind.{Kind}
-use Rattle.place_solve.specs.declared.variables.Kind.TheVariants as kinds
+use Rattle.place_solve.specs.Positions.{at_entry, at_exit}
+use Rattle.place_solve.specs.declared.position.PlacePosition.{PlacePosition}
+use Rattle.place_solve.specs.declared.variables.VariableKind.{VariableKind}
+use Rattle.place_solve.specs.declared.variables.VariableKind.TheVariants as kinds
 use Rattle.place_solve.specs.declared.variables.Variable.{Variable}
 
 -- the kind of a variable, as the definitions of places have it
-abbrev pub use_of : Kind → Use
+abbrev pub use_of : VariableKind → Use
 use_of kinds.Using = Using
 use_of kinds.Copying = Copying
 use_of (kinds.Defining tied early) = Defining tied early
@@ -87,21 +86,17 @@ holders t units (n ∷ ns) [] = 0
 holders t units (n ∷ ns) (rs ∷ left) = cond (must_hold t units n rs) 1 0 + holders t units ns left
 
 -- a variable of this kind may lie in the unit at the place
-abbrev pub is_free : Target → Table → Around → Use → UnitNumber → Bool
+abbrev pub is_free : Target → Table → PlacePosition → Use → UnitNumber → Bool
 is_free t x a k u = not (is_among t.reserved u) && not (reaches_back k && at_entry t x a u) && not (is_defining k && at_exit t x a u)
 
 -- it may lie in the register
-abbrev pub may_lie : Target → Table → Around → Use → Reg → Bool
+abbrev pub may_lie : Target → Table → PlacePosition → Use → Reg → Bool
 may_lie t x a k r = list_all (is_free t x a k) (units_of t r)
 
 -- the registers of a variable's class that it may lie in, in allocation order
-abbrev pub options_in : Target → Table → Around → Variable → List Reg
+abbrev pub options_in : Target → Table → PlacePosition → Variable → List Reg
 options_in t x a v = filter (may_lie t x a (use_of v.kind)) (regs_of_some t.classes v.class)
 
 -- the first choice of these that keeps all apart
-abbrev pub first_apart : Target → Table → Around → List Variable → Option (List Reg)
+abbrev pub first_apart : Target → Table → PlacePosition → List Variable → Option (List Reg)
 first_apart t x a vs = first (completions t vs [] (map (options_in t x a) vs))
-
--- the width of one of these units, by its place; 0 where there is none
-abbrev pub width_at : List UnitDesc → List UnitNumber → ℕ → ℕ
-width_at units us k = elim (slice_get us k) [ None ↦ 0 | Some u ↦ unit_width units u ]

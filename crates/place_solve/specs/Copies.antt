@@ -12,12 +12,12 @@ use Rattle.mir_func.specs.Binding.{Bound, TiedPair, passes, tied_pair, ties_to, 
 use Rattle.mir_meaning.specs.Registers.{operand_widths}
 use Rattle.mir_meaning.specs.Places.{copy_variable, phi_point}
 use Rattle.live_lanes.specs.declared.table.Table.{Table}
-use Rattle.place_solve.specs.declared.around.Around.{Around}
-use Rattle.place_solve.specs.declared.around.Around.TheVariants as arounds
+use Rattle.place_solve.specs.declared.position.PlacePosition.{PlacePosition}
+use Rattle.place_solve.specs.declared.position.PlacePosition.TheVariants as arounds
 use Rattle.place_solve.specs.Told.{around_of, is_solved}
 
 -- a copy of lanes of this operand's widths admits a register there
-abbrev pub copy_fits : Target → Function → Table → Around → RegOp → Bool
+abbrev pub copy_fits : Target → Function → Table → PlacePosition → RegOp → Bool
 copy_fits t f x a o = is_solved t x a (copy_variable t (operand_widths t f o) ∷ [])
 
 -- the copy of a phi's use admits one in its block, or nothing is copied

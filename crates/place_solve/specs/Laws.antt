@@ -10,7 +10,7 @@ use Rattle.target_base.specs.declared.types.Effect.{Effect}
 use Rattle.target_base.specs.Roles.{is_silent}
 use Rattle.mir_func.specs.Binding.{effect_of}
 use Rattle.mir_meaning.specs.Points.{Point}
-use Rattle.place_solve.specs.declared.around.Around.TheVariants as arounds
+use Rattle.place_solve.specs.declared.position.PlacePosition.TheVariants as arounds
 use Rattle.mir_meaning.specs.Places.{Variable as Need, Needs, Admits, copy_place, lowering_places, own_places, place_of}
 use Rattle.mir_meaning.specs.Rules.{V8}
 use Rattle.live_laws.specs.Effects.Coded.{KeepsRules}

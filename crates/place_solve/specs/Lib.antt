@@ -1,4 +1,4 @@
-pub mod Around
+pub mod Positions
 pub mod Choice
 pub mod Told
 pub mod Copies

@@ -11,10 +11,10 @@ use Rattle.mir_func.specs.Binding.{class_of, does, is_terminator}
 use Rattle.mir_meaning.specs.Places.{Copying, Variable as Need, solutions, variable}
 use Rattle.interference.specs.declared.tiny.Tiny.{Tiny}
 use Rattle.live_lanes.specs.declared.table.Table.{Table}
-use Rattle.place_solve.specs.declared.around.Around.{Around}
-use Rattle.place_solve.specs.declared.around.Around.TheVariants as arounds
+use Rattle.place_solve.specs.declared.position.PlacePosition.{PlacePosition}
+use Rattle.place_solve.specs.declared.position.PlacePosition.TheVariants as arounds
 use Rattle.place_solve.specs.declared.variables.Variable.{Variable}
-use Rattle.place_solve.specs.Around.{takes_part, entry_tests, exit_tests, entry_of, exit_of}
+use Rattle.place_solve.specs.Positions.{takes_part, entry_tests, exit_tests, entry_of, exit_of}
 use Rattle.place_solve.specs.Choice.{first}
 use Rattle.place_solve.specs.Own.{place_variables}
 
@@ -60,7 +60,7 @@ exit_in t x is n = takes_part t n && exit_tests t x (unit_number n) is
 abbrev pub choice_in : Target → (ℕ → Bool) → (ℕ → Bool) → List Need → Option (List (ℕ × Reg))
 choice_in t entry exit vs = option_map (paired vs) (first (solutions t entry exit vs))
 
-abbrev pub choice_at : Target → Table → Around → List Need → Option (List (ℕ × Reg))
+abbrev pub choice_at : Target → Table → PlacePosition → List Need → Option (List (ℕ × Reg))
 choice_at t x a vs = choice_in t (entry_of t x a) (exit_of t x a) vs
 
 -- that for the tinies of the place of these instructions; a store of a tiny and the reload into it stand for one

@@ -19,16 +19,16 @@ use Rattle.mir_meaning.specs.Points.{Point, Start, Entry, Exit}
 use Rattle.mir_meaning.specs.Places.{Variable as Need, Needs, Admits, FirstPlace, StandsAt, lowering_places, own_places, solutions}
 use Rattle.live_laws.specs.Effects.Coded.{spot_in}
 use Rattle.live_lanes.specs.declared.table.Table.{Table}
-use Rattle.place_solve.specs.declared.around.Around.{Around}
-use Rattle.place_solve.specs.declared.around.Around.TheVariants as arounds
-use Rattle.place_solve.specs.Around.{entry_of, exit_of}
+use Rattle.place_solve.specs.declared.position.PlacePosition.{PlacePosition}
+use Rattle.place_solve.specs.declared.position.PlacePosition.TheVariants as arounds
+use Rattle.place_solve.specs.Positions.{entry_of, exit_of}
 
 -- some choice for these variables serves at the place, by the table
-abbrev pub is_solved : Target → Table → Around → List Need → Bool
+abbrev pub is_solved : Target → Table → PlacePosition → List Need → Bool
 is_solved t x a vs = nat_lt 0 (length (solutions t (entry_of t x a) (exit_of t x a) vs))
 
 -- where a copy at the point stands
-abbrev pub around_of : Point → Around
+abbrev pub around_of : Point → PlacePosition
 around_of (Start n) = arounds.Start n
 around_of (Entry id) = arounds.Before id
 around_of (Exit id) = arounds.Behind id
@@ -57,11 +57,11 @@ pub record Seated (t : Target) (f : Function) (i : Instr) : Type 0 where
   pub is_instr : slice_get block.instrs place ≡ Some i
 
 -- where these instructions, which make one place, stand: a copy counts by the point before it
-abbrev pub around_at : Target → Bor (List Instr) → List Instr → Around
+abbrev pub around_at : Target → Bor (List Instr) → List Instr → PlacePosition
 around_at t is [] = arounds.Instrs is
 around_at t is (i ∷ more) = cond (does is_copy t i) (arounds.Before i.id) (arounds.Instrs is)
 
-abbrev pub own_around : Target → Bor (List Instr) → Around
+abbrev pub own_around : Target → Bor (List Instr) → PlacePosition
 own_around t is = around_at t is is.now
 
 -- the own place of these instructions admits a choice, by the table

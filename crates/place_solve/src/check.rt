@@ -12,8 +12,8 @@ ghost use Rattle.live_lanes.specs.Looks.{InOrder};
 ghost use Rattle.place_solve.specs.Own as own;
 ghost use Rattle.place_solve.specs.Told as told;
 
-use crate::around::Around;
 use crate::copies::copies_admit;
+use crate::position::PlacePosition;
 use crate::search::first_choice;
 use crate::variables::variables_of;
 use live_lanes::LiveFunc;
@@ -102,14 +102,14 @@ fn own_place<'a>(target: &Target, instrs: &'a [Boxed<Instr>], j: usize) -> &'a [
 }
 
 /// Where the own place of these instructions stands: a copy counts by the point before it.
-fn own_around<'a>(target: &Target, instrs: &'a [Boxed<Instr>]) -> Around<'a>
+fn own_around<'a>(target: &Target, instrs: &'a [Boxed<Instr>]) -> PlacePosition<'a>
     ensures { result ≡ told.around_at target.now instrs.entry instrs.now }
 {
     match instrs.first() {
-        None => Around::Instrs(instrs),
+        None => PlacePosition::Instrs(instrs),
         Some(i) => match effect_of(target, i.get()) {
-            Some(Effect::Copy) => Around::Before(i.get().id),
-            _ => Around::Instrs(instrs),
+            Some(Effect::Copy) => PlacePosition::Before(i.get().id),
+            _ => PlacePosition::Instrs(instrs),
         },
     }
 }
@@ -131,7 +131,7 @@ fn is_crowded(
 }
 
 /// The first instruction of a block whose place has too many variables.
-fn crowded(
+fn crowded_instr(
     alloc: Global,
     target: &Target,
     f: &Func,
@@ -155,7 +155,7 @@ fn first_crowded(alloc: Global, target: &Target, f: &Func) -> Result<Option<Plac
     let blocks = f.blocks.as_slice();
     'counted: for k in 0..blocks.len() {
         let block = &blocks[k];
-        if let Some(at) = crowded(alloc, target, f, block.instrs.as_slice())? {
+        if let Some(at) = crowded_instr(alloc, target, f, block.instrs.as_slice())? {
             return Ok(Some(place_of(block, at)));
         }
     }

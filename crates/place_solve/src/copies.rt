@@ -13,7 +13,7 @@ ghost use Rattle.live_lanes.specs.Looks.{InOrder};
 ghost use Rattle.place_solve.specs.Copies as copies;
 ghost use Rattle.place_solve.specs.Told.{around_of, copy_solved, copies_solved};
 
-use crate::around::Around;
+use crate::position::PlacePosition;
 use crate::search::first_choice;
 use crate::variables::copy_variable;
 use bound_operands::{BoundOperand, TiedPair, bind, tied_pair};
@@ -28,7 +28,12 @@ use target_base::roles::is_phi;
 use target_base::{Boxed, Effect, Target};
 
 /// Whether a copy of lanes of this operand's widths admits a register at a place.
-fn admits(alloc: Global, live: &LiveFunc, around: Around<'_>, o: RegOp) -> Result<bool, AllocError>
+fn admits(
+    alloc: Global,
+    live: &LiveFunc,
+    around: PlacePosition<'_>,
+    o: RegOp,
+) -> Result<bool, AllocError>
     ensures { IfOk result (λ yes. InOrder live.now.table → yes ≡ copies.copy_fits live.now.target live.now.func live.now.table around.entry o) }
 {
     let v = copy_variable(alloc, live.target(), live.func(), o)?;
@@ -39,22 +44,26 @@ fn admits(alloc: Global, live: &LiveFunc, around: Around<'_>, o: RegOp) -> Resul
 /// The place before the first terminator, or behind the last instruction; the start of the block of
 /// that number where there is none.
 #[tactic(auto, using(crate::proofs::Copying::before_is))]
-fn before_terminators<'a>(target: &Target, number: u32, instrs: &'a [Boxed<Instr>]) -> Around<'a>
+fn before_terminators<'a>(
+    target: &Target,
+    number: u32,
+    instrs: &'a [Boxed<Instr>],
+) -> PlacePosition<'a>
     ensures { result ≡ around_of (before_terminators target.now (Start number) instrs.now) }
 {
-    let mut at = Around::Start(number);
+    let mut at = PlacePosition::Start(number);
     'each: for i in instrs {
         let i = i.get();
         if is_terminator(target, i) {
-            return Around::Before(i.id);
+            return PlacePosition::Before(i.id);
         }
-        at = Around::Behind(i.id);
+        at = PlacePosition::Behind(i.id);
     }
     at
 }
 
 /// Where the copy of a phi's operand will stand in the block of that number.
-fn phi_point<'a>(target: &Target, f: &'a Func, number: u32) -> Around<'a>
+fn phi_point<'a>(target: &Target, f: &'a Func, number: u32) -> PlacePosition<'a>
     ensures { result ≡ around_of (phi_point target.now f.now number) }
 {
     before_terminators(target, number, instrs_of(f.blocks.as_slice(), number))
@@ -99,7 +108,7 @@ fn phi_admits(
     if !pairs_admit(alloc, live, uses)? {
         return Ok(false);
     }
-    admits(alloc, live, Around::Before(id), d)
+    admits(alloc, live, PlacePosition::Before(id), d)
 }
 
 /// Whether the copy of an input admits a register before the instruction of that id.
@@ -111,7 +120,7 @@ fn input_admits(alloc: Global, live: &LiveFunc, id: u32, o: &Operand) -> Result<
             if r.def || r.undef {
                 Ok(true)
             } else {
-                admits(alloc, live, Around::Before(id), *r)
+                admits(alloc, live, PlacePosition::Before(id), *r)
             }
         }
         _ => Ok(true),
@@ -177,7 +186,7 @@ fn built_admits(
     if !is_named(d.loc, overwritten) {
         return Ok(true);
     }
-    admits(alloc, live, Around::Before(id), d)
+    admits(alloc, live, PlacePosition::Before(id), d)
 }
 
 /// Whether the operand reads the location.
@@ -225,13 +234,13 @@ fn tie_admits(
     if is_in_place(p) {
         return Ok(true);
     }
-    if !admits(alloc, live, Around::Before(id), p.definition)? {
+    if !admits(alloc, live, PlacePosition::Before(id), p.definition)? {
         return Ok(false);
     }
     if !is_read_besides(bound, p.number, p.definition.loc) {
         return Ok(true);
     }
-    admits(alloc, live, Around::Behind(id), p.definition)
+    admits(alloc, live, PlacePosition::Behind(id), p.definition)
 }
 
 /// Whether the copies for an operand admit registers, where it is a tied use.

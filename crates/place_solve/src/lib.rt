@@ -1,13 +1,13 @@
 //! Places: which choices of registers the variables of a place admit.
 #![tactic(auto)]
 
-pub mod around;
 mod check;
 mod copies;
 mod cover;
+mod domains;
 pub mod laws;
-mod left;
 mod nogoods;
+pub mod position;
 mod search;
 mod tinies;
 pub mod variables;

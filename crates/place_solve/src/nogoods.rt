@@ -3,7 +3,7 @@
 ghost use Rattle.std.specs.Prelude.{◌≡◌, [], Contains, IfOk, OnOk, true};
 ghost use Rattle.place_solve.specs.Choice.{remembered};
 
-use crate::left::Left;
+use crate::domains::Domains;
 use std::alloc::{AllocError, Global};
 use target_base::{List, Reg, Regs};
 
@@ -18,7 +18,7 @@ const FEWEST: usize = 3;
 #[derive(Drop)]
 pub(crate) struct Nogoods {
     /// All of them, in the order in which they were found.
-    pub(crate) lists: List<Left>,
+    pub(crate) lists: List<Domains>,
     /// For each chain one more than the place of its newest, or 0.
     newest: Vec<usize>,
     /// For each of the lists the same of the one before it in its chain.
@@ -26,7 +26,7 @@ pub(crate) struct Nogoods {
 }
 
 /// A number of lists, and whatever came before them.
-fn mixed(seed: u32, regs: &[Reg]) -> u32 {
+fn mix_hash(seed: u32, regs: &[Reg]) -> u32 {
     let mut made = seed.wrapping_mul(0x9e37_79b1).wrapping_add(1);
     'each: for r in regs {
         made = made.wrapping_mul(0x9e37_79b1).wrapping_add(r.0 as u32);
@@ -38,7 +38,7 @@ fn mixed(seed: u32, regs: &[Reg]) -> u32 {
 fn chain_of(left: &[Regs]) -> usize {
     let mut made = 0u32;
     'each: for regs in left {
-        made = mixed(made, regs.as_slice());
+        made = mix_hash(made, regs.as_slice());
     }
     (made >> 20) as usize
 }
@@ -105,7 +105,7 @@ impl Nogoods {
     }
 
     /// Remembers lists from which no choice serves, unless they are fewer than three.
-    pub(crate) fn add(&mut self, left: Left) -> Result<(), AllocError>
+    pub(crate) fn add(&mut self, left: Domains) -> Result<(), AllocError>
         ensures { OnOk result (self.new.lists ≡ remembered self.old.lists left) }
     {
         if left.len() < FEWEST {

@@ -3,14 +3,14 @@
 ghost use Rattle.std.specs.Prelude.{◌≡◌, ◌≤◌, ◌&&◌, ◌++◌, ◌∷◌, [], IfOk, IfSome, OnOk, Some, filter, map, option_map, true, length};
 ghost use Rattle.mir_meaning.specs.Places.{is_defining, reaches_back, solutions};
 ghost use Rattle.live_lanes.specs.Looks.{InOrder};
-ghost use Rattle.place_solve.specs.Around.{at_entry, at_exit, entry_of, exit_of};
+ghost use Rattle.place_solve.specs.Positions.{at_entry, at_exit, entry_of, exit_of};
 ghost use Rattle.place_solve.specs.Choice.{use_of, need_of, seats, fits, choices_apart, needs_left, IsNogood, AreNogoods, is_free, may_lie, options_in, first, first_apart};
 
-use crate::around::{Around, is_at_entry, is_at_exit};
 use crate::cover::are_short;
-use crate::left::{clashes, has_none, narrowed};
+use crate::domains::{clashes, has_none, prune};
 use crate::nogoods::Nogoods;
-use crate::variables::{Kind, Variable};
+use crate::position::{PlacePosition, is_at_entry, is_at_exit};
+use crate::variables::{Variable, VariableKind};
 use live_lanes::LiveFunc;
 use std::alloc::{AllocError, Global};
 use target_base::classes::regs_at;
@@ -18,14 +18,14 @@ use target_base::registers::has_unit;
 use target_base::{List, Reg, Regs, Target, Unit};
 
 /// Whether a variable of this kind may not lie in a unit before or at the place.
-fn clashes_before(live: &LiveFunc, around: Around<'_>, kind: Kind, u: Unit) -> bool
+fn clashes_before(live: &LiveFunc, around: PlacePosition<'_>, kind: VariableKind, u: Unit) -> bool
     ensures { InOrder live.now.table → result ≡ (reaches_back (use_of kind) && at_entry live.now.target live.now.table around.entry u) }
 {
     kind.reaches_back() && is_at_entry(live, around, u)
 }
 
 /// Whether a variable of this kind may not lie in a unit behind the place.
-fn clashes_behind(live: &LiveFunc, around: Around<'_>, kind: Kind, u: Unit) -> bool
+fn clashes_behind(live: &LiveFunc, around: PlacePosition<'_>, kind: VariableKind, u: Unit) -> bool
     ensures { InOrder live.now.table → result ≡ (is_defining (use_of kind) && at_exit live.now.target live.now.table around.entry u) }
 {
     kind.is_defining() && is_at_exit(live, around, u)
@@ -33,7 +33,7 @@ fn clashes_behind(live: &LiveFunc, around: Around<'_>, kind: Kind, u: Unit) -> b
 
 /// Whether a variable of this kind may lie in a unit: it is unreserved, and not in use around the place
 /// where the variable needs it.
-fn is_free(live: &LiveFunc, around: Around<'_>, kind: Kind, u: Unit) -> bool
+fn is_free(live: &LiveFunc, around: PlacePosition<'_>, kind: VariableKind, u: Unit) -> bool
     ensures { InOrder live.now.table → result ≡ is_free live.now.target live.now.table around.entry (use_of kind) u }
 {
     !has_unit(live.target().reserved.as_slice(), u)
@@ -43,7 +43,7 @@ fn is_free(live: &LiveFunc, around: Around<'_>, kind: Kind, u: Unit) -> bool
 
 /// Whether a variable of this kind may lie in a register: in each of its units.
 #[tactic(auto, using(crate::proofs::Units::alls))]
-fn avoids(live: &LiveFunc, around: Around<'_>, kind: Kind, r: Reg) -> bool
+fn avoids(live: &LiveFunc, around: PlacePosition<'_>, kind: VariableKind, r: Reg) -> bool
     ensures { InOrder live.now.table → result ≡ may_lie live.now.target live.now.table around.entry (use_of kind) r }
 {
     'each: for u in live.target().units_at(r) {
@@ -58,8 +58,8 @@ fn avoids(live: &LiveFunc, around: Around<'_>, kind: Kind, r: Reg) -> bool
 fn push_option(
     options: &mut Regs,
     live: &LiveFunc,
-    around: Around<'_>,
-    kind: Kind,
+    around: PlacePosition<'_>,
+    kind: VariableKind,
     r: Reg,
 ) -> Result<(), AllocError>
     ensures { OnOk result (InOrder live.now.table → options.new ≡ options.old ++ filter (may_lie live.now.target live.now.table around.entry (use_of kind)) (r ∷ [])) }
@@ -75,7 +75,7 @@ fn push_option(
 fn options_of(
     alloc: Global,
     live: &LiveFunc,
-    around: Around<'_>,
+    around: PlacePosition<'_>,
     v: Variable,
 ) -> Result<Regs, AllocError>
     ensures { IfOk result (λ made. InOrder live.now.table → made ≡ options_in live.now.target live.now.table around.entry v) }
@@ -89,7 +89,7 @@ fn options_of(
 
 /// Whether a variable of this kind may lie in a register beside those that are chosen for the variables
 /// before it.
-fn fits(target: &Target, variables: &[Variable], chosen: &[Reg], kind: Kind, r: Reg) -> bool
+fn fits(target: &Target, variables: &[Variable], chosen: &[Reg], kind: VariableKind, r: Reg) -> bool
     requires { length chosen.now ≤ length variables.now }
     ensures { result ≡ fits target.now (seats variables.now chosen.now) (use_of kind) r }
 {
@@ -154,7 +154,7 @@ fn choose(
     let v = variables[k];
     let here = left[0].as_slice();
     'each: for r in here {
-        let behind = narrowed(alloc, target, v, *r, &variables[k + 1..], &left[1..])?;
+        let behind = prune(alloc, target, v, *r, &variables[k + 1..], &left[1..])?;
         let seen = is_nogood(alloc, target, variables, behind.as_slice(), nogoods)?;
         if seen {
             continue;
@@ -172,7 +172,7 @@ fn choose(
 fn all_options(
     alloc: Global,
     live: &LiveFunc,
-    around: Around<'_>,
+    around: PlacePosition<'_>,
     variables: &[Variable],
 ) -> Result<Vec<Regs>, AllocError>
     ensures long { IfOk result (λ made. length made.items ≡ length variables.now) }
@@ -189,10 +189,10 @@ fn all_options(
 /// variables before it. The chosen ones are asked first: that takes less.
 fn serves_beside(
     live: &LiveFunc,
-    around: Around<'_>,
+    around: PlacePosition<'_>,
     variables: &[Variable],
     chosen: &[Reg],
-    kind: Kind,
+    kind: VariableKind,
     r: Reg,
 ) -> bool
     requires { length chosen.now ≤ length variables.now }
@@ -205,7 +205,7 @@ fn serves_beside(
 #[tactic(auto, using(crate::proofs::Firsts::firsts))]
 fn first_beside(
     live: &LiveFunc,
-    around: Around<'_>,
+    around: PlacePosition<'_>,
     variables: &[Variable],
     chosen: &[Reg],
     v: Variable,
@@ -226,7 +226,7 @@ fn first_beside(
 fn choice_in_turn(
     alloc: Global,
     live: &LiveFunc,
-    around: Around<'_>,
+    around: PlacePosition<'_>,
     variables: &[Variable],
 ) -> Result<Option<Vec<Reg>>, AllocError>
     ensures { IfOk result (λ q. InOrder live.now.table → IfSome q (λ v. first_apart live.now.target live.now.table around.entry variables.now ≡ Some v.items)) }
@@ -246,7 +246,7 @@ fn choice_in_turn(
 fn choice_of_all(
     alloc: Global,
     live: &LiveFunc,
-    around: Around<'_>,
+    around: PlacePosition<'_>,
     variables: &[Variable],
 ) -> Result<Option<Vec<Reg>>, AllocError>
     ensures { IfOk result (λ q. InOrder live.now.table → option_map (λ v. v.items) q ≡ first_apart live.now.target live.now.table around.entry variables.now) }
@@ -272,7 +272,7 @@ fn choice_of_all(
 pub fn first_choice(
     alloc: Global,
     live: &LiveFunc,
-    around: Around<'_>,
+    around: PlacePosition<'_>,
     variables: &[Variable],
 ) -> Result<Option<Vec<Reg>>, AllocError>
     ensures { IfOk result (λ q. InOrder live.now.table → option_map (λ v. v.items) q ≡ first (solutions live.now.target (entry_of live.now.target live.now.table around.entry) (exit_of live.now.target live.now.table around.entry) (map need_of variables.now))) }

@@ -6,9 +6,9 @@ ghost use Rattle.live_lanes.specs.Touching.{FindsInstrs};
 ghost use Rattle.place_solve.specs.Choice.{need_of};
 ghost use Rattle.place_solve.specs.Tinies as tiny;
 
-use crate::around::Around;
+use crate::position::PlacePosition;
 use crate::search::first_choice;
-use crate::variables::{Kind, Variable, variables_of};
+use crate::variables::{Variable, VariableKind, variables_of};
 use interference::{Matrix, Tinies, Tiny};
 use live_lanes::LiveFunc;
 use mir_func::opcodes::{effect_of, is_terminator};
@@ -129,7 +129,7 @@ fn stored_variable(f: &Func, range: u32) -> Variable
     ensures { need_of result ≡ tiny.stored_need f.now range }
 {
     Variable {
-        kind: Kind::Copying,
+        kind: VariableKind::Copying,
         range,
         index: None,
         class: class_of(f, range),
@@ -150,7 +150,11 @@ fn is_store(target: &Target, place: &[Boxed<Instr>]) -> bool
 }
 
 /// The variables with the registers chosen for them.
-fn paired(alloc: Global, variables: &[Variable], chosen: &[Reg]) -> Result<Choices, AllocError>
+fn pair_choices(
+    alloc: Global,
+    variables: &[Variable],
+    chosen: &[Reg],
+) -> Result<Choices, AllocError>
     ensures { IfOk result (λ made. made ≡ tiny.paired (map need_of variables.now) chosen.now) }
 {
     let mut made = List::new(alloc);
@@ -168,14 +172,14 @@ fn paired(alloc: Global, variables: &[Variable], chosen: &[Reg]) -> Result<Choic
 fn choose_at(
     alloc: Global,
     live: &LiveFunc,
-    around: Around<'_>,
+    around: PlacePosition<'_>,
     variables: &[Variable],
 ) -> Result<Option<Choices>, AllocError>
     ensures { IfOk result (λ q. InOrder live.now.table → q ≡ tiny.choice_at live.now.target live.now.table around.entry (map need_of variables.now)) }
 {
     match first_choice(alloc, live, around, variables)? {
         None => Ok(None),
-        Some(chosen) => Ok(Some(paired(alloc, variables, chosen.as_slice())?)),
+        Some(chosen) => Ok(Some(pair_choices(alloc, variables, chosen.as_slice())?)),
     }
 }
 
@@ -194,10 +198,15 @@ pub fn solve_at(
     let (target, f) = (live.target(), live.func());
     if is_store(target, place) {
         let one = [stored_variable(f, first.range)];
-        return choose_at(alloc, live, Around::Before(first.at), &one);
+        return choose_at(alloc, live, PlacePosition::Before(first.at), &one);
     }
     let variables = tiny_variables(alloc, target, f, place, tinies)?;
-    choose_at(alloc, live, Around::Instrs(place), variables.as_slice())
+    choose_at(
+        alloc,
+        live,
+        PlacePosition::Instrs(place),
+        variables.as_slice(),
+    )
 }
 
 /// The same at the place of the first of the tinies, over a table in which instructions are found.

@@ -9,18 +9,19 @@ ghost use Rattle.mir_meaning.specs.Places as places;
 ghost use Rattle.place_solve.specs.Choice.{use_of, need_of};
 ghost use Rattle.place_solve.specs.Once as once;
 
-use crate::widths::{class_of_widths, operand_widths};
+use crate::widths::class_of_widths;
 use bound_operands::{BoundOperand, bind};
+use instr_effects::items::lanes::push_operand_widths;
 use mir_func::opcodes::{effect_of, is_copy, is_early, is_tied, roles_of, ties_to};
 use mir_func::operands::{is_virtual, same_index};
 use mir_func::{Func, Instr, Loc, Operand, RegOp};
 use std::alloc::{AllocError, Global};
-use target_base::{Boxed, ClassId, Effect, IndexId, Role, Target};
+use target_base::{Boxed, ClassId, Effect, IndexId, List, Role, Target};
 use two_address::classes::class_asked;
 
 /// How a variable is used at its place.
 #[derive(Clone, Copy, PartialEq, Eq)]
-pub enum Kind {
+pub enum VariableKind {
     /// It is read.
     Using,
     /// It stands for both sides of a copy.
@@ -34,7 +35,7 @@ pub enum Kind {
     },
 }
 
-impl Kind {
+impl VariableKind {
     ghost use Rattle.std.specs.Prelude.{◌≡◌};
     ghost use Rattle.mir_meaning.specs.Places.{is_defining, reaches_back, must_be_apart};
     ghost use Rattle.place_solve.specs.Choice.{use_of};
@@ -44,7 +45,7 @@ impl Kind {
         ensures { result ≡ is_defining (use_of self) }
     {
         match self {
-            Kind::Defining { .. } => true,
+            VariableKind::Defining { .. } => true,
             _ => false,
         }
     }
@@ -54,13 +55,13 @@ impl Kind {
         ensures { result ≡ reaches_back (use_of self) }
     {
         match self {
-            Kind::Defining { tied, early } => tied || early,
+            VariableKind::Defining { tied, early } => tied || early,
             _ => true,
         }
     }
 
     /// Whether two variables of these kinds may not share a unit.
-    pub fn must_be_apart(self, other: Kind) -> bool
+    pub fn must_be_apart(self, other: VariableKind) -> bool
         ensures { result ≡ must_be_apart (use_of self) (use_of other) }
     {
         self.is_defining() == other.is_defining() || (self.reaches_back() && other.reaches_back())
@@ -71,7 +72,7 @@ impl Kind {
 #[derive(Clone, Copy)]
 pub struct Variable {
     /// How it is used.
-    pub kind: Kind,
+    pub kind: VariableKind,
     /// Its range; a copy's variable has none of its own, and 0 stands here.
     pub range: u32,
     /// The subregister index with which it is named.
@@ -115,9 +116,10 @@ pub fn copy_variable(
 ) -> Result<Variable, AllocError>
     ensures { IfOk result (λ v. need_of v ≡ places.copy_variable target.now (operand_widths target.now f.now o)) }
 {
-    let widths = operand_widths(alloc, target, f, o)?;
+    let mut widths = List::new(alloc);
+    push_operand_widths(&mut widths, target, f, &o)?;
     Ok(Variable {
-        kind: Kind::Copying,
+        kind: VariableKind::Copying,
         range: 0,
         index: None,
         class: class_of_widths(target, widths.as_slice()),
@@ -133,16 +135,16 @@ fn operand_class(target: &Target, f: &Func, role: Option<Role>, o: RegOp) -> Opt
 }
 
 /// How an operand is used: as a definition or a use.
-fn kind_of(tied: bool, role: Option<Role>, o: RegOp) -> Kind
+fn kind_of(tied: bool, role: Option<Role>, o: RegOp) -> VariableKind
     ensures { use_of result ≡ once.operand_use tied role o }
 {
     if o.def {
-        Kind::Defining {
+        VariableKind::Defining {
             tied,
             early: is_early(role),
         }
     } else {
-        Kind::Using
+        VariableKind::Using
     }
 }
 

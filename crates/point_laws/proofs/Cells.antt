@@ -5,16 +5,16 @@ use Rattle.meaning.specs.Live.{Among as Member, here as first, there as later}
 use Rattle.instr_effects.proofs.Members.{member-none}
 use Rattle.live_laws.proofs.Effects.Blocks.{member-slice}
 use Rattle.live_lanes.specs.declared.row.Cell.{Cell}
-use Rattle.live_lanes.specs.declared.row.Row.{Row}
+use Rattle.live_lanes.specs.declared.row.LaneRange.{LaneRange}
 use Rattle.live_lanes.specs.Table.{find_cell}
 use Rattle.live_lanes.specs.Entered.{cells_of}
 use Rattle.live_lanes.proofs.Cells.{is-found}
 
 -- a cell of a row is found by its block
-pub cell-found : (rows : List Row) (n : ℕ) (c : Cell) → Member c (cells_of rows n) → find_cell c.block (cells_of rows n) ≡ Some c
+pub cell-found : (rows : List LaneRange) (n : ℕ) (c : Cell) → Member c (cells_of rows n) → find_cell c.block (cells_of rows n) ≡ Some c
 cell-found rows n c m = go (slice_get rows n) m
   where
-    go : (o : Option Row) → Member c (elim o [ None ↦ [] | Some r ↦ r.cells.items ]) → find_cell c.block (elim o [ None ↦ [] | Some r ↦ r.cells.items ]) ≡ Some c
+    go : (o : Option LaneRange) → Member c (elim o [ None ↦ [] | Some r ↦ r.cells.items ]) → find_cell c.block (elim o [ None ↦ [] | Some r ↦ r.cells.items ]) ≡ Some c
     go None j = absurd (member-none c j)
     go (Some r) j = let k = member-slice c r.cells.items j in is-found r.cells.items k.0 c r.sorted k.1
 

@@ -5,7 +5,7 @@ use Rattle.std.specs.List.{list_any}
 use Rattle.std.proofs.lemmas.Bool.{leb-false}
 use Rattle.std.proofs.lemmas.Option.{slice_get_within}
 use Rattle.target_base.specs.declared.types.Target.{Target}
-use Rattle.mir_meaning.specs.declared.writing.Writing.{Writing}
+use Rattle.mir_meaning.specs.declared.writing.LaneDef.{LaneDef}
 use Rattle.meaning.specs.Live.{Among as Member, here as first, there as later}
 use Rattle.mir_func.specs.declared.func.Block.{Block}
 use Rattle.mir_func.specs.declared.func.Instr.{Instr}
@@ -22,9 +22,9 @@ use Rattle.live_laws.proofs.Effects.Lists.{any-in}
 use Rattle.live_laws.proofs.Effects.Shapes.{numbers-in}
 use Rattle.live_lanes.specs.declared.ask.extent.Extent.{Extent}
 use Rattle.live_lanes.specs.declared.row.Cell.{Cell}
-use Rattle.live_lanes.specs.declared.row.End.{End}
-use Rattle.live_lanes.specs.declared.row.End.TheVariants as ends
-use Rattle.live_lanes.specs.declared.row.Row.{Row}
+use Rattle.live_lanes.specs.declared.row.PieceEnd.{PieceEnd}
+use Rattle.live_lanes.specs.declared.row.PieceEnd.TheVariants as ends
+use Rattle.live_lanes.specs.declared.row.LaneRange.{LaneRange}
 use Rattle.live_lanes.specs.declared.table.Table.{Table}
 use Rattle.mir_meaning.specs.Paths.{Among, Step, Body, Code, steps_of, last_of, exits_of, writing_of}
 use Rattle.live_lanes.specs.Table.{Numbers, Begun, Seen, seen, seen_cell, begun, entry_rank, exit_rank, end_rank, end_in, is_begun, rises_from, piece_at, find_cell}
@@ -46,7 +46,7 @@ use Rattle.point_laws.proofs.Pieces.{from_start, from_writing, IsPiece, at_start
 
 -- the extents of a cell are those of its pieces
 
-block-of : (v : End) (e : Extent) → block_extent v ≡ Some e → (is_never v ≡ false) × (e ≡ from_start v)
+block-of : (v : PieceEnd) (e : Extent) → block_extent v ≡ Some e → (is_never v ≡ false) × (e ≡ from_start v)
 block-of v e h = go (is_never v) refl h
   where
     go : (u : Bool) → is_never v ≡ u → cond u None (Some (from_start v)) ≡ Some e → (is_never v ≡ false) × (e ≡ from_start v)
@@ -86,10 +86,10 @@ piece-some None e (at_start never same) = absurd (cc)
 piece-some None e (at_writing k s there same) = absurd (cc)
 piece-some (Some c) e p = piece-cell c e p
 
-pub seen-is : (rows : List Row) (n p : ℕ) → seen (find_cell p (cells_of rows n)) ≡ rows_seen rows n p
+pub seen-is : (rows : List LaneRange) (n p : ℕ) → seen (find_cell p (cells_of rows n)) ≡ rows_seen rows n p
 seen-is rows n p = go (slice_get rows n)
   where
-    go : (o : Option Row) → seen (find_cell p (elim o [ None ↦ [] | Some r ↦ r.cells.items ])) ≡ elim o [ None ↦ seen None | Some r ↦ seen (find_cell p r.cells.items) ]
+    go : (o : Option LaneRange) → seen (find_cell p (elim o [ None ↦ [] | Some r ↦ r.cells.items ])) ≡ elim o [ None ↦ seen None | Some r ↦ seen (find_cell p r.cells.items) ]
     go None = refl
     go (Some r) = refl
 
@@ -130,7 +130,7 @@ begun-by l (s ∷ ss) k st e = go (writing_of l s.writes) k e (λ j h. begun-by 
     more : Found ss → Found (s ∷ ss)
     more z = (suc z.0, z.1, z.2, z.3)
 
-    go : (o : Option Writing) (k : ℕ) → slice_get (elim o [ None ↦ starts l ss | Some w ↦ record { start = s.id; early = w.early; from = w.from; readings = readings_until l ss } ∷ starts l ss ]) k ≡ Some st → ((j : ℕ) → slice_get (starts l ss) j ≡ Some st → Found ss) → Found (s ∷ ss)
+    go : (o : Option LaneDef) (k : ℕ) → slice_get (elim o [ None ↦ starts l ss | Some w ↦ record { start = s.id; early = w.early; from = w.from; readings = readings_until l ss } ∷ starts l ss ]) k ≡ Some st → ((j : ℕ) → slice_get (starts l ss) j ≡ Some st → Found ss) → Found (s ∷ ss)
     go None k h ih = more (ih k h)
     go (Some w) zero h ih = (0, s, refl, sym (ap (λ (o : Option Beginning). elim o [ None ↦ 0 | Some x ↦ x.start ]) h))
     go (Some w) (suc k) h ih = more (ih k h)
@@ -145,7 +145,7 @@ module _ (t : Target) (f : Function) (x : Table) (computed : IsComputed t f x) (
   abbrev slots : Numbers
   slots = x.order.slots
 
-  abbrev rows : List Row
+  abbrev rows : List LaneRange
   rows = x.rows.rows.items
 
   table : IsTableOf code slots x.flow.items rows
@@ -165,14 +165,14 @@ module _ (t : Target) (f : Function) (x : Table) (computed : IsComputed t f x) (
     rises = (inside-law t f x computed rules last).ordered n p
 
     -- each piece ends in itself
-    ends-in : (k : ℕ) (e : End) → (e ≡ ends.Never) ⊎ Counts code (causes rows) n p k e → (s : Begun) → slice_get v.segments k ≡ Some s → end_rank slots e < exit_rank slots s.start
+    ends-in : (k : ℕ) (e : PieceEnd) → (e ≡ ends.Never) ⊎ Counts code (causes rows) n p k e → (s : Begun) → slice_get v.segments k ≡ Some s → end_rank slots e < exit_rank slots s.start
     ends-in k e (inl never) s there = let z = ap (end_rank slots) never in omega (arith, z)
     ends-in k e (inr counts) s there = go e counts
       where
         behind : (at : ℕ) → piece_at slots at v.segments ≡ k → at < exit_rank slots s.start
         behind at piece = leb-false (exit_rank slots s.start) at (leading-ends (is_begun slots at) v.segments s (ap (slice_get v.segments) piece ∙ there))
 
-        go : (e : End) → Counts code (causes rows) n p k e → end_rank slots e < exit_rank slots s.start
+        go : (e : PieceEnd) → Counts code (causes rows) n p k e → end_rank slots e < exit_rank slots s.start
         go e (reads before step rest split piece used) = behind (entry_rank slots step.id) (entry-piece code slots table.numbered n p v.segments are before step rest split ∙ piece)
         go e (moves a before step rest split piece used live) = behind (entry_rank slots step.id) (entry-piece code slots table.numbered n p v.segments are before step rest split ∙ piece)
         go e (leaves y before step rest split piece out a live) = behind (exit_rank slots step.id) (exit-piece code slots table.numbered n p v.segments are before step rest split ∙ piece)
@@ -218,7 +218,7 @@ module _ (t : Target) (f : Function) (x : Table) (computed : IsComputed t f x) (
         split-none [] s rest q = let z : [] ≡ s ∷ rest = sym no-steps ∙ q in cc
         split-none (y ∷ before) s rest q = let z : [] ≡ y ∷ (before ++ s ∷ rest) = sym no-steps ∙ q in cc
 
-        counted : (k : ℕ) (e : End) → Counts code (causes rows) n p k e → ⊥
+        counted : (k : ℕ) (e : PieceEnd) → Counts code (causes rows) n p k e → ⊥
         counted k e (reads before s rest split piece used) = split-none before s rest split
         counted k e (moves a before s rest split piece used live) = split-none before s rest split
         counted k e (leaves y before s rest split piece out a live) = split-none before s rest split

@@ -7,8 +7,8 @@ use Rattle.slot_index.specs.Order.{number_of}
 use Rattle.live_laws.proofs.Effects.Blocks.{slice-member}
 use Rattle.live_laws.proofs.Effects.Lists.{any-in}
 use Rattle.live_lanes.specs.declared.ask.extent.Extent.{Extent}
-use Rattle.live_lanes.specs.declared.row.End.{End}
-use Rattle.live_lanes.specs.declared.row.End.TheVariants as ends
+use Rattle.live_lanes.specs.declared.row.PieceEnd.{PieceEnd}
+use Rattle.live_lanes.specs.declared.row.PieceEnd.TheVariants as ends
 use Rattle.live_lanes.specs.Table.{Numbers, Begun, Seen, entry_rank, exit_rank, end_rank, end_in, begun_end, is_begun, rises_from, leading, piece_at}
 use Rattle.live_lanes.specs.Reach.{is_never, reaches, seen_at}
 use Rattle.live_lanes.specs.Held.{writes_at, held_at, hold_rank}
@@ -17,7 +17,7 @@ use Rattle.live_lanes.proofs.Held.{or-left, or-right, le-false, number-le, piece
 use Rattle.point_laws.specs.Covered.{covers}
 
 -- the points of the piece that begins with the block
-abbrev pub from_start : End → Extent
+abbrev pub from_start : PieceEnd → Extent
 from_start e = record { start = None; early = false; end = e }
 
 -- those of one that begins with a writing
@@ -93,10 +93,10 @@ module _ (slots : Numbers) where
     is-written : (k : ℕ) (s : Begun) → slice_get v.segments k ≡ Some s → writes_at slots at s ≡ true → held_at slots v at ≡ true
     is-written k s e h = or-right (seen_at slots v at) (list_any (writes_at slots at) v.segments) (any-in (writes_at slots at) s v.segments (slice-member v.segments k s e) h)
 
-    reach-to : (e : End) → is_never e ≡ false → at ≤ end_rank slots e → reaches slots e at ≡ true
+    reach-to : (e : PieceEnd) → is_never e ≡ false → at ≤ end_rank slots e → reaches slots e at ≡ true
     reach-to e f le = both (not (is_never e)) (nat_le at (end_rank slots e)) (ap not f) (le-leb at (end_rank slots e) le)
 
-    never-zero : (e : End) → 0 < end_rank slots e → is_never e ≡ false
+    never-zero : (e : PieceEnd) → 0 < end_rank slots e → is_never e ≡ false
     never-zero ends.Never h = absurd (omega arith)
     never-zero (ends.Entry id) h = refl
     never-zero (ends.Exit id) h = refl

@@ -3,6 +3,6 @@ pub mod Runs
 pub mod Read
 pub mod Refused
 pub mod Watched
-pub mod Taken
+pub mod Causes
 pub mod Answered
 pub mod Pairs

@@ -5,9 +5,9 @@ use Rattle.target_base.specs.declared.types.Target.{Target}
 use Rattle.ra_top.specs.Devices.Pieces.{is_whole, NoneWhole, held_most, lines_of}
 use Rattle.ra_top.specs.Devices.Unread.{Taken, IsRest}
 use Rattle.ra_top.specs.declared.commands.answer.Job.{Job}
-use Rattle.ra_top.specs.declared.ending.Step.{Step}
-use Rattle.ra_top.specs.declared.ending.Step.TheVariants as steps
-use Rattle.ra_top.specs.declared.commands.spot.Spot.{Spot}
+use Rattle.ra_top.specs.declared.ending.StreamStep.{StreamStep}
+use Rattle.ra_top.specs.declared.ending.StreamStep.TheVariants as steps
+use Rattle.ra_top.specs.declared.commands.spot.DocStart.{DocStart}
 use Rattle.ra_top.specs.declared.commands.status.Status.{Status}
 use Rattle.ra_top.specs.declared.commands.status.Status.TheVariants as status
 use Rattle.ra_top.specs.declared.commands.answer.Job.TheVariants as jobs
@@ -56,7 +56,7 @@ mapped P Q h (Some l) p = h l p
 writes_nothing : (old new : Option (List ℕ)) → new ≡ old → WritesAll old new []
 writes_nothing old new e = subst (λ n. WritesAll old n []) (sym e) (writes_none old)
 
-ends_of : (job : Job) (t : Target) (spot : Spot) (text : List ℕ) (left : Option (List ℕ)) (chunk piece : List ℕ) (old new : Option (List ℕ)) (s : Status) (detail : List ℕ) → Cut text left chunk piece → EndsAtPiece job t spot piece old new s detail → EndsHere job t spot text left old new s detail
+ends_of : (job : Job) (t : Target) (spot : DocStart) (text : List ℕ) (left : Option (List ℕ)) (chunk piece : List ℕ) (old new : Option (List ℕ)) (s : Status) (detail : List ℕ) → Cut text left chunk piece → EndsAtPiece job t spot piece old new s detail → EndsHere job t spot text left old new s detail
 ends_of job t spot text left chunk piece old new status.Done detail c e = (e.text, inr (record { piece = piece; rest = chunk ++ c.rest; cut = c.whole; held = c.held; last = e.is }), e.written)
 ends_of job t spot text left chunk piece old new status.Usage detail c e = absurd e.0
 ends_of job t spot text left chunk piece old new (status.Target f) detail c e = ([], (record { piece = piece; rest = chunk ++ c.rest; cut = c.whole; held = c.held; refused = e.0 }, refl), writes_nothing old new e.1)
@@ -69,12 +69,12 @@ ends_of job t spot text left chunk piece old new status.WriteFault detail c e = 
 ends_of job t spot text left chunk piece old new status.Memory detail c e = e
 ends_of job t spot text left chunk piece old new status.NotYet detail c e = ([], (record { piece = piece; rest = chunk ++ c.rest; cut = c.whole; held = c.held; refused = e.0 }, refl), writes_nothing old new e.1)
 
-step_of : (job : Job) (t : Target) (spot next : Spot) (text : List ℕ) (left : Option (List ℕ)) (chunk piece : List ℕ) (old new : Option (List ℕ)) (step : Step) → Cut text left chunk piece → AfterPiece job t spot piece old new step → Moves spot piece next step → AfterDocument job t spot next text left chunk old new step
+step_of : (job : Job) (t : Target) (spot next : DocStart) (text : List ℕ) (left : Option (List ℕ)) (chunk piece : List ℕ) (old new : Option (List ℕ)) (step : StreamStep) → Cut text left chunk piece → AfterPiece job t spot piece old new step → Moves spot piece next step → AfterDocument job t spot next text left chunk old new step
 step_of job t spot next text left chunk piece old new steps.More c a m = record { piece = piece; rest = c.rest; left_is = c.left_is; cut = c.whole; held = c.held; next_is = m.0; out = a }
 step_of job t spot next text left chunk piece old new (steps.End e) c a m = ends_of job t spot text left chunk piece old new e.status e.detail c a
 
 -- a piece that was read is treated
-pub document_step : (job : Job) (t : Target) (spot next : Spot) (first : Option (List ℕ)) (chunk0 : List ℕ) (left : Option (List ℕ)) (chunk piece : List ℕ) (old new : Option (List ℕ)) (step : Step) → 0 < length piece → NoneWhole piece → Taken first chunk0 left chunk piece → Ended first chunk0 piece → AfterPiece job t spot piece old new step → Moves spot piece next step → IfSome first (λ l. AfterDocument job t spot next (chunk0 ++ l) left chunk old new step)
+pub document_step : (job : Job) (t : Target) (spot next : DocStart) (first : Option (List ℕ)) (chunk0 : List ℕ) (left : Option (List ℕ)) (chunk piece : List ℕ) (old new : Option (List ℕ)) (step : StreamStep) → 0 < length piece → NoneWhole piece → Taken first chunk0 left chunk piece → Ended first chunk0 piece → AfterPiece job t spot piece old new step → Moves spot piece next step → IfSome first (λ l. AfterDocument job t spot next (chunk0 ++ l) left chunk old new step)
 document_step job t spot next first chunk0 left chunk piece old new step filled none taken end a m =
     mapped (λ l. Cut (chunk0 ++ l) left chunk piece) (λ l. AfterDocument job t spot next (chunk0 ++ l) left chunk old new step) (λ l c. step_of job t spot next (chunk0 ++ l) left chunk piece old new step c a m) first (cut_of first chunk0 left chunk piece filled none taken end)
 
@@ -95,13 +95,13 @@ finished_as (jobs.Run name n seed) old new s e is = subst (λ x. Finishes (jobs.
 finished_as jobs.Intervals old new s e is = subst (λ x. Finishes jobs.Intervals old new x) (sym e) (refl, is)
 finished_as (jobs.Trace how) old new s e is = subst (λ x. Finishes (jobs.Trace how) old new x) (sym e) (refl, is)
 
-over_done : (job : Job) (t : Target) (spot : Spot) (text : List ℕ) (left old new : Option (List ℕ)) (detail : List ℕ) → text ≡ [] → status.Done ≡ end_status job → IsEnded job old new → EndsHere job t spot text left old new status.Done detail
+over_done : (job : Job) (t : Target) (spot : DocStart) (text : List ℕ) (left old new : Option (List ℕ)) (detail : List ℕ) → text ≡ [] → status.Done ≡ end_status job → IsEnded job old new → EndsHere job t spot text left old new status.Done detail
 over_done job t spot text left old new detail e ends (out, last, w) = (out, inl (record { nothing = e; ends = ends; last = last }), w)
 
-over_usage : (job : Job) (t : Target) (spot : Spot) (text : List ℕ) (left old new : Option (List ℕ)) (detail : List ℕ) → text ≡ [] → status.Usage ≡ end_status job → IsEnded job old new → EndsHere job t spot text left old new status.Usage detail
+over_usage : (job : Job) (t : Target) (spot : DocStart) (text : List ℕ) (left old new : Option (List ℕ)) (detail : List ℕ) → text ≡ [] → status.Usage ≡ end_status job → IsEnded job old new → EndsHere job t spot text left old new status.Usage detail
 over_usage job t spot text left old new detail e ends (out, last, w) = (out, record { nothing = e; ends = ends; last = last }, w)
 
-over : (job : Job) (t : Target) (spot : Spot) (text : List ℕ) (left old new : Option (List ℕ)) (s : Status) (detail : List ℕ) → text ≡ [] → Finishes job old new s → EndsHere job t spot text left old new s detail
+over : (job : Job) (t : Target) (spot : DocStart) (text : List ℕ) (left old new : Option (List ℕ)) (s : Status) (detail : List ℕ) → text ≡ [] → Finishes job old new s → EndsHere job t spot text left old new s detail
 over job t spot text left old new status.Done detail e is = over_done job t spot text left old new detail e is.0 is.1
 over job t spot text left old new status.Usage detail e is = over_usage job t spot text left old new detail e is.0 is.1
 over job t spot text left old new (status.Target f) detail e is = absurd is
@@ -114,11 +114,11 @@ over job t spot text left old new status.WriteFault detail e (out, last, w) = (o
 over job t spot text left old new status.Memory detail e is = is
 over job t spot text left old new status.NotYet detail e is = absurd is
 
-over_step : (job : Job) (t : Target) (spot next : Spot) (text : List ℕ) (left : Option (List ℕ)) (chunk : List ℕ) (old new : Option (List ℕ)) (step : Step) → text ≡ [] → IsFinished job old new step → AfterDocument job t spot next text left chunk old new step
+over_step : (job : Job) (t : Target) (spot next : DocStart) (text : List ℕ) (left : Option (List ℕ)) (chunk : List ℕ) (old new : Option (List ℕ)) (step : StreamStep) → text ≡ [] → IsFinished job old new step → AfterDocument job t spot next text left chunk old new step
 over_step job t spot next text left chunk old new steps.More e is = absurd is
 over_step job t spot next text left chunk old new (steps.End x) e is = over job t spot text left old new x.status x.detail e is
 
 -- nothing was read: the run is over
-pub document_done : (job : Job) (t : Target) (spot next : Spot) (first : Option (List ℕ)) (chunk0 piece : List ℕ) (left : Option (List ℕ)) (chunk : List ℕ) (old new : Option (List ℕ)) (step : Step) → length piece ≡ 0 → Ended first chunk0 piece → IsFinished job old new step → IfSome first (λ l. AfterDocument job t spot next (chunk0 ++ l) left chunk old new step)
+pub document_done : (job : Job) (t : Target) (spot next : DocStart) (first : Option (List ℕ)) (chunk0 piece : List ℕ) (left : Option (List ℕ)) (chunk : List ℕ) (old new : Option (List ℕ)) (step : StreamStep) → length piece ≡ 0 → Ended first chunk0 piece → IsFinished job old new step → IfSome first (λ l. AfterDocument job t spot next (chunk0 ++ l) left chunk old new step)
 document_done job t spot next first chunk0 piece left chunk old new step none end is =
     mapped (λ l. chunk0 ++ l ≡ []) (λ l. AfterDocument job t spot next (chunk0 ++ l) left chunk old new step) (λ l e. over_step job t spot next (chunk0 ++ l) left chunk old new step e is) first (all_read first chunk0 (subst (λ p. Ended first chunk0 p) (nothing piece none) end))

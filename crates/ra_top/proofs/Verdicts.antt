@@ -2,7 +2,7 @@
 use Rattle.std.proofs.Common.{◌≡◌, ℕ, ◌≤◌, ◌+◌, List, length, take, Option, Some, None, refl, ap, ◌∙◌, subst, arith, length-take}
 use Rattle.std.specs.Prelude.{IfSome, IfOk, IfErr, Result, Ok, Err}
 use Rattle.target_base.specs.declared.types.Target.{Target}
-use Rattle.ra_top.specs.declared.ending.Ending.{Ending}
+use Rattle.ra_top.specs.declared.ending.ExitReport.{ExitReport}
 use Rattle.std.proofs.lemmas.List.{take_all}
 use Rattle.pipeline.specs.declared.guarded.stop.LimitName.TheVariants as limits
 use Rattle.ra_top.specs.declared.commands.status.Status.{Status}
@@ -58,17 +58,17 @@ target_of_first : (all bytes : List ℕ) (t : Target) → bytes ≡ take (104857
 target_of_first all bytes t e is = subst (λ b. IsTargetOf b t) (whole all bytes e is.0) is
 
 -- the target that the first bytes spell is that of the file
-pub is_target_of_first : (file : Option (List ℕ)) (bytes read : List ℕ) (result : Result Target Ending) → IfSome file (λ all. bytes ≡ take (1048576 + 1) all) → read ≡ bytes → IfOk result (IsTargetOf read) → IfOk result (λ t. IfSome file (λ all. IsTargetOf all t))
+pub is_target_of_first : (file : Option (List ℕ)) (bytes read : List ℕ) (result : Result Target ExitReport) → IfSome file (λ all. bytes ≡ take (1048576 + 1) all) → read ≡ bytes → IfOk result (IsTargetOf read) → IfOk result (λ t. IfSome file (λ all. IsTargetOf all t))
 is_target_of_first None bytes read (Ok t) e same is = tt
 is_target_of_first (Some all) bytes read (Ok t) e same is = target_of_first all read t (same ∙ e) is
 is_target_of_first file bytes read (Err x) e same is = tt
 
 -- why the first bytes are refused is why the file is
-pub is_refused_of_first : (file : Option (List ℕ)) (bytes read : List ℕ) (result : Result Target Ending) → IfSome file (λ all. bytes ≡ take (1048576 + 1) all) → read ≡ bytes → IfErr result (λ e. TargetVerdict read e.status e.detail) → IfErr result (λ x. IfSome file (λ all. TargetVerdict all x.status x.detail))
+pub is_refused_of_first : (file : Option (List ℕ)) (bytes read : List ℕ) (result : Result Target ExitReport) → IfSome file (λ all. bytes ≡ take (1048576 + 1) all) → read ≡ bytes → IfErr result (λ e. TargetVerdict read e.status e.detail) → IfErr result (λ x. IfSome file (λ all. TargetVerdict all x.status x.detail))
 is_refused_of_first file bytes read (Ok t) e same is = tt
 is_refused_of_first file bytes read (Err x) e same v = verdict_of_first file bytes read x.status x.detail e same v
 
 -- no fault rose where the bytes were read
-pub no_device : (result : Result Target Ending) (old new : ℕ) → NamesNone result → new ≡ old → HasTargetCause result old new
+pub no_device : (result : Result Target ExitReport) (old new : ℕ) → NamesNone result → new ≡ old → HasTargetCause result old new
 no_device (Ok t) old new is e = e
 no_device (Err x) old new is e = no_fault x.status old new is e

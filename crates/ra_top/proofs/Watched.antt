@@ -1,12 +1,15 @@
 -- What watchers were told, and what `trace` wrote, by the time that a run ends with a status.
 use Rattle.std.proofs.Common.{◌≡◌, ℕ, ◌+◌, ◌<◌, ◌≤◌, true, List, [], ◌∷◌, ◌++◌, length, Option, Some, None, refl, sym, ◌∙◌, ap, subst, inl, inr, arith, append-nil}
 use Rattle.std.specs.Prelude.{IfSome, codes}
+use Rattle.std.specs.List.{All}
 use Rattle.std.proofs.lemmas.List.{length_push}
+use Rattle.std.proofs.lemmas.List.Elements.{All-nil, All-push}
 use Rattle.target_base.specs.declared.types.Target.{Target}
 use Rattle.mir_func.specs.Value.{Function}
 use Rattle.watchers.specs.declared.steps.Step.{Step as RunStep}
 use Rattle.watchers.specs.Told.{AllTold}
 use Rattle.watchers.proofs.Runs.{none_told}
+use Rattle.greedy_core.specs.Bounds.{AreBounded}
 use Rattle.mir_text.specs.declared.doc.Doc.{Doc}
 use Rattle.mir_text.specs.declared.doc.Doc.TheVariants as docs
 use Rattle.ra_top.specs.Devices.Device.{WritesPart, WritesAll}
@@ -20,7 +23,7 @@ use Rattle.pipeline.specs.Guarded.Told.{ToldRun, ToldPart}
 use Rattle.pipeline.proofs.GuardLemmas.Told.{part_joined, part_of_none, part_of_run}
 use Rattle.ra_top.specs.declared.commands.answer.Job.{Job}
 use Rattle.ra_top.specs.declared.commands.answer.Job.TheVariants as jobs
-use Rattle.ra_top.specs.declared.commands.spot.Spot.{Spot}
+use Rattle.ra_top.specs.declared.commands.spot.DocStart.{DocStart}
 use Rattle.ra_top.specs.declared.commands.status.Status.{Status}
 use Rattle.ra_top.specs.declared.commands.status.Status.TheVariants as status
 use Rattle.ra_top.specs.Commands.Spot.{first_spot, file_most}
@@ -32,8 +35,8 @@ use Rattle.ra_top.specs.Reading.{Behind}
 use Rattle.ra_top.proofs.CommandLemmas.Watched.{run_more}
 use Rattle.ra_top.proofs.CheckLemmas.Reads.{reads_on, IsReadSoFar, begun, goes_on, over}
 use Rattle.ra_top.proofs.Documents.{Ended}
-use Rattle.ra_top.specs.declared.ending.Step.{Step}
-use Rattle.ra_top.specs.declared.ending.Step.TheVariants as steps
+use Rattle.ra_top.specs.declared.ending.StreamStep.{StreamStep}
+use Rattle.ra_top.specs.declared.ending.StreamStep.TheVariants as steps
 use Rattle.ra_top.specs.Told.{IsDueText, NamesTarget}
 use Rattle.ra_top.specs.Steps.{AfterPiece, EndsAtPiece, IsFinished, Moves, ToldAtPiece, ToldAtEnd, ToldStep}
 use Rattle.ra_top.specs.Watched.{IsUndone, ToldAs, ToldJob, ToldGen, ToldWords, IfTells, is_trace, WritesLines, TracesStep}
@@ -43,7 +46,7 @@ pub undone : (s is : Status) → s ≡ is → IsUndone is → IsUndone s
 undone s is e h = subst IsUndone (sym e) h
 
 -- no piece is refused as Done
-pub refuses_undone : (job : Job) (t : Target) (spot : Spot) (piece : List ℕ) (s : Status) (detail : List ℕ) → Refuses job t spot piece s detail → IsUndone s
+pub refuses_undone : (job : Job) (t : Target) (spot : DocStart) (piece : List ℕ) (s : Status) (detail : List ℕ) → Refuses job t spot piece s detail → IsUndone s
 refuses_undone job t spot piece status.Done detail h = absurd h
 refuses_undone job t spot piece s detail h = tt
 
@@ -53,7 +56,7 @@ no_last_doc job t (docs.Function before f) text h is = is
 no_last_doc job t d text h is = is
 
 -- `alloc` and `trace` end with no document
-pub no_last : (job : Job) (t : Target) (spot : Spot) (piece text : List ℕ) → tells job ≡ true → IsLast job t spot piece text → ⊥
+pub no_last : (job : Job) (t : Target) (spot : DocStart) (piece text : List ℕ) → tells job ≡ true → IsLast job t spot piece text → ⊥
 no_last job t spot piece text h is = no_last_doc job t is.doc text h is.is
 
 is_left : (first : Option (List ℕ)) → IfSome first (λ bytes. first ≡ Some bytes)
@@ -68,7 +71,7 @@ module _ {W : Type 0} (next : W → RunStep → W) where
 
   -- the file was begun, which leaves what it holds
   pub as_begun : (t : Target) (file left : Option (List ℕ)) (s : Status) (old new : List W) → IfSome file (λ bytes. left ≡ Some bytes) → ToldAs next t left old new s → ToldAs next t file old new s
-  as_begun t None left status.Done old new is told = record { functions = told.functions; read = tt; runs = told.runs; each = told.each; told = told.told }
+  as_begun t None left status.Done old new is told = record { functions = told.functions; read = tt; runs = told.runs; each = told.each; bounded = told.bounded; told = told.told }
   as_begun t (Some bytes) left status.Done old new is told = subst (λ o. ToldAs next t o old new status.Done) is told
   as_begun t file left s old new is told = told
 
@@ -81,73 +84,78 @@ module _ {W : Type 0} (next : W → RunStep → W) where
   end_over left chunk s old nothing = part_of_none next old old refl
 
   -- nothing is left of the file
-  pub step_over : (job : Job) (t : Target) (spot behind : Spot) (left : Option (List ℕ)) (chunk : List ℕ) (now_left : Option (List ℕ)) (now_chunk : List ℕ) (n : ℕ) (out now_out : Option (List ℕ)) (old : List W) (step : Step) → IfSome left (λ l. chunk ++ l ≡ []) → IsFinished job out now_out step → ToldStep next t spot behind left chunk now_left now_chunk n n old old step
+  pub step_over : (job : Job) (t : Target) (spot behind : DocStart) (left : Option (List ℕ)) (chunk : List ℕ) (now_left : Option (List ℕ)) (now_chunk : List ℕ) (n : ℕ) (out now_out : Option (List ℕ)) (old : List W) (step : StreamStep) → IfSome left (λ l. chunk ++ l ≡ []) → IsFinished job out now_out step → ToldStep next t spot behind left chunk now_left now_chunk n n old old step
   step_over job t spot behind left chunk now_left now_chunk n out now_out old steps.More nothing is = absurd is
   step_over job t spot behind left chunk now_left now_chunk n out now_out old (steps.End e) nothing is = end_over left chunk e.status old nothing
 
   -- a piece that was read is treated
-  pub step_piece : (t : Target) (spot behind : Spot) (left : Option (List ℕ)) (chunk : List ℕ) (now_left : Option (List ℕ)) (now_chunk piece : List ℕ) (n m : ℕ) (old new : List W) (step : Step) → 0 < length piece → NoneWhole piece → Taken left chunk now_left now_chunk piece → Ended left chunk piece → Moves spot piece behind step → ToldAtPiece next t spot piece n m old new step → ToldStep next t spot behind left chunk now_left now_chunk n m old new step
+  pub step_piece : (t : Target) (spot behind : DocStart) (left : Option (List ℕ)) (chunk : List ℕ) (now_left : Option (List ℕ)) (now_chunk piece : List ℕ) (n m : ℕ) (old new : List W) (step : StreamStep) → 0 < length piece → NoneWhole piece → Taken left chunk now_left now_chunk piece → Ended left chunk piece → Moves spot piece behind step → ToldAtPiece next t spot piece n m old new step → ToldStep next t spot behind left chunk now_left now_chunk n m old new step
   step_piece t spot behind left chunk now_left now_chunk piece n m old new steps.More filled none taken end moves told =
       (told.0, reads_on t spot behind left chunk now_left now_chunk piece told.0 filled none taken end moves.0 told.1, told.2)
   step_piece t spot behind left chunk now_left now_chunk piece n m old new (steps.End e) filled none taken end moves told = end_part left chunk e.status old new told.0 told.1
 
   -- How far the watchers were told of a file: of each function that was read one run. The number of the next function is
   -- theirs, and no greater than that of the bytes before it.
-  pub record ToldSoFar (t : Target) (file : Option (List ℕ)) (spot : Spot) (chunk : List ℕ) (left : Option (List ℕ)) (n : ℕ) (old new : List W) : Type 0 where
+  pub record ToldSoFar (t : Target) (file : Option (List ℕ)) (spot : DocStart) (chunk : List ℕ) (left : Option (List ℕ)) (n : ℕ) (old new : List W) : Type 0 where
     pub functions : List Function
     pub read : IsReadSoFar (λ f. Unit {0}) t file spot chunk left functions
     pub runs : List (List RunStep)
     pub each : length runs ≡ length functions
+    pub bounded : All AreBounded runs
     pub told : AllTold next (steps_of 0 runs) old new
     pub number : n ≡ length runs
     pub few : n ≤ spot.offset
 
   -- a file is begun
-  pub told_none : (t : Target) (file : Option (List ℕ)) (spot : Spot) (chunk : List ℕ) (old : List W) → spot ≡ first_spot → chunk ≡ [] → ToldSoFar t file spot chunk file 0 old old
+  pub told_none : (t : Target) (file : Option (List ℕ)) (spot : DocStart) (chunk : List ℕ) (old : List W) → spot ≡ first_spot → chunk ≡ [] → ToldSoFar t file spot chunk file 0 old old
   told_none t file spot chunk old is empty = record {
     functions = [];
     read = begun (λ f. Unit {0}) t file spot chunk file [] (is_left file) is empty refl;
     runs = [];
     each = refl;
+    bounded = All-nil AreBounded;
     told = none_told next old;
     number = refl;
     few = omega arith;
   }
 
-  lines_more : (t : Target) (file : Option (List ℕ)) (spot behind : Spot) (chunk now_chunk : List ℕ) (left now_left : Option (List ℕ)) (n m : ℕ) (old now new : List W) (d : Doc) → spot.offset < behind.offset → function_of d ≡ [] → IfFunction (λ f. Unit {0}) d → ToldSoFar t file spot chunk left n old now → IfSome left (λ l. Behind t spot behind (chunk ++ l) now_left now_chunk d) → new ≡ now → m ≡ n → ToldSoFar t file behind now_chunk now_left m old new
+  lines_more : (t : Target) (file : Option (List ℕ)) (spot behind : DocStart) (chunk now_chunk : List ℕ) (left now_left : Option (List ℕ)) (n m : ℕ) (old now new : List W) (d : Doc) → spot.offset < behind.offset → function_of d ≡ [] → IfFunction (λ f. Unit {0}) d → ToldSoFar t file spot chunk left n old now → IfSome left (λ l. Behind t spot behind (chunk ++ l) now_left now_chunk d) → new ≡ now → m ≡ n → ToldSoFar t file behind now_chunk now_left m old new
   lines_more t file spot behind chunk now_chunk left now_left n m old now new d on none meets a b same is = record {
     functions = a.functions;
     read = goes_on (λ f. Unit {0}) t file spot behind chunk now_chunk left now_left a.functions a.functions d a.read b meets (sym (append-nil a.functions) ∙ ap (λ fs. a.functions ++ fs) (sym none));
     runs = a.runs;
     each = a.each;
+    bounded = a.bounded;
     told = subst (λ ws. AllTold next (steps_of 0 a.runs) old ws) (sym same) a.told;
     number = is ∙ a.number;
     few = omega (arith, is, on, a.few);
   }
 
   -- one more document was read
-  pub told_more : (t : Target) (file : Option (List ℕ)) (spot behind : Spot) (chunk now_chunk : List ℕ) (left now_left : Option (List ℕ)) (n m : ℕ) (old now new : List W) (d : Doc) → spot.offset < behind.offset → spot.offset ≤ file_most → ToldSoFar t file spot chunk left n old now → IfSome left (λ l. Behind t spot behind (chunk ++ l) now_left now_chunk d) → ToldDoc next d n m now new → ToldSoFar t file behind now_chunk now_left m old new
+  pub told_more : (t : Target) (file : Option (List ℕ)) (spot behind : DocStart) (chunk now_chunk : List ℕ) (left now_left : Option (List ℕ)) (n m : ℕ) (old now new : List W) (d : Doc) → spot.offset < behind.offset → spot.offset ≤ file_most → ToldSoFar t file spot chunk left n old now → IfSome left (λ l. Behind t spot behind (chunk ++ l) now_left now_chunk d) → ToldDoc next d n m now new → ToldSoFar t file behind now_chunk now_left m old new
   told_more t file spot behind chunk now_chunk left now_left n m old now new (docs.Ir lines) on within a b told = lines_more t file spot behind chunk now_chunk left now_left n m old now new (docs.Ir lines) on refl tt a b told.0 told.1
   told_more t file spot behind chunk now_chunk left now_left n m old now new (docs.Rest lines) on within a b told = lines_more t file spot behind chunk now_chunk left now_left n m old now new (docs.Rest lines) on refl tt a b told.0 told.1
-  told_more t file spot behind chunk now_chunk left now_left n m old now new (docs.Function before f) on within a b ((run, all), is) =
+  told_more t file spot behind chunk now_chunk left now_left n m old now new (docs.Function before f) on within a b ((run, all, bounds), is) =
       let next_is : m ≡ n + 1 = omega (arith, is, within, a.few) in
       record {
         functions = a.functions ++ f ∷ [];
         read = goes_on (λ f. Unit {0}) t file spot behind chunk now_chunk left now_left a.functions (a.functions ++ f ∷ []) (docs.Function before f) a.read b tt refl;
         runs = a.runs ++ run ∷ [];
         each = length_push a.runs run ∙ ap (λ k. k + 1) a.each ∙ sym (length_push a.functions f);
+        bounded = All-push AreBounded a.runs run a.bounded bounds;
         told = run_more next n a.runs run old now new a.number a.told all;
         number = next_is ∙ ap (λ k. k + 1) a.number ∙ sym (length_push a.runs run);
         few = omega (arith, next_is, on, a.few);
       }
 
   -- a run ends
-  pub told_end : (t : Target) (file : Option (List ℕ)) (spot : Spot) (chunk : List ℕ) (left : Option (List ℕ)) (n : ℕ) (old now new : List W) (s : Status) → ToldSoFar t file spot chunk left n old now → ToldAtEnd next left chunk now new s → ToldAs next t file old new s
+  pub told_end : (t : Target) (file : Option (List ℕ)) (spot : DocStart) (chunk : List ℕ) (left : Option (List ℕ)) (n : ℕ) (old now new : List W) (s : Status) → ToldSoFar t file spot chunk left n old now → ToldAtEnd next left chunk now new s → ToldAs next t file old new s
   told_end t file spot chunk left n old now new status.Done a e = record {
     functions = a.functions;
     read = over (λ f. Unit {0}) t file spot chunk left a.functions a.read e.0;
     runs = a.runs;
     each = a.each;
+    bounded = a.bounded;
     told = subst (λ ws. AllTold next (steps_of 0 a.runs) old ws) (sym e.1) a.told;
   }
   told_end t file spot chunk left n old now new s a e = (steps_of 0 a.runs ++ e.0, part_joined next old now new (steps_of 0 a.runs) e.0 a.told e.1)
@@ -221,11 +229,11 @@ trace_last how t (docs.Function before f) text is = is
 trace_last how t (docs.Ir lines) text is = is
 trace_last how t (docs.Rest lines) text is = is
 
-part_traced : (how : Allocator) (t : Target) (spot : Spot) (piece lines text : List ℕ) (old new : Option (List ℕ)) → IsDueText (jobs.Trace how) t spot piece text → WritesPart old new text → WritesPart old new lines
+part_traced : (how : Allocator) (t : Target) (spot : DocStart) (piece lines text : List ℕ) (old new : Option (List ℕ)) → IsDueText (jobs.Trace how) t spot piece text → WritesPart old new text → WritesPart old new lines
 part_traced how t spot piece lines text old new (inl is) w = part_before old new [] lines (subst (WritesPart old new) (trace_text how t is.doc text is.is) w)
 part_traced how t spot piece lines text old new (inr is) w = absurd (trace_last how t is.doc text is.is)
 
-ends_traced : (how : Allocator) (t : Target) (spot : Spot) (piece lines : List ℕ) (old new : Option (List ℕ)) (s : Status) (detail : List ℕ) → EndsAtPiece (jobs.Trace how) t spot piece old new s detail → WritesLines lines old new s
+ends_traced : (how : Allocator) (t : Target) (spot : DocStart) (piece lines : List ℕ) (old new : Option (List ℕ)) (s : Status) (detail : List ℕ) → EndsAtPiece (jobs.Trace how) t spot piece old new s detail → WritesLines lines old new s
 ends_traced how t spot piece lines old new status.Done detail e = absurd (trace_last how t e.is.doc e.text e.is.is)
 ends_traced how t spot piece lines old new status.Usage detail e = writes_nothing old new e.1
 ends_traced how t spot piece lines old new (status.Target f) detail e = writes_nothing old new e.1
@@ -238,12 +246,12 @@ ends_traced how t spot piece lines old new status.WriteFault detail e = part_tra
 ends_traced how t spot piece lines old new status.Memory detail e = writes_nothing old new e
 ends_traced how t spot piece lines old new status.NotYet detail e = writes_nothing old new e.1
 
-step_traced : (how : Allocator) (t : Target) (spot : Spot) (piece lines : List ℕ) (old new : Option (List ℕ)) (step : Step) → AfterPiece (jobs.Trace how) t spot piece old new step → TracesStep lines old new step
+step_traced : (how : Allocator) (t : Target) (spot : DocStart) (piece lines : List ℕ) (old new : Option (List ℕ)) (step : StreamStep) → AfterPiece (jobs.Trace how) t spot piece old new step → TracesStep lines old new step
 step_traced how t spot piece lines old new steps.More a = subst (WritesAll old new) (trace_text how t a.is.doc a.text a.is.is) a.written
 step_traced how t spot piece lines old new (steps.End e) a = ends_traced how t spot piece lines old new e.status e.detail a
 
 -- a piece was treated
-pub piece_traced : (job : Job) (t : Target) (spot : Spot) (piece lines : List ℕ) (old new : Option (List ℕ)) (step : Step) → is_trace job ≡ true → AfterPiece job t spot piece old new step → TracesStep lines old new step
+pub piece_traced : (job : Job) (t : Target) (spot : DocStart) (piece lines : List ℕ) (old new : Option (List ℕ)) (step : StreamStep) → is_trace job ≡ true → AfterPiece job t spot piece old new step → TracesStep lines old new step
 piece_traced (jobs.Alloc how) t spot piece lines old new step h a = absurd (cc)
 piece_traced (jobs.Verify form) t spot piece lines old new step h a = absurd (cc)
 piece_traced (jobs.Run name n seed) t spot piece lines old new step h a = absurd (cc)

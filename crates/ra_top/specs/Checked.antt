@@ -8,7 +8,7 @@ use Rattle.mir_text.specs.declared.doc.Doc.{Doc}
 use Rattle.mir_text.specs.declared.doc.Doc.TheVariants as docs
 use Rattle.pipeline.specs.Guarded.Limits.{passed_limit}
 use Rattle.pipeline.specs.Guarded.Function.{IsTaken}
-use Rattle.ra_top.specs.declared.commands.spot.Spot.{Spot}
+use Rattle.ra_top.specs.declared.commands.spot.DocStart.{DocStart}
 use Rattle.ra_top.specs.declared.commands.status.Status.{Status}
 use Rattle.ra_top.specs.declared.commands.status.Status.TheVariants as status
 use Rattle.ra_top.specs.Commands.Spot.{first_spot, after}
@@ -34,7 +34,7 @@ IfFunction P d = Unit {0}
 
 -- from a place in a file on, of which this is left, the next pieces spell these documents, whose functions meet a fact,
 -- and then the rest meets another
-abbrev pub Reads : (Function → Type 0) → Target → Spot → List ℕ → List Doc → (Spot → List ℕ → Type 0) → Type 0
+abbrev pub Reads : (Function → Type 0) → Target → DocStart → List ℕ → List Doc → (DocStart → List ℕ → Type 0) → Type 0
 Reads P t spot text [] Then = Then spot text
 Reads P t spot text (d ∷ ds) Then =
     (piece : List ℕ) × (rest : List ℕ) × (text ≡ piece ++ rest) × IsHeld piece rest × IsSpelled t spot piece d × IfFunction P d × Reads P t (after spot piece) rest ds Then
@@ -64,13 +64,13 @@ RefusesFunction R (docs.Function before f) s detail = R f s detail
 RefusesFunction R d s detail = ⊥
 
 -- a piece spells a document whose function is refused
-pub record IsSpelledAndRefused (R : Function → Status → List ℕ → Type 0) (t : Target) (spot : Spot) (piece : List ℕ) (s : Status) (detail : List ℕ) : Type 0 where
+pub record IsSpelledAndRefused (R : Function → Status → List ℕ → Type 0) (t : Target) (spot : DocStart) (piece : List ℕ) (s : Status) (detail : List ℕ) : Type 0 where
   pub doc : Doc
   pub spelled : IsSpelled t spot piece doc
   pub refused : RefusesFunction R doc s detail
 
 -- the next piece is refused: for its length, since it spells no document, or for its function
-pub record IsRefused (R : Function → Status → List ℕ → Type 0) (t : Target) (spot : Spot) (text : List ℕ) (s : Status) (detail : List ℕ) : Type 0 where
+pub record IsRefused (R : Function → Status → List ℕ → Type 0) (t : Target) (spot : DocStart) (text : List ℕ) (s : Status) (detail : List ℕ) : Type 0 where
   pub piece : List ℕ
   pub rest : List ℕ
   pub cut : text ≡ piece ++ rest
@@ -79,7 +79,7 @@ pub record IsRefused (R : Function → Status → List ℕ → Type 0) (t : Targ
 
 -- Reading ends at a place before the file does: a read failed, so that this is left; memory ran out; or the next piece is
 -- refused.
-abbrev pub Breaks : (Function → Status → List ℕ → Type 0) → Target → Option (List ℕ) → Status → List ℕ → Spot → List ℕ → Type 0
+abbrev pub Breaks : (Function → Status → List ℕ → Type 0) → Target → Option (List ℕ) → Status → List ℕ → DocStart → List ℕ → Type 0
 Breaks R t left status.ReadFault detail spot text = IsUnfinished text left
 Breaks R t left status.Memory detail spot text = Unit {0}
 Breaks R t left s detail spot text = IsRefused R t spot text s detail

@@ -5,7 +5,7 @@ use Rattle.target_base.specs.declared.types.Target.{Target}
 use Rattle.ra_top.specs.Devices.Device.{WritesPart, WritesAll}
 use Rattle.ra_top.specs.Devices.Pieces.{is_whole, NoneWhole, held_most}
 use Rattle.ra_top.specs.declared.commands.answer.Job.{Job}
-use Rattle.ra_top.specs.declared.commands.spot.Spot.{Spot}
+use Rattle.ra_top.specs.declared.commands.spot.DocStart.{DocStart}
 use Rattle.ra_top.specs.declared.commands.status.Status.{Status}
 use Rattle.ra_top.specs.declared.commands.status.Status.TheVariants as status
 use Rattle.ra_top.specs.Commands.Spot.{first_spot, after}
@@ -38,13 +38,13 @@ output pieces = flat_map (λ p. p.text) pieces
 
 -- from a place in a file on, of which this is left, these pieces are treated in turn, and then the rest
 -- meets a fact
-abbrev pub Treated : Job → Target → Spot → List ℕ → List Treatment → (Spot → List ℕ → Type 0) → Type 0
+abbrev pub Treated : Job → Target → DocStart → List ℕ → List Treatment → (DocStart → List ℕ → Type 0) → Type 0
 Treated job t spot text [] Then = Then spot text
 Treated job t spot text (p ∷ ps) Then =
     (rest : List ℕ) × (text ≡ p.piece ++ rest) × IsHeld p.piece rest × IsText job t spot p.piece p.text × Treated job t (after spot p.piece) rest ps Then
 
 -- the next piece is refused
-pub record Stops (job : Job) (t : Target) (spot : Spot) (text : List ℕ) (s : Status) (detail : List ℕ) : Type 0 where
+pub record Stops (job : Job) (t : Target) (spot : DocStart) (text : List ℕ) (s : Status) (detail : List ℕ) : Type 0 where
   pub piece : List ℕ
   pub rest : List ℕ
   pub cut : text ≡ piece ++ rest
@@ -52,7 +52,7 @@ pub record Stops (job : Job) (t : Target) (spot : Spot) (text : List ℕ) (s : S
   pub refused : Refuses job t spot piece s detail
 
 -- a text is due for the next piece, and the run ends with it
-pub record EndsWith (job : Job) (t : Target) (out : List ℕ) (spot : Spot) (text : List ℕ) : Type 0 where
+pub record EndsWith (job : Job) (t : Target) (out : List ℕ) (spot : DocStart) (text : List ℕ) : Type 0 where
   pub piece : List ℕ
   pub rest : List ℕ
   pub cut : text ≡ piece ++ rest
@@ -66,7 +66,7 @@ pub record IsOver (job : Job) (out : List ℕ) (s : Status) (text : List ℕ) : 
   pub last : IsEndText job out
 
 -- A run ends with a last text: nothing is left, the job ends with a document, or the next piece is refused.
-abbrev pub AtEnd : Job → Target → List ℕ → Status → List ℕ → Spot → List ℕ → Type 0
+abbrev pub AtEnd : Job → Target → List ℕ → Status → List ℕ → DocStart → List ℕ → Type 0
 AtEnd job t out status.Done detail spot text = IsOver job out status.Done text ⊎ EndsWith job t out spot text
 AtEnd job t out status.Usage detail spot text = IsOver job out status.Usage text
 AtEnd job t out s detail spot text = Stops job t spot text s detail × (out ≡ [])

@@ -8,7 +8,7 @@ use Rattle.pipeline.specs.Guarded.Function.{IsTaken}
 use Rattle.ra_top.specs.Devices.Device.{Rose}
 use Rattle.ra_top.specs.declared.commands.refusal.Refusal.{Refusal}
 use Rattle.ra_top.specs.declared.commands.refusal.Refusal.TheVariants as refusals
-use Rattle.ra_top.specs.declared.commands.spot.Spot.{Spot}
+use Rattle.ra_top.specs.declared.commands.spot.DocStart.{DocStart}
 use Rattle.ra_top.specs.declared.commands.status.Status.{Status}
 use Rattle.ra_top.specs.declared.commands.status.Status.TheVariants as status
 use Rattle.ra_top.specs.Commands.Spot.{after, file_most}
@@ -40,7 +40,7 @@ HasCauseOf old new (Ok x) = new ≡ old
 HasCauseOf old new (Err r) = HasRefusalCause old new r
 
 -- a document was read, and reading goes on behind it
-pub record Behind (t : Target) (spot next : Spot) (text : List ℕ) (left : Option (List ℕ)) (chunk : List ℕ) (d : Doc) : Type 0 where
+pub record Behind (t : Target) (spot next : DocStart) (text : List ℕ) (left : Option (List ℕ)) (chunk : List ℕ) (d : Doc) : Type 0 where
   pub piece : List ℕ
   pub rest : List ℕ
   pub left_is : left ≡ Some rest
@@ -50,7 +50,7 @@ pub record Behind (t : Target) (spot next : Spot) (text : List ℕ) (left : Opti
   pub spelled : IsSpelled t spot piece d
 
 -- the next piece spells no document
-pub record SpellsNone (t : Target) (spot : Spot) (text : List ℕ) (s : Status) (detail : List ℕ) : Type 0 where
+pub record SpellsNone (t : Target) (spot : DocStart) (text : List ℕ) (s : Status) (detail : List ℕ) : Type 0 where
   pub piece : List ℕ
   pub rest : List ℕ
   pub cut : text ≡ piece ++ rest
@@ -58,18 +58,18 @@ pub record SpellsNone (t : Target) (spot : Spot) (text : List ℕ) (s : Status) 
   pub unspelled : IsUnspelled t spot piece s detail
 
 -- why there is no next document
-abbrev pub IsUnread : Target → Spot → List ℕ → Option (List ℕ) → Status → List ℕ → Type 0
+abbrev pub IsUnread : Target → DocStart → List ℕ → Option (List ℕ) → Status → List ℕ → Type 0
 IsUnread t spot text left status.ReadFault detail = IsUnfinished text left
 IsUnread t spot text left s detail = SpellsNone t spot text s detail
 
 -- what comes of reading the next document: it, or that the file ends, or a refusal
-abbrev pub AfterReading : Target → Spot → Spot → List ℕ → Option (List ℕ) → List ℕ → Result (Option Doc) Refusal → Type 0
+abbrev pub AfterReading : Target → DocStart → DocStart → List ℕ → Option (List ℕ) → List ℕ → Result (Option Doc) Refusal → Type 0
 AfterReading t spot next text left chunk (Ok (Some d)) = Behind t spot next text left chunk d
 AfterReading t spot next text left chunk (Ok None) = text ≡ []
 AfterReading t spot next text left chunk (Err r) = IfBy (IsUnread t spot text left) r
 
 -- where a document was read, the spot moved on
-abbrev pub MovesOn : Spot → Spot → Option Doc → Type 0
+abbrev pub MovesOn : DocStart → DocStart → Option Doc → Type 0
 MovesOn spot next (Some d) = (spot.offset < next.offset) × (next.line ≤ next.offset + 1) × (next.offset ≤ file_most)
 MovesOn spot next None = Unit {0}
 

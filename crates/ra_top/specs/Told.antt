@@ -11,7 +11,7 @@ use Rattle.ra_top.specs.Devices.Device.{Rose, WritesPart, WritesAll}
 use Rattle.ra_top.specs.Words.Words.{Asked, Alloc, VerifySource, VerifyAllocated, Run, Intervals, Trace, Check, Gen, is_word}
 use Rattle.ra_top.specs.declared.commands.answer.Job.{Job}
 use Rattle.ra_top.specs.declared.commands.answer.Job.TheVariants as jobs
-use Rattle.ra_top.specs.declared.commands.spot.Spot.{Spot}
+use Rattle.ra_top.specs.declared.commands.spot.DocStart.{DocStart}
 use Rattle.pipeline.specs.declared.guarded.stop.LimitName.TheVariants as limits
 use Rattle.ra_top.specs.declared.commands.status.Status.{Status}
 use Rattle.ra_top.specs.declared.commands.status.Status.TheVariants as status
@@ -31,11 +31,11 @@ HasStatusCause status.WriteFault old new out_old out_new = (new ≡ old) × Rose
 HasStatusCause s old new out_old out_new = (new ≡ old) × (out_new ≡ out_old)
 
 -- a text is due for a piece, whether the run goes on or ends with it
-abbrev pub IsDueText : Job → Target → Spot → List ℕ → List ℕ → Type 0
+abbrev pub IsDueText : Job → Target → DocStart → List ℕ → List ℕ → Type 0
 IsDueText job t spot piece text = IsText job t spot piece text ⊎ IsLast job t spot piece text
 
 -- a text is due for the next piece
-pub record IsNext (job : Job) (t : Target) (out : List ℕ) (spot : Spot) (text : List ℕ) : Type 0 where
+pub record IsNext (job : Job) (t : Target) (out : List ℕ) (spot : DocStart) (text : List ℕ) : Type 0 where
   pub piece : List ℕ
   pub rest : List ℕ
   pub cut : text ≡ piece ++ rest
@@ -43,7 +43,7 @@ pub record IsNext (job : Job) (t : Target) (out : List ℕ) (spot : Spot) (text 
   pub answer : IsDueText job t spot piece out
 
 -- a text is due for what is left: for the next piece, or at the end
-abbrev pub IsNextText : Job → Target → List ℕ → Spot → List ℕ → Type 0
+abbrev pub IsNextText : Job → Target → List ℕ → DocStart → List ℕ → Type 0
 IsNextText job t out spot text = IsNext job t out spot text ⊎ ((text ≡ []) × IsEndText job out)
 
 -- a read failed: each whole piece of what was read is written

@@ -1,10 +1,12 @@
 -- What watchers are told of a file, and what `trace` writes of it.
 use Rattle.std.specs.Prelude.{◌≡◌, ◌⊎◌, ℕ, Bool, true, false, List, [], length, Option, Some, IfSome, codes}
+use Rattle.std.specs.List.{All}
 use Rattle.target_base.specs.declared.types.Target.{Target}
 use Rattle.target_base.specs.Mini.{mini_target}
 use Rattle.mir_func.specs.Value.{Function}
 use Rattle.watchers.specs.declared.steps.Step.{Step as RunStep}
 use Rattle.watchers.specs.Told.{AllTold}
+use Rattle.greedy_core.specs.Bounds.{AreBounded}
 use Rattle.ra_top.specs.Devices.Device.{WritesPart, WritesAll}
 use Rattle.ra_top.specs.Words.Words.{Asked, Alloc, Trace, Gen, is_word}
 use Rattle.pipeline.specs.Guarded.Told.{ToldRun, ToldPart}
@@ -14,8 +16,8 @@ use Rattle.ra_top.specs.declared.commands.status.Status.{Status}
 use Rattle.ra_top.specs.declared.commands.status.Status.TheVariants as status
 use Rattle.ra_top.specs.Commands.Told.{steps_of}
 use Rattle.ra_top.specs.Checked.{IsRead}
-use Rattle.ra_top.specs.declared.ending.Step.{Step}
-use Rattle.ra_top.specs.declared.ending.Step.TheVariants as steps
+use Rattle.ra_top.specs.declared.ending.StreamStep.{StreamStep}
+use Rattle.ra_top.specs.declared.ending.StreamStep.TheVariants as steps
 use Rattle.ra_top.specs.Told.{NamesTarget}
 
 -- the status isn't that all was done
@@ -29,12 +31,15 @@ AreFunctionsOf t file fs = IsRead (λ f. Unit {0}) t file fs
 
 module _ {W : Type 0} (next : W → RunStep → W) where
   -- Of a file, where it is told what it holds, each watcher was told one run for each of its functions, in order, which are
-  -- numbered from 0 on: all steps of these runs, one run after the other, and nothing else.
+  -- numbered from 0 on: all steps of these runs, one run after the other, and nothing else. Behind the beginning of a run
+  -- none of its steps begins another one; among them each range is spilled at most once, and tinies are placed at most as
+  -- often as there are tinies.
   pub record ToldFile (t : Target) (file : Option (List ℕ)) (old new : List W) : Type 0 where
     pub functions : List Function
     pub read : IfSome file (λ bytes. AreFunctionsOf t bytes functions)
     pub runs : List (List RunStep)
     pub each : length runs ≡ length functions
+    pub bounded : All AreBounded runs
     pub told : AllTold next (steps_of 0 runs) old new
 
 -- What the watchers were told of a file by the time that a run ends with a status: with Done a run for each of its functions;
@@ -82,6 +87,6 @@ WritesLines lines old new status.WriteFault = WritesPart old new lines
 WritesLines lines old new s = WritesAll old new []
 
 -- the same of a step; nothing is written where it goes on
-abbrev pub TracesStep : List ℕ → Option (List ℕ) → Option (List ℕ) → Step → Type 0
+abbrev pub TracesStep : List ℕ → Option (List ℕ) → Option (List ℕ) → StreamStep → Type 0
 TracesStep lines old new steps.More = WritesAll old new []
 TracesStep lines old new (steps.End e) = WritesLines lines old new e.status

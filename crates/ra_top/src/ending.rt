@@ -5,7 +5,7 @@ use target_base::Bytes;
 
 /// How a run ends: its status, and the detail of its line.
 #[derive(Drop)]
-pub struct Ending {
+pub struct ExitReport {
     /// The status.
     pub status: Status,
     /// The number of the line at fault, or what is said of the function that is refused.
@@ -14,9 +14,9 @@ pub struct Ending {
 
 /// Whether a run goes on.
 #[derive(Drop)]
-pub enum Step {
+pub enum StreamStep {
     /// It goes on.
     More,
     /// It ends.
-    End(Ending),
+    End(ExitReport),
 }

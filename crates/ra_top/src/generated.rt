@@ -9,14 +9,14 @@ ghost use Rattle.ra_top.specs.Watched.{ToldGen};
 use crate::commands::{Answer, Status, gen_answer};
 use crate::devices::Sink;
 use crate::devices::moves::write_all;
-use crate::ending::Ending;
+use crate::ending::ExitReport;
 use crate::stream::ends;
 use std::alloc::Global;
 use target_base::Bytes;
 use watchers::Watcher;
 
 /// Writes a text.
-pub(crate) fn written<O: Sink>(alloc: Global, text: Bytes, out: &mut O) -> Ending
+pub(crate) fn write_text<O: Sink>(alloc: Global, text: Bytes, out: &mut O) -> ExitReport
     ensures does { IsWrittenEnd text (O.written out.old) (O.written out.new) result.status }
     ensures cause { HasStatusCause result.status 0 0 (O.faults out.old) (O.faults out.new) }
 {
@@ -32,15 +32,15 @@ pub fn generate<O: Sink, W: Watcher>(
     seed: u64,
     out: &mut O,
     watchers: &mut Vec<W>,
-) -> Ending
+) -> ExitReport
     ensures does { DoesGen seed (O.written out.old) (O.written out.new) result.status result.detail }
     ensures cause { HasStatusCause result.status 0 0 (O.faults out.old) (O.faults out.new) }
     ensures told { ToldGen (W.next mini_target) watchers.old.items watchers.new.items result.status }
 {
     match gen_answer(alloc, seed, watchers) {
         Err(_) => ends(alloc, Status::Memory),
-        Ok(Answer::Refused(status, detail)) => Ending { status, detail },
-        Ok(Answer::Text(text)) => written(alloc, text, out),
-        Ok(Answer::Last(text)) => written(alloc, text, out),
+        Ok(Answer::Refused(status, detail)) => ExitReport { status, detail },
+        Ok(Answer::Text(text)) => write_text(alloc, text, out),
+        Ok(Answer::Last(text)) => write_text(alloc, text, out),
     }
 }

@@ -1,4 +1,4 @@
-//! Numbers in decimal.
+//! Texts, and numbers in decimal.
 
 ghost use Rattle.std.specs.Prelude.{◌≡◌, ◌++◌, IfOk, OnOk};
 ghost use Rattle.std.specs.Fmt.{decimal};
@@ -6,6 +6,13 @@ ghost use Rattle.std.specs.Fmt.{decimal};
 use itoa::Buffer;
 use std::alloc::{AllocError, Global};
 use target_base::Bytes;
+
+/// Adds a text.
+pub(crate) fn put(out: &mut Bytes, text: &str) -> Result<(), AllocError>
+    ensures { OnOk result (out.new ≡ out.old ++ text.now) }
+{
+    out.extend(text.as_bytes())
+}
 
 /// Adds the decimal digits of a number.
 pub(crate) fn put_number(out: &mut Bytes, n: u128) -> Result<(), AllocError>

@@ -9,33 +9,33 @@ ghost use Rattle.ra_top.specs.declared.commands.refusal.Refusal.TheVariants as r
 ghost use Rattle.ra_top.specs.declared.commands.status.Status.TheVariants as status;
 
 use crate::commands::piece::doc_at;
-use crate::commands::{Refusal, Spot, Status};
-use crate::devices::moves::ReadStop;
+use crate::commands::{DocStart, Refusal, Status};
+use crate::devices::moves::FileStop;
 use crate::devices::{Chunk, Files, Pieces, read_piece};
-use mir_text::{Doc, Reader};
+use mir_text::{Doc, DocReader};
 use std::alloc::{AllocError, Global};
 use target_base::Bytes;
 
 /// How far a file is read.
 #[derive(Drop)]
-pub struct Reading {
+pub struct FileReader {
     /// The bytes that were read and aren't taken yet.
     pub chunk: Chunk,
     /// The piece that was read last.
     pub piece: Pieces,
     /// Where the next document begins.
-    pub spot: Spot,
+    pub spot: DocStart,
 }
 
-impl Reading {
+impl FileReader {
     /// Nothing of a file is read yet.
-    pub fn new(alloc: Global) -> Result<Reading, AllocError>
+    pub fn new(alloc: Global) -> Result<FileReader, AllocError>
         ensures { IfOk result (λ r. (r.spot ≡ first_spot) × (r.chunk ≡ [])) }
     {
-        Ok(Reading {
+        Ok(FileReader {
             chunk: Chunk::new(alloc)?,
             piece: Pieces::new(alloc),
-            spot: Spot::first(),
+            spot: DocStart::first(),
         })
     }
 }
@@ -48,7 +48,7 @@ fn unread(alloc: Global) -> Refusal
 }
 
 /// Begins to read the file of a name.
-pub fn begin<F: Files>(alloc: Global, name: &str, files: &mut F) -> Result<Reading, Refusal>
+pub fn begin<F: Files>(alloc: Global, name: &str, files: &mut F) -> Result<FileReader, Refusal>
     ensures contents { (n : List ℕ) → F.contents files.new n ≡ F.contents files.old n }
     ensures left { IfSome (F.contents files.old name.now) (λ bytes. F.left files.new ≡ Some bytes) }
     ensures ok { IfOk result (λ r. (r.spot ≡ first_spot) × (r.chunk ≡ [])) }
@@ -56,7 +56,7 @@ pub fn begin<F: Files>(alloc: Global, name: &str, files: &mut F) -> Result<Readi
     ensures cause { HasCauseOf (F.faults files.old) (F.faults files.new) result }
 {
     match files.start(name) {
-        Ok(()) => Ok(Reading::new(alloc)?),
+        Ok(()) => Ok(FileReader::new(alloc)?),
         Err(_) => Err(unread(alloc)),
     }
 }
@@ -64,9 +64,9 @@ pub fn begin<F: Files>(alloc: Global, name: &str, files: &mut F) -> Result<Readi
 /// The next document of a file; None where the file ends. No read is made behind it.
 pub fn next_document<F: Files>(
     alloc: Global,
-    reader: &Reader,
+    reader: &DocReader,
     files: &mut F,
-    reading: &mut Reading,
+    reading: &mut FileReader,
 ) -> Result<Option<Doc>, Refusal>
     requires line { reading.old.spot.line ≤ reading.old.spot.offset + 1 }
     requires within { reading.old.spot.offset ≤ file_most }
@@ -79,8 +79,8 @@ pub fn next_document<F: Files>(
     reading.piece.clear();
     match read_piece(files, &mut reading.chunk, &mut reading.piece) {
         Ok(()) => {}
-        Err(ReadStop::Failed) => return Err(unread(alloc)),
-        Err(ReadStop::Memory(e)) => return Err(Refusal::Memory(e)),
+        Err(FileStop::Failed) => return Err(unread(alloc)),
+        Err(FileStop::Memory(e)) => return Err(Refusal::Memory(e)),
     }
     let piece = reading.piece.bytes();
     if piece.is_empty() {

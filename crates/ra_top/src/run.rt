@@ -12,13 +12,13 @@ use crate::check::check;
 use crate::commands::status::write_line;
 use crate::commands::{Job, Status, Task};
 use crate::devices::{Files, Sink};
-use crate::ending::Ending;
+use crate::ending::ExitReport;
 use crate::generated::generate;
 use crate::stream::{ends, stream};
 use crate::target::named_target;
 use crate::words::{Command, read_words};
 use mir_meaning::Form;
-use mir_text::Reader;
+use mir_text::DocReader;
 use std::alloc::Global;
 use target_base::Target;
 use watchers::Watcher;
@@ -123,7 +123,7 @@ pub fn top<F: Files, O: Sink, E: Sink, W: Watcher>(
 
 /// Writes the line of an ending, for a file of a name, and answers the status. A fault changes
 /// nothing.
-fn tell<E: Sink>(err: &mut E, ending: Ending, file: &str) -> Status
+fn tell<E: Sink>(err: &mut E, ending: ExitReport, file: &str) -> Status
     ensures status { result ≡ ending.status }
     ensures line { IsTold (E.faults err.old) (E.faults err.new) (E.written err.old) (E.written err.new) (line_of ending.status file.now ending.detail) }
 {
@@ -192,7 +192,7 @@ fn over_target<F: Files, O: Sink, W: Watcher>(
     files: &mut F,
     out: &mut O,
     watchers: &mut Vec<W>,
-) -> Ending
+) -> ExitReport
     ensures contents { (n : List ℕ) → F.contents files.new n ≡ F.contents files.old n }
     ensures streamed { IfSome (F.contents files.old command.entry.file.now) (λ bytes. Streamed command.entry.job target.now bytes (F.left files.new) (O.written out.old) (O.written out.new) result.status result.detail) }
     ensures cause { HasStatusCause result.status (F.faults files.old) (F.faults files.new) (O.faults out.old) (O.faults out.new) }
@@ -200,7 +200,7 @@ fn over_target<F: Files, O: Sink, W: Watcher>(
     ensures told { tells command.entry.job ≡ true → ToldAs (W.next target.now) target.now (F.contents files.old command.entry.file.now) watchers.old.items watchers.new.items result.status }
     ensures traced { is_trace command.entry.job ≡ true → WritesLines (lines_of W.count W.text watchers.new.items) (O.written out.old) (O.written out.new) result.status }
 {
-    match Reader::new(alloc, target) {
+    match DocReader::new(alloc, target) {
         Err(_) => ends(alloc, Status::Memory),
         Ok(reader) => {
             let task = Task {
@@ -220,7 +220,7 @@ fn over_reader<F: Files, O: Sink, W: Watcher>(
     files: &mut F,
     out: &mut O,
     watchers: &mut Vec<W>,
-) -> Ending
+) -> ExitReport
     ensures contents { (n : List ℕ) → F.contents files.new n ≡ F.contents files.old n }
     ensures streamed { IfSome (F.contents files.old file.now) (λ bytes. Streamed task.entry.job task.entry.reader.now bytes (F.left files.new) (O.written out.old) (O.written out.new) result.status result.detail) }
     ensures cause { HasStatusCause result.status (F.faults files.old) (F.faults files.new) (O.faults out.old) (O.faults out.new) }

@@ -9,20 +9,20 @@ ghost use Rattle.ra_top.specs.Commands.Documents.{tells, end_status};
 ghost use Rattle.ra_top.specs.Commands.Told.{lines_of};
 ghost use Rattle.ra_top.specs.Watched.{ToldAs, is_trace, WritesLines, TracesStep};
 
-use crate::commands::{Answer, Job, Spot, Status, Task, answer_at, end_status, end_text};
-use crate::devices::moves::{ReadStop, write_all};
+use crate::commands::{Answer, DocStart, Job, Status, Task, answer_at, end_status, end_text};
+use crate::devices::moves::{FileStop, write_all};
 use crate::devices::{Files, Sink, read_piece};
-use crate::ending::{Ending, Step};
-use crate::reading::Reading;
+use crate::ending::{ExitReport, StreamStep};
+use crate::reading::FileReader;
 use std::alloc::Global;
 use target_base::Bytes;
 use watchers::Watcher;
 
 /// Ends with a status whose line has no detail. It takes no memory.
-pub fn ends(alloc: Global, status: Status) -> Ending
+pub fn ends(alloc: Global, status: Status) -> ExitReport
     ensures { (result.status ≡ status) × (result.detail ≡ []) }
 {
-    Ending {
+    ExitReport {
         status,
         detail: Bytes::new(alloc),
     }
@@ -32,12 +32,12 @@ pub fn ends(alloc: Global, status: Status) -> Ending
 /// piece where the run goes on.
 fn treat<O: Sink, W: Watcher>(
     task: Task<'_>,
-    spot: &mut Spot,
+    spot: &mut DocStart,
     piece: &[u8],
     out: &mut O,
     number: &mut u32,
     watchers: &mut Vec<W>,
-) -> Step
+) -> StreamStep
     requires line { spot.old.line ≤ spot.old.offset + 1 }
     requires within { spot.old.offset ≤ file_most }
     requires filled { 0 < length piece.now }
@@ -48,33 +48,33 @@ fn treat<O: Sink, W: Watcher>(
     ensures told { tells task.entry.job ≡ true → ToldAtPiece (W.next task.entry.reader.now) task.entry.reader.now spot.old piece.now number.old number.new watchers.old.items watchers.new.items result }
 {
     match answer_at(task, *spot, piece, number, watchers) {
-        Err(_) => Step::End(ends(task.alloc, Status::Memory)),
-        Ok(Answer::Refused(status, detail)) => Step::End(Ending { status, detail }),
+        Err(_) => StreamStep::End(ends(task.alloc, Status::Memory)),
+        Ok(Answer::Refused(status, detail)) => StreamStep::End(ExitReport { status, detail }),
         Ok(Answer::Last(text)) => match write_all(out, text.as_slice()) {
-            Err(_) => Step::End(ends(task.alloc, Status::WriteFault)),
-            Ok(()) => Step::End(ends(task.alloc, Status::Done)),
+            Err(_) => StreamStep::End(ends(task.alloc, Status::WriteFault)),
+            Ok(()) => StreamStep::End(ends(task.alloc, Status::Done)),
         },
         Ok(Answer::Text(text)) => match write_all(out, text.as_slice()) {
-            Err(_) => Step::End(ends(task.alloc, Status::WriteFault)),
+            Err(_) => StreamStep::End(ends(task.alloc, Status::WriteFault)),
             Ok(()) => {
                 *spot = spot.after(piece);
-                Step::More
+                StreamStep::More
             }
         },
     }
 }
 
 /// Ends a run where its file ends.
-fn finish<O: Sink, W: Watcher>(alloc: Global, job: Job, out: &mut O, watchers: &[W]) -> Step
+fn finish<O: Sink, W: Watcher>(alloc: Global, job: Job, out: &mut O, watchers: &[W]) -> StreamStep
     ensures finished { IsFinished job.entry (O.written out.old) (O.written out.new) result }
     ensures traced { is_trace job.entry ≡ true → TracesStep (lines_of W.count W.text watchers.now) (O.written out.old) (O.written out.new) result }
     ensures cause { HasStepCause result 0 0 (O.faults out.old) (O.faults out.new) }
 {
     match end_text(alloc, job, watchers) {
-        Err(_) => Step::End(ends(alloc, Status::Memory)),
+        Err(_) => StreamStep::End(ends(alloc, Status::Memory)),
         Ok(text) => match write_all(out, text.as_slice()) {
-            Err(_) => Step::End(ends(alloc, Status::WriteFault)),
-            Ok(()) => Step::End(ends(alloc, end_status(job))),
+            Err(_) => StreamStep::End(ends(alloc, Status::WriteFault)),
+            Ok(()) => StreamStep::End(ends(alloc, end_status(job))),
         },
     }
 }
@@ -83,11 +83,11 @@ fn finish<O: Sink, W: Watcher>(alloc: Global, job: Job, out: &mut O, watchers: &
 fn document<F: Files, O: Sink, W: Watcher>(
     task: Task<'_>,
     files: &mut F,
-    reading: &mut Reading,
+    reading: &mut FileReader,
     out: &mut O,
     number: &mut u32,
     watchers: &mut Vec<W>,
-) -> Step
+) -> StreamStep
     requires line { reading.old.spot.line ≤ reading.old.spot.offset + 1 }
     requires within { reading.old.spot.offset ≤ file_most }
     ensures contents { (n : List ℕ) → F.contents files.new n ≡ F.contents files.old n }
@@ -100,8 +100,8 @@ fn document<F: Files, O: Sink, W: Watcher>(
 {
     reading.piece.clear();
     match read_piece(files, &mut reading.chunk, &mut reading.piece) {
-        Err(ReadStop::Failed) => Step::End(ends(task.alloc, Status::ReadFault)),
-        Err(ReadStop::Memory(_)) => Step::End(ends(task.alloc, Status::Memory)),
+        Err(FileStop::Failed) => StreamStep::End(ends(task.alloc, Status::ReadFault)),
+        Err(FileStop::Memory(_)) => StreamStep::End(ends(task.alloc, Status::Memory)),
         Ok(()) => {
             let piece = reading.piece.bytes();
             if piece.is_empty() {
@@ -119,7 +119,7 @@ pub fn stream<F: Files, O: Sink, W: Watcher>(
     files: &mut F,
     out: &mut O,
     watchers: &mut Vec<W>,
-) -> Ending
+) -> ExitReport
     ensures contents { (n : List ℕ) → F.contents files.new n ≡ F.contents files.old n }
     ensures streamed { IfSome (F.left files.old) (λ file. Streamed task.entry.job task.entry.reader.now file (F.left files.new) (O.written out.old) (O.written out.new) result.status result.detail) }
     ensures cause { HasStatusCause result.status (F.faults files.old) (F.faults files.new) (O.faults out.old) (O.faults out.new) }
@@ -127,7 +127,7 @@ pub fn stream<F: Files, O: Sink, W: Watcher>(
     ensures told { tells task.entry.job ≡ true → ToldAs (W.next task.entry.reader.now) task.entry.reader.now (F.left files.old) watchers.old.items watchers.new.items result.status }
     ensures traced { is_trace task.entry.job ≡ true → WritesLines (lines_of W.count W.text watchers.new.items) (O.written out.old) (O.written out.new) result.status }
 {
-    match Reading::new(task.alloc) {
+    match FileReader::new(task.alloc) {
         Err(_) => ends(task.alloc, Status::Memory),
         Ok(begun) => stream_from(task, files, out, begun, watchers),
     }
@@ -138,9 +138,9 @@ fn stream_from<F: Files, O: Sink, W: Watcher>(
     task: Task<'_>,
     files: &mut F,
     out: &mut O,
-    begun: Reading,
+    begun: FileReader,
     watchers: &mut Vec<W>,
-) -> Ending
+) -> ExitReport
     requires first { begun.spot ≡ first_spot }
     requires empty { begun.chunk ≡ [] }
     ensures contents { (n : List ℕ) → F.contents files.new n ≡ F.contents files.old n }
@@ -154,8 +154,8 @@ fn stream_from<F: Files, O: Sink, W: Watcher>(
     let mut number = 0u32;
     'documents: loop {
         match document(task, files, &mut reading, out, &mut number, watchers) {
-            Step::More => {}
-            Step::End(ending) => return ending,
+            StreamStep::More => {}
+            StreamStep::End(ending) => return ending,
         }
     }
 }

@@ -5,7 +5,7 @@ use crate::physical::rewrite_assigned;
 use interference::Matrix;
 use mir_func::Func;
 use spiller::Allocated;
-use spiller::slot_map::Slot;
+use spiller::slot_map::RangeSlot;
 use std::alloc::{AllocError, Global};
 use target_base::{ClassId, Reg, Target};
 
@@ -19,7 +19,7 @@ fn registers_of(alloc: Global, m: &Matrix) -> Result<Vec<Option<Reg>>, AllocErro
 }
 
 /// The number of each slot with the class of its original.
-fn numbers_of(alloc: Global, slots: &[Slot]) -> Result<Vec<(u32, ClassId)>, AllocError> {
+fn numbers_of(alloc: Global, slots: &[RangeSlot]) -> Result<Vec<(u32, ClassId)>, AllocError> {
     let mut made = Vec::new(alloc);
     'slots: for s in slots {
         made.push((s.number, s.class))?;
@@ -35,7 +35,7 @@ pub fn rewrite(alloc: Global, target: &Target, a: Allocated) -> Result<Func, All
     let Allocated { matrix, slots } = a;
     let registers = registers_of(alloc, &matrix)?;
     let live = LiveUnits::of(alloc, matrix.live(), registers.as_slice())?;
-    let given = numbers_of(alloc, slots.made())?;
+    let given = numbers_of(alloc, slots.given_slots())?;
     let f = matrix.into_live().into_func();
     rewrite_assigned(
         alloc,

@@ -48,7 +48,7 @@ fn is_whole(target: &Target, live: &[bool], r: Reg) -> bool {
 
 /// The register that stands for a live unit, of those that hold it: the first that is live as a whole,
 /// or else the first.
-fn chosen(target: &Target, live: &[bool], holders: &[Reg]) -> Option<Reg> {
+fn cover_register(target: &Target, live: &[bool], holders: &[Reg]) -> Option<Reg> {
     match holders.iter().find(|r| is_whole(target, live, **r)) {
         Some(r) => Some(*r),
         None => holders.first().copied(),
@@ -75,15 +75,18 @@ fn cover(
     'units: for u in 0..live.len() {
         if live[u] {
             if let Some(rs) = holders.get(u) {
-                mark(flags.as_mut_slice(), chosen(target, live, rs.as_slice()));
+                mark(
+                    flags.as_mut_slice(),
+                    cover_register(target, live, rs.as_slice()),
+                );
             }
         }
     }
-    flagged(alloc, flags.as_slice())
+    flagged_registers(alloc, flags.as_slice())
 }
 
 /// The registers whose flags are set.
-fn flagged(alloc: Global, flags: &[bool]) -> Result<Regs, AllocError> {
+fn flagged_registers(alloc: Global, flags: &[bool]) -> Result<Regs, AllocError> {
     let mut made = List::new(alloc);
     'regs: for k in 0..flags.len().min(0x10000) {
         if flags[k] {

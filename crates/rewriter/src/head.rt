@@ -81,7 +81,7 @@ fn begins_stack(line: &[u8]) -> bool {
 /// Where lines for slots go: behind the last key `stack`, whose first line lies between two places, or
 /// before the body line, which is the last key.
 #[derive(Clone, Copy)]
-struct Places {
+struct HeadOffsets {
     /// Where the first line of the last key `stack` begins and ends.
     stack: Option<(usize, usize)>,
     /// Where that key ends.
@@ -91,8 +91,8 @@ struct Places {
 }
 
 /// Looks through the key lines.
-fn places_of(head: &[u8]) -> Places {
-    let mut places = Places {
+fn places_of(head: &[u8]) -> HeadOffsets {
+    let mut places = HeadOffsets {
         stack: None,
         end: head.len(),
         body: head.len(),

@@ -11,8 +11,8 @@ use Rattle.mir_meaning.specs.Rules.{is_spill_slot}
 use Rattle.instr_effects.proofs.Members.{member-none, member-elim, left-in, right-in, either-elim, map-of, filter-of}
 use Rattle.live_laws.proofs.Effects.Moved.{Apart}
 use Rattle.live_laws.proofs.Effects.Lists.{any-in, distinct-apart}
-use Rattle.slot_colour.specs.declared.lines.Declared.{Declared}
-use Rattle.slot_colour.specs.declared.choice.Slot.{Slot}
+use Rattle.slot_colour.specs.declared.lines.FrameLine.{FrameLine}
+use Rattle.slot_colour.specs.declared.choice.TakenSlot.{TakenSlot}
 use Rattle.slot_colour.specs.Lines.{declared_in}
 use Rattle.slot_colour.specs.Colouring.{put_rising, spills_onto, spill_slots, text_of, refuses, is_refused, may_join, number_or, home, placed, taken_on, chosen, kept_or, home_of}
 use Rattle.slot_colour.specs.Kept.{spill_numbers}
@@ -25,20 +25,20 @@ last-elim x y xs f g m = either-elim x xs (y ∷ []) f (λ k. member-elim x y []
 -- the slots that are taken
 
 -- where a slot that is placed goes: it is kept itself, or it joins a kept one with none of whose members it clashes
-module _ (clash : ℕ → ℕ → Bool) (taken : List Slot) (n : ℕ) (text : List ℕ) where
+module _ (clash : ℕ → ℕ → Bool) (taken : List TakenSlot) (n : ℕ) (text : List ℕ) where
   abbrev pub Joined : Type 0
-  Joined = (k : Slot) × Member k taken × (home clash taken n text ≡ k.number) × (k.kept ≡ k.number) × ((q : Slot) → Member q taken → q.kept ≡ k.number → clash n q.number ≡ false)
+  Joined = (k : TakenSlot) × Member k taken × (home clash taken n text ≡ k.number) × (k.kept ≡ k.number) × ((q : TakenSlot) → Member q taken → q.kept ≡ k.number → clash n q.number ≡ false)
 
-  abbrev joins : Slot → Bool
+  abbrev joins : TakenSlot → Bool
   joins k = may_join clash taken n text k
 
   pub home-cases : (home clash taken n text ≡ n) ⊎ Joined
   home-cases = go (find joins taken) refl
     where
-      quiet : (k q : Slot) → is_refused clash taken n k.number ≡ false → Member q taken → q.kept ≡ k.number → clash n q.number ≡ false
+      quiet : (k q : TakenSlot) → is_refused clash taken n k.number ≡ false → Member q taken → q.kept ≡ k.number → clash n q.number ≡ false
       quiet k q e m g = sym (ap (λ b. b && clash n q.number) (eq-eqb q.kept k.number g)) ∙ any-none (refuses clash n k.number) q taken m e
 
-      go : (q : Option Slot) → find joins taken ≡ q → (home clash taken n text ≡ n) ⊎ Joined
+      go : (q : Option TakenSlot) → find joins taken ≡ q → (home clash taken n text ≡ n) ⊎ Joined
       go None e = inl (ap (number_or n) e)
       go (Some k) e =
           let z = found-in joins taken k e in
@@ -47,62 +47,62 @@ module _ (clash : ℕ → ℕ → Bool) (taken : List Slot) (n : ℕ) (text : Li
           inr (k, z.0, ap (number_or n) e, kept, (λ q m g. quiet k q free m g))
 
 -- what holds of slots that are taken, where these numbers are to come
-pub record Sound (clash : ℕ → ℕ → Bool) (taken : List Slot) (ns : List ℕ) : Type 0 where
+pub record Sound (clash : ℕ → ℕ → Bool) (taken : List TakenSlot) (ns : List ℕ) : Type 0 where
   -- each number stands once, and none of those to come
-  pub once : (a b : Slot) → Member a taken → Member b taken → a.number ≡ b.number → a ≡ b
-  pub new : (a : Slot) → Member a taken → Member a.number ns → ⊥
+  pub once : (a b : TakenSlot) → Member a taken → Member b taken → a.number ≡ b.number → a ≡ b
+  pub new : (a : TakenSlot) → Member a taken → Member a.number ns → ⊥
   -- each goes to a kept one
-  pub kept : (a : Slot) → Member a taken → (k : Slot) × Member k taken × (k.number ≡ a.kept) × (k.kept ≡ k.number)
+  pub kept : (a : TakenSlot) → Member a taken → (k : TakenSlot) × Member k taken × (k.number ≡ a.kept) × (k.kept ≡ k.number)
   -- two that go to one don't clash
-  pub apart : (a b : Slot) → Member a taken → Member b taken → a.kept ≡ b.kept → (a.number ≡ b.number → ⊥) → (clash a.number b.number ≡ false) ⊎ (clash b.number a.number ≡ false)
+  pub apart : (a b : TakenSlot) → Member a taken → Member b taken → a.kept ≡ b.kept → (a.number ≡ b.number → ⊥) → (clash a.number b.number ≡ false) ⊎ (clash b.number a.number ≡ false)
 
-module _ (clash : ℕ → ℕ → Bool) (lines : List Declared) where
-  module _ (taken : List Slot) (n : ℕ) (ns : List ℕ) (s : Sound clash taken (n ∷ ns)) where
-    abbrev p : Slot
+module _ (clash : ℕ → ℕ → Bool) (lines : List FrameLine) where
+  module _ (taken : List TakenSlot) (n : ℕ) (ns : List ℕ) (s : Sound clash taken (n ∷ ns)) where
+    abbrev p : TakenSlot
     p = placed clash lines taken n
 
     -- one that is taken and goes where the new one goes doesn't clash with it
-    joined-apart : (q : Slot) → Member q taken → q.kept ≡ p.kept → clash n q.number ≡ false
+    joined-apart : (q : TakenSlot) → Member q taken → q.kept ≡ p.kept → clash n q.number ≡ false
     joined-apart q m e = go (home-cases clash taken n (text_of lines n))
       where
         go : (home clash taken n (text_of lines n) ≡ n) ⊎ Joined clash taken n (text_of lines n) → clash n q.number ≡ false
         go (inl h) = let x = s.kept q m in absurd (s.new x.0 x.1 (subst (λ y. Member y (n ∷ ns)) (sym (x.2 ∙ e ∙ h)) first))
         go (inr z) = z.4 q m (e ∙ z.2)
 
-    number-is : (a : Slot) → a ≡ p → a.number ≡ n
-    number-is a h = ap (λ (x : Slot). x.number) h
+    number-is : (a : TakenSlot) → a ≡ p → a.number ≡ n
+    number-is a h = ap (λ (x : TakenSlot). x.number) h
 
-    kept-is : (a : Slot) → a ≡ p → a.kept ≡ p.kept
-    kept-is a h = ap (λ (x : Slot). x.kept) h
+    kept-is : (a : TakenSlot) → a ≡ p → a.kept ≡ p.kept
+    kept-is a h = ap (λ (x : TakenSlot). x.kept) h
 
     -- no slot that is taken has the number
-    taken-other : (a : Slot) → Member a taken → a.number ≡ n → ⊥
+    taken-other : (a : TakenSlot) → Member a taken → a.number ≡ n → ⊥
     taken-other a m e = s.new a m (subst (λ y. Member y (n ∷ ns)) (sym e) first)
 
-    abbrev Kept : Slot → Type 0
-    Kept a = (k : Slot) × Member k (taken ++ p ∷ []) × (k.number ≡ a.kept) × (k.kept ≡ k.number)
+    abbrev Kept : TakenSlot → Type 0
+    Kept a = (k : TakenSlot) × Member k (taken ++ p ∷ []) × (k.number ≡ a.kept) × (k.kept ≡ k.number)
 
-    kept-of : (a : Slot) → Member a (taken ++ p ∷ []) → Kept a
+    kept-of : (a : TakenSlot) → Member a (taken ++ p ∷ []) → Kept a
     kept-of a m = last-elim a p taken (λ j. wide (s.kept a j)) (λ h. own h (home-cases clash taken n (text_of lines n))) m
       where
-        wide : ((k : Slot) × Member k taken × (k.number ≡ a.kept) × (k.kept ≡ k.number)) → Kept a
+        wide : ((k : TakenSlot) × Member k taken × (k.number ≡ a.kept) × (k.kept ≡ k.number)) → Kept a
         wide z = (z.0, left-in z.0 taken (p ∷ []) z.1, z.2, z.3)
 
         own : a ≡ p → (home clash taken n (text_of lines n) ≡ n) ⊎ Joined clash taken n (text_of lines n) → Kept a
         own h (inl e) = (p, right-in p taken (p ∷ []) first, sym (kept-is a h ∙ e), e)
         own h (inr z) = (z.0, left-in z.0 taken (p ∷ []) z.1, sym (kept-is a h ∙ z.2), z.3)
 
-    abbrev Apart2 : Slot → Slot → Type 0
+    abbrev Apart2 : TakenSlot → TakenSlot → Type 0
     Apart2 a b = (clash a.number b.number ≡ false) ⊎ (clash b.number a.number ≡ false)
 
-    apart-of : (a b : Slot) → Member a (taken ++ p ∷ []) → Member b (taken ++ p ∷ []) → a.kept ≡ b.kept → (a.number ≡ b.number → ⊥) → Apart2 a b
+    apart-of : (a b : TakenSlot) → Member a (taken ++ p ∷ []) → Member b (taken ++ p ∷ []) → a.kept ≡ b.kept → (a.number ≡ b.number → ⊥) → Apart2 a b
     apart-of a b ma mb e d =
         last-elim a p taken
         (λ k. last-elim b p taken (λ j. s.apart a b k j e d) (λ g. inr (subst (λ x. clash x a.number ≡ false) (sym (number-is b g)) (joined-apart a k (e ∙ kept-is b g)))) mb)
         (λ h. last-elim b p taken (λ j. inl (subst (λ x. clash x b.number ≡ false) (sym (number-is a h)) (joined-apart b j (sym e ∙ kept-is a h)))) (λ g. absurd (d (number-is a h ∙ sym (number-is b g)))) mb)
         ma
 
-    once-of : (a b : Slot) → Member a (taken ++ p ∷ []) → Member b (taken ++ p ∷ []) → a.number ≡ b.number → a ≡ b
+    once-of : (a b : TakenSlot) → Member a (taken ++ p ∷ []) → Member b (taken ++ p ∷ []) → a.number ≡ b.number → a ≡ b
     once-of a b ma mb e =
         last-elim a p taken
         (λ k. last-elim b p taken (λ j. s.once a b k j e) (λ g. absurd (taken-other a k (e ∙ number-is b g))) mb)
@@ -117,17 +117,17 @@ module _ (clash : ℕ → ℕ → Bool) (lines : List Declared) where
       apart = apart-of;
     }
 
-  all-sound : (taken : List Slot) (ns : List ℕ) → Apart ns → Sound clash taken ns → Sound clash (taken_on clash lines taken ns) []
+  all-sound : (taken : List TakenSlot) (ns : List ℕ) → Apart ns → Sound clash taken ns → Sound clash (taken_on clash lines taken ns) []
   all-sound taken [] a s = s
   all-sound taken (n ∷ ns) a s = all-sound (taken ++ placed clash lines taken n ∷ []) ns a.1 (next-sound taken n ns s a.0)
 
   -- the numbers of those that are taken
-  taken-number : (taken : List Slot) (ns : List ℕ) (a : Slot) → Member a (taken_on clash lines taken ns) → Member a taken ⊎ Member a.number ns
+  taken-number : (taken : List TakenSlot) (ns : List ℕ) (a : TakenSlot) → Member a (taken_on clash lines taken ns) → Member a taken ⊎ Member a.number ns
   taken-number taken [] a m = inl m
   taken-number taken (n ∷ ns) a m = go (taken-number (taken ++ placed clash lines taken n ∷ []) ns a m)
     where
       go : Member a (taken ++ placed clash lines taken n ∷ []) ⊎ Member a.number ns → Member a taken ⊎ Member a.number (n ∷ ns)
-      go (inl k) = last-elim a (placed clash lines taken n) taken (λ j. inl j) (λ h. inr (subst (λ x. Member x (n ∷ ns)) (sym (ap (λ (x : Slot). x.number) h)) first)) k
+      go (inl k) = last-elim a (placed clash lines taken n) taken (λ j. inl j) (λ h. inr (subst (λ x. Member x (n ∷ ns)) (sym (ap (λ (x : TakenSlot). x.number) h)) first)) k
       go (inr k) = inr (later k)
 
 -- the spill slots of a function, by rising number
@@ -186,7 +186,7 @@ spill-told n os m =
 
 -- the choice of a function whose spill slots stand once among its frame objects
 module _ (clash : ℕ → ℕ → Bool) (f : Function) (distinct : are_distinct_numbers (spill_numbers f.frames) ≡ true) where
-  abbrev pub T : List Slot
+  abbrev pub T : List TakenSlot
   T = chosen clash f
 
   slots-apart : Apart (spill_slots f.frames)
@@ -200,7 +200,7 @@ module _ (clash : ℕ → ℕ → Bool) (f : Function) (distinct : are_distinct_
     apart = λ a b m j e d. absurd (member-none a m);
   })
 
-  taken-spills : (a : Slot) → Member a T → is_spill_slot f a.number ≡ true
+  taken-spills : (a : TakenSlot) → Member a T → is_spill_slot f a.number ≡ true
   taken-spills a m = go (taken-number clash (declared_in f.head) [] (spill_slots f.frames) a m)
     where
       back : Member a.number [] ⊎ Member a.number (spill_numbers f.frames) → is_spill_slot f a.number ≡ true
@@ -211,29 +211,29 @@ module _ (clash : ℕ → ℕ → Bool) (f : Function) (distinct : are_distinct_
       go (inl k) = absurd (member-none a k)
       go (inr k) = back (spills-of a.number [] f.frames k)
 
-  abbrev has : ℕ → Slot → Bool
+  abbrev has : ℕ → TakenSlot → Bool
   has n r = nat_eq r.number n
 
   -- a frame object stays, or it is a slot that is taken
   abbrev Stays : ℕ → Type 0
-  Stays n = (home_of T n ≡ n) × ((a : Slot) → Member a T → a.number ≡ n → ⊥)
+  Stays n = (home_of T n ≡ n) × ((a : TakenSlot) → Member a T → a.number ≡ n → ⊥)
 
   abbrev Goes : ℕ → Type 0
-  Goes n = (a : Slot) × Member a T × (a.number ≡ n) × (home_of T n ≡ a.kept)
+  Goes n = (a : TakenSlot) × Member a T × (a.number ≡ n) × (home_of T n ≡ a.kept)
 
   slot-cases : (n : ℕ) → Stays n ⊎ Goes n
   slot-cases n = go (find (has n) T) refl
     where
-      go : (q : Option Slot) → find (has n) T ≡ q → Stays n ⊎ Goes n
+      go : (q : Option TakenSlot) → find (has n) T ≡ q → Stays n ⊎ Goes n
       go None e = inl (ap (kept_or n) e, (λ a m g. none-found (has n) T a e m (eq-eqb a.number n g)))
       go (Some a) e = let z = found-in (has n) T a e in inr (a, z.0, eqb-true a.number n z.1, ap (kept_or n) e)
 
-  home-is : (a : Slot) → Member a T → home_of T a.number ≡ a.kept
+  home-is : (a : TakenSlot) → Member a T → home_of T a.number ≡ a.kept
   home-is a m = go (slot-cases a.number)
     where
       go : Stays a.number ⊎ Goes a.number → home_of T a.number ≡ a.kept
       go (inl z) = absurd (z.1 a m refl)
-      go (inr z) = z.3 ∙ ap (λ (x : Slot). x.kept) (sound.once z.0 a z.1 m z.2)
+      go (inr z) = z.3 ∙ ap (λ (x : TakenSlot). x.kept) (sound.once z.0 a z.1 m z.2)
 
   -- a home is its own home
   pub home-home : (n : ℕ) → home_of T (home_of T n) ≡ home_of T n
@@ -247,7 +247,7 @@ module _ (clash : ℕ → ℕ → Bool) (f : Function) (distinct : are_distinct_
   pub home-apart : (s r : ℕ) → (s ≡ r → ⊥) → home_of T s ≡ home_of T r → (clash s r ≡ false) ⊎ (clash r s ≡ false)
   home-apart s r d e = go (slot-cases s) (slot-cases r)
     where
-      named : (a b : Slot) → a.number ≡ s → b.number ≡ r → (clash a.number b.number ≡ false) ⊎ (clash b.number a.number ≡ false) → (clash s r ≡ false) ⊎ (clash r s ≡ false)
+      named : (a b : TakenSlot) → a.number ≡ s → b.number ≡ r → (clash a.number b.number ≡ false) ⊎ (clash b.number a.number ≡ false) → (clash s r ≡ false) ⊎ (clash r s ≡ false)
       named a b x y (inl h) = inl (sym (ap (λ u. clash u b.number) x ∙ ap (clash s) y) ∙ h)
       named a b x y (inr h) = inr (sym (ap (λ u. clash u a.number) y ∙ ap (clash r) x) ∙ h)
 

@@ -16,7 +16,7 @@ use Rattle.mir_meaning.specs.Registers.{numbers}
 use Rattle.mir_meaning.specs.Rules.{V8}
 use Rattle.mir_meaning.specs.Paths.{Step, Code, steps_of, writing_of, is_written, Live}
 use Rattle.mir_meaning.specs.Paths as law
-use Rattle.instr_effects.specs.declared.row.Lanes.{Lanes}
+use Rattle.instr_effects.specs.declared.row.LaneSpan.{LaneSpan}
 use Rattle.instr_effects.specs.Numbers.{row_number_in}
 use Rattle.instr_effects.specs.Numbered.{number_in}
 use Rattle.instr_effects.specs.Steps.{Numbering}
@@ -55,7 +55,7 @@ use Rattle.slot_colour.proofs.Numbered.{IsNumber, start-forth, start-back, entry
 
 -- the numbers of the lanes of a slot
 
-numbered-some : (own : Option Lanes) (k n : ℕ) → row_number_in own k ≡ Some n → Member n (lanes_in own)
+numbered-some : (own : Option LaneSpan) (k n : ℕ) → row_number_in own k ≡ Some n → Member n (lanes_in own)
 numbered-some None k n e = absurd (cc)
 numbered-some (Some own) k n e = go (nat_lt k own.count) refl e
   where
@@ -63,7 +63,7 @@ numbered-some (Some own) k n e = go (nat_lt k own.count) refl e
     go true g h = let same : own.first + k ≡ n = cc in let lt = ltb-true k own.count g in subst (λ m. Member m (numbers own.first own.count)) same (numbers-in (own.first + k) own.first own.count (omega arith) (omega (arith, lt)))
     go false g h = absurd (cc)
 
-some-numbered : (own : Option Lanes) (test : ℕ → Bool) → list_any test (lanes_in own) ≡ true → (n : ℕ) × (k : ℕ) × (row_number_in own k ≡ Some n) × (test n ≡ true)
+some-numbered : (own : Option LaneSpan) (test : ℕ → Bool) → list_any test (lanes_in own) ≡ true → (n : ℕ) × (k : ℕ) × (row_number_in own k ≡ Some n) × (test n ≡ true)
 some-numbered None test e = absurd (cc)
 some-numbered (Some own) test e =
     let z = number-of test own.first own.count e in

@@ -11,13 +11,13 @@ use Rattle.slot_laws.specs.Homes.{AreHomes, block_moved, function_moved, instr_m
 use Rattle.slot_laws.proofs.Coloured.{moving-keeps-valid}
 use Rattle.slot_laws.proofs.Fewer.{moving-keeps-count}
 use Rattle.slot_laws.proofs.Refined.{moving-refines}
-use Rattle.slot_colour.specs.declared.choice.Slot.{Slot}
+use Rattle.slot_colour.specs.declared.choice.TakenSlot.{TakenSlot}
 use Rattle.slot_colour.specs.Lines.{kept_in}
 use Rattle.slot_colour.specs.Colouring.{chosen, coloured, home_of, is_gone, merged, renamed, renamed_block, renamed_instr}
 use Rattle.slot_colour.specs.Kept.{AreOnce, IsKept, KeepsAll, KeepsCount, NoticesClashes}
 use Rattle.slot_colour.proofs.Chosen.{home-apart, home-home, home-spills, home-stays}
 
-module _ (taken : List Slot) where
+module _ (taken : List TakenSlot) where
   operand-is : (o : Operand) → renamed taken o ≡ slot_moved (home_of taken) o
   operand-is (operands.Stack n) = refl
   operand-is _ = refl

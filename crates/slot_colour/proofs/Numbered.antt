@@ -12,7 +12,7 @@ use Rattle.meaning.specs.Live.{Among as Member, here as first, there as later, w
 use Rattle.mir_func.specs.declared.func.Block.{Block}
 use Rattle.mir_func.specs.declared.func.Instr.{Instr}
 use Rattle.mir_func.specs.Value.{Function}
-use Rattle.mir_meaning.specs.declared.writing.Writing.{Writing}
+use Rattle.mir_meaning.specs.declared.writing.LaneDef.{LaneDef}
 use Rattle.mir_meaning.specs.Registers.{is_reserved}
 use Rattle.mir_meaning.specs.Codes.{ways_out, block_end, blocks_code}
 use Rattle.mir_meaning.specs.Points.{Start, Entry, Exit, point_item, from_instr, AtFirst, OccupiedAt}
@@ -69,7 +69,7 @@ not-early : (num : Numbering) (n : ℕ) (ws : Writes) → ((v : Write) → Membe
 not-early num n [] h = refl
 not-early num n (v ∷ ws) h = go (num (owner_of v.lane)) refl (not-early num n ws (λ u m e. h u (later m) e))
   where
-    rest : List Writing
+    rest : List LaneDef
     rest = act_writings num (acts_of ws)
 
     by : (k : ℕ) → num (owner_of v.lane) ≡ Some k → (b : Bool) → nat_eq k n ≡ b → writes_early (writing_of n rest) ≡ false → writes_early (cond b (Some (writing num (act_of v) k)) (writing_of n rest)) ≡ false

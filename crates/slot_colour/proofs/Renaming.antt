@@ -6,13 +6,13 @@ use Rattle.std.proofs.lemmas.List.Sums.{sum_by-cons}
 use Rattle.mir_func.specs.declared.func.Block.{Block}
 use Rattle.mir_func.specs.declared.func.Instr.{Instr}
 use Rattle.mir_func.specs.Value.{id_count, id_total, IsFunction}
-use Rattle.slot_colour.specs.declared.choice.Slot.{Slot}
+use Rattle.slot_colour.specs.declared.choice.TakenSlot.{TakenSlot}
 use Rattle.slot_colour.specs.Colouring.{renamed_instr, renamed_block}
 
 weight : ℕ → Instr → ℕ
 weight x i = cond (eqb i.id x) 1 0
 
-module _ (taken : List Slot) (x : ℕ) where
+module _ (taken : List TakenSlot) (x : ℕ) where
   ids-in : (is : List Instr) → id_count x (map (renamed_instr taken) is) ≡ id_count x is
   unfolding weight
   ids-in [] = refl
@@ -37,7 +37,7 @@ changed-more f xs (y ∷ ys) zs k h was made =
     made x at ∙ map_over_more f xs (y ∷ ys) k x h was at
 
 -- it is a function
-pub function-renamed : (taken : List Slot) (n : ℕ) (bs : List Block) → IsFunction bs n → IsFunction (map (renamed_block taken) bs) n
+pub function-renamed : (taken : List TakenSlot) (n : ℕ) (bs : List Block) → IsFunction bs n → IsFunction (map (renamed_block taken) bs) n
 function-renamed taken n bs f = record {
   nonempty = rw length-map f.nonempty;
   once = λ x. rw (ids taken x bs) (f.once x);

@@ -12,7 +12,7 @@ use Rattle.mir_func.specs.Value.{Function}
 use Rattle.mir_meaning.specs.Points.{Point, OccupiedAt}
 use Rattle.mir_meaning.specs.Registers.{numbers}
 use Rattle.mir_meaning.specs.Rules.{V8}
-use Rattle.instr_effects.specs.declared.row.Lanes.{Lanes}
+use Rattle.instr_effects.specs.declared.row.LaneSpan.{LaneSpan}
 use Rattle.live_lanes.specs.declared.row.Cell.{Cell}
 use Rattle.live_lanes.specs.declared.table.Table.{Table}
 use Rattle.live_lanes.specs.Doing.{IsComputed}
@@ -35,10 +35,10 @@ TellsClashes t f clash = (s r : ℕ) → Decides (clash s r) (SlotsClash t f s r
 -- By a table of live lanes.
 
 -- the numbers of lanes in a row
-abbrev pub numbers_in : Lanes → List ℕ
+abbrev pub numbers_in : LaneSpan → List ℕ
 numbers_in own = numbers own.first own.count
 
-abbrev pub lanes_in : Option Lanes → List ℕ
+abbrev pub lanes_in : Option LaneSpan → List ℕ
 lanes_in None = []
 lanes_in (Some own) = numbers_in own
 

@@ -9,8 +9,8 @@ use Rattle.mir_func.specs.declared.func.Instr.{Instr}
 use Rattle.mir_func.specs.declared.func.Block.{Block}
 use Rattle.mir_func.specs.Value.{Function}
 use Rattle.slot_colour.specs.Clashes.{TellsClashes}
-use Rattle.slot_colour.specs.declared.lines.Declared.{Declared}
-use Rattle.slot_colour.specs.declared.choice.Slot.{Slot}
+use Rattle.slot_colour.specs.declared.lines.FrameLine.{FrameLine}
+use Rattle.slot_colour.specs.declared.choice.TakenSlot.{TakenSlot}
 use Rattle.slot_colour.specs.Lines.{declared_in, kept_in}
 
 -- Spill slots by rising number.
@@ -32,75 +32,75 @@ spill_slots objects = spills_onto [] objects
 
 -- The choice.
 
-abbrev pub text_of_some : Option Declared → List ℕ
+abbrev pub text_of_some : Option FrameLine → List ℕ
 text_of_some None = []
 text_of_some (Some d) = d.text
 
 -- what stands behind the number of a frame object in the line that declares it
-abbrev pub text_of : List Declared → ℕ → List ℕ
+abbrev pub text_of : List FrameLine → ℕ → List ℕ
 text_of ds n = text_of_some (find (λ d. nat_eq d.number n) ds)
 
 -- slot r is a member of kept slot k, and slot n clashes with it
-abbrev pub refuses : (ℕ → ℕ → Bool) → ℕ → ℕ → Slot → Bool
+abbrev pub refuses : (ℕ → ℕ → Bool) → ℕ → ℕ → TakenSlot → Bool
 refuses clash n k r = nat_eq r.kept k && clash n r.number
 
 -- slot n clashes with a member of kept slot k
-abbrev pub is_refused : (ℕ → ℕ → Bool) → List Slot → ℕ → ℕ → Bool
+abbrev pub is_refused : (ℕ → ℕ → Bool) → List TakenSlot → ℕ → ℕ → Bool
 is_refused clash taken n k = list_any (refuses clash n k) taken
 
 -- Slot n, of this text, may join slot k: k is a kept one, the two are alike, for their lines are equal but for the number,
 -- and n clashes with no member of k.
-abbrev pub may_join : (ℕ → ℕ → Bool) → List Slot → ℕ → List ℕ → Slot → Bool
+abbrev pub may_join : (ℕ → ℕ → Bool) → List TakenSlot → ℕ → List ℕ → TakenSlot → Bool
 may_join clash taken n text k = nat_eq k.kept k.number && is_word k.text text && not (is_refused clash taken n k.number)
 
-abbrev pub number_or : ℕ → Option Slot → ℕ
+abbrev pub number_or : ℕ → Option TakenSlot → ℕ
 number_or n None = n
 number_or n (Some k) = k.number
 
 -- the first kept slot that slot n may join; else it is kept itself
-abbrev pub home : (ℕ → ℕ → Bool) → List Slot → ℕ → List ℕ → ℕ
+abbrev pub home : (ℕ → ℕ → Bool) → List TakenSlot → ℕ → List ℕ → ℕ
 home clash taken n text = number_or n (find (may_join clash taken n text) taken)
 
 -- slot n with its text and the slot that it goes to
-abbrev pub placed : (ℕ → ℕ → Bool) → List Declared → List Slot → ℕ → Slot
+abbrev pub placed : (ℕ → ℕ → Bool) → List FrameLine → List TakenSlot → ℕ → TakenSlot
 placed clash lines taken n = record { number = n; text = text_of lines n; kept = home clash taken n (text_of lines n) }
 
 -- slots are taken one after another, behind those that are taken
-abbrev pub taken_on : (ℕ → ℕ → Bool) → List Declared → List Slot → List ℕ → List Slot
+abbrev pub taken_on : (ℕ → ℕ → Bool) → List FrameLine → List TakenSlot → List ℕ → List TakenSlot
 taken_on clash lines taken [] = taken
 taken_on clash lines taken (n ∷ ns) = taken_on clash lines (taken ++ placed clash lines taken n ∷ []) ns
 
 -- all spill slots of a function, taken by rising number
-abbrev pub chosen : (ℕ → ℕ → Bool) → Function → List Slot
+abbrev pub chosen : (ℕ → ℕ → Bool) → Function → List TakenSlot
 chosen clash f = taken_on clash (declared_in f.head) [] (spill_slots f.frames)
 
 -- The function after it.
 
-abbrev pub kept_or : ℕ → Option Slot → ℕ
+abbrev pub kept_or : ℕ → Option TakenSlot → ℕ
 kept_or n None = n
 kept_or n (Some r) = r.kept
 
 -- the slot that frame object n goes to; any other object stays
-abbrev pub home_of : List Slot → ℕ → ℕ
+abbrev pub home_of : List TakenSlot → ℕ → ℕ
 home_of taken n = kept_or n (find (λ r. nat_eq r.number n) taken)
 
 -- the slot went to another one
-abbrev pub is_gone : List Slot → ℕ → Bool
+abbrev pub is_gone : List TakenSlot → ℕ → Bool
 is_gone taken n = not (nat_eq (home_of taken n) n)
 
 -- an operand with the kept slot in place of its member
-abbrev pub renamed : List Slot → Operand → Operand
+abbrev pub renamed : List TakenSlot → Operand → Operand
 renamed taken (operands.Stack n) = operands.Stack (home_of taken n)
 renamed taken o = o
 
-abbrev pub renamed_instr : List Slot → Instr → Instr
+abbrev pub renamed_instr : List TakenSlot → Instr → Instr
 renamed_instr taken i = record i { operands = map (renamed taken) i.operands }
 
-abbrev pub renamed_block : List Slot → Block → Block
+abbrev pub renamed_block : List TakenSlot → Block → Block
 renamed_block taken b = record b { instrs = map (renamed_instr taken) b.instrs }
 
 -- members are renamed; those that aren't kept leave the frame objects and the key lines
-abbrev pub merged : List Slot → Function → Function
+abbrev pub merged : List TakenSlot → Function → Function
 merged taken f = record f {
   head = kept_in (is_gone taken) f.head;
   frames = filter (λ o. not (is_gone taken o.0)) f.frames;

@@ -7,7 +7,7 @@ ghost use Rattle.slot_colour.specs.Clashes.{is_clash};
 ghost use Rattle.slot_colour.specs.Colouring.{with_spill, spill_slots, text_of, refuses, is_refused, may_join, home, placed, taken_on, home_of, is_gone};
 
 use crate::clashes::is_clash;
-use crate::lines::Declared;
+use crate::lines::FrameLine;
 use live_lanes::LiveFunc;
 use mir_lines::lexer::is;
 use std::alloc::{AllocError, Global};
@@ -15,7 +15,7 @@ use target_base::{Bytes, List};
 
 /// A spill slot that is taken.
 #[derive(Drop)]
-pub(crate) struct Slot {
+pub(crate) struct TakenSlot {
     /// Its number.
     pub number: u32,
     /// What stands behind its number in the line that declares it.
@@ -64,7 +64,7 @@ pub(crate) fn spill_slots(alloc: Global, frames: &[(u32, bool)]) -> Result<Vec<u
 }
 
 /// What stands behind the number of a frame object in the line that declares it.
-fn text_of(declared: &[Declared], n: u32) -> &[u8]
+fn text_of(declared: &[FrameLine], n: u32) -> &[u8]
     ensures { result.now ≡ text_of declared.now n }
 {
     'lines: for d in declared {
@@ -76,14 +76,14 @@ fn text_of(declared: &[Declared], n: u32) -> &[u8]
 }
 
 /// Whether a slot that is taken is a member of a kept one, and clashes with another slot.
-fn refuses(live: &LiveFunc, r: &Slot, n: u32, kept: u32) -> bool
+fn refuses(live: &LiveFunc, r: &TakenSlot, n: u32, kept: u32) -> bool
     ensures { InOrder live.now.table → result ≡ refuses (is_clash live.now.table) n kept r.now }
 {
     r.kept == kept && is_clash(live, n, r.number)
 }
 
 /// Whether a slot clashes with a member of a kept one.
-fn is_refused(live: &LiveFunc, taken: &[Slot], n: u32, kept: u32) -> bool
+fn is_refused(live: &LiveFunc, taken: &[TakenSlot], n: u32, kept: u32) -> bool
     ensures { InOrder live.now.table → result ≡ is_refused (is_clash live.now.table) taken.now n kept }
 {
     'slots: for r in taken {
@@ -96,7 +96,7 @@ fn is_refused(live: &LiveFunc, taken: &[Slot], n: u32, kept: u32) -> bool
 
 /// Whether a slot, of this text, may become a member of another one: of a kept one that is alike and
 /// with none of whose members it clashes.
-fn may_join(live: &LiveFunc, taken: &[Slot], n: u32, text: &[u8], other: &Slot) -> bool
+fn may_join(live: &LiveFunc, taken: &[TakenSlot], n: u32, text: &[u8], other: &TakenSlot) -> bool
     ensures { InOrder live.now.table → result ≡ may_join (is_clash live.now.table) taken.now n text.now other.now }
 {
     other.kept == other.number
@@ -105,7 +105,7 @@ fn may_join(live: &LiveFunc, taken: &[Slot], n: u32, text: &[u8], other: &Slot) 
 }
 
 /// The first kept slot that a slot of this text may join; else the slot itself.
-fn home(live: &LiveFunc, taken: &[Slot], n: u32, text: &[u8]) -> u32
+fn home(live: &LiveFunc, taken: &[TakenSlot], n: u32, text: &[u8]) -> u32
     ensures { InOrder live.now.table → result ≡ home (is_clash live.now.table) taken.now n text.now }
 {
     'slots: for other in taken {
@@ -117,19 +117,19 @@ fn home(live: &LiveFunc, taken: &[Slot], n: u32, text: &[u8]) -> u32
 }
 
 /// A slot with its text and the slot that it goes to.
-fn placed(
+fn place_slot(
     alloc: Global,
     live: &LiveFunc,
-    declared: &[Declared],
-    taken: &[Slot],
+    declared: &[FrameLine],
+    taken: &[TakenSlot],
     n: u32,
-) -> Result<Slot, AllocError>
+) -> Result<TakenSlot, AllocError>
     ensures { InOrder live.now.table → IfOk result (λ made. made ≡ placed (is_clash live.now.table) declared.now taken.now n) }
 {
     let text = text_of(declared, n);
     let kept = home(live, taken, n, text);
     let text = List::from_slice(alloc, text)?;
-    Ok(Slot {
+    Ok(TakenSlot {
         number: n,
         text,
         kept,
@@ -140,21 +140,21 @@ fn placed(
 pub(crate) fn taken_from(
     alloc: Global,
     live: &LiveFunc,
-    declared: &[Declared],
+    declared: &[FrameLine],
     slots: &[u32],
-) -> Result<Vec<Slot>, AllocError>
+) -> Result<Vec<TakenSlot>, AllocError>
     ensures { InOrder live.now.table → IfOk result (λ made. made.items ≡ taken_on (is_clash live.now.table) declared.now [] slots.now) }
 {
     let mut taken = Vec::new(alloc);
     'slots: for n in slots {
-        let slot = placed(alloc, live, declared, taken.as_slice(), *n)?;
+        let slot = place_slot(alloc, live, declared, taken.as_slice(), *n)?;
         taken.push(slot)?;
     }
     Ok(taken)
 }
 
 /// The slot that a frame object goes to; any object that isn't taken stays.
-pub(crate) fn home_of(taken: &[Slot], n: u32) -> u32
+pub(crate) fn home_of(taken: &[TakenSlot], n: u32) -> u32
     ensures { result ≡ home_of taken.now n }
 {
     'slots: for r in taken {
@@ -166,7 +166,7 @@ pub(crate) fn home_of(taken: &[Slot], n: u32) -> u32
 }
 
 /// Whether a slot went to another one.
-pub(crate) fn is_gone(taken: &[Slot], n: u32) -> bool
+pub(crate) fn is_gone(taken: &[TakenSlot], n: u32) -> bool
     ensures { result ≡ is_gone taken.now n }
 {
     home_of(taken, n) != n

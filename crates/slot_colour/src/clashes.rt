@@ -6,7 +6,7 @@ ghost use Rattle.live_lanes.specs.Entered.{cells_of};
 ghost use Rattle.live_lanes.specs.Looks.{InOrder};
 ghost use Rattle.slot_colour.specs.Clashes.{is_met_in, do_meet, numbers_in, is_clash};
 
-use instr_effects::Lanes;
+use instr_effects::LaneSpan;
 use live_lanes::LiveFunc;
 
 /// Whether a lane has a point at which another one has one in the block of one of its cells.
@@ -39,7 +39,7 @@ fn do_meet(live: &LiveFunc, one: u32, other: u32) -> bool
 }
 
 /// Whether a lane has a point in common with one of some lanes.
-fn meets_one(live: &LiveFunc, one: u32, others: Lanes) -> bool
+fn meets_one(live: &LiveFunc, one: u32, others: LaneSpan) -> bool
     ensures { InOrder live.now.table → result ≡ list_any (do_meet live.now.table one) (numbers_in others) }
 {
     if live.cell_count(one) == 0 {
@@ -54,7 +54,7 @@ fn meets_one(live: &LiveFunc, one: u32, others: Lanes) -> bool
 }
 
 /// Whether some of these lanes has a point in common with one of those.
-fn some_meet(live: &LiveFunc, these: Lanes, those: Lanes) -> bool
+fn some_meet(live: &LiveFunc, these: LaneSpan, those: LaneSpan) -> bool
     ensures { InOrder live.now.table → result ≡ list_any (λ one. list_any (do_meet live.now.table one) (numbers_in those)) (numbers_in these) }
 {
     'lanes: for k in 0..these.count {

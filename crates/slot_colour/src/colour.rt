@@ -9,7 +9,7 @@ ghost use Rattle.slot_colour.specs.Clashes.{is_clash};
 ghost use Rattle.slot_colour.specs.Colouring.{chosen, merged, IsColoured};
 ghost use Rattle.slot_colour.specs.Kept.{AreOnce, IsKept};
 
-use crate::choice::{Slot, spill_slots, taken_from};
+use crate::choice::{TakenSlot, spill_slots, taken_from};
 use crate::lines::{declared_in, kept_in};
 use crate::renamed::{kept_frames, rename_blocks};
 use live_lanes::LiveFunc;
@@ -18,7 +18,7 @@ use std::alloc::{AllocError, Global};
 use target_base::Target;
 
 /// The spill slots of a function with the slots that they go to.
-fn chosen(alloc: Global, live: &LiveFunc) -> Result<Vec<Slot>, AllocError>
+fn choose_slots(alloc: Global, live: &LiveFunc) -> Result<Vec<TakenSlot>, AllocError>
     ensures { InOrder live.now.table → IfOk result (λ made. made.items ≡ chosen (is_clash live.now.table) live.now.func) }
 {
     let f = live.func();
@@ -29,7 +29,7 @@ fn chosen(alloc: Global, live: &LiveFunc) -> Result<Vec<Slot>, AllocError>
 
 /// The function in which each of these slots went where it goes: members are renamed, and those that
 /// aren't kept leave the frame objects and the key lines.
-fn merged(alloc: Global, taken: &[Slot], f: Func) -> Result<Func, AllocError>
+fn merge_slots(alloc: Global, taken: &[TakenSlot], f: Func) -> Result<Func, AllocError>
     ensures { IfOk result (λ g. g ≡ merged taken.now f) }
 {
     let Func {
@@ -54,12 +54,12 @@ fn merged(alloc: Global, taken: &[Slot], f: Func) -> Result<Func, AllocError>
 }
 
 /// The function coloured by the clashes that the table of its live lanes tells.
-fn coloured(alloc: Global, target: &Target, f: Func) -> Result<Func, AllocError>
+fn colour_function(alloc: Global, target: &Target, f: Func) -> Result<Func, AllocError>
     ensures { AreClasses target.now f → IsValid target.now forms.Allocated f → IfOk result (IsColoured target.now f) }
 {
     let live = LiveFunc::compute(alloc, target, f)?;
-    let taken = chosen(alloc, &live)?;
-    merged(alloc, taken.as_slice(), live.into_func())
+    let taken = choose_slots(alloc, &live)?;
+    merge_slots(alloc, taken.as_slice(), live.into_func())
 }
 
 /// The function, which is valid as an allocated one, with fewer spill slots or as many: slots are taken
@@ -73,5 +73,5 @@ pub fn colour_slots(alloc: Global, target: &Target, f: Func) -> Result<Func, All
 {
     // that ids are distinct is known once a field is read
     let _next = f.next_id;
-    coloured(alloc, target, f)
+    colour_function(alloc, target, f)
 }

@@ -4,7 +4,7 @@ ghost use Rattle.std.specs.Prelude.{◌≡◌, IfOk, option_map};
 ghost use Rattle.slot_colour.specs.Lines.{begins_key, is_of_stack, declared_of, declared_by, declared_in, is_gone as is_gone_line, kept_in};
 ghost use Rattle.slot_colour.specs.Colouring.{is_gone};
 
-use crate::choice::{Slot, is_gone};
+use crate::choice::{TakenSlot, is_gone};
 use mir_lines::lexer::{behind_word, is_letter};
 use mir_read::keys::{declared_frame, declared_number};
 use mir_text::document::next_line;
@@ -13,7 +13,7 @@ use target_base::{Bytes, List};
 
 /// A frame object that a line declares.
 #[derive(Drop)]
-pub(crate) struct Declared {
+pub(crate) struct FrameLine {
     /// Its number.
     pub number: u32,
     /// What stands behind the number in the line.
@@ -59,7 +59,7 @@ fn declared_by(is_stack: bool, line: &[u8]) -> Option<(u32, &[u8])>
 }
 
 /// The frame objects that key lines declare.
-pub(crate) fn declared_in(alloc: Global, head: &[u8]) -> Result<Vec<Declared>, AllocError>
+pub(crate) fn declared_in(alloc: Global, head: &[u8]) -> Result<Vec<FrameLine>, AllocError>
     ensures { IfOk result (λ made. made.items ≡ declared_in head.now) }
 {
     let mut made = Vec::new(alloc);
@@ -70,7 +70,7 @@ pub(crate) fn declared_in(alloc: Global, head: &[u8]) -> Result<Vec<Declared>, A
         is_stack = is_of_stack(is_stack, line);
         if let Some((number, text)) = declared_by(is_stack, line) {
             let text = List::from_slice(alloc, text)?;
-            made.push(Declared { number, text })?;
+            made.push(FrameLine { number, text })?;
         }
         rest = behind;
     }
@@ -78,7 +78,7 @@ pub(crate) fn declared_in(alloc: Global, head: &[u8]) -> Result<Vec<Declared>, A
 }
 
 /// Whether a line of the `stack` key, or another one, declares a slot that went to another.
-fn is_gone_line(taken: &[Slot], is_stack: bool, line: &[u8]) -> bool
+fn is_gone_line(taken: &[TakenSlot], is_stack: bool, line: &[u8]) -> bool
     ensures { result ≡ is_gone_line (is_gone taken.now) (declared_by is_stack line.now) }
 {
     match declared_by(is_stack, line) {
@@ -88,7 +88,7 @@ fn is_gone_line(taken: &[Slot], is_stack: bool, line: &[u8]) -> bool
 }
 
 /// Key lines without those that declare slots which went to others.
-pub(crate) fn kept_in(alloc: Global, taken: &[Slot], head: &[u8]) -> Result<Bytes, AllocError>
+pub(crate) fn kept_in(alloc: Global, taken: &[TakenSlot], head: &[u8]) -> Result<Bytes, AllocError>
     ensures { IfOk result (λ made. made ≡ kept_in (is_gone taken.now) head.now) }
 {
     let mut made = Bytes::new(alloc);

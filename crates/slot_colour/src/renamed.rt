@@ -4,13 +4,13 @@ ghost use Rattle.std.specs.Prelude.{◌≡◌, ◌<◌, length, map, filter, not
 ghost use Rattle.mir_func.specs.declared.func.Operand.{Operand};
 ghost use Rattle.slot_colour.specs.Colouring.{is_gone, renamed, renamed_instr, renamed_block};
 
-use crate::choice::{Slot, home_of, is_gone};
+use crate::choice::{TakenSlot, home_of, is_gone};
 use mir_func::{Block, Blocks, Frames, Instr, Instrs, Operand, Operands};
 use std::alloc::{AllocError, Global};
 use target_base::List;
 
 /// Names the kept slot in place of its member.
-fn rename_operand(taken: &[Slot], operands: &mut Operands, k: usize)
+fn rename_operand(taken: &[TakenSlot], operands: &mut Operands, k: usize)
     requires { k < length operands.old }
     ensures { (o : Operand) → o ≡ slice_index_or operands.old k o → operands.new ≡ slice_set operands.old k (renamed taken.now o) }
 {
@@ -21,7 +21,7 @@ fn rename_operand(taken: &[Slot], operands: &mut Operands, k: usize)
 }
 
 /// Names kept slots in place of members among operands.
-fn rename_operands(taken: &[Slot], operands: &mut Operands)
+fn rename_operands(taken: &[TakenSlot], operands: &mut Operands)
     ensures { operands.new ≡ map (renamed taken.now) operands.old }
 {
     'operands: for k in 0..operands.len() {
@@ -30,14 +30,14 @@ fn rename_operands(taken: &[Slot], operands: &mut Operands)
 }
 
 /// Names kept slots in place of members in an instruction.
-fn rename_instr(taken: &[Slot], instr: &mut Instr)
+fn rename_instr(taken: &[TakenSlot], instr: &mut Instr)
     ensures { instr.new ≡ renamed_instr taken.now instr.old }
 {
     rename_operands(taken, &mut instr.operands);
 }
 
 /// Names kept slots in place of members in instructions.
-fn rename_instrs(taken: &[Slot], instrs: &mut Instrs)
+fn rename_instrs(taken: &[TakenSlot], instrs: &mut Instrs)
     ensures { instrs.new ≡ map (renamed_instr taken.now) instrs.old }
 {
     'instrs: for k in 0..instrs.len() {
@@ -46,14 +46,14 @@ fn rename_instrs(taken: &[Slot], instrs: &mut Instrs)
 }
 
 /// Names kept slots in place of members in a block.
-fn rename_block(taken: &[Slot], block: &mut Block)
+fn rename_block(taken: &[TakenSlot], block: &mut Block)
     ensures { block.new ≡ renamed_block taken.now block.old }
 {
     rename_instrs(taken, &mut block.instrs);
 }
 
 /// Names kept slots in place of members in blocks.
-pub(crate) fn rename_blocks(taken: &[Slot], blocks: &mut Blocks)
+pub(crate) fn rename_blocks(taken: &[TakenSlot], blocks: &mut Blocks)
     ensures { blocks.new ≡ map (renamed_block taken.now) blocks.old }
 {
     'layout: for k in 0..blocks.len() {
@@ -64,7 +64,7 @@ pub(crate) fn rename_blocks(taken: &[Slot], blocks: &mut Blocks)
 /// Frame objects without the slots that went to others.
 pub(crate) fn kept_frames(
     alloc: Global,
-    taken: &[Slot],
+    taken: &[TakenSlot],
     frames: &[(u32, bool)],
 ) -> Result<Frames, AllocError>
     ensures { IfOk result (λ made. made ≡ filter (λ o. not (is_gone taken.now o.0)) frames.now) }

@@ -12,7 +12,7 @@ use Rattle.source_text.specs.Frames.{Object}
 use Rattle.source_text.specs.Keys.{parts_of}
 use Rattle.source_text.specs.Slots.{bytes_of, line_start, line_end, size_of, sizes_of, size_or, first_size, declared_slot, slots_behind}
 use Rattle.source_text.specs.Laws.{LawOfParts, line_of, AreDeclared, LawOfLines}
-use Rattle.source_text.specs.declared.slots.Slot.{Slot}
+use Rattle.source_text.specs.declared.slots.NewSlot.{NewSlot}
 
 behind-is : (word text rest : List ℕ) → behind_word word text ≡ Some rest → text ≡ word ++ rest
 unfolding behind_word
@@ -58,18 +58,18 @@ declared t n text bytes rest h =
     behind-is (line_start n) text more e ∙ (ap (λ m. line_start n ++ m) (sized t t.classes more bytes rest f) ∙ sym (append_assoc (line_start n) (line_end bytes) rest)))
 
 -- the slots behind those that were there
-record AreBehind (made : List Slot) (os : List Object) (text : List ℕ) (slots : List Slot) : Type 0 where
-  new : List Slot
+record AreBehind (made : List NewSlot) (os : List Object) (text : List ℕ) (slots : List NewSlot) : Type 0 where
+  new : List NewSlot
   all : slots ≡ made ++ new
   are : AreDeclared os text new
 
-behind-all : (t : Target) (made : List Slot) (os : List Object) (text : List ℕ) (slots : List Slot) → slots_behind made (sizes_of t) os text ≡ Some slots → AreBehind made os text slots
+behind-all : (t : Target) (made : List NewSlot) (os : List Object) (text : List ℕ) (slots : List NewSlot) → slots_behind made (sizes_of t) os text ≡ Some slots → AreBehind made os text slots
 behind-all t made [] [] slots h = record { new = []; all = sym (same_Some _ _ h) ∙ sym (append-nil made); are = record { same = refl; is = refl } }
 behind-all t made [] (b ∷ bs) slots h = absurd (none-some slots h)
 behind-all t made (o ∷ os) text slots h =
     option_and_then_some (λ p. slots_behind (made ++ record { number = o.0; bytes = p.0 } ∷ []) (sizes_of t) os p.1) (declared_slot (sizes_of t) o.0 text) slots h
     (λ p e f.
-    let s : Slot = record { number = o.0; bytes = p.0 } in
+    let s : NewSlot = record { number = o.0; bytes = p.0 } in
     let more = behind-all t (made ++ s ∷ []) os p.1 slots f in
     record {
       new = s ∷ more.new;

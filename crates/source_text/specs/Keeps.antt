@@ -10,11 +10,11 @@ use Rattle.source_text.specs.Frames.{Object, new_objects, are_new}
 use Rattle.source_text.specs.Keys.{added}
 use Rattle.source_text.specs.Slots.{slots_in}
 use Rattle.source_text.specs.Stored.{block_fits}
-use Rattle.source_text.specs.declared.slots.Slot.{Slot}
+use Rattle.source_text.specs.declared.slots.NewSlot.{NewSlot}
 
 -- The new slots with their sizes, where the key lines of g are those of f and declare these slots besides, where the rules
 -- put their lines. Without new slots they are f's.
-abbrev pub new_slots : Target → Function → Function → List Object → Option (List Slot)
+abbrev pub new_slots : Target → Function → Function → List Object → Option (List NewSlot)
 new_slots t f g [] = cond (same_numbers f.head g.head) (Some []) None
 new_slots t f g (o ∷ os) = option_and_then (slots_in t (o ∷ os)) (added f.head g.head)
 

@@ -17,7 +17,7 @@ use Rattle.mir_func.specs.declared.func.Block.{Block}
 use Rattle.mir_func.specs.declared.func.RegOp.{RegOp}
 use Rattle.mir_func.specs.Binding.{does, passes, register_at, slot_at}
 use Rattle.source_text.specs.Slots.{bytes_of}
-use Rattle.source_text.specs.declared.slots.Slot.{Slot}
+use Rattle.source_text.specs.declared.slots.NewSlot.{NewSlot}
 
 -- a store to a slot, or a reload from one
 abbrev pub uses_slot : Effect → Bool
@@ -49,27 +49,27 @@ abbrev pub holds : Target → ℕ → Operand → List UnitNumber → ClassDesc 
 holds t bytes k us d = nat_eq (bytes_of t d) bytes && are_placed t (class_units t.regs d.regs) k us
 
 -- a register of some class can lie in the slot, and the units have their lanes in it
-abbrev pub fits_slot : Target → Operand → List UnitNumber → Option Slot → Bool
+abbrev pub fits_slot : Target → Operand → List UnitNumber → Option NewSlot → Bool
 fits_slot t k us None = false
 fits_slot t k us (Some s) = list_any (holds t s.bytes k us) t.classes
 
 -- of a physical register the same
-abbrev pub register_fits : Target → Operand → Loc → Option Slot → Bool
+abbrev pub register_fits : Target → Operand → Loc → Option NewSlot → Bool
 register_fits t k (Virtual v) s = false
 register_fits t k (Fixed r) s = fits_slot t k (units_of t r) s
 
 -- a register, the number of a slot and a `lanes` operand: the slot is one of these, and the register fits it
-abbrev pub placed_in : Target → List Slot → Operand → Option RegOp → Option ℕ → Bool
+abbrev pub placed_in : Target → List NewSlot → Operand → Option RegOp → Option ℕ → Bool
 placed_in t slots k (Some o) (Some n) = register_fits t k o.loc (find (λ s. nat_eq s.number n) slots)
 placed_in t slots k _ _ = false
 
 -- the operands of a store or a reload, which are these three, name one of the slots, and what they store or reload lies in it
-abbrev pub operands_fit : Target → List Slot → List Operand → Bool
+abbrev pub operands_fit : Target → List NewSlot → List Operand → Bool
 operands_fit t slots os = passes (λ k. placed_in t slots k (register_at os 0) (slot_at os 1)) (slice_get os 2)
 
 -- each store and each reload does
-abbrev pub instr_fits : Target → List Slot → Instr → Bool
+abbrev pub instr_fits : Target → List NewSlot → Instr → Bool
 instr_fits t slots i = cond (does uses_slot t i) (operands_fit t slots i.operands) true
 
-abbrev pub block_fits : Target → List Slot → Block → Bool
+abbrev pub block_fits : Target → List NewSlot → Block → Bool
 block_fits t slots b = list_all (instr_fits t slots) b.instrs

@@ -6,8 +6,8 @@ ghost use Rattle.source_text.specs.Keeps.{new_slots, keeps_objects, keeps_frames
 use crate::blocks::keep_blocks;
 use crate::frames::{are_new, new_objects};
 use crate::instructions::same_text;
-use crate::keys::added;
-use crate::slots::{Slot, slots_in};
+use crate::keys::added_lines;
+use crate::slots::{NewSlot, slots_in};
 use crate::stored::blocks_fit;
 use mir_func::Func;
 use std::alloc::{AllocError, Global};
@@ -21,7 +21,7 @@ fn new_slots(
     source: &Func,
     allocated: &Func,
     new: &[(u32, bool)],
-) -> Result<Option<Vec<Slot>>, AllocError>
+) -> Result<Option<Vec<NewSlot>>, AllocError>
     ensures { IfOk result (λ made. option_map (λ v. v.items) made ≡ new_slots target.now source.now allocated.now new.now) }
 {
     let (head, other) = (source.head.as_slice(), allocated.head.as_slice());
@@ -33,7 +33,7 @@ fn new_slots(
                 Ok(None)
             }
         }
-        [_, ..] => match added(alloc, head, other)? {
+        [_, ..] => match added_lines(alloc, head, other)? {
             None => Ok(None),
             Some(text) => slots_in(alloc, target, new, text),
         },

@@ -36,7 +36,7 @@ fn begins_stack(line: &[u8]) -> bool
 }
 
 /// The first line of the key `stack` without `[]`.
-fn opened(line: &[u8]) -> &[u8]
+fn strip_empty_list(line: &[u8]) -> &[u8]
     ensures { result.now ≡ opened line.now }
 {
     match behind_word(line, b"stack:") {
@@ -103,80 +103,58 @@ fn push_lines(text: &mut Bytes, more: &[u8]) -> Result<(), AllocError>
     Ok(())
 }
 
-/// Puts the lines before the next key at the end of a text.
-fn push_before_key(text: &mut Bytes, more: &[u8]) -> Result<(), AllocError>
-    ensures { OnOk result (text.new ≡ text.old ++ text_of (before_key (lines more.now))) }
+/// Puts the lines before the next key at the end of one text, and those from it on at the end of
+/// another.
+fn push_around_key(above: &mut Bytes, below: &mut Bytes, more: &[u8]) -> Result<(), AllocError>
+    ensures above { OnOk result (above.new ≡ above.old ++ text_of (before_key (lines more.now))) }
+    ensures below { OnOk result (below.new ≡ below.old ++ text_of (from_key (lines more.now))) }
 {
     let mut rest = more;
     'lines: while !rest.is_empty() {
         let (line, behind) = next_line(rest);
         if begins_key(line) {
-            return Ok(());
+            return push_lines(below, rest);
         }
-        push_line(text, line)?;
+        push_line(above, line)?;
         rest = behind;
     }
     Ok(())
 }
 
-/// Puts the lines from the next key on at the end of a text.
-fn push_from_key(text: &mut Bytes, more: &[u8]) -> Result<(), AllocError>
-    ensures { OnOk result (text.new ≡ text.old ++ text_of (from_key (lines more.now))) }
+/// Puts the lines above those of new slots at the end of one text, and those below them at the end of
+/// another, where the key `stack` stands so many times.
+fn push_around_stack(
+    above: &mut Bytes,
+    below: &mut Bytes,
+    head: &[u8],
+    count: usize,
+) -> Result<(), AllocError>
+    requires { count ≡ stack_count (lines head.now) }
+    ensures above { OnOk result (above.new ≡ above.old ++ text_of (above_in_stack (lines head.now))) }
+    ensures below { OnOk result (below.new ≡ below.old ++ text_of (below_in_stack (lines head.now))) }
 {
-    let mut rest = more;
-    'lines: while !rest.is_empty() {
-        let (line, behind) = next_line(rest);
-        if begins_key(line) {
-            return push_lines(text, rest);
-        }
-        rest = behind;
-    }
-    Ok(())
-}
-
-/// Puts the lines above those of new slots at the end of a text, where the key `stack` stands.
-fn push_above_in_stack(text: &mut Bytes, head: &[u8]) -> Result<(), AllocError>
-    ensures { OnOk result (text.new ≡ text.old ++ text_of (above_in_stack (lines head.now))) }
-{
-    let mut left = stack_count(head);
+    let mut left = count;
     let mut rest = head;
     'lines: while !rest.is_empty() {
         let (line, behind) = next_line(rest);
         if begins_stack(line) {
             left -= 1;
             if left == 0 {
-                push_line(text, opened(line))?;
-                return push_before_key(text, behind);
+                push_line(above, strip_empty_list(line))?;
+                return push_around_key(above, below, behind);
             }
         }
-        push_line(text, line)?;
+        push_line(above, line)?;
         rest = behind;
     }
     Ok(())
 }
 
-/// Puts the lines below those of new slots at the end of a text, where the key `stack` stands.
-fn push_below_in_stack(text: &mut Bytes, head: &[u8]) -> Result<(), AllocError>
-    ensures { OnOk result (text.new ≡ text.old ++ text_of (below_in_stack (lines head.now))) }
-{
-    let mut left = stack_count(head);
-    let mut rest = head;
-    'lines: while !rest.is_empty() {
-        let (line, behind) = next_line(rest);
-        if begins_stack(line) {
-            left -= 1;
-            if left == 0 {
-                return push_from_key(text, behind);
-            }
-        }
-        rest = behind;
-    }
-    Ok(())
-}
-
-/// Puts the lines above those of new slots at the end of a text, where no key `stack` stands.
-fn push_above_body(text: &mut Bytes, head: &[u8]) -> Result<(), AllocError>
-    ensures { OnOk result (text.new ≡ text.old ++ text_of (above_body (lines head.now))) }
+/// Puts the lines above those of new slots at the end of one text, and those below them at the end of
+/// another, where no key `stack` stands.
+fn push_around_body(above: &mut Bytes, below: &mut Bytes, head: &[u8]) -> Result<(), AllocError>
+    ensures above { OnOk result (above.new ≡ above.old ++ text_of (above_body (lines head.now))) }
+    ensures below { OnOk result (below.new ≡ below.old ++ text_of (below_body (lines head.now))) }
 {
     let mut left = line_count(head);
     let mut rest = head;
@@ -184,26 +162,10 @@ fn push_above_body(text: &mut Bytes, head: &[u8]) -> Result<(), AllocError>
         let (line, behind) = next_line(rest);
         left -= 1;
         if left == 0 {
-            return push_line(text, b"stack:");
+            push_line(above, b"stack:")?;
+            return push_line(below, line);
         }
-        push_line(text, line)?;
-        rest = behind;
-    }
-    Ok(())
-}
-
-/// Puts the lines below those of new slots at the end of a text, where no key `stack` stands.
-fn push_below_body(text: &mut Bytes, head: &[u8]) -> Result<(), AllocError>
-    ensures { OnOk result (text.new ≡ text.old ++ text_of (below_body (lines head.now))) }
-{
-    let mut left = line_count(head);
-    let mut rest = head;
-    'lines: while !rest.is_empty() {
-        let (line, behind) = next_line(rest);
-        left -= 1;
-        if left == 0 {
-            return push_line(text, line);
-        }
+        push_line(above, line)?;
         rest = behind;
     }
     Ok(())
@@ -215,12 +177,11 @@ fn parts_of(alloc: Global, head: &[u8]) -> Result<Parts, AllocError>
 {
     let mut above = Bytes::new(alloc);
     let mut below = Bytes::new(alloc);
-    if stack_count(head) == 0 {
-        push_above_body(&mut above, head)?;
-        push_below_body(&mut below, head)?;
+    let count = stack_count(head);
+    if count == 0 {
+        push_around_body(&mut above, &mut below, head)?;
     } else {
-        push_above_in_stack(&mut above, head)?;
-        push_below_in_stack(&mut below, head)?;
+        push_around_stack(&mut above, &mut below, head, count)?;
     }
     Ok(Parts { above, below })
 }
@@ -237,7 +198,7 @@ fn between<'a>(parts: &Parts, text: &'a [u8]) -> Option<&'a [u8]>
 
 /// What key lines have besides those of the source where lines of new slots go; None where the others
 /// aren't the source's.
-pub(crate) fn added<'a>(
+pub(crate) fn added_lines<'a>(
     alloc: Global,
     source: &[u8],
     head: &'a [u8],

@@ -12,7 +12,7 @@ use target_base::{Bytes, ClassDesc, Target, Unit, UnitDesc};
 
 /// A size of slots.
 #[derive(Drop)]
-pub(crate) struct Size {
+pub(crate) struct SlotSize {
     /// The bytes that hold a register of a class.
     pub bytes: u128,
     /// How the line of such a slot ends, from its size on.
@@ -21,7 +21,7 @@ pub(crate) struct Size {
 
 /// A new spill slot.
 #[derive(Clone, Copy, Debug, PartialEq, Eq)]
-pub(crate) struct Slot {
+pub(crate) struct NewSlot {
     /// Its number.
     pub number: u32,
     /// Its size in bytes.
@@ -119,16 +119,20 @@ fn line_end(alloc: Global, bytes: u128) -> Result<Bytes, AllocError>
 }
 
 /// The size of a class's slots.
-fn size_of(alloc: Global, target: &Target, class: &ClassDesc) -> Result<Size, AllocError>
+fn size_of(alloc: Global, target: &Target, class: &ClassDesc) -> Result<SlotSize, AllocError>
     ensures { IfOk result (λ made. made ≡ size_of target.now class.now) }
 {
     let bytes = bytes_of(target, class);
     let ending = line_end(alloc, bytes)?;
-    Ok(Size { bytes, ending })
+    Ok(SlotSize { bytes, ending })
 }
 
 /// The sizes of classes, in order.
-fn sizes_of(alloc: Global, target: &Target, classes: &[ClassDesc]) -> Result<Vec<Size>, AllocError>
+fn sizes_of(
+    alloc: Global,
+    target: &Target,
+    classes: &[ClassDesc],
+) -> Result<Vec<SlotSize>, AllocError>
     ensures { IfOk result (λ made. made.items ≡ map (size_of target.now) classes.now) }
 {
     let mut made = Vec::new(alloc);
@@ -139,7 +143,7 @@ fn sizes_of(alloc: Global, target: &Target, classes: &[ClassDesc]) -> Result<Vec
 }
 
 /// The first of the sizes with the end of whose line the text begins, and the text behind it.
-fn first_size<'a>(sizes: &[Size], text: &'a [u8]) -> Option<(u128, &'a [u8])>
+fn first_size<'a>(sizes: &[SlotSize], text: &'a [u8]) -> Option<(u128, &'a [u8])>
     ensures { option_map and_rest result ≡ first_size sizes.now text.now }
 {
     'sizes: for s in sizes {
@@ -153,7 +157,7 @@ fn first_size<'a>(sizes: &[Size], text: &'a [u8]) -> Option<(u128, &'a [u8])>
 /// The size that the text declares for a slot, and the text behind the slot's line.
 fn declared_slot<'a>(
     alloc: Global,
-    sizes: &[Size],
+    sizes: &[SlotSize],
     n: u32,
     text: &'a [u8],
 ) -> Result<Option<(u128, &'a [u8])>, AllocError>
@@ -169,10 +173,10 @@ fn declared_slot<'a>(
 /// The slots of these sizes and objects that the text declares.
 fn slots_of(
     alloc: Global,
-    sizes: &[Size],
+    sizes: &[SlotSize],
     objects: &[(u32, bool)],
     text: &[u8],
-) -> Result<Option<Vec<Slot>>, AllocError>
+) -> Result<Option<Vec<NewSlot>>, AllocError>
     ensures { IfOk result (λ made. option_map (λ v. v.items) made ≡ slots_behind [] sizes.now objects.now text.now) }
 {
     let mut made = Vec::new(alloc);
@@ -181,7 +185,7 @@ fn slots_of(
         match declared_slot(alloc, sizes, o.0, left)? {
             None => return Ok(None),
             Some((bytes, rest)) => {
-                made.push(Slot { number: o.0, bytes })?;
+                made.push(NewSlot { number: o.0, bytes })?;
                 left = rest;
             }
         }
@@ -198,7 +202,7 @@ pub(crate) fn slots_in(
     target: &Target,
     objects: &[(u32, bool)],
     text: &[u8],
-) -> Result<Option<Vec<Slot>>, AllocError>
+) -> Result<Option<Vec<NewSlot>>, AllocError>
     ensures { IfOk result (λ made. option_map (λ v. v.items) made ≡ slots_in target.now objects.now text.now) }
 {
     let sizes = sizes_of(alloc, target, target.classes.as_slice())?;

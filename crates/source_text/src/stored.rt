@@ -5,7 +5,7 @@ ghost use Rattle.std.specs.List.{list_all, list_any};
 ghost use Rattle.mir_func.specs.Binding.{does};
 ghost use Rattle.source_text.specs.Stored.{uses_slot, is_as_wide, are_at, are_first, are_placed, holds, fits_slot, register_fits, placed_in, operands_fit, instr_fits, block_fits};
 
-use crate::slots::{Slot, bytes_of};
+use crate::slots::{NewSlot, bytes_of};
 use mir_func::opcodes::effect_of;
 use mir_func::operands::{register_at, slot_at};
 use mir_func::{Block, Instr, Loc, Operand, RegOp};
@@ -86,7 +86,7 @@ fn holds(target: &Target, bytes: u128, lanes: &Operand, units: &[Unit], class: &
 }
 
 /// The slot of a number.
-fn slot_of(slots: &[Slot], n: u32) -> Option<Slot>
+fn slot_of(slots: &[NewSlot], n: u32) -> Option<NewSlot>
     ensures { result ≡ find (λ s. nat_eq s.number n) slots.now }
 {
     slots.iter().copied().find(|s| s.number == n)
@@ -104,7 +104,7 @@ fn some_holds(target: &Target, bytes: u128, lanes: &Operand, units: &[Unit]) -> 
 }
 
 /// Whether a register of some class can lie in the slot, and has lanes for the units.
-fn fits_slot(target: &Target, lanes: &Operand, units: &[Unit], slot: Option<Slot>) -> bool
+fn fits_slot(target: &Target, lanes: &Operand, units: &[Unit], slot: Option<NewSlot>) -> bool
     ensures { result ≡ fits_slot target.now lanes.now units.now slot }
 {
     match slot {
@@ -114,7 +114,7 @@ fn fits_slot(target: &Target, lanes: &Operand, units: &[Unit], slot: Option<Slot
 }
 
 /// Whether a register has lanes in the slot.
-fn register_fits(target: &Target, lanes: &Operand, loc: Loc, slot: Option<Slot>) -> bool
+fn register_fits(target: &Target, lanes: &Operand, loc: Loc, slot: Option<NewSlot>) -> bool
     ensures { result ≡ register_fits target.now lanes.now loc slot }
 {
     match loc {
@@ -126,7 +126,7 @@ fn register_fits(target: &Target, lanes: &Operand, loc: Loc, slot: Option<Slot>)
 /// Whether a slot is one of these, and a register fits it.
 fn placed_in(
     target: &Target,
-    slots: &[Slot],
+    slots: &[NewSlot],
     lanes: &Operand,
     register: Option<RegOp>,
     slot: Option<u32>,
@@ -141,7 +141,7 @@ fn placed_in(
 
 /// Whether the operands of a store or a reload name one of the slots, in which all lies that is
 /// stored or reloaded.
-fn operands_fit(target: &Target, slots: &[Slot], operands: &[Operand]) -> bool
+fn operands_fit(target: &Target, slots: &[NewSlot], operands: &[Operand]) -> bool
     ensures { result ≡ operands_fit target.now slots.now operands.now }
 {
     match operands.get(2) {
@@ -156,7 +156,7 @@ fn operands_fit(target: &Target, slots: &[Slot], operands: &[Operand]) -> bool
     }
 }
 
-fn instr_fits(target: &Target, slots: &[Slot], i: &Instr) -> bool
+fn instr_fits(target: &Target, slots: &[NewSlot], i: &Instr) -> bool
     ensures { result ≡ instr_fits target.now slots.now i.now }
 {
     if uses_slot(target, i) {
@@ -166,7 +166,7 @@ fn instr_fits(target: &Target, slots: &[Slot], i: &Instr) -> bool
     }
 }
 
-fn block_fits(target: &Target, slots: &[Slot], b: &Block) -> bool
+fn block_fits(target: &Target, slots: &[NewSlot], b: &Block) -> bool
     ensures { result ≡ block_fits target.now slots.now b.now }
 {
     b.instrs
@@ -176,7 +176,7 @@ fn block_fits(target: &Target, slots: &[Slot], b: &Block) -> bool
 }
 
 /// Whether all that blocks store to slots, or reload from them, lies in one of these slots.
-pub(crate) fn blocks_fit(target: &Target, slots: &[Slot], blocks: &[Block]) -> bool
+pub(crate) fn blocks_fit(target: &Target, slots: &[NewSlot], blocks: &[Block]) -> bool
     ensures { result ≡ list_all (block_fits target.now slots.now) blocks.now }
 {
     blocks.iter().all(|b| block_fits(target, slots, b))

@@ -14,5 +14,5 @@ mod spilled;
 pub mod stop;
 
 pub use slot_map::SlotMap;
-pub use spilled::spill;
+pub use spilled::{MOST_RANGES, spill};
 pub use stop::{Allocated, RunStop};

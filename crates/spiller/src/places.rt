@@ -1,17 +1,18 @@
 //! How each kind of place changes when its range is spilled.
 
 use crate::kinds::{first_unreserved, home, reload_op, spill_op};
-use crate::plan::{Plan, SlotPart, View, plain, slot_operands, undefined, whole};
-use crate::remat::{Key, Remat};
+use crate::plan::{Plan, SlotPart, SpillView, definition_of, slot_operands, undef_use, use_of};
+use crate::remat::{Remat, UseKey};
 use crate::seats::change_instr;
 use mir_func::opcodes::effect_of;
 use mir_func::operands::{class_of, register_at};
 use mir_func::{Instr, Loc, Operand, RegOp};
+use phi_elim::moves::{whole_definition, whole_use};
 use std::alloc::AllocError;
 use target_base::{ClassId, Effect, IndexId};
 
 /// The class whose opcode moves a register side of a copy.
-fn class_beside(view: View<'_>, op: &RegOp) -> ClassId {
+fn class_beside(view: SpillView<'_>, op: &RegOp) -> ClassId {
     match op.loc {
         Loc::Fixed(r) => home(view.target, r),
         Loc::Virtual(w) => {
@@ -21,8 +22,13 @@ fn class_beside(view: View<'_>, op: &RegOp) -> ClassId {
     }
 }
 
+/// The class whose opcodes move the lanes of the range that an index picks.
+fn move_class(view: SpillView<'_>, index: Option<IndexId>) -> ClassId {
+    view.target.move_at(view.class, index).unwrap_or(view.class)
+}
+
 /// The lanes that an operand names in the range, or that an index picks of its slot.
-fn have_same_lanes(view: View<'_>, a: Option<IndexId>, b: Option<IndexId>) -> bool {
+fn have_same_lanes(view: SpillView<'_>, a: Option<IndexId>, b: Option<IndexId>) -> bool {
     match (a, b) {
         (None, None) => true,
         (Some(a), Some(b)) => view.target.lanes_at(a) == view.target.lanes_at(b),
@@ -32,23 +38,21 @@ fn have_same_lanes(view: View<'_>, a: Option<IndexId>, b: Option<IndexId>) -> bo
 }
 
 /// Whether an index picks all lanes of the range in order.
-fn picks_all(view: View<'_>, index: IndexId) -> bool {
-    let lanes = view.target.lanes_at(index);
-    lanes.len() == view.live.lane_count(view.v) as usize
-        && (0u8..u8::MAX).zip(lanes).all(|(k, lane)| k == *lane)
+fn picks_all(view: SpillView<'_>, index: IndexId) -> bool {
+    view.target.lanes_at(index).len() == view.live.lane_count(view.v) as usize
+        && is_first_lanes(view, index)
 }
 
 /// Changes the place of one instruction that isn't a terminator.
 pub(crate) fn change_single(
-    view: View<'_>,
+    view: SpillView<'_>,
     instr: &Instr,
     remat: &Remat,
     plan: &mut Plan,
 ) -> Result<(), AllocError> {
     match effect_of(view.target, instr) {
         Some(Effect::Copy) => change_copy(view, instr, remat, plan),
-        Some(Effect::Spill) => change_store(view, instr, plan),
-        Some(Effect::Reload) => change_reload(view, instr, plan),
+        Some(Effect::Spill) | Some(Effect::Reload) => change_slot_access(view, instr, plan),
         Some(Effect::ImplicitDef) => change_undefined(view, instr, plan),
         _ if remat.is_deleted(instr.id) => plan.erase(instr.id),
         _ => change_instr(view, instr, remat, plan),
@@ -57,7 +61,7 @@ pub(crate) fn change_single(
 
 /// A copy becomes a reload, a store or both.
 fn change_copy(
-    view: View<'_>,
+    view: SpillView<'_>,
     instr: &Instr,
     remat: &Remat,
     plan: &mut Plan,
@@ -72,7 +76,7 @@ fn change_copy(
         _ => {
             let class = class_beside(view, &from);
             let part = plan.own_part(to.index);
-            let register = plain(from.loc, from.index, false, false);
+            let register = use_of(from.loc, from.index);
             let operands = slot_operands(view.alloc, register, part)?;
             plan.replace(instr.id, spill_op(view.target, class), operands)
         }
@@ -81,7 +85,7 @@ fn change_copy(
 
 /// A copy between lanes of the range.
 fn change_own_copy(
-    view: View<'_>,
+    view: SpillView<'_>,
     instr: &Instr,
     to: &RegOp,
     from: &RegOp,
@@ -92,26 +96,23 @@ fn change_own_copy(
     }
     let source = plan.own_part(from.index);
     let goal = plan.own_part(to.index);
-    let class = view
-        .target
-        .move_at(view.class, to.index)
-        .unwrap_or(view.class);
+    let class = move_class(view, to.index);
     through_tiny(view, instr, source, goal, class, plan)
 }
 
 /// A copy from the range to another register.
 fn change_copy_from(
-    view: View<'_>,
+    view: SpillView<'_>,
     instr: &Instr,
     to: &RegOp,
     from: &RegOp,
     remat: &Remat,
     plan: &mut Plan,
 ) -> Result<(), AllocError> {
-    let register = plain(to.loc, to.index, true, false);
-    let key = Key {
+    let register = definition_of(to.loc, to.index);
+    let key = UseKey {
         at: instr.id,
-        naming: None,
+        indexed_class: None,
     };
     if let Some(source) = remat.source(key) {
         plan.put_repeated(view, source, instr.id, register)?;
@@ -125,7 +126,7 @@ fn change_copy_from(
 
 /// An instruction becomes a reload into a new range and a store of it.
 fn through_tiny(
-    view: View<'_>,
+    view: SpillView<'_>,
     instr: &Instr,
     from: SlotPart,
     to: SlotPart,
@@ -133,9 +134,9 @@ fn through_tiny(
     plan: &mut Plan,
 ) -> Result<(), AllocError> {
     let tiny = plan.tiny(class, plan.next_id())?;
-    let operands = slot_operands(view.alloc, whole(tiny, true), from)?;
+    let operands = slot_operands(view.alloc, whole_definition(tiny), from)?;
     plan.replace(instr.id, reload_op(view.target, class), operands)?;
-    let operands = slot_operands(view.alloc, whole(tiny, false), to)?;
+    let operands = slot_operands(view.alloc, whole_use(tiny), to)?;
     plan.put(
         view.gap_behind(instr.id),
         spill_op(view.target, class),
@@ -156,7 +157,7 @@ fn slot_sides(instr: &Instr) -> Option<(RegOp, SlotPart)> {
 }
 
 /// Whether these lanes of a slot are those of the range's own slot that stand for the operand.
-fn is_own_slot(view: View<'_>, plan: &Plan, register: &RegOp, part: SlotPart) -> bool {
+fn is_own_slot(view: SpillView<'_>, plan: &Plan, register: &RegOp, part: SlotPart) -> bool {
     if part.slot != plan.slot {
         return false;
     }
@@ -170,45 +171,33 @@ fn is_own_slot(view: View<'_>, plan: &Plan, register: &RegOp, part: SlotPart) ->
 }
 
 /// Whether an index picks the first lanes in order.
-fn is_first_lanes(view: View<'_>, index: IndexId) -> bool {
+fn is_first_lanes(view: SpillView<'_>, index: IndexId) -> bool {
     let lanes = view.target.lanes_at(index);
     (0u8..u8::MAX).zip(lanes).all(|(k, lane)| k == *lane)
 }
 
-/// A store of the range.
-fn change_store(view: View<'_>, instr: &Instr, plan: &mut Plan) -> Result<(), AllocError> {
+/// A store or a reload of the range.
+fn change_slot_access(
+    view: SpillView<'_>,
+    instr: &Instr,
+    plan: &mut Plan,
+) -> Result<(), AllocError> {
     let Some((register, there)) = slot_sides(instr) else {
         return Ok(());
     };
     if is_own_slot(view, plan, &register, there) {
         return plan.erase(instr.id);
     }
-    let class = view
-        .target
-        .move_at(view.class, register.index)
-        .unwrap_or(view.class);
+    let class = move_class(view, register.index);
     let own = plan.own_part(register.index);
-    through_tiny(view, instr, own, there, class, plan)
-}
-
-/// A reload of the range.
-fn change_reload(view: View<'_>, instr: &Instr, plan: &mut Plan) -> Result<(), AllocError> {
-    let Some((register, there)) = slot_sides(instr) else {
-        return Ok(());
-    };
-    if is_own_slot(view, plan, &register, there) {
-        return plan.erase(instr.id);
+    match effect_of(view.target, instr) {
+        Some(Effect::Spill) => through_tiny(view, instr, own, there, class, plan),
+        _ => through_tiny(view, instr, there, own, class, plan),
     }
-    let class = view
-        .target
-        .move_at(view.class, register.index)
-        .unwrap_or(view.class);
-    let own = plan.own_part(register.index);
-    through_tiny(view, instr, there, own, class, plan)
 }
 
 /// A definition without a value becomes a store of nothing, or goes.
-fn change_undefined(view: View<'_>, instr: &Instr, plan: &mut Plan) -> Result<(), AllocError> {
+fn change_undefined(view: SpillView<'_>, instr: &Instr, plan: &mut Plan) -> Result<(), AllocError> {
     let Some(op) = register_at(instr.operands.as_slice(), 0) else {
         return Ok(());
     };
@@ -221,6 +210,6 @@ fn change_undefined(view: View<'_>, instr: &Instr, plan: &mut Plan) -> Result<()
         .unwrap_or(view.class);
     let r = first_unreserved(view.target, class);
     let own = plan.own_part(op.index);
-    let operands = slot_operands(view.alloc, undefined(r), own)?;
+    let operands = slot_operands(view.alloc, undef_use(r), own)?;
     plan.replace(instr.id, spill_op(view.target, class), operands)
 }

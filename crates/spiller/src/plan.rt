@@ -4,12 +4,13 @@ use crate::kinds::reload_op;
 use interference::{Tinies, Tiny};
 use live_lanes::{Edit, LiveFunc};
 use mir_func::{Gap, Instr, Loc, Op, Operand, Operands, RegOp};
+use phi_elim::moves::{whole_definition, whole_use};
 use std::alloc::{AllocError, Global};
 use target_base::{ClassId, Copied, IndexId, OpId, Reg, Target};
 
 /// What spilling looks at: the function as it stands before.
 #[derive(Clone, Copy)]
-pub(crate) struct View<'a> {
+pub(crate) struct SpillView<'a> {
     pub alloc: Global,
     pub target: &'a Target,
     pub live: &'a LiveFunc,
@@ -37,7 +38,7 @@ pub(crate) struct Plan {
 
 impl Plan {
     /// No edits of a function, with the slot of the range and with room for so many edits.
-    pub fn new(view: View<'_>, slot: u32, room: usize) -> Result<Plan, AllocError> {
+    pub fn new(view: SpillView<'_>, slot: u32, room: usize) -> Result<Plan, AllocError> {
         let f = view.live.func();
         Ok(Plan {
             alloc: view.alloc,
@@ -75,7 +76,7 @@ impl Plan {
     /// Notes that a register of a class is reloaded before an instruction.
     pub fn put_reload(
         &mut self,
-        view: View<'_>,
+        view: SpillView<'_>,
         at: u32,
         class: ClassId,
         register: RegOp,
@@ -88,7 +89,7 @@ impl Plan {
     /// Notes that the instruction of a definition is repeated before another, for this register.
     pub fn put_repeated(
         &mut self,
-        view: View<'_>,
+        view: SpillView<'_>,
         source: u32,
         at: u32,
         register: RegOp,
@@ -96,7 +97,7 @@ impl Plan {
         let Some(instr) = view.live.instr(source) else {
             return Ok(());
         };
-        let operands = repeated(view.alloc, instr, register)?;
+        let operands = rematerialised_operands(view.alloc, instr, register)?;
         self.put(view.gap_before(at), op_of(instr), operands)
     }
 
@@ -135,28 +136,30 @@ pub(crate) fn op_of(instr: &Instr) -> OpId {
     }
 }
 
-/// A register operand without flags.
-pub(crate) fn plain(loc: Loc, index: Option<IndexId>, def: bool, undef: bool) -> RegOp {
+/// A use of lanes of a register, without flags.
+pub(crate) fn use_of(loc: Loc, index: Option<IndexId>) -> RegOp {
     RegOp {
         loc,
         index,
-        def,
-        implicit: false,
-        undef,
-        early: false,
-        renamable: false,
-        tie: None,
+        ..whole_use(0)
     }
 }
 
-/// The whole of a range, read or defined.
-pub(crate) fn whole(v: u32, def: bool) -> RegOp {
-    plain(Loc::Virtual(v), None, def, false)
+/// A definition of lanes of a register, without flags.
+pub(crate) fn definition_of(loc: Loc, index: Option<IndexId>) -> RegOp {
+    RegOp {
+        loc,
+        index,
+        ..whole_definition(0)
+    }
 }
 
-/// A fixed register read as undefined.
-pub(crate) fn undefined(r: Reg) -> RegOp {
-    plain(Loc::Fixed(r), None, false, true)
+/// A use of a fixed register as undefined.
+pub(crate) fn undef_use(r: Reg) -> RegOp {
+    RegOp {
+        undef: true,
+        ..use_of(Loc::Fixed(r), None)
+    }
 }
 
 /// Lanes of a spill slot.
@@ -186,7 +189,11 @@ pub(crate) fn slot_operands(
 
 /// The operands of a constant or an address with another register in the place of its one definition,
 /// which is its first operand.
-fn repeated(alloc: Global, instr: &Instr, register: RegOp) -> Result<Operands, AllocError> {
+fn rematerialised_operands(
+    alloc: Global,
+    instr: &Instr,
+    register: RegOp,
+) -> Result<Operands, AllocError> {
     let mut operands = Operands::new(alloc);
     operands.push(Operand::Reg(register))?;
     'operands: for operand in instr.operands.as_slice().iter().skip(1) {
@@ -195,7 +202,7 @@ fn repeated(alloc: Global, instr: &Instr, register: RegOp) -> Result<Operands, A
     Ok(operands)
 }
 
-impl<'a> View<'a> {
+impl<'a> SpillView<'a> {
     /// The number of the block of an instruction.
     pub fn block_number(&self, id: u32) -> u32 {
         let position = self.live.position_of(id) as usize;
@@ -245,45 +252,42 @@ impl<'a> View<'a> {
         }
     }
 
-    /// The lanes of the range that an instruction reads, a bit for each.
-    pub fn lanes_read(&self, id: u32) -> u32 {
+    /// The lanes of the range of which that holds, a bit for each.
+    fn lanes_where<F: Fn(u32) -> bool>(&self, holds: F) -> u32
+        requires { F.IsAlwaysCallable holds }
+    {
         let mut lanes = 0u32;
         'lanes: for k in 0..self.live.lane_count(self.v).min(32) {
-            if self.live.is_read(self.v, k, id) {
+            if holds(k) {
                 lanes |= 1u32 << k;
             }
         }
         lanes
+    }
+
+    /// The lanes of the range that an instruction reads, a bit for each.
+    pub fn lanes_read(&self, id: u32) -> u32 {
+        self.lanes_where(|k| self.live.is_read(self.v, k, id))
     }
 
     /// The lanes of the range that an instruction writes, a bit for each.
     pub fn lanes_written(&self, id: u32) -> u32 {
-        let mut lanes = 0u32;
-        'lanes: for k in 0..self.live.lane_count(self.v).min(32) {
-            if self.live.is_written(self.v, k, id) {
-                lanes |= 1u32 << k;
-            }
-        }
-        lanes
+        self.lanes_where(|k| self.live.is_written(self.v, k, id))
     }
 
     /// The lanes of the range that an index picks, a bit for each.
     pub fn lanes_named(&self, index: Option<IndexId>) -> u32 {
-        let mut lanes = 0u32;
         match index {
-            None => {
-                'own: for k in 0..self.live.lane_count(self.v).min(32) {
-                    lanes |= 1u32 << k;
-                }
-            }
+            None => self.lanes_where(|_| true),
             Some(index) => {
+                let mut lanes = 0u32;
                 'picked: for k in self.target.lanes_at(index) {
                     if *k < 32 {
                         lanes |= 1u32 << *k;
                     }
                 }
+                lanes
             }
         }
-        lanes
     }
 }

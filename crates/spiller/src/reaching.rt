@@ -1,6 +1,6 @@
 //! Which definitions of a range reach which of its readings.
 
-use crate::plan::View;
+use crate::plan::SpillView;
 use std::alloc::AllocError;
 
 /// What reads the range.
@@ -14,7 +14,7 @@ pub(crate) struct ReadLanes {
 
 /// An instruction that touches the range.
 #[derive(Drop)]
-pub(crate) struct Event {
+pub(crate) struct RangeTouch {
     pub id: u32,
     /// The lanes that it defines, a bit for each.
     pub defined: u32,
@@ -23,30 +23,30 @@ pub(crate) struct Event {
 
 /// The instructions of a block that touch the range, in order.
 #[derive(Drop)]
-pub(crate) struct Events {
-    pub list: Vec<Event>,
+pub(crate) struct BlockTouches {
+    pub list: Vec<RangeTouch>,
 }
 
 /// Lanes that a definition reaches at the start of a block.
 #[derive(Clone, Copy, PartialEq, Eq)]
-struct Reached {
+struct ReachingLanes {
     position: u32,
     lanes: u32,
 }
 
 /// The walk from one definition.
 #[derive(Drop)]
-struct Walk {
+struct ReachWalk {
     /// The lanes reached at the start of each block; all of them where none is live.
     starts: Vec<u32>,
-    work: Vec<Reached>,
+    work: Vec<ReachingLanes>,
     /// The readings reached.
     readings: Vec<usize>,
 }
 
-impl Walk {
+impl ReachWalk {
     /// Goes over events with lanes that the definition reaches, and answers those that are left.
-    fn pass(&mut self, events: &[Event], lanes: u32) -> Result<u32, AllocError> {
+    fn pass(&mut self, events: &[RangeTouch], lanes: u32) -> Result<u32, AllocError> {
         let mut left = lanes;
         'events: for event in events {
             self.read(event.reads.as_slice(), left)?;
@@ -68,7 +68,7 @@ impl Walk {
     }
 
     /// Lets lanes reach the starts of blocks.
-    fn leave(&mut self, view: View<'_>, position: u32, lanes: u32) -> Result<(), AllocError> {
+    fn leave(&mut self, view: SpillView<'_>, position: u32, lanes: u32) -> Result<(), AllocError> {
         if lanes == 0 {
             return Ok(());
         }
@@ -85,7 +85,7 @@ impl Walk {
         let new = lanes & !*there;
         if new != 0 {
             *there |= new;
-            self.work.push(Reached {
+            self.work.push(ReachingLanes {
                 position,
                 lanes: new,
             })?;
@@ -95,7 +95,7 @@ impl Walk {
 }
 
 /// The events of the block at a position.
-fn events_at(blocks: &[Events], position: u32) -> &[Event] {
+fn events_at(blocks: &[BlockTouches], position: u32) -> &[RangeTouch] {
     match blocks.get(position as usize) {
         Some(events) => events.list.as_slice(),
         None => &[],
@@ -104,7 +104,7 @@ fn events_at(blocks: &[Events], position: u32) -> &[Event] {
 
 /// What a walk has reached at the start of each of so many blocks before it begins: nothing where the
 /// range is live, and all where it isn't, so that no walk goes there.
-pub(crate) fn unreached(view: View<'_>, count: usize) -> Result<Vec<u32>, AllocError> {
+pub(crate) fn reach_at_starts(view: SpillView<'_>, count: usize) -> Result<Vec<u32>, AllocError> {
     let mut starts = Vec::with_capacity(view.alloc, count)?;
     'positions: for position in 0..u32::try_from(count).unwrap_or(u32::MAX) {
         let is_live = view.live.is_live_into(view.v, position);
@@ -114,16 +114,16 @@ pub(crate) fn unreached(view: View<'_>, count: usize) -> Result<Vec<u32>, AllocE
 }
 
 /// The readings that the definition of lanes by an event reaches, in order, each once, where
-/// `unreached` gives these lanes.
+/// `reach_at_starts` gives these lanes.
 pub(crate) fn readings_reached(
-    view: View<'_>,
+    view: SpillView<'_>,
     starts: &[u32],
-    blocks: &[Events],
+    blocks: &[BlockTouches],
     position: u32,
     place: usize,
     lanes: u32,
 ) -> Result<Vec<usize>, AllocError> {
-    let mut walk = Walk {
+    let mut walk = ReachWalk {
         starts: Vec::from_slice(view.alloc, starts)?,
         work: Vec::new(view.alloc),
         readings: Vec::new(view.alloc),
@@ -141,7 +141,7 @@ pub(crate) fn readings_reached(
         let left = walk.pass(events_at(blocks, at.position), at.lanes)?;
         walk.leave(view, at.position, left)?;
     }
-    let Walk { mut readings, .. } = walk;
+    let ReachWalk { mut readings, .. } = walk;
     readings.sort_unstable();
     readings.dedup();
     Ok(readings)

@@ -2,9 +2,9 @@
 //! place of a reload.
 
 use crate::kinds::is_within;
-use crate::plan::View;
-use crate::reaching::{Event, Events, ReadLanes, readings_reached, unreached};
-use crate::roles::{Naming, naming_of, own};
+use crate::plan::SpillView;
+use crate::reaching::{BlockTouches, RangeTouch, ReadLanes, reach_at_starts, readings_reached};
+use crate::roles::{IndexedClass, naming_of, operand_of_range};
 use mir_func::opcodes::{effect_of, is_terminator, is_tied, next_role, roles_of};
 use mir_func::operands::register_at;
 use mir_func::{Instr, Loc, RegOp};
@@ -15,7 +15,7 @@ use target_base::{Boxed, ClassId, Effect, Reg, Role};
 
 /// What a reading asks of the instruction that is repeated for it.
 #[derive(Clone, Copy, PartialEq, Eq)]
-enum Wish {
+enum RematConstraint {
     /// It can't be rematerialised.
     Never,
     /// Its class lies within this one's.
@@ -26,18 +26,18 @@ enum Wish {
 
 /// The readings of an operand at a place.
 #[derive(Clone, Copy, PartialEq, Eq)]
-pub(crate) struct Key {
+pub(crate) struct UseKey {
     /// The instruction, or the first terminator.
     pub at: u32,
     /// How the operand names the range; none for the source of a copy or a store and for tied uses.
-    pub naming: Option<Naming>,
+    pub indexed_class: Option<IndexedClass>,
 }
 
 /// A reading of the range.
 #[derive(Clone, Copy, PartialEq, Eq)]
-struct Reading {
-    key: Key,
-    wish: Wish,
+struct RematUse {
+    key: UseKey,
+    wish: RematConstraint,
     /// The definition that reaches it, if some does.
     def: Option<u32>,
     /// Whether several do.
@@ -49,14 +49,14 @@ struct Reading {
 /// What is rematerialised.
 #[derive(Drop)]
 pub(crate) struct Remat {
-    readings: Vec<Reading>,
+    readings: Vec<RematUse>,
     /// The definitions that go, by their ids, in rising order.
     deleted: Vec<u32>,
 }
 
 impl Remat {
     /// The definition whose instruction is repeated for a reading.
-    pub fn source(&self, key: Key) -> Option<u32> {
+    pub fn source(&self, key: UseKey) -> Option<u32> {
         let first = self
             .readings
             .as_slice()
@@ -87,7 +87,7 @@ struct Reach {
 }
 
 /// Whether an instruction can be repeated.
-fn is_repeatable(view: View<'_>, instr: &Instr) -> bool {
+fn is_repeatable(view: SpillView<'_>, instr: &Instr) -> bool {
     matches!(
         effect_of(view.target, instr),
         Some(Effect::Const | Effect::Addr)
@@ -95,7 +95,7 @@ fn is_repeatable(view: View<'_>, instr: &Instr) -> bool {
 }
 
 /// Plans what is rematerialised of the range.
-pub(crate) fn plan_remat(view: View<'_>, touched: &[u32]) -> Result<Remat, AllocError> {
+pub(crate) fn plan_remat(view: SpillView<'_>, touched: &[u32]) -> Result<Remat, AllocError> {
     let mut remat = Remat {
         readings: Vec::new(view.alloc),
         deleted: Vec::new(view.alloc),
@@ -113,7 +113,7 @@ pub(crate) fn plan_remat(view: View<'_>, touched: &[u32]) -> Result<Remat, Alloc
     Ok(remat)
 }
 
-fn has_repeatable(view: View<'_>, touched: &[u32]) -> bool {
+fn has_repeatable(view: SpillView<'_>, touched: &[u32]) -> bool {
     touched.iter().any(|id| match view.live.instr(*id) {
         Some(instr) => is_repeatable(view, instr),
         None => false,
@@ -122,13 +122,13 @@ fn has_repeatable(view: View<'_>, touched: &[u32]) -> bool {
 
 /// The events of each block, with the readings listed.
 fn events_of(
-    view: View<'_>,
+    view: SpillView<'_>,
     touched: &[u32],
-    readings: &mut Vec<Reading>,
-) -> Result<Vec<Events>, AllocError> {
+    readings: &mut Vec<RematUse>,
+) -> Result<Vec<BlockTouches>, AllocError> {
     let mut blocks = Vec::new(view.alloc);
     'blocks: for _ in 0..view.live.func().blocks.len() {
-        blocks.push(Events {
+        blocks.push(BlockTouches {
             list: Vec::new(view.alloc),
         })?;
     }
@@ -145,11 +145,11 @@ fn events_of(
 
 /// What an instruction does to the range, with its readings listed.
 fn event_of(
-    view: View<'_>,
+    view: SpillView<'_>,
     instr: &Instr,
-    readings: &mut Vec<Reading>,
-) -> Result<Event, AllocError> {
-    let mut event = Event {
+    readings: &mut Vec<RematUse>,
+) -> Result<RangeTouch, AllocError> {
+    let mut event = RangeTouch {
         id: instr.id,
         defined: view.lanes_written(instr.id),
         reads: Vec::new(view.alloc),
@@ -164,17 +164,17 @@ fn event_of(
 
 /// Adds a reading to an event. Readings of one key are one.
 fn add_reading(
-    key: Key,
-    wish: Wish,
+    key: UseKey,
+    wish: RematConstraint,
     lanes: u32,
-    event: &mut Event,
-    readings: &mut Vec<Reading>,
+    event: &mut RangeTouch,
+    readings: &mut Vec<RematUse>,
 ) -> Result<(), AllocError> {
     let known = readings.iter().rev().take(64).position(|r| r.key == key);
     let reading = match known {
         Some(back) => readings.len().saturating_sub(back).saturating_sub(1),
         None => {
-            readings.push(Reading {
+            readings.push(RematUse {
                 key,
                 wish,
                 def: None,
@@ -190,11 +190,11 @@ fn add_reading(
 
 /// Adds the reading of a copy or a store, whose source is the operand at a place.
 fn add_move(
-    view: View<'_>,
+    view: SpillView<'_>,
     instr: &Instr,
     source: usize,
-    event: &mut Event,
-    readings: &mut Vec<Reading>,
+    event: &mut RangeTouch,
+    readings: &mut Vec<RematUse>,
 ) -> Result<(), AllocError> {
     let Some(op) = register_at(instr.operands.as_slice(), source) else {
         return Ok(());
@@ -213,18 +213,18 @@ fn add_move(
                     ..
                 },
             ),
-        ) => Wish::Fixed(r),
-        _ => Wish::Never,
+        ) => RematConstraint::Fixed(r),
+        _ => RematConstraint::Never,
     };
-    let key = Key {
+    let key = UseKey {
         at: instr.id,
-        naming: None,
+        indexed_class: None,
     };
     add_reading(key, wish, lanes, event, readings)
 }
 
 /// The instruction that names the place of another: itself, or the first terminator of its block.
-pub(crate) fn place_id(view: View<'_>, instr: &Instr) -> u32 {
+pub(crate) fn place_id(view: SpillView<'_>, instr: &Instr) -> u32 {
     if !is_terminator(view.target, instr) {
         return instr.id;
     }
@@ -240,7 +240,7 @@ pub(crate) fn place_id(view: View<'_>, instr: &Instr) -> u32 {
 }
 
 /// The place of the first of the terminators at the end of a block, or the block's end.
-pub(crate) fn first_terminator(view: View<'_>, instrs: &[Boxed<Instr>]) -> usize {
+pub(crate) fn first_terminator(view: SpillView<'_>, instrs: &[Boxed<Instr>]) -> usize {
     let count = instrs
         .iter()
         .rev()
@@ -251,17 +251,17 @@ pub(crate) fn first_terminator(view: View<'_>, instrs: &[Boxed<Instr>]) -> usize
 
 /// Adds the readings of the operands of another instruction.
 fn add_operands(
-    view: View<'_>,
+    view: SpillView<'_>,
     instr: &Instr,
-    event: &mut Event,
-    readings: &mut Vec<Reading>,
+    event: &mut RangeTouch,
+    readings: &mut Vec<RematUse>,
 ) -> Result<(), AllocError> {
     let at = place_id(view, instr);
     let mut roles = roles_of(view.target, instr);
     'operands: for operand in instr.operands.as_slice() {
         let (role, behind) = next_role(roles);
         roles = behind;
-        if let Some(op) = own(view, operand) {
+        if let Some(op) = operand_of_range(view, operand) {
             if !op.def && !op.undef {
                 let (key, wish) = key_of(view, instr, at, role, &op);
                 add_reading(key, wish, view.lanes_named(op.index), event, readings)?;
@@ -273,29 +273,35 @@ fn add_operands(
 
 /// How a place reads the range by an operand of an instruction, and what that asks. Nothing serves for
 /// tied uses.
-fn key_of(view: View<'_>, instr: &Instr, at: u32, role: Option<Role>, op: &RegOp) -> (Key, Wish) {
+fn key_of(
+    view: SpillView<'_>,
+    instr: &Instr,
+    at: u32,
+    role: Option<Role>,
+    op: &RegOp,
+) -> (UseKey, RematConstraint) {
     if is_tied(role) {
-        let key = Key {
+        let key = UseKey {
             at: instr.id,
-            naming: None,
+            indexed_class: None,
         };
-        return (key, Wish::Never);
+        return (key, RematConstraint::Never);
     }
-    let naming = naming_of(view, role, op);
-    let wish = match naming.index {
-        None => Wish::Class(naming.class),
-        Some(_) => Wish::Never,
+    let indexed_class = naming_of(view, role, op);
+    let wish = match indexed_class.index {
+        None => RematConstraint::Class(indexed_class.class),
+        Some(_) => RematConstraint::Never,
     };
-    let key = Key {
+    let key = UseKey {
         at,
-        naming: Some(naming),
+        indexed_class: Some(indexed_class),
     };
     (key, wish)
 }
 
 /// The readings that each definition reaches.
-fn reaches_of(view: View<'_>, blocks: &[Events]) -> Result<Vec<Reach>, AllocError> {
-    let starts = unreached(view, blocks.len())?;
+fn reaches_of(view: SpillView<'_>, blocks: &[BlockTouches]) -> Result<Vec<Reach>, AllocError> {
+    let starts = reach_at_starts(view, blocks.len())?;
     let mut reaches = Vec::new(view.alloc);
     let mut position = 0u32;
     'blocks: for events in blocks {
@@ -313,10 +319,10 @@ fn reaches_of(view: View<'_>, blocks: &[Events]) -> Result<Vec<Reach>, AllocErro
 }
 
 fn add_reaches(
-    view: View<'_>,
+    view: SpillView<'_>,
     starts: &[u32],
-    blocks: &[Events],
-    events: &Events,
+    blocks: &[BlockTouches],
+    events: &BlockTouches,
     position: u32,
     reaches: &mut Vec<Reach>,
 ) -> Result<(), AllocError> {
@@ -335,13 +341,13 @@ fn add_reaches(
 }
 
 /// Notes at each reading which definition reaches it.
-fn note_definitions(readings: &mut Vec<Reading>, reaches: &[Reach]) {
+fn note_definitions(readings: &mut Vec<RematUse>, reaches: &[Reach]) {
     'reaches: for reach in reaches {
         note_definition(readings, reach);
     }
 }
 
-fn note_definition(readings: &mut Vec<Reading>, reach: &Reach) {
+fn note_definition(readings: &mut Vec<RematUse>, reach: &Reach) {
     'readings: for k in &reach.readings {
         if let Some(reading) = readings.get_mut(*k) {
             if reading.def.is_some() {
@@ -354,7 +360,7 @@ fn note_definition(readings: &mut Vec<Reading>, reach: &Reach) {
 }
 
 /// Decides which readings are rematerialised.
-fn judge(view: View<'_>, readings: &mut Vec<Reading>) {
+fn judge(view: SpillView<'_>, readings: &mut Vec<RematUse>) {
     'readings: for k in 0..readings.len() {
         if let Some(reading) = readings.get_mut(k) {
             reading.is_good = is_good(view, reading);
@@ -362,7 +368,7 @@ fn judge(view: View<'_>, readings: &mut Vec<Reading>) {
     }
 }
 
-fn is_good(view: View<'_>, reading: &Reading) -> bool {
+fn is_good(view: SpillView<'_>, reading: &RematUse) -> bool {
     if reading.has_several {
         return false;
     }
@@ -376,19 +382,19 @@ fn is_good(view: View<'_>, reading: &Reading) -> bool {
 }
 
 /// Whether the instruction of a definition, repeated, gives what a reading asks for.
-fn suits(view: View<'_>, instr: &Instr, wish: Wish) -> bool {
+fn suits(view: SpillView<'_>, instr: &Instr, wish: RematConstraint) -> bool {
     let Some(class) = repeated_class(view, instr) else {
         return false;
     };
     match wish {
-        Wish::Never => false,
-        Wish::Class(own) => is_within(view.target, own, class),
-        Wish::Fixed(r) => view.target.regs_in(class).contains(&r),
+        RematConstraint::Never => false,
+        RematConstraint::Class(own) => is_within(view.target, own, class),
+        RematConstraint::Fixed(r) => view.target.regs_in(class).contains(&r),
     }
 }
 
 /// The class of the definition of a constant or an address that defines a whole range.
-fn repeated_class(view: View<'_>, instr: &Instr) -> Option<ClassId> {
+fn repeated_class(view: SpillView<'_>, instr: &Instr) -> Option<ClassId> {
     if register_at(instr.operands.as_slice(), 0)?.index.is_some() {
         return None;
     }
@@ -401,7 +407,11 @@ fn repeated_class(view: View<'_>, instr: &Instr) -> Option<ClassId> {
 }
 
 /// Lists the definitions that go: those that reach a reading, each of which is rematerialised.
-fn delete_unread(view: View<'_>, reaches: &[Reach], remat: &mut Remat) -> Result<(), AllocError> {
+fn delete_unread(
+    view: SpillView<'_>,
+    reaches: &[Reach],
+    remat: &mut Remat,
+) -> Result<(), AllocError> {
     'reaches: for reach in reaches {
         let is_read = !reach.readings.is_empty();
         if is_read && are_good(remat.readings.as_slice(), reach.readings.as_slice()) {
@@ -413,14 +423,14 @@ fn delete_unread(view: View<'_>, reaches: &[Reach], remat: &mut Remat) -> Result
     Ok(())
 }
 
-fn is_repeatable_id(view: View<'_>, id: u32) -> bool {
+fn is_repeatable_id(view: SpillView<'_>, id: u32) -> bool {
     match view.live.instr(id) {
         Some(instr) => is_repeatable(view, instr),
         None => false,
     }
 }
 
-fn are_good(readings: &[Reading], places: &[usize]) -> bool {
+fn are_good(readings: &[RematUse], places: &[usize]) -> bool {
     places.iter().all(|k| match readings.get(*k) {
         Some(reading) => reading.is_good,
         None => false,

@@ -3,7 +3,7 @@
 ghost use Rattle.std.specs.Prelude.{◌≡◌};
 ghost use Rattle.mir_func.specs.Binding.{operand_class};
 
-use crate::plan::View;
+use crate::plan::SpillView;
 use mir_func::opcodes::asked_class;
 use mir_func::operands::class_of;
 use mir_func::{Func, Loc, Operand, RegOp};
@@ -11,7 +11,7 @@ use target_base::{ClassId, IndexId, Role, Target};
 
 /// How an operand names the range: its index and its operand class.
 #[derive(Clone, Copy, PartialEq, Eq)]
-pub(crate) struct Naming {
+pub(crate) struct IndexedClass {
     /// The index.
     pub index: Option<IndexId>,
     /// The operand class.
@@ -19,7 +19,7 @@ pub(crate) struct Naming {
 }
 
 /// The register operand, where it is the range.
-pub(crate) fn own(view: View<'_>, operand: &Operand) -> Option<RegOp> {
+pub(crate) fn operand_of_range(view: SpillView<'_>, operand: &Operand) -> Option<RegOp> {
     match operand {
         Operand::Reg(op) if view.is_own(op) => Some(*op),
         _ => None,
@@ -28,9 +28,9 @@ pub(crate) fn own(view: View<'_>, operand: &Operand) -> Option<RegOp> {
 
 /// How an operand with its role names the range. Where it has no operand class, the range's own stands
 /// for it.
-pub(crate) fn naming_of(view: View<'_>, role: Option<Role>, op: &RegOp) -> Naming {
+pub(crate) fn naming_of(view: SpillView<'_>, role: Option<Role>, op: &RegOp) -> IndexedClass {
     let class = operand_class(view.target, view.live.func(), role, op);
-    Naming {
+    IndexedClass {
         index: op.index,
         class: class.unwrap_or(view.class),
     }

@@ -1,18 +1,19 @@
 //! The tinies of a place: one for each way of reading the range, and one for each definition of it.
 
 use crate::kinds::spill_op;
-use crate::plan::{Plan, View, op_of, plain, slot_operands, whole};
-use crate::remat::{Key, Remat};
-use crate::roles::{Naming, naming_of, own};
+use crate::plan::{Plan, SpillView, op_of, slot_operands};
+use crate::remat::{Remat, UseKey};
+use crate::roles::{IndexedClass, naming_of, operand_of_range};
 use mir_func::opcodes::{is_tied, next_role, roles_of, tied_number, ties_to};
-use mir_func::{Instr, Loc, Operand, Operands, RegOp};
+use mir_func::{Instr, Operand, Operands, RegOp};
+use phi_elim::moves::{whole_definition, whole_use};
 use std::alloc::AllocError;
 use target_base::{Boxed, Copied, Role};
 
 /// The tiny of a way of reading the range.
 #[derive(Clone, Copy, PartialEq, Eq)]
 struct ReadTiny {
-    naming: Naming,
+    indexed_class: IndexedClass,
     range: u32,
 }
 
@@ -23,13 +24,13 @@ struct DefinedTiny {
     by: u32,
     /// The number of the operand.
     number: usize,
-    naming: Naming,
+    indexed_class: IndexedClass,
     range: u32,
 }
 
 /// A place and its tinies.
 #[derive(Drop)]
-struct Seats {
+struct PlaceTinies {
     /// The first instruction.
     at: u32,
     /// The last instruction.
@@ -40,12 +41,12 @@ struct Seats {
 
 /// Changes the place of one instruction.
 pub(crate) fn change_instr(
-    view: View<'_>,
+    view: SpillView<'_>,
     instr: &Instr,
     remat: &Remat,
     plan: &mut Plan,
 ) -> Result<(), AllocError> {
-    let mut seats = Seats::new(view, instr.id, instr.id);
+    let mut seats = PlaceTinies::new(view, instr.id, instr.id);
     seats.read(view, instr, remat, plan)?;
     seats.define(view, instr, plan)?;
     seats.seat(view, instr, plan)?;
@@ -54,7 +55,7 @@ pub(crate) fn change_instr(
 
 /// Changes the place of the terminators of a block.
 pub(crate) fn change_terminators(
-    view: View<'_>,
+    view: SpillView<'_>,
     instrs: &[Boxed<Instr>],
     remat: &Remat,
     plan: &mut Plan,
@@ -62,7 +63,7 @@ pub(crate) fn change_terminators(
     let (Some(first), Some(last)) = (instrs.first(), instrs.last()) else {
         return Ok(());
     };
-    let mut seats = Seats::new(view, first.get().id, last.get().id);
+    let mut seats = PlaceTinies::new(view, first.get().id, last.get().id);
     'read: for instr in instrs {
         seats.read(view, instr.get(), remat, plan)?;
     }
@@ -71,10 +72,10 @@ pub(crate) fn change_terminators(
     seats.store_all(view, plan)
 }
 
-impl Seats {
+impl PlaceTinies {
     /// A place between these instructions, without tinies.
-    fn new(view: View<'_>, at: u32, last: u32) -> Seats {
-        Seats {
+    fn new(view: SpillView<'_>, at: u32, last: u32) -> PlaceTinies {
+        PlaceTinies {
             at,
             last,
             reads: Vec::new(view.alloc),
@@ -85,7 +86,7 @@ impl Seats {
     /// Gives each way in which an instruction reads the range its tiny, with the value.
     fn read(
         &mut self,
-        view: View<'_>,
+        view: SpillView<'_>,
         instr: &Instr,
         remat: &Remat,
         plan: &mut Plan,
@@ -94,7 +95,7 @@ impl Seats {
         'operands: for operand in instr.operands.as_slice() {
             let (role, behind) = next_role(roles);
             roles = behind;
-            if let Some(op) = own(view, operand) {
+            if let Some(op) = operand_of_range(view, operand) {
                 if !op.def && !op.undef && !is_tied(role) {
                     self.read_as(view, naming_of(view, role, &op), remat, plan)?;
                 }
@@ -106,32 +107,41 @@ impl Seats {
     /// Gives a way of reading its tiny, unless it has one.
     fn read_as(
         &mut self,
-        view: View<'_>,
-        naming: Naming,
+        view: SpillView<'_>,
+        indexed_class: IndexedClass,
         remat: &Remat,
         plan: &mut Plan,
     ) -> Result<(), AllocError> {
-        if self.tiny_read(naming).is_some() {
+        if self.tiny_read(indexed_class).is_some() {
             return Ok(());
         }
-        let range = plan.tiny(naming.class, self.at)?;
-        self.reads.push(ReadTiny { naming, range })?;
-        let key = Key {
+        let range = plan.tiny(indexed_class.class, self.at)?;
+        self.reads.push(ReadTiny {
+            indexed_class,
+            range,
+        })?;
+        let key = UseKey {
             at: self.at,
-            naming: Some(naming),
+            indexed_class: Some(indexed_class),
         };
         match remat.source(key) {
-            Some(source) => plan.put_repeated(view, source, self.at, whole(range, true)),
+            Some(source) => plan.put_repeated(view, source, self.at, whole_definition(range)),
             None => {
-                let part = plan.own_part(naming.index);
-                plan.put_reload(view, self.at, naming.class, whole(range, true), part)
+                let part = plan.own_part(indexed_class.index);
+                plan.put_reload(
+                    view,
+                    self.at,
+                    indexed_class.class,
+                    whole_definition(range),
+                    part,
+                )
             }
         }
     }
 
     fn define_all(
         &mut self,
-        view: View<'_>,
+        view: SpillView<'_>,
         instrs: &[Boxed<Instr>],
         plan: &mut Plan,
     ) -> Result<(), AllocError> {
@@ -143,20 +153,25 @@ impl Seats {
 
     /// Gives each definition of the range by an instruction its tiny, with the value of the use that
     /// is tied to it.
-    fn define(&mut self, view: View<'_>, instr: &Instr, plan: &mut Plan) -> Result<(), AllocError> {
+    fn define(
+        &mut self,
+        view: SpillView<'_>,
+        instr: &Instr,
+        plan: &mut Plan,
+    ) -> Result<(), AllocError> {
         let mut roles = roles_of(view.target, instr);
         let mut number = 0usize;
         'operands: for operand in instr.operands.as_slice() {
             let (role, behind) = next_role(roles);
             roles = behind;
-            if let Some(op) = own(view, operand) {
+            if let Some(op) = operand_of_range(view, operand) {
                 if op.def {
-                    let naming = naming_of(view, role, &op);
+                    let indexed_class = naming_of(view, role, &op);
                     let tiny = DefinedTiny {
                         by: instr.id,
                         number,
-                        naming,
-                        range: plan.tiny(naming.class, self.at)?,
+                        indexed_class,
+                        range: plan.tiny(indexed_class.class, self.at)?,
                     };
                     self.definitions.push(tiny)?;
                     self.reload_tied(view, instr, tiny, plan)?;
@@ -170,7 +185,7 @@ impl Seats {
     /// Reloads the use that is tied to a definition into its tiny.
     fn reload_tied(
         &self,
-        view: View<'_>,
+        view: SpillView<'_>,
         instr: &Instr,
         tiny: DefinedTiny,
         plan: &mut Plan,
@@ -179,11 +194,11 @@ impl Seats {
         'operands: for operand in instr.operands.as_slice() {
             let (role, behind) = next_role(roles);
             roles = behind;
-            if let Some(op) = own(view, operand) {
+            if let Some(op) = operand_of_range(view, operand) {
                 if ties_to(role, tiny.number) && !op.undef {
                     let part = plan.own_part(op.index);
-                    let register = whole(tiny.range, true);
-                    plan.put_reload(view, self.at, tiny.naming.class, register, part)?;
+                    let register = whole_definition(tiny.range);
+                    plan.put_reload(view, self.at, tiny.indexed_class.class, register, part)?;
                 }
             }
         }
@@ -191,8 +206,11 @@ impl Seats {
     }
 
     /// The tiny of a way of reading.
-    fn tiny_read(&self, naming: Naming) -> Option<u32> {
-        let found = self.reads.iter().find(|tiny| tiny.naming == naming)?;
+    fn tiny_read(&self, indexed_class: IndexedClass) -> Option<u32> {
+        let found = self
+            .reads
+            .iter()
+            .find(|tiny| tiny.indexed_class == indexed_class)?;
         Some(found.range)
     }
 
@@ -206,7 +224,13 @@ impl Seats {
     }
 
     /// The tiny of a use.
-    fn tiny_used(&self, view: View<'_>, by: u32, role: Option<Role>, op: &RegOp) -> Option<u32> {
+    fn tiny_used(
+        &self,
+        view: SpillView<'_>,
+        by: u32,
+        role: Option<Role>,
+        op: &RegOp,
+    ) -> Option<u32> {
         match tied_number(role) {
             Some(number) => self.tiny_defined(by, number),
             None if op.undef => None,
@@ -216,7 +240,7 @@ impl Seats {
 
     fn seat_all(
         &self,
-        view: View<'_>,
+        view: SpillView<'_>,
         instrs: &[Boxed<Instr>],
         plan: &mut Plan,
     ) -> Result<(), AllocError> {
@@ -230,15 +254,15 @@ impl Seats {
     }
 
     /// Puts tinies in place of the range.
-    fn seat(&self, view: View<'_>, instr: &Instr, plan: &mut Plan) -> Result<(), AllocError> {
+    fn seat(&self, view: SpillView<'_>, instr: &Instr, plan: &mut Plan) -> Result<(), AllocError> {
         let mut operands = Operands::new(view.alloc);
         let mut roles = roles_of(view.target, instr);
         let mut number = 0usize;
         'operands: for operand in instr.operands.as_slice() {
             let (role, behind) = next_role(roles);
             roles = behind;
-            operands.push(match own(view, operand) {
-                Some(op) => Operand::Reg(self.seated(view, instr.id, number, role, op)),
+            operands.push(match operand_of_range(view, operand) {
+                Some(op) => Operand::Reg(self.rewrite_operand(view, instr.id, number, role, op)),
                 None => operand.copied(view.alloc)?,
             })?;
             number = number.saturating_add(1);
@@ -247,9 +271,9 @@ impl Seats {
     }
 
     /// An operand with its tiny in place of the range. One without a tiny stays.
-    fn seated(
+    fn rewrite_operand(
         &self,
-        view: View<'_>,
+        view: SpillView<'_>,
         by: u32,
         number: usize,
         role: Option<Role>,
@@ -261,18 +285,22 @@ impl Seats {
             self.tiny_used(view, by, role, &op)
         };
         match tiny {
-            Some(range) => plain(Loc::Virtual(range), None, op.def, !op.def && op.undef),
+            Some(range) if op.def => whole_definition(range),
+            Some(range) => RegOp {
+                undef: op.undef,
+                ..whole_use(range)
+            },
             None => op,
         }
     }
 
     /// Puts the stores of definitions behind the place, where a lane of them is live there.
-    fn store_all(&self, view: View<'_>, plan: &mut Plan) -> Result<(), AllocError> {
+    fn store_all(&self, view: SpillView<'_>, plan: &mut Plan) -> Result<(), AllocError> {
         'definitions: for tiny in &self.definitions {
-            if view.is_live_behind(tiny.naming.index, tiny.by) {
-                let part = plan.own_part(tiny.naming.index);
-                let operands = slot_operands(view.alloc, whole(tiny.range, false), part)?;
-                let store = spill_op(view.target, tiny.naming.class);
+            if view.is_live_behind(tiny.indexed_class.index, tiny.by) {
+                let part = plan.own_part(tiny.indexed_class.index);
+                let operands = slot_operands(view.alloc, whole_use(tiny.range), part)?;
+                let store = spill_op(view.target, tiny.indexed_class.class);
                 plan.put(view.gap_behind(self.last), store, operands)?;
             }
         }
@@ -281,10 +309,10 @@ impl Seats {
 }
 
 /// Whether an instruction names the range.
-fn names(view: View<'_>, instr: &Instr) -> bool {
+fn names(view: SpillView<'_>, instr: &Instr) -> bool {
     instr
         .operands
         .as_slice()
         .iter()
-        .any(|operand| own(view, operand).is_some())
+        .any(|operand| operand_of_range(view, operand).is_some())
 }

@@ -9,7 +9,7 @@ use target_base::{Boxed, ClassId};
 
 /// A spill slot that was given.
 #[derive(Clone, Copy, Debug, PartialEq, Eq)]
-pub struct Slot {
+pub struct RangeSlot {
     /// The number of the frame object.
     pub number: u32,
     /// The class of the original, whose lanes the slot holds.
@@ -24,7 +24,7 @@ pub struct SlotMap {
     /// By original: the number of its slot.
     slots: BTreeMap<u32, u32>,
     /// The slots that were given, in order.
-    given: Vec<Slot>,
+    given: Vec<RangeSlot>,
     /// The numbers that the prepared function declares or names.
     taken: BTreeSet<u32>,
     /// The least number that is neither taken nor given.
@@ -95,7 +95,7 @@ impl SlotMap {
     }
 
     /// Makes a range, which has the next number, its own original.
-    pub fn own(&mut self, v: u32) -> Result<(), AllocError> {
+    pub fn add_original(&mut self, v: u32) -> Result<(), AllocError> {
         self.add(v, v)
     }
 
@@ -120,7 +120,7 @@ impl SlotMap {
     }
 
     /// The slots that were given, in order.
-    pub fn made(&self) -> &[Slot] {
+    pub fn given_slots(&self) -> &[RangeSlot] {
         self.given.as_slice()
     }
 
@@ -132,7 +132,7 @@ impl SlotMap {
         }
         let original = self.original(v);
         let number = self.next;
-        self.given.push(Slot {
+        self.given.push(RangeSlot {
             number,
             class: class_of(f, original).unwrap_or(ClassId(0)),
         })?;

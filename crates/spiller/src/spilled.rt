@@ -1,7 +1,7 @@
 //! The call that spills a range.
 
 use crate::places::change_single;
-use crate::plan::{Plan, View};
+use crate::plan::{Plan, SpillView};
 use crate::remat::{Remat, first_terminator, place_id, plan_remat};
 use crate::seats::change_terminators;
 use crate::slot_map::SlotMap;
@@ -25,7 +25,7 @@ pub fn spill(
     v: u32,
 ) -> Result<Tinies, RunStop> {
     let touched = m.live().touched(alloc, v)?;
-    let plan = planned(alloc, m, slots.own_slot(v), v, touched.as_slice())?;
+    let plan = plan_spill(alloc, m, slots.own_slot(v), v, touched.as_slice())?;
     let Plan {
         edits,
         tinies,
@@ -49,13 +49,13 @@ pub fn spill(
 fn make_ranges(m: &mut Matrix, slots: &mut SlotMap, classes: &[ClassId]) -> Result<(), AllocError> {
     'classes: for class in classes {
         let tiny = m.fresh(*class)?;
-        slots.own(tiny)?;
+        slots.add_original(tiny)?;
     }
     Ok(())
 }
 
 /// The edits that spill a range to a slot.
-fn planned(
+fn plan_spill(
     alloc: Global,
     m: &Matrix,
     slot: u32,
@@ -63,7 +63,7 @@ fn planned(
     touched: &[u32],
 ) -> Result<Plan, AllocError> {
     let live = m.live();
-    let view = View {
+    let view = SpillView {
         alloc,
         target: live.target(),
         live,
@@ -83,7 +83,7 @@ fn planned(
 /// Changes the place of an instruction, unless it is that of terminators that were changed last.
 /// Answers the terminators' place, if it was one.
 fn change_touched(
-    view: View<'_>,
+    view: SpillView<'_>,
     id: u32,
     last: Option<u32>,
     remat: &Remat,

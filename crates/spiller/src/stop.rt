@@ -17,6 +17,11 @@ pub enum RunStop {
 }
 
 impl From<AllocError> for RunStop {
+    ghost use Rattle.spiller.specs.declared.stop.RunStop.TheVariants.{Memory};
+    ghost use Rattle.std.specs.Prelude.{◌≡◌};
+
+    ghost from_gives = { λ x e. e ≡ Memory x };
+
     fn from(e: AllocError) -> RunStop {
         RunStop::Memory(e)
     }

@@ -3,7 +3,7 @@ use Rattle.std.proofs.Common.{◌≡◌, ◌∙◌, ◌⊎◌, inl, inr, ℕ, ze
 use Rattle.std.specs.Prelude.{slice_get, nat_lt, nat_eq, ◌&&◌}
 use Rattle.std.proofs.lemmas.Bool.{ltb-true, ltb-false, eqb-true, cases_lt, or_cases, or_parts, and_parts, and_from, eq-eqb, lt-ltb, true≢false}
 use Rattle.target_base.specs.declared.types.Reg.{Reg}
-use Rattle.split_choose.specs.declared.runs.Run.{Run}
+use Rattle.split_choose.specs.declared.runs.PlaceRun.{PlaceRun}
 use Rattle.split_choose.specs.LongRuns.{IsWithin, IsRun, IsLongest, IsLongestRun, IsBest, IsBestRun, is_better, better_of}
 
 same-register : (rs : List Reg) (k j : ℕ) (p q : Reg) → k ≡ j → slice_get rs k ≡ Some p → slice_get rs j ≡ Some q → p ≡ q
@@ -25,14 +25,14 @@ same-default (x ∷ xs) zero d e h = refl
 same-default (x ∷ xs) (suc k) d e h = same-default xs k d e (omega arith)
 
 -- the run is the better one
-beats : (r old : Run) → is_better r (Some old) ≡ true → (old.len < r.len) ⊎ ((r.len ≡ old.len) × (r.first < old.first))
+beats : (r old : PlaceRun) → is_better r (Some old) ≡ true → (old.len < r.len) ⊎ ((r.len ≡ old.len) × (r.first < old.first))
 beats r old h = elim (or_cases (nat_lt old.len r.len) (nat_eq r.len old.len && nat_lt r.first old.first) h) [
   | inl e ↦ inl (ltb-true old.len r.len e)
   | inr e ↦ (let p = and_parts (nat_eq r.len old.len) (nat_lt r.first old.first) e in inr (eqb-true r.len old.len p.0, ltb-true r.first old.first p.1))
 ]
 
 -- it isn't
-loses : (r old : Run) → is_better r (Some old) ≡ false → (r.len ≤ old.len) × (r.len ≡ old.len → old.first ≤ r.first)
+loses : (r old : PlaceRun) → is_better r (Some old) ≡ false → (r.len ≤ old.len) × (r.len ≡ old.len → old.first ≤ r.first)
 loses r old h =
     let p = or_parts (nat_lt old.len r.len) (nat_eq r.len old.len && nat_lt r.first old.first) h in (
       ltb-false old.len r.len p.0,
@@ -47,10 +47,10 @@ module _ (near : Reg → ℕ → Bool) (count : ℕ) (rs : List Reg) where
   none-yet j f l r h e w run = absurd (omega arith)
 
   -- no run of an earlier register is longer, or as long and no later
-  abbrev Behind : ℕ → Run → Type 0
+  abbrev Behind : ℕ → PlaceRun → Type 0
   Behind k b = (j f l : ℕ) (r : Reg) → j < k → slice_get rs j ≡ Some r → IsWithin count f l → IsRun (near r) f l → (l < b.len) ⊎ ((l ≡ b.len) × (b.first < f))
 
-  found : (k : ℕ) (b : Run) (r : Reg) → slice_get rs k ≡ Some r → IsLongest (near r) count count b.first b.len → b.register ≡ r → Behind k b → IsBest near count rs (k + 1) b
+  found : (k : ℕ) (b : PlaceRun) (r : Reg) → slice_get rs k ≡ Some r → IsLongest (near r) count count b.first b.len → b.register ≡ r → Behind k b → IsBest near count rs (k + 1) b
   found k b r at h named behind = record {
     place = k;
     before = omega arith;
@@ -83,7 +83,7 @@ module _ (near : Reg → ℕ → Bool) (count : ℕ) (rs : List Reg) where
         | inr last ↦ last
       ]
 
-  kept : (k : ℕ) (b old : Run) (r : Reg) → slice_get rs k ≡ Some r → IsLongest (near r) count count b.first b.len → IsBest near count rs k old → is_better b (Some old) ≡ false → IsBest near count rs (k + 1) old
+  kept : (k : ℕ) (b old : PlaceRun) (r : Reg) → slice_get rs k ≡ Some r → IsLongest (near r) count count b.first b.len → IsBest near count rs k old → is_better b (Some old) ≡ false → IsBest near count rs (k + 1) old
   kept k b old r at h was worse = record {
     place = was.place;
     before = (let p = was.before in omega arith);
@@ -125,13 +125,13 @@ module _ (near : Reg → ℕ → Bool) (count : ℕ) (rs : List Reg) where
       foremost j q z e run = elim (cases_lt j k) [ inl early ↦ was.foremost j q early e run | inr last ↦ (let p = was.before in omega arith) ]
 
   -- no run of the register changes nothing
-  passed : (k : ℕ) (best : Option Run) (r : Reg) → slice_get rs k ≡ Some r → ((f l : ℕ) → IsWithin count f l → f + l ≤ count → IsRun (near r) f l → ⊥) → IsBestRun near count rs k best → IsBestRun near count rs (k + 1) best
+  passed : (k : ℕ) (best : Option PlaceRun) (r : Reg) → slice_get rs k ≡ Some r → ((f l : ℕ) → IsWithin count f l → f + l ≤ count → IsRun (near r) f l → ⊥) → IsBestRun near count rs k best → IsBestRun near count rs (k + 1) best
   passed k best r at none = go best
     where
       last : (j f l : ℕ) (q : Reg) → k ≤ j → j < k + 1 → slice_get rs j ≡ Some q → IsWithin count f l → IsRun (near q) f l → ⊥
       last j f l q a z e w run = let s : j ≡ k = omega arith in let P : Reg → Type 0 = λ q. IsRun (near q) f l in none f l w w.inside (subst P (same-register rs j k q r s e at) run)
 
-      go : (o : Option Run) → IsBestRun near count rs k o → IsBestRun near count rs (k + 1) o
+      go : (o : Option PlaceRun) → IsBestRun near count rs k o → IsBestRun near count rs (k + 1) o
       go None was = λ j f l q z e w run. elim (cases_lt j k) [ inl early ↦ was j f l q early e w run | inr now ↦ last j f l q now z e w run ]
       go (Some b) was = record {
         place = was.place;
@@ -145,7 +145,7 @@ module _ (near : Reg → ℕ → Bool) (count : ℕ) (rs : List Reg) where
       }
 
   -- one more run
-  met : (k : ℕ) (best : Option Run) (b : Run) (r : Reg) → slice_get rs k ≡ Some r → IsLongest (near r) count count b.first b.len → b.register ≡ r → IsBestRun near count rs k best → IsBestRun near count rs (k + 1) (better_of best (Some b))
+  met : (k : ℕ) (best : Option PlaceRun) (b : PlaceRun) (r : Reg) → slice_get rs k ≡ Some r → IsLongest (near r) count count b.first b.len → b.register ≡ r → IsBestRun near count rs k best → IsBestRun near count rs (k + 1) (better_of best (Some b))
   met k None b r at h named was = found k b r at h named (λ j f l q z e w run. absurd (was j f l q z e w run))
   met k (Some old) b r at h named was = go (is_better b (Some old)) refl
     where
@@ -167,17 +167,17 @@ module _ (near : Reg → ℕ → Bool) (count : ℕ) (rs : List Reg) where
       go true e = found k b r at h named (behind e)
       go false e = kept k b old r at h was e
 
-  pub better-next : (k : ℕ) (best other new : Option Run) (r : Reg) → k < length rs → r ≡ get_or rs k r → IsLongestRun (near r) count count r other → new ≡ better_of best other → IsBestRun near count rs k best → IsBestRun near count rs (k + 1) new
+  pub better-next : (k : ℕ) (best other new : Option PlaceRun) (r : Reg) → k < length rs → r ≡ get_or rs k r → IsLongestRun (near r) count count r other → new ≡ better_of best other → IsBestRun near count rs k best → IsBestRun near count rs (k + 1) new
   better-next k best other new r h at long is was = subst (IsBestRun near count rs (k + 1)) (sym is) (go other long)
     where
-      go : (o : Option Run) → IsLongestRun (near r) count count r o → IsBestRun near count rs (k + 1) (better_of best o)
+      go : (o : Option PlaceRun) → IsLongestRun (near r) count count r o → IsBestRun near count rs (k + 1) (better_of best o)
       go None none = passed k best r (at-index rs k r h at) none was
       go (Some b) l = met k best b r (at-index rs k r h at) l.0 l.1 was
 
-  pub next-better : (k : ℕ) (best other new : Option Run) (d : Reg) → k < length rs → IsLongestRun (near (get_or rs k d)) count count (get_or rs k d) other → new ≡ better_of best other → IsBestRun near count rs k best → IsBestRun near count rs (k + 1) new
+  pub next-better : (k : ℕ) (best other new : Option PlaceRun) (d : Reg) → k < length rs → IsLongestRun (near (get_or rs k d)) count count (get_or rs k d) other → new ≡ better_of best other → IsBestRun near count rs k best → IsBestRun near count rs (k + 1) new
   next-better k best other new d h long is was = better-next k best other new (get_or rs k d) h (same-default rs k d (get_or rs k d) h) long is was
 
-  pub all-seen : (k : ℕ) (best : Option Run) → length rs ≤ k → IsBestRun near count rs k best → IsBestRun near count rs (length rs) best
+  pub all-seen : (k : ℕ) (best : Option PlaceRun) → length rs ≤ k → IsBestRun near count rs k best → IsBestRun near count rs (length rs) best
   all-seen k None h was = λ j f l q z e w run. was j f l q (omega arith) e w run
   all-seen k (Some b) h was = record {
     place = was.place;

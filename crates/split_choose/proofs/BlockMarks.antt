@@ -7,7 +7,7 @@ use Rattle.mir_func.specs.declared.func.Block.{Block}
 use Rattle.mir_func.specs.Value.{Function}
 use Rattle.live_lanes.specs.declared.ask.labels.Mark.{Mark}
 use Rattle.cut_place.specs.Flows.{in_set}
-use Rattle.split_choose.specs.declared.nets.Row.{Row}
+use Rattle.split_choose.specs.declared.nets.BlockNodes.{BlockNodes}
 use Rattle.split_choose.specs.Offers.{View, In, Out, first_id, before_terminators}
 use Rattle.split_choose.specs.Nets.{node_if}
 use Rattle.split_choose.specs.Cuts.{Choice, Bundle, Inner, same_gap, has_inside, enters, leaves, in_inside, in_start, in_end, from_first_gap, number_of, choice_marks}
@@ -68,14 +68,14 @@ module _ (t : Target) (f : Function) (v : ℕ) (view : View) (freqs : List ℕ) 
       ∙ (ap (λ y. marks-by false y (has_inside t f v view r b) b) m
       ∙ (ap (λ y. marks-by false false y b) h ∙ marks-none b))
 
-  pub labels-are : (rows : List Row) → Along (λ (row : Row). row.position) (IsRowAt t f v view freqs r) (IsUntold t f v view) 0 f.blocks rows
+  pub labels-are : (rows : List BlockNodes) → Along (λ (row : BlockNodes). row.position) (IsRowAt t f v view freqs r) (IsUntold t f v view) 0 f.blocks rows
       → ((k : ℕ) (b : Block) → IsUntold t f v view k b → has_inside t f v view r b ≡ false) → ((k : ℕ) (b : Block) → IsUntold t f v view k b → leaves t f v view r b ≡ false)
       → rows_marks t f v view inside rows ≡ flat_map (choice_marks t f v view r chosen) f.blocks
   labels-are rows along none last =
-      along-flat (λ (row : Row). row.position) (IsRowAt t f v view freqs r) (IsUntold t f v view)
-      (λ (row : Row). row_marks t f v view row (sides_of inside row) (slice_get f.blocks row.position)) (choice_marks t f v view r chosen)
+      along-flat (λ (row : BlockNodes). row.position) (IsRowAt t f v view freqs r) (IsUntold t f v view)
+      (λ (row : BlockNodes). row_marks t f v view row (sides_of inside row) (slice_get f.blocks row.position)) (choice_marks t f v view r chosen)
       (λ k b row is.
-      ap (λ (y : Row). row_marks t f v view y (sides_of inside y) (slice_get f.blocks y.position)) is.same
+      ap (λ (y : BlockNodes). row_marks t f v view y (sides_of inside y) (slice_get f.blocks y.position)) is.same
       ∙ (ap (row_marks t f v view (block_row t f v view freqs r k b) (sides_of inside (block_row t f v view freqs r k b))) is.at ∙ marks-at k b))
       (λ k b untold. untold-marks b untold.live_in (last k b untold) (none k b untold))
       0 f.blocks rows along

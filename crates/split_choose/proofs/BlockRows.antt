@@ -10,7 +10,7 @@ use Rattle.mir_func.specs.declared.func.Block.{Block}
 use Rattle.mir_func.specs.Value.{Function}
 use Rattle.mir_meaning.specs.Points.{block_points}
 use Rattle.split_choose.specs.declared.spans.Span.{Span}
-use Rattle.split_choose.specs.declared.nets.Row.{Row}
+use Rattle.split_choose.specs.declared.nets.BlockNodes.{BlockNodes}
 use Rattle.split_choose.specs.Bundles.{start_of, end_of, are_joined, ArePlaced, AreEarlier}
 use Rattle.split_choose.specs.Nets.{count_below, is_free, node_of, node_if, row_of, rows_from}
 use Rattle.split_choose.specs.Nets.{has_inside as span_inside}
@@ -49,7 +49,7 @@ same-node b c n m e same = go b c e same
 
 module _ (t : Target) (f : Function) (v : ℕ) (view : View) (freqs : List ℕ) (r : Reg) where
   -- what a row tells of the block at a position
-  abbrev pub block_row : ℕ → Block → Row
+  abbrev pub block_row : ℕ → Block → BlockNodes
   block_row k b = record {
     position = k;
     entry = node_if (enters t f v view r b) (number_of t f v view r (Bundle (In b.number)));
@@ -61,7 +61,7 @@ module _ (t : Target) (f : Function) (v : ℕ) (view : View) (freqs : List ℕ) 
   }
 
   -- the row is that of the block at a position
-  pub record IsRowAt (k : ℕ) (b : Block) (row : Row) : Type 0 where
+  pub record IsRowAt (k : ℕ) (b : Block) (row : BlockNodes) : Type 0 where
     pub at : slice_get f.blocks k ≡ Some b
     pub same : row ≡ block_row k b
 
@@ -168,14 +168,14 @@ module _ (t : Target) (f : Function) (v : ℕ) (view : View) (freqs : List ℕ) 
       next-is false k next e low = let s = step k false e in omega (arith, s, low)
 
       rows-along : (k next : ℕ) (bs : List Block) (ss : List Span) → next ≡ first_inside + count_below inside_at k → Along (λ (s : Span). s.position) (IsTold t f v view freqs spans) (IsUntold t f v view) k bs ss
-          → Along (λ (row : Row). row.position) IsRowAt (IsUntold t f v view) k bs (rows_from (node_of ps clear spans) (span_inside clear) next ss)
+          → Along (λ (row : BlockNodes). row.position) IsRowAt (IsUntold t f v view) k bs (rows_from (node_of ps clear spans) (span_inside clear) next ss)
       rows-along k next [] ss low a = ap (rows_from (node_of ps clear spans) (span_inside clear) next) a
       rows-along k next (b ∷ bs) ss low a = go a (λ after rest. rows-along (suc k) after bs rest)
         where
           go : Along (λ (s : Span). s.position) (IsTold t f v view freqs spans) (IsUntold t f v view) k (b ∷ bs) ss
               → ((after : ℕ) (rest : List Span) → after ≡ first_inside + count_below inside_at (suc k) → Along (λ (s : Span). s.position) (IsTold t f v view freqs spans) (IsUntold t f v view) (suc k) bs rest
-              → Along (λ (row : Row). row.position) IsRowAt (IsUntold t f v view) (suc k) bs (rows_from (node_of ps clear spans) (span_inside clear) after rest))
-              → Along (λ (row : Row). row.position) IsRowAt (IsUntold t f v view) k (b ∷ bs) (rows_from (node_of ps clear spans) (span_inside clear) next ss)
+              → Along (λ (row : BlockNodes). row.position) IsRowAt (IsUntold t f v view) (suc k) bs (rows_from (node_of ps clear spans) (span_inside clear) after rest))
+              → Along (λ (row : BlockNodes). row.position) IsRowAt (IsUntold t f v view) k (b ∷ bs) (rows_from (node_of ps clear spans) (span_inside clear) next ss)
           go (inl (none, rest)) ih = inl (none, ih next ss (next-is false k next (sym (inside-at k b none.at) ∙ has-none k b none) low) rest)
           go (inr (s, more, e, told, rest)) ih =
               let after = cond (span_inside clear s) (next + 1) next in
@@ -188,7 +188,7 @@ module _ (t : Target) (f : Function) (v : ℕ) (view : View) (freqs : List ℕ) 
               )
 
       -- block by block there is a row, or nothing of the range
-      pub net-along : Along (λ (row : Row). row.position) IsRowAt (IsUntold t f v view) 0 f.blocks (net_rows ps clear spans (2 * length f.blocks))
+      pub net-along : Along (λ (row : BlockNodes). row.position) IsRowAt (IsUntold t f v view) 0 f.blocks (net_rows ps clear spans (2 * length f.blocks))
       net-along = rows-along 0 first_inside f.blocks spans (omega arith) all
 
       -- a block in which the range has nothing has no inside

@@ -4,13 +4,13 @@ use Rattle.std.specs.Prelude.{◌||◌, nat_eq, nat_lt, slice_get, slice_index, 
 use Rattle.std.specs.List.{list_any}
 use Rattle.std.proofs.lemmas.Bool.{and_parts, and_from, or_cases, or_left, or_right, eqb-true, lt-ltb, ltb-true, true≢false}
 use Rattle.target_base.specs.declared.types.Target.{Target}
-use Rattle.instr_effects.specs.declared.row.Lanes.{Lanes}
+use Rattle.instr_effects.specs.declared.row.LaneSpan.{LaneSpan}
 use Rattle.mir_func.specs.declared.func.Instr.{Instr}
 use Rattle.mir_func.specs.declared.func.Block.{Block}
 use Rattle.mir_func.specs.Value.{Function}
 use Rattle.mir_meaning.specs.Points.{Point, Start, Exit}
 use Rattle.live_lanes.specs.declared.row.Cell.{Cell}
-use Rattle.live_lanes.specs.declared.row.Row.{Row}
+use Rattle.live_lanes.specs.declared.row.LaneRange.{LaneRange}
 use Rattle.live_lanes.specs.declared.table.Table.{Table}
 use Rattle.live_lanes.specs.Table.{Seen, unseen, seen, seen_in, find_cell, exit_rank}
 use Rattle.live_lanes.specs.Reach.{seen_at}
@@ -37,10 +37,10 @@ cell-found g k (d ∷ cs) c e h = go (nat_eq d.block k) refl (cell-found g k cs 
     go false f ih = or_right (g d.block) (list_any (λ (r : Cell). g r.block) cs) (ih (sym (ap (λ q. cond q (Some d) (find_cell k cs)) f) ∙ e) h)
 
 -- where something is seen of a lane in a block, the lane has a cell there
-seen-cell : (look : Seen → Bool) → look unseen ≡ false → (g : ℕ → Bool) (rows : List Row) (l k : ℕ) → look (rows_seen rows l k) ≡ true → g k ≡ true → list_any (λ c. g c.block) (cells_of rows l) ≡ true
+seen-cell : (look : Seen → Bool) → look unseen ≡ false → (g : ℕ → Bool) (rows : List LaneRange) (l k : ℕ) → look (rows_seen rows l k) ≡ true → g k ≡ true → list_any (λ c. g c.block) (cells_of rows l) ≡ true
 seen-cell look none g rows l k h t = go (slice_get rows l) refl
   where
-    go : (o : Option Row) → slice_get rows l ≡ o → list_any (λ c. g c.block) (cells_of rows l) ≡ true
+    go : (o : Option LaneRange) → slice_get rows l ≡ o → list_any (λ c. g c.block) (cells_of rows l) ≡ true
     go None e = absurd (true≢false (sym h ∙ (ap (λ q. look (elim q [ None ↦ unseen | Some r ↦ seen_in r.cells.items k ])) e ∙ none)))
     go (Some r) e = ap (λ q. list_any (λ (c : Cell). g c.block) (elim q [ None ↦ [] | Some r ↦ r.cells.items ])) e ∙ in-row (find_cell k r.cells.items) refl
       where
@@ -64,7 +64,7 @@ below-weaker p q w first (suc n) h = go (or_cases (p (first + n)) (some_below p 
 lane-weaker : (x : Table) (v : ℕ) (p q : ℕ → Bool) → ((l : ℕ) → p l ≡ true → q l ≡ true) → some_lane x v p ≡ true → some_lane x v q ≡ true
 lane-weaker x v p q w h = go (slice_get x.lanes.ranges.items v) h
   where
-    go : (o : Option Lanes) → some_of p o ≡ true → some_of q o ≡ true
+    go : (o : Option LaneSpan) → some_of p o ≡ true → some_of q o ≡ true
     go None a = a
     go (Some own) a = below-weaker p q w own.first own.count a
 
@@ -79,7 +79,7 @@ below-some p first (suc n) h = go (or_cases (p (first + n)) (some_below p first 
 lane-some : (x : Table) (v : ℕ) (p : ℕ → Bool) → some_lane x v p ≡ true → (l : ℕ) × (p l ≡ true)
 lane-some x v p h = go (slice_get x.lanes.ranges.items v) h
   where
-    go : (o : Option Lanes) → some_of p o ≡ true → (l : ℕ) × (p l ≡ true)
+    go : (o : Option LaneSpan) → some_of p o ≡ true → (l : ℕ) × (p l ≡ true)
     go None a = absurd (true≢false (sym a))
     go (Some own) a = below-some p own.first own.count a
 

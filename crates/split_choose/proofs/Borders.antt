@@ -4,7 +4,7 @@ use Rattle.std.specs.Prelude.{nat_lt, slice_get, option_map}
 use Rattle.std.specs.List.{list_any}
 use Rattle.std.proofs.lemmas.Bool.{or_from, or_left, or_parts, or_right, lt-ltb, ltb-true, cases_lt, true≢false}
 use Rattle.std.proofs.lemmas.List.{take_all}
-use Rattle.instr_effects.specs.declared.row.Lanes.{Lanes}
+use Rattle.instr_effects.specs.declared.row.LaneSpan.{LaneSpan}
 use Rattle.instr_effects.specs.Numbers.{row_number_in}
 use Rattle.live_lanes.specs.declared.row.Cell.{Cell}
 use Rattle.live_lanes.specs.Extents.{lanes_count}
@@ -35,12 +35,12 @@ module _ (g : ℕ → Bool) where
   cell_none cs k h was = sym (ap (list_any (λ (c : Cell). g c.block)) (sym (take_all k cs h)) ∙ was)
 
 -- one of the lanes before the k-th passes the test
-abbrev pub some_until : (ℕ → Bool) → Option Lanes → ℕ → Bool
+abbrev pub some_until : (ℕ → Bool) → Option LaneSpan → ℕ → Bool
 some_until g None k = false
 some_until g (Some own) k = some_below g own.first k
 
 module _ (g : ℕ → Bool) where
-  pub none_yet : (o : Option Lanes) → some_until g o 0 ≡ false
+  pub none_yet : (o : Option LaneSpan) → some_until g o 0 ≡ false
   none_yet None = refl
   none_yet (Some own) = refl
 
@@ -52,7 +52,7 @@ module _ (g : ℕ → Bool) where
       go ih (inl l) = or_right (g (first + n)) (some_below g first n) (ih l)
       go ih (inr l) = let e : k ≡ n = omega arith in or_left (g (first + n)) (some_below g first n) (sym (ap (λ m. g (first + m)) e) ∙ t)
 
-  pub lane_found : (o : Option Lanes) (k : ℕ) (r : Bool) → r ≡ some_at g (row_number_in o k) → r ≡ true → true ≡ some_of g o
+  pub lane_found : (o : Option LaneSpan) (k : ℕ) (r : Bool) → r ≡ some_at g (row_number_in o k) → r ≡ true → true ≡ some_of g o
   lane_found None k r e h = absurd (true≢false (sym h ∙ e))
   lane_found (Some own) k r e h = go (nat_lt k own.count) refl
     where
@@ -60,13 +60,13 @@ module _ (g : ℕ → Bool) where
       go true f = sym (below-any own.first k own.count (ltb-true k own.count f) (sym (ap (λ c. some_at g (cond c (Some (own.first + k)) None)) f) ∙ (sym e ∙ h)))
       go false f = absurd (true≢false (sym h ∙ (e ∙ ap (λ c. some_at g (cond c (Some (own.first + k)) None)) f)))
 
-  pub lane_next : (o : Option Lanes) (k : ℕ) (r : Bool) → r ≡ some_at g (row_number_in o k) → r ≡ false → some_until g o k ≡ false → k < lanes_count o → some_until g o (k + 1) ≡ false
+  pub lane_next : (o : Option LaneSpan) (k : ℕ) (r : Bool) → r ≡ some_at g (row_number_in o k) → r ≡ false → some_until g o k ≡ false → k < lanes_count o → some_until g o (k + 1) ≡ false
   lane_next None k r e h was lt = refl
   lane_next (Some own) k r e h was lt =
       let inside : nat_lt k own.count ≡ true = lt-ltb k own.count lt in
       let here : g (own.first + k) ≡ false = sym (ap (λ c. some_at g (cond c (Some (own.first + k)) None)) inside) ∙ (sym e ∙ h) in
       ap (some_below g own.first) (add-one k) ∙ or_from (g (own.first + k)) (some_below g own.first k) here was
 
-  pub lane_none : (o : Option Lanes) (k : ℕ) → lanes_count o ≤ k → k ≤ lanes_count o → some_until g o k ≡ false → false ≡ some_of g o
+  pub lane_none : (o : Option LaneSpan) (k : ℕ) → lanes_count o ≤ k → k ≤ lanes_count o → some_until g o k ≡ false → false ≡ some_of g o
   lane_none None k h l was = refl
   lane_none (Some own) k h l was = let e : k ≡ own.count = omega arith in sym (ap (some_below g own.first) (sym e) ∙ was)

@@ -4,14 +4,14 @@ use Rattle.std.proofs.lemmas.List.{take_all, get_or_default}
 use Rattle.target_base.specs.declared.types.Reg.{Reg}
 use Rattle.interference.specs.declared.matrix.Matrix.{Matrix}
 use Rattle.split_choose.specs.declared.spans.Span.{Span}
-use Rattle.split_choose.specs.declared.regions.Offer.{Offer}
+use Rattle.split_choose.specs.declared.regions.RegionCandidate.{RegionCandidate}
 use Rattle.split_choose.specs.Offers.{least}
 use Rattle.split_choose.specs.Regions.{capped, uses_of}
 use Rattle.split_choose.specs.Parts.{IsPart, IsBest, part_cost, parts_of}
 use Rattle.split_choose.proofs.Least.{bounded, best-taken, best-passed}
 
 -- the best so far, with the cost that a better one stays below
-pub record Picks (m : Matrix) (v : ℕ) (parents : List ℕ) (spans : List Span) (rs : List Reg) (limit : ℕ) (chosen : Option Offer) : Type 0 where
+pub record Picks (m : Matrix) (v : ℕ) (parents : List ℕ) (spans : List Span) (rs : List Reg) (limit : ℕ) (chosen : Option RegionCandidate) : Type 0 where
   pub best : IsBest m v parents spans (least (parts_of m v parents spans rs)) chosen
   pub bound : limit ≡ bounded (capped (uses_of spans)) (least (parts_of m v parents spans rs))
 
@@ -20,7 +20,7 @@ module _ (m : Matrix) (v : ℕ) (parents : List ℕ) (spans : List Span) where
   pick_first [] bound e = record { best = refl; bound = e }
   pick_first (r ∷ rs) bound e = record { best = refl; bound = e }
 
-  module _ (rs : List Reg) (k : ℕ) (d : Reg) (o : Offer) (bound : ℕ) (best : Option Offer) (h : k < length rs) (part : IsPart m v parents spans (get_or rs k d) o) (was : Picks m v parents spans (take k rs) bound best) where
+  module _ (rs : List Reg) (k : ℕ) (d : Reg) (o : RegionCandidate) (bound : ℕ) (best : Option RegionCandidate) (h : k < length rs) (part : IsPart m v parents spans (get_or rs k d) o) (was : Picks m v parents spans (take k rs) bound best) where
     abbrev r : Reg
     r = get_or rs k d
 
@@ -52,5 +52,5 @@ module _ (m : Matrix) (v : ℕ) (parents : List ℕ) (spans : List Span) where
           bound = was.bound ∙ ap (bounded (capped (uses_of spans))) (sym is);
         }
 
-  pub pick_last : (rs : List Reg) (k bound : ℕ) (best : Option Offer) → length rs ≤ k → Picks m v parents spans (take k rs) bound best → IsBest m v parents spans (least (parts_of m v parents spans rs)) best
+  pub pick_last : (rs : List Reg) (k bound : ℕ) (best : Option RegionCandidate) → length rs ≤ k → Picks m v parents spans (take k rs) bound best → IsBest m v parents spans (least (parts_of m v parents spans rs)) best
   pick_last rs k bound best h was = let P : List Reg → Type 0 = λ qs. IsBest m v parents spans (least (parts_of m v parents spans qs)) best in subst P (take_all k rs h) was.best

@@ -13,10 +13,10 @@ use Rattle.mir_func.specs.Value.{Function}
 use Rattle.mir_meaning.specs.Points.{Point, Start, Entry, Exit, block_points, touches}
 use Rattle.live_lanes.specs.declared.ask.extent.Stretch.{Stretch}
 use Rattle.live_lanes.specs.declared.row.Cell.{Cell}
-use Rattle.live_lanes.specs.declared.row.Row.{Row}
-use Rattle.live_lanes.specs.declared.row.Segment.{Segment}
-use Rattle.live_lanes.specs.declared.row.End.{End}
-use Rattle.live_lanes.specs.declared.row.End.TheVariants as ends
+use Rattle.live_lanes.specs.declared.row.LaneRange.{LaneRange}
+use Rattle.live_lanes.specs.declared.row.DefPiece.{DefPiece}
+use Rattle.live_lanes.specs.declared.row.PieceEnd.{PieceEnd}
+use Rattle.live_lanes.specs.declared.row.PieceEnd.TheVariants as ends
 use Rattle.live_lanes.specs.declared.table.Table.{Table}
 use Rattle.mir_meaning.specs.Paths.{has}
 use Rattle.live_lanes.specs.Graph.{is_live}
@@ -46,7 +46,7 @@ module _ (m : Matrix) (v : ℕ) (finds : FindsPoints m) (places : FindsPlaces m.
   abbrev slots : Numbers
   slots = m.live.table.order.slots
 
-  abbrev rows : List Row
+  abbrev rows : List LaneRange
   rows = m.live.table.rows.rows.items
 
   abbrev units : List UnitNumber
@@ -175,7 +175,7 @@ module _ (m : Matrix) (v : ℕ) (finds : FindsPoints m) (places : FindsPlaces m.
     lane-live l r every h = go (cell-or-not rows l k)
       where
         -- it has no piece that begins with a writing
-        alone : (c : Cell) (ps : List Segment) → c.segments.items ≡ ps → rows_seen rows l k ≡ seen_cell c → find_cell k (cells_of rows l) ≡ Some c → is_live (causes rows l k 0) ≡ true
+        alone : (c : Cell) (ps : List DefPiece) → c.segments.items ≡ ps → rows_seen rows l k ≡ seen_cell c → find_cell k (cells_of rows l) ≡ Some c → is_live (causes rows l k 0) ≡ true
         alone c [] none e f = by_cause (is_live (causes rows l k 0)) refl
           where
             unheld : (w : Seen) → w.segments ≡ [] → w.end ≡ ends.Never → held_at slots w r ≡ false

@@ -4,7 +4,7 @@ use Rattle.std.specs.Prelude.{not}
 use Rattle.std.proofs.lemmas.List.Sums.{sum_by-cons}
 use Rattle.cut_place.specs.declared.net.Arc.{Arc}
 use Rattle.cut_place.specs.Flows.{capacity_where, capacity_leaving, IsCut}
-use Rattle.split_choose.specs.declared.nets.Row.{Row}
+use Rattle.split_choose.specs.declared.nets.BlockNodes.{BlockNodes}
 use Rattle.split_choose.specs.Nets.{arc_to, arcs_between, row_arcs, arcs_of, row_base, base_of, inside_uses}
 use Rattle.split_choose.specs.Placings.{copy_cost, out_cost, row_cost, choice_cost}
 
@@ -47,7 +47,7 @@ inner c entry exit n most own last h =
     (leaving-two c (arcs_between entry n most ++ arcs_between exit n most) (arc_to 0 (Some n) own) _ _
     (leaving-two c (arcs_between entry n most) (arcs_between exit n most) _ _ (copies c entry n most) (copies c exit n most)) (outs c (Some n) own h)) (outs c exit last h)
 
-row : (c : ℕ → Bool) (r : Row) → c 0 ≡ true → row_base r + capacity_leaving c (row_arcs r) ≡ row_cost c r
+row : (c : ℕ → Bool) (r : BlockNodes) → c 0 ≡ true → row_base r + capacity_leaving c (row_arcs r) ≡ row_cost c r
 row c r h = go r.inside refl
   where
     go : (inside : Option ℕ) → r.inside ≡ inside → row_base r + capacity_leaving c (row_arcs r) ≡ row_cost c r
@@ -55,7 +55,7 @@ row c r h = go r.inside refl
     go (Some n) e = rw e (zero-more _ ∙ inner c r.entry r.exit n r.frequency (inside_uses r) r.end_uses h)
 
 -- Each choice of nodes that is a cut costs what the arcs that leave it carry, and the base.
-pub cost-is : (c : ℕ → Bool) (rows : List Row) → IsCut c → base_of rows + capacity_leaving c (arcs_of rows) ≡ choice_cost c rows
+pub cost-is : (c : ℕ → Bool) (rows : List BlockNodes) → IsCut c → base_of rows + capacity_leaving c (arcs_of rows) ≡ choice_cost c rows
 cost-is c [] cut = refl
 cost-is c (r ∷ rows) cut =
     let here = row c r cut.0 in

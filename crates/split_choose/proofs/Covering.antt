@@ -8,14 +8,14 @@ use Rattle.std.proofs.lemmas.Grind.{flat_map-append}
 use Rattle.meaning.specs.Live.{Among, here, there}
 use Rattle.mir_meaning.specs.Registers.{numbers}
 use Rattle.mir_func.specs.declared.func.Instr.{Instr}
-use Rattle.instr_effects.specs.declared.row.Lanes.{Lanes}
+use Rattle.instr_effects.specs.declared.row.LaneSpan.{LaneSpan}
 use Rattle.instr_effects.specs.Numbered.{number_in}
 use Rattle.instr_effects.specs.declared.owner.Owner.TheVariants as owners
 use Rattle.live_lanes.specs.declared.ask.extent.Extent.{Extent}
 use Rattle.live_lanes.specs.declared.ask.extent.Stretch.{Stretch}
-use Rattle.live_lanes.specs.declared.row.Segment.{Segment}
+use Rattle.live_lanes.specs.declared.row.DefPiece.{DefPiece}
 use Rattle.live_lanes.specs.declared.row.Cell.{Cell}
-use Rattle.live_lanes.specs.declared.row.Row.{Row}
+use Rattle.live_lanes.specs.declared.row.LaneRange.{LaneRange}
 use Rattle.live_lanes.specs.declared.table.Table.{Table}
 use Rattle.live_lanes.specs.Table.{Numbers, Begun, Seen, begun, unseen, seen, seen_cell, seen_in, find_cell, is_below, descends, entry_rank, exit_rank, end_rank, rises_from}
 use Rattle.mir_meaning.specs.Paths.{has}
@@ -70,7 +70,7 @@ module _ {A : Type 0} (x : Table) (v : ℕ) (g : Option ℕ → List A) (p : A �
     or-comm false true = refl
     or-comm false false = refl
 
-    some-lanes : (own : Lanes) → slice_get x.lanes.ranges.items v ≡ Some own → (n : ℕ) → n ≤ own.count → list_any p (flat_map given (numbers 0 n)) ≡ some_below test own.first n
+    some-lanes : (own : LaneSpan) → slice_get x.lanes.ranges.items v ≡ Some own → (n : ℕ) → n ≤ own.count → list_any p (flat_map given (numbers 0 n)) ≡ some_below test own.first n
     some-lanes own at zero h = refl
     some-lanes own at (suc n) h =
         let next : numbers 0 (suc n) ≡ numbers 0 n ++ n ∷ [] = (let s : suc n ≡ n + 1 = omega arith in ap (numbers 0) s ∙ numbers_next n) in
@@ -89,7 +89,7 @@ module _ {A : Type 0} (x : Table) (v : ℕ) (g : Option ℕ → List A) (p : A �
     pub any-lane : list_any p (flat_map given (numbers 0 (lanes_count (slice_get x.lanes.ranges.items v)))) ≡ some_lane x v test
     any-lane = go (slice_get x.lanes.ranges.items v) refl
       where
-        go : (o : Option Lanes) → slice_get x.lanes.ranges.items v ≡ o → list_any p (flat_map given (numbers 0 (lanes_count (slice_get x.lanes.ranges.items v)))) ≡ some_of test (slice_get x.lanes.ranges.items v)
+        go : (o : Option LaneSpan) → slice_get x.lanes.ranges.items v ≡ o → list_any p (flat_map given (numbers 0 (lanes_count (slice_get x.lanes.ranges.items v)))) ≡ some_of test (slice_get x.lanes.ranges.items v)
         go None e = ap (λ o. list_any p (flat_map given (numbers 0 (lanes_count o)))) e ∙ sym (ap (some_of test) e)
         go (Some own) e = ap (λ o. list_any p (flat_map given (numbers 0 (lanes_count o)))) e ∙ (some-lanes own e own.count (omega arith) ∙ sym (ap (some_of test) e))
 
@@ -179,10 +179,10 @@ module _ (slots : Numbers) (at : ℕ) where
           let T : Option Cell → Type 0 = λ o. ends_in_turn slots (seen o) ≡ true in
           ap (λ ss. is_covered ss at) (one-there slots k cs c down e) ∙ (cell-covers c (subst R e rises) (subst T e turns) ∙ ap (λ o. is_met_in slots (seen o) (only at)) (sym e))
 
-seen-there : (rows : List Row) (l k : ℕ) → rows_seen rows l k ≡ seen_in (cells_of rows l) k
+seen-there : (rows : List LaneRange) (l k : ℕ) → rows_seen rows l k ≡ seen_in (cells_of rows l) k
 seen-there rows l k = go (slice_get rows l) refl
   where
-    go : (o : Option Row) → slice_get rows l ≡ o → rows_seen rows l k ≡ seen_in (cells_of rows l) k
+    go : (o : Option LaneRange) → slice_get rows l ≡ o → rows_seen rows l k ≡ seen_in (cells_of rows l) k
     go None e = ap (λ o. elim o as (λ x. Seen) [ None ↦ unseen | Some r ↦ seen_in r.cells.items k ]) e ∙ sym (ap (λ o. seen_in (elim o as (λ x. List Cell) [ None ↦ [] | Some r ↦ r.cells.items ]) k) e)
     go (Some r) e = ap (λ o. elim o as (λ x. Seen) [ None ↦ unseen | Some r ↦ seen_in r.cells.items k ]) e ∙ sym (ap (λ o. seen_in (elim o as (λ x. List Cell) [ None ↦ [] | Some r ↦ r.cells.items ]) k) e)
 
@@ -237,12 +237,12 @@ extent-begins slots is c e begins m = let z = extent-piece c e m in by_place z.0
     at-start id true h = (any-rank slots is id h).0
     at-start id false h = (any-rank slots is id h).1
 
-    listed : (ss : List Segment) (j : ℕ) (p : Segment) → list_all (λ (b : Begun). has b.start (ids_of is)) (map begun ss) ≡ true → slice_get ss j ≡ Some p → has p.start (ids_of is) ≡ true
+    listed : (ss : List DefPiece) (j : ℕ) (p : DefPiece) → list_all (λ (b : Begun). has b.start (ids_of is)) (map begun ss) ≡ true → slice_get ss j ≡ Some p → has p.start (ids_of is) ≡ true
     listed [] j p h g = cc
-    listed (s ∷ ss) zero p h g = let same : s ≡ p = cc in ap (λ (q : Segment). has q.start (ids_of is)) (sym same) ∙ (and_parts (has s.start (ids_of is)) (list_all (λ (b : Begun). has b.start (ids_of is)) (map begun ss)) h).0
+    listed (s ∷ ss) zero p h g = let same : s ≡ p = cc in ap (λ (q : DefPiece). has q.start (ids_of is)) (sym same) ∙ (and_parts (has s.start (ids_of is)) (list_all (λ (b : Begun). has b.start (ids_of is)) (map begun ss)) h).0
     listed (s ∷ ss) (suc j) p h g = listed ss j p (and_parts (has s.start (ids_of is)) (list_all (λ (b : Begun). has b.start (ids_of is)) (map begun ss)) h).1 g
 
-    segment : (j : ℕ) (o : Option Segment) → slice_get c.segments.items j ≡ o → option_map segment_extent o ≡ Some e → begins_at_point slots is (stretch_of slots e) ≡ true
+    segment : (j : ℕ) (o : Option DefPiece) → slice_get c.segments.items j ≡ o → option_map segment_extent o ≡ Some e → begins_at_point slots is (stretch_of slots e) ≡ true
     segment j None g h = cc
     segment j (Some p) g h =
         let same : segment_extent p ≡ e = cc in

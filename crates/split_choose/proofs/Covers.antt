@@ -9,9 +9,9 @@ use Rattle.meaning.specs.Live.{Among, here, there}
 use Rattle.mir_meaning.specs.Registers.{numbers}
 use Rattle.live_lanes.specs.declared.ask.extent.Extent.{Extent}
 use Rattle.live_lanes.specs.declared.ask.extent.Stretch.{Stretch}
-use Rattle.live_lanes.specs.declared.row.Segment.{Segment}
+use Rattle.live_lanes.specs.declared.row.DefPiece.{DefPiece}
 use Rattle.live_lanes.specs.declared.row.Cell.{Cell}
-use Rattle.live_lanes.specs.declared.row.End.{End}
+use Rattle.live_lanes.specs.declared.row.PieceEnd.{PieceEnd}
 use Rattle.live_lanes.specs.Table.{Numbers, Begun, Seen, begun, seen_cell, entry_rank, exit_rank, end_rank, rises_from}
 use Rattle.live_lanes.specs.Reach.{is_never}
 use Rattle.live_lanes.specs.Entered.{piece_count}
@@ -35,7 +35,7 @@ only-held slots v r = let e : r + 1 - r ≡ 1 = omega arith in ap (λ n. list_an
 pub met-wider : (slots : Numbers) (v : Seen) (r : ℕ) (at : Stretch) → at.first ≤ r → r ≤ at.last → is_met_in slots v (only r) ≡ true → is_met_in slots v at ≡ true
 met-wider slots v r at lo hi h = any-in (held_at slots v) at.first (at.last + 1 - at.first) r lo (omega arith) (sym (only-held slots v r) ∙ h)
 
-pub segment-at : (xs : List Segment) (j : ℕ) (s : Begun) → slice_get (map begun xs) j ≡ Some s → (p : Segment) × (slice_get xs j ≡ Some p) × (begun p ≡ s)
+pub segment-at : (xs : List DefPiece) (j : ℕ) (s : Begun) → slice_get (map begun xs) j ≡ Some s → (p : DefPiece) × (slice_get xs j ≡ Some p) × (begun p ≡ s)
 segment-at [] j s g = absurd (cc)
 segment-at (x ∷ xs) zero s g = (x, refl, some-same (begun x) s g)
 segment-at (x ∷ xs) (suc j) s g = segment-at xs j s g
@@ -122,11 +122,11 @@ module _ (slots : Numbers) where
   start-lasts : (c : Cell) (j : ℕ) (s : Begun) → slice_get (map begun c.segments.items) j ≡ Some s → lasts slots (hold_rank slots s) (extent_in (Some c) (suc j)) ≡ true
   start-lasts c j s g = go (segment-at c.segments.items j s g)
     where
-      go : ((p : Segment) × (slice_get c.segments.items j ≡ Some p) × (begun p ≡ s)) → lasts slots (hold_rank slots s) (option_map segment_extent (slice_get c.segments.items j)) ≡ true
+      go : ((p : DefPiece) × (slice_get c.segments.items j ≡ Some p) × (begun p ≡ s)) → lasts slots (hold_rank slots s) (option_map segment_extent (slice_get c.segments.items j)) ≡ true
       go (p, at, is) =
           let P : Begun → Type 0 = λ b. lasts slots (hold_rank slots b) (Some (segment_extent p)) ≡ true in
           let high = hold-high slots (begun p) in
-          ap (λ (o : Option Segment). lasts slots (hold_rank slots s) (option_map segment_extent o)) at ∙ subst P is (le-leb (hold_rank slots (begun p)) (max (end_rank slots p.piece.end) (exit_rank slots p.start)) (omega arith))
+          ap (λ (o : Option DefPiece). lasts slots (hold_rank slots s) (option_map segment_extent o)) at ∙ subst P is (le-leb (hold_rank slots (begun p)) (max (end_rank slots p.piece.end) (exit_rank slots p.start)) (omega arith))
 
   -- a lane in a stretch is at a point of it: the stretch's first, or the first of a piece
   module _ (c : Cell) (rises : rises_from slots 0 (seen_cell c).segments ≡ true) where
@@ -209,7 +209,7 @@ slice-below (y ∷ xs) (suc k) x e = let h = slice-below xs k x e in omega arith
 pub piece-extent : (c : Cell) (k : ℕ) (e : Extent) → extent_in (Some c) k ≡ Some e → Among e (cell_extents c)
 piece-extent c k e h = filter_map-of (extent_in (Some c)) (numbers 0 (piece_count (Some c))) k e (numbers-of 0 (piece_count (Some c)) k (omega arith) (below k h)) h
   where
-    seg : (j : ℕ) (o : Option Segment) → slice_get c.segments.items j ≡ o → option_map segment_extent o ≡ Some e → suc j < 0 + (length c.segments.items + 1)
+    seg : (j : ℕ) (o : Option DefPiece) → slice_get c.segments.items j ≡ o → option_map segment_extent o ≡ Some e → suc j < 0 + (length c.segments.items + 1)
     seg j None g f = absurd (cc)
     seg j (Some p) g f = let b = slice-below c.segments.items j p g in omega arith
 
@@ -237,7 +237,7 @@ module _ (slots : Numbers) (c : Cell) (rises : rises_from slots 0 (seen_cell c).
       segment-start : (j : ℕ) (e : Extent) → extent_in (Some c) (suc j) ≡ Some e → ((s : Begun) × (slice_get vs j ≡ Some s) × (hold_rank slots s ≤ r) × ((t : Begun) → slice_get vs (suc j) ≡ Some t → r < hold_rank slots t)) → first_rank slots e ≤ r
       segment-start j e h z = by_segment (segment-at c.segments.items j z.0 z.1)
         where
-          by_segment : ((p : Segment) × (slice_get c.segments.items j ≡ Some p) × (begun p ≡ z.0)) → first_rank slots e ≤ r
+          by_segment : ((p : DefPiece) × (slice_get c.segments.items j ≡ Some p) × (begun p ≡ z.0)) → first_rank slots e ≤ r
           by_segment (p, at, is) =
               let P : Begun → Type 0 = λ b. hold_rank slots b ≤ r in let Q : Extent → Type 0 = λ x. first_rank slots x ≤ r in
               let same : segment_extent p ≡ e = some-same (segment_extent p) e (sym (ap (option_map segment_extent) at) ∙ h) in
@@ -250,7 +250,7 @@ module _ (slots : Numbers) (c : Cell) (rises : rises_from slots 0 (seen_cell c).
 -- pieces end in turn
 
 module _ (slots : Numbers) where
-  turn-first : (e : End) (m : ℕ) (ss : List Begun) (i : ℕ) (s : Begun) → rises_from slots m ss ≡ true → turns_from slots e ss ≡ true → slice_get ss i ≡ Some s → end_rank slots e ≤ hold_rank slots s
+  turn-first : (e : PieceEnd) (m : ℕ) (ss : List Begun) (i : ℕ) (s : Begun) → rises_from slots m ss ≡ true → turns_from slots e ss ≡ true → slice_get ss i ≡ Some s → end_rank slots e ≤ hold_rank slots s
   turn-first e m [] i s r t g = absurd (cc)
   turn-first e m (x ∷ xs) zero s r t g = let P : Begun → Type 0 = λ y. end_rank slots e ≤ hold_rank slots y in subst P (some-same x s g) (leb-true (end_rank slots e) (hold_rank slots x) (and_parts _ _ t).0)
   turn-first e m (x ∷ xs) (suc i) s r t g =
@@ -260,7 +260,7 @@ module _ (slots : Numbers) where
       omega arith
 
   -- a piece is over before the first point of a later one, or at it
-  turn-later : (e : End) (m : ℕ) (ss : List Begun) (j i : ℕ) (a s : Begun) → rises_from slots m ss ≡ true → turns_from slots e ss ≡ true → slice_get ss j ≡ Some a → slice_get ss i ≡ Some s → j < i → (end_rank slots a.end ≤ hold_rank slots s) × (exit_rank slots a.start < hold_rank slots s)
+  turn-later : (e : PieceEnd) (m : ℕ) (ss : List Begun) (j i : ℕ) (a s : Begun) → rises_from slots m ss ≡ true → turns_from slots e ss ≡ true → slice_get ss j ≡ Some a → slice_get ss i ≡ Some s → j < i → (end_rank slots a.end ≤ hold_rank slots s) × (exit_rank slots a.start < hold_rank slots s)
   turn-later e m [] j i a s r t g h lt = absurd (cc)
   turn-later e m (x ∷ xs) j zero a s r t g h lt = absurd (omega arith)
   turn-later e m (x ∷ xs) zero (suc i) a s r t g h lt =
@@ -312,7 +312,7 @@ module _ (slots : Numbers) (c : Cell) (rises : rises_from slots 0 (seen_cell c).
       go zero b = within-piece r 0 e b is le
       go (suc i) b = later i b (begun-tells slots 0 r ws i rises b)
 
-  by-segment : (r j : ℕ) (p : Segment) (e : Extent) → slice_get ws j ≡ Some (begun p) → extent_in (Some c) (suc j) ≡ Some e → segment_extent p ≡ e → first_rank slots e ≤ r → r ≤ last_rank slots e → is_met_in slots (seen_cell c) (only r) ≡ true
+  by-segment : (r j : ℕ) (p : DefPiece) (e : Extent) → slice_get ws j ≡ Some (begun p) → extent_in (Some c) (suc j) ≡ Some e → segment_extent p ≡ e → first_rank slots e ≤ r → r ≤ last_rank slots e → is_met_in slots (seen_cell c) (only r) ≡ true
   by-segment r j p e g is same lo le = go (begun_by slots r ws) refl
     where
       low : hold_rank slots (begun p) ≤ r
@@ -342,7 +342,7 @@ module _ (slots : Numbers) (c : Cell) (rises : rises_from slots 0 (seen_cell c).
   pub covered-held : (r : ℕ) (e : Extent) → Among e (cell_extents c) → first_rank slots e ≤ r → r ≤ last_rank slots e → is_met_in slots (seen_cell c) (only r) ≡ true
   covered-held r e m lo hi = go (extent-piece c e m)
     where
-      segment : (j : ℕ) (o : Option Segment) → slice_get c.segments.items j ≡ o → option_map segment_extent o ≡ Some e → is_met_in slots (seen_cell c) (only r) ≡ true
+      segment : (j : ℕ) (o : Option DefPiece) → slice_get c.segments.items j ≡ o → option_map segment_extent o ≡ Some e → is_met_in slots (seen_cell c) (only r) ≡ true
       segment j None g h = absurd (cc)
       segment j (Some p) g h = by-segment r j p e (slice_get-map begun c.segments.items j ∙ ap (option_map begun) g) (ap (option_map segment_extent) g ∙ h) (some-same (segment_extent p) e h) lo hi
 

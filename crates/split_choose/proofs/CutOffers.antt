@@ -10,7 +10,7 @@ use Rattle.cut_place.specs.declared.net.Net.{Net}
 use Rattle.cut_place.specs.Flows.{in_set, capacity_leaving}
 use Rattle.split_choose.specs.declared.spans.Span.{Span}
 use Rattle.split_choose.specs.declared.cuts.Region.{Region}
-use Rattle.split_choose.specs.declared.cuts.Choice.{Choice as Chosen}
+use Rattle.split_choose.specs.declared.cuts.RegionCut.{RegionCut as Chosen}
 use Rattle.split_choose.specs.Bundles.{are_joined, ArePlaced, AreEarlier}
 use Rattle.split_choose.specs.Regions.{capped, uses_of}
 use Rattle.split_choose.specs.Spans.{is_clear_in}

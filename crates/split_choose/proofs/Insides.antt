@@ -9,8 +9,8 @@ use Rattle.mir_func.specs.Value.{Function}
 use Rattle.mir_meaning.specs.Points.{Start, block_points}
 use Rattle.live_lanes.specs.declared.ask.labels.Mark.{Mark}
 use Rattle.split_choose.specs.declared.spans.Span.{Span}
-use Rattle.split_choose.specs.declared.regions.Inside.{Inside as Where}
-use Rattle.split_choose.specs.declared.regions.Inside.TheVariants as wheres
+use Rattle.split_choose.specs.declared.regions.InsidePart.{InsidePart as Where}
+use Rattle.split_choose.specs.declared.regions.InsidePart.TheVariants as wheres
 use Rattle.split_choose.specs.Bundles.{start_of, end_of, root_of, border_place, are_joined, ArePlaced}
 use Rattle.split_choose.specs.Regions.{is_out, inside_at, inside_in}
 use Rattle.split_choose.specs.Offers.{View, Border, In, Out, Inside, Nowhere, Whole, Head, Tail, live_at, is_clear, is_in, lives_in, lives_out, end_point, inside, inside_marks, region_marks}

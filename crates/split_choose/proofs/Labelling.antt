@@ -10,8 +10,8 @@ use Rattle.mir_func.specs.Value.{Function}
 use Rattle.mir_func.specs.Binding.{does, is_terminator}
 use Rattle.live_lanes.specs.declared.ask.labels.Mark.{Mark}
 use Rattle.split_choose.specs.declared.spans.Span.{Span}
-use Rattle.split_choose.specs.declared.regions.Inside.{Inside as Where}
-use Rattle.split_choose.specs.declared.regions.Inside.TheVariants as places
+use Rattle.split_choose.specs.declared.regions.InsidePart.{InsidePart as Where}
+use Rattle.split_choose.specs.declared.regions.InsidePart.TheVariants as places
 use Rattle.split_choose.specs.Offers.{View, first_id, at_start, at_gap}
 use Rattle.split_choose.specs.Marks.{marks_in}
 use Rattle.split_choose.specs.Seen.{ends_in_terminators}

@@ -14,7 +14,7 @@ use Rattle.mir_meaning.specs.Points.{touches}
 use Rattle.live_lanes.specs.declared.ask.labels.Mark.{Mark}
 use Rattle.live_lanes.specs.declared.table.Table.{Table}
 use Rattle.split_choose.specs.declared.places.TouchedPlace.{TouchedPlace}
-use Rattle.split_choose.specs.declared.blocks.Labelled.{Labelled}
+use Rattle.split_choose.specs.declared.blocks.LabelBuilder.{LabelBuilder}
 use Rattle.split_choose.specs.Seen.{ends_in_terminators, FindsPlaces}
 use Rattle.split_choose.specs.Marks.{marks_in}
 use Rattle.split_choose.proofs.Sited.{places-are}
@@ -24,7 +24,7 @@ use Rattle.split_choose.specs.Blocks.{is_at, is_second, block_pair, block_labell
 
 module _ (t : Target) (bs : List Block) where
   -- terminators get no label
-  ends-pass : (v k : ℕ) (is : List Instr) (s : Labelled) → fold (labelled t bs) s (end_places v k is) ≡ s
+  ends-pass : (v k : ℕ) (is : List Instr) (s : LabelBuilder) → fold (labelled t bs) s (end_places v k is) ≡ s
   ends-pass v k [] s = refl
   ends-pass v k (i ∷ is) s = go (list_any (touches v) (i ∷ is)) refl
     where
@@ -33,17 +33,17 @@ module _ (t : Target) (bs : List Block) where
       go false e = rw e refl
 
   -- a place that isn't the second of its block
-  pass : (s : Labelled) (k : ℕ) (i : Instr) → is_second s k ≡ false → labelled t bs s (single k i) ≡ moved k s
+  pass : (s : LabelBuilder) (k : ℕ) (i : Instr) → is_second s k ≡ false → labelled t bs s (single k i) ≡ moved k s
   pass s k i e = rw e refl
 
-  second : (s : Labelled) (k : ℕ) (i : Instr) → is_second s k ≡ true → labelled t bs s (single k i) ≡ moved k (block_labelled t bs s k)
+  second : (s : LabelBuilder) (k : ℕ) (i : Instr) → is_second s k ≡ true → labelled t bs s (single k i) ≡ moved k (block_labelled t bs s k)
   second s k i e = rw e refl
 
   is-there : (k : ℕ) → is_at (Some k) k ≡ true
   is-there k = eq-eqb k k refl
 
   -- behind two places of a block
-  later : (k : ℕ) (is : List Instr) (s : Labelled) → s.before ≡ Some k → s.last ≡ Some k
+  later : (k : ℕ) (is : List Instr) (s : LabelBuilder) → s.before ≡ Some k → s.last ≡ Some k
       → ((fold (labelled t bs) s (map (single k) is)).labels ≡ s.labels) × ((fold (labelled t bs) s (map (single k) is)).label ≡ s.label) × ((fold (labelled t bs) s (map (single k) is)).last ≡ Some k)
   later k [] s e f = (refl, refl, f)
   later k (i ∷ is) s e f =
@@ -65,7 +65,7 @@ not-at k None h = refl
 not-at k (Some n) h = let lt : n < k = ltb-true n k h in ne_eqb n k (λ e. absurd (omega arith))
 
 -- so many labels and these marks, before the block at a position
-record Before (n : ℕ) (ms : List Mark) (k : ℕ) (s : Labelled) : Type 0 where
+record Before (n : ℕ) (ms : List Mark) (k : ℕ) (s : LabelBuilder) : Type 0 where
   labels : s.labels ≡ ms
   label : s.label ≡ n
   below : is_below k s.last ≡ true
@@ -92,7 +92,7 @@ pair-added t bs k label old mid new first end e f at-first at-end ended = go (sl
         ∙ ap (λ i. old ++ (at_gap b.number (first_id b.instrs) label ∷ at_gap b.number i 0 ∷ [])) (at-end b at (all-get (λ (c : Block). ends_in_terminators t c.instrs) bs k b ended at)))
 
 module _ (t : Target) (bs : List Block) where
-  block-met : (is : List Instr) (n : ℕ) (ms : List Mark) (k : ℕ) (s : Labelled) → n < 65535 → Before n ms k s
+  block-met : (is : List Instr) (n : ℕ) (ms : List Mark) (k : ℕ) (s : LabelBuilder) → n < 65535 → Before n ms k s
       → Before (cond (nat_le 2 (length is)) (n + 1) n) (cond (nat_le 2 (length is)) (ms ++ block_pair t (slice_get bs k) (n + 1)) ms) (suc k) (fold (labelled t bs) s (map (single k) is))
   block-met [] n ms k s few h = record { labels = h.labels; label = h.label; below = below-more k s.last h.below }
   block-met (i ∷ []) n ms k s few h =
@@ -114,7 +114,7 @@ module _ (t : Target) (bs : List Block) where
       }))
 
 module _ (t : Target) (f : Function) (v : ℕ) (view : View) (bs : List Block) where
-  blocks-met : (cs : List Block) (n : ℕ) (ms : List Mark) (k : ℕ) (s : Labelled) → ((j : ℕ) (b : Block) → slice_get cs j ≡ Some b → slice_get bs (k + j) ≡ Some b) → n + length cs < 65536 → Before n ms k s
+  blocks-met : (cs : List Block) (n : ℕ) (ms : List Mark) (k : ℕ) (s : LabelBuilder) → ((j : ℕ) (b : Block) → slice_get cs j ≡ Some b → slice_get bs (k + j) ≡ Some b) → n + length cs < 65536 → Before n ms k s
       → (fold (labelled t bs) s (places_from t v k cs)).labels ≡ ms ++ block_marks t f v view n cs
   blocks-met [] n ms k s at few h = h.labels ∙ sym (append-nil ms)
   blocks-met (b ∷ cs) n ms k s at few h = go (nat_le 2 (length (touching t f v view b))) refl (λ m ns r l q. blocks-met cs m ns (suc k) r next l q)
@@ -125,7 +125,7 @@ module _ (t : Target) (f : Function) (v : ℕ) (view : View) (bs : List Block) w
       next : (j : ℕ) (c : Block) → slice_get cs j ≡ Some c → slice_get bs (suc k + j) ≡ Some c
       next j c e = let m : suc k + j ≡ k + suc j = omega arith in ap (slice_get bs) m ∙ at (suc j) c e
 
-      after : Labelled
+      after : LabelBuilder
       after = fold (labelled t bs) s (map (single k) (touching t f v view b))
 
       met : Before (cond (nat_le 2 (length (touching t f v view b))) (n + 1) n) (cond (nat_le 2 (length (touching t f v view b))) (ms ++ block_pair t (slice_get bs k) (n + 1)) ms) (suc k) after
@@ -137,25 +137,25 @@ module _ (t : Target) (f : Function) (v : ℕ) (view : View) (bs : List Block) w
           (fold-append (labelled t bs) s (map (single k) (touching t f v view b)) (end_places v k (filter (does is_terminator t) b.instrs)) ∙ ends-pass t bs v k (filter (does is_terminator t) b.instrs) after)
 
       go : (c : Bool) → nat_le 2 (length (touching t f v view b)) ≡ c
-          → ((m : ℕ) (ns : List Mark) (r : Labelled) → m + length cs < 65536 → Before m ns (suc k) r → (fold (labelled t bs) r (places_from t v (suc k) cs)).labels ≡ ns ++ block_marks t f v view m cs)
+          → ((m : ℕ) (ns : List Mark) (r : LabelBuilder) → m + length cs < 65536 → Before m ns (suc k) r → (fold (labelled t bs) r (places_from t v (suc k) cs)).labels ≡ ns ++ block_marks t f v view m cs)
           → (fold (labelled t bs) s (places_from t v k (b ∷ cs))).labels ≡ ms ++ block_marks t f v view n (b ∷ cs)
       go true e ih =
           let q : Before (n + 1) (ms ++ block_pair t (slice_get bs k) (n + 1)) (suc k) after =
           subst (λ c. Before (cond c (n + 1) n) (cond c (ms ++ block_pair t (slice_get bs k) (n + 1)) ms) (suc k) after) e met in
-          ap (λ (r : Labelled). r.labels) split ∙ (ih (n + 1) (ms ++ block_pair t (slice_get bs k) (n + 1)) after (omega arith) q
+          ap (λ (r : LabelBuilder). r.labels) split ∙ (ih (n + 1) (ms ++ block_pair t (slice_get bs k) (n + 1)) after (omega arith) q
           ∙ (append_assoc ms (block_pair t (slice_get bs k) (n + 1)) (block_marks t f v view (n + 1) cs)
           ∙ (ap (λ o. ms ++ (block_pair t o (n + 1) ++ block_marks t f v view (n + 1) cs)) here
           ∙ sym (ap (λ c. ms ++ cond c (at_gap b.number (first_id b.instrs) (n + 1) ∷ at_gap b.number (before_terminators t f v view b) 0 ∷ block_marks t f v view (n + 1) cs) (block_marks t f v view n cs)) e))))
       go false e ih =
           let q : Before n ms (suc k) after = subst (λ c. Before (cond c (n + 1) n) (cond c (ms ++ block_pair t (slice_get bs k) (n + 1)) ms) (suc k) after) e met in
-          ap (λ (r : Labelled). r.labels) split ∙ (ih n ms after (omega arith) q
+          ap (λ (r : LabelBuilder). r.labels) split ∙ (ih n ms after (omega arith) q
           ∙ sym (ap (λ c. ms ++ cond c (at_gap b.number (first_id b.instrs) (n + 1) ∷ at_gap b.number (before_terminators t f v view b) 0 ∷ block_marks t f v view (n + 1) cs) (block_marks t f v view n cs)) e))
 
-pub all-labelled : (t : Target) (f : Function) (x : Table) (v : ℕ) (view : View) (ps : List TouchedPlace) (n : ℕ) (s : Labelled) → FindsPlaces t f x v → ps ≡ map (placed f.blocks) (touched_places t f v view) → length ps ≤ n
+pub all-labelled : (t : Target) (f : Function) (x : Table) (v : ℕ) (view : View) (ps : List TouchedPlace) (n : ℕ) (s : LabelBuilder) → FindsPlaces t f x v → ps ≡ map (placed f.blocks) (touched_places t f v view) → length ps ≤ n
     → (list_all (λ b. ends_in_terminators t b.instrs) f.blocks ≡ true → s ≡ fold (labelled t f.blocks) (record { labels = []; label = 0; last = None; before = None }) (take n ps)) → s.labels ≡ block_marks t f v view 0 f.blocks
 all-labelled t f x v view ps n s finds same h made =
     let few = finds.few in
     let all : take n ps ≡ places_from t v 0 f.blocks = take_all n ps h ∙ (same ∙ sym (places-are t f x v view finds)) in
     let first : Before 0 [] 0 (record { labels = []; label = 0; last = None; before = None }) = record { labels = refl; label = refl; below = refl } in
-    ap (λ (r : Labelled). r.labels) (made finds.ended ∙ ap (fold (labelled t f.blocks) (record { labels = []; label = 0; last = None; before = None })) all)
+    ap (λ (r : LabelBuilder). r.labels) (made finds.ended ∙ ap (fold (labelled t f.blocks) (record { labels = []; label = 0; last = None; before = None })) all)
     ∙ blocks-met t f v view f.blocks f.blocks 0 [] 0 (record { labels = []; label = 0; last = None; before = None }) (λ j b e. (let z : 0 + j ≡ j = omega arith in ap (slice_get f.blocks) z ∙ e)) (omega arith) first

@@ -11,7 +11,7 @@ use Rattle.mir_meaning.specs.Places.{domain}
 use Rattle.live_lanes.specs.declared.ask.labels.Mark.{Mark}
 use Rattle.live_lanes.specs.declared.table.Table.{Table}
 use Rattle.split_choose.specs.declared.places.TouchedPlace.{TouchedPlace}
-use Rattle.split_choose.specs.declared.runs.Run.{Run}
+use Rattle.split_choose.specs.declared.runs.PlaceRun.{PlaceRun}
 use Rattle.split_choose.specs.Offers.{View, Touched, touched_places, is_dividable, live_at, borders, clear_along, runs, runs_up_to, run_ends, run_marks, local_offer}
 use Rattle.split_choose.specs.Places.{placed}
 use Rattle.live_lanes.specs.Looks.{InOrder}
@@ -63,7 +63,7 @@ module _ (t : Target) (f : Function) (v : ℕ) (view : View) (ps : List TouchedP
         let none = none-sought t f v view (domain t (class_of f v)) (clear_along t f v view) (touched_places t f v view) (is_near t f v view) (runs-told t f x v view finds (domain t (class_of f v))) (subst N (as-many t f v view ps same) h) in
         sym (ap (option_map (λ r. (r.1, run_marks t f v view r.0))) none)
 
-    pub run-found : (b : Run) (sum last : ℕ) (labels : List Mark) → IsBest (is_near t f v view) (length ps) (domain t (class_of f v)) (length (domain t (class_of f v))) b → length ps < 18446744073709551616
+    pub run-found : (b : PlaceRun) (sum last : ℕ) (labels : List Mark) → IsBest (is_near t f v view) (length ps) (domain t (class_of f v)) (length (domain t (class_of f v))) b → length ps < 18446744073709551616
         → sum ≡ min (b.first + b.len) 18446744073709551615 → last ≡ sum - 1
         → ((p q : Touched) → slice_get (touched_places t f v view) b.first ≡ Some p → slice_get (touched_places t f v view) last ≡ Some q → labels ≡ run_marks t f v view (p, q))
         → Some (b.register, labels) ≡ found_run t f v view
@@ -90,26 +90,26 @@ near-told m v parents freqs places spans r k free loc some less told =
 
 -- from what the parts of the search answer
 
-module _ (m : Matrix) (v : ℕ) (parents freqs : List ℕ) (places : List TouchedPlace) (spans : List Span) (loc : IsLocal m v parents freqs places spans) (best : Option Run)
+module _ (m : Matrix) (v : ℕ) (parents freqs : List ℕ) (places : List TouchedPlace) (spans : List Span) (loc : IsLocal m v parents freqs places spans) (best : Option PlaceRun)
     (h : IsBestRun (near_in m v parents) (length places) (registers_of m v) (length (registers_of m v)) best) where
   pub split-none : best ≡ None → None ≡ found_run m.live.target m.live.func v (view_of m v parents)
   split-none e =
-      let B : Option Run → Type 0 = λ o. IsBestRun (near_in m v parents) (length places) (registers_of m v) (length (registers_of m v)) o in
+      let B : Option PlaceRun → Type 0 = λ o. IsBestRun (near_in m v parents) (length places) (registers_of m v) (length (registers_of m v)) o in
       no-run-found m.live.target m.live.func v (view_of m v parents) places loc.same m.live.table loc.finds (subst B e h)
 
-  pub split-found : (l : LiveFunc) (b : Run) (sum last : ℕ) (labels : List Mark) → l ≡ m.live → best ≡ Some b → length places < 18446744073709551616 → sum ≡ min (b.first + b.len) 18446744073709551615 → last ≡ sum - 1
+  pub split-found : (l : LiveFunc) (b : PlaceRun) (sum last : ℕ) (labels : List Mark) → l ≡ m.live → best ≡ Some b → length places < 18446744073709551616 → sum ≡ min (b.first + b.len) 18446744073709551615 → last ≡ sum - 1
       → ((w : ℕ) (view : View) (p q : Touched) → FindsPlaces l.target l.func l.table w → places ≡ map (placed l.func.blocks) (touched_places l.target l.func w view)
       → slice_get (touched_places l.target l.func w view) b.first ≡ Some p → slice_get (touched_places l.target l.func w view) last ≡ Some q → labels ≡ run_marks l.target l.func w view (p, q))
       → Some (b.register, labels) ≡ found_run m.live.target m.live.func v (view_of m v parents)
   split-found l b sum last labels same e fits one two marks =
-      let B : Option Run → Type 0 = λ o. IsBestRun (near_in m v parents) (length places) (registers_of m v) (length (registers_of m v)) o in
+      let B : Option PlaceRun → Type 0 = λ o. IsBestRun (near_in m v parents) (length places) (registers_of m v) (length (registers_of m v)) o in
       let L : LiveFunc → Type 0 = λ n. (w : ℕ) (view : View) (p q : Touched) → FindsPlaces n.target n.func n.table w → places ≡ map (placed n.func.blocks) (touched_places n.target n.func w view)
       → slice_get (touched_places n.target n.func w view) b.first ≡ Some p → slice_get (touched_places n.target n.func w view) last ≡ Some q → labels ≡ run_marks n.target n.func w view (p, q) in
       let told = subst L same marks in
       run-found m.live.target m.live.func v (view_of m v parents) places loc.same m.live.table loc.finds b sum last labels (subst B e h) fits one two (λ p q. told v (view_of m v parents) p q loc.finds loc.same)
 
 -- the registers are those of the range's class
-pub registers-are : (near : Reg → ℕ → Bool) (count : ℕ) (rs ds : List Reg) (best : Option Run) → rs ≡ ds → IsBestRun near count rs (length rs) best → IsBestRun near count ds (length ds) best
+pub registers-are : (near : Reg → ℕ → Bool) (count : ℕ) (rs ds : List Reg) (best : Option PlaceRun) → rs ≡ ds → IsBestRun near count rs (length rs) best → IsBestRun near count ds (length ds) best
 registers-are near count rs ds best e h = let R : List Reg → Type 0 = λ ys. IsBestRun near count ys (length ys) best in subst R e h
 
 pub domain-is : (m : Matrix) (v : ℕ) (l : LiveFunc) (t : Target) (class : Option ClassId) (rs ds : List Reg) → l ≡ m.live → t ≡ l.target → class ≡ class_of l.func v → ds ≡ domain t class → rs ≡ ds → rs ≡ registers_of m v

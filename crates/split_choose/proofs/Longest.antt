@@ -2,7 +2,7 @@
 use Rattle.std.proofs.Common.{◌≡◌, ◌∙◌, ◌⊎◌, inl, inr, ℕ, zero, suc, ◌+◌, ◌-◌, ◌<◌, ◌≤◌, Bool, true, false, refl, sym, ap, subst, arith, min, Option, None, Some}
 use Rattle.std.proofs.lemmas.Bool.{true≢false, leb-true, leb-false, ltb-true, ltb-false, cases_lt}
 use Rattle.target_base.specs.declared.types.Reg.{Reg}
-use Rattle.split_choose.specs.declared.runs.Run.{Run}
+use Rattle.split_choose.specs.declared.runs.PlaceRun.{PlaceRun}
 use Rattle.split_choose.specs.LongRuns.{IsWithin, IsRun, IsLongest, IsLongestRun, is_longer}
 
 -- of the runs that end at the last of the places seen, the longest
@@ -69,7 +69,7 @@ module _ (near : ℕ → Bool) (count : ℕ) (r : Reg) where
   none-yet f l w e run = absurd (let m = w.many in omega arith)
 
   -- a run is longer than all that end before
-  replaced : (k len : ℕ) (b : Run) → IsTail near count (k + 1) len → k < count → 2 ≤ len → ((f l : ℕ) → IsWithin count f l → f + l ≤ k → IsRun near f l → l < len)
+  replaced : (k len : ℕ) (b : PlaceRun) → IsTail near count (k + 1) len → k < count → 2 ≤ len → ((f l : ℕ) → IsWithin count f l → f + l ≤ k → IsRun near f l → l < len)
       → b.first ≡ k + 1 - len → b.len ≡ len → b.register ≡ r → IsLongestRun near count (k + 1) r (Some b)
   replaced k len b t h many above first same register = (
     record {
@@ -94,7 +94,7 @@ module _ (near : ℕ → Bool) (count : ℕ) (r : Reg) where
         | inr last ↦ omega arith
       ]
 
-  pub longer : (k len : ℕ) (best : Option Run) (b : Run) → IsTail near count (k + 1) len → k < count → IsLongestRun near count k r best → is_longer len best ≡ true
+  pub longer : (k len : ℕ) (best : Option PlaceRun) (b : PlaceRun) → IsTail near count (k + 1) len → k < count → IsLongestRun near count k r best → is_longer len best ≡ true
       → b.first ≡ k + 1 - len → b.len ≡ len → b.register ≡ r → IsLongestRun near count (k + 1) r (Some b)
   longer k len None b t h was more first same register = replaced k len b t h (leb-true 2 len more) (λ f l w e run. absurd (was f l w e run)) first same register
   longer k len (Some old) b t h was more first same register =
@@ -102,7 +102,7 @@ module _ (near : ℕ → Bool) (count : ℕ) (r : Reg) where
       let many = was.0.within.many in
       replaced k len b t h (omega arith) (λ f l w e run. (let q = was.0.longest f l w e run in omega arith)) first same register
 
-  pub no-longer : (k len : ℕ) (best : Option Run) → IsTail near count (k + 1) len → IsLongestRun near count k r best → is_longer len best ≡ false → IsLongestRun near count (k + 1) r best
+  pub no-longer : (k len : ℕ) (best : Option PlaceRun) → IsTail near count (k + 1) len → IsLongestRun near count k r best → is_longer len best ≡ false → IsLongestRun near count (k + 1) r best
   no-longer k len None t was h = λ f l w e run. elim (cases_lt (f + l) (k + 1)) [
     | inl inside ↦ was f l w (omega arith) run
     | inr last ↦ (let g : f + l ≡ k + 1 = omega arith in let few = w.few in let many = w.many in let m = t.longest f l g few run in let q = leb-false 2 len h in absurd (omega arith))
@@ -131,16 +131,16 @@ module _ (near : ℕ → Bool) (count : ℕ) (r : Reg) where
       ]
 
   -- the best so far, whichever it is
-  pub best-longer : (k len next first : ℕ) (best new : Option Run) → count < 18446744073709551616 → IsTail near count (k + 1) len → k < count → IsLongestRun near count k r best → is_longer len best ≡ true
+  pub best-longer : (k len next first : ℕ) (best new : Option PlaceRun) → count < 18446744073709551616 → IsTail near count (k + 1) len → k < count → IsLongestRun near count k r best → is_longer len best ≡ true
       → next ≡ min (k + 1) 18446744073709551615 → first ≡ next - len → new ≡ Some (record { first = first; len = len; register = r }) → IsLongestRun near count (k + 1) r new
   best-longer k len next first best new fits t h was more one two is =
       let e : first ≡ k + 1 - len = omega arith in
       subst (IsLongestRun near count (k + 1) r) (sym is) (longer k len best (record { first = first; len = len; register = r }) t h was more e refl refl)
 
-  pub best-kept : (k len : ℕ) (best new : Option Run) → IsTail near count (k + 1) len → IsLongestRun near count k r best → is_longer len best ≡ false → new ≡ best → IsLongestRun near count (k + 1) r new
+  pub best-kept : (k len : ℕ) (best new : Option PlaceRun) → IsTail near count (k + 1) len → IsLongestRun near count k r best → is_longer len best ≡ false → new ≡ best → IsLongestRun near count (k + 1) r new
   best-kept k len best new t was h is = subst (IsLongestRun near count (k + 1) r) (sym is) (no-longer k len best t was h)
 
-  pub seen-all : (k : ℕ) (best : Option Run) → count ≤ k → IsLongestRun near count k r best → IsLongestRun near count count r best
+  pub seen-all : (k : ℕ) (best : Option PlaceRun) → count ≤ k → IsLongestRun near count k r best → IsLongestRun near count count r best
   seen-all k None h was = λ f l w e run. was f l w (omega arith) run
   seen-all k (Some b) h was = (
     record {

@@ -5,7 +5,7 @@ use Rattle.std.specs.List.{sum_by}
 use Rattle.std.proofs.lemmas.List.{take_more, take_all}
 use Rattle.std.proofs.lemmas.List.Recursion.{is_count_by}
 use Rattle.split_choose.specs.declared.spans.Span.{Span}
-use Rattle.split_choose.specs.declared.nets.Row.{Row}
+use Rattle.split_choose.specs.declared.nets.BlockNodes.{BlockNodes}
 use Rattle.split_choose.specs.declared.nets.BundleNodes.{BundleNodes}
 use Rattle.split_choose.specs.Bundles.{root_of, AreEarlier}
 use Rattle.split_choose.specs.Regions.{capped, is_out, AreOut}
@@ -124,10 +124,10 @@ node-outer parents clear spans count border root flag made earlier nodes below a
 
 -- rows, block by block
 
-pub base_next : (rows : List Row) (k : ℕ) (r : Row) (sum here : ℕ) → k < length rows → r ≡ get_or rows k r → here ≡ row_base r → sum ≡ capped (base_of (take k rows)) → capped (sum + here) ≡ capped (base_of (take (k + 1) rows))
+pub base_next : (rows : List BlockNodes) (k : ℕ) (r : BlockNodes) (sum here : ℕ) → k < length rows → r ≡ get_or rows k r → here ≡ row_base r → sum ≡ capped (base_of (take k rows)) → capped (sum + here) ≡ capped (base_of (take (k + 1) rows))
 base_next rows k r sum here h at is was = capped_next row_base rows k r sum here h at is was
 
-pub base_last : (rows : List Row) (k sum : ℕ) → length rows ≤ k → sum ≡ capped (base_of (take k rows)) → sum ≡ capped (base_of rows)
+pub base_last : (rows : List BlockNodes) (k sum : ℕ) → length rows ≤ k → sum ≡ capped (base_of (take k rows)) → sum ≡ capped (base_of rows)
 base_last rows k sum h was = capped_last row_base rows k sum h was
 
 pub ruleset bases = (base_next, base_last)
@@ -139,7 +139,7 @@ rows-cons node has next spans k s h at =
     let cut : drop k spans ≡ s ∷ drop (k + 1) spans = drop-cons spans k s h ∙ (ap (λ x. x ∷ drop (suc k) spans) (sym at) ∙ ap (λ j. s ∷ drop j spans) e) in
     ap (rows_from node has next) cut
 
-pub rows_next : (node : ℕ → ℕ) (has : Span → Bool) (first next after : ℕ) (spans : List Span) (k : ℕ) (s : Span) (rows : List Row) (r : Row) → k < length spans → s ≡ get_or spans k s
+pub rows_next : (node : ℕ → ℕ) (has : Span → Bool) (first next after : ℕ) (spans : List Span) (k : ℕ) (s : Span) (rows : List BlockNodes) (r : BlockNodes) → k < length spans → s ≡ get_or spans k s
     → r ≡ row_of node (has s) next s → after ≡ cond (has s) (next + 1) next → rows ++ rows_from node has next (drop k spans) ≡ rows_from node has first spans
     → (rows ++ r ∷ []) ++ rows_from node has after (drop (k + 1) spans) ≡ rows_from node has first spans
 rows_next node has first next after spans k s rows r h at is goes was =

@@ -12,13 +12,13 @@ use Rattle.mir_func.specs.declared.func.Instr.{Instr}
 use Rattle.mir_func.specs.declared.func.Block.{Block}
 use Rattle.mir_func.specs.Value.{Function}
 use Rattle.mir_meaning.specs.Points.{Point, Start, Entry, Exit, block_points, touches}
-use Rattle.instr_effects.specs.declared.row.Lanes.{Lanes}
+use Rattle.instr_effects.specs.declared.row.LaneSpan.{LaneSpan}
 use Rattle.live_lanes.specs.declared.ask.extent.Stretch.{Stretch}
 use Rattle.live_lanes.specs.declared.row.Cell.{Cell}
-use Rattle.live_lanes.specs.declared.row.Row.{Row}
-use Rattle.live_lanes.specs.declared.row.End.{End}
-use Rattle.live_lanes.specs.declared.row.End.TheVariants as ends
-use Rattle.live_lanes.specs.declared.row.Segment.{Segment}
+use Rattle.live_lanes.specs.declared.row.LaneRange.{LaneRange}
+use Rattle.live_lanes.specs.declared.row.PieceEnd.{PieceEnd}
+use Rattle.live_lanes.specs.declared.row.PieceEnd.TheVariants as ends
+use Rattle.live_lanes.specs.declared.row.DefPiece.{DefPiece}
 use Rattle.live_lanes.specs.declared.table.Table.{Table}
 use Rattle.mir_meaning.specs.Paths.{has}
 use Rattle.live_lanes.specs.Graph.{is_live}
@@ -30,7 +30,7 @@ use Rattle.live_lanes.specs.Extents.{is_met_in, is_met, first_rank, last_rank}
 use Rattle.live_lanes.specs.Touching.{FindsInstrs, some_below, some_of, some_lane, names_range, names_lane, names_cell, names_segment, reads_in, AreTouched}
 use Rattle.live_lanes.specs.Tells.{touching_ids}
 use Rattle.live_lanes.proofs.Extents.{unseen-none}
-use Rattle.interference.specs.declared.held.Held.{Held}
+use Rattle.interference.specs.declared.held.RangeExtent.{RangeExtent}
 use Rattle.interference.specs.declared.matrix.Matrix.{Matrix}
 use Rattle.interference.specs.Clashes.{is_held, is_taken, holds}
 use Rattle.interference.specs.Clashes.{touches as overlaps}
@@ -61,7 +61,7 @@ below-one first (suc n) g h = go (or_cases (g (first + n)) (some_below g first n
     go (inl a) ih = record { lane = first + n; passes = a; every = λ f p. or_left (f (first + n)) (some_below f first n) p }
     go (inr a) ih = later (ih a)
 
-of-one : (o : Option Lanes) (g : ℕ → Bool) → some_of g o ≡ true → OneOf (λ f. some_of f o) g
+of-one : (o : Option LaneSpan) (g : ℕ → Bool) → some_of g o ≡ true → OneOf (λ f. some_of f o) g
 of-one None g h = absurd (false≢true h)
 of-one (Some own) g h = below-one own.first own.count g h
 
@@ -75,15 +75,15 @@ lane-same x v f g same = both-ways (some_lane x v f) (some_lane x v g)
 
 -- a lane in a block: by its cell, or not there
 
-pub cell-or-not : (rows : List Row) (l k : ℕ) → ((c : Cell) × (rows_seen rows l k ≡ seen_cell c) × (find_cell k (cells_of rows l) ≡ Some c)) ⊎ (rows_seen rows l k ≡ unseen)
+pub cell-or-not : (rows : List LaneRange) (l k : ℕ) → ((c : Cell) × (rows_seen rows l k ≡ seen_cell c) × (find_cell k (cells_of rows l) ≡ Some c)) ⊎ (rows_seen rows l k ≡ unseen)
 cell-or-not rows l k = by_row (slice_get rows l) refl
   where
-    by_cell : (r : Row) → slice_get rows l ≡ Some r → (o : Option Cell) → find_cell k r.cells.items ≡ o → ((c : Cell) × (rows_seen rows l k ≡ seen_cell c) × (find_cell k (cells_of rows l) ≡ Some c)) ⊎ (rows_seen rows l k ≡ unseen)
-    by_cell r e None g = inr (ap (λ (o : Option Row). elim o [ None ↦ unseen | Some s ↦ seen_in s.cells.items k ]) e ∙ ap seen g)
-    by_cell r e (Some c) g = inl (c, ap (λ (o : Option Row). elim o [ None ↦ unseen | Some s ↦ seen_in s.cells.items k ]) e ∙ ap seen g, ap (λ (o : Option Row). find_cell k (elim o [ None ↦ [] | Some s ↦ s.cells.items ])) e ∙ g)
+    by_cell : (r : LaneRange) → slice_get rows l ≡ Some r → (o : Option Cell) → find_cell k r.cells.items ≡ o → ((c : Cell) × (rows_seen rows l k ≡ seen_cell c) × (find_cell k (cells_of rows l) ≡ Some c)) ⊎ (rows_seen rows l k ≡ unseen)
+    by_cell r e None g = inr (ap (λ (o : Option LaneRange). elim o [ None ↦ unseen | Some s ↦ seen_in s.cells.items k ]) e ∙ ap seen g)
+    by_cell r e (Some c) g = inl (c, ap (λ (o : Option LaneRange). elim o [ None ↦ unseen | Some s ↦ seen_in s.cells.items k ]) e ∙ ap seen g, ap (λ (o : Option LaneRange). find_cell k (elim o [ None ↦ [] | Some s ↦ s.cells.items ])) e ∙ g)
 
-    by_row : (o : Option Row) → slice_get rows l ≡ o → ((c : Cell) × (rows_seen rows l k ≡ seen_cell c) × (find_cell k (cells_of rows l) ≡ Some c)) ⊎ (rows_seen rows l k ≡ unseen)
-    by_row None e = inr (ap (λ (o : Option Row). elim o [ None ↦ unseen | Some s ↦ seen_in s.cells.items k ]) e)
+    by_row : (o : Option LaneRange) → slice_get rows l ≡ o → ((c : Cell) × (rows_seen rows l k ≡ seen_cell c) × (find_cell k (cells_of rows l) ≡ Some c)) ⊎ (rows_seen rows l k ≡ unseen)
+    by_row None e = inr (ap (λ (o : Option LaneRange). elim o [ None ↦ unseen | Some s ↦ seen_in s.cells.items k ]) e)
     by_row (Some r) e = by_cell r e (find_cell k r.cells.items) refl
 
 pub cell-among : (k : ℕ) (cs : List Cell) (c : Cell) → find_cell k cs ≡ Some c → Among c cs
@@ -108,7 +108,7 @@ seen-begun : (slots : Numbers) (is : List Instr) (w : Seen) (j : ℕ) (s : Begun
 seen-begun slots is w j s h e = hold-rank-in slots is s (all-among (λ (p : Begun). has p.start (ids_of is)) w.segments s h (place-among s w.segments j e))
 
 -- what is held begins at one of them too, and isn't over before
-held-rank-in : (slots : Numbers) (is : List Instr) (h : Held) → starts_here is h ≡ true → is_rank_in slots is (first_rank slots h.extent) ≡ true
+held-rank-in : (slots : Numbers) (is : List Instr) (h : RangeExtent) → starts_here is h ≡ true → is_rank_in slots is (first_rank slots h.extent) ≡ true
 held-rank-in slots is h e = go h.extent.start e
   where
     by_early : (id : ℕ) → has id (ids_of is) ≡ true → (u : Bool) → is_rank_in slots is (cond u (entry_rank slots id) (exit_rank slots id)) ≡ true
@@ -119,7 +119,7 @@ held-rank-in slots is h e = go h.extent.start e
     go None k = refl
     go (Some id) k = by_early id k h.extent.early
 
-held-lasts : (slots : Numbers) (h : Held) → first_rank slots h.extent ≤ last_rank slots h.extent
+held-lasts : (slots : Numbers) (h : RangeExtent) → first_rank slots h.extent ≤ last_rank slots h.extent
 held-lasts slots h = go h.extent.start
   where
     by_early : (id : ℕ) → (u : Bool) → cond u (entry_rank slots id) (exit_rank slots id) ≤ max (end_rank slots h.extent.end) (exit_rank slots id)
@@ -138,7 +138,7 @@ module _ (m : Matrix) (v k : ℕ) (b : Block) (at_k : slice_get m.live.func.bloc
   abbrev slots : Numbers
   slots = m.live.table.order.slots
 
-  abbrev rows : List Row
+  abbrev rows : List LaneRange
   rows = m.live.table.rows.rows.items
 
   -- a lane
@@ -161,23 +161,23 @@ module _ (m : Matrix) (v k : ℕ) (b : Block) (at_k : slice_get m.live.func.bloc
 
   -- other ranges
 
-  taken-wider : (hs : List Held) (r : ℕ) (at : Stretch) → at.first ≤ r → r ≤ at.last → is_taken slots hs v (only r) ≡ true → is_taken slots hs v at ≡ true
+  taken-wider : (hs : List RangeExtent) (r : ℕ) (at : Stretch) → at.first ≤ r → r ≤ at.last → is_taken slots hs v (only r) ≡ true → is_taken slots hs v at ≡ true
   taken-wider hs r at lo hi h =
-      let o = some-among (λ (x : Held). not (nat_eq x.range v) && overlaps slots (only r) x) hs h in
+      let o = some-among (λ (x : RangeExtent). not (nat_eq x.range v) && overlaps slots (only r) x) hs h in
       let p = and_parts (not (nat_eq o.0.range v)) (overlaps slots (only r) o.0) o.2 in
       let q = and_parts (nat_le (first_rank slots o.0.extent) r) (nat_le r (last_rank slots o.0.extent)) p.1 in
       let a : first_rank slots o.0.extent ≤ r = leb-true (first_rank slots o.0.extent) r q.0 in
       let d : r ≤ last_rank slots o.0.extent = leb-true r (last_rank slots o.0.extent) q.1 in
-      some-of (λ (x : Held). not (nat_eq x.range v) && overlaps slots at x) hs o.0 o.1
+      some-of (λ (x : RangeExtent). not (nat_eq x.range v) && overlaps slots at x) hs o.0 o.1
       (and_from (not (nat_eq o.0.range v)) (overlaps slots at o.0) p.0
       (and_from (nat_le (first_rank slots o.0.extent) at.last) (nat_le at.first (last_rank slots o.0.extent))
       (le-leb (first_rank slots o.0.extent) at.last (omega arith)) (le-leb at.first (last_rank slots o.0.extent) (omega arith))))
 
-  taken-meets : (hs : List Held) (at : Stretch) → at.first ≤ at.last → is_rank_in slots b.instrs at.first ≡ true → list_all (starts_here b.instrs) hs ≡ true → is_taken slots hs v at ≡ true → FoundAt slots b.instrs at (is_taken slots hs v)
+  taken-meets : (hs : List RangeExtent) (at : Stretch) → at.first ≤ at.last → is_rank_in slots b.instrs at.first ≡ true → list_all (starts_here b.instrs) hs ≡ true → is_taken slots hs v at ≡ true → FoundAt slots b.instrs at (is_taken slots hs v)
   taken-meets hs at le first begun h = by_held o.0 o.1 p.0 a d (cases_lt at.first (first_rank slots o.0.extent))
     where
-      o : (x : Held) × Among x hs × ((not (nat_eq x.range v) && overlaps slots at x) ≡ true)
-      o = some-among (λ (x : Held). not (nat_eq x.range v) && overlaps slots at x) hs h
+      o : (x : RangeExtent) × Among x hs × ((not (nat_eq x.range v) && overlaps slots at x) ≡ true)
+      o = some-among (λ (x : RangeExtent). not (nat_eq x.range v) && overlaps slots at x) hs h
 
       p : (not (nat_eq o.0.range v) ≡ true) × (overlaps slots at o.0 ≡ true)
       p = and_parts (not (nat_eq o.0.range v)) (overlaps slots at o.0) o.2
@@ -188,13 +188,13 @@ module _ (m : Matrix) (v k : ℕ) (b : Block) (at_k : slice_get m.live.func.bloc
       d : at.first ≤ last_rank slots o.0.extent
       d = leb-true at.first (last_rank slots o.0.extent) (and_parts (nat_le (first_rank slots o.0.extent) at.last) (nat_le at.first (last_rank slots o.0.extent)) p.1).1
 
-      taken : (x : Held) → Among x hs → not (nat_eq x.range v) ≡ true → (r : ℕ) → first_rank slots x.extent ≤ r → r ≤ last_rank slots x.extent → is_taken slots hs v (only r) ≡ true
+      taken : (x : RangeExtent) → Among x hs → not (nat_eq x.range v) ≡ true → (r : ℕ) → first_rank slots x.extent ≤ r → r ≤ last_rank slots x.extent → is_taken slots hs v (only r) ≡ true
       taken x n other r lo hi =
-          some-of (λ (y : Held). not (nat_eq y.range v) && overlaps slots (only r) y) hs x n
+          some-of (λ (y : RangeExtent). not (nat_eq y.range v) && overlaps slots (only r) y) hs x n
           (and_from (not (nat_eq x.range v)) (overlaps slots (only r) x) other
           (and_from (nat_le (first_rank slots x.extent) r) (nat_le r (last_rank slots x.extent)) (le-leb (first_rank slots x.extent) r lo) (le-leb r (last_rank slots x.extent) hi)))
 
-      by_held : (x : Held) → Among x hs → not (nat_eq x.range v) ≡ true → first_rank slots x.extent ≤ at.last → at.first ≤ last_rank slots x.extent → (at.first < first_rank slots x.extent) ⊎ (first_rank slots x.extent ≤ at.first) → FoundAt slots b.instrs at (is_taken slots hs v)
+      by_held : (x : RangeExtent) → Among x hs → not (nat_eq x.range v) ≡ true → first_rank slots x.extent ≤ at.last → at.first ≤ last_rank slots x.extent → (at.first < first_rank slots x.extent) ⊎ (first_rank slots x.extent ≤ at.first) → FoundAt slots b.instrs at (is_taken slots hs v)
       by_held x n other f l (inl lt) = (first_rank slots x.extent, held-rank-in slots b.instrs x (all-among (starts_here b.instrs) hs x begun n), omega arith, f, taken x n other (first_rank slots x.extent) (omega arith) (held-lasts slots x))
       by_held x n other f l (inr ge) = (at.first, first, omega arith, le, taken x n other at.first ge l)
 

@@ -12,8 +12,8 @@ use Rattle.mir_func.specs.Value.{Function}
 use Rattle.mir_func.specs.Binding.{does, is_terminator}
 use Rattle.block_freq.specs.Weights.{naming, block_uses, use_sum}
 use Rattle.split_choose.specs.declared.spans.Span.{Span}
-use Rattle.split_choose.specs.declared.regions.Inside.{Inside as Where}
-use Rattle.split_choose.specs.declared.regions.Inside.TheVariants as wheres
+use Rattle.split_choose.specs.declared.regions.InsidePart.{InsidePart as Where}
+use Rattle.split_choose.specs.declared.regions.InsidePart.TheVariants as wheres
 use Rattle.split_choose.specs.Bundles.{are_joined, ArePlaced}
 use Rattle.split_choose.specs.Regions.{capped, uses_of, span_cost, costs_of, inside_in}
 use Rattle.split_choose.specs.Offers.{View, Border, Inside, Nowhere, Whole, Head, Tail, is_clear, inside, inside_cost, operands_in, terminators, region_cost}

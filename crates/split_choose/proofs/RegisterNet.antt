@@ -10,7 +10,7 @@ use Rattle.block_freq.specs.Weights.{block_uses}
 use Rattle.cut_place.specs.declared.net.Arc.{Arc}
 use Rattle.cut_place.specs.declared.net.Net.{Net}
 use Rattle.split_choose.specs.declared.spans.Span.{Span}
-use Rattle.split_choose.specs.declared.nets.Row.{Row}
+use Rattle.split_choose.specs.declared.nets.BlockNodes.{BlockNodes}
 use Rattle.split_choose.specs.Bundles.{start_of, end_of, are_joined, ArePlaced, AreEarlier}
 use Rattle.split_choose.specs.Regions.{capped}
 use Rattle.split_choose.specs.Nets.{node_if, arcs_of, base_of, row_arcs, row_base, inside_count}
@@ -38,7 +38,7 @@ module _ (t : Target) (f : Function) (v : ℕ) (view : View) (freqs : List ℕ) 
     (spans : List Span) (all : Along (λ (s : Span). s.position) (IsTold t f v view freqs spans) (IsUntold t f v view) 0 f.blocks spans)
     (ps : List ℕ) (one : (x y : Border) → view.one_bundle (x, y) ≡ are_joined f.blocks ps (x, y)) (earlier : AreEarlier ps)
     (r : Reg) (clear : Span → Bool) (cleared : (k : ℕ) (b : Block) (s : Span) → IsTold t f v view freqs spans k b s → clear s ≡ is_clear t f v view r b) where
-  pub rows-along : Along (λ (row : Row). row.position) (IsRowAt t f v view freqs r) (IsUntold t f v view) 0 f.blocks (net_rows ps clear spans (2 * length f.blocks))
+  pub rows-along : Along (λ (row : BlockNodes). row.position) (IsRowAt t f v view freqs r) (IsUntold t f v view) 0 f.blocks (net_rows ps clear spans (2 * length f.blocks))
   rows-along = net-along t f v view freqs r placed counted spans ps one earlier clear cleared all
 
   pub no-inside : (k : ℕ) (b : Block) → IsUntold t f v view k b → has_inside t f v view r b ≡ false
@@ -51,14 +51,14 @@ module _ (t : Target) (f : Function) (v : ℕ) (view : View) (freqs : List ℕ) 
   nodes-are =
       let many = nodes-many t f v view ps placed one earlier freqs spans r clear cleared all in
       let insides : inside_count (net_rows ps clear spans (2 * length f.blocks)) ≡ length (inside_nodes t f v view r) =
-      along-count (λ (row : Row). row.position) (IsRowAt t f v view freqs r) (IsUntold t f v view) (λ (row : Row). elim row.inside [ None ↦ false | Some n ↦ true ]) (has_inside t f v view r)
-      (λ k b row is. ap (λ (y : Row). elim y.inside [ None ↦ false | Some n ↦ true ]) is.same ∙ there (has_inside t f v view r b) (number_of t f v view r (Inner b.number)))
+      along-count (λ (row : BlockNodes). row.position) (IsRowAt t f v view freqs r) (IsUntold t f v view) (λ (row : BlockNodes). elim row.inside [ None ↦ false | Some n ↦ true ]) (has_inside t f v view r)
+      (λ k b row is. ap (λ (y : BlockNodes). elim y.inside [ None ↦ false | Some n ↦ true ]) is.same ∙ there (has_inside t f v view r b) (number_of t f v view r (Inner b.number)))
       (λ k b untold. no-inside k b untold) 0 f.blocks (net_rows ps clear spans (2 * length f.blocks)) rows-along in
       omega (arith, many, insides)
 
   arcs-same : arcs_of (net_rows ps clear spans (2 * length f.blocks)) ≡ flat_map (block_arcs t f v view r) (zip freqs f.blocks)
   arcs-same =
-      along-zip (λ (row : Row). row.position) (IsRowAt t f v view freqs r) (IsUntold t f v view) row_arcs (block_arcs t f v view r) (λ n. slice_index_or freqs n 0)
+      along-zip (λ (row : BlockNodes). row.position) (IsRowAt t f v view freqs r) (IsUntold t f v view) row_arcs (block_arcs t f v view r) (λ n. slice_index_or freqs n 0)
       (λ k b row is. ap row_arcs is.same ∙ arcs-are t f v view freqs r k b)
       (λ k b untold. none k b untold)
       0 freqs f.blocks (net_rows ps clear spans (2 * length f.blocks)) counted.many (weights t f v view freqs counted spans all) rows-along
@@ -79,7 +79,7 @@ module _ (t : Target) (f : Function) (v : ℕ) (view : View) (freqs : List ℕ) 
   -- so is the base
   pub base-total : base_of (net_rows ps clear spans (2 * length f.blocks)) ≡ base_cost t f v view r freqs
   base-total =
-      along-sum (λ (row : Row). row.position) (IsRowAt t f v view freqs r) (IsUntold t f v view) row_base (λ (p : ℕ × Block). cond (has_inside t f v view r p.1) 0 (p.0 * operands_in t f v view p.1.instrs)) (λ n. slice_index_or freqs n 0)
+      along-sum (λ (row : BlockNodes). row.position) (IsRowAt t f v view freqs r) (IsUntold t f v view) row_base (λ (p : ℕ × Block). cond (has_inside t f v view r p.1) 0 (p.0 * operands_in t f v view p.1.instrs)) (λ n. slice_index_or freqs n 0)
       (λ k b row is. ap row_base is.same ∙ base-is t f v view freqs r k b)
       (λ k b untold. ap (λ h. cond h 0 (slice_index_or freqs k 0 * operands_in t f v view b.instrs)) (no-inside k b untold)
       ∙ (ap (λ n. slice_index_or freqs k 0 * n) untold.uses ∙ times-none (slice_index_or freqs k 0)))
@@ -104,7 +104,7 @@ module _ (t : Target) (f : Function) (v : ℕ) (view : View) (freqs : List ℕ) 
 
   pub cost-total : (c : ℕ → Bool) (choice : Choice) → Follows c choice → choice_cost c (net_rows ps clear spans (2 * length f.blocks)) ≡ cost_of t f v view r freqs choice
   cost-total c choice follows =
-      along-sum (λ (row : Row). row.position) (IsRowAt t f v view freqs r) (IsUntold t f v view) (row_cost c) (λ (p : ℕ × Block). p.0 * block_cost t f v view r choice p.1) (λ n. slice_index_or freqs n 0)
+      along-sum (λ (row : BlockNodes). row.position) (IsRowAt t f v view freqs r) (IsUntold t f v view) (row_cost c) (λ (p : ℕ × Block). p.0 * block_cost t f v view r choice p.1) (λ n. slice_index_or freqs n 0)
       (λ k b row is. ap (row_cost c) is.same ∙ cost-of t f v view freqs r c choice k b (follows.entry k b is.at) (follows.exit k b is.at) (follows.inner k b is.at))
       (λ k b untold. none (slice_index_or freqs k 0) (has_inside t f v view r b) _ (operands_in t f v view b.instrs) (no-inside k b untold) untold.uses)
       0 freqs f.blocks (net_rows ps clear spans (2 * length f.blocks)) counted.many (weights t f v view freqs counted spans all) rows-along

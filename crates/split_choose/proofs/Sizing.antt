@@ -8,7 +8,7 @@ use Rattle.std.proofs.lemmas.List.Folds.{list_all-append}
 use Rattle.std.proofs.lemmas.List.Recursion.{is_count_by}
 use Rattle.cut_place.specs.declared.net.Arc.{Arc}
 use Rattle.split_choose.specs.declared.spans.Span.{Span}
-use Rattle.split_choose.specs.declared.nets.Row.{Row}
+use Rattle.split_choose.specs.declared.nets.BlockNodes.{BlockNodes}
 use Rattle.split_choose.specs.Bundles.{start_of, end_of, root_of, AreEarlier}
 use Rattle.split_choose.specs.Regions.{is_bordered, is_out, ArePositions}
 use Rattle.split_choose.specs.Nets.{count_below, is_named, is_free, node_of, node_if, has_inside, row_of, rows_from, inside_count, arc_to, arcs_between, inside_uses, row_arcs, arcs_of, is_small_arc, is_small}
@@ -37,14 +37,14 @@ more-below test k (suc n) h is = go (cases_lt k n) (λ lt. more-below test k n l
 
 -- how many insides there are, block by block
 
-abbrev insides : List Row → ℕ
+abbrev insides : List BlockNodes → ℕ
 insides [] = 0
 insides (r ∷ rs) = cond (elim r.inside [ None ↦ false | Some n ↦ true ]) (1 + insides rs) (insides rs)
 
-insides-is : (rows : List Row) → insides rows ≡ inside_count rows
-insides-is rows = is_count_by insides (λ (r : Row). elim r.inside [ None ↦ false | Some n ↦ true ]) refl (λ r rs. refl) rows
+insides-is : (rows : List BlockNodes) → insides rows ≡ inside_count rows
+insides-is rows = is_count_by insides (λ (r : BlockNodes). elim r.inside [ None ↦ false | Some n ↦ true ]) refl (λ r rs. refl) rows
 
-insides-within : (rows : List Row) → insides rows ≤ length rows
+insides-within : (rows : List BlockNodes) → insides rows ≤ length rows
 insides-within [] = omega arith
 insides-within (r ∷ rs) = go (elim r.inside [ None ↦ false | Some n ↦ true ]) (insides-within rs)
   where
@@ -57,7 +57,7 @@ abbrev Below : ℕ → Option ℕ → Type 0
 Below nodes None = Unit {0}
 Below nodes (Some n) = n < nodes
 
-record IsRowBelow (nodes : ℕ) (r : Row) : Type 0 where
+record IsRowBelow (nodes : ℕ) (r : BlockNodes) : Type 0 where
   entry : Below nodes r.entry
   exit : Below nodes r.exit
   inside : Below nodes r.inside
@@ -65,7 +65,7 @@ record IsRowBelow (nodes : ℕ) (r : Row) : Type 0 where
   uses : r.uses ≤ 5192296858534827628530496329220096
   end_uses : r.end_uses ≤ 5192296858534827628530496329220096
 
-abbrev AreRowsBelow : ℕ → List Row → Type 0
+abbrev AreRowsBelow : ℕ → List BlockNodes → Type 0
 AreRowsBelow nodes [] = Unit {0}
 AreRowsBelow nodes (r ∷ rs) = IsRowBelow nodes r × AreRowsBelow nodes rs
 
@@ -168,14 +168,14 @@ between-small nodes n w None low below h = refl
 between-small nodes n w (Some b) low below h =
     joined-small nodes (record { from = b; to = n; cap = w } ∷ []) (record { from = n; to = b; cap = w } ∷ []) (one-small nodes _ (arc-small nodes b n w below low h)) (one-small nodes _ (arc-small nodes n b w low below h))
 
-own-small : (r : Row) → r.uses ≤ 5192296858534827628530496329220096 → inside_uses r ≤ 5192296858534827628530496329220096
+own-small : (r : BlockNodes) → r.uses ≤ 5192296858534827628530496329220096 → inside_uses r ≤ 5192296858534827628530496329220096
 own-small r h = go r.exit
   where
     go : (x : Option ℕ) → elim x [ None ↦ r.uses | Some n ↦ r.uses - r.end_uses ] ≤ 5192296858534827628530496329220096
     go None = h
     go (Some n) = omega (arith, h)
 
-row-small : (nodes : ℕ) (r : Row) → 2 ≤ nodes → IsRowBelow nodes r → list_all (is_small_arc nodes) (row_arcs r) ≡ true
+row-small : (nodes : ℕ) (r : BlockNodes) → 2 ≤ nodes → IsRowBelow nodes r → list_all (is_small_arc nodes) (row_arcs r) ≡ true
 row-small nodes r two is = go r.inside is.inside
   where
     go : (x : Option ℕ) → Below nodes x → list_all (is_small_arc nodes) (elim x [
@@ -190,7 +190,7 @@ row-small nodes r two is = go r.inside is.inside
         (to-small nodes (inside_uses r) (Some n) two low (own-small r is.uses)))
         (to-small nodes r.end_uses r.exit two is.exit is.end_uses)
 
-rows-small : (nodes : ℕ) (rows : List Row) → 2 ≤ nodes → AreRowsBelow nodes rows → list_all (is_small_arc nodes) (arcs_of rows) ≡ true
+rows-small : (nodes : ℕ) (rows : List BlockNodes) → 2 ≤ nodes → AreRowsBelow nodes rows → list_all (is_small_arc nodes) (arcs_of rows) ≡ true
 rows-small nodes [] two all = refl
 rows-small nodes (r ∷ rs) two all = joined-small nodes (row_arcs r) (arcs_of rs) (row-small nodes r two all.0) (rows-small nodes rs two all.1)
 
@@ -202,11 +202,11 @@ between-short : (border : Option ℕ) (n w : ℕ) → length (arcs_between borde
 between-short None n w = omega arith
 between-short (Some b) n w = omega arith
 
-abbrev arcs-in : Row → Option ℕ → List Arc
+abbrev arcs-in : BlockNodes → Option ℕ → List Arc
 arcs-in r None = []
 arcs-in r (Some n) = arcs_between r.entry n r.frequency ++ arcs_between r.exit n r.frequency ++ arc_to 0 (Some n) (inside_uses r) ++ arc_to 0 r.exit r.end_uses
 
-row-short : (r : Row) → length (row_arcs r) ≤ 6
+row-short : (r : BlockNodes) → length (row_arcs r) ≤ 6
 row-short r = by_inside r.inside refl
   where
     go : (x : Option ℕ) → length (arcs-in r x) ≤ 6
@@ -225,7 +225,7 @@ row-short r = by_inside r.inside refl
     by_inside None e = rw e (go None)
     by_inside (Some n) e = rw e (go (Some n))
 
-rows-short : (rows : List Row) → length (arcs_of rows) ≤ 6 * length rows
+rows-short : (rows : List BlockNodes) → length (arcs_of rows) ≤ 6 * length rows
 rows-short [] = omega arith
 rows-short (r ∷ rs) =
     let a = length-append (row_arcs r) (arcs_of rs) in
@@ -239,7 +239,7 @@ pub net-small : (parents : List ℕ) (clear : Span → Bool) (spans : List Span)
 net-small parents clear spans blocks earlier few cheap =
     both (le-leb 2 nodes two) (both (le-leb nodes 4096 most) (both (le-leb (length (arcs_of rows)) 16384 short) small))
   where
-    rows : List Row
+    rows : List BlockNodes
     rows = net_rows parents clear spans (2 * blocks)
 
     nodes : ℕ

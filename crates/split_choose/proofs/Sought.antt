@@ -6,7 +6,7 @@ use Rattle.std.proofs.lemmas.Bool.{true≢false, false_from_ne_true, leb-true, l
 use Rattle.std.proofs.lemmas.List.Folds.{find-append}
 use Rattle.std.proofs.lemmas.Grind.{flat_map-append}
 use Rattle.target_base.specs.declared.types.Reg.{Reg}
-use Rattle.split_choose.specs.declared.runs.Run.{Run}
+use Rattle.split_choose.specs.declared.runs.PlaceRun.{PlaceRun}
 use Rattle.split_choose.specs.LongRuns.{IsWithin, IsRun, IsBest, IsBestRun}
 use Rattle.target_base.specs.declared.types.Target.{Target}
 use Rattle.mir_func.specs.Value.{Function}
@@ -159,7 +159,7 @@ module _ (t : Target) (f : Function) (v : ℕ) (view : View) (rs : List Reg) (te
       pub run : (k l : ℕ) (p q : Touched) (r : Reg) → 1 ≤ l → slice_get ps k ≡ Some p → slice_get ps (k + l) ≡ Some q → test ((p, q), r) ≡ true → IsRun (near r) k (suc l)
       pub clear : (k l : ℕ) (p q : Touched) (r : Reg) → 1 ≤ l → slice_get ps k ≡ Some p → slice_get ps (k + l) ≡ Some q → IsRun (near r) k (suc l) → test ((p, q), r) ≡ true
 
-    pub record IsSought (b : Run) : Type 0 where
+    pub record IsSought (b : PlaceRun) : Type 0 where
       pub first : Touched
       pub last : Touched
       pub begins : slice_get ps b.first ≡ Some first
@@ -169,7 +169,7 @@ module _ (t : Target) (f : Function) (v : ℕ) (view : View) (rs : List Reg) (te
     within-of : (k l : ℕ) (q : Touched) → 1 ≤ l → suc l < length ps → slice_get ps (k + l) ≡ Some q → IsWithin (length ps) k (suc l)
     within-of k l q many few e = let h = get-within ps (k + l) q e in record { many = omega arith; few = few; inside = omega arith }
 
-    pub best-sought : (near : Reg → ℕ → Bool) (b : Run) → AreTold near → IsBest near (length ps) rs (length rs) b → IsSought b
+    pub best-sought : (near : Reg → ℕ → Bool) (b : PlaceRun) → AreTold near → IsBest near (length ps) rs (length rs) b → IsSought b
     best-sought near b told h = record {
       first = p.0;
       last = q.0;

@@ -7,7 +7,7 @@ use Rattle.std.specs.Ordering.{nat_cmp}
 use Rattle.std.proofs.lemmas.Bool.{or_parts, or_left, or_right, or_cases, or_from, and_parts, and_from, eqb-true, eq-eqb, ne_eqb, le-leb, ltb-true, true≢false}
 use Rattle.std.proofs.lemmas.List.Sums.{sum_by-cons}
 use Rattle.meaning.specs.Live.{Among, here, there}
-use Rattle.instr_effects.specs.declared.row.Lanes.{Lanes}
+use Rattle.instr_effects.specs.declared.row.LaneSpan.{LaneSpan}
 use Rattle.mir_func.specs.declared.func.Instr.{Instr}
 use Rattle.mir_func.specs.declared.func.Block.{Block}
 use Rattle.mir_func.specs.Binding.{does, is_terminator}
@@ -15,7 +15,7 @@ use Rattle.block_freq.specs.Weights.{naming}
 use Rattle.mir_meaning.specs.Points.{Point, Start, Entry, Exit, block_points}
 use Rattle.live_lanes.specs.declared.ask.extent.Stretch.{Stretch}
 use Rattle.live_lanes.specs.declared.row.Cell.{Cell}
-use Rattle.live_lanes.specs.declared.row.Row.{Row}
+use Rattle.live_lanes.specs.declared.row.LaneRange.{LaneRange}
 use Rattle.live_lanes.specs.declared.table.Table.{Table}
 use Rattle.live_lanes.specs.Table.{Numbers, Seen, unseen, seen, seen_in, find_cell, cause_in, entry_rank, exit_rank}
 use Rattle.live_lanes.specs.Reach.{seen_at}
@@ -51,7 +51,7 @@ below-none p q w first (suc n) h =
 pub no-lane : (x : Table) (v : ℕ) (p q : ℕ → Bool) → ((l : ℕ) → q l ≡ false → p l ≡ false) → some_lane x v q ≡ false → some_lane x v p ≡ false
 no-lane x v p q w h = go (slice_get x.lanes.ranges.items v) h
   where
-    go : (o : Option Lanes) → some_of q o ≡ false → some_of p o ≡ false
+    go : (o : Option LaneSpan) → some_of q o ≡ false → some_of p o ≡ false
     go None a = refl
     go (Some own) a = below-none p q w own.first own.count a
 
@@ -62,19 +62,19 @@ below-same p q w first (suc n) = ap (λ b. b || some_below p first n) (w (first 
 pub same-lanes : (x : Table) (v : ℕ) (p q : ℕ → Bool) → ((l : ℕ) → p l ≡ q l) → some_lane x v p ≡ some_lane x v q
 same-lanes x v p q w = go (slice_get x.lanes.ranges.items v)
   where
-    go : (o : Option Lanes) → some_of p o ≡ some_of q o
+    go : (o : Option LaneSpan) → some_of p o ≡ some_of q o
     go None = refl
     go (Some own) = below-same p q w own.first own.count
 
 -- where a lane has no cell, nothing is seen of it
-pub nothing-seen : (rows : List Row) (l k : ℕ) → is_cell (find_cell k (cells_of rows l)) ≡ false → rows_seen rows l k ≡ unseen
+pub nothing-seen : (rows : List LaneRange) (l k : ℕ) → is_cell (find_cell k (cells_of rows l)) ≡ false → rows_seen rows l k ≡ unseen
 nothing-seen rows l k h = go (slice_get rows l) h
   where
     in-row : (o : Option Cell) → is_cell o ≡ false → seen o ≡ unseen
     in-row None h = refl
     in-row (Some c) h = absurd (true≢false h)
 
-    go : (o : Option Row) → is_cell (find_cell k (elim o [ None ↦ [] | Some r ↦ r.cells.items ])) ≡ false → elim o [ None ↦ unseen | Some r ↦ seen_in r.cells.items k ] ≡ unseen
+    go : (o : Option LaneRange) → is_cell (find_cell k (elim o [ None ↦ [] | Some r ↦ r.cells.items ])) ≡ false → elim o [ None ↦ unseen | Some r ↦ seen_in r.cells.items k ] ≡ unseen
     go None h = refl
     go (Some r) h = in-row (find_cell k r.cells.items) h
 

@@ -3,8 +3,8 @@ use Rattle.std.proofs.Common.{◌≡◌, ◌∙◌, ℕ, ◌+◌, ◌<◌, ◌�
 use Rattle.std.specs.List.{sum_by, fold}
 use Rattle.std.proofs.lemmas.List.{take_more, take_all}
 use Rattle.split_choose.specs.declared.spans.Span.{Span}
-use Rattle.split_choose.specs.declared.regions.Inside.{Inside}
-use Rattle.split_choose.specs.declared.regions.Inside.TheVariants as places
+use Rattle.split_choose.specs.declared.regions.InsidePart.{InsidePart}
+use Rattle.split_choose.specs.declared.regions.InsidePart.TheVariants as places
 use Rattle.split_choose.specs.Regions.{capped, uses_of, span_cost, costs_of}
 use Rattle.split_choose.proofs.Walks.{mapped-at}
 
@@ -28,14 +28,14 @@ uses_last spans k sum h was = was ∙ ap (λ xs. capped (uses_of xs)) (take_all 
 
 pub ruleset uses = (uses_next, uses_last)
 
-pub costs_next : (test : Span → Inside) (spans : List Span) (insides : List Inside) (k : ℕ) (s : Span) (cost here : ℕ) → k < length spans → s ≡ get_or spans k s → insides ≡ map test spans → here ≡ span_cost s (get_or insides k places.Nowhere) → cost ≡ capped (costs_of test (take k spans)) → capped (cost + here) ≡ capped (costs_of test (take (k + 1) spans))
+pub costs_next : (test : Span → InsidePart) (spans : List Span) (insides : List InsidePart) (k : ℕ) (s : Span) (cost here : ℕ) → k < length spans → s ≡ get_or spans k s → insides ≡ map test spans → here ≡ span_cost s (get_or insides k places.Nowhere) → cost ≡ capped (costs_of test (take k spans)) → capped (cost + here) ≡ capped (costs_of test (take (k + 1) spans))
 costs_next test spans insides k s cost here h at are is was =
     let e : get_or insides k places.Nowhere ≡ test s = ap (λ xs. get_or xs k places.Nowhere) are ∙ mapped-at test spans k s places.Nowhere h at in
     capped_more cost (costs_of test (take k spans)) here was
     ∙ ap (λ n. capped (costs_of test (take k spans) + n)) (is ∙ ap (span_cost s) e)
     ∙ ap capped (sym (ap (costs_of test) (take_more spans k s h ∙ ap (λ y. take k spans ++ y ∷ []) (sym at)) ∙ sum_push (λ (x : Span). span_cost x (test x)) (take k spans) s))
 
-pub costs_last : (test : Span → Inside) (spans : List Span) (k cost : ℕ) → length spans ≤ k → cost ≡ capped (costs_of test (take k spans)) → cost ≡ capped (costs_of test spans)
+pub costs_last : (test : Span → InsidePart) (spans : List Span) (k cost : ℕ) → length spans ≤ k → cost ≡ capped (costs_of test (take k spans)) → cost ≡ capped (costs_of test spans)
 costs_last test spans k cost h was = was ∙ ap (λ xs. capped (costs_of test xs)) (take_all k spans h)
 
 pub ruleset costs = (costs_next, costs_last)

@@ -7,8 +7,8 @@ use Rattle.cut_place.specs.declared.net.Arc.{Arc}
 use Rattle.cut_place.specs.declared.net.Cut.{Cut}
 use Rattle.cut_place.specs.Flows.{IsCut, in_set, capacity_leaving}
 use Rattle.split_choose.specs.declared.spans.Span.{Span}
-use Rattle.split_choose.specs.declared.nets.Placing.{Placing}
-use Rattle.split_choose.specs.declared.cuts.Choice.{Choice}
+use Rattle.split_choose.specs.declared.nets.RegionNet.{RegionNet}
+use Rattle.split_choose.specs.declared.cuts.RegionCut.{RegionCut}
 use Rattle.split_choose.specs.Spans.{is_clear_in}
 use Rattle.split_choose.specs.Regions.{capped}
 use Rattle.split_choose.specs.Nets.{arcs_of, base_of, is_small}
@@ -24,7 +24,7 @@ low-sum a b base cost e f = omega arith
 
 module _ (m : Matrix) (v : ℕ) (parents : List ℕ) (spans : List Span) where
   -- one register
-  module _ (r : Reg) (placing : Placing) (placed : IsPlacing parents (is_clear_in m v r) spans (2 * length m.live.func.blocks) placing) where
+  module _ (r : Reg) (placing : RegionNet) (placed : IsPlacing parents (is_clear_in m v r) spans (2 * length m.live.func.blocks) placing) where
     pub small-is : is_small (register_net m v parents spans r) ≡ true → is_small placing.net ≡ true
     small-is h = ap (λ n. is_small (record { nodes = n; arcs = placing.net.arcs })) placed.nodes
         ∙ (ap (λ (xs : List Arc). is_small (record { nodes = node_count parents (is_clear_in m v r) spans (2 * length m.live.func.blocks); arcs = xs })) placed.arcs ∙ h)
@@ -71,14 +71,14 @@ module _ (m : Matrix) (v : ℕ) (parents : List ℕ) (spans : List Span) where
   all-more a rs r p q = all-append a rs (r ∷ []) p (q, tt)
 
   -- the best so far, with what the next has to cost less than
-  abbrev pub Picks : ℕ → ℕ → List Reg → Option Choice → Type 0
+  abbrev pub Picks : ℕ → ℕ → List Reg → Option RegionCut → Type 0
   Picks most bound rs None = (bound ≡ most) × AllCost m v parents spans most rs
   Picks most bound rs (Some choice) = (bound ≡ choice.cost) × IsFirst m v parents spans rs choice × (choice.cost < most)
 
   taken-step : (rs : List Reg) (k : ℕ) (r : Reg) → k < length rs → r ≡ get_or rs k r → take (k + 1) rs ≡ take k rs ++ r ∷ []
   taken-step rs k r h at = take_more rs k r h ∙ ap (λ y. take k rs ++ y ∷ []) (sym at)
 
-  passed : (most bound : ℕ) (rs : List Reg) (r : Reg) (best : Option Choice) → CostsAtLeast m v parents spans bound r → Picks most bound rs best → Picks most bound (rs ++ r ∷ []) best
+  passed : (most bound : ℕ) (rs : List Reg) (r : Reg) (best : Option RegionCut) → CostsAtLeast m v parents spans bound r → Picks most bound rs best → Picks most bound (rs ++ r ∷ []) best
   passed most bound rs r None costs picks =
       let P : ℕ → Type 0 = λ n. CostsAtLeast m v parents spans n r in
       (picks.0, all-more most rs r picks.1 (subst P picks.0 costs))
@@ -97,7 +97,7 @@ module _ (m : Matrix) (v : ℕ) (parents : List ℕ) (spans : List Span) where
         picks.2,
       )
 
-  before-all : (most bound cost : ℕ) (rs : List Reg) (best : Option Choice) → cost < bound → Picks most bound rs best → AllCost m v parents spans (cost + 1) rs × (bound ≤ most)
+  before-all : (most bound cost : ℕ) (rs : List Reg) (best : Option RegionCut) → cost < bound → Picks most bound rs best → AllCost m v parents spans (cost + 1) rs × (bound ≤ most)
   before-all most bound cost rs None h picks = let e = picks.0 in (all-weaker most (cost + 1) rs (omega (arith, e, h)) picks.1, omega (arith, e))
   before-all most bound cost rs (Some choice) h picks =
       let e = picks.0 in
@@ -111,7 +111,7 @@ module _ (m : Matrix) (v : ℕ) (parents : List ℕ) (spans : List Span) where
         omega (arith, e, less),
       )
 
-  taken : (most bound : ℕ) (rs : List Reg) (r : Reg) (best : Option Choice) (choice : Choice) → IsChosen m v parents spans r choice → choice.cost < bound → Picks most bound rs best
+  taken : (most bound : ℕ) (rs : List Reg) (r : Reg) (best : Option RegionCut) (choice : RegionCut) → IsChosen m v parents spans r choice → choice.cost < bound → Picks most bound rs best
       → Picks most choice.cost (rs ++ r ∷ []) (Some choice)
   taken most bound rs r best choice is h picks =
       let all = before-all most bound choice.cost rs best h picks in
@@ -133,18 +133,18 @@ module _ (m : Matrix) (v : ℕ) (parents : List ℕ) (spans : List Span) where
   pub pick_first : (most : ℕ) (rs : List Reg) → Picks most most (take 0 rs) None
   pick_first most rs = (refl, tt)
 
-  pub pick_passed : (most bound : ℕ) (rs : List Reg) (k : ℕ) (r : Reg) (best : Option Choice) → k < length rs → r ≡ get_or rs k r → CostsAtLeast m v parents spans bound r → Picks most bound (take k rs) best → Picks most bound (take (k + 1) rs) best
+  pub pick_passed : (most bound : ℕ) (rs : List Reg) (k : ℕ) (r : Reg) (best : Option RegionCut) → k < length rs → r ≡ get_or rs k r → CostsAtLeast m v parents spans bound r → Picks most bound (take k rs) best → Picks most bound (take (k + 1) rs) best
   pick_passed most bound rs k r best h at costs picks =
       let P : List Reg → Type 0 = λ xs. Picks most bound xs best in
       subst P (sym (taken-step rs k r h at)) (passed most bound (take k rs) r best costs picks)
 
-  pub pick_taken : (most bound : ℕ) (rs : List Reg) (k : ℕ) (r : Reg) (best : Option Choice) (choice : Choice) → k < length rs → r ≡ get_or rs k r → IsChosen m v parents spans r choice → choice.cost < bound → Picks most bound (take k rs) best
+  pub pick_taken : (most bound : ℕ) (rs : List Reg) (k : ℕ) (r : Reg) (best : Option RegionCut) (choice : RegionCut) → k < length rs → r ≡ get_or rs k r → IsChosen m v parents spans r choice → choice.cost < bound → Picks most bound (take k rs) best
       → Picks most choice.cost (take (k + 1) rs) (Some choice)
   pick_taken most bound rs k r best choice h at is less picks =
       let P : List Reg → Type 0 = λ xs. Picks most choice.cost xs (Some choice) in
       subst P (sym (taken-step rs k r h at)) (taken most bound (take k rs) r best choice is less picks)
 
-  pub pick_last : (most bound : ℕ) (rs : List Reg) (k : ℕ) (best : Option Choice) → length rs ≤ k → Picks most bound (take k rs) best → IsBestBelow m v parents spans most rs best
+  pub pick_last : (most bound : ℕ) (rs : List Reg) (k : ℕ) (best : Option RegionCut) → length rs ≤ k → Picks most bound (take k rs) best → IsBestBelow m v parents spans most rs best
   pick_last most bound rs k None h picks =
       let P : List Reg → Type 0 = λ xs. AllCost m v parents spans most xs in
       subst P (take_all k rs h) picks.1
@@ -163,15 +163,15 @@ module _ (m : Matrix) (v : ℕ) (parents : List ℕ) (spans : List Span) where
       same-place (s ∷ ss) zero x y w = refl
       same-place (s ∷ ss) (suc j) x y w = same-place ss j x y (omega arith)
 
-  pub pick_some : (most bound : ℕ) (rs : List Reg) (k : ℕ) (d : Reg) (best found : Option Choice) (choice : Choice) → k < length rs → found ≡ Some choice → IsChosenBelow m v parents spans bound (get_or rs k d) found
+  pub pick_some : (most bound : ℕ) (rs : List Reg) (k : ℕ) (d : Reg) (best found : Option RegionCut) (choice : RegionCut) → k < length rs → found ≡ Some choice → IsChosenBelow m v parents spans bound (get_or rs k d) found
       → Picks most bound (take k rs) best → Picks most choice.cost (take (k + 1) rs) (Some choice)
   pick_some most bound rs k d best found choice h is below picks =
-      let P : Option Choice → Type 0 = λ q. IsChosenBelow m v parents spans bound (get_or rs k d) q in
+      let P : Option RegionCut → Type 0 = λ q. IsChosenBelow m v parents spans bound (get_or rs k d) q in
       let some = subst P is below in
       pick_taken most bound rs k (get_or rs k d) best choice h (at-place rs k d h) some.0 some.1 picks
 
-  pub pick_none : (most bound : ℕ) (rs : List Reg) (k : ℕ) (d : Reg) (best found : Option Choice) → k < length rs → found ≡ None → IsChosenBelow m v parents spans bound (get_or rs k d) found
+  pub pick_none : (most bound : ℕ) (rs : List Reg) (k : ℕ) (d : Reg) (best found : Option RegionCut) → k < length rs → found ≡ None → IsChosenBelow m v parents spans bound (get_or rs k d) found
       → Picks most bound (take k rs) best → Picks most bound (take (k + 1) rs) best
   pick_none most bound rs k d best found h is below picks =
-      let P : Option Choice → Type 0 = λ q. IsChosenBelow m v parents spans bound (get_or rs k d) q in
+      let P : Option RegionCut → Type 0 = λ q. IsChosenBelow m v parents spans bound (get_or rs k d) q in
       pick_passed most bound rs k (get_or rs k d) best h (at-place rs k d h) (subst P is below) picks

@@ -14,10 +14,10 @@ use Rattle.mir_func.specs.Value.{Function}
 use Rattle.mir_func.specs.Binding.{registers, as_register}
 use Rattle.mir_meaning.specs.Points.{is_range, counts, touches}
 use Rattle.block_freq.specs.Weights.{names, naming}
-use Rattle.live_lanes.specs.declared.row.Reading.{Reading}
-use Rattle.live_lanes.specs.declared.row.Segment.{Segment}
+use Rattle.live_lanes.specs.declared.row.LaneUse.{LaneUse}
+use Rattle.live_lanes.specs.declared.row.DefPiece.{DefPiece}
 use Rattle.live_lanes.specs.declared.row.Cell.{Cell}
-use Rattle.live_lanes.specs.declared.row.Row.{Row}
+use Rattle.live_lanes.specs.declared.row.LaneRange.{LaneRange}
 use Rattle.live_lanes.specs.Table.{unseen, seen, seen_in, seen_cell, begun, find_cell}
 use Rattle.live_lanes.specs.Entered.{cells_of, rows_seen}
 use Rattle.live_lanes.specs.Ordered.{ids_of}
@@ -117,10 +117,10 @@ both-pass g P h (x ∷ xs) w a c = go (or_cases (g x) (list_any g xs) a) (both-p
     go (inl q) ih = w x q (and_parts (h x) (list_all h xs) c).0
     go (inr q) ih = ih q (and_parts (h x) (list_all h xs) c).1
 
-reading-here : (is : List Instr) (id : ℕ) (rs : List Reading) → reads_in id rs ≡ true → are_here is rs ≡ true → has id (ids_of is) ≡ true
-reading-here is id rs a c = both-pass (λ (r : Reading). nat_eq r.id id) (has id (ids_of is) ≡ true) (λ (r : Reading). has r.id (ids_of is)) rs (λ r q h. ap (λ n. has n (ids_of is)) (sym (eqb-true r.id id q)) ∙ h) a c
+reading-here : (is : List Instr) (id : ℕ) (rs : List LaneUse) → reads_in id rs ≡ true → are_here is rs ≡ true → has id (ids_of is) ≡ true
+reading-here is id rs a c = both-pass (λ (r : LaneUse). nat_eq r.id id) (has id (ids_of is) ≡ true) (λ (r : LaneUse). has r.id (ids_of is)) rs (λ r q h. ap (λ n. has n (ids_of is)) (sym (eqb-true r.id id q)) ∙ h) a c
 
-segment-here : (is : List Instr) (id : ℕ) (ss : List Segment) → list_any (names_segment id) ss ≡ true → list_all (λ p. has p.start (ids_of is)) (map begun ss) ≡ true → list_all (λ p. are_here is p.readings) (map begun ss) ≡ true → has id (ids_of is) ≡ true
+segment-here : (is : List Instr) (id : ℕ) (ss : List DefPiece) → list_any (names_segment id) ss ≡ true → list_all (λ p. has p.start (ids_of is)) (map begun ss) ≡ true → list_all (λ p. are_here is p.readings) (map begun ss) ≡ true → has id (ids_of is) ≡ true
 segment-here is id [] a c d = absurd (true≢false (sym a))
 segment-here is id (s ∷ ss) a c d = go (or_cases (names_segment id s) (list_any (names_segment id) ss) a) (segment-here is id ss)
   where
@@ -149,13 +149,13 @@ cell-here is id c named begins reads = go (or_cases (reads_in id c.first.reading
     go (inl q) = reading-here is id c.first.readings.items q parts.0
     go (inr q) = segment-here is id c.segments.items q begins parts.1
 
-seen-there : (rows : List Row) (l k : ℕ) (c : Cell) → find_cell k (cells_of rows l) ≡ Some c → rows_seen rows l k ≡ seen_cell c
+seen-there : (rows : List LaneRange) (l k : ℕ) (c : Cell) → find_cell k (cells_of rows l) ≡ Some c → rows_seen rows l k ≡ seen_cell c
 seen-there rows l k c h = go (slice_get rows l) h
   where
     none : (k : ℕ) → find_cell k [] ≡ Some c → unseen ≡ seen_cell c
     none k e = absurd (let z : None ≡ Some c = e in cc)
 
-    go : (o : Option Row) → find_cell k (elim o [ None ↦ [] | Some r ↦ r.cells.items ]) ≡ Some c → elim o [ None ↦ unseen | Some r ↦ seen_in r.cells.items k ] ≡ seen_cell c
+    go : (o : Option LaneRange) → find_cell k (elim o [ None ↦ [] | Some r ↦ r.cells.items ]) ≡ Some c → elim o [ None ↦ unseen | Some r ↦ seen_in r.cells.items k ] ≡ seen_cell c
     go None h = none k h
     go (Some r) h = ap seen h
 

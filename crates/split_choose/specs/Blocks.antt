@@ -9,7 +9,7 @@ use Rattle.live_lanes.specs.declared.table.Table.{Table}
 use Rattle.live_lanes.specs.Graph.{is_live}
 use Rattle.live_lanes.specs.Entered.{causes, cells_of}
 use Rattle.live_lanes.specs.Touching.{some_lane, leaves_block}
-use Rattle.split_choose.specs.declared.blocks.Labelled.{Labelled}
+use Rattle.split_choose.specs.declared.blocks.LabelBuilder.{LabelBuilder}
 use Rattle.split_choose.specs.declared.places.TouchedPlace.{TouchedPlace}
 use Rattle.split_choose.specs.Offers.{first_id, at_gap}
 
@@ -31,7 +31,7 @@ is_at None k = false
 is_at (Some n) k = nat_eq n k
 
 -- the place is in the block of the last one, but not in that of the one before
-abbrev pub is_second : Labelled → ℕ → Bool
+abbrev pub is_second : LabelBuilder → ℕ → Bool
 is_second s k = is_at s.last k && not (is_at s.before k)
 
 -- from the first gap of a block to before its terminators
@@ -40,12 +40,12 @@ block_pair t None label = []
 block_pair t (Some b) label = at_gap b.number (first_id b.instrs) label ∷ at_gap b.number (first_id (filter (does is_terminator t) b.instrs)) 0 ∷ []
 
 -- the next label, for the block at a position
-abbrev pub block_labelled : Target → List Block → Labelled → ℕ → Labelled
+abbrev pub block_labelled : Target → List Block → LabelBuilder → ℕ → LabelBuilder
 block_labelled t bs s k = record s { labels = s.labels ++ block_pair t (slice_get bs k) (min (s.label + 1) 65535); label = min (s.label + 1) 65535 }
 
-abbrev pub moved : ℕ → Labelled → Labelled
+abbrev pub moved : ℕ → LabelBuilder → LabelBuilder
 moved k s = record s { last = Some k; before = s.last }
 
 -- one more place; the block of the second one that isn't its terminators gets a label
-abbrev pub labelled : Target → List Block → Labelled → TouchedPlace → Labelled
+abbrev pub labelled : Target → List Block → LabelBuilder → TouchedPlace → LabelBuilder
 labelled t bs s p = cond p.is_end s (moved p.position (cond (is_second s p.position) (block_labelled t bs s p.position) s))

@@ -5,8 +5,8 @@ use Rattle.interference.specs.declared.matrix.Matrix.{Matrix}
 use Rattle.cut_place.specs.declared.net.Net.{Net}
 use Rattle.cut_place.specs.Flows.{IsCut, in_set}
 use Rattle.split_choose.specs.declared.spans.Span.{Span}
-use Rattle.split_choose.specs.declared.nets.Row.{Row}
-use Rattle.split_choose.specs.declared.cuts.Choice.{Choice}
+use Rattle.split_choose.specs.declared.nets.BlockNodes.{BlockNodes}
+use Rattle.split_choose.specs.declared.cuts.RegionCut.{RegionCut}
 use Rattle.split_choose.specs.Spans.{is_clear_in}
 use Rattle.split_choose.specs.Nets.{arcs_of}
 use Rattle.split_choose.specs.Parts.{IsReady}
@@ -14,7 +14,7 @@ use Rattle.split_choose.specs.Placings.{net_rows, node_count, AreFew, AreCheap, 
 
 module _ (m : Matrix) (v : ℕ) (parents : List ℕ) (spans : List Span) where
   -- what the blocks have in the net of a register
-  abbrev pub register_rows : Reg → List Row
+  abbrev pub register_rows : Reg → List BlockNodes
   register_rows r = net_rows parents (is_clear_in m v r) spans (2 * length m.live.func.blocks)
 
   -- its net
@@ -26,7 +26,7 @@ module _ (m : Matrix) (v : ℕ) (parents : List ℕ) (spans : List Span) where
   CostsAtLeast bound r = (nodes : ℕ → Bool) → IsCut nodes → bound ≤ choice_cost nodes (register_rows r)
 
   -- the choice for a register is a least cut of its net, and costs what its nodes do
-  pub record IsChosen (r : Reg) (choice : Choice) : Type 0 where
+  pub record IsChosen (r : Reg) (choice : RegionCut) : Type 0 where
     pub register : choice.register ≡ r
     pub placing : IsPlacing parents (is_clear_in m v r) spans (2 * length m.live.func.blocks) choice.placing
     pub least : IsLeastCut choice.placing.net choice.cut
@@ -34,7 +34,7 @@ module _ (m : Matrix) (v : ℕ) (parents : List ℕ) (spans : List Span) where
     pub fewest : CostsAtLeast choice.cost r
 
   -- the choice for a register costs less than so much; none where each costs as much
-  abbrev pub IsChosenBelow : ℕ → Reg → Option Choice → Type 0
+  abbrev pub IsChosenBelow : ℕ → Reg → Option RegionCut → Type 0
   IsChosenBelow bound r None = CostsAtLeast bound r
   IsChosenBelow bound r (Some choice) = IsChosen r choice × (choice.cost < bound)
 
@@ -44,7 +44,7 @@ module _ (m : Matrix) (v : ℕ) (parents : List ℕ) (spans : List Span) where
   AllCost bound (r ∷ rs) = CostsAtLeast bound r × AllCost bound rs
 
   -- Of these registers the choice is for the first whose least choice costs least.
-  pub record IsFirst (rs : List Reg) (choice : Choice) : Type 0 where
+  pub record IsFirst (rs : List Reg) (choice : RegionCut) : Type 0 where
     pub earlier : List Reg
     pub later : List Reg
     pub split : rs ≡ earlier ++ choice.register ∷ later
@@ -53,7 +53,7 @@ module _ (m : Matrix) (v : ℕ) (parents : List ℕ) (spans : List Span) where
     pub behind : AllCost choice.cost later
 
   -- It costs less than so much; none where each choice costs as much.
-  abbrev pub IsBestBelow : ℕ → List Reg → Option Choice → Type 0
+  abbrev pub IsBestBelow : ℕ → List Reg → Option RegionCut → Type 0
   IsBestBelow most rs None = AllCost most rs
   IsBestBelow most rs (Some choice) = IsFirst rs choice × (choice.cost < most)
 

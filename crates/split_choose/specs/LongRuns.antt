@@ -10,7 +10,7 @@ use Rattle.live_lanes.specs.declared.ask.labels.Mark.{Mark}
 use Rattle.live_lanes.specs.Touching.{AreTouched}
 use Rattle.live_lanes.specs.Tells.{touching_ids}
 use Rattle.interference.specs.declared.matrix.Matrix.{Matrix}
-use Rattle.split_choose.specs.declared.runs.Run.{Run}
+use Rattle.split_choose.specs.declared.runs.PlaceRun.{PlaceRun}
 use Rattle.split_choose.specs.declared.places.TouchedPlace.{TouchedPlace}
 use Rattle.split_choose.specs.declared.spans.Span.{Span}
 use Rattle.split_choose.specs.Offers.{View, live_at, borders, touched_places, clear_along, runs, run_marks}
@@ -37,12 +37,12 @@ pub record IsLongest (near : ℕ → Bool) (count seen first len : ℕ) : Type 0
   pub earliest : (f : ℕ) → IsWithin count f len → f + len ≤ seen → IsRun near f len → first ≤ f
 
 -- that run of the register, or there is none
-abbrev pub IsLongestRun : (ℕ → Bool) → ℕ → ℕ → Reg → Option Run → Type 0
+abbrev pub IsLongestRun : (ℕ → Bool) → ℕ → ℕ → Reg → Option PlaceRun → Type 0
 IsLongestRun near count seen r None = (f l : ℕ) → IsWithin count f l → f + l ≤ seen → IsRun near f l → ⊥
 IsLongestRun near count seen r (Some b) = IsLongest near count seen b.first b.len × (b.register ≡ r)
 
 -- of the runs of the first so many registers, the run is the longest, then the earliest, then that of the first register
-pub record IsBest (near : Reg → ℕ → Bool) (count : ℕ) (rs : List Reg) (seen : ℕ) (b : Run) : Type 0 where
+pub record IsBest (near : Reg → ℕ → Bool) (count : ℕ) (rs : List Reg) (seen : ℕ) (b : PlaceRun) : Type 0 where
   pub place : ℕ
   pub before : place < seen
   pub register : slice_get rs place ≡ Some b.register
@@ -53,22 +53,22 @@ pub record IsBest (near : Reg → ℕ → Bool) (count : ℕ) (rs : List Reg) (s
   pub foremost : (j : ℕ) (r : Reg) → j < seen → slice_get rs j ≡ Some r → IsRun (near r) b.first b.len → place ≤ j
 
 -- that run, or there is none
-abbrev pub IsBestRun : (Reg → ℕ → Bool) → ℕ → List Reg → ℕ → Option Run → Type 0
+abbrev pub IsBestRun : (Reg → ℕ → Bool) → ℕ → List Reg → ℕ → Option PlaceRun → Type 0
 IsBestRun near count rs seen None = (j f l : ℕ) (r : Reg) → j < seen → slice_get rs j ≡ Some r → IsWithin count f l → IsRun (near r) f l → ⊥
 IsBestRun near count rs seen (Some b) = IsBest near count rs seen b
 
 -- a run of that length is longer than the best, or has two or more places
-abbrev pub is_longer : ℕ → Option Run → Bool
+abbrev pub is_longer : ℕ → Option PlaceRun → Bool
 is_longer len None = nat_le 2 len
 is_longer len (Some b) = nat_lt b.len len
 
 -- the run is longer than the best, or as long and earlier
-abbrev pub is_better : Run → Option Run → Bool
+abbrev pub is_better : PlaceRun → Option PlaceRun → Bool
 is_better r None = true
 is_better r (Some b) = nat_lt b.len r.len || nat_eq r.len b.len && nat_lt r.first b.first
 
 -- the better of the best and another one, if there is one
-abbrev pub better_of : Option Run → Option Run → Option Run
+abbrev pub better_of : Option PlaceRun → Option PlaceRun → Option PlaceRun
 better_of best None = best
 better_of best (Some r) = cond (is_better r best) (Some r) best
 

@@ -4,7 +4,7 @@ use Rattle.std.specs.List.{list_any, list_all, sum_by}
 use Rattle.cut_place.specs.declared.net.Arc.{Arc}
 use Rattle.cut_place.specs.declared.net.Net.{Net}
 use Rattle.split_choose.specs.declared.spans.Span.{Span}
-use Rattle.split_choose.specs.declared.nets.Row.{Row}
+use Rattle.split_choose.specs.declared.nets.BlockNodes.{BlockNodes}
 use Rattle.split_choose.specs.Bundles.{start_of, end_of, root_of}
 use Rattle.split_choose.specs.Regions.{is_bordered, is_out, bars}
 
@@ -48,7 +48,7 @@ abbrev pub node_if : Bool → ℕ → Option ℕ
 node_if b node = cond b (Some node) None
 
 -- what a block has in the net, where the node of its inside would be this
-abbrev pub row_of : (ℕ → ℕ) → Bool → ℕ → Span → Row
+abbrev pub row_of : (ℕ → ℕ) → Bool → ℕ → Span → BlockNodes
 row_of node has next s = record {
   position = s.position;
   entry = node_if s.is_live_in (node (start_of s.position));
@@ -60,12 +60,12 @@ row_of node has next s = record {
 }
 
 -- what the blocks have: behind the bundles stand the insides, in layout
-abbrev pub rows_from : (ℕ → ℕ) → (Span → Bool) → ℕ → List Span → List Row
+abbrev pub rows_from : (ℕ → ℕ) → (Span → Bool) → ℕ → List Span → List BlockNodes
 rows_from node has next [] = []
 rows_from node has next (s ∷ ss) = row_of node (has s) next s ∷ rows_from node has (cond (has s) (next + 1) next) ss
 
 -- how many insides there are
-abbrev pub inside_count : List Row → ℕ
+abbrev pub inside_count : List BlockNodes → ℕ
 inside_count rows = count_by (λ r. elim r.inside [ None ↦ false | Some n ↦ true ]) rows
 
 -- an arc to a node, where there is one
@@ -79,24 +79,24 @@ arcs_between None inside cap = []
 arcs_between (Some border) inside cap = record { from = border; to = inside; cap = cap } ∷ record { from = inside; to = border; cap = cap } ∷ []
 
 -- what a block costs where its inside is out: without the terminators, where the range is live at its exit
-abbrev pub inside_uses : Row → ℕ
+abbrev pub inside_uses : BlockNodes → ℕ
 inside_uses r = elim r.exit [ None ↦ r.uses | Some n ↦ r.uses - r.end_uses ]
 
 -- the arcs of a block: those of its entry and its exit, that to its inside, and that to its exit
-abbrev pub row_arcs : Row → List Arc
+abbrev pub row_arcs : BlockNodes → List Arc
 row_arcs r = elim r.inside [
   | None ↦ []
   | Some n ↦ arcs_between r.entry n r.frequency ++ arcs_between r.exit n r.frequency ++ arc_to 0 (Some n) (inside_uses r) ++ arc_to 0 r.exit r.end_uses
 ]
 
-abbrev pub arcs_of : List Row → List Arc
+abbrev pub arcs_of : List BlockNodes → List Arc
 arcs_of rows = flat_map row_arcs rows
 
 -- what a block without an inside costs
-abbrev pub row_base : Row → ℕ
+abbrev pub row_base : BlockNodes → ℕ
 row_base r = elim r.inside [ None ↦ r.uses | Some n ↦ 0 ]
 
-abbrev pub base_of : List Row → ℕ
+abbrev pub base_of : List BlockNodes → ℕ
 base_of rows = sum_by row_base rows
 
 -- an arc between so many nodes that carries at most 2 ^ 112

@@ -5,13 +5,13 @@ use Rattle.cut_place.specs.declared.net.Net.{Net}
 use Rattle.cut_place.specs.declared.net.Cut.{Cut}
 use Rattle.cut_place.specs.Flows.{IsWithin, IsConserved, HasValue, IsCut, in_set, capacity_leaving}
 use Rattle.split_choose.specs.declared.spans.Span.{Span}
-use Rattle.split_choose.specs.declared.nets.Row.{Row}
-use Rattle.split_choose.specs.declared.nets.Placing.{Placing}
+use Rattle.split_choose.specs.declared.nets.BlockNodes.{BlockNodes}
+use Rattle.split_choose.specs.declared.nets.RegionNet.{RegionNet}
 use Rattle.split_choose.specs.Regions.{capped, ArePositions}
 use Rattle.split_choose.specs.Nets.{count_below, is_free, node_of, has_inside, rows_from, inside_count, arcs_of, base_of, inside_uses}
 
 -- what the blocks have in the net of a register, whose clear blocks a test tells: behind the bundles of so many borders stand the insides
-abbrev pub net_rows : List ℕ → (Span → Bool) → List Span → ℕ → List Row
+abbrev pub net_rows : List ℕ → (Span → Bool) → List Span → ℕ → List BlockNodes
 net_rows parents clear spans count = rows_from (node_of parents clear spans) (has_inside clear) (2 + count_below (is_free parents clear spans) count) spans
 
 -- how many nodes there are
@@ -19,7 +19,7 @@ abbrev pub node_count : List ℕ → (Span → Bool) → List Span → ℕ → �
 node_count parents clear spans count = 2 + count_below (is_free parents clear spans) count + inside_count (net_rows parents clear spans count)
 
 -- this is that net
-pub record IsPlacing (parents : List ℕ) (clear : Span → Bool) (spans : List Span) (count : ℕ) (made : Placing) : Type 0 where
+pub record IsPlacing (parents : List ℕ) (clear : Span → Bool) (spans : List Span) (count : ℕ) (made : RegionNet) : Type 0 where
   pub rows : made.rows.items ≡ net_rows parents clear spans count
   pub nodes : made.net.nodes ≡ node_count parents clear spans count
   pub arcs : made.net.arcs ≡ arcs_of (net_rows parents clear spans count)
@@ -60,11 +60,11 @@ out_cost c None cost = 0
 out_cost c (Some node) cost = cond (c node) 0 cost
 
 -- and all instructions of a block without an inside
-abbrev pub row_cost : (ℕ → Bool) → Row → ℕ
+abbrev pub row_cost : (ℕ → Bool) → BlockNodes → ℕ
 row_cost c r = elim r.inside [
   | None ↦ r.uses
   | Some n ↦ copy_cost c r.entry n r.frequency + copy_cost c r.exit n r.frequency + out_cost c (Some n) (inside_uses r) + out_cost c r.exit r.end_uses
 ]
 
-abbrev pub choice_cost : (ℕ → Bool) → List Row → ℕ
+abbrev pub choice_cost : (ℕ → Bool) → List BlockNodes → ℕ
 choice_cost c rows = sum_by (row_cost c) rows

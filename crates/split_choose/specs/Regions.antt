@@ -2,8 +2,8 @@
 use Rattle.std.specs.Prelude.{◌≡◌, ◌<◌, ℕ, ◌+◌, Bool, true, false, cond, not, ◌&&◌, ◌||◌, nat_eq, nat_lt, List, length, min, slice_index_or}
 use Rattle.std.specs.List.{list_all, list_any, sum_by}
 use Rattle.split_choose.specs.declared.spans.Span.{Span}
-use Rattle.split_choose.specs.declared.regions.Inside.{Inside}
-use Rattle.split_choose.specs.declared.regions.Inside.TheVariants as insides
+use Rattle.split_choose.specs.declared.regions.InsidePart.{InsidePart}
+use Rattle.split_choose.specs.declared.regions.InsidePart.TheVariants as insides
 use Rattle.split_choose.specs.Bundles.{start_of, end_of, root_of}
 
 -- sums that would not fit stay at the greatest number
@@ -15,7 +15,7 @@ abbrev pub uses_of : List Span → ℕ
 uses_of spans = sum_by (λ s. s.uses) spans
 
 -- what a block costs
-abbrev pub span_cost : Span → Inside → ℕ
+abbrev pub span_cost : Span → InsidePart → ℕ
 span_cost s insides.Nowhere = s.uses
 span_cost s insides.All = 0
 span_cost s insides.Start = capped (s.frequency + s.end_uses)
@@ -44,7 +44,7 @@ pub record AreOut (parents : List ℕ) (clear : Span → Bool) (spans : List Spa
   pub told : (root : ℕ) → root < count → slice_index_or flags root false ≡ list_any (bars parents clear root) spans
 
 -- where a block lies, by whether it is clear, and whether it starts and ends in bundles that are out
-abbrev pub inside_at : (clear starts_out ends_out : Bool) → Span → Inside
+abbrev pub inside_at : (clear starts_out ends_out : Bool) → Span → InsidePart
 inside_at clear starts_out ends_out s =
     cond (not clear || nat_eq (length s.stretches.items) 0) insides.Nowhere
     (cond (not (s.is_live_in && starts_out) && not (s.is_live_out && ends_out)) insides.All
@@ -52,7 +52,7 @@ inside_at clear starts_out ends_out s =
     (cond (s.is_live_out && not ends_out) insides.End insides.Nowhere)))
 
 -- what the blocks cost, of each of which it is told where it lies
-abbrev pub costs_of : (Span → Inside) → List Span → ℕ
+abbrev pub costs_of : (Span → InsidePart) → List Span → ℕ
 costs_of inside spans = sum_by (λ s. span_cost s (inside s)) spans
 
 -- the positions of blocks are below a number
@@ -60,5 +60,5 @@ abbrev pub ArePositions : ℕ → List Span → Type 0
 ArePositions count spans = list_all (λ s. nat_lt s.position count) spans ≡ true
 
 -- where each block lies: by whether it is clear, and whether its borders are in bundles that are out
-abbrev pub inside_in : List ℕ → (Span → Bool) → List Span → Span → Inside
+abbrev pub inside_in : List ℕ → (Span → Bool) → List Span → Span → InsidePart
 inside_in parents clear spans s = inside_at (clear s) (is_out parents clear spans (start_of s.position)) (is_out parents clear spans (end_of s.position)) s

@@ -9,12 +9,12 @@ use Rattle.mir_func.specs.Value.{Function}
 use Rattle.mir_func.specs.Binding.{does, is_terminator}
 use Rattle.mir_meaning.specs.Points.{Point, Start, Entry, Exit}
 use Rattle.live_lanes.specs.declared.ask.extent.Stretch.{Stretch}
-use Rattle.live_lanes.specs.declared.row.Reading.{Reading}
+use Rattle.live_lanes.specs.declared.row.LaneUse.{LaneUse}
 use Rattle.live_lanes.specs.declared.table.Table.{Table}
 use Rattle.mir_meaning.specs.Paths.{has}
 use Rattle.live_lanes.specs.Graph.{is_live}
-use Rattle.live_lanes.specs.declared.row.End.{End}
-use Rattle.live_lanes.specs.declared.row.End.TheVariants as ends
+use Rattle.live_lanes.specs.declared.row.PieceEnd.{PieceEnd}
+use Rattle.live_lanes.specs.declared.row.PieceEnd.TheVariants as ends
 use Rattle.live_lanes.specs.Table.{Numbers, Begun, Seen, entry_rank, exit_rank, end_rank, descends}
 use Rattle.live_lanes.specs.Ways.{successors}
 use Rattle.live_lanes.specs.Entered.{causes, cells_of, rows_seen}
@@ -23,7 +23,7 @@ use Rattle.live_lanes.specs.Looks.{InOrder, entry_at, exit_at}
 use Rattle.live_lanes.specs.Held.{held_at, hold_rank}
 use Rattle.live_lanes.specs.Touching.{FindsInstrs, some_lane}
 use Rattle.live_lanes.specs.Tells.{TellsTouched}
-use Rattle.interference.specs.declared.held.Held.{Held}
+use Rattle.interference.specs.declared.held.RangeExtent.{RangeExtent}
 use Rattle.interference.specs.declared.matrix.Matrix.{Matrix}
 use Rattle.interference.specs.Clashes.{IsOrdered, is_held, holds}
 use Rattle.split_choose.specs.Offers.{View}
@@ -92,18 +92,18 @@ abbrev pub begins_here : List Instr → Seen → Bool
 begins_here is s = list_all (λ p. has p.start (ids_of is)) s.segments
 
 -- the instructions that read the lane in its pieces in the block at a position are of it
-abbrev pub are_here : List Instr → List Reading → Bool
+abbrev pub are_here : List Instr → List LaneUse → Bool
 are_here is rs = list_all (λ r. has r.id (ids_of is)) rs
 
 abbrev pub reads_here : List Instr → Seen → Bool
 reads_here is s = are_here is s.readings && list_all (λ p. are_here is p.readings) s.segments
 
 -- what is held begins at the block's start or with an instruction of it
-abbrev pub starts_here : List Instr → Held → Bool
+abbrev pub starts_here : List Instr → RangeExtent → Bool
 starts_here is h = elim h.extent.start [ None ↦ true | Some id ↦ has id (ids_of is) ]
 
 -- no piece lasts beyond the first point of the next one
-abbrev pub turns_from : Numbers → End → List Begun → Bool
+abbrev pub turns_from : Numbers → PieceEnd → List Begun → Bool
 turns_from slots e [] = true
 turns_from slots e (s ∷ ss) = nat_le (end_rank slots e) (hold_rank slots s) && turns_from slots s.end ss
 

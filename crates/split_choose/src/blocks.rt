@@ -74,7 +74,7 @@ pub(crate) fn is_live_at_border(live: &LiveFunc, v: u32) -> bool
 
 /// Labels so far, the last of them, and the positions of the last two places.
 #[derive(Drop)]
-struct Labelled {
+struct LabelBuilder {
     labels: Labels,
     label: u16,
     last: Option<u32>,
@@ -91,7 +91,7 @@ fn is_at(at: Option<u32>, position: u32) -> bool
     }
 }
 
-impl Labelled {
+impl LabelBuilder {
     /// Whether a place at a position is the second of its block.
     fn is_second(&self, position: u32) -> bool
         ensures { result ≡ is_second self.now position }
@@ -134,7 +134,7 @@ fn labels_of(alloc: Global, live: &LiveFunc, places: &[TouchedPlace]) -> Result<
         → places.now ≡ map (placed live.now.func.blocks) (touched_places live.now.target live.now.func v view)
         → ls ≡ block_marks live.now.target live.now.func v view 0 live.now.func.blocks) }
 {
-    let mut all = Labelled {
+    let mut all = LabelBuilder {
         labels: Labels::new(alloc),
         label: 0,
         last: None,

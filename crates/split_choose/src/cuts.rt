@@ -19,9 +19,9 @@ ghost use Rattle.split_choose.specs.Placings.{IsLeastCut};
 ghost use Rattle.split_choose.specs.Choices.{IsWithin, IsChosenBelow, IsBestBelow};
 
 use crate::bundles::Bundles;
-use crate::nets::{Placing, Row, is_small, placing_of};
+use crate::nets::{BlockNodes, RegionNet, is_small, placing_of};
 use crate::places::{gap_ids, places_of};
-use crate::regions::{View, add_mark, all_uses, clear_blocks, domain_of, flag_at};
+use crate::regions::{RegionView, add_mark, all_uses, clear_blocks, domain_of, flag_at};
 use crate::spans::spans_of;
 use block_freq::Freqs;
 use cut_place::{Cut, Net, least_cut};
@@ -45,9 +45,9 @@ pub struct Region {
 
 /// The least cut of a register's net.
 #[derive(Drop)]
-struct Choice {
+struct RegionCut {
     register: Reg,
-    placing: Placing,
+    placing: RegionNet,
     cut: Cut,
     /// What the cut costs, and the blocks without an inside.
     cost: u128,
@@ -95,7 +95,7 @@ pub fn cut_region_over(
         return Ok(None);
     }
     let spans = spans_of(alloc, m.live(), v, freqs, touched.as_slice())?;
-    best_region(View {
+    best_region(RegionView {
         alloc,
         m,
         v,
@@ -105,7 +105,7 @@ pub fn cut_region_over(
 }
 
 /// The registers that a range may be in, in class order.
-fn registers_of(view: View<'_>) -> Result<Vec<Reg>, AllocError>
+fn registers_of(view: RegionView<'_>) -> Result<Vec<Reg>, AllocError>
     ensures { IfOk result (λ rs. rs.items ≡ domain view.entry.m.now.live.target (class_of view.entry.m.now.live.func view.entry.v)) }
 {
     let live = view.m.live();
@@ -113,7 +113,7 @@ fn registers_of(view: View<'_>) -> Result<Vec<Reg>, AllocError>
 }
 
 /// The region of least cost that is offered to a range over its blocks.
-fn best_region(view: View<'_>) -> Result<Option<Region>, AllocError>
+fn best_region(view: RegionView<'_>) -> Result<Option<Region>, AllocError>
     ensures { let target = view.entry.m.now.live.target in let func = view.entry.m.now.live.func in
         let parents = view.entry.bundles.now.parents.items in let spans = view.entry.spans.now in
         IfOk result (λ q. (v : ℕ) (offers : OfferView) → IsWithin view.entry.m.now view.entry.v parents spans
@@ -124,17 +124,17 @@ fn best_region(view: View<'_>) -> Result<Option<Region>, AllocError>
     let Some(choice) = best_of(view, registers.as_slice())? else {
         return Ok(None);
     };
-    labelled(view, choice)
+    label_cut(view, choice)
 }
 
 /// The choice of least cost among those of registers, the first at a tie, if it costs less than
 /// the range does.
-fn best_of(view: View<'_>, registers: &[Reg]) -> Result<Option<Choice>, AllocError>
+fn best_of(view: RegionView<'_>, registers: &[Reg]) -> Result<Option<RegionCut>, AllocError>
     ensures { let parents = view.entry.bundles.now.parents.items in let spans = view.entry.spans.now in
         IfOk result (λ q. IsWithin view.entry.m.now view.entry.v parents spans → IsBestBelow view.entry.m.now view.entry.v parents spans (capped (uses_of spans)) registers.now q) }
 {
     let mut bound = all_uses(view.spans);
-    let mut best: Option<Choice> = None;
+    let mut best: Option<RegionCut> = None;
     'registers: for register in registers {
         if let Some(choice) = choice_below(view, *register, bound)? {
             bound = choice.cost;
@@ -156,7 +156,11 @@ fn cut_of(alloc: Global, net: &Net) -> Result<Option<Cut>, AllocError>
 }
 
 /// The choice of least cost for a register, if it costs less than so much.
-fn choice_below(view: View<'_>, register: Reg, bound: u128) -> Result<Option<Choice>, AllocError>
+fn choice_below(
+    view: RegionView<'_>,
+    register: Reg,
+    bound: u128,
+) -> Result<Option<RegionCut>, AllocError>
     ensures { let parents = view.entry.bundles.now.parents.items in let spans = view.entry.spans.now in
         IfOk result (λ q. IsWithin view.entry.m.now view.entry.v parents spans → IsChosenBelow view.entry.m.now view.entry.v parents spans bound register q) }
 {
@@ -169,7 +173,7 @@ fn choice_below(view: View<'_>, register: Reg, bound: u128) -> Result<Option<Cho
     if cost >= bound {
         return Ok(None);
     }
-    Ok(Some(Choice {
+    Ok(Some(RegionCut {
         register,
         placing,
         cut,
@@ -178,13 +182,13 @@ fn choice_below(view: View<'_>, register: Reg, bound: u128) -> Result<Option<Cho
 }
 
 /// The region of a choice.
-fn labelled(view: View<'_>, choice: Choice) -> Result<Option<Region>, AllocError>
+fn label_cut(view: RegionView<'_>, choice: RegionCut) -> Result<Option<Region>, AllocError>
     ensures { let target = view.entry.m.now.live.target in let func = view.entry.m.now.live.func in
         IfOk result (λ q. (v : ℕ) (offers : OfferView) → list_all (λ b. ends_in_terminators target b.instrs) func.blocks ≡ true
         → q ≡ Some (region_of target func v offers choice)) }
 {
     let labels = labels_of(view, &choice)?;
-    let Choice {
+    let RegionCut {
         register,
         placing,
         cut,
@@ -199,7 +203,7 @@ fn labelled(view: View<'_>, choice: Choice) -> Result<Option<Region>, AllocError
 }
 
 /// The labels of a choice.
-fn labels_of(view: View<'_>, choice: &Choice) -> Result<Labels, AllocError>
+fn labels_of(view: RegionView<'_>, choice: &RegionCut) -> Result<Labels, AllocError>
     ensures { let target = view.entry.m.now.live.target in let func = view.entry.m.now.live.func in
         IfOk result (λ ls. (v : ℕ) (offers : OfferView) → list_all (λ b. ends_in_terminators target b.instrs) func.blocks ≡ true
         → ls ≡ rows_marks target func v offers choice.now.cut.inside choice.now.placing.rows.items) }
@@ -214,7 +218,7 @@ fn labels_of(view: View<'_>, choice: &Choice) -> Result<Labels, AllocError>
 }
 
 /// Whether a node is in; without a node what else is.
-fn is_in(inside: &[bool], node: Option<u32>, otherwise: bool) -> bool
+fn is_in_or(inside: &[bool], node: Option<u32>, otherwise: bool) -> bool
     ensures { result ≡ is_node_in inside.now node otherwise }
 {
     match node {
@@ -225,14 +229,14 @@ fn is_in(inside: &[bool], node: Option<u32>, otherwise: bool) -> bool
 
 /// Which parts of a block lie in the register. Where the range isn't live at a border, its inside
 /// reaches so far.
-fn sides_of(inside: &[bool], row: Row) -> Sides
+fn sides_of(inside: &[bool], row: BlockNodes) -> Sides
     ensures { result ≡ sides_of inside.now row }
 {
-    let own = is_in(inside, row.inside, false);
+    let own = is_in_or(inside, row.inside, false);
     Sides {
-        start: is_in(inside, row.entry, own),
+        start: is_in_or(inside, row.entry, own),
         inside: own,
-        end: is_in(inside, row.exit, own),
+        end: is_in_or(inside, row.exit, own),
     }
 }
 
@@ -256,7 +260,7 @@ fn same_gap(a: Option<u32>, b: Option<u32>) -> bool
 
 /// Whether what is behind the first gap of a block lies in the register, where that may be the gap
 /// before its terminators. Then an inside that leads to the block's end has no extent.
-fn behind_first(row: Row, sides: Sides, is_one_gap: bool) -> bool
+fn behind_first(row: BlockNodes, sides: Sides, is_one_gap: bool) -> bool
     ensures { result ≡ behind_first row sides is_one_gap }
 {
     if row.exit.is_some() && is_one_gap {
@@ -302,7 +306,7 @@ fn add_change(
 /// terminators on.
 fn add_labels(
     live: &LiveFunc,
-    row: Row,
+    row: BlockNodes,
     sides: Sides,
     labels: &mut Labels,
 ) -> Result<(), AllocError>

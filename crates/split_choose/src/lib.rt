@@ -14,7 +14,7 @@ mod spans;
 pub use blocks::per_block;
 pub use bundles::Bundles;
 pub use cuts::{Region, cut_region, cut_region_over};
-pub use nets::{Placing, Row};
+pub use nets::{BlockNodes, RegionNet};
 pub use region_nets::region_net;
 pub use regions::{region, region_over};
 pub use runs::local;

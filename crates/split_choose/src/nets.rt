@@ -11,7 +11,7 @@ ghost use Rattle.split_choose.specs.BundleNodes.{AreNodes};
 ghost use Rattle.split_choose.specs.Placings.{AreFew, IsPlacing};
 
 use crate::bundles::{end_of, start_of};
-use crate::regions::{View, flag_at, no_flags, outside_of};
+use crate::regions::{RegionView, flag_at, no_flags, outside_of};
 use crate::spans::Span;
 use cut_place::{Arc, Arcs, Net};
 use std::alloc::{AllocError, Global};
@@ -34,7 +34,7 @@ const MOST_CAPACITY: u128 = 5_192_296_858_534_827_628_530_496_329_220_096;
 
 /// What a block of the range has in the net of a register.
 #[derive(Clone, Copy)]
-pub struct Row {
+pub struct BlockNodes {
     /// The block's position in the layout.
     pub position: u32,
     /// The nodes of its start and its end, where the range is live there.
@@ -52,9 +52,9 @@ pub struct Row {
 
 /// The net of a register.
 #[derive(Drop)]
-pub struct Placing {
+pub struct RegionNet {
     /// What each block has.
-    pub rows: Vec<Row>,
+    pub rows: Vec<BlockNodes>,
     pub net: Net,
     /// What the blocks without an inside cost.
     pub base: u128,
@@ -118,7 +118,7 @@ fn free_of(alloc: Global, named: &[bool], outside: &[bool]) -> Result<Vec<bool>,
 }
 
 /// Whether the range is live at a border of each bundle: what would be out if no block were clear.
-fn named_of(view: View<'_>) -> Result<Vec<bool>, AllocError>
+fn named_of(view: RegionView<'_>) -> Result<Vec<bool>, AllocError>
     ensures { IfOk result (λ flags. length view.entry.m.now.live.func.blocks < 2147483648
         → ArePositions (length view.entry.m.now.live.func.blocks) view.entry.spans.now
         → AreFlags (2 * length view.entry.m.now.live.func.blocks) (is_named view.entry.bundles.now.parents.items view.entry.spans.now) flags.items) }
@@ -128,7 +128,7 @@ fn named_of(view: View<'_>) -> Result<Vec<bool>, AllocError>
 }
 
 /// The nodes of the bundles.
-fn bundle_nodes(view: View<'_>, clear: &[bool]) -> Result<BundleNodes, AllocError>
+fn bundle_nodes(view: RegionView<'_>, clear: &[bool]) -> Result<BundleNodes, AllocError>
     ensures { IfOk result (λ made. (test : BlockSpan → Bool) → clear.now ≡ map test view.entry.spans.now
         → length view.entry.m.now.live.func.blocks < 2147483647 → ArePositions (length view.entry.m.now.live.func.blocks) view.entry.spans.now
         → AreNodes view.entry.bundles.now.parents.items test view.entry.spans.now (2 * length view.entry.m.now.live.func.blocks) made) }
@@ -151,7 +151,7 @@ fn node_at(numbers: &[u32], place: usize) -> u32
 }
 
 /// The node of the bundle of a border.
-fn border_node(view: View<'_>, border: u32, bundles: &BundleNodes) -> u32
+fn border_node(view: RegionView<'_>, border: u32, bundles: &BundleNodes) -> u32
     ensures { (clear : BlockSpan → Bool) (count : ℕ) → AreEarlier view.entry.bundles.now.parents.items
         → AreNodes view.entry.bundles.now.parents.items clear view.entry.spans.now count bundles.now → border < count
         → result ≡ node_of view.entry.bundles.now.parents.items clear view.entry.spans.now border }
@@ -179,12 +179,18 @@ fn has_inside(span: &Span, is_clear: bool) -> bool
 }
 
 /// What a block has, where the node of its inside would be this.
-fn row_at(view: View<'_>, span: &Span, bundles: &BundleNodes, has: bool, next: u32) -> Row
+fn row_at(
+    view: RegionView<'_>,
+    span: &Span,
+    bundles: &BundleNodes,
+    has: bool,
+    next: u32,
+) -> BlockNodes
     ensures { (clear : BlockSpan → Bool) (count : ℕ) → AreEarlier view.entry.bundles.now.parents.items
         → AreNodes view.entry.bundles.now.parents.items clear view.entry.spans.now count bundles.now → count ≤ 4294967295 → 2 * span.now.position + 1 < count
         → result ≡ row_of (node_of view.entry.bundles.now.parents.items clear view.entry.spans.now) has next span.now }
 {
-    Row {
+    BlockNodes {
         position: span.position,
         entry: node_if(
             span.is_live_in,
@@ -202,7 +208,11 @@ fn row_at(view: View<'_>, span: &Span, bundles: &BundleNodes, has: bool, next: u
 }
 
 /// What the blocks have.
-fn rows_of(view: View<'_>, bundles: &BundleNodes, clear: &[bool]) -> Result<Vec<Row>, AllocError>
+fn rows_of(
+    view: RegionView<'_>,
+    bundles: &BundleNodes,
+    clear: &[bool],
+) -> Result<Vec<BlockNodes>, AllocError>
     ensures { let parents = view.entry.bundles.now.parents.items in let blocks = length view.entry.m.now.live.func.blocks in let spans = view.entry.spans.now in
         IfOk result (λ rows. (test : BlockSpan → Bool) → clear.now ≡ map test spans → blocks < 1073741823 → ArePositions blocks spans → AreEarlier parents
         → AreNodes parents test spans (2 * blocks) bundles.now → bundles.now.next + length spans < 4294967296
@@ -246,7 +256,7 @@ fn add_arcs_between(
 
 /// What a block costs where its inside is out: the terminators count with the end of the block,
 /// where the range is live there.
-fn inside_uses(row: Row) -> u128
+fn inside_uses(row: BlockNodes) -> u128
     ensures { result ≡ inside_uses row }
 {
     match row.exit {
@@ -256,7 +266,7 @@ fn inside_uses(row: Row) -> u128
 }
 
 /// Adds the arcs of a block with an inside.
-fn add_arcs(row: Row, inside: u32, arcs: &mut Arcs) -> Result<(), AllocError>
+fn add_arcs(row: BlockNodes, inside: u32, arcs: &mut Arcs) -> Result<(), AllocError>
     ensures { OnOk result (row.inside ≡ Some inside → arcs.new ≡ arcs.old ++ row_arcs row) }
 {
     add_arcs_between(row.entry, inside, row.frequency, arcs)?;
@@ -266,7 +276,7 @@ fn add_arcs(row: Row, inside: u32, arcs: &mut Arcs) -> Result<(), AllocError>
 }
 
 /// Adds the arcs of a block, if it has an inside.
-fn add_row(row: Row, arcs: &mut Arcs) -> Result<(), AllocError>
+fn add_row(row: BlockNodes, arcs: &mut Arcs) -> Result<(), AllocError>
     ensures { OnOk result (arcs.new ≡ arcs.old ++ row_arcs row) }
 {
     match row.inside {
@@ -276,7 +286,7 @@ fn add_row(row: Row, arcs: &mut Arcs) -> Result<(), AllocError>
 }
 
 /// The arcs of the blocks.
-fn arcs_of(alloc: Global, rows: &[Row]) -> Result<Arcs, AllocError>
+fn arcs_of(alloc: Global, rows: &[BlockNodes]) -> Result<Arcs, AllocError>
     ensures { IfOk result (λ arcs. arcs ≡ arcs_of rows.now) }
 {
     let mut arcs = List::new(alloc);
@@ -287,7 +297,7 @@ fn arcs_of(alloc: Global, rows: &[Row]) -> Result<Arcs, AllocError>
 }
 
 /// What a block without an inside costs.
-fn row_base(row: Row) -> u128
+fn row_base(row: BlockNodes) -> u128
     ensures { result ≡ row_base row }
 {
     match row.inside {
@@ -298,7 +308,7 @@ fn row_base(row: Row) -> u128
 
 /// What the blocks without an inside cost.
 #[tactic(auto, using(crate::proofs::Netting::bases))]
-fn base_of(rows: &[Row]) -> u128
+fn base_of(rows: &[BlockNodes]) -> u128
     ensures { result ≡ capped (base_of rows.now) }
 {
     let mut base = 0u128;
@@ -309,7 +319,7 @@ fn base_of(rows: &[Row]) -> u128
 }
 
 /// So many, and one more for each block with an inside.
-fn count_from(first: u32, rows: &[Row]) -> u32
+fn count_from(first: u32, rows: &[BlockNodes]) -> u32
     ensures { first + length rows.now < 4294967296 → result ≡ first + inside_count rows.now }
 {
     let mut count = first;
@@ -320,7 +330,7 @@ fn count_from(first: u32, rows: &[Row]) -> u32
 }
 
 /// The net of a register that is clear in these blocks.
-pub(crate) fn placing_of(view: View<'_>, clear: &[bool]) -> Result<Placing, AllocError>
+pub(crate) fn placing_of(view: RegionView<'_>, clear: &[bool]) -> Result<RegionNet, AllocError>
     ensures { let parents = view.entry.bundles.now.parents.items in let blocks = length view.entry.m.now.live.func.blocks in let spans = view.entry.spans.now in
         IfOk result (λ made. (test : BlockSpan → Bool) → clear.now ≡ map test spans → AreFew blocks spans → AreEarlier parents
         → IsPlacing parents test spans (2 * blocks) made) }
@@ -328,7 +338,7 @@ pub(crate) fn placing_of(view: View<'_>, clear: &[bool]) -> Result<Placing, Allo
     let bundles = bundle_nodes(view, clear)?;
     let rows = rows_of(view, &bundles, clear)?;
     let arcs = arcs_of(view.alloc, rows.as_slice())?;
-    Ok(Placing {
+    Ok(RegionNet {
         net: Net {
             nodes: count_from(bundles.next, rows.as_slice()),
             arcs,

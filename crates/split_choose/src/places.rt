@@ -131,7 +131,12 @@ pub(crate) fn gap_ids(live: &LiveFunc, position: u32) -> (Option<u32>, Option<u3
 }
 
 /// The place of the terminators at the end of a block, of which one has the id.
-fn ending(target: &Target, position: u32, instrs: &[Boxed<Instr>], id: u32) -> TouchedPlace
+fn terminators_place(
+    target: &Target,
+    position: u32,
+    instrs: &[Boxed<Instr>],
+    id: u32,
+) -> TouchedPlace
     ensures { (i : Instr) → i.id ≡ id → ends_in_terminators target.now instrs.now ≡ true → result ≡ ending target.now position instrs.now i }
 {
     TouchedPlace {
@@ -158,7 +163,7 @@ fn place_of(live: &LiveFunc, id: u32) -> Option<TouchedPlace>
         });
     }
     let block = block_at(live, position)?;
-    Some(ending(live.target(), position, block.instrs.as_slice(), id))
+    Some(terminators_place(live.target(), position, block.instrs.as_slice(), id))
 }
 
 /// Adds the place to which an instruction belongs.

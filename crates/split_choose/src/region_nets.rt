@@ -11,8 +11,8 @@ ghost use Rattle.split_choose.specs.Spanned.{AreSpansOf};
 ghost use Rattle.split_choose.specs.Spans.{is_clear_in};
 
 use crate::bundles::Bundles;
-use crate::nets::{Placing, placing_of};
-use crate::regions::{View, clear_blocks};
+use crate::nets::{RegionNet, placing_of};
+use crate::regions::{RegionView, clear_blocks};
 use crate::spans::spans_of;
 use block_freq::Freqs;
 use interference::Matrix;
@@ -27,7 +27,7 @@ pub fn region_net(
     v: u32,
     freqs: &Freqs,
     register: Reg,
-) -> Result<Placing, AllocError>
+) -> Result<RegionNet, AllocError>
     ensures { let func = m.now.live.func in let table = m.now.live.table in
         IfOk result (λ made. FindsPlaces m.now.live.target func table v → FindsPoints m.now → FindsWays func table
         → (parents : List ℕ) × (spans : List BlockSpan) × AreBundles (successors table.flow.items) parents × AreSpansOf m.now v freqs.now spans
@@ -36,7 +36,7 @@ pub fn region_net(
     let bundles = Bundles::of(alloc, m.live())?;
     let touched = m.live().touched(alloc, v)?;
     let spans = spans_of(alloc, m.live(), v, freqs, touched.as_slice())?;
-    let view = View {
+    let view = RegionView {
         alloc,
         m,
         v,
@@ -47,7 +47,7 @@ pub fn region_net(
 }
 
 /// The net of a register over a range's blocks.
-fn net_over(view: View<'_>, register: Reg) -> Result<Placing, AllocError>
+fn net_over(view: RegionView<'_>, register: Reg) -> Result<RegionNet, AllocError>
     ensures { let parents = view.entry.bundles.now.parents.items in let blocks = length view.entry.m.now.live.func.blocks in let spans = view.entry.spans.now in
         IfOk result (λ made. IsReady view.entry.m.now parents spans → AreFew blocks spans
         → IsPlacing parents (is_clear_in view.entry.m.now view.entry.v register) spans (2 * blocks) made) }

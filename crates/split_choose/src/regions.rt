@@ -6,7 +6,7 @@ ghost use Rattle.target_base.specs.Storage.{is_unreserved};
 ghost use Rattle.mir_func.specs.Binding.{class_of};
 ghost use Rattle.mir_meaning.specs.Places.{domain};
 ghost use Rattle.split_choose.specs.declared.spans.Span.{Span as BlockSpan};
-ghost use Rattle.split_choose.specs.declared.regions.Inside.{Inside as Where};
+ghost use Rattle.split_choose.specs.declared.regions.InsidePart.{InsidePart as Where};
 ghost use Rattle.live_lanes.specs.Ways.{successors};
 ghost use Rattle.split_choose.specs.Bundles.{start_of, end_of, root_of, AreEarlier, AreBundles};
 ghost use Rattle.split_choose.specs.Marks.{mark_at, marks_in};
@@ -32,7 +32,7 @@ use target_base::{ClassId, Reg, Target};
 
 /// Where in a block the part in the register lives.
 #[derive(Clone, Copy, PartialEq, Eq)]
-enum Inside {
+enum InsidePart {
     Nowhere,
     All,
     /// Up to the terminators.
@@ -43,15 +43,15 @@ enum Inside {
 
 /// The part in a register, block by block, and what it costs.
 #[derive(Drop)]
-struct Offer {
+struct RegionCandidate {
     register: Reg,
-    insides: Vec<Inside>,
+    insides: Vec<InsidePart>,
     cost: u128,
 }
 
 /// What is looked at for each register.
 #[derive(Clone, Copy)]
-pub(crate) struct View<'a> {
+pub(crate) struct RegionView<'a> {
     pub alloc: Global,
     pub m: &'a Matrix,
     pub v: u32,
@@ -119,7 +119,7 @@ pub fn region_over(
         return Ok(None);
     }
     let spans = spans_of(alloc, m.live(), v, freqs, touched.as_slice())?;
-    best_split(View {
+    best_split(RegionView {
         alloc,
         m,
         v,
@@ -129,7 +129,7 @@ pub fn region_over(
 }
 
 /// The region split of least cost that is offered to a range over its blocks.
-fn best_split(view: View<'_>) -> Result<Option<(Reg, Labels)>, AllocError>
+fn best_split(view: RegionView<'_>) -> Result<Option<(Reg, Labels)>, AllocError>
     ensures { let target = view.entry.m.now.live.target in let func = view.entry.m.now.live.func in let parents = view.entry.bundles.now.parents.items in
         IfOk result (λ q. (v : ℕ) (offers : OfferView) → IsReady view.entry.m.now parents view.entry.spans.now
         → list_all (λ b. ends_in_terminators target b.instrs) func.blocks ≡ true
@@ -137,13 +137,16 @@ fn best_split(view: View<'_>) -> Result<Option<(Reg, Labels)>, AllocError>
         (least (parts_of view.entry.m.now view.entry.v parents view.entry.spans.now (domain target (class_of func view.entry.v))))) }
 {
     match best_offer(view)? {
-        Some(offer) => labelled(view, &offer),
+        Some(offer) => label_candidate(view, &offer),
         None => Ok(None),
     }
 }
 
 /// The register of an offer with its labels.
-fn labelled(view: View<'_>, offer: &Offer) -> Result<Option<(Reg, Labels)>, AllocError>
+fn label_candidate(
+    view: RegionView<'_>,
+    offer: &RegionCandidate,
+) -> Result<Option<(Reg, Labels)>, AllocError>
     ensures { let target = view.entry.m.now.live.target in let func = view.entry.m.now.live.func in
         IfOk result (λ q. (v : ℕ) (offers : OfferView) (inside : BlockSpan → Where) → list_all (λ b. ends_in_terminators target b.instrs) func.blocks ≡ true
         → offer.now.insides.items ≡ map inside view.entry.spans.now → q ≡ Some (offer.now.register, marks_of target func v offers inside view.entry.spans.now)) }
@@ -165,7 +168,7 @@ pub(crate) fn all_uses(spans: &[Span]) -> u128
 }
 
 /// The offer of least cost, the first in class order at a tie.
-fn best_offer(view: View<'_>) -> Result<Option<Offer>, AllocError>
+fn best_offer(view: RegionView<'_>) -> Result<Option<RegionCandidate>, AllocError>
     ensures { let parents = view.entry.bundles.now.parents.items in
         IfOk result (λ best. IsReady view.entry.m.now parents view.entry.spans.now → IsBest view.entry.m.now view.entry.v parents view.entry.spans.now
         (least (parts_of view.entry.m.now view.entry.v parents view.entry.spans.now (domain view.entry.m.now.live.target (class_of view.entry.m.now.live.func view.entry.v)))) best) }
@@ -176,13 +179,13 @@ fn best_offer(view: View<'_>) -> Result<Option<Offer>, AllocError>
 }
 
 /// The offer of least cost among those of registers, the first at a tie.
-fn best_of(view: View<'_>, registers: &[Reg]) -> Result<Option<Offer>, AllocError>
+fn best_of(view: RegionView<'_>, registers: &[Reg]) -> Result<Option<RegionCandidate>, AllocError>
     ensures { let parents = view.entry.bundles.now.parents.items in
         IfOk result (λ best. IsReady view.entry.m.now parents view.entry.spans.now → IsBest view.entry.m.now view.entry.v parents view.entry.spans.now
         (least (parts_of view.entry.m.now view.entry.v parents view.entry.spans.now registers.now)) best) }
 {
     let mut bound = all_uses(view.spans);
-    let mut best: Option<Offer> = None;
+    let mut best: Option<RegionCandidate> = None;
     'registers: for register in registers {
         let offer = offer_of(view, *register)?;
         if offer.cost < bound {
@@ -194,7 +197,7 @@ fn best_of(view: View<'_>, registers: &[Reg]) -> Result<Option<Offer>, AllocErro
 }
 
 /// Whether a register is clear for the range in each block.
-pub(crate) fn clear_blocks(view: View<'_>, register: Reg) -> Result<Vec<bool>, AllocError>
+pub(crate) fn clear_blocks(view: RegionView<'_>, register: Reg) -> Result<Vec<bool>, AllocError>
     ensures { IfOk result (λ clear. IsOrdered view.entry.m.now → AreSpans view.entry.spans.now
         → clear.items ≡ map (is_clear_in view.entry.m.now view.entry.v register) view.entry.spans.now) }
 {
@@ -212,7 +215,7 @@ pub(crate) fn clear_blocks(view: View<'_>, register: Reg) -> Result<Vec<bool>, A
 }
 
 /// Sets the flag of the bundle of a border.
-fn forbid(view: View<'_>, border: u32, outside: &mut Vec<bool>)
+fn forbid(view: RegionView<'_>, border: u32, outside: &mut Vec<bool>)
     ensures { outside.new.items ≡ slice_set outside.old.items (root_of view.entry.bundles.now.parents.items border) true }
 {
     if let Some(place) = outside.get_mut(view.bundles.find(border) as usize) {
@@ -243,7 +246,7 @@ pub(crate) fn flag_at(flags: &[bool], place: usize) -> bool
 
 /// For the border that stands for each bundle, whether the bundle is out: some block that has a
 /// border of it at which the range is live isn't clear.
-pub(crate) fn outside_of(view: View<'_>, clear: &[bool]) -> Result<Vec<bool>, AllocError>
+pub(crate) fn outside_of(view: RegionView<'_>, clear: &[bool]) -> Result<Vec<bool>, AllocError>
     ensures { IfOk result (λ flags. (test : BlockSpan → Bool) → clear.now ≡ map test view.entry.spans.now
         → length view.entry.m.now.live.func.blocks < 2147483648 → ArePositions (length view.entry.m.now.live.func.blocks) view.entry.spans.now
         → AreOut view.entry.bundles.now.parents.items test view.entry.spans.now (2 * length view.entry.m.now.live.func.blocks) flags.items) }
@@ -258,7 +261,7 @@ pub(crate) fn outside_of(view: View<'_>, clear: &[bool]) -> Result<Vec<bool>, Al
 }
 
 /// Sets the flag of the bundle of a border at which the range is live.
-fn forbid_if(view: View<'_>, is_live: bool, border: u32, outside: &mut Vec<bool>)
+fn forbid_if(view: RegionView<'_>, is_live: bool, border: u32, outside: &mut Vec<bool>)
     ensures { outside.new.items ≡ cond is_live (slice_set outside.old.items (root_of view.entry.bundles.now.parents.items border) true) outside.old.items }
 {
     if is_live {
@@ -268,7 +271,7 @@ fn forbid_if(view: View<'_>, is_live: bool, border: u32, outside: &mut Vec<bool>
 
 /// Sets the flags of the bundles of the borders of a block at which the range is live.
 #[tactic(auto, using(crate::proofs::Flags::sets))]
-fn forbid_borders(view: View<'_>, span: &Span, outside: &mut Vec<bool>)
+fn forbid_borders(view: RegionView<'_>, span: &Span, outside: &mut Vec<bool>)
     ensures { span.now.position < 2147483648 → Sets view.entry.bundles.now.parents.items span.now outside.old.items outside.new.items }
 {
     forbid_if(view, span.is_live_in, start_of(span.position), outside);
@@ -276,7 +279,7 @@ fn forbid_borders(view: View<'_>, span: &Span, outside: &mut Vec<bool>)
 }
 
 /// The flag of the bundle of a border.
-fn is_out(view: View<'_>, border: u32, outside: &[bool]) -> bool
+fn is_out(view: RegionView<'_>, border: u32, outside: &[bool]) -> bool
     ensures { result ≡ slice_index_or outside.now (root_of view.entry.bundles.now.parents.items border) false }
 {
     outside
@@ -286,47 +289,47 @@ fn is_out(view: View<'_>, border: u32, outside: &[bool]) -> bool
 }
 
 /// Where in a block the part in a register lives.
-fn inside_of(view: View<'_>, span: &Span, is_clear: bool, outside: &[bool]) -> Inside
+fn inside_of(view: RegionView<'_>, span: &Span, is_clear: bool, outside: &[bool]) -> InsidePart
     ensures { let flag = λ (b : ℕ). slice_index_or outside.now (root_of view.entry.bundles.now.parents.items b) false in
         span.now.position < 2147483648 → result ≡ inside_at is_clear (flag (start_of span.now.position)) (flag (end_of span.now.position)) span.now }
 {
     if !is_clear || span.stretches.is_empty() {
-        return Inside::Nowhere;
+        return InsidePart::Nowhere;
     }
     let starts_out = span.is_live_in && is_out(view, start_of(span.position), outside);
     let ends_out = span.is_live_out && is_out(view, end_of(span.position), outside);
     if !starts_out && !ends_out {
-        Inside::All
+        InsidePart::All
     } else if span.is_live_in && !starts_out {
-        Inside::Start
+        InsidePart::Start
     } else if span.is_live_out && !ends_out {
-        Inside::End
+        InsidePart::End
     } else {
-        Inside::Nowhere
+        InsidePart::Nowhere
     }
 }
 
 /// What a block costs.
-fn cost_of(span: &Span, inside: Inside) -> u128
+fn cost_of(span: &Span, inside: InsidePart) -> u128
     ensures { result ≡ span_cost span.now inside }
 {
     match inside {
-        Inside::Nowhere => span.uses,
-        Inside::All => 0,
-        Inside::Start => span.frequency.saturating_add(span.end_uses),
-        Inside::End => span.frequency,
+        InsidePart::Nowhere => span.uses,
+        InsidePart::All => 0,
+        InsidePart::Start => span.frequency.saturating_add(span.end_uses),
+        InsidePart::End => span.frequency,
     }
 }
 
 /// The part in a register.
-fn offer_of(view: View<'_>, register: Reg) -> Result<Offer, AllocError>
+fn offer_of(view: RegionView<'_>, register: Reg) -> Result<RegionCandidate, AllocError>
     ensures { IfOk result (λ offer. IsReady view.entry.m.now view.entry.bundles.now.parents.items view.entry.spans.now
         → IsPart view.entry.m.now view.entry.v view.entry.bundles.now.parents.items view.entry.spans.now register offer) }
 {
     let clear = clear_blocks(view, register)?;
     let insides = insides_of(view, clear.as_slice())?;
     let cost = cost_of_all(view.spans, insides.as_slice());
-    Ok(Offer {
+    Ok(RegionCandidate {
         register,
         insides,
         cost,
@@ -334,7 +337,7 @@ fn offer_of(view: View<'_>, register: Reg) -> Result<Offer, AllocError>
 }
 
 /// Where in each block the part in a register lives.
-fn insides_of(view: View<'_>, clear: &[bool]) -> Result<Vec<Inside>, AllocError>
+fn insides_of(view: RegionView<'_>, clear: &[bool]) -> Result<Vec<InsidePart>, AllocError>
     ensures { IfOk result (λ made. (test : BlockSpan → Bool) → clear.now ≡ map test view.entry.spans.now
         → length view.entry.m.now.live.func.blocks < 2147483648 → ArePositions (length view.entry.m.now.live.func.blocks) view.entry.spans.now
         → AreEarlier view.entry.bundles.now.parents.items
@@ -349,15 +352,15 @@ fn insides_of(view: View<'_>, clear: &[bool]) -> Result<Vec<Inside>, AllocError>
 }
 
 /// Where the block at a place lies.
-fn inside_there(insides: &[Inside], place: usize) -> Inside
-    ensures { result ≡ slice_index_or insides.now place Inside.Nowhere }
+fn inside_there(insides: &[InsidePart], place: usize) -> InsidePart
+    ensures { result ≡ slice_index_or insides.now place InsidePart.Nowhere }
 {
-    insides.get(place).copied().unwrap_or(Inside::Nowhere)
+    insides.get(place).copied().unwrap_or(InsidePart::Nowhere)
 }
 
 /// What all blocks cost.
 #[tactic(auto, using(crate::proofs::Sums::costs))]
-fn cost_of_all(spans: &[Span], insides: &[Inside]) -> u128
+fn cost_of_all(spans: &[Span], insides: &[InsidePart]) -> u128
     ensures { (test : BlockSpan → Where) → insides.now ≡ map test spans.now → result ≡ capped (costs_of test spans.now) }
 {
     let mut cost = 0u128;
@@ -402,7 +405,7 @@ pub(crate) fn add_mark(
 }
 
 /// The labels of an offer.
-fn labels_of(view: View<'_>, offer: &Offer) -> Result<Labels, AllocError>
+fn labels_of(view: RegionView<'_>, offer: &RegionCandidate) -> Result<Labels, AllocError>
     ensures { let target = view.entry.m.now.live.target in let func = view.entry.m.now.live.func in
         IfOk result (λ ls. (v : ℕ) (offers : OfferView) (inside : BlockSpan → Where) → list_all (λ b. ends_in_terminators target b.instrs) func.blocks ≡ true
         → offer.now.insides.items ≡ map inside view.entry.spans.now → ls ≡ marks_of target func v offers inside view.entry.spans.now) }
@@ -419,7 +422,7 @@ fn labels_of(view: View<'_>, offer: &Offer) -> Result<Labels, AllocError>
 fn add_labels(
     live: &LiveFunc,
     position: u32,
-    inside: Inside,
+    inside: InsidePart,
     labels: &mut Labels,
 ) -> Result<(), AllocError>
     ensures { OnOk result ((v : ℕ) (offers : OfferView) → list_all (λ b. ends_in_terminators live.now.target b.instrs) live.now.func.blocks ≡ true
@@ -427,12 +430,12 @@ fn add_labels(
 {
     let (first, end) = gap_ids(live, position);
     match inside {
-        Inside::Nowhere => Ok(()),
-        Inside::All => add_mark(live, position, None, 1, labels),
-        Inside::Start => {
+        InsidePart::Nowhere => Ok(()),
+        InsidePart::All => add_mark(live, position, None, 1, labels),
+        InsidePart::Start => {
             add_mark(live, position, None, 1, labels)?;
             add_mark(live, position, Some(end), 0, labels)
         }
-        Inside::End => add_mark(live, position, Some(first), 1, labels),
+        InsidePart::End => add_mark(live, position, Some(first), 1, labels),
     }
 }

@@ -30,7 +30,7 @@ use target_base::{Boxed, Reg};
 
 /// A run of places and a register that is free there.
 #[derive(Clone, Copy, PartialEq, Eq)]
-struct Run {
+struct PlaceRun {
     first: usize,
     /// The number of places.
     len: usize,
@@ -39,7 +39,7 @@ struct Run {
 
 /// What is looked at for each register.
 #[derive(Clone, Copy)]
-struct View<'a> {
+struct RunView<'a> {
     alloc: Global,
     m: &'a Matrix,
     v: u32,
@@ -64,7 +64,7 @@ pub fn local(alloc: Global, m: &Matrix, v: u32) -> Result<Option<(Reg, Labels)>,
     }
     let even = Freqs::new(alloc);
     let spans = spans_of(alloc, live, v, &even, touched.as_slice())?;
-    let split = best_split(View {
+    let split = best_split(RunView {
         alloc,
         m,
         v,
@@ -75,7 +75,7 @@ pub fn local(alloc: Global, m: &Matrix, v: u32) -> Result<Option<(Reg, Labels)>,
 }
 
 /// The split along the longest run.
-fn best_split(view: View<'_>) -> Result<Option<(Reg, Labels)>, AllocError>
+fn best_split(view: RunView<'_>) -> Result<Option<(Reg, Labels)>, AllocError>
     ensures { IfOk result (λ q. (parents freqs : List ℕ) → IsLocal view.entry.m.now view.entry.v parents freqs view.entry.places.now view.entry.spans.now
         → q ≡ found_run view.entry.m.now.live.target view.entry.m.now.live.func view.entry.v (view_of view.entry.m.now view.entry.v parents)) }
 {
@@ -88,7 +88,7 @@ fn best_split(view: View<'_>) -> Result<Option<(Reg, Labels)>, AllocError>
 }
 
 /// The longest run, the earliest at a tie, and then the first in class order.
-fn best_run(view: View<'_>) -> Result<Option<Run>, AllocError>
+fn best_run(view: RunView<'_>) -> Result<Option<PlaceRun>, AllocError>
     ensures { IfOk result (λ best. (parents freqs : List ℕ) → IsLocal view.entry.m.now view.entry.v parents freqs view.entry.places.now view.entry.spans.now
         → IsBestRun (near_in view.entry.m.now view.entry.v parents) (length view.entry.places.now)
         (registers_of view.entry.m.now view.entry.v) (length (registers_of view.entry.m.now view.entry.v)) best) }
@@ -99,11 +99,11 @@ fn best_run(view: View<'_>) -> Result<Option<Run>, AllocError>
 }
 
 /// The best run of these registers.
-fn best_of(view: View<'_>, registers: &[Reg]) -> Option<Run>
+fn best_of(view: RunView<'_>, registers: &[Reg]) -> Option<PlaceRun>
     ensures { (parents freqs : List ℕ) → IsLocal view.entry.m.now view.entry.v parents freqs view.entry.places.now view.entry.spans.now
         → IsBestRun (near_in view.entry.m.now view.entry.v parents) (length view.entry.places.now) registers.now (length registers.now) result }
 {
-    let mut best: Option<Run> = None;
+    let mut best: Option<PlaceRun> = None;
     'registers: for register in registers {
         best = better_of(best, longest_run(view, *register));
     }
@@ -111,7 +111,7 @@ fn best_of(view: View<'_>, registers: &[Reg]) -> Option<Run>
 }
 
 /// The better of the best run and another one, if there is one.
-fn better_of(best: Option<Run>, other: Option<Run>) -> Option<Run>
+fn better_of(best: Option<PlaceRun>, other: Option<PlaceRun>) -> Option<PlaceRun>
     ensures { result ≡ better_of best other }
 {
     match other {
@@ -121,7 +121,7 @@ fn better_of(best: Option<Run>, other: Option<Run>) -> Option<Run>
 }
 
 /// Whether a run is longer than the best, or as long and earlier.
-fn is_better(run: Run, best: Option<Run>) -> bool
+fn is_better(run: PlaceRun, best: Option<PlaceRun>) -> bool
     ensures { result ≡ is_better run best }
 {
     match best {
@@ -131,7 +131,7 @@ fn is_better(run: Run, best: Option<Run>) -> bool
 }
 
 /// Whether a run of a length is longer than the best, or the first of two or more places.
-fn is_longer(len: usize, best: Option<Run>) -> bool
+fn is_longer(len: usize, best: Option<PlaceRun>) -> bool
     ensures { result ≡ is_longer len best }
 {
     match best {
@@ -142,12 +142,12 @@ fn is_longer(len: usize, best: Option<Run>) -> bool
 
 /// The longest run of two or more places, but not all of them, along which a register is free, and
 /// the earliest of these.
-fn longest_run(view: View<'_>, register: Reg) -> Option<Run>
+fn longest_run(view: RunView<'_>, register: Reg) -> Option<PlaceRun>
     ensures { (parents freqs : List ℕ) → IsLocal view.entry.m.now view.entry.v parents freqs view.entry.places.now view.entry.spans.now
         → IsLongestRun (near_in view.entry.m.now view.entry.v parents register) (length view.entry.places.now) (length view.entry.places.now) register result }
 {
     let most = view.places.len().saturating_sub(1);
-    let mut best: Option<Run> = None;
+    let mut best: Option<PlaceRun> = None;
     let mut len = 1usize;
     'places: for k in 1..view.places.len() {
         if is_free_between(view, register, k - 1, k) {
@@ -156,7 +156,7 @@ fn longest_run(view: View<'_>, register: Reg) -> Option<Run>
             len = 1;
         }
         if is_longer(len, best) {
-            best = Some(Run {
+            best = Some(PlaceRun {
                 first: k.saturating_add(1).saturating_sub(len),
                 len,
                 register,
@@ -167,7 +167,7 @@ fn longest_run(view: View<'_>, register: Reg) -> Option<Run>
 }
 
 /// Whether a register is free from the entry of one place to the exit of the next.
-fn is_free_between(view: View<'_>, register: Reg, a: usize, z: usize) -> bool
+fn is_free_between(view: RunView<'_>, register: Reg, a: usize, z: usize) -> bool
     ensures { (parents freqs : List ℕ) (p q : Touched)
         → FindsPlaces view.entry.m.now.live.target view.entry.m.now.live.func view.entry.m.now.live.table view.entry.v
         → FindsPoints view.entry.m.now
@@ -191,7 +191,7 @@ fn is_free_between(view: View<'_>, register: Reg, a: usize, z: usize) -> bool
 }
 
 /// The same of a place and the next one.
-fn is_free_from(view: View<'_>, register: Reg, a: TouchedPlace, z: TouchedPlace) -> bool
+fn is_free_from(view: RunView<'_>, register: Reg, a: TouchedPlace, z: TouchedPlace) -> bool
     ensures { (parents freqs : List ℕ) (p q : Touched) (k n : ℕ)
         → FindsPlaces view.entry.m.now.live.target view.entry.m.now.live.func view.entry.m.now.live.table view.entry.v
         → FindsPoints view.entry.m.now
@@ -229,7 +229,7 @@ fn exit_of(m: &Matrix, id: u32) -> u128
 }
 
 /// Whether a register is free at those points of the range in a block that lie between two.
-fn is_free_in(view: View<'_>, register: Reg, position: u32, low: u128, high: u128) -> bool
+fn is_free_in(view: RunView<'_>, register: Reg, position: u32, low: u128, high: u128) -> bool
     ensures { (parents freqs : List ℕ)
         → FindsPlaces view.entry.m.now.live.target view.entry.m.now.live.func view.entry.m.now.live.table view.entry.v
         → FindsPoints view.entry.m.now
@@ -246,7 +246,7 @@ fn is_free_in(view: View<'_>, register: Reg, position: u32, low: u128, high: u12
 }
 
 /// The same in the block of a span.
-fn is_free_span(view: View<'_>, register: Reg, span: &Span, low: u128, high: u128) -> bool
+fn is_free_span(view: RunView<'_>, register: Reg, span: &Span, low: u128, high: u128) -> bool
     ensures { IsOrdered view.entry.m.now → result ≡ is_clear_between view.entry.m.now view.entry.v register span.now.position span.now.stretches.items low high }
 {
     let between = Stretch {
@@ -265,7 +265,7 @@ fn is_free_span(view: View<'_>, register: Reg, span: &Span, low: u128, high: u12
 /// The same of some stretches of points in the block at a position.
 #[tactic(auto, using(crate::proofs::Free::alls))]
 fn is_free_along(
-    view: View<'_>,
+    view: RunView<'_>,
     register: Reg,
     position: u32,
     stretches: &[Stretch],
@@ -292,7 +292,7 @@ fn cut(stretch: Stretch, between: Stretch) -> Stretch
 }
 
 /// Whether a register is free along a stretch, or there are no points in it.
-fn is_part_free(view: View<'_>, register: Reg, position: u32, part: Stretch) -> bool
+fn is_part_free(view: RunView<'_>, register: Reg, position: u32, part: Stretch) -> bool
     ensures { IsOrdered view.entry.m.now → result ≡ is_part_clear view.entry.m.now view.entry.v register position part }
 {
     part.first > part.last || is_alone(view.m, view.v, register, position, &[part])

@@ -4,15 +4,13 @@ use interference::Matrix;
 use live_lanes::{Edit, Labels, LiveFunc, Mark, Spot};
 use mir_func::operands::class_of;
 use mir_func::{Gap, Instr, Loc, Op, Operand, Operands, RegOp};
+use phi_elim::moves::{COPY, whole_definition, whole_use};
 use std::alloc::{AllocError, Global};
-use target_base::{ClassId, Copied, Numbers, OpId};
-
-/// The opcode COPY of every target.
-const COPY: OpId = OpId(0);
+use target_base::{ClassId, Copied, Numbers};
 
 /// What is split: the function as it stands before, the range, and its parts, the remainder first.
 #[derive(Clone, Copy)]
-struct View<'a> {
+struct SplitView<'a> {
     alloc: Global,
     live: &'a LiveFunc,
     v: u32,
@@ -32,7 +30,7 @@ pub fn split(
     let touched = m.live().touched(alloc, v)?;
     let class = class_of(m.live().func(), v).unwrap_or(ClassId(0));
     let children = fresh_all(alloc, m, class, greatest(labels.as_slice()))?;
-    let view = View {
+    let view = SplitView {
         alloc,
         live: m.live(),
         v,
@@ -64,7 +62,7 @@ fn fresh_all(
 
 /// The edits that split a range, block by block. A block with neither marks nor instructions that
 /// touch the range needs none.
-fn edits_of(view: View<'_>, touched: &[u32], marks: &[Mark]) -> Result<Vec<Edit>, AllocError> {
+fn edits_of(view: SplitView<'_>, touched: &[u32], marks: &[Mark]) -> Result<Vec<Edit>, AllocError> {
     let room = touched.len().saturating_add(marks.len());
     let mut edits = Vec::with_capacity(view.alloc, room)?;
     let placed = placed_marks(view, marks)?;
@@ -74,9 +72,12 @@ fn edits_of(view: View<'_>, touched: &[u32], marks: &[Mark]) -> Result<Vec<Edit>
         let Some(position) = next_block(view.live, touched_left, marks_left) else {
             break;
         };
-        let (here, rest) = parted(marks_left, marks_in(marks_left, position));
+        let (here, rest) = split_slice(marks_left, marks_in(marks_left, position));
         marks_left = rest;
-        let (own, others) = parted(touched_left, touched_in(view.live, touched_left, position));
+        let (own, others) = split_slice(
+            touched_left,
+            touched_in(view.live, touched_left, position),
+        );
         touched_left = others;
         split_block(view, position, own, here, &mut edits)?;
     }
@@ -84,7 +85,7 @@ fn edits_of(view: View<'_>, touched: &[u32], marks: &[Mark]) -> Result<Vec<Edit>
 }
 
 /// The position of the first block in layout in which one of these instructions or marks stands.
-fn next_block(live: &LiveFunc, touched: &[u32], marks: &[Placed]) -> Option<u32> {
+fn next_block(live: &LiveFunc, touched: &[u32], marks: &[PlacedMark]) -> Option<u32> {
     let touched = touched.first().map(|id| live.position_of(*id));
     let marked = marks.first().map(|placed| placed.position);
     match (touched, marked) {
@@ -96,14 +97,14 @@ fn next_block(live: &LiveFunc, touched: &[u32], marks: &[Placed]) -> Option<u32>
 
 /// A mark, and the position of its block.
 #[derive(Clone, Copy)]
-struct Placed {
+struct PlacedMark {
     position: u32,
     mark: Mark,
 }
 
 /// Marks with the positions of their blocks, up to the first whose block isn't there or stands
 /// before that of the mark before it.
-fn placed_marks(view: View<'_>, marks: &[Mark]) -> Result<Vec<Placed>, AllocError> {
+fn placed_marks(view: SplitView<'_>, marks: &[Mark]) -> Result<Vec<PlacedMark>, AllocError> {
     let mut placed = Vec::with_capacity(view.alloc, marks.len())?;
     let mut last = 0u32;
     'marks: for mark in marks {
@@ -111,7 +112,7 @@ fn placed_marks(view: View<'_>, marks: &[Mark]) -> Result<Vec<Placed>, AllocErro
             Some(position) if position >= last => last = position,
             _ => break,
         }
-        placed.push(Placed {
+        placed.push(PlacedMark {
             position: last,
             mark: *mark,
         })?;
@@ -120,7 +121,7 @@ fn placed_marks(view: View<'_>, marks: &[Mark]) -> Result<Vec<Placed>, AllocErro
 }
 
 /// How many of the first marks stand in the block at a position.
-fn marks_in(marks: &[Placed], position: u32) -> usize {
+fn marks_in(marks: &[PlacedMark], position: u32) -> usize {
     marks
         .iter()
         .take_while(|placed| placed.position == position)
@@ -136,7 +137,7 @@ fn touched_in(live: &LiveFunc, touched: &[u32], position: u32) -> usize {
 }
 
 /// The label at the start of a block.
-fn label_at_start(marks: &[Placed]) -> u16 {
+fn label_at_start(marks: &[PlacedMark]) -> u16 {
     match marks.first() {
         Some(placed) if placed.mark.spot == Spot::Border => placed.mark.label,
         _ => 0,
@@ -145,10 +146,10 @@ fn label_at_start(marks: &[Placed]) -> u16 {
 
 /// Splits the range in a block.
 fn split_block(
-    view: View<'_>,
+    view: SplitView<'_>,
     position: u32,
     touched: &[u32],
-    marks: &[Placed],
+    marks: &[PlacedMark],
     edits: &mut Vec<Edit>,
 ) -> Result<(), AllocError> {
     let mut now = label_at_start(marks);
@@ -156,7 +157,7 @@ fn split_block(
     'marks: for placed in marks {
         let mark = placed.mark;
         if let Spot::Gap(gap) = mark.spot {
-            let (before, behind) = parted(left, before_gap(view.live, left, gap));
+            let (before, behind) = split_slice(left, before_gap(view.live, left, gap));
             left = behind;
             rename_all(view, before, now, edits)?;
             change_label(view, position, gap, now, mark.label, edits)?;
@@ -167,7 +168,7 @@ fn split_block(
 }
 
 /// The first of some items, up to a number of them, and those behind.
-fn parted<T>(items: &[T], count: usize) -> (&[T], &[T]) {
+fn split_slice<T>(items: &[T], count: usize) -> (&[T], &[T]) {
     items.split_at(count.min(items.len()))
 }
 
@@ -184,7 +185,7 @@ fn before_gap(live: &LiveFunc, touched: &[u32], gap: Gap) -> usize {
 
 /// Puts a copy from the part of one label to that of another into a gap, where some lane is live.
 fn change_label(
-    view: View<'_>,
+    view: SplitView<'_>,
     position: u32,
     gap: Gap,
     from: u16,
@@ -199,34 +200,20 @@ fn change_label(
         return Ok(());
     }
     let mut operands = Operands::new(view.alloc);
-    operands.push(Operand::Reg(whole(child(view, to), true)))?;
-    operands.push(Operand::Reg(whole(child(view, from), false)))?;
+    operands.push(Operand::Reg(whole_definition(child(view, to))))?;
+    operands.push(Operand::Reg(whole_use(child(view, from))))?;
     edits.push(Edit::Put(gap, COPY, operands))?;
     Ok(())
 }
 
 /// The part of a label.
-fn child(view: View<'_>, label: u16) -> u32 {
+fn child(view: SplitView<'_>, label: u16) -> u32 {
     view.children.get(label as usize).copied().unwrap_or(view.v)
-}
-
-/// The whole of a range, read or defined.
-fn whole(v: u32, def: bool) -> RegOp {
-    RegOp {
-        loc: Loc::Virtual(v),
-        index: None,
-        def,
-        implicit: false,
-        undef: false,
-        early: false,
-        renamable: false,
-        tie: None,
-    }
 }
 
 /// Puts the part of a label into the operands of instructions.
 fn rename_all(
-    view: View<'_>,
+    view: SplitView<'_>,
     ids: &[u32],
     label: u16,
     edits: &mut Vec<Edit>,
@@ -240,7 +227,7 @@ fn rename_all(
 }
 
 fn rename(
-    view: View<'_>,
+    view: SplitView<'_>,
     instr: &Instr,
     part: u32,
     edits: &mut Vec<Edit>,
@@ -250,14 +237,18 @@ fn rename(
     };
     let mut operands = Operands::new(view.alloc);
     'operands: for operand in instr.operands.as_slice() {
-        operands.push(renamed(view, operand, part)?)?;
+        operands.push(rename_operand(view, operand, part)?)?;
     }
     edits.push(Edit::Replace(instr.id, *op, operands))?;
     Ok(())
 }
 
 /// An operand with a part in the place of the range.
-fn renamed(view: View<'_>, operand: &Operand, part: u32) -> Result<Operand, AllocError> {
+fn rename_operand(
+    view: SplitView<'_>,
+    operand: &Operand,
+    part: u32,
+) -> Result<Operand, AllocError> {
     match operand {
         Operand::Reg(op) if op.loc == Loc::Virtual(view.v) => Ok(Operand::Reg(RegOp {
             loc: Loc::Virtual(part),

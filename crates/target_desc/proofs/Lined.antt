@@ -3,8 +3,8 @@ use Rattle.std.proofs.Common.{◌≡◌, ℕ, ◌+◌, List, ◌∷◌, length, 
 use Rattle.std.specs.Prelude.{option_map}
 use Rattle.target_base.specs.declared.types.Target.{Target}
 use Rattle.target_desc.specs.declared.fault.TargetKind.TheVariants as kinds
-use Rattle.target_desc.specs.declared.fault.LineStop.{LineStop}
-use Rattle.target_desc.specs.declared.fault.LineStop.TheVariants as line_stops
+use Rattle.target_desc.specs.declared.fault.TargetLineStop.{TargetLineStop}
+use Rattle.target_desc.specs.declared.fault.TargetLineStop.TheVariants as line_stops
 use Rattle.target_desc.specs.declared.draft.Draft.{Draft}
 use Rattle.target_desc.specs.Text.{lines}
 use Rattle.target_desc.specs.Ending.{parts_of, ended}
@@ -17,7 +17,7 @@ unfolding lines_after
 line_goes n d after line more h = ap (λ r. then_at n r (λ d2. lines_after (n + 1) d2 more)) h
 
 -- at a line that doesn't
-pub line_stops_at : (n : ℕ) (d : Draft) (line : List ℕ) (more : List (List ℕ)) (stop : LineStop) → FailsLine stop (line_after d line) → Fails (stop_at n stop) (lines_after n d (line ∷ more))
+pub line_stops_at : (n : ℕ) (d : Draft) (line : List ℕ) (more : List (List ℕ)) (stop : TargetLineStop) → FailsLine stop (line_after d line) → Fails (stop_at n stop) (lines_after n d (line ∷ more))
 unfolding lines_after
 line_stops_at n d line more (line_stops.Fault kind) h = ap (λ r. then_at n r (λ d2. lines_after (n + 1) d2 more)) h
 line_stops_at n d line more (line_stops.Memory e) h = tt

@@ -6,8 +6,8 @@ use Rattle.target_base.specs.declared.types.Effect.TheVariants as effects
 use Rattle.target_base.specs.declared.types.Role.TheVariants as roles
 use Rattle.target_base.specs.Names.{is_name, is_op_name, is_flag_word}
 use Rattle.target_base.specs.Storage.{same_numbers}
-use Rattle.target_desc.specs.declared.raw.Form.{Form}
-use Rattle.target_desc.specs.declared.raw.Form.TheVariants as forms
+use Rattle.target_desc.specs.declared.raw.LineForm.{LineForm}
+use Rattle.target_desc.specs.declared.raw.LineForm.TheVariants as forms
 use Rattle.target_desc.specs.declared.raw.TextForm.{TextForm}
 use Rattle.target_desc.specs.declared.raw.NamedRole.TheVariants as named
 use Rattle.target_desc.specs.declared.raw.RawRole.{RawRole}
@@ -141,7 +141,7 @@ flags_line [] = None
 flags_line (w ∷ ws) = option_map raw_lines.Flags (flags_in (w ∷ ws))
 
 -- what the words behind the first say
-unfoldable pub formed : Form → List (List ℕ) → Option RawLine
+unfoldable pub formed : LineForm → List (List ℕ) → Option RawLine
 formed forms.Target ws = target_line ws
 formed forms.Unit ws = unit_line ws
 formed forms.Reg ws = option_map (λ p. raw_lines.Reg p.0 p.1) (named_list ws)

@@ -5,8 +5,8 @@ use Rattle.target_desc.specs.declared.fault.TargetKind.TheVariants as kinds
 use Rattle.target_desc.specs.declared.fault.TargetFault.{TargetFault}
 use Rattle.target_desc.specs.declared.fault.TargetStop.{TargetStop}
 use Rattle.target_desc.specs.declared.fault.TargetStop.TheVariants as stops
-use Rattle.target_desc.specs.declared.fault.LineStop.{LineStop}
-use Rattle.target_desc.specs.declared.fault.LineStop.TheVariants as line_stops
+use Rattle.target_desc.specs.declared.fault.TargetLineStop.{TargetLineStop}
+use Rattle.target_desc.specs.declared.fault.TargetLineStop.TheVariants as line_stops
 use Rattle.target_desc.specs.declared.raw.RawLine.{RawLine}
 use Rattle.target_desc.specs.declared.draft.Draft.{Draft}
 use Rattle.target_desc.specs.declared.draft.Line.{Line}
@@ -60,15 +60,15 @@ abbrev pub spelled : List ℕ → Result Parts TargetFault
 spelled text = lines_after 1 empty_draft (lines text)
 
 -- what a function answers for a line, unless memory ran out
-abbrev pub FailsLine : {Y : Type 0} → LineStop → Result Y TargetKind → Type 0
+abbrev pub FailsLine : {Y : Type 0} → TargetLineStop → Result Y TargetKind → Type 0
 FailsLine (line_stops.Memory e) read = Unit {0}
 FailsLine (line_stops.Fault kind) read = read ≡ Err kind
 
-abbrev pub GivesLine : {X Y : Type 0} → (X → Y) → Result X LineStop → Result Y TargetKind → Type 0
+abbrev pub GivesLine : {X Y : Type 0} → (X → Y) → Result X TargetLineStop → Result Y TargetKind → Type 0
 GivesLine view (Ok x) read = read ≡ Ok (view x)
 GivesLine view (Err e) read = FailsLine e read
 
-abbrev pub stop_at : ℕ → LineStop → TargetStop
+abbrev pub stop_at : ℕ → TargetLineStop → TargetStop
 stop_at n (line_stops.Fault kind) = stops.Fault (record { line = n; kind = kind })
 stop_at n (line_stops.Memory e) = stops.Memory e
 

@@ -7,8 +7,8 @@ use Rattle.target_base.specs.declared.types.Effect.TheVariants as effects
 use Rattle.target_base.specs.declared.types.OpaqueKind.TheVariants as kinds
 use Rattle.target_base.specs.declared.types.Role.{Role}
 use Rattle.target_base.specs.declared.types.Role.TheVariants as roles
-use Rattle.target_desc.specs.declared.raw.Form.{Form}
-use Rattle.target_desc.specs.declared.raw.Form.TheVariants as forms
+use Rattle.target_desc.specs.declared.raw.LineForm.{LineForm}
+use Rattle.target_desc.specs.declared.raw.LineForm.TheVariants as forms
 use Rattle.target_desc.specs.declared.raw.TextForm.{TextForm}
 use Rattle.target_desc.specs.declared.raw.TextForm.TheVariants as text_forms
 use Rattle.target_desc.specs.declared.raw.NamedRole.{NamedRole}
@@ -24,7 +24,7 @@ abbrev pub row_of : {X : Type 0} → Bor (List ℕ) × X → List ℕ × X
 row_of r = (r.0.now, r.1)
 
 -- what the first word of a line says that the line is
-abbrev pub form_words : List (List ℕ × Form)
+abbrev pub form_words : List (List ℕ × LineForm)
 form_words =
     (codes "target", forms.Target)
     ∷ (codes "unit", forms.Unit)

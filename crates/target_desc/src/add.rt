@@ -8,7 +8,7 @@ ghost use Rattle.target_desc.specs.Keeping.{AreFew};
 ghost use Rattle.target_desc.specs.Adding.{added, noted};
 
 use crate::draft::{Draft, Line, Options};
-use crate::names::{NameTables, Names, WordSet};
+use crate::names::{DeclaredNames, NameTables, WordSet};
 use crate::text::copy_of;
 use std::alloc::{AllocError, Global};
 use target_base::{Boxed, Effect, List, OpcodeDesc, OpcodeDescs};
@@ -76,11 +76,11 @@ pub(crate) fn empty_draft(alloc: Global) -> Result<Draft, AllocError>
 }
 
 /// The distinct names of these opcodes.
-fn names_in(alloc: Global, rows: &[(&str, Effect)]) -> Result<Names, AllocError>
+fn names_in(alloc: Global, rows: &[(&str, Effect)]) -> Result<DeclaredNames, AllocError>
     requires { length rows.now < 65535 }
     ensures { IfOk result (λ names. names ≡ fold with_name [] (map name_in rows.now)) }
 {
-    let mut names = Names::new(alloc);
+    let mut names = DeclaredNames::new(alloc);
     for row in rows {
         names.add(alloc, row.0.as_bytes())?;
     }
@@ -94,17 +94,17 @@ pub(crate) fn first_names(alloc: Global) -> Result<NameTables, AllocError>
 {
     let opcodes = names_in(alloc, &THE_FIVE)?;
     Ok(NameTables {
-        units: Names::new(alloc),
-        regs: Names::new(alloc),
-        indexes: Names::new(alloc),
-        classes: Names::new(alloc),
-        masks: Names::new(alloc),
+        units: DeclaredNames::new(alloc),
+        regs: DeclaredNames::new(alloc),
+        indexes: DeclaredNames::new(alloc),
+        classes: DeclaredNames::new(alloc),
+        masks: DeclaredNames::new(alloc),
         opcodes,
     })
 }
 
 /// The draft with what the line adds.
-pub(crate) fn added(
+pub(crate) fn add_to_draft(
     alloc: Global,
     draft: Boxed<Draft>,
     line: Line,
@@ -117,7 +117,7 @@ pub(crate) fn added(
 }
 
 /// The names with the one that the line declares.
-pub(crate) fn noted(
+pub(crate) fn note_name(
     alloc: Global,
     names: Boxed<NameTables>,
     line: &Line,

@@ -62,20 +62,20 @@ impl From<AllocError> for TargetStop {
 
 /// Why a line wasn't taken.
 #[derive(Drop)]
-pub(crate) enum LineStop {
+pub(crate) enum TargetLineStop {
     /// The line can't follow those before it.
     Fault(TargetKind),
     /// Memory ran out.
     Memory(AllocError),
 }
 
-impl From<AllocError> for LineStop {
+impl From<AllocError> for TargetLineStop {
     ghost use Rattle.std.specs.Prelude.{◌≡◌};
-    ghost use Rattle.target_desc.specs.declared.fault.LineStop.TheVariants.{Memory};
+    ghost use Rattle.target_desc.specs.declared.fault.TargetLineStop.TheVariants.{Memory};
 
     ghost from_gives = { λ x e. e ≡ Memory x };
 
-    fn from(e: AllocError) -> LineStop {
-        LineStop::Memory(e)
+    fn from(e: AllocError) -> TargetLineStop {
+        TargetLineStop::Memory(e)
     }
 }

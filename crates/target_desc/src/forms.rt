@@ -5,7 +5,7 @@ ghost use Rattle.std.specs.List.{list_all};
 ghost use Rattle.target_desc.specs.Text.{words};
 ghost use Rattle.target_desc.specs.Forms.{names_in, name_list, numbers_in, number_list, two_words, header_of, target_line, unit_of, unit_line, index_line, named_list, named_role, tie_digits, tied_role, either_role, role_of, roles_of, stands_anywhere, may_have, opcode_of, opcode_line, text_forms_of, forms_line, flags_in, flags_line, formed, raw_line};
 
-use crate::raw::{Form, Header, NameList, NamedRole, RawLine, RawRole, TextForm};
+use crate::raw::{Header, LineForm, NameList, NamedRole, RawLine, RawRole, TextForm};
 use crate::tables::{effect_of, form_of, named_role_of, plain_role_of, text_form_of, version_of};
 use crate::text::{
     are_same, copy_of, cut, is_flag_word, is_name, is_number, is_op_name, next_word, number,
@@ -379,29 +379,29 @@ fn flags_line(alloc: Global, text: &[u8]) -> Result<Option<RawLine>, AllocError>
 
 /// What a text says behind the first word of its line.
 #[tactic(auto, unfolding(crate::specs::Forms::formed))]
-fn formed(alloc: Global, form: Form, text: &[u8]) -> Result<Option<RawLine>, AllocError>
+fn parse_form(alloc: Global, form: LineForm, text: &[u8]) -> Result<Option<RawLine>, AllocError>
     ensures { IfOk result (λ r. r ≡ formed form (words text.now)) }
 {
     match form {
-        Form::Target => target_line(alloc, text),
-        Form::Unit => unit_line(alloc, text),
-        Form::Index => index_line(alloc, text),
-        Form::Opcode => opcode_line(alloc, text),
-        Form::Forms => forms_line(alloc, text),
-        Form::Flags => flags_line(alloc, text),
-        Form::Reserved => match name_list(alloc, text)? {
+        LineForm::Target => target_line(alloc, text),
+        LineForm::Unit => unit_line(alloc, text),
+        LineForm::Index => index_line(alloc, text),
+        LineForm::Opcode => opcode_line(alloc, text),
+        LineForm::Forms => forms_line(alloc, text),
+        LineForm::Flags => flags_line(alloc, text),
+        LineForm::Reserved => match name_list(alloc, text)? {
             None => Ok(None),
             Some(names) => Ok(Some(RawLine::Reserved(names))),
         },
-        Form::Reg => match named_list(alloc, text)? {
+        LineForm::Reg => match named_list(alloc, text)? {
             None => Ok(None),
             Some((name, units)) => Ok(Some(RawLine::Reg(name, units))),
         },
-        Form::Class => match named_list(alloc, text)? {
+        LineForm::Class => match named_list(alloc, text)? {
             None => Ok(None),
             Some((name, regs)) => Ok(Some(RawLine::Class(name, regs))),
         },
-        Form::Mask => match named_list(alloc, text)? {
+        LineForm::Mask => match named_list(alloc, text)? {
             None => Ok(None),
             Some((name, regs)) => Ok(Some(RawLine::Mask(name, regs))),
         },
@@ -418,6 +418,6 @@ pub(crate) fn raw_line(
 {
     match form_of(word) {
         None => Ok(None),
-        Some(form) => formed(alloc, form, text),
+        Some(form) => parse_form(alloc, form, text),
     }
 }

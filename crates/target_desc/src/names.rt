@@ -55,7 +55,7 @@ impl WordSet {
     }
 
     /// The words as a list.
-    pub(crate) fn listed(&self, alloc: Global) -> Result<Words, AllocError>
+    pub(crate) fn to_words(&self, alloc: Global) -> Result<Words, AllocError>
         ensures { IfOk result (λ words. words ≡ self.now) }
     {
         let mut made = List::new(alloc);
@@ -68,11 +68,11 @@ impl WordSet {
 
 /// Distinct names in the order of their declaration, at most 65,535 of them.
 #[derive(Drop)]
-pub(crate) struct Names {
+pub(crate) struct DeclaredNames {
     words: WordSet,
 }
 
-impl Model for Names {
+impl Model for DeclaredNames {
     ghost use Rattle.std.specs.Prelude.{ℕ, List, length, ◌≤◌};
 
     ghost Value = { List (List ℕ) };
@@ -82,12 +82,12 @@ impl Model for Names {
     ghost invariant = { λ n. length n.words ≤ 65535 };
 }
 
-impl Names {
+impl DeclaredNames {
     /// No names.
-    pub(crate) fn new(alloc: Global) -> Names
+    pub(crate) fn new(alloc: Global) -> DeclaredNames
         ensures { result ≡ [] }
     {
-        Names {
+        DeclaredNames {
             words: WordSet::new(alloc),
         }
     }
@@ -125,12 +125,12 @@ impl Names {
 /// The names of each sort that are declared so far.
 #[derive(Drop)]
 pub(crate) struct NameTables {
-    pub(crate) units: Names,
-    pub(crate) regs: Names,
-    pub(crate) indexes: Names,
-    pub(crate) classes: Names,
-    pub(crate) masks: Names,
-    pub(crate) opcodes: Names,
+    pub(crate) units: DeclaredNames,
+    pub(crate) regs: DeclaredNames,
+    pub(crate) indexes: DeclaredNames,
+    pub(crate) classes: DeclaredNames,
+    pub(crate) masks: DeclaredNames,
+    pub(crate) opcodes: DeclaredNames,
 }
 
 impl NameTables {

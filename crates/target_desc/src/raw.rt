@@ -4,7 +4,7 @@ use target_base::{Bytes, Effect, IndexDesc, List, Role, UnitDesc, Words};
 
 /// What the first word of a line says that the line is.
 #[derive(Clone, Copy)]
-pub(crate) enum Form {
+pub(crate) enum LineForm {
     Target,
     Unit,
     Reg,

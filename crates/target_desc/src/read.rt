@@ -9,14 +9,14 @@ ghost use Rattle.target_desc.specs.Keeping.{keeps_rules};
 ghost use Rattle.target_desc.specs.Ending.{belongs, reserved_units, reserved_of, is_whole, options_of, parts_of, parts_under, ended};
 ghost use Rattle.target_desc.specs.Reading.{ruled, named, laid_out, line_after, spelled, stop_at, GivesLine, Gives};
 
-use crate::add::{added, empty_draft, first_names, noted};
+use crate::add::{add_to_draft, empty_draft, first_names, note_name};
 use crate::complete::is_complete;
 use crate::draft::{Draft, Line, Options};
-use crate::fault::{LineStop, TargetFault, TargetKind, TargetStop};
+use crate::fault::{TargetFault, TargetKind, TargetLineStop, TargetStop};
 use crate::forms::raw_line;
 use crate::names::NameTables;
 use crate::raw::{Header, RawLine};
-use crate::resolve::{is_new, resolved};
+use crate::resolve::{is_new, resolve_line};
 use crate::rules::stands;
 use crate::text::{is_comment, next_part, next_word};
 use std::alloc::{AllocError, Global};
@@ -29,69 +29,73 @@ use target_base::{
 /// What the lines so far make: a draft that keeps the rules, and the names that it declares. Each
 /// stands in a box, so that line by line only pointers move.
 #[derive(Drop)]
-struct Reader {
+struct TargetReader {
     draft: Boxed<Draft>,
     names: Boxed<NameTables>,
     ghost named: { names ≡ names_of draft },
     ghost sound: { IsTrue (keeps_rules draft) },
 }
 
-impl Reader {
+impl TargetReader {
     /// The reader before the first line.
-    fn new(alloc: Global) -> Result<Reader, AllocError>
+    fn new(alloc: Global) -> Result<TargetReader, AllocError>
         ensures { IfOk result (λ r. r.draft ≡ empty_draft) }
     {
         let draft = Boxed::new(alloc, empty_draft(alloc)?)?;
         let names = Boxed::new(alloc, first_names(alloc)?)?;
-        Ok(Reader { draft, names })
+        Ok(TargetReader { draft, names })
     }
 
     /// The reader behind a line whose names are looked up, where it keeps the rules.
-    fn ruled(self, alloc: Global, line: Line) -> Result<Reader, LineStop>
+    fn add_line(self, alloc: Global, line: Line) -> Result<TargetReader, TargetLineStop>
         requires { IsTrue (is_new self.names line) }
         ensures { GivesLine (λ r. r.draft) result (ruled self.draft line) }
     {
-        let Reader { draft, names } = self;
+        let TargetReader { draft, names } = self;
         if !stands(draft.get(), &line) {
-            return Err(LineStop::Fault(TargetKind::Rule));
+            return Err(TargetLineStop::Fault(TargetKind::Rule));
         }
-        let names = noted(alloc, names, &line)?;
-        let draft = added(alloc, draft, line)?;
-        Ok(Reader { draft, names })
+        let names = note_name(alloc, names, &line)?;
+        let draft = add_to_draft(alloc, draft, line)?;
+        Ok(TargetReader { draft, names })
     }
 
     /// The reader behind a line, where its names are declared and the one that it declares isn't.
-    fn named(self, alloc: Global, line: Option<Line>) -> Result<Reader, LineStop>
+    fn add_named_line(
+        self,
+        alloc: Global,
+        line: Option<Line>,
+    ) -> Result<TargetReader, TargetLineStop>
         ensures { GivesLine (λ r. r.draft) result (named self.draft line) }
     {
         match line {
-            None => Err(LineStop::Fault(TargetKind::Name)),
+            None => Err(TargetLineStop::Fault(TargetKind::Name)),
             Some(line) => {
                 if is_new(self.names.get(), &line) {
-                    self.ruled(alloc, line)
+                    self.add_line(alloc, line)
                 } else {
-                    Err(LineStop::Fault(TargetKind::Name))
+                    Err(TargetLineStop::Fault(TargetKind::Name))
                 }
             }
         }
     }
 
     /// The reader behind a line, where it is of some form.
-    fn laid_out(self, alloc: Global, raw: Option<RawLine>) -> Result<Reader, LineStop>
+    fn laid_out(self, alloc: Global, raw: Option<RawLine>) -> Result<TargetReader, TargetLineStop>
         ensures { GivesLine (λ r. r.draft) result (laid_out self.draft raw) }
     {
         match raw {
-            None => Err(LineStop::Fault(TargetKind::Layout)),
+            None => Err(TargetLineStop::Fault(TargetKind::Layout)),
             Some(raw) => {
-                let line = resolved(alloc, self.names.get(), raw)?;
-                self.named(alloc, line)
+                let line = resolve_line(alloc, self.names.get(), raw)?;
+                self.add_named_line(alloc, line)
             }
         }
     }
 
     /// The reader behind a line, or the first test that the line fails.
     #[tactic(auto, unfolding(crate::specs::Reading::line_after))]
-    fn line(self, alloc: Global, line: &[u8]) -> Result<Reader, LineStop>
+    fn line(self, alloc: Global, line: &[u8]) -> Result<TargetReader, TargetLineStop>
         ensures { GivesLine (λ r. r.draft) result (line_after self.draft line.now) }
     {
         if is_comment(line) {
@@ -108,13 +112,13 @@ impl Reader {
 
     /// The target of the lines so far with these reserved units and what they opt in. None where no
     /// line came.
-    fn made(self, reserved: UnitList, options: TextOptions) -> Option<Target>
+    fn into_target(self, reserved: UnitList, options: TextOptions) -> Option<Target>
         requires reserved { reserved ≡ reserved_of self.draft }
         requires options { options_of options ≡ self.draft.options }
         requires complete { IsTrue (is_whole self.draft) }
         ensures { option_map parts_of result ≡ option_map (λ h. parts_under h self.draft) self.draft.header }
     {
-        let Reader { draft, names: _ } = self;
+        let TargetReader { draft, names: _ } = self;
         let Draft {
             header,
             units,
@@ -151,7 +155,7 @@ impl Reader {
         let reserved = reserved_of(alloc, draft)?;
         if is_whole(draft, reserved.as_slice()) {
             let options = options_of(alloc, &draft.options)?;
-            Ok(self.made(reserved, options))
+            Ok(self.into_target(reserved, options))
         } else {
             Ok(None)
         }
@@ -168,7 +172,7 @@ fn options_of(alloc: Global, o: &Options) -> Result<TextOptions, AllocError>
         pool: o.pool,
         noreg: o.noreg,
         open_blocks: o.open_blocks,
-        flags: o.flags.listed(alloc)?,
+        flags: o.flags.to_words(alloc)?,
     })
 }
 
@@ -242,12 +246,12 @@ fn are_complete(
 }
 
 /// Why no target is read, where a line of this number stops.
-fn at_line(number: u64, stop: LineStop) -> TargetStop
+fn at_line(number: u64, stop: TargetLineStop) -> TargetStop
     ensures { result ≡ stop_at number stop }
 {
     match stop {
-        LineStop::Fault(kind) => TargetStop::Fault(TargetFault { line: number, kind }),
-        LineStop::Memory(e) => TargetStop::Memory(e),
+        TargetLineStop::Fault(kind) => TargetStop::Fault(TargetFault { line: number, kind }),
+        TargetLineStop::Memory(e) => TargetStop::Memory(e),
     }
 }
 
@@ -257,7 +261,7 @@ fn at_line(number: u64, stop: LineStop) -> TargetStop
 pub fn read_target(alloc: Global, bytes: &[u8]) -> Result<Target, TargetStop>
     ensures { Gives parts_of result (spelled bytes.now) }
 {
-    let mut reader = Reader::new(alloc)?;
+    let mut reader = TargetReader::new(alloc)?;
     let mut rest = bytes;
     let mut number = 1u64;
     'lines: while !rest.is_empty() {

@@ -5,7 +5,7 @@ ghost use Rattle.target_desc.specs.Resolving.{unit_named, reg_named, class_named
 ghost use Rattle.target_desc.specs.Names.{is_fresh};
 
 use crate::draft::Line;
-use crate::names::{NameTables, Names};
+use crate::names::{DeclaredNames, NameTables};
 use crate::raw::{NamedRole, RawLine, RawRole};
 use std::alloc::{AllocError, Global};
 use target_base::{
@@ -14,7 +14,7 @@ use target_base::{
 };
 
 /// The unit of a name. None where it isn't declared.
-fn unit_named(names: &Names, word: &[u8]) -> Option<Unit>
+fn unit_named(names: &DeclaredNames, word: &[u8]) -> Option<Unit>
     ensures { result ≡ unit_named names.now word.now }
 {
     match names.place(word) {
@@ -24,7 +24,7 @@ fn unit_named(names: &Names, word: &[u8]) -> Option<Unit>
 }
 
 /// The register of a name. None where it isn't declared.
-fn reg_named(names: &Names, word: &[u8]) -> Option<Reg>
+fn reg_named(names: &DeclaredNames, word: &[u8]) -> Option<Reg>
     ensures { result ≡ reg_named names.now word.now }
 {
     match names.place(word) {
@@ -34,7 +34,7 @@ fn reg_named(names: &Names, word: &[u8]) -> Option<Reg>
 }
 
 /// The class of a name. None where it isn't declared.
-fn class_named(names: &Names, word: &[u8]) -> Option<ClassId>
+fn class_named(names: &DeclaredNames, word: &[u8]) -> Option<ClassId>
     ensures { result ≡ class_named names.now word.now }
 {
     match names.place(word) {
@@ -46,7 +46,7 @@ fn class_named(names: &Names, word: &[u8]) -> Option<ClassId>
 /// The units of these names. None where one isn't declared.
 fn units_named(
     alloc: Global,
-    names: &Names,
+    names: &DeclaredNames,
     words: &[Bytes],
 ) -> Result<Option<UnitList>, AllocError>
     ensures { IfOk result (λ r. r ≡ units_named names.now words.now) }
@@ -62,7 +62,11 @@ fn units_named(
 }
 
 /// The registers of these names. None where one isn't declared.
-fn regs_named(alloc: Global, names: &Names, words: &[Bytes]) -> Result<Option<Regs>, AllocError>
+fn regs_named(
+    alloc: Global,
+    names: &DeclaredNames,
+    words: &[Bytes],
+) -> Result<Option<Regs>, AllocError>
     ensures { IfOk result (λ r. r ≡ regs_named names.now words.now) }
 {
     let mut made = List::new(alloc);
@@ -125,7 +129,7 @@ fn roles_named(
 
 /// The line with its names looked up. None where one isn't declared.
 #[tactic(auto, unfolding(crate::specs::Resolving::resolved))]
-pub(crate) fn resolved(
+pub(crate) fn resolve_line(
     alloc: Global,
     names: &NameTables,
     raw: RawLine,
@@ -167,7 +171,7 @@ pub(crate) fn resolved(
 
 /// Whether a name isn't declared yet.
 #[tactic(auto, using(crate::proofs::Fresh::none_is_fresh, crate::proofs::Fresh::some_is_taken))]
-fn is_fresh(names: &Names, name: &[u8]) -> bool
+fn is_fresh(names: &DeclaredNames, name: &[u8]) -> bool
     ensures { result ≡ is_fresh names.now name.now }
 {
     match names.place(name) {

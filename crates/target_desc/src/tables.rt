@@ -4,21 +4,21 @@ ghost use Rattle.std.specs.Prelude.{◌≡◌, map};
 ghost use Rattle.target_base.specs.Storage.{same_numbers};
 ghost use Rattle.target_desc.specs.Words.{meaning_in, row_of, form_words, version_words, text_form_words, effect_words, plain_role_words, named_role_words};
 
-use crate::raw::{Form, NamedRole, TextForm};
+use crate::raw::{LineForm, NamedRole, TextForm};
 use crate::text::are_same;
 use target_base::{Effect, OpaqueKind, Role};
 
-static FORMS: [(&str, Form); 10] = [
-    ("target", Form::Target),
-    ("unit", Form::Unit),
-    ("reg", Form::Reg),
-    ("reserved", Form::Reserved),
-    ("index", Form::Index),
-    ("class", Form::Class),
-    ("mask", Form::Mask),
-    ("op", Form::Opcode),
-    ("form", Form::Forms),
-    ("flags", Form::Flags),
+static FORMS: [(&str, LineForm); 10] = [
+    ("target", LineForm::Target),
+    ("unit", LineForm::Unit),
+    ("reg", LineForm::Reg),
+    ("reserved", LineForm::Reserved),
+    ("index", LineForm::Index),
+    ("class", LineForm::Class),
+    ("mask", LineForm::Mask),
+    ("op", LineForm::Opcode),
+    ("form", LineForm::Forms),
+    ("flags", LineForm::Flags),
 ];
 
 static VERSIONS: [(&str, u8); 2] = [("1", 1), ("2", 2)];
@@ -111,7 +111,7 @@ fn meaning_in<T: Copy>(table: &[(&str, T)], word: &[u8]) -> Option<T>
 }
 
 /// What the first word of a line says that the line is.
-pub(crate) fn form_of(word: &[u8]) -> Option<Form>
+pub(crate) fn form_of(word: &[u8]) -> Option<LineForm>
     ensures { result ≡ meaning_in form_words word.now }
 {
     meaning_in(&FORMS, word)

@@ -10,7 +10,7 @@ use Rattle.target_base.specs.Storage.{class_units, unit_width}
 use Rattle.mir_func.specs.declared.func.Operand.{Operand}
 use Rattle.mir_func.specs.declared.func.Instr.{Instr}
 use Rattle.mir_meaning.specs.Registers.{has_number}
-use Rattle.two_address.specs.declared.sequences.Part.{Part}
+use Rattle.two_address.specs.declared.sequences.SubregInput.{SubregInput}
 use Rattle.two_address.specs.Sequences.{part, parts_of, into_part, filled_lanes, keeping_text}
 
 -- operands behind a pair
@@ -30,7 +30,7 @@ pub pairs_all : (k : ℕ) (os : List Operand) → length os / 2 ≤ k → parts_
 pairs_all k os h = short (drop (2 * k) os) (omega (arith, length-drop (2 * k) os))
 
 -- moves of one part more
-pub parts_more : (to i : ℕ) (ps : List Part) (d : Part) (old out next : List Instr) → i < length ps → out ≡ old ++ map (into_part to) (take i ps) → next ≡ out ++ into_part to (get_or ps i d) ∷ [] → next ≡ old ++ map (into_part to) (take (i + 1) ps)
+pub parts_more : (to i : ℕ) (ps : List SubregInput) (d : SubregInput) (old out next : List Instr) → i < length ps → out ≡ old ++ map (into_part to) (take i ps) → next ≡ out ++ into_part to (get_or ps i d) ∷ [] → next ≡ old ++ map (into_part to) (take (i + 1) ps)
 parts_more to i ps d old out next h was made =
     made ∙ rw (was, append_assoc old (map (into_part to) (take i ps)) (into_part to (get_or ps i d) ∷ []), ← map_more (into_part to) ps i d h) refl
 
@@ -44,28 +44,28 @@ any-append p (x ∷ xs) ys = rw (any-append p xs ys) (or_assoc (p x) (list_any p
     or_assoc true b c = refl
     or_assoc false b c = refl
 
-pub filled_is : (t : Target) (ps : List Part) (n : ℕ) → list_any (λ p. has_number (lanes_of t p.index) n) ps ≡ has_number (filled_lanes t ps) n
+pub filled_is : (t : Target) (ps : List SubregInput) (n : ℕ) → list_any (λ p. has_number (lanes_of t p.index) n) ps ≡ has_number (filled_lanes t ps) n
 filled_is t [] n = refl
 filled_is t (p ∷ ps) n = rw (filled_is t ps n) (sym (any-append (nat_eq n) (lanes_of t p.index) (filled_lanes t ps)))
 
 lanes_left : (k n : ℕ) → k < n → range_with_len k (n - k) ≡ k ∷ range_with_len (k + 1) (n - (k + 1))
 lanes_left k n h = let e : n - k ≡ suc (n - (k + 1)) = omega arith in rw e refl
 
-pub lane_next : (t : Target) (ps : List Part) (k n : ℕ) (total : Bool) → k < n → list_any (λ p. has_number (lanes_of t p.index) k) ps ≡ true → list_all (has_number (filled_lanes t ps)) (range_with_len k (n - k)) ≡ total → list_all (has_number (filled_lanes t ps)) (range_with_len (k + 1) (n - (k + 1))) ≡ total
+pub lane_next : (t : Target) (ps : List SubregInput) (k n : ℕ) (total : Bool) → k < n → list_any (λ p. has_number (lanes_of t p.index) k) ps ≡ true → list_all (has_number (filled_lanes t ps)) (range_with_len k (n - k)) ≡ total → list_all (has_number (filled_lanes t ps)) (range_with_len (k + 1) (n - (k + 1))) ≡ total
 lane_next t ps k n total h holds was =
     let filled = sym (filled_is t ps k) ∙ holds in
     let e : list_all (has_number (filled_lanes t ps)) (range_with_len k (n - k)) ≡ (has_number (filled_lanes t ps) k && list_all (has_number (filled_lanes t ps)) (range_with_len (k + 1) (n - (k + 1)))) = rw (lanes_left k n h) refl in
     let f = rw filled at e in
     sym f ∙ was
 
-pub lane_missing : (t : Target) (ps : List Part) (k n : ℕ) (total : Bool) → k < n → list_any (λ p. has_number (lanes_of t p.index) k) ps ≡ false → list_all (has_number (filled_lanes t ps)) (range_with_len k (n - k)) ≡ total → false ≡ total
+pub lane_missing : (t : Target) (ps : List SubregInput) (k n : ℕ) (total : Bool) → k < n → list_any (λ p. has_number (lanes_of t p.index) k) ps ≡ false → list_all (has_number (filled_lanes t ps)) (range_with_len k (n - k)) ≡ total → false ≡ total
 lane_missing t ps k n total h fails was =
     let filled = sym (filled_is t ps k) ∙ fails in
     let e : list_all (has_number (filled_lanes t ps)) (range_with_len k (n - k)) ≡ (has_number (filled_lanes t ps) k && list_all (has_number (filled_lanes t ps)) (range_with_len (k + 1) (n - (k + 1)))) = rw (lanes_left k n h) refl in
     let f = rw filled at e in
     sym f ∙ was
 
-pub lanes_all : (t : Target) (ps : List Part) (k n : ℕ) (total : Bool) → n ≤ k → list_all (has_number (filled_lanes t ps)) (range_with_len k (n - k)) ≡ total → true ≡ total
+pub lanes_all : (t : Target) (ps : List SubregInput) (k n : ℕ) (total : Bool) → n ≤ k → list_all (has_number (filled_lanes t ps)) (range_with_len k (n - k)) ≡ total → true ≡ total
 lanes_all t ps k n total h was = let e : n - k ≡ 0 = omega arith in rw e at was
 
 not_true : (b : Bool) → not b ≡ true → b ≡ false
@@ -76,10 +76,10 @@ not_false : (b : Bool) → not b ≡ false → b ≡ true
 not_false true e = refl
 not_false false e = sym e
 
-pub lane_kept : (t : Target) (ps : List Part) (k n : ℕ) (missing total : Bool) → k < n → missing ≡ not (list_any (λ p. has_number (lanes_of t p.index) k) ps) → missing ≡ false → list_all (has_number (filled_lanes t ps)) (range_with_len k (n - k)) ≡ total → list_all (has_number (filled_lanes t ps)) (range_with_len (k + 1) (n - (k + 1))) ≡ total
+pub lane_kept : (t : Target) (ps : List SubregInput) (k n : ℕ) (missing total : Bool) → k < n → missing ≡ not (list_any (λ p. has_number (lanes_of t p.index) k) ps) → missing ≡ false → list_all (has_number (filled_lanes t ps)) (range_with_len k (n - k)) ≡ total → list_all (has_number (filled_lanes t ps)) (range_with_len (k + 1) (n - (k + 1))) ≡ total
 lane_kept t ps k n missing total h is fails was = lane_next t ps k n total h (not_false _ (sym is ∙ fails)) was
 
-pub lane_lost : (t : Target) (ps : List Part) (k n : ℕ) (missing total : Bool) → k < n → missing ≡ not (list_any (λ p. has_number (lanes_of t p.index) k) ps) → missing ≡ true → list_all (has_number (filled_lanes t ps)) (range_with_len k (n - k)) ≡ total → false ≡ total
+pub lane_lost : (t : Target) (ps : List SubregInput) (k n : ℕ) (missing total : Bool) → k < n → missing ≡ not (list_any (λ p. has_number (lanes_of t p.index) k) ps) → missing ≡ true → list_all (has_number (filled_lanes t ps)) (range_with_len k (n - k)) ≡ total → false ≡ total
 lane_lost t ps k n missing total h is holds was = lane_missing t ps k n total h (not_true _ (sym is ∙ holds)) was
 
 pub lane_count : (t : Target) (c : Option ClassId) → length (class_units t.regs (regs_of_some t.classes c)) ≡ length (widths_of_some t c)

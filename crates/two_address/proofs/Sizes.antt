@@ -25,9 +25,9 @@ use Rattle.phi_elim.specs.Phis.{all_instrs, located_class}
 use Rattle.phi_elim.proofs.Sizes.{instr_count-cons, operand_count-cons, operand_count-append, operand_total, operand_total-cons, operand_total-numbered, instrs_below}
 use Rattle.two_address.specs.declared.ties.Move.{Move}
 use Rattle.two_address.specs.declared.ties.Tie.{Tie}
-use Rattle.two_address.specs.declared.sequences.Part.{Part}
-use Rattle.two_address.specs.declared.forms.Form.{Form}
-use Rattle.two_address.specs.declared.forms.Form.TheVariants as forms
+use Rattle.two_address.specs.declared.sequences.SubregInput.{SubregInput}
+use Rattle.two_address.specs.declared.forms.InstrLowering.{InstrLowering}
+use Rattle.two_address.specs.declared.forms.InstrLowering.TheVariants as forms
 use Rattle.two_address.specs.Classes.{seated}
 use Rattle.two_address.specs.Ties.{copies, use_of, undef_use_of, untied, tie_aside, tie_among, number_behind, ties_among, ties_in, undefined_whole, undefined_first, with_operands, tied_lowered, copy_lowered}
 use Rattle.two_address.specs.Sequences.{part, parts_of, is_input, built, into_part, at_last, fill_all, beginning, keeping_text, sequence_lowered, insertion_lowered}
@@ -158,7 +158,7 @@ parts_small [] = omega arith
 parts_small (a ∷ []) = omega arith
 parts_small (a ∷ b ∷ os) = omega (arith, length-append (part a b) (parts_of os), part_small a b, parts_small os)
 
-into_parts_small : (to : ℕ) (ps : List Part) → weigh (map (into_part to) ps) ≤ 3 * length ps
+into_parts_small : (to : ℕ) (ps : List SubregInput) → weigh (map (into_part to) ps) ≤ 3 * length ps
 into_parts_small to [] = omega arith
 into_parts_small to (p ∷ ps) = omega (arith, weigh-cons (into_part to p) (map (into_part to) ps), move_small (record (whole_definition to) { index = Some p.index }) p.input, into_parts_small to ps)
 
@@ -176,13 +176,13 @@ text_weighs_nothing i (x ∷ xs) =
     let first : Instr = record x { flags = i.flags; tail = i.tail } in
     omega (arith, weigh-cons first xs, weigh-cons x xs)
 
-sequence_small : (t : Target) (cs : List (Option ClassId)) (c : ℕ) (i : Instr) (v : ℕ) (ps : List Part) → weigh (sequence_lowered t cs c i v ps) ≤ 5 + 3 * length ps
+sequence_small : (t : Target) (cs : List (Option ClassId)) (c : ℕ) (i : Instr) (v : ℕ) (ps : List SubregInput) → weigh (sequence_lowered t cs c i v ps) ≤ 5 + 3 * length ps
 sequence_small t cs c i v ps =
     let to = built c v ps in
     let first = beginning t (located_class cs (Virtual v)) to ps in
     omega (arith, text_weighs_nothing i (first ++ (map (into_part to) ps ++ at_last c v ps)), weigh-append first (map (into_part to) ps ++ at_last c v ps), weigh-append (map (into_part to) ps) (at_last c v ps), begun_small (fill_all t (located_class cs (Virtual v)) ps) to, into_parts_small to ps, ended_small (is_input (Virtual v) ps) v c)
 
-insertion_small : (c : ℕ) (i : Instr) (v : ℕ) (a : RegOp) (p : Part) → weigh (insertion_lowered c i v a p) ≤ 9
+insertion_small : (c : ℕ) (i : Instr) (v : ℕ) (a : RegOp) (p : SubregInput) → weigh (insertion_lowered c i v a p) ≤ 9
 insertion_small c i v a p =
     let to = built c v (p ∷ []) in
     let last = at_last c v (p ∷ []) in
@@ -190,31 +190,31 @@ insertion_small c i v a p =
 
 -- an insertion has operands
 
-form_with : Bool → Bool → Bool → List Operand → Form
+form_with : Bool → Bool → Bool → List Operand → InstrLowering
 form_with x y z os =
     cond x (copy_form (register_at os 0) (register_at os 1))
     (cond y (sequence_form (virtual_in (register_at os 0)))
     (cond z (insertion_form (virtual_in (register_at os 0)) (register_at os 1) (part_of_two (slice_get os 2) (slice_get os 3)))
     forms.Other))
 
-none_without : (x y z : Bool) (v : ℕ) (a : RegOp) (p : Part) → form_with x y z [] ≡ forms.Insertion v a p → ⊥
+none_without : (x y z : Bool) (v : ℕ) (a : RegOp) (p : SubregInput) → form_with x y z [] ≡ forms.Insertion v a p → ⊥
 unfolding form_with
 none_without true y z v a p e = cc
 none_without false true z v a p e = cc
 none_without false false true v a p e = cc
 none_without false false false v a p e = cc
 
-some_operands : (x y z : Bool) (os : List Operand) (v : ℕ) (a : RegOp) (p : Part) → form_with x y z os ≡ forms.Insertion v a p → 1 ≤ length os
+some_operands : (x y z : Bool) (os : List Operand) (v : ℕ) (a : RegOp) (p : SubregInput) → form_with x y z os ≡ forms.Insertion v a p → 1 ≤ length os
 some_operands x y z [] v a p e = absurd (none_without x y z v a p e)
 some_operands x y z (o ∷ os) v a p e = omega arith
 
-insertion_has_operands : (t : Target) (i : Instr) (v : ℕ) (a : RegOp) (p : Part) → form_of t i ≡ forms.Insertion v a p → 1 ≤ length i.operands
+insertion_has_operands : (t : Target) (i : Instr) (v : ℕ) (a : RegOp) (p : SubregInput) → form_of t i ≡ forms.Insertion v a p → 1 ≤ length i.operands
 unfolding form_with
 insertion_has_operands t i v a p e = some_operands (does is_copy t i) (does is_reg_sequence t i) (does is_insert_subreg t i) i.operands v a p e
 
 -- instructions and blocks
 
-form_small : (t : Target) (cs : List (Option ClassId)) (c : ℕ) (i : Instr) (f : Form) → form_of t i ≡ f → weigh (flat_map undefined_first i.operands) + weigh (form_lowered t cs c i f) + length (form_classes t cs c i f) ≤ 8 + 8 * length i.operands
+form_small : (t : Target) (cs : List (Option ClassId)) (c : ℕ) (i : Instr) (f : InstrLowering) → form_of t i ≡ f → weigh (flat_map undefined_first i.operands) + weigh (form_lowered t cs c i f) + length (form_classes t cs c i f) ≤ 8 + 8 * length i.operands
 form_small t cs c i (forms.Copy d s) e = omega (arith, all_undefined_small i.operands, weigh-cons (copy_lowered i d s) [], copy_small i d s)
 form_small t cs c i (forms.Sequence v) e =
     let ps = parts_of (drop 1 i.operands) in

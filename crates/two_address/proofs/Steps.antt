@@ -17,8 +17,8 @@ use Rattle.phi_elim.specs.Numbered.{instr_count}
 use Rattle.phi_elim.proofs.Walks.{walk_more, piece_more}
 use Rattle.phi_elim.proofs.Arriving.{instr_count_more}
 use Rattle.phi_elim.proofs.Sizes.{operand_count-cons, operand_count-append}
-use Rattle.two_address.specs.declared.forms.Form.{Form}
-use Rattle.two_address.specs.declared.forms.Form.TheVariants as forms
+use Rattle.two_address.specs.declared.forms.InstrLowering.{InstrLowering}
+use Rattle.two_address.specs.declared.forms.InstrLowering.TheVariants as forms
 use Rattle.two_address.specs.declared.ties.Tie.{Tie}
 use Rattle.two_address.specs.Classes.{seated}
 use Rattle.two_address.specs.Sequences.{is_input, parts_of}
@@ -52,7 +52,7 @@ length-bound qs os = sym (length-map (explicit_bound qs os) (λ b. b.1)) ∙ ap 
 ties_in_small : (t : Target) (c : ℕ) (i : Instr) → length (ties_in t c i) ≤ length i.operands
 ties_in_small t c i = omega (arith, length-ties_among (seated t i) c (filter_map (tied_pair i.operands) (seated t i)), pairs_small (tied_pair i.operands) (seated t i), length-bound (explicit_roles (roles_of t i)) i.operands)
 
-form_classes_small : (t : Target) (cs : List (Option ClassId)) (c : ℕ) (i : Instr) (f : Form) → length (form_classes t cs c i f) ≤ 1 + length i.operands
+form_classes_small : (t : Target) (cs : List (Option ClassId)) (c : ℕ) (i : Instr) (f : InstrLowering) → length (form_classes t cs c i f) ≤ 1 + length i.operands
 form_classes_small t cs c i (forms.Copy d s) = omega arith
 form_classes_small t cs c i (forms.Sequence v) = omega (arith, class_if_small (is_input (Virtual v) (parts_of (drop 1 i.operands))) (located_class cs (Virtual v)))
 form_classes_small t cs c i (forms.Insertion v a p) = omega (arith, class_if_small (is_input (Virtual v) (p ∷ [])) (located_class cs (Virtual v)))

@@ -14,9 +14,9 @@ use Rattle.mir_func.specs.Value.{Function}
 use Rattle.mir_func.specs.Binding.{does, roles_of, register_at}
 use Rattle.phi_elim.specs.Numbered.{with_new_ids}
 use Rattle.phi_elim.specs.Phis.{all_instrs, located_class, phis_lowered}
-use Rattle.two_address.specs.declared.forms.Form.{Form}
-use Rattle.two_address.specs.declared.forms.Form.TheVariants as forms
-use Rattle.two_address.specs.declared.sequences.Part.{Part}
+use Rattle.two_address.specs.declared.forms.InstrLowering.{InstrLowering}
+use Rattle.two_address.specs.declared.forms.InstrLowering.TheVariants as forms
+use Rattle.two_address.specs.declared.sequences.SubregInput.{SubregInput}
 use Rattle.two_address.specs.declared.ties.Tie.{Tie}
 use Rattle.two_address.specs.Ties.{undefined_first, ties_in, tied_lowered, copy_lowered, definition_class}
 use Rattle.two_address.specs.Sequences.{part, parts_of, is_input, sequence_lowered, insertion_lowered}
@@ -31,27 +31,27 @@ virtual_in None = None
 virtual_in (Some o) = virtual_loc o.loc
 
 -- the parts that the third and the fourth operand make
-abbrev pub part_of_two : Option Operand → Option Operand → List Part
+abbrev pub part_of_two : Option Operand → Option Operand → List SubregInput
 part_of_two (Some a) (Some b) = part a b
 part_of_two _ _ = []
 
 -- COPY of one register operand to another
-abbrev pub copy_form : Option RegOp → Option RegOp → Form
+abbrev pub copy_form : Option RegOp → Option RegOp → InstrLowering
 copy_form (Some d) (Some s) = forms.Copy d s
 copy_form _ _ = forms.Other
 
 -- REG_SEQUENCE into a virtual register
-abbrev pub sequence_form : Option ℕ → Form
+abbrev pub sequence_form : Option ℕ → InstrLowering
 sequence_form (Some v) = forms.Sequence v
 sequence_form None = forms.Other
 
 -- INSERT_SUBREG of one part into a virtual register
-abbrev pub insertion_form : Option ℕ → Option RegOp → List Part → Form
+abbrev pub insertion_form : Option ℕ → Option RegOp → List SubregInput → InstrLowering
 insertion_form (Some v) (Some a) (p ∷ []) = forms.Insertion v a p
 insertion_form _ _ _ = forms.Other
 
 -- which of the rewritings applies
-abbrev pub form_of : Target → Instr → Form
+abbrev pub form_of : Target → Instr → InstrLowering
 form_of t i =
     let os = i.operands in
     cond (does is_copy t i) (copy_form (register_at os 0) (register_at os 1))
@@ -60,7 +60,7 @@ form_of t i =
     forms.Other))
 
 -- what becomes of an instruction of a form; c is the next range number
-abbrev pub form_lowered : Target → List (Option ClassId) → ℕ → Instr → Form → List Instr
+abbrev pub form_lowered : Target → List (Option ClassId) → ℕ → Instr → InstrLowering → List Instr
 form_lowered t cs c i (forms.Copy d s) = copy_lowered i d s ∷ []
 form_lowered t cs c i (forms.Sequence v) = sequence_lowered t cs c i v (parts_of (drop 1 i.operands))
 form_lowered t cs c i (forms.Insertion v a p) = insertion_lowered c i v a p
@@ -79,7 +79,7 @@ abbrev pub class_aside : List Role → Tie → List (Option ClassId)
 class_aside rs tie = class_if (is_some tie.aside) (definition_class rs tie.number)
 
 -- the classes of the registers that an instruction of a form needs
-abbrev pub form_classes : Target → List (Option ClassId) → ℕ → Instr → Form → List (Option ClassId)
+abbrev pub form_classes : Target → List (Option ClassId) → ℕ → Instr → InstrLowering → List (Option ClassId)
 form_classes t cs c i (forms.Copy d s) = []
 form_classes t cs c i (forms.Sequence v) = class_if (is_input (Virtual v) (parts_of (drop 1 i.operands))) (located_class cs (Virtual v))
 form_classes t cs c i (forms.Insertion v a p) = class_if (is_input (Virtual v) (p ∷ [])) (located_class cs (Virtual v))

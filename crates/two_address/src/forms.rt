@@ -5,7 +5,7 @@ ghost use Rattle.std.specs.Option.{option_to_list};
 ghost use Rattle.target_base.specs.Rules.{is_copy, is_reg_sequence, is_insert_subreg};
 ghost use Rattle.two_address.specs.Lowered.{virtual_in, copy_form, sequence_form, insertion_form, part_of_two, form_of};
 
-use crate::sequences::{Part, part_of};
+use crate::sequences::{SubregInput, part_of};
 use mir_func::opcodes::effect_of;
 use mir_func::operands::register_at;
 use mir_func::{Instr, Loc, Operand, RegOp};
@@ -13,13 +13,13 @@ use target_base::{Effect, Target};
 
 /// The rewriting that an instruction asks for.
 #[derive(Clone, Copy)]
-pub enum Form {
+pub enum InstrLowering {
     /// COPY to the first operand from the second.
     Copy(RegOp, RegOp),
     /// REG_SEQUENCE into a virtual register.
     Sequence(u32),
     /// INSERT_SUBREG into a virtual register of a part into the operand.
-    Insertion(u32, RegOp, Part),
+    Insertion(u32, RegOp, SubregInput),
     /// Any other instruction.
     Other,
 }
@@ -37,44 +37,44 @@ fn virtual_in(o: Option<RegOp>) -> Option<u32>
     }
 }
 
-fn copy_form(to: Option<RegOp>, from: Option<RegOp>) -> Form
+fn copy_form(to: Option<RegOp>, from: Option<RegOp>) -> InstrLowering
     ensures { result ≡ copy_form to from }
 {
     match to {
-        None => Form::Other,
+        None => InstrLowering::Other,
         Some(d) => match from {
-            None => Form::Other,
-            Some(s) => Form::Copy(d, s),
+            None => InstrLowering::Other,
+            Some(s) => InstrLowering::Copy(d, s),
         },
     }
 }
 
-fn sequence_form(v: Option<u32>) -> Form
+fn sequence_form(v: Option<u32>) -> InstrLowering
     ensures { result ≡ sequence_form v }
 {
     match v {
-        None => Form::Other,
-        Some(v) => Form::Sequence(v),
+        None => InstrLowering::Other,
+        Some(v) => InstrLowering::Sequence(v),
     }
 }
 
-fn insertion_form(v: Option<u32>, a: Option<RegOp>, p: Option<Part>) -> Form
+fn insertion_form(v: Option<u32>, a: Option<RegOp>, p: Option<SubregInput>) -> InstrLowering
     ensures { result ≡ insertion_form v a (option_to_list p) }
 {
     match v {
-        None => Form::Other,
+        None => InstrLowering::Other,
         Some(v) => match a {
-            None => Form::Other,
+            None => InstrLowering::Other,
             Some(a) => match p {
-                None => Form::Other,
-                Some(p) => Form::Insertion(v, a, p),
+                None => InstrLowering::Other,
+                Some(p) => InstrLowering::Insertion(v, a, p),
             },
         },
     }
 }
 
 /// The part that the third and the fourth operand make.
-fn inserted_part(operands: &[Operand]) -> Option<Part>
+fn inserted_part(operands: &[Operand]) -> Option<SubregInput>
     ensures { option_to_list result ≡ part_of_two (slice_get operands.now 2) (slice_get operands.now 3) }
 {
     match operands.get(2) {
@@ -87,7 +87,7 @@ fn inserted_part(operands: &[Operand]) -> Option<Part>
 }
 
 /// Which of the rewritings applies.
-pub fn form_of(target: &Target, i: &Instr) -> Form
+pub fn form_of(target: &Target, i: &Instr) -> InstrLowering
     ensures { result ≡ form_of target.now i.now }
 {
     let operands = i.operands.as_slice();
@@ -100,6 +100,6 @@ pub fn form_of(target: &Target, i: &Instr) -> Form
             register_at(operands, 1),
             inserted_part(operands),
         ),
-        _ => Form::Other,
+        _ => InstrLowering::Other,
     }
 }

@@ -9,7 +9,7 @@ ghost use Rattle.two_address.specs.Sequences.{parts_of, is_input, sequence_lower
 ghost use Rattle.two_address.specs.Ties.{copy_lowered};
 ghost use Rattle.two_address.specs.Lowered.{form_lowered, form_classes, instr_lowered, instr_classes, next_range, instrs_lowered, classes_made, blocks_lowered, ties_lowered, class_aside, class_if};
 
-use crate::forms::{Form, form_of};
+use crate::forms::{InstrLowering, form_of};
 use crate::sequences::{Registers, insertion_lowered, is_input, parts_of, sequence_lowered};
 use crate::ties::{Tie, copy_lowered, definition_class, push_tied, push_undefined, ties_in};
 use mir_func::opcodes::roles_of;
@@ -39,11 +39,11 @@ pub fn lower_tied(alloc: Global, target: &Target, f: NoPhi) -> Result<Func, Allo
     if bulk_of(&f) > MOST {
         return Ok(f);
     }
-    lowered(alloc, target, f)
+    lower_function(alloc, target, f)
 }
 
 /// The function in lowered form, where its bulk is at most 2^27.
-fn lowered(alloc: Global, target: &Target, f: Func) -> Result<Func, AllocError>
+fn lower_function(alloc: Global, target: &Target, f: Func) -> Result<Func, AllocError>
     requires { bulk f ≤ 2 ^ 27 }
     ensures value { IfOk result (λ g. g ≡ ties_lowered target.now f) }
     ensures bulk { IfOk result (λ g. bulk g ≤ 8 * bulk f) }
@@ -151,7 +151,7 @@ fn push_instr(
 fn push_form(
     alloc: Global,
     registers: &Registers,
-    form: Form,
+    form: InstrLowering,
     i: &Instr,
     made: &mut Vec<Option<ClassId>>,
     out: &mut Vec<Instr>,
@@ -161,9 +161,9 @@ fn push_form(
     ensures classes { OnOk result (made.new.items ≡ made.old.items ++ form_classes registers.now.target.now registers.now.classes.now registers.now.next i.now form) }
 {
     match form {
-        Form::Copy(d, s) => push_copy(alloc, i, d, s, out),
-        Form::Sequence(v) => push_sequence(alloc, registers, v, i, made, out),
-        Form::Insertion(v, a, p) => {
+        InstrLowering::Copy(d, s) => push_copy(alloc, i, d, s, out),
+        InstrLowering::Sequence(v) => push_sequence(alloc, registers, v, i, made, out),
+        InstrLowering::Insertion(v, a, p) => {
             push_class_if(
                 made,
                 is_input(v, &[p]),
@@ -173,7 +173,7 @@ fn push_form(
             out.append(&mut instrs)?;
             Ok(())
         }
-        Form::Other => {
+        InstrLowering::Other => {
             let (target, classes) = (registers.target, registers.classes);
             let ties = ties_in(alloc, target, registers.next, i)?;
             push_classes_aside(made, roles_of(target, i), ties.as_slice())?;

@@ -10,7 +10,7 @@ ghost use Rattle.two_address.specs.Sequences.{part, parts_of, is_input, built, i
 
 use mir_func::operands::same_loc;
 use mir_func::{Instr, Loc, Operand, RegOp};
-use phi_elim::moves::{copy_of, move_of, undefining, whole_definition, whole_use};
+use phi_elim::moves::{copy_of, implicit_def_of, move_of, whole_definition, whole_use};
 use phi_elim::phis::located_class;
 use std::alloc::{AllocError, Global};
 use target_base::classes::{first_units, regs_at};
@@ -18,7 +18,7 @@ use target_base::{ClassId, Copied, IndexId, Target};
 
 /// An input of a REG_SEQUENCE or an INSERT_SUBREG, with the index of the lanes that it fills.
 #[derive(Clone, Copy)]
-pub struct Part {
+pub struct SubregInput {
     /// The input.
     pub input: RegOp,
     /// The index.
@@ -37,12 +37,12 @@ pub struct Registers<'a> {
 }
 
 /// The part that an operand and an index make.
-pub fn part_of(input: &Operand, index: &Operand) -> Option<Part>
+pub fn part_of(input: &Operand, index: &Operand) -> Option<SubregInput>
     ensures { option_to_list result ≡ part input.now index.now }
 {
     match input {
         Operand::Reg(o) => match index {
-            Operand::Index(x) => Some(Part {
+            Operand::Index(x) => Some(SubregInput {
                 input: *o,
                 index: *x,
             }),
@@ -53,7 +53,11 @@ pub fn part_of(input: &Operand, index: &Operand) -> Option<Part>
 }
 
 /// Puts the part that an operand and an index make behind the others.
-fn push_part(parts: &mut Vec<Part>, input: &Operand, index: &Operand) -> Result<(), AllocError>
+fn push_part(
+    parts: &mut Vec<SubregInput>,
+    input: &Operand,
+    index: &Operand,
+) -> Result<(), AllocError>
     ensures { OnOk result (parts.new.items ≡ parts.old.items ++ part input.now index.now) }
 {
     if let Some(p) = part_of(input, index) {
@@ -64,7 +68,7 @@ fn push_part(parts: &mut Vec<Part>, input: &Operand, index: &Operand) -> Result<
 
 /// The inputs of a REG_SEQUENCE with these operands behind its result.
 #[tactic(auto, using(crate::proofs::Parts::pieces))]
-pub fn parts_of(alloc: Global, operands: &[Operand]) -> Result<Vec<Part>, AllocError>
+pub fn parts_of(alloc: Global, operands: &[Operand]) -> Result<Vec<SubregInput>, AllocError>
     ensures { IfOk result (λ made. made.items ≡ parts_of operands.now) }
 {
     let mut parts = Vec::new(alloc);
@@ -75,7 +79,7 @@ pub fn parts_of(alloc: Global, operands: &[Operand]) -> Result<Vec<Part>, AllocE
 }
 
 /// Whether the register is an input.
-pub fn is_input(v: u32, parts: &[Part]) -> bool
+pub fn is_input(v: u32, parts: &[SubregInput]) -> bool
     ensures { result ≡ is_input (locs.Virtual v) parts.now }
 {
     parts.iter().any(|p| same_loc(Loc::Virtual(v), p.input.loc))
@@ -89,7 +93,7 @@ fn has_number(numbers: &[u8], n: usize) -> bool
 }
 
 /// Whether some part fills the lane.
-fn is_filled(target: &Target, parts: &[Part], lane: usize) -> bool
+fn is_filled(target: &Target, parts: &[SubregInput], lane: usize) -> bool
     ensures { result ≡ list_any (λ p. has_number (lanes_of target.now p.index) lane) parts.now }
 {
     parts
@@ -98,7 +102,7 @@ fn is_filled(target: &Target, parts: &[Part], lane: usize) -> bool
 }
 
 /// Whether no part fills the lane.
-fn is_missing(target: &Target, parts: &[Part], lane: usize) -> bool
+fn is_missing(target: &Target, parts: &[SubregInput], lane: usize) -> bool
     ensures { result ≡ not (list_any (λ p. has_number (lanes_of target.now p.index) lane) parts.now) }
 {
     !is_filled(target, parts, lane)
@@ -106,7 +110,7 @@ fn is_missing(target: &Target, parts: &[Part], lane: usize) -> bool
 
 /// Whether the parts fill all lanes of a class.
 #[tactic(auto, using(crate::proofs::Parts::pieces))]
-fn fill_all(target: &Target, c: Option<ClassId>, parts: &[Part]) -> bool
+fn fill_all(target: &Target, c: Option<ClassId>, parts: &[SubregInput]) -> bool
     ensures { result ≡ fill_all target.now c parts.now }
 {
     let lanes = first_units(
@@ -127,7 +131,7 @@ fn fill_all(target: &Target, c: Option<ClassId>, parts: &[Part]) -> bool
 fn push_parts(
     alloc: Global,
     to: u32,
-    parts: &[Part],
+    parts: &[SubregInput],
     out: &mut Vec<Instr>,
 ) -> Result<(), AllocError>
     ensures { OnOk result (out.new.items ≡ out.old.items ++ map (into_part to) parts.now) }
@@ -139,7 +143,7 @@ fn push_parts(
 }
 
 /// The move of an input into its lanes of `to`.
-fn into_part(alloc: Global, to: u32, p: Part) -> Result<Instr, AllocError>
+fn into_part(alloc: Global, to: u32, p: SubregInput) -> Result<Instr, AllocError>
     ensures { IfOk result (λ i. i ≡ into_part to p) }
 {
     let lanes = RegOp {
@@ -154,7 +158,7 @@ fn push_at_last(
     alloc: Global,
     c: u32,
     v: u32,
-    parts: &[Part],
+    parts: &[SubregInput],
     out: &mut Vec<Instr>,
 ) -> Result<(), AllocError>
     ensures { OnOk result (out.new.items ≡ out.old.items ++ at_last c v parts.now) }
@@ -171,13 +175,13 @@ fn push_beginning(
     target: &Target,
     class: Option<ClassId>,
     to: u32,
-    parts: &[Part],
+    parts: &[SubregInput],
     out: &mut Vec<Instr>,
 ) -> Result<(), AllocError>
     ensures { OnOk result (out.new.items ≡ out.old.items ++ beginning target.now class to parts.now) }
 {
     if !fill_all(target, class, parts) {
-        out.push(undefining(alloc, whole_definition(to))?)?;
+        out.push(implicit_def_of(alloc, whole_definition(to))?)?;
     }
     Ok(())
 }
@@ -195,7 +199,7 @@ fn keep_text(alloc: Global, i: &Instr, made: &mut Vec<Instr>) -> Result<(), Allo
 }
 
 /// The register that is built: `c`, where an input would be overwritten.
-fn built(c: u32, v: u32, parts: &[Part]) -> u32
+fn built(c: u32, v: u32, parts: &[SubregInput]) -> u32
     ensures { result ≡ built c v parts.now }
 {
     if is_input(v, parts) { c } else { v }
@@ -207,7 +211,7 @@ pub fn sequence_lowered(
     registers: &Registers,
     i: &Instr,
     v: u32,
-    parts: &[Part],
+    parts: &[SubregInput],
 ) -> Result<Vec<Instr>, AllocError>
     ensures { IfOk result (λ made. made.items ≡ sequence_lowered registers.now.target.now registers.now.classes.now registers.now.next i.now v parts.now) }
 {
@@ -228,7 +232,7 @@ pub fn insertion_lowered(
     i: &Instr,
     v: u32,
     a: RegOp,
-    p: Part,
+    p: SubregInput,
 ) -> Result<Vec<Instr>, AllocError>
     ensures { IfOk result (λ made. made.items ≡ insertion_lowered c i.now v a p) }
 {

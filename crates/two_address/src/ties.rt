@@ -11,7 +11,7 @@ use mir_func::opcodes::{next_role, roles_of, tied_number, ties_to};
 use mir_func::operands::{is_definition, is_virtual, register_at, same_index, same_loc};
 use mir_func::{Instr, Loc, Op, Operand, Operands, RegOp};
 use phi_elim::moves::{
-    IMPLICIT_DEF, copy_of, destination_of, source_of, undefining, whole_definition, whole_use,
+    IMPLICIT_DEF, copy_of, destination_of, implicit_def_of, source_of, whole_definition, whole_use,
 };
 use std::alloc::{AllocError, Global};
 use target_base::classes::class_of;
@@ -282,7 +282,7 @@ fn retied_use(
 }
 
 /// A register operand of that number behind the pass.
-fn retied(
+fn retie_register(
     target: &Target,
     classes: &[Option<ClassId>],
     ties: &[Tie],
@@ -311,7 +311,9 @@ fn retied_operand(
 {
     let (role, o) = bound;
     match o {
-        Operand::Reg(r) => Ok(Operand::Reg(retied(target, classes, ties, number, role, *r))),
+        Operand::Reg(r) => Ok(Operand::Reg(retie_register(
+            target, classes, ties, number, role, *r,
+        ))),
         _ => o.copied(alloc),
     }
 }
@@ -413,7 +415,7 @@ fn push_undefined_by(alloc: Global, o: &Operand, out: &mut Vec<Instr>) -> Result
     if let Operand::Reg(d) = o {
         if is_definition(d) && d.undef {
             if let Loc::Virtual(v) = d.loc {
-                out.push(undefining(alloc, whole_definition(v))?)?;
+                out.push(implicit_def_of(alloc, whole_definition(v))?)?;
             }
         }
     }

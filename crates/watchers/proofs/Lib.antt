@@ -1,3 +1,3 @@
-pub mod Given
+pub mod RegisterCounts
 pub mod Told
 pub mod Runs

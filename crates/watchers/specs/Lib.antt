@@ -1,4 +1,4 @@
 pub mod Lines
 pub mod Counts
-pub mod Given
+pub mod RegisterCounts
 pub mod Told

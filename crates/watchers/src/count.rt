@@ -48,7 +48,7 @@ impl CountWatcher {
 }
 
 /// One more than a count.
-pub(crate) fn more(n: u64) -> u64
+pub(crate) fn next_count(n: u64) -> u64
     ensures { result ≡ one_more n }
 {
     n.saturating_add(1)
@@ -74,12 +74,12 @@ impl Watcher for CountWatcher {
     fn tell(&mut self, _target: &Target, step: &Step) -> Result<(), AllocError> {
         match step {
             Step::Begin(_) => {}
-            Step::Assign(_, _) => self.assigned = more(self.assigned),
-            Step::Evict(_, _, _) => self.evicted = more(self.evicted),
-            Step::Defer(_) => self.deferred = more(self.deferred),
-            Step::Divide(_, _, _, _) => self.divided = more(self.divided),
-            Step::Spill(_, _) => self.spilled = more(self.spilled),
-            Step::Place(_) => self.placed = more(self.placed),
+            Step::Assign(_, _) => self.assigned = next_count(self.assigned),
+            Step::Evict(_, _, _) => self.evicted = next_count(self.evicted),
+            Step::Defer(_) => self.deferred = next_count(self.deferred),
+            Step::Divide(_, _, _, _) => self.divided = next_count(self.divided),
+            Step::Spill(_, _) => self.spilled = next_count(self.spilled),
+            Step::Place(_) => self.placed = next_count(self.placed),
         }
         Ok(())
     }

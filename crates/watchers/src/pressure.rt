@@ -1,9 +1,9 @@
 //! The watcher that counts how often each register was given.
 
 ghost use Rattle.std.specs.Prelude.{◌≡◌, ◌≤◌, OnOk, OnErr, IfOk, nat_le, position, [], length, slice_get};
-ghost use Rattle.watchers.specs.Given.{first_given, given_once, given_all, given_by, given_line, line_in, given_line_at};
+ghost use Rattle.watchers.specs.RegisterCounts.{first_given, given_once, given_all, given_by, given_line, line_in, given_line_at};
 
-use crate::count::more;
+use crate::count::next_count;
 use crate::steps::{Choices, Step};
 use crate::telling::Watcher;
 use crate::text::{name_of, put, put_number};
@@ -13,7 +13,7 @@ use target_base::{Bytes, Copied, Reg, Target};
 
 /// A register that was given.
 #[derive(Drop)]
-pub struct Given {
+pub struct RegisterCount {
     /// Its number in the target.
     pub register: Reg,
     /// Its name.
@@ -22,9 +22,9 @@ pub struct Given {
     pub count: u64,
 }
 
-impl Copied for Given {
-    fn copied(&self, alloc: Global) -> Result<Given, AllocError> {
-        Ok(Given {
+impl Copied for RegisterCount {
+    fn copied(&self, alloc: Global) -> Result<RegisterCount, AllocError> {
+        Ok(RegisterCount {
             register: self.register,
             name: self.name.copied(alloc)?,
             count: self.count,
@@ -36,14 +36,14 @@ impl Copied for Given {
 #[derive(Drop)]
 pub struct PressureWatcher {
     alloc: Global,
-    given: Vec<Given>,
+    given: Vec<RegisterCount>,
 }
 
 impl Model for PressureWatcher {
     ghost use Rattle.std.specs.Prelude.{List};
-    ghost use Rattle.watchers.specs.declared.pressure.Given.{Given};
+    ghost use Rattle.watchers.specs.declared.pressure.RegisterCount.{RegisterCount};
 
-    ghost Value = { List Given };
+    ghost Value = { List RegisterCount };
 
     ghost view = { λ s. s.given.items };
 }
@@ -61,17 +61,17 @@ impl PressureWatcher {
 }
 
 /// The place of the first entry that isn't of an earlier register.
-fn place_of(given: &[Given], r: Reg) -> Option<usize>
+fn place_of(given: &[RegisterCount], r: Reg) -> Option<usize>
     ensures { result ≡ position (λ g. nat_le r.0 g.register.0) given.now }
 {
     given.iter().position(|g| r.0 <= g.register.0)
 }
 
 /// An entry of a register that was given for the first time.
-fn first_given(alloc: Global, target: &Target, r: Reg) -> Result<Given, AllocError>
+fn first_given(alloc: Global, target: &Target, r: Reg) -> Result<RegisterCount, AllocError>
     ensures { IfOk result (λ g. g ≡ first_given target.now r) }
 {
-    Ok(Given {
+    Ok(RegisterCount {
         register: r,
         name: Bytes::from_slice(alloc, name_of(target, r))?,
         count: 1,
@@ -79,7 +79,12 @@ fn first_given(alloc: Global, target: &Target, r: Reg) -> Result<Given, AllocErr
 }
 
 /// Counts a register. After a refusal the entries are unchanged.
-fn give(alloc: Global, target: &Target, given: &mut Vec<Given>, r: Reg) -> Result<(), AllocError>
+fn give(
+    alloc: Global,
+    target: &Target,
+    given: &mut Vec<RegisterCount>,
+    r: Reg,
+) -> Result<(), AllocError>
     ensures ok { OnOk result (given.new.items ≡ given_once target.now given.old.items r) }
     ensures err { OnErr result (given.new.items ≡ given.old.items) }
 {
@@ -89,7 +94,7 @@ fn give(alloc: Global, target: &Target, given: &mut Vec<Given>, r: Reg) -> Resul
     };
     if given[place].register.0 == r.0 {
         let entry = &mut given[place];
-        entry.count = more(entry.count);
+        entry.count = next_count(entry.count);
         return Ok(());
     }
     given.insert(place, first_given(alloc, target, r)?)?;
@@ -97,7 +102,7 @@ fn give(alloc: Global, target: &Target, given: &mut Vec<Given>, r: Reg) -> Resul
 }
 
 /// Equal entries.
-fn copied_all(alloc: Global, given: &[Given]) -> Result<Vec<Given>, AllocError>
+fn copied_all(alloc: Global, given: &[RegisterCount]) -> Result<Vec<RegisterCount>, AllocError>
     ensures { IfOk result (λ made. made.items ≡ given.now) }
 {
     let mut made = Vec::new(alloc);
@@ -111,9 +116,9 @@ fn copied_all(alloc: Global, given: &[Given]) -> Result<Vec<Given>, AllocError>
 fn given_all(
     alloc: Global,
     target: &Target,
-    given: &[Given],
+    given: &[RegisterCount],
     choices: &Choices,
-) -> Result<Vec<Given>, AllocError>
+) -> Result<Vec<RegisterCount>, AllocError>
     ensures { IfOk result (λ made. made.items ≡ given_all target.now given.now choices.now) }
 {
     let mut made = copied_all(alloc, given)?;
@@ -125,7 +130,7 @@ fn given_all(
 
 impl Watcher for PressureWatcher {
     ghost use Rattle.std.specs.Prelude.{length};
-    ghost use Rattle.watchers.specs.Given.{given_by, given_line_at};
+    ghost use Rattle.watchers.specs.RegisterCounts.{given_by, given_line_at};
 
     ghost next = { λ t s step. given_by t s step };
 
@@ -160,7 +165,7 @@ impl Watcher for PressureWatcher {
 }
 
 /// The line of an entry.
-fn line_of(alloc: Global, given: &Given) -> Result<Bytes, AllocError>
+fn line_of(alloc: Global, given: &RegisterCount) -> Result<Bytes, AllocError>
     ensures { IfOk result (λ line. line ≡ given_line given.now) }
 {
     let mut line = Bytes::new(alloc);

@@ -44,7 +44,7 @@ use Rattle.live_lanes.specs.Held.{range_held}
 use Rattle.live_lanes.proofs.Cells.{both, both-left, both-right, found-block}
 use Rattle.live_laws.proofs.Exact.Everywhere.{numbered-at}
 use Rattle.live_laws.proofs.Exact.Pointed.{points-law}
-use Rattle.interference.specs.declared.held.Held.{Held}
+use Rattle.interference.specs.declared.held.RangeExtent.{RangeExtent}
 use Rattle.interference.specs.declared.matrix.Matrix.{Matrix}
 use Rattle.interference.specs.Clashes.{Points, register_in, holds, touches, is_taken_by, cell_points, lane_points, range_points, points_in, is_fixed_at, is_taken_at, is_fixed, is_in_way}
 use Rattle.evictor.specs.Cheapest.{UnitInTheWay, InTheWay, Facts, AreFacts}
@@ -334,7 +334,7 @@ module _ (m : Matrix) (computed : IsComputed m.live.target m.live.func m.live.ta
         let g = any-of (λ d. nat_eq d.range w && touches ranks (stretch_of ranks z.extent) d) (holds m z.unit.0 z.position) taken in
         by z g.1 (slice-member (holds m z.unit.0 z.position) g.0 g.1 g.2) (eqb-true g.1.range w (both-left (nat_eq g.1.range w) (touches ranks (stretch_of ranks z.extent) g.1) g.3)) (both-right (nat_eq g.1.range w) (touches ranks (stretch_of ranks z.extent) g.1) g.3)
       where
-        by : {s : Points} (z : Taken x v 0 (units_of t r) s) (d : Held) → Member d (holds m z.unit.0 z.position) → d.range ≡ w → touches ranks (stretch_of ranks z.extent) d ≡ true → InWay r w
+        by : {s : Points} (z : Taken x v 0 (units_of t r) s) (d : RangeExtent) → Member d (holds m z.unit.0 z.position) → d.range ≡ w → touches ranks (stretch_of ranks z.extent) d ≡ true → InWay r w
         by z d j same meets =
             let held-there = (holding z.unit.0 z.position d).0 j in
             let q = held-there.1 in
@@ -380,7 +380,7 @@ module _ (m : Matrix) (computed : IsComputed m.live.target m.live.func m.live.ta
         let s = stretched v r u h.k p z h.occupied h.unit in
         let n = spot-in w g.k p z g.occupied in
         let e = held-extent t f x computed rules last n.0 z.position (rank_of ranks p) n.2 in
-        let d : Held = record { range = w; extent = e.0 } in
+        let d : RangeExtent = record { range = w; extent = e.0 } in
         let there : IsIn m w g.k u.0 = (q, assigned, slice-map (λ i. i.0) (units_of t q) g.k ∙ ap (option_map (λ i. i.0)) g.unit) in
         let listed : Member d (holds m u.0 z.position) = (holding u.0 z.position d).1 (g.k, there, subst (λ o. Member e.0 (lane_extents x o z.position)) (sym n.1) e.1) in
         let meets : touches ranks (stretch_of ranks s.extent) d ≡ true = overlapping s.extent e.0 (rank_of ranks p) s.lies e.2 in

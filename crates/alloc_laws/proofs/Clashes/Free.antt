@@ -2,7 +2,7 @@
 use Rattle.std.proofs.Common.{◌≡◌, ◌⊎◌, ℕ, Bool, true, false, cond, List, [], ◌∷◌, ◌++◌, Option, None, Some, map, inl, inr, refl, sym, ap, ◌∙◌, subst, eqb-true}
 use Rattle.std.specs.Prelude.{nat_eq, slice_get, filter_map, flat_map, option_and_then, option_map}
 use Rattle.target_base.specs.declared.types.Target.{Target}
-use Rattle.mir_meaning.specs.declared.writing.Writing.{Writing}
+use Rattle.mir_meaning.specs.declared.writing.LaneDef.{LaneDef}
 use Rattle.meaning.specs.Live.{Among as Member, here as first, there as later}
 use Rattle.mir_func.specs.declared.func.Block.{Block}
 use Rattle.mir_func.specs.declared.func.Instr.{Instr}
@@ -28,8 +28,8 @@ use Rattle.live_lanes.specs.Coded.{entries, lanes_at, last_at}
 use Rattle.live_lanes.specs.Entering.{EnteredStep}
 use Rattle.live_lanes.specs.Doing.{doing_of, lane_code, IsComputed}
 use Rattle.live_lanes.specs.Ordered.{place_of}
-use Rattle.live_lanes.specs.declared.row.End.{End}
-use Rattle.live_lanes.specs.declared.row.End.TheVariants as ends
+use Rattle.live_lanes.specs.declared.row.PieceEnd.{PieceEnd}
+use Rattle.live_lanes.specs.declared.row.PieceEnd.TheVariants as ends
 use Rattle.live_lanes.specs.Reach.{is_never}
 use Rattle.live_lanes.specs.Ends.{row_end}
 use Rattle.live_lanes.proofs.Basics.{none-among, among-append}
@@ -50,17 +50,17 @@ abbrev some_last : Option Body → List ℕ
 some_last o = elim o [ None ↦ [] | Some x ↦ x.last ]
 
 -- a piece that begins with a writing begins with a step that writes the lane
-written-by : (l : ℕ) (ss : List Step) (k : ℕ) (st : Beginning) → slice_get (starts l ss) k ≡ Some st → (s : Step) × Among s ss × (w : Writing) × (writing_of l s.writes ≡ Some w)
+written-by : (l : ℕ) (ss : List Step) (k : ℕ) (st : Beginning) → slice_get (starts l ss) k ≡ Some st → (s : Step) × Among s ss × (w : LaneDef) × (writing_of l s.writes ≡ Some w)
 written-by l [] k st e = absurd (cc)
 written-by l (s ∷ ss) k st e = go (writing_of l s.writes) refl k e (λ j h. written-by l ss j st h)
   where
     Found : List Step → Type 0
-    Found xs = (x : Step) × Among x xs × (w : Writing) × (writing_of l x.writes ≡ Some w)
+    Found xs = (x : Step) × Among x xs × (w : LaneDef) × (writing_of l x.writes ≡ Some w)
 
     more : Found ss → Found (s ∷ ss)
     more z = (z.0, paths.there z.1, z.2, z.3)
 
-    go : (o : Option Writing) → writing_of l s.writes ≡ o → (k : ℕ) → slice_get (elim o [ None ↦ starts l ss | Some w ↦ record { start = s.id; early = w.early; from = w.from; readings = readings_until l ss } ∷ starts l ss ]) k ≡ Some st → ((j : ℕ) → slice_get (starts l ss) j ≡ Some st → Found ss) → Found (s ∷ ss)
+    go : (o : Option LaneDef) → writing_of l s.writes ≡ o → (k : ℕ) → slice_get (elim o [ None ↦ starts l ss | Some w ↦ record { start = s.id; early = w.early; from = w.from; readings = readings_until l ss } ∷ starts l ss ]) k ≡ Some st → ((j : ℕ) → slice_get (starts l ss) j ≡ Some st → Found ss) → Found (s ∷ ss)
     go None f k h ih = more (ih k h)
     go (Some w) f k h ih = (s, paths.here, w, f)
 
@@ -80,19 +80,19 @@ some-of : (l : ℕ) (q : Option ℕ) → is_some_number l q ≡ true → q ≡ S
 some-of l None e = absurd (cc)
 some-of l (Some x) e = ap Some (eqb-true x l e)
 
-move-of : (l a : ℕ) (ws : List Writing) → move_of l ws ≡ Into a → (w : Writing) × Member w ws × (w.from ≡ Some l)
+move-of : (l a : ℕ) (ws : List LaneDef) → move_of l ws ≡ Into a → (w : LaneDef) × Member w ws × (w.from ≡ Some l)
 move-of l a [] e = absurd (cc)
 move-of l a (w ∷ ws) e = go (is_some_number l w.from) refl e (move-of l a ws)
   where
-    go : (t : Bool) → is_some_number l w.from ≡ t → cond t (Into w.lane) (move_of l ws) ≡ Into a → (move_of l ws ≡ Into a → (x : Writing) × Member x ws × (x.from ≡ Some l)) → (x : Writing) × Member x (w ∷ ws) × (x.from ≡ Some l)
+    go : (t : Bool) → is_some_number l w.from ≡ t → cond t (Into w.lane) (move_of l ws) ≡ Into a → (move_of l ws ≡ Into a → (x : LaneDef) × Member x ws × (x.from ≡ Some l)) → (x : LaneDef) × Member x (w ∷ ws) × (x.from ≡ Some l)
     go true f g ih = (w, first, some-of l w.from f)
     go false f g ih = let z = ih g in (z.0, later z.1, z.2)
 
-written-of : (l : ℕ) (ws : List Writing) (x : Writing) → writing_of l ws ≡ Some x → (w : Writing) × Member w ws × (w.lane ≡ l)
+written-of : (l : ℕ) (ws : List LaneDef) (x : LaneDef) → writing_of l ws ≡ Some x → (w : LaneDef) × Member w ws × (w.lane ≡ l)
 written-of l [] x e = absurd (cc)
 written-of l (w ∷ ws) x e = go (nat_eq w.lane l) refl e (written-of l ws x)
   where
-    go : (t : Bool) → nat_eq w.lane l ≡ t → cond t (Some w) (writing_of l ws) ≡ Some x → (writing_of l ws ≡ Some x → (y : Writing) × Member y ws × (y.lane ≡ l)) → (y : Writing) × Member y (w ∷ ws) × (y.lane ≡ l)
+    go : (t : Bool) → nat_eq w.lane l ≡ t → cond t (Some w) (writing_of l ws) ≡ Some x → (writing_of l ws ≡ Some x → (y : LaneDef) × Member y ws × (y.lane ≡ l)) → (y : LaneDef) × Member y (w ∷ ws) × (y.lane ≡ l)
     go true f g ih = (w, first, eqb-true w.lane l f)
     go false f g ih = let z = ih g in (z.0, later z.1, z.2)
 
@@ -112,17 +112,17 @@ module _ (num : Numbering) (l : ℕ) where
   readings-owned acts m = let z = filtered-of (act_reading num) l acts m in reading-owned z.0 (is_unnumbered (num z.0.lane)) z.2
 
   -- a writing is of a lane with a number, and so is what it moves
-  writing-of : (acts : List Act) (w : Writing) → Member w (act_writings num acts) → (a : Act) × (num a.lane ≡ Some w.lane) × (w.from ≡ option_and_then num a.from)
+  writing-of : (acts : List Act) (w : LaneDef) → Member w (act_writings num acts) → (a : Act) × (num a.lane ≡ Some w.lane) × (w.from ≡ option_and_then num a.from)
   writing-of acts w m = let z = filtered-of (act_writing num) w acts m in go z.0 (num z.0.lane) refl z.2
     where
       go : (a : Act) (q : Option ℕ) → num a.lane ≡ q → elim q [ None ↦ None | Some n ↦ Some (writing num a n) ] ≡ Some w → (b : Act) × (num b.lane ≡ Some w.lane) × (w.from ≡ option_and_then num b.from)
       go a None f g = absurd (cc)
       go a (Some n) f g = let same : writing num a n ≡ w = cc in (a, f ∙ ap (λ x. Some x.lane) same, sym (ap (λ x. x.from) same))
 
-  lane-owned : (acts : List Act) (w : Writing) → Member w (act_writings num acts) → w.lane ≡ l → HasOwner num l
+  lane-owned : (acts : List Act) (w : LaneDef) → Member w (act_writings num acts) → w.lane ≡ l → HasOwner num l
   lane-owned acts w m e = let z = writing-of acts w m in (z.0.lane, z.1 ∙ ap Some e)
 
-  from-owned : (acts : List Act) (w : Writing) → Member w (act_writings num acts) → w.from ≡ Some l → HasOwner num l
+  from-owned : (acts : List Act) (w : LaneDef) → Member w (act_writings num acts) → w.from ≡ Some l → HasOwner num l
   from-owned acts w m e = let z = writing-of acts w m in then-of num z.0.from l (sym z.2 ∙ e)
 
   module _ (t : Target) (f : Function) where
@@ -142,7 +142,7 @@ module _ (num : Numbering) (l : ℕ) where
         never : (u : Use) → move_of l (doing i).writes ≡ u → (a : ℕ) → u ≡ Into a → HasOwner num l
         never u e a g = let z = move-of l a (doing i).writes (e ∙ g) in from-owned (acts_of (entered_writes t f i)) z.0 z.1 z.2
 
-        no-certain : (ws : List Writing) → move_of l ws ≡ Certain → ⊥
+        no-certain : (ws : List LaneDef) → move_of l ws ≡ Certain → ⊥
         no-certain [] e = cc
         no-certain (w ∷ ws) e = past (is_some_number l w.from) e (no-certain ws)
           where
@@ -156,7 +156,7 @@ module _ (num : Numbering) (l : ℕ) where
         go false e Certain g n = absurd (no-certain (doing i).writes g)
         go false e (Into a) g n = never (Into a) g a refl
 
-    write-owned : (i : Instr) (x : Writing) → writing_of l (doing i).writes ≡ Some x → HasOwner num l
+    write-owned : (i : Instr) (x : LaneDef) → writing_of l (doing i).writes ≡ Some x → HasOwner num l
     write-owned i x e = let z = written-of l (doing i).writes x e in lane-owned (acts_of (entered_writes t f i)) z.0 z.1 z.2
 
     -- lanes that are read at the ends of blocks
@@ -243,7 +243,7 @@ module _ (t : Target) (f : Function) (x : Table) (computed : IsComputed t f x) (
   dead : (b n : ℕ) → is_live (why l b n) ≡ true → ⊥
   dead b n h = not-founded t f num free ((computed.grown (all t f x computed rules last)).founded l b n h)
 
-  counted : (p k : ℕ) (e : End) → Counts (lane_code t f num) why l p k e → ⊥
+  counted : (p k : ℕ) (e : PieceEnd) → Counts (lane_code t f num) why l p k e → ⊥
   counted p k e (reads before s rest split piece used) = no-certain-use t f num l free p before s rest split used
   counted p k e (moves a before s rest split piece used live) = no-move t f num l free p a before s rest split used
   counted p k e (leaves y before s rest split piece out onward live) = dead y 0 live

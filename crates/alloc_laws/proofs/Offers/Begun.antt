@@ -4,8 +4,8 @@ use Rattle.std.specs.Prelude.{◌&&◌, nat_eq}
 use Rattle.std.specs.List.{list_all}
 use Rattle.std.proofs.lemmas.Bool.{and_from}
 use Rattle.std.proofs.lemmas.List.Folds.{list_all-append, list_all-map}
-use Rattle.mir_meaning.specs.declared.writing.Writing.{Writing}
-use Rattle.live_lanes.specs.declared.row.Reading.{Reading}
+use Rattle.mir_meaning.specs.declared.writing.LaneDef.{LaneDef}
+use Rattle.live_lanes.specs.declared.row.LaneUse.{LaneUse}
 use Rattle.mir_meaning.specs.Paths.{Step, Use, Unused, Certain, Into, has, use_of, writing_of, is_written}
 use Rattle.live_lanes.specs.Table.{Begun, Seen}
 use Rattle.live_lanes.specs.Entered.{Start, Shape, start_of, shape, starts, readings_until, reading_of}
@@ -31,10 +31,10 @@ of-own step id same [] = tt
 of-own step id same (x ∷ xs) = (ap (λ u. cond u true (has (step x).id (map id xs))) (eq-eqb (id x) (step x).id (sym (same x))), of-more (id x) (map id xs) (map step xs) (of-own step id same xs))
 
 module _ (ids : List ℕ) where
-  abbrev is_here : Reading → Bool
+  abbrev is_here : LaneUse → Bool
   is_here r = has r.id ids
 
-  abbrev are_here : List Reading → Bool
+  abbrev are_here : List LaneUse → Bool
   are_here rs = list_all is_here rs
 
   one-here : (id : ℕ) (u : Use) → has id ids ≡ true → are_here (reading_of id u) ≡ true
@@ -42,7 +42,7 @@ module _ (ids : List ℕ) where
   one-here id Certain h = ap (λ b. b && true) h
   one-here id (Into a) h = ap (λ b. b && true) h
 
-  rest-here : (b : Bool) (rs : List Reading) → are_here rs ≡ true → are_here (cond b [] rs) ≡ true
+  rest-here : (b : Bool) (rs : List LaneUse) → are_here rs ≡ true → are_here (cond b [] rs) ≡ true
   rest-here true rs h = refl
   rest-here false rs h = h
 
@@ -58,7 +58,7 @@ module _ (ids : List ℕ) where
   starts-here l [] h = refl
   starts-here l (s ∷ ss) h = go (writing_of l s.writes) (starts-here l ss h.1)
     where
-      go : (o : Option Writing) → list_all (λ (p : Start). has p.start ids) (starts l ss) ≡ true → list_all (λ (p : Start). has p.start ids) (elim o [ None ↦ starts l ss | Some w ↦ record { start = s.id; early = w.early; from = w.from; readings = readings_until l ss } ∷ starts l ss ]) ≡ true
+      go : (o : Option LaneDef) → list_all (λ (p : Start). has p.start ids) (starts l ss) ≡ true → list_all (λ (p : Start). has p.start ids) (elim o [ None ↦ starts l ss | Some w ↦ record { start = s.id; early = w.early; from = w.from; readings = readings_until l ss } ∷ starts l ss ]) ≡ true
       go None ih = ih
       go (Some w) ih = and_from (has s.id ids) (list_all (λ (p : Start). has p.start ids) (starts l ss)) h.0 ih
 
@@ -66,7 +66,7 @@ module _ (ids : List ℕ) where
   read-here l [] h = refl
   read-here l (s ∷ ss) h = go (writing_of l s.writes) (read-here l ss h.1)
     where
-      go : (o : Option Writing) → list_all (λ (p : Start). are_here p.readings) (starts l ss) ≡ true → list_all (λ (p : Start). are_here p.readings) (elim o [ None ↦ starts l ss | Some w ↦ record { start = s.id; early = w.early; from = w.from; readings = readings_until l ss } ∷ starts l ss ]) ≡ true
+      go : (o : Option LaneDef) → list_all (λ (p : Start). are_here p.readings) (starts l ss) ≡ true → list_all (λ (p : Start). are_here p.readings) (elim o [ None ↦ starts l ss | Some w ↦ record { start = s.id; early = w.early; from = w.from; readings = readings_until l ss } ∷ starts l ss ]) ≡ true
       go None ih = ih
       go (Some w) ih = and_from (are_here (readings_until l ss)) (list_all (λ (p : Start). are_here p.readings) (starts l ss)) (until-here l ss h.1) ih
 

@@ -11,9 +11,9 @@ use Rattle.mir_meaning.specs.Rules.{V8}
 use Rattle.instr_effects.specs.Numbered.{number_in}
 use Rattle.instr_effects.specs.Steps.{Numbering}
 use Rattle.live_laws.specs.Effects.Coded.{KeepsRules}
-use Rattle.live_lanes.specs.declared.row.End.{End}
-use Rattle.live_lanes.specs.declared.row.End.TheVariants as ends
-use Rattle.live_lanes.specs.declared.row.Row.{Row}
+use Rattle.live_lanes.specs.declared.row.PieceEnd.{PieceEnd}
+use Rattle.live_lanes.specs.declared.row.PieceEnd.TheVariants as ends
+use Rattle.live_lanes.specs.declared.row.LaneRange.{LaneRange}
 use Rattle.live_lanes.specs.declared.table.Table.{Table}
 use Rattle.mir_meaning.specs.Paths.{Code, has, steps_of, last_of}
 use Rattle.live_lanes.specs.Graph.{is_live, IsGrown}
@@ -31,10 +31,10 @@ use Rattle.alloc_laws.proofs.Offers.Begun.{AreOf, of-own, begins as begins-by, r
 use Rattle.alloc_laws.proofs.Offers.Turns.{leading-ends, in-turn}
 
 -- cells stand from the last block to the first
-in-order : (rows : List Row) (l : ℕ) → descends (cells_of rows l) ≡ true
+in-order : (rows : List LaneRange) (l : ℕ) → descends (cells_of rows l) ≡ true
 in-order rows l = go (slice_get rows l)
   where
-    go : (o : Option Row) → descends (elim o [ None ↦ [] | Some r ↦ r.cells.items ]) ≡ true
+    go : (o : Option LaneRange) → descends (elim o [ None ↦ [] | Some r ↦ r.cells.items ]) ≡ true
     go None = refl
     go (Some r) = r.sorted
 
@@ -48,7 +48,7 @@ module _ (t : Target) (f : Function) (x : Table) (computed : IsComputed t f x) (
   abbrev slots : Numbers
   slots = x.order.slots
 
-  abbrev rows : List Row
+  abbrev rows : List LaneRange
   rows = x.rows.rows.items
 
   table : IsTableOf code slots x.flow.items rows
@@ -69,14 +69,14 @@ module _ (t : Target) (f : Function) (x : Table) (computed : IsComputed t f x) (
     are : map start_of v.segments ≡ starts l (steps_of code k)
     are = ap (λ h. h.segments) (table.entered l k)
 
-    over : (n : ℕ) (e : End) → (e ≡ ends.Never) ⊎ Counts code (causes rows) l k n e → (s : Begun) → slice_get v.segments n ≡ Some s → end_rank slots e < exit_rank slots s.start
+    over : (n : ℕ) (e : PieceEnd) → (e ≡ ends.Never) ⊎ Counts code (causes rows) l k n e → (s : Begun) → slice_get v.segments n ≡ Some s → end_rank slots e < exit_rank slots s.start
     over n e (inl never) s there = let z = ap (end_rank slots) never in omega (arith, z)
     over n e (inr counts) s there = go e counts
       where
         behind : (at : ℕ) → piece_at slots at v.segments ≡ n → at < exit_rank slots s.start
         behind at piece = leb-false (exit_rank slots s.start) at (leading-ends (is_begun slots at) v.segments s (ap (slice_get v.segments) piece ∙ there))
 
-        go : (e : End) → Counts code (causes rows) l k n e → end_rank slots e < exit_rank slots s.start
+        go : (e : PieceEnd) → Counts code (causes rows) l k n e → end_rank slots e < exit_rank slots s.start
         go e (reads before step rest split piece used) = behind (entry_rank slots step.id) (entry-piece code slots table.numbered l k v.segments are before step rest split ∙ piece)
         go e (moves a before step rest split piece used live) = behind (entry_rank slots step.id) (entry-piece code slots table.numbered l k v.segments are before step rest split ∙ piece)
         go e (leaves y before step rest split piece out a live) = behind (exit_rank slots step.id) (exit-piece code slots table.numbered l k v.segments are before step rest split ∙ piece)
@@ -88,7 +88,7 @@ module _ (t : Target) (f : Function) (x : Table) (computed : IsComputed t f x) (
 
     -- a piece in which a point counts is live
 
-    counted : (n : ℕ) (e : End) → Counts code (causes rows) l k n e → is_live (causes rows l k n) ≡ true
+    counted : (n : ℕ) (e : PieceEnd) → Counts code (causes rows) l k n e → is_live (causes rows l k n) ≡ true
     counted n e (reads before s rest split piece used) = subst (λ m. is_live (causes rows l k m) ≡ true) piece (grown.closed.reading k l before s rest split used)
     counted n e (moves a before s rest split piece used live) = subst (λ m. is_live (causes rows l k m) ≡ true) piece (grown.closed.move k l a before s rest split used live)
     counted n e (leaves y before s rest split piece out a live) = subst (λ m. is_live (causes rows l k m) ≡ true) piece (grown.closed.exit k l y before s rest split out a live)

@@ -2,7 +2,7 @@
 use Rattle.std.proofs.Common.{◌≡◌, ◌<◌, ◌≤◌, ℕ, zero, suc, Bool, true, false, cond, List, [], ◌∷◌, Some, refl, sym, ap, ◌∙◌, arith}
 use Rattle.std.specs.Prelude.{nat_le, slice_get}
 use Rattle.std.proofs.lemmas.Bool.{and_from, le-leb}
-use Rattle.live_lanes.specs.declared.row.End.{End}
+use Rattle.live_lanes.specs.declared.row.PieceEnd.{PieceEnd}
 use Rattle.live_lanes.specs.Table.{Numbers, Begun, Seen, entry_rank, exit_rank, end_rank, end_in, begun_end, leading}
 use Rattle.live_lanes.specs.Held.{hold_rank}
 use Rattle.split_choose.specs.Seen.{turns_from, ends_in_turn}
@@ -18,11 +18,11 @@ leading-ends test (y ∷ xs) x e = go (test y) refl e (λ h. leading-ends test x
 
 module _ (slots : Numbers) where
   -- the end of the piece before the one of a place
-  abbrev end_before : End → List Begun → ℕ → End
+  abbrev end_before : PieceEnd → List Begun → ℕ → PieceEnd
   end_before e ss zero = e
   end_before e ss (suc k) = begun_end (slice_get ss k)
 
-  abbrev AreOver : End → List Begun → Type 0
+  abbrev AreOver : PieceEnd → List Begun → Type 0
   AreOver e ss = (k : ℕ) (s : Begun) → slice_get ss k ≡ Some s → end_rank slots (end_before e ss k) < exit_rank slots s.start
 
   -- what is over before an exit is over by the entry
@@ -33,7 +33,7 @@ module _ (slots : Numbers) where
       go true = omega (arith, h)
       go false = omega (arith, h)
 
-  turns : (e : End) (ss : List Begun) → AreOver e ss → turns_from slots e ss ≡ true
+  turns : (e : PieceEnd) (ss : List Begun) → AreOver e ss → turns_from slots e ss ≡ true
   turns e [] h = refl
   turns e (s ∷ ss) h = and_from (nat_le (end_rank slots e) (hold_rank slots s)) (turns_from slots s.end ss) (le-leb (end_rank slots e) (hold_rank slots s) (by-hold (end_rank slots e) s (h 0 s refl))) (turns s.end ss later)
     where

@@ -12,7 +12,7 @@ use Rattle.mir_func.specs.declared.func.Instr.{Instr}
 use Rattle.mir_func.specs.Value.{Function}
 use Rattle.mir_meaning.specs.Points.{Point, Start, Entry, Exit, LiveAt, OccupiedAt, RangePoint, block_points, all_points}
 use Rattle.mir_meaning.specs.Rules.{V8}
-use Rattle.instr_effects.specs.declared.row.Lanes.{Lanes}
+use Rattle.instr_effects.specs.declared.row.LaneSpan.{LaneSpan}
 use Rattle.instr_effects.specs.Numbers.{row_number_in}
 use Rattle.instr_effects.specs.Numbered.{number_in}
 use Rattle.instr_effects.specs.Stepping.{tag_of}
@@ -85,7 +85,7 @@ module _ (t : Target) (f : Function) (x : Table) (v : ℕ) where
   decided : (test : ℕ → Bool) (P : ℕ → Type 0) → ((k : ℕ) → P k → (n : ℕ) × (tag k ≡ Some n)) → ((k n : ℕ) → tag k ≡ Some n → (test n ≡ true) ↔ P k) → Decides (some_lane x v test) ((k : ℕ) × P k)
   decided test P number each = go (slice_get x.lanes.ranges.items v) refl
     where
-      go : (q : Option Lanes) → slice_get x.lanes.ranges.items v ≡ q → Decides (some_of test q) ((k : ℕ) × P k)
+      go : (q : Option LaneSpan) → slice_get x.lanes.ranges.items v ≡ q → Decides (some_of test q) ((k : ℕ) × P k)
       go None e = ((λ h. absurd (cc)), (λ z. absurd (let n = number z.0 z.1 in let h : None ≡ Some n.0 = sym (ap (λ q. row_number_in q z.0) e) ∙ n.1 in cc)))
       go (Some own) e = (
         (λ h. let z = some-forth test own.first own.count h in (z.0, (each z.0 (own.first + z.0) (tagged z.0 z.1)).0 z.2)),

@@ -33,7 +33,7 @@ use Rattle.live_lanes.proofs.Held.{or-left, or-right}
 use Rattle.live_laws.proofs.Exact.Coded.{place-is}
 use Rattle.live_laws.proofs.Exact.Everywhere.{numbered-at}
 use Rattle.live_laws.proofs.Exact.Inside.{has-id}
-use Rattle.interference.specs.declared.held.Held.{Held}
+use Rattle.interference.specs.declared.held.RangeExtent.{RangeExtent}
 use Rattle.interference.specs.declared.matrix.Matrix.{Matrix}
 use Rattle.interference.specs.Clashes.{register_in, holds, touches, is_taken, is_held}
 use Rattle.alloc_laws.specs.Clashes.Holds.{lane_extents, IsIn, Holds}
@@ -152,7 +152,7 @@ module _ (m : Matrix) (computed : IsComputed m.live.target m.live.func m.live.ta
         let g = any-of (λ d. not (nat_eq d.range v) && touches ranks (only rank) d) (holds m u.0 z.position) h in
         by g.1 (slice-member (holds m u.0 z.position) g.0 g.1 g.2) (off (nat_eq g.1.range v) (both-left (not (nat_eq g.1.range v)) (touches ranks (only rank) g.1) g.3)) (both-right (not (nat_eq g.1.range v)) (touches ranks (only rank) g.1) g.3)
       where
-        by : (d : Held) → Member d (holds m u.0 z.position) → nat_eq d.range v ≡ false → touches ranks (only rank) d ≡ true → (w : ℕ) × (q : Reg) × (w ≢ v) × (slice_get m.registers.items w ≡ Some (Some q)) × HeldIn t f w q p u
+        by : (d : RangeExtent) → Member d (holds m u.0 z.position) → nat_eq d.range v ≡ false → touches ranks (only rank) d ≡ true → (w : ℕ) × (q : Reg) × (w ≢ v) × (slice_get m.registers.items w ≡ Some (Some q)) × HeldIn t f w q p u
         by d j other meets =
             let there = (holding u.0 z.position d).0 j in
             let q = there.1 in
@@ -177,7 +177,7 @@ module _ (m : Matrix) (computed : IsComputed m.live.target m.live.func m.live.ta
         let n = numbered-at t f x computed rules last (VirtualLane w g.k) refl p g.occupied in
         let on = (held-is t f x computed rules last (VirtualLane w g.k) n.0 refl n.1 z.position z.block z.at p z.member).1 g.occupied in
         let e = held-extent t f x computed rules last n.0 z.position rank on in
-        let d : Held = record { range = w; extent = e.0 } in
+        let d : RangeExtent = record { range = w; extent = e.0 } in
         let there : IsIn m w g.k u.0 = (q, register-of m.registers.items w q assigned, slice-map (λ i. i.0) (units_of t q) g.k ∙ ap (option_map (λ i. i.0)) g.unit) in
         let listed : Member d (holds m u.0 z.position) = (holding u.0 z.position d).1 (g.k, there, subst (λ o. Member e.0 (lane_extents x o z.position)) (sym n.1) e.1) in
         let meets : touches ranks (only rank) d ≡ true = both (nat_le (first_rank ranks e.0) rank) (nat_le rank (last_rank ranks e.0)) (le-leb (first_rank ranks e.0) rank e.2.0) (le-leb rank (last_rank ranks e.0) e.2.1) in

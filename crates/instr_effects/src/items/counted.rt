@@ -1,6 +1,6 @@
 //! What a counted instruction reads, writes and does.
 
-ghost use Rattle.std.specs.Prelude.{◌≡◌, ◌+◌, ◌<◌, ◌≤◌, ◌-◌, ◌^◌, ◌%◌, ◌++◌, ◌∷◌, [], map, filter, filter_map, OnOk, IfOk, IfSome, None, Some, option_to_list, cond, not, sum, List, false};
+ghost use Rattle.std.specs.Prelude.{◌≡◌, ◌+◌, ◌<◌, ◌≤◌, ◌-◌, ◌^◌, ◌%◌, ◌++◌, ◌∷◌, [], map, filter, filter_map, OnOk, IfOk, IfSome, None, Some, option_to_list, cond, not, sum, List};
 ghost use Rattle.target_base.specs.Roles.{is_address, is_implicit};
 ghost use Rattle.meaning.specs.Environment.{residue, constant_source};
 ghost use Rattle.meaning.specs.declared.types.Constant.TheVariants.{Immediate};
@@ -9,7 +9,6 @@ ghost use Rattle.mir_func.specs.Binding.{roles_of, implicit_roles, passes, takes
 ghost use Rattle.mir_meaning.specs.Registers.{operand_widths, use_sources};
 ghost use Rattle.mir_meaning.specs.Items.{value_of, use_value, constant_value, computes_with_immediates, has_base, first_width, symbol_of, is_flags, pick, flag_value, implicit_values, values, result_widths, read_widths, named_symbol, needs_value, explicit_needs, needed_of, rest_of};
 ghost use Rattle.target_base.specs.declared.types.Effect.TheVariants as effects;
-ghost use Rattle.std.specs.Bool.{beq};
 ghost use Rattle.std.specs.List.{cons_option};
 ghost use Rattle.mir_func.specs.declared.func.Operand.{Operand};
 ghost use Rattle.meaning.specs.declared.types.Source.TheVariants.{Bits};
@@ -270,7 +269,7 @@ fn push_some(out: &mut Values, v: Option<(Sources, Numbers)>) -> Result<(), Allo
 }
 
 /// A list of the element at a place alone, or an empty list.
-fn picked<T: Copied>(alloc: Global, k: usize, items: &[T]) -> Result<List<T>, AllocError>
+fn element_list<T: Copied>(alloc: Global, k: usize, items: &[T]) -> Result<List<T>, AllocError>
     ensures { IfOk result (λ made. made ≡ pick k items.now) }
 {
     if k >= items.len() {
@@ -309,8 +308,8 @@ fn flag_value(
     push_operand_widths(&mut widths, t, f, o)?;
     let sources = use_sources(alloc, t, f, o)?;
     Ok((
-        picked(alloc, k, sources.as_slice())?,
-        picked(alloc, k, widths.as_slice())?,
+        element_list(alloc, k, sources.as_slice())?,
+        element_list(alloc, k, widths.as_slice())?,
     ))
 }
 
@@ -401,10 +400,10 @@ fn push_implicit(
     e: Effect,
     i: &Instr,
 ) -> Result<(), AllocError>
-    ensures { OnOk result (out.new ≡ out.old ++ implicit_values t.now f.now e (immediate_of i.now.operands) (implicit_roles (roles_of t.now i.now)) (filter (λ o. beq o.def false) (implicit_registers i.now.operands))) }
+    ensures { OnOk result (out.new ≡ out.old ++ implicit_values t.now f.now e (immediate_of i.now.operands) (implicit_roles (roles_of t.now i.now)) (filter (λ o. not o.def) (implicit_registers i.now.operands))) }
 {
     let operands = i.operands.as_slice();
-    let uses = implicit_of(alloc, operands, false)?;
+    let uses = implicit_uses(alloc, operands)?;
     match e {
         Effect::Jcc => {
             let condition = Condition {
@@ -417,14 +416,14 @@ fn push_implicit(
     }
 }
 
-/// The implicit register operands that are definitions, or those that are uses.
-fn implicit_of(alloc: Global, operands: &[Operand], def: bool) -> Result<List<RegOp>, AllocError>
-    ensures { IfOk result (λ made. made ≡ filter (λ o. beq o.def def) (implicit_registers operands.now)) }
+/// The implicit uses of an instruction.
+fn implicit_uses(alloc: Global, operands: &[Operand]) -> Result<List<RegOp>, AllocError>
+    ensures { IfOk result (λ made. made ≡ filter (λ o. not o.def) (implicit_registers operands.now)) }
 {
     let mut made = List::new(alloc);
     for o in operands {
         if let Operand::Reg(r) = o {
-            if r.implicit && r.def == def {
+            if r.implicit && !r.def {
                 made.push(*r)?;
             }
         }

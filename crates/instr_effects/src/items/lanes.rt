@@ -15,7 +15,7 @@ use target_base::classes::width_of;
 use target_base::{IndexId, List, Numbers, Target, Unit, UnitDesc};
 
 /// Lanes in order.
-pub type Lanes = List<Lane>;
+pub type LaneList = List<Lane>;
 
 /// Sources in order.
 pub type Sources = List<Source>;
@@ -31,7 +31,7 @@ pub fn push_widths(out: &mut Numbers, units: &[UnitDesc], us: &[Unit]) -> Result
 }
 
 /// Appends units as lanes.
-pub fn push_unit_lanes(out: &mut Lanes, us: &[Unit]) -> Result<(), AllocError>
+pub fn push_unit_lanes(out: &mut LaneList, us: &[Unit]) -> Result<(), AllocError>
     ensures { OnOk result (out.new ≡ out.old ++ unit_lanes us.now) }
 {
     for u in us {
@@ -41,7 +41,7 @@ pub fn push_unit_lanes(out: &mut Lanes, us: &[Unit]) -> Result<(), AllocError>
 }
 
 /// Appends the first lanes of a virtual register.
-fn push_first_lanes(out: &mut Lanes, v: u32, count: u32) -> Result<(), AllocError>
+fn push_first_lanes(out: &mut LaneList, v: u32, count: u32) -> Result<(), AllocError>
     ensures { OnOk result (out.new ≡ out.old ++ map (VirtualLane v) (numbers 0 count)) }
 {
     for k in 0..count {
@@ -51,7 +51,7 @@ fn push_first_lanes(out: &mut Lanes, v: u32, count: u32) -> Result<(), AllocErro
 }
 
 /// Appends the lanes of a virtual register that an index picks.
-fn push_picked_lanes(out: &mut Lanes, v: u32, lanes: &[u8]) -> Result<(), AllocError>
+fn push_picked_lanes(out: &mut LaneList, v: u32, lanes: &[u8]) -> Result<(), AllocError>
     ensures { OnOk result (out.new ≡ out.old ++ map (VirtualLane v) lanes.now) }
 {
     for k in lanes {
@@ -69,7 +69,7 @@ fn range_units<'a>(t: &'a Target, f: &Func, v: u32) -> &'a [Unit]
 }
 
 /// Appends all lanes of a virtual register.
-pub fn push_range_lanes(out: &mut Lanes, t: &Target, f: &Func, v: u32) -> Result<(), AllocError>
+pub fn push_range_lanes(out: &mut LaneList, t: &Target, f: &Func, v: u32) -> Result<(), AllocError>
     ensures { OnOk result (out.new ≡ out.old ++ range_lanes t.now f.now v) }
 {
     push_first_lanes(out, v, range_units(t, f, v).len() as u32)
@@ -77,7 +77,7 @@ pub fn push_range_lanes(out: &mut Lanes, t: &Target, f: &Func, v: u32) -> Result
 
 /// Appends the lanes of a register: those of a virtual one through its index, or the units of a fixed one.
 pub fn push_located_lanes(
-    out: &mut Lanes,
+    out: &mut LaneList,
     t: &Target,
     f: &Func,
     loc: Loc,
@@ -140,7 +140,7 @@ pub fn push_operand_widths(
 
 /// Appends the lanes of a register operand.
 pub fn push_operand_lanes(
-    out: &mut Lanes,
+    out: &mut LaneList,
     t: &Target,
     f: &Func,
     o: &RegOp,
@@ -184,7 +184,7 @@ pub fn use_sources(alloc: Global, t: &Target, f: &Func, o: &RegOp) -> Result<Sou
 
 /// Appends the lanes that an `undef` definition makes Undef beside those that it gives a value.
 pub fn push_undefined_lanes(
-    out: &mut Lanes,
+    out: &mut LaneList,
     t: &Target,
     f: &Func,
     o: &RegOp,

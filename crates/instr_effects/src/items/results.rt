@@ -1,6 +1,6 @@
 //! What a counted instruction writes.
 
-ghost use Rattle.std.specs.Prelude.{◌≡◌, ◌+◌, ◌<◌, ◌-◌, ◌++◌, [], length, map, filter, flat_map, OnOk, IfOk, None, Some, cond, not, false};
+ghost use Rattle.std.specs.Prelude.{◌≡◌, ◌+◌, ◌<◌, ◌-◌, ◌++◌, length, map, filter, flat_map, OnOk, IfOk, None, Some, not, false};
 ghost use Rattle.mir_func.specs.Binding.{roles_of, implicit_roles, definitions};
 ghost use Rattle.mir_meaning.specs.Registers.{numbers, operand_lanes, operand_widths, is_reserved};
 ghost use Rattle.mir_meaning.specs.Items.{is_flags, values, explicit_definitions, implicit_definitions, result_writes, results, unreserved, all_lanes, answered, preserves, clobbered, kept, implicit_writes, opaque_clobbers, computed, defined_lanes, counted_writes, lane_width, result_widths};
@@ -8,9 +8,11 @@ ghost use Rattle.std.specs.List.{list_any};
 ghost use Rattle.meaning.specs.declared.types.Lane.TheVariants.{UnitLane};
 ghost use Rattle.target_base.specs.declared.types.Effect.TheVariants as effects;
 
-use crate::definitions::{Definition, next_definition};
+use crate::definitions::{Definition, LATE, next_definition};
 use crate::items::counted::is_flags;
-use crate::items::lanes::{Lanes, push_operand_lanes, push_operand_widths, push_undefined_lanes};
+use crate::items::lanes::{
+    LaneList, push_operand_lanes, push_operand_widths, push_undefined_lanes,
+};
 use crate::items::writes::{push_computed, push_undefined};
 use crate::masks::is_preserved;
 use meaning::{Lane, Write, Writes};
@@ -19,18 +21,29 @@ use mir_func::{Func, Instr, Operand, RegOp};
 use std::alloc::{AllocError, Global};
 use target_base::{Copied, Effect, List, Numbers, OpaqueKind, Role, Target};
 
-/// The register operands of an instruction that are definitions, explicit ones or implicit ones.
-fn definitions(
-    alloc: Global,
-    operands: &[Operand],
-    implicit: bool,
-) -> Result<List<RegOp>, AllocError>
-    ensures { IfOk result (λ made. made ≡ cond implicit (implicit_definitions operands.now) (explicit_definitions operands.now)) }
+/// The explicit definitions of an instruction.
+fn explicit_definitions(alloc: Global, operands: &[Operand]) -> Result<List<RegOp>, AllocError>
+    ensures { IfOk result (λ made. made ≡ explicit_definitions operands.now) }
 {
     let mut made = List::new(alloc);
     for o in operands {
         if let Operand::Reg(r) = o {
-            if r.def && r.implicit == implicit {
+            if r.def && !r.implicit {
+                made.push(*r)?;
+            }
+        }
+    }
+    Ok(made)
+}
+
+/// The implicit definitions of an instruction.
+fn implicit_definitions(alloc: Global, operands: &[Operand]) -> Result<List<RegOp>, AllocError>
+    ensures { IfOk result (λ made. made ≡ implicit_definitions operands.now) }
+{
+    let mut made = List::new(alloc);
+    for o in operands {
+        if let Operand::Reg(r) = o {
+            if r.implicit && r.def {
                 made.push(*r)?;
             }
         }
@@ -96,21 +109,22 @@ pub fn is_reserved(t: &Target, l: Lane) -> bool
     }
 }
 
-/// Appends the lanes that aren't reserved.
-fn push_unreserved(out: &mut Lanes, t: &Target, lanes: &[Lane]) -> Result<(), AllocError>
-    ensures { OnOk result (out.new ≡ out.old ++ unreserved t.now lanes.now) }
+/// Those of these lanes that aren't reserved.
+pub fn unreserved(alloc: Global, t: &Target, lanes: &[Lane]) -> Result<LaneList, AllocError>
+    ensures { IfOk result (λ made. made ≡ unreserved t.now lanes.now) }
 {
+    let mut made = List::new(alloc);
     for l in lanes {
         if !is_reserved(t, *l) {
-            out.push(*l)?;
+            made.push(*l)?;
         }
     }
-    Ok(())
+    Ok(made)
 }
 
 /// Appends the lanes of several register operands.
 fn push_all_lanes(
-    out: &mut Lanes,
+    out: &mut LaneList,
     t: &Target,
     f: &Func,
     operands: &[RegOp],
@@ -129,19 +143,21 @@ fn implicit_lanes(
     t: &Target,
     f: &Func,
     operands: &[Operand],
-) -> Result<Lanes, AllocError>
+) -> Result<LaneList, AllocError>
     ensures { IfOk result (λ made. made ≡ answered t.now f.now operands.now) }
 {
-    let definitions = definitions(alloc, operands, true)?;
+    let definitions = implicit_definitions(alloc, operands)?;
     let mut lanes = List::new(alloc);
     push_all_lanes(&mut lanes, t, f, definitions.as_slice())?;
-    let mut made = List::new(alloc);
-    push_unreserved(&mut made, t, lanes.as_slice())?;
-    Ok(made)
+    unreserved(alloc, t, lanes.as_slice())
 }
 
 /// The units outside the mask of a call.
-fn unpreserved(alloc: Global, t: &Target, operands: &[Operand]) -> Result<Lanes, AllocError>
+fn unpreserved_units(
+    alloc: Global,
+    t: &Target,
+    operands: &[Operand],
+) -> Result<LaneList, AllocError>
     ensures { IfOk result (λ made. made ≡ map UnitLane (filter (λ u. not (list_any (preserves t.now u) operands.now)) (numbers 0 (length t.now.units)))) }
 {
     let mut made = List::new(alloc);
@@ -154,13 +170,11 @@ fn unpreserved(alloc: Global, t: &Target, operands: &[Operand]) -> Result<Lanes,
 }
 
 /// The unreserved units outside the mask of a call.
-fn clobbered(alloc: Global, t: &Target, operands: &[Operand]) -> Result<Lanes, AllocError>
+fn clobbered_units(alloc: Global, t: &Target, operands: &[Operand]) -> Result<LaneList, AllocError>
     ensures { IfOk result (λ made. made ≡ clobbered t.now operands.now) }
 {
-    let units = unpreserved(alloc, t, operands)?;
-    let mut made = List::new(alloc);
-    push_unreserved(&mut made, t, units.as_slice())?;
-    Ok(made)
+    let units = unpreserved_units(alloc, t, operands)?;
+    unreserved(alloc, t, units.as_slice())
 }
 
 /// The flags that an instruction defines.
@@ -170,7 +184,7 @@ fn flag_lanes(
     f: &Func,
     roles: &[Role],
     operands: &[RegOp],
-) -> Result<Lanes, AllocError>
+) -> Result<LaneList, AllocError>
     ensures { IfOk result (λ made. made ≡ all_lanes t.now f.now (filter (is_flags (implicit_roles roles.now)) operands.now)) }
 {
     let mut made = List::new(alloc);
@@ -210,13 +224,13 @@ fn push_compared(
 ) -> Result<(), AllocError>
     ensures { OnOk result (out.new ≡ out.old ++ implicit_writes t.now f.now effects.Cmp (implicit_roles roles.now) operands.now) }
 {
-    let definitions = definitions(alloc, operands, true)?;
+    let definitions = implicit_definitions(alloc, operands)?;
     let flags = flag_lanes(alloc, t, f, roles, definitions.as_slice())?;
     let mut all = List::new(alloc);
     push_all_lanes(&mut all, t, f, definitions.as_slice())?;
     let mut writes = List::new(alloc);
-    push_computed(&mut writes, false, 0, flags.as_slice())?;
-    push_undefined(&mut writes, false, all.as_slice())?;
+    push_computed(&mut writes, LATE, 0, flags.as_slice())?;
+    push_undefined(&mut writes, LATE, all.as_slice())?;
     push_kept(out, alloc, t, writes.as_slice())
 }
 
@@ -236,13 +250,13 @@ fn push_implicit_writes(
         Effect::Cmp => push_compared(out, alloc, t, f, roles_of(t, i), operands),
         Effect::Call => {
             let answered = implicit_lanes(alloc, t, f, operands)?;
-            push_computed(out, false, 0, answered.as_slice())?;
-            let clobbered = clobbered(alloc, t, operands)?;
-            push_undefined(out, false, clobbered.as_slice())
+            push_computed(out, LATE, 0, answered.as_slice())?;
+            let clobbered = clobbered_units(alloc, t, operands)?;
+            push_undefined(out, LATE, clobbered.as_slice())
         }
         _ => {
             let lanes = implicit_lanes(alloc, t, f, operands)?;
-            push_undefined(out, false, lanes.as_slice())
+            push_undefined(out, LATE, lanes.as_slice())
         }
     }
 }
@@ -259,8 +273,8 @@ fn push_opaque_clobbers(
 {
     match kind {
         OpaqueKind::Call => {
-            let units = clobbered(alloc, t, operands)?;
-            push_undefined(out, false, units.as_slice())
+            let units = clobbered_units(alloc, t, operands)?;
+            push_undefined(out, LATE, units.as_slice())
         }
         _ => Ok(()),
     }
@@ -278,10 +292,10 @@ fn push_opaque_answer(
 ) -> Result<(), AllocError>
     ensures { OnOk result (out.new ≡ out.old ++ computed false first (all_lanes t.now f.now (implicit_definitions operands.now))) }
 {
-    let definitions = definitions(alloc, operands, true)?;
+    let definitions = implicit_definitions(alloc, operands)?;
     let mut lanes = List::new(alloc);
     push_all_lanes(&mut lanes, t, f, definitions.as_slice())?;
-    push_computed(out, false, first, lanes.as_slice())?;
+    push_computed(out, LATE, first, lanes.as_slice())?;
     Ok(())
 }
 
@@ -350,23 +364,33 @@ fn push_all_widths(
     Ok(())
 }
 
-/// The lane widths of definitions: of explicit ones, then, where `all`, of implicit ones.
+/// The lane widths of explicit definitions.
+fn explicit_widths(
+    alloc: Global,
+    t: &Target,
+    f: &Func,
+    operands: &[Operand],
+) -> Result<Numbers, AllocError>
+    ensures { IfOk result (λ made. made ≡ flat_map (operand_widths t.now f.now) (explicit_definitions operands.now)) }
+{
+    let mut made = List::new(alloc);
+    let explicit = explicit_definitions(alloc, operands)?;
+    push_all_widths(&mut made, t, f, explicit.as_slice())?;
+    Ok(made)
+}
+
+/// The lane widths of definitions: of explicit ones, then of implicit ones.
 fn definition_widths(
     alloc: Global,
     t: &Target,
     f: &Func,
-    all: bool,
     operands: &[Operand],
 ) -> Result<Numbers, AllocError>
-    ensures { IfOk result (λ made. made ≡ flat_map (operand_widths t.now f.now) (explicit_definitions operands.now ++ cond all (implicit_definitions operands.now) [])) }
+    ensures { IfOk result (λ made. made ≡ flat_map (operand_widths t.now f.now) (explicit_definitions operands.now ++ implicit_definitions operands.now)) }
 {
-    let mut made = List::new(alloc);
-    let explicit = definitions(alloc, operands, false)?;
-    push_all_widths(&mut made, t, f, explicit.as_slice())?;
-    if all {
-        let implicit = definitions(alloc, operands, true)?;
-        push_all_widths(&mut made, t, f, implicit.as_slice())?;
-    }
+    let mut made = explicit_widths(alloc, t, f, operands)?;
+    let implicit = implicit_definitions(alloc, operands)?;
+    push_all_widths(&mut made, t, f, implicit.as_slice())?;
     Ok(made)
 }
 
@@ -385,7 +409,7 @@ pub(crate) fn result_widths(
             let lanes = implicit_lanes(alloc, t, f, operands)?;
             lane_widths(alloc, t, lanes.as_slice())
         }
-        Effect::Opaque(_) => definition_widths(alloc, t, f, true, operands),
-        _ => definition_widths(alloc, t, f, false, operands),
+        Effect::Opaque(_) => definition_widths(alloc, t, f, operands),
+        _ => explicit_widths(alloc, t, f, operands),
     }
 }

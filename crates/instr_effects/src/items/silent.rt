@@ -8,9 +8,10 @@ ghost use Rattle.mir_func.specs.Binding.{is_early_clobber, roles_of};
 ghost use Rattle.mir_meaning.specs.Registers.{numbers, operand_lanes, use_sources, operand_widths, slot_lane_numbers, slot_lanes, has_number};
 ghost use Rattle.mir_meaning.specs.Items.{moved, undefined, copied, defined_undef, parts, sequenced, inserted, constant_bits, constant_lanes, constant_of, given_constant, widths_once, at_all_widths, spilled, reloaded, silent_writes};
 
-use crate::items::counted::{low_bits, residue};
+use crate::definitions::LATE;
+use crate::items::counted::{low_bits, residue, total};
 use crate::items::lanes::{
-    Lanes, Sources, push_located_lanes, push_operand_lanes, push_operand_widths,
+    LaneList, Sources, push_located_lanes, push_operand_lanes, push_operand_widths,
     push_undefined_lanes, use_sources,
 };
 use crate::items::writes::{number, push_defined, push_moved, push_undefined};
@@ -33,7 +34,7 @@ fn push_copied(
     match operands {
         [Operand::Reg(d), Operand::Reg(s), ..] => {
             let sources = use_sources(alloc, t, f, s)?;
-            push_defined(out, alloc, t, f, (false, *d), sources.as_slice())
+            push_defined(out, alloc, t, f, (LATE, *d), sources.as_slice())
         }
         _ => Ok(()),
     }
@@ -54,7 +55,7 @@ fn push_defined_undef(
             let mut lanes = List::new(alloc);
             push_operand_lanes(&mut lanes, t, f, d)?;
             push_undefined_lanes(&mut lanes, t, f, d)?;
-            push_undefined(out, false, lanes.as_slice())
+            push_undefined(out, LATE, lanes.as_slice())
         }
         _ => Ok(()),
     }
@@ -72,7 +73,7 @@ fn push_part(
     ensures { OnOk result (out.new ≡ out.old ++ moved false lanes.now (use_sources t.now f.now s.now)) }
 {
     let sources = use_sources(alloc, t, f, s)?;
-    push_moved(out, alloc, false, lanes, sources.as_slice())
+    push_moved(out, alloc, LATE, lanes, sources.as_slice())
 }
 
 /// The parts of a REG_SEQUENCE, each in the lanes of its index.
@@ -110,7 +111,7 @@ fn push_sequence(
     push_parts(out, alloc, t, f, d, inputs)?;
     let mut lanes = List::new(alloc);
     push_operand_lanes(&mut lanes, t, f, d)?;
-    push_undefined(out, false, lanes.as_slice())
+    push_undefined(out, LATE, lanes.as_slice())
 }
 
 /// REG_SEQUENCE: its parts.
@@ -201,20 +202,6 @@ fn constant_bits(alloc: Global, c: &Constant, widths: &[u32]) -> Result<Sources,
     Ok(made)
 }
 
-/// The sum of widths of at most 128 bits.
-fn bits_in(widths: &[u32]) -> Result<u32, AllocError>
-    ensures { IfOk result (λ n. (n ≡ sum widths.now) × (n ≤ 128)) }
-{
-    let mut total: u32 = 0;
-    for w in widths {
-        if *w > 128 - total {
-            return Err(AllocError);
-        }
-        total += *w;
-    }
-    Ok(total)
-}
-
 /// An operand that is a constant; an immediate counts modulo 2^w.
 fn constant_of(alloc: Global, w: u32, o: &Operand) -> Result<Option<Constant>, AllocError>
     requires { w ≤ 128 }
@@ -241,8 +228,8 @@ fn constant_lanes(
 {
     let mut widths = List::new(alloc);
     push_operand_widths(&mut widths, t, f, d)?;
-    let total = bits_in(widths.as_slice())?;
-    match constant_of(alloc, total, o)? {
+    let bits = total(widths.as_slice()).ok_or(AllocError)?;
+    match constant_of(alloc, bits, o)? {
         None => Ok(List::new(alloc)),
         Some(c) => constant_bits(alloc, &c, widths.as_slice()),
     }
@@ -306,7 +293,7 @@ fn first_numbers(alloc: Global, count: u32) -> Result<Numbers, AllocError>
 }
 
 /// Lanes of a slot by their numbers, each at its width; what lacks a partner is left out.
-fn slot_lanes(alloc: Global, s: u32, lanes: &[u32], widths: &[u32]) -> Result<Lanes, AllocError>
+fn slot_lanes(alloc: Global, s: u32, lanes: &[u32], widths: &[u32]) -> Result<LaneList, AllocError>
     ensures { IfOk result (λ made. made ≡ slot_lanes s lanes.now widths.now) }
 {
     let mut made = List::new(alloc);
@@ -341,7 +328,7 @@ fn unit_widths(alloc: Global, t: &Target) -> Result<List<u32>, AllocError>
 }
 
 /// Appends one lane of a slot at these widths.
-fn push_at_widths(out: &mut Lanes, s: u32, k: u32, widths: &[u32]) -> Result<(), AllocError>
+fn push_at_widths(out: &mut LaneList, s: u32, k: u32, widths: &[u32]) -> Result<(), AllocError>
     ensures { OnOk result (out.new ≡ out.old ++ map (λ w. SlotLane s k w) widths.now) }
 {
     for w in widths {
@@ -351,7 +338,7 @@ fn push_at_widths(out: &mut Lanes, s: u32, k: u32, widths: &[u32]) -> Result<(),
 }
 
 /// Lanes of a slot at these widths.
-fn at_widths(alloc: Global, s: u32, lanes: &[u32], widths: &[u32]) -> Result<Lanes, AllocError>
+fn at_widths(alloc: Global, s: u32, lanes: &[u32], widths: &[u32]) -> Result<LaneList, AllocError>
     ensures { IfOk result (λ made. made ≡ flat_map (λ k. map (λ w. SlotLane s k w) widths.now) lanes.now) }
 {
     let mut made = List::new(alloc);
@@ -362,7 +349,7 @@ fn at_widths(alloc: Global, s: u32, lanes: &[u32], widths: &[u32]) -> Result<Lan
 }
 
 /// Lanes of a slot at every width.
-fn at_all_widths(alloc: Global, t: &Target, s: u32, lanes: &[u32]) -> Result<Lanes, AllocError>
+fn at_all_widths(alloc: Global, t: &Target, s: u32, lanes: &[u32]) -> Result<LaneList, AllocError>
     ensures { IfOk result (λ made. made ≡ at_all_widths t.now s lanes.now) }
 {
     let widths = unit_widths(alloc, t)?;
@@ -387,7 +374,7 @@ fn push_spilled(
             let lanes = slot_lanes(alloc, *s, numbers.as_slice(), widths.as_slice())?;
             push_part(out, alloc, t, f, lanes.as_slice(), o)?;
             let others = at_all_widths(alloc, t, *s, numbers.as_slice())?;
-            push_undefined(out, false, others.as_slice())
+            push_undefined(out, LATE, others.as_slice())
         }
         _ => Ok(()),
     }

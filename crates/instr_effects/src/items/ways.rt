@@ -4,6 +4,7 @@ ghost use Rattle.std.specs.Prelude.{◌≡◌, ◌++◌, OnOk, not};
 ghost use Rattle.mir_func.specs.Binding.{does, ends_control};
 ghost use Rattle.mir_meaning.specs.Codes.{phi_pair, phi_operands, phi_writes, phis_written, instrs_of, way, target_of, falls_through, fallen_into};
 
+use crate::definitions::LATE;
 use crate::items::lanes::use_sources;
 use crate::items::writes::push_defined;
 use meaning::Writes;
@@ -38,7 +39,7 @@ fn push_phi_pair(
     while let [Operand::Reg(s), Operand::Block(m), more @ ..] = rest {
         if *m == n {
             let sources = use_sources(alloc, t, f, s)?;
-            return push_defined(out, alloc, t, f, (false, phi.result), sources.as_slice());
+            return push_defined(out, alloc, t, f, (LATE, phi.result), sources.as_slice());
         }
         rest = more;
     }

@@ -11,11 +11,11 @@ ghost use Rattle.live_lanes.specs.Entered.{cells_of, piece_count};
 ghost use Rattle.live_lanes.specs.Looks.{InOrder};
 ghost use Rattle.live_lanes.specs.Extents.{lanes_count, extent_in, first_rank, last_rank, stretch_of, begun_by, is_met_in, is_met};
 
-pub use crate::edit::edit_log::Mended;
+pub use crate::edit::edit_log::ChangedPiece;
 use crate::edit::edits::Changes;
-use crate::edit::lanes::{Lanes, Owner, owner_of};
+use crate::edit::lanes::{LaneSpan, Owner, owner_of};
 use crate::live::LiveFunc;
-use crate::row::{Cell, End, entry_rank, exit_rank, rank};
+use crate::row::{Cell, PieceEnd, entry_rank, exit_rank, rank};
 use slot_index::Slots;
 
 /// Points of a block in a row, by numbers that rise along it: the first and the last.
@@ -34,7 +34,7 @@ pub struct Extent {
     /// The instruction that writes the lane; none where the points begin with the block.
     pub start: Option<u32>,
     early: bool,
-    end: End,
+    end: PieceEnd,
 }
 
 impl Extent {
@@ -76,7 +76,7 @@ fn extent_of(cell: &Cell, index: usize) -> Option<Extent>
     ensures { result ≡ extent_in (Some cell.now) index }
 {
     if index == 0 {
-        if cell.first.end == End::Never {
+        if cell.first.end == PieceEnd::Never {
             return None;
         }
         return Some(Extent {
@@ -161,7 +161,7 @@ impl LiveFunc {
     }
 
     /// The lanes of a slot, where the slot has numbers for them: where it is stored to or reloaded.
-    pub fn lanes_of_slot(&self, s: u32) -> Option<Lanes>
+    pub fn lanes_of_slot(&self, s: u32) -> Option<LaneSpan>
         ensures { result ≡ get nat_cmp self.now.table.lanes.slots s }
     {
         self.table.lanes.slots.get(&s).copied()
@@ -252,7 +252,7 @@ impl Changes {
     }
 
     /// The piece that a step changed; none where it changed none. A piece may come several times.
-    pub fn mended(&self, k: usize) -> Option<Mended> {
-        self.log.mended(k)
+    pub fn changed_piece(&self, k: usize) -> Option<ChangedPiece> {
+        self.log.changed_piece(k)
     }
 }

@@ -7,10 +7,10 @@ ghost use Rattle.live_lanes.specs.Ordered.{ids_of, AreRising};
 ghost use Rattle.live_lanes.specs.Looks.{InOrder};
 ghost use Rattle.live_lanes.specs.Held.{IsSpan, IsLastBefore, later_place, AreUnseen, AreRanked, next_rank, exits_at, begins_at, held_at, any_held, passing, block_held, sum_below, range_held};
 
-use crate::edit::lanes::Lanes;
+use crate::edit::lanes::LaneSpan;
 use crate::live::LiveFunc;
-use crate::row::{Cell, Row, entry_rank, exit_rank, rank, reaches};
-use crate::table::{Rows, Table};
+use crate::row::{Cell, LaneRange, entry_rank, exit_rank, rank, reaches};
+use crate::table::{LaneRanges, Table};
 use mir_func::{Block, Instr};
 use slot_index::Slots;
 use target_base::Boxed;
@@ -18,14 +18,14 @@ use target_base::Boxed;
 /// What holds of lanes from a point on: whether one is live or occupied, and the rank before which
 /// this stays so.
 #[derive(Clone, Copy)]
-pub(crate) struct Span {
+pub(crate) struct LiveSpan {
     pub is_held: bool,
     pub end: u128,
 }
 
-impl Span {
+impl LiveSpan {
     /// What holds of two lanes together.
-    fn with(self, other: Span) -> Span
+    fn with(self, other: LiveSpan) -> LiveSpan
         ensures further { (at : ℕ) → at < self.end → at < other.end → at < result.end }
         ensures span { (p q : ℕ → Bool) (at : ℕ) → IsSpan p at self → IsSpan q at other → IsSpan (λ x. p x || q x) at result }
     {
@@ -40,7 +40,7 @@ impl Span {
         } else {
             self.end.min(other.end)
         };
-        Span {
+        LiveSpan {
             is_held: self.is_held,
             end,
         }
@@ -86,7 +86,7 @@ impl Cell {
     }
 
     /// What holds of the lane from the point of this rank on.
-    fn span(&self, slots: &Slots, at: u128) -> Span
+    fn span(&self, slots: &Slots, at: u128) -> LiveSpan
         requires { at < 340282366920938463463374607431768211455 }
         ensures further { at < result.end }
         ensures span { rises_from slots.now 0 (seen_cell self.now).segments ≡ true
@@ -95,32 +95,32 @@ impl Cell {
         let index = self.piece_at(slots, at);
         let next = self.next_rank(slots, index);
         if next <= at {
-            return Span {
+            return LiveSpan {
                 is_held: true,
                 end: at + 1,
             };
         }
         let end = self.end_of(index);
         if reaches(slots, end, at) {
-            return Span {
+            return LiveSpan {
                 is_held: true,
                 end: rank(slots, end).saturating_add(1).min(next),
             };
         }
         if self.begins_at(slots, at, index) {
-            return Span {
+            return LiveSpan {
                 is_held: true,
                 end: at + 1,
             };
         }
-        Span {
+        LiveSpan {
             is_held: false,
             end: next,
         }
     }
 }
 
-impl Row {
+impl LaneRange {
     /// Whether a place is behind the cells of the blocks from a position on, and those alone.
     fn is_place_before(&self, at: usize, bound: usize) -> bool
         ensures { result ≡ true → at ≡ leading (λ c. nat_le bound c.block) self.now.cells.items }
@@ -175,12 +175,12 @@ fn later(one: Option<u32>, other: Option<u32>) -> Option<u32>
 impl Table {
     /// What holds of the lanes of a range in a block from the point of this rank on. The cells of
     /// the block are looked for at a place and behind it first.
-    fn span(&self, own: Lanes, near: usize, block: u32, at: u128) -> Span
+    fn span(&self, own: LaneSpan, near: usize, block: u32, at: u128) -> LiveSpan
         requires { at < 340282366920938463463374607431768211455 }
         ensures further { at < result.end }
         ensures span { InOrder self.now → IsSpan (any_held self.now.order.slots self.now.rows.rows.items own.first own.count block) at result }
     {
-        let mut span = Span {
+        let mut span = LiveSpan {
             is_held: false,
             end: u128::MAX,
         };
@@ -191,14 +191,14 @@ impl Table {
     }
 
     /// The same of one lane.
-    fn lane_span(&self, lane: u32, near: usize, block: u32, at: u128) -> Span
+    fn lane_span(&self, lane: u32, near: usize, block: u32, at: u128) -> LiveSpan
         requires { at < 340282366920938463463374607431768211455 }
         ensures further { at < result.end }
         ensures span { InOrder self.now → IsSpan (held_at self.now.order.slots (rows_seen self.now.rows.rows.items lane block)) at result }
     {
         match self.rows.cell_near(lane, near, block) {
             Some(cell) => cell.span(&self.order.slots, at),
-            None => Span {
+            None => LiveSpan {
                 is_held: false,
                 end: u128::MAX,
             },
@@ -255,7 +255,7 @@ impl Table {
 
     /// The number of points in a block at which some of the lanes is live or occupied. The cells of
     /// the block are looked for at a place and behind it first.
-    fn points_in(&self, instrs: &[Boxed<Instr>], own: Lanes, near: usize, block: u32) -> u64
+    fn points_in(&self, instrs: &[Boxed<Instr>], own: LaneSpan, near: usize, block: u32) -> u64
         ensures { InOrder self.now → AreRising self.now.order.slots 0 (ids_of instrs.now)
             → result ≡ passing self.now.order.slots (any_held self.now.order.slots self.now.rows.rows.items own.first own.count block) (ids_of instrs.now) }
     {
@@ -273,7 +273,7 @@ impl Table {
 
     /// The last block before a position in which one of the lanes has a cell. It is looked for at a
     /// place in each row first.
-    fn last_before(&self, own: Lanes, near: usize, bound: usize) -> Option<u32>
+    fn last_before(&self, own: LaneSpan, near: usize, bound: usize) -> Option<u32>
         ensures { IsLastBefore (AreUnseen self.now.rows.rows.items own.first own.count) bound result }
     {
         let mut last = None;
@@ -286,7 +286,7 @@ impl Table {
     }
 }
 
-impl Rows {
+impl LaneRanges {
     /// The last block before a position in which the lane has a cell, which is looked for at a place
     /// first.
     fn last_before(&self, lane: u32, near: usize, bound: usize) -> Option<u32>
@@ -314,7 +314,7 @@ impl Table {
     /// The number of points at which one of these lanes is live or occupied. A row has its cells
     /// from the last block to the first, so that a lane alone has those of the blocks that are
     /// counted place by place.
-    fn points_of(&self, blocks: &[Block], own: Lanes) -> u64
+    fn points_of(&self, blocks: &[Block], own: LaneSpan) -> u64
         ensures { InOrder self.now → AreRanked self.now.order.slots blocks.now
             → sum_below (block_held self.now blocks.now own.first own.count) (length blocks.now) < 18446744073709551616
             → result ≡ sum_below (block_held self.now blocks.now own.first own.count) (length blocks.now) }
@@ -332,7 +332,7 @@ impl Table {
 
     /// The number of points in the block at a position at which some of the lanes is live or
     /// occupied. The cells of the block are looked for at a place and behind it first.
-    fn points_at(&self, blocks: &[Block], own: Lanes, near: usize, block: u32) -> u64
+    fn points_at(&self, blocks: &[Block], own: LaneSpan, near: usize, block: u32) -> u64
         ensures { InOrder self.now → AreRanked self.now.order.slots blocks.now
             → result ≡ block_held self.now blocks.now own.first own.count block }
     {

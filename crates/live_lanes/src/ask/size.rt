@@ -6,31 +6,31 @@ ghost use Rattle.live_lanes.specs.Entered.{rows_seen};
 ghost use Rattle.live_lanes.specs.Held.{any_held};
 ghost use Rattle.live_lanes.specs.Table.{begun, seen_cell, seen_in};
 
-use crate::edit::lanes::Lanes;
-use crate::row::{Cell, End, Segment};
-use crate::table::{Rows, Table};
+use crate::edit::lanes::LaneSpan;
+use crate::row::{Cell, DefPiece, PieceEnd};
+use crate::table::{LaneRanges, Table};
 
 /// Whether two ends are the same.
-fn is_same_end(a: End, b: End) -> bool
+fn is_same_end(a: PieceEnd, b: PieceEnd) -> bool
     ensures { result ≡ true → a ≡ b }
 {
     match a {
-        End::Never => matches!(b, End::Never),
-        End::Entry(id) => matches!(b, End::Entry(other) if other == id),
-        End::Exit(id) => matches!(b, End::Exit(other) if other == id),
-        End::Last => matches!(b, End::Last),
+        PieceEnd::Never => matches!(b, PieceEnd::Never),
+        PieceEnd::Entry(id) => matches!(b, PieceEnd::Entry(other) if other == id),
+        PieceEnd::Exit(id) => matches!(b, PieceEnd::Exit(other) if other == id),
+        PieceEnd::Last => matches!(b, PieceEnd::Last),
     }
 }
 
 /// Whether two pieces that begin with writings have the same points.
-fn are_alike(a: &Segment, b: &Segment) -> bool
+fn are_alike(a: &DefPiece, b: &DefPiece) -> bool
     ensures { result ≡ true → bounds (begun a.now) ≡ bounds (begun b.now) }
 {
     a.start == b.start && a.early == b.early && is_same_end(a.piece.end, b.piece.end)
 }
 
 /// Whether two lists of pieces that begin with writings have the same points.
-fn are_all_alike(a: &[Segment], b: &[Segment]) -> bool
+fn are_all_alike(a: &[DefPiece], b: &[DefPiece]) -> bool
     ensures { result ≡ true → map (λ s. bounds (begun s)) a.now ≡ map (λ s. bounds (begun s)) b.now }
 {
     if a.len() != b.len() {
@@ -69,9 +69,9 @@ fn are_cells_alike(a: &[Cell], b: &[Cell]) -> bool
     true
 }
 
-impl Rows {
+impl LaneRanges {
     /// Whether all lanes of a range have the same points as the first one.
-    fn are_lanes_alike(&self, own: Lanes) -> bool
+    fn are_lanes_alike(&self, own: LaneSpan) -> bool
         ensures { result ≡ true → (k n : ℕ) → k < own.count → outline (rows_seen self.now.rows.items own.first n) ≡ outline (rows_seen self.now.rows.items (own.first + k) n) }
     {
         let first = self.cells(own.first);
@@ -86,7 +86,7 @@ impl Rows {
 
 impl Table {
     /// The first lane of a range alone, where all have the same points; else all of them.
-    pub fn counted_lanes(&self, own: Lanes) -> Lanes
+    pub fn counted_lanes(&self, own: LaneSpan) -> LaneSpan
         ensures { (b at : ℕ) → any_held self.now.order.slots self.now.rows.rows.items result.first result.count b at ≡ any_held self.now.order.slots self.now.rows.rows.items own.first own.count b at }
     {
         if own.count <= 1 {
@@ -95,7 +95,7 @@ impl Table {
         if !self.rows.are_lanes_alike(own) {
             return own;
         }
-        Lanes {
+        LaneSpan {
             first: own.first,
             count: 1,
         }

@@ -1,19 +1,19 @@
 //! Where in the layout a range has points.
 
-use crate::edit::lanes::Lanes;
+use crate::edit::lanes::LaneSpan;
 use crate::live::LiveFunc;
-use crate::row::{Cell, End};
+use crate::row::{Cell, PieceEnd};
 use std::alloc::{AllocError, Global};
 
 /// Whether a lane has points in the block of a cell.
 fn has_points(cell: &Cell) -> bool {
-    cell.first.end != End::Never || !cell.segments.is_empty()
+    cell.first.end != PieceEnd::Never || !cell.segments.is_empty()
 }
 
 /// The first point of a lane in a block: none for the block's start, else the instruction that
 /// writes it.
 fn first_start(cell: &Cell) -> Option<u32> {
-    if cell.first.end != End::Never {
+    if cell.first.end != PieceEnd::Never {
         return None;
     }
     match cell.segments.first() {
@@ -33,7 +33,7 @@ impl LiveFunc {
     }
 
     /// Whether a lane has points in another block than the one at a position.
-    fn is_in_another(&self, own: Lanes, k: u32, block: u32) -> bool {
+    fn is_in_another(&self, own: LaneSpan, k: u32, block: u32) -> bool {
         match own.lane(k) {
             Some(lane) => self
                 .table
@@ -46,7 +46,7 @@ impl LiveFunc {
     }
 
     /// The position of the first block in which some of the lanes has points.
-    fn first_block(&self, own: Lanes) -> Option<u32> {
+    fn first_block(&self, own: LaneSpan) -> Option<u32> {
         let mut first = None;
         'lanes: for k in 0..own.count {
             if let Some(block) = self.first_block_of(own, k) {
@@ -59,7 +59,7 @@ impl LiveFunc {
         first
     }
 
-    fn first_block_of(&self, own: Lanes, k: u32) -> Option<u32> {
+    fn first_block_of(&self, own: LaneSpan, k: u32) -> Option<u32> {
         let cells = self.table.rows.cells(own.lane(k)?);
         let cell = cells.iter().rev().find(|cell| has_points(*cell))?;
         Some(cell.block)
@@ -82,7 +82,7 @@ impl LiveFunc {
         }
     }
 
-    fn first_number_in(&self, own: Lanes, block: u32) -> u64 {
+    fn first_number_in(&self, own: LaneSpan, block: u32) -> u64 {
         let start = self.number_of_block(block);
         let mut first = u64::MAX;
         'lanes: for k in 0..own.count {
@@ -93,7 +93,7 @@ impl LiveFunc {
         first
     }
 
-    fn first_number_of(&self, own: Lanes, k: u32, block: u32, start: u64) -> Option<u64> {
+    fn first_number_of(&self, own: LaneSpan, k: u32, block: u32, start: u64) -> Option<u64> {
         let cell = self.table.rows.cell(own.lane(k)?, block)?;
         if !has_points(cell) {
             return None;

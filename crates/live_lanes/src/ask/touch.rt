@@ -20,9 +20,9 @@ ghost use Rattle.live_lanes.specs.Touching.{ReadsInOrder, reading_ids, reads_lan
 
 use crate::compute::flow::successors;
 use crate::live::LiveFunc;
-use crate::row::{Cell, Piece, Reading, Segment, entry_rank, exit_rank};
-use crate::table::{Rows, Table};
-use instr_effects::row::Lanes;
+use crate::row::{Cell, DefPiece, LaneUse, Piece, entry_rank, exit_rank};
+use crate::table::{LaneRanges, Table};
+use instr_effects::row::LaneSpan;
 use mir_func::{Block, Instr};
 use slot_index::Slots;
 use std::alloc::{AllocError, Global};
@@ -30,7 +30,7 @@ use target_base::Boxed;
 
 /// Instructions, and how many of them were met again.
 #[derive(Drop)]
-struct Found {
+struct TouchList {
     ids: Vec<u32>,
     /// So many of them, from the first, were met in the lane that is gone through.
     met: usize,
@@ -45,7 +45,7 @@ fn layout_key(slots: &Slots, id: u32) -> u128
     slots.number(id) as u128 * 4294967296 + id as u128
 }
 
-impl Found {
+impl TouchList {
     /// Whether that instruction is the one at a place.
     fn has_at(&self, place: usize, id: u32) -> bool
         ensures { result ≡ true → has id self.now.ids.items ≡ true }
@@ -107,7 +107,7 @@ impl Found {
     }
 
     /// Meets the instructions of readings.
-    fn meet_readings(&mut self, slots: &Slots, readings: &[Reading]) -> Result<(), AllocError>
+    fn meet_readings(&mut self, slots: &Slots, readings: &[LaneUse]) -> Result<(), AllocError>
         ensures { OnOk result (Meets slots.now self.old self.new (λ x. reads_in x readings.now)) }
     {
         'readings: for reading in readings {
@@ -117,7 +117,7 @@ impl Found {
     }
 
     /// Meets the instruction that begins a piece, and those of its readings.
-    fn meet_segment(&mut self, slots: &Slots, segment: &Segment) -> Result<(), AllocError>
+    fn meet_segment(&mut self, slots: &Slots, segment: &DefPiece) -> Result<(), AllocError>
         ensures { OnOk result (Meets slots.now self.old self.new (λ x. names_segment x segment.now)) }
     {
         self.meet(slots, segment.start)?;
@@ -125,7 +125,7 @@ impl Found {
     }
 
     /// The same of several pieces.
-    fn meet_segments(&mut self, slots: &Slots, segments: &[Segment]) -> Result<(), AllocError>
+    fn meet_segments(&mut self, slots: &Slots, segments: &[DefPiece]) -> Result<(), AllocError>
         ensures { OnOk result (Meets slots.now self.old self.new (λ x. list_any (names_segment x) segments.now)) }
     {
         'segments: for segment in segments {
@@ -155,7 +155,7 @@ impl Found {
     }
 
     /// Meets the instructions that name one of these lanes.
-    fn meet_lanes(&mut self, table: &Table, own: Lanes) -> Result<(), AllocError>
+    fn meet_lanes(&mut self, table: &Table, own: LaneSpan) -> Result<(), AllocError>
         ensures { OnOk result (Meets table.now.order.slots self.old self.new
             (λ x. some_below (names_lane x table.now.rows.rows.items) own.first own.count)) }
     {
@@ -170,7 +170,7 @@ impl Found {
         ensures named { (x : ℕ) → has x result.items ≡ has x self.ids.items }
         ensures order { InLine slots.now self → IsStrictlySortedBy nat_cmp (map (layout_key slots.now) result.items) }
     {
-        let Found {
+        let TouchList {
             mut ids,
             is_mixed,
             ..
@@ -227,7 +227,7 @@ impl LiveFunc {
     pub fn touched(&self, alloc: Global, v: u32) -> Result<Vec<u32>, AllocError>
         ensures { IfOk result (λ ids. AreTouched self.now.table v ids.items) }
     {
-        let mut found = Found {
+        let mut found = TouchList {
             ids: Vec::new(alloc),
             met: 0,
             is_mixed: false,
@@ -294,7 +294,7 @@ impl LiveFunc {
     }
 
     /// The piece of a lane of a range that an instruction begins.
-    fn segment_of(&self, v: u32, k: u32, id: u32) -> Option<&Segment>
+    fn segment_of(&self, v: u32, k: u32, id: u32) -> Option<&DefPiece>
         ensures { InOrder self.now.table → option_map begun (option_copied result) ≡ begun_at self.now.table (number_in self.now.table.lanes (owners.Range v k)) id }
     {
         let Some(lane) = self.table.lanes.of_range(v).lane(k) else {
@@ -350,7 +350,7 @@ impl Cell {
     }
 }
 
-impl Rows {
+impl LaneRanges {
     /// Whether some instruction reads or writes a lane.
     fn is_touched(&self, lane: u32) -> bool
         ensures { result ≡ touches_lane self.now.rows.items lane }
@@ -359,7 +359,7 @@ impl Rows {
     }
 
     /// Whether some instruction reads or writes one of these lanes.
-    fn is_some_touched(&self, own: Lanes) -> bool
+    fn is_some_touched(&self, own: LaneSpan) -> bool
         ensures { result ≡ some_below (touches_lane self.now.rows.items) own.first own.count }
     {
         'lanes: for k in 0..own.count {
@@ -373,7 +373,7 @@ impl Rows {
 
 impl Cell {
     /// The piece that an instruction begins.
-    fn segment_of(&self, slots: &Slots, id: u32) -> Option<&Segment>
+    fn segment_of(&self, slots: &Slots, id: u32) -> Option<&DefPiece>
         ensures { IsTrue (rises_from slots.now 0 (seen_cell self.now).segments) → option_map begun (option_copied result) ≡ begun_by id (seen_cell self.now).segments }
     {
         let index = self.piece_at(slots, exit_rank(slots, id));
@@ -390,7 +390,7 @@ impl Cell {
 
 impl Piece {
     /// The reading of an instruction.
-    fn reading_of(&self, slots: &Slots, id: u32) -> Option<&Reading>
+    fn reading_of(&self, slots: &Slots, id: u32) -> Option<&LaneUse>
         ensures { AreRising slots.now 0 (reading_ids self.now.readings.items) → option_copied result ≡ find (λ r. nat_eq r.id id) self.now.readings.items }
     {
         let at = slots.number(id);
@@ -409,7 +409,7 @@ impl Piece {
 
 impl Table {
     /// Whether a reading in a block counts.
-    fn counts(&self, block: u32, reading: &Reading) -> bool
+    fn counts(&self, block: u32, reading: &LaneUse) -> bool
         ensures { InOrder self.now → result ≡ reading_counts self.now.order.slots (causes self.now.rows.rows.items) (shapes self.now.rows.rows.items) block reading.now }
     {
         match reading.into {
@@ -438,9 +438,9 @@ impl Table {
     }
 }
 
-impl Rows {
+impl LaneRanges {
     /// Whether one of these lanes is live at the start of a block.
-    fn is_some_live_in(&self, own: Lanes, block: u32) -> bool
+    fn is_some_live_in(&self, own: LaneSpan, block: u32) -> bool
         ensures { result ≡ some_below (λ l. is_live (causes self.now.rows.items l block 0)) own.first own.count }
     {
         'lanes: for k in 0..own.count {
@@ -454,7 +454,7 @@ impl Rows {
 
 impl Table {
     /// Whether one of these lanes is live at the point of this rank in a block.
-    fn is_some_live_at(&self, own: Lanes, block: u32, at: u128) -> bool
+    fn is_some_live_at(&self, own: LaneSpan, block: u32, at: u128) -> bool
         ensures { InOrder self.now → result ≡ some_below (λ l. row_at self.now.order.slots self.now.rows.rows.items l block at) own.first own.count }
     {
         'lanes: for k in 0..own.count {

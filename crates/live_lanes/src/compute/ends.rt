@@ -7,10 +7,10 @@ ghost use Rattle.live_lanes.specs.Lasting.{AllRise, shapes, last_with, reading_c
 ghost use Rattle.live_lanes.specs.Marks.{KeepsCauses};
 ghost use Rattle.live_lanes.specs.Table.{rises_from, seen_cell};
 
-use crate::compute::flow::{Ways, successors, terminators};
+use crate::compute::flow::{BlockFlow, successors, terminators};
 use crate::order::Order;
-use crate::row::{Cause, Cell, End, Piece, Reading, exit_rank, is_never, rank};
-use crate::table::Rows;
+use crate::row::{Cause, Cell, LaneUse, Piece, PieceEnd, exit_rank, is_never, rank};
+use crate::table::LaneRanges;
 use slot_index::Slots;
 
 /// A piece of a lane, with where it stands.
@@ -29,7 +29,7 @@ pub(crate) struct PieceAt<'a> {
 }
 
 /// The later of two ends.
-fn later(slots: &Slots, a: End, b: End) -> End
+fn later(slots: &Slots, a: PieceEnd, b: PieceEnd) -> PieceEnd
     ensures { result ≡ later slots.now a b }
 {
     if rank(slots, a) < rank(slots, b) {
@@ -47,19 +47,19 @@ fn leaves_in(slots: &Slots, cell: &Cell, index: usize, id: u32) -> bool
 }
 
 /// The exit of the last of the terminators that lie in a piece.
-fn last_exit(slots: &Slots, cell: &Cell, index: usize, terminators: &[u32]) -> End
+fn last_exit(slots: &Slots, cell: &Cell, index: usize, terminators: &[u32]) -> PieceEnd
     ensures { rises_from slots.now 0 (seen_cell cell.now).segments ≡ true → result ≡ exit_end (last_with (leaves_in slots.now (shape (seen_cell cell.now)) index) terminators.now) }
 {
     'terminators: for k in (0..terminators.len()).rev() {
         let id = terminators[k];
         if leaves_in(slots, cell, index, id) {
-            return End::Exit(id);
+            return PieceEnd::Exit(id);
         }
     }
-    End::Never
+    PieceEnd::Never
 }
 
-impl Rows {
+impl LaneRanges {
     /// Whether a lane is live at the start of one of these blocks. Their cells are looked for at a
     /// place and behind it first.
     fn has_live(&self, lane: u32, near: usize, blocks: &[u32]) -> bool
@@ -69,7 +69,7 @@ impl Rows {
     }
 
     /// Whether a reading counts: what it is moved into is live behind the instruction.
-    fn counts(&self, order: &Order, block: u32, reading: &Reading) -> bool
+    fn counts(&self, order: &Order, block: u32, reading: &LaneUse) -> bool
         ensures { AllRise order.now.slots self.now.rows.items → result ≡ reading_counts order.now.slots (causes self.now.rows.items) (shapes self.now.rows.items) block reading.now }
     {
         match reading.into {
@@ -79,21 +79,28 @@ impl Rows {
     }
 
     /// The entry at the last of these readings that counts.
-    fn last_entry(&self, order: &Order, block: u32, readings: &[Reading]) -> End
+    fn last_entry(&self, order: &Order, block: u32, readings: &[LaneUse]) -> PieceEnd
         ensures { AllRise order.now.slots self.now.rows.items → result ≡ last_entry order.now.slots (causes self.now.rows.items) (shapes self.now.rows.items) block readings.now }
     {
         'readings: for k in (0..readings.len()).rev() {
             let reading = &readings[k];
             if self.counts(order, block, reading) {
-                return End::Entry(reading.id);
+                return PieceEnd::Entry(reading.id);
             }
         }
-        End::Never
+        PieceEnd::Never
     }
 
     /// Whether a piece with this cause is live because the lane is at the start of a block that
     /// follows, or a lane is live at the start of one anyway. Its own cell stands at a place.
-    fn leads_on(&self, flow: &[Ways], lane: u32, place: usize, block: u32, cause: Cause) -> bool
+    fn leads_on(
+        &self,
+        flow: &[BlockFlow],
+        lane: u32,
+        place: usize,
+        block: u32,
+        cause: Cause,
+    ) -> bool
         ensures { result ≡ leads_on flow.now (causes self.now.rows.items) lane block cause }
     {
         match cause {
@@ -107,30 +114,30 @@ impl Rows {
     }
 
     /// The last exit of a piece from which a path leads to a block where the lane is live.
-    fn exit_of(&self, order: &Order, flow: &[Ways], at: &PieceAt) -> End
+    fn exit_of(&self, order: &Order, flow: &[BlockFlow], at: &PieceAt) -> PieceEnd
         ensures { rises_from order.now.slots 0 (seen_cell at.now.cell.now).segments ≡ true
             → result ≡ last_exit order.now.slots flow.now (causes self.now.rows.items) (shape (seen_cell at.now.cell.now)) at.now.lane at.now.cell.now.block at.now.index at.now.piece.now.cause }
     {
         let cell = at.cell;
         let exit = if at.index == cell.segments.len() {
-            End::Last
+            PieceEnd::Last
         } else {
             last_exit(&order.slots, cell, at.index, terminators(flow, cell.block))
         };
         if is_never(exit) || !self.leads_on(flow, at.lane, at.place, cell.block, at.piece.cause) {
-            return End::Never;
+            return PieceEnd::Never;
         }
         exit
     }
 
     /// Up to where the lane is live in a live piece.
-    pub fn end_of(&self, order: &Order, flow: &[Ways], at: &PieceAt) -> End
+    pub fn end_of(&self, order: &Order, flow: &[BlockFlow], at: &PieceAt) -> PieceEnd
         ensures { AllRise order.now.slots self.now.rows.items → rises_from order.now.slots 0 (seen_cell at.now.cell.now).segments ≡ true
             → result ≡ live_end order.now.slots flow.now (causes self.now.rows.items) (shapes self.now.rows.items) (shape (seen_cell at.now.cell.now)) at.now.lane at.now.cell.now.block at.now.index at.now.piece.now.cause at.now.piece.now.readings.items }
     {
         let cell = at.cell;
         if cell.is_read_last && at.index == cell.segments.len() {
-            return End::Last;
+            return PieceEnd::Last;
         }
         let exit = self.exit_of(order, flow, at);
         let entry = self.last_entry(order, cell.block, at.piece.readings.as_slice());
@@ -138,18 +145,25 @@ impl Rows {
     }
 
     /// The end of a piece of a lane's cell at a place.
-    fn end_at(&self, order: &Order, flow: &[Ways], lane: u32, place: usize, index: usize) -> End
+    fn end_at(
+        &self,
+        order: &Order,
+        flow: &[BlockFlow],
+        lane: u32,
+        place: usize,
+        index: usize,
+    ) -> PieceEnd
         ensures { AllRise order.now.slots self.now.rows.items
             → result ≡ cell_end order.now.slots flow.now (causes self.now.rows.items) (shapes self.now.rows.items) lane index (slice_get (cells_of self.now.rows.items lane) place) }
     {
         let Some(cell) = self.cells(lane).get(place) else {
-            return End::Never;
+            return PieceEnd::Never;
         };
         let Some(piece) = cell.piece(index) else {
-            return End::Never;
+            return PieceEnd::Never;
         };
         if !piece.is_live() {
-            return End::Never;
+            return PieceEnd::Never;
         }
         let at = PieceAt {
             lane,
@@ -161,7 +175,7 @@ impl Rows {
         self.end_of(order, flow, &at)
     }
 
-    fn set_end(&mut self, lane: u32, place: usize, index: usize, end: End)
+    fn set_end(&mut self, lane: u32, place: usize, index: usize, end: PieceEnd)
         ensures keeps { KeepsCauses self.old.rows.items self.new.rows.items }
         ensures blocks { KeepsBlocks self.old.rows.items self.new.rows.items }
         ensures set { SetsEnd self.old.rows.items self.new.rows.items lane place index end }
@@ -172,7 +186,7 @@ impl Rows {
         }
     }
 
-    fn end_cell(&mut self, order: &Order, flow: &[Ways], lane: u32, place: usize)
+    fn end_cell(&mut self, order: &Order, flow: &[BlockFlow], lane: u32, place: usize)
         ensures keeps { KeepsCauses self.old.rows.items self.new.rows.items }
         ensures blocks { KeepsBlocks self.old.rows.items self.new.rows.items }
         ensures ended { AllRise order.now.slots self.old.rows.items
@@ -184,7 +198,7 @@ impl Rows {
         }
     }
 
-    fn end_row(&mut self, order: &Order, flow: &[Ways], lane: u32)
+    fn end_row(&mut self, order: &Order, flow: &[BlockFlow], lane: u32)
         ensures keeps { KeepsCauses self.old.rows.items self.new.rows.items }
         ensures ended { AllRise order.now.slots self.old.rows.items
             → GivesEnds order.now.slots flow.now self.old.rows.items self.new.rows.items (λ l b. l ≡ lane) }
@@ -195,7 +209,7 @@ impl Rows {
     }
 
     /// Gives each piece its end.
-    pub fn end_all(&mut self, order: &Order, flow: &[Ways])
+    pub fn end_all(&mut self, order: &Order, flow: &[BlockFlow])
         ensures keeps { KeepsCauses self.old.rows.items self.new.rows.items }
         ensures ended { AllRise order.now.slots self.old.rows.items → length self.old.rows.items < 4294967296
             → (l b n : ℕ) → Lasts order.now.slots flow.now self.old.rows.items self.new.rows.items l b n }

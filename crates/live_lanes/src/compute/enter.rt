@@ -13,9 +13,9 @@ ghost use Rattle.live_lanes.specs.Entering.{Enters, at_spot, reads_entered, move
 
 use crate::edit::lanes::LaneTable;
 use crate::order::Order;
-use crate::row::Reading;
-use crate::table::Rows;
-use instr_effects::{PhiRead, Reader, Writing};
+use crate::row::LaneUse;
+use crate::table::LaneRanges;
+use instr_effects::{EffectReader, LaneDef, PhiRead};
 use mir_func::{Block, Func, Instr, Operand};
 use std::alloc::{AllocError, Global};
 use target_base::{Boxed, Target};
@@ -30,9 +30,9 @@ pub(crate) fn slot_of(operands: &[Operand]) -> Option<u32> {
     None
 }
 
-impl Rows {
+impl LaneRanges {
     /// Enters a reading of a lane.
-    fn add_reading(&mut self, lane: u32, block: u32, reading: Reading) -> Result<(), AllocError>
+    fn add_reading(&mut self, lane: u32, block: u32, reading: LaneUse) -> Result<(), AllocError>
         ensures { OnOk result (Enters self.old.rows.items self.new.rows.items (at_spot lane block (with_reading reading))) }
     {
         let alloc = self.alloc;
@@ -44,7 +44,7 @@ impl Rows {
     }
 
     /// Enters a writing of a lane.
-    fn add_segment(&mut self, block: u32, id: u32, w: &Writing) -> Result<(), AllocError>
+    fn add_segment(&mut self, block: u32, id: u32, w: &LaneDef) -> Result<(), AllocError>
         ensures { OnOk result (Enters self.old.rows.items self.new.rows.items (at_spot w.now.lane block (with_segment id w.now.early w.now.from))) }
     {
         let alloc = self.alloc;
@@ -72,26 +72,26 @@ impl Rows {
         ensures { OnOk result (Enters self.old.rows.items self.new.rows.items (reads_entered block id lanes.now)) }
     {
         'lanes: for lane in lanes {
-            self.add_reading(*lane, block, Reading { id, into: None })?;
+            self.add_reading(*lane, block, LaneUse { id, into: None })?;
         }
         Ok(())
     }
 
     /// Enters the reading of a lane that is moved, if one is.
-    fn add_move(&mut self, block: u32, id: u32, w: &Writing) -> Result<(), AllocError>
+    fn add_move(&mut self, block: u32, id: u32, w: &LaneDef) -> Result<(), AllocError>
         ensures { OnOk result (Enters self.old.rows.items self.new.rows.items (λ l b v. move_entered block id l b w.now v)) }
     {
         match w.from {
             Some(from) => {
                 let into = Some(w.lane);
-                self.add_reading(from, block, Reading { id, into })
+                self.add_reading(from, block, LaneUse { id, into })
             }
             None => Ok(()),
         }
     }
 
     /// Enters the readings of lanes that an instruction moves.
-    fn add_moves(&mut self, block: u32, id: u32, writes: &[Writing]) -> Result<(), AllocError>
+    fn add_moves(&mut self, block: u32, id: u32, writes: &[LaneDef]) -> Result<(), AllocError>
         ensures { OnOk result (Enters self.old.rows.items self.new.rows.items (moves_entered block id writes.now)) }
     {
         'writes: for w in writes {
@@ -101,7 +101,7 @@ impl Rows {
     }
 
     /// Enters what an instruction writes.
-    fn add_writes(&mut self, block: u32, id: u32, writes: &[Writing]) -> Result<(), AllocError>
+    fn add_writes(&mut self, block: u32, id: u32, writes: &[LaneDef]) -> Result<(), AllocError>
         ensures { OnOk result (Enters self.old.rows.items self.new.rows.items (writes_entered block id writes.now)) }
     {
         'writes: for w in writes {
@@ -143,7 +143,7 @@ impl Rows {
     /// Enters what an instruction does.
     fn add_instr(
         &mut self,
-        reader: &Reader<'_>,
+        reader: &EffectReader<'_>,
         order: &Order,
         block: u32,
         instr: &Instr,
@@ -161,7 +161,7 @@ impl Rows {
     /// Enters what the instructions of a block do.
     fn add_instrs(
         &mut self,
-        reader: &Reader<'_>,
+        reader: &EffectReader<'_>,
         order: &Order,
         block: u32,
         instrs: &[Boxed<Instr>],
@@ -179,7 +179,7 @@ impl Rows {
     /// first, so the blocks are gone through from the last: then a new cell mostly comes at the end of its row.
     fn add_blocks(
         &mut self,
-        reader: &Reader<'_>,
+        reader: &EffectReader<'_>,
         order: &Order,
         blocks: &[Block],
     ) -> Result<(), AllocError>
@@ -198,13 +198,13 @@ impl Rows {
 
 /// The pieces of the lanes of a function, none of them live. Where more lanes have numbers than fit
 /// 32 bits, there are none.
-pub(crate) fn entered(
+pub(crate) fn enter_pieces(
     alloc: Global,
     target: &Target,
     lanes: &LaneTable,
     order: &Order,
     func: &Func,
-) -> Result<Rows, AllocError>
+) -> Result<LaneRanges, AllocError>
     ensures few { IfOk result (λ x. length x.rows.items < 4294967296) }
     ensures seen { IfOk result (λ x. IsTable lanes.now
         → (l b : ℕ) → rows_seen x.rows.items l b ≡ blocks_entered (get nat_cmp order.now.positions) 0 (entries (doing_of target.now func.now (number_in lanes.now)) func.now.blocks) l b unseen) }
@@ -212,8 +212,8 @@ pub(crate) fn entered(
     let Ok(count) = u32::try_from(lanes.len()) else {
         return Err(AllocError);
     };
-    let mut rows = Rows::new(alloc, count as usize)?;
-    let reader = Reader {
+    let mut rows = LaneRanges::new(alloc, count as usize)?;
+    let reader = EffectReader {
         alloc,
         target,
         func,

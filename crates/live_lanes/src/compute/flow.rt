@@ -16,7 +16,7 @@ use target_base::{Boxed, Target};
 
 /// The ways into a block and out of it, by the positions of blocks in the layout.
 #[derive(Drop)]
-pub(crate) struct Ways {
+pub(crate) struct BlockFlow {
     /// The blocks from which paths lead here, each once.
     pub predecessors: Vec<u32>,
     /// The blocks to which paths lead from here, each once.
@@ -26,7 +26,7 @@ pub(crate) struct Ways {
 }
 
 /// The positions of the blocks before one.
-pub(crate) fn predecessors(flow: &[Ways], block: u32) -> &[u32]
+pub(crate) fn predecessors(flow: &[BlockFlow], block: u32) -> &[u32]
     ensures { result.now ≡ predecessors flow.now block }
 {
     match flow.get(block as usize) {
@@ -36,7 +36,7 @@ pub(crate) fn predecessors(flow: &[Ways], block: u32) -> &[u32]
 }
 
 /// The positions of the blocks behind one.
-pub(crate) fn successors(flow: &[Ways], block: u32) -> &[u32]
+pub(crate) fn successors(flow: &[BlockFlow], block: u32) -> &[u32]
     ensures { result.now ≡ successors flow.now block }
 {
     match flow.get(block as usize) {
@@ -46,7 +46,7 @@ pub(crate) fn successors(flow: &[Ways], block: u32) -> &[u32]
 }
 
 /// The ids of a block's terminators.
-pub(crate) fn terminators(flow: &[Ways], block: u32) -> &[u32]
+pub(crate) fn terminators(flow: &[BlockFlow], block: u32) -> &[u32]
     ensures { result.now ≡ terminators flow.now block }
 {
     match flow.get(block as usize) {
@@ -55,7 +55,7 @@ pub(crate) fn terminators(flow: &[Ways], block: u32) -> &[u32]
     }
 }
 
-impl Ways {
+impl BlockFlow {
     /// Notes a block before this one.
     fn add_predecessor(&mut self, at: u32) -> Result<(), AllocError>
         ensures predecessors { OnOk result (self.new.predecessors.items ≡ self.old.predecessors.items ++ at ∷ []) }
@@ -122,14 +122,19 @@ fn is_in(list: &[u32], x: u32) -> bool
 }
 
 /// The ways out of a block.
-fn ways_of(alloc: Global, target: &Target, order: &Order, block: &Block) -> Result<Ways, AllocError>
+fn ways_of(
+    alloc: Global,
+    target: &Target,
+    order: &Order,
+    block: &Block,
+) -> Result<BlockFlow, AllocError>
     ensures predecessors { IfOk result (λ w. w.predecessors.items ≡ []) }
     ensures successors { IfOk result (λ w. (x : ℕ) → has x w.successors.items ≡ has x (edge_places (get nat_cmp order.now.positions) block.now.successors)) }
     ensures terminators { IfOk result (λ w. w.terminators.items ≡ terminator_ids target.now block.now.instrs) }
 {
     let successors = successors_of(alloc, order, block.successors.as_slice())?;
     let terminators = terminators_of(alloc, target, block.instrs.as_slice())?;
-    Ok(Ways {
+    Ok(BlockFlow {
         predecessors: Vec::new(alloc),
         successors,
         terminators,
@@ -142,7 +147,7 @@ fn ways_out(
     target: &Target,
     order: &Order,
     blocks: &[Block],
-) -> Result<Vec<Ways>, AllocError>
+) -> Result<Vec<BlockFlow>, AllocError>
     ensures { IfOk result (λ v. AreOut target.now (get nat_cmp order.now.positions) blocks.now v.items) }
 {
     let mut flow = Vec::new(alloc);
@@ -158,7 +163,7 @@ pub(crate) fn flow_of(
     target: &Target,
     order: &Order,
     func: &Func,
-) -> Result<Vec<Ways>, AllocError>
+) -> Result<Vec<BlockFlow>, AllocError>
     ensures { IfOk result (λ v. AreWays target.now (get nat_cmp order.now.positions) func.now.blocks v.items) }
 {
     let mut flow = ways_out(alloc, target, order, func.blocks.as_slice())?;
@@ -172,7 +177,7 @@ pub(crate) fn flow_of(
 }
 
 /// Notes a block at each of its successors.
-fn note_block(alloc: Global, flow: &mut Vec<Ways>, at: u32) -> Result<(), AllocError>
+fn note_block(alloc: Global, flow: &mut Vec<BlockFlow>, at: u32) -> Result<(), AllocError>
     ensures { OnOk result (NotesAll flow.old.items flow.new.items (successors flow.old.items at) at) }
 {
     let nexts = Vec::from_slice(alloc, successors(flow.as_slice(), at))?;
@@ -180,7 +185,7 @@ fn note_block(alloc: Global, flow: &mut Vec<Ways>, at: u32) -> Result<(), AllocE
 }
 
 /// Notes a block at each of these.
-fn note_at(flow: &mut Vec<Ways>, nexts: &[u32], at: u32) -> Result<(), AllocError>
+fn note_at(flow: &mut Vec<BlockFlow>, nexts: &[u32], at: u32) -> Result<(), AllocError>
     ensures { OnOk result (NotesAll flow.old.items flow.new.items nexts.now at) }
 {
     'nexts: for next in nexts {
@@ -190,7 +195,7 @@ fn note_at(flow: &mut Vec<Ways>, nexts: &[u32], at: u32) -> Result<(), AllocErro
 }
 
 /// Notes a block at one that follows.
-fn note(flow: &mut Vec<Ways>, next: u32, at: u32) -> Result<(), AllocError>
+fn note(flow: &mut Vec<BlockFlow>, next: u32, at: u32) -> Result<(), AllocError>
     ensures { OnOk result (Notes flow.old.items flow.new.items next at) }
 {
     let place = next as usize;

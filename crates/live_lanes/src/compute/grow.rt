@@ -6,10 +6,10 @@ ghost use Rattle.live_lanes.specs.Table.{rises_from, end_rank, moved_in};
 ghost use Rattle.live_lanes.specs.Entered.{rows_seen};
 ghost use Rattle.live_lanes.specs.Growth.{Raised, RaisesExits, RaisesPredecessors, RaisesSources, RaisesPiece, RaisesCell, RaisesRow, RaisesAll, KeepsBlocks, GrowsAll};
 
-use crate::compute::flow::{Ways, predecessors, terminators};
+use crate::compute::flow::{BlockFlow, predecessors, terminators};
 use crate::order::Order;
-use crate::row::{Cause, End, rank};
-use crate::table::{Rows, Spot};
+use crate::row::{Cause, PieceEnd, rank};
+use crate::table::{LaneRanges, PieceSpot};
 use std::alloc::{AllocError, Global};
 
 /// Where a lane may end, in a block.
@@ -17,7 +17,7 @@ use std::alloc::{AllocError, Global};
 struct LaneEnd {
     lane: u32,
     block: u32,
-    end: End,
+    end: PieceEnd,
 }
 
 /// A way of control from one block into another.
@@ -27,7 +27,7 @@ struct FlowEdge {
     to: u32,
 }
 
-impl Rows {
+impl LaneRanges {
     /// Makes live a piece of a lane, by the place of its cell, where it needs no other lane, and
     /// adds it to a list.
     fn raise_piece(
@@ -35,7 +35,7 @@ impl Rows {
         lane: u32,
         place: usize,
         index: usize,
-        risen: &mut Vec<Spot>,
+        risen: &mut Vec<PieceSpot>,
     ) -> Result<(), AllocError>
         ensures raised { OnOk result (RaisesPiece self.old.rows.items self.new.rows.items lane place index risen.old.items risen.new.items) }
         ensures blocks { OnOk result (KeepsBlocks self.old.rows.items self.new.rows.items) }
@@ -45,7 +45,7 @@ impl Rows {
             return Ok(());
         }
         if let Some(block) = self.rows[at].raise_certain(place, index) {
-            risen.push(Spot { lane, block, index })?;
+            risen.push(PieceSpot { lane, block, index })?;
         }
         Ok(())
     }
@@ -55,7 +55,7 @@ impl Rows {
         &mut self,
         lane: u32,
         place: usize,
-        risen: &mut Vec<Spot>,
+        risen: &mut Vec<PieceSpot>,
     ) -> Result<(), AllocError>
         ensures raised { OnOk result (RaisesCell self.old.rows.items self.new.rows.items lane place risen.old.items risen.new.items) }
         ensures blocks { OnOk result (KeepsBlocks self.old.rows.items self.new.rows.items) }
@@ -67,7 +67,7 @@ impl Rows {
     }
 
     /// Makes live the pieces of a lane that need no other lane, and lists them.
-    fn raise_row(&mut self, lane: u32, risen: &mut Vec<Spot>) -> Result<(), AllocError>
+    fn raise_row(&mut self, lane: u32, risen: &mut Vec<PieceSpot>) -> Result<(), AllocError>
         ensures { OnOk result (RaisesRow self.old.rows.items self.new.rows.items lane risen.old.items risen.new.items) }
     {
         'places: for place in 0..self.cells(lane).len() {
@@ -77,7 +77,7 @@ impl Rows {
     }
 
     /// Makes live the pieces that need no other lane, and lists them.
-    fn raise_certain(&mut self) -> Result<Vec<Spot>, AllocError>
+    fn raise_certain(&mut self) -> Result<Vec<PieceSpot>, AllocError>
         ensures { IfOk result (λ risen. RaisesAll self.old.rows.items self.new.rows.items risen.items) }
     {
         let mut risen = Vec::new(self.alloc);
@@ -93,7 +93,7 @@ impl Rows {
         order: &Order,
         until: LaneEnd,
         cause: Cause,
-        risen: &mut Vec<Spot>,
+        risen: &mut Vec<PieceSpot>,
     ) -> Result<(), AllocError>
         ensures { OnOk result (until.lane < length self.old.rows.items
             → IsTrue (rises_from order.now.slots 0 (rows_seen self.old.rows.items until.lane until.block).segments)
@@ -107,7 +107,7 @@ impl Rows {
         }
         let point = rank(&order.slots, end);
         if let Some(index) = self.rows[at].raise(alloc, &order.slots, block, point, cause)? {
-            risen.push(Spot { lane, block, index })?;
+            risen.push(PieceSpot { lane, block, index })?;
         }
         Ok(())
     }
@@ -119,7 +119,7 @@ impl Rows {
         lane: u32,
         edge: FlowEdge,
         terminators: &[u32],
-        risen: &mut Vec<Spot>,
+        risen: &mut Vec<PieceSpot>,
     ) -> Result<(), AllocError>
         ensures { OnOk result (RaisesExits order.now.slots self.old.rows.items self.new.rows.items lane edge.from edge.to terminators.now risen.old.items risen.new.items) }
     {
@@ -128,14 +128,14 @@ impl Rows {
         let last = LaneEnd {
             lane,
             block,
-            end: End::Last,
+            end: PieceEnd::Last,
         };
         self.raise(order, last, cause, risen)?;
         'terminators: for id in terminators {
             let exit = LaneEnd {
                 lane,
                 block,
-                end: End::Exit(*id),
+                end: PieceEnd::Exit(*id),
             };
             self.raise(order, exit, cause, risen)?;
         }
@@ -146,9 +146,9 @@ impl Rows {
     fn raise_predecessors(
         &mut self,
         order: &Order,
-        flow: &[Ways],
-        piece: Spot,
-        risen: &mut Vec<Spot>,
+        flow: &[BlockFlow],
+        piece: PieceSpot,
+        risen: &mut Vec<PieceSpot>,
     ) -> Result<(), AllocError>
         ensures { OnOk result (RaisesPredecessors order.now.slots flow.now self.old.rows.items self.new.rows.items piece.lane piece.block risen.old.items risen.new.items) }
     {
@@ -164,11 +164,11 @@ impl Rows {
     }
 
     /// The instruction that begins a piece by a move, and the lane that it moves.
-    fn moved(&self, piece: Spot) -> Option<(u32, u32)>
+    fn move_source(&self, piece: PieceSpot) -> Option<(u32, u32)>
         ensures { result ≡ moved_in (rows_seen self.now.rows.items piece.lane piece.block) piece.index }
     {
         match self.cell(piece.lane, piece.block) {
-            Some(cell) => cell.moved(piece.index),
+            Some(cell) => cell.move_source(piece.index),
             None => None,
         }
     }
@@ -177,21 +177,21 @@ impl Rows {
     fn raise_sources(
         &mut self,
         order: &Order,
-        flow: &[Ways],
-        piece: Spot,
-        risen: &mut Vec<Spot>,
+        flow: &[BlockFlow],
+        piece: PieceSpot,
+        risen: &mut Vec<PieceSpot>,
     ) -> Result<(), AllocError>
         ensures { OnOk result (RaisesSources order.now.slots flow.now self.old.rows.items self.new.rows.items piece risen.old.items risen.new.items) }
     {
         if piece.index == 0 {
             return self.raise_predecessors(order, flow, piece, risen);
         }
-        match self.moved(piece) {
+        match self.move_source(piece) {
             Some((id, from)) => {
                 let entry = LaneEnd {
                     lane: from,
                     block: piece.block,
-                    end: End::Entry(id),
+                    end: PieceEnd::Entry(id),
                 };
                 self.raise(order, entry, Cause::Reading(id), risen)
             }
@@ -200,7 +200,7 @@ impl Rows {
     }
 
     /// Makes live all pieces that are, where none is marked yet.
-    pub fn grow(&mut self, order: &Order, flow: &[Ways]) -> Result<(), AllocError>
+    pub fn grow(&mut self, order: &Order, flow: &[BlockFlow]) -> Result<(), AllocError>
         ensures { OnOk result (GrowsAll order.now.slots flow.now self.old.rows.items self.new.rows.items) }
     {
         let mut risen = self.raise_certain()?;

@@ -2,7 +2,7 @@
 
 ghost use Rattle.std.specs.Prelude.{◌≡◌};
 
-use crate::row::{Cause, Cell, End, Piece, Reading, Row, Segment, insert_one};
+use crate::row::{Cause, Cell, DefPiece, LaneRange, LaneUse, Piece, PieceEnd, insert_one};
 use std::alloc::{AllocError, Global};
 use std::mem;
 use target_base::Boxed;
@@ -13,39 +13,39 @@ pub(crate) enum CellEdit {
     /// Nothing is changed.
     Nothing,
     /// A reading is put at a place among those of a piece.
-    PutReading(usize, usize, Reading),
+    PutReading(usize, usize, LaneUse),
     /// The reading at a place among those of a piece goes.
     CutReading(usize, usize),
     /// The reading at a place among those of a piece is this one.
-    SetReading(usize, usize, Reading),
+    SetReading(usize, usize, LaneUse),
     /// A piece begins at this place. Its readings are the last ones of the piece before. It lies in a
     /// box, so that a change is small.
-    Begin(usize, Boxed<Segment>),
+    Begin(usize, Boxed<DefPiece>),
     /// The piece at this place becomes a part of the one before.
     Join(usize),
     /// The writing that begins a piece: whether it is early, and the lane that it moves.
     SetWriting(usize, bool, Option<u32>),
     /// Why a piece is live, and up to where.
-    SetLife(usize, Cause, End),
+    SetLife(usize, Cause, PieceEnd),
     /// Up to where a piece is live.
-    SetEnd(usize, End),
+    SetEnd(usize, PieceEnd),
 }
 
 impl Piece {
-    fn put_reading(&mut self, place: usize, reading: Reading) -> Result<(), AllocError> {
+    fn put_reading(&mut self, place: usize, reading: LaneUse) -> Result<(), AllocError> {
         let at = place.min(self.readings.len());
         insert_one(&mut self.readings, at, reading)?;
         Ok(())
     }
 
-    fn cut_reading(&mut self, place: usize) -> Option<Reading> {
+    fn cut_reading(&mut self, place: usize) -> Option<LaneUse> {
         if place >= self.readings.len() {
             return None;
         }
         Some(self.readings.remove(place))
     }
 
-    fn set_reading(&mut self, place: usize, reading: Reading) -> Option<Reading> {
+    fn set_reading(&mut self, place: usize, reading: LaneUse) -> Option<LaneUse> {
         match self.readings.get_mut(place) {
             Some(there) => Some(mem::replace(there, reading)),
             None => None,
@@ -53,7 +53,7 @@ impl Piece {
     }
 
     /// Puts readings behind its own.
-    fn add_readings(&mut self, readings: &[Reading]) -> Result<(), AllocError> {
+    fn add_readings(&mut self, readings: &[LaneUse]) -> Result<(), AllocError> {
         self.readings.extend_from_slice(readings)
     }
 
@@ -64,16 +64,16 @@ impl Piece {
     }
 }
 
-impl Segment {
+impl DefPiece {
     /// A piece that says nothing.
-    fn empty(alloc: Global) -> Segment {
-        Segment {
+    fn empty(alloc: Global) -> DefPiece {
+        DefPiece {
             start: 0,
             early: false,
             from: None,
             piece: Piece {
                 cause: Cause::None,
-                end: End::Never,
+                end: PieceEnd::Never,
                 readings: Vec::new(alloc),
             },
         }
@@ -85,7 +85,7 @@ impl Cell {
         &mut self,
         index: usize,
         place: usize,
-        reading: Reading,
+        reading: LaneUse,
     ) -> Result<CellEdit, AllocError>
         ensures { self.new.block ≡ self.old.block }
     {
@@ -115,7 +115,7 @@ impl Cell {
         }
     }
 
-    fn set_reading(&mut self, index: usize, place: usize, reading: Reading) -> CellEdit
+    fn set_reading(&mut self, index: usize, place: usize, reading: LaneUse) -> CellEdit
         ensures { self.new.block ≡ self.old.block }
     {
         let old = if index == 0 {
@@ -143,7 +143,7 @@ impl Cell {
     }
 
     /// Puts readings behind those of a piece.
-    fn add_readings(&mut self, index: usize, readings: &[Reading]) -> Result<(), AllocError>
+    fn add_readings(&mut self, index: usize, readings: &[LaneUse]) -> Result<(), AllocError>
         ensures { self.new.block ≡ self.old.block }
     {
         if index == 0 {
@@ -154,7 +154,7 @@ impl Cell {
         Ok(())
     }
 
-    fn begin(&mut self, index: usize, segment: Boxed<Segment>) -> Result<CellEdit, AllocError>
+    fn begin(&mut self, index: usize, segment: Boxed<DefPiece>) -> Result<CellEdit, AllocError>
         ensures { self.new.block ≡ self.old.block }
     {
         if index == 0 || index - 1 > self.segments.len() {
@@ -173,7 +173,7 @@ impl Cell {
         if index == 0 || index > self.segments.len() {
             return Ok(CellEdit::Nothing);
         }
-        let mut kept = Boxed::new(alloc, Segment::empty(alloc))?;
+        let mut kept = Boxed::new(alloc, DefPiece::empty(alloc))?;
         let segment = self.segments.remove(index - 1);
         match self.add_readings(index - 1, segment.piece.readings.as_slice()) {
             Ok(()) => {
@@ -249,7 +249,7 @@ impl Cell {
     }
 }
 
-impl Row {
+impl LaneRange {
     /// The place of the cell of a block, where there is one. It is looked for at a place and behind it
     /// first.
     pub fn find(&self, near: usize, block: u32) -> Option<usize> {

@@ -4,17 +4,17 @@ ghost use Rattle.std.specs.Prelude.{◌≡◌, ℕ, Some, slice_get};
 ghost use Rattle.live_lanes.specs.Ordered.{ids_of, AreRising};
 
 use crate::edit::cell_edit::CellEdit;
-use crate::edit::edit_update::Located;
-use crate::edit::lanes::Lanes;
-use crate::row::{Cause, End, Row};
-use crate::table::{Spot, Table};
+use crate::edit::edit_update::PieceRef;
+use crate::edit::lanes::LaneSpan;
+use crate::row::{Cause, LaneRange, PieceEnd};
+use crate::table::{PieceSpot, Table};
 use mir_func::{Block, Func, Instr, Op, Operands};
 use std::alloc::{AllocError, Global};
 use std::mem;
 
 /// A piece that was changed, or came or went.
 #[derive(Clone, Copy, PartialEq, Eq)]
-pub struct Mended {
+pub struct ChangedPiece {
     /// The lane.
     pub lane: u32,
     /// The block's position in the layout.
@@ -27,20 +27,20 @@ pub struct Mended {
 #[derive(Drop)]
 enum Undo {
     /// A piece's cell was changed.
-    Cell(Mended, CellEdit),
+    Cell(ChangedPiece, CellEdit),
     /// A lane had these cells.
-    Row(u32, Row),
+    Row(u32, LaneRange),
     /// An instruction came to the block at a position.
     Put(u32, u32),
     /// An instruction of the block at a position had the opcode and the operands that were kept last.
     Replaced(u32, u32),
     /// It was taken back.
-    Done(Option<Mended>),
+    Done(Option<ChangedPiece>),
 }
 
 /// What an instruction was before it was replaced.
 #[derive(Drop)]
-struct Former {
+struct OldInstr {
     op: Op,
     operands: Operands,
 }
@@ -51,9 +51,9 @@ pub(crate) struct Log {
     entries: Vec<Undo>,
     /// What instructions were, in the order of the entries that say that they were replaced. It
     /// stands apart, since it is much larger than an entry.
-    formers: Vec<Former>,
+    old_instrs: Vec<OldInstr>,
     /// The instructions that are to go, each with the position of its block.
-    erased: Vec<(u32, u32)>,
+    erased_instrs: Vec<(u32, u32)>,
 }
 
 impl Log {
@@ -62,8 +62,8 @@ impl Log {
     pub fn new(alloc: Global, edits: usize) -> Result<Log, AllocError> {
         Ok(Log {
             entries: Vec::with_capacity(alloc, edits.saturating_mul(16))?,
-            formers: Vec::with_capacity(alloc, edits)?,
-            erased: Vec::new(alloc),
+            old_instrs: Vec::with_capacity(alloc, edits)?,
+            erased_instrs: Vec::new(alloc),
         })
     }
 
@@ -79,7 +79,7 @@ impl Log {
 
     /// Makes room for one more entry that says that an instruction was replaced.
     pub fn reserve_replaced(&mut self) -> Result<(), AllocError> {
-        self.formers.reserve(1)?;
+        self.old_instrs.reserve(1)?;
         self.reserve()
     }
 
@@ -89,11 +89,15 @@ impl Log {
     }
 
     /// Notes the edit that takes the change of a cell back.
-    pub fn add_cell(&mut self, mended: Mended, back: CellEdit) -> Result<(), AllocError> {
-        self.add(Undo::Cell(mended, back))
+    pub fn add_cell(
+        &mut self,
+        changed_piece: ChangedPiece,
+        back: CellEdit,
+    ) -> Result<(), AllocError> {
+        self.add(Undo::Cell(changed_piece, back))
     }
 
-    fn add_row(&mut self, lane: u32, row: Row) -> Result<(), AllocError> {
+    fn add_row(&mut self, lane: u32, row: LaneRange) -> Result<(), AllocError> {
         self.add(Undo::Row(lane, row))
     }
 
@@ -104,7 +108,7 @@ impl Log {
 
     /// Notes that the instruction of an id is to go from the block at a position.
     pub fn add_erased(&mut self, block: u32, id: u32) -> Result<(), AllocError> {
-        self.erased.push((block, id))?;
+        self.erased_instrs.push((block, id))?;
         Ok(())
     }
 
@@ -116,7 +120,7 @@ impl Log {
         op: Op,
         operands: Operands,
     ) -> Result<(), AllocError> {
-        self.formers.push(Former { op, operands })?;
+        self.old_instrs.push(OldInstr { op, operands })?;
         self.add(Undo::Replaced(block, id))
     }
 
@@ -126,27 +130,27 @@ impl Log {
     }
 
     /// The piece that an entry speaks of.
-    pub fn mended(&self, k: usize) -> Option<Mended> {
+    pub fn changed_piece(&self, k: usize) -> Option<ChangedPiece> {
         match self.entries.get(k) {
-            Some(Undo::Cell(mended, _)) => Some(*mended),
-            Some(Undo::Done(mended)) => *mended,
+            Some(Undo::Cell(changed_piece, _)) => Some(*changed_piece),
+            Some(Undo::Done(changed_piece)) => *changed_piece,
             _ => None,
         }
     }
 
     /// Takes out what takes the change of an entry back.
     fn take(&mut self, k: usize) -> Undo {
-        let mended = self.mended(k);
+        let changed_piece = self.changed_piece(k);
         match self.entries.get_mut(k) {
-            Some(entry) => mem::replace(entry, Undo::Done(mended)),
+            Some(entry) => mem::replace(entry, Undo::Done(changed_piece)),
             None => Undo::Done(None),
         }
     }
 }
 
 /// The piece at a spot, which begins with this instruction or with its block.
-pub(crate) fn mended_from(spot: Spot, start: Option<u32>) -> Mended {
-    Mended {
+pub(crate) fn changed_piece_at(spot: PieceSpot, start: Option<u32>) -> ChangedPiece {
+    ChangedPiece {
         lane: spot.lane,
         block: spot.block,
         start,
@@ -158,7 +162,7 @@ impl Table {
     /// speaks of begins with this instruction, or with the block.
     pub fn edit_cell(
         &mut self,
-        mended: Mended,
+        changed_piece: ChangedPiece,
         place: usize,
         edit: CellEdit,
         log: &mut Log,
@@ -168,24 +172,28 @@ impl Table {
         }
         log.reserve()?;
         let alloc = self.rows.alloc;
-        let Some(row) = self.rows.rows.get_mut(mended.lane as usize) else {
+        let Some(row) = self.rows.rows.get_mut(changed_piece.lane as usize) else {
             return Ok(());
         };
         let back = row.edit(alloc, place, edit)?;
-        log.add_cell(mended, back)
+        log.add_cell(changed_piece, back)
     }
 
-    fn change_cell(&mut self, mended: Mended, edit: CellEdit) -> Result<CellEdit, AllocError> {
+    fn change_cell(
+        &mut self,
+        changed_piece: ChangedPiece,
+        edit: CellEdit,
+    ) -> Result<CellEdit, AllocError> {
         let alloc = self.rows.alloc;
-        let Some(row) = self.rows.rows.get_mut(mended.lane as usize) else {
+        let Some(row) = self.rows.rows.get_mut(changed_piece.lane as usize) else {
             return Ok(CellEdit::Nothing);
         };
-        let place = row.make(alloc, 0, mended.block)?;
+        let place = row.make(alloc, 0, changed_piece.block)?;
         row.edit(alloc, place, edit)
     }
 
     /// Takes all cells of some lanes away.
-    pub fn take_rows(&mut self, own: Lanes, log: &mut Log) -> Result<(), AllocError> {
+    pub fn take_rows(&mut self, own: LaneSpan, log: &mut Log) -> Result<(), AllocError> {
         'lanes: for k in 0..own.count {
             if let Some(lane) = own.lane(k) {
                 self.take_row(lane, log)?;
@@ -196,14 +204,14 @@ impl Table {
 
     fn take_row(&mut self, lane: u32, log: &mut Log) -> Result<(), AllocError> {
         log.reserve()?;
-        let none = Row::new(self.rows.alloc);
+        let none = LaneRange::new(self.rows.alloc);
         match self.rows.rows.get_mut(lane as usize) {
             Some(row) => log.add_row(lane, mem::replace(row, none)),
             None => Ok(()),
         }
     }
 
-    fn put_row(&mut self, lane: u32, old: Row) {
+    fn put_row(&mut self, lane: u32, old: LaneRange) {
         if let Some(row) = self.rows.rows.get_mut(lane as usize) {
             *row = old;
         }
@@ -211,14 +219,14 @@ impl Table {
 
     /// Gives a live piece a reading that needs no other lane as its cause, or none. Answers whether
     /// it has none then.
-    pub fn take_cause(&mut self, located: Located, log: &mut Log) -> Result<bool, AllocError> {
+    pub fn take_cause(&mut self, piece_ref: PieceRef, log: &mut Log) -> Result<bool, AllocError> {
         log.reserve()?;
         let alloc = self.rows.alloc;
-        let spot = located.spot;
+        let spot = piece_ref.spot;
         let Some(row) = self.rows.rows.get_mut(spot.lane as usize) else {
             return Ok(false);
         };
-        let Some(place) = row.find(located.place, spot.block) else {
+        let Some(place) = row.find(piece_ref.place, spot.block) else {
             return Ok(false);
         };
         let Some(cell) = row.cells.get(place) else {
@@ -229,21 +237,21 @@ impl Table {
             return Ok(false);
         }
         let end = match cause {
-            Cause::None => End::Never,
+            Cause::None => PieceEnd::Never,
             _ => cell.end_of(spot.index),
         };
         let start = cell.start_of(spot.index);
         let back = row.edit(alloc, place, CellEdit::SetLife(spot.index, cause, end))?;
-        log.add_cell(mended_from(spot, start), back)?;
+        log.add_cell(changed_piece_at(spot, start), back)?;
         Ok(cause == Cause::None)
     }
 
     /// Gives a piece of the cell at a place an end.
     pub fn set_end(
         &mut self,
-        spot: Spot,
+        spot: PieceSpot,
         place: usize,
-        end: End,
+        end: PieceEnd,
         log: &mut Log,
     ) -> Result<(), AllocError> {
         log.reserve()?;
@@ -256,7 +264,7 @@ impl Table {
             None => return Ok(()),
         };
         let back = row.edit(alloc, place, CellEdit::SetEnd(spot.index, end))?;
-        log.add_cell(mended_from(spot, start), back)
+        log.add_cell(changed_piece_at(spot, start), back)
     }
 
     /// The place of an instruction among those of the block at a position.
@@ -286,7 +294,7 @@ impl Table {
     }
 
     /// Takes all changes of a log back, the last one first.
-    pub fn take_back(&mut self, func: &mut Func, log: &mut Log) {
+    pub fn roll_back(&mut self, func: &mut Func, log: &mut Log) {
         'entries: for k in (0..log.len()).rev() {
             let entry = log.take(k);
             self.take_back_one(func, entry, log);
@@ -295,8 +303,8 @@ impl Table {
 
     fn take_back_one(&mut self, func: &mut Func, entry: Undo, log: &mut Log) {
         match entry {
-            Undo::Cell(mended, back) => {
-                let _ = self.change_cell(mended, back);
+            Undo::Cell(changed_piece, back) => {
+                let _ = self.change_cell(changed_piece, back);
             }
             Undo::Row(lane, row) => self.put_row(lane, row),
             Undo::Put(block, id) => {
@@ -307,7 +315,7 @@ impl Table {
                 self.forget(id);
             }
             Undo::Replaced(block, id) => {
-                if let Some(former) = log.formers.pop() {
+                if let Some(former) = log.old_instrs.pop() {
                     self.put_former(func, block, id, former);
                 }
             }
@@ -316,8 +324,8 @@ impl Table {
     }
 
     /// Gives an instruction the opcode and the operands that it had.
-    fn put_former(&self, func: &mut Func, block: u32, id: u32, former: Former) {
-        let Former { op, operands } = former;
+    fn put_former(&self, func: &mut Func, block: u32, id: u32, former: OldInstr) {
+        let OldInstr { op, operands } = former;
         let place = self.place_in(func, block, id);
         if self.stands_at(func, block, place, id) {
             let _ = func.change_at(block as usize, place, op, operands);
@@ -326,8 +334,8 @@ impl Table {
 
     /// Lets the instructions go that a log says are to go.
     pub fn finish(&mut self, func: &mut Func, log: &Log) {
-        'erased: for erased in log.erased.as_slice() {
-            let (block, id) = *erased;
+        'erased_instrs: for erased_instrs in log.erased_instrs.as_slice() {
+            let (block, id) = *erased_instrs;
             let place = self.place_in(func, block, id);
             if self.stands_at(func, block, place, id) {
                 let _ = func.remove_at(block as usize, place);

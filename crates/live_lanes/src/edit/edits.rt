@@ -2,22 +2,22 @@
 
 use crate::compute::enter::slot_of;
 use crate::edit::cell_edit::CellEdit;
-use crate::edit::edit_log::{Log, Mended};
+use crate::edit::edit_log::{ChangedPiece, Log};
 use crate::edit::edit_update::Touch;
-use crate::edit::lanes::{Lanes, has_lane, no_lanes};
+use crate::edit::lanes::{LaneSpan, has_lane, no_lanes};
 use crate::edit::new_cells::NewCell;
 use crate::live::LiveFunc;
-use crate::row::{Cause, Cell, End, Piece, Reading, Row, Segment, entry_rank};
+use crate::row::{Cause, Cell, DefPiece, LaneRange, LaneUse, Piece, PieceEnd, entry_rank};
 use crate::table::Table;
 use instr_effects::lane_acts::{act_on, has_act};
-use instr_effects::{LaneAct, LaneRead, LaneWrite, Reader};
+use instr_effects::{EffectReader, LaneAct, LaneRead, LaneWrite};
 use mir_func::{Func, Gap, Loc, Op, Operand, Operands, RegOp};
 use slot_index::Slots;
 use std::alloc::{AllocError, Global};
 use target_base::{Boxed, OpId, Target};
 
 /// The opcode COPY of every target.
-const COPY: OpId = OpId(0);
+pub(crate) const COPY: OpId = OpId(0);
 
 /// An edit of a function.
 #[derive(Drop)]
@@ -42,7 +42,7 @@ struct Progress {
     log: Log,
     touched: Vec<Touch>,
     /// Lanes whose cells were taken away before, as all that names them is edited.
-    gone: Lanes,
+    gone: LaneSpan,
 }
 
 /// So many of the touches before are looked at for one of the same lane.
@@ -97,7 +97,7 @@ impl LiveFunc {
     /// a refusal the function is unchanged.
     pub fn edit_all(&mut self, edits: Vec<Edit>) -> Result<(), AllocError> {
         let changes = self.begin_edits(edits)?;
-        self.keep(changes);
+        self.commit(changes);
         Ok(())
     }
 
@@ -124,7 +124,7 @@ impl LiveFunc {
         self.begin(edits, own)
     }
 
-    fn begin(&mut self, edits: Vec<Edit>, gone: Lanes) -> Result<Changes, AllocError> {
+    fn begin(&mut self, edits: Vec<Edit>, gone: LaneSpan) -> Result<Changes, AllocError> {
         let alloc = self.table.rows.alloc;
         let count = edits.len().min(1 << 16);
         let mut progress = Progress {
@@ -137,20 +137,20 @@ impl LiveFunc {
         match outcome {
             Ok(()) => Ok(Changes { log }),
             Err(e) => {
-                self.table.take_back(&mut self.func, &mut log);
+                self.table.roll_back(&mut self.func, &mut log);
                 Err(e)
             }
         }
     }
 
     /// Keeps what edits changed.
-    pub fn keep(&mut self, changes: Changes) {
+    pub fn commit(&mut self, changes: Changes) {
         self.table.finish(&mut self.func, &changes.log);
     }
 
     /// Takes back what edits changed. The pieces that they changed can still be asked for.
-    pub fn take_back(&mut self, changes: &mut Changes) {
-        self.table.take_back(&mut self.func, &mut changes.log);
+    pub fn roll_back(&mut self, changes: &mut Changes) {
+        self.table.roll_back(&mut self.func, &mut changes.log);
     }
 
     fn try_edits(&mut self, edits: Vec<Edit>, progress: &mut Progress) -> Result<(), AllocError> {
@@ -174,7 +174,7 @@ impl LiveFunc {
     /// What the instruction at a place of the block at a position does to lanes.
     fn acts(&self, block: u32, place: usize) -> Result<Vec<LaneAct>, AllocError> {
         let alloc = self.table.rows.alloc;
-        let reader = Reader {
+        let reader = EffectReader {
             alloc,
             target: &self.target,
             func: &self.func,
@@ -192,7 +192,7 @@ impl LiveFunc {
         &self,
         block: u32,
         place: usize,
-        gone: Lanes,
+        gone: LaneSpan,
     ) -> Result<Vec<LaneAct>, AllocError> {
         let mut acts = self.acts(block, place)?;
         acts.retain(|act| !has_lane(gone, act.lane));
@@ -343,7 +343,7 @@ impl Table {
     }
 
     /// The lanes of a range.
-    fn own_lanes(&self, v: u32) -> Lanes {
+    fn own_lanes(&self, v: u32) -> LaneSpan {
         self.lanes.of_range(v)
     }
 
@@ -359,7 +359,7 @@ impl Table {
         Ok(())
     }
 
-    fn make_last_cells(&mut self, own: Lanes, block: u32) -> Result<(), AllocError> {
+    fn make_last_cells(&mut self, own: LaneSpan, block: u32) -> Result<(), AllocError> {
         let alloc = self.rows.alloc;
         'lanes: for k in 0..own.count {
             if let Some(lane) = own.lane(k) {
@@ -372,7 +372,7 @@ impl Table {
     }
 
     /// Whether a phi reads one of these lanes at the end of a block.
-    fn is_read_last(&self, own: Lanes) -> bool {
+    fn is_read_last(&self, own: LaneSpan) -> bool {
         (0..own.count).any(|k| match own.lane(k) {
             Some(lane) => self.rows.cells(lane).iter().any(|cell| cell.is_read_last),
             None => false,
@@ -395,7 +395,7 @@ impl Table {
     pub fn add_rows(&mut self) -> Result<(), AllocError> {
         let alloc = self.rows.alloc;
         'lanes: for _ in self.rows.rows.len()..self.lanes.len() {
-            self.rows.rows.push(Row::new(alloc))?;
+            self.rows.rows.push(LaneRange::new(alloc))?;
         }
         Ok(())
     }
@@ -440,15 +440,15 @@ impl Table {
             place,
             id,
         })?;
-        let mended = Mended {
+        let changed_piece = ChangedPiece {
             lane,
             block,
             start: Some(id),
         };
         let edit = self.reading_edit(place, id, act);
-        self.edit_cell(mended, place, edit, &mut progress.log)?;
+        self.edit_cell(changed_piece, place, edit, &mut progress.log)?;
         let edit = self.writing_edit(place, id, act)?;
-        self.edit_cell(mended, place, edit, &mut progress.log)
+        self.edit_cell(changed_piece, place, edit, &mut progress.log)
     }
 
     /// The place of a lane's cell of a block, which is made where there is none.
@@ -492,7 +492,7 @@ fn reading_edit(slots: &Slots, cell: &Cell, id: u32, read: Option<LaneRead>) -> 
         Some(r) => r.id == id,
         None => false,
     };
-    let reading = read.map(|r| Reading { id, into: r.into });
+    let reading = read.map(|r| LaneUse { id, into: r.into });
     match (reading, is_there) {
         (Some(reading), false) => CellEdit::PutReading(index, place, reading),
         (Some(reading), true) => CellEdit::SetReading(index, place, reading),
@@ -522,7 +522,10 @@ fn writing_edit(
     Ok(match (act.write, is_there) {
         (Some(written), false) => {
             let readings = readings_behind(alloc, slots, cell, place, id)?;
-            CellEdit::Begin(index, Boxed::new(alloc, begun(id, written, readings))?)
+            CellEdit::Begin(
+                index,
+                Boxed::new(alloc, piece_of_def(id, written, readings))?,
+            )
         }
         (Some(written), true) => CellEdit::SetWriting(index, written.early, written.from),
         (None, true) => CellEdit::Join(index),
@@ -531,14 +534,14 @@ fn writing_edit(
 }
 
 /// A piece that an instruction's writing begins, with these readings. It isn't live.
-fn begun(id: u32, written: LaneWrite, readings: Vec<Reading>) -> Segment {
-    Segment {
+fn piece_of_def(id: u32, written: LaneWrite, readings: Vec<LaneUse>) -> DefPiece {
+    DefPiece {
         start: id,
         early: written.early,
         from: written.from,
         piece: Piece {
             cause: Cause::None,
-            end: End::Never,
+            end: PieceEnd::Never,
             readings,
         },
     }
@@ -551,7 +554,7 @@ fn readings_behind(
     cell: &Cell,
     index: usize,
     id: u32,
-) -> Result<Vec<Reading>, AllocError> {
+) -> Result<Vec<LaneUse>, AllocError> {
     let Some(piece) = cell.piece(index) else {
         return Ok(Vec::new(alloc));
     };

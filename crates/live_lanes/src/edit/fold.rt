@@ -1,15 +1,12 @@
 //! Folds: a range, or lanes of it, stands for another one.
 
-use crate::edit::edits::Edit;
+use crate::edit::edits::{COPY, Edit};
 use crate::live::LiveFunc;
 use mir_func::operands::class_of;
 use mir_func::{Loc, Op, Operand, Operands, RegOp};
 use std::alloc::{AllocError, Global};
 use target_base::classes::{are_within, regs_at};
 use target_base::{Copied, IndexId, OpId, Reg, Target};
-
-/// The opcode COPY of every target.
-const COPY: OpId = OpId(0);
 
 /// A fold: `keep`, or its lanes of an index, stands for `gone`.
 #[derive(Clone, Copy)]
@@ -30,7 +27,7 @@ fn are_composed(lanes: &[u8], outer: &[u8], inner: &[u8]) -> bool {
 
 /// The first index whose lanes are those that `inner` picks of `outer`'s. None where no index has
 /// them.
-pub fn composed(target: &Target, outer: IndexId, inner: IndexId) -> Option<IndexId> {
+pub fn compose_indexes(target: &Target, outer: IndexId, inner: IndexId) -> Option<IndexId> {
     let (outer, inner) = (target.lanes_at(outer), target.lanes_at(inner));
     let place = target
         .indexes
@@ -53,7 +50,7 @@ impl LiveFunc {
             edits.push(self.fold_edit(alloc, *id, fold)?)?;
         }
         let changes = self.begin_edits_of(edits, gone, touched.as_slice())?;
-        self.keep(changes);
+        self.commit(changes);
         if index.is_none() {
             self.narrow(keep, gone);
         }
@@ -91,7 +88,7 @@ impl LiveFunc {
         };
         let mut operands = Operands::new(alloc);
         'operands: for operand in instr.operands.as_slice() {
-            operands.push(folded(alloc, &self.target, operand, fold)?)?;
+            operands.push(join_operand(alloc, &self.target, operand, fold)?)?;
         }
         let was_identity = self.is_identity(op, instr.operands.as_slice());
         if self.is_identity(op, operands.as_slice()) && !was_identity {
@@ -132,7 +129,7 @@ impl LiveFunc {
 }
 
 /// An operand with `keep` in the place of `gone`.
-fn folded(
+fn join_operand(
     alloc: Global,
     target: &Target,
     operand: &Operand,
@@ -153,6 +150,6 @@ fn folded_index(target: &Target, fold: Fold, inner: Option<IndexId>) -> Option<I
     match (fold.index, inner) {
         (None, inner) => inner,
         (outer, None) => outer,
-        (Some(outer), Some(inner)) => composed(target, outer, inner),
+        (Some(outer), Some(inner)) => compose_indexes(target, outer, inner),
     }
 }

@@ -3,15 +3,15 @@
 pub(crate) use instr_effects::lanes::LaneTable;
 pub(crate) use instr_effects::numbers::LANES_OF_A_SLOT;
 pub(crate) use instr_effects::owner::Owner;
-pub(crate) use instr_effects::row::Lanes;
+pub(crate) use instr_effects::row::LaneSpan;
 
 /// No lanes.
-pub(crate) fn no_lanes() -> Lanes {
-    Lanes { first: 0, count: 0 }
+pub(crate) fn no_lanes() -> LaneSpan {
+    LaneSpan { first: 0, count: 0 }
 }
 
 /// Whether a lane is one of these.
-pub(crate) fn has_lane(own: Lanes, lane: u32) -> bool {
+pub(crate) fn has_lane(own: LaneSpan, lane: u32) -> bool {
     lane >= own.first && lane - own.first < own.count
 }
 

@@ -2,7 +2,7 @@
 
 ghost use Rattle.std.specs.Prelude.{◌≤◌, length};
 
-use crate::row::{Cause, Cell, End, Row};
+use crate::row::{Cause, Cell, LaneRange, PieceEnd};
 use crate::table::Table;
 use std::alloc::{AllocError, Global};
 use std::mem;
@@ -28,7 +28,7 @@ impl NewCell {
         let mut cell = Cell::new(alloc, self.block);
         if let Some(next) = self.next {
             cell.set_cause(0, Cause::Follower(next));
-            cell.set_end(0, End::Last);
+            cell.set_end(0, PieceEnd::Last);
         }
         cell
     }
@@ -63,7 +63,7 @@ impl Table {
 /// So many cells are put in one by one, which takes no other memory.
 const FEW: usize = 24;
 
-impl Row {
+impl LaneRange {
     /// Makes cells of blocks that have none, which are given from the last block to the first.
     fn add_cells(&mut self, alloc: Global, new: &[NewCell]) -> Result<(), AllocError> {
         if new.len() > FEW {
@@ -76,10 +76,10 @@ impl Row {
     /// The same of many cells: the row is made anew. There is room for all before one is moved.
     fn merge(&mut self, alloc: Global, new: &[NewCell]) -> Result<(), AllocError> {
         let room = self.cells.len().saturating_add(new.len());
-        let mut merged = Row {
+        let mut merged = LaneRange {
             cells: Vec::with_capacity(alloc, room)?,
         };
-        let Row { cells, .. } = mem::replace(self, Row::new(alloc));
+        let LaneRange { cells, .. } = mem::replace(self, LaneRange::new(alloc));
         let mut rest = new;
         'cells: for cell in cells {
             let (own, others) = rest.split_at(count_behind(rest, cell.block));

@@ -1,62 +1,62 @@
 //! Pieces that come alive by edits: those that have a reason to, and all that leads to them.
 
 use crate::edit::cell_edit::CellEdit;
-use crate::edit::edit_log::{Log, Mended, mended_from};
-use crate::edit::edit_update::{Located, Need, add_new};
+use crate::edit::edit_log::{ChangedPiece, Log, changed_piece_at};
+use crate::edit::edit_update::{Need, PieceRef, add_new};
 use crate::edit::new_cells::NewCell;
-use crate::row::{Cause, Cell, End};
-use crate::table::{Spot, Table};
+use crate::row::{Cause, Cell, PieceEnd};
+use crate::table::{PieceSpot, Table};
 use std::alloc::{AllocError, Global};
 use std::collections::BTreeMap;
 
 /// The pieces that came alive.
 #[derive(Drop)]
-struct Rising {
+struct RevivedPieces {
     /// All of them.
-    risen: Vec<Located>,
+    risen: Vec<PieceRef>,
     /// Those of them whose ends are still to be found.
-    unended: Vec<Located>,
+    open_pieces: Vec<PieceRef>,
     /// Those of them that have no cell yet, by lane, and from the last block to the first. The cells
     /// of a row are made together, so that none is moved twice.
     through: BTreeMap<u64, NewCell>,
 }
 
-impl Rising {
-    fn new(alloc: Global) -> Rising {
-        Rising {
+impl RevivedPieces {
+    fn new(alloc: Global) -> RevivedPieces {
+        RevivedPieces {
             risen: Vec::new(alloc),
-            unended: Vec::new(alloc),
+            open_pieces: Vec::new(alloc),
             through: BTreeMap::new(alloc),
         }
     }
 
     /// Adds a piece, whose end is known or is still to be found.
-    fn add(&mut self, located: Located, has_end: bool) -> Result<(), AllocError> {
+    fn add(&mut self, piece_ref: PieceRef, has_end: bool) -> Result<(), AllocError> {
         if !has_end {
-            self.unended.push(located)?;
+            self.open_pieces.push(piece_ref)?;
         }
-        self.risen.push(located)?;
+        self.risen.push(piece_ref)?;
         Ok(())
     }
 
     /// Adds a piece that has no cell, unless it is there, with the block that follows.
-    fn add_through(&mut self, located: Located, next: u32) -> Result<(), AllocError> {
-        let Spot { lane, block, .. } = located.spot;
+    fn add_through(&mut self, piece_ref: PieceRef, next: u32) -> Result<(), AllocError> {
+        let PieceSpot { lane, block, .. } = piece_ref.spot;
         let next = Some(next);
         let cell = NewCell { lane, block, next };
         if self.through.contains_key(&cell.key()) {
             return Ok(());
         }
         self.through.insert(cell.key(), cell)?;
-        self.risen.push(located)?;
+        self.risen.push(piece_ref)?;
         Ok(())
     }
 }
 
 /// Up to where a piece of a cell is live that comes alive for this cause, where this is known.
-fn end_by(cell: &Cell, index: usize, cause: Cause) -> Option<End> {
+fn end_by(cell: &Cell, index: usize, cause: Cause) -> Option<PieceEnd> {
     match cause {
-        Cause::Follower(_) if index == cell.segments.len() => Some(End::Last),
+        Cause::Follower(_) if index == cell.segments.len() => Some(PieceEnd::Last),
         _ => None,
     }
 }
@@ -68,30 +68,30 @@ impl Table {
     pub fn rise(
         &mut self,
         reasons: &[Need],
-        around: &mut Vec<Located>,
+        around: &mut Vec<PieceRef>,
         log: &mut Log,
-    ) -> Result<Vec<Located>, AllocError> {
-        let mut rising = Rising::new(self.rows.alloc);
+    ) -> Result<Vec<PieceRef>, AllocError> {
+        let mut rising = RevivedPieces::new(self.rows.alloc);
         self.meet_all(reasons, &mut rising, around, log)?;
         let mut needs = Vec::new(self.rows.alloc);
         'risen: for k in 0..usize::MAX {
-            let Some(located) = rising.risen.get(k).copied() else {
+            let Some(piece_ref) = rising.risen.get(k).copied() else {
                 break;
             };
             needs.clear();
-            self.add_needs(located, &mut needs)?;
+            self.add_needs(piece_ref, &mut needs)?;
             self.meet_all(needs.as_slice(), &mut rising, around, log)?;
         }
         self.make_through(&rising, log)?;
-        let Rising { unended, .. } = rising;
-        Ok(unended)
+        let RevivedPieces { open_pieces, .. } = rising;
+        Ok(open_pieces)
     }
 
     fn meet_all(
         &mut self,
         needs: &[Need],
-        rising: &mut Rising,
-        around: &mut Vec<Located>,
+        rising: &mut RevivedPieces,
+        around: &mut Vec<PieceRef>,
         log: &mut Log,
     ) -> Result<(), AllocError> {
         'needs: for need in needs {
@@ -104,63 +104,63 @@ impl Table {
     fn meet(
         &mut self,
         need: &Need,
-        rising: &mut Rising,
-        around: &mut Vec<Located>,
+        rising: &mut RevivedPieces,
+        around: &mut Vec<PieceRef>,
         log: &mut Log,
     ) -> Result<(), AllocError> {
-        let Need { located, cause } = *need;
-        let place = self.place_of_cell(located);
+        let Need { piece_ref, cause } = *need;
+        let place = self.place_of_cell(piece_ref);
         if let (None, Cause::Follower(next)) = (place, cause) {
-            return rising.add_through(located, next);
+            return rising.add_through(piece_ref, next);
         }
-        let spot = located.spot;
-        let place = place.unwrap_or(located.place);
-        let located = Located { spot, place };
-        if !self.give_cause(located, cause, rising, log)? {
-            add_new(around, located)?;
+        let spot = piece_ref.spot;
+        let place = place.unwrap_or(piece_ref.place);
+        let piece_ref = PieceRef { spot, place };
+        if !self.give_cause(piece_ref, cause, rising, log)? {
+            add_new(around, piece_ref)?;
         }
         Ok(())
     }
 
     /// The place of a piece's cell, where there is one.
-    fn place_of_cell(&self, located: Located) -> Option<usize> {
-        let row = self.rows.rows.get(located.spot.lane as usize)?;
-        row.find(located.place, located.spot.block)
+    fn place_of_cell(&self, piece_ref: PieceRef) -> Option<usize> {
+        let row = self.rows.rows.get(piece_ref.spot.lane as usize)?;
+        row.find(piece_ref.place, piece_ref.spot.block)
     }
 
     /// Gives a piece a cause, where it isn't live, and adds it to those that came alive. Answers
     /// whether it does.
     fn give_cause(
         &mut self,
-        located: Located,
+        piece_ref: PieceRef,
         cause: Cause,
-        rising: &mut Rising,
+        rising: &mut RevivedPieces,
         log: &mut Log,
     ) -> Result<bool, AllocError> {
         log.reserve()?;
         let alloc = self.rows.alloc;
-        let spot = located.spot;
+        let spot = piece_ref.spot;
         let Some(row) = self.rows.rows.get_mut(spot.lane as usize) else {
             return Ok(false);
         };
-        let place = row.make(alloc, located.place, spot.block)?;
+        let place = row.make(alloc, piece_ref.place, spot.block)?;
         let Some(cell) = row.cells.get(place) else {
             return Ok(false);
         };
         if cell.is_live(spot.index) {
             return Ok(false);
         }
-        let mended = mended_from(spot, cell.start_of(spot.index));
+        let changed_piece = changed_piece_at(spot, cell.start_of(spot.index));
         let known = end_by(cell, spot.index, cause);
-        let end = known.unwrap_or(End::Never);
+        let end = known.unwrap_or(PieceEnd::Never);
         let back = row.edit(alloc, place, CellEdit::SetLife(spot.index, cause, end))?;
-        log.add_cell(mended, back)?;
-        rising.add(Located { spot, place }, known.is_some())?;
+        log.add_cell(changed_piece, back)?;
+        rising.add(PieceRef { spot, place }, known.is_some())?;
         Ok(true)
     }
 
     /// Makes the cells of lanes that came to be live all through blocks.
-    fn make_through(&mut self, rising: &Rising, log: &mut Log) -> Result<(), AllocError> {
+    fn make_through(&mut self, rising: &RevivedPieces, log: &mut Log) -> Result<(), AllocError> {
         let count = rising.through.len();
         let mut cells = Vec::with_capacity(self.rows.alloc, count)?;
         'values: for cell in rising.through.values() {
@@ -175,12 +175,15 @@ impl Table {
 /// taken back.
 fn note_through(cells: &[NewCell], log: &mut Log) -> Result<(), AllocError> {
     'cells: for cell in cells {
-        let mended = Mended {
+        let changed_piece = ChangedPiece {
             lane: cell.lane,
             block: cell.block,
             start: None,
         };
-        log.add_cell(mended, CellEdit::SetLife(0, Cause::None, End::Never))?;
+        log.add_cell(
+            changed_piece,
+            CellEdit::SetLife(0, Cause::None, PieceEnd::Never),
+        )?;
     }
     Ok(())
 }

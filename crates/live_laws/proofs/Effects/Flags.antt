@@ -11,7 +11,7 @@ use Rattle.meaning.specs.Lanes.{Writes, Reads}
 use Rattle.meaning.specs.Code.{Item}
 use Rattle.meaning.specs.Live.{Among as Member, here as first, there as later, writes_of, is_slot, Writing as LaneWriting, WritingEarly}
 use Rattle.mir_meaning.specs.Items.{write, moved, undefined}
-use Rattle.mir_meaning.specs.declared.writing.Writing.{Writing}
+use Rattle.mir_meaning.specs.declared.writing.LaneDef.{LaneDef}
 use Rattle.mir_meaning.specs.Paths.{Step, writing_of, is_present, is_written}
 use Rattle.mir_meaning.specs.Stands.{Tags}
 use Rattle.instr_effects.specs.Owners.{owner_of}
@@ -54,11 +54,11 @@ abbrev pub WroteEarly : Lane → Writes → Type 0
 WroteEarly l ws = (w : Write) × Member w ws × (w.lane ≡ l) × (w.early ≡ true)
 
 -- the first writing of a number is that of a write
-first-from : (num : Numbering) (n : ℕ) (w : Writing) (ws : Writes) → writing_of n (act_writings num (acts_of ws)) ≡ Some w → (v : Write) × Member v ws × (num (owner_of v.lane) ≡ Some n) × (w.early ≡ v.early)
+first-from : (num : Numbering) (n : ℕ) (w : LaneDef) (ws : Writes) → writing_of n (act_writings num (acts_of ws)) ≡ Some w → (v : Write) × Member v ws × (num (owner_of v.lane) ≡ Some n) × (w.early ≡ v.early)
 first-from num n w [] e = absurd (cc)
 first-from num n w (v ∷ ws) e = go (num (owner_of v.lane)) refl e (first-from num n w ws)
   where
-    rest : List Writing
+    rest : List LaneDef
     rest = act_writings num (acts_of ws)
 
     by : (k : ℕ) → num (owner_of v.lane) ≡ Some k → (b : Bool) → nat_eq k n ≡ b → cond b (Some (writing num (act_of v) k)) (writing_of n rest) ≡ Some w → (writing_of n rest ≡ Some w → (x : Write) × Member x ws × (num (owner_of x.lane) ≡ Some n) × (w.early ≡ x.early)) → (x : Write) × Member x (v ∷ ws) × (num (owner_of x.lane) ≡ Some n) × (w.early ≡ x.early)
@@ -141,13 +141,13 @@ module _ (reserved : Lane → Bool) (num : Numbering) (proper : Lane → Bool) (
             let h = writing-in num y.0 n same.results y.1 (ap (λ a. num (owner_of a)) y.2 ∙ tag-number l n tagged) in
             at (writing_of n (act_writings num (acts_of same.results))) refl h (ap (λ ws. writing_of n (act_writings num (acts_of ws))) same.parted ∙ first-left num n same.results same.others h)
           where
-            at : (q : Option Writing) → writing_of n (act_writings num (acts_of same.results)) ≡ q → is_present (writing_of n (act_writings num (acts_of same.results))) ≡ true → writing_of n (act_writings num (acts_of E)) ≡ writing_of n (act_writings num (acts_of same.results)) → elim (writing_of n (act_writings num (acts_of E))) [ None ↦ false | Some w ↦ w.early ] ≡ true
-            at None f h g = absurd (let k = ap (λ (p : Option Writing). is_present p) f in cc)
+            at : (q : Option LaneDef) → writing_of n (act_writings num (acts_of same.results)) ≡ q → is_present (writing_of n (act_writings num (acts_of same.results))) ≡ true → writing_of n (act_writings num (acts_of E)) ≡ writing_of n (act_writings num (acts_of same.results)) → elim (writing_of n (act_writings num (acts_of E))) [ None ↦ false | Some w ↦ w.early ] ≡ true
+            at None f h g = absurd (let k = ap (λ (p : Option LaneDef). is_present p) f in cc)
             at (Some w) f h g =
                 let v = first-from num n w same.results f in
-                ap (λ (p : Option Writing). elim p [ None ↦ false | Some w ↦ w.early ]) (g ∙ f) ∙ v.3 ∙ same.agreed l n tagged v.0 y.0 v.1 y.1 (lane-of l v.0.lane n tagged still v.2) y.2 ∙ y.3
+                ap (λ (p : Option LaneDef). elim p [ None ↦ false | Some w ↦ w.early ]) (g ∙ f) ∙ v.3 ∙ same.agreed l n tagged v.0 y.0 v.1 y.1 (lane-of l v.0.lane n tagged still v.2) y.2 ∙ y.3
 
-        back : (q : Option Writing) → writing_of n (act_writings num (acts_of E)) ≡ q → elim q [ None ↦ false | Some w ↦ w.early ] ≡ true → WroteEarly l (writes_of x)
+        back : (q : Option LaneDef) → writing_of n (act_writings num (acts_of E)) ≡ q → elim q [ None ↦ false | Some w ↦ w.early ] ≡ true → WroteEarly l (writes_of x)
         back None f e = absurd (cc)
         back (Some w) f e =
             let v = first-from num n w E f in

@@ -10,7 +10,7 @@ use Rattle.meaning.specs.declared.types.Write.{Write}
 use Rattle.meaning.specs.Lanes.{Writes, Reads}
 use Rattle.meaning.specs.Live.{Among as Member, here as first, there as later}
 use Rattle.mir_meaning.specs.Items.{write, moved, undefined}
-use Rattle.mir_meaning.specs.declared.writing.Writing.{Writing}
+use Rattle.mir_meaning.specs.declared.writing.LaneDef.{LaneDef}
 use Rattle.mir_meaning.specs.Paths.{Step, has, writing_of, is_some_number, Unused, Certain, Into, move_of, use_of, IsMatched}
 use Rattle.instr_effects.specs.declared.owner.Owner.{Owner}
 use Rattle.instr_effects.specs.Owners.{owner_of, fill_owner, owners_read}
@@ -22,11 +22,11 @@ use Rattle.live_laws.proofs.Effects.Moving.{some-same, source-from}
 use Rattle.live_laws.proofs.Effects.Moved.{Apart, moved-of, undefined-fill, move-once}
 
 -- writings that move lanes are the first of their lanes, and each lane is moved into one
-pub record IsClear (ws : List Writing) : Type 0 where
-  pub first : (w : Writing) (l : ℕ) → Member w ws → w.from ≡ Some l → writing_of w.lane ws ≡ Some w
-  pub one : (v w : Writing) (l : ℕ) → Member v ws → Member w ws → v.from ≡ Some l → w.from ≡ Some l → v.lane ≡ w.lane
+pub record IsClear (ws : List LaneDef) : Type 0 where
+  pub first : (w : LaneDef) (l : ℕ) → Member w ws → w.from ≡ Some l → writing_of w.lane ws ≡ Some w
+  pub one : (v w : LaneDef) (l : ℕ) → Member v ws → Member w ws → v.from ≡ Some l → w.from ≡ Some l → v.lane ≡ w.lane
 
-written-of : (a : ℕ) (w : Writing) (ws : List Writing) → writing_of a ws ≡ Some w → Member w ws × (w.lane ≡ a)
+written-of : (a : ℕ) (w : LaneDef) (ws : List LaneDef) → writing_of a ws ≡ Some w → Member w ws × (w.lane ≡ a)
 written-of a w [] e = absurd (cc)
 written-of a w (v ∷ ws) e = go (nat_eq v.lane a) refl e (written-of a w ws)
   where
@@ -41,15 +41,15 @@ is-number l (Some k) e = ap Some (eqb-true k l e)
 into-same : (a c : ℕ) → Into a ≡ Into c → a ≡ c
 into-same a c e = cc
 
-moved-from : (l a : ℕ) (ws : List Writing) → move_of l ws ≡ Into a → (w : Writing) × Member w ws × (w.from ≡ Some l) × (w.lane ≡ a)
+moved-from : (l a : ℕ) (ws : List LaneDef) → move_of l ws ≡ Into a → (w : LaneDef) × Member w ws × (w.from ≡ Some l) × (w.lane ≡ a)
 moved-from l a [] e = absurd (cc)
 moved-from l a (v ∷ ws) e = go (is_some_number l v.from) refl e (moved-from l a ws)
   where
-    go : (q : Bool) → is_some_number l v.from ≡ q → cond q (Into v.lane) (move_of l ws) ≡ Into a → (move_of l ws ≡ Into a → (w : Writing) × Member w ws × (w.from ≡ Some l) × (w.lane ≡ a)) → (w : Writing) × Member w (v ∷ ws) × (w.from ≡ Some l) × (w.lane ≡ a)
+    go : (q : Bool) → is_some_number l v.from ≡ q → cond q (Into v.lane) (move_of l ws) ≡ Into a → (move_of l ws ≡ Into a → (w : LaneDef) × Member w ws × (w.from ≡ Some l) × (w.lane ≡ a)) → (w : LaneDef) × Member w (v ∷ ws) × (w.from ≡ Some l) × (w.lane ≡ a)
     go true f g ih = (v, first, is-number l v.from f, into-same v.lane a g)
     go false f g ih = let z = ih g in (z.0, later z.1, z.2, z.3)
 
-moved-in : (l : ℕ) (w : Writing) (ws : List Writing) → Member w ws → w.from ≡ Some l → move_of l ws ≡ Unused → ⊥
+moved-in : (l : ℕ) (w : LaneDef) (ws : List LaneDef) → Member w ws → w.from ≡ Some l → move_of l ws ≡ Unused → ⊥
 moved-in l w [] m e = λ u. member-none w m
 moved-in l w (v ∷ ws) m e =
     member-elim w v ws (λ f u. at (is_some_number l v.from) (ap (is_some_number l) (ap (λ x. x.from) (sym f) ∙ e) ∙ eq-eqb l l refl) u) (λ k u. past (is_some_number l v.from) u (moved-in l w ws k e)) m
@@ -76,7 +76,7 @@ clear-matched s clear = record {
         go true e = absurd (cc)
         go false e = e
 
-    unused : (l : ℕ) (w : Writing) → Member w s.writes → w.from ≡ Some l → use_of l s ≡ Unused → ⊥
+    unused : (l : ℕ) (w : LaneDef) → Member w s.writes → w.from ≡ Some l → use_of l s ≡ Unused → ⊥
     unused l w m f u = go (has l s.reads) u
       where
         go : (q : Bool) → cond q Certain (move_of l s.writes) ≡ Unused → ⊥
@@ -85,7 +85,7 @@ clear-matched s clear = record {
 
 -- writings of acts
 
-written-act : (num : Numbering) (v : Writing) (ws : Writes) → Member v (act_writings num (acts_of ws)) → (w : Write) × (n : ℕ) × Member w ws × (num (owner_of w.lane) ≡ Some n) × (v ≡ writing num (act_of w) n)
+written-act : (num : Numbering) (v : LaneDef) (ws : Writes) → Member v (act_writings num (acts_of ws)) → (w : Write) × (n : ℕ) × Member w ws × (num (owner_of w.lane) ≡ Some n) × (v ≡ writing num (act_of w) n)
 written-act num v [] m = absurd (member-none v m)
 written-act num v (w ∷ ws) m = go (num (owner_of w.lane)) refl m (written-act num v ws)
   where
@@ -97,7 +97,7 @@ written-act num v (w ∷ ws) m = go (num (owner_of w.lane)) refl m (written-act 
 pub plain-matched : (num : Numbering) (id : ℕ) (leaves : Bool) (rs : Reads) (ws : Writes) → ((w : Write) → Member w ws → fill_owner w.fill ≡ None) → IsMatched (step_of num id leaves rs ws)
 plain-matched num id leaves rs ws none = clear-matched (step_of num id leaves rs ws) (record { first = λ w l m e. absurd (moves w l m e); one = λ v w l m k e f. absurd (moves v l m e) })
   where
-    moves : (v : Writing) (l : ℕ) → Member v (act_writings num (acts_of ws)) → v.from ≡ Some l → ⊥
+    moves : (v : LaneDef) (l : ℕ) → Member v (act_writings num (acts_of ws)) → v.from ≡ Some l → ⊥
     moves v l m e =
         let z = written-act num v ws m in
         let f : None ≡ Some l = sym (ap (option_and_then num) (none z.0 z.2)) ∙ sym (ap (λ x. x.from) z.4) ∙ e in
@@ -110,7 +110,7 @@ first-written num names early (d ∷ ds) [] vs w n p m e = absurd (member-none w
 first-written num names early (d ∷ ds) (s ∷ ss) vs w n p m e =
     member-elim w (write early d (Moved s)) (moved early ds ss) (λ f. at w f (num (owner_of d)) (ap (λ x. num (owner_of x.lane)) (sym f) ∙ e)) (λ k. past k (num (owner_of d)) refl (first-written num names early ds ss vs w n p.1 k e)) m
   where
-    rest : List Writing
+    rest : List LaneDef
     rest = act_writings num (acts_of (moved early ds ss ++ vs))
 
     at : (x : Write) → x ≡ write early d (Moved s) → (q : Option ℕ) → q ≡ Some n → writing_of n (cons_option (elim q [ None ↦ None | Some k ↦ Some (writing num (act_of (write early d (Moved s))) k) ]) rest) ≡ Some (writing num (act_of x) n)
@@ -136,7 +136,7 @@ first-written num names early (d ∷ ds) (s ∷ ss) vs w n p m e =
 pub given-matched : (num : Numbering) → ((o p : Owner) (n : ℕ) → num o ≡ Some n → num p ≡ Some n → o ≡ p) → (id : ℕ) (early : Bool) (ds : List Lane) (ss : List Source) (us : List Lane) → Apart (map owner_of ds) → Apart (owners_read ss) → IsMatched (step_of num id false [] (moved early ds ss ++ undefined early us))
 given-matched num names id early ds ss us apart once = clear-matched (step_of num id false [] (moved early ds ss ++ undefined early us)) (record { first = λ v l m e. firsts v l m e; one = λ v w l m k e f. ones v w l m k e f })
   where
-    from-lane : (v : Writing) (l : ℕ) → Member v (act_writings num (acts_of (moved early ds ss ++ undefined early us))) → v.from ≡ Some l → (w : Write) × (n : ℕ) × (a : Lane) × Member w (moved early ds ss) × (num (owner_of w.lane) ≡ Some n) × (v ≡ writing num (act_of w) n) × (w.fill ≡ Moved (FromLane a)) × (num (owner_of a) ≡ Some l)
+    from-lane : (v : LaneDef) (l : ℕ) → Member v (act_writings num (acts_of (moved early ds ss ++ undefined early us))) → v.from ≡ Some l → (w : Write) × (n : ℕ) × (a : Lane) × Member w (moved early ds ss) × (num (owner_of w.lane) ≡ Some n) × (v ≡ writing num (act_of w) n) × (w.fill ≡ Moved (FromLane a)) × (num (owner_of a) ≡ Some l)
     from-lane v l m e =
         let z = written-act num v (moved early ds ss ++ undefined early us) m in
         let f = source-from num z.0 l (sym (ap (λ x. x.from) z.4) ∙ e) in
@@ -146,13 +146,13 @@ given-matched num names id early ds ss us apart once = clear-matched (step_of nu
         part w a g (inl k) = k
         part w a g (inr k) = absurd (let h = sym (undefined-fill early w us k) ∙ g in cc)
 
-    firsts : (v : Writing) (l : ℕ) → Member v (act_writings num (acts_of (moved early ds ss ++ undefined early us))) → v.from ≡ Some l → writing_of v.lane (act_writings num (acts_of (moved early ds ss ++ undefined early us))) ≡ Some v
+    firsts : (v : LaneDef) (l : ℕ) → Member v (act_writings num (acts_of (moved early ds ss ++ undefined early us))) → v.from ≡ Some l → writing_of v.lane (act_writings num (acts_of (moved early ds ss ++ undefined early us))) ≡ Some v
     firsts v l m e =
         let z = from-lane v l m e in
         let h = first-written num names early ds ss (undefined early us) z.0 z.1 apart z.3 z.4 in
         ap (λ n. writing_of n (act_writings num (acts_of (moved early ds ss ++ undefined early us)))) (ap (λ x. x.lane) z.5) ∙ h ∙ ap Some (sym z.5)
 
-    ones : (v w : Writing) (l : ℕ) → Member v (act_writings num (acts_of (moved early ds ss ++ undefined early us))) → Member w (act_writings num (acts_of (moved early ds ss ++ undefined early us))) → v.from ≡ Some l → w.from ≡ Some l → v.lane ≡ w.lane
+    ones : (v w : LaneDef) (l : ℕ) → Member v (act_writings num (acts_of (moved early ds ss ++ undefined early us))) → Member w (act_writings num (acts_of (moved early ds ss ++ undefined early us))) → v.from ≡ Some l → w.from ≡ Some l → v.lane ≡ w.lane
     ones v w l m k e f =
         let z = from-lane v l m e in
         let y = from-lane w l k f in

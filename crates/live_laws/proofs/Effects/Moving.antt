@@ -12,7 +12,7 @@ use Rattle.meaning.specs.declared.types.Write.{Write}
 use Rattle.meaning.specs.Lanes.{Writes}
 use Rattle.meaning.specs.Code.{Edge, Item}
 use Rattle.meaning.specs.Live.{Among as Member, here as first, there as later, reads_of, Feeds, is_slot}
-use Rattle.mir_meaning.specs.declared.writing.Writing.{Writing}
+use Rattle.mir_meaning.specs.declared.writing.LaneDef.{LaneDef}
 use Rattle.mir_meaning.specs.Paths.{Step, has, writing_of, is_present, is_some_number, Certain, Into, move_of, use_of, is_written}
 use Rattle.mir_meaning.specs.Stands.{Tags, ReadBy, Reaches, IsStep}
 use Rattle.instr_effects.specs.declared.owner.Owner.{Owner}
@@ -49,7 +49,7 @@ source-from num w n e = go (fill_owner w.fill) refl e
 source-is : (num : Numbering) (w : Write) (l : Lane) (n : ℕ) → w.fill ≡ Moved (FromLane l) → num (owner_of l) ≡ Some n → source-number num w ≡ Some n
 source-is num w l n e f = ap (λ x. option_and_then num (fill_owner x)) e ∙ f
 
-abbrev written-by : Numbering → Write → Option ℕ → List Writing → List Writing
+abbrev written-by : Numbering → Write → Option ℕ → List LaneDef → List LaneDef
 written-by num v q rest = cons_option (elim q [ None ↦ None | Some k ↦ Some (writing num (act_of v) k) ]) rest
 
 -- writings by numbers
@@ -58,7 +58,7 @@ pub writing-in : (num : Numbering) (w : Write) (n : ℕ) (ws : Writes) → Membe
 writing-in num w n [] m e = absurd (member-none w m)
 writing-in num w n (v ∷ ws) m e = member-elim w v ws (λ f. at (num (owner_of v.lane)) (ap (λ x. num (owner_of x.lane)) (sym f) ∙ e)) (λ k. past (num (owner_of v.lane)) (writing-in num w n ws k e)) m
   where
-    rest : List Writing
+    rest : List LaneDef
     rest = act_writings num (acts_of ws)
 
     past : (q : Option ℕ) → is_present (writing_of n rest) ≡ true → is_present (writing_of n (written-by num v q rest)) ≡ true
@@ -77,7 +77,7 @@ pub writing-from : (num : Numbering) (n : ℕ) (ws : Writes) → is_present (wri
 writing-from num n [] e = absurd (cc)
 writing-from num n (v ∷ ws) e = go (num (owner_of v.lane)) refl e (writing-from num n ws)
   where
-    rest : List Writing
+    rest : List LaneDef
     rest = act_writings num (acts_of ws)
 
     more : ((w : Write) × Member w ws × (num (owner_of w.lane) ≡ Some n)) → (w : Write) × Member w (v ∷ ws) × (num (owner_of w.lane) ≡ Some n)
@@ -111,7 +111,7 @@ module _ (num : Numbering) (n : ℕ) where
   move-from m [] e = absurd (cc)
   move-from m (v ∷ ws) e = go (num (owner_of v.lane)) refl e (move-from m ws)
     where
-      rest : List Writing
+      rest : List LaneDef
       rest = act_writings num (acts_of ws)
 
       more : One ws m → One (v ∷ ws) m
@@ -130,7 +130,7 @@ module _ (num : Numbering) (n : ℕ) where
   move-in w m (v ∷ ws) k e f =
       member-elim w v ws (λ g. at (num (owner_of v.lane)) (ap (λ x. num (owner_of x.lane)) (sym g) ∙ e) (ap (source-number num) (sym g) ∙ f)) (λ j. past (num (owner_of v.lane)) (move-in w m ws j e f)) k
     where
-      rest : List Writing
+      rest : List LaneDef
       rest = act_writings num (acts_of ws)
 
       at : (q : Option ℕ) → q ≡ Some m → source-number num v ≡ Some n → (c : ℕ) × (move_of n (written-by num v q rest) ≡ Into c)
@@ -145,7 +145,7 @@ module _ (num : Numbering) (n : ℕ) where
           by true = (k, refl)
           by false = z
 
-  move-certain : (ws : List Writing) → move_of n ws ≡ Certain → ⊥
+  move-certain : (ws : List LaneDef) → move_of n ws ≡ Certain → ⊥
   move-certain [] e = cc
   move-certain (w ∷ ws) e = go (is_some_number n w.from) e (move-certain ws)
     where

@@ -36,7 +36,7 @@ use Rattle.mir_meaning.specs.Registers.{numbers, range_widths, located_lanes, lo
 use Rattle.mir_meaning.specs.Rules.{has_class, index_fits}
 use Rattle.instr_effects.specs.declared.lanes.LaneTable.{LaneTable}
 use Rattle.instr_effects.specs.declared.owner.Owner.{Owner}
-use Rattle.instr_effects.specs.declared.row.Lanes.{Lanes}
+use Rattle.instr_effects.specs.declared.row.LaneSpan.{LaneSpan}
 use Rattle.instr_effects.specs.Owners.{owner_of}
 use Rattle.instr_effects.specs.Row.{lane_in}
 use Rattle.instr_effects.specs.Numbers.{unit_number_in, row_number_in}
@@ -217,7 +217,7 @@ module _ (t : Target) (f : Function) (tab : LaneTable) (all : NumbersAll t f tab
 
   -- ranges
 
-  row-number : (x : Lanes) (k count : ℕ) → x.count ≡ count → k < count → (n : ℕ) × (lane_in x.first x.count k ≡ Some n)
+  row-number : (x : LaneSpan) (k count : ℕ) → x.count ≡ count → k < count → (n : ℕ) × (lane_in x.first x.count k ≡ Some n)
   row-number x k count e h = (x.first + k, ap (λ q. cond q (Some (x.first + k)) None) (lt-true k x.count (omega (arith, e))))
 
   range-numbered : (v k : ℕ) → has_class f (Virtual v) ≡ true → k < length (range_widths t f v) → (n : ℕ) × (row_number_in (slice_get tab.ranges.items v) k ≡ Some n)
@@ -226,7 +226,7 @@ module _ (t : Target) (f : Function) (tab : LaneTable) (all : NumbersAll t f tab
       same : option_map (λ x. x.count) (slice_get tab.ranges.items v) ≡ option_map (λ q. length (widths_of_some t q)) (slice_get f.classes v)
       same = sym (slice-map (λ x. x.count) tab.ranges.items v) ∙ ap (λ ns. slice_get ns v) all.ranges ∙ slice-map (λ q. length (widths_of_some t q)) f.classes v
 
-      at : (q : Option Lanes) (n : ℕ) → slice_get tab.ranges.items v ≡ q → option_map (λ x. x.count) q ≡ Some n → k < n → (m : ℕ) × (row_number_in q k ≡ Some m)
+      at : (q : Option LaneSpan) (n : ℕ) → slice_get tab.ranges.items v ≡ q → option_map (λ x. x.count) q ≡ Some n → k < n → (m : ℕ) × (row_number_in q k ≡ Some m)
       at None n e g h = absurd (cc)
       at (Some x) n e g h = row-number x k n (some-same x.count n g) h
 
@@ -239,7 +239,7 @@ module _ (t : Target) (f : Function) (tab : LaneTable) (all : NumbersAll t f tab
   slot-numbered : (s k : ℕ) → IsSome (get nat_cmp tab.slots s) → k < 32 → (n : ℕ) × (row_number_in (get nat_cmp tab.slots s) k ≡ Some n)
   slot-numbered s k known h = go (get nat_cmp tab.slots s) refl known
     where
-      go : (q : Option Lanes) → get nat_cmp tab.slots s ≡ q → IsSome q → (n : ℕ) × (row_number_in q k ≡ Some n)
+      go : (q : Option LaneSpan) → get nat_cmp tab.slots s ≡ q → IsSome q → (n : ℕ) × (row_number_in q k ≡ Some n)
       go None e g = absurd (cc)
       go (Some x) e g = row-number x k 32 (all.table.full s x e) h
 

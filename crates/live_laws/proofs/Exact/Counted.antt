@@ -7,7 +7,7 @@ use Rattle.meaning.specs.Live.{Among as Member, here as first, there as later}
 use Rattle.mir_func.specs.declared.func.Block.{Block}
 use Rattle.mir_func.specs.declared.func.Instr.{Instr}
 use Rattle.mir_meaning.specs.Points.{Point, Start, Entry, Exit, block_points}
-use Rattle.live_lanes.specs.declared.row.Row.{Row}
+use Rattle.live_lanes.specs.declared.row.LaneRange.{LaneRange}
 use Rattle.live_lanes.specs.declared.table.Table.{Table}
 use Rattle.live_lanes.specs.Entered.{rows_seen}
 use Rattle.live_lanes.specs.Table.{Numbers, entry_rank, exit_rank}
@@ -90,7 +90,7 @@ held-count test x bs low count h =
 
 -- one of the lanes is live or occupied just where there is such a lane
 
-pub any-forth : (slots : Numbers) (rows : List Row) (low count b at : ℕ) → any_held slots rows low count b at ≡ true → (j : ℕ) × (j < count) × (held_at slots (rows_seen rows (low + j) b) at ≡ true)
+pub any-forth : (slots : Numbers) (rows : List LaneRange) (low count b at : ℕ) → any_held slots rows low count b at ≡ true → (j : ℕ) × (j < count) × (held_at slots (rows_seen rows (low + j) b) at ≡ true)
 any-forth slots rows low zero b at h = absurd (cc)
 any-forth slots rows low (suc n) b at h = go (held_at slots (rows_seen rows (low + n) b) at) refl h (any-forth slots rows low n b at)
   where
@@ -98,7 +98,7 @@ any-forth slots rows low (suc n) b at h = go (held_at slots (rows_seen rows (low
     go true e g ih = (n, omega arith, e)
     go false e g ih = let z = ih g in let near = z.1 in (z.0, omega (arith, near), z.2)
 
-pub any-back : (slots : Numbers) (rows : List Row) (low count b at j : ℕ) → j < count → held_at slots (rows_seen rows (low + j) b) at ≡ true → any_held slots rows low count b at ≡ true
+pub any-back : (slots : Numbers) (rows : List LaneRange) (low count b at j : ℕ) → j < count → held_at slots (rows_seen rows (low + j) b) at ≡ true → any_held slots rows low count b at ≡ true
 any-back slots rows low zero b at j lt h = absurd (omega arith)
 any-back slots rows low (suc n) b at j lt h = go (nat_eq j n) refl (λ k. any-back slots rows low n b at j k h)
   where

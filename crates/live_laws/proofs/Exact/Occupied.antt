@@ -9,7 +9,7 @@ use Rattle.mir_func.specs.declared.func.Instr.{Instr}
 use Rattle.mir_func.specs.Value.{Function}
 use Rattle.mir_meaning.specs.Points.{Start, Entry, Exit, OccupiedAt}
 use Rattle.mir_meaning.specs.Rules.{V8}
-use Rattle.mir_meaning.specs.declared.writing.Writing.{Writing}
+use Rattle.mir_meaning.specs.declared.writing.LaneDef.{LaneDef}
 use Rattle.mir_meaning.specs.Paths.{Step, Code, steps_of, writing_of}
 use Rattle.slot_index.specs.Order.{number_of}
 use Rattle.instr_effects.specs.Numbered.{number_in}
@@ -35,10 +35,10 @@ use Rattle.live_laws.proofs.Exact.Same.{same-forth, same-back}
 use Rattle.live_laws.proofs.Exact.Inside.{numbered, quiet, all, s, from, split, inside-law}
 
 -- the first writing of a lane is early in both words
-early-same : (l : ℕ) (ws : List Writing) → writes_early (writing_of l ws) ≡ elim (writing_of l ws) [ None ↦ false | Some w ↦ w.early ]
+early-same : (l : ℕ) (ws : List LaneDef) → writes_early (writing_of l ws) ≡ elim (writing_of l ws) [ None ↦ false | Some w ↦ w.early ]
 early-same l ws = go (writing_of l ws)
   where
-    go : (q : Option Writing) → writes_early q ≡ elim q [ None ↦ false | Some w ↦ w.early ]
+    go : (q : Option LaneDef) → writes_early q ≡ elim q [ None ↦ false | Some w ↦ w.early ]
     go None = refl
     go (Some w) = refl
 

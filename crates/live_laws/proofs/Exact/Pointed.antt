@@ -11,7 +11,7 @@ use Rattle.mir_func.specs.declared.func.Instr.{Instr}
 use Rattle.mir_func.specs.Value.{Function}
 use Rattle.mir_meaning.specs.Points.{Point, Start, Entry, Exit, RangePoint, Tests, PointCount, all_points}
 use Rattle.mir_meaning.specs.Rules.{V8}
-use Rattle.instr_effects.specs.declared.row.Lanes.{Lanes}
+use Rattle.instr_effects.specs.declared.row.LaneSpan.{LaneSpan}
 use Rattle.instr_effects.specs.Numbers.{row_number_in}
 use Rattle.instr_effects.specs.Numbered.{number_in}
 use Rattle.instr_effects.specs.Stepping.{tag_of}
@@ -46,7 +46,7 @@ module _ (t : Target) (f : Function) (x : Table) (computed : IsComputed t f x) (
       none : (p : Point) → RangePoint t f v p → ⊥
       none p z = let n = numbered p z in let h : None ≡ Some n.0 = sym (ap (λ q. row_number_in q z.0) e) ∙ n.1 in cc
 
-  module _ (own : Lanes) (e : slice_get x.lanes.ranges.items v ≡ Some own) where
+  module _ (own : LaneSpan) (e : slice_get x.lanes.ranges.items v ≡ Some own) where
     abbrev held : ℕ → ℕ → Bool
     held k at = any_held x.order.slots x.rows.rows.items own.first own.count k at
 
@@ -114,7 +114,7 @@ module _ (t : Target) (f : Function) (x : Table) (computed : IsComputed t f x) (
   count : PointCount t f v (range_held x f.blocks v)
   count = go (slice_get x.lanes.ranges.items v) refl
     where
-      go : (q : Option Lanes) → slice_get x.lanes.ranges.items v ≡ q → PointCount t f v (range_held x f.blocks v)
+      go : (q : Option LaneSpan) → slice_get x.lanes.ranges.items v ≡ q → PointCount t f v (range_held x f.blocks v)
       go None e = unknown-count e
       go (Some own) e = known-count own e
 

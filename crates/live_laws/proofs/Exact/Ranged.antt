@@ -6,7 +6,7 @@ use Rattle.target_base.specs.declared.types.Target.{Target}
 use Rattle.meaning.specs.declared.types.Lane.TheVariants.{VirtualLane}
 use Rattle.mir_func.specs.Value.{Function}
 use Rattle.mir_meaning.specs.Points.{Point, Start, Entry, Exit, OccupiedAt}
-use Rattle.instr_effects.specs.declared.row.Lanes.{Lanes}
+use Rattle.instr_effects.specs.declared.row.LaneSpan.{LaneSpan}
 use Rattle.instr_effects.specs.Numbers.{row_number_in}
 use Rattle.instr_effects.specs.Numbered.{number_in}
 use Rattle.instr_effects.specs.Stepping.{tag_of}
@@ -19,7 +19,7 @@ use Rattle.live_laws.specs.Exact.Occupied.{TellsOccupied, LanePoint, TellsRangeL
 use Rattle.live_laws.proofs.Exact.Occupied.{occupied-law}
 use Rattle.live_laws.proofs.Exact.Counted.{any-forth, any-back}
 
-module _ (t : Target) (f : Function) (x : Table) (v : ℕ) (own : Lanes) (e : slice_get x.lanes.ranges.items v ≡ Some own) where
+module _ (t : Target) (f : Function) (x : Table) (v : ℕ) (own : LaneSpan) (e : slice_get x.lanes.ranges.items v ≡ Some own) where
   -- the numbers of its lanes
   tagged : (j : ℕ) → j < own.count → tag_of (number_in x.lanes) (is_proper t) (VirtualLane v j) ≡ Some (own.first + j)
   tagged j lt = ap (λ q. row_number_in q j) e ∙ ap (λ u. cond u (Some (own.first + j)) None) (lt-ltb j own.count lt)

@@ -5,12 +5,12 @@ use Rattle.std.specs.List.{list_any}
 use Rattle.std.proofs.lemmas.Bool.{ltb-true}
 use Rattle.target_base.proofs.Tests.{first_of_both, second_of_both}
 use Rattle.meaning.specs.Live.{Among as Member, here as first, there as later}
-use Rattle.mir_meaning.specs.declared.writing.Writing.{Writing}
+use Rattle.mir_meaning.specs.declared.writing.LaneDef.{LaneDef}
 use Rattle.instr_effects.proofs.Members.{member-none, member-elim}
 use Rattle.live_laws.proofs.Effects.Lists.{any-in}
-use Rattle.live_lanes.specs.declared.row.Segment.{Segment}
+use Rattle.live_lanes.specs.declared.row.DefPiece.{DefPiece}
 use Rattle.live_lanes.specs.declared.row.Cell.{Cell}
-use Rattle.live_lanes.specs.declared.row.Row.{Row}
+use Rattle.live_lanes.specs.declared.row.LaneRange.{LaneRange}
 use Rattle.mir_meaning.specs.Paths.{Step, Code, steps_of, Use, Unused, Certain, Into, use_of, writing_of, is_written, is_present}
 use Rattle.live_lanes.specs.Table.{seen, seen_in, seen_cell, unseen, begun, find_cell, descends, is_below}
 use Rattle.live_lanes.specs.Entered.{Shape, start_of, shape, reading_of, readings_until, starts, rows_seen, IsEntered}
@@ -59,7 +59,7 @@ any-both p (x ∷ xs) ys = ap (λ b. p x || b) (any-both p xs ys) ∙ join (p x)
 abbrev named_in : ℕ → Shape → Bool
 named_in id v = reads_in id v.readings || list_any (λ s. nat_eq s.start id || reads_in id s.readings) v.segments
 
-segments-same : (id : ℕ) (ss : List Segment) → list_any (λ s. nat_eq s.start id || reads_in id s.readings) (map start_of (map begun ss)) ≡ list_any (names_segment id) ss
+segments-same : (id : ℕ) (ss : List DefPiece) → list_any (λ s. nat_eq s.start id || reads_in id s.readings) (map start_of (map begun ss)) ≡ list_any (names_segment id) ss
 segments-same id [] = refl
 segments-same id (s ∷ ss) = ap (λ b. names_segment id s || b) (segments-same id ss)
 
@@ -111,7 +111,7 @@ starts-named : (l id : ℕ) (ss : List Step) → list_any (λ s. nat_eq s.start 
 starts-named l id [] e = absurd (cc)
 starts-named l id (s ∷ ss) e = go (writing_of l s.writes) (starts-named l id ss) refl e
   where
-    go : (q : Option Writing) → (list_any (λ s. nat_eq s.start id || reads_in id s.readings) (starts l ss) ≡ true → NamedBy l id ss) → writing_of l s.writes ≡ q → list_any (λ s. nat_eq s.start id || reads_in id s.readings) (elim q [ None ↦ starts l ss | Some w ↦ record { start = s.id; early = w.early; from = w.from; readings = readings_until l ss } ∷ starts l ss ]) ≡ true → NamedBy l id (s ∷ ss)
+    go : (q : Option LaneDef) → (list_any (λ s. nat_eq s.start id || reads_in id s.readings) (starts l ss) ≡ true → NamedBy l id ss) → writing_of l s.writes ≡ q → list_any (λ s. nat_eq s.start id || reads_in id s.readings) (elim q [ None ↦ starts l ss | Some w ↦ record { start = s.id; early = w.early; from = w.from; readings = readings_until l ss } ∷ starts l ss ]) ≡ true → NamedBy l id (s ∷ ss)
     go None ih g f = more-named l id s ss (ih f)
     go (Some w) ih g f = by (or-cases (nat_eq s.id id || reads_in id (readings_until l ss)) (list_any (λ s. nat_eq s.start id || reads_in id s.readings) (starts l ss)) f)
       where
@@ -134,7 +134,7 @@ named-forth l id ss e = go (or-cases (reads_in id (readings_until l ss)) (list_a
 head-back : (l : ℕ) (s : Step) (ss : List Step) → names_step l s ≡ true → named_by l s.id (s ∷ ss) ≡ true
 head-back l s ss e = go (or-cases (is_used (use_of l s)) (is_written l s) e)
   where
-    begins : (q : Option Writing) → is_present q ≡ true → list_any (λ r. nat_eq r.start s.id || reads_in s.id r.readings) (elim q [ None ↦ starts l ss | Some w ↦ record { start = s.id; early = w.early; from = w.from; readings = readings_until l ss } ∷ starts l ss ]) ≡ true
+    begins : (q : Option LaneDef) → is_present q ≡ true → list_any (λ r. nat_eq r.start s.id || reads_in s.id r.readings) (elim q [ None ↦ starts l ss | Some w ↦ record { start = s.id; early = w.early; from = w.from; readings = readings_until l ss } ∷ starts l ss ]) ≡ true
     begins None f = absurd (cc)
     begins (Some w) f = or-left (nat_eq s.id s.id || reads_in s.id (readings_until l ss)) (list_any (λ r. nat_eq r.start s.id || reads_in s.id r.readings) (starts l ss)) (or-left (nat_eq s.id s.id) (reads_in s.id (readings_until l ss)) (eq-eqb s.id s.id refl))
 
@@ -146,13 +146,13 @@ head-back l s ss e = go (or-cases (is_used (use_of l s)) (is_written l s) e)
 tail-back : (l id : ℕ) (s : Step) (ss : List Step) → named_by l id ss ≡ true → named_by l id (s ∷ ss) ≡ true
 tail-back l id s ss e = go (writing_of l s.writes) refl (or-cases (reads_in id (readings_until l ss)) (list_any (λ r. nat_eq r.start id || reads_in id r.readings) (starts l ss)) e)
   where
-    by : (q : Option Writing) → (reads_in id (readings_until l ss) ≡ true) ⊎ (list_any (λ r. nat_eq r.start id || reads_in id r.readings) (starts l ss) ≡ true) → (reads_in id (reading_of s.id (use_of l s) ++ cond (is_present q) [] (readings_until l ss)) || list_any (λ r. nat_eq r.start id || reads_in id r.readings) (elim q [ None ↦ starts l ss | Some w ↦ record { start = s.id; early = w.early; from = w.from; readings = readings_until l ss } ∷ starts l ss ])) ≡ true
+    by : (q : Option LaneDef) → (reads_in id (readings_until l ss) ≡ true) ⊎ (list_any (λ r. nat_eq r.start id || reads_in id r.readings) (starts l ss) ≡ true) → (reads_in id (reading_of s.id (use_of l s) ++ cond (is_present q) [] (readings_until l ss)) || list_any (λ r. nat_eq r.start id || reads_in id r.readings) (elim q [ None ↦ starts l ss | Some w ↦ record { start = s.id; early = w.early; from = w.from; readings = readings_until l ss } ∷ starts l ss ])) ≡ true
     by None (inl f) = or-left (reads_in id (reading_of s.id (use_of l s) ++ readings_until l ss)) (list_any (λ r. nat_eq r.start id || reads_in id r.readings) (starts l ss)) (any-both (λ r. nat_eq r.id id) (reading_of s.id (use_of l s)) (readings_until l ss) ∙ or-right (reads_in id (reading_of s.id (use_of l s))) (reads_in id (readings_until l ss)) f)
     by None (inr f) = or-right (reads_in id (reading_of s.id (use_of l s) ++ readings_until l ss)) (list_any (λ r. nat_eq r.start id || reads_in id r.readings) (starts l ss)) f
     by (Some w) (inl f) = or-right (reads_in id (reading_of s.id (use_of l s) ++ [])) ((nat_eq s.id id || reads_in id (readings_until l ss)) || list_any (λ r. nat_eq r.start id || reads_in id r.readings) (starts l ss)) (or-left (nat_eq s.id id || reads_in id (readings_until l ss)) (list_any (λ r. nat_eq r.start id || reads_in id r.readings) (starts l ss)) (or-right (nat_eq s.id id) (reads_in id (readings_until l ss)) f))
     by (Some w) (inr f) = or-right (reads_in id (reading_of s.id (use_of l s) ++ [])) ((nat_eq s.id id || reads_in id (readings_until l ss)) || list_any (λ r. nat_eq r.start id || reads_in id r.readings) (starts l ss)) (or-right (nat_eq s.id id || reads_in id (readings_until l ss)) (list_any (λ r. nat_eq r.start id || reads_in id r.readings) (starts l ss)) f)
 
-    go : (q : Option Writing) → writing_of l s.writes ≡ q → (reads_in id (readings_until l ss) ≡ true) ⊎ (list_any (λ r. nat_eq r.start id || reads_in id r.readings) (starts l ss) ≡ true) → named_by l id (s ∷ ss) ≡ true
+    go : (q : Option LaneDef) → writing_of l s.writes ≡ q → (reads_in id (readings_until l ss) ≡ true) ⊎ (list_any (λ r. nat_eq r.start id || reads_in id r.readings) (starts l ss) ≡ true) → named_by l id (s ∷ ss) ≡ true
     go q g h = by (writing_of l s.writes) h
 
 named-back : (l : ℕ) (s : Step) (ss : List Step) → Member s ss → names_step l s ≡ true → named_by l s.id ss ≡ true
@@ -188,28 +188,28 @@ cell-there b (x ∷ cs) c e = go (nat_eq x.block b) e (cell-there b cs c)
 
 -- a lane's cells name an instruction just where a step of its id names the lane
 
-pub lane-forth : (code : Code) (rows : List Row) → IsEntered code rows → (l id : ℕ) → names_lane id rows l ≡ true → (b : ℕ) × (s : Step) × Member s (steps_of code b) × (s.id ≡ id) × (names_step l s ≡ true)
+pub lane-forth : (code : Code) (rows : List LaneRange) → IsEntered code rows → (l id : ℕ) → names_lane id rows l ≡ true → (b : ℕ) × (s : Step) × Member s (steps_of code b) × (s.id ≡ id) × (names_step l s ≡ true)
 lane-forth code rows entered l id e = go (slice_get rows l) refl e
   where
-    go : (q : Option Row) → slice_get rows l ≡ q → list_any (names_cell id) (elim q [ None ↦ [] | Some r ↦ r.cells.items ]) ≡ true → (b : ℕ) × (s : Step) × Member s (steps_of code b) × (s.id ≡ id) × (names_step l s ≡ true)
+    go : (q : Option LaneRange) → slice_get rows l ≡ q → list_any (names_cell id) (elim q [ None ↦ [] | Some r ↦ r.cells.items ]) ≡ true → (b : ℕ) × (s : Step) × Member s (steps_of code b) × (s.id ≡ id) × (names_step l s ≡ true)
     go None g h = absurd (cc)
     go (Some r) g h =
         let z = any-of (names_cell id) r.cells.items h in
         let c = z.0 in
-        let found : rows_seen rows l c.block ≡ seen_cell c = ap (λ (q : Option Row). elim q [ None ↦ unseen | Some r ↦ seen_in r.cells.items c.block ]) g ∙ ap seen (cell-found r.cells.items c r.sorted z.1) in
+        let found : rows_seen rows l c.block ≡ seen_cell c = ap (λ (q : Option LaneRange). elim q [ None ↦ unseen | Some r ↦ seen_in r.cells.items c.block ]) g ∙ ap seen (cell-found r.cells.items c r.sorted z.1) in
         let named : named_by l id (steps_of code c.block) ≡ true = ap (named_in id) (sym (entered l c.block) ∙ ap shape found) ∙ cell-same id c ∙ z.2 in
         let y = named-forth l id (steps_of code c.block) named in
         (c.block, y.0, y.1, y.2, y.3)
 
-pub lane-back : (code : Code) (rows : List Row) → IsEntered code rows → (l b : ℕ) (s : Step) → Member s (steps_of code b) → names_step l s ≡ true → names_lane s.id rows l ≡ true
+pub lane-back : (code : Code) (rows : List LaneRange) → IsEntered code rows → (l b : ℕ) (s : Step) → Member s (steps_of code b) → names_step l s ≡ true → names_lane s.id rows l ≡ true
 lane-back code rows entered l b s m e = go (slice_get rows l) refl (ap (named_in s.id) (entered l b) ∙ named-back l s (steps_of code b) m e)
   where
-    by : (r : Row) (q : Option Cell) → find_cell b r.cells.items ≡ q → named_in s.id (shape (seen q)) ≡ true → list_any (names_cell s.id) r.cells.items ≡ true
+    by : (r : LaneRange) (q : Option Cell) → find_cell b r.cells.items ≡ q → named_in s.id (shape (seen q)) ≡ true → list_any (names_cell s.id) r.cells.items ≡ true
     by r None g h = absurd (cc)
     by r (Some c) g h = any-in (names_cell s.id) c r.cells.items (cell-there b r.cells.items c g) (sym (cell-same s.id c) ∙ h)
 
-    go : (q : Option Row) → slice_get rows l ≡ q → named_in s.id (shape (rows_seen rows l b)) ≡ true → names_lane s.id rows l ≡ true
-    go None g h = absurd (let z : false ≡ true = sym (ap (λ (q : Option Row). named_in s.id (shape (elim q [ None ↦ unseen | Some r ↦ seen_in r.cells.items b ]))) g) ∙ h in cc)
+    go : (q : Option LaneRange) → slice_get rows l ≡ q → named_in s.id (shape (rows_seen rows l b)) ≡ true → names_lane s.id rows l ≡ true
+    go None g h = absurd (let z : false ≡ true = sym (ap (λ (q : Option LaneRange). named_in s.id (shape (elim q [ None ↦ unseen | Some r ↦ seen_in r.cells.items b ]))) g) ∙ h in cc)
     go (Some r) g h =
-        ap (λ (q : Option Row). list_any (names_cell s.id) (elim q [ None ↦ [] | Some x ↦ x.cells.items ])) g
-        ∙ by r (find_cell b r.cells.items) refl (sym (ap (λ (q : Option Row). named_in s.id (shape (elim q [ None ↦ unseen | Some r ↦ seen_in r.cells.items b ]))) g) ∙ h)
+        ap (λ (q : Option LaneRange). list_any (names_cell s.id) (elim q [ None ↦ [] | Some x ↦ x.cells.items ])) g
+        ∙ by r (find_cell b r.cells.items) refl (sym (ap (λ (q : Option LaneRange). named_in s.id (shape (elim q [ None ↦ unseen | Some r ↦ seen_in r.cells.items b ]))) g) ∙ h)

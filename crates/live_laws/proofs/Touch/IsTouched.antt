@@ -4,10 +4,10 @@ use Rattle.std.specs.Prelude.{nat_eq, nat_lt, slice_get}
 use Rattle.std.specs.List.{list_any}
 use Rattle.std.proofs.lemmas.Bool.{lt-ltb}
 use Rattle.live_laws.proofs.Effects.Lists.{any-in}
-use Rattle.instr_effects.specs.declared.row.Lanes.{Lanes}
-use Rattle.live_lanes.specs.declared.row.Reading.{Reading}
+use Rattle.instr_effects.specs.declared.row.LaneSpan.{LaneSpan}
+use Rattle.live_lanes.specs.declared.row.LaneUse.{LaneUse}
 use Rattle.live_lanes.specs.declared.row.Cell.{Cell}
-use Rattle.live_lanes.specs.declared.row.Row.{Row}
+use Rattle.live_lanes.specs.declared.row.LaneRange.{LaneRange}
 use Rattle.live_lanes.specs.Entered.{cells_of}
 use Rattle.mir_meaning.specs.Paths.{has}
 use Rattle.live_lanes.specs.Touching.{reads_in, names_segment, names_cell, names_lane, some_of, some_lane, is_touched, touches_lane}
@@ -37,7 +37,7 @@ cell-forth c e = go (or-cases (nat_lt 0 (length c.first.readings.items)) (nat_lt
   where
     go : (nat_lt 0 (length c.first.readings.items) ≡ true) ⊎ (nat_lt 0 (length c.segments.items) ≡ true) → (id : ℕ) × (names_cell id c ≡ true)
     go (inl f) =
-        let z = key-there (λ id (r : Reading). nat_eq r.id id) (λ r. r.id) c.first.readings.items (λ r. eq-eqb r.id r.id refl) f in
+        let z = key-there (λ id (r : LaneUse). nat_eq r.id id) (λ r. r.id) c.first.readings.items (λ r. eq-eqb r.id r.id refl) f in
         (z.0, or-left (reads_in z.0 c.first.readings.items) (list_any (names_segment z.0) c.segments.items) z.1)
     go (inr f) =
         let z = key-there names_segment (λ s. s.start) c.segments.items (λ s. or-left (nat_eq s.start s.start) (reads_in s.start s.piece.readings.items) (eq-eqb s.start s.start refl)) f in
@@ -52,25 +52,25 @@ cell-back id c e = go (or-cases (reads_in id c.first.readings.items) (list_any (
 
 -- lanes
 
-lane-forth : (rows : List Row) (l : ℕ) → touches_lane rows l ≡ true → (id : ℕ) × (names_lane id rows l ≡ true)
+lane-forth : (rows : List LaneRange) (l : ℕ) → touches_lane rows l ≡ true → (id : ℕ) × (names_lane id rows l ≡ true)
 lane-forth rows l e =
     let z = any-of is_touched (cells_of rows l) e in
     let y = cell-forth z.0 z.2 in
     (y.0, any-in (names_cell y.0) z.0 (cells_of rows l) z.1 y.1)
 
-lane-back : (id : ℕ) (rows : List Row) (l : ℕ) → names_lane id rows l ≡ true → touches_lane rows l ≡ true
+lane-back : (id : ℕ) (rows : List LaneRange) (l : ℕ) → names_lane id rows l ≡ true → touches_lane rows l ≡ true
 lane-back id rows l e = let z = any-of (names_cell id) (cells_of rows l) e in any-in is_touched z.0 (cells_of rows l) z.1 (cell-back id z.0 z.2)
 
 -- ranges
 
-some-forth : (rows : List Row) (q : Option Lanes) → some_of (touches_lane rows) q ≡ true → (id : ℕ) × (some_of (names_lane id rows) q ≡ true)
+some-forth : (rows : List LaneRange) (q : Option LaneSpan) → some_of (touches_lane rows) q ≡ true → (id : ℕ) × (some_of (names_lane id rows) q ≡ true)
 some-forth rows None e = absurd (cc)
 some-forth rows (Some own) e =
     let z = below-forth (touches_lane rows) own.first own.count e in
     let y = lane-forth rows (own.first + z.0) z.2 in
     (y.0, below-back (names_lane y.0 rows) own.first own.count z.0 z.1 y.1)
 
-some-back : (id : ℕ) (rows : List Row) (q : Option Lanes) → some_of (names_lane id rows) q ≡ true → some_of (touches_lane rows) q ≡ true
+some-back : (id : ℕ) (rows : List LaneRange) (q : Option LaneSpan) → some_of (names_lane id rows) q ≡ true → some_of (touches_lane rows) q ≡ true
 some-back id rows None e = absurd (cc)
 some-back id rows (Some own) e =
     let z = below-forth (names_lane id rows) own.first own.count e in

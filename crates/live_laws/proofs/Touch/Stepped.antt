@@ -6,7 +6,7 @@ use Rattle.meaning.specs.Live.{Among as Member, here as first, there as later}
 use Rattle.mir_func.specs.declared.func.Block.{Block}
 use Rattle.mir_func.specs.declared.func.Instr.{Instr}
 use Rattle.mir_func.specs.Value.{Function}
-use Rattle.mir_meaning.specs.declared.writing.Writing.{Writing}
+use Rattle.mir_meaning.specs.declared.writing.LaneDef.{LaneDef}
 use Rattle.instr_effects.specs.declared.acts.Act.{Act}
 use Rattle.instr_effects.specs.declared.owner.Owner.{Owner}
 use Rattle.instr_effects.specs.Acts.{acts_of, read_owners, entered_reads, entered_writes}
@@ -23,7 +23,7 @@ use Rattle.live_laws.proofs.Touch.Sequence.{has-member, member-has}
 
 -- moves and writings of a lane
 
-move-used : (l : ℕ) (ws : List Writing) (w : Writing) → Member w ws → w.from ≡ Some l → is_used (move_of l ws) ≡ true
+move-used : (l : ℕ) (ws : List LaneDef) (w : LaneDef) → Member w ws → w.from ≡ Some l → is_used (move_of l ws) ≡ true
 move-used l [] w m e = absurd (member-none w m)
 move-used l (v ∷ ws) w m e = member-elim w v ws (λ g. ap (λ b. is_used (cond b (Into v.lane) (move_of l ws))) (ap (is_some_number l) (ap (λ x. x.from) (sym g) ∙ e) ∙ eq-eqb l l refl)) (λ k. past (is_some_number l v.from) (move-used l ws w k e)) m
   where
@@ -35,15 +35,15 @@ number-of : (l : ℕ) (q : Option ℕ) → is_some_number l q ≡ true → q ≡
 number-of l None e = absurd (cc)
 number-of l (Some n) e = ap Some (eqb-true n l e)
 
-move-from : (l : ℕ) (ws : List Writing) → is_used (move_of l ws) ≡ true → (w : Writing) × Member w ws × (w.from ≡ Some l)
+move-from : (l : ℕ) (ws : List LaneDef) → is_used (move_of l ws) ≡ true → (w : LaneDef) × Member w ws × (w.from ≡ Some l)
 move-from l [] e = absurd (cc)
 move-from l (v ∷ ws) e = go (is_some_number l v.from) refl e (move-from l ws)
   where
-    go : (b : Bool) → is_some_number l v.from ≡ b → is_used (cond b (Into v.lane) (move_of l ws)) ≡ true → (is_used (move_of l ws) ≡ true → (w : Writing) × Member w ws × (w.from ≡ Some l)) → (w : Writing) × Member w (v ∷ ws) × (w.from ≡ Some l)
+    go : (b : Bool) → is_some_number l v.from ≡ b → is_used (cond b (Into v.lane) (move_of l ws)) ≡ true → (is_used (move_of l ws) ≡ true → (w : LaneDef) × Member w ws × (w.from ≡ Some l)) → (w : LaneDef) × Member w (v ∷ ws) × (w.from ≡ Some l)
     go true g h ih = (v, first, number-of l v.from g)
     go false g h ih = let z = ih h in (z.0, later z.1, z.2)
 
-writing-there : (l : ℕ) (ws : List Writing) (w : Writing) → Member w ws → w.lane ≡ l → is_present (writing_of l ws) ≡ true
+writing-there : (l : ℕ) (ws : List LaneDef) (w : LaneDef) → Member w ws → w.lane ≡ l → is_present (writing_of l ws) ≡ true
 writing-there l [] w m e = absurd (member-none w m)
 writing-there l (v ∷ ws) w m e = member-elim w v ws (λ g. ap (λ b. is_present (cond b (Some v) (writing_of l ws))) (eq-eqb v.lane l (ap (λ x. x.lane) (sym g) ∙ e))) (λ k. past (nat_eq v.lane l) (writing-there l ws w k e)) m
   where
@@ -51,11 +51,11 @@ writing-there l (v ∷ ws) w m e = member-elim w v ws (λ g. ap (λ b. is_presen
     past true h = refl
     past false h = h
 
-writing-found : (l : ℕ) (ws : List Writing) → is_present (writing_of l ws) ≡ true → (w : Writing) × Member w ws × (w.lane ≡ l)
+writing-found : (l : ℕ) (ws : List LaneDef) → is_present (writing_of l ws) ≡ true → (w : LaneDef) × Member w ws × (w.lane ≡ l)
 writing-found l [] e = absurd (cc)
 writing-found l (v ∷ ws) e = go (nat_eq v.lane l) refl e (writing-found l ws)
   where
-    go : (b : Bool) → nat_eq v.lane l ≡ b → is_present (cond b (Some v) (writing_of l ws)) ≡ true → (is_present (writing_of l ws) ≡ true → (w : Writing) × Member w ws × (w.lane ≡ l)) → (w : Writing) × Member w (v ∷ ws) × (w.lane ≡ l)
+    go : (b : Bool) → nat_eq v.lane l ≡ b → is_present (cond b (Some v) (writing_of l ws)) ≡ true → (is_present (writing_of l ws) ≡ true → (w : LaneDef) × Member w ws × (w.lane ≡ l)) → (w : LaneDef) × Member w (v ∷ ws) × (w.lane ≡ l)
     go true g h ih = (v, first, eqb-true v.lane l g)
     go false g h ih = let z = ih h in (z.0, later z.1, z.2)
 
@@ -69,10 +69,10 @@ module _ (num : Numbering) (rs : List Owner) (acts : List Act) where
   abbrev reads : List ℕ
   reads = filter_map num rs ++ act_readings num acts
 
-  abbrev writes : List Writing
+  abbrev writes : List LaneDef
   writes = act_writings num acts
 
-  writing-of-act : (w : Writing) → Member w writes → (a : Act) × (n : ℕ) × Member a acts × (num a.lane ≡ Some n) × (w ≡ writing num a n)
+  writing-of-act : (w : LaneDef) → Member w writes → (a : Act) × (n : ℕ) × Member a acts × (num a.lane ≡ Some n) × (w ≡ writing num a n)
   writing-of-act w m = let z = filtered-of (act_writing num) w acts m in go z.0 z.1 (num z.0.lane) refl z.2
     where
       go : (a : Act) → Member a acts → (q : Option ℕ) → num a.lane ≡ q → elim q [ None ↦ None | Some n ↦ Some (writing num a n) ] ≡ Some w → (a : Act) × (n : ℕ) × Member a acts × (num a.lane ≡ Some n) × (w ≡ writing num a n)

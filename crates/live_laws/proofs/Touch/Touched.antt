@@ -14,7 +14,7 @@ use Rattle.mir_meaning.specs.Points.{touches, has_no_phis}
 use Rattle.mir_meaning.specs.Rules.{V8}
 use Rattle.slot_index.specs.Order.{ids}
 use Rattle.instr_effects.specs.declared.owner.Owner.TheVariants as owners
-use Rattle.instr_effects.specs.declared.row.Lanes.{Lanes}
+use Rattle.instr_effects.specs.declared.row.LaneSpan.{LaneSpan}
 use Rattle.instr_effects.specs.Numbers.{row_number_in}
 use Rattle.instr_effects.specs.Numbered.{number_in}
 use Rattle.instr_effects.specs.Row.{lane_in}
@@ -24,7 +24,7 @@ use Rattle.live_laws.specs.Effects.Coded.{KeepsRules, IsNumbered}
 use Rattle.live_laws.proofs.Effects.Lists.{all-of}
 use Rattle.live_laws.proofs.Effects.Blocks.{member-slice}
 use Rattle.live_laws.proofs.Effects.Moving.{some-same}
-use Rattle.live_lanes.specs.declared.row.Row.{Row}
+use Rattle.live_lanes.specs.declared.row.LaneRange.{LaneRange}
 use Rattle.live_lanes.specs.declared.table.Table.{Table}
 use Rattle.mir_meaning.specs.Paths.{Code, steps_of}
 use Rattle.live_lanes.specs.Entered.{IsEntered}
@@ -76,7 +76,7 @@ module _ (t : Target) (f : Function) (x : Table) (computed : IsComputed t f x) (
   abbrev num : Numbering
   num = number_in x.lanes
 
-  abbrev rows : List Row
+  abbrev rows : List LaneRange
   rows = x.rows.rows.items
 
   abbrev code : Code
@@ -102,7 +102,7 @@ module _ (t : Target) (f : Function) (x : Table) (computed : IsComputed t f x) (
     forth : (id : ℕ) → names_range x v id ≡ true → Touches id
     forth id e = go (slice_get x.lanes.ranges.items v) refl e
       where
-        go : (q : Option Lanes) → slice_get x.lanes.ranges.items v ≡ q → some_of (names_lane id rows) q ≡ true → Touches id
+        go : (q : Option LaneSpan) → slice_get x.lanes.ranges.items v ≡ q → some_of (names_lane id rows) q ≡ true → Touches id
         go None g h = absurd (cc)
         go (Some own) g h =
             let z = below-forth (names_lane id rows) own.first own.count h in
@@ -118,7 +118,7 @@ module _ (t : Target) (f : Function) (x : Table) (computed : IsComputed t f x) (
         let y = (named z.0 z.1 z.2 z.3 v).forth z.5 in
         subst (λ n. names_range x v n ≡ true) z.4 (go y.0 y.1 (slice_get x.lanes.ranges.items v) refl y.2 (step-back t f num z.1 y.1 (owners.Range v y.0) y.2 y.3))
       where
-        go : (k n : ℕ) (q : Option Lanes) → slice_get x.lanes.ranges.items v ≡ q → row_number_in (slice_get x.lanes.ranges.items v) k ≡ Some n → names_step n (doing_of t f num z.1).0 ≡ true → names_range x v z.1.id ≡ true
+        go : (k n : ℕ) (q : Option LaneSpan) → slice_get x.lanes.ranges.items v ≡ q → row_number_in (slice_get x.lanes.ranges.items v) k ≡ Some n → names_step n (doing_of t f num z.1).0 ≡ true → names_range x v z.1.id ≡ true
         go k n None g h s = absurd (let e : None ≡ Some n = ap (λ q. row_number_in q k) (sym g) ∙ h in cc)
         go k n (Some own) g h s =
             let l = lane-of own.first own.count k n (ap (λ q. row_number_in q k) (sym g) ∙ h) in

@@ -9,7 +9,7 @@ use Rattle.mir_func.specs.declared.func.Instr.{Instr}
 use Rattle.mir_func.specs.Value.{Function}
 use Rattle.mir_meaning.specs.Points.{Point, Start, Entry, Exit, OccupiedAt, PointCount}
 use Rattle.mir_meaning.specs.Rules.{V8}
-use Rattle.instr_effects.specs.declared.row.Lanes.{Lanes}
+use Rattle.instr_effects.specs.declared.row.LaneSpan.{LaneSpan}
 use Rattle.instr_effects.specs.Numbered.{number_in}
 use Rattle.instr_effects.specs.Stepping.{tag_of}
 use Rattle.live_laws.specs.Effects.Shaped.{is_proper}
@@ -40,7 +40,7 @@ abbrev pub LanePoint : Target → Function → ℕ → ℕ → Point → Type 0
 LanePoint t f v count p = (j : ℕ) × (j < count) × OccupiedAt t f p (VirtualLane v j)
 
 -- a table tells of a range exactly at which points one of the lanes that have numbers is live or occupied
-pub record TellsRange (t : Target) (f : Function) (x : Table) (v : ℕ) (own : Lanes) : Type 0 where
+pub record TellsRange (t : Target) (f : Function) (x : Table) (v : ℕ) (own : LaneSpan) : Type 0 where
   pub start : (k : ℕ) (b : Block) → slice_get f.blocks k ≡ Some b → (any_held x.order.slots x.rows.rows.items own.first own.count k 0 ≡ true) ↔ LanePoint t f v own.count (Start b.number)
   pub entry : (id p k : ℕ) → spot_in id f.blocks ≡ Some (p, k) → (any_held x.order.slots x.rows.rows.items own.first own.count p (entry_rank x.order.slots id) ≡ true) ↔ LanePoint t f v own.count (Entry id)
   pub exit : (id p k : ℕ) → spot_in id f.blocks ≡ Some (p, k) → (any_held x.order.slots x.rows.rows.items own.first own.count p (exit_rank x.order.slots id) ≡ true) ↔ LanePoint t f v own.count (Exit id)
@@ -49,7 +49,7 @@ pub record TellsRange (t : Target) (f : Function) (x : Table) (v : ℕ) (own : L
 abbrev pub TellsRangeLaw : Type 0
 TellsRangeLaw =
     (t : Target) (f : Function) (x : Table) → IsComputed t f x → KeepsRules t f → ((b : Block) (j : ℕ) (i : Instr) → Member b f.blocks → slice_get b.instrs j ≡ Some i → V8 t b j i ≡ true)
-    → (v : ℕ) (own : Lanes) → slice_get x.lanes.ranges.items v ≡ Some own → TellsRange t f x v own
+    → (v : ℕ) (own : LaneSpan) → slice_get x.lanes.ranges.items v ≡ Some own → TellsRange t f x v own
 
 -- A table's count of a range is the number of its points, and fits 64 bits. It stands in order for the counting. (A range that the table
 -- doesn't know has no points.)

@@ -9,7 +9,7 @@ use Rattle.mir_lines.specs.Bytes.{is_word}
 use Rattle.mir_read.specs.declared.stop.TextKind.TheVariants as kinds
 use Rattle.mir_read.specs.declared.keys.Key.TheVariants as keys
 use Rattle.mir_read.specs.declared.keys.Keys.{Keys}
-use Rattle.mir_read.specs.declared.ranges.Given.TheVariants as given
+use Rattle.mir_read.specs.declared.ranges.AnnotatedClass.TheVariants as given
 use Rattle.mir_read.specs.Names.{name_lists, class_named}
 use Rattle.mir_read.specs.Keys.{is_key, key_named, with_name_value, name_value, name_begun, is_body_value, body_begun, key_begun, continued, colon_cut, begun_with, found, with_class, with_declared, declared_class, with_frame, declared_frame, declared, kept, key_line}
 use Rattle.mir_text.proofs.Laws.Given.{GiveClasses, mentioned-gives}

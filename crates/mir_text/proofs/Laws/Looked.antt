@@ -17,7 +17,7 @@ use Rattle.mir_lines.specs.declared.raw.RawOperand.{RawOperand}
 use Rattle.mir_lines.specs.declared.raw.RawOperand.TheVariants as raw
 use Rattle.mir_lines.specs.declared.raw.RawInstr.{RawInstr}
 use Rattle.mir_read.specs.declared.stop.TextKind.{TextKind}
-use Rattle.mir_read.specs.declared.ranges.Given.TheVariants as given
+use Rattle.mir_read.specs.declared.ranges.AnnotatedClass.TheVariants as given
 use Rattle.mir_read.specs.declared.ranges.Ranges.{Ranges}
 use Rattle.mir_read.specs.declared.resolve.Headers.{Headers}
 use Rattle.mir_read.specs.Names.{name_lists, class_named, reg_named, index_named, mask_named, has_flag}

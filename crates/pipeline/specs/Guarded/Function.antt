@@ -2,9 +2,10 @@
 use Rattle.std.specs.Prelude.{◌≡◌, ◌≤◌, ◌<◌, ℕ, Bool, true, false, List, [], length, Some, None}
 use Rattle.target_base.specs.declared.types.Target.{Target}
 use Rattle.mir_func.specs.Value.{Function}
+use Rattle.mir_meaning.specs.declared.Form.{Form}
 use Rattle.mir_meaning.specs.declared.Form.TheVariants as forms
 use Rattle.mir_func.specs.declared.func.Place.{Place}
-use Rattle.mir_meaning.specs.Places.{FirstPlace, TooMany, PlacesServe}
+use Rattle.mir_meaning.specs.Places.{Needs, FirstPlace, TooMany, Admits, PlacesServe}
 use Rattle.mir_meaning.specs.Valid.{IsValid, FirstFault}
 use Rattle.place_solve.specs.Own.{HasFew}
 use Rattle.machine_verify.specs.Faults.{fault_of}
@@ -14,7 +15,6 @@ use Rattle.source_text.specs.Keeps.{keeps_text}
 use Rattle.mir_text.specs.declared.doc.Doc.TheVariants as docs
 use Rattle.mir_text.specs.Print.{print_doc}
 use Rattle.mir_text.specs.Document.{Spells}
-use Rattle.pipeline.specs.Passes.Stops.{AdmitsNone, AllServe, FirstRefused}
 use Rattle.pipeline.specs.declared.guarded.stop.FunctionStop.{FunctionStop}
 use Rattle.pipeline.specs.declared.guarded.stop.FunctionStop.TheVariants as stops
 use Rattle.pipeline.specs.declared.guarded.stop.LimitName.{LimitName}
@@ -56,19 +56,9 @@ pub record Allocates (t : Target) (f g : Function) : Type 0 where
   pub serve : PlacesServe t f
   pub guarded : IsGuarded t f g
 
--- the limit l is that of the variables of a place, and some place passes it; or it is that of range numbers, and all places serve
-abbrev pub IsLateLimit : Target → Function → LimitName → Type 0
-IsLateLimit t f limits.Variables = HasMany t f
-IsLateLimit t f limits.Ranges = AllServe t f
-IsLateLimit t f l = ⊥
-
--- a refusal of the function, whose name this is, that comes once it is taken
-abbrev pub IsOnceTaken : Target → Function → List ℕ → FunctionStop → Type 0
-IsOnceTaken t f name (stops.Limit l) = IsLateLimit t f l
-IsOnceTaken t f name (stops.Unassignable n x) = (n ≡ name) × FirstRefused t f x
-IsOnceTaken t f name (stops.Invalid n x) = ⊥
-IsOnceTaken t f name stops.NotYet = AllServe t f
-IsOnceTaken t f name (stops.Memory e) = Unit {0}
+-- no choice of registers serves at the place
+abbrev pub AdmitsNone : Target → Function → Needs → Type 0
+AdmitsNone t f p = Admits t f p → ⊥
 
 -- The limit l is the reason: of blocks, instructions and virtual registers the first one that the function passes; a later
 -- limit only where the function is taken: that of variables where some place has too many, that of ranges where all places
@@ -87,6 +77,19 @@ IfRefused t f (stops.Unassignable name x) = IsTaken t f × (name ≡ f.name) × 
 IfRefused t f stops.NotYet = IsTaken t f × PlacesServe t f
 IfRefused t f (stops.Memory e) = Unit {0}
 
+-- a function is refused for the first limit that it passes of those of blocks, instructions and virtual registers
+abbrev pub IfPassed : Function → FunctionStop → Type 0
+IfPassed f (stops.Limit l) = passed_limit f ≡ Some l
+IfPassed f stop = ⊥
+
+-- why a function isn't one within these limits that is valid in a form: the first of them that it passes; within them, its
+-- first fault
+abbrev pub IfUnfit : Target → Form → Function → FunctionStop → Type 0
+IfUnfit t form f (stops.Limit l) = passed_limit f ≡ Some l
+IfUnfit t form f (stops.Invalid name x) = (passed_limit f ≡ None) × (name ≡ f.name) × FirstFault t form f (fault_of x)
+IfUnfit t form f (stops.Memory e) = Unit {0}
+IfUnfit t form f stop = ⊥
+
 -- the refusal comes before the run of the allocator, of which watchers are told
 abbrev pub comes_before_run : FunctionStop → Bool
 comes_before_run (stops.Limit limits.Ranges) = false
@@ -94,3 +97,8 @@ comes_before_run (stops.Limit l) = true
 comes_before_run (stops.Invalid name x) = true
 comes_before_run (stops.Unassignable name x) = true
 comes_before_run stop = false
+
+-- a refusal that isn't for want of memory comes before the run
+abbrev pub IfBeforeRun : FunctionStop → Type 0
+IfBeforeRun (stops.Memory e) = Unit {0}
+IfBeforeRun stop = comes_before_run stop ≡ true

@@ -4,7 +4,7 @@
 ghost use Rattle.std.specs.Prelude.{IfOk, IfSome};
 ghost use Rattle.pipeline.specs.Guarded.Function.{IsGuarded, IsTextFor};
 
-use crate::guarded::spelled::{Allocation, printed, same_text};
+use crate::guarded::spelled::{Allocation, print_and_read, same_text};
 use alloc_check::check_reserved;
 use mir_func::{Func, Valid};
 use source_text::keeps_text;
@@ -14,7 +14,7 @@ use target_base::Target;
 /// The allocated function with its text, where it has the source's name, the checker says Yes to what
 /// the text spells beside the source, of reserved units too, and that keeps the source's names, blocks,
 /// flags, tails, key lines and frame objects.
-pub(crate) fn guarded(
+pub(crate) fn check_allocation(
     alloc: Global,
     target: &Target,
     source: &Valid,
@@ -23,7 +23,7 @@ pub(crate) fn guarded(
     ensures right { IfOk result (λ made. IfSome made (λ a. IsGuarded target.now source.now.func a.func)) }
     ensures text { IfOk result (λ made. IfSome made (λ a. IsTextFor target.now a.func a.text)) }
 {
-    let Some(made) = printed(alloc, target, allocated)? else {
+    let Some(made) = print_and_read(alloc, target, allocated)? else {
         return Ok(None);
     };
     if !same_text(made.func.name.as_slice(), source.func.name.as_slice()) {

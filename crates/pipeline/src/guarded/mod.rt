@@ -4,13 +4,16 @@
 pub mod function;
 mod guard;
 pub mod limits;
+pub mod source;
 pub mod spelled;
 pub mod stop;
 pub mod valid;
 
-pub use crate::guarded::function::allocated;
-pub use crate::guarded::limits::passed_limit;
+pub use crate::guarded::function::allocate_function;
+pub use crate::guarded::source::{
+    NamedSource, ServedSource, allocated_name, live_source, served_source, within_limits,
+};
 pub use crate::guarded::spelled::Allocation;
 pub use crate::guarded::stop::{FunctionStop, LimitName};
-pub use crate::guarded::valid::{verify_allocated, verify_live, verify_source};
+pub use crate::guarded::valid::{verify_allocated, verify_live};
 pub use crate::passes::{Allocator, Watcher};

@@ -8,7 +8,7 @@ ghost use Rattle.mir_text.specs.Document.{Spells};
 ghost use Rattle.pipeline.specs.Guarded.Function.{IsTextFor};
 
 use mir_func::Func;
-use mir_text::{Doc, TextStop, print_doc, read_doc};
+use mir_text::{Doc, LATER, TextStop, print_doc, read_doc};
 use std::alloc::{AllocError, Global};
 use target_base::{Bytes, Target};
 
@@ -58,7 +58,7 @@ fn read_alone(
     ensures spells { IfOk result (λ made. IfSome made (λ f. Spells target.now false 1 text.now (docs.Function [] f))) }
     ensures head { IfOk result (λ made. IfSome made (λ f. same_numbers f.head head.now ≡ true)) }
 {
-    match read_doc(alloc, target, false, 1, text) {
+    match read_doc(alloc, target, LATER, 1, text) {
         Ok(doc) => match function_alone(doc) {
             Some(f) => {
                 if same_text(f.head.as_slice(), head) {
@@ -78,7 +78,7 @@ fn read_alone(
 /// text is longer than a document may be that is read. None where it spells none, or one with other
 /// key lines: a reader drops the keys `registers` and `liveins`, which no answer has.
 #[tactic(auto, using(crate::proofs::GuardLemmas::Texts::texts))]
-pub(crate) fn printed(
+pub(crate) fn print_and_read(
     alloc: Global,
     target: &Target,
     f: Func,

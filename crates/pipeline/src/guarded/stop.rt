@@ -1,6 +1,11 @@
 //! Why a function isn't allocated.
 
-use machine_verify::{Invalid, Place};
+ghost use Rattle.std.specs.Prelude.{◌≡◌};
+ghost use Rattle.pipeline.specs.Guarded.Stops.{of_places, of_verifier};
+
+use machine_verify::{Invalid, Place, VerifyStop};
+use place_solve::PlaceStop;
+use spiller::RunStop;
 use std::alloc::AllocError;
 use target_base::Bytes;
 
@@ -30,7 +35,7 @@ pub enum LimitName {
 pub enum FunctionStop {
     /// The function passes a limit.
     Limit(LimitName),
-    /// The function of this name isn't valid as a source.
+    /// The function of this name isn't valid in the form that is asked for.
     Invalid(Bytes, Invalid),
     /// A place of the function of this name admits no choice of registers.
     Unassignable(Bytes, Place),
@@ -39,6 +44,44 @@ pub enum FunctionStop {
     NotYet,
     /// Memory ran out.
     Memory(AllocError),
+}
+
+impl FunctionStop {
+    /// The refusal of a function of this name by a verifier.
+    pub(crate) fn of_verifier(name: Bytes, stop: VerifyStop) -> FunctionStop
+        ensures { result ≡ of_verifier name stop }
+    {
+        match stop {
+            VerifyStop::Invalid(invalid) => FunctionStop::Invalid(name, invalid),
+            VerifyStop::Memory(e) => FunctionStop::Memory(e),
+        }
+    }
+
+    /// The refusal of a function of this name for one of its places.
+    pub(crate) fn of_places(name: Bytes, stop: PlaceStop) -> FunctionStop
+        ensures { result ≡ of_places name stop }
+    {
+        match stop {
+            PlaceStop::Variables(_) => FunctionStop::Limit(LimitName::Variables),
+            PlaceStop::Unassignable(place) => FunctionStop::Unassignable(name, place),
+            PlaceStop::Memory(e) => FunctionStop::Memory(e),
+        }
+    }
+}
+
+impl From<RunStop> for FunctionStop {
+    ghost use Rattle.std.specs.Prelude.{◌≡◌};
+    ghost use Rattle.pipeline.specs.Guarded.Stops.{of_run};
+
+    ghost from_gives = { λ x e. e ≡ of_run x };
+
+    fn from(stop: RunStop) -> FunctionStop {
+        match stop {
+            RunStop::Ranges => FunctionStop::Limit(LimitName::Ranges),
+            RunStop::Unfinished => FunctionStop::NotYet,
+            RunStop::Memory(e) => FunctionStop::Memory(e),
+        }
+    }
 }
 
 impl From<AllocError> for FunctionStop {

@@ -9,7 +9,7 @@ ghost use Rattle.machine_verify.specs.Lives.{FitsTarget};
 ghost use Rattle.machine_verify.specs.Verdict.{IfInvalid};
 
 use machine_verify::LiveSource;
-use mir_func::{Func, Valid};
+use mir_func::Func;
 use std::alloc::Global;
 use target_base::Target;
 
@@ -26,20 +26,6 @@ pub fn verify_live(
     ensures err { IfErr result (IfInvalid (FirstFault target.now forms.Source f)) }
 {
     machine_verify::verify_live(alloc, target, f)
-}
-
-/// The function where it is valid as a source, and else its first fault.
-#[tactic(auto, using(alloc_check::proofs::Classes::valid_of, crate::proofs::GuardLemmas::Exact::if_first))]
-pub fn verify_source(
-    alloc: Global,
-    target: &Target,
-    f: Func,
-) -> Result<Valid, machine_verify::VerifyStop>
-    requires { FitsTarget target.now f }
-    ensures ok { IfOk result (λ v. (v.func ≡ f) × IsValid target.now forms.Source f) }
-    ensures err { IfErr result (IfInvalid (FirstFault target.now forms.Source f)) }
-{
-    machine_verify::verify_source(alloc, target, f)
 }
 
 /// Whether a function is valid in the allocated form, and else its first fault.

@@ -5,11 +5,9 @@ mod allocator;
 mod chosen;
 mod places;
 mod ready;
-mod stop;
 
 pub use crate::passes::allocator::Allocator;
 pub use crate::passes::chosen::with_registers;
-pub use crate::passes::places::served;
-pub use crate::passes::ready::{Prepared, live_anew, lowered, prepare};
-pub use crate::passes::stop::RegisterStop;
+pub use crate::passes::places::check_source_places;
+pub use crate::passes::ready::{PreparedFunc, live_anew, lower_source, prepare};
 pub use greedy_core::Watcher;

@@ -16,7 +16,11 @@ use target_base::Target;
 
 /// A source with what is live in it, where each of its places has few enough variables and admits a
 /// choice; else the first place that has too many, or that admits none.
-pub fn served(alloc: Global, target: &Target, source: LiveSource) -> Result<LiveFunc, PlaceStop>
+pub fn check_source_places(
+    alloc: Global,
+    target: &Target,
+    source: LiveSource,
+) -> Result<LiveFunc, PlaceStop>
     requires { IsComputed target.now source.source.func source.table.table }
     ensures func { IfOk result (λ live. live.func ≡ source.source.func) }
     ensures variables { IfErr result (own.IfVariables (FirstPlace target.now source.source.func TooMany)) }

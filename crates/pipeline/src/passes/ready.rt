@@ -20,7 +20,7 @@ use two_address::lower_tied;
 
 /// A function in lowered form whose copies were tried for joins.
 #[derive(Drop)]
-pub struct Prepared {
+pub struct PreparedFunc {
     /// The function with what is live in it.
     pub live: LiveFunc,
     /// How often its blocks run.
@@ -29,7 +29,7 @@ pub struct Prepared {
 
 /// The function in lowered form: without phis first, and then without tied operands of two registers,
 /// `undef` operands, REG_SEQUENCE and INSERT_SUBREG.
-pub fn lowered(alloc: Global, target: &Target, source: Valid) -> Result<Func, AllocError>
+pub fn lower_source(alloc: Global, target: &Target, source: Valid) -> Result<Func, AllocError>
     ensures { bulk source.func ≤ 2 ^ 24 → IfOk result (λ g. g ≡ lowered target.now source.func) }
 {
     lower_tied(alloc, target, lower_phis(alloc, target, source)?)
@@ -37,15 +37,15 @@ pub fn lowered(alloc: Global, target: &Target, source: Valid) -> Result<Func, Al
 
 /// The function lowered, and then its copies joined by the frequencies of its blocks, which stay the
 /// same. What was live in it before is let go, and its copy of the target is kept.
-pub fn prepare(alloc: Global, target: &Target, source: LiveFunc) -> Result<Prepared, AllocError>
+pub fn prepare(alloc: Global, target: &Target, source: LiveFunc) -> Result<PreparedFunc, AllocError>
     ensures { bulk source.func ≤ 2 ^ 24 → IfOk result (λ made. made.freqs ≡ frequencies_of (lowered target.now source.func).blocks) }
 {
     let (own_target, func) = source.into_parts();
-    let f = lowered(alloc, target, Valid { func })?;
+    let f = lower_source(alloc, target, Valid { func })?;
     let freqs = frequencies(alloc, &f)?;
     let live = LiveFunc::compute_within(alloc, own_target, f)?;
     let (live, _) = coalesce(alloc, target, live, &freqs)?;
-    Ok(Prepared { live, freqs })
+    Ok(PreparedFunc { live, freqs })
 }
 
 /// The function that was made ready, with what is live in it computed anew; what was known of it
@@ -54,11 +54,11 @@ pub fn prepare(alloc: Global, target: &Target, source: LiveFunc) -> Result<Prepa
 pub fn live_anew(
     alloc: Global,
     target: &Target,
-    made: Prepared,
-) -> Result<Option<Prepared>, AllocError>
+    made: PreparedFunc,
+) -> Result<Option<PreparedFunc>, AllocError>
     ensures { IfOk result (λ again. IfSome again (λ now. IsLive target.now now × (now.freqs ≡ made.freqs))) }
 {
-    let Prepared { live, freqs } = made;
+    let PreparedFunc { live, freqs } = made;
     let f = live.into_func();
     if !fits(target, &f) {
         return Ok(None);
@@ -66,7 +66,7 @@ pub fn live_anew(
     match verify_live(alloc, target, f) {
         Ok(source) => {
             let live = source.into_live(alloc, target)?;
-            Ok(Some(Prepared { live, freqs }))
+            Ok(Some(PreparedFunc { live, freqs }))
         }
         Err(VerifyStop::Invalid(_)) => Ok(None),
         Err(VerifyStop::Memory(e)) => Err(e),

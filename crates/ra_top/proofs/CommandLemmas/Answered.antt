@@ -10,7 +10,7 @@ use Rattle.ra_top.specs.declared.commands.answer.Answer.{Answer}
 use Rattle.ra_top.specs.declared.commands.answer.Answer.TheVariants as answers
 use Rattle.ra_top.specs.declared.commands.answer.Job.{Job}
 use Rattle.ra_top.specs.declared.commands.answer.Job.TheVariants as jobs
-use Rattle.ra_top.specs.declared.commands.spot.Spot.{Spot}
+use Rattle.ra_top.specs.declared.commands.spot.DocStart.{DocStart}
 use Rattle.ra_top.specs.declared.commands.status.Status.{Status}
 use Rattle.ra_top.specs.declared.commands.status.Status.TheVariants as status
 use Rattle.ra_top.specs.Commands.Answer.{IsSpelled, Refuses, IsAnswer}
@@ -60,7 +60,7 @@ doc_never jobs.Intervals t (docs.Function before f) s detail never h = intervals
 doc_never (jobs.Trace how) t (docs.Function before f) s detail never h = alloc_never t f s detail never h
 doc_never job t d s detail never h = h
 
-doc_refused : (job : Job) (t : Target) (spot : Spot) (piece : List ℕ) (d : Doc) (s : Status) (detail : List ℕ) → IsSpelled t spot piece d → RefusesDoc job t d s detail → Refuses job t spot piece s detail
+doc_refused : (job : Job) (t : Target) (spot : DocStart) (piece : List ℕ) (d : Doc) (s : Status) (detail : List ℕ) → IsSpelled t spot piece d → RefusesDoc job t d s detail → Refuses job t spot piece s detail
 doc_refused job t spot piece d (status.Limit l) detail is h = inr (record { doc = d; spelled = is; refused = h })
 doc_refused job t spot piece d (status.Invalid x) detail is h = record { doc = d; spelled = is; refused = h }
 doc_refused job t spot piece d (status.Unassignable p) detail is h = record { doc = d; spelled = is; refused = h }
@@ -74,7 +74,7 @@ doc_refused job t spot piece d status.WriteFault detail is h = absurd (doc_never
 doc_refused job t spot piece d status.Memory detail is h = absurd (doc_never job t d status.Memory detail tt h)
 
 -- the document of a piece was answered
-pub answer_at_doc : {E : Type 0} (job : Job) (t : Target) (spot : Spot) (piece : List ℕ) (d : Doc) (r : Result Answer E) → IsSpelled t spot piece d → IfOk r (IsDocAnswer job t d) → IfOk r (IsAnswer job t spot piece)
+pub answer_at_doc : {E : Type 0} (job : Job) (t : Target) (spot : DocStart) (piece : List ℕ) (d : Doc) (r : Result Answer E) → IsSpelled t spot piece d → IfOk r (IsDocAnswer job t d) → IfOk r (IsAnswer job t spot piece)
 answer_at_doc job t spot piece d (Ok (answers.Text text)) is h = record { doc = d; spelled = is; is = h }
 answer_at_doc job t spot piece d (Ok (answers.Last text)) is h = record { doc = d; spelled = is; is = h }
 answer_at_doc job t spot piece d (Ok (answers.Refused s detail)) is h = doc_refused job t spot piece d s detail is h

@@ -12,7 +12,7 @@ use Rattle.pipeline.specs.Guarded.Told.{ToldPart}
 use Rattle.pipeline.proofs.GuardLemmas.Told.{all_joined, part_of_none, part_of_run}
 use Rattle.ra_top.specs.declared.commands.answer.Answer.{Answer}
 use Rattle.ra_top.specs.declared.commands.answer.Answer.TheVariants as answers
-use Rattle.ra_top.specs.declared.commands.spot.Spot.{Spot}
+use Rattle.ra_top.specs.declared.commands.spot.DocStart.{DocStart}
 use Rattle.ra_top.specs.Commands.Answer.{IsSpelled}
 use Rattle.ra_top.specs.Commands.Told.{steps_of, next_number, ToldDoc, ToldAnswer, ToldPiece, ToldOne}
 
@@ -48,7 +48,7 @@ module _ {W : Type 0} (next : W → Step → W) where
   answer_of_one before f (Err x) n m old new e h = tt
 
   -- the document of a piece was answered
-  pub answer_of_piece : {E : Type 0} (t : Target) (spot : Spot) (piece : List ℕ) (d : Doc) (r : Result Answer E) (n m : ℕ) (old new : List W) → IsSpelled t spot piece d → IfOk r (ToldAnswer next d n m old new) → IfOk r (ToldPiece next t spot piece n m old new)
+  pub answer_of_piece : {E : Type 0} (t : Target) (spot : DocStart) (piece : List ℕ) (d : Doc) (r : Result Answer E) (n m : ℕ) (old new : List W) → IsSpelled t spot piece d → IfOk r (ToldAnswer next d n m old new) → IfOk r (ToldPiece next t spot piece n m old new)
   answer_of_piece t spot piece d (Ok (answers.Text text)) n m old new is h = (d, is, h)
   answer_of_piece t spot piece d (Ok (answers.Last text)) n m old new is h = (d, is, h)
   answer_of_piece t spot piece d (Ok (answers.Refused s detail)) n m old new is h = h

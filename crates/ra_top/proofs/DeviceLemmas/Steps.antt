@@ -8,7 +8,7 @@ use Rattle.std.proofs.lemmas.List.Folds.{list_all-append}
 use Rattle.std.proofs.lemmas.List.Sums.{fold-append}
 use Rattle.std.proofs.lemmas.Grind.{common_steps}
 use Rattle.std.proofs.lemmas.Bool.Decides.{nat_tests}
-use Rattle.ra_top.specs.declared.devices.pieces.Scanned.{Scanned}
+use Rattle.ra_top.specs.declared.devices.pieces.PieceScan.{PieceScan}
 use Rattle.ra_top.specs.Devices.Pieces.{Lines, no_lines, with_byte, lines_of, end_document, is_whole, held_most}
 use Rattle.ra_top.specs.Devices.Scan.{scan_step, scan_of}
 
@@ -78,16 +78,16 @@ pub scanned : (text bs : List ℕ) → fold scan_step (scan_of (lines_of text)) 
 unfolding lines_of
 scanned text bs = scan_more (lines_of text) bs ∙ ap scan_of (sym (fold-append with_byte no_lines text bs))
 
-pub scan_of_none : (text : List ℕ) (s : Scanned) → text ≡ [] → s ≡ record { begun = false; len = 0; dashes = true; dots = true; whole = false } → (length text ≤ held_most) × (s ≡ scan_of (lines_of text))
+pub scan_of_none : (text : List ℕ) (s : PieceScan) → text ≡ [] → s ≡ record { begun = false; len = 0; dashes = true; dots = true; whole = false } → (length text ≤ held_most) × (s ≡ scan_of (lines_of text))
 unfolding lines_of
 scan_of_none text s none e = (rw none (omega arith), e ∙ rw none refl)
 
 -- the scan of the text that is held, with a beginning of more bytes
-pub held_scan : (text bs more : List ℕ) (s t : Scanned) (n : ℕ) → s ≡ scan_of (lines_of text) → t ≡ fold scan_step s (take n bs) → more ≡ text ++ take n bs → t ≡ scan_of (lines_of more)
+pub held_scan : (text bs more : List ℕ) (s t : PieceScan) (n : ℕ) → s ≡ scan_of (lines_of text) → t ≡ fold scan_step s (take n bs) → more ≡ text ++ take n bs → t ≡ scan_of (lines_of more)
 held_scan text bs more s t n is after e = after ∙ ap (λ x. fold scan_step x (take n bs)) is ∙ scanned text (take n bs) ∙ ap (λ m. scan_of (lines_of m)) (sym e)
 
 -- no shorter beginning is whole
-pub none_scanned : (text bs : List ℕ) (s : Scanned) (n : ℕ) → s ≡ scan_of (lines_of text) → is_whole text ≡ false → ((j : ℕ) → 0 < j → j < n → (fold scan_step s (take j bs)).whole ≡ false) → (j : ℕ) → j < n → is_whole (text ++ take j bs) ≡ false
+pub none_scanned : (text bs : List ℕ) (s : PieceScan) (n : ℕ) → s ≡ scan_of (lines_of text) → is_whole text ≡ false → ((j : ℕ) → 0 < j → j < n → (fold scan_step s (take j bs)).whole ≡ false) → (j : ℕ) → j < n → is_whole (text ++ take j bs) ≡ false
 none_scanned text bs s n is none first zero below = rw (append-nil text) none
 none_scanned text bs s n is none first (suc j) below =
     let known = first (suc j) (omega arith) below in

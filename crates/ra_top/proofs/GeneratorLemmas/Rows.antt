@@ -3,7 +3,7 @@ use Rattle.std.proofs.Common.{◌≡◌, ℕ, ◌+◌, List, [], ◌++◌, add-o
 use Rattle.std.specs.Prelude.{OnOk, Result, codes}
 use Rattle.std.specs.Fmt.{decimal}
 use Rattle.std.proofs.lemmas.Result.{on_ok_weaker}
-use Rattle.ra_top.specs.declared.generator.source.Numbers.{Numbers}
+use Rattle.ra_top.specs.declared.generator.source.InstrNumbers.{InstrNumbers}
 use Rattle.ra_top.specs.declared.generator.source.Jump.{Jump}
 use Rattle.ra_top.specs.Generator.Text.{next, drawn, numbers, behind_instr, jump, behind_jump, register_line, instr_line, jump_lines, behind_registers, register_lines, behind_instrs, instr_lines, block_lines, behind_block, behind_blocks, blocks_lines, head_lines, last_lines, generated_text}
 
@@ -58,11 +58,11 @@ one_register v n x y z o0 o o2 h d e =
     let line = e ∙ ap (λ (q : ℕ). o ++ register_line v q) en in
     (more o0 o o2 (register_lines v x) (register_line v (drawn (next at) 1000)) _ h.0 line (registers_lines_more v x), d.1 ∙ (ap next h.1 ∙ sym (behind_registers_more v x)))
 
-pub one_instr : (k x y z : ℕ) (n : Numbers) (o0 o o2 : List ℕ) → (o ≡ o0 ++ instr_lines k x) × (y ≡ behind_instrs k x) → (n ≡ numbers y) × (z ≡ behind_instr y) → o2 ≡ o ++ instr_line n → (o2 ≡ o0 ++ instr_lines (k + 1) x) × (z ≡ behind_instrs (k + 1) x)
+pub one_instr : (k x y z : ℕ) (n : InstrNumbers) (o0 o o2 : List ℕ) → (o ≡ o0 ++ instr_lines k x) × (y ≡ behind_instrs k x) → (n ≡ numbers y) × (z ≡ behind_instr y) → o2 ≡ o ++ instr_line n → (o2 ≡ o0 ++ instr_lines (k + 1) x) × (z ≡ behind_instrs (k + 1) x)
 one_instr k x y z n o0 o o2 h d e =
     let at = behind_instrs k x in
     let en : n ≡ numbers at = d.0 ∙ ap (λ (q : ℕ). numbers q) h.1 in
-    let line = e ∙ ap (λ (q : Numbers). o ++ instr_line q) en in
+    let line = e ∙ ap (λ (q : InstrNumbers). o ++ instr_line q) en in
     (more o0 o o2 (instr_lines k x) (instr_line (numbers at)) _ h.0 line (instr_lines_more k x), d.1 ∙ (ap (λ (q : ℕ). behind_instr q) h.1 ∙ sym (behind_instrs_more k x)))
 
 pub one_block : (b x y z : ℕ) (o0 o o2 : List ℕ) → (o ≡ o0 ++ blocks_lines b x) × (y ≡ behind_blocks b x) → (o2 ≡ o ++ block_lines (b + 1) y) × (z ≡ behind_block y) → (o2 ≡ o0 ++ blocks_lines (b + 1) x) × (z ≡ behind_blocks (b + 1) x)

@@ -17,8 +17,7 @@ use Rattle.machine_verify.specs.declared.stop.Invalid.{Invalid}
 use Rattle.machine_verify.specs.Faults.{fault_of}
 use Rattle.machine_verify.specs.Lives.{FitsTarget}
 use Rattle.pipeline.specs.Guarded.Limits.{passed_limit}
-use Rattle.pipeline.specs.Passes.Stops.{AllServe, FirstRefused}
-use Rattle.pipeline.specs.Guarded.Function.{Allocates, IsTextFor, HasMany, IsTaken, IfRefused}
+use Rattle.pipeline.specs.Guarded.Function.{Allocates, IsTextFor, IsTaken, IfRefused}
 use Rattle.pipeline.specs.declared.guarded.stop.LimitName.TheVariants as limits
 use Rattle.pipeline.specs.declared.guarded.stop.FunctionStop.{FunctionStop}
 use Rattle.pipeline.specs.declared.guarded.stop.FunctionStop.TheVariants as stops
@@ -83,6 +82,10 @@ pub record IsIntervals (t : Target) (f : Function) (name text : List ℕ) : Type
   pub freqs : List ℕ
   pub frequencies : bulk f ≤ 2 ^ 24 → freqs ≡ frequencies_of (lowered t f).blocks
   pub is : IsLiveText t name freqs func text
+
+-- the text, behind a name, says what is live where in some function that is valid as a source and whose blocks run so often
+abbrev pub IsReadyText : Target → List ℕ → List ℕ → List ℕ → Type 0
+IsReadyText t freqs name text = (f : Function) × IsValid t forms.Source f × IsLiveText t name freqs f text
 
 -- What is written for a function document where the run of the program goes on: the printed allocation, that the
 -- function is valid, what is live where (`IsIntervals`), or nothing where `run` passes over it or `trace` only tells the watchers.
@@ -219,49 +222,20 @@ IsSecondAnswer t n seed f x (answers.Last text) = IsValid t forms.Allocated f ×
 IsSecondAnswer t n seed f x (answers.Refused s detail) =
     (s ≡ status.Invalid x) × ((y : Fault) × FirstFault t forms.Allocated f y) × (detail ≡ invalid_words f.name x)
 
+-- a refusal isn't for the limit of range numbers
+abbrev pub IfNoRanges : FunctionStop → Type 0
+IfNoRanges (stops.Limit limits.Ranges) = ⊥
+IfNoRanges stop = Unit {0}
+
+-- the status by which a function is refused for a cause, and the detail of its line
+abbrev pub IsStatusOf : FunctionStop → Status → List ℕ → Type 0
+IsStatusOf (stops.Limit l) s detail = s ≡ status.Limit l
+IsStatusOf (stops.Invalid name x) s detail = (s ≡ status.Invalid x) × (detail ≡ invalid_words name x)
+IsStatusOf (stops.Unassignable name p) s detail = (s ≡ status.Unassignable p) × (detail ≡ unassignable_words name p)
+IsStatusOf stops.NotYet s detail = s ≡ status.NotYet
+IsStatusOf (stops.Memory e) s detail = ⊥
+
 -- the answer that refuses a function for a cause
-abbrev pub IsAllocRefusal : FunctionStop → Answer → Type 0
-IsAllocRefusal (stops.Limit l) (answers.Refused s detail) = s ≡ status.Limit l
-IsAllocRefusal (stops.Invalid name x) (answers.Refused s detail) = (s ≡ status.Invalid x) × (detail ≡ invalid_words name x)
-IsAllocRefusal (stops.Unassignable name p) (answers.Refused s detail) = (s ≡ status.Unassignable p) × (detail ≡ unassignable_words name p)
-IsAllocRefusal stops.NotYet (answers.Refused s detail) = s ≡ status.NotYet
-IsAllocRefusal stop a = ⊥
-
--- a refusal of a valid function within the limits, by a name
-abbrev pub LateRefuses : Target → Function → List ℕ → Status → List ℕ → Type 0
-LateRefuses t f name (status.Limit limits.Variables) detail = HasMany t f
-LateRefuses t f name (status.Limit limits.Ranges) detail = AllServe t f
-LateRefuses t f name (status.Unassignable p) detail = (detail ≡ unassignable_words name p) × FirstRefused t f p
-LateRefuses t f name status.NotYet detail = AllServe t f
-LateRefuses t f name s detail = ⊥
-
-abbrev pub IsTakenRefusal : Target → Function → List ℕ → Answer → Type 0
-IsTakenRefusal t f name (answers.Refused s detail) = LateRefuses t f name s detail
-IsTakenRefusal t f name a = ⊥
-
-abbrev pub IsTakenAnswer : Target → Function → List ℕ → Answer → Type 0
-IsTakenAnswer t f name (answers.Text text) = AllServe t f × (text ≡ [])
-IsTakenAnswer t f name (answers.Last text) = ⊥
-IsTakenAnswer t f name (answers.Refused s detail) = LateRefuses t f name s detail
-
--- a refusal of a valid function within the limits, by a name: for one of its places, or where all serve as not yet made ready
-abbrev pub PlaceRefuses : Target → Function → List ℕ → Status → List ℕ → Type 0
-PlaceRefuses t f name (status.Limit limits.Variables) detail = HasMany t f
-PlaceRefuses t f name (status.Unassignable p) detail = (detail ≡ unassignable_words name p) × FirstRefused t f p
-PlaceRefuses t f name status.NotYet detail = AllServe t f
-PlaceRefuses t f name s detail = ⊥
-
-abbrev pub IsPlaceRefusal : Target → Function → List ℕ → Answer → Type 0
-IsPlaceRefusal t f name (answers.Refused s detail) = PlaceRefuses t f name s detail
-IsPlaceRefusal t f name a = ⊥
-
--- the text says what is live where in a valid function whose blocks run so often, or there is none
-abbrev pub IsReadyAnswer : Target → List ℕ → List ℕ → Answer → Type 0
-IsReadyAnswer t freqs name (answers.Text text) = (f : Function) × IsValid t forms.Source f × IsLiveText t name freqs f text
-IsReadyAnswer t freqs name (answers.Refused status.NotYet detail) = Unit {0}
-IsReadyAnswer t freqs name a = ⊥
-
-abbrev pub IsLiveAnswer : Target → Function → List ℕ → Answer → Type 0
-IsLiveAnswer t f name (answers.Text text) = AllServe t f × IsIntervals t f name text
-IsLiveAnswer t f name (answers.Last text) = ⊥
-IsLiveAnswer t f name (answers.Refused s detail) = PlaceRefuses t f name s detail
+abbrev pub IsRefusalFor : FunctionStop → Answer → Type 0
+IsRefusalFor stop (answers.Refused s detail) = IsStatusOf stop s detail
+IsRefusalFor stop a = ⊥

@@ -5,7 +5,7 @@ use Rattle.target_base.specs.declared.types.Target.{Target}
 use Rattle.mir_text.specs.Document.{FaultOf}
 use Rattle.ra_top.specs.declared.commands.refusal.Refusal.{Refusal}
 use Rattle.ra_top.specs.declared.commands.refusal.Refusal.TheVariants as refusals
-use Rattle.ra_top.specs.declared.commands.spot.Spot.{Spot}
+use Rattle.ra_top.specs.declared.commands.spot.DocStart.{DocStart}
 use Rattle.ra_top.specs.declared.commands.status.Status.{Status}
 use Rattle.ra_top.specs.declared.commands.status.Status.TheVariants as status
 use Rattle.ra_top.specs.Commands.Spot.{length_fault}
@@ -22,7 +22,7 @@ IsOfMemory (refusals.By s detail) = ⊥
 IsOfMemory (refusals.Memory e) = Unit {0}
 
 -- a piece passes a limit on lengths; or within them it spells no document, at the line of its fault
-abbrev pub IsUnspelled : Target → Spot → List ℕ → Status → List ℕ → Type 0
+abbrev pub IsUnspelled : Target → DocStart → List ℕ → Status → List ℕ → Type 0
 IsUnspelled t spot piece (status.Limit limit) detail = length_fault spot.offset (length piece) ≡ Some limit
 IsUnspelled t spot piece (status.Text fault) detail =
     (length_fault spot.offset (length piece) ≡ None) × FaultOf t (is_first spot) spot.line piece fault × (detail ≡ decimal fault.line)

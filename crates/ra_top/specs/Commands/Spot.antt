@@ -1,17 +1,17 @@
 -- Where a document stands in its file, and what it may be long.
 use Rattle.std.specs.Prelude.{ℕ, ◌==◌, ◌+◌, List, length, count_by, min, nat_lt, if◌then◌else◌, Option, Some, None}
-use Rattle.ra_top.specs.declared.commands.spot.Spot.{Spot}
+use Rattle.ra_top.specs.declared.commands.spot.DocStart.{DocStart}
 use Rattle.pipeline.specs.declared.guarded.stop.LimitName.{LimitName}
 use Rattle.pipeline.specs.declared.guarded.stop.LimitName.TheVariants as limits
 
-abbrev pub first_spot : Spot
+abbrev pub first_spot : DocStart
 first_spot = record { line = 1; offset = 0 }
 
 abbrev pub newlines : List ℕ → ℕ
 newlines text = count_by (λ b. b == 10) text
 
 -- where the document behind a piece begins
-abbrev pub after : Spot → List ℕ → Spot
+abbrev pub after : DocStart → List ℕ → DocStart
 after s piece = record { line = s.line + newlines piece; offset = s.offset + length piece }
 
 abbrev pub file_most : ℕ

@@ -7,7 +7,7 @@ use Rattle.mir_text.specs.declared.doc.Doc.TheVariants as docs
 use Rattle.watchers.specs.declared.steps.Step.{Step}
 use Rattle.watchers.specs.declared.steps.Step.TheVariants.{Begin}
 use Rattle.pipeline.specs.Guarded.Told.{ToldRun, ToldPart}
-use Rattle.ra_top.specs.declared.commands.spot.Spot.{Spot}
+use Rattle.ra_top.specs.declared.commands.spot.DocStart.{DocStart}
 use Rattle.ra_top.specs.declared.commands.answer.Job.{Job}
 use Rattle.ra_top.specs.declared.commands.answer.Job.TheVariants as jobs
 use Rattle.ra_top.specs.declared.commands.answer.Answer.{Answer}
@@ -35,7 +35,7 @@ ToldAnswer next d n m old new (answers.Refused s detail) = ToldPart next old new
 ToldAnswer next d n m old new a = ToldDoc next d n m old new
 
 -- the same of a piece, of the document that it spells
-abbrev pub ToldPiece : {W : Type 0} → (W → Step → W) → Target → Spot → List ℕ → ℕ → ℕ → List W → List W → Answer → Type 0
+abbrev pub ToldPiece : {W : Type 0} → (W → Step → W) → Target → DocStart → List ℕ → ℕ → ℕ → List W → List W → Answer → Type 0
 ToldPiece next t spot piece n m old new (answers.Refused s detail) = ToldPart next old new
 ToldPiece next t spot piece n m old new a = (d : Doc) × IsSpelled t spot piece d × ToldDoc next d n m old new
 

@@ -1,7 +1,7 @@
 -- The text of the generated function.
 use Rattle.std.specs.Prelude.{ℕ, List, [], ◌++◌, ◌+◌, ◌*◌, ◌/◌, ◌%◌, ◌==◌, zero, suc, if◌then◌else◌, codes}
 use Rattle.std.specs.Fmt.{decimal}
-use Rattle.ra_top.specs.declared.generator.source.Numbers.{Numbers}
+use Rattle.ra_top.specs.declared.generator.source.InstrNumbers.{InstrNumbers}
 use Rattle.ra_top.specs.declared.generator.source.Jump.{Jump}
 
 -- Numbers.
@@ -15,7 +15,7 @@ abbrev pub drawn : ℕ → ℕ → ℕ
 drawn x bound = x / 65536 % bound
 
 -- the numbers of an instruction, drawn behind x, and where the source then is
-abbrev pub numbers : ℕ → Numbers
+abbrev pub numbers : ℕ → InstrNumbers
 numbers x = record {
   a = drawn (next x) 24;
   c = drawn (next (next x)) 24;
@@ -57,7 +57,7 @@ abbrev pub store_line : ℕ → ℕ → List ℕ
 store_line a c = codes "    STORE32mr %" ++ (decimal a ++ (codes ", 0, %" ++ (decimal c ++ codes "\n")))
 
 -- an instruction by its kind
-abbrev pub instr_line : Numbers → List ℕ
+abbrev pub instr_line : InstrNumbers → List ℕ
 instr_line n =
     if n.kind == 0 then operation_line (codes "ADD32rr") n.d n.a n.c
     else (if n.kind == 1 then operation_line (codes "SUB32rr") n.d n.a n.c

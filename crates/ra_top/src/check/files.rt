@@ -9,16 +9,17 @@ ghost use Rattle.ra_top.specs.Reading.{HasCauseOf, plain, AddsSource, AddsLine, 
 ghost use Rattle.ra_top.specs.Told.{HasStatusCause};
 
 use crate::commands::pairs::{put_left, put_pair};
+use crate::commands::refusal::refusal_of;
 use crate::commands::verify::source_of;
 use crate::commands::{Refusal, Status};
 use crate::devices::{Files, Sink};
-use crate::ending::Ending;
-use crate::generated::written;
+use crate::ending::ExitReport;
+use crate::generated::write_text;
 use crate::reading::{begin, next_document};
 use crate::stream::ends;
 use mir_func::Valid;
-use mir_text::{Doc, Reader};
-use pipeline::guarded::passed_limit;
+use mir_text::{Doc, DocReader};
+use pipeline::guarded::within_limits;
 use std::alloc::{AllocError, Global};
 use target_base::{Bytes, Target};
 
@@ -37,7 +38,7 @@ fn keep(sources: &mut Vec<Valid>, source: Valid) -> Result<(), Refusal>
 /// `verify source` refuses.
 fn add_source(
     alloc: Global,
-    reader: &Reader,
+    reader: &DocReader,
     doc: Doc,
     sources: &mut Vec<Valid>,
 ) -> Result<(), Refusal>
@@ -55,7 +56,7 @@ fn add_source(
 /// The functions of the source file of a name.
 fn sources_of<F: Files>(
     alloc: Global,
-    reader: &Reader,
+    reader: &DocReader,
     name: &str,
     files: &mut F,
 ) -> Result<Vec<Valid>, Refusal>
@@ -76,9 +77,10 @@ fn sources_of<F: Files>(
 
 /// Adds the line of the function of a document of the second file, if it has one. Answers the
 /// functions of the source file that have no partner yet. Refused is a function that passes a limit.
+#[tactic(auto, using(crate::proofs::CommandLemmas::Causes::limit_refused))]
 fn add_line<'a>(
     alloc: Global,
-    reader: &Reader,
+    reader: &DocReader,
     doc: Doc,
     left: &'a [Valid],
     lines: &mut Bytes,
@@ -88,9 +90,9 @@ fn add_line<'a>(
     ensures err { IfErr result (IfBy (RefusesFunction LimitRefuses doc)) }
 {
     match doc {
-        Doc::Function(_, g) => match passed_limit(&g) {
-            Some(limit) => Err(Refusal::By(Status::Limit(limit), Bytes::new(alloc))),
-            None => Ok(put_pair(alloc, reader.target(), left, &g, lines)?),
+        Doc::Function(_, g) => match within_limits(&g) {
+            Ok(()) => Ok(put_pair(alloc, reader.target(), left, &g, lines)?),
+            Err(stop) => Err(refusal_of(alloc, stop)),
         },
         Doc::Ir(_) => Ok(left),
         Doc::Rest(_) => Ok(left),
@@ -101,7 +103,7 @@ fn add_line<'a>(
 /// name.
 fn lines_of<F: Files>(
     alloc: Global,
-    reader: &Reader,
+    reader: &DocReader,
     sources: &[Valid],
     name: &str,
     files: &mut F,
@@ -125,11 +127,11 @@ fn lines_of<F: Files>(
 }
 
 /// Ends with a refusal.
-fn refused(alloc: Global, refusal: Refusal) -> Ending
+fn report_refusal(alloc: Global, refusal: Refusal) -> ExitReport
     ensures { EndsAs refusal result.status result.detail }
 {
     match refusal {
-        Refusal::By(status, detail) => Ending { status, detail },
+        Refusal::By(status, detail) => ExitReport { status, detail },
         Refusal::Memory(_) => ends(alloc, Status::Memory),
     }
 }
@@ -146,36 +148,36 @@ pub fn check<'a, F: Files, O: Sink>(
     allocated: &'a str,
     files: &mut F,
     out: &mut O,
-) -> (Ending, &'a str)
+) -> (ExitReport, &'a str)
     ensures contents { (n : List ℕ) → F.contents files.new n ≡ F.contents files.old n }
     ensures checks { ChecksFiles target.now source.now allocated.now (F.contents files.old) (F.left files.new) (O.written out.old) (O.written out.new) result.0.status result.1.now result.0.detail }
     ensures cause { HasStatusCause result.0.status (F.faults files.old) (F.faults files.new) (O.faults out.old) (O.faults out.new) }
 {
-    match Reader::new(alloc, target) {
-        Ok(reader) => checked(alloc, &reader, source, allocated, files, out),
+    match DocReader::new(alloc, target) {
+        Ok(reader) => check_with_reader(alloc, &reader, source, allocated, files, out),
         Err(_) => (ends(alloc, Status::Memory), source),
     }
 }
 
 /// The same, by a reader over the target.
-fn checked<'a, F: Files, O: Sink>(
+fn check_with_reader<'a, F: Files, O: Sink>(
     alloc: Global,
-    reader: &Reader,
+    reader: &DocReader,
     source: &'a str,
     allocated: &'a str,
     files: &mut F,
     out: &mut O,
-) -> (Ending, &'a str)
+) -> (ExitReport, &'a str)
     ensures contents { (n : List ℕ) → F.contents files.new n ≡ F.contents files.old n }
     ensures checks { ChecksFiles reader.now source.now allocated.now (F.contents files.old) (F.left files.new) (O.written out.old) (O.written out.new) result.0.status result.1.now result.0.detail }
     ensures cause { HasStatusCause result.0.status (F.faults files.old) (F.faults files.new) (O.faults out.old) (O.faults out.new) }
 {
     let sources = match sources_of(alloc, reader, source, files) {
         Ok(sources) => sources,
-        Err(refusal) => return (refused(alloc, refusal), source),
+        Err(refusal) => return (report_refusal(alloc, refusal), source),
     };
     match lines_of(alloc, reader, sources.as_slice(), allocated, files) {
-        Ok(text) => (written(alloc, text, out), allocated),
-        Err(refusal) => (refused(alloc, refusal), allocated),
+        Ok(text) => (write_text(alloc, text, out), allocated),
+        Err(refusal) => (report_refusal(alloc, refusal), allocated),
     }
 }

@@ -10,10 +10,10 @@ ghost use Rattle.ra_top.specs.Commands.Documents.{end_status, IsEndText, tells};
 use crate::commands::documents::at_document;
 use crate::commands::piece::doc_at;
 use crate::commands::refusal::Refusal;
-use crate::commands::spot::Spot;
+use crate::commands::spot::DocStart;
 use crate::commands::status::Status;
 use mir_meaning::Form;
-use mir_text::Reader;
+use mir_text::DocReader;
 use pipeline::guarded::Allocator;
 use std::alloc::{AllocError, Global};
 use target_base::Bytes;
@@ -42,7 +42,7 @@ pub struct Task<'a> {
     /// What is done with each document.
     pub job: Job<'a>,
     /// The reader of documents over the target.
-    pub reader: &'a Reader<'a>,
+    pub reader: &'a DocReader<'a>,
 }
 
 /// A run of an allocator over a function.
@@ -86,7 +86,7 @@ pub fn end_status(job: Job) -> Status
 #[tactic(auto, using(crate::proofs::CommandLemmas::Refused::unspelled))]
 pub fn answer_at<W: Watcher>(
     task: Task<'_>,
-    spot: Spot,
+    spot: DocStart,
     piece: &[u8],
     number: &mut u32,
     watchers: &mut Vec<W>,

@@ -3,47 +3,24 @@
 ghost use Rattle.std.specs.Prelude.{◌≡◌, ◌++◌, IfOk, OnErr, codes, false, true};
 ghost use Rattle.machine_verify.specs.Lives.{FitsTarget};
 ghost use Rattle.mir_text.specs.declared.doc.Doc.TheVariants as docs;
-ghost use Rattle.pipeline.specs.Guarded.Function.{IfRefused};
 ghost use Rattle.pipeline.specs.Guarded.Told.{ToldPart};
 ghost use Rattle.ra_top.specs.Commands.Told as watched;
 ghost use Rattle.ra_top.specs.Commands.Told.{next_number, ToldAnswer, ToldOne, IsEndOf};
-ghost use Rattle.ra_top.specs.Commands.Documents.{DocFits, IsDocAnswer, IsAllocAnswer, IsAllocRefusal, IsEndText, tells, text_of_lines};
+ghost use Rattle.ra_top.specs.Commands.Documents.{DocFits, IsDocAnswer, IsAllocAnswer, IsEndText, tells, text_of_lines};
 
 use crate::commands::answer::{AllocatorRun, Answer, Job};
 use crate::commands::intervals::intervals_of;
+use crate::commands::refusal::refused;
 use crate::commands::run::at_named;
-use crate::commands::status::Status;
 use crate::commands::told::lines_of;
-use crate::commands::trace::traced;
+use crate::commands::trace::trace_function;
 use crate::commands::verify::verified_function;
-use crate::commands::words::{invalid_words, unassignable_words};
 use mir_func::Func;
 use mir_text::Doc;
-use pipeline::guarded::{FunctionStop, allocated};
+use pipeline::guarded::allocate_function;
 use std::alloc::{AllocError, Global};
 use target_base::{Bytes, Target};
 use watchers::Watcher;
-
-/// Refuses a function, for the cause that it isn't allocated.
-pub(crate) fn refused(alloc: Global, stop: FunctionStop) -> Result<Answer, AllocError>
-    ensures { IfOk result (IsAllocRefusal stop) }
-{
-    match stop {
-        FunctionStop::Limit(limit) => {
-            Ok(Answer::Refused(Status::Limit(limit), Bytes::new(alloc)))
-        }
-        FunctionStop::Invalid(name, invalid) => {
-            let detail = invalid_words(alloc, name.as_slice(), invalid)?;
-            Ok(Answer::Refused(Status::Invalid(invalid), detail))
-        }
-        FunctionStop::Unassignable(name, place) => {
-            let detail = unassignable_words(alloc, name.as_slice(), place)?;
-            Ok(Answer::Refused(Status::Unassignable(place), detail))
-        }
-        FunctionStop::NotYet => Ok(Answer::Refused(Status::NotYet, Bytes::new(alloc))),
-        FunctionStop::Memory(e) => Err(e),
-    }
-}
 
 /// The command `alloc` at a function document: the lines before it, and its function, allocated by a run
 /// of an allocator.
@@ -60,7 +37,7 @@ fn allocated_function<W: Watcher>(
     ensures told { IfOk result (ToldOne (W.next target.now) run.number watchers.old.items watchers.new.items) }
     ensures part { OnErr result (ToldPart (W.next target.now) watchers.old.items watchers.new.items) }
 {
-    match allocated(alloc, target, f, run.allocator, run.number, watchers) {
+    match allocate_function(alloc, target, f, run.allocator, run.number, watchers) {
         Ok(made) => {
             let mut text = before;
             text.extend(made.text.as_slice())?;
@@ -122,7 +99,7 @@ pub fn at_document<W: Watcher>(
             Job::Trace(allocator) => {
                 let number = next(number);
                 let run = AllocatorRun { allocator, number };
-                traced(alloc, target, f, run, watchers)
+                trace_function(alloc, target, f, run, watchers)
             }
         },
         Doc::Ir(lines) => Ok(Answer::Text(at_lines(alloc, job, lines))),

@@ -7,7 +7,7 @@ ghost use Rattle.ra_top.specs.Commands.Told.{ToldOne};
 ghost use Rattle.ra_top.specs.Commands.Generated.{IsGenAnswer};
 
 use crate::commands::answer::Answer;
-use crate::commands::documents::refused;
+use crate::commands::refusal::refused;
 use crate::report::summary::text_of_gen;
 use std::alloc::{AllocError, Global};
 use watchers::Watcher;

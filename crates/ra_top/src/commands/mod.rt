@@ -20,5 +20,5 @@ pub use crate::commands::answer::{Answer, Job, Task, answer_at, end_status};
 pub use crate::commands::documents::end_text;
 pub use crate::commands::generated::gen_answer;
 pub use crate::commands::refusal::Refusal;
-pub use crate::commands::spot::Spot;
+pub use crate::commands::spot::DocStart;
 pub use crate::commands::status::{LimitName, Status};

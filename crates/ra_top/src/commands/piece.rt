@@ -7,10 +7,10 @@ ghost use Rattle.ra_top.specs.Commands.Documents.{DocFits};
 ghost use Rattle.ra_top.specs.Commands.Piece.{IfBy, IsUnspelled};
 
 use crate::commands::refusal::Refusal;
-use crate::commands::spot::Spot;
+use crate::commands::spot::DocStart;
 use crate::commands::status::Status;
 use crate::numbers::digits;
-use mir_text::{Doc, Reader, TextStop};
+use mir_text::{Doc, DocReader, TextStop};
 use std::alloc::Global;
 use target_base::Bytes;
 
@@ -20,8 +20,8 @@ use target_base::Bytes;
 #[tactic(auto, using(crate::proofs::CommandLemmas::Read::doc_fits))]
 pub(crate) fn doc_at(
     alloc: Global,
-    reader: &Reader,
-    spot: Spot,
+    reader: &DocReader,
+    spot: DocStart,
     piece: &[u8],
 ) -> Result<Doc, Refusal>
     requires line { spot.line ≤ spot.offset + 1 }

@@ -5,12 +5,13 @@ ghost use Rattle.machine_verify.specs.Lives.{FitsTarget};
 ghost use Rattle.ra_top.specs.Commands.Documents.{IsRunAnswer, IsNamedAnswer, IsSecondAnswer};
 
 use crate::commands::answer::Answer;
+use crate::commands::refusal::refused;
 use crate::commands::status::Status;
 use crate::commands::words::invalid_words;
 use crate::report::run::text_of_run;
 use machine_verify::{Invalid, VerifyStop};
 use mir_func::Func;
-use pipeline::guarded::{passed_limit, verify_allocated, verify_source};
+use pipeline::guarded::{FunctionStop, live_source, verify_allocated};
 use std::alloc::{AllocError, Global};
 use target_base::{Bytes, Target};
 
@@ -42,14 +43,20 @@ fn ran(alloc: Global, target: &Target, n: u64, seed: u64, f: Func) -> Result<Ans
     requires { FitsTarget target.now f }
     ensures { IfOk result (IsRunAnswer target.now n seed f) }
 {
-    if let Some(limit) = passed_limit(&f) {
-        return Ok(Answer::Refused(Status::Limit(limit), Bytes::new(alloc)));
-    }
     let copy = f.copy(alloc)?;
-    match verify_source(alloc, target, copy) {
-        Ok(valid) => Ok(Answer::Last(text_of_run(alloc, target, &valid.func, n, seed)?)),
-        Err(VerifyStop::Invalid(invalid)) => ran_allocated(alloc, target, n, seed, &f, invalid),
-        Err(VerifyStop::Memory(e)) => Err(e),
+    match live_source(alloc, target, copy) {
+        Ok(named) => {
+            Ok(Answer::Last(text_of_run(alloc, target, &named.live.source.func, n, seed)?))
+        }
+        Err(FunctionStop::Invalid(_, invalid)) => {
+            ran_allocated(alloc, target, n, seed, &f, invalid)
+        }
+        Err(FunctionStop::Limit(limit)) => refused(alloc, FunctionStop::Limit(limit)),
+        Err(FunctionStop::Unassignable(name, place)) => {
+            refused(alloc, FunctionStop::Unassignable(name, place))
+        }
+        Err(FunctionStop::NotYet) => refused(alloc, FunctionStop::NotYet),
+        Err(FunctionStop::Memory(e)) => Err(e),
     }
 }
 

@@ -13,29 +13,29 @@ const DOCUMENT_MOST: usize = 4_194_304;
 
 /// Where a document begins in its file.
 #[derive(Clone, Copy, Debug, PartialEq, Eq)]
-pub struct Spot {
+pub struct DocStart {
     /// The number of its first line, from 1.
     pub line: u64,
     /// How many bytes stand before it.
     pub offset: usize,
 }
 
-impl Spot {
+impl DocStart {
     /// The first document of a file.
-    pub fn first() -> Spot
+    pub fn first() -> DocStart
         ensures { result ≡ first_spot }
     {
-        Spot { line: 1, offset: 0 }
+        DocStart { line: 1, offset: 0 }
     }
 
     /// The document that follows on this one.
-    pub fn after(self, piece: &[u8]) -> Spot
+    pub fn after(self, piece: &[u8]) -> DocStart
         requires line { self.line ≤ self.offset + 1 }
         requires within { self.offset + length piece.now ≤ file_most }
         ensures value { result ≡ after self piece.now }
         ensures line { result.line ≤ result.offset + 1 }
     {
-        Spot {
+        DocStart {
             line: self.line + newlines(piece) as u64,
             offset: self.offset + piece.len(),
         }

@@ -1,57 +1,56 @@
 //! The command `verify` at a function.
 
-ghost use Rattle.std.specs.Prelude.{◌≡◌, ◌++◌, IfOk, IfErr, OnOk, codes};
-ghost use Rattle.mir_meaning.specs.Valid.{IsValid, FirstFault};
+ghost use Rattle.std.specs.Prelude.{◌≡◌, ◌++◌, None, IfOk, IfErr, codes};
+ghost use Rattle.mir_meaning.specs.Valid.{IsValid};
 ghost use Rattle.machine_verify.specs.Lives.{FitsTarget};
-ghost use Rattle.machine_verify.specs.Verdict.{IfInvalid};
 ghost use Rattle.mir_meaning.specs.declared.Form.TheVariants as forms;
-ghost use Rattle.pipeline.specs.Guarded.Function.{IsTaken};
+ghost use Rattle.pipeline.specs.Guarded.Limits.{passed_limit};
+ghost use Rattle.pipeline.specs.Guarded.Function.{IsTaken, IfUnfit};
 ghost use Rattle.ra_top.specs.Commands.Documents.{valid_line, IsVerifyAnswer, VerifyRefuses};
 ghost use Rattle.ra_top.specs.Commands.Piece.{IfBy};
 
 use crate::commands::answer::Answer;
-use crate::commands::refusal::Refusal;
-use crate::commands::status::Status;
-use crate::commands::words::invalid_words;
-use machine_verify::VerifyStop;
+use crate::commands::refusal::{Refusal, refusal_of, refused};
+use machine_verify::LiveSource;
 use mir_func::{Func, Valid};
 use mir_meaning::Form;
-use pipeline::guarded::{passed_limit, verify_allocated, verify_source};
+use pipeline::guarded::{FunctionStop, NamedSource, allocated_name, live_source};
 use std::alloc::{AllocError, Global};
-use target_base::{Bytes, Copied, Target};
+use target_base::{Bytes, Target};
 
-/// Whether a function is valid in a form.
-fn verified(alloc: Global, target: &Target, form: Form, f: Func) -> Result<(), VerifyStop>
+/// The name of a function that lies within the limits and is valid in a form.
+fn verify_in_form(
+    alloc: Global,
+    target: &Target,
+    form: Form,
+    f: Func,
+) -> Result<Bytes, FunctionStop>
     requires { FitsTarget target.now f }
-    ensures ok { OnOk result (IsValid target.now form f) }
-    ensures err { IfErr result (IfInvalid (FirstFault target.now form f)) }
+    ensures ok { IfOk result (λ name. (name ≡ f.name) × (passed_limit f ≡ None) × IsValid target.now form f) }
+    ensures err { IfErr result (IfUnfit target.now form f) }
 {
     match form {
-        Form::Source => {
-            verify_source(alloc, target, f)?;
-            Ok(())
-        }
-        Form::Allocated => verify_allocated(alloc, target, &f),
+        Form::Source => match live_source(alloc, target, f) {
+            Ok(NamedSource { name, .. }) => Ok(name),
+            Err(stop) => Err(stop),
+        },
+        Form::Allocated => allocated_name(alloc, target, &f),
     }
 }
 
 /// The function, where it is within the limits and valid as a source.
+#[tactic(auto, using(crate::proofs::CommandLemmas::Causes::source_refused))]
 pub(crate) fn source_of(alloc: Global, target: &Target, f: Func) -> Result<Valid, Refusal>
     requires { FitsTarget target.now f }
     ensures ok { IfOk result (λ v. (v.func ≡ f) × IsTaken target.now f) }
     ensures err { IfErr result (IfBy (VerifyRefuses target.now forms.Source f)) }
 {
-    if let Some(limit) = passed_limit(&f) {
-        return Err(Refusal::By(Status::Limit(limit), Bytes::new(alloc)));
-    }
-    let name = f.name.copied(alloc)?;
-    match verify_source(alloc, target, f) {
-        Ok(valid) => Ok(valid),
-        Err(VerifyStop::Invalid(invalid)) => {
-            let detail = invalid_words(alloc, name.as_slice(), invalid)?;
-            Err(Refusal::By(Status::Invalid(invalid), detail))
+    match live_source(alloc, target, f) {
+        Ok(NamedSource { live, .. }) => {
+            let LiveSource { source, .. } = live;
+            Ok(source)
         }
-        Err(VerifyStop::Memory(e)) => Err(Refusal::Memory(e)),
+        Err(stop) => Err(refusal_of(alloc, stop)),
     }
 }
 
@@ -66,6 +65,7 @@ fn valid_line(alloc: Global, name: &[u8]) -> Result<Bytes, AllocError>
 }
 
 /// Says of a function that it is valid in a form, or where it isn't.
+#[tactic(auto, using(crate::proofs::CommandLemmas::Causes::verify_refused))]
 pub(crate) fn verified_function(
     alloc: Global,
     target: &Target,
@@ -75,19 +75,11 @@ pub(crate) fn verified_function(
     requires { FitsTarget target.now f }
     ensures { IfOk result (IsVerifyAnswer target.now form f) }
 {
-    if let Some(limit) = passed_limit(&f) {
-        return Ok(Answer::Refused(Status::Limit(limit), Bytes::new(alloc)));
-    }
-    let name = f.name.copied(alloc)?;
-    match verified(alloc, target, form, f) {
-        Ok(()) => {
+    match verify_in_form(alloc, target, form, f) {
+        Ok(name) => {
             let line = valid_line(alloc, name.as_slice())?;
             Ok(Answer::Text(line))
         }
-        Err(VerifyStop::Invalid(invalid)) => {
-            let detail = invalid_words(alloc, name.as_slice(), invalid)?;
-            Ok(Answer::Refused(Status::Invalid(invalid), detail))
-        }
-        Err(VerifyStop::Memory(e)) => Err(e),
+        Err(stop) => refused(alloc, stop),
     }
 }

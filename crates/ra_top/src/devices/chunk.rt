@@ -7,7 +7,7 @@ ghost use Rattle.ra_top.specs.Devices.Pieces.{is_whole, NoneWhole, held_most};
 ghost use Rattle.ra_top.specs.Devices.Unread.{Taken, IsRest, StopsBeforeWhole};
 
 use crate::devices::device::{Failed, Files};
-use crate::devices::moves::{PIECE, ReadStop, zeros};
+use crate::devices::moves::{FileStop, PIECE, zeros};
 use crate::devices::pieces::Pieces;
 use std::alloc::{AllocError, Global};
 use std::marker::Model;
@@ -96,7 +96,7 @@ pub fn read_piece<F: Files>(
     files: &mut F,
     chunk: &mut Chunk,
     piece: &mut Pieces,
-) -> Result<(), ReadStop>
+) -> Result<(), FileStop>
     requires { piece.old ≡ [] }
     ensures contents { (n : List ℕ) → F.contents files.new n ≡ F.contents files.old n }
     ensures taken { Taken (F.left files.old) chunk.old (F.left files.new) chunk.new piece.new }
@@ -119,7 +119,7 @@ pub fn read_piece<F: Files>(
                 chunk.skip(n);
             }
             Ok(false) => return Ok(()),
-            Err(_) => return Err(ReadStop::Failed),
+            Err(_) => return Err(FileStop::Failed),
         }
     }
 }

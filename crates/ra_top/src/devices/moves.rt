@@ -9,7 +9,7 @@ use std::alloc::{AllocError, Global};
 
 /// Why a file was not read.
 #[derive(Debug, Drop)]
-pub enum ReadStop {
+pub enum FileStop {
     /// A call of the files failed.
     Failed,
     /// Memory ran out.
@@ -40,7 +40,7 @@ pub fn read_file<F: Files>(
     name: &str,
     files: &mut F,
     limit: u32,
-) -> Result<Vec<u8>, ReadStop>
+) -> Result<Vec<u8>, FileStop>
     ensures contents { (n : List ℕ) → F.contents files.new n ≡ F.contents files.old n }
     ensures bytes { IfOk result (λ v. IfSome (F.contents files.old name.now) (λ all. v.items ≡ take (limit + 1) all)) }
     ensures within { IfOk result (λ v. vec_len v ≤ limit + 1) }
@@ -49,13 +49,13 @@ pub fn read_file<F: Files>(
 {
     match files.start(name) {
         Ok(()) => read_left(alloc, files, limit),
-        Err(_) => Err(ReadStop::Failed),
+        Err(_) => Err(FileStop::Failed),
     }
 }
 
 /// Reads what is left of a file, until it ends or there are `limit + 1` bytes. After a fault
 /// nothing more is read.
-pub fn read_left<F: Files>(alloc: Global, files: &mut F, limit: u32) -> Result<Vec<u8>, ReadStop>
+pub fn read_left<F: Files>(alloc: Global, files: &mut F, limit: u32) -> Result<Vec<u8>, FileStop>
     ensures contents { (n : List ℕ) → F.contents files.new n ≡ F.contents files.old n }
     ensures bytes { IfOk result (λ v. IfSome (F.left files.old) (λ all. v.items ≡ take (limit + 1) all)) }
     ensures within { IfOk result (λ v. vec_len v ≤ limit + 1) }
@@ -72,7 +72,7 @@ fn read_pieces<F: Files>(
     files: &mut F,
     limit: u32,
     piece: &mut [u8],
-) -> Result<Vec<u8>, ReadStop>
+) -> Result<Vec<u8>, FileStop>
     requires { 0 < length piece.old }
     ensures contents { (n : List ℕ) → F.contents files.new n ≡ F.contents files.old n }
     ensures bytes { IfOk result (λ v. IfSome (F.left files.old) (λ all. v.items ≡ take (limit + 1) all)) }
@@ -89,7 +89,7 @@ fn read_pieces<F: Files>(
         match files.read(&mut piece[..room]) {
             Ok(0) => return Ok(bytes),
             Ok(n) => bytes.extend_from_slice(&piece[..n])?,
-            Err(_) => return Err(ReadStop::Failed),
+            Err(_) => return Err(FileStop::Failed),
         }
     }
 }
@@ -104,13 +104,13 @@ pub(crate) fn zeros(alloc: Global, n: usize) -> Result<Vec<u8>, AllocError>
 /// The most bytes that one call reads.
 pub(crate) const PIECE: usize = 65_536;
 
-impl From<AllocError> for ReadStop {
-    ghost use Rattle.ra_top.specs.declared.devices.moves.ReadStop.TheVariants.{Memory};
+impl From<AllocError> for FileStop {
+    ghost use Rattle.ra_top.specs.declared.devices.moves.FileStop.TheVariants.{Memory};
     ghost use Rattle.std.specs.Prelude.{◌≡◌};
 
     ghost from_gives = { λ x e. e ≡ Memory x };
 
-    fn from(e: AllocError) -> ReadStop {
-        ReadStop::Memory(e)
+    fn from(e: AllocError) -> FileStop {
+        FileStop::Memory(e)
     }
 }

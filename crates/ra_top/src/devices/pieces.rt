@@ -12,7 +12,7 @@ pub const HELD_MOST: usize = 4_194_305;
 
 /// What is known of the bytes of a piece so far.
 #[derive(Clone, Copy)]
-struct Scanned {
+struct PieceScan {
     /// A line before the open one begins with `---`.
     begun: bool,
     /// The length of the open line, where it is below 4; else 4.
@@ -25,12 +25,12 @@ struct Scanned {
     whole: bool,
 }
 
-impl Scanned {
+impl PieceScan {
     /// What is known of no bytes.
-    fn new() -> Scanned
+    fn new() -> PieceScan
         ensures { result ≡ record { begun = false; len = 0; dashes = true; dots = true; whole = false } }
     {
-        Scanned {
+        PieceScan {
             begun: false,
             len: 0,
             dashes: true,
@@ -40,11 +40,11 @@ impl Scanned {
     }
 
     /// What is known with one more byte. (Most bytes stand behind the third of a line.)
-    fn step(self, b: u8) -> Scanned
+    fn step(self, b: u8) -> PieceScan
         ensures { result ≡ scan_step self b }
     {
         if b == b'\n' {
-            Scanned {
+            PieceScan {
                 begun: (self.len >= 3 && self.dashes) || self.begun,
                 len: 0,
                 dashes: true,
@@ -52,12 +52,12 @@ impl Scanned {
                 whole: self.len == 3 && self.dots && self.begun,
             }
         } else if self.len == 4 && !self.dots {
-            Scanned {
+            PieceScan {
                 whole: false,
                 ..self
             }
         } else {
-            Scanned {
+            PieceScan {
                 begun: self.begun,
                 len: if self.len < 4 { self.len + 1 } else { 4 },
                 dashes: self.dashes && (self.len >= 3 || b == b'-'),
@@ -69,7 +69,7 @@ impl Scanned {
 }
 
 /// Scans bytes up to the first that ends a piece, and answers how many it scanned.
-fn scan(before: Scanned, bytes: &[u8]) -> (usize, Scanned)
+fn scan(before: PieceScan, bytes: &[u8]) -> (usize, PieceScan)
     ensures within { result.0 ≤ length bytes.now }
     ensures after { result.1 ≡ fold scan_step before (take result.0 bytes.now) }
     ensures first { (j : ℕ) → 0 < j → j < result.0 → (fold scan_step before (take j bytes.now)).whole ≡ false }
@@ -91,7 +91,7 @@ fn scan(before: Scanned, bytes: &[u8]) -> (usize, Scanned)
 #[derive(Drop)]
 pub struct Pieces {
     bytes: Vec<u8>,
-    scan: Scanned,
+    scan: PieceScan,
 }
 
 impl Model for Pieces {
@@ -113,7 +113,7 @@ impl Pieces {
     {
         Pieces {
             bytes: Vec::new(alloc),
-            scan: Scanned::new(),
+            scan: PieceScan::new(),
         }
     }
 
@@ -164,6 +164,6 @@ impl Pieces {
         ensures { self.new ≡ [] }
     {
         self.bytes.clear();
-        self.scan = Scanned::new();
+        self.scan = PieceScan::new();
     }
 }

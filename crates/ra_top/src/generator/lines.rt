@@ -3,17 +3,10 @@
 ghost use Rattle.std.specs.Prelude.{◌≡◌, ◌++◌, OnOk};
 ghost use Rattle.ra_top.specs.Generator.Text.{register_line, operation_line, move_line, store_line, instr_line, jump_lines};
 
-use crate::generator::source::{Jump, Numbers};
-use crate::numbers::put_numbered;
+use crate::generator::source::{InstrNumbers, Jump};
+use crate::numbers::{put, put_numbered};
 use std::alloc::AllocError;
 use target_base::Bytes;
-
-/// Adds a text.
-pub(crate) fn put(out: &mut Bytes, text: &str) -> Result<(), AllocError>
-    ensures { OnOk result (out.new ≡ out.old ++ text.now) }
-{
-    out.extend(text.as_bytes())
-}
 
 /// Adds an instruction that gives a register a number.
 pub(crate) fn put_register(out: &mut Bytes, v: u64, n: u64) -> Result<(), AllocError>
@@ -56,7 +49,7 @@ fn put_store(out: &mut Bytes, a: u64, c: u64) -> Result<(), AllocError>
 }
 
 /// Adds an instruction of a block.
-pub(crate) fn put_instr(out: &mut Bytes, of: Numbers) -> Result<(), AllocError>
+pub(crate) fn put_instr(out: &mut Bytes, of: InstrNumbers) -> Result<(), AllocError>
     ensures { OnOk result (out.new ≡ out.old ++ instr_line of) }
 {
     match of.kind {

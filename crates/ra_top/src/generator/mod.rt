@@ -6,4 +6,4 @@ mod source;
 mod text;
 
 pub use crate::generator::reading::generate;
-pub use crate::generator::text::generated;
+pub use crate::generator::text::generated_text;

@@ -4,9 +4,9 @@ ghost use Rattle.std.specs.Prelude.{◌≡◌, ◌≤◌, ℕ, IfOk, IfSome, len
 ghost use Rattle.mir_text.specs.Document.{IsBulkWithin};
 ghost use Rattle.ra_top.specs.Generator.Generated.{function_of, generated_for};
 
-use crate::generator::text::generated;
+use crate::generator::text::generated_text;
 use mir_func::Func;
-use mir_text::{Doc, TextStop, read_doc};
+use mir_text::{Doc, FIRST, TextStop, read_doc};
 use std::alloc::{AllocError, Global};
 use target_base::Target;
 
@@ -29,8 +29,8 @@ pub fn generate(alloc: Global, target: &Target, seed: u64) -> Result<Option<Func
     ensures value { IfOk result (λ f. f ≡ generated_for target.now seed) }
     ensures few { IfOk result (λ o. IfSome o (λ f. length f.classes ≤ 4194304)) }
 {
-    let text = generated(alloc, seed)?;
-    match read_doc(alloc, target, true, 1, text.as_slice()) {
+    let text = generated_text(alloc, seed)?;
+    match read_doc(alloc, target, FIRST, 1, text.as_slice()) {
         Ok(doc) => Ok(function_of(doc)),
         Err(TextStop::Fault(_)) => Ok(None),
         Err(TextStop::Memory(e)) => Err(e),

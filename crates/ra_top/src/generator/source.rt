@@ -14,7 +14,7 @@ const KINDS: u64 = 6;
 
 /// The numbers of an instruction.
 #[derive(Clone, Copy)]
-pub(crate) struct Numbers {
+pub(crate) struct InstrNumbers {
     /// The first register that it reads, or its number.
     pub(crate) a: u64,
     /// The second register that it reads.
@@ -38,12 +38,12 @@ pub(crate) struct Jump {
 
 /// A source of numbers: x becomes (x * 1103515245 + 12345) mod 2^31, and x / 65536 is drawn from.
 #[derive(Clone, Copy)]
-pub(crate) struct Source {
+pub(crate) struct NumberSource {
     /// The number that it has come to.
     pub(crate) x: u64,
 }
 
-impl Source {
+impl NumberSource {
     /// Moves on. The remainder is taken first, so that the product is small.
     fn advance(&mut self)
         ensures { self.new.x ≡ next self.old.x }
@@ -61,14 +61,14 @@ impl Source {
     }
 
     /// Draws the numbers of an instruction.
-    pub(crate) fn instr(&mut self) -> Numbers
+    pub(crate) fn instr(&mut self) -> InstrNumbers
         ensures { (result ≡ numbers self.old.x) × (self.new.x ≡ behind_instr self.old.x) }
     {
         let a = self.draw(REGISTERS);
         let c = self.draw(REGISTERS);
         let d = self.draw(REGISTERS);
         let kind = self.draw(KINDS);
-        Numbers { a, c, d, kind }
+        InstrNumbers { a, c, d, kind }
     }
 
     /// Draws the numbers of a comparison and a jump.

@@ -3,9 +3,9 @@
 ghost use Rattle.std.specs.Prelude.{◌≡◌, ◌≤◌, ◌++◌, length, OnOk, IfOk};
 ghost use Rattle.ra_top.specs.Generator.Text.{register_lines, behind_registers, instr_lines, behind_instrs, block_lines, behind_block, blocks_lines, behind_blocks, generated_text};
 
-use crate::generator::lines::{put, put_instr, put_jump, put_register};
-use crate::generator::source::{BLOCKS, REGISTERS, Source};
-use crate::numbers::put_numbered;
+use crate::generator::lines::{put_instr, put_jump, put_register};
+use crate::generator::source::{BLOCKS, NumberSource, REGISTERS};
+use crate::numbers::{put, put_numbered};
 use std::alloc::{AllocError, Global};
 use target_base::Bytes;
 
@@ -13,7 +13,7 @@ use target_base::Bytes;
 const INSTRS: u64 = 12;
 
 /// Adds instructions that give each register a number.
-fn put_registers(out: &mut Bytes, source: &mut Source) -> Result<(), AllocError>
+fn put_registers(out: &mut Bytes, source: &mut NumberSource) -> Result<(), AllocError>
     ensures { OnOk result ((out.new ≡ out.old ++ register_lines 24 source.old.x) × (source.new.x ≡ behind_registers 24 source.old.x)) }
 {
     'registers: for v in 0..REGISTERS {
@@ -23,7 +23,7 @@ fn put_registers(out: &mut Bytes, source: &mut Source) -> Result<(), AllocError>
 }
 
 /// Adds the instructions of a block.
-fn put_instrs(out: &mut Bytes, source: &mut Source) -> Result<(), AllocError>
+fn put_instrs(out: &mut Bytes, source: &mut NumberSource) -> Result<(), AllocError>
     ensures { OnOk result ((out.new ≡ out.old ++ instr_lines 12 source.old.x) × (source.new.x ≡ behind_instrs 12 source.old.x)) }
 {
     'instrs: for _k in 0..INSTRS {
@@ -33,7 +33,7 @@ fn put_instrs(out: &mut Bytes, source: &mut Source) -> Result<(), AllocError>
 }
 
 /// Adds a block of a number.
-fn put_block(out: &mut Bytes, b: u64, source: &mut Source) -> Result<(), AllocError>
+fn put_block(out: &mut Bytes, b: u64, source: &mut NumberSource) -> Result<(), AllocError>
     ensures { OnOk result ((out.new ≡ out.old ++ block_lines b source.old.x) × (source.new.x ≡ behind_block source.old.x)) }
 {
     put_numbered(out, "  bb.", b as u128)?;
@@ -43,7 +43,7 @@ fn put_block(out: &mut Bytes, b: u64, source: &mut Source) -> Result<(), AllocEr
 }
 
 /// Adds the blocks between the first and the last.
-fn put_blocks(out: &mut Bytes, source: &mut Source) -> Result<(), AllocError>
+fn put_blocks(out: &mut Bytes, source: &mut NumberSource) -> Result<(), AllocError>
     ensures { OnOk result (out.new ≡ out.old ++ blocks_lines 400 source.old.x) }
 {
     'layout: for b in 0..BLOCKS {
@@ -53,11 +53,11 @@ fn put_blocks(out: &mut Bytes, source: &mut Source) -> Result<(), AllocError>
 }
 
 /// The text of the function that is generated for a seed.
-pub fn generated(alloc: Global, seed: u64) -> Result<Bytes, AllocError>
+pub fn generated_text(alloc: Global, seed: u64) -> Result<Bytes, AllocError>
     ensures text { IfOk result (λ text. text ≡ generated_text seed) }
     ensures short { IfOk result (λ text. length text ≤ 4194304) }
 {
-    let mut source = Source { x: seed };
+    let mut source = NumberSource { x: seed };
     let mut out = Bytes::new(alloc);
     put(&mut out, "---\nname: g\nbody: |\n  bb.0:\n")?;
     put_registers(&mut out, &mut source)?;

@@ -9,17 +9,11 @@ ghost use Rattle.mir_interp.specs.Stands.{StandsFor, event_of, end_of};
 ghost use Rattle.mir_interp.specs.Seeds.{of_seed};
 ghost use Rattle.ra_top.specs.Report.Run.Printed.{lane_word, lane_words, event_line, event_lines, end_word, end_line, lines_of_run};
 
-use crate::numbers::put_number;
+use crate::numbers::{put, put_number};
 use mir_func::Func;
 use mir_interp::{End, Env, Event, Outcome, run};
 use std::alloc::{AllocError, Global};
 use target_base::{Bytes, List, Target};
-
-fn put(out: &mut Bytes, text: &str) -> Result<(), AllocError>
-    ensures { OnOk result (out.new ≡ out.old ++ text.now) }
-{
-    out.extend(text.as_bytes())
-}
 
 /// Appends a lane behind a space.
 fn put_lane(out: &mut Bytes, lane: Option<u128>) -> Result<(), AllocError>

@@ -156,7 +156,7 @@ fn of_a_form<'a>(name: &str, form: &'a str, target: &'a str, file: &'a str) -> O
 }
 
 /// The command that plain words spell.
-fn asked<'a>(words: &[&'a str]) -> Option<Command<'a>>
+fn parse_command<'a>(words: &[&'a str]) -> Option<Command<'a>>
     ensures { option_map asks result ≡ asked (texts_of words.now) }
 {
     match words {
@@ -193,6 +193,6 @@ pub fn read_words<'a>(alloc: Global, words: &'a [String]) -> Result<Option<Comma
 {
     match plain_words(alloc, words)? {
         None => Ok(None),
-        Some(plain) => Ok(asked(plain.as_slice())),
+        Some(plain) => Ok(parse_command(plain.as_slice())),
     }
 }

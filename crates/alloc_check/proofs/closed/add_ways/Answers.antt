@@ -1,5 +1,5 @@
 use Rattle.std.proofs.Common.{◌≡◌, ◌&&◌, List, ◌∷◌, true, false, refl, subst, arith}
-use Rattle.meaning.specs.declared.types.Ways.{Ways}
+use Rattle.meaning.specs.declared.types.EdgePair.{EdgePair}
 use Rattle.meaning.specs.Facts.{Knowledge, all_known}
 use Rattle.meaning.specs.Agree.{Family, known_along, way_holds, ways_hold}
 use Rattle.alloc_check.specs.Needs.{Adds, Least}
@@ -7,7 +7,7 @@ use Rattle.alloc_check.specs.Cells.{asked}
 use Rattle.alloc_check.proofs.Least.{each-enough-none, each-fewest-none, each-enough-next, each-fewest-next, each-fewest-never, each-enough-all, each-fewest-all}
 use Rattle.alloc_check.proofs.closed.add_ways.Goals as goal
 
-step : (family : Family) (k : Knowledge) (e : Ways) (es : List Ways) → ways_hold family k (e ∷ es) ≡ way_holds family k e && ways_hold family k es
+step : (family : Family) (k : Knowledge) (e : EdgePair) (es : List EdgePair) → ways_hold family k (e ∷ es) ≡ way_holds family k e && ways_hold family k es
 step family k e es = refl
 
 pub loop-e-init : goal.loop-e-init

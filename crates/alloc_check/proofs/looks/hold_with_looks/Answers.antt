@@ -1,5 +1,6 @@
 use Rattle.std.proofs.Common.{◌≡◌, ◌∙◌, IsTrue, ap}
 use Rattle.mir_meaning.specs.Codes.{refines}
+use Rattle.alloc_check.specs.Families.{HoldsWith}
 use Rattle.alloc_check.specs.Looks.{KeepsReserved}
 use Rattle.alloc_check.specs.LookRows.{rows_with_looks}
 use Rattle.alloc_check.specs.Written.{written_units}
@@ -17,7 +18,7 @@ returns-clause-refines c =
     ∙ (c.in_ok-rows.ensures
     ∙ ap (λ us. rows_with_looks us c.args.rows)
     (c.as_slice-3.ensures ∙ (c.in_ok-looked.ensures ∙ (ap (λ rows. written_units rows c.as_slice.result.now) c.as_slice-2.ensures ∙ ap (written_units c.args.rows) c.as_slice.ensures)))) in
-    if-more _ (λ yes. IsTrue yes → refines t f g) c.holds.result (λ yes shows x. refines_beside t f g _ (written_units c.args.rows t.reserved) c.args.rows c.as_slice-rows.result.now c.requires looks (shows x)) c.holds.ensures
+    if-more (λ yes. IsTrue yes → HoldsWith t f g c.as_slice-rows.result.now) (λ yes. IsTrue yes → refines t f g) c.finds.result (λ yes found x. refines_beside t f g (found x).0 (written_units c.args.rows t.reserved) c.args.rows c.as_slice-rows.result.now c.requires looks (found x).1) c.finds.ensures
 
 pub returns-clause-reserved : goal.returns-clause-reserved
 returns-clause-reserved c =
@@ -29,4 +30,4 @@ returns-clause-reserved c =
     ∙ (c.in_ok-rows.ensures
     ∙ ap (λ us. rows_with_looks us c.args.rows)
     (c.as_slice-3.ensures ∙ (c.in_ok-looked.ensures ∙ (ap (λ rows. written_units rows c.as_slice.result.now) c.as_slice-2.ensures ∙ ap (written_units c.args.rows) c.as_slice.ensures)))) in
-    if-more _ (λ yes. IsTrue yes → KeepsReserved t f g) c.holds.result (λ yes shows x. keeps_reserved t f g _ c.args.rows c.as_slice-rows.result.now c.requires looks (shows x)) c.holds.ensures
+    if-more (λ yes. IsTrue yes → HoldsWith t f g c.as_slice-rows.result.now) (λ yes. IsTrue yes → KeepsReserved t f g) c.finds.result (λ yes found x. keeps_reserved t f g (found x).0 c.args.rows c.as_slice-rows.result.now c.requires looks (found x).1) c.finds.ensures

@@ -1,5 +1,5 @@
 use Rattle.std.proofs.Common.{◌∙◌, ◌<◌, Some, None, sym, ap, arith, length, get_or}
-use Rattle.machine_verify.specs.Asked.{after}
+use Rattle.machine_verify.specs.InstrRules.{after}
 use Rattle.machine_verify.specs.Faults.{fault_of}
 use Rattle.machine_verify.proofs.Searched.{rule_here, found_here, none_here, before_step}
 use Rattle.machine_verify.proofs.search.later_fault.Goals as goal

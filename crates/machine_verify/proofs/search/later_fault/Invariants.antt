@@ -1,6 +1,6 @@
 use Rattle.std.proofs.Common.{◌≡◌, drop}
 use Rattle.mir_meaning.specs.Valid.{instrs_fault}
-use Rattle.machine_verify.specs.Asked.{before_at}
+use Rattle.machine_verify.specs.InstrRules.{before_at}
 use Rattle.machine_verify.proofs.search.later_fault.Given as goal
 
 abbrev pub invariant-instrs : goal.invariant-instrs

@@ -1,5 +1,5 @@
 use Rattle.std.proofs.Common.{◌∙◌, ap}
-use Rattle.mir_interp.specs.declared.steps.Step.TheVariants as steps
+use Rattle.mir_interp.specs.declared.steps.DecodedStep.TheVariants as steps
 use Rattle.mir_interp.specs.Holds.{held_by}
 use Rattle.mir_interp.proofs.Walking.{pass_end, pass_silent}
 use Rattle.mir_interp.proofs.machine.pass.Goals as goal

@@ -14,7 +14,7 @@ returns-else-a-half c =
     let le : c.args.b % c.args.w ≤ c.args.w = omega arith in
     let ge : 2 ^ (c.args.w - 1) ≤ c.args.a = omega arith in
     c.add.ensures
-    ∙ (ap (λ t. (t + (c.ones.result - c.ones-else-a-half.result)) % 2 ^ c.args.w) c.shifted-else-a-half.ensures
+    ∙ (ap (λ t. (t + (c.ones.result - c.ones-else-a-half.result)) % 2 ^ c.args.w) c.shift_right-else-a-half.ensures
     ∙ (ap (λ t. (c.args.a / 2 ^ (c.args.b % c.args.w) + (t - c.ones-else-a-half.result)) % 2 ^ c.args.w) c.ones.ensures
     ∙ (ap (λ t. (c.args.a / 2 ^ (c.args.b % c.args.w) + ((2 ^ c.args.w - 1) - t)) % 2 ^ c.args.w) c.ones-else-a-half.ensures
     ∙ sar_high c.args.w c.args.a (c.args.b % c.args.w) le ge)))

@@ -2,7 +2,7 @@ use Rattle.std.proofs.Common.{◌≡◌, ◌∙◌, arith, sym, ap, true}
 use Rattle.mir_func.specs.declared.func.Instr.{Instr}
 use Rattle.mir_func.specs.Binding.{does, is_terminator}
 use Rattle.mir_meaning.specs.Points.{Start}
-use Rattle.place_solve.specs.declared.around.Around.TheVariants as arounds
+use Rattle.place_solve.specs.declared.position.PlacePosition.TheVariants as arounds
 use Rattle.place_solve.proofs.Copying.{before_found, before_is, before_none}
 use Rattle.place_solve.proofs.copies.before_terminators.Goals as goal
 

@@ -1,5 +1,5 @@
 use Rattle.std.proofs.Common.{◌≡◌, drop}
-use Rattle.place_solve.specs.declared.around.Around.TheVariants as arounds
+use Rattle.place_solve.specs.declared.position.PlacePosition.TheVariants as arounds
 use Rattle.place_solve.proofs.Copying.{before_from}
 use Rattle.place_solve.proofs.copies.before_terminators.Given as goal
 

@@ -16,7 +16,7 @@ use Rattle.mir_meaning.specs.declared.Form.TheVariants as forms
 use Rattle.mir_meaning.specs.Points.{Entry, Exit, block_points}
 use Rattle.mir_meaning.specs.Registers.{numbers, range_widths}
 use Rattle.mir_meaning.specs.Rules.{V8}
-use Rattle.instr_effects.specs.declared.row.Lanes.{Lanes}
+use Rattle.instr_effects.specs.declared.row.LaneSpan.{LaneSpan}
 use Rattle.instr_effects.specs.declared.owner.Owner.TheVariants as owners
 use Rattle.instr_effects.specs.Numbers.{row_number_in}
 use Rattle.instr_effects.specs.Numbered.{number_in, counts, class_counts}
@@ -33,7 +33,7 @@ use Rattle.interval_laws.specs.Segments.{Segment, lane_segments}
 use Rattle.interval_laws.specs.Told.{start_number, told_live, told_segments}
 use Rattle.interval_laws.specs.Laws.{TellsSegments}
 use Rattle.interval_laws.proofs.Law.{segments-law}
-use Rattle.pipeline.specs.declared.passes.ready.Prepared.{Prepared}
+use Rattle.pipeline.specs.declared.passes.ready.PreparedFunc.{PreparedFunc}
 use Rattle.pipeline.specs.Passes.Ready.{IsLive}
 use Rattle.ra_top.specs.declared.report.intervals.uses.Use.{Use}
 use Rattle.ra_top.specs.Report.Intervals.Lines.{function_line, block_lines, lane_line, range_line, class_text, is_named, weight, range_lines, IsLiveText}
@@ -55,7 +55,7 @@ starts-few (b ∷ bs) =
 
 -- the lanes of a range
 
-lanes-few : (t : Target) (rs : List Lanes) (cs : List (Option ClassId)) (v : ℕ) → counts rs ≡ class_counts t cs → lanes_count (slice_get rs v) ≡ length (widths_of_some t (elim (slice_get cs v) [ None ↦ None | Some c ↦ c ]))
+lanes-few : (t : Target) (rs : List LaneSpan) (cs : List (Option ClassId)) (v : ℕ) → counts rs ≡ class_counts t cs → lanes_count (slice_get rs v) ≡ length (widths_of_some t (elim (slice_get cs v) [ None ↦ None | Some c ↦ c ]))
 lanes-few t [] [] v e = refl
 lanes-few t [] (c ∷ cs) v e = absurd (cc)
 lanes-few t (r ∷ rs) [] v e = absurd (cc)
@@ -89,7 +89,7 @@ module _ (t : Target) (f : Function) (x : Table) (computed : IsComputed t f x) (
   numbered : (v k : ℕ) → k < lanes_count (slice_get x.lanes.ranges.items v) → range_segments x f.blocks v k ≡ segments v k
   numbered v k lt = go (slice_get x.lanes.ranges.items v) refl lt
     where
-      go : (o : Option Lanes) → slice_get x.lanes.ranges.items v ≡ o → k < lanes_count o → range_segments x f.blocks v k ≡ segments v k
+      go : (o : Option LaneSpan) → slice_get x.lanes.ranges.items v ≡ o → k < lanes_count o → range_segments x f.blocks v k ≡ segments v k
       go None e h = absurd (omega (arith, h))
       go (Some own) e h =
           let number : number_in x.lanes (owners.Range v k) ≡ Some (own.first + k) = ap (λ q. row_number_in q k) e ∙ ap (λ u. cond u (Some (own.first + k)) None) (lt-ltb k own.count h) in
@@ -147,7 +147,7 @@ module _ (t : Target) (f : Function) (x : Table) (computed : IsComputed t f x) (
   }
 
 -- of a function that was made ready
-module _ (t : Target) (p : Prepared) (h : IsLive t p) where
+module _ (t : Target) (p : PreparedFunc) (h : IsLive t p) where
   rules-of : KeepsRules t p.live.func
   rules-of = valid-law t forms.Source p.live.func h.valid.shape h.fits.classes
 

@@ -9,4 +9,4 @@ returns-in-Ok-Last-clause-told g c =
     let next = g.W.Watcher.next mini_target in
     let old = c.args.watchers.now.items in
     let new = c.gen_answer.new.watchers.items in
-    gen_run next c.written-in-Ok-Last.result.status old new (subst (ToldOne next 0 old new) c.in-Ok-Last.field-0-is c.in-Ok-Last.ensures.told)
+    gen_run next c.write_text-in-Ok-Last.result.status old new (subst (ToldOne next 0 old new) c.in-Ok-Last.field-0-is c.in-Ok-Last.ensures.told)

@@ -26,7 +26,7 @@ use Rattle.live_lanes.specs.Ordered.{ids_of, AreRising}
 use Rattle.interval_laws.specs.Segments.{Mark, Segment, behind}
 use Rattle.interval_laws.specs.Told.{start_number, cell_segments, told_segments}
 use Rattle.ra_top.specs.declared.report.intervals.parts.Point.{Point}
-use Rattle.ra_top.specs.declared.report.intervals.segments.Here.{Here}
+use Rattle.ra_top.specs.declared.report.intervals.segments.NumberedBlock.{NumberedBlock}
 use Rattle.ra_top.specs.declared.report.intervals.uses.Use.{Use}
 use Rattle.ra_top.specs.Report.Intervals.Lines.{function_line, block_lines, is_named, range_line, class_text, lane_line}
 
@@ -40,7 +40,7 @@ abbrev pub AreShort : List Block → Type 0
 AreShort bs = start_number bs (length bs) < 2 ^ 128
 
 -- the numbers of instructions rise along the block, and those that are written fit 128 bits
-pub record IsHere (h : Here) : Type 0 where
+pub record IsHere (h : NumberedBlock) : Type 0 where
   pub rising : AreRising h.live.now.table.order.slots 0 (ids_of h.instrs.now)
   pub short : h.start + 16 * suc (length h.instrs.now) < 2 ^ 128
 

@@ -11,7 +11,7 @@ ghost use Rattle.ra_top.specs.Report.Intervals.Told.{IsReady, start_numbers, pla
 
 use crate::report::intervals::numbers::number_in;
 use crate::report::intervals::parts::put_lane_head;
-use crate::report::intervals::segments::{Here, put_segments};
+use crate::report::intervals::segments::{NumberedBlock, put_segments};
 use live_lanes::LiveFunc;
 use std::alloc::AllocError;
 use target_base::Bytes;
@@ -37,7 +37,7 @@ fn put_cell(
     let Some(block) = blocks.get(position) else {
         return Ok(());
     };
-    let here = Here {
+    let here = NumberedBlock {
         live,
         instrs: block.instrs.as_slice(),
         start: number_in(starts, position),

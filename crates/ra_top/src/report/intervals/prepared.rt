@@ -5,7 +5,7 @@ ghost use Rattle.pipeline.specs.Passes.Ready.{IsLive};
 ghost use Rattle.ra_top.specs.Report.Intervals.Lines.{IsLiveText};
 
 use crate::report::intervals::text::text_of;
-use pipeline::passes::Prepared;
+use pipeline::passes::PreparedFunc;
 use std::alloc::{AllocError, Global};
 use target_base::{Bytes, Target};
 
@@ -23,7 +23,7 @@ pub fn text_of_intervals(
     alloc: Global,
     target: &Target,
     name: &[u8],
-    prepared: &Prepared,
+    prepared: &PreparedFunc,
 ) -> Result<Bytes, AllocError>
     requires { IsLive target.now prepared.now }
     ensures { IfOk result (IsLiveText target.now name.now prepared.now.freqs prepared.now.live.func) }

@@ -17,7 +17,7 @@ use target_base::{Boxed, Bytes};
 
 /// A block of a function, and the numbers of its start and of what comes behind it.
 #[derive(Clone, Copy)]
-pub struct Here<'a> {
+pub struct NumberedBlock<'a> {
     /// What is live in the function.
     pub live: &'a LiveFunc,
     /// The instructions of the block.
@@ -28,7 +28,7 @@ pub struct Here<'a> {
     pub end: u128,
 }
 
-impl Here<'_> {
+impl NumberedBlock<'_> {
     /// The number of the instruction at whose entry or exit a point lies.
     fn number_at(&self, point: u128) -> u128
         requires { IsHere self.now }
@@ -104,7 +104,11 @@ impl Here<'_> {
 }
 
 /// Adds the segment of a piece, if it has points.
-fn put_extent(out: &mut Bytes, here: &Here, extent: Option<Extent>) -> Result<(), AllocError>
+fn put_extent(
+    out: &mut Bytes,
+    here: &NumberedBlock,
+    extent: Option<Extent>,
+) -> Result<(), AllocError>
     requires { IsHere here.now }
     ensures { OnOk result (out.new ≡ out.old ++ flat_map (λ e. segment_text (extent_segment here.now.live.now.table.order.slots here.now.start here.now.end here.now.instrs.now e)) (option_to_list extent)) }
 {
@@ -117,7 +121,7 @@ fn put_extent(out: &mut Bytes, here: &Here, extent: Option<Extent>) -> Result<()
 /// Adds the segments of a lane in a block, whose cell has this place.
 pub(crate) fn put_segments(
     out: &mut Bytes,
-    here: &Here,
+    here: &NumberedBlock,
     lane: u32,
     place: usize,
 ) -> Result<(), AllocError>

@@ -8,7 +8,7 @@ use mir_interp::{End, Outcome};
 
 /// How much there is of a function.
 #[derive(Clone, Copy, Debug, PartialEq, Eq)]
-pub struct Size {
+pub struct FuncSize {
     /// The number of its blocks.
     pub blocks: usize,
     /// The number of its instructions.
@@ -21,7 +21,7 @@ pub struct Size {
 
 /// What a run came to.
 #[derive(Clone, Copy, Debug, PartialEq, Eq)]
-pub struct Ran {
+pub struct RunSummary {
     /// The number of its events.
     pub events: usize,
     /// How it ended.
@@ -41,10 +41,10 @@ fn instr_count(blocks: &[Block]) -> u128
 }
 
 /// How much there is of a function.
-pub(crate) fn size_of(f: &Func) -> Size
+pub(crate) fn size_of(f: &Func) -> FuncSize
     ensures { result ≡ size_of f.now }
 {
-    Size {
+    FuncSize {
         blocks: f.blocks.len(),
         instrs: instr_count(f.blocks.as_slice()),
         registers: f.classes.len(),
@@ -53,10 +53,10 @@ pub(crate) fn size_of(f: &Func) -> Size
 }
 
 /// What an outcome shows of a run.
-pub(crate) fn ran_of(outcome: &Outcome) -> Ran
+pub(crate) fn ran_of(outcome: &Outcome) -> RunSummary
     ensures { result ≡ ran_of outcome.now }
 {
-    Ran {
+    RunSummary {
         events: outcome.events.len(),
         end: outcome.end,
     }

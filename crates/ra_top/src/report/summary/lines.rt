@@ -4,7 +4,7 @@ ghost use Rattle.std.specs.Prelude.{◌≡◌, ◌++◌, OnOk, codes};
 ghost use Rattle.ra_top.specs.Report.Summary.Summary.{end_word, seed_line, source_line, allocated_line, run_line};
 
 use crate::numbers::put_numbered;
-use crate::report::summary::counts::{Ran, Size};
+use crate::report::summary::counts::{FuncSize, RunSummary};
 use mir_interp::End;
 use std::alloc::AllocError;
 use target_base::Bytes;
@@ -30,7 +30,7 @@ pub(crate) fn put_seed(out: &mut Bytes, seed: u64) -> Result<(), AllocError>
 }
 
 /// Adds the line of the source.
-pub(crate) fn put_source(out: &mut Bytes, source: Size) -> Result<(), AllocError>
+pub(crate) fn put_source(out: &mut Bytes, source: FuncSize) -> Result<(), AllocError>
     ensures { OnOk result (out.new ≡ out.old ++ source_line source) }
 {
     put_numbered(out, "source blocks ", source.blocks as u128)?;
@@ -40,7 +40,7 @@ pub(crate) fn put_source(out: &mut Bytes, source: Size) -> Result<(), AllocError
 }
 
 /// Adds the line of the allocated function.
-pub(crate) fn put_allocated(out: &mut Bytes, made: Size) -> Result<(), AllocError>
+pub(crate) fn put_allocated(out: &mut Bytes, made: FuncSize) -> Result<(), AllocError>
     ensures { OnOk result (out.new ≡ out.old ++ allocated_line made) }
 {
     out.extend(b"allocated")?;
@@ -51,7 +51,7 @@ pub(crate) fn put_allocated(out: &mut Bytes, made: Size) -> Result<(), AllocErro
 }
 
 /// Adds the line of the run of a function, which this word stands for.
-pub(crate) fn put_run(out: &mut Bytes, word: &str, ran: Ran) -> Result<(), AllocError>
+pub(crate) fn put_run(out: &mut Bytes, word: &str, ran: RunSummary) -> Result<(), AllocError>
     ensures { OnOk result (out.new ≡ out.old ++ run_line word.now ran) }
 {
     out.extend(word.as_bytes())?;

@@ -3,7 +3,7 @@
 ghost use Rattle.std.specs.Prelude.{IfOk};
 ghost use Rattle.ra_top.specs.Report.Summary.Summary.{IsRanOf, IsSummary};
 
-use crate::report::summary::counts::{Ran, ran_of, size_of};
+use crate::report::summary::counts::{RunSummary, ran_of, size_of};
 use crate::report::summary::lines::{put_allocated, put_run, put_seed, put_source};
 use mir_func::Func;
 use mir_interp::{Env, run};
@@ -14,7 +14,7 @@ use target_base::{Bytes, Target};
 const STEPS: u64 = 10_000;
 
 /// What the run of a function came to, in the environment of the seed.
-fn ran(alloc: Global, target: &Target, seed: u64, f: &Func) -> Result<Ran, AllocError>
+fn ran(alloc: Global, target: &Target, seed: u64, f: &Func) -> Result<RunSummary, AllocError>
     ensures { IfOk result (IsRanOf target.now f.now 10000 seed) }
 {
     let outcome = run(alloc, target, f, &Env { seed }, STEPS)?;

@@ -12,10 +12,10 @@ returns c =
     let t = c.args.target.now in
     let f = c.args.f in
     record {
-      is = c.coloured.ensures;
+      is = c.colour_function.ensures;
       kept = λ classes valid once.
           let allocated : IsAllocated t f = record { function = subst (λ (g : Function). IsFunction g.blocks g.next_id) c.f.view_is c.f.invariant; valid = valid } in
-          IfOk-weaker c.coloured.result (IsColoured t f) (IsKept t f)
+          IfOk-weaker c.colour_function.result (IsColoured t f) (IsKept t f)
           (λ g x. subst (IsKept t f) (sym x.is) (keeps-all t f x.clash allocated once (λ s r k. (x.tells s r).1 k)))
-          (c.coloured.ensures classes valid);
+          (c.colour_function.ensures classes valid);
     }

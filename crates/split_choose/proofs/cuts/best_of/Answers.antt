@@ -1,5 +1,5 @@
 use Rattle.std.proofs.Common.{ℕ, ◌+◌, Option, sym, subst, take}
-use Rattle.split_choose.specs.declared.cuts.Choice.{Choice}
+use Rattle.split_choose.specs.declared.cuts.RegionCut.{RegionCut}
 use Rattle.split_choose.specs.Regions.{capped, uses_of}
 use Rattle.split_choose.proofs.Taking.{Picks, pick_some, pick_none, pick_last}
 use Rattle.split_choose.proofs.cuts.best_of.Goals as goal
@@ -21,11 +21,11 @@ registers-preserved c = λ within.
     elim c.match-branch-2.branch [
       | in-Some w ↦
           let P : ℕ → Type 0 = λ n. Picks m v parents spans most n (take (k + 1) rs) c.match-branch-2.best in
-          let Q : Option Choice → Type 0 = λ q. Picks m v parents spans most w.in-Some.choice.cost (take (k + 1) rs) q in
+          let Q : Option RegionCut → Type 0 = λ q. Picks m v parents spans most w.in-Some.choice.cost (take (k + 1) rs) q in
           subst P (sym w.bound-is) (subst Q (sym w.best-is) (pick_some m v parents spans most c.registers.bound rs k _ c.registers.best c.in_ok-choice.field-0 w.in-Some.choice c.registers-test.true w.in-Some.is (c.in_ok-choice.ensures within) was))
       | in_default w ↦
           let P : ℕ → Type 0 = λ n. Picks m v parents spans most n (take (k + 1) rs) c.match-branch-2.best in
-          let Q : Option Choice → Type 0 = λ q. Picks m v parents spans most c.registers.bound (take (k + 1) rs) q in
+          let Q : Option RegionCut → Type 0 = λ q. Picks m v parents spans most c.registers.bound (take (k + 1) rs) q in
           subst P (sym w.bound-is) (subst Q (sym w.best-is) (pick_none m v parents spans most c.registers.bound rs k _ c.registers.best c.in_ok-choice.field-0 c.registers-test.true w.in_default.is (c.in_ok-choice.ensures within) was))
     ]
 

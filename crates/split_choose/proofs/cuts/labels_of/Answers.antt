@@ -1,6 +1,6 @@
 use Rattle.std.proofs.Common.{◌∙◌, ap}
 use Rattle.std.specs.Prelude.{slice_get}
-use Rattle.split_choose.specs.declared.nets.Row.{Row}
+use Rattle.split_choose.specs.declared.nets.BlockNodes.{BlockNodes}
 use Rattle.split_choose.specs.Labelled.{sides_of, row_marks, rows_marks}
 use Rattle.split_choose.proofs.Marking.{rows_first, rows_last, row_added}
 use Rattle.split_choose.proofs.cuts.labels_of.Goals as goal
@@ -10,7 +10,7 @@ rows-init c = λ v offers ended.
     let t = c.args.view.m.now.live.target in
     let f = c.args.view.m.now.live.func in
     let inside = c.as_slice-inside.result.now in
-    rows_first (λ (r : Row). row_marks t f v offers r (sides_of inside r) (slice_get f.blocks r.position)) c.as_slice-rows.result.now c.new-labels.result c.new-labels.ensures
+    rows_first (λ (r : BlockNodes). row_marks t f v offers r (sides_of inside r) (slice_get f.blocks r.position)) c.as_slice-rows.result.now c.new-labels.result c.new-labels.ensures
 
 pub rows-preserved : goal.rows-preserved
 rows-preserved c = λ v offers ended.
@@ -23,6 +23,6 @@ returns c = λ v offers ended.
     let f = c.args.view.m.now.live.func in
     let inside = c.as_slice-inside.result.now in
     let rows = c.as_slice-rows.result.now in
-    rows_last (λ (r : Row). row_marks t f v offers r (sides_of inside r) (slice_get f.blocks r.position)) rows c.rows.row-index c.rows.labels c.rows-test.false (c.rows.invariant v offers ended)
+    rows_last (λ (r : BlockNodes). row_marks t f v offers r (sides_of inside r) (slice_get f.blocks r.position)) rows c.rows.row-index c.rows.labels c.rows-test.false (c.rows.invariant v offers ended)
     ∙ (ap (rows_marks t f v offers inside) c.as_slice-rows.ensures.value
     ∙ ap (λ flags. rows_marks t f v offers flags c.args.choice.now.placing.rows.items) c.as_slice-inside.ensures)

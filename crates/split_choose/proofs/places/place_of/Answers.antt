@@ -42,4 +42,4 @@ returns c finds s site at =
     let there : Some c.in_ok-block.block.now ≡ Some site.block = c.in_ok-block.ensures ∙ (ap (slice_get c.args.live.now.func.blocks) home ∙ site.found) in
     let same : c.in_ok-block.block.now ≡ site.block = cc in
     let here = c.as_slice.ensures ∙ (ap (λ (b : Block). b.instrs) same ∙ site.same) in
-    ap (λ (p : TouchedPlace). Some p) (whole t c.target-2.result.now s c.position_of-position.result c.as_slice.result.now c.ending.result c.target-2.ensures here home site.ended (c.ending.ensures s.instr at) ∙ among-ends t s term)
+    ap (λ (p : TouchedPlace). Some p) (whole t c.target-2.result.now s c.position_of-position.result c.as_slice.result.now c.terminators_place.result c.target-2.ensures here home site.ended (c.terminators_place.ensures s.instr at) ∙ among-ends t s term)

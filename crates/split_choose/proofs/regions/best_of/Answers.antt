@@ -1,5 +1,5 @@
 use Rattle.std.proofs.Common.{ℕ, ◌+◌, Option, sym, subst, take}
-use Rattle.split_choose.specs.declared.regions.Offer.{Offer}
+use Rattle.split_choose.specs.declared.regions.RegionCandidate.{RegionCandidate}
 use Rattle.split_choose.proofs.Choosing.{Picks, pick_first, pick_taken, pick_passed, pick_last}
 use Rattle.split_choose.proofs.regions.best_of.Goals as goal
 use Rattle.split_choose.proofs.regions.best_of.Goals.{then-offer-bound, else-offer-bound}
@@ -19,11 +19,11 @@ registers-preserved c = λ ready.
     elim c.if-offer-bound.branch [
       | then-offer-bound w ↦
           let P : ℕ → Type 0 = λ n. Picks m v parents spans (take (k + 1) rs) n c.if-offer-bound.best in
-          let Q : Option Offer → Type 0 = λ q. Picks m v parents spans (take (k + 1) rs) o.cost q in
+          let Q : Option RegionCandidate → Type 0 = λ q. Picks m v parents spans (take (k + 1) rs) o.cost q in
           subst P (sym w.bound-is) (subst Q (sym w.best-is) (pick_taken m v parents spans rs k _ o c.registers.bound c.registers.best c.registers-test.true (c.in_ok-offer.ensures ready) (c.registers.invariant ready) w.if-offer-bound.true))
       | else-offer-bound w ↦
           let P : ℕ → Type 0 = λ n. Picks m v parents spans (take (k + 1) rs) n c.if-offer-bound.best in
-          let Q : Option Offer → Type 0 = λ q. Picks m v parents spans (take (k + 1) rs) c.registers.bound q in
+          let Q : Option RegionCandidate → Type 0 = λ q. Picks m v parents spans (take (k + 1) rs) c.registers.bound q in
           subst P (sym w.bound-is) (subst Q (sym w.best-is) (pick_passed m v parents spans rs k _ o c.registers.bound c.registers.best c.registers-test.true (c.in_ok-offer.ensures ready) (c.registers.invariant ready) w.if-offer-bound.false))
     ]
 

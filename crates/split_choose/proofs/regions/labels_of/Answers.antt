@@ -2,7 +2,7 @@ use Rattle.std.proofs.Common.{◌≡◌, ◌∙◌, ◌++◌, true, ap, subst, g
 use Rattle.std.specs.Prelude.{slice_get}
 use Rattle.std.specs.List.{list_all}
 use Rattle.live_lanes.specs.declared.live.LiveFunc.{LiveFunc}
-use Rattle.split_choose.specs.declared.regions.Inside.TheVariants as places
+use Rattle.split_choose.specs.declared.regions.InsidePart.TheVariants as places
 use Rattle.split_choose.specs.Seen.{ends_in_terminators}
 use Rattle.split_choose.specs.Parts.{marks_there}
 use Rattle.split_choose.proofs.Labelling.{marks_first, marks_next, marks_last}

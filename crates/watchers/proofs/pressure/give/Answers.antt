@@ -1,8 +1,8 @@
 use Rattle.std.proofs.Common.{◌≡◌, ◌==◌, ◌∷◌, [], ◌++◌, take, drop, set, get_or, true, false, sym, ◌∙◌, ap, arith}
 use Rattle.std.specs.List.{position}
 use Rattle.std.proofs.lemmas.Grind.{common_steps}
-use Rattle.watchers.specs.Given.{given_again}
-use Rattle.watchers.proofs.Given.{is_behind, once_last, once_again, once_between}
+use Rattle.watchers.specs.RegisterCounts.{given_again}
+use Rattle.watchers.proofs.RegisterCounts.{is_behind, once_last, once_again, once_between}
 use Rattle.watchers.proofs.pressure.give.Goals as goal
 
 pub returns-in_default-clause-ok : goal.returns-in_default-clause-ok
@@ -16,7 +16,7 @@ returns-then-index-r-clause-ok c =
     let at = ap (position (is_behind c.args.r)) (sym c.as_slice.ensures.value) ∙ sym c.place_of.ensures ∙ c.in-Some.is in
     let found = c.index_mut-entry.result.now in
     let same : ((get_or c.args.given.now.items c.in-Some.place found).register.0 == c.args.r.0) ≡ true = grind (arith, common_steps) in
-    ap (λ n. set c.args.given.now.items c.in-Some.place (record found { count = n })) c.more-entry.ensures
+    ap (λ n. set c.args.given.now.items c.in-Some.place (record found { count = n })) c.next_count-entry.ensures
     ∙ ap (λ g. set c.args.given.now.items c.in-Some.place (given_again g)) c.index_mut-entry.ensures.value
     ∙ once_again c.args.target.now c.args.given.now.items c.args.r c.in-Some.place found at same
 

@@ -1,5 +1,5 @@
 use Rattle.std.proofs.Common.{◌≡◌, drop}
-use Rattle.watchers.specs.Given.{given_all}
+use Rattle.watchers.specs.RegisterCounts.{given_all}
 use Rattle.watchers.proofs.pressure.given_all.Given as goal
 
 -- what is left, over what was made, gives the whole

@@ -8,7 +8,7 @@ use Rattle.std.proofs.lemmas.List.Sorted.{IsPartitionPoint-from_clause}
 use Rattle.live_lanes.specs.Table.{leading}
 use Rattle.live_lanes.proofs.Cells.{partition-leading}
 use Rattle.live_lanes.proofs.Segments.{parted-map, leading-map}
-use Rattle.interference.specs.declared.held.Held.{Held}
+use Rattle.interference.specs.declared.held.RangeExtent.{RangeExtent}
 use Rattle.interference.specs.Clashes.{part_of, AreApart, begins_by}
 use Rattle.interference.specs.Parts.{parts_of, part_in, before, part_begins}
 use Rattle.interference.proofs.Parts.{part-there, flat, flat-held, lead, gap_at, behind-is, parts-parted, some-apart}
@@ -19,10 +19,10 @@ returns-in-Some-clause-before c = λ filled apart.
     let slots = c.args.slots.now in
     let at = c.args.at in
     let items = c.args.self.now.parts.items in
-    let ps : List (List Held) = parts_of c.args.self.now in
+    let ps : List (List RangeExtent) = parts_of c.args.self.now in
     let whole : AreApart slots 0 (flat ps) = subst (AreApart slots 0) (sym (flat-held c.args.self.now)) apart in
-    let begins : List Held → Bool = part_begins slots at in
-    let test : Vec Held Global → Bool = λ v. begins (part_of v) in
+    let begins : List RangeExtent → Bool = part_begins slots at in
+    let test : Vec RangeExtent Global → Bool = λ v. begins (part_of v) in
     let same = c.as_slice-parts.ensures.value in
     let parted : IsPartitionedBy begins ps = parts-parted slots at 0 ps whole (λ h. filled (subst (λ n. 1 < n) (length-map items part_of) h)) in
     let cut = subst (IsPartitionedBy test) (sym same) (parted-map part_of begins items parted) in

@@ -1,7 +1,7 @@
 use Rattle.std.proofs.Common.{◌≡◌, ◌<◌, ◌≤◌, ◌+◌, ◌-◌, ◌*◌, ℕ, suc, Bool, true, false, ◌&&◌, length, refl, sym, ap, ◌∙◌, subst, arith}
 use Rattle.std.specs.Prelude.{not, ◌||◌, nat_eq}
 use Rattle.std.specs.List.{list_any, list_all}
-use Rattle.interference.specs.declared.held.Held.{Held}
+use Rattle.interference.specs.declared.held.RangeExtent.{RangeExtent}
 use Rattle.interference.specs.Clashes.{held_of, AreApart, begins_by, is_taken_by}
 use Rattle.interference.specs.Parts.{parts_of, part_before, before, lies_before}
 use Rattle.interference.specs.Marked.{is_marked}
@@ -37,7 +37,7 @@ returns-then-not-mark_met-clause-marked c = λ filled apart w lt.
     let n : ℕ = behind_all slots 0 (before ps gap j) in
     let begun : list_all (begins_by slots at.last) c.part_before.result.now ≡ true = ap (list_all (begins_by slots at.last)) stretches ∙ part-begun slots ps gap hs at apart same j le in
     let low : AreApart slots n c.part_before.result.now = subst (AreApart slots n) (sym stretches) (part-apart slots ps gap hs at apart same j le) in
-    let test : Held → Bool = λ h. nat_eq h.range w in
+    let test : RangeExtent → Bool = λ h. nat_eq h.range w in
     let room : w < length c.parts.marks.words.items * 64 = subst (λ m. w < m * 64) (sym c.parts.invariant.room) lt in
     let ahead : is_taken_by slots (before ps gap j) w at ≡ false = none-ahead slots ps gap hs at apart same test j le (ap (list_any (lies_before slots at.first)) (sym stretches) ∙ c.mark_met.ensures.behind c.if-not-mark_met.true) in
     let all : is_taken_by slots (before ps gap c.parts.part) w at ≡ is_taken_by slots (part_before ps gap j) w at = ap (λ k. is_taken_by slots (before ps gap k) w at) (sym next) ∙ touched-step slots ps gap hs at apart same test j ∙ ap (λ b. b || is_taken_by slots (part_before ps gap j) w at) ahead in
@@ -63,7 +63,7 @@ parts-preserved c =
           let n : ℕ = behind_all slots 0 (before ps gap j) in
           let begun : list_all (begins_by slots at.last) c.part_before.result.now ≡ true = ap (list_all (begins_by slots at.last)) stretches ∙ part-begun slots ps gap hs at apart same j le in
           let low : AreApart slots n c.part_before.result.now = subst (AreApart slots n) (sym stretches) (part-apart slots ps gap hs at apart same j le) in
-          let test : Held → Bool = λ h. nat_eq h.range w in
+          let test : RangeExtent → Bool = λ h. nat_eq h.range w in
           let room : w < length c.parts.marks.words.items * 64 = subst (λ m. w < m * 64) (sym c.parts.invariant.room) lt in
           let p : Bool = is_taken_by slots (part_before ps gap j) w at in
           let q : Bool = is_taken_by slots (before ps gap j) w at in

@@ -2,7 +2,7 @@ use Rattle.std.proofs.Common.{◌≡◌, ◌≤◌, ◌+◌, ◌-◌, ℕ, suc, 
 use Rattle.std.specs.Prelude.{not, nat_eq}
 use Rattle.std.specs.List.{list_any, list_all}
 use Rattle.live_lanes.proofs.Held.{or-none}
-use Rattle.interference.specs.declared.held.Held.{Held}
+use Rattle.interference.specs.declared.held.RangeExtent.{RangeExtent}
 use Rattle.interference.specs.Clashes.{held_of, AreApart, begins_by, is_taken, is_taken_by}
 use Rattle.interference.specs.Parts.{parts_of, part_before, before, lies_before}
 use Rattle.interference.proofs.Parts.{behind_all}
@@ -51,7 +51,7 @@ returns-in-Behind c = λ filled apart.
     let begun : list_all (begins_by slots at.last) c.part_before.result.now ≡ true = ap (list_all (begins_by slots at.last)) stretches ∙ part-begun slots ps gap hs at apart same j le in
     let low : AreApart slots n c.part_before.result.now = subst (AreApart slots n) (sym stretches) (part-apart slots ps gap hs at apart same j le) in
     let met = c.in-Behind.ensures begun n low in
-    let test : Held → Bool = λ h. not (nat_eq h.range c.args.but) in
+    let test : RangeExtent → Bool = λ h. not (nat_eq h.range c.args.but) in
     let ahead : is_taken slots (before ps gap j) c.args.but at ≡ false = none-ahead slots ps gap hs at apart same test j le (ap (list_any (lies_before slots at.first)) (sym stretches) ∙ met.1) in
     let here : is_taken slots (part_before ps gap j) c.args.but at ≡ false = ap (λ xs. is_taken slots xs c.args.but at) (sym stretches) ∙ met.0 in
     sym (c.parts.invariant filled apart) ∙ ap (λ k. is_taken slots (before ps gap k) c.args.but at) (sym next)
@@ -73,7 +73,7 @@ parts-preserved c = λ filled apart.
     let begun : list_all (begins_by slots at.last) c.part_before.result.now ≡ true = ap (list_all (begins_by slots at.last)) stretches ∙ part-begun slots ps gap hs at apart same j le in
     let low : AreApart slots n c.part_before.result.now = subst (AreApart slots n) (sym stretches) (part-apart slots ps gap hs at apart same j le) in
     let met = c.in-Open.ensures begun n low in
-    let test : Held → Bool = λ h. not (nat_eq h.range c.args.but) in
+    let test : RangeExtent → Bool = λ h. not (nat_eq h.range c.args.but) in
     let here : is_taken slots (part_before ps gap j) c.args.but at ≡ false = ap (λ xs. is_taken slots xs c.args.but at) (sym stretches) ∙ met in
     sym (touched-step slots ps gap hs at apart same test j ∙ or-false (is_taken slots (before ps gap j) c.args.but at) (is_taken slots (part_before ps gap j) c.args.but at) here)
     ∙ ap (λ k. is_taken slots (before ps gap k) c.args.but at) next ∙ c.parts.invariant filled apart

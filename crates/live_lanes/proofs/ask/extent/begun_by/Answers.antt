@@ -2,7 +2,7 @@ use Rattle.std.proofs.Common.{rules, sym, ap, ◌∙◌, subst, Bool}
 use Rattle.std.specs.Prelude.{nat_le}
 use Rattle.std.specs.List.Sorted.{IsPartitionedBy}
 use Rattle.std.proofs.lemmas.List.Sorted.{IsPartitionPoint-from_clause}
-use Rattle.live_lanes.specs.declared.row.Segment.{Segment}
+use Rattle.live_lanes.specs.declared.row.DefPiece.{DefPiece}
 use Rattle.live_lanes.specs.Table.{leading, begun, Begun, seen_cell}
 use Rattle.live_lanes.specs.Held.{hold_rank}
 use Rattle.live_lanes.proofs.Cells.{partition-leading}
@@ -13,7 +13,7 @@ use Rattle.live_lanes.proofs.ask.extent.begun_by.Goals as goal
 pub returns : goal.returns
 returns c = λ r.
     let begins : Begun → Bool = λ s. nat_le (hold_rank c.args.slots.now s) c.args.at in
-    let test : Segment → Bool = λ s. begins (begun s) in
+    let test : DefPiece → Bool = λ s. begins (begun s) in
     let items = c.args.cell.now.segments.items in
     let segments = c.as_slice.result.now in
     let same = c.as_slice.ensures.value in

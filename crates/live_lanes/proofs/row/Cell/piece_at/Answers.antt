@@ -1,5 +1,5 @@
 use Rattle.std.proofs.Common.{rules, sym, ap, ◌∙◌, subst, Bool}
-use Rattle.live_lanes.specs.declared.row.Segment.{Segment}
+use Rattle.live_lanes.specs.declared.row.DefPiece.{DefPiece}
 use Rattle.std.specs.List.Sorted.{IsPartitionedBy}
 use Rattle.std.proofs.lemmas.List.Sorted.{IsPartitionPoint-from_clause}
 use Rattle.live_lanes.specs.Table.{is_begun, leading, begun, Begun, seen_cell}
@@ -10,7 +10,7 @@ use Rattle.live_lanes.proofs.row.Cell.piece_at.Goals as goal
 pub returns-clause-piece : goal.returns-clause-piece
 returns-clause-piece c = λ r.
     let begins : Begun → Bool = is_begun c.args.slots.now c.args.at in
-    let test : Segment → Bool = λ s. begins (begun s) in
+    let test : DefPiece → Bool = λ s. begins (begun s) in
     let items = c.args.self.now.segments.items in
     let segments = c.as_slice.result.now in
     let same = c.as_slice.ensures.value in

@@ -17,9 +17,9 @@ pub returns-in-Trace-clause-told : goal.returns-in-Trace-clause-told
 returns-in-Trace-clause-told g c = λ tells.
     let next = g.W.Watcher.next c.args.target.now in
     let old = c.args.watchers.now.items in
-    let new = c.traced.new.watchers.items in
-    rw c.in-Function.is (answer_of_one next c.in-Function.before c.in-Function.f c.traced.result c.args.number.now c.next-number-in-Trace.new.number old new c.next-number-in-Trace.ensures.next
-    (subst (λ n. IfOk c.traced.result (ToldOne next n old new)) c.next-number-in-Trace.ensures.now c.traced.ensures.told))
+    let new = c.trace_function.new.watchers.items in
+    rw c.in-Function.is (answer_of_one next c.in-Function.before c.in-Function.f c.trace_function.result c.args.number.now c.next-number-in-Trace.new.number old new c.next-number-in-Trace.ensures.next
+    (subst (λ n. IfOk c.trace_function.result (ToldOne next n old new)) c.next-number-in-Trace.ensures.now c.trace_function.ensures.told))
 
 pub returns-in-Verify-clause-part : goal.returns-in-Verify-clause-part
 returns-in-Verify-clause-part g c = on_err c.verified_function.result (part_of_none (g.W.Watcher.next c.args.target.now) c.args.watchers.now.items c.args.watchers.now.items refl)

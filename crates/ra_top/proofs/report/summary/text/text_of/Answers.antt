@@ -9,7 +9,7 @@ returns-in_err-copy-clause-part g c = on_err c.from_residual.result (part_of_non
 -- the run had come to its end
 pub returns-in_err-summary-in-Ok-clause-part : goal.returns-in_err-summary-in-Ok-clause-part
 returns-in_err-summary-in-Ok-clause-part g c =
-    on_err c.from_residual-in_err-summary-in-Ok.result (part_of_run (g.W.Watcher.next c.args.target.now) 0 c.args.watchers.now.items c.allocated.new.watchers.items c.in-Ok.ensures.told)
+    on_err c.from_residual-in_err-summary-in-Ok.result (part_of_run (g.W.Watcher.next c.args.target.now) 0 c.args.watchers.now.items c.allocate_function.new.watchers.items c.in-Ok.ensures.told)
 
 pub returns-in-Err-clause-err : goal.returns-in-Err-clause-err
 returns-in-Err-clause-err g c = subst (λ f. IfRefused c.args.target.now f c.in-Err.stop) c.in_ok-copy.ensures c.in-Err.ensures.err

@@ -1,7 +1,0 @@
-use Rattle.std.proofs.Common.{◌≡◌, drop}
-use Rattle.std.specs.List.{list_any}
-use Rattle.mir_meaning.specs.Valid.{names_virtual}
-use Rattle.alloc_check.proofs.chosen.any_names_virtual.Given as goal
-
-abbrev pub invariant-loop-b : goal.invariant-loop-b
-invariant-loop-b l = list_any names_virtual (drop l.b-index l.blocks) ≡ list_any names_virtual l.blocks

@@ -1,0 +1,7 @@
+use Rattle.std.proofs.Common.{sym, ap, ◌∙◌, ◌++◌, append-nil}
+use Rattle.instr_effects.specs.Numbered.{number_in}
+use Rattle.instr_effects.proofs.CountedParts.{flag_undef}
+use Rattle.instr_effects.proofs.effects.EffectReader.read_flag.Goals as goal
+
+pub returns-then-op : goal.returns-then-op
+returns-then-op c = sym (append-nil c.args.reads.now.items) ∙ ap (λ x. c.args.reads.now.items ++ x) (sym (flag_undef c.args.self.target.now c.args.self.func.now (number_in c.args.self.lanes.now) c.args.place c.args.op.now c.if-op.true))

@@ -1,6 +1,0 @@
-use Rattle.std.proofs.Common.{◌≡◌, ◌++◌, drop}
-use Rattle.mir_meaning.specs.Items.{unreserved}
-use Rattle.instr_effects.proofs.items.results.push_unreserved.Given as goal
-
-abbrev pub invariant-loop-l : goal.invariant-loop-l
-invariant-loop-l l = l.out ++ unreserved l.t (drop l.l-index l.lanes) ≡ l.initial.out ++ unreserved l.t l.lanes

@@ -1,0 +1,13 @@
+use Rattle.live_lanes.specs.Table.{with_segment, seen_in}
+use Rattle.live_lanes.proofs.Cells.{change-descends, change-seen}
+use Rattle.live_lanes.proofs.Raised.{on-ok}
+use Rattle.live_lanes.proofs.row.LaneRange.add_segment.Goals as goal
+
+pub invariant_of-self : goal.invariant_of-self
+invariant_of-self c = record {
+  sorted = change-descends c.args.block c.make_behind.new.self.cells.items c.in_ok-place.place c.index_mut.result.now c.add_segment.new.self c.make_behind.new.self.sorted c.in_ok-place.ensures.within c.in_ok-place.ensures.there c.index_mut.ensures.value c.add_segment.ensures.block;
+}
+
+pub returns : goal.returns
+returns c =
+    on-ok c.add_segment.result c.add_segment.ensures.added (λ e. change-seen c.args.block c.make_behind.new.self.cells.items c.in_ok-place.place c.index_mut.result.now c.add_segment.new.self c.make_behind.new.self.sorted c.in_ok-place.ensures.within c.in_ok-place.ensures.there c.index_mut.ensures.value c.add_segment.ensures.block (with_segment c.args.start c.args.early c.args.from) (seen_in c.args.self.now.cells.items) c.in_ok-place.ensures.same e)

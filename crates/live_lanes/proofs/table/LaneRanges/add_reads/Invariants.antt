@@ -1,0 +1,6 @@
+use Rattle.std.proofs.Common.{take}
+use Rattle.live_lanes.specs.Entering.{Enters, enter_all, read_entered}
+use Rattle.live_lanes.proofs.table.LaneRanges.add_reads.Given as goal
+
+abbrev pub invariant-lanes : goal.invariant-lanes
+invariant-lanes l = Enters l.fn.self.rows.items l.self.rows.items (λ m b v. enter_all (read_entered l.block l.id m b) (take l.lane-index l.lanes) v)

@@ -1,5 +1,0 @@
-use Rattle.mir_interp.proofs.Performing.{ternary_pure}
-use Rattle.mir_interp.proofs.perform.Performer.ternary.Goals as goal
-
-pub returns : goal.returns
-returns g c = λ n env h o. ternary_pure c.args.self.now.rest.now env o _ c.as_slice-result.result.now c.in_ok-lanes.lanes c.three-n.result c.in_ok-a.a c.in_ok-b.b c.in_ok-d.d c.in_ok-w.w c.requires c.as_slice-result.ensures c.in_ok-lanes.ensures c.three-n.ensures c.in_ok-w.ensures.0 (c.in_ok-a.ensures n env h) (c.in_ok-b.ensures n env h) (c.in_ok-d.ensures n env h)

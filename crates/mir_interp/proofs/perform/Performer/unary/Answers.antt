@@ -1,5 +1,0 @@
-use Rattle.mir_interp.proofs.Performing.{unary_pure}
-use Rattle.mir_interp.proofs.perform.Performer.unary.Goals as goal
-
-pub returns : goal.returns
-returns g c = λ n env h o. unary_pure c.args.self.now.rest.now env o _ c.as_slice-result.result.now c.in_ok-lanes.lanes c.alone-n.result c.in_ok-a.a c.in_ok-from.from c.in_ok-w.w c.requires c.as_slice-result.ensures c.in_ok-lanes.ensures c.alone-n.ensures c.in_ok-from.ensures.0 c.in_ok-w.ensures.0 (c.in_ok-a.ensures n env h)

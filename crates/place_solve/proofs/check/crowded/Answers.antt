@@ -1,5 +1,0 @@
-use Rattle.std.proofs.Common.{below_more, sym, ◌∙◌}
-use Rattle.place_solve.proofs.check.crowded.Goals as goal
-
-pub each-preserved : goal.each-preserved
-each-preserved c = below_more _ _ c.each.invariant (sym c.in_ok-is_crowded.ensures ∙ c.if-branch.false)

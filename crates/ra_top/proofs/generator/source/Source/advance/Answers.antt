@@ -1,5 +1,0 @@
-use Rattle.ra_top.proofs.GeneratorLemmas.Numbers.{next_is}
-use Rattle.ra_top.proofs.generator.source.Source.advance.Goals as goal
-
-pub returns : goal.returns
-returns c = next_is c.args.self.now.x

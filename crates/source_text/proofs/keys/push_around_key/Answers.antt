@@ -1,0 +1,11 @@
+use Rattle.std.proofs.Common.{length, refl}
+use Rattle.mir_text.proofs.Lines.{nothing}
+use Rattle.source_text.specs.Keys.{before_key, from_key}
+use Rattle.source_text.proofs.Ends.{ended}
+use Rattle.source_text.proofs.keys.push_around_key.Goals as goal
+
+pub returns-clause-above : goal.returns-clause-above
+returns-clause-above c = ended before_key c.lines.above _ c.lines.rest.now refl (nothing (length c.lines.rest.now) c.is_empty.result c.is_empty.ensures c.lines-test.false) c.lines.invariant.above
+
+pub returns-clause-below : goal.returns-clause-below
+returns-clause-below c = ended from_key c.lines.below _ c.lines.rest.now refl (nothing (length c.lines.rest.now) c.is_empty.result c.is_empty.ensures c.lines-test.false) c.lines.invariant.below

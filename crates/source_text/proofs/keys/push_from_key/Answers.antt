@@ -1,8 +1,0 @@
-use Rattle.std.proofs.Common.{length, refl}
-use Rattle.mir_text.proofs.Lines.{nothing}
-use Rattle.source_text.specs.Keys.{from_key}
-use Rattle.source_text.proofs.Ends.{ended}
-use Rattle.source_text.proofs.keys.push_from_key.Goals as goal
-
-pub returns : goal.returns
-returns c = ended from_key c.lines.text _ c.lines.rest.now refl (nothing (length c.lines.rest.now) c.is_empty.result c.is_empty.ensures c.lines-test.false) c.lines.invariant

@@ -1,5 +1,0 @@
-use Rattle.std.proofs.Common.{arith}
-use Rattle.target_desc.proofs.names.Names.declare.Goals as goal
-
-pub add-requires : goal.add-requires
-add-requires c = omega arith
