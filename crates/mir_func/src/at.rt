@@ -1,36 +1,56 @@
 //! Edits of a function where the place is known: the block's position in the layout, and the
 //! instruction's place in its block. They take no search.
 
-ghost use Rattle.std.specs.Prelude.{◌≡◌, ◌<◌, ◌≤◌, OnOk, OnErr, length, insert, remove, slice_index_or};
-ghost use Rattle.mir_func.specs.Edits.{update};
+ghost use Rattle.std.specs.Prelude.{◌≡◌, OnOk, OnErr, IfOk, length, slice_get, option_copied};
+ghost use Rattle.std.specs.Option.{option_map_or};
+ghost use Rattle.mir_func.specs.Edits.{made};
+ghost use Rattle.mir_func.specs.At.{instrs_at, instr_at, put_at, cut_at, changed_at, operation, with_operation, inserted_at, removed_at, retracted_at, replaced_at};
 
 use crate::func::{Block, Func, Instr, Op, Operands};
 use std::alloc::AllocError;
 use std::mem;
 use target_base::{List, OpId};
 
-/// Puts an instruction before the one at a place of a block.
-fn put_at(block: &mut Block, place: usize, instr: Instr) -> Result<(), AllocError>
-    requires { place ≤ length block.old.instrs }
-    ensures ok { OnOk result (block.new ≡ record block.old { instrs = insert block.old.instrs place instr }) }
+/// Puts a new instruction, without flags and tail, before the one at a place of a block, or last.
+fn put_at(
+    block: &mut Block,
+    place: usize,
+    id: u32,
+    op: OpId,
+    operands: Operands,
+) -> Result<(), AllocError>
+    ensures ok { OnOk result (block.new ≡ put_at place (made id op operands) block.old) }
     ensures err { OnErr result (block.new ≡ block.old) }
 {
-    block.instrs.insert(place, instr)
+    let alloc = block.instrs.allocator();
+    let at = place.min(block.instrs.len());
+    block.instrs.insert(
+        at,
+        Instr {
+            id,
+            op: Op::Known(op),
+            flags: List::new(alloc),
+            operands,
+            tail: List::new(alloc),
+        },
+    )
 }
 
-/// Takes out the instruction at a place of a block.
-fn cut_at(block: &mut Block, place: usize) -> Instr
-    requires { place < length block.old.instrs }
-    ensures value { result ≡ slice_index_or block.old.instrs place result }
-    ensures rest { block.new ≡ record block.old { instrs = remove block.old.instrs place } }
+/// Takes out the instruction at a place of a block, where there is one.
+fn cut_at(block: &mut Block, place: usize) -> Option<Instr>
+    ensures value { result ≡ slice_get block.old.instrs place }
+    ensures rest { block.new ≡ cut_at place block.old }
 {
-    block.instrs.remove(place)
+    if place >= block.instrs.len() {
+        return None;
+    }
+    Some(block.instrs.remove(place))
 }
 
 /// Gives an instruction another opcode and other operands, and answers those that it had.
 fn change(instr: &mut Instr, op: Op, operands: Operands) -> (Op, Operands)
-    ensures new { instr.new ≡ record instr.old { op = op; operands = operands } }
-    ensures old { result ≡ (instr.old.op, instr.old.operands) }
+    ensures new { instr.new ≡ with_operation op operands instr.old }
+    ensures old { result ≡ operation instr.old }
 {
     let old_op = mem::replace(&mut instr.op, op);
     let old_operands = mem::replace(&mut instr.operands, operands);
@@ -38,17 +58,22 @@ fn change(instr: &mut Instr, op: Op, operands: Operands) -> (Op, Operands)
 }
 
 /// Gives the instruction at a place of a block another opcode and other operands, and answers
-/// those that it had.
+/// those that it had; where there is none, those that were to be given.
 fn change_in(block: &mut Block, place: usize, op: Op, operands: Operands) -> (Op, Operands)
-    requires { place < length block.old.instrs }
-    ensures { block.new ≡ record block.old { instrs = update place (λ i. record i { op = op; operands = operands }) block.old.instrs } }
+    ensures new { block.new ≡ changed_at place (with_operation op operands) block.old }
+    ensures old { result ≡ option_map_or operation (slice_get block.old.instrs place) (op, operands) }
 {
+    if place >= block.instrs.len() {
+        return (op, operands);
+    }
     change(block.instrs.get_mut(place), op, operands)
 }
 
 impl Func {
     /// The instruction at a place of the block at a position.
-    pub fn instr_at(&self, position: usize, place: usize) -> Option<&Instr> {
+    pub fn instr_at(&self, position: usize, place: usize) -> Option<&Instr>
+        ensures { option_copied result ≡ instr_at self.now.blocks position place }
+    {
         match self.blocks.as_slice().get(position) {
             Some(block) => match block.instrs.as_slice().get(place) {
                 Some(boxed) => Some(boxed.get()),
@@ -58,8 +83,10 @@ impl Func {
         }
     }
 
-    /// The number of instructions of the block at a position.
-    pub fn instr_count(&self, position: usize) -> usize {
+    /// The number of instructions of the block at a position, 0 where there is no such block.
+    pub fn instr_count(&self, position: usize) -> usize
+        ensures { result ≡ length (instrs_at self.now.blocks position) }
+    {
         match self.blocks.as_slice().get(position) {
             Some(block) => block.instrs.len(),
             None => 0,
@@ -76,49 +103,41 @@ impl Func {
         op: OpId,
         operands: Operands,
     ) -> Result<u32, AllocError>
+        ensures ok { IfOk result (λ id. (id ≡ self.old.next_id) × (self.new ≡ inserted_at self.old position place op operands)) }
         ensures err { OnErr result (self.new ≡ self.old) }
     {
         let id = self.next_id;
         if position >= self.blocks.len() {
             return Ok(id);
         }
-        let Some(next) = id.checked_add(1) else {
+        if id == u32::MAX {
             return Ok(id);
-        };
-        let alloc = self.blocks.allocator();
-        let instr = Instr {
-            id,
-            op: Op::Known(op),
-            flags: List::new(alloc),
-            operands,
-            tail: List::new(alloc),
-        };
-        let block = self.blocks.get_mut(position);
-        let at = place.min(block.instrs.len());
-        put_at(block, at, instr)?;
-        self.next_id = next;
+        }
+        put_at(self.blocks.get_mut(position), place, id, op, operands)?;
+        self.next_id = id + 1;
         Ok(id)
     }
 
     /// Takes out the instruction at a place of the block at a position, where there is one.
-    pub fn remove_at(&mut self, position: usize, place: usize) -> Option<Instr> {
+    pub fn remove_at(&mut self, position: usize, place: usize) -> Option<Instr>
+        ensures value { result ≡ instr_at self.old.blocks position place }
+        ensures rest { self.new ≡ removed_at self.old position place }
+    {
         if position >= self.blocks.len() {
             return None;
         }
-        let block = self.blocks.get_mut(position);
-        if place >= block.instrs.len() {
-            return None;
-        }
-        Some(cut_at(block, place))
+        cut_at(self.blocks.get_mut(position), place)
     }
 
     /// Takes back the last instruction that was put, where it stands at a place of the block at a
-    /// position: its id is given again.
-    pub fn retract_at(&mut self, position: usize, place: usize) {
+    /// position: its id is given again. Where it doesn't stand there, nothing is changed.
+    pub fn retract_at(&mut self, position: usize, place: usize)
+        ensures { self.new ≡ retracted_at self.old position place }
+    {
         if position >= self.blocks.len() {
             return;
         }
-        let block = self.blocks.get_mut(position);
+        let block = self.blocks.get(position);
         if place >= block.instrs.len() {
             return;
         }
@@ -138,14 +157,13 @@ impl Func {
         place: usize,
         op: Op,
         operands: Operands,
-    ) -> (Op, Operands) {
+    ) -> (Op, Operands)
+        ensures new { self.new ≡ replaced_at self.old position place op operands }
+        ensures old { result ≡ option_map_or operation (instr_at self.old.blocks position place) (op, operands) }
+    {
         if position >= self.blocks.len() {
             return (op, operands);
         }
-        let block = self.blocks.get_mut(position);
-        if place >= block.instrs.len() {
-            return (op, operands);
-        }
-        change_in(block, place, op, operands)
+        change_in(self.blocks.get_mut(position), place, op, operands)
     }
 }

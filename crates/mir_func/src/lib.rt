@@ -5,6 +5,7 @@ mod at;
 pub mod func;
 pub mod opcodes;
 pub mod operands;
+pub mod place_laws;
 pub mod short;
 pub mod spelling;
 

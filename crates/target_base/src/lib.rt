@@ -8,11 +8,13 @@ pub mod classes;
 pub mod list;
 pub mod registers;
 pub mod roles;
+pub mod shared;
 pub mod types;
 
 pub use boxed::{Boxed, BoxedList};
 pub use builtin::mini;
 pub use list::{Copied, List};
+pub use shared::Shared;
 pub use types::{
     Bytes, ClassDesc, ClassDescs, ClassId, Effect, Flags, IndexDesc, IndexDescs, IndexId,
     LaneNumbers, MaskDesc, MaskDescs, MaskId, Numbers, OpId, OpaqueKind, OpcodeDesc, OpcodeDescs,
