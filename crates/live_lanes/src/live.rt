@@ -18,7 +18,7 @@ use crate::table::Table;
 use instr_effects::lanes_of;
 use mir_func::Func;
 use std::alloc::{AllocError, Global};
-use target_base::{Target, Unit};
+use target_base::{Shared, Target, Unit};
 
 /// Exactly where each lane of a function is live and written, without the function and its target.
 #[derive(Drop)]
@@ -26,10 +26,10 @@ pub struct LiveTable {
     pub(crate) table: Table,
 }
 
-/// A function, a copy of its target, and exactly where each lane is live and written.
+/// A function, its target, and exactly where each lane is live and written.
 #[derive(Drop)]
 pub struct LiveFunc {
-    pub(crate) target: Target,
+    pub(crate) target: Shared<Target>,
     pub(crate) func: Func,
     pub(crate) table: Table,
 }
@@ -140,7 +140,7 @@ impl LiveFunc {
         ensures exact { IfOk result (λ x. IsComputed target.now f x.table) }
     {
         let table = Table::of(alloc, target, &f)?;
-        let target = target.copy(alloc)?;
+        let target = Shared::new(alloc, target.copy(alloc)?)?;
         Ok(LiveFunc {
             target,
             func: f,
@@ -148,12 +148,16 @@ impl LiveFunc {
         })
     }
 
-    /// The function with what is live in it under a target, which it keeps. It may have phis.
-    pub fn compute_within(alloc: Global, target: Target, f: Func) -> Result<LiveFunc, AllocError>
+    /// The function with what is live in it under a target, of which it is an owner. It may have phis.
+    pub fn compute_within(
+        alloc: Global,
+        target: Shared<Target>,
+        f: Func,
+    ) -> Result<LiveFunc, AllocError>
         ensures parts { IfOk result (λ x. (x.target ≡ target) × (x.func ≡ f)) }
         ensures exact { IfOk result (λ x. IsComputed target f x.table) }
     {
-        let table = Table::of(alloc, &target, &f)?;
+        let table = Table::of(alloc, target.get(), &f)?;
         Ok(LiveFunc {
             target,
             func: f,
@@ -162,7 +166,7 @@ impl LiveFunc {
     }
 
     /// The function with a table that was computed of it under the target.
-    pub fn of_parts(target: Target, func: Func, table: LiveTable) -> LiveFunc
+    pub fn of_parts(target: Shared<Target>, func: Func, table: LiveTable) -> LiveFunc
         requires { IsComputed target func table.table }
         ensures parts { (result.target ≡ target) × (result.func ≡ func) }
         ensures exact { IsComputed result.target result.func result.table }
@@ -185,7 +189,7 @@ impl LiveFunc {
     pub fn target(&self) -> &Target
         ensures { result.now ≡ self.now.target }
     {
-        &self.target
+        self.target.get()
     }
 
     /// The function alone.
@@ -197,7 +201,7 @@ impl LiveFunc {
     }
 
     /// The function and the target, without what is live.
-    pub fn into_parts(self) -> (Target, Func)
+    pub fn into_parts(self) -> (Shared<Target>, Func)
         ensures target { result.0 ≡ self.target }
         ensures func { result.1 ≡ self.func }
     {

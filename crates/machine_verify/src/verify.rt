@@ -18,7 +18,7 @@ use mir_func::operands::class_of;
 use mir_func::{Block, Func, Valid};
 use mir_meaning::Form;
 use std::alloc::{AllocError, Global};
-use target_base::{Target, Unit};
+use target_base::{Shared, Target, Unit};
 
 /// Puts at the end whether the unit of that number is live at the start of a block.
 fn push_unit(
@@ -161,13 +161,13 @@ pub struct LiveSource {
 }
 
 impl LiveSource {
-    /// The source with what is live in it, and a copy of the target under which that was computed.
-    pub fn into_live(self, alloc: Global, target: &Target) -> Result<LiveFunc, AllocError>
+    /// The source with what is live in it, and the target under which that was computed.
+    pub fn into_live(self, target: &Shared<Target>) -> Result<LiveFunc, AllocError>
         requires { IsComputed target.now self.source.func self.table.table }
         ensures parts { IfOk result (λ x. (x.target ≡ target.now) × (x.func ≡ self.source.func)) }
         ensures exact { IfOk result (λ x. IsComputed x.target x.func x.table) }
     {
-        let target = target.copy(alloc)?;
+        let target = target.share()?;
         let LiveSource { source, table } = self;
         Ok(LiveFunc::of_parts(target, source.func, table))
     }

@@ -15,7 +15,7 @@ use mir_read::names::TargetNames;
 use mir_read::{ReadStop, TextKind};
 use std::alloc::{AllocError, Global};
 use std::marker::Model;
-use target_base::{Boxed, Bytes, List, Target};
+use target_base::{Boxed, Bytes, List, Shared, Target};
 
 /// What the lines so far make.
 #[derive(Drop)]
@@ -237,37 +237,45 @@ fn read_with(
 /// A reader of documents over a target, whose names are found once for all that it reads. Contracts
 /// see it as the target.
 #[derive(Drop)]
-pub struct DocReader<'a> {
-    target: &'a Target,
+pub struct DocReader {
+    target: Shared<Target>,
     names: TargetNames,
 }
 
-impl<'a> Model for DocReader<'a> {
+impl Model for DocReader {
     ghost use Rattle.std.specs.Prelude.{◌≡◌};
     ghost use Rattle.target_base.specs.declared.types.Target.{Target};
     ghost use Rattle.mir_read.specs.Names.{name_lists};
 
     ghost Value = { Target };
 
-    ghost view = { λ r. r.target.now };
+    ghost view = { λ r. r.target };
 
-    ghost invariant = { λ r. r.names ≡ name_lists r.target.now };
+    ghost invariant = { λ r. r.names ≡ name_lists r.target };
 }
 
-impl<'a> DocReader<'a> {
-    /// The reader over a target.
-    pub fn new(alloc: Global, target: &'a Target) -> Result<DocReader<'a>, AllocError>
+impl DocReader {
+    /// The reader over a target, which is copied.
+    pub fn new(alloc: Global, target: &Target) -> Result<DocReader, AllocError>
         ensures { IfOk result (λ r. r ≡ target.now) }
     {
         let names = TargetNames::new(alloc, target)?;
+        let target = Shared::new(alloc, target.copy(alloc)?)?;
         Ok(DocReader { target, names })
     }
 
     /// The target.
-    pub fn target(&self) -> &'a Target
+    pub fn target(&self) -> &Target
         ensures { result.now ≡ self.now }
     {
-        self.target
+        self.target.get()
+    }
+
+    /// The target, which more may own.
+    pub fn shared_target(&self) -> &Shared<Target>
+        ensures { result.now ≡ self.now }
+    {
+        &self.target
     }
 
     /// Reads one document, whose first line has the number `line`; `first` says whether IR may stand
@@ -281,7 +289,7 @@ impl<'a> DocReader<'a> {
         ensures exact { Gives result (document_of self.now first line bytes.now) }
         ensures bulk { IfOk result (λ d. IsBulkWithin (length bytes.now) d) }
     {
-        read_with(alloc, self.target, &self.names, first, line, bytes)
+        read_with(alloc, self.target.get(), &self.names, first, line, bytes)
     }
 }
 
@@ -309,6 +317,6 @@ pub fn read_doc(
     ensures exact { Gives result (document_of target.now first line bytes.now) }
     ensures bulk { IfOk result (λ d. IsBulkWithin (length bytes.now) d) }
 {
-    let reader = DocReader::new(alloc, target)?;
-    reader.read(alloc, first, line, bytes)
+    let names = TargetNames::new(alloc, target)?;
+    read_with(alloc, target, &names, first, line, bytes)
 }

@@ -176,7 +176,7 @@ impl LiveFunc {
         let alloc = self.table.rows.alloc;
         let reader = EffectReader {
             alloc,
-            target: &self.target,
+            target: self.target.get(),
             func: &self.func,
             lanes: &self.table.lanes,
         };

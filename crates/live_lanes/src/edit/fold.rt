@@ -59,7 +59,10 @@ impl LiveFunc {
 
     /// The registers of the class of a range.
     fn regs_of(&self, v: u32) -> &[Reg] {
-        regs_at(self.target.classes.as_slice(), class_of(&self.func, v))
+        regs_at(
+            self.target.get().classes.as_slice(),
+            class_of(&self.func, v),
+        )
     }
 
     /// Gives a range the class of another where that is smaller.
@@ -88,7 +91,7 @@ impl LiveFunc {
         };
         let mut operands = Operands::new(alloc);
         'operands: for operand in instr.operands.as_slice() {
-            operands.push(join_operand(alloc, &self.target, operand, fold)?)?;
+            operands.push(join_operand(alloc, self.target.get(), operand, fold)?)?;
         }
         let was_identity = self.is_identity(op, instr.operands.as_slice());
         if self.is_identity(op, operands.as_slice()) && !was_identity {
@@ -111,7 +114,7 @@ impl LiveFunc {
     fn have_same_lanes(&self, a: &RegOp, b: &RegOp) -> bool {
         match (a.index, b.index) {
             (None, None) => true,
-            (Some(x), Some(y)) => self.target.lanes_at(x) == self.target.lanes_at(y),
+            (Some(x), Some(y)) => self.target.get().lanes_at(x) == self.target.get().lanes_at(y),
             (Some(x), None) => self.picks_all(a.loc, x),
             (None, Some(y)) => self.picks_all(a.loc, y),
         }
@@ -122,7 +125,7 @@ impl LiveFunc {
         let Loc::Virtual(v) = loc else {
             return false;
         };
-        let lanes = self.target.lanes_at(index);
+        let lanes = self.target.get().lanes_at(index);
         lanes.len() == self.lane_count(v) as usize
             && (0u8..u8::MAX).zip(lanes).all(|(k, lane)| k == *lane)
     }

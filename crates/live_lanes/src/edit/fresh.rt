@@ -24,7 +24,7 @@ impl LiveFunc {
             return Ok((count & 0xffff_ffff) as u32);
         }
         let alloc = self.table.rows.alloc;
-        let count = class_lanes(&self.target, class);
+        let count = class_lanes(self.target.get(), class);
         self.table.lanes.add_range(alloc, count)?;
         match self.make_fresh(class) {
             Ok(v) => Ok(v),

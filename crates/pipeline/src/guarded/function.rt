@@ -11,8 +11,8 @@ use crate::guarded::spelled::Allocation;
 use crate::guarded::stop::FunctionStop;
 use crate::passes::{Allocator, Watcher, with_registers};
 use mir_func::{Func, Valid};
+use mir_text::DocReader;
 use std::alloc::Global;
-use target_base::Target;
 
 /// The function with its registers chosen by an allocator and its text, once the checker of allocations
 /// has said Yes to what the text spells: so too where the spill slots were coloured. Its number is that
@@ -24,26 +24,27 @@ use target_base::Target;
 /// before its run, and a first part of the run at another refusal.
 pub fn allocate_function<W: Watcher>(
     alloc: Global,
-    target: &Target,
+    reader: &DocReader,
     f: Func,
     allocator: Allocator,
     number: u32,
     watchers: &mut Vec<W>,
 ) -> Result<Allocation, FunctionStop>
-    requires { FitsTarget target.now f }
-    ensures ok { IfOk result (λ a. Allocates target.now f a.func) }
-    ensures text { IfOk result (λ a. IsTextFor target.now a.func a.text) }
-    ensures err { IfErr result (IfRefused target.now f) }
+    requires { FitsTarget reader.now f }
+    ensures ok { IfOk result (λ a. Allocates reader.now f a.func) }
+    ensures text { IfOk result (λ a. IsTextFor reader.now a.func a.text) }
+    ensures err { IfErr result (IfRefused reader.now f) }
     ensures untold { IfErr result (λ stop. comes_before_run stop ≡ true → watchers.new ≡ watchers.old) }
-    ensures told { OnOk result (ToldRun (W.next target.now) number watchers.old.items watchers.new.items) }
-    ensures part { OnErr result (ToldPart (W.next target.now) watchers.old.items watchers.new.items) }
+    ensures told { OnOk result (ToldRun (W.next reader.now) number watchers.old.items watchers.new.items) }
+    ensures part { OnErr result (ToldPart (W.next reader.now) watchers.old.items watchers.new.items) }
 {
-    let ServedSource { live, .. } = served_source(alloc, target, f)?;
+    let target = reader.target();
+    let ServedSource { live, .. } = served_source(alloc, reader.shared_target(), f)?;
     // (lowering takes the function to pieces, and the guard needs it whole)
     let func = live.func().copy(alloc)?;
     let kept = Valid { func };
     let made = with_registers(alloc, target, live, allocator, number, watchers)?;
-    match check_allocation(alloc, target, &kept, made)? {
+    match check_allocation(alloc, reader, &kept, made)? {
         Some(made) => Ok(made),
         None => Err(FunctionStop::NotYet),
     }

@@ -18,7 +18,7 @@ use live_lanes::LiveFunc;
 use machine_verify::LiveSource;
 use mir_func::Func;
 use std::alloc::Global;
-use target_base::{Bytes, Copied, Target};
+use target_base::{Bytes, Copied, Shared, Target};
 
 /// A function that lies within the limits and is valid as a source.
 #[derive(Drop)]
@@ -85,13 +85,17 @@ pub fn allocated_name(alloc: Global, target: &Target, f: &Func) -> Result<Bytes,
 /// The function with its name and what is live in it, ready to be lowered. Refused are, in this order,
 /// one that passes a limit, one that isn't valid as a source, one a place of which has too many
 /// variables, and one a place of which admits no choice of registers.
-pub fn served_source(alloc: Global, target: &Target, f: Func) -> Result<ServedSource, FunctionStop>
+pub fn served_source(
+    alloc: Global,
+    target: &Shared<Target>,
+    f: Func,
+) -> Result<ServedSource, FunctionStop>
     requires { FitsTarget target.now f }
     ensures ok { IfOk result (λ s. (s.name ≡ f.name) × (s.live.func ≡ f) × IsTaken target.now f × PlacesServe target.now f) }
     ensures err { IfErr result (IfRefused target.now f) }
     ensures early { IfErr result IfBeforeRun }
 {
-    let NamedSource { name, live } = live_source(alloc, target, f)?;
+    let NamedSource { name, live } = live_source(alloc, target.get(), f)?;
     match check_source_places(alloc, target, live) {
         Ok(live) => Ok(ServedSource { name, live }),
         Err(stop) => Err(FunctionStop::of_places(name, stop)),

@@ -8,9 +8,9 @@ ghost use Rattle.mir_text.specs.Document.{Spells};
 ghost use Rattle.pipeline.specs.Guarded.Function.{IsTextFor};
 
 use mir_func::Func;
-use mir_text::{Doc, LATER, TextStop, print_doc, read_doc};
+use mir_text::{Doc, DocReader, LATER, TextStop, print_doc};
 use std::alloc::{AllocError, Global};
-use target_base::{Bytes, Target};
+use target_base::Bytes;
 
 /// The most bytes of a document that can be read.
 const MOST_BYTES: usize = 4_194_304;
@@ -50,15 +50,15 @@ fn function_alone(doc: Doc) -> Option<Func>
 /// The function that a text spells alone, if it spells one with these key lines.
 fn read_alone(
     alloc: Global,
-    target: &Target,
+    reader: &DocReader,
     text: &[u8],
     head: &[u8],
 ) -> Result<Option<Func>, AllocError>
     requires { length text.now ≤ 4194304 }
-    ensures spells { IfOk result (λ made. IfSome made (λ f. Spells target.now false 1 text.now (docs.Function [] f))) }
+    ensures spells { IfOk result (λ made. IfSome made (λ f. Spells reader.now false 1 text.now (docs.Function [] f))) }
     ensures head { IfOk result (λ made. IfSome made (λ f. same_numbers f.head head.now ≡ true)) }
 {
-    match read_doc(alloc, target, LATER, 1, text) {
+    match reader.read(alloc, LATER, 1, text) {
         Ok(doc) => match function_alone(doc) {
             Some(f) => {
                 if same_text(f.head.as_slice(), head) {
@@ -80,20 +80,20 @@ fn read_alone(
 #[tactic(auto, using(crate::proofs::GuardLemmas::Texts::texts))]
 pub(crate) fn print_and_read(
     alloc: Global,
-    target: &Target,
+    reader: &DocReader,
     f: Func,
 ) -> Result<Option<Allocation>, AllocError>
-    ensures { IfOk result (λ made. IfSome made (λ a. IsTextFor target.now a.func a.text)) }
+    ensures { IfOk result (λ made. IfSome made (λ a. IsTextFor reader.now a.func a.text)) }
 {
     let doc = Doc::Function(Bytes::new(alloc), f);
-    let text = print_doc(alloc, target, &doc)?;
+    let text = print_doc(alloc, reader.target(), &doc)?;
     let Some(f) = function_alone(doc) else {
         return Ok(None);
     };
     if text.as_slice().len() > MOST_BYTES {
         return Ok(Some(Allocation { func: f, text }));
     }
-    match read_alone(alloc, target, text.as_slice(), f.head.as_slice())? {
+    match read_alone(alloc, reader, text.as_slice(), f.head.as_slice())? {
         Some(func) => Ok(Some(Allocation { func, text })),
         None => Ok(None),
     }

@@ -12,13 +12,13 @@ use live_lanes::LiveFunc;
 use machine_verify::LiveSource;
 use place_solve::{PlaceStop, check_live_places};
 use std::alloc::Global;
-use target_base::Target;
+use target_base::{Shared, Target};
 
 /// A source with what is live in it, where each of its places has few enough variables and admits a
 /// choice; else the first place that has too many, or that admits none.
 pub fn check_source_places(
     alloc: Global,
-    target: &Target,
+    target: &Shared<Target>,
     source: LiveSource,
 ) -> Result<LiveFunc, PlaceStop>
     requires { IsComputed target.now source.source.func source.table.table }
@@ -29,7 +29,7 @@ pub fn check_source_places(
     ensures serve_at_ok { OnOk result (AreClasses target.now source.source.func → IsValid target.now forms.Source source.source.func → PlacesServe target.now source.source.func) }
     ensures unassignable { IfErr result (own.IfUnassignable (λ p. AreClasses target.now source.source.func → IsValid target.now forms.Source source.source.func → FirstPlace target.now source.source.func (λ q. Admits target.now source.source.func q → ⊥) p)) }
 {
-    let live = source.into_live(alloc, target)?;
+    let live = source.into_live(target)?;
     match check_live_places(alloc, &live) {
         Ok(()) => Ok(live),
         Err(stop) => Err(stop),

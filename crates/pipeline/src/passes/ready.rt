@@ -15,7 +15,7 @@ use machine_verify::VerifyStop;
 use mir_func::{Func, Valid};
 use phi_elim::lower_phis;
 use std::alloc::{AllocError, Global};
-use target_base::Target;
+use target_base::{Shared, Target};
 use two_address::lower_tied;
 
 /// A function in lowered form whose copies were tried for joins.
@@ -53,19 +53,19 @@ pub fn prepare(alloc: Global, target: &Target, source: LiveFunc) -> Result<Prepa
 /// nothing is known: never seen.
 pub fn live_anew(
     alloc: Global,
-    target: &Target,
+    target: &Shared<Target>,
     made: PreparedFunc,
 ) -> Result<Option<PreparedFunc>, AllocError>
     ensures { IfOk result (λ again. IfSome again (λ now. IsLive target.now now × (now.freqs ≡ made.freqs))) }
 {
     let PreparedFunc { live, freqs } = made;
     let f = live.into_func();
-    if !fits(target, &f) {
+    if !fits(target.get(), &f) {
         return Ok(None);
     }
-    match verify_live(alloc, target, f) {
+    match verify_live(alloc, target.get(), f) {
         Ok(source) => {
-            let live = source.into_live(alloc, target)?;
+            let live = source.into_live(target)?;
             Ok(Some(PreparedFunc { live, freqs }))
         }
         Err(VerifyStop::Invalid(_)) => Ok(None),

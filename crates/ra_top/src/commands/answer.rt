@@ -42,7 +42,7 @@ pub struct Task<'a> {
     /// What is done with each document.
     pub job: Job<'a>,
     /// The reader of documents over the target.
-    pub reader: &'a DocReader<'a>,
+    pub reader: &'a DocReader,
 }
 
 /// A run of an allocator over a function.
@@ -101,7 +101,7 @@ pub fn answer_at<W: Watcher>(
     match doc_at(task.alloc, task.reader, spot, piece) {
         Ok(doc) => {
             let target = task.reader.target();
-            at_document(task.alloc, task.job, target, doc, number, watchers)
+            at_document(task, target, doc, number, watchers)
         }
         Err(Refusal::By(status, detail)) => Ok(Answer::Refused(status, detail)),
         Err(Refusal::Memory(e)) => Err(e),

@@ -8,7 +8,7 @@ ghost use Rattle.ra_top.specs.Commands.Told as watched;
 ghost use Rattle.ra_top.specs.Commands.Told.{next_number, ToldAnswer, ToldOne, IsEndOf};
 ghost use Rattle.ra_top.specs.Commands.Documents.{DocFits, IsDocAnswer, IsAllocAnswer, IsEndText, tells, text_of_lines};
 
-use crate::commands::answer::{AllocatorRun, Answer, Job};
+use crate::commands::answer::{AllocatorRun, Answer, Job, Task};
 use crate::commands::intervals::intervals_of;
 use crate::commands::refusal::refused;
 use crate::commands::run::at_named;
@@ -16,7 +16,7 @@ use crate::commands::told::lines_of;
 use crate::commands::trace::trace_function;
 use crate::commands::verify::verified_function;
 use mir_func::Func;
-use mir_text::Doc;
+use mir_text::{Doc, DocReader};
 use pipeline::guarded::allocate_function;
 use std::alloc::{AllocError, Global};
 use target_base::{Bytes, Target};
@@ -26,18 +26,18 @@ use watchers::Watcher;
 /// of an allocator.
 fn allocated_function<W: Watcher>(
     alloc: Global,
-    target: &Target,
+    reader: &DocReader,
     before: Bytes,
     f: Func,
     run: AllocatorRun,
     watchers: &mut Vec<W>,
 ) -> Result<Answer, AllocError>
-    requires { FitsTarget target.now f }
-    ensures answer { IfOk result (IsAllocAnswer target.now before f) }
-    ensures told { IfOk result (ToldOne (W.next target.now) run.number watchers.old.items watchers.new.items) }
-    ensures part { OnErr result (ToldPart (W.next target.now) watchers.old.items watchers.new.items) }
+    requires { FitsTarget reader.now f }
+    ensures answer { IfOk result (IsAllocAnswer reader.now before f) }
+    ensures told { IfOk result (ToldOne (W.next reader.now) run.number watchers.old.items watchers.new.items) }
+    ensures part { OnErr result (ToldPart (W.next reader.now) watchers.old.items watchers.new.items) }
 {
-    match allocate_function(alloc, target, f, run.allocator, run.number, watchers) {
+    match allocate_function(alloc, reader, f, run.allocator, run.number, watchers) {
         Ok(made) => {
             let mut text = before;
             text.extend(made.text.as_slice())?;
@@ -71,35 +71,36 @@ fn at_lines(alloc: Global, job: Job, lines: Bytes) -> Bytes
     }
 }
 
-/// What is answered at a document.
+/// What is answered at a document, over the target of the task's reader.
 pub fn at_document<W: Watcher>(
-    alloc: Global,
-    job: Job,
+    task: Task<'_>,
     target: &Target,
     doc: Doc,
     number: &mut u32,
     watchers: &mut Vec<W>,
 ) -> Result<Answer, AllocError>
-    requires { DocFits target.now doc }
-    ensures answer { IfOk result (IsDocAnswer job.entry target.now doc) }
-    ensures leaves { tells job.entry ≡ false → watchers.new ≡ watchers.old }
-    ensures told { tells job.entry ≡ true → IfOk result (ToldAnswer (W.next target.now) doc number.old number.new watchers.old.items watchers.new.items) }
+    requires same { target.now ≡ task.entry.reader.now }
+    requires fits { DocFits target.now doc }
+    ensures answer { IfOk result (IsDocAnswer task.entry.job target.now doc) }
+    ensures leaves { tells task.entry.job ≡ false → watchers.new ≡ watchers.old }
+    ensures told { tells task.entry.job ≡ true → IfOk result (ToldAnswer (W.next target.now) doc number.old number.new watchers.old.items watchers.new.items) }
     ensures part { OnErr result (ToldPart (W.next target.now) watchers.old.items watchers.new.items) }
 {
+    let Task { alloc, job, reader } = task;
     match doc {
         Doc::Function(before, f) => match job {
             Job::Alloc(allocator) => {
                 let number = next(number);
                 let run = AllocatorRun { allocator, number };
-                allocated_function(alloc, target, before, f, run, watchers)
+                allocated_function(alloc, reader, before, f, run, watchers)
             }
             Job::Verify(form) => verified_function(alloc, target, form, f),
             Job::Run(name, n, seed) => at_named(alloc, target, name, n, seed, f),
-            Job::Intervals => intervals_of(alloc, target, f),
+            Job::Intervals => intervals_of(alloc, reader.shared_target(), f),
             Job::Trace(allocator) => {
                 let number = next(number);
                 let run = AllocatorRun { allocator, number };
-                trace_function(alloc, target, f, run, watchers)
+                trace_function(alloc, reader.shared_target(), f, run, watchers)
             }
         },
         Doc::Ir(lines) => Ok(Answer::Text(at_lines(alloc, job, lines))),

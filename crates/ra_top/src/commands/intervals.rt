@@ -13,13 +13,13 @@ use mir_func::Func;
 use pipeline::guarded::{FunctionStop, ServedSource, served_source};
 use pipeline::passes::{PreparedFunc, live_anew, prepare};
 use std::alloc::{AllocError, Global};
-use target_base::{Bytes, Target};
+use target_base::{Bytes, Shared, Target};
 
 /// The text of what is live where in a function of a name that was made ready for the allocator's run.
 /// None where the function isn't valid any more: never seen.
 fn text_of_ready(
     alloc: Global,
-    target: &Target,
+    target: &Shared<Target>,
     name: &[u8],
     made: PreparedFunc,
 ) -> Result<Option<Bytes>, AllocError>
@@ -28,7 +28,7 @@ fn text_of_ready(
     let again = live_anew(alloc, target, made)?;
     match again {
         Some(now) => {
-            let text = text_of_intervals(alloc, target, name, &now)?;
+            let text = text_of_intervals(alloc, target.get(), name, &now)?;
             Ok(Some(text))
         }
         None => Ok(None),
@@ -37,14 +37,14 @@ fn text_of_ready(
 
 /// The text of what is live where in a function once it is made ready for the allocator's run.
 #[tactic(auto, using(crate::proofs::CommandLemmas::Causes::no_ranges_before))]
-fn text_of(alloc: Global, target: &Target, f: Func) -> Result<Bytes, FunctionStop>
+fn text_of(alloc: Global, target: &Shared<Target>, f: Func) -> Result<Bytes, FunctionStop>
     requires { FitsTarget target.now f }
     ensures ok { IfOk result (λ text. IsTaken target.now f × PlacesServe target.now f × IsIntervals target.now f f.name text) }
     ensures err { IfErr result (IfRefused target.now f) }
     ensures early { IfErr result IfNoRanges }
 {
     let ServedSource { name, live } = served_source(alloc, target, f)?;
-    let made = prepare(alloc, target, live)?;
+    let made = prepare(alloc, target.get(), live)?;
     let text = text_of_ready(alloc, target, name.as_slice(), made)?;
     match text {
         Some(text) => Ok(text),
@@ -54,7 +54,11 @@ fn text_of(alloc: Global, target: &Target, f: Func) -> Result<Bytes, FunctionSto
 
 /// What is live where in a function once it is made ready for the allocator's run.
 #[tactic(auto, using(crate::proofs::CommandLemmas::Causes::intervals_refused))]
-pub(crate) fn intervals_of(alloc: Global, target: &Target, f: Func) -> Result<Answer, AllocError>
+pub(crate) fn intervals_of(
+    alloc: Global,
+    target: &Shared<Target>,
+    f: Func,
+) -> Result<Answer, AllocError>
     requires { FitsTarget target.now f }
     ensures { IfOk result (IsIntervalsAnswer target.now f) }
 {

@@ -14,14 +14,14 @@ use mir_func::Func;
 use pipeline::guarded::{FunctionStop, ServedSource, served_source};
 use pipeline::passes::with_registers;
 use std::alloc::{AllocError, Global};
-use target_base::{Bytes, Target};
+use target_base::{Bytes, Shared, Target};
 use watchers::Watcher;
 
 /// Allocates a function by a run of an allocator, for the watchers. Nothing is written of it, so that
 /// the checker of allocations isn't asked.
 fn run_over<W: Watcher>(
     alloc: Global,
-    target: &Target,
+    target: &Shared<Target>,
     f: Func,
     run: AllocatorRun,
     watchers: &mut Vec<W>,
@@ -34,14 +34,14 @@ fn run_over<W: Watcher>(
 {
     let ServedSource { live, .. } = served_source(alloc, target, f)?;
     let AllocatorRun { allocator, number } = run;
-    with_registers(alloc, target, live, allocator, number, watchers)?;
+    with_registers(alloc, target.get(), live, allocator, number, watchers)?;
     Ok(())
 }
 
 /// Allocates a function by a run of an allocator, for the watchers.
 pub(crate) fn trace_function<W: Watcher>(
     alloc: Global,
-    target: &Target,
+    target: &Shared<Target>,
     f: Func,
     run: AllocatorRun,
     watchers: &mut Vec<W>,

@@ -10,6 +10,7 @@ ghost use Rattle.target_base.specs.Mini.{mini_target};
 use crate::generator::generate;
 use crate::report::summary::ran::summary;
 use mir_func::Func;
+use mir_text::DocReader;
 use pipeline::guarded::{Allocator, FunctionStop, Watcher, allocate_function};
 use std::alloc::Global;
 use target_base::{Bytes, Target, mini};
@@ -29,7 +30,8 @@ fn text_of<W: Watcher>(
     ensures part { OnErr result (ToldPart (W.next target.now) watchers.old.items watchers.new.items) }
 {
     let copy = source.copy(alloc)?;
-    match allocate_function(alloc, target, copy, Allocator::Greedy, 0, watchers) {
+    let reader = DocReader::new(alloc, target)?;
+    match allocate_function(alloc, &reader, copy, Allocator::Greedy, 0, watchers) {
         Ok(made) => Ok(summary(alloc, target, seed, source, &made.func)?),
         Err(stop) => Err(stop),
     }

@@ -4,8 +4,8 @@ use Rattle.ra_top.proofs.CommandLemmas.Answered.{answer_at_doc}
 use Rattle.ra_top.proofs.CommandLemmas.Watched.{answer_of_piece}
 use Rattle.ra_top.proofs.commands.answer.answer_at.Goals as goal
 
-pub at_document-requires : goal.at_document-requires
-at_document-requires g c = rw c.target-target.ensures c.in-Ok.ensures.fits
+pub at_document-requires-clause-fits : goal.at_document-requires-clause-fits
+at_document-requires-clause-fits g c = rw c.target-target.ensures c.in-Ok.ensures.fits
 
 pub returns-in-Ok-clause-answer : goal.returns-in-Ok-clause-answer
 returns-in-Ok-clause-answer g c =

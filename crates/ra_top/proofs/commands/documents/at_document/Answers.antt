@@ -7,11 +7,14 @@ use Rattle.ra_top.proofs.commands.documents.at_document.Goals as goal
 
 pub returns-in-Alloc-clause-told : goal.returns-in-Alloc-clause-told
 returns-in-Alloc-clause-told g c = λ tells.
-    let next = g.W.Watcher.next c.args.target.now in
+    let next = g.W.Watcher.next c.args.task.reader.now in
     let old = c.args.watchers.now.items in
     let new = c.allocated_function.new.watchers.items in
-    rw c.in-Function.is (answer_of_one next c.in-Function.before c.in-Function.f c.allocated_function.result c.args.number.now c.next-number.new.number old new c.next-number.ensures.next
+    rw (c.requires.same, c.in-Function.is) (answer_of_one next c.in-Function.before c.in-Function.f c.allocated_function.result c.args.number.now c.next-number.new.number old new c.next-number.ensures.next
     (subst (λ n. IfOk c.allocated_function.result (ToldOne next n old new)) c.next-number.ensures.now c.allocated_function.ensures.told))
+
+pub returns-in-Alloc-clause-part : goal.returns-in-Alloc-clause-part
+returns-in-Alloc-clause-part g c = rw c.requires.same c.allocated_function.ensures.part
 
 pub returns-in-Trace-clause-told : goal.returns-in-Trace-clause-told
 returns-in-Trace-clause-told g c = λ tells.
