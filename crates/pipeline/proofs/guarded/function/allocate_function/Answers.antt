@@ -11,7 +11,7 @@ use Rattle.pipeline.proofs.guarded.function.allocate_function.Goals as goal
 pub returns-in_err-live-clause-err : goal.returns-in_err-live-clause-err
 returns-in_err-live-clause-err g c =
     let p = err_from_is_err_and c.from_residual.result c.from_residual.ensures.1 in
-    rw p.1 (subst (IfRefused c.args.reader.now c.args.f) (sym p.2) (rw c.target-target.ensures at c.in_err-live.ensures.err))
+    rw p.1 (subst (IfRefused c.args.reader.now c.args.f) (sym p.2) (rw c.shared_target.ensures at c.in_err-live.ensures.err))
 
 pub returns-in_err-live-clause-part : goal.returns-in_err-live-clause-part
 returns-in_err-live-clause-part g c = on_err c.from_residual.result (part_of_none (g.W.Watcher.next c.args.reader.now) c.args.watchers.now.items c.args.watchers.now.items refl)
@@ -22,7 +22,7 @@ returns-in_err-func-clause-part g c = on_err c.from_residual-in_err-func.result 
 pub returns-in_err-made-clause-err : goal.returns-in_err-made-clause-err
 returns-in_err-made-clause-err g c =
     let p = err_from_is_err_and c.from_residual-in_err-made.result c.from_residual-in_err-made.ensures.1 in
-    let ok = rw c.target-target.ensures at c.in_ok-live.ensures.ok in
+    let ok = rw c.shared_target.ensures at c.in_ok-live.ensures.ok in
     rw p.1 (refused_late c.args.reader.now c.args.f c.in_err-made.field-0.0 p.0 p.2 ok.2 ok.3)
 
 pub returns-in_err-made-clause-untold : goal.returns-in_err-made-clause-untold
@@ -43,7 +43,7 @@ returns-in_err-made-2-clause-part g c =
 
 pub returns-in-Some-clause-ok : goal.returns-in-Some-clause-ok
 returns-in-Some-clause-ok g c =
-    let ok = rw c.target-target.ensures at c.in_ok-live.ensures.ok in
+    let ok = rw c.shared_target.ensures at c.in_ok-live.ensures.ok in
     let same = c.in_ok-func.ensures ∙ (c.func.ensures ∙ c.in_ok-live.ensures.ok.1) in
     record {
       taken = ok.2;
@@ -52,7 +52,7 @@ returns-in-Some-clause-ok g c =
     }
 
 pub returns-clause-err : goal.returns-clause-err
-returns-clause-err g c = let ok = rw c.target-target.ensures at c.in_ok-live.ensures.ok in (ok.2, ok.3)
+returns-clause-err g c = let ok = rw c.shared_target.ensures at c.in_ok-live.ensures.ok in (ok.2, ok.3)
 
 pub returns-clause-part : goal.returns-clause-part
 returns-clause-part g c =
