@@ -45,8 +45,10 @@ pub mod Built
 pub mod Parted
 pub mod Assembled
 pub mod Puts
-pub mod Away
 pub mod RulesStay
 pub mod CopyRules
 pub mod Eliminated
 pub mod Both
+pub mod Formed
+pub mod FormedTies
+pub mod LoweredForm

@@ -6,7 +6,7 @@ use Rattle.target_base.specs.declared.types.ClassId.{ClassId}
 use Rattle.target_base.specs.declared.types.Effect.TheVariants as effects
 use Rattle.target_base.specs.declared.types.IndexId.{IndexId}
 use Rattle.target_base.specs.declared.types.Target.{Target}
-use Rattle.target_base.specs.Registers.{fits, lanes_of, widths_of_some}
+use Rattle.target_base.specs.Registers.{lanes_of, widths_of_some}
 use Rattle.target_base.specs.Rules.{is_copy, is_insert_subreg, is_reg_sequence}
 use Rattle.target_base.proofs.Tests.{first_of_both, second_of_both}
 use Rattle.meaning.specs.Code.{Silent}
@@ -57,8 +57,7 @@ use Rattle.live_laws.specs.Effects.Shaped.{AreClasses}
 use Rattle.mir_func.specs.Binding.{is_use}
 use Rattle.std.proofs.Common.{append_assoc, ◌<◌}
 use Rattle.two_address.specs.Lowered.{class_if, instr_classes, form_classes}
-use Rattle.two_address.specs.Sequences.{built}
-use Rattle.lowering_laws.proofs.Assembled.{AllFit, Works, given, given-written, gives, in-other, in-own, in-turn, into, undef-first as undef-first-of, upon}
+use Rattle.lowering_laws.proofs.Assembled.{AllFit, Works, given, given-written, in-other, in-own, in-turn, into, undef-first as undef-first-of, upon}
 use Rattle.lowering_laws.proofs.Built.{covered-undefined, old-not-new, whole_copy}
 use Rattle.lowering_laws.proofs.Defined.{named-once}
 use Rattle.lowering_laws.proofs.Found.{place, undefined-found, undefined-missed}

@@ -19,7 +19,6 @@ use Rattle.mir_meaning.specs.Registers.{located_lanes, numbers, range_widths}
 use Rattle.mir_meaning.specs.Items.{moved}
 use Rattle.live_laws.proofs.Effects.Lists.{lanes-apart, numbers-apart}
 use Rattle.live_laws.proofs.Effects.Moved.{Apart}
-use Rattle.lowering_laws.proofs.Places.{register}
 use Rattle.lowering_laws.proofs.Traced.{lanes_by}
 
 -- a copy into lanes that are apart

@@ -57,7 +57,7 @@ kind-of x p read = by (is_virtual p.tied_use.loc) refl p.tied_use.undef refl (sa
     by true g false u false s true r = aside g u (λ k. tie_by (g k) (u k) (s k) (r k))
     by true g false u false s false r = copied g u r (λ k. tie_by (g k) (u k) (s k) (r k))
 
-kind-number : (x : ℕ) (p : TiedPair) (read : Bool) (tie : Tie) → Kind x p read tie → tie.number ≡ p.number
+pub kind-number : (x : ℕ) (p : TiedPair) (read : Bool) (tie : Tie) → Kind x p read tie → tie.number ≡ p.number
 kind-number x p read tie (fixed g e) = ap (λ z. z.number) e
 kind-number x p read tie (blank g u e) = ap (λ z. z.number) e
 kind-number x p read tie (own g u l i e) = ap (λ z. z.number) e

@@ -11,6 +11,7 @@ use Rattle.mir_meaning.specs.Valid.{IsValid, shape_fault}
 use Rattle.live_laws.specs.Effects.Shaped.{AreClasses}
 use Rattle.phi_elim.specs.Phis.{phis_lowered}
 use Rattle.two_address.specs.Lowered.{lowered, ties_lowered}
+use Rattle.lowering_laws.specs.Form.{is_lowered}
 
 -- the function without phis does what a valid source does
 abbrev pub LoweredPhisRefine : Type 0
@@ -32,3 +33,7 @@ NoneLoweredAway = (t : Target) (f : Function) → shape_fault t forms.Source f �
 -- A valid source behind both passes does what it did. Its classes are the target's.
 abbrev pub LoweredRefine : Type 0
 LoweredRefine = (t : Target) (f : Function) → IsValid t forms.Source f → AreClasses t f → refines t f (lowered t f)
+
+-- And each of its instructions is in lowered form.
+abbrev pub LoweredForm : Type 0
+LoweredForm = (t : Target) (f : Function) → IsValid t forms.Source f → list_all (λ b. list_all (is_lowered t) b.instrs) (lowered t f).blocks ≡ true

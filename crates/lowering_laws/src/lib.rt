@@ -2,7 +2,7 @@
 //! that a check proves it.
 #![tactic(auto)]
 
-ghost use Rattle.lowering_laws.specs.Laws.{LoweredPhisRefine, LoweredRefine, LoweredTiedRefine, NoneLoweredAway, PhisAreGone};
+ghost use Rattle.lowering_laws.specs.Laws.{LoweredForm, LoweredPhisRefine, LoweredRefine, LoweredTiedRefine, NoneLoweredAway, PhisAreGone};
 
 /// A valid source without its phis does what it did.
 pub fn phis_law()
@@ -27,4 +27,10 @@ pub fn away_law()
 /// A valid source behind both passes, phis first and then ties, does what it did.
 pub fn lowered_law()
     ensures { LoweredRefine }
+{}
+
+/// And each of its instructions is in lowered form: none is lowered away, no definition is `undef`, no COPY
+/// has an `undef` source, and each tied use has its definition's register and index.
+pub fn form_law()
+    ensures { LoweredForm }
 {}

@@ -14,3 +14,7 @@ pub mod Laid
 pub mod Splitting
 pub mod Facing
 pub mod Others
+pub mod Marked
+pub mod Borders
+pub mod Offered
+pub mod Local

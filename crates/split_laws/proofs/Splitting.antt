@@ -83,7 +83,7 @@ module _ (t : Target) where
       go true x y = x
       go false x y = y
 
-  way-bare : (q : Function) → has_no_phis t q.blocks ≡ true → (n m : ℕ) → way t q n m ≡ bare m
+  pub way-bare : (q : Function) → has_no_phis t q.blocks ≡ true → (n m : ℕ) → way t q n m ≡ bare m
   way-bare q none n m = ap (λ ws. record { block = m; phis = ws }) (quiet-phis q n (instrs_of q.blocks m) (found-without-phis q.blocks m none))
 
   -- what follows an item is laid out

@@ -3,6 +3,7 @@
 #![tactic(auto)]
 
 ghost use Rattle.split_laws.specs.Laws.{SplitKeepsOthers, SplitRefines, SplitSharesRange};
+ghost use Rattle.split_laws.specs.Offers.{BlockLabelsAgree, CutLabelsAgree, LocalLabelsAgree, RegionLabelsAgree};
 
 /// A function with a range split does what it did, where labels agree on the ways between blocks.
 pub fn split_law()
@@ -17,4 +18,24 @@ pub fn others_law()
 /// Where a range was live one of its parts is, and no other part.
 pub fn parts_law()
     ensures { SplitSharesRange }
+{}
+
+/// The labels of a block split that is offered agree on the ways between blocks.
+pub fn block_law()
+    ensures { BlockLabelsAgree }
+{}
+
+/// So do those of a region split,
+pub fn region_law()
+    ensures { RegionLabelsAgree }
+{}
+
+/// those of a region split at least cost,
+pub fn cut_law()
+    ensures { CutLabelsAgree }
+{}
+
+/// and those of a local split.
+pub fn local_law()
+    ensures { LocalLabelsAgree }
 {}
