@@ -18,3 +18,12 @@ pub mod Numbers
 pub mod Paired
 pub mod Walked
 pub mod Further
+pub mod Begun
+pub mod Counterparts
+pub mod Carried
+pub mod Fallen
+pub mod Risen
+pub mod Others
+pub mod Lasted
+pub mod Refreshed
+pub mod Runs

@@ -10,3 +10,6 @@ pub mod Tables
 pub mod Chains
 pub mod Numbers
 pub mod Further
+pub mod Reasons
+pub mod Update
+pub mod Updated
