@@ -75,7 +75,7 @@ alive-only why (Some k) m e = go (cause_at why k) refl e
 
 -- pieces that are carried over
 
-live-same : {touched : Touched} {code : Code} {l b : ℕ} {c d : Cause} {o : Option ℕ} → IsCarried touched code l b c d o → is_live d ≡ true → d ≡ c
+pub live-same : {touched : Touched} {code : Code} {l b : ℕ} {c d : Cause} {o : Option ℕ} → IsCarried touched code l b c d o → is_live d ≡ true → d ≡ c
 live-same (carried e) live = e
 live-same (renewed {d = d} dead r) live = not-both (is_live d) live dead
 

@@ -16,7 +16,7 @@ use Rattle.live_lanes.proofs.Numbered.{among-cases, rises-above, rises-across, r
 use Rattle.live_lanes.proofs.Sound.{splits, Splits}
 use Rattle.edit_laws.specs.Chains.{Node, cause_at}
 use Rattle.edit_laws.specs.Reasons.{IsReason, for_move, for_exit, for_end, Touched, IsNew, AreEdited, edit_none, edit_stays, edit_comes, IsEditOf, Begins, AreCarried, AreListed}
-use Rattle.edit_laws.specs.Update.{KeepLives, LeadsInto, LastingLaw}
+use Rattle.edit_laws.specs.Update.{LastingLaw}
 use Rattle.edit_laws.proofs.Begun.{one-split, one-start, one-number}
 use Rattle.edit_laws.proofs.Counterparts.{At, same-piece, Pair, pair-of, pair-to, at-end}
 use Rattle.edit_laws.proofs.Carried.{reason-moves, matched-written, moved-live, was-first, first-live, stays-live}
@@ -135,7 +135,8 @@ module _ (touched : Touched) (old new : Code) (slots slots' : Numbers) (numbered
   has-rank p (at_entry s r x firm) = let z = (held s r x).0 in omega (arith, z)
   has-rank p (at_exit s r x firm) = omega arith
 
-module _ (touched : Touched) (old new : Code) (slots slots' : Numbers) (was before after : Causes) (grown : IsGrown old was) (numbered : IsNumbered old slots) (numbered' : IsNumbered new slots') (matched-old : AllMatched old) (matched : AllMatched new) (edit : IsEditOf touched old new) (kept : AreCarried touched old new was before) (list changed : List Node) (listed : AreListed touched new list) (lives : KeepLives changed before after) (l b m n : ℕ) (start : Option ℕ) (x : Begins old l b m start) (y : Begins new l b n start) (out : Among {A = Node} (l, b, n) list → ⊥) (apart : LeadsInto new changed (l, b, n) → ⊥) where
+-- where what the piece leads to is as live as before
+module _ (touched : Touched) (old new : Code) (slots slots' : Numbers) (was before after : Causes) (grown : IsGrown old was) (numbered : IsNumbered old slots) (numbered' : IsNumbered new slots') (matched-old : AllMatched old) (matched : AllMatched new) (edit : IsEditOf touched old new) (kept : AreCarried touched old new was before) (list : List Node) (listed : AreListed touched new list) (l b m n : ℕ) (start : Option ℕ) (x : Begins old l b m start) (y : Begins new l b n start) (out : Among {A = Node} (l, b, n) list → ⊥) (same-life : (c : Cause) (k : Node) → IsReason new l b n c (Some k) → cause_at after k ≡ cause_at before k) where
   abbrev PairIn : Step → Step → Type 0
   PairIn s r = Pair touched old new slots' numbered' edit list listed b s r
 
@@ -144,14 +145,6 @@ module _ (touched : Touched) (old new : Code) (slots slots' : Numbers) (was befo
 
   abbrev PointIn : PieceEnd → Type 0
   PointIn p = AtPoint touched old new slots slots' numbered numbered' edit list listed b p
-
-  -- what the piece leads to is as live as before
-  same-life : (c : Cause) (k : Node) → IsReason new l b n c (Some k) → cause_at after k ≡ cause_at before k
-  same-life c k r = go (lives k)
-    where
-      go : Among k changed ⊎ (cause_at after k ≡ cause_at before k) → cause_at after k ≡ cause_at before k
-      go (inl a) = absurd (apart (c, k, r, a))
-      go (inr e) = e
 
   old-at : (done done' : List Step) → AtIn done done' → writes_in l done' ≡ n → writes_in l done ≡ m
   old-at done done' at w = go at.agree
@@ -307,7 +300,7 @@ module _ (touched : Touched) (old new : Code) (slots slots' : Numbers) (was befo
       goes k w' c (same-life (causes.Follower k) (l, k, 0) reason ∙ up)
   counts-new (phi w a) = phi (new-at (steps_of old b) (steps_of new b) last-at w) (subst (Among l) (edit.last b) a)
 
-  lasting : (end : PieceEnd) → IsEnd old slots was l b m end → IsEnd new slots' after l b n end
+  pub lasting : (end : PieceEnd) → IsEnd old slots was l b m end → IsEnd new slots' after l b n end
   lasting end is = record { counts = counts is.counts; last = λ p c. last p c is.counts }
     where
       counts : (end ≡ ends.Never) ⊎ Counts old was l b m end → (end ≡ ends.Never) ⊎ Counts new after l b n end
@@ -328,4 +321,11 @@ module _ (touched : Touched) (old new : Code) (slots slots' : Numbers) (was befo
 
 pub lasting-law : LastingLaw
 lasting-law touched old new slots slots' was before after list changed grown numbered numbered' matched-old matched edit kept listed lives l b m n start x y out apart end is =
-    lasting touched old new slots slots' was before after grown numbered numbered' matched-old matched edit kept list changed listed lives l b m n start x y out apart end is
+    lasting touched old new slots slots' was before after grown numbered numbered' matched-old matched edit kept list listed l b m n start x y out same-life end is
+  where
+    same-life : (c : Cause) (k : Node) → IsReason new l b n c (Some k) → cause_at after k ≡ cause_at before k
+    same-life c k r = go (lives k)
+      where
+        go : Among k changed ⊎ (cause_at after k ≡ cause_at before k) → cause_at after k ≡ cause_at before k
+        go (inl a) = absurd (apart (c, k, r, a))
+        go (inr e) = e

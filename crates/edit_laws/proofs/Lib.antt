@@ -27,3 +27,8 @@ pub mod Others
 pub mod Lasted
 pub mod Refreshed
 pub mod Runs
+pub mod Recomputed
+pub mod Needs
+pub mod Asked
+pub mod Rechecked
+pub mod RowCause

@@ -13,3 +13,8 @@ pub mod Further
 pub mod Reasons
 pub mod Update
 pub mod Updated
+pub mod Recomputed
+pub mod Needs
+pub mod Asked
+pub mod Rechecked
+pub mod RowCause

@@ -1,6 +1,11 @@
 //! Laws of live pieces that are brought up to date after edits: what lost its cause falls, and what has
 //! a reason comes alive again.
 
+ghost use Rattle.edit_laws.specs.Asked.{AsksLaw};
+ghost use Rattle.edit_laws.specs.Needs.{NeedsLaw, NeedsServeLaw};
+ghost use Rattle.edit_laws.specs.Rechecked.{CertainCauseLaw, HeldLaw};
+ghost use Rattle.edit_laws.specs.Recomputed.{RecomputedLaw, TableRecomputedLaw};
+ghost use Rattle.edit_laws.specs.RowCause.{RowCauseLaw};
 ghost use Rattle.edit_laws.specs.Update.{GoneLaw, LastingLaw, OthersLaw, RunsFollow, UpdateLaw};
 ghost use Rattle.edit_laws.specs.Updated.{TableUpdateLaw};
 
@@ -34,4 +39,46 @@ pub fn table_update_law()
 /// Runs of such steps follow one another, and so do lists of pieces of which reasons are asked for.
 pub fn runs_law()
     ensures { RunsFollow }
+{}
+
+/// Each piece has its end where those of the pieces concerned are computed anew and all others stay.
+pub fn recomputed_law()
+    ensures { RecomputedLaw }
+{}
+
+/// A computed table is one of an edited function where its causes are brought up to date so, and the
+/// ends of the pieces concerned are computed anew.
+pub fn table_recomputed_law()
+    ensures { TableRecomputedLaw }
+{}
+
+/// What leads to a piece as a table tells it is what does.
+pub fn needs_law()
+    ensures { NeedsLaw }
+{}
+
+/// It may be asked for where the piece came alive; and where it fell, nothing is live for its sake once
+/// none of these has its cause.
+pub fn needs_serve_law()
+    ensures { NeedsServeLaw }
+{}
+
+/// The reasons that count as a table tells them are those that do, so that what is asked for is found.
+pub fn asks_law()
+    ensures { AsksLaw }
+{}
+
+/// A cause that holds as before, as a table tells it, does.
+pub fn held_law()
+    ensures { HeldLaw }
+{}
+
+/// The certain cause of a piece is a reason that rests on no other piece, where there is one.
+pub fn certain_cause_law()
+    ensures { CertainCauseLaw }
+{}
+
+/// Rows in which a piece gets another cause tell the causes that such a step leaves.
+pub fn row_cause_law()
+    ensures { RowCauseLaw }
 {}
