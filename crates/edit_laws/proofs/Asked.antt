@@ -17,8 +17,7 @@ use Rattle.live_lanes.proofs.Coded.{has-among, among-has}
 use Rattle.live_lanes.proofs.Numbered.{among-cases}
 use Rattle.live_lanes.proofs.Whole.{piece-readings, readings-there}
 use Rattle.edit_laws.specs.Chains.{Node}
-use Rattle.edit_laws.specs.Reasons.{IsReason, for_reading, for_move, for_exit, for_end, for_phi, ReasonFor, counts}
-use Rattle.edit_laws.specs.Update.{Request, HasReason}
+use Rattle.edit_laws.specs.Reasons.{IsReason, for_reading, for_move, for_exit, for_end, for_phi, counts}
 use Rattle.edit_laws.specs.Asked.{IsFound, found_phi, found_reading, found_move, found_exit, found_end, AsksLaw}
 use Rattle.edit_laws.proofs.Carried.{reason-moves, matched-written}
 use Rattle.edit_laws.proofs.Needs.{reads-in, moved-use, count-is, readings-are, entry-at, exit-at, read-there}

@@ -2,7 +2,7 @@
 use Rattle.std.proofs.Common.{◌≡◌, ◌⊎◌, ℕ, zero, suc, true, length, List, [], ◌∷◌, ◌++◌, Option, None, Some, refl, sym, ap, ◌∙◌, subst, inl, inr, arith, map, append_assoc}
 use Rattle.std.specs.Prelude.{slice_get, option_map}
 use Rattle.std.proofs.lemmas.List.{length-map}
-use Rattle.mir_meaning.specs.Paths.{Among, here, Step, Code, steps_of, exits_of, Use, Unused, Certain, Into, use_of, is_written, is_present}
+use Rattle.mir_meaning.specs.Paths.{Among, here, Step, Code, steps_of, Use, Unused, Certain, Into, use_of, is_written, is_present}
 use Rattle.live_lanes.specs.declared.compute.flow.BlockFlow.{BlockFlow}
 use Rattle.live_lanes.specs.declared.row.Cause.{Cause}
 use Rattle.live_lanes.specs.declared.row.Cause.TheVariants as causes
@@ -21,7 +21,7 @@ use Rattle.live_lanes.proofs.Whole.{piece-readings, readings-there}
 use Rattle.edit_laws.specs.Chains.{Node}
 use Rattle.edit_laws.specs.Reasons.{IsReason, for_reading, for_move, for_exit, for_end, for_phi, ReasonFor, cause_of}
 use Rattle.edit_laws.specs.Update.{Request, Wanted}
-use Rattle.edit_laws.specs.Needs.{IsNeed, need_end, need_exit, need_move, AreNeeds, NeedsLaw, NeedsServe, NeedsServeLaw}
+use Rattle.edit_laws.specs.Needs.{IsNeed, need_end, need_exit, need_move, NeedsLaw, NeedsServeLaw}
 use Rattle.edit_laws.proofs.Begun.{one-split}
 use Rattle.edit_laws.proofs.Carried.{reason-moves}
 
@@ -30,12 +30,12 @@ some-node n m e = cc
 
 -- elements of lists that are made of others
 
-map-get : {X Y : Type 0} (f : X → Y) (xs : List X) (k : ℕ) (x : X) → slice_get xs k ≡ Some x → slice_get (map f xs) k ≡ Some (f x)
+pub map-get : {X Y : Type 0} (f : X → Y) (xs : List X) (k : ℕ) (x : X) → slice_get xs k ≡ Some x → slice_get (map f xs) k ≡ Some (f x)
 map-get f [] k x e = absurd (cc)
 map-get f (y ∷ xs) zero x e = let z : y ≡ x = cc in ap (λ t. Some (f t)) z
 map-get f (y ∷ xs) (suc k) x e = map-get f xs k x e
 
-get-map : {X Y : Type 0} (f : X → Y) (xs : List X) (k : ℕ) (y : Y) → slice_get (map f xs) k ≡ Some y → (x : X) × (slice_get xs k ≡ Some x) × (f x ≡ y)
+pub get-map : {X Y : Type 0} (f : X → Y) (xs : List X) (k : ℕ) (y : Y) → slice_get (map f xs) k ≡ Some y → (x : X) × (slice_get xs k ≡ Some x) × (f x ≡ y)
 get-map f [] k y e = absurd (cc)
 get-map f (x ∷ xs) zero y e = (x, refl, cc)
 get-map f (x ∷ xs) (suc k) y e = get-map f xs k y e

@@ -21,9 +21,9 @@ use Rattle.live_lanes.proofs.Whole.{piece-readings, readings-there}
 use Rattle.edit_laws.specs.Chains.{Node}
 use Rattle.edit_laws.specs.Reasons.{IsReason, for_reading, for_move, for_exit, for_end, for_phi, Touched, IsEditOf, IsKept, AreCarried, AreListed}
 use Rattle.edit_laws.specs.Update.{Holds, holds_dead, holds_reading, holds_exit, holds_end}
-use Rattle.edit_laws.specs.Rechecked.{IsHeld, held_dead, held_reading, held_exit, held_end, HeldLaw, IsCertainCause, CertainCauseLaw}
+use Rattle.edit_laws.specs.Rechecked.{IsHeld, held_dead, held_reading, held_exit, held_end, HeldLaw, ListedLaw, CertainCauseLaw}
 use Rattle.edit_laws.proofs.Carried.{reason-moves, live-same}
-use Rattle.edit_laws.proofs.Counterparts.{Pair, pair-of}
+use Rattle.edit_laws.proofs.Counterparts.{pair-of}
 use Rattle.edit_laws.proofs.Needs.{reads-in, count-is, readings-are, entry-at, exit-at}
 
 some-use : (x y : LaneUse) → Some x ≡ Some y → x ≡ y
@@ -89,6 +89,12 @@ module _ (touched : Touched) (old new : Code) (slots : Numbers) (flow : List Blo
 
 pub held-law : HeldLaw
 held-law touched old new slots flow was rows list grown t edit kept listed l b n h = held-holds touched old new slots flow was rows list grown t edit kept listed l b n h
+
+pub listed-law : ListedLaw
+listed-law touched code slots flow rows list t sides l b us s vs e h = (
+  subst (λ k. Among {A = Node} (l, b, k) list) (entry-at code slots flow rows t l b us s vs e) (sides l b s.id h).0,
+  subst (λ k. Among {A = Node} (l, b, k) list) (exit-at code slots flow rows t l b us s vs e) (sides l b s.id h).1,
+)
 
 -- the last element of a list that passes a test
 

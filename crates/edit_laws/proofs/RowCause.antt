@@ -1,14 +1,14 @@
 -- Rows in which a piece gets another cause tell it, and nothing else otherwise than before.
-use Rattle.std.proofs.Common.{◌≡◌, ◌<◌, ◌≤◌, ℕ, Bool, true, false, cond, ◌&&◌, length, List, refl, sym, ap, ◌∙◌, subst, eqb-true, eq-eqb}
+use Rattle.std.proofs.Common.{◌≡◌, ◌<◌, ℕ, Bool, true, false, cond, ◌&&◌, List, refl, sym, ap, ◌∙◌, subst, eqb-true, eq-eqb}
 use Rattle.std.specs.Prelude.{nat_eq}
 use Rattle.live_lanes.specs.declared.row.Cause.{Cause}
 use Rattle.live_lanes.specs.declared.row.LaneRange.{LaneRange}
 use Rattle.live_lanes.specs.Table.{Seen, cause_in, with_cause}
-use Rattle.live_lanes.specs.Entered.{Shape, shape, rows_seen, causes}
+use Rattle.live_lanes.specs.Entered.{shape, rows_seen, causes}
 use Rattle.live_lanes.proofs.Growth.{with-cause, shape-cause}
 use Rattle.edit_laws.specs.Chains.{Node, same_node}
 use Rattle.edit_laws.specs.Update.{given}
-use Rattle.edit_laws.specs.RowCause.{GivesCause, HasGiven, RowCauseLaw}
+use Rattle.edit_laws.specs.RowCause.{GivesCause, RowCauseLaw}
 
 -- equality of numbers is the same from both sides
 turned : (a b : ℕ) (u v : Bool) → nat_eq a b ≡ u → nat_eq b a ≡ v → u ≡ v
@@ -19,6 +19,15 @@ turned a b false true e f = sym e ∙ eq-eqb a b (sym (eqb-true b a f))
 
 eqb-turned : (a b : ℕ) → nat_eq a b ≡ nat_eq b a
 eqb-turned a b = turned a b (nat_eq a b) (nat_eq b a) refl refl
+
+pub node-turned : (n : Node) (l b k : ℕ) → (nat_eq n.0 l && (nat_eq n.1 b && nat_eq n.2 k)) ≡ same_node (l, b, k) n
+node-turned n l b k = λ i. eqb-turned n.0 l i && (eqb-turned n.1 b i && eqb-turned n.2 k i)
+
+-- what is at one place otherwise
+pub choose : {X : Type 0} (u v w : Bool) (c d e : X) → (u ≡ true → v ≡ true → c ≡ cond w d e) → cond (u && v) c e ≡ cond (u && (v && w)) d e
+choose true true w c d e h = h refl refl
+choose true false w c d e h = refl
+choose false v w c d e h = refl
 
 module _ (old new : List LaneRange) (n : Node) (cause : Cause) (g : GivesCause old new n cause) where
   abbrev own : Seen
@@ -31,24 +40,16 @@ module _ (old new : List LaneRange) (n : Node) (cause : Cause) (g : GivesCause o
       let y : n.1 ≡ b = eqb-true n.1 b f in
       with-cause own n.2 k cause g.within ∙ (λ i. cond (nat_eq n.2 k) cause (causes old (x i) (y i) k))
 
-  choose : (u v w : Bool) (c d e : Cause) → (u ≡ true → v ≡ true → c ≡ cond w d e) → cond (u && v) c e ≡ cond (u && (v && w)) d e
-  choose true true w c d e h = h refl refl
-  choose true false w c d e h = refl
-  choose false v w c d e h = refl
-
   seen-cause : (t : Bool) (l b k : ℕ) → cause_in (cond t (with_cause own n.2 cause) (rows_seen old l b)) k ≡ cond t (cause_in (with_cause own n.2 cause) k) (causes old l b k)
   seen-cause true l b k = refl
   seen-cause false l b k = refl
-
-  node-turned : (l b k : ℕ) → (nat_eq n.0 l && (nat_eq n.1 b && nat_eq n.2 k)) ≡ same_node (l, b, k) n
-  node-turned l b k = λ i. eqb-turned n.0 l i && (eqb-turned n.1 b i && eqb-turned n.2 k i)
 
   given-at : (l b k : ℕ) → causes new l b k ≡ given (causes old) n cause l b k
   given-at l b k =
       ap (λ v. cause_in v k) (g.seen l b)
       ∙ (seen-cause (nat_eq n.0 l && nat_eq n.1 b) l b k
       ∙ (choose (nat_eq n.0 l) (nat_eq n.1 b) (nat_eq n.2 k) (cause_in (with_cause own n.2 cause) k) cause (causes old l b k) (here-given l b k)
-      ∙ ap (λ u. cond u cause (causes old l b k)) (node-turned l b k)))
+      ∙ ap (λ u. cond u cause (causes old l b k)) (node-turned n l b k)))
 
   shapes-same : (l b : ℕ) → shape (rows_seen new l b) ≡ shape (rows_seen old l b)
   shapes-same l b = ap shape (g.seen l b) ∙ go (nat_eq n.0 l) (nat_eq n.1 b) refl refl

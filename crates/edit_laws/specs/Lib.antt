@@ -18,3 +18,5 @@ pub mod Needs
 pub mod Asked
 pub mod Rechecked
 pub mod RowCause
+pub mod CarriedRows
+pub mod RowEnd

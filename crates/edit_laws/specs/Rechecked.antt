@@ -28,6 +28,13 @@ HeldLaw =
     (touched : Touched) (old new : Code) (slots : Numbers) (flow : List BlockFlow) (was : Causes) (rows : List LaneRange) (list : List Node) → IsGrown old was
     → IsTableOf new slots flow rows → IsEditOf touched old new → AreCarried touched old new was (causes rows) → AreListed touched new list → (l b n : ℕ) → IsHeld touched slots flow rows l b n → Holds touched new (causes rows) l b n
 
+-- where the pieces on both sides of each touched instruction are listed as the table tells them, they are
+abbrev pub ListedLaw : Type 0
+ListedLaw =
+    (touched : Touched) (code : Code) (slots : Numbers) (flow : List BlockFlow) (rows : List LaneRange) (list : List Node) → IsTableOf code slots flow rows
+    → ((l b id : ℕ) → touched l b id ≡ true → Among {A = Node} (l, b, piece_in_rows slots rows l b (entry_rank slots id)) list × Among {A = Node} (l, b, piece_in_rows slots rows l b (exit_rank slots id)) list)
+    → AreListed touched code list
+
 -- The certain cause of a piece is a reason that rests on no other piece, and there is one where there is such a reason.
 pub record IsCertainCause (code : Code) (l b n : ℕ) (cause : Cause) : Type 0 where
   pub reason : is_live cause ≡ true → IsReason code l b n cause None

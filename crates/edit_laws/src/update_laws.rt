@@ -2,10 +2,12 @@
 //! a reason comes alive again.
 
 ghost use Rattle.edit_laws.specs.Asked.{AsksLaw};
+ghost use Rattle.edit_laws.specs.CarriedRows.{CarriedRowsLaw};
 ghost use Rattle.edit_laws.specs.Needs.{NeedsLaw, NeedsServeLaw};
-ghost use Rattle.edit_laws.specs.Rechecked.{CertainCauseLaw, HeldLaw};
+ghost use Rattle.edit_laws.specs.Rechecked.{CertainCauseLaw, HeldLaw, ListedLaw};
 ghost use Rattle.edit_laws.specs.Recomputed.{RecomputedLaw, TableRecomputedLaw};
 ghost use Rattle.edit_laws.specs.RowCause.{RowCauseLaw};
+ghost use Rattle.edit_laws.specs.RowEnd.{RowEndLaw};
 ghost use Rattle.edit_laws.specs.Update.{GoneLaw, LastingLaw, OthersLaw, RunsFollow, UpdateLaw};
 ghost use Rattle.edit_laws.specs.Updated.{TableUpdateLaw};
 
@@ -73,6 +75,12 @@ pub fn held_law()
     ensures { HeldLaw }
 {}
 
+/// Where the pieces on both sides of each touched instruction are listed as a table tells them, they
+/// are.
+pub fn listed_law()
+    ensures { ListedLaw }
+{}
+
 /// The certain cause of a piece is a reason that rests on no other piece, where there is one.
 pub fn certain_cause_law()
     ensures { CertainCauseLaw }
@@ -81,4 +89,14 @@ pub fn certain_cause_law()
 /// Rows in which a piece gets another cause tell the causes that such a step leaves.
 pub fn row_cause_law()
     ensures { RowCauseLaw }
+{}
+
+/// Causes and ends that are copied by the instructions that begin pieces are carried over.
+pub fn carried_rows_law()
+    ensures { CarriedRowsLaw }
+{}
+
+/// Rows in which a piece gets another end tell it, and nothing else otherwise than before.
+pub fn row_end_law()
+    ensures { RowEndLaw }
 {}
