@@ -34,3 +34,4 @@ pub mod Rechecked
 pub mod RowCause
 pub mod CarriedRows
 pub mod RowEnd
+pub mod Turned

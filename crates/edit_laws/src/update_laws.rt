@@ -8,6 +8,7 @@ ghost use Rattle.edit_laws.specs.Rechecked.{CertainCauseLaw, HeldLaw, ListedLaw}
 ghost use Rattle.edit_laws.specs.Recomputed.{RecomputedLaw, TableRecomputedLaw};
 ghost use Rattle.edit_laws.specs.RowCause.{RowCauseLaw};
 ghost use Rattle.edit_laws.specs.RowEnd.{RowEndLaw};
+ghost use Rattle.edit_laws.specs.Turned.{TurnedLaw};
 ghost use Rattle.edit_laws.specs.Update.{GoneLaw, LastingLaw, OthersLaw, RunsFollow, UpdateLaw};
 ghost use Rattle.edit_laws.specs.Updated.{TableUpdateLaw};
 
@@ -99,4 +100,9 @@ pub fn carried_rows_law()
 /// Rows in which a piece gets another end tell it, and nothing else otherwise than before.
 pub fn row_end_law()
     ensures { RowEndLaw }
+{}
+
+/// Of all pieces only those that fell or came alive may be live where they weren't, or the reverse.
+pub fn turned_law()
+    ensures { TurnedLaw }
 {}
