@@ -21,3 +21,4 @@ pub mod RowCause
 pub mod CarriedRows
 pub mod RowEnd
 pub mod Turned
+pub mod RowsUpdated

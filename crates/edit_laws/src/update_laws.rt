@@ -8,6 +8,7 @@ ghost use Rattle.edit_laws.specs.Rechecked.{CertainCauseLaw, HeldLaw, ListedLaw}
 ghost use Rattle.edit_laws.specs.Recomputed.{RecomputedLaw, TableRecomputedLaw};
 ghost use Rattle.edit_laws.specs.RowCause.{RowCauseLaw};
 ghost use Rattle.edit_laws.specs.RowEnd.{RowEndLaw};
+ghost use Rattle.edit_laws.specs.RowsUpdated.{RowsUpdateLaw};
 ghost use Rattle.edit_laws.specs.Turned.{TurnedLaw};
 ghost use Rattle.edit_laws.specs.Update.{GoneLaw, LastingLaw, OthersLaw, RunsFollow, UpdateLaw};
 ghost use Rattle.edit_laws.specs.Updated.{TableUpdateLaw};
@@ -105,4 +106,10 @@ pub fn row_end_law()
 /// Of all pieces only those that fell or came alive may be live where they weren't, or the reverse.
 pub fn turned_law()
     ensures { TurnedLaw }
+{}
+
+/// A computed table is one of an edited function where its rows are brought up to date so, from the
+/// copying of causes and ends up to the ends that are computed anew.
+pub fn rows_update_law()
+    ensures { RowsUpdateLaw }
 {}
