@@ -31,7 +31,7 @@ firm-law code why on firm l b n live = chained code why on firm (firm.ends (l, b
 
 -- equality of pieces
 
-same-is : (n m : Node) → same_node n m ≡ true → n ≡ m
+pub same-is : (n m : Node) → same_node n m ≡ true → n ≡ m
 same-is n m e =
     let h = and_parts (eqb n.0 m.0) (eqb n.1 m.1 && eqb n.2 m.2) e in
     let g = and_parts (eqb n.1 m.1) (eqb n.2 m.2) h.1 in
@@ -40,14 +40,14 @@ same-is n m e =
     let z = eqb-true n.2 m.2 g.1 in
     λ k. (x k, y k, z k)
 
-same-self : (n : Node) → same_node n n ≡ true
+pub same-self : (n : Node) → same_node n n ≡ true
 same-self n = and_from _ _ (eq-eqb n.0 n.0 refl) (and_from _ _ (eq-eqb n.1 n.1 refl) (eq-eqb n.2 n.2 refl))
 
 module _ (on : Notes) (k : Node) (v : Option Node) where
-  noted-here : (n : Node) → same_node n k ≡ true → noted on k v n ≡ v
+  pub noted-here : (n : Node) → same_node n k ≡ true → noted on k v n ≡ v
   noted-here n e = ap (λ u. cond u v (on n)) e
 
-  noted-there : (n : Node) → same_node n k ≡ false → noted on k v n ≡ on n
+  pub noted-there : (n : Node) → same_node n k ≡ false → noted on k v n ≡ on n
   noted-there n e = ap (λ u. cond u v (on n)) e
 
 -- a piece comes to rest on none

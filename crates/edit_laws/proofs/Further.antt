@@ -17,7 +17,7 @@ use Rattle.mir_func.specs.declared.func.Loc.{Loc}
 use Rattle.mir_func.specs.declared.func.Loc.TheVariants.{Fixed, Virtual}
 use Rattle.mir_func.specs.declared.func.RegOp.{RegOp}
 use Rattle.mir_func.specs.Value.{Function}
-use Rattle.mir_func.specs.Binding.{class_of, slot_at}
+use Rattle.mir_func.specs.Binding.{class_of}
 use Rattle.mir_meaning.specs.Registers.{located_lanes, located_widths, numbers, range_lanes, whole_lanes}
 use Rattle.mir_meaning.specs.Rules.{has_class}
 use Rattle.instr_effects.specs.declared.lanes.LaneTable.{LaneTable}

@@ -1,5 +1,5 @@
 -- What an instruction does to numbered lanes, in two functions by two numberings that agree on its operands.
-use Rattle.std.proofs.Common.{◌≡◌, ◌∷◌, ◌++◌, ◌∙◌, ◌&&◌, not, ℕ, suc, ◌+◌, Bool, true, false, cond, List, [], Option, Some, None, refl, sym, ap, subst, map, filter, filter_map, flat_map, sum, length}
+use Rattle.std.proofs.Common.{◌≡◌, ◌∷◌, ◌++◌, ◌∙◌, ◌&&◌, not, ℕ, suc, ◌+◌, Bool, true, false, cond, List, [], Option, Some, None, refl, sym, ap, subst, map, filter, filter_map, sum, length}
 use Rattle.std.specs.Prelude.{ℤ, nat_abs, option_and_then}
 use Rattle.std.specs.List.{cons_option}
 use Rattle.std.proofs.lemmas.List.Elements.{filter_map-append}
@@ -13,7 +13,7 @@ use Rattle.target_base.specs.Rules.{is_phi}
 use Rattle.meaning.specs.declared.types.Constant.{Constant}
 use Rattle.meaning.specs.declared.types.Constant.TheVariants.{Immediate, StackAddress, FixedStackAddress, SymbolAddress}
 use Rattle.meaning.specs.declared.types.Lane.{Lane}
-use Rattle.meaning.specs.declared.types.Lane.TheVariants.{SlotLane, UnitLane}
+use Rattle.meaning.specs.declared.types.Lane.TheVariants.{UnitLane}
 use Rattle.meaning.specs.declared.types.Fill.TheVariants.{Computed, Moved}
 use Rattle.meaning.specs.declared.types.Source.{Source}
 use Rattle.meaning.specs.declared.types.Source.TheVariants.{FromLane, Undef}
@@ -28,8 +28,8 @@ use Rattle.mir_func.specs.declared.func.Operand.TheVariants as operands
 use Rattle.mir_func.specs.declared.func.RegOp.{RegOp}
 use Rattle.mir_func.specs.Value.{Function}
 use Rattle.mir_func.specs.Binding.{Definition, as_register, definitions, does, effect_of, explicit_operands, immediate_of, implicit_registers, implicit_roles, is_early_clobber, is_implicit_operand, is_terminator, registers, roles_of, slot_at}
-use Rattle.mir_meaning.specs.Registers.{located_lanes, located_widths, operand_lanes, operand_widths, slot_lane_numbers, slot_lanes, undefined_lanes, use_sources, whole_lanes}
-use Rattle.mir_meaning.specs.Items.{Value, all_lanes, computed, computes_with_immediates, constant_bits, constant_lanes, constant_of, constant_value, copied, defined, defined_undef, explicit_definitions, first_width, flag_value, given_constant, has_base, implicit_definitions, implicit_values, is_flags, lanes_beside, moved, reloaded, results, silent_reads, undefined, use_value, uses, value_of, values, write}
+use Rattle.mir_meaning.specs.Registers.{located_lanes, operand_lanes, operand_widths, slot_lane_numbers, slot_lanes, undefined_lanes, use_sources, whole_lanes}
+use Rattle.mir_meaning.specs.Items.{Value, computed, computes_with_immediates, constant_bits, constant_lanes, constant_of, constant_value, copied, defined, defined_undef, first_width, flag_value, given_constant, has_base, implicit_definitions, implicit_values, is_flags, lanes_beside, moved, reloaded, results, silent_reads, undefined, use_value, uses, value_of, values, write}
 use Rattle.instr_effects.specs.declared.owner.Owner.{Owner}
 use Rattle.instr_effects.specs.declared.owner.Owner.TheVariants as owners
 use Rattle.instr_effects.specs.Acts.{act_of, acts_of, call_writes, counted_acts, effect_acts, effect_reads, entered_reads, entered_writes, filled_whole, is_call, read_owners, silent_acts, stored, unpreserved}

@@ -10,3 +10,15 @@ pub mod Tables
 pub mod Chains
 pub mod Numbers
 pub mod Further
+pub mod Reasons
+pub mod Update
+pub mod Updated
+pub mod Recomputed
+pub mod Needs
+pub mod Asked
+pub mod Rechecked
+pub mod RowCause
+pub mod CarriedRows
+pub mod RowEnd
+pub mod Turned
+pub mod RowsUpdated

@@ -1,5 +1,5 @@
 -- Whether two instructions treat a lane alike, told by tests, and the lanes that an edit concerns.
-use Rattle.std.specs.Prelude.{◌≡◌, ◌&&◌, Bool, false, List, ◌++◌}
+use Rattle.std.specs.Prelude.{◌≡◌, ◌&&◌, Bool, false, ◌++◌}
 use Rattle.std.specs.Bool.{beq}
 use Rattle.std.specs.List.{list_all, list_any}
 use Rattle.target_base.specs.declared.types.Target.{Target}

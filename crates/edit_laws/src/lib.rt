@@ -5,3 +5,4 @@
 pub mod chain_laws;
 pub mod point_laws;
 pub mod table_laws;
+pub mod update_laws;
