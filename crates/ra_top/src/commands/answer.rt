@@ -99,10 +99,7 @@ pub fn answer_at<W: Watcher>(
     ensures part { OnErr result (ToldPart (W.next task.entry.reader.now) watchers.old.items watchers.new.items) }
 {
     match doc_at(task.alloc, task.reader, spot, piece) {
-        Ok(doc) => {
-            let target = task.reader.target();
-            at_document(task, target, doc, number, watchers)
-        }
+        Ok(doc) => at_document(task.alloc, task.job, task.reader, doc, number, watchers),
         Err(Refusal::By(status, detail)) => Ok(Answer::Refused(status, detail)),
         Err(Refusal::Memory(e)) => Err(e),
     }

@@ -8,7 +8,7 @@ ghost use Rattle.ra_top.specs.Commands.Told as watched;
 ghost use Rattle.ra_top.specs.Commands.Told.{next_number, ToldAnswer, ToldOne, IsEndOf};
 ghost use Rattle.ra_top.specs.Commands.Documents.{DocFits, IsDocAnswer, IsAllocAnswer, IsEndText, tells, text_of_lines};
 
-use crate::commands::answer::{AllocatorRun, Answer, Job, Task};
+use crate::commands::answer::{AllocatorRun, Answer, Job};
 use crate::commands::intervals::intervals_of;
 use crate::commands::refusal::refused;
 use crate::commands::run::at_named;
@@ -19,7 +19,7 @@ use mir_func::Func;
 use mir_text::{Doc, DocReader};
 use pipeline::guarded::allocate_function;
 use std::alloc::{AllocError, Global};
-use target_base::{Bytes, Target};
+use target_base::Bytes;
 use watchers::Watcher;
 
 /// The command `alloc` at a function document: the lines before it, and its function, allocated by a run
@@ -71,22 +71,21 @@ fn at_lines(alloc: Global, job: Job, lines: Bytes) -> Bytes
     }
 }
 
-/// What is answered at a document, over the target of the task's reader.
+/// What is answered at a document.
 pub fn at_document<W: Watcher>(
-    task: Task<'_>,
-    target: &Target,
+    alloc: Global,
+    job: Job,
+    reader: &DocReader,
     doc: Doc,
     number: &mut u32,
     watchers: &mut Vec<W>,
 ) -> Result<Answer, AllocError>
-    requires same { target.now ≡ task.entry.reader.now }
-    requires fits { DocFits target.now doc }
-    ensures answer { IfOk result (IsDocAnswer task.entry.job target.now doc) }
-    ensures leaves { tells task.entry.job ≡ false → watchers.new ≡ watchers.old }
-    ensures told { tells task.entry.job ≡ true → IfOk result (ToldAnswer (W.next target.now) doc number.old number.new watchers.old.items watchers.new.items) }
-    ensures part { OnErr result (ToldPart (W.next target.now) watchers.old.items watchers.new.items) }
+    requires { DocFits reader.now doc }
+    ensures answer { IfOk result (IsDocAnswer job.entry reader.now doc) }
+    ensures leaves { tells job.entry ≡ false → watchers.new ≡ watchers.old }
+    ensures told { tells job.entry ≡ true → IfOk result (ToldAnswer (W.next reader.now) doc number.old number.new watchers.old.items watchers.new.items) }
+    ensures part { OnErr result (ToldPart (W.next reader.now) watchers.old.items watchers.new.items) }
 {
-    let Task { alloc, job, reader } = task;
     match doc {
         Doc::Function(before, f) => match job {
             Job::Alloc(allocator) => {
@@ -94,8 +93,8 @@ pub fn at_document<W: Watcher>(
                 let run = AllocatorRun { allocator, number };
                 allocated_function(alloc, reader, before, f, run, watchers)
             }
-            Job::Verify(form) => verified_function(alloc, target, form, f),
-            Job::Run(name, n, seed) => at_named(alloc, target, name, n, seed, f),
+            Job::Verify(form) => verified_function(alloc, reader.target(), form, f),
+            Job::Run(name, n, seed) => at_named(alloc, reader.target(), name, n, seed, f),
             Job::Intervals => intervals_of(alloc, reader.shared_target(), f),
             Job::Trace(allocator) => {
                 let number = next(number);
