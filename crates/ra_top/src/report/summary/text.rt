@@ -29,10 +29,29 @@ fn text_of<W: Watcher>(
     ensures told { OnOk result (ToldRun (W.next target.now) 0 watchers.old.items watchers.new.items) }
     ensures part { OnErr result (ToldPart (W.next target.now) watchers.old.items watchers.new.items) }
 {
+    match DocReader::new(alloc, target) {
+        Ok(reader) => text_by_reader(alloc, &reader, seed, source, watchers),
+        Err(e) => Err(FunctionStop::Memory(e)),
+    }
+}
+
+/// The same, where a reader over the target reads what is printed.
+fn text_by_reader<W: Watcher>(
+    alloc: Global,
+    reader: &DocReader,
+    seed: u64,
+    source: &Func,
+    watchers: &mut Vec<W>,
+) -> Result<Bytes, FunctionStop>
+    requires { FitsTarget reader.now source.now }
+    ensures ok { IfOk result (IsTextOf reader.now seed source.now) }
+    ensures err { IfErr result (IfRefused reader.now source.now) }
+    ensures told { OnOk result (ToldRun (W.next reader.now) 0 watchers.old.items watchers.new.items) }
+    ensures part { OnErr result (ToldPart (W.next reader.now) watchers.old.items watchers.new.items) }
+{
     let copy = source.copy(alloc)?;
-    let reader = DocReader::new(alloc, target)?;
-    match allocate_function(alloc, &reader, copy, Allocator::Greedy, 0, watchers) {
-        Ok(made) => Ok(summary(alloc, target, seed, source, &made.func)?),
+    match allocate_function(alloc, reader, copy, Allocator::Greedy, 0, watchers) {
+        Ok(made) => Ok(summary(alloc, reader.target(), seed, source, &made.func)?),
         Err(stop) => Err(stop),
     }
 }
