@@ -21,6 +21,12 @@ returns-in-Trace-clause-told g c = λ tells.
     rw c.in-Function.is (answer_of_one next c.in-Function.before c.in-Function.f c.trace_function.result c.args.number.now c.next-number-in-Trace.new.number old new c.next-number-in-Trace.ensures.next
     (subst (λ n. IfOk c.trace_function.result (ToldOne next n old new)) c.next-number-in-Trace.ensures.now (rw c.shared_target-in-Trace.ensures at c.trace_function.ensures.told)))
 
+pub returns-in-Trace-clause-answer : goal.returns-in-Trace-clause-answer
+returns-in-Trace-clause-answer g c = rw (c.in-Trace.is, c.in-Function.is) (rw c.shared_target-in-Trace.ensures at c.trace_function.ensures.answer)
+
+pub returns-in-Intervals-clause-answer : goal.returns-in-Intervals-clause-answer
+returns-in-Intervals-clause-answer g c = rw (c.in-Intervals.is, c.in-Function.is) (rw c.shared_target.ensures at c.intervals_of.ensures)
+
 pub returns-in-Trace-clause-part : goal.returns-in-Trace-clause-part
 returns-in-Trace-clause-part g c = rw c.shared_target-in-Trace.ensures at c.trace_function.ensures.part
 
