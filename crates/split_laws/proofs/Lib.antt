@@ -18,3 +18,7 @@ pub mod Marked
 pub mod Borders
 pub mod Offered
 pub mod Local
+pub mod MappedLists
+pub mod RulesKept
+pub mod PartShapes
+pub mod CopyShapes
