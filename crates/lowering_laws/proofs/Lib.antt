@@ -52,3 +52,4 @@ pub mod Both
 pub mod Formed
 pub mod FormedTies
 pub mod LoweredForm
+pub mod Ids

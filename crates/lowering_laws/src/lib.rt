@@ -2,7 +2,7 @@
 //! that a check proves it.
 #![tactic(auto)]
 
-ghost use Rattle.lowering_laws.specs.Laws.{LoweredForm, LoweredPhisRefine, LoweredRefine, LoweredTiedRefine, NoneLoweredAway, PhisAreGone};
+ghost use Rattle.lowering_laws.specs.Laws.{IdsAreDistinct, LoweredForm, LoweredPhisRefine, LoweredRefine, LoweredTiedRefine, NoneLoweredAway, PhisAreGone};
 
 /// A valid source without its phis does what it did.
 pub fn phis_law()
@@ -33,4 +33,9 @@ pub fn lowered_law()
 /// has an `undef` source, and each tied use has its definition's register and index.
 pub fn form_law()
     ensures { LoweredForm }
+{}
+
+/// Its ids are distinct.
+pub fn ids_law()
+    ensures { IdsAreDistinct }
 {}
