@@ -22,3 +22,8 @@ pub mod MappedLists
 pub mod RulesKept
 pub mod PartShapes
 pub mod CopyShapes
+pub mod Instrs
+pub mod Ids
+pub mod LiveClass
+pub mod SplitRules
+pub mod Kept

@@ -1,10 +1,11 @@
 -- An instruction with a part in the range's place keeps the rules that it met.
-use Rattle.std.proofs.Common.{◌≡◌, ◌<◌, ◌≤◌, ◌+◌, ◌++◌, ◌∙◌, ℕ, zero, suc, Bool, true, false, cond, List, [], ◌∷◌, Option, Some, None, map, length, replicate, refl, sym, ap, subst, arith, eqb-true, eq-eqb}
+use Rattle.std.proofs.Common.{◌≡◌, ◌<◌, ◌≤◌, ◌+◌, ◌-◌, ◌++◌, ◌∙◌, ℕ, zero, suc, Bool, true, false, cond, List, [], ◌∷◌, Option, Some, None, map, length, replicate, refl, sym, ap, subst, arith, eqb-true, eq-eqb}
 use Rattle.std.specs.Prelude.{is_some, nat_eq, nat_lt, slice_get}
 use Rattle.std.proofs.lemmas.Bool.{eqb-false, lt-ltb, ltb-false, ltb-true, ne_eqb}
 use Rattle.std.proofs.lemmas.Option.{slice_get_within}
 use Rattle.target_base.specs.declared.types.ClassId.{ClassId}
 use Rattle.target_base.specs.declared.types.Target.{Target}
+use Rattle.target_base.specs.Registers.{IsClass}
 use Rattle.meaning.specs.Live.{Among as Member, here as first, there as later}
 use Rattle.mir_func.specs.declared.func.Loc.{Loc}
 use Rattle.mir_func.specs.declared.func.Loc.TheVariants.{Fixed, Virtual}
@@ -17,7 +18,7 @@ use Rattle.mir_func.specs.Binding.{class_of, does, is_lowered_away, registers}
 use Rattle.mir_meaning.specs.Points.{is_range}
 use Rattle.mir_meaning.specs.Renaming.{renamed_instr, renamed_operand}
 use Rattle.mir_meaning.specs.Rules.{V3, has_class}
-use Rattle.live_laws.specs.Effects.Shaped.{IsShaped}
+use Rattle.live_laws.specs.Effects.Shaped.{AreClasses, IsShaped}
 use Rattle.live_laws.proofs.Effects.Lists.{all-of}
 use Rattle.split_kit.specs.Split.{as_part, part}
 use Rattle.split_laws.specs.Laws.{PartsKeepShape}
@@ -48,6 +49,29 @@ class-there f w h = go (slice_get f.classes w) refl h
 no-class : (f : Function) (w : ℕ) → length f.classes ≤ w → class_of f w ≡ None
 no-class f w h = ap (λ q. elim q as (λ x. Option ClassId) [ None ↦ None | Some c ↦ c ]) (get-none f.classes w h)
 
+length-split : (f g : Function) (v count : ℕ) → g.classes ≡ f.classes ++ replicate count (class_of f v) → length g.classes ≡ length f.classes + count
+length-split f g v count classes = ap length classes ∙ length-both f.classes count (class_of f v)
+
+-- the classes are those that the function had
+pub class-split : (t : Target) (f g : Function) (v count : ℕ) → g.classes ≡ f.classes ++ replicate count (class_of f v) → (w : ℕ) (c : ClassId) → AreClasses t f → class_of g w ≡ Some c → IsClass t c
+class-split t f g v count classes w c ok e = go (nat_lt w (length f.classes)) refl
+  where
+    behind : length f.classes ≤ w → w - length f.classes < count → IsClass t c
+    behind n h = ok v c (sym (class-part t f g v count classes (w - length f.classes) h) ∙ (ap (class_of g) (back (length f.classes) w n) ∙ e))
+      where
+        back : (n w : ℕ) → n ≤ w → n + (w - n) ≡ w
+        back n w h = omega arith
+
+    beyond : (b : Bool) → nat_lt w (length f.classes + count) ≡ b → length f.classes ≤ w → IsClass t c
+    beyond true h n = behind n (omega (arith, ltb-true w (length f.classes + count) h))
+    beyond false h n =
+        let none : class_of g w ≡ None = no-class g w (let m = length-split f g v count classes in omega (arith, ltb-false w (length f.classes + count) h)) in
+        absurd (let q : Some c ≡ None = sym e ∙ none in cc)
+
+    go : (b : Bool) → nat_lt w (length f.classes) ≡ b → IsClass t c
+    go true h = ok w c (sym (class-named t f g v count classes w (ltb-true w (length f.classes) h)) ∙ e)
+    go false h = beyond (nat_lt w (length f.classes + count)) refl (ltb-false w (length f.classes) h)
+
 module _ (t : Target) (f g : Function) (v count label : ℕ) (fits : label < count) (classes : g.classes ≡ f.classes ++ replicate count (class_of f v)) where
   abbrev number : ℕ → ℕ
   number w = home_of f v count label w
@@ -59,9 +83,6 @@ module _ (t : Target) (f g : Function) (v count label : ℕ) (fits : label < cou
       go true e = eq-eqb (number a) (number b) (ap (λ w. number w) (eqb-true a b e)) ∙ sym e
       go false e = ne_eqb (number a) (number b) (λ q. eqb-false a b e (registers-apart f v count label a b fits q)) ∙ sym e
 
-  total : length g.classes ≡ length f.classes + count
-  total = ap length classes ∙ length-both f.classes count (class_of f v)
-
   class : (w : ℕ) → class_of g (number w) ≡ class_of f w
   class w = own (nat_eq v w) refl
     where
@@ -69,7 +90,7 @@ module _ (t : Target) (f g : Function) (v count label : ℕ) (fits : label < cou
       beyond true e = class-named t f g v count classes w (ltb-true w (length f.classes) e)
       beyond false e =
           let h : length f.classes ≤ w = ltb-false w (length f.classes) e in
-          no-class g (w + count) (let n = total in omega arith) ∙ sym (no-class f w h)
+          no-class g (w + count) (let n = length-split f g v count classes in omega arith) ∙ sym (no-class f w h)
 
       own : (b : Bool) → nat_eq v w ≡ b → class_of g (cond b (part f label) (cond (nat_lt w (length f.classes)) w (w + count))) ≡ class_of f w
       own true e = class-part t f g v count classes label fits ∙ ap (class_of f) (eqb-true v w e)

@@ -60,6 +60,10 @@ PartsKeepShape =
 abbrev pub SplitRefines : Type 0
 SplitRefines = (t : Target) (f g : Function) (v : ℕ) (ms : List Mark) → IsLowered t f → LabelsAgree t f v ms → Split t f v ms g → refines t f g
 
+-- and is in the form in which ranges are split
+abbrev pub SplitKeepsLowered : Type 0
+SplitKeepsLowered = (t : Target) (f g : Function) (v : ℕ) (ms : List Mark) → IsLowered t f → LabelsAgree t f v ms → Split t f v ms g → IsLowered t g
+
 -- a point of the function, whose instructions have ids below the next
 abbrev pub IsPointOf : Function → Point → Type 0
 IsPointOf f (Start n) = Unit {0}
