@@ -53,3 +53,6 @@ pub mod Formed
 pub mod FormedTies
 pub mod LoweredForm
 pub mod Ids
+pub mod BlockRules
+pub mod PhiBlocks
+pub mod TieBlocks

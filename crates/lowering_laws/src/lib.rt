@@ -2,6 +2,7 @@
 //! that a check proves it.
 #![tactic(auto)]
 
+ghost use Rattle.lowering_laws.specs.Blocks.{LoweredKeepBlockRules, PhisKeepBlockRules};
 ghost use Rattle.lowering_laws.specs.Laws.{IdsAreDistinct, LoweredForm, LoweredPhisRefine, LoweredRefine, LoweredTiedRefine, NoneLoweredAway, PhisAreGone};
 
 /// A valid source without its phis does what it did.
@@ -38,4 +39,14 @@ pub fn form_law()
 /// Its ids are distinct.
 pub fn ids_law()
     ensures { IdsAreDistinct }
+{}
+
+/// A valid source without its phis keeps the rules on blocks.
+pub fn ends_law()
+    ensures { PhisKeepBlockRules }
+{}
+
+/// Behind both passes they hold too, where the classes are the target's.
+pub fn blocks_law()
+    ensures { LoweredKeepBlockRules }
 {}

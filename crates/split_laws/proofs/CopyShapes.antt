@@ -1,6 +1,6 @@
 -- A copy between registers of one class keeps the rules on its operands, widths, classes, indexes and definitions.
 use Rattle.std.proofs.Common.{◌≡◌, ◌∷◌, ◌++◌, ◌∙◌, ◌&&◌, ◌||◌, not, ℕ, Bool, true, false, List, Option, Some, None, map, length, refl, sym, ap, subst, arith, eqb-true, []}
-use Rattle.std.specs.Prelude.{◌==◌, is_some, option_map, slice_get}
+use Rattle.std.specs.Prelude.{◌==◌, is_some, slice_get}
 use Rattle.std.specs.List.{list_all}
 use Rattle.target_base.specs.declared.types.ClassId.{ClassId}
 use Rattle.target_base.specs.declared.types.Effect.{Effect}
@@ -22,9 +22,9 @@ use Rattle.mir_func.specs.declared.func.Operand.TheVariants as operands
 use Rattle.mir_func.specs.declared.func.Instr.{Instr}
 use Rattle.mir_func.specs.Value.{Function}
 use Rattle.mir_func.specs.Edits.{made}
-use Rattle.mir_func.specs.Binding.{Bound, bound, class_of, does, explicit_bound, explicit_roles, implicit_bound, implicit_roles, known_opcode, numbered, passes, puts_together, roles_of}
+use Rattle.mir_func.specs.Binding.{Bound, bound, class_of, does, explicit_bound, explicit_roles, implicit_bound, implicit_roles, numbered, passes, puts_together, roles_of}
 use Rattle.mir_meaning.specs.declared.Form.TheVariants as forms
-use Rattle.mir_meaning.specs.Rules.{V1, V2, V3, V4, V12, defined_lanes, early_fits, has_lanes, in_operand_class, index_fits, is_opaque, is_taken_reserved, no_two_share, operands_fit, same_widths, subregs_fit, undef_fits, undef_uses_fit, widths_fit}
+use Rattle.mir_meaning.specs.Rules.{V1, V2, V3, V4, V12, defined_lanes, early_fits, has_lanes, in_operand_class, is_opaque, is_taken_reserved, no_two_share, operands_fit, same_widths, subregs_fit, undef_fits, undef_uses_fit, widths_fit}
 use Rattle.live_laws.specs.Effects.Shaped.{IsShaped}
 use Rattle.split_kit.specs.Split.{whole}
 use Rattle.split_laws.proofs.Ends.{copy-effect}

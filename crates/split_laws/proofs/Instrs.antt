@@ -1,5 +1,5 @@
 -- The instructions and blocks of a function with a range split: renamed ones, and copies where the range is live.
-use Rattle.std.proofs.Common.{◌≡◌, ◌<◌, ◌+◌, not, ◌&&◌, ◌++◌, ◌∙◌, ℕ, zero, suc, Bool, true, false, cond, List, [], ◌∷◌, Option, Some, None, drop, length, refl, sym, ap, subst}
+use Rattle.std.proofs.Common.{◌≡◌, ◌<◌, ◌+◌, not, ◌&&◌, ℕ, zero, suc, Bool, true, false, cond, List, [], ◌∷◌, Some, None, drop, length, refl, sym, subst}
 use Rattle.std.specs.Prelude.{nat_eq, slice_get}
 use Rattle.target_base.specs.Numbers.{op_number}
 use Rattle.meaning.specs.Live.{Among as Member, here as first, there as later}

@@ -1,12 +1,9 @@
 -- A function with a range split is in the form in which ranges are split again.
-use Rattle.std.proofs.Common.{◌≡◌, ◌<◌, ◌+◌, not, ◌||◌, ◌&&◌, ◌++◌, ◌∙◌, ℕ, suc, Bool, true, false, List, [], ◌∷◌, Option, Some, None, drop, take, length, replicate, refl, sym, ap, subst, arith}
-use Rattle.std.specs.Prelude.{is_some, nat_eq, slice_get}
+use Rattle.std.proofs.Common.{◌≡◌, ◌<◌, ◌+◌, not, ◌||◌, ◌&&◌, ◌++◌, ◌∙◌, ℕ, suc, Bool, true, false, List, [], ◌∷◌, Some, drop, take, replicate, refl, sym, ap, subst}
+use Rattle.std.specs.Prelude.{is_some, slice_get}
 use Rattle.std.specs.List.{list_any}
 use Rattle.std.proofs.lemmas.Bool.{and_right}
-use Rattle.target_base.specs.declared.types.ClassId.{ClassId}
 use Rattle.target_base.specs.declared.types.Target.{Target}
-use Rattle.target_base.specs.Numbers.{op_number}
-use Rattle.target_base.specs.Registers.{IsClass}
 use Rattle.target_base.specs.Rules.{is_phi}
 use Rattle.meaning.specs.Live.{Among as Member, here as first, there as later}
 use Rattle.mir_func.specs.declared.func.Instr.{Instr}
@@ -19,14 +16,13 @@ use Rattle.mir_meaning.specs.Points.{Point, Tests}
 use Rattle.mir_meaning.specs.Renaming.{renamed_instr}
 use Rattle.mir_meaning.specs.Rules.{V1, V5, V7, V8, V9, block_numbers, phi_stands}
 use Rattle.live_lanes.specs.declared.ask.labels.Mark.{Mark}
-use Rattle.live_laws.specs.Effects.Coded.{KeepsRules}
-use Rattle.live_laws.specs.Effects.Shaped.{AreClasses, IsShaped}
+use Rattle.live_laws.specs.Effects.Shaped.{IsShaped}
 use Rattle.live_laws.proofs.Effects.Blocks.{slice-member}
 use Rattle.split_kit.specs.Split.{RangeLive, as_part, block_split, blocks_split, greatest_label, part, split_by, start_label, whole}
 use Rattle.split_laws.specs.Laws.{IsLowered, LabelsAgree, SplitKeepsLowered}
 use Rattle.split_laws.proofs.Suits.{Suits}
 use Rattle.split_laws.proofs.Ends.{Stay, copy-effect, meet-stay}
-use Rattle.split_laws.proofs.Parts.{class-named, class-part}
+use Rattle.split_laws.proofs.Parts.{class-part}
 use Rattle.split_laws.proofs.Splitting.{keep-all, known, not-phi, suits}
 use Rattle.split_laws.proofs.PartShapes.{class-split, part-shape}
 use Rattle.split_laws.proofs.CopyShapes.{copy-shape}

@@ -4,8 +4,7 @@ use Rattle.std.specs.Prelude.{is_some}
 use Rattle.target_base.specs.declared.types.ClassId.{ClassId}
 use Rattle.target_base.specs.declared.types.Target.{Target}
 use Rattle.target_base.specs.Registers.{widths_of_some}
-use Rattle.meaning.specs.Code.{Code, Edge, Item, found}
-use Rattle.meaning.specs.Layout.{NoPhisAlong}
+use Rattle.meaning.specs.Code.{Code, Item, found}
 use Rattle.meaning.specs.Live.{Among as Member, Live, LiveAfter, after_leap, after_next, after_phi, exits_of}
 use Rattle.meaning.specs.Lanes.{filled}
 use Rattle.meaning.specs.declared.types.Lane.{Lane}
@@ -17,8 +16,8 @@ use Rattle.mir_func.specs.Value.{Function}
 use Rattle.mir_func.specs.Edits.{instr_place}
 use Rattle.mir_func.specs.Binding.{class_of}
 use Rattle.mir_meaning.specs.Codes.{block_end, blocks_code}
-use Rattle.mir_meaning.specs.Points.{AtFirst, Entry, Exit, LiveAt, Point, Start, block_rest, from_instr, has_instr, point_item, points_of}
-use Rattle.mir_meaning.specs.Registers.{is_reserved, range_widths}
+use Rattle.mir_meaning.specs.Points.{AtFirst, Entry, Exit, Point, Start, block_rest, from_instr, has_instr, point_item, points_of}
+use Rattle.mir_meaning.specs.Registers.{is_reserved}
 use Rattle.instr_effects.proofs.Members.{member-none}
 use Rattle.split_kit.specs.Split.{RangeLive}
 use Rattle.split_laws.proofs.Renamed.{bare-edge}

@@ -1,7 +1,7 @@
 -- An instruction whose registers are renamed keeps the rules, where no two registers come to one name, and each name has the
 -- class of the register that it stands for.
 use Rattle.std.proofs.Common.{◌≡◌, ◌∷◌, ◌++◌, ◌∙◌, ◌&&◌, ◌||◌, not, ℕ, Bool, true, false, cond, List, Option, Some, None, map, filter, flat_map, length, refl, sym, ap, []}
-use Rattle.std.specs.Prelude.{◌==◌, count_by, find, is_none, is_some, nat_eq, nat_le, option_and_then, option_map, option_to_list, slice_index}
+use Rattle.std.specs.Prelude.{◌==◌, count_by, find, is_some, nat_eq, nat_le, option_and_then, option_map, option_to_list, slice_index}
 use Rattle.std.specs.List.{list_all, list_any}
 use Rattle.target_base.specs.declared.types.ClassId.{ClassId}
 use Rattle.target_base.specs.declared.types.Effect.{Effect}
@@ -26,12 +26,12 @@ use Rattle.mir_func.specs.declared.func.Operand.{Operand}
 use Rattle.mir_func.specs.declared.func.Operand.TheVariants as operands
 use Rattle.mir_func.specs.declared.func.Instr.{Instr}
 use Rattle.mir_func.specs.Value.{Function}
-use Rattle.mir_func.specs.Binding.{Bound, asked_class, bound, class_of, does, explicit_bound, explicit_operands, explicit_roles, immediate_of, implicit_bound, implicit_registers, implicit_roles, is_definition, is_early, is_implicit_operand, is_lowered_away, is_use, is_virtual, known_opcode, numbered, passes, puts_together, registers, roles_of, same_fixed, same_loc, takes_many, takes_role, ties_to}
+use Rattle.mir_func.specs.Binding.{Bound, asked_class, bound, class_of, does, explicit_bound, explicit_operands, explicit_roles, immediate_of, implicit_bound, implicit_registers, implicit_roles, is_early, is_implicit_operand, is_lowered_away, is_use, is_virtual, known_opcode, numbered, passes, puts_together, registers, roles_of, same_fixed, same_loc, takes_many, takes_role, ties_to}
 use Rattle.mir_meaning.specs.Items.{unreserved}
 use Rattle.mir_meaning.specs.Registers.{is_reserved, located_lanes, located_widths, numbers, operand_lanes}
 use Rattle.mir_meaning.specs.Renaming.{renamed_instr, renamed_operand}
 use Rattle.mir_meaning.specs.declared.Form.TheVariants as forms
-use Rattle.mir_meaning.specs.Rules.{V1, V2, V3, V4, V12, block_of, clashing_lanes, copy_fits, defined_lanes, early_fits, explicit_fit, fits_at, fits_opaque, fits_role, has_class, has_home, has_lanes, has_lanes_at, implicit_def_fits, implicit_fit, implicit_last, in_operand_class, index_fits, index_of, is_condition, is_early_definition, is_free_undef, is_opaque, is_reserved_register, is_taken_reserved, is_value, lanes_fit, lies_in, named_blocks, namings, no_two_share, operands_fit, readings, readings_besides, register_lies_in, same_role, same_widths, share_a_lane, subregs_fit, takes_reserved, undef_fits, undef_uses_fit, values_fit, widths_fit}
+use Rattle.mir_meaning.specs.Rules.{V1, V2, V3, V4, V12, block_of, clashing_lanes, copy_fits, defined_lanes, early_fits, explicit_fit, fits_opaque, fits_role, has_class, has_home, has_lanes, has_lanes_at, implicit_def_fits, implicit_fit, implicit_last, in_operand_class, index_fits, index_of, is_condition, is_early_definition, is_free_undef, is_opaque, is_reserved_register, is_value, lanes_fit, lies_in, named_blocks, namings, no_two_share, operands_fit, readings, readings_besides, register_lies_in, same_role, same_widths, share_a_lane, subregs_fit, takes_reserved, undef_fits, undef_uses_fit, values_fit, widths_fit}
 use Rattle.live_laws.specs.Effects.Shaped.{IsShaped}
 use Rattle.split_laws.proofs.MappedLists.{all-map, any-map, count-map, filter-map, length-map, map-append, map-cond, map-map, numbered-map}
 

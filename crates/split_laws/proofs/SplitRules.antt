@@ -1,8 +1,7 @@
 -- The blocks of a function with a range split keep the rules on terminators, successors and blocks that are named.
-use Rattle.std.proofs.Common.{◌≡◌, not, ◌||◌, ◌&&◌, ◌++◌, ◌+◌, ◌∙◌, ℕ, zero, suc, Bool, true, false, cond, List, [], ◌∷◌, Option, Some, None, drop, take, filter, flat_map, length, refl, sym, ap, subst, eq-eqb, append_assoc}
+use Rattle.std.proofs.Common.{◌≡◌, not, ◌||◌, ◌&&◌, ◌++◌, ◌+◌, ◌∙◌, ℕ, zero, suc, Bool, true, false, cond, List, [], ◌∷◌, Some, None, drop, take, filter, flat_map, length, refl, sym, ap, subst, eq-eqb, append_assoc}
 use Rattle.std.specs.Prelude.{nat_eq, option_to_list, slice_get}
 use Rattle.std.specs.List.{list_all, list_any}
-use Rattle.target_base.specs.declared.types.Effect.{Effect}
 use Rattle.target_base.specs.declared.types.Target.{Target}
 use Rattle.target_base.specs.Numbers.{op_number}
 use Rattle.target_base.proofs.Tests.{first_of_both, second_of_both}
@@ -12,7 +11,7 @@ use Rattle.mir_func.specs.declared.func.Block.{Block}
 use Rattle.mir_func.specs.Value.{Function}
 use Rattle.mir_func.specs.Edits.{made}
 use Rattle.mir_func.specs.Binding.{does, is_branch, is_terminator, passes}
-use Rattle.mir_meaning.specs.Codes.{fallen_into, falls_through, first_number, is_open}
+use Rattle.mir_meaning.specs.Codes.{fallen_into, first_number, is_open}
 use Rattle.mir_meaning.specs.Points.{Entry, Point, Start}
 use Rattle.mir_meaning.specs.Registers.{has_number}
 use Rattle.mir_meaning.specs.Renaming.{renamed_instr}
@@ -20,7 +19,6 @@ use Rattle.mir_meaning.specs.Rules.{V1, V5, V8, V9, block_numbers, branch_target
 use Rattle.live_lanes.specs.declared.ask.labels.Mark.{Mark}
 use Rattle.live_laws.proofs.Effects.Blocks.{slice-member}
 use Rattle.live_laws.proofs.Effects.Lists.{all-of}
-use Rattle.live_laws.proofs.Effects.Moving.{some-same}
 use Rattle.split_kit.specs.Split.{as_part, block_split, blocks_split, changed, instrs_split, label_behind, last_point, number_behind, part, start_label, whole}
 use Rattle.split_laws.specs.Laws.{next_gap}
 use Rattle.split_laws.proofs.Ends.{Stay, copy-effect, falls-stay, open-stays}
