@@ -27,3 +27,4 @@ pub mod Ids
 pub mod LiveClass
 pub mod SplitRules
 pub mod Kept
+pub mod InTurn

@@ -64,6 +64,15 @@ SplitRefines = (t : Target) (f g : Function) (v : ℕ) (ms : List Mark) → IsLo
 abbrev pub SplitKeepsLowered : Type 0
 SplitKeepsLowered = (t : Target) (f g : Function) (v : ℕ) (ms : List Mark) → IsLowered t f → LabelsAgree t f v ms → Split t f v ms g → IsLowered t g
 
+-- g is f with ranges split one after the other, each by labels that agree in the function that is split
+abbrev pub SplitInTurn : Target → Function → List (ℕ × List Mark) → Function → Type 0
+SplitInTurn t f [] g = g ≡ f
+SplitInTurn t f (s ∷ splits) g = (h : Function) × LabelsAgree t f s.0 s.1 × Split t f s.0 s.1 h × SplitInTurn t h splits g
+
+-- after any number of splits the function does what it did
+abbrev pub SplitsRefine : Type 0
+SplitsRefine = (t : Target) (f g : Function) (splits : List (ℕ × List Mark)) → IsLowered t f → SplitInTurn t f splits g → refines t f g × IsLowered t g
+
 -- a point of the function, whose instructions have ids below the next
 abbrev pub IsPointOf : Function → Point → Type 0
 IsPointOf f (Start n) = Unit {0}
