@@ -56,3 +56,4 @@ pub mod Ids
 pub mod BlockRules
 pub mod PhiBlocks
 pub mod TieBlocks
+pub mod TieClasses

@@ -1,5 +1,5 @@
 -- Phi elimination keeps the rules on blocks.
-use Rattle.std.proofs.Common.{◌≡◌, ◌⊎◌, inl, inr, not, ◌&&◌, ◌||◌, ◌++◌, ◌+◌, ◌∙◌, ℕ, Bool, true, false, cond, List, [], ◌∷◌, Option, Some, None, drop, filter, flat_map, length, map, refl, sym, ap, subst, append_assoc}
+use Rattle.std.proofs.Common.{◌≡◌, ◌&&◌, ◌++◌, ◌+◌, ◌∙◌, ℕ, Bool, true, false, cond, List, [], ◌∷◌, Option, Some, None, filter, flat_map, length, refl, sym, ap, subst}
 use Rattle.std.specs.Prelude.{slice_get, ◌==◌}
 use Rattle.std.specs.List.{list_all}
 use Rattle.target_base.specs.declared.types.Effect.{Effect}
@@ -10,15 +10,13 @@ use Rattle.target_base.specs.Rules.{is_phi}
 use Rattle.meaning.specs.Live.{Among, here, there}
 use Rattle.mir_func.specs.declared.func.Op.TheVariants as ops
 use Rattle.mir_func.specs.declared.func.Operand.{Operand}
-use Rattle.mir_func.specs.declared.func.Operand.TheVariants as operands
 use Rattle.mir_func.specs.declared.func.Instr.{Instr}
 use Rattle.mir_func.specs.declared.func.Block.{Block}
 use Rattle.mir_func.specs.Value.{Function}
 use Rattle.mir_func.specs.Binding.{does, effect_of, is_branch, is_terminator, passes}
-use Rattle.mir_meaning.specs.Codes.{ends_without_terminator, falls_through}
 use Rattle.mir_meaning.specs.Rules.{block_of, branch_targets, named_blocks}
 use Rattle.phi_elim.specs.declared.arrivals.Arrival.{Arrival}
-use Rattle.phi_elim.specs.Moves.{copy_of, copy_op, source_of, undefining, whole_definition, whole_use}
+use Rattle.phi_elim.specs.Moves.{copy_of, copy_op, source_of, undefining, whole_definition}
 use Rattle.phi_elim.specs.Numbered.{blocks_numbered, numbered}
 use Rattle.phi_elim.specs.Phis.{all_in_place, arriving, arriving_at, before_terminators, from_incoming, in_place, lowered_blocks, phi_count, phi_number, phis_lowered}
 use Rattle.instr_effects.proofs.Members.{either-elim, left-in, map-of, member-none, right-in}
@@ -26,7 +24,7 @@ use Rattle.live_laws.proofs.Effects.Blocks.{member-slice}
 use Rattle.lowering_laws.specs.Blocks.{KeepsBlockRules, PhisKeepBlockRules}
 use Rattle.lowering_laws.proofs.BlockRules.{AllBecome, Carries, ends, ordered, rules-carried}
 use Rattle.lowering_laws.proofs.Lowering.{arrs}
-use Rattle.lowering_laws.proofs.Placed.{arriving-goes-on, before-set, copy-effect, copy-goes-on, falls-same, open-same, phi-goes-on, set_before, undef-effect}
+use Rattle.lowering_laws.proofs.Placed.{arriving-goes-on, before-set, copy-goes-on, falls-same, open-same, phi-goes-on, set_before}
 use Rattle.lowering_laws.proofs.Ruled.{AllRules, all-rules}
 
 -- what isn't a terminator is no branch
