@@ -52,3 +52,8 @@ pub mod Both
 pub mod Formed
 pub mod FormedTies
 pub mod LoweredForm
+pub mod Ids
+pub mod BlockRules
+pub mod PhiBlocks
+pub mod TieBlocks
+pub mod TieClasses

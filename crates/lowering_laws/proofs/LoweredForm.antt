@@ -183,7 +183,7 @@ weaker : {X : Type 0} (p q : X → Bool) (xs : List X) → ((x : X) → p x ≡ 
 weaker p q [] h e = refl
 weaker p q (x ∷ xs) h e = λ k. h x (first_of_both (p x) (list_all p xs) e) k && weaker p q xs h (second_of_both (p x) (list_all p xs) e) k
 
-kept : (t : Target) (i : Instr) → is_lowered t i ≡ true → not (does is_lowered_away t i) ≡ true
+pub kept : (t : Target) (i : Instr) → is_lowered t i ≡ true → not (does is_lowered_away t i) ≡ true
 kept t i e = first_of_both (not (does is_lowered_away t i)) (not (list_any is_undef_definition (registers i.operands))) (first_of_both _ _ (first_of_both _ _ e))
 
 pub none_lowered_away : NoneLoweredAway

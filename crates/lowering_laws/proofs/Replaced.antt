@@ -114,13 +114,13 @@ module _ (t : Target) (f : Function) where
   numbered-lacks p id n (i ∷ []) = ap not (id n i)
   numbered-lacks p id n (i ∷ j ∷ is) = numbered-lacks p id (n + 1) (j ∷ is)
 
-  falls-on : (b : Block) (n c : ℕ) (is : List Instr) → InstrsStep b c is → falls_through t (numbered n (instrs_lowered t f.classes c is)) ≡ falls_through t is
+  pub falls-on : (b : Block) (n c : ℕ) (is : List Instr) → InstrsStep b c is → falls_through t (numbered n (instrs_lowered t f.classes c is)) ≡ falls_through t is
   falls-on b n c is s =
       let js = instrs_lowered t f.classes c is in
       falls-last t (numbered n js)
       ∙ (numbered-lacks (does ends_control t) (λ m i. refl) n js ∙ (last-lowered (does ends_control t) (λ d e i x. x.ends.control) b c is s ∙ sym (falls-last t is)))
 
-  open-on : (b : Block) (n c : ℕ) (is : List Instr) → InstrsStep b c is → ends_without_terminator t (numbered n (instrs_lowered t f.classes c is)) ≡ ends_without_terminator t is
+  pub open-on : (b : Block) (n c : ℕ) (is : List Instr) → InstrsStep b c is → ends_without_terminator t (numbered n (instrs_lowered t f.classes c is)) ≡ ends_without_terminator t is
   open-on b n c is s =
       let js = instrs_lowered t f.classes c is in
       open-last t (numbered n js)

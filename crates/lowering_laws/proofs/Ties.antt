@@ -101,8 +101,11 @@ module _ (t : Target) (f : Function) (plain : has_no_phis t f.blocks ≡ true) (
         let s' : StandsAt c (xs ++ ys) = subst (StandsAt c) (made-append t f.classes c b.instrs (all_instrs bs)) s in
         (instrs-step b (w b here) c b.instrs (λ i m. m) (stands-left (h t f).classes (bound t f) c xs ys s'), all-step (c + length xs) bs (λ x m. w x (there m)) (stands-right (h t f).classes (bound t f) c xs ys s'))
 
+    pub steps-all : AllStep t f (bound t f) f.blocks
+    steps-all = all-step (bound t f) f.blocks (λ b m. m) (all-stand t f)
+
     pub refine : refines t f (ties_lowered t f)
-    refine = ties-by-steps t f (bare t f plain) (bare-lowered t f plain) names (all-step (bound t f) f.blocks (λ b m. m) (all-stand t f))
+    refine = ties-by-steps t f (bare t f plain) (bare-lowered t f plain) names steps-all
 
 pub lowered_tied_refine : LoweredTiedRefine
 lowered_tied_refine t f shape classes plain = refine t f plain classes (each-rules t f (all-rules t f shape))

@@ -1,8 +1,8 @@
 -- Lowering keeps the meaning.
-use Rattle.std.specs.Prelude.{◌≡◌, true, not, None}
+use Rattle.std.specs.Prelude.{◌≡◌, ◌<◌, true, not, length, None}
 use Rattle.std.specs.List.{list_all}
 use Rattle.target_base.specs.declared.types.Target.{Target}
-use Rattle.mir_func.specs.Value.{Function}
+use Rattle.mir_func.specs.Value.{Function, IsFunction}
 use Rattle.mir_func.specs.Binding.{does, is_lowered_away}
 use Rattle.mir_meaning.specs.declared.Form.TheVariants as forms
 use Rattle.mir_meaning.specs.Codes.{refines}
@@ -33,6 +33,10 @@ NoneLoweredAway = (t : Target) (f : Function) → shape_fault t forms.Source f �
 -- A valid source behind both passes does what it did. Its classes are the target's.
 abbrev pub LoweredRefine : Type 0
 LoweredRefine = (t : Target) (f : Function) → IsValid t forms.Source f → AreClasses t f → refines t f (lowered t f)
+
+-- Its ids are distinct and below the next, where it has a block.
+abbrev pub IdsAreDistinct : Type 0
+IdsAreDistinct = (t : Target) (f : Function) → 0 < length f.blocks → IsFunction (lowered t f).blocks (lowered t f).next_id
 
 -- And each of its instructions is in lowered form.
 abbrev pub LoweredForm : Type 0

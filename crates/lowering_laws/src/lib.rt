@@ -2,7 +2,8 @@
 //! that a check proves it.
 #![tactic(auto)]
 
-ghost use Rattle.lowering_laws.specs.Laws.{LoweredForm, LoweredPhisRefine, LoweredRefine, LoweredTiedRefine, NoneLoweredAway, PhisAreGone};
+ghost use Rattle.lowering_laws.specs.Blocks.{LoweredClasses, LoweredKeepBlockRules, LoweredOpcodes, PhisKeepBlockRules};
+ghost use Rattle.lowering_laws.specs.Laws.{IdsAreDistinct, LoweredForm, LoweredPhisRefine, LoweredRefine, LoweredTiedRefine, NoneLoweredAway, PhisAreGone};
 
 /// A valid source without its phis does what it did.
 pub fn phis_law()
@@ -33,4 +34,29 @@ pub fn lowered_law()
 /// has an `undef` source, and each tied use has its definition's register and index.
 pub fn form_law()
     ensures { LoweredForm }
+{}
+
+/// Its ids are distinct.
+pub fn ids_law()
+    ensures { IdsAreDistinct }
+{}
+
+/// A valid source without its phis keeps the rules on blocks.
+pub fn phi_blocks_law()
+    ensures { PhisKeepBlockRules }
+{}
+
+/// Behind both passes they hold too, where the classes are the target's.
+pub fn blocks_law()
+    ensures { LoweredKeepBlockRules }
+{}
+
+/// Its classes are the target's, where those of the source are.
+pub fn classes_law()
+    ensures { LoweredClasses }
+{}
+
+/// Each of its opcodes is known, and none is lowered away.
+pub fn opcodes_law()
+    ensures { LoweredOpcodes }
 {}

@@ -92,7 +92,7 @@ module _ (t : Target) (live : Point → Bool) (f : Function) (v : ℕ) (ms : Lis
   split n now is = instrs_split live f v ms n b now is
 
   -- behind a terminator the label stays
-  abbrev Stay : ℕ → List Instr → Type 0
+  abbrev pub Stay : ℕ → List Instr → Type 0
   Stay now [] = Unit {0}
   Stay now (i ∷ is) =
       let to = label_behind ms b.number (Some i.id) now in

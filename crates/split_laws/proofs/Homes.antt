@@ -63,7 +63,7 @@ module _ (f : Function) (v count : ℕ) where
   home-beside label to w e h =
       ne_eqb (part f to) (home_of label w) (λ g. beside-by (length f.classes) count label to w h (nat_lt w (length f.classes)) refl (g ∙ ap (λ b. cond b (part f label) (cond (nat_lt w (length f.classes)) w (w + count))) e))
 
-  registers-apart : (label a b : ℕ) → label < count → home_of label a ≡ home_of label b → a ≡ b
+  pub registers-apart : (label a b : ℕ) → label < count → home_of label a ≡ home_of label b → a ≡ b
   registers-apart label a b h e =
       apart-by (length f.classes) count label v a b h (nat_eq v a) (nat_eq v b) (nat_lt a (length f.classes)) (nat_lt b (length f.classes)) refl refl refl refl e
 

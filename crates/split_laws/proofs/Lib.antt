@@ -18,3 +18,13 @@ pub mod Marked
 pub mod Borders
 pub mod Offered
 pub mod Local
+pub mod MappedLists
+pub mod RulesKept
+pub mod PartShapes
+pub mod CopyShapes
+pub mod Instrs
+pub mod Ids
+pub mod LiveClass
+pub mod SplitRules
+pub mod Kept
+pub mod InTurn

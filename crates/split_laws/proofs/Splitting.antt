@@ -520,7 +520,7 @@ module _ (t : Target) (f : Function) (v : ℕ) (ms : List Mark) (live : Point �
 
 -- what the rules give
 module _ (t : Target) (f : Function) (low : IsLowered t f) where
-  known : (i : Instr) → does (λ e. not (is_lowered_away e)) t i ≡ true → ((e : Effect) × (effect_of t i ≡ Some e)) × (does is_lowered_away t i ≡ false)
+  pub known : (i : Instr) → does (λ e. not (is_lowered_away e)) t i ≡ true → ((e : Effect) × (effect_of t i ≡ Some e)) × (does is_lowered_away t i ≡ false)
   known i h = go (effect_of t i) refl h
     where
       go : (q : Option Effect) → effect_of t i ≡ q → passes (λ e. not (is_lowered_away e)) q ≡ true → ((e : Effect) × (effect_of t i ≡ Some e)) × (does is_lowered_away t i ≡ false)

@@ -82,7 +82,7 @@ module _ (P : Lane → Type 0) (slots : (s k w : ℕ) → P (SlotLane s k w)) wh
   AllKeep [] = Unit {0}
   AllKeep (i ∷ p) = Keeps i × AllKeep p
 
-  found-keep : (n : ℕ) (p : Code) → AllKeep p → AllKeep (found n p)
+  pub found-keep : (n : ℕ) (p : Code) → AllKeep p → AllKeep (found n p)
   found-keep n [] h = h
   found-keep n (BlockStart k ∷ p) h = go (nat_eq k n) (found-keep n p h.1)
     where

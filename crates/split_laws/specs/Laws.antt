@@ -1,5 +1,5 @@
 -- Splitting keeps the meaning.
-use Rattle.std.specs.Prelude.{◌≡◌, ◌<◌, ◌↔◌, ◌+◌, not, ℕ, true, List, [], ◌∷◌, length, Option, Some, None, slice_get}
+use Rattle.std.specs.Prelude.{◌≡◌, ◌<◌, ◌↔◌, ◌+◌, not, ℕ, true, false, List, [], ◌∷◌, ◌++◌, length, replicate, Option, Some, None, slice_get}
 use Rattle.target_base.specs.declared.types.Target.{Target}
 use Rattle.meaning.specs.declared.types.Lane.{Lane}
 use Rattle.meaning.specs.declared.types.Lane.TheVariants.{VirtualLane, UnitLane, SlotLane}
@@ -8,13 +8,15 @@ use Rattle.mir_func.specs.declared.func.Edge.{Edge}
 use Rattle.mir_func.specs.declared.func.Instr.{Instr}
 use Rattle.mir_func.specs.declared.func.Block.{Block}
 use Rattle.mir_func.specs.Value.{Function, IsFunction}
-use Rattle.mir_func.specs.Binding.{does, is_lowered_away, is_terminator}
+use Rattle.mir_func.specs.Binding.{class_of, does, is_lowered_away, is_terminator}
 use Rattle.mir_meaning.specs.Codes.{refines}
 use Rattle.mir_meaning.specs.Points.{Point, Start, Entry, Exit, LiveAt, OccupiedAt}
+use Rattle.mir_meaning.specs.Renaming.{renamed_instr}
 use Rattle.mir_meaning.specs.Rules.{V8, V9}
 use Rattle.live_lanes.specs.declared.ask.labels.Mark.{Mark}
 use Rattle.live_laws.specs.Effects.Coded.{KeepsRules}
-use Rattle.split_kit.specs.Split.{RangeLive, Split, label_behind, start_label, greatest_label, part}
+use Rattle.live_laws.specs.Effects.Shaped.{IsShaped}
+use Rattle.split_kit.specs.Split.{RangeLive, Split, as_part, label_behind, start_label, greatest_label, part}
 
 -- A function in the form in which ranges are split: ids are distinct; operands, indexes and block numbers meet the rules on
 -- which liveness rests; each opcode is known, and none is PHI, REG_SEQUENCE or INSERT_SUBREG; blocks end in their terminators
@@ -47,9 +49,29 @@ AllMeet t f v ms b now (i ∷ is) =
 abbrev pub LabelsAgree : Target → Function → ℕ → List Mark → Type 0
 LabelsAgree t f v ms = (b : Block) → Member b f.blocks → AllMeet t f v ms b (start_label ms b.number) b.instrs
 
+-- with a part in the range's place, an instruction that isn't lowered away keeps the rules on its operands, widths, classes,
+-- indexes and definitions
+abbrev pub PartsKeepShape : Type 0
+PartsKeepShape =
+    (t : Target) (f g : Function) (v count label : ℕ) → label < count → g.classes ≡ f.classes ++ replicate count (class_of f v)
+    → (i : Instr) → does is_lowered_away t i ≡ false → IsShaped t f i → IsShaped t g (renamed_instr (as_part f v label) i)
+
 -- the function with a range split does what it did
 abbrev pub SplitRefines : Type 0
 SplitRefines = (t : Target) (f g : Function) (v : ℕ) (ms : List Mark) → IsLowered t f → LabelsAgree t f v ms → Split t f v ms g → refines t f g
+
+-- and is in the form in which ranges are split
+abbrev pub SplitKeepsLowered : Type 0
+SplitKeepsLowered = (t : Target) (f g : Function) (v : ℕ) (ms : List Mark) → IsLowered t f → LabelsAgree t f v ms → Split t f v ms g → IsLowered t g
+
+-- g is f with ranges split one after the other, each by labels that agree in the function that is split
+abbrev pub SplitInTurn : Target → Function → List (ℕ × List Mark) → Function → Type 0
+SplitInTurn t f [] g = g ≡ f
+SplitInTurn t f (s ∷ splits) g = (h : Function) × LabelsAgree t f s.0 s.1 × Split t f s.0 s.1 h × SplitInTurn t h splits g
+
+-- after any number of splits the function does what it did
+abbrev pub SplitsRefine : Type 0
+SplitsRefine = (t : Target) (f g : Function) (splits : List (ℕ × List Mark)) → IsLowered t f → SplitInTurn t f splits g → refines t f g × IsLowered t g
 
 -- a point of the function, whose instructions have ids below the next
 abbrev pub IsPointOf : Function → Point → Type 0

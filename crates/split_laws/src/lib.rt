@@ -2,12 +2,22 @@
 //! did. Each is the contract of a function, so that a check proves it.
 #![tactic(auto)]
 
-ghost use Rattle.split_laws.specs.Laws.{SplitKeepsOthers, SplitRefines, SplitSharesRange};
+ghost use Rattle.split_laws.specs.Laws.{PartsKeepShape, SplitKeepsLowered, SplitKeepsOthers, SplitRefines, SplitSharesRange, SplitsRefine};
 ghost use Rattle.split_laws.specs.Offers.{BlockLabelsAgree, CutLabelsAgree, LocalLabelsAgree, RegionLabelsAgree};
 
 /// A function with a range split does what it did, where labels agree on the ways between blocks.
 pub fn split_law()
     ensures { SplitRefines }
+{}
+
+/// It is in the form in which ranges are split, so that ranges of it can be split in turn.
+pub fn kept_law()
+    ensures { SplitKeepsLowered }
+{}
+
+/// After any number of splits, one after the other, a function does what it did.
+pub fn splits_law()
+    ensures { SplitsRefine }
 {}
 
 /// Other ranges, units and slots are live and occupied where they were.
@@ -18,6 +28,11 @@ pub fn others_law()
 /// Where a range was live one of its parts is, and no other part.
 pub fn parts_law()
     ensures { SplitSharesRange }
+{}
+
+/// An instruction with a part in the range's place keeps the rules on its operands.
+pub fn shape_law()
+    ensures { PartsKeepShape }
 {}
 
 /// The labels of a block split that is offered agree on the ways between blocks.
