@@ -48,7 +48,7 @@ module _ (told : ℕ → Bool) where
   steps-then (step_goes h a) b = step_goes h (steps-then a b)
   steps-then (step_comes h a) b = behind-comes h (λ vs c. steps-then a c) b
 
-  codes-then : (old mid new : Code) → AreCodes told old mid → AreCodes told mid new → AreCodes told old new
+  pub codes-then : (old mid new : Code) → AreCodes told old mid → AreCodes told mid new → AreCodes told old new
   codes-then old mid new x y = record { steps = λ b. steps-then (x.steps b) (y.steps b); last = λ b. x.last b ∙ y.last b; exits = λ b. x.exits b ∙ y.exits b }
 
 pub all-codes-law : AllCodesLaw

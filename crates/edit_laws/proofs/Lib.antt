@@ -36,3 +36,5 @@ pub mod CarriedRows
 pub mod RowEnd
 pub mod Turned
 pub mod RowsUpdated
+pub mod SideBySide
+pub mod Deferred

@@ -22,3 +22,4 @@ pub mod CarriedRows
 pub mod RowEnd
 pub mod Turned
 pub mod RowsUpdated
+pub mod Deferred
