@@ -57,7 +57,7 @@ all-codes-law t f [] num told keeps tells =
 all-codes-law t f (e ∷ es) num told keeps tells =
     codes-then told (lane_code t f num) (lane_code t (edited f e) num) (lane_code t (all_edited (edited f e) es) num) (codes-law t f e num told keeps.0 tells.0) (all-codes-law t (edited f e) es num told keeps.1 tells.1)
 
-all-classes-stay : (f : Function) (es : List Edit) → (all_edited f es).classes ≡ f.classes
+pub all-classes-stay : (f : Function) (es : List Edit) → (all_edited f es).classes ≡ f.classes
 all-classes-stay f [] = refl
 all-classes-stay f (e ∷ es) = all-classes-stay (edited f e) es ∙ classes-stay f e
 

@@ -89,7 +89,7 @@ module _ (touched : ℕ → ℕ → Bool) (d : Doing) (Goes Comes : Instr → Ty
     ends-same place b (instr_goes {i = i} h a) = absurd (fit.goes i h)
     ends-same place b (instr_comes {j = j} {js = js} h a) = ends-same place b a ∙ sym (λ k. flat_map (lanes_at place b) ((fit.comes j h).1 k) ++ read_at_ends d place b js)
 
-first-instrs : {Goes Comes : Instr → Type 0} {Both : Instr → Instr → Type 0} {b c : Block} {bs cs : List Block} → AreBlocks Goes Comes Both (b ∷ bs) (c ∷ cs) → AreInstrs Goes Comes Both b.instrs c.instrs
+pub first-instrs : {Goes Comes : Instr → Type 0} {Both : Instr → Instr → Type 0} {b c : Block} {bs cs : List Block} → AreBlocks Goes Comes Both (b ∷ bs) (c ∷ cs) → AreInstrs Goes Comes Both b.instrs c.instrs
 first-instrs (block_stays number successors a rest) = a
 
 only : {x y : Block} → Member x (y ∷ []) → x ≡ y

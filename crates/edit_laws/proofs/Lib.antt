@@ -38,3 +38,6 @@ pub mod Turned
 pub mod RowsUpdated
 pub mod SideBySide
 pub mod Deferred
+pub mod ErasedLast
+pub mod Left
+pub mod Standing

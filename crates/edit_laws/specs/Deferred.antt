@@ -1,5 +1,6 @@
 -- The code of a function while edits are done to it. An instruction that is erased still stands, and does nothing, until the last edit is done.
 use Rattle.std.specs.Prelude.{◌≡◌, ◌≢◌, ℕ, true, false, cond, List, [], ◌∷◌, Some, slice_get}
+use Rattle.slot_index.specs.Order.{number_of}
 use Rattle.target_base.specs.declared.types.Target.{Target}
 use Rattle.meaning.specs.Live.{Among}
 use Rattle.mir_func.specs.declared.func.Block.{Block}
@@ -15,6 +16,7 @@ use Rattle.live_lanes.specs.declared.table.Table.{Table}
 use Rattle.live_lanes.specs.Table.{Numbers}
 use Rattle.live_lanes.specs.Coded.{Doing, code_of}
 use Rattle.live_lanes.specs.Doing.{doing_of, lane_code, IsComputed}
+use Rattle.live_lanes.specs.Entered.{IsTableOf}
 use Rattle.live_lanes.specs.Entering.{EnteredStep}
 use Rattle.live_lanes.specs.Ordered.{place_of}
 use Rattle.live_laws.specs.Effects.Coded.{KeepsRules}
@@ -113,6 +115,13 @@ abbrev pub StandingLaw : Type 0
 StandingLaw =
     (t : Target) (f : Function) (num : Numbering) (es : List Edit) → IsFunction f.blocks f.next_id → SpareGone [] f es
     → AreCodes (λ l. false) (standing_code t f num es) (lane_code t (all_edited f es) num)
+
+-- A table of the code in which erased instructions stand is one of the edited function's code, where all others keep their numbers.
+abbrev pub StandingTableLaw : Type 0
+StandingTableLaw =
+    (t : Target) (f : Function) (num : Numbering) (es : List Edit) (slots slots' : Numbers) (flow : List BlockFlow) (rows : List LaneRange) → IsFunction f.blocks f.next_id → SpareGone [] f es
+    → ((id : ℕ) → has id (all_gone [] es) ≡ false → number_of slots' id ≡ number_of slots id) → IsTableOf (standing_code t f num es) slots flow rows
+    → IsTableOf (lane_code t (all_edited f es) num) slots' flow rows
 
 -- A table that was computed for a function is computed for the function after edits, where lanes keep the numbers that they had, it has the
 -- edited function's lanes, blocks and instructions, and its rows are brought up to date over the code in which erased instructions stand.

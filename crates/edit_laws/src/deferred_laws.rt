@@ -1,7 +1,8 @@
 //! Laws of edits of a function in which what is erased still stands, and does nothing, until the last edit
 //! is done.
 
-ghost use Rattle.edit_laws.specs.Deferred.{AllDeferredLaw, DeferredLaw};
+ghost use Rattle.edit_laws.specs.Deferred.{AllDeferredLaw, DeferredLaw, EditedRowsLaw};
+ghost use Rattle.edit_laws.specs.Deferred.{ErasedLastLaw, StandingLaw, StandingTableLaw};
 
 /// An edit changes what the edited instruction alone does, at lanes alone at which it is touched.
 pub fn deferred_law()
@@ -11,4 +12,24 @@ pub fn deferred_law()
 /// So do edits one after the other.
 pub fn all_deferred_law()
     ensures { AllDeferredLaw }
+{}
+
+/// Instructions may be erased after all other edits.
+pub fn erased_last_law()
+    ensures { ErasedLastLaw }
+{}
+
+/// The code in which erased instructions stand is that of the edited function but for these.
+pub fn standing_law()
+    ensures { StandingLaw }
+{}
+
+/// A table of the code in which erased instructions stand is one of the edited function's code.
+pub fn standing_table_law()
+    ensures { StandingTableLaw }
+{}
+
+/// A computed table is one of the function after edits where its rows are brought up to date so.
+pub fn edited_rows_law()
+    ensures { EditedRowsLaw }
 {}
