@@ -65,7 +65,7 @@ one_if u = cond u 1 0
 count-step : (id : ℕ) (i : Instr) (is : List Instr) → id_count id (i ∷ is) ≡ one_if (nat_eq i.id id) + id_count id is
 count-step id i is = sum_by-cons (λ (x : Instr). one_if (nat_eq x.id id)) i is
 
-total-step : (id : ℕ) (b : Block) (bs : List Block) → id_total id (b ∷ bs) ≡ id_count id b.instrs + id_total id bs
+pub total-step : (id : ℕ) (b : Block) (bs : List Block) → id_total id (b ∷ bs) ≡ id_count id b.instrs + id_total id bs
 total-step id b bs = sum_by-cons (λ (x : Block). id_count id x.instrs) b bs
 
 one-more : (n : ℕ) → 1 + n ≡ suc n
@@ -128,14 +128,14 @@ gone-none f (id ∷ ids) once x m = go (nat_eq id x) refl m (gone-none f ids onc
     go true e h rest = subst (λ y. id_total x (map (cut y) (all_deleted f ids).blocks) ≡ 0) (sym (eqb-true id x e)) (total-cut x (all_deleted f ids).blocks (few-left f ids once x))
     go false e h rest = omega (arith, id_total-cut id x (all_deleted f ids).blocks, rest h)
 
-head-other : (x : ℕ) (j : Instr) (is : List Instr) → id_count x (j ∷ is) ≡ 0 → nat_eq j.id x ≡ false
+pub head-other : (x : ℕ) (j : Instr) (is : List Instr) → id_count x (j ∷ is) ≡ 0 → nat_eq j.id x ≡ false
 head-other x j is none = go (nat_eq j.id x) (count-step x j is)
   where
     go : (u : Bool) → id_count x (j ∷ is) ≡ one_if u + id_count x is → u ≡ false
     go true step = absurd (omega (arith, step, none))
     go false step = refl
 
-tail-none : (x : ℕ) (j : Instr) (is : List Instr) → id_count x (j ∷ is) ≡ 0 → id_count x is ≡ 0
+pub tail-none : (x : ℕ) (j : Instr) (is : List Instr) → id_count x (j ∷ is) ≡ 0 → id_count x is ≡ 0
 tail-none x j is none = omega (arith, count-step x j is, none)
 
 none-in : (x : ℕ) (is : List Instr) → id_count x is ≡ 0 → (i : Instr) → Member i is → nat_eq i.id x ≡ false

@@ -41,3 +41,5 @@ pub mod Deferred
 pub mod ErasedLast
 pub mod Left
 pub mod Standing
+pub mod Ordering
+pub mod Rebuilt

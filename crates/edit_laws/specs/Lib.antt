@@ -23,3 +23,5 @@ pub mod RowEnd
 pub mod Turned
 pub mod RowsUpdated
 pub mod Deferred
+pub mod Ordering
+pub mod Rebuilt
