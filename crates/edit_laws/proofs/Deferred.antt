@@ -1,5 +1,5 @@
 -- A function over edits in which erased instructions still stand, over numbered lanes.
-use Rattle.std.proofs.Common.{◌≡◌, ◌∷◌, ◌++◌, ◌∙◌, ℕ, zero, suc, Bool, true, false, cond, List, [], Option, Some, refl, sym, ap, subst, map, flat_map, eqb-true}
+use Rattle.std.proofs.Common.{◌≡◌, ◌∷◌, ◌++◌, ◌∙◌, ℕ, zero, suc, Bool, true, false, cond, List, [], Option, Some, None, refl, sym, ap, subst, map, flat_map, eqb-true}
 use Rattle.std.specs.Prelude.{nat_eq, slice_get}
 use Rattle.target_base.specs.declared.types.OpId.{OpId}
 use Rattle.target_base.specs.declared.types.Target.{Target}
@@ -9,7 +9,8 @@ use Rattle.mir_func.specs.declared.func.Instr.{Instr}
 use Rattle.mir_func.specs.declared.func.Operand.{Operand}
 use Rattle.mir_func.specs.Value.{Function}
 use Rattle.mir_func.specs.Edits.{block_place, changed_in, inserted, made, put, update}
-use Rattle.mir_meaning.specs.Paths.{Code, Step, steps_of, has}
+use Rattle.mir_meaning.specs.declared.writing.LaneDef.{LaneDef}
+use Rattle.mir_meaning.specs.Paths.{Code, Step, steps_of, has, is_present, writing_of}
 use Rattle.instr_effects.specs.Steps.{Numbering}
 use Rattle.live_lanes.specs.Coded.{Doing, code_of, lanes_at}
 use Rattle.live_lanes.specs.Doing.{doing_of}
@@ -25,11 +26,15 @@ use Rattle.edit_laws.proofs.Edited.{Never, NeverBoth}
 use Rattle.edit_laws.proofs.Placed.{BothAt, ComesInto, GoesFrom, blocks-placed, put-blocks, Becomes, change-blocks}
 use Rattle.edit_laws.proofs.SideBySide.{AreSideBySide, no_more, one_more, behind, behind-none, codes-beside, done_by, read_at_ends}
 
+pub none-written : (q : Option LaneDef) → is_present q ≡ false → q ≡ None
+none-written None h = refl
+none-written (Some w) h = absurd (let z : true ≡ false = h in cc)
+
 -- instructions that aren't edited, and edits one after the other
 
 module _ (touched : ℕ → ℕ → Bool) where
   like-itself : (s : Step) → IsLike touched s s
-  like-itself s = record { id = refl; leaves = refl; used = λ l o. refl; written = λ l o. refl }
+  like-itself s = record { id = refl; leaves = refl; used = λ l o. refl; writing = λ l o. refl }
 
   unedited : (ss : List Step) → AreEdited touched ss ss
   unedited [] = edit_none
@@ -40,14 +45,14 @@ module _ (touched : ℕ → ℕ → Bool) where
     id = h.id ∙ k.id;
     leaves = h.leaves ∙ k.leaves;
     used = λ l o. h.used l (ap (touched l) k.id ∙ o) ∙ k.used l o;
-    written = λ l o. h.written l (ap (touched l) k.id ∙ o) ∙ k.written l o;
+    writing = λ l o. h.writing l (ap (touched l) k.id ∙ o) ∙ k.writing l o;
   }
 
   new-then : (r x : Step) → IsNew touched r → IsLike touched r x → IsNew touched x
   new-then r x h k = record {
     leaves = sym k.leaves ∙ h.leaves;
     unused = λ l o. sym (k.used l o) ∙ h.unused l (ap (touched l) k.id ∙ o);
-    unwritten = λ l o. sym (k.written l o) ∙ h.unwritten l (ap (touched l) k.id ∙ o);
+    unwritten = λ l o. sym (ap is_present (k.writing l o)) ∙ h.unwritten l (ap (touched l) k.id ∙ o);
   }
 
   stays-then : {r x : Step} {ss rs us : List Step} → IsLike touched r x → ((vs : List Step) → AreEdited touched vs rs → AreEdited touched vs us) → AreEdited touched ss (r ∷ rs) → AreEdited touched ss (x ∷ us)
@@ -200,7 +205,7 @@ module _ (touched : Touched) (t : Target) (f : Function) (num : Numbering) (gone
         go true e true = (like-itself (λ l k. touched l n k) (nothing i.id).0, refl)
         go true e false =
             let h : IsErased n i = c (sym (eqb-true id i.id e)) in
-            (record { id = refl; leaves = h.plain.1; used = h.names.unused; written = h.names.unwritten }, no-end t f num i h.plain.0)
+            (record { id = refl; leaves = h.plain.1; used = h.names.unused; writing = λ l o. none-written (writing_of l (doing i).0.writes) (h.names.unwritten l o) }, no-end t f num i h.plain.0)
 
     idle-steps : (n : ℕ) (is : List Instr) → ((i : Instr) → Member i is → i.id ≡ id → IsErased n i) → AreEdited (λ l k. touched l n k) (done_by now is) (done_by then is)
     idle-steps n [] c = edit_none

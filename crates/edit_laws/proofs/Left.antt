@@ -73,14 +73,14 @@ stays-left (one_left a) s e (there m) = there (stays-left a s e m)
 stays-left (one_goes a) s e here = absurd (let z : false ≡ true = e in cc)
 stays-left (one_goes a) s e (there m) = stays-left a s e m
 
-split-among : (before : List Step) (s : Step) (rest : List Step) → Among s (before ++ s ∷ rest)
+pub split-among : (before : List Step) (s : Step) (rest : List Step) → Among s (before ++ s ∷ rest)
 split-among [] s rest = here
 split-among (x ∷ before) s rest = there (split-among before s rest)
 
-abbrev Around : Step → List Step → Type 0
+abbrev pub Around : Step → List Step → Type 0
 Around s ss = (before : List Step) × (rest : List Step) × (ss ≡ before ++ s ∷ rest)
 
-among-split : (s : Step) (ss : List Step) → Among s ss → Around s ss
+pub among-split : (s : Step) (ss : List Step) → Among s ss → Around s ss
 among-split s [] m = elim m [ ]
 among-split s (x ∷ ss) here = ([], ss, refl)
 among-split s (x ∷ ss) (there m) = let z = among-split s ss m in (x ∷ z.0, z.1, ap (λ us. x ∷ us) z.2)

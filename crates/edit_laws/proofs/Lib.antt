@@ -43,3 +43,4 @@ pub mod Left
 pub mod Standing
 pub mod Ordering
 pub mod Rebuilt
+pub mod EditedTable

@@ -3,21 +3,23 @@ use Rattle.std.proofs.Common.{◌≡◌, ◌∷◌, ◌++◌, ◌∙◌, ◌<◌
 use Rattle.std.specs.Prelude.{nat_eq}
 use Rattle.slot_index.specs.Order.{number_of}
 use Rattle.mir_meaning.specs.declared.writing.LaneDef.{LaneDef}
-use Rattle.mir_meaning.specs.Paths.{Code, Step, steps_of, last_of, has, Use, Unused, Certain, Into, use_of, writing_of}
+use Rattle.mir_meaning.specs.Paths.{Code, Step, steps_of, last_of, has, is_present, Use, Unused, Certain, Into, use_of, writing_of}
 use Rattle.live_lanes.specs.declared.compute.flow.BlockFlow.{BlockFlow}
 use Rattle.live_lanes.specs.declared.row.Cause.{Cause}
 use Rattle.live_lanes.specs.declared.row.LaneRange.{LaneRange}
 use Rattle.live_lanes.specs.declared.row.LaneUse.{LaneUse}
 use Rattle.live_lanes.specs.declared.row.PieceEnd.{PieceEnd}
 use Rattle.live_lanes.specs.Table.{Numbers, Begun, Seen, unseen, begun_cause, begun_end, changed_last, ends_with, new_begun, starts_last, with_last, with_reading}
-use Rattle.live_lanes.specs.Entered.{Shape, shape, start_of, reading, starts, shape_of, rows_seen, Rises, IsTableOf}
+use Rattle.live_lanes.specs.Entered.{Shape, shape, Start, start_of, reading, reading_of, readings_until, starts, shape_of, rows_seen, Rises, IsTableOf}
 use Rattle.live_lanes.specs.Entering.{AreApart, enter_all}
 use Rattle.live_lanes.proofs.Gathered.{added, after_step, bare, bare-step, fresh-step, IsFresh, pieces, pieces-more}
 use Rattle.live_lanes.proofs.Growth.{piece-law}
 use Rattle.live_lanes.proofs.Stepped.{appended, appended-starts, last_readings, used, written}
 use Rattle.edit_laws.specs.CarriedRows.{started, CopiesPieces}
-use Rattle.edit_laws.specs.Rebuilt.{lane_used, lane_written, lane_entered, rebuilt, copied_piece, copied, HasPieces, RebuiltLaw, IsRebuilt, made_anew, stays, AreRebuilt, RebuiltRowsLaw}
+use Rattle.edit_laws.specs.Rebuilt.{lane_used, lane_written, lane_entered, rebuilt, copied_piece, copied, HasPieces, RebuiltLaw, UntouchedLaw, IsRebuilt, made_anew, stays, AreRebuilt, RebuiltRowsLaw}
+use Rattle.edit_laws.specs.Reasons.{AreEdited, edit_none, edit_stays, edit_comes}
 use Rattle.edit_laws.proofs.CarriedRows.{found-first}
+use Rattle.edit_laws.proofs.Deferred.{none-written}
 use Rattle.edit_laws.proofs.Needs.{get-map}
 
 -- a reading behind those of other instructions
@@ -152,3 +154,23 @@ rebuilt-rows-law old new slots slots' flow flow' x z t r = record {
   };
   copies = λ l b. cell-copies old new slots slots' flow flow' x z t r l b (r.cells l b);
 }
+
+-- where nothing is touched
+
+module _ (touched : ℕ → ℕ → Bool) (l : ℕ) (none : (id : ℕ) → touched l id ≡ false) where
+  readings-same : {ss rs : List Step} → AreEdited touched ss rs → readings_until l ss ≡ readings_until l rs
+  readings-same edit_none = refl
+  readings-same (edit_stays {s = s} {r = r} h a) = λ k. reading_of (h.id k) (h.used l (none r.id) k) ++ cond (is_present (h.writing l (none r.id) k)) [] (readings-same a k)
+  readings-same (edit_comes {r = r} {rs = rs} h a) = readings-same a ∙ sym (λ k. reading_of r.id (h.unused l (none r.id) k) ++ cond (h.unwritten l (none r.id) k) [] (readings_until l rs))
+
+  starts-same : {ss rs : List Step} → AreEdited touched ss rs → starts l ss ≡ starts l rs
+  starts-same edit_none = refl
+  starts-same (edit_stays {s = s} {r = r} h a) =
+      λ k. elim (h.writing l (none r.id) k) as (λ q. List Start) [ None ↦ starts-same a k | Some w ↦ record { start = h.id k; early = w.early; from = w.from; readings = readings-same a k } ∷ starts-same a k ]
+  starts-same (edit_comes {r = r} {rs = rs} h a) =
+      starts-same a
+      ∙ sym (λ k. elim (none-written (writing_of l r.writes) (h.unwritten l (none r.id)) k) as (λ q. List Start) [ None ↦ starts l rs | Some w ↦ record { start = r.id; early = w.early; from = w.from; readings = readings_until l rs } ∷ starts l rs ])
+
+pub untouched-law : UntouchedLaw
+untouched-law touched old new l b e none =
+    λ k. record { is_read_last = has l (e.last b k); readings = readings-same (λ a i. touched a b i) l none (e.steps b) k; segments = starts-same (λ a i. touched a b i) l none (e.steps b) k }

@@ -105,7 +105,7 @@ module _ (t : Target) (f : Function) (num : Numbering) (es : List Edit) (is : Is
   other : (b : Block) (i : Instr) → Member b left-over.blocks → Member i b.instrs → has i.id gone ≡ false
   other = not-gone (all_deferred f es) gone (deferred-single f es is)
 
-  is-left : IsLeft (standing_code t f num es) (lane_code t (all_edited f es) num)
+  pub is-left : IsLeft (standing_code t f num es) (lane_code t (all_edited f es) num)
   is-left =
       subst (λ (g : Function). IsLeft (standing_code t f num es) (lane_code t g num)) (sym (erased-last-law f es spare))
       (subst (IsLeft (standing_code t f num es)) (none-idle t num gone left-over other) (deleted-left t num gone (all_deferred f es) gone (λ id m. m)))

@@ -25,3 +25,4 @@ pub mod RowsUpdated
 pub mod Deferred
 pub mod Ordering
 pub mod Rebuilt
+pub mod EditedTable

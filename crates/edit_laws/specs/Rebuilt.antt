@@ -1,5 +1,5 @@
 -- A lane's cell in a block that is made anew from what the instructions do to the lane, and takes causes and ends from the cell of before.
-use Rattle.std.specs.Prelude.{◌≡◌, ◌<◌, ℕ, List, Option, None, Some, length, map}
+use Rattle.std.specs.Prelude.{◌≡◌, ◌<◌, ℕ, false, List, Option, None, Some, length, map}
 use Rattle.mir_meaning.specs.declared.writing.LaneDef.{LaneDef}
 use Rattle.mir_meaning.specs.Paths.{Among, Step, Code, steps_of, last_of, IsMatched, Use, Unused, Certain, Into, use_of, writing_of}
 use Rattle.live_lanes.specs.declared.compute.flow.BlockFlow.{BlockFlow}
@@ -8,6 +8,7 @@ use Rattle.live_lanes.specs.Table.{Numbers, Begun, Seen, unseen, begun_cause, be
 use Rattle.live_lanes.specs.Entered.{reading, start_of, readings_until, starts, shape_of, rows_seen, IsNumbered, IsFlow, IsTableOf}
 use Rattle.live_lanes.specs.Entering.{AreApart, enter_all}
 use Rattle.edit_laws.specs.CarriedRows.{started, CopiesPieces}
+use Rattle.edit_laws.specs.Reasons.{Touched, IsEditOf}
 
 -- what an instruction does to the lane is entered behind what is there: its reading, and then its writing
 abbrev pub lane_used : ℕ → Use → Seen → Seen
@@ -42,6 +43,10 @@ pub record HasPieces (l : ℕ) (ss : List Step) (v : Seen) : Type 0 where
 -- Entering the instructions of a block gives the lane its pieces there, if no two have one id.
 abbrev pub RebuiltLaw : Type 0
 RebuiltLaw = (l : ℕ) (ss : List Step) → AreApart ss → HasPieces l ss (rebuilt l ss)
+
+-- Where no instruction of a block is touched at a lane, the code still has the lane's pieces there.
+abbrev pub UntouchedLaw : Type 0
+UntouchedLaw = (touched : Touched) (old new : Code) (l b : ℕ) → IsEditOf touched old new → ((id : ℕ) → touched l b id ≡ false) → shape_of old l b ≡ shape_of new l b
 
 -- a cell is made anew, or it stays where the code still has its pieces
 pub data IsRebuilt (old new : Code) (l b : ℕ) (was now : Seen) : Type 0 where

@@ -3,6 +3,7 @@
 
 ghost use Rattle.edit_laws.specs.Deferred.{AllDeferredLaw, DeferredLaw, EditedRowsLaw};
 ghost use Rattle.edit_laws.specs.Deferred.{ErasedLastLaw, StandingLaw, StandingTableLaw};
+ghost use Rattle.edit_laws.specs.EditedTable.{EditedTableLaw, FlowLaw, StandingOrderLaw};
 
 /// An edit changes what the edited instruction alone does, at lanes alone at which it is touched.
 pub fn deferred_law()
@@ -32,4 +33,19 @@ pub fn standing_table_law()
 /// A computed table is one of the function after edits where its rows are brought up to date so.
 pub fn edited_rows_law()
     ensures { EditedRowsLaw }
+{}
+
+/// The ways between blocks are those of the edited code too.
+pub fn flow_law()
+    ensures { FlowLaw }
+{}
+
+/// The code in which erased instructions stand has the order of the function with these.
+pub fn standing_order_law()
+    ensures { StandingOrderLaw }
+{}
+
+/// From the table of before over edits to that of the function after them, from beginning to end.
+pub fn edited_table_law()
+    ensures { EditedTableLaw }
 {}
