@@ -44,3 +44,4 @@ pub mod Standing
 pub mod Ordering
 pub mod Rebuilt
 pub mod EditedTable
+pub mod Numbered

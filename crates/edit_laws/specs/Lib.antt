@@ -26,3 +26,4 @@ pub mod Deferred
 pub mod Ordering
 pub mod Rebuilt
 pub mod EditedTable
+pub mod Numbered
