@@ -36,7 +36,7 @@ above slots m (x ∷ ss) (suc k) s r e =
     let ih = above slots (number_of slots x.start) ss k s (both-right (ltb m (number_of slots x.start)) (rises_from slots (number_of slots x.start) ss) r) e in
     omega (arith, h, ih)
 
-found-first : (slots : Numbers) (m : ℕ) (ss : List Begun) (k : ℕ) (s : Begun) → rises_from slots m ss ≡ true → slice_get ss k ≡ Some s → started s.start ss ≡ Some s
+pub found-first : (slots : Numbers) (m : ℕ) (ss : List Begun) (k : ℕ) (s : Begun) → rises_from slots m ss ≡ true → slice_get ss k ≡ Some s → started s.start ss ≡ Some s
 found-first slots m [] k s r e = absurd (cc)
 found-first slots m (x ∷ ss) zero s r e =
     let z : x ≡ s = some-begun x s e in

@@ -83,12 +83,12 @@ module _ (t : Target) (f g : Function) (same : f.classes ≡ g.classes) where
       go None = refl
       go (Some e) = λ k. cond (is_silent e) (silent-reads t f g same e i.operands k) (map (λ (v : Value). v.0) (values-same t f g same e i k))
 
-  doing-same : (num : Numbering) (i : Instr) → doing_of t f num i ≡ doing_of t g num i
+  pub doing-same : (num : Numbering) (i : Instr) → doing_of t f num i ≡ doing_of t g num i
   doing-same num i =
       λ k. (record { id = i.id; reads = filter_map num (read_owners (entered-reads i k)) ++ act_readings num (acts_of (entered-writes i k)); writes = act_writings num (acts_of (entered-writes i k)); leaves = does is_terminator t i }, map (λ (p : RegOp × ℕ). (p.1, filter_map num (owners_read (sources t f g same p.0 k)))) (end_uses t i))
 
 -- an instruction that is no phi reads nothing at the ends of blocks
-no-end : (t : Target) (f : Function) (num : Numbering) (i : Instr) → does is_phi t i ≡ false → (doing_of t f num i).1 ≡ []
+pub no-end : (t : Target) (f : Function) (num : Numbering) (i : Instr) → does is_phi t i ≡ false → (doing_of t f num i).1 ≡ []
 no-end t f num i e = ap (λ u. map (phi_read_of t f num) (cond u (pairs_behind i.operands) [])) e
 
 module _ (t : Target) (f g : Function) (same : f.classes ≡ g.classes) (num : Numbering) (told : ℕ → Bool) (Goes Comes : Instr → Type 0) (Both : Instr → Instr → Type 0) where

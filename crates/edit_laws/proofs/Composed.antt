@@ -48,7 +48,7 @@ module _ (told : ℕ → Bool) where
   steps-then (step_goes h a) b = step_goes h (steps-then a b)
   steps-then (step_comes h a) b = behind-comes h (λ vs c. steps-then a c) b
 
-  codes-then : (old mid new : Code) → AreCodes told old mid → AreCodes told mid new → AreCodes told old new
+  pub codes-then : (old mid new : Code) → AreCodes told old mid → AreCodes told mid new → AreCodes told old new
   codes-then old mid new x y = record { steps = λ b. steps-then (x.steps b) (y.steps b); last = λ b. x.last b ∙ y.last b; exits = λ b. x.exits b ∙ y.exits b }
 
 pub all-codes-law : AllCodesLaw
@@ -57,7 +57,7 @@ all-codes-law t f [] num told keeps tells =
 all-codes-law t f (e ∷ es) num told keeps tells =
     codes-then told (lane_code t f num) (lane_code t (edited f e) num) (lane_code t (all_edited (edited f e) es) num) (codes-law t f e num told keeps.0 tells.0) (all-codes-law t (edited f e) es num told keeps.1 tells.1)
 
-all-classes-stay : (f : Function) (es : List Edit) → (all_edited f es).classes ≡ f.classes
+pub all-classes-stay : (f : Function) (es : List Edit) → (all_edited f es).classes ≡ f.classes
 all-classes-stay f [] = refl
 all-classes-stay f (e ∷ es) = all-classes-stay (edited f e) es ∙ classes-stay f e
 

@@ -1,6 +1,6 @@
 -- The instructions of an edited block beside those of before, and the pieces of a lane at the same points.
 use Rattle.std.proofs.Common.{◌≡◌, ◌⊎◌, ℕ, Bool, true, false, cond, List, [], ◌∷◌, ◌++◌, Option, None, Some, refl, sym, ap, ◌∙◌, subst, inl, inr, append-nil}
-use Rattle.mir_meaning.specs.Paths.{Among, Step, Code, steps_of, is_written}
+use Rattle.mir_meaning.specs.Paths.{Among, Step, Code, steps_of, is_present, is_written}
 use Rattle.live_lanes.specs.Graph.{writes_in}
 use Rattle.live_lanes.specs.Table.{Numbers}
 use Rattle.live_lanes.specs.Entered.{IsNumbered}
@@ -71,9 +71,9 @@ module _ (touched : Touched) (old new : Code) (slots : Numbers) (numbered : IsNu
     agree-stays : (x : Step) (o q : Option ℕ) → IsLike (λ k i. touched k b i) x y → Begins new l b (writes_in l done') q → (o ≡ q) ⊎ Cut l done' o → (u v : Bool) → is_written l x ≡ u → is_written l y ≡ v → (t : Bool) → touched l b y.id ≡ t → (cond u (Some x.id) o ≡ cond v (Some y.id) q) ⊎ Cut l next' (cond u (Some x.id) o)
     agree-stays x o q h begun agree true true u v t e = inl (ap Some h.id)
     agree-stays x o q h begun agree true false u v true e = inr (goes-there x.id h.id v e)
-    agree-stays x o q h begun agree true false u v false e = no-both (is_written l x) (is_written l y) (h.written l e) u v
+    agree-stays x o q h begun agree true false u v false e = no-both (is_written l x) (is_written l y) (ap is_present (h.writing l e)) u v
     agree-stays x o q h begun agree false true u v true e = inr (comes-there o q begun agree e)
-    agree-stays x o q h begun agree false true u v false e = no-both (is_written l y) (is_written l x) (sym (h.written l e)) v u
+    agree-stays x o q h begun agree false true u v false e = no-both (is_written l y) (is_written l x) (sym (ap is_present (h.writing l e))) v u
     agree-stays x o q h begun agree false false u v t e = unwritten-there o q v agree
 
     pub at-new : (done : List Step) → IsNew (λ k i. touched k b i) y → At l done done' → At l done next'

@@ -36,3 +36,12 @@ pub mod CarriedRows
 pub mod RowEnd
 pub mod Turned
 pub mod RowsUpdated
+pub mod SideBySide
+pub mod Deferred
+pub mod ErasedLast
+pub mod Left
+pub mod Standing
+pub mod Ordering
+pub mod Rebuilt
+pub mod EditedTable
+pub mod Numbered

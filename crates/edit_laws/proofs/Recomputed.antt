@@ -6,7 +6,7 @@ use Rattle.std.proofs.lemmas.List.{length-map}
 use Rattle.std.proofs.lemmas.Option.{slice_get_past}
 use Rattle.target_base.specs.declared.types.Target.{Target}
 use Rattle.mir_func.specs.Value.{Function}
-use Rattle.mir_meaning.specs.Paths.{Among, here, there, Step, Code, steps_of, is_written}
+use Rattle.mir_meaning.specs.Paths.{Among, here, there, Step, Code, steps_of, is_present, is_written}
 use Rattle.live_lanes.specs.declared.row.Cause.{Cause}
 use Rattle.live_lanes.specs.declared.row.LaneRange.{LaneRange}
 use Rattle.live_lanes.specs.declared.row.PieceEnd.{PieceEnd}
@@ -102,7 +102,7 @@ module _ (touched : Touched) (old new : Code) (slots slots' : Numbers) (x y : Li
   written l b us r vs e w false t (inl z) =
       let p = z.1 in
       let s : Step = z.0 in
-      let v : is_written l s ≡ true = p.like.written l t ∙ w in
+      let v : is_written l s ≡ true = ap is_present (p.like.writing l t) ∙ w in
       inl (record {
         number = writes_in l (p.before ++ s ∷ []);
         start = Some r.id;

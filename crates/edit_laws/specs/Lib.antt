@@ -22,3 +22,8 @@ pub mod CarriedRows
 pub mod RowEnd
 pub mod Turned
 pub mod RowsUpdated
+pub mod Deferred
+pub mod Ordering
+pub mod Rebuilt
+pub mod EditedTable
+pub mod Numbered

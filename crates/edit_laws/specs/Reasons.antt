@@ -1,6 +1,6 @@
 -- Why pieces are to be live, and how the pieces of an edited function stand to those of before.
 use Rattle.std.specs.Prelude.{◌≡◌, ℕ, Bool, true, false, List, [], ◌∷◌, ◌++◌, Option, None, Some}
-use Rattle.mir_meaning.specs.Paths.{Among, Step, Code, steps_of, last_of, exits_of, Unused, Certain, Into, use_of, is_written}
+use Rattle.mir_meaning.specs.Paths.{Among, Step, Code, steps_of, last_of, exits_of, Unused, Certain, Into, use_of, is_written, writing_of}
 use Rattle.live_lanes.specs.declared.row.Cause.{Cause}
 use Rattle.live_lanes.specs.declared.row.Cause.TheVariants as causes
 use Rattle.live_lanes.specs.Graph.{Causes, is_live, writes_in}
@@ -35,7 +35,7 @@ pub record IsLike (touched : ℕ → ℕ → Bool) (s r : Step) : Type 0 where
   pub id : s.id ≡ r.id
   pub leaves : s.leaves ≡ r.leaves
   pub used : (l : ℕ) → touched l r.id ≡ false → use_of l s ≡ use_of l r
-  pub written : (l : ℕ) → touched l r.id ≡ false → is_written l s ≡ is_written l r
+  pub writing : (l : ℕ) → touched l r.id ≡ false → writing_of l s.writes ≡ writing_of l r.writes
 
 -- one that comes uses and writes none of these, and is no terminator
 pub record IsNew (touched : ℕ → ℕ → Bool) (r : Step) : Type 0 where

@@ -3,6 +3,9 @@
 #![tactic(auto)]
 
 pub mod chain_laws;
+pub mod deferred_laws;
+pub mod order_laws;
 pub mod point_laws;
+pub mod rebuilt_laws;
 pub mod table_laws;
 pub mod update_laws;
