@@ -223,10 +223,11 @@ put-splits : (x : Instr) (before : Option ℕ) (p : ℕ) (bs : List Block) → p
 put-splits x before p [] h = absurd (omega (arith, h))
 put-splits x before zero (b ∷ bs) h =
     let n = gap_place before b.instrs in
-    let is = b.instrs in
-    (ids_of (drop n is) ++ all_ids bs,
-     ap (λ ns. ns ++ all_ids bs) (ids-split n is) ∙ append_assoc (ids_of (take n is)) (ids_of (drop n is)) (all_ids bs),
-     ap (λ ns. ns ++ all_ids bs) (ids-both (take n is) (x ∷ drop n is)) ∙ append_assoc (ids_of (take n is)) (x.id ∷ ids_of (drop n is)) (all_ids bs))
+    let is = b.instrs in (
+      ids_of (drop n is) ++ all_ids bs,
+      ap (λ ns. ns ++ all_ids bs) (ids-split n is) ∙ append_assoc (ids_of (take n is)) (ids_of (drop n is)) (all_ids bs),
+      ap (λ ns. ns ++ all_ids bs) (ids-both (take n is) (x ∷ drop n is)) ∙ append_assoc (ids_of (take n is)) (x.id ∷ ids_of (drop n is)) (all_ids bs),
+    )
 put-splits x before (suc p) (b ∷ bs) h =
     let less : p < length bs = omega (arith, h) in
     let z : Splits x before p bs = put-splits x before p bs less in
@@ -322,7 +323,7 @@ put-order-law t f gap op os x y is there keeps o p =
       positions = λ n. ap (λ m. get nat_cmp m n) p.positions ∙ (o.positions n ∙ place-kept t Never (IsNew t f gap op os) NeverBoth n a);
       homes = put-homes t f gap op os x y is o p;
       ways = subst (λ w. AreWays t (λ n. place_of n (inserted f gap op os).blocks) (inserted f gap op os).blocks w.items) (sym p.flow)
-        (ways-kept t Never (IsNew t f gap op os) NeverBoth kept f.blocks (inserted f gap op os).blocks x.flow.items a o.ways);
+          (ways-kept t Never (IsNew t f gap op os) NeverBoth kept f.blocks (inserted f gap op os).blocks x.flow.items a o.ways);
       layout = put-layout t f gap op os x y is there o p;
       numbered = p.numbered;
     }

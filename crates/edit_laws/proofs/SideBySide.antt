@@ -20,7 +20,7 @@ read_at_ends d place b is = flat_map (λ (e : EnteredStep). flat_map (lanes_at p
 pub data AreSideBySide (R : ℕ → List Step → List Step → Type 0) (d d' : Doing) : ℕ → List Block → List Block → Type 0 where
   no_more : {n : ℕ} → AreSideBySide R d d' n [] []
   one_more : {n : ℕ} {b c : Block} {bs cs : List Block} → b.number ≡ c.number → b.successors ≡ c.successors → R n (done_by d b.instrs) (done_by d' c.instrs)
-    → ((place : ℕ → Option ℕ) (k : ℕ) → read_at_ends d place k b.instrs ≡ read_at_ends d' place k c.instrs) → AreSideBySide R d d' (suc n) bs cs → AreSideBySide R d d' n (b ∷ bs) (c ∷ cs)
+      → ((place : ℕ → Option ℕ) (k : ℕ) → read_at_ends d place k b.instrs ≡ read_at_ends d' place k c.instrs) → AreSideBySide R d d' (suc n) bs cs → AreSideBySide R d d' n (b ∷ bs) (c ∷ cs)
 
 -- a position behind another
 abbrev pub behind : ℕ → ℕ → ℕ

@@ -320,8 +320,7 @@ module _ (t : Target) (f : Function) (plain : has_no_phis t f.blocks ≡ true) (
   become n c [] w s = tt
   become n c (b ∷ bs) w s =
       let L = instrs_lowered t f.classes c b.instrs in
-      let a = all-lower b (w b here) c b.instrs (λ i m. m) in
-      (
+      let a = all-lower b (w b here) c b.instrs (λ i m. m) in (
         record {
           number = refl;
           successors = refl;
