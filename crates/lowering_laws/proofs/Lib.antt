@@ -57,3 +57,5 @@ pub mod BlockRules
 pub mod PhiBlocks
 pub mod TieBlocks
 pub mod TieClasses
+pub mod TieNames
+pub mod Names

@@ -7,7 +7,7 @@ use Rattle.mir_func.specs.declared.func.Block.{Block}
 use Rattle.mir_func.specs.Value.{Function}
 use Rattle.mir_func.specs.Binding.{does, is_lowered_away}
 use Rattle.mir_meaning.specs.declared.Form.TheVariants as forms
-use Rattle.mir_meaning.specs.Rules.{V5, V8, V9}
+use Rattle.mir_meaning.specs.Rules.{V3, V4, V5, V8, V9}
 use Rattle.mir_meaning.specs.Valid.{IsValid, shape_fault}
 use Rattle.live_laws.specs.Effects.Shaped.{AreClasses}
 use Rattle.phi_elim.specs.Phis.{phis_lowered}
@@ -36,3 +36,9 @@ abbrev pub LoweredOpcodes : Type 0
 LoweredOpcodes =
     (t : Target) (f : Function) → IsValid t forms.Source f → AreClasses t f
     → (b : Block) (i : Instr) → Member b (lowered t f).blocks → Member i b.instrs → does (λ e. not (is_lowered_away e)) t i ≡ true
+
+-- each register that an instruction names has a class, and its index fits it
+abbrev pub LoweredNames : Type 0
+LoweredNames =
+    (t : Target) (f : Function) → IsValid t forms.Source f → AreClasses t f
+    → (b : Block) (i : Instr) → Member b (lowered t f).blocks → Member i b.instrs → (V3 (lowered t f) i ≡ true) × (V4 t (lowered t f) i ≡ true)

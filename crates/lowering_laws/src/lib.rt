@@ -2,7 +2,7 @@
 //! that a check proves it.
 #![tactic(auto)]
 
-ghost use Rattle.lowering_laws.specs.Blocks.{LoweredClasses, LoweredKeepBlockRules, LoweredOpcodes, PhisKeepBlockRules};
+ghost use Rattle.lowering_laws.specs.Blocks.{LoweredClasses, LoweredKeepBlockRules, LoweredNames, LoweredOpcodes, PhisKeepBlockRules};
 ghost use Rattle.lowering_laws.specs.Laws.{IdsAreDistinct, LoweredForm, LoweredPhisRefine, LoweredRefine, LoweredTiedRefine, NoneLoweredAway, PhisAreGone};
 
 /// A valid source without its phis does what it did.
@@ -59,4 +59,9 @@ pub fn classes_law()
 /// Each of its opcodes is known, and none is lowered away.
 pub fn opcodes_law()
     ensures { LoweredOpcodes }
+{}
+
+/// Each register that its instructions name has a class, and its index fits it.
+pub fn names_law()
+    ensures { LoweredNames }
 {}
