@@ -45,3 +45,5 @@ pub mod Ordering
 pub mod Rebuilt
 pub mod EditedTable
 pub mod Numbered
+pub mod LaneSteps
+pub mod Told

@@ -27,3 +27,4 @@ pub mod Ordering
 pub mod Rebuilt
 pub mod EditedTable
 pub mod Numbered
+pub mod LaneSteps
