@@ -42,6 +42,7 @@ pub mod ErasedLast
 pub mod Left
 pub mod Standing
 pub mod Ordering
+pub mod OrderSteps
 pub mod Rebuilt
 pub mod EditedTable
 pub mod Numbered

@@ -24,6 +24,7 @@ pub mod Turned
 pub mod RowsUpdated
 pub mod Deferred
 pub mod Ordering
+pub mod OrderSteps
 pub mod Rebuilt
 pub mod EditedTable
 pub mod Numbered
