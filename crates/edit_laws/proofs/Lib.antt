@@ -38,6 +38,7 @@ pub mod Turned
 pub mod RowsUpdated
 pub mod SideBySide
 pub mod Deferred
+pub mod DeferredRows
 pub mod ErasedLast
 pub mod Left
 pub mod Standing

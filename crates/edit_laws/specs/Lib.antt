@@ -23,6 +23,7 @@ pub mod RowEnd
 pub mod Turned
 pub mod RowsUpdated
 pub mod Deferred
+pub mod DeferredRows
 pub mod Ordering
 pub mod OrderSteps
 pub mod Rebuilt
