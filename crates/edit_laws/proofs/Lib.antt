@@ -38,10 +38,14 @@ pub mod Turned
 pub mod RowsUpdated
 pub mod SideBySide
 pub mod Deferred
+pub mod DeferredRows
 pub mod ErasedLast
 pub mod Left
 pub mod Standing
 pub mod Ordering
+pub mod OrderSteps
 pub mod Rebuilt
 pub mod EditedTable
 pub mod Numbered
+pub mod LaneSteps
+pub mod Told

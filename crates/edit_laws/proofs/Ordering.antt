@@ -98,7 +98,7 @@ ids-both : (is js : List Instr) → ids_of (is ++ js) ≡ ids_of is ++ ids_of js
 ids-both [] js = refl
 ids-both (i ∷ is) js = ap (λ ns. i.id ∷ ns) (ids-both is js)
 
-ids-split : (n : ℕ) (is : List Instr) → ids_of is ≡ ids_of (take n is) ++ ids_of (drop n is)
+pub ids-split : (n : ℕ) (is : List Instr) → ids_of is ≡ ids_of (take n is) ++ ids_of (drop n is)
 ids-split zero [] = refl
 ids-split zero (i ∷ is) = refl
 ids-split (suc n) [] = refl
@@ -178,7 +178,7 @@ none-at x (c ∷ bs) none (suc k) b e =
     let none' : id_total x bs ≡ 0 = omega (arith, total-step x c bs, none) in
     none-at x bs none' k b e
 
-next-none : (bs : List Block) (n : ℕ) → IsFunction bs n → id_total n bs ≡ 0
+pub next-none : (bs : List Block) (n : ℕ) → IsFunction bs n → id_total n bs ≡ 0
 next-none bs n f = go (nat_lt n n) (le-ltb n n (omega arith)) (f.once n)
   where
     go : (u : Bool) → u ≡ false → id_total n bs ≤ cond u 1 0 → id_total n bs ≡ 0
@@ -195,7 +195,7 @@ place-left z (x ∷ xs) ys h = go (nat_eq x z) h (place-left z xs ys)
     go true h rest = refl
     go false h rest = let less : place z xs < length xs = omega (arith, h) in ap (λ n. 1 + n) (rest less)
 
-after-length : (xs ys : List ℕ) → AreSingle xs → place_after (last_id xs) (xs ++ ys) ≡ length xs
+pub after-length : (xs ys : List ℕ) → AreSingle xs → place_after (last_id xs) (xs ++ ys) ≡ length xs
 after-length xs ys single = go (last_id xs) (behind-last xs single)
   where
     go : (q : Option ℕ) → place_after q xs ≡ length xs → place_after q (xs ++ ys) ≡ length xs

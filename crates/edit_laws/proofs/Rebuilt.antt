@@ -96,7 +96,7 @@ above slots n (s ∷ ss) id r m = go (nat_eq s.id id) refl m (above slots (numbe
     go true e h rest = subst (λ k. n < number_of slots k) (eqb-true s.id id e) r.0
     go false e h rest = omega (arith, r.0, rest h)
 
-apart-of : (slots : Numbers) (n : ℕ) (ss : List Step) → Rises slots n ss → AreApart ss
+pub apart-of : (slots : Numbers) (n : ℕ) (ss : List Step) → Rises slots n ss → AreApart ss
 apart-of slots n [] r = tt
 apart-of slots n (s ∷ ss) r = (go (has s.id (map (λ (x : Step). x.id) ss)) refl, apart-of slots (number_of slots s.id) ss r.2)
   where

@@ -23,7 +23,10 @@ pub mod RowEnd
 pub mod Turned
 pub mod RowsUpdated
 pub mod Deferred
+pub mod DeferredRows
 pub mod Ordering
+pub mod OrderSteps
 pub mod Rebuilt
 pub mod EditedTable
 pub mod Numbered
+pub mod LaneSteps

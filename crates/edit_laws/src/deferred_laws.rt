@@ -3,6 +3,7 @@
 
 ghost use Rattle.edit_laws.specs.Deferred.{AllDeferredLaw, DeferredLaw, EditedRowsLaw};
 ghost use Rattle.edit_laws.specs.Deferred.{ErasedLastLaw, StandingLaw, StandingTableLaw};
+ghost use Rattle.edit_laws.specs.DeferredRows.{DeferredMake, PutsSpare};
 ghost use Rattle.edit_laws.specs.EditedTable.{EditedTableLaw, FlowLaw, StandingOrderLaw};
 
 /// An edit changes what the edited instruction alone does, at lanes alone at which it is touched.
@@ -48,4 +49,10 @@ pub fn standing_order_law()
 /// From the table of before over edits to that of the function after them, from beginning to end.
 pub fn edited_table_law()
     ensures { EditedTableLaw }
+{}
+
+/// Worked rows: an instruction that is erased first and goes last.
+pub fn rows()
+    ensures make { DeferredMake }
+    ensures spare { PutsSpare }
 {}

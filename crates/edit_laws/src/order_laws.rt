@@ -1,6 +1,7 @@
 //! Laws of where a table has the instructions and the blocks of a function, over edits.
 
 ghost use Rattle.edit_laws.specs.Numbered.{ErasedPlainLaw, NumbersEditLaw};
+ghost use Rattle.edit_laws.specs.OrderSteps.{OpenLaw, RemovedLaw};
 ghost use Rattle.edit_laws.specs.Ordering.{ErasedOrderLaw, LaidOutLaw, PutOrderLaw, ReplacedOrderLaw};
 
 /// An instruction is put into the order behind that which stands before its gap.
@@ -31,4 +32,14 @@ pub fn numbers_edit_law()
 /// Instructions that edits erase are neither phis nor terminators when they go at last.
 pub fn erased_plain_law()
     ensures { ErasedPlainLaw }
+{}
+
+/// An instruction can be put into any gap of a block: its id isn't in the order, and that before it is.
+pub fn open_law()
+    ensures { OpenLaw }
+{}
+
+/// Where an id goes from the order, all others keep their numbers.
+pub fn removed_law()
+    ensures { RemovedLaw }
 {}
