@@ -59,7 +59,7 @@ module _ (a : UnitTable) (none : list_any has_lists a.units.items ≡ false) whe
       go None f g = absurd (cc)
       go (Some r) f g = no-items h.parts.items (none-at has_parts r.blocks.items b h (none-at has_lists a.units.items u r none f) g)
 
-  nothing-held : (u b : ℕ) → held_of_some (list_in a u b) ≡ []
+  pub nothing-held : (u b : ℕ) → held_of_some (list_in a u b) ≡ []
   nothing-held u b = go (list_in a u b) refl
     where
       go : (o : Option HeldList) → list_in a u b ≡ o → held_of_some o ≡ []

@@ -4,3 +4,16 @@ pub mod Points
 pub mod Walked
 pub mod Clashing
 pub mod Empty
+pub mod Sought
+pub mod Placed
+pub mod Written
+pub mod Refused
+pub mod Owned
+pub mod Thinned
+pub mod Lots
+pub mod Filled
+pub mod Lanes
+pub mod Ranges
+pub mod Starts
+pub mod Assigned
+pub mod NewLists

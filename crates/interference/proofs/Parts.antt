@@ -1,5 +1,5 @@
 -- Stretches that lie apart: those that begin by a point, part by part.
-use Rattle.std.proofs.Common.{◌≡◌, ◌<◌, ◌≤◌, ◌⊎◌, ℕ, zero, suc, ◌+◌, ◌-◌, Bool, true, false, cond, ◌&&◌, length, map, take, List, [], ◌∷◌, ◌++◌, Option, None, Some, inl, inr, refl, sym, ap, ◌∙◌, arith, get_or, max, append-nil, append_assoc}
+use Rattle.std.proofs.Common.{◌≡◌, ◌<◌, ◌≤◌, ◌⊎◌, ℕ, zero, suc, ◌-◌, Bool, true, false, cond, ◌&&◌, length, map, take, List, [], ◌∷◌, ◌++◌, Option, None, Some, inl, inr, refl, sym, ap, ◌∙◌, arith, get_or, max, append-nil, append_assoc}
 use Rattle.std.specs.Prelude.{◌||◌, nat_eq, nat_le, filter, flat_map, Vec}
 use Rattle.std.specs.Global.{Global}
 use Rattle.std.specs.List.{list_any}
@@ -21,7 +21,7 @@ abbrev pub flat : List (List RangeExtent) → List RangeExtent
 flat [] = []
 flat (p ∷ ps) = p ++ flat ps
 
-flat-map : (vs : List (Vec RangeExtent Global)) → flat (map part_of vs) ≡ flat_map part_of vs
+pub flat-map : (vs : List (Vec RangeExtent Global)) → flat (map part_of vs) ≡ flat_map part_of vs
 flat-map [] = refl
 flat-map (v ∷ vs) = ap (λ hs. part_of v ++ hs) (flat-map vs)
 

@@ -87,7 +87,7 @@ module _ (slots : Numbers) where
         let e : suc (i + j) ≡ suc i + j = omega arith in
         subst (λ k. list_any p (before ps gap k) ≡ true) e (list_any-append p (before ps gap (i + j)) (part_before ps gap (i + j)) ∙ or-left (list_any p (before ps gap (i + j))) (list_any p (part_before ps gap (i + j))) (any-up p i j a))
 
-    next-apart : (j : ℕ) → j ≤ gap.part → AreApart slots 0 (before ps gap j ++ part_before ps gap j)
+    pub next-apart : (j : ℕ) → j ≤ gap.part → AreApart slots 0 (before ps gap j ++ part_before ps gap j)
     next-apart j le = let e : gap.part - j + suc j ≡ suc gap.part = omega arith in apart-down (gap.part - j) (suc j) (subst (λ k. AreApart slots 0 (before ps gap k)) (sym e) apart-all)
 
     pub part-apart : (j : ℕ) → j ≤ gap.part → AreApart slots (behind_all slots 0 (before ps gap j)) (part_before ps gap j)

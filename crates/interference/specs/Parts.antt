@@ -1,5 +1,5 @@
 -- The parts of a list of stretches that are held, and places among them.
-use Rattle.std.specs.Prelude.{◌≡◌, ℕ, zero, suc, Bool, true, false, cond, nat_eq, nat_lt, List, [], ◌∷◌, ◌++◌, take, map, Option, None, Some, slice_get, length}
+use Rattle.std.specs.Prelude.{◌≡◌, ◌<◌, ◌≤◌, filter, ℕ, zero, suc, Bool, true, false, cond, nat_eq, nat_lt, List, [], ◌∷◌, ◌++◌, take, map, Option, None, Some, slice_get, length}
 use Rattle.std.specs.List.{list_any}
 use Rattle.live_lanes.specs.declared.ask.extent.Stretch.{Stretch}
 use Rattle.live_lanes.specs.Table.{Numbers}
@@ -10,7 +10,7 @@ use Rattle.interference.specs.declared.held.HeldList.{HeldList}
 use Rattle.interference.specs.declared.matrix.UnitExtents.{UnitExtents}
 use Rattle.interference.specs.declared.held.OverlapResult.{OverlapResult}
 use Rattle.interference.specs.declared.held.OverlapResult.TheVariants as mets
-use Rattle.interference.specs.Clashes.{part_of, begins_by, is_taken, is_taken_by}
+use Rattle.interference.specs.Clashes.{held_of, AreApart, AreFilled, part_of, begins_by, is_taken, is_taken_by}
 
 abbrev pub parts_of : HeldList → List (List RangeExtent)
 parts_of h = map part_of h.parts.items
@@ -46,6 +46,12 @@ abbrev pub IsMet : Numbers → List RangeExtent → Stretch → ℕ → OverlapR
 IsMet slots hs at but (mets.Other w) = (nat_eq w but ≡ false) × (is_taken_by slots hs w at ≡ true)
 IsMet slots hs at but mets.Behind = (is_taken slots hs but at ≡ false) × (list_any (lies_before slots at.first) hs ≡ true)
 IsMet slots hs at but mets.Open = is_taken slots hs but at ≡ false
+
+-- a place in a part, behind all stretches that begin at the point or before it
+pub record IsGap (slots : Numbers) (at : ℕ) (l : HeldList) (gap : ListPosition) : Type 0 where
+  pub part : gap.part < length l.parts.items
+  pub within : gap.count ≤ length (part_in (parts_of l) gap.part)
+  pub begun : AreFilled l → AreApart slots 0 (held_of l) → before (parts_of l) gap (suc gap.part) ≡ filter (begins_by slots at) (held_of l)
 
 -- a list with some part, and a unit with such a list
 abbrev pub has_parts : HeldList → Bool

@@ -1,10 +1,13 @@
 //! What ranges hold of one unit in one block, in order.
 
-ghost use Rattle.std.specs.Prelude.{◌≡◌, ◌≤◌, ◌<◌, ◌*◌, ℕ, suc, [], true, false, not, ◌&&◌, ◌||◌, nat_eq, length, filter, MatchOption};
-ghost use Rattle.std.specs.List.{list_any, list_all};
+ghost use Rattle.std.specs.Prelude.{◌≡◌, ◌≤◌, ◌<◌, ◌-◌, ◌*◌, ℕ, suc, [], true, false, not, ◌&&◌, ◌||◌, nat_eq, length, filter, MatchOption, IfOk, OnOk, OnErr, Some, slice_get};
+ghost use Rattle.std.specs.List.{list_any, list_all, insert, remove};
 ghost use Rattle.live_lanes.specs.Table.{leading};
-ghost use Rattle.interference.specs.Clashes.{held_of, AreApart, AreFilled, begins_by, is_taken, is_taken_by};
-ghost use Rattle.interference.specs.Parts.{parts_of, part_in, part_before, before, part_begins, lies_before, IsMet};
+ghost use Rattle.live_lanes.specs.Extents.{first_rank};
+ghost use Rattle.interference.specs.Clashes.{held_of, AreApart, AreFilled, begins_by, is_none, is_taken, is_taken_by};
+ghost use Rattle.interference.specs.Parts.{parts_of, part_in, part_before, before, part_begins, lies_before, IsMet, IsGap};
+ghost use Rattle.interference.specs.declared.held.RangeExtent.{RangeExtent};
+ghost use Rattle.interference.specs.Changes.{same_start, is_piece, low_rank, high_rank, own_of, starting, IsSought, IsFound, IsCut, IsInserted};
 ghost use Rattle.interference.specs.Marked.{is_marked};
 
 use crate::marks::Marks;
@@ -122,6 +125,44 @@ fn mark_met(
     true
 }
 
+/// Whether two pieces begin with the same instruction, or both with the block.
+fn same_start(a: Option<u32>, b: Option<u32>) -> bool
+    ensures { result ≡ same_start a b }
+{
+    match (a, b) {
+        (None, None) => true,
+        (Some(a), Some(b)) => a == b,
+        _ => false,
+    }
+}
+
+/// Whether a stretch is a range's and begins with an instruction or with the block.
+fn is_piece(held: &RangeExtent, range: u32, start: Option<u32>) -> bool
+    ensures { result ≡ is_piece range start held.now }
+{
+    held.range == range && same_start(held.extent.start, start)
+}
+
+/// The first point that a piece which begins with an instruction, or with the block, may have.
+fn low_rank(slots: &Slots, start: Option<u32>) -> u128
+    ensures { result ≡ low_rank slots.now start }
+{
+    match start {
+        None => 0,
+        Some(id) => slots.number(id) as u128 * 2,
+    }
+}
+
+/// The last point that such a piece may begin at.
+fn high_rank(slots: &Slots, start: Option<u32>) -> u128
+    ensures { result ≡ high_rank slots.now start }
+{
+    match start {
+        None => 0,
+        Some(id) => slots.number(id) as u128 * 2 + 1,
+    }
+}
+
 /// Looks for a stretch of a range that begins with an instruction or with the block, among some whose
 /// last ones are those that begin at the first of some points or behind it.
 fn seek(
@@ -130,18 +171,45 @@ fn seek(
     range: u32,
     start: Option<u32>,
     first: u128,
-) -> SearchResult {
-    let mut count = stretches.len();
-    'stretches: for held in stretches.iter().rev() {
-        if held.range == range && held.extent.start == start {
-            return SearchResult::UpTo(count);
+) -> SearchResult
+    ensures { first ≡ low_rank slots.now start → (n : ℕ) → AreApart slots.now n stretches.now → IsSought slots.now stretches.now range start result }
+{
+    'stretches: for k in (0..stretches.len()).rev() {
+        let held = &stretches[k];
+        if is_piece(held, range, start) {
+            return SearchResult::UpTo(k + 1);
         }
         if held.extent.first(slots) < first {
             return SearchResult::Nowhere;
         }
-        count = count.saturating_sub(1);
     }
     SearchResult::Open
+}
+
+/// Puts a stretch behind so many of a part. After a refusal the part is unchanged.
+fn put(part: &mut Vec<RangeExtent>, count: usize, held: RangeExtent) -> Result<(), AllocError>
+    ensures ok { count ≤ length part.old.items → OnOk result (part.new.items ≡ insert part.old.items count held) }
+    ensures err { OnErr result (part.new.items ≡ part.old.items) }
+    ensures some { is_none part.old.items ≡ false → is_none part.new.items ≡ false }
+{
+    if count > part.len() {
+        return Ok(());
+    }
+    part.insert(count, held)?;
+    Ok(())
+}
+
+/// Takes the last one of so many stretches out of a part.
+fn take_out(part: &mut Vec<RangeExtent>, count: usize)
+    ensures { 0 < count → count ≤ length part.old.items → part.new.items ≡ remove part.old.items (count - 1) }
+{
+    if count == 0 {
+        return;
+    }
+    if count > part.len() {
+        return;
+    }
+    let _ = part.remove(count - 1);
 }
 
 impl HeldList {
@@ -158,6 +226,7 @@ impl HeldList {
     /// The place behind the stretches that begin at or before a point.
     fn behind(&self, slots: &Slots, at: u128) -> ListPosition
         ensures part { result.part ≤ length self.now.parts.items }
+        ensures room { 0 < length self.now.parts.items → result.part < length self.now.parts.items }
         ensures within { result.count ≤ length (part_in (parts_of self.now) result.part) }
         ensures before { AreFilled self.now → AreApart slots.now 0 (held_of self.now)
             → before (parts_of self.now) result (suc result.part) ≡ filter (begins_by slots.now at) (held_of self.now) }
@@ -227,18 +296,26 @@ impl HeldList {
     }
 
     /// Adds points that a range holds. After a refusal nothing is added.
-    pub fn add(&mut self, slots: &Slots, range: u32, extent: Extent) -> Result<(), AllocError> {
+    pub fn add(&mut self, slots: &Slots, range: u32, extent: Extent) -> Result<(), AllocError>
+        ensures filled { AreFilled self.old → AreFilled self.new }
+        ensures err { OnErr result (held_of self.new ≡ held_of self.old) }
+        ensures ok { AreFilled self.old → AreApart slots.now 0 (held_of self.old)
+            → OnOk result (IsInserted (filter (begins_by slots.now (first_rank slots.now extent)) (held_of self.old)) (record { range = range; extent = extent }) (held_of self.old) (held_of self.new)) }
+    {
         let gap = self.gap_for(slots, extent.first(slots))?;
-        self.insert(gap, RangeExtent { range, extent })
+        self.insert(gap, RangeExtent { range, extent })?;
+        Ok(())
     }
 
-    /// The place behind the stretches that begin at or before a point, in a part that has room.
-    fn gap_for(&mut self, slots: &Slots, at: u128) -> Result<ListPosition, AllocError> {
+    /// The place behind the stretches that begin at or before a point, in a part that has room. What
+    /// is held stays as it is.
+    fn gap_for(&mut self, slots: &Slots, at: u128) -> Result<ListPosition, AllocError>
+        ensures gap { IfOk result (λ gap. IsGap slots.now at self.new gap) }
+        ensures held { held_of self.new ≡ held_of self.old }
+        ensures filled { AreFilled self.old → AreFilled self.new }
+    {
+        self.begin()?;
         let gap = self.behind(slots, at);
-        if self.parts.is_empty() {
-            self.parts.push(Vec::new(self.alloc))?;
-            return Ok(gap);
-        }
         if !self.is_full(gap.part) {
             return Ok(gap);
         }
@@ -246,51 +323,66 @@ impl HeldList {
         Ok(self.behind(slots, at))
     }
 
-    fn is_full(&self, part: usize) -> bool {
-        match self.parts.get(part) {
-            Some(there) => there.len() >= MOST_IN_A_PART,
-            None => false,
-        }
-    }
-
-    /// Makes two parts of one. After a refusal it is unchanged.
-    fn halve(&mut self, part: usize) -> Result<(), AllocError> {
-        let Some(there) = self.parts.get(part) else {
+    /// Sees that there is a part.
+    fn begin(&mut self) -> Result<(), AllocError>
+        ensures some { OnOk result (0 < length self.new.parts.items) }
+        ensures held { held_of self.new ≡ held_of self.old }
+        ensures filled { AreFilled self.old → AreFilled self.new }
+    {
+        if !self.parts.is_empty() {
             return Ok(());
-        };
+        }
+        self.parts.push(Vec::new(self.alloc))?;
+        Ok(())
+    }
+
+    fn is_full(&self, part: usize) -> bool
+        ensures { result ≡ true → 2 ≤ length (part_in (parts_of self.now) part) }
+    {
+        if part >= self.parts.len() {
+            return false;
+        }
+        self.parts[part].len() >= MOST_IN_A_PART
+    }
+
+    /// Makes two parts of one. What is held stays as it is.
+    fn halve(&mut self, part: usize) -> Result<(), AllocError>
+        ensures some { 0 < length self.old.parts.items → 0 < length self.new.parts.items }
+        ensures held { held_of self.new ≡ held_of self.old }
+        ensures filled { 2 ≤ length (part_in (parts_of self.old) part) → AreFilled self.old → AreFilled self.new }
+    {
+        if part >= self.parts.len() {
+            return Ok(());
+        }
+        let there = &self.parts[part];
         let half = there.len() / 2;
-        let rest = match there.as_slice().get(half..) {
-            Some(rest) => Vec::from_slice(self.alloc, rest)?,
-            None => return Ok(()),
-        };
-        let next = part.saturating_add(1).min(self.parts.len());
-        self.parts.insert(next, rest)?;
-        if let Some(there) = self.parts.get_mut(part) {
-            there.truncate(half);
-        }
+        let rest = Vec::from_slice(self.alloc, &there.as_slice()[half..])?;
+        self.parts.insert(part + 1, rest)?;
+        self.parts[part].truncate(half);
         Ok(())
     }
 
-    fn insert(&mut self, gap: ListPosition, held: RangeExtent) -> Result<(), AllocError> {
-        if let Some(there) = self.parts.get_mut(gap.part) {
-            let at = gap.count.min(there.len());
-            there.insert(at, held)?;
+    /// Puts a stretch at a place. After a refusal nothing is put.
+    fn insert(&mut self, gap: ListPosition, held: RangeExtent) -> Result<(), AllocError>
+        ensures filled { AreFilled self.old → AreFilled self.new }
+        ensures err { OnErr result (held_of self.new ≡ held_of self.old) }
+        ensures ok { gap.part < length self.old.parts.items → gap.count ≤ length (part_in (parts_of self.old) gap.part)
+            → OnOk result (IsInserted (before (parts_of self.old) gap (suc gap.part)) held (held_of self.old) (held_of self.new)) }
+    {
+        if gap.part >= self.parts.len() {
+            return Ok(());
         }
+        put(&mut self.parts[gap.part], gap.count, held)?;
         Ok(())
     }
 
-    /// The place behind the points of a range that begin with an instruction or with the block.
-    fn find(&self, slots: &Slots, range: u32, start: Option<u32>) -> Option<ListPosition> {
-        let low = match start {
-            None => 0,
-            Some(id) => slots.number(id) as u128 * 2,
-        };
-        let high = match start {
-            None => 0,
-            Some(_) => low + 1,
-        };
-        let gap = self.behind(slots, high);
-        'parts: for part in (0..=gap.part).rev() {
+    /// The place behind the stretch of a range that begins with an instruction or with the block.
+    fn find(&self, slots: &Slots, range: u32, start: Option<u32>) -> Option<ListPosition>
+        ensures { AreFilled self.now → AreApart slots.now 0 (held_of self.now) → MatchOption result (list_any (is_piece range start) (held_of self.now) ≡ false) (IsFound self.now range start) }
+    {
+        let low = low_rank(slots, start);
+        let gap = self.behind(slots, high_rank(slots, start));
+        'parts: for part in (0..gap.part + 1).rev() {
             match seek(slots, self.part_before(part, gap), range, start, low) {
                 SearchResult::UpTo(count) => return Some(ListPosition { part, count }),
                 SearchResult::Nowhere => return None,
@@ -301,23 +393,43 @@ impl HeldList {
     }
 
     /// Takes away the points of a range that begin with an instruction or with the block.
-    pub fn remove(&mut self, slots: &Slots, range: u32, start: Option<u32>) {
-        if let Some(gap) = self.find(slots, range, start) {
-            self.cut(gap);
-        }
+    pub fn remove(&mut self, slots: &Slots, range: u32, start: Option<u32>)
+        ensures filled { AreFilled self.old → AreFilled self.new }
+        ensures held { AreFilled self.old → AreApart slots.now 0 (held_of self.old) → starting start (own_of range (held_of self.old)) ≤ 1
+            → held_of self.new ≡ filter (λ h. not (is_piece range start h)) (held_of self.old) }
+    {
+        let Some(gap) = self.find(slots, range, start) else {
+            return;
+        };
+        self.cut(gap);
     }
 
     /// Takes away the stretch before a place.
-    fn cut(&mut self, gap: ListPosition) {
-        let Some(there) = self.parts.get_mut(gap.part) else {
-            return;
-        };
-        if gap.count == 0 || gap.count > there.len() {
+    fn cut(&mut self, gap: ListPosition)
+        ensures filled { AreFilled self.old → AreFilled self.new }
+        ensures held { (h : RangeExtent) → 0 < gap.count → slice_get (part_in (parts_of self.old) gap.part) (gap.count - 1) ≡ Some h → IsCut h (held_of self.old) (held_of self.new) }
+    {
+        if gap.part >= self.parts.len() {
             return;
         }
-        let _ = there.remove(gap.count - 1);
-        if there.is_empty() && self.parts.len() > 1 {
-            let _ = self.parts.remove(gap.part);
+        take_out(&mut self.parts[gap.part], gap.count);
+        self.drop_empty(gap.part);
+    }
+
+    /// Takes a part away that is empty, unless it is alone.
+    fn drop_empty(&mut self, part: usize)
+        ensures held { held_of self.new ≡ held_of self.old }
+        ensures filled { part < length self.old.parts.items → (1 < length self.old.parts.items → list_any is_none (remove (parts_of self.old) part) ≡ false) → AreFilled self.new }
+    {
+        if self.parts.len() <= 1 {
+            return;
         }
+        if part >= self.parts.len() {
+            return;
+        }
+        if !self.parts[part].is_empty() {
+            return;
+        }
+        let _ = self.parts.remove(part);
     }
 }

@@ -1,7 +1,8 @@
 //! The matrix: a function, the register of each assigned range, and what the ranges hold.
 
-ghost use Rattle.std.specs.Prelude.{◌≡◌, ◌<◌, ◌≤◌, ◌*◌, ℕ, true, false, not, ◌&&◌, ◌||◌, nat_eq, length, IfOk, IfSome, option_copied, slice_get, slice_index, None};
-ghost use Rattle.std.specs.List.{list_any};
+ghost use Rattle.std.specs.Prelude.{◌≡◌, ◌<◌, ◌≤◌, ◌*◌, ◌++◌, ◌∷◌, ◌^◌, [], ℕ, true, false, cond, not, ◌&&◌, ◌||◌, nat_eq, length, IfOk, OnOk, OnErr, IfSome, option_copied, slice_get, slice_set, slice_index, Some, None};
+ghost use Rattle.std.specs.List.{list_any, list_all, cons_option};
+ghost use Rattle.target_base.specs.Registers.{units_of};
 ghost use Rattle.std.specs.Ordering.{nat_cmp};
 ghost use Rattle.std.specs.BTreeMap.{get};
 ghost use Rattle.instr_effects.specs.Numbered.{number_in};
@@ -9,13 +10,16 @@ ghost use Rattle.instr_effects.specs.declared.owner.Owner.TheVariants as owners;
 ghost use Rattle.live_lanes.specs.Table.{entry_rank, exit_rank};
 ghost use Rattle.live_lanes.specs.Entered.{cells_of};
 ghost use Rattle.live_lanes.specs.Looks.{InOrder};
-ghost use Rattle.interference.specs.Clashes.{register_in, list_in, IsOrdered, is_held, is_held_at, is_held_at_start, is_fixed_at, is_taken_at, are_taken, point, is_in_way, clash_at, is_free, holds, is_taken_by, cell_points, some_cell_points, lane_points};
+ghost use Rattle.interference.specs.Clashes.{AreApart, AreFilled, held_of, register_in, list_in, IsOrdered, is_held, is_held_at, is_held_at_start, is_fixed_at, is_taken_at, are_taken, point, is_in_way, clash_at, is_free, holds, is_taken_by, cell_points, some_cell_points, lane_points};
+ghost use Rattle.interference.specs.Changes.{own_of, others_of};
+ghost use Rattle.interference.specs.Listed.{KeepsLists, MayHold, KeepsExtents, some_extents, lane_extents, range_extents, listed, IsThinned, IsKept, IsBegun, IsFilled, IsClear, ChangesRow, ChangesCell, lane_lots, range_lots, with_lane, Thins, LaneHasRoom, RangeHasRoom, Begins, Fills};
 ghost use Rattle.interference.specs.Parts.{has_lists};
+ghost use Rattle.interference.specs.Wide.{is_wide};
 ghost use Rattle.interference.specs.Marked.{is_marked};
 
 use crate::held::HeldList;
 use crate::marks::Marks;
-use live_lanes::{ChangedPiece, Changes, Edit, LiveFunc, Stretch};
+use live_lanes::{ChangedPiece, Changes, Edit, Extent, LiveFunc, Stretch};
 use mir_func::{Gap, Operand, Operands, RegOp};
 use slot_index::Slots;
 use std::alloc::{AllocError, Global};
@@ -86,7 +90,8 @@ fn add_held(
 
 #[tactic(auto, using(crate::proofs::Empty::empties))]
 fn empty_unit(alloc: Global, blocks: usize) -> Result<UnitExtents, AllocError>
-    ensures { IfOk result (λ r. has_lists r ≡ false) }
+    ensures none { IfOk result (λ r. has_lists r ≡ false) }
+    ensures wide { IfOk result (λ r. is_wide blocks r ≡ true) }
 {
     let mut lists = Vec::new(alloc);
     'each: for _ in 0..blocks {
@@ -98,7 +103,9 @@ fn empty_unit(alloc: Global, blocks: usize) -> Result<UnitExtents, AllocError>
 impl UnitTable {
     #[tactic(auto, using(crate::proofs::Empty::empties))]
     fn new(alloc: Global, units: usize, blocks: usize) -> Result<UnitTable, AllocError>
-        ensures { IfOk result (λ a. list_any has_lists a.units.items ≡ false) }
+        ensures none { IfOk result (λ a. list_any has_lists a.units.items ≡ false) }
+        ensures count { IfOk result (λ a. length a.units.items ≡ units) }
+        ensures wide { IfOk result (λ a. list_all (is_wide blocks) a.units.items ≡ true) }
     {
         let mut all = Vec::new(alloc);
         'each: for _ in 0..units {
@@ -151,61 +158,144 @@ impl UnitTable {
         unit: u32,
         lane: u32,
         place: usize,
-    ) -> Result<(), AllocError> {
+    ) -> Result<(), AllocError>
+        ensures ok { OnOk result (ChangesCell (IsFilled live.now.table.order.slots range) unit (slice_get (cells_of live.now.table.rows.rows.items lane) place) self.old self.new) }
+        ensures err { OnErr result (ChangesCell (IsBegun live.now.table.order.slots range) unit (slice_get (cells_of live.now.table.rows.rows.items lane) place) self.old self.new) }
+    {
         let Some(block) = live.cell_block(lane, place) else {
             return Ok(());
         };
-        let Some(row) = self.units.get_mut(unit as usize) else {
+        let at = unit as usize;
+        if at >= self.units.len() {
             return Ok(());
-        };
-        let Some(list) = row.blocks.get_mut(block as usize) else {
-            return Ok(());
-        };
-        add_extents(list, live, range, lane, place)
+        }
+        add_in(&mut self.units[at].blocks, live, range, lane, place, block)?;
+        Ok(())
     }
 
-    /// Adds the points of a lane of a range.
+    /// Adds the points of a lane of a range, if there is such a lane.
     fn add_lane(
         &mut self,
         live: &LiveFunc,
         range: u32,
         unit: u32,
-        lane: u32,
-    ) -> Result<(), AllocError> {
-        'cells: for place in 0..live.cell_count(lane) {
-            self.add_cell(live, range, unit, lane, place)?;
+        lane: Option<u32>,
+    ) -> Result<(), AllocError>
+        ensures ok { LaneHasRoom live.now.table range unit lane self.old → OnOk result (Fills live.now.table.order.slots range (with_lane live.now.table range unit lane self.old) self.old self.new) }
+        ensures err { LaneHasRoom live.now.table range unit lane self.old → OnErr result (Begins live.now.table.order.slots range (with_lane live.now.table range unit lane self.old) self.old self.new) }
+    {
+        let Some(number) = lane else {
+            return Ok(());
+        };
+        'cells: for place in 0..live.cell_count(number) {
+            self.add_cell(live, range, unit, number, place)?;
+        }
+        Ok(())
+    }
+
+    /// Adds the points of a range in a register.
+    fn add_range(&mut self, live: &LiveFunc, v: u32, p: Reg) -> Result<(), AllocError>
+        ensures ok { RangeHasRoom live.now.table v (units_of live.now.target p) self.old → OnOk result (Fills live.now.table.order.slots v (range_extents live.now.table v 0 (units_of live.now.target p)) self.old self.new) }
+        ensures err { RangeHasRoom live.now.table v (units_of live.now.target p) self.old → OnErr result (Begins live.now.table.order.slots v (range_extents live.now.table v 0 (units_of live.now.target p)) self.old self.new) }
+    {
+        let mut k = 0usize;
+        'units: for u in live.target().units_at(p) {
+            self.add_lane(live, v, u.0 as u32, live.lane_of(v, k))?;
+            k = k.saturating_add(1);
         }
         Ok(())
     }
 
     /// Takes away the points of a lane of a range in the block of a cell.
-    fn remove_cell(&mut self, live: &LiveFunc, range: u32, unit: u32, lane: u32, place: usize) {
+    fn remove_cell(&mut self, live: &LiveFunc, range: u32, unit: u32, lane: u32, place: usize)
+        ensures { ChangesCell (IsThinned live.now.table.order.slots range) unit (slice_get (cells_of live.now.table.rows.rows.items lane) place) self.old self.new }
+    {
         let Some(block) = live.cell_block(lane, place) else {
             return;
         };
-        let Some(row) = self.units.get_mut(unit as usize) else {
+        let at = unit as usize;
+        if at >= self.units.len() {
+            return;
+        }
+        remove_in(&mut self.units[at].blocks, live, range, lane, place, block);
+    }
+
+    /// Takes away the points of a lane of a range, if there is such a lane.
+    fn remove_lane(&mut self, live: &LiveFunc, range: u32, unit: u32, lane: Option<u32>)
+        ensures { Thins live.now.table.order.slots range (lane_lots live.now.table unit lane) self.old self.new }
+    {
+        let Some(number) = lane else {
             return;
         };
-        if let Some(list) = row.blocks.get_mut(block as usize) {
-            remove_extents(list, live, range, lane, place);
+        'cells: for place in 0..live.cell_count(number) {
+            self.remove_cell(live, range, unit, number, place);
         }
     }
 
-    /// Takes away the points of a lane of a range.
-    fn remove_lane(&mut self, live: &LiveFunc, range: u32, unit: u32, lane: u32) {
-        'cells: for place in 0..live.cell_count(lane) {
-            self.remove_cell(live, range, unit, lane, place);
+    /// Takes away the points of a range in a register.
+    fn remove_range(&mut self, live: &LiveFunc, v: u32, p: Reg)
+        ensures { Thins live.now.table.order.slots v (range_lots live.now.table v 0 (units_of live.now.target p)) self.old self.new }
+    {
+        let mut k = 0usize;
+        'units: for u in live.target().units_at(p) {
+            self.remove_lane(live, v, u.0 as u32, live.lane_of(v, k));
+            k = k.saturating_add(1);
         }
     }
 }
 
+/// Takes away the points of a piece of a range, where it has any.
+fn remove_extent(list: &mut HeldList, slots: &Slots, range: u32, extent: Option<Extent>)
+    ensures { IsThinned slots.now range (cons_option extent []) list.old list.new }
+{
+    let Some(extent) = extent else {
+        return;
+    };
+    list.remove(slots, range, extent.start);
+}
+
 /// Takes away the points of the pieces of a lane in a block.
-fn remove_extents(list: &mut HeldList, live: &LiveFunc, range: u32, lane: u32, place: usize) {
+fn remove_extents(list: &mut HeldList, live: &LiveFunc, range: u32, lane: u32, place: usize)
+    ensures { IsThinned live.now.table.order.slots range (some_extents (slice_get (cells_of live.now.table.rows.rows.items lane) place)) list.old list.new }
+{
     'pieces: for index in 0..live.piece_count(lane, place) {
-        if let Some(extent) = live.extent(lane, place, index) {
-            list.remove(live.slots(), range, extent.start);
-        }
+        remove_extent(list, live.slots(), range, live.extent(lane, place, index));
     }
+}
+
+/// Takes away the points of the pieces of a lane in the block at a position, by the lists of a unit.
+fn remove_in(
+    lists: &mut Vec<HeldList>,
+    live: &LiveFunc,
+    range: u32,
+    lane: u32,
+    place: usize,
+    block: u32,
+)
+    ensures { ChangesRow (IsThinned live.now.table.order.slots range (some_extents (slice_get (cells_of live.now.table.rows.rows.items lane) place))) block lists.old.items lists.new.items }
+{
+    let at = block as usize;
+    if at >= lists.len() {
+        return;
+    }
+    remove_extents(&mut lists[at], live, range, lane, place);
+}
+
+/// Adds the points of a piece of a range, where it has any. After a refusal nothing is added.
+fn add_extent(
+    list: &mut HeldList,
+    slots: &Slots,
+    range: u32,
+    extent: Option<Extent>,
+) -> Result<(), AllocError>
+    ensures ok { AreFilled list.old → AreApart slots.now 0 (held_of list.old) → IsClear slots.now range (held_of list.old) extent → OnOk result (IsKept slots.now range list.old list.new × (own_of range (held_of list.new) ≡ own_of range (held_of list.old) ++ cons_option extent [])) }
+    ensures filled { AreFilled list.old → AreFilled list.new }
+    ensures err { OnErr result (held_of list.new ≡ held_of list.old) }
+{
+    if let Some(extent) = extent {
+        list.add(slots, range, extent)?;
+    }
+    Ok(())
 }
 
 /// Adds the points of the pieces of a lane in a block.
@@ -215,12 +305,33 @@ fn add_extents(
     range: u32,
     lane: u32,
     place: usize,
-) -> Result<(), AllocError> {
+) -> Result<(), AllocError>
+    ensures ok { OnOk result (IsFilled live.now.table.order.slots range (some_extents (slice_get (cells_of live.now.table.rows.rows.items lane) place)) list.old list.new) }
+    ensures err { OnErr result (IsBegun live.now.table.order.slots range (some_extents (slice_get (cells_of live.now.table.rows.rows.items lane) place)) list.old list.new) }
+{
     'pieces: for index in 0..live.piece_count(lane, place) {
-        if let Some(extent) = live.extent(lane, place, index) {
-            list.add(live.slots(), range, extent)?;
-        }
+        add_extent(list, live.slots(), range, live.extent(lane, place, index))?;
     }
+    Ok(())
+}
+
+/// Adds the points of the pieces of a lane in the block at a position to the lists of a unit.
+fn add_in(
+    lists: &mut Vec<HeldList>,
+    live: &LiveFunc,
+    range: u32,
+    lane: u32,
+    place: usize,
+    block: u32,
+) -> Result<(), AllocError>
+    ensures ok { OnOk result (ChangesRow (IsFilled live.now.table.order.slots range (some_extents (slice_get (cells_of live.now.table.rows.rows.items lane) place))) block lists.old.items lists.new.items) }
+    ensures err { OnErr result (ChangesRow (IsBegun live.now.table.order.slots range (some_extents (slice_get (cells_of live.now.table.rows.rows.items lane) place))) block lists.old.items lists.new.items) }
+{
+    let at = block as usize;
+    if at >= lists.len() {
+        return Ok(());
+    }
+    add_extents(&mut lists[at], live, range, lane, place)?;
     Ok(())
 }
 
@@ -242,6 +353,7 @@ impl Matrix {
         ensures live { IfOk result (λ m. m.live ≡ f) }
         ensures none { IfOk result (λ m. (v : ℕ) → register_in m.registers.items v ≡ None) }
         ensures ordered { IfOk result (λ m. InOrder f.table → IsOrdered m) }
+        ensures keeps { IfOk result (λ m. InOrder f.table → KeepsLists m) }
     {
         let units = f.target().units.len();
         let held = UnitTable::new(alloc, units, f.func().blocks.len())?;
@@ -445,53 +557,52 @@ impl Matrix {
     }
 
     /// Gives a range a register. After a refusal the range is unassigned, and all else unchanged.
-    pub fn assign(&mut self, v: u32, p: Reg) -> Result<(), AllocError> {
+    pub fn assign(&mut self, v: u32, p: Reg) -> Result<(), AllocError>
+        ensures live { self.new.live ≡ self.old.live }
+        ensures count { length self.new.registers.items ≡ length self.old.registers.items }
+        ensures given { v < length self.old.registers.items → OnOk result ((w : ℕ) → register_in self.new.registers.items w ≡ cond (nat_eq v w) (Some p) (register_in self.old.registers.items w)) }
+        ensures refused { OnErr result ((w : ℕ) → register_in self.new.registers.items w ≡ cond (nat_eq v w) None (register_in self.old.registers.items w)) }
+        ensures kept { MayHold self.old v p → KeepsLists self.new }
+        ensures others { MayHold self.old v p → (u b : ℕ) → others_of v (holds self.new u b) ≡ others_of v (holds self.old u b) }
+    {
         self.unassign(v);
-        match self.add_all(v, p) {
+        match self.held.add_range(&self.live, v, p) {
             Ok(()) => {
                 self.set_register(v, Some(p));
                 Ok(())
             }
             Err(e) => {
-                self.remove_all(v, p);
+                self.held.remove_range(&self.live, v, p);
                 Err(e)
             }
         }
     }
 
-    fn set_register(&mut self, v: u32, p: Option<Reg>) {
-        if let Some(place) = self.registers.get_mut(v as usize) {
-            *place = p;
+    /// Gives a range another register, or none, in the list of registers alone.
+    fn set_register(&mut self, v: u32, p: Option<Reg>)
+        ensures rest { self.new ≡ record self.old { registers = self.new.registers } }
+        ensures registers { self.new.registers.items ≡ slice_set self.old.registers.items v p }
+    {
+        let at = v as usize;
+        if at >= self.registers.len() {
+            return;
         }
-    }
-
-    fn add_all(&mut self, v: u32, p: Reg) -> Result<(), AllocError> {
-        let mut k = 0usize;
-        'units: for u in self.live.target().units_at(p) {
-            if let Some(lane) = self.live.lane_of(v, k) {
-                self.held.add_lane(&self.live, v, u.0 as u32, lane)?;
-            }
-            k = k.saturating_add(1);
-        }
-        Ok(())
-    }
-
-    fn remove_all(&mut self, v: u32, p: Reg) {
-        let mut k = 0usize;
-        'units: for u in self.live.target().units_at(p) {
-            if let Some(lane) = self.live.lane_of(v, k) {
-                self.held.remove_lane(&self.live, v, u.0 as u32, lane);
-            }
-            k = k.saturating_add(1);
-        }
+        self.registers[at] = p;
     }
 
     /// Takes its register from a range, where it has one.
-    pub fn unassign(&mut self, v: u32) {
-        if let Some(p) = self.register_of(v) {
-            self.remove_all(v, p);
-            self.set_register(v, None);
-        }
+    pub fn unassign(&mut self, v: u32)
+        ensures live { self.new.live ≡ self.old.live }
+        ensures count { length self.new.registers.items ≡ length self.old.registers.items }
+        ensures registers { (w : ℕ) → register_in self.new.registers.items w ≡ cond (nat_eq v w) None (register_in self.old.registers.items w) }
+        ensures kept { KeepsLists self.old → KeepsLists self.new }
+        ensures held { KeepsLists self.old → (u b : ℕ) → holds self.new u b ≡ others_of v (holds self.old u b) }
+    {
+        let Some(p) = self.register_of(v) else {
+            return;
+        };
+        self.held.remove_range(&self.live, v, p);
+        self.set_register(v, None);
     }
 
     /// Whether a unit is live or occupied at the entry of an instruction, or an assigned range other
@@ -538,11 +649,23 @@ impl Matrix {
     }
 
     /// A new range number, which no operand names yet, for a class. The range is unassigned.
-    pub fn fresh(&mut self, class: ClassId) -> Result<u32, AllocError> {
-        self.registers.reserve(1)?;
-        let v = self.live.fresh(class)?;
+    pub fn fresh(&mut self, class: ClassId) -> Result<u32, AllocError>
+        ensures held { self.new.held ≡ self.old.held }
+        ensures target { self.new.live.target ≡ self.old.live.target }
+        ensures registers { OnOk result (self.new.registers.items ≡ self.old.registers.items ++ None ∷ []) }
+        ensures func { length self.old.live.func.classes < 2 ^ 31 → IfOk result (λ v. (v ≡ length self.old.live.func.classes) × (self.new.live.func ≡ record self.old.live.func { classes = self.old.live.func.classes ++ Some class ∷ [] })) }
+        ensures refused { OnErr result ((self.new.live.func ≡ self.old.live.func) × (self.new.registers.items ≡ self.old.registers.items)) }
+        ensures kept { length self.old.live.func.classes < 2 ^ 31 → KeepsExtents (length self.old.registers.items) self.old.live.table self.new.live.table → KeepsLists self.old → KeepsLists self.new }
+    {
+        let count = self.registers.len();
         self.registers.push(None)?;
-        Ok(v)
+        match self.live.fresh(class) {
+            Ok(v) => Ok(v),
+            Err(e) => {
+                self.registers.truncate(count);
+                Err(e)
+            }
+        }
     }
 
     /// Puts a COPY of a register into a gap, and answers its id.
