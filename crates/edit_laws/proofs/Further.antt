@@ -24,7 +24,7 @@ use Rattle.instr_effects.specs.declared.lanes.LaneTable.{LaneTable}
 use Rattle.instr_effects.specs.declared.owner.Owner.{Owner}
 use Rattle.instr_effects.specs.declared.owner.Owner.TheVariants as owners
 use Rattle.instr_effects.specs.declared.row.LaneSpan.{LaneSpan}
-use Rattle.instr_effects.specs.Numbered.{number_in, HasSlot, IsTable, NumbersAll, class_counts}
+use Rattle.instr_effects.specs.Numbered.{number_in, HasSlot, IsTable, NumbersAll, class_counts, KeepsNumbers}
 use Rattle.instr_effects.specs.Numbers.{row_number_in, unit_number_in}
 use Rattle.instr_effects.specs.Row.{lane_in}
 use Rattle.live_lanes.specs.declared.table.Table.{Table}
@@ -39,7 +39,7 @@ use Rattle.live_laws.proofs.Effects.Moving.{some-same}
 use Rattle.live_laws.proofs.Effects.Shapes.{class-there}
 use Rattle.live_laws.proofs.Exact.Inside.{all}
 use Rattle.edit_laws.specs.Edits.{Edit, Put, Replace, Erase, edited}
-use Rattle.edit_laws.specs.Further.{KeepsNumbers, KeepsLast, with_classes, HasFurtherLanes, DoesSameLaw, FurtherLanesLaw, FurtherRangesLaw, two_units, range_from, slot_behind, NumbersGrow}
+use Rattle.edit_laws.specs.Further.{KeepsLast, with_classes, HasFurtherLanes, DoesSameLaw, FurtherLanesLaw, FurtherRangesLaw, two_units, range_from, slot_behind, NumbersGrow}
 use Rattle.edit_laws.specs.Kept.{code_in, IsLaidOut}
 use Rattle.edit_laws.specs.Steps.{AreCodes}
 use Rattle.edit_laws.proofs.Kept.{kept-law}

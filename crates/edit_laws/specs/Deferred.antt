@@ -8,7 +8,7 @@ use Rattle.mir_func.specs.declared.func.Instr.{Instr}
 use Rattle.mir_func.specs.Value.{Function, IsFunction}
 use Rattle.mir_func.specs.Edits.{block_place, deleted, inserted, made}
 use Rattle.mir_meaning.specs.Paths.{Code, has}
-use Rattle.instr_effects.specs.Numbered.{number_in}
+use Rattle.instr_effects.specs.Numbered.{number_in, KeepsNumbers}
 use Rattle.instr_effects.specs.Steps.{Numbering}
 use Rattle.live_lanes.specs.declared.compute.flow.BlockFlow.{BlockFlow}
 use Rattle.live_lanes.specs.declared.row.LaneRange.{LaneRange}
@@ -22,7 +22,7 @@ use Rattle.live_lanes.specs.Ordered.{place_of}
 use Rattle.live_laws.specs.Effects.Coded.{KeepsRules}
 use Rattle.edit_laws.specs.Codes.{step_in, NamesTold}
 use Rattle.edit_laws.specs.Edits.{Edit, Put, Replace, Erase, replaced, with_op, KeepsWays, all_edited}
-use Rattle.edit_laws.specs.Further.{KeepsNumbers, KeepsLast}
+use Rattle.edit_laws.specs.Further.{KeepsLast}
 use Rattle.edit_laws.specs.Kept.{IsLaidOut}
 use Rattle.edit_laws.specs.Reasons.{Touched, IsLike, IsEditOf}
 use Rattle.edit_laws.specs.RowsUpdated.{AreRowsUpdated}

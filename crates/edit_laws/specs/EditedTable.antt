@@ -5,7 +5,7 @@ use Rattle.slot_index.specs.Order.{ids, number_of}
 use Rattle.slot_index.specs.Renewed.{low_end}
 use Rattle.mir_func.specs.Value.{Function, IsFunction}
 use Rattle.mir_meaning.specs.Paths.{Among, Code, has}
-use Rattle.instr_effects.specs.Numbered.{number_in, NumbersAll}
+use Rattle.instr_effects.specs.Numbered.{number_in, NumbersAll, KeepsNumbers}
 use Rattle.instr_effects.specs.Steps.{Numbering}
 use Rattle.live_lanes.specs.declared.compute.flow.BlockFlow.{BlockFlow}
 use Rattle.live_lanes.specs.declared.row.Cause.{Cause}
@@ -23,7 +23,7 @@ use Rattle.live_laws.specs.Effects.Coded.{KeepsRules}
 use Rattle.edit_laws.specs.Chains.{Node}
 use Rattle.edit_laws.specs.Deferred.{all_deferred, all_gone, standing_code, TouchesEdits, SpareGone}
 use Rattle.edit_laws.specs.Edits.{Edit, all_edited}
-use Rattle.edit_laws.specs.Further.{KeepsNumbers, KeepsLast}
+use Rattle.edit_laws.specs.Further.{KeepsLast}
 use Rattle.edit_laws.specs.Ordering.{IsOrdered}
 use Rattle.edit_laws.specs.Reasons.{ReasonFor, Touched, IsEditOf}
 use Rattle.edit_laws.specs.Rebuilt.{IsRebuilt}

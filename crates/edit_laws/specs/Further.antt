@@ -9,7 +9,7 @@ use Rattle.mir_func.specs.Value.{Function}
 use Rattle.mir_meaning.specs.Rules.{V8}
 use Rattle.instr_effects.specs.declared.owner.Owner.{Owner}
 use Rattle.instr_effects.specs.declared.owner.Owner.TheVariants as owners
-use Rattle.instr_effects.specs.Numbered.{number_in, NumbersAll}
+use Rattle.instr_effects.specs.Numbered.{number_in, KeepsNumbers, NumbersAll}
 use Rattle.instr_effects.specs.Row.{lane_in}
 use Rattle.instr_effects.specs.Steps.{Numbering}
 use Rattle.live_lanes.specs.declared.table.Table.{Table}
@@ -17,10 +17,6 @@ use Rattle.live_lanes.specs.Entered.{rows_seen}
 use Rattle.live_lanes.specs.Doing.{IsComputed}
 use Rattle.live_laws.specs.Effects.Coded.{KeepsRules}
 use Rattle.edit_laws.specs.Numbers.{DoesSame}
-
--- each lane that has a number keeps it
-abbrev pub KeepsNumbers : Numbering → Numbering → Type 0
-KeepsNumbers old new = (o : Owner) (n : ℕ) → old o ≡ Some n → new o ≡ Some n
 
 -- no instruction stands behind a terminator but terminators
 abbrev pub KeepsLast : Target → Function → Type 0

@@ -6,13 +6,12 @@ use Rattle.mir_func.specs.declared.func.Block.{Block}
 use Rattle.mir_func.specs.declared.func.Instr.{Instr}
 use Rattle.mir_func.specs.Value.{Function}
 use Rattle.mir_meaning.specs.Rules.{V8}
-use Rattle.instr_effects.specs.Numbered.{number_in}
+use Rattle.instr_effects.specs.Numbered.{number_in, KeepsNumbers}
 use Rattle.live_lanes.specs.declared.table.Table.{Table}
 use Rattle.live_lanes.specs.Doing.{IsComputed}
 use Rattle.live_laws.specs.Effects.Coded.{KeepsRules}
 use Rattle.edit_laws.specs.Codes.{TellsEdit, TellsEdits}
 use Rattle.edit_laws.specs.Edits.{Edit, edited, KeepsWays, all_edited}
-use Rattle.edit_laws.specs.Further.{KeepsNumbers}
 use Rattle.edit_laws.specs.Laws.{KeepAllWays}
 use Rattle.edit_laws.specs.Kept.{code_in, IsLaidOut, KeepRows, AreRightIn}
 

@@ -128,6 +128,28 @@ with-slot old new x slot table none os first long reserved ranges at others = re
     owned (owners.Range v k) n e = kept (owners.Range v k) n (ap (λ l. row_number_in (slice_get l v) k) (sym ranges) ∙ e)
     owned (owners.Slot s k) n e = row s k n (nat_eq s slot) refl e
 
+-- with a further range all numbers stay
+pub range-keeps : (old new : LaneTable) (x : LaneSpan) → new.ranges.items ≡ old.ranges.items ++ x ∷ [] → new.reserved.items ≡ old.reserved.items → ((s : ℕ) → get nat_cmp new.slots s ≡ get nat_cmp old.slots s) → (o : Owner) (n : ℕ) → number_in old o ≡ Some n → number_in new o ≡ Some n
+range-keeps old new x ranges reserved slots (owners.Unit u) n e = ap (λ r. unit_number_in r u) reserved ∙ e
+range-keeps old new x ranges reserved slots (owners.Range v k) n e = go (slice_get old.ranges.items v) refl e
+  where
+    go : (q : Option LaneSpan) → slice_get old.ranges.items v ≡ q → row_number_in q k ≡ Some n → row_number_in (slice_get new.ranges.items v) k ≡ Some n
+    go None f g = absurd (cc)
+    go (Some y) f g = ap (λ q. row_number_in q k) (ap (λ l. slice_get l v) ranges ∙ slice-left old.ranges.items (x ∷ []) v y f) ∙ g
+range-keeps old new x ranges reserved slots (owners.Slot s k) n e = ap (λ q. row_number_in q k) (slots s) ∙ e
+
+-- with a further slot all numbers stay
+pub slot-keeps : (old new : LaneTable) (slot : ℕ) → get nat_cmp old.slots slot ≡ None → new.ranges.items ≡ old.ranges.items → new.reserved.items ≡ old.reserved.items → ((s : ℕ) → (s ≡ slot → ⊥) → get nat_cmp new.slots s ≡ get nat_cmp old.slots s) → (o : Owner) (n : ℕ) → number_in old o ≡ Some n → number_in new o ≡ Some n
+slot-keeps old new slot none ranges reserved others (owners.Unit u) n e = ap (λ r. unit_number_in r u) reserved ∙ e
+slot-keeps old new slot none ranges reserved others (owners.Range v k) n e = ap (λ l. row_number_in (slice_get l v) k) ranges ∙ e
+slot-keeps old new slot none ranges reserved others (owners.Slot s k) n e = go (nat_eq s slot) refl
+  where
+    go : (b : Bool) → nat_eq s slot ≡ b → row_number_in (get nat_cmp new.slots s) k ≡ Some n
+    go true f =
+        let gone : get nat_cmp old.slots s ≡ None = ap (get nat_cmp old.slots) (eqb-true s slot f) ∙ none in
+        absurd (let g : None ≡ Some n = sym (ap (λ q. row_number_in q k) gone) ∙ e in cc)
+    go false f = ap (λ q. row_number_in q k) (others s (eqb-false s slot f)) ∙ e
+
 -- a table of units alone is one
 pub of-units : (new : LaneTable) (count : ℕ) → new.owners.items ≡ map owners.Unit (numbers 0 count) → length new.reserved.items ≡ count → new.ranges.items ≡ [] → ((s : ℕ) → get nat_cmp new.slots s ≡ None) → IsTable new
 of-units new count os long ranges slots = record { owned = owned; units = units; full = λ s y e. absurd (let f = slots s in cc) }

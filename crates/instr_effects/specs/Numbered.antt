@@ -27,6 +27,10 @@ pub record IsTable (t : LaneTable) : Type 0 where
   pub units : (u : ℕ) → u < length t.reserved.items → slice_get t.owners.items u ≡ Some (owners.Unit u)
   pub full : (s : ℕ) (x : LaneSpan) → get nat_cmp t.slots s ≡ Some x → x.count ≡ 32
 
+-- what has a number keeps it
+abbrev pub KeepsNumbers : (Owner → Option ℕ) → (Owner → Option ℕ) → Type 0
+KeepsNumbers old new = (o : Owner) (n : ℕ) → old o ≡ Some n → new o ≡ Some n
+
 -- the slot has numbers
 abbrev pub HasSlot : LaneTable → ℕ → Type 0
 HasSlot t s = IsSome (get nat_cmp t.slots s)

@@ -7,7 +7,7 @@ ghost use Rattle.mir_meaning.specs.Registers.{numbers};
 ghost use Rattle.target_base.specs.Registers.{is_reserved_unit};
 ghost use Rattle.instr_effects.specs.Row.{lane_in};
 ghost use Rattle.instr_effects.specs.Numbers.{unit_number_in, row_number_in};
-ghost use Rattle.instr_effects.specs.Numbered.{number_in, IsTable, HasSlot, reserved_units, counts};
+ghost use Rattle.instr_effects.specs.Numbered.{number_in, IsTable, HasSlot, KeepsNumbers, reserved_units, counts};
 ghost use Rattle.instr_effects.specs.declared.owner.Owner.TheVariants as owners;
 
 use crate::lanes::LaneTable;
@@ -159,6 +159,7 @@ impl LaneTable {
         ensures reserved { self.new.reserved ≡ self.old.reserved }
         ensures ranges { OnOk result (counts self.new.ranges.items ≡ counts self.old.ranges.items ++ count ∷ []) }
         ensures slots { self.new.slots ≡ self.old.slots }
+        ensures numbers { OnOk result (KeepsNumbers (number_in self.old) (number_in self.new)) }
     {
         let Ok(v) = u32::try_from(self.ranges.len()) else {
             return Err(AllocError);
@@ -177,6 +178,7 @@ impl LaneTable {
         ensures ranges { self.new.ranges ≡ self.old.ranges }
         ensures numbered { OnOk result (HasSlot self.new slot) }
         ensures kept { OnOk result ((s : ℕ) → HasSlot self.old s → HasSlot self.new s) }
+        ensures numbers { OnOk result (get nat_cmp self.old.slots slot ≡ None → KeepsNumbers (number_in self.old) (number_in self.new)) }
     {
         let own = first_slots(alloc, slot, LANES_OF_A_SLOT)?;
         let lanes = lanes_at(self.owners.len(), LANES_OF_A_SLOT)?;
@@ -192,6 +194,7 @@ impl LaneTable {
         ensures ranges { self.new.ranges ≡ self.old.ranges }
         ensures numbered { OnOk result (HasSlot self.new slot) }
         ensures kept { OnOk result ((s : ℕ) → HasSlot self.old s → HasSlot self.new s) }
+        ensures numbers { OnOk result (KeepsNumbers (number_in self.old) (number_in self.new)) }
     {
         if self.slots.contains_key(&slot) {
             return Ok(());

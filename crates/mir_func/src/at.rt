@@ -6,12 +6,12 @@ ghost use Rattle.std.specs.Option.{option_map_or};
 ghost use Rattle.mir_func.specs.Edits.{made};
 ghost use Rattle.mir_func.specs.At.{instrs_at, instr_at, put_at, cut_at, changed_at, operation, with_operation, inserted_at, removed_at, retracted_at, replaced_at};
 
-use crate::func::{Block, Func, Instr, Op, Operands};
+use crate::func::{Block, Func, Instr, Op, Operands, new_instr};
 use std::alloc::AllocError;
 use std::mem;
-use target_base::{List, OpId};
+use target_base::OpId;
 
-/// Puts a new instruction, without flags and tail, before the one at a place of a block, or last.
+/// Puts a new instruction before the one at a place of a block, or last.
 fn put_at(
     block: &mut Block,
     place: usize,
@@ -22,18 +22,9 @@ fn put_at(
     ensures ok { OnOk result (block.new ≡ put_at place (made id op operands) block.old) }
     ensures err { OnErr result (block.new ≡ block.old) }
 {
-    let alloc = block.instrs.allocator();
+    let instr = new_instr(block.instrs.allocator(), id, op, operands);
     let at = place.min(block.instrs.len());
-    block.instrs.insert(
-        at,
-        Instr {
-            id,
-            op: Op::Known(op),
-            flags: List::new(alloc),
-            operands,
-            tail: List::new(alloc),
-        },
-    )
+    block.instrs.insert(at, instr)
 }
 
 /// Takes out the instruction at a place of a block, where there is one.
@@ -93,7 +84,7 @@ impl Func {
         }
     }
 
-    /// Puts a new instruction, without flags and tail, before the one at a place of the block at a
+    /// Puts a new instruction before the one at a place of the block at a
     /// position, or last, and answers its id, which is the function's `next_id`. Where there is no
     /// such block, or no id is left, nothing is put. After a refusal the function is unchanged.
     pub fn insert_at(

@@ -233,6 +233,19 @@ fn gap_at(instrs: &[Boxed<Instr>], before: Option<u32>) -> usize
     }
 }
 
+/// A new instruction, without flags and tail.
+pub(crate) fn new_instr(alloc: Global, id: u32, op: OpId, operands: Operands) -> Instr
+    ensures { result ≡ made id op operands }
+{
+    Instr {
+        id,
+        op: Op::Known(op),
+        flags: List::new(alloc),
+        operands,
+        tail: List::new(alloc),
+    }
+}
+
 /// Puts a new instruction into a gap of a block.
 fn put_into(
     block: &mut Block,
@@ -244,18 +257,9 @@ fn put_into(
     ensures ok { OnOk result (block.new ≡ put before (made id op operands) block.old) }
     ensures err { OnErr result (block.new ≡ block.old) }
 {
-    let alloc = block.instrs.allocator();
+    let instr = new_instr(block.instrs.allocator(), id, op, operands);
     let place = gap_at(block.instrs.as_slice(), before);
-    block.instrs.insert(
-        place,
-        Instr {
-            id,
-            op: Op::Known(op),
-            flags: List::new(alloc),
-            operands,
-            tail: List::new(alloc),
-        },
-    )
+    block.instrs.insert(place, instr)
 }
 
 /// Takes the first instruction of an id out of each block.

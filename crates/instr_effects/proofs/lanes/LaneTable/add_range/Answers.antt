@@ -1,8 +1,12 @@
 use Rattle.std.proofs.Common.{refl, arith}
 use Rattle.std.proofs.lemmas.Grind.{common_steps}
-use Rattle.instr_effects.proofs.Tables.{with-range}
+use Rattle.instr_effects.proofs.Tables.{with-range, range-keeps}
 use Rattle.instr_effects.proofs.lanes.LaneTable.add_range.Goals as goal
 
 pub returns-clause-table : goal.returns-clause-table
 returns-clause-table c =
     λ h. with-range c.args.self.now _ c.in_ok-lanes.lanes c.args.count h (grind (arith, common_steps)) (grind (arith, common_steps)) (grind (arith, common_steps)) (grind (arith, common_steps)) refl (λ s. refl)
+
+pub returns-clause-numbers : goal.returns-clause-numbers
+returns-clause-numbers c =
+    range-keeps c.args.self.now _ c.in_ok-lanes.lanes (grind (arith, common_steps)) refl (λ s. refl)

@@ -1,8 +1,12 @@
 use Rattle.std.proofs.Common.{refl, arith}
 use Rattle.std.proofs.lemmas.Grind.{common_steps}
-use Rattle.instr_effects.proofs.Tables.{with-slot}
+use Rattle.instr_effects.proofs.Tables.{with-slot, slot-keeps}
 use Rattle.instr_effects.proofs.lanes.LaneTable.new_slot.Goals as goal
 
 pub returns-clause-table : goal.returns-clause-table
 returns-clause-table c =
     λ n h. with-slot c.args.self.now _ c.in_ok-lanes.lanes c.args.slot h n (grind (arith, common_steps)) (grind (arith, common_steps)) (grind (arith, common_steps)) refl refl (grind (arith, common_steps, c.in_ok-insert.ensures.updates.1)) (λ s o. grind (arith, common_steps, c.in_ok-insert.ensures.updates.0 s))
+
+pub returns-clause-numbers : goal.returns-clause-numbers
+returns-clause-numbers c =
+    λ n. slot-keeps c.args.self.now _ c.args.slot n refl refl (λ s o. grind (arith, common_steps, c.in_ok-insert.ensures.updates.0 s))
