@@ -199,6 +199,7 @@ impl LaneTable {
         if self.slots.contains_key(&slot) {
             return Ok(());
         }
-        self.new_slot(alloc, slot)
+        self.new_slot(alloc, slot)?;
+        Ok(())
     }
 }

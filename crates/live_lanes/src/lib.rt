@@ -1,15 +1,18 @@
 //! Functions with exactly what is live in them: for each lane of a virtual register, of a unit and
 //! of a spill slot, the stretches of points at which it is live or written.
+//!
+//! Begin with `live`. The table behind it (`table`, `row`, `order`, `compute`) is public for crates that
+//! prove how it changes.
 #![tactic(auto)]
 
 pub mod ask;
-mod compute;
+pub mod compute;
 pub mod edit;
 mod laws;
 pub mod live;
-mod order;
-mod row;
-mod table;
+pub mod order;
+pub mod row;
+pub mod table;
 
 pub use ask::extent::{ChangedPiece, Extent, Stretch};
 pub use ask::labels::{Labels, Mark, Spot};

@@ -23,15 +23,15 @@ use target_base::{Shared, Target, Unit};
 /// Exactly where each lane of a function is live and written, without the function and its target.
 #[derive(Drop)]
 pub struct LiveTable {
-    pub(crate) table: Table,
+    pub table: Table,
 }
 
 /// A function, its target, and exactly where each lane is live and written.
 #[derive(Drop)]
 pub struct LiveFunc {
-    pub(crate) target: Shared<Target>,
-    pub(crate) func: Func,
-    pub(crate) table: Table,
+    pub target: Shared<Target>,
+    pub func: Func,
+    pub table: Table,
 }
 
 impl Table {

@@ -17,7 +17,7 @@ use target_base::Boxed;
 
 /// The order of instructions, and the positions of blocks in the layout.
 #[derive(Drop)]
-pub(crate) struct Order {
+pub struct Order {
     /// The ids of the instructions in layout order.
     pub slots: Slots,
     /// The position of each instruction's block, by its id.

@@ -15,7 +15,7 @@ use std::alloc::{AllocError, Global};
 
 /// Up to where a lane is live in a piece.
 #[derive(Clone, Copy, PartialEq, Eq)]
-pub(crate) enum PieceEnd {
+pub enum PieceEnd {
     /// Nowhere.
     Never,
     /// The entry of an instruction, which reads it.
@@ -28,7 +28,7 @@ pub(crate) enum PieceEnd {
 
 /// Why a lane is live in a piece. Along the causes one comes to a reading that needs no other lane.
 #[derive(Clone, Copy, PartialEq, Eq)]
-pub(crate) enum Cause {
+pub enum Cause {
     /// It isn't live.
     None,
     /// An instruction reads the lane, or moves it into one that is live behind the instruction.
@@ -50,7 +50,7 @@ impl Cause {
 
 /// An instruction that reads the lane, or that moves it into another one.
 #[derive(Clone, Copy, PartialEq, Eq)]
-pub(crate) struct LaneUse {
+pub struct LaneUse {
     /// The instruction.
     pub id: u32,
     /// The lane into which it is moved; none where it is read in any case.
@@ -59,7 +59,7 @@ pub(crate) struct LaneUse {
 
 /// A piece: why the lane is live in it, up to where, and its readings in order.
 #[derive(Drop)]
-pub(crate) struct Piece {
+pub struct Piece {
     pub cause: Cause,
     pub end: PieceEnd,
     pub readings: Vec<LaneUse>,
@@ -67,7 +67,7 @@ pub(crate) struct Piece {
 
 /// An instruction that writes the lane, and the piece that begins with this.
 #[derive(Drop)]
-pub(crate) struct DefPiece {
+pub struct DefPiece {
     /// The instruction.
     pub start: u32,
     /// Whether the lane is occupied at the instruction's entry too.
@@ -79,7 +79,7 @@ pub(crate) struct DefPiece {
 
 /// A lane in one block.
 #[derive(Drop)]
-pub(crate) struct Cell {
+pub struct Cell {
     /// The block's position in the layout.
     pub block: u32,
     /// Whether a phi reads the lane at the block's end.
@@ -93,27 +93,27 @@ pub(crate) struct Cell {
 /// A lane's cells, from the last block to the first: as lanes are found live from their readings
 /// backwards, new cells mostly come at the end.
 #[derive(Drop)]
-pub(crate) struct LaneRange {
+pub struct LaneRange {
     pub cells: Vec<Cell>,
     ghost sorted: { IsTrue (descends cells.items) },
 }
 
 /// A number of an entry, which rises along the layout.
-pub(crate) fn entry_rank(slots: &Slots, id: u32) -> u128
+pub fn entry_rank(slots: &Slots, id: u32) -> u128
     ensures { result ≡ entry_rank slots.now id }
 {
     slots.number(id) as u128 * 2
 }
 
 /// A number of an exit, which rises along the layout.
-pub(crate) fn exit_rank(slots: &Slots, id: u32) -> u128
+pub fn exit_rank(slots: &Slots, id: u32) -> u128
     ensures { result ≡ exit_rank slots.now id }
 {
     slots.number(id) as u128 * 2 + 1
 }
 
 /// A number of an end, which rises along the block.
-pub(crate) fn rank(slots: &Slots, end: PieceEnd) -> u128
+pub fn rank(slots: &Slots, end: PieceEnd) -> u128
     ensures { result ≡ end_rank slots.now end }
 {
     match end {
@@ -125,14 +125,14 @@ pub(crate) fn rank(slots: &Slots, end: PieceEnd) -> u128
 }
 
 /// Whether an end is none.
-pub(crate) fn is_never(end: PieceEnd) -> bool
+pub fn is_never(end: PieceEnd) -> bool
     ensures { result ≡ is_never end }
 {
     matches!(end, PieceEnd::Never)
 }
 
 /// Whether a piece with this end isn't over before the point of this rank.
-pub(crate) fn reaches(slots: &Slots, end: PieceEnd, at: u128) -> bool
+pub fn reaches(slots: &Slots, end: PieceEnd, at: u128) -> bool
     ensures { result ≡ reaches slots.now end at }
 {
     !is_never(end) && at <= rank(slots, end)
@@ -143,7 +143,7 @@ const NEAR: u32 = 4;
 
 /// Makes room for one element in a list that has none, and for no more: most lanes have one cell, and
 /// most pieces one reading.
-pub(crate) fn make_first_room<T>(list: &mut Vec<T>) -> Result<(), AllocError>
+pub fn make_first_room<T>(list: &mut Vec<T>) -> Result<(), AllocError>
     ensures { list.new.items ≡ list.old.items }
 {
     if list.is_empty() {
@@ -153,11 +153,7 @@ pub(crate) fn make_first_room<T>(list: &mut Vec<T>) -> Result<(), AllocError>
 }
 
 /// Puts an element at a place of a list.
-pub(crate) fn insert_one<T: Drop>(
-    list: &mut Vec<T>,
-    at: usize,
-    element: T,
-) -> Result<(), AllocError>
+pub fn insert_one<T: Drop>(list: &mut Vec<T>, at: usize, element: T) -> Result<(), AllocError>
     requires { at ≤ length list.old.items }
     ensures items { list.new.items ≡ (if is_ok result then insert list.old.items at element else list.old.items) }
 {

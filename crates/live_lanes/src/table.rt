@@ -10,7 +10,7 @@ use std::alloc::{AllocError, Global};
 
 /// Where a piece stands.
 #[derive(Clone, Copy, PartialEq, Eq)]
-pub(crate) struct PieceSpot {
+pub struct PieceSpot {
     /// The lane.
     pub lane: u32,
     /// The block's position in the layout.
@@ -21,7 +21,7 @@ pub(crate) struct PieceSpot {
 
 /// The pieces of the lanes of a function, by lane.
 #[derive(Drop)]
-pub(crate) struct LaneRanges {
+pub struct LaneRanges {
     pub alloc: Global,
     pub rows: Vec<LaneRange>,
 }
@@ -117,7 +117,7 @@ impl LaneRanges {
 /// What is known of a function besides its text: the numbers of its lanes, the order of its
 /// instructions, the ways between its blocks, and the pieces of its lanes.
 #[derive(Drop)]
-pub(crate) struct Table {
+pub struct Table {
     pub lanes: LaneTable,
     pub order: Order,
     pub flow: Vec<BlockFlow>,

@@ -15,7 +15,7 @@ use slot_index::Slots;
 
 /// A piece of a lane, with where it stands.
 #[derive(Clone, Copy)]
-pub(crate) struct PieceAt<'a> {
+pub struct PieceAt<'a> {
     /// The lane.
     pub lane: u32,
     /// The place of the cell among those of the lane.

@@ -16,7 +16,7 @@ use target_base::{Boxed, Target};
 
 /// The ways into a block and out of it, by the positions of blocks in the layout.
 #[derive(Drop)]
-pub(crate) struct BlockFlow {
+pub struct BlockFlow {
     /// The blocks from which paths lead here, each once.
     pub predecessors: Vec<u32>,
     /// The blocks to which paths lead from here, each once.
@@ -26,7 +26,7 @@ pub(crate) struct BlockFlow {
 }
 
 /// The positions of the blocks before one.
-pub(crate) fn predecessors(flow: &[BlockFlow], block: u32) -> &[u32]
+pub fn predecessors(flow: &[BlockFlow], block: u32) -> &[u32]
     ensures { result.now ≡ predecessors flow.now block }
 {
     match flow.get(block as usize) {
@@ -36,7 +36,7 @@ pub(crate) fn predecessors(flow: &[BlockFlow], block: u32) -> &[u32]
 }
 
 /// The positions of the blocks behind one.
-pub(crate) fn successors(flow: &[BlockFlow], block: u32) -> &[u32]
+pub fn successors(flow: &[BlockFlow], block: u32) -> &[u32]
     ensures { result.now ≡ successors flow.now block }
 {
     match flow.get(block as usize) {
@@ -46,7 +46,7 @@ pub(crate) fn successors(flow: &[BlockFlow], block: u32) -> &[u32]
 }
 
 /// The ids of a block's terminators.
-pub(crate) fn terminators(flow: &[BlockFlow], block: u32) -> &[u32]
+pub fn terminators(flow: &[BlockFlow], block: u32) -> &[u32]
     ensures { result.now ≡ terminators flow.now block }
 {
     match flow.get(block as usize) {
@@ -158,7 +158,7 @@ fn ways_out(
 }
 
 /// The ways into and out of the blocks of a function, in layout order.
-pub(crate) fn flow_of(
+pub fn flow_of(
     alloc: Global,
     target: &Target,
     order: &Order,

@@ -1,7 +1,7 @@
 //! What is live as it is computed for a whole function: what instructions do is entered, what is live
 //! grows from the readings, and each live piece gets its end.
 
-pub(crate) mod ends;
+pub mod ends;
 pub(crate) mod enter;
-pub(crate) mod flow;
+pub mod flow;
 pub(crate) mod grow;

@@ -200,7 +200,7 @@ impl Cell {
     }
 
     /// Why a piece is live.
-    pub fn cause_of(&self, index: usize) -> Cause {
+    pub(crate) fn cause_of(&self, index: usize) -> Cause {
         match self.piece(index) {
             Some(piece) => piece.cause,
             None => Cause::None,
@@ -208,7 +208,7 @@ impl Cell {
     }
 
     /// The instruction that begins a piece; none for the one that begins with the block.
-    pub fn start_of(&self, index: usize) -> Option<u32> {
+    pub(crate) fn start_of(&self, index: usize) -> Option<u32> {
         if index == 0 {
             return None;
         }
@@ -219,7 +219,7 @@ impl Cell {
     }
 
     /// Does a change, and answers the one that takes it back. After a refusal the cell is unchanged.
-    pub fn edit(&mut self, alloc: Global, edit: CellEdit) -> Result<CellEdit, AllocError>
+    pub(crate) fn edit(&mut self, alloc: Global, edit: CellEdit) -> Result<CellEdit, AllocError>
         ensures { self.new.block ≡ self.old.block }
     {
         Ok(match edit {
@@ -252,7 +252,7 @@ impl Cell {
 impl LaneRange {
     /// The place of the cell of a block, where there is one. It is looked for at a place and behind it
     /// first.
-    pub fn find(&self, near: usize, block: u32) -> Option<usize> {
+    pub(crate) fn find(&self, near: usize, block: u32) -> Option<usize> {
         let place = self.place_near(near, block);
         match self.cells.get(place) {
             Some(cell) if cell.block == block => Some(place),
@@ -261,7 +261,7 @@ impl LaneRange {
     }
 
     /// Makes the cell of a block, where it is to stand behind all others.
-    pub fn make_last(&mut self, alloc: Global, block: u32) -> Result<(), AllocError> {
+    pub(crate) fn make_last(&mut self, alloc: Global, block: u32) -> Result<(), AllocError> {
         let is_last = match self.cells.last() {
             Some(cell) => cell.block > block,
             None => true,
@@ -274,7 +274,7 @@ impl LaneRange {
 
     /// Does a change of the cell at a place, and answers the one that takes it back. After a
     /// refusal the cell is unchanged.
-    pub fn edit(
+    pub(crate) fn edit(
         &mut self,
         alloc: Global,
         place: usize,

@@ -160,7 +160,7 @@ pub(crate) fn changed_piece_at(spot: PieceSpot, start: Option<u32>) -> ChangedPi
 impl Table {
     /// Does a change of a lane's cell at a place, and notes what takes it back. The piece that it
     /// speaks of begins with this instruction, or with the block.
-    pub fn edit_cell(
+    pub(crate) fn edit_cell(
         &mut self,
         changed_piece: ChangedPiece,
         place: usize,
@@ -193,7 +193,7 @@ impl Table {
     }
 
     /// Takes all cells of some lanes away.
-    pub fn take_rows(&mut self, own: LaneSpan, log: &mut Log) -> Result<(), AllocError> {
+    pub(crate) fn take_rows(&mut self, own: LaneSpan, log: &mut Log) -> Result<(), AllocError> {
         'lanes: for k in 0..own.count {
             if let Some(lane) = own.lane(k) {
                 self.take_row(lane, log)?;
@@ -219,7 +219,11 @@ impl Table {
 
     /// Gives a live piece a reading that needs no other lane as its cause, or none. Answers whether
     /// it has none then.
-    pub fn take_cause(&mut self, piece_ref: PieceRef, log: &mut Log) -> Result<bool, AllocError> {
+    pub(crate) fn take_cause(
+        &mut self,
+        piece_ref: PieceRef,
+        log: &mut Log,
+    ) -> Result<bool, AllocError> {
         log.reserve()?;
         let alloc = self.rows.alloc;
         let spot = piece_ref.spot;
@@ -247,7 +251,7 @@ impl Table {
     }
 
     /// Gives a piece of the cell at a place an end.
-    pub fn set_end(
+    pub(crate) fn set_end(
         &mut self,
         spot: PieceSpot,
         place: usize,
@@ -268,7 +272,7 @@ impl Table {
     }
 
     /// The place of an instruction among those of the block at a position.
-    pub fn place_in(&self, func: &Func, block: u32, id: u32) -> usize
+    pub(crate) fn place_in(&self, func: &Func, block: u32, id: u32) -> usize
         ensures { (b : Block) → slice_get func.now.blocks block ≡ Some b → AreRising self.now.order.slots 0 (ids_of b.instrs)
             → (j : ℕ) (i : Instr) → slice_get b.instrs j ≡ Some i → i.id ≡ id → result ≡ j }
     {
@@ -279,7 +283,7 @@ impl Table {
     }
 
     /// Whether the instruction at a place of the block at a position has an id.
-    pub fn stands_at(&self, func: &Func, block: u32, place: usize, id: u32) -> bool {
+    pub(crate) fn stands_at(&self, func: &Func, block: u32, place: usize, id: u32) -> bool {
         match func.instr_at(block as usize, place) {
             Some(instr) => instr.id == id,
             None => false,
@@ -294,7 +298,7 @@ impl Table {
     }
 
     /// Takes all changes of a log back, the last one first.
-    pub fn roll_back(&mut self, func: &mut Func, log: &mut Log) {
+    pub(crate) fn roll_back(&mut self, func: &mut Func, log: &mut Log) {
         'entries: for k in (0..log.len()).rev() {
             let entry = log.take(k);
             self.take_back_one(func, entry, log);
@@ -333,7 +337,7 @@ impl Table {
     }
 
     /// Lets the instructions go that a log says are to go.
-    pub fn finish(&mut self, func: &mut Func, log: &Log) {
+    pub(crate) fn finish(&mut self, func: &mut Func, log: &Log) {
         'erased_instrs: for erased_instrs in log.erased_instrs.as_slice() {
             let (block, id) = *erased_instrs;
             let place = self.place_in(func, block, id);

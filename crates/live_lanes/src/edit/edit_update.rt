@@ -194,7 +194,7 @@ impl Table {
     }
 
     /// Brings the pieces up to date where instructions do something else to them.
-    pub fn update(&mut self, touched: &[Touch], log: &mut Log) -> Result<(), AllocError> {
+    pub(crate) fn update(&mut self, touched: &[Touch], log: &mut Log) -> Result<(), AllocError> {
         let suspects = self.suspects(touched)?;
         let ids = self.touched_ids(touched)?;
         let mut fallen = self.look_again(suspects.as_slice(), ids.as_slice(), log)?;
@@ -316,7 +316,11 @@ impl Table {
     }
 
     /// Adds where a lane is live because a piece is.
-    pub fn add_needs(&self, piece_ref: PieceRef, needs: &mut Vec<Need>) -> Result<(), AllocError> {
+    pub(crate) fn add_needs(
+        &self,
+        piece_ref: PieceRef,
+        needs: &mut Vec<Need>,
+    ) -> Result<(), AllocError> {
         let spot = piece_ref.spot;
         if spot.index == 0 {
             return self.add_exits_before(piece_ref, needs);

@@ -392,7 +392,7 @@ impl Table {
     }
 
     /// Makes rows for the lanes that have none yet.
-    pub fn add_rows(&mut self) -> Result<(), AllocError> {
+    pub(crate) fn add_rows(&mut self) -> Result<(), AllocError> {
         let alloc = self.rows.alloc;
         'lanes: for _ in self.rows.rows.len()..self.lanes.len() {
             self.rows.rows.push(LaneRange::new(alloc))?;

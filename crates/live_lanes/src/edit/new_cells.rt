@@ -36,7 +36,7 @@ impl NewCell {
 
 impl Table {
     /// Makes cells, which are given in the order of their keys, each once.
-    pub fn make_all(&mut self, cells: &[NewCell]) -> Result<(), AllocError> {
+    pub(crate) fn make_all(&mut self, cells: &[NewCell]) -> Result<(), AllocError> {
         let mut rest = cells;
         'lanes: for _ in 0..cells.len() {
             let Some(first) = rest.first() else {

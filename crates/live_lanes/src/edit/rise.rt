@@ -65,7 +65,7 @@ impl Table {
     /// Lets pieces come alive for their reasons, and all that leads to them, the nearest first.
     /// Answers those whose ends are still to be found. The pieces that lead to them and are live
     /// already are added to those around.
-    pub fn rise(
+    pub(crate) fn rise(
         &mut self,
         reasons: &[Need],
         around: &mut Vec<PieceRef>,

@@ -9,4 +9,4 @@ returns-clause-table c =
 
 pub returns-clause-numbers : goal.returns-clause-numbers
 returns-clause-numbers c =
-    range-keeps c.args.self.now _ c.in_ok-lanes.lanes (grind (arith, common_steps)) refl (λ s. refl)
+    range-keeps c.args.self.now (record { owners = c.extend_from_slice.new.self; reserved = c.args.self.now.reserved; ranges = c.push.new.self; slots = c.args.self.now.slots }) c.in_ok-lanes.lanes (grind (arith, common_steps)) refl (λ s. refl)

@@ -9,4 +9,4 @@ returns-clause-table c =
 
 pub returns-clause-numbers : goal.returns-clause-numbers
 returns-clause-numbers c =
-    λ n. slot-keeps c.args.self.now _ c.args.slot n refl refl (λ s o. grind (arith, common_steps, c.in_ok-insert.ensures.updates.0 s))
+    λ n. slot-keeps c.args.self.now (record { owners = c.extend_from_slice.new.self; reserved = c.args.self.now.reserved; ranges = c.args.self.now.ranges; slots = c.insert.new.self }) c.args.slot n refl refl (λ s o. grind (arith, common_steps, c.in_ok-insert.ensures.updates.1, c.in_ok-insert.ensures.updates.0 s))
