@@ -1,4 +1,6 @@
-//! Which register a live range may take, and which lighter ranges lose it (LLVM's basic allocator).
+//! Which register a live range may take, and which lighter ranges lose it (LLVM's RABasic).
+//!
+//! The choice is exactly that of the definition, by what the matrix tells. Begin with `choice`.
 #![tactic(auto)]
 
 mod choice;

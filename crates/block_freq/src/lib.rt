@@ -1,4 +1,7 @@
-//! How often blocks and ranges are used: block frequencies, and the spill weights that rest on them.
+//! How often blocks and ranges are used: block frequencies (LLVM's MachineBlockFrequencyInfo), and the
+//! spill weights that rest on them.
+//!
+//! Both are exactly what the definitions say. Begin with `freqs`, then `weights`.
 #![tactic(auto)]
 
 mod edges;

@@ -1,4 +1,6 @@
 //! The operands of an instruction with the roles that they take, and the pairs that these tie.
+//!
+//! They are exactly those of the definitions of `mir_func`. Verifiers and places go by them.
 #![tactic(auto)]
 
 ghost use Rattle.std.specs.Prelude.{◌≡◌, ◌++◌, map, find, option_map, IfOk};

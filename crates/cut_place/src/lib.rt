@@ -1,4 +1,7 @@
-//! Least cuts of nets, with greatest flows that show them least.
+//! Least cuts of nets, each with a greatest flow that shows it least.
+//!
+//! The answer is exactly the least of the least cuts, and its flow shows it. Begin with `cut`, then
+//! `search` (a way that takes more flow) and `net`.
 #![tactic(auto)]
 
 mod cut;

@@ -1,4 +1,8 @@
 //! Which registers a live range may take, and from which other ranges (LLVM's eviction advisor).
+//!
+//! Candidates, weights and the cheapest eviction are exactly those of the definitions, by what table
+//! and matrix tell. Begin with `choice`; the order of candidates is in `hints`, and stages are in
+//! `ranks`.
 #![tactic(auto)]
 
 mod choice;

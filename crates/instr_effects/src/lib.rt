@@ -1,5 +1,8 @@
 //! What an instruction does: which lanes it reads, writes and moves, by the numbers of lanes and as
 //! values, said once for liveness, edits, verifiers, the checker and the interpreter.
+//!
+//! Both are exactly what `mir_meaning` says of the instruction. Begin with `effects` (by the numbers of
+//! lanes, which `lanes` and `numbers` give) and with `items` (as values).
 #![tactic(auto)]
 
 pub mod acts;

@@ -9,12 +9,12 @@ use Rattle.live_lanes.specs.declared.ask.extent.Extent.{Extent}
 use Rattle.live_lanes.specs.declared.row.Cell.{Cell}
 use Rattle.live_lanes.specs.Table.{Numbers}
 use Rattle.live_lanes.specs.Entered.{piece_count}
-use Rattle.live_lanes.specs.Extents.{extent_in, first_rank, last_rank, stretch_of}
+use Rattle.live_lanes.specs.Extents.{extent_in, first_rank, last_rank, stretch_of, some_extents}
 use Rattle.live_lanes.proofs.Cells.{both}
 use Rattle.interference.specs.declared.held.HeldList.{HeldList}
 use Rattle.interference.specs.Clashes.{AreApart, AreFilled, held_of, begins_by, is_taken}
 use Rattle.interference.specs.Changes.{others_of, own_of, IsInserted}
-use Rattle.interference.specs.Listed.{some_extents, AreInTurn, IsFront, HasRoom, IsClear, IsKept, IsBegun, IsFilled}
+use Rattle.interference.specs.Listed.{AreInTurn, IsFront, HasRoom, IsClear, IsKept, IsBegun, IsFilled}
 use Rattle.interference.proofs.Parts.{extent-le}
 use Rattle.interference.proofs.Owned.{apart-put, others-put, own-put, taken-others}
 use Rattle.interference.proofs.Thinned.{upto, upto-all}

@@ -10,13 +10,13 @@ use Rattle.live_lanes.specs.declared.row.LaneRange.{LaneRange}
 use Rattle.live_lanes.specs.declared.table.Table.{Table}
 use Rattle.live_lanes.specs.Table.{Numbers, find_cell, descends, is_below}
 use Rattle.live_lanes.specs.Entered.{cells_of}
-use Rattle.live_lanes.specs.Extents.{cell_extents, stretch_of}
+use Rattle.live_lanes.specs.Extents.{cell_extents, stretch_of, some_extents}
 use Rattle.live_lanes.proofs.Cells.{is-found, both-left, both-right}
 use Rattle.interference.specs.declared.held.HeldList.{HeldList}
 use Rattle.interference.specs.declared.matrix.UnitTable.{UnitTable}
 use Rattle.interference.specs.Clashes.{AreApart, AreFilled, held_of, held_of_some, list_in, is_taken}
 use Rattle.interference.specs.Changes.{others_of, own_of}
-use Rattle.interference.specs.Listed.{some_extents, lane_extents, listed, AreInTurn, has_some, IsFront, HasRoom, IsKept, IsBegun, IsFilled, ChangesAt, ChangesCell, AreSorted, KeepsOthers, Lots, LaneHasRoom, with_lane, Begins, Fills}
+use Rattle.interference.specs.Listed.{lane_extents, listed, AreInTurn, has_some, IsFront, HasRoom, IsKept, IsBegun, IsFilled, ChangesAt, ChangesCell, AreSorted, KeepsOthers, Lots, LaneHasRoom, with_lane, Begins, Fills}
 use Rattle.interference.proofs.Owned.{taken-others}
 use Rattle.interference.proofs.Lots.{holds-is, is_at, at-both, or_cell, this_cell, find-last, take-next}
 

@@ -24,12 +24,12 @@ use Rattle.live_lanes.specs.declared.row.LaneRange.{LaneRange}
 use Rattle.live_lanes.specs.declared.table.Table.{Table}
 use Rattle.live_lanes.specs.Table.{Numbers, Seen, find_cell, begun, rises_from, seen, seen_cell, seen_in, unseen}
 use Rattle.live_lanes.specs.Entered.{rows_seen}
-use Rattle.live_lanes.specs.Extents.{block_extent, cell_extents, extent_in, segment_extent}
+use Rattle.live_lanes.specs.Extents.{block_extent, cell_extents, extent_in, segment_extent, some_extents}
 use Rattle.live_lanes.specs.Looks.{InOrder}
 use Rattle.live_lanes.specs.Reach.{is_never}
 use Rattle.live_lanes.proofs.Cells.{both-left, both-right}
 use Rattle.interference.specs.Changes.{starting}
-use Rattle.interference.specs.Listed.{some_extents, lane_extents, range_extents, BeginApart}
+use Rattle.interference.specs.Listed.{lane_extents, range_extents, BeginApart}
 
 -- the extents of a cell, piece by piece
 

@@ -9,14 +9,14 @@ use Rattle.live_lanes.specs.declared.ask.extent.Extent.{Extent}
 use Rattle.live_lanes.specs.declared.row.Cell.{Cell}
 use Rattle.live_lanes.specs.Table.{Numbers}
 use Rattle.live_lanes.specs.Entered.{piece_count}
-use Rattle.live_lanes.specs.Extents.{extent_in, cell_extents}
+use Rattle.live_lanes.specs.Extents.{extent_in, cell_extents, some_extents}
 use Rattle.live_lanes.proofs.Held.{or-left, or-right}
 use Rattle.interference.specs.declared.held.HeldList.{HeldList}
 use Rattle.interference.specs.declared.matrix.UnitExtents.{UnitExtents}
 use Rattle.interference.specs.declared.matrix.UnitTable.{UnitTable}
 use Rattle.interference.specs.Clashes.{AreApart, AreFilled, held_of, list_in}
 use Rattle.interference.specs.Changes.{same_start, begins_with, is_piece, others_of, own_of, starting}
-use Rattle.interference.specs.Listed.{some_extents, AreAmong, IsThinned, ChangesRow, ChangesAt, ChangesCell}
+use Rattle.interference.specs.Listed.{AreAmong, IsThinned, ChangesRow, ChangesAt, ChangesCell}
 use Rattle.interference.proofs.Parts.{apart-filter}
 use Rattle.interference.proofs.Owned.{others-spared, own-spared}
 

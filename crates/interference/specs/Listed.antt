@@ -11,9 +11,8 @@ use Rattle.instr_effects.specs.declared.owner.Owner.TheVariants as owners
 use Rattle.live_lanes.specs.declared.ask.extent.Extent.{Extent}
 use Rattle.live_lanes.specs.declared.row.Cell.{Cell}
 use Rattle.live_lanes.specs.declared.table.Table.{Table}
-use Rattle.live_lanes.specs.Table.{Numbers, find_cell}
-use Rattle.live_lanes.specs.Entered.{cells_of}
-use Rattle.live_lanes.specs.Extents.{cell_extents, first_rank, last_rank, stretch_of}
+use Rattle.live_lanes.specs.Table.{Numbers}
+use Rattle.live_lanes.specs.Extents.{cell_extents, extents_in, first_rank, last_rank, stretch_of}
 use Rattle.live_lanes.specs.Looks.{InOrder}
 use Rattle.interference.specs.declared.held.RangeExtent.{RangeExtent}
 use Rattle.interference.specs.declared.held.HeldList.{HeldList}
@@ -22,14 +21,10 @@ use Rattle.interference.specs.declared.matrix.Matrix.{Matrix}
 use Rattle.interference.specs.Clashes.{AreApart, AreFilled, IsOrdered, held_of, held_of_some, holds, is_free, is_taken, list_in, register_in}
 use Rattle.interference.specs.Changes.{begins_with, others_of, own_of, starting}
 
-abbrev pub some_extents : Option Cell → List Extent
-some_extents None = []
-some_extents (Some c) = cell_extents c
-
 -- the extents of a lane, if there is one, in the block at a position
 abbrev pub lane_extents : Table → Option ℕ → ℕ → List Extent
 lane_extents x None b = []
-lane_extents x (Some n) b = some_extents (find_cell b (cells_of x.rows.rows.items n))
+lane_extents x (Some n) b = extents_in x n b
 
 -- those of the lanes of a range, from lane k on, that have these units, in a unit
 abbrev pub range_extents : Table → ℕ → ℕ → List UnitNumber → ℕ → ℕ → List Extent

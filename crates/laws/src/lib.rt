@@ -1,4 +1,8 @@
-//! Laws about what code means. Each is the contract of a function, so that a check proves it.
+//! Laws about what code means: when one code does what another does, what is live, and what a checker
+//! of two codes may believe.
+//!
+//! Each is the contract of a function, so that a check proves it; begin with the functions here, whose
+//! statements are in `specs/`. No code is run by them.
 #![tactic(auto)]
 
 ghost use Rattle.meaning.specs.InStep.{LawOfPlaces};

@@ -1,5 +1,5 @@
 -- The points of lanes, piece by piece, and whether a lane has one of a stretch of points.
-use Rattle.std.specs.Prelude.{ℕ, zero, suc, ◌+◌, ◌-◌, Bool, false, cond, List, Option, None, Some, max, nat_le, slice_get, option_map}
+use Rattle.std.specs.Prelude.{ℕ, zero, suc, ◌+◌, ◌-◌, Bool, false, cond, List, [], Option, None, Some, max, nat_le, slice_get, option_map}
 use Rattle.std.specs.List.{list_any, filter_map}
 use Rattle.mir_meaning.specs.Registers.{numbers}
 use Rattle.instr_effects.specs.declared.row.LaneSpan.{LaneSpan}
@@ -9,8 +9,8 @@ use Rattle.live_lanes.specs.declared.row.Cell.{Cell}
 use Rattle.live_lanes.specs.declared.ask.extent.Extent.{Extent}
 use Rattle.live_lanes.specs.declared.ask.extent.Stretch.{Stretch}
 use Rattle.live_lanes.specs.declared.table.Table.{Table}
-use Rattle.live_lanes.specs.Table.{Numbers, Begun, Seen, leading, entry_rank, exit_rank, end_rank}
-use Rattle.live_lanes.specs.Entered.{rows_seen, piece_count}
+use Rattle.live_lanes.specs.Table.{Numbers, Begun, Seen, leading, entry_rank, exit_rank, end_rank, find_cell}
+use Rattle.live_lanes.specs.Entered.{rows_seen, cells_of, piece_count}
 use Rattle.live_lanes.specs.Reach.{is_never}
 use Rattle.live_lanes.specs.Held.{held_at, hold_rank}
 
@@ -36,6 +36,14 @@ extent_in (Some c) (suc k) = option_map segment_extent (slice_get c.segments.ite
 -- those of all pieces of a cell
 abbrev pub cell_extents : Cell → List Extent
 cell_extents c = filter_map (extent_in (Some c)) (numbers 0 (piece_count (Some c)))
+
+abbrev pub some_extents : Option Cell → List Extent
+some_extents None = []
+some_extents (Some c) = cell_extents c
+
+-- those of the lane of that number in the block at a position
+abbrev pub extents_in : Table → ℕ → ℕ → List Extent
+extents_in x n p = some_extents (find_cell p (cells_of x.rows.rows.items n))
 
 -- the block's start, or the first point that the writing occupies
 abbrev pub first_rank : Numbers → Extent → ℕ

@@ -1,8 +1,9 @@
-//! Functions with exactly what is live in them: for each lane of a virtual register, of a unit and
-//! of a spill slot, the stretches of points at which it is live or written.
+//! Functions with what is live in them (LLVM's LiveIntervals): for each lane of a virtual register, of
+//! a unit and of a spill slot, the stretches of points at which it is live or occupied.
 //!
-//! Begin with `live`. The table behind it (`table`, `row`, `order`, `compute`) is public for crates that
-//! prove how it changes.
+//! What is computed is exact; what edits leave is tested. Begin with `live`; questions are in `ask`,
+//! and edits in `edit`. The table behind it (`table`, `row`, `order`, `compute`) is public for crates
+//! that prove how it changes.
 #![tactic(auto)]
 
 pub mod ask;

@@ -1,4 +1,6 @@
 //! The program: the files and streams of the system, and the top call.
+//!
+//! It promises what `ra_top` does of what its adapters hand it. Begin with `main`.
 #![tactic(auto)]
 
 mod adapters;

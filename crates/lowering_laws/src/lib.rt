@@ -1,5 +1,7 @@
-//! Laws of lowering: a function that was lowered does what it did. Each is the contract of a function, so
-//! that a check proves it.
+//! Laws of lowering: a function that was lowered does what it did, and is in lowered form.
+//!
+//! Each is the contract of a function, so that a check proves it. Begin with `lowered_law`, which is of
+//! both passes; `phis_law` and `tied_law` are of each.
 #![tactic(auto)]
 
 ghost use Rattle.lowering_laws.specs.Blocks.{LoweredClasses, LoweredKeepBlockRules, LoweredNames, LoweredOpcodes, PhisKeepBlockRules};

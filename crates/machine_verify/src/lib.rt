@@ -1,5 +1,9 @@
-//! Both machine verifiers: whether a function is valid as a source or as an allocated function, and
-//! the first place in layout at which a rule fails, with the least rule there.
+//! Both machine verifiers (LLVM's MachineVerifier): whether a function is valid as a source or as an
+//! allocated function.
+//!
+//! The answer is exact: the first place in layout at which a rule fails, with the least rule there, or
+//! that none does. Begin with `verify`; rules of instructions are in `instr_rules`, and what lives
+//! across blocks in `lanes`.
 #![tactic(auto)]
 
 mod blocks;

@@ -1,4 +1,9 @@
-//! Functions of machine instructions, and their edits.
+//! Functions of machine instructions (LLVM's MachineFunction), their edits, and the look-ups in
+//! instructions.
+//!
+//! Each edit, by id or by place, is exactly the named change of the function, and a refusal leaves it
+//! as it was; ids of instructions stay single. Begin with `func`; edits by place are in `at` with their
+//! laws in `place_laws`, and what opcodes and operands say in `opcodes` and `operands`.
 #![tactic(auto)]
 
 mod at;

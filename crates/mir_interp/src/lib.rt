@@ -1,5 +1,8 @@
-//! The interpreter: what a function of machine instructions does, in either form, through a number
-//! of counted instructions.
+//! The interpreter: what a function of machine instructions does, in either form, through a number of
+//! counted instructions.
+//!
+//! A run is just the run of the function's meaning in the world of the caller. Begin with
+//! `machine::run`, then `perform` (one instruction) and `world` (what is outside).
 #![tactic(auto)]
 
 pub mod env;

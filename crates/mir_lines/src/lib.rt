@@ -1,4 +1,8 @@
-//! Lines of a body, before their names are looked up.
+//! Lines of a body, before their names are looked up: tokens, operands, instructions, headers and
+//! lists.
+//!
+//! What is answered is just what the line spells, and a refusal comes exactly where it spells nothing.
+//! Begin with `lexer`, then `instructions` and `blocks`.
 #![tactic(auto)]
 
 pub mod blocks;

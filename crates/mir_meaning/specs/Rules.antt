@@ -196,7 +196,7 @@ operands_fit t f d os effects.InsertSubreg = result_and insertion os
 operands_fit t f d os e = implicit_last os && explicit_fit t e (explicit_roles d.roles) (explicit_operands os) && implicit_fit d (implicit_registers os) && values_fit t f e os
 
 -- V1: operands fit the opcode's roles in number, kind and value. (Verifier: "Too few operands", "Explicit
--- operand marked as def", "Missing implicit register".)
+-- operand marked as def"; MIR parser: "missing implicit register operand".)
 unfoldable pub V1 : Target → Function → Instr → Bool
 V1 t f i = elim (known_opcode t i.op) [ None ↦ true | Some d ↦ operands_fit t f d i.operands d.effect ]
 
@@ -359,7 +359,8 @@ V9 t f k b =
     || is_open t b
     || lists_once (successors_of b) (branch_targets t b.instrs ++ option_to_list (fallen_into t b (drop (suc k) f.blocks)))
 
--- V10: the last block in layout ends with a jump or a return, or is open. (Verifier: "MBB falls through out of function!".)
+-- V10: the last block in layout ends with a jump or a return, or is open. (Verifier, of a conditional branch alone:
+-- "MBB conditionally falls through out of function!".)
 unfoldable pub V10 : Target → Function → ℕ → Block → Bool
 V10 t f k b = nat_lt (suc k) (length f.blocks) || not (falls_through t b.instrs) || is_open t b
 
@@ -432,7 +433,7 @@ abbrev pub undef_uses_fit : Bool → List Bound → Bool
 undef_uses_fit opaque bs = not (opaque && list_any is_early_definition bs && list_any is_free_undef bs)
 
 -- V12: definitions are apart from each other and, where they are early, from uses. (Manual: "undef" of a
--- definition marks that the rest of the register isn't read; verifier: "Early clobber def must end at ..".)
+-- definition marks that the rest of the register isn't read; verifier: "Early clobber def must be at an early-clobber slot".)
 unfoldable pub V12 : Target → Form → Function → Instr → Bool
 V12 t form f i =
     list_all (undef_fits form (registers i.operands)) (filter (λ o. o.def) (registers i.operands))

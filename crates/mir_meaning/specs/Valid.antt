@@ -129,8 +129,8 @@ abbrev pub names_virtual : Block → Bool
 names_virtual b = list_any (λ i. list_any (λ o. is_virtual o.loc) (registers i.operands)) b.instrs
 
 -- V14: no lane of a virtual register is live at the function's start; allocated: no virtual register is named.
--- (Verifier: "Virtual register def doesn't dominate all uses", "Reading virtual register without a def"; "Found
--- virtual register with NoVRegs property set".)
+-- (Verifier: "Virtual register defs don't dominate all uses.", "Reading virtual register without a def";
+-- "Function has NoVRegs property but there are VReg operands".)
 abbrev pub V14 : Target → Form → Function → Type 0
 V14 t forms.Source f = (b : Block) → slice_get f.blocks 0 ≡ Some b → (v k : ℕ) → LiveAt t f (Start b.number) (VirtualLane v k) → ⊥
 V14 t forms.Allocated f = list_any names_virtual f.blocks ≡ false

@@ -35,12 +35,12 @@ use Rattle.live_lanes.specs.Ordered.{place_of}
 use Rattle.live_lanes.specs.Reach.{is_never}
 use Rattle.live_lanes.specs.Ends.{Counts, reads, moves, leaves, goes, phi, AreEnds}
 use Rattle.live_lanes.specs.Held.{held_at}
-use Rattle.live_lanes.specs.Extents.{block_extent, segment_extent, extent_in, cell_extents, first_rank, last_rank}
+use Rattle.live_lanes.specs.Extents.{block_extent, segment_extent, extent_in, cell_extents, first_rank, last_rank, some_extents, extents_in}
 use Rattle.live_lanes.proofs.Basics.{none-among}
 use Rattle.live_lanes.proofs.Held.{number-le}
 use Rattle.live_lanes.proofs.Numbered.{entry-piece, exit-piece, last-piece}
 use Rattle.live_laws.proofs.Exact.Inside.{all, inside-law}
-use Rattle.point_laws.specs.Covered.{some_extents, extents_in, covers, IsRank}
+use Rattle.point_laws.specs.Covered.{covers, IsRank}
 use Rattle.point_laws.specs.Laws.{CoveredLaw}
 use Rattle.point_laws.proofs.Pieces.{from_start, from_writing, IsPiece, at_start, at_writing, any-of, leading-ends, piece-held, held-piece}
 

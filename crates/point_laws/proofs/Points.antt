@@ -25,7 +25,7 @@ use Rattle.live_lanes.specs.declared.table.Table.{Table}
 use Rattle.live_lanes.specs.Table.{Numbers}
 use Rattle.live_lanes.specs.Doing.{IsComputed}
 use Rattle.live_lanes.specs.Entered.{rows_seen}
-use Rattle.live_lanes.specs.Extents.{first_rank, last_rank, stretch_of, is_met}
+use Rattle.live_lanes.specs.Extents.{first_rank, last_rank, stretch_of, is_met, extents_in}
 use Rattle.live_lanes.specs.Held.{held_at}
 use Rattle.live_lanes.specs.Ordered.{place_of}
 use Rattle.live_lanes.proofs.Cells.{both, both-left, both-right}
@@ -35,7 +35,7 @@ use Rattle.live_laws.proofs.Exact.Coded.{place-same}
 use Rattle.live_laws.proofs.Exact.Everywhere.{spot-at, no-start, no-entry, no-exit}
 use Rattle.live_laws.proofs.Exact.Occupied.{occupied-law}
 use Rattle.live_laws.proofs.Exact.Spots.{Spot, spot}
-use Rattle.point_laws.specs.Covered.{extents_in, covers, rank_of, IsRank, AreCovered, LiesIn}
+use Rattle.point_laws.specs.Covered.{covers, rank_of, IsRank, AreCovered, LiesIn}
 use Rattle.point_laws.proofs.Covered.{covered-law}
 use Rattle.point_laws.proofs.Overlap.{meet}
 use Rattle.point_laws.proofs.Pieces.{any-of}

@@ -1,5 +1,5 @@
 -- The points that the extents of a lane cover in a block.
-use Rattle.std.specs.Prelude.{◌≡◌, ◌≤◌, ℕ, Bool, ◌&&◌, nat_le, List, [], Option, None, Some, slice_get}
+use Rattle.std.specs.Prelude.{◌≡◌, ◌≤◌, ℕ, Bool, ◌&&◌, nat_le, List, Some, slice_get}
 use Rattle.std.specs.List.{list_any}
 use Rattle.meaning.specs.Live.{Among as Member}
 use Rattle.mir_func.specs.declared.func.Block.{Block}
@@ -7,20 +7,11 @@ use Rattle.mir_func.specs.Value.{Function}
 use Rattle.mir_meaning.specs.Points.{Point, Start, Entry, Exit, block_points}
 use Rattle.live_lanes.specs.declared.ask.extent.Extent.{Extent}
 use Rattle.live_lanes.specs.declared.ask.extent.Stretch.{Stretch}
-use Rattle.live_lanes.specs.declared.row.Cell.{Cell}
 use Rattle.live_lanes.specs.declared.table.Table.{Table}
-use Rattle.live_lanes.specs.Table.{Numbers, entry_rank, exit_rank, find_cell}
-use Rattle.live_lanes.specs.Entered.{rows_seen, cells_of}
+use Rattle.live_lanes.specs.Table.{Numbers, entry_rank, exit_rank}
+use Rattle.live_lanes.specs.Entered.{rows_seen}
 use Rattle.live_lanes.specs.Held.{held_at}
-use Rattle.live_lanes.specs.Extents.{cell_extents, first_rank, last_rank}
-
-abbrev pub some_extents : Option Cell → List Extent
-some_extents None = []
-some_extents (Some c) = cell_extents c
-
--- the extents of the lane of that number in the block at a position
-abbrev pub extents_in : Table → ℕ → ℕ → List Extent
-extents_in x n p = some_extents (find_cell p (cells_of x.rows.rows.items n))
+use Rattle.live_lanes.specs.Extents.{extents_in, first_rank, last_rank}
 
 -- the point of that rank lies in the extent
 abbrev pub covers : Numbers → ℕ → Extent → Bool

@@ -1,4 +1,7 @@
 //! The top of the program: its words, its files and its output.
+//!
+//! The clause of the top call says what each command prints, and that what `alloc` writes does what the
+//! source does. Begin with `run`, then `words` and `commands` (what a command answers at a document).
 #![tactic(auto)]
 
 pub mod check;

@@ -1,4 +1,7 @@
-//! Rewriting to physical registers.
+//! Rewriting to physical registers (LLVM's VirtRegRewriter).
+//!
+//! Operands, slots and ids are exactly those of the definition; live-ins of blocks and key lines are
+//! tested. Begin with `allocated`, then `physical`.
 #![tactic(auto)]
 
 mod allocated;

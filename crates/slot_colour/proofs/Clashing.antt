@@ -29,7 +29,7 @@ use Rattle.live_lanes.specs.Table.{Numbers, find_cell, entry_rank, exit_rank}
 use Rattle.live_lanes.specs.Entered.{rows_seen, cells_of, causes, IsTableOf}
 use Rattle.live_lanes.specs.Ends.{AreEnds}
 use Rattle.live_lanes.specs.Doing.{IsComputed}
-use Rattle.live_lanes.specs.Extents.{cell_extents, stretch_of}
+use Rattle.live_lanes.specs.Extents.{cell_extents, stretch_of, some_extents, extents_in}
 use Rattle.live_lanes.specs.Held.{held_at}
 use Rattle.live_lanes.specs.Occupied.{writes_early, TellsHeld}
 use Rattle.live_lanes.specs.Paths as table
@@ -45,7 +45,7 @@ use Rattle.live_laws.proofs.Exact.Everywhere.{spot-at}
 use Rattle.live_laws.proofs.Exact.Inside as inside
 use Rattle.live_laws.proofs.Exact.Same.{same-forth, same-back}
 use Rattle.live_laws.proofs.Exact.Spots.{Spot}
-use Rattle.point_laws.specs.Covered.{some_extents, extents_in, rank_of}
+use Rattle.point_laws.specs.Covered.{rank_of}
 use Rattle.point_laws.proofs.Cells.{cell-found, found-member}
 use Rattle.point_laws.proofs.Pieces.{any-of}
 use Rattle.point_laws.proofs.Points.{Placed, placed, held-extent, common, met-of, met-in, number-of, points-of}

@@ -1,5 +1,8 @@
-//! A list of distinct ids in order, each with a number that rises along the list, so that the
-//! order of two ids is told by their numbers. An id with its number is a slot.
+//! A list of distinct ids in order, each with a number that rises along the list, so that the order of
+//! two ids is told by their numbers (LLVM's SlotIndexes). An id with its number is a slot here.
+//!
+//! An id is put behind any other, and the others keep their order; where there is no room for a number
+//! between two, all numbers are given anew. Begin with `Slots`.
 #![tactic(auto)]
 
 ghost use Rattle.std.specs.Prelude.{◌≡◌, ℕ, ◌<◌, ◌+◌, ◌-◌, ◌↔◌, ◌==◌, eqb, [], length, IsTrue, IfSome, IfOk, OnOk, OnErr, slice_get, slice_index, position};

@@ -1,5 +1,7 @@
 //! Laws of slots that go to other slots, as slot colouring has it: no two of them hold something at one
-//! point. Each is the contract of a function, so that a check proves it.
+//! point.
+//!
+//! Each is the contract of a function, so that a check proves it. Begin with the functions here.
 #![tactic(auto)]
 
 ghost use Rattle.slot_laws.specs.Homes.{MovingKeepsCount, MovingKeepsValid, MovingRefines};

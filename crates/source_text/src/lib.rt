@@ -1,5 +1,8 @@
-//! Whether an allocated function keeps what is printed of its source beside what runs: names, blocks,
-//! flags and tails of instructions, key lines and frame objects.
+//! Whether an allocated function keeps what is printed of its source beside what runs: names, blocks
+//! with their successors, probabilities and live-ins of the entry, flags and tails of instructions, key
+//! lines and frame objects.
+//!
+//! The answer is exact (`keeps_text` of Keeps). Begin with `keeps`; `instructions` finds the partners.
 #![tactic(auto)]
 
 mod blocks;

@@ -1,5 +1,8 @@
-//! Spilling: a live range is kept in a spill slot, and each place that touches it gets registers
-//! of its own for the moment (LLVM's InlineSpiller, with rematerialisation).
+//! Spilling: a live range is kept in a spill slot, and each place that touches it gets registers of its
+//! own for the moment (LLVM's InlineSpiller, with rematerialisation).
+//!
+//! That what it makes is the definition's is tested and not proved. Begin with `spilled`; which values
+//! are made anew is in `remat` and `reaching`, and slots are in `slot_map`.
 #![tactic(auto)]
 
 mod kinds;

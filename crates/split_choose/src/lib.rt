@@ -1,4 +1,7 @@
 //! Which splits are offered to a live range (LLVM's region, block and local splitting).
+//!
+//! Each offer is exactly that of the definition, by what table and matrix tell. Begin with `regions`,
+//! `blocks` and `runs`, one for each kind; regions of least cost are in `cuts`.
 #![tactic(auto)]
 
 mod blocks;

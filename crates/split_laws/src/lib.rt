@@ -1,5 +1,8 @@
 //! Laws of splits: a function in which a range became several, with copies between them, does what it
-//! did. Each is the contract of a function, so that a check proves it.
+//! did.
+//!
+//! Each is the contract of a function, so that a check proves it. Begin with the functions here: the
+//! law of one split, of many, and of the labels that each kind of offered split gives.
 #![tactic(auto)]
 
 ghost use Rattle.split_laws.specs.Laws.{PartsKeepShape, SplitKeepsLowered, SplitKeepsOthers, SplitRefines, SplitSharesRange, SplitsRefine};

@@ -1,5 +1,9 @@
-//! Targets of the register allocator: storage units, registers, subregister indexes, register
-//! classes, call masks and opcodes, and the questions that the allocator asks of them.
+//! Targets of the register allocator: storage units, registers, subregister indexes, register classes,
+//! call masks and opcodes, and the questions that the allocator asks of them.
+//!
+//! Each look-up answers exactly what the target's lists say. The lists with their allocator (`List`,
+//! `BoxedList`), the built-in target (`builtin::mini`) and what files share (`Shared`) stand here too.
+//! Begin with `types`; look-ups are in `registers`, `classes` and `roles`.
 #![tactic(auto)]
 
 pub mod boxed;

@@ -1,4 +1,9 @@
 //! Reading target files: the text that describes a machine to the register allocator.
+//!
+//! A target that is read keeps all rules of targets and is just the one that the text spells; a text
+//! that isn't one is refused with its line and the kind of its fault, and each target is spelled by
+//! some text (`law`). Begin with `read`, then `forms` (the lines) and `complete` (what is found behind
+//! the last).
 #![tactic(auto)]
 
 mod add;

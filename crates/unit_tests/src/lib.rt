@@ -1,4 +1,7 @@
-//! Tests that cross crates: what no contract says, and what the program doesn't show (tests/tables shows the rest).
+//! Tests that cross crates: what no contract says, and what the program doesn't show (tests/cases and
+//! tests/tables show the rest).
+//!
+//! They promise nothing. Begin with `base`, which has what they share.
 #![tactic(auto)]
 
 #[cfg(test)]

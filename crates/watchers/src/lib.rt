@@ -1,5 +1,8 @@
 //! The steps of a run of the allocator, and watchers, which are told them and have lines of text to
 //! show for it.
+//!
+//! Each line is just what the definition says of its step. Begin with `steps`, then `telling`; the
+//! watchers are in `trace`, `count` and `pressure`.
 #![tactic(auto)]
 
 pub mod count;

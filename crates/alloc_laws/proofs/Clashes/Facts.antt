@@ -39,9 +39,10 @@ use Rattle.live_lanes.specs.declared.table.Table.{Table}
 use Rattle.live_lanes.specs.Table.{Numbers, find_cell}
 use Rattle.live_lanes.specs.Doing.{IsComputed}
 use Rattle.live_lanes.specs.Entered.{cells_of}
-use Rattle.live_lanes.specs.Extents.{cell_extents, first_rank, last_rank, stretch_of, is_met}
+use Rattle.live_lanes.specs.Extents.{cell_extents, first_rank, last_rank, stretch_of, is_met, some_extents, extents_in}
 use Rattle.live_lanes.specs.Held.{range_held}
 use Rattle.live_lanes.proofs.Cells.{both, both-left, both-right, found-block}
+use Rattle.interference.specs.Listed.{lane_extents}
 use Rattle.live_laws.proofs.Exact.Everywhere.{numbered-at}
 use Rattle.live_laws.proofs.Exact.Pointed.{points-law}
 use Rattle.interference.specs.declared.held.RangeExtent.{RangeExtent}
@@ -49,8 +50,8 @@ use Rattle.interference.specs.declared.matrix.Matrix.{Matrix}
 use Rattle.interference.specs.Clashes.{Points, register_in, holds, touches, is_taken_by, cell_points, lane_points, range_points, points_in, is_fixed_at, is_taken_at, is_fixed, is_in_way}
 use Rattle.evictor.specs.Cheapest.{UnitInTheWay, InTheWay, Facts, AreFacts}
 use Rattle.evictor.specs.Hints.{assignment_of}
-use Rattle.point_laws.specs.Covered.{some_extents, extents_in, rank_of, LiesIn}
-use Rattle.alloc_laws.specs.Clashes.Holds.{lane_extents, IsIn, Holds}
+use Rattle.point_laws.specs.Covered.{rank_of, LiesIn}
+use Rattle.alloc_laws.specs.Clashes.Holds.{IsIn, Holds}
 use Rattle.alloc_laws.specs.Clashes.Facts.{IsExact, ClashesLaw, FactsLaw}
 use Rattle.alloc_laws.proofs.Clashes.Free.{no-pieces}
 use Rattle.point_laws.proofs.Pieces.{any-of}

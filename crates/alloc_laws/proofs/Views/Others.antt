@@ -27,20 +27,21 @@ use Rattle.live_lanes.specs.declared.ask.extent.Extent.{Extent}
 use Rattle.live_lanes.specs.declared.table.Table.{Table}
 use Rattle.live_lanes.specs.Table.{Numbers}
 use Rattle.live_lanes.specs.Doing.{IsComputed}
-use Rattle.live_lanes.specs.Extents.{first_rank, last_rank, is_met}
+use Rattle.live_lanes.specs.Extents.{first_rank, last_rank, is_met, extents_in}
 use Rattle.live_lanes.proofs.Cells.{both, both-left, both-right}
 use Rattle.live_lanes.proofs.Held.{or-left, or-right}
+use Rattle.interference.specs.Listed.{lane_extents}
 use Rattle.live_laws.proofs.Exact.Coded.{place-is}
 use Rattle.live_laws.proofs.Exact.Everywhere.{numbered-at}
 use Rattle.live_laws.proofs.Exact.Inside.{has-id}
 use Rattle.interference.specs.declared.held.RangeExtent.{RangeExtent}
 use Rattle.interference.specs.declared.matrix.Matrix.{Matrix}
 use Rattle.interference.specs.Clashes.{register_in, holds, touches, is_taken, is_held}
-use Rattle.alloc_laws.specs.Clashes.Holds.{lane_extents, IsIn, Holds}
+use Rattle.alloc_laws.specs.Clashes.Holds.{IsIn, Holds}
 use Rattle.alloc_laws.specs.Clashes.Facts.{IsExact}
 use Rattle.split_choose.specs.Offers.{HeldByOthers, TestsPoints}
 use Rattle.split_choose.specs.Seen.{home_of, rank_of, at_home, only, seen_held}
-use Rattle.point_laws.specs.Covered.{extents_in, rank_of as covered_rank}
+use Rattle.point_laws.specs.Covered.{rank_of as covered_rank}
 use Rattle.point_laws.proofs.Pieces.{any-of}
 use Rattle.point_laws.proofs.Points.{Placed, held, held-is, held-extent, extent-held, met-of, met-in, points-of}
 

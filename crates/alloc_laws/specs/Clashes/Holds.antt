@@ -1,5 +1,5 @@
 -- A matrix that lists what the assigned ranges hold.
-use Rattle.std.specs.Prelude.{◌≡◌, ◌↔◌, ℕ, List, [], Option, None, Some, map, length, slice_get}
+use Rattle.std.specs.Prelude.{◌≡◌, ◌↔◌, ℕ, Some, map, slice_get}
 use Rattle.target_base.specs.declared.types.Reg.{Reg}
 use Rattle.target_base.specs.Registers.{units_of}
 use Rattle.meaning.specs.Live.{Among as Member}
@@ -10,12 +10,7 @@ use Rattle.live_lanes.specs.declared.table.Table.{Table}
 use Rattle.interference.specs.declared.held.RangeExtent.{RangeExtent}
 use Rattle.interference.specs.declared.matrix.Matrix.{Matrix}
 use Rattle.interference.specs.Clashes.{register_in, holds}
-use Rattle.point_laws.specs.Covered.{extents_in}
-
--- the extents of a lane, if there is one, in the block at a position
-abbrev pub lane_extents : Table → Option ℕ → ℕ → List Extent
-lane_extents x None p = []
-lane_extents x (Some n) p = extents_in x n p
+use Rattle.interference.specs.Listed.{lane_extents}
 
 -- by its register the range holds lane k in the unit of that number
 abbrev pub IsIn : Matrix → ℕ → ℕ → ℕ → Type 0

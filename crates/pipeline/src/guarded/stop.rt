@@ -39,8 +39,8 @@ pub enum FunctionStop {
     Invalid(Bytes, Invalid),
     /// A place of the function of this name admits no choice of registers.
     Unassignable(Bytes, Place),
-    /// The run of the allocator came to no end, or the checker of allocations didn't say Yes to what
-    /// it made.
+    /// The run of the allocator came to no end, the checker of allocations didn't say Yes to what it
+    /// made, or its text doesn't keep the source's.
     NotYet,
     /// Memory ran out.
     Memory(AllocError),

@@ -36,7 +36,8 @@ pub enum Status {
     Memory,
     /// Operands of an instruction have no registers that differ as they must.
     Unassignable(Place),
-    /// The run of the allocator came to no end, or the checker of allocations didn't say yes.
+    /// The run of the allocator came to no end, the checker of allocations didn't say Yes to what it
+    /// made, or its text doesn't keep the source's.
     NotYet,
 }
 

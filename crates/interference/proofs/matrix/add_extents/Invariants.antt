@@ -1,6 +1,7 @@
 use Rattle.std.specs.Prelude.{slice_get}
 use Rattle.live_lanes.specs.Entered.{cells_of}
-use Rattle.interference.specs.Listed.{some_extents, HasRoom}
+use Rattle.live_lanes.specs.Extents.{some_extents}
+use Rattle.interference.specs.Listed.{HasRoom}
 use Rattle.interference.proofs.Filled.{Far}
 use Rattle.interference.proofs.matrix.add_extents.Given as goal
 

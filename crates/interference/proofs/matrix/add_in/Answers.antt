@@ -2,7 +2,8 @@ use Rattle.std.proofs.Common.{◌<◌, Option, length, arith}
 use Rattle.std.specs.Prelude.{slice_get}
 use Rattle.live_lanes.specs.declared.row.Cell.{Cell}
 use Rattle.live_lanes.specs.Entered.{cells_of}
-use Rattle.interference.specs.Listed.{some_extents, IsBegun, IsFilled}
+use Rattle.live_lanes.specs.Extents.{some_extents}
+use Rattle.interference.specs.Listed.{IsBegun, IsFilled}
 use Rattle.interference.proofs.Refused.{on-err}
 use Rattle.interference.proofs.Thinned.{row-changed}
 use Rattle.interference.proofs.matrix.add_in.Goals as goal

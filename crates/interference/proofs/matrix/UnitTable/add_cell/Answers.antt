@@ -4,9 +4,10 @@ use Rattle.std.specs.Vec.{with_item}
 use Rattle.live_lanes.specs.declared.row.Cell.{Cell}
 use Rattle.live_lanes.specs.Table.{Numbers}
 use Rattle.live_lanes.specs.Entered.{cells_of}
+use Rattle.live_lanes.specs.Extents.{some_extents}
 use Rattle.interference.specs.declared.matrix.UnitExtents.{UnitExtents}
 use Rattle.interference.specs.declared.matrix.UnitTable.{UnitTable}
-use Rattle.interference.specs.Listed.{some_extents, IsBegun, IsFilled}
+use Rattle.interference.specs.Listed.{IsBegun, IsFilled}
 use Rattle.interference.proofs.Refused.{on-err}
 use Rattle.interference.proofs.Thinned.{table-changed, cell-some}
 use Rattle.interference.proofs.matrix.UnitTable.add_cell.Goals as goal
