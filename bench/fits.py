@@ -3,7 +3,7 @@
 
     bench/fits.py TARGET FILE OUT
 
-FILE holds documents: a module in IR (`--- |`) and functions in Machine IR, as `llc -stop-before=phi-node-elimination` prints
+FILE holds documents: a module in IR (`--- |`) and functions in Machine IR, as `llc -stop-after=finalize-isel` prints
 them. OUT gets each function that `llra alloc TARGET` allocates, with the module before them, so that
 `llc -start-after=virtregrewriter` can go on (bench/spill_names.py first). In that module the refused functions are declared and
 not defined any more: llc ends with a fault at a definition that has no machine function. Standard output gets a table of what was refused:

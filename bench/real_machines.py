@@ -4,7 +4,7 @@
     bench/real_machines.py MACHINE TARGET FOLDER [NAME..]
 
 MACHINE is riscv64, loongarch64, aarch64 or x86_64, TARGET a target file of it, and FOLDER has a file NAME.mir for each
-function, as `llc -stop-before=phi-node-elimination` prints it: its module in IR and the function NAME in Machine IR. Each is
+function, as `llc -stop-after=finalize-isel` prints it: its module in IR and the function NAME in Machine IR. Each is
 
 - allocated by `llra alloc`, given the machine's own spill opcodes (spill_names.py), and taken by
   `llc -start-after=virtregrewriter -verify-machineinstrs` to assembly;
