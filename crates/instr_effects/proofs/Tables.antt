@@ -128,6 +128,21 @@ with-slot old new x slot table none os first long reserved ranges at others = re
     owned (owners.Range v k) n e = kept (owners.Range v k) n (ap (λ l. row_number_in (slice_get l v) k) (sym ranges) ∙ e)
     owned (owners.Slot s k) n e = row s k n (nat_eq s slot) refl e
 
+-- further owners alone change nothing
+pub with-owners : (old new : LaneTable) (more : List Owner) → IsTable old → new.owners.items ≡ old.owners.items ++ more → new.reserved.items ≡ old.reserved.items → new.ranges.items ≡ old.ranges.items → ((s : ℕ) → get nat_cmp new.slots s ≡ get nat_cmp old.slots s) → IsTable new
+with-owners old new more table os reserved ranges slots = record { owned = owned; units = units; full = λ s y e. table.full s y (sym (slots s) ∙ e) }
+  where
+    kept : (o : Owner) (n : ℕ) → number_in old o ≡ Some n → slice_get new.owners.items n ≡ Some o
+    kept o n e = ap (λ l. slice_get l n) os ∙ slice-left old.owners.items more n o (table.owned o n e)
+
+    units : (u : ℕ) → u < length new.reserved.items → slice_get new.owners.items u ≡ Some (owners.Unit u)
+    units u h = ap (λ l. slice_get l u) os ∙ slice-left old.owners.items more u (owners.Unit u) (table.units u (let e = ap (λ bs. length bs) reserved in omega (arith, h, e)))
+
+    owned : (o : Owner) (n : ℕ) → number_in new o ≡ Some n → slice_get new.owners.items n ≡ Some o
+    owned (owners.Unit u) n e = kept (owners.Unit u) n (ap (λ r. unit_number_in r u) (sym reserved) ∙ e)
+    owned (owners.Range v k) n e = kept (owners.Range v k) n (ap (λ l. row_number_in (slice_get l v) k) (sym ranges) ∙ e)
+    owned (owners.Slot s k) n e = kept (owners.Slot s k) n (ap (λ q. row_number_in q k) (sym (slots s)) ∙ e)
+
 -- with a further range all numbers stay
 pub range-keeps : (old new : LaneTable) (x : LaneSpan) → new.ranges.items ≡ old.ranges.items ++ x ∷ [] → new.reserved.items ≡ old.reserved.items → ((s : ℕ) → get nat_cmp new.slots s ≡ get nat_cmp old.slots s) → (o : Owner) (n : ℕ) → number_in old o ≡ Some n → number_in new o ≡ Some n
 range-keeps old new x ranges reserved slots (owners.Unit u) n e = ap (λ r. unit_number_in r u) reserved ∙ e

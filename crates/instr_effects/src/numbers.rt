@@ -155,11 +155,11 @@ impl LaneTable {
 
     /// Numbers the lanes of the next range.
     pub fn add_range(&mut self, alloc: Global, count: usize) -> Result<(), AllocError>
-        ensures table { OnOk result (IsTable self.old → IsTable self.new) }
+        ensures table { IsTable self.old → IsTable self.new }
         ensures reserved { self.new.reserved ≡ self.old.reserved }
         ensures ranges { OnOk result (counts self.new.ranges.items ≡ counts self.old.ranges.items ++ count ∷ []) }
         ensures slots { self.new.slots ≡ self.old.slots }
-        ensures numbers { OnOk result (KeepsNumbers (number_in self.old) (number_in self.new)) }
+        ensures numbers { KeepsNumbers (number_in self.old) (number_in self.new) }
     {
         let Ok(v) = u32::try_from(self.ranges.len()) else {
             return Err(AllocError);
@@ -173,12 +173,12 @@ impl LaneTable {
 
     /// Numbers the lanes of a slot that has no numbers yet.
     fn new_slot(&mut self, alloc: Global, slot: u32) -> Result<(), AllocError>
-        ensures table { OnOk result (get nat_cmp self.old.slots slot ≡ None → IsTable self.old → IsTable self.new) }
+        ensures table { get nat_cmp self.old.slots slot ≡ None → IsTable self.old → IsTable self.new }
         ensures reserved { self.new.reserved ≡ self.old.reserved }
         ensures ranges { self.new.ranges ≡ self.old.ranges }
         ensures numbered { OnOk result (HasSlot self.new slot) }
-        ensures kept { OnOk result ((s : ℕ) → HasSlot self.old s → HasSlot self.new s) }
-        ensures numbers { OnOk result (get nat_cmp self.old.slots slot ≡ None → KeepsNumbers (number_in self.old) (number_in self.new)) }
+        ensures kept { (s : ℕ) → HasSlot self.old s → HasSlot self.new s }
+        ensures numbers { get nat_cmp self.old.slots slot ≡ None → KeepsNumbers (number_in self.old) (number_in self.new) }
     {
         let own = first_slots(alloc, slot, LANES_OF_A_SLOT)?;
         let lanes = lanes_at(self.owners.len(), LANES_OF_A_SLOT)?;
@@ -189,12 +189,12 @@ impl LaneTable {
 
     /// Numbers the lanes of a slot where it has no numbers yet.
     pub fn add_slot(&mut self, alloc: Global, slot: u32) -> Result<(), AllocError>
-        ensures table { OnOk result (IsTable self.old → IsTable self.new) }
+        ensures table { IsTable self.old → IsTable self.new }
         ensures reserved { self.new.reserved ≡ self.old.reserved }
         ensures ranges { self.new.ranges ≡ self.old.ranges }
         ensures numbered { OnOk result (HasSlot self.new slot) }
-        ensures kept { OnOk result ((s : ℕ) → HasSlot self.old s → HasSlot self.new s) }
-        ensures numbers { OnOk result (KeepsNumbers (number_in self.old) (number_in self.new)) }
+        ensures kept { (s : ℕ) → HasSlot self.old s → HasSlot self.new s }
+        ensures numbers { KeepsNumbers (number_in self.old) (number_in self.new) }
     {
         if self.slots.contains_key(&slot) {
             return Ok(());

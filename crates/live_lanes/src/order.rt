@@ -1,6 +1,6 @@
 //! The order of a function's instructions, and where each of them and each block stands.
 
-ghost use Rattle.std.specs.Prelude.{◌≡◌, ◌<◌, ℕ, true, [], ◌∷◌, ◌++◌, length, slice_get, slice_index, Some, IfOk, OnOk, IfSome};
+ghost use Rattle.std.specs.Prelude.{◌≡◌, ◌<◌, ℕ, true, [], ◌∷◌, ◌++◌, length, slice_get, slice_index, Some, IfOk, OnOk, OnErr, IfSome};
 ghost use Rattle.std.specs.Ordering.{nat_cmp};
 ghost use Rattle.std.specs.BTreeMap.{get};
 ghost use Rattle.slot_index.specs.Order.{ids, Has, IsNumbered, put_after};
@@ -125,6 +125,7 @@ impl Order {
         ensures ids { OnOk result ((Has self.old.slots id → ⊥) → IfSome after (Has self.old.slots) → ids self.new.slots ≡ put_after after id (ids self.old.slots)) }
         ensures numbered { IsNumbered self.old.slots → IsNumbered self.new.slots }
         ensures homes { OnOk result ((Has self.old.slots id → ⊥) → Settles self.old.block_of.items self.new.block_of.items (id ∷ []) position) }
+        ensures err { OnErr result ((self.new.slots ≡ self.old.slots) × (self.new.block_of ≡ self.old.block_of)) }
     {
         if self.slots.is_present(id) {
             return Ok(());
@@ -141,6 +142,7 @@ impl Order {
         ensures homes { self.new.block_of ≡ self.old.block_of }
         ensures ids { OnOk result (IfSome after (Has self.old.slots) → ids self.new.slots ≡ put_after after id (ids self.old.slots)) }
         ensures numbered { IsNumbered self.old.slots → IsNumbered self.new.slots }
+        ensures err { OnErr result (self.new.slots ≡ self.old.slots) }
     {
         match after {
             None => self.slots.insert_after(None, id)?,
