@@ -1,3 +1,4 @@
 pub mod Free
 pub mod Facts
 pub mod Choice
+pub mod Kept

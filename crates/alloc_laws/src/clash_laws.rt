@@ -2,6 +2,7 @@
 //! meaning of the function says.
 
 ghost use Rattle.alloc_laws.specs.Clashes.Facts.{BasicLaw, ClashesLaw, EvictionLaw, FactsLaw};
+ghost use Rattle.alloc_laws.specs.Clashes.Kept.{KeptLaw};
 
 /// A matrix whose table is computed and whose lists are what ranges hold tells exactly with which
 /// units and with which assigned ranges a range in an unreserved register would clash.
@@ -22,4 +23,10 @@ pub fn eviction_law()
 /// What the basic allocator chooses by it is its choice.
 pub fn basic_law()
     ensures { BasicLaw }
+{}
+
+/// A matrix that keeps its lists is exact where its table is computed, and has what an assignment
+/// asks of the extents of its lanes.
+pub fn kept_law()
+    ensures { KeptLaw }
 {}

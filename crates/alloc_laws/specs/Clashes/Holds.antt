@@ -5,8 +5,6 @@ use Rattle.target_base.specs.Registers.{units_of}
 use Rattle.meaning.specs.Live.{Among as Member}
 use Rattle.instr_effects.specs.declared.owner.Owner.TheVariants as owners
 use Rattle.instr_effects.specs.Numbered.{number_in}
-use Rattle.live_lanes.specs.declared.ask.extent.Extent.{Extent}
-use Rattle.live_lanes.specs.declared.table.Table.{Table}
 use Rattle.interference.specs.declared.held.RangeExtent.{RangeExtent}
 use Rattle.interference.specs.declared.matrix.Matrix.{Matrix}
 use Rattle.interference.specs.Clashes.{register_in, holds}
