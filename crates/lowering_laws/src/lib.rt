@@ -6,6 +6,7 @@
 
 ghost use Rattle.lowering_laws.specs.Blocks.{LoweredClasses, LoweredKeepBlockRules, LoweredNames, LoweredOpcodes, PhisKeepBlockRules};
 ghost use Rattle.lowering_laws.specs.Laws.{IdsAreDistinct, LoweredForm, LoweredPhisRefine, LoweredRefine, LoweredTiedRefine, NoneLoweredAway, PhisAreGone};
+ghost use Rattle.lowering_laws.specs.Shapes.{LoweredDefinitions, LoweredOperands, LoweredWidths};
 
 /// A valid source without its phis does what it did.
 pub fn phis_law()
@@ -66,4 +67,19 @@ pub fn opcodes_law()
 /// Each register that its instructions name has a class, and its index fits it.
 pub fn names_law()
     ensures { LoweredNames }
+{}
+
+/// Rule 1: its operands fit the roles of its opcode in number, kind and value.
+pub fn operands_law()
+    ensures { LoweredOperands }
+{}
+
+/// Rule 2: its registers lie in the classes that roles ask for, and what is copied has equal widths.
+pub fn widths_law()
+    ensures { LoweredWidths }
+{}
+
+/// Rule 12: its definitions are apart from each other and, where they are early, from uses.
+pub fn definitions_law()
+    ensures { LoweredDefinitions }
 {}
