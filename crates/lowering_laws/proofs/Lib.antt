@@ -68,3 +68,4 @@ pub mod TiedWidths
 pub mod SharedLanes
 pub mod TiedDefinitions
 pub mod ShapesBehind
+pub mod LoweredRules
