@@ -1,5 +1,5 @@
 -- Rules 1, 2 and 12 of a COPY and of an IMPLICIT_DEF.
-use Rattle.std.proofs.Common.{◌≡◌, ◌∷◌, ◌++◌, ◌∙◌, ◌&&◌, ◌||◌, not, Bool, true, false, cond, List, Option, Some, None, map, filter, length, refl, sym, ap, subst, []}
+use Rattle.std.proofs.Common.{◌≡◌, ◌∷◌, ◌++◌, ◌∙◌, ◌&&◌, ◌||◌, not, Bool, true, false, cond, List, Some, None, map, filter, length, refl, sym, ap, subst, []}
 use Rattle.std.specs.Prelude.{nat_le}
 use Rattle.std.specs.List.{list_all}
 use Rattle.target_base.specs.declared.types.Effect.{Effect}
@@ -10,9 +10,9 @@ use Rattle.mir_func.specs.declared.func.RegOp.{RegOp}
 use Rattle.mir_func.specs.declared.func.Operand.TheVariants as operands
 use Rattle.mir_func.specs.declared.func.Instr.{Instr}
 use Rattle.mir_func.specs.Value.{Function}
-use Rattle.mir_func.specs.Binding.{Bound, bound, does, effect_of, explicit_bound, explicit_operands, explicit_roles, implicit_bound, implicit_registers, implicit_roles, is_virtual, known_opcode, numbered, passes, registers, roles_of, same_loc}
+use Rattle.mir_func.specs.Binding.{Bound, bound, does, explicit_bound, explicit_operands, explicit_roles, implicit_bound, implicit_registers, implicit_roles, is_virtual, numbered, passes, registers, roles_of, same_loc}
 use Rattle.mir_meaning.specs.declared.Form.TheVariants as forms
-use Rattle.mir_meaning.specs.Rules.{V1, V2, V12, copy_fits, defined_lanes, early_fits, has_home, has_lanes, implicit_def_fits, in_operand_class, is_opaque, is_taken_reserved, namings, no_two_share, operands_fit, same_widths, undef_fits, undef_uses_fit, widths_fit}
+use Rattle.mir_meaning.specs.Rules.{V1, V2, V12, copy_fits, defined_lanes, early_fits, has_lanes, implicit_def_fits, in_operand_class, is_opaque, is_taken_reserved, namings, no_two_share, operands_fit, undef_fits, undef_uses_fit, widths_fit}
 use Rattle.lowering_laws.proofs.CopyRules.{opcode-of, or-true}
 use Rattle.lowering_laws.proofs.EachBehind.{IsCopying, IsUndefining}
 use Rattle.lowering_laws.proofs.Rolled.{bare-roles}

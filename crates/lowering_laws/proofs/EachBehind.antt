@@ -1,7 +1,7 @@
 -- What holds of each instruction that lowering of ties makes: of a COPY, of an IMPLICIT_DEF, and of an instruction whose ties
 -- are lowered.
 use Rattle.std.proofs.Common.{◌≡◌, not, ◌&&◌, ◌||◌, ◌++◌, ◌+◌, ◌∙◌, ℕ, Bool, true, false, cond, List, [], ◌∷◌, Option, Some, None, drop, flat_map, length, map, refl, sym, ap, subst, eq-eqb}
-use Rattle.std.specs.Prelude.{◌==◌, filter_map, is_none, is_some, option_and_then, slice_get, slice_index}
+use Rattle.std.specs.Prelude.{◌==◌, filter_map, is_none, is_some, slice_get, slice_index}
 use Rattle.std.specs.List.{list_all, list_any}
 use Rattle.target_base.specs.declared.types.ClassId.{ClassId}
 use Rattle.target_base.specs.declared.types.Effect.{Effect}
@@ -13,7 +13,6 @@ use Rattle.target_base.specs.Roles.{is_silent, is_tied}
 use Rattle.target_base.specs.Rules.{is_copy, is_insert_subreg, is_phi, is_reg_sequence}
 use Rattle.target_base.specs.Storage.{same_numbers}
 use Rattle.target_base.proofs.Tests.{first_of_both, second_of_both}
-use Rattle.std.proofs.lemmas.Bool.{leb-true}
 use Rattle.meaning.specs.Live.{Among, here, there}
 use Rattle.mir_func.specs.declared.func.Block.{Block}
 use Rattle.mir_func.specs.declared.func.Loc.{Loc}
@@ -24,9 +23,9 @@ use Rattle.mir_func.specs.declared.func.Operand.{Operand}
 use Rattle.mir_func.specs.declared.func.Operand.TheVariants as operands
 use Rattle.mir_func.specs.declared.func.Instr.{Instr}
 use Rattle.mir_func.specs.Value.{Function}
-use Rattle.mir_func.specs.Binding.{TiedPair, class_of, does, effect_of, explicit_bound, explicit_roles, is_definition, is_use, is_virtual, numbered as with_numbers, passes, puts_together, register_at, registers, roles_of, tied_pair}
+use Rattle.mir_func.specs.Binding.{TiedPair, class_of, does, effect_of, explicit_bound, explicit_roles, is_definition, is_use, is_virtual, numbered as with_numbers, passes, puts_together, register_at, roles_of, tied_pair}
 use Rattle.mir_meaning.specs.Points.{has_no_phis}
-use Rattle.mir_meaning.specs.Registers.{located_lanes, located_widths, operand_widths}
+use Rattle.mir_meaning.specs.Registers.{located_widths, operand_widths}
 use Rattle.mir_meaning.specs.Rules.{V15, at_index, copy_fits, has_class, has_home, has_lanes, has_lanes_at, implicit_def_fits, index_pairs, insertion, is_virtual_use, is_whole_definition, parts_fit, result_and, same_widths, spills_or_reloads, widths_fit}
 use Rattle.phi_elim.specs.Moves.{copy_of, destination_of, implicit_def_op, move_of, source_of, undefining, whole_definition, whole_use}
 use Rattle.phi_elim.specs.Numbered.{blocks_numbered, numbered}
@@ -34,11 +33,10 @@ use Rattle.phi_elim.specs.Phis.{all_instrs}
 use Rattle.two_address.specs.Classes.{seated}
 use Rattle.two_address.specs.Lowered.{blocks_lowered, class_aside, class_if, classes_made, copy_form, form_classes, form_lowered, form_of, instr_classes, instr_lowered, insertion_form, instrs_lowered, next_range, part_of_two, sequence_form, ties_lowered, virtual_in, virtual_loc}
 use Rattle.two_address.specs.Sequences.{at_last, beginning, built, fill_all, into_part, is_input, keeping_text, parts_of, sequence_lowered}
-use Rattle.two_address.specs.Ties.{copies, retied_operand, retied_use, ties_in, tied_lowered, undefined_first, undefined_whole, untied, undef_use_of, use_of, with_operands, with_ties}
+use Rattle.two_address.specs.Ties.{copies, retied_operand, retied_use, ties_in, tied_lowered, undefined_first, undefined_whole, with_operands, with_ties}
 use Rattle.two_address.specs.declared.forms.InstrLowering.{InstrLowering}
 use Rattle.two_address.specs.declared.forms.InstrLowering.TheVariants as forms
 use Rattle.two_address.specs.declared.sequences.SubregInput.{SubregInput}
-use Rattle.two_address.specs.declared.ties.Move.{Move}
 use Rattle.two_address.specs.declared.ties.Tie.{Tie}
 use Rattle.instr_effects.proofs.Members.{member-elim, member-none}
 use Rattle.live_laws.specs.Effects.Shaped.{AreClasses}
@@ -46,7 +44,7 @@ use Rattle.live_laws.proofs.Effects.Lists.{all-of}
 use Rattle.live_laws.proofs.Effects.Shapes.{widths-of}
 use Rattle.live_laws.proofs.Touch.Roles.{has_roles, met}
 use Rattle.lowering_laws.proofs.Classes.{class-stays}
-use Rattle.lowering_laws.proofs.Counted.{CountedInstr, aside-wide, d-there, tie-is, u-there, virtual, wide as ties-wide}
+use Rattle.lowering_laws.proofs.Counted.{CountedInstr, aside-wide, tie-is, virtual, wide as ties-wide}
 use Rattle.lowering_laws.proofs.Made.{Stands, all-stand, made-append, stands-class, stands-left, stands-right}
 use Rattle.lowering_laws.proofs.Operands.{known-effect, named}
 use Rattle.lowering_laws.proofs.Placed.{copy-effect, undef-effect}

@@ -1,10 +1,8 @@
 -- Behind lowering a valid source keeps the rules on which liveness rests, and is in the form in which ranges are split.
 use Rattle.std.proofs.Common.{◌≡◌, ◌||◌, not, ℕ, Bool, true, false, Option, Some, None, refl}
-use Rattle.std.specs.Prelude.{slice_get}
 use Rattle.target_base.specs.declared.types.Effect.{Effect}
 use Rattle.target_base.specs.declared.types.Target.{Target}
 use Rattle.target_base.specs.Rules.{is_phi}
-use Rattle.meaning.specs.Live.{Among}
 use Rattle.mir_func.specs.declared.func.Block.{Block}
 use Rattle.mir_func.specs.declared.func.Instr.{Instr}
 use Rattle.mir_func.specs.Value.{Function}

@@ -1,5 +1,5 @@
 -- The operands with their roles of an instruction whose ties are lowered, each beside that of the instruction before.
-use Rattle.std.proofs.Common.{◌≡◌, not, ◌∙◌, ◌&&◌, ◌||◌, ◌∷◌, ◌++◌, ◌+◌, ℕ, suc, Bool, true, false, cond, List, Option, Some, None, map, filter, refl, sym, ap, subst, arith, []}
+use Rattle.std.proofs.Common.{◌≡◌, not, ◌∙◌, ◌&&◌, ◌||◌, ◌∷◌, ◌++◌, ◌+◌, ℕ, suc, Bool, true, false, cond, List, Option, Some, None, map, refl, sym, ap, subst, arith, []}
 use Rattle.std.specs.Prelude.{find, slice_get}
 use Rattle.std.specs.List.{list_all, list_any}
 use Rattle.target_base.specs.declared.types.Role.{Role}
@@ -15,13 +15,13 @@ use Rattle.mir_func.specs.Value.{Function}
 use Rattle.mir_func.specs.Binding.{Bound, bound, explicit_bound, explicit_operands, explicit_roles, implicit_bound, implicit_registers, implicit_roles, is_implicit_operand, numbered, registers, roles_of, takes_many, takes_role}
 use Rattle.mir_meaning.specs.Rules.{implicit_last}
 use Rattle.two_address.specs.Classes.{seated}
-use Rattle.two_address.specs.Ties.{retied, retied_operand, ties_in, with_operands}
+use Rattle.two_address.specs.Ties.{retied_operand, ties_in, with_operands}
 use Rattle.two_address.specs.declared.ties.Tie.{Tie}
-use Rattle.instr_effects.proofs.Members.{either-elim, filter-of, map-of, member-elim, member-none}
+use Rattle.instr_effects.proofs.Members.{filter-of, member-elim, member-none}
 use Rattle.lowering_laws.proofs.EachBehind.{Retied}
 use Rattle.lowering_laws.proofs.FormedTies.{after, all-stay, stay-implicit}
 use Rattle.lowering_laws.proofs.Rolled.{fit-operands}
-use Rattle.lowering_laws.proofs.Seated.{none-explicit, told-of}
+use Rattle.lowering_laws.proofs.Seated.{none-explicit}
 use Rattle.lowering_laws.proofs.TiedOperands.{implicit-same}
 use Rattle.lowering_laws.proofs.Widths.{find-in}
 

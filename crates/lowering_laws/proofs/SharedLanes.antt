@@ -1,6 +1,6 @@
 -- Lists of lanes that share none, and definitions that share none, by their places among operands.
-use Rattle.std.proofs.Common.{◌≡◌, ◌<◌, ◌∙◌, ◌&&◌, ◌||◌, ◌∷◌, not, ℕ, zero, suc, Bool, true, false, cond, List, Option, Some, None, map, filter, refl, sym, ap, subst, arith, eq-eqb, []}
-use Rattle.std.specs.Prelude.{nat_eq, option_and_then}
+use Rattle.std.proofs.Common.{◌≡◌, ◌<◌, ◌∙◌, ◌&&◌, ◌∷◌, not, ℕ, zero, suc, Bool, true, false, cond, List, Some, map, filter, refl, sym, ap, subst, arith, eq-eqb, []}
+use Rattle.std.specs.Prelude.{option_and_then}
 use Rattle.std.specs.List.{list_any}
 use Rattle.target_base.proofs.Tests.{first_of_both, second_of_both}
 use Rattle.meaning.specs.Live.{Among}

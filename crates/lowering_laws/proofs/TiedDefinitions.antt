@@ -16,8 +16,7 @@ use Rattle.meaning.specs.Live.{Among, here, there}
 use Rattle.meaning.specs.declared.types.Lane.{Lane}
 use Rattle.meaning.specs.declared.types.Lane.TheVariants.{VirtualLane}
 use Rattle.meaning.specs.declared.types.Source.TheVariants.{FromLane}
-use Rattle.mir_func.specs.declared.func.Loc.{Loc}
-use Rattle.mir_func.specs.declared.func.Loc.TheVariants.{Fixed, Virtual}
+use Rattle.mir_func.specs.declared.func.Loc.TheVariants.{Virtual}
 use Rattle.mir_func.specs.declared.func.Instr.{Instr}
 use Rattle.mir_func.specs.declared.func.Operand.{Operand}
 use Rattle.mir_func.specs.declared.func.Operand.TheVariants as operands
@@ -31,9 +30,9 @@ use Rattle.mir_meaning.specs.Rules.{V12, clashing_lanes, defined_lanes, early_fi
 use Rattle.two_address.specs.Classes.{seated}
 use Rattle.two_address.specs.Ties.{retied, retied_operand, tie_to, ties_in, with_operands}
 use Rattle.two_address.specs.declared.ties.Tie.{Tie}
-use Rattle.instr_effects.proofs.Members.{filter-in, filter-of, left-in, map-in, map-of, member-elim, member-none}
+use Rattle.instr_effects.proofs.Members.{filter-in, filter-of, map-in, map-of, member-elim, member-none}
 use Rattle.live_laws.proofs.Effects.Lists.{any-in}
-use Rattle.lowering_laws.specs.Form.{is_lowered, is_undef_definition}
+use Rattle.lowering_laws.specs.Form.{is_undef_definition}
 use Rattle.lowering_laws.proofs.Built.{old-not-new}
 use Rattle.lowering_laws.proofs.Classes.{class-stays}
 use Rattle.lowering_laws.proofs.CopiesBefore.{lane-once}
@@ -48,7 +47,7 @@ use Rattle.lowering_laws.proofs.Rolled.{defined-by, definition-fits, fit-operand
 use Rattle.lowering_laws.proofs.RulesStay.{clashing, defines, lanes}
 use Rattle.lowering_laws.proofs.Seated.{bound-operand, pair-is, register-in, register-of, register-there, told-in, told-of}
 use Rattle.lowering_laws.proofs.Seats.{Seat, all-pairs, explicit, implicit, new_instr, pairs-any, pairs-numbered, pairs-of}
-use Rattle.lowering_laws.proofs.SharedLanes.{AtPlaces, apart-lanes, defs, from-places, none-shared, to-places}
+use Rattle.lowering_laws.proofs.SharedLanes.{AtPlaces, apart-lanes, from-places, none-shared, to-places}
 use Rattle.lowering_laws.proofs.Traced.{is_lane_of}
 use Rattle.lowering_laws.proofs.Turns.{Turns, fixes, left, owned, reads, reads_new, renewed, turns}
 use Rattle.lowering_laws.proofs.Tying.{asides-differ}

@@ -1,5 +1,5 @@
 -- Rule 1 of an instruction whose ties are lowered: its operands fit the roles of its opcode as they did.
-use Rattle.std.proofs.Common.{◌≡◌, not, ◌&&◌, ◌||◌, ◌∙◌, ◌∷◌, ℕ, suc, Bool, true, false, cond, List, Option, Some, None, map, refl, sym, ap, subst, []}
+use Rattle.std.proofs.Common.{◌≡◌, not, ◌&&◌, ◌||◌, ◌∙◌, ◌∷◌, ℕ, suc, Bool, true, false, cond, List, Option, Some, None, refl, sym, ap, subst, []}
 use Rattle.std.specs.List.{list_all}
 use Rattle.target_base.specs.declared.types.ClassId.{ClassId}
 use Rattle.target_base.specs.declared.types.Effect.{Effect}
@@ -16,8 +16,8 @@ use Rattle.mir_func.specs.declared.func.Operand.{Operand}
 use Rattle.mir_func.specs.declared.func.Operand.TheVariants as operands
 use Rattle.mir_func.specs.declared.func.RegOp.{RegOp}
 use Rattle.mir_func.specs.Value.{Function}
-use Rattle.mir_func.specs.Binding.{explicit_bound, explicit_operands, explicit_roles, immediate_of, implicit_registers, is_definition, is_implicit_operand, is_use, is_virtual, registers, roles_of, takes_many}
-use Rattle.mir_meaning.specs.Rules.{V1, explicit_fit, fits_at, implicit_fit, implicit_last, is_condition, is_opaque, is_reserved_register, operands_fit, spills_or_reloads, values_fit}
+use Rattle.mir_func.specs.Binding.{explicit_bound, explicit_operands, explicit_roles, immediate_of, implicit_registers, is_definition, is_implicit_operand, is_use, is_virtual, roles_of, takes_many}
+use Rattle.mir_meaning.specs.Rules.{V1, explicit_fit, fits_at, implicit_fit, implicit_last, is_condition, is_opaque, is_reserved_register, operands_fit, spills_or_reloads}
 use Rattle.two_address.specs.Ties.{retied, retied_operand, ties_in, with_operands}
 use Rattle.two_address.specs.declared.ties.Tie.{Tie}
 use Rattle.live_laws.proofs.Touch.Roles.{has_roles, met}

@@ -6,24 +6,23 @@ use Rattle.target_base.specs.declared.types.ClassId.{ClassId}
 use Rattle.target_base.specs.declared.types.Effect.{Effect}
 use Rattle.target_base.specs.declared.types.Effect.TheVariants as effects
 use Rattle.target_base.specs.declared.types.IndexId.{IndexId}
-use Rattle.target_base.specs.declared.types.OpcodeDesc.{OpcodeDesc}
 use Rattle.target_base.specs.declared.types.Reg.{Reg}
 use Rattle.target_base.specs.declared.types.Role.{Role}
 use Rattle.target_base.specs.declared.types.Role.TheVariants as roles
 use Rattle.target_base.specs.declared.types.Target.{Target}
 use Rattle.target_base.specs.Numbers.{reg_number}
 use Rattle.target_base.specs.Registers.{lanes_of, regs_of}
-use Rattle.target_base.specs.Roles.{defines, defines_within, is_any, is_definition as is_definition_role, is_implicit, is_tied, opaque_tie_fits, role_class, roles_fit, tie_fits, ties_fit}
-use Rattle.target_base.specs.Storage.{class_regs, holds_place, holds_reg, holds_subs, is_unreserved, is_within, reg_units, regs_in, sub_place}
+use Rattle.target_base.specs.Roles.{defines, defines_within, is_definition as is_definition_role, is_implicit, opaque_tie_fits, role_class, roles_fit, tie_fits, ties_fit}
+use Rattle.target_base.specs.Storage.{holds_place, holds_reg, is_unreserved, is_within, reg_units, regs_in, sub_place}
 use Rattle.target_base.proofs.Tests.{first_of_both, second_of_both}
-use Rattle.meaning.specs.Live.{Among, here, there}
+use Rattle.meaning.specs.Live.{Among}
 use Rattle.mir_func.specs.declared.func.Loc.{Loc}
 use Rattle.mir_func.specs.declared.func.Loc.TheVariants.{Fixed, Virtual}
 use Rattle.mir_func.specs.declared.func.Operand.{Operand}
 use Rattle.mir_func.specs.declared.func.Operand.TheVariants as operands
 use Rattle.mir_func.specs.declared.func.RegOp.{RegOp}
 use Rattle.mir_func.specs.Value.{Function}
-use Rattle.mir_func.specs.Binding.{Bound, TiedPair, asked_class, bound, class_of, explicit_bound, explicit_operands, explicit_roles, implicit_bound, implicit_registers, implicit_roles, is_implicit_operand, passes, registers, roles_of, takes_many, tied_number, tied_pair}
+use Rattle.mir_func.specs.Binding.{Bound, TiedPair, asked_class, bound, class_of, explicit_bound, explicit_operands, explicit_roles, implicit_bound, implicit_registers, implicit_roles, is_implicit_operand, passes, registers, roles_of, tied_number, tied_pair}
 use Rattle.mir_meaning.specs.Rules.{V2, has_class, has_lanes, in_operand_class, is_opaque, is_taken_reserved, lies_in, register_lies_in, takes_reserved, widths_fit}
 use Rattle.phi_elim.specs.Moves.{whole_use}
 use Rattle.two_address.specs.Classes.{class_asked, first_register, seated}
@@ -43,7 +42,7 @@ use Rattle.lowering_laws.proofs.Replaced.{h, made}
 use Rattle.lowering_laws.proofs.Rolled.{Leads, defined-by, definition-explicit, first, fit-roles, later, leads-at, leads-definition, pair-leads, tied-role}
 use Rattle.lowering_laws.proofs.RulesStay.{in-class, lies-within}
 use Rattle.lowering_laws.proofs.Seated.{bound-operand, bound-role, register-in, role-tied}
-use Rattle.lowering_laws.proofs.Seats.{Seat, all-pairs, explicit, implicit, new_instr, pairs-all}
+use Rattle.lowering_laws.proofs.Seats.{Seat, all-pairs, explicit, implicit, pairs-all}
 use Rattle.lowering_laws.proofs.Turns.{Turns, fixes, left, owned, reads, reads_new, renewed, turns}
 use Rattle.lowering_laws.proofs.Widths.{find-in}
 

@@ -4,7 +4,6 @@ use Rattle.std.specs.Prelude.{filter_map, option_and_then, unwrap_or}
 use Rattle.target_base.specs.declared.types.Reg.{Reg}
 use Rattle.target_base.specs.declared.types.Role.{Role}
 use Rattle.target_base.specs.declared.types.Target.{Target}
-use Rattle.target_base.proofs.Tests.{first_of_both, second_of_both}
 use Rattle.meaning.specs.Live.{Among}
 use Rattle.mir_func.specs.declared.func.Loc.{Loc}
 use Rattle.mir_func.specs.declared.func.Loc.TheVariants.{Fixed, Virtual}
@@ -19,7 +18,6 @@ use Rattle.two_address.specs.Classes.{class_asked, first_register, seated}
 use Rattle.two_address.specs.Ties.{defined_aside, defined_use, definition_class, retied, retied_use, tie_aside, tie_to, ties_in, undef_fixed, undef_use_of, untied, use_of}
 use Rattle.two_address.specs.declared.ties.Tie.{Tie}
 use Rattle.phi_elim.specs.Moves.{destination_of, source_of, whole_use}
-use Rattle.live_laws.proofs.Effects.Moved.{Apart}
 use Rattle.lowering_laws.proofs.CountedOperands.{same-number}
 use Rattle.lowering_laws.proofs.EachBehind.{Retied}
 use Rattle.lowering_laws.proofs.Operands.{named}
