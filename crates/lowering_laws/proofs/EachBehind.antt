@@ -112,7 +112,7 @@ pub record IsCopying (t : Target) (g : Function) (x : Instr) : Type 0 where
   pub source_home : has_home t s.loc d.loc ≡ true
 
 -- an instruction whose opcode has roles, and where the classes of the registers stand that its ties need
-pub record Retied (t : Target) (f : Function) : Type 0 where
+pub record TiedInstr (t : Target) (f : Function) : Type 0 where
   pub classes : AreClasses t f
   pub i : Instr
   pub r : InstrRules t f i
@@ -129,7 +129,7 @@ pub record Holds (t : Target) (f : Function) (P : Instr → Type 0) : Type 0 whe
   pub texts : (i x : Instr) → P x → P (record x { flags = i.flags; tail = i.tail })
   pub undefines : (x : Instr) → IsUndefining t x → P x
   pub copies : (x : Instr) → IsCopying t (h t f) x → P x
-  pub retied : (z : Retied t f) → P (with_operands t f.classes (ties_in t z.c z.i) z.i)
+  pub ties : (z : TiedInstr t f) → P (with_operands t f.classes (ties_in t z.c z.i) z.i)
 
 module _ (t : Target) (f : Function) (P : Instr → Type 0) (holds : Holds t f P) where
   abbrev H : Function
@@ -366,11 +366,11 @@ module _ (t : Target) (f : Function) (P : Instr → Type 0) (holds : Holds t f P
       tied-so e q one two rolled quiet all =
           let T = ties_in t c i in
           let form = other-form t i e q one two in
-          let z : Retied t f = record { classes = classes; i = i; r = r; e = e; known = q; rolled = rolled; unspilled = quiet; c = c; stands = subst StandsFor form stands } in
+          let z : TiedInstr t f = record { classes = classes; i = i; r = r; e = e; known = q; rolled = rolled; unspilled = quiet; c = c; stands = subst StandsFor form stands } in
           subst (λ x. Each (form_lowered t f.classes c i x)) (sym form)
           (each-append (flat_map (λ (tie : Tie). copies tie.before) T) (with_operands t f.classes T i ∷ flat_map (λ (tie : Tie). copies tie.after) T)
           (each-flat (λ (tie : Tie). copies tie.before) T (λ x m. (all x m).0))
-          (holds.retied z, each-flat (λ (tie : Tie). copies tie.after) T (λ x m. (all x m).1)))
+          (holds.ties z, each-flat (λ (tie : Tie). copies tie.after) T (λ x m. (all x m).1)))
 
       none-so : (e : Effect) → effect_of t i ≡ Some e → is_copy e ≡ false → puts_together e ≡ false → has_roles e ≡ true → spills_or_reloads e ≡ false → list_any is_tied (roles_of t i) ≡ false → Lowers
       none-so e q one two rolled quiet none = tied-so e q one two rolled quiet (λ tie m. absurd (member-none tie (subst (Among tie) (none-tied t i e q c none) m)))

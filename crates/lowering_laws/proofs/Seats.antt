@@ -18,14 +18,14 @@ use Rattle.two_address.specs.Classes.{seated}
 use Rattle.two_address.specs.Ties.{retied_operand, ties_in, with_operands}
 use Rattle.two_address.specs.declared.ties.Tie.{Tie}
 use Rattle.instr_effects.proofs.Members.{filter-of, member-elim, member-none}
-use Rattle.lowering_laws.proofs.EachBehind.{Retied}
+use Rattle.lowering_laws.proofs.EachBehind.{TiedInstr}
 use Rattle.lowering_laws.proofs.FormedTies.{after, all-stay, stay-implicit}
 use Rattle.lowering_laws.proofs.Rolled.{fit-operands}
 use Rattle.lowering_laws.proofs.Seated.{none-explicit}
 use Rattle.lowering_laws.proofs.TiedOperands.{implicit-same}
 use Rattle.lowering_laws.proofs.Widths.{find-in}
 
-module _ (t : Target) (f : Function) (z : Retied t f) where
+module _ (t : Target) (f : Function) (z : TiedInstr t f) where
   open z use {i, r, e, known, rolled, c}
 
   abbrev os : List Operand

@@ -30,7 +30,7 @@ module _ (t : Target) (f : Function) (plain : has_no_phis t f.blocks ≡ true) (
     texts = λ i x e. e;
     undefines = λ x z. undefining-one t (h t f) x z;
     copies = λ x z. copying-one t (h t f) x z;
-    retied = λ z. tied-one t f z;
+    ties = λ z. tied-one t f z;
   }
 
   one : (d : Block) (x : Instr) → Among d (ties_lowered t f).blocks → Among x d.instrs → V1 t (ties_lowered t f) x ≡ true
@@ -44,7 +44,7 @@ module _ (t : Target) (f : Function) (plain : has_no_phis t f.blocks ≡ true) (
     texts = λ i x e. e;
     undefines = λ x z. undefining-two t (h t f) x z;
     copies = λ x z. copying-two t (h t f) x z;
-    retied = λ z. tied-two t f z;
+    ties = λ z. tied-two t f z;
   }
 
   two : (d : Block) (x : Instr) → Among d (ties_lowered t f).blocks → Among x d.instrs → V2 t (ties_lowered t f) x ≡ true
@@ -58,7 +58,7 @@ module _ (t : Target) (f : Function) (plain : has_no_phis t f.blocks ≡ true) (
     texts = λ i x e. e;
     undefines = λ x z. undefining-twelve t (h t f) x z;
     copies = λ x z. copying-twelve t (h t f) x z;
-    retied = λ z. tied-twelve t f z;
+    ties = λ z. tied-twelve t f z;
   }
 
   twelve : (d : Block) (x : Instr) → Among d (ties_lowered t f).blocks → Among x d.instrs → V12 t forms.Source (ties_lowered t f) x ≡ true

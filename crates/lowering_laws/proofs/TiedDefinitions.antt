@@ -37,7 +37,7 @@ use Rattle.lowering_laws.proofs.Built.{old-not-new}
 use Rattle.lowering_laws.proofs.Classes.{class-stays}
 use Rattle.lowering_laws.proofs.CopiesBefore.{lane-once}
 use Rattle.lowering_laws.proofs.CountedOperands.{plain-bound}
-use Rattle.lowering_laws.proofs.EachBehind.{Retied}
+use Rattle.lowering_laws.proofs.EachBehind.{TiedInstr}
 use Rattle.lowering_laws.proofs.Formed.{all-by, none-by}
 use Rattle.lowering_laws.proofs.FormedTies.{after, new-formed, register-from}
 use Rattle.lowering_laws.proofs.Olds.{is_old, use-old}
@@ -49,7 +49,7 @@ use Rattle.lowering_laws.proofs.Seated.{bound-operand, pair-is, register-in, reg
 use Rattle.lowering_laws.proofs.Seats.{Seat, all-pairs, explicit, implicit, new_instr, pairs-any, pairs-numbered, pairs-of}
 use Rattle.lowering_laws.proofs.SharedLanes.{AtPlaces, apart-lanes, from-places, none-shared, to-places}
 use Rattle.lowering_laws.proofs.Traced.{is_lane_of}
-use Rattle.lowering_laws.proofs.Turns.{Turns, fixes, left, owned, reads, reads_new, renewed, turns}
+use Rattle.lowering_laws.proofs.Turns.{Turns, new_register, own_register, reads_definition, reads_fixed, reads_new_register, turns, unchanged}
 use Rattle.lowering_laws.proofs.Tying.{asides-differ}
 
 not-true : (b : Bool) → not b ≡ true → b ≡ false
@@ -98,7 +98,7 @@ none-of-three false b = refl
 use-not : (o : RegOp) → is_use o ≡ true → is_definition o ≡ true → ⊥
 use-not o u d = let x = not-true o.def (first_of_both (not o.def) (not o.implicit) u) in let y = first_of_both o.def (not o.implicit) d in cc
 
-module _ (t : Target) (f : Function) (z : Retied t f) where
+module _ (t : Target) (f : Function) (z : TiedInstr t f) where
   open z use {i, r, e, known, rolled, c}
 
   abbrev H : Function
@@ -186,16 +186,16 @@ module _ (t : Target) (f : Function) (z : Retied t f) where
 
   -- a definition of number k behind: in the register that it had, or in one that stands in
   data View (k : ℕ) (d' : RegOp) : Type 0 where
-    kept : (d : RegOp) → register_at os k ≡ Some d → d.def ≡ true → d'.loc ≡ d.loc → d'.index ≡ d.index → View k d'
-    fresh : (x : ℕ) → (tie_to k T).aside ≡ Some x → n ≤ x → d'.loc ≡ Virtual x → View k d'
+    in_own : (d : RegOp) → register_at os k ≡ Some d → d.def ≡ true → d'.loc ≡ d.loc → d'.index ≡ d.index → View k d'
+    in_new : (x : ℕ) → (tie_to k T).aside ≡ Some x → n ≤ x → d'.loc ≡ Virtual x → View k d'
 
   view : (k : ℕ) (q : Option Role) (d d' : RegOp) → register_at os k ≡ Some d → Turns t f z k q d d' → d'.def ≡ true → View k d'
-  view k q d d' at (owned g is) w = kept d at (first_of_both d.def (not d.implicit) g) (ap (λ (y : RegOp). y.loc) is) (ap (λ (y : RegOp). y.index) is)
-  view k q d d' at (left g is) w = kept d at (ap (λ (y : RegOp). y.def) (sym is) ∙ w) (ap (λ (y : RegOp). y.loc) is) (ap (λ (y : RegOp). y.index) is)
-  view k q d d' at (renewed x p mp num g a low class is) w = fresh x a low (ap (λ (y : RegOp). y.loc) is)
-  view k q d d' at (reads p mp u v g m at' l x def imp) w = absurd (let y = def in cc)
-  view k q d d' at (reads_new x p mp u v g a low class is) w = absurd (let y : d'.def ≡ false = ap (λ (y : RegOp). y.def) is in cc)
-  view k q d d' at (fixes p u v w' g found is) w = absurd (let y : d'.def ≡ false = ap (λ (y : RegOp). y.def) is in cc)
+  view k q d d' at (own_register g is) w = in_own d at (first_of_both d.def (not d.implicit) g) (ap (λ (y : RegOp). y.loc) is) (ap (λ (y : RegOp). y.index) is)
+  view k q d d' at (unchanged g is) w = in_own d at (ap (λ (y : RegOp). y.def) (sym is) ∙ w) (ap (λ (y : RegOp). y.loc) is) (ap (λ (y : RegOp). y.index) is)
+  view k q d d' at (new_register x p mp num g a low class is) w = in_new x a low (ap (λ (y : RegOp). y.loc) is)
+  view k q d d' at (reads_definition p mp u v g m at' l x def imp) w = absurd (let y = def in cc)
+  view k q d d' at (reads_new_register x p mp u v g a low class is) w = absurd (let y : d'.def ≡ false = ap (λ (y : RegOp). y.def) is in cc)
+  view k q d d' at (reads_fixed p u v w' g found is) w = absurd (let y : d'.def ≡ false = ap (λ (y : RegOp). y.def) is in cc)
 
   -- the operand at a place behind, and that before
   place-of : (m : ℕ) (rs : List Role) (ys : List Operand) (k : ℕ) (o' : RegOp) → register_at (after t f.classes T m rs ys) k ≡ Some o' → (q : Option Role) × (o : RegOp) × (j : ℕ) × (j ≡ m + k) × Among (q, operands.Reg o) (explicit_bound rs ys) × (register_at ys k ≡ Some o) × (o' ≡ retied t f.classes T j q o)
@@ -245,12 +245,12 @@ module _ (t : Target) (f : Function) (z : Retied t f) where
       apart w = omega (arith, lt, w)
 
       by : View a d' → View b e' → share_a_lane (defined_lanes t H opaque d') (defined_lanes t H opaque e') ≡ false
-      by (kept d at g l w) (kept o at' g' l' w') =
+      by (in_own d at g l w) (in_own o at' g' l' w') =
           (λ k. share_a_lane (defined-same opaque d d' (at-there a d at) l w k) (defined-same opaque o e' (at-there b o at') l' w' k))
           ∙ at-places a b d o lt at at' g g'
-      by (kept d at g l w) (fresh v s low l') = none-shared (defined_lanes t H opaque d') (defined_lanes t H opaque e') (λ k m m'. old-new d d' (at-there a d at) l w v e' low l' k (defined-in H opaque d' k m) (defined-in H opaque e' k m'))
-      by (fresh v s low l) (kept o at' g' l' w') = none-shared (defined_lanes t H opaque d') (defined_lanes t H opaque e') (λ k m m'. old-new o e' (at-there b o at') l' w' v d' low l k (defined-in H opaque e' k m') (defined-in H opaque d' k m))
-      by (fresh v s low l) (fresh v' s' low' l') = none-shared (defined_lanes t H opaque d') (defined_lanes t H opaque e') (λ k m m'. new-new v v' d' e' (one-definition a b v s v' s' apart) l l' k (defined-in H opaque d' k m) (defined-in H opaque e' k m'))
+      by (in_own d at g l w) (in_new v s low l') = none-shared (defined_lanes t H opaque d') (defined_lanes t H opaque e') (λ k m m'. old-new d d' (at-there a d at) l w v e' low l' k (defined-in H opaque d' k m) (defined-in H opaque e' k m'))
+      by (in_new v s low l) (in_own o at' g' l' w') = none-shared (defined_lanes t H opaque d') (defined_lanes t H opaque e') (λ k m m'. old-new o e' (at-there b o at') l' w' v d' low l k (defined-in H opaque e' k m') (defined-in H opaque d' k m))
+      by (in_new v s low l) (in_new v' s' low' l') = none-shared (defined_lanes t H opaque d') (defined_lanes t H opaque e') (λ k m m'. new-new v v' d' e' (one-definition a b v s v' s' apart) l l' k (defined-in H opaque d' k m) (defined-in H opaque e' k m'))
 
   -- what is read
 
@@ -276,12 +276,12 @@ module _ (t : Target) (f : Function) (z : Retied t f) where
   defined-not u d w = let y = not-true u.def (first_of_both (not u.def) (not u.undef) w) in cc
 
   by-turns : (k j : ℕ) (q : Option Role) (u u' : RegOp) → Among (q, operands.Reg u) (bound t i) → Among u (registers os) → besides k (q, operands.Reg u) ≡ true → is_reading u' ≡ true → Turns t f z j q u u' → Read k u'
-  by-turns k j q u u' m member far w (owned g is) = absurd (defined-not u' (ap (λ (y : RegOp). y.def) is ∙ first_of_both u.def (not u.implicit) g) w)
-  by-turns k j q u u' m member far w (renewed x p mp num g a low class is) = absurd (defined-not u' (ap (λ (y : RegOp). y.def) is ∙ first_of_both u.def (not u.implicit) g) w)
-  by-turns k j q u u' m member far w (left g is) = as_before u member (reading-in k q u m far (ap is_reading (sym is) ∙ w)) (ap (λ (y : RegOp). y.loc) is) (ap (λ (y : RegOp). y.index) is)
-  by-turns k j q u u' m member far w (reads p mp used v g a at l x def imp) = of_pair p mp (λ s. let y = tied-passes q p.number g in let y' : passes (ties_to k) q ≡ true = subst (λ b. passes (ties_to b) q ≡ true) (sym s) y in cc) l x
-  by-turns k j q u u' m member far w (reads_new x p mp used v g a low class is) = of_new p.number x a (λ s. let y = tied-passes q p.number g in let y' : passes (ties_to k) q ≡ true = subst (λ b. passes (ties_to b) q ≡ true) (sym s) y in cc) low (ap (λ (y : RegOp). y.loc) is)
-  by-turns k j q u u' m member far w (fixes p used v un g found is) = absurd (let y : u'.undef ≡ true = ap (λ (y : RegOp). y.undef) is in let y' = not-true u'.undef (second_of_both (not u'.def) (not u'.undef) w) in cc)
+  by-turns k j q u u' m member far w (own_register g is) = absurd (defined-not u' (ap (λ (y : RegOp). y.def) is ∙ first_of_both u.def (not u.implicit) g) w)
+  by-turns k j q u u' m member far w (new_register x p mp num g a low class is) = absurd (defined-not u' (ap (λ (y : RegOp). y.def) is ∙ first_of_both u.def (not u.implicit) g) w)
+  by-turns k j q u u' m member far w (unchanged g is) = as_before u member (reading-in k q u m far (ap is_reading (sym is) ∙ w)) (ap (λ (y : RegOp). y.loc) is) (ap (λ (y : RegOp). y.index) is)
+  by-turns k j q u u' m member far w (reads_definition p mp used v g a at l x def imp) = of_pair p mp (λ s. let y = tied-passes q p.number g in let y' : passes (ties_to k) q ≡ true = subst (λ b. passes (ties_to b) q ≡ true) (sym s) y in cc) l x
+  by-turns k j q u u' m member far w (reads_new_register x p mp used v g a low class is) = of_new p.number x a (λ s. let y = tied-passes q p.number g in let y' : passes (ties_to k) q ≡ true = subst (λ b. passes (ties_to b) q ≡ true) (sym s) y in cc) low (ap (λ (y : RegOp). y.loc) is)
+  by-turns k j q u u' m member far w (reads_fixed p used v un g found is) = absurd (let y : u'.undef ≡ true = ap (λ (y : RegOp). y.undef) is in let y' = not-true u'.undef (second_of_both (not u'.def) (not u'.undef) w) in cc)
 
   read-of : (k : ℕ) (u' : RegOp) → Among u' (readings_besides k (bound t new)) → Read k u'
   read-of k u' m =
@@ -344,30 +344,30 @@ module _ (t : Target) (f : Function) (z : Retied t f) where
                   by-cases false s = let y = eqb-false a b s in omega (arith, w, y)
 
       by : View k d' → Read k u' → share_a_lane (clashing_lanes t H d') (clashing_lanes t H u') ≡ false
-      by (kept o at' g l x) (as_before u mu ru l' x') =
+      by (in_own o at' g l x) (as_before u mu ru l' x') =
           let one : o ≡ d = same-register o d (sym at' ∙ at) in
           (λ s. share_a_lane (clashing-same o d' (at-there k o at') l x s) (clashing-same u u' mu l' x' s))
           ∙ subst (λ y. share_a_lane (clashing_lanes t f y) (clashing_lanes t f u) ≡ false) (sym one) (old-none u ru)
-      by (kept o at' g l x) (of_pair p mp far l' x') =
+      by (in_own o at' g l x) (of_pair p mp far l' x') =
           let mo = at-there k o at' in
           let mp' = at-there p.number p.definition (pair-there p mp) in
           none-shared (clashing_lanes t H d') (clashing_lanes t H u') (λ v m m'.
           two-apart k p.number o p.definition far at' (pair-there p mp) g (pair-def p mp) v
           (clash-defined f opaque o v (subst (Among v) (clashing-same o d' mo l x) m))
           (clash-defined f opaque p.definition v (subst (Among v) (clashing-same p.definition u' mp' l' x') m')))
-      by (kept o at' g l x) (of_new j y a far low l') = none-shared (clashing_lanes t H d') (clashing_lanes t H u') (λ v m m'. old-new o d' (at-there k o at') l x y u' low l' v (clash-in H d' v m) (clash-in H u' v m'))
-      by (fresh y a low l) (as_before u mu ru l' x') = none-shared (clashing_lanes t H d') (clashing_lanes t H u') (λ v m m'. old-new u u' mu l' x' y d' low l v (clash-in H u' v m') (clash-in H d' v m))
-      by (fresh y a low l) (of_pair p mp far l' x') = none-shared (clashing_lanes t H d') (clashing_lanes t H u') (λ v m m'. old-new p.definition u' (at-there p.number p.definition (pair-there p mp)) l' x' y d' low l v (clash-in H u' v m') (clash-in H d' v m))
-      by (fresh y a low l) (of_new j y' a' far low' l') = none-shared (clashing_lanes t H d') (clashing_lanes t H u') (λ v m m'. new-new y y' d' u' (one-definition k j y a y' a' far) l l' v (clash-in H d' v m) (clash-in H u' v m'))
+      by (in_own o at' g l x) (of_new j y a far low l') = none-shared (clashing_lanes t H d') (clashing_lanes t H u') (λ v m m'. old-new o d' (at-there k o at') l x y u' low l' v (clash-in H d' v m) (clash-in H u' v m'))
+      by (in_new y a low l) (as_before u mu ru l' x') = none-shared (clashing_lanes t H d') (clashing_lanes t H u') (λ v m m'. old-new u u' mu l' x' y d' low l v (clash-in H u' v m') (clash-in H d' v m))
+      by (in_new y a low l) (of_pair p mp far l' x') = none-shared (clashing_lanes t H d') (clashing_lanes t H u') (λ v m m'. old-new p.definition u' (at-there p.number p.definition (pair-there p mp)) l' x' y d' low l v (clash-in H u' v m') (clash-in H d' v m))
+      by (in_new y a low l) (of_new j y' a' far low' l') = none-shared (clashing_lanes t H d') (clashing_lanes t H u') (λ v m m'. new-new y y' d' u' (one-definition k j y a y' a' far) l l' v (clash-in H d' v m) (clash-in H u' v m'))
 
   -- a definition stays one
   defines-on : (k : ℕ) (q : Option Role) (d d' : RegOp) → is_definition d ≡ true → Turns t f z k q d d' → d'.def ≡ true
-  defines-on k q d d' w (owned g is) = ap (λ (y : RegOp). y.def) is ∙ first_of_both d.def (not d.implicit) g
-  defines-on k q d d' w (renewed x p mp num g a low class is) = ap (λ (y : RegOp). y.def) is ∙ first_of_both d.def (not d.implicit) g
-  defines-on k q d d' w (left g is) = absurd (let y = g in cc)
-  defines-on k q d d' w (reads p mp used v g a at l x def imp) = absurd (use-not d used w)
-  defines-on k q d d' w (reads_new x p mp used v g a low class is) = absurd (use-not d used w)
-  defines-on k q d d' w (fixes p used v un g found is) = absurd (use-not d used w)
+  defines-on k q d d' w (own_register g is) = ap (λ (y : RegOp). y.def) is ∙ first_of_both d.def (not d.implicit) g
+  defines-on k q d d' w (new_register x p mp num g a low class is) = ap (λ (y : RegOp). y.def) is ∙ first_of_both d.def (not d.implicit) g
+  defines-on k q d d' w (unchanged g is) = absurd (let y = g in cc)
+  defines-on k q d d' w (reads_definition p mp used v g a at l x def imp) = absurd (use-not d used w)
+  defines-on k q d d' w (reads_new_register x p mp used v g a low class is) = absurd (use-not d used w)
+  defines-on k q d d' w (reads_fixed p used v un g found is) = absurd (use-not d used w)
 
   early-register : (k : ℕ) (q : Option Role) (d : RegOp) → Among (q, operands.Reg d) bs → slice_get os k ≡ Some (operands.Reg d) → d.implicit ≡ false → early_fits t f (bound t i) (k, (q, operands.Reg d)) ≡ true → early_fits t H (bound t new) (k, (q, operands.Reg (retied t f.classes T k q d))) ≡ true
   early-register k q d m place plain w = go (passes is_early q) refl
@@ -409,12 +409,12 @@ module _ (t : Target) (f : Function) (z : Retied t f) where
   tied-free q j o g = (λ s. not o.def && o.undef && is_none (g s)) ∙ none-of-three (not o.def) o.undef
 
   free-turns : (k : ℕ) (q : Option Role) (o o' : RegOp) → Turns t f z k q o o' → Free q o' ≡ Free q o
-  free-turns k q o o' (owned g is) = let d = first_of_both o.def (not o.implicit) g in defined-free q o' (ap (λ (y : RegOp). y.def) is ∙ d) ∙ sym (defined-free q o d)
-  free-turns k q o o' (renewed x p mp num g a low class is) = let d = first_of_both o.def (not o.implicit) g in defined-free q o' (ap (λ (y : RegOp). y.def) is ∙ d) ∙ sym (defined-free q o d)
-  free-turns k q o o' (left g is) = ap (Free q) is
-  free-turns k q o o' (reads p mp used v g a at l x def imp) = tied-free q p.number o' g ∙ sym (tied-free q p.number o g)
-  free-turns k q o o' (reads_new x p mp used v g a low class is) = tied-free q p.number o' g ∙ sym (tied-free q p.number o g)
-  free-turns k q o o' (fixes p used v un g found is) = ap (Free q) is ∙ sym (λ s. first_of_both (not o.def) (not o.implicit) used s && un s && is_none (option_and_then tied_number q))
+  free-turns k q o o' (own_register g is) = let d = first_of_both o.def (not o.implicit) g in defined-free q o' (ap (λ (y : RegOp). y.def) is ∙ d) ∙ sym (defined-free q o d)
+  free-turns k q o o' (new_register x p mp num g a low class is) = let d = first_of_both o.def (not o.implicit) g in defined-free q o' (ap (λ (y : RegOp). y.def) is ∙ d) ∙ sym (defined-free q o d)
+  free-turns k q o o' (unchanged g is) = ap (Free q) is
+  free-turns k q o o' (reads_definition p mp used v g a at l x def imp) = tied-free q p.number o' g ∙ sym (tied-free q p.number o g)
+  free-turns k q o o' (reads_new_register x p mp used v g a low class is) = tied-free q p.number o' g ∙ sym (tied-free q p.number o g)
+  free-turns k q o o' (reads_fixed p used v un g found is) = ap (Free q) is ∙ sym (λ s. first_of_both (not o.def) (not o.implicit) used s && un s && is_none (option_and_then tied_number q))
 
   free-explicit : (k : ℕ) (q : Option Role) (x : Operand) → Among (q, x) bs → is_free_undef (q, retied_operand t f.classes T (k, (q, x))) ≡ is_free_undef (q, x)
   free-explicit k q (operands.Reg o) m = free-turns k q o (retied t f.classes T k q o) (turns t f z k q o m)

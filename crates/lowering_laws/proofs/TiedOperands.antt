@@ -21,12 +21,12 @@ use Rattle.mir_meaning.specs.Rules.{V1, explicit_fit, fits_at, implicit_fit, imp
 use Rattle.two_address.specs.Ties.{retied, retied_operand, ties_in, with_operands}
 use Rattle.two_address.specs.declared.ties.Tie.{Tie}
 use Rattle.live_laws.proofs.Touch.Roles.{has_roles, met}
-use Rattle.lowering_laws.proofs.EachBehind.{Retied}
+use Rattle.lowering_laws.proofs.EachBehind.{TiedInstr}
 use Rattle.lowering_laws.proofs.FormedTies.{Stay, after, all-stay, last, stay-implicit}
 use Rattle.lowering_laws.proofs.Replaced.{h}
 use Rattle.lowering_laws.proofs.Rolled.{fit-operands}
 use Rattle.lowering_laws.proofs.Seated.{none-explicit}
-use Rattle.lowering_laws.proofs.Turns.{Turns, fixes, left, owned, reads, reads_new, renewed, turns}
+use Rattle.lowering_laws.proofs.Turns.{Turns, new_register, own_register, reads_definition, reads_fixed, reads_new_register, turns, unchanged}
 
 not-true : (b : Bool) → not b ≡ true → b ≡ false
 not-true true e = absurd (cc)
@@ -182,7 +182,7 @@ fit-by-parts t f g d os os' e h s w l x im z =
     let a = first_of_both _ true w in
     λ k. l k && x k && (ap (implicit_fit d) im ∙ second_of_both _ (implicit_fit d (implicit_registers os)) a) k && true
 
-module _ (t : Target) (f : Function) (z : Retied t f) where
+module _ (t : Target) (f : Function) (z : TiedInstr t f) where
   open z use {i, r, e, known, rolled, unspilled, c}
 
   abbrev os : List Operand
@@ -204,24 +204,24 @@ module _ (t : Target) (f : Function) (z : Retied t f) where
   definition-explicit o d w = let x = not-true o.implicit (second_of_both o.def (not o.implicit) d) in cc
 
   as-before : (k : ℕ) (q : Option Role) (o o' : RegOp) → Turns t f z k q o o' → AsBefore o o'
-  as-before k q o o' (owned d is) = record { definition = ap is_definition is; used = ap is_use is; loc = λ u v. ap (λ (x : RegOp). x.loc) is }
-  as-before k q o o' (renewed x p m j d a low class is) = record { definition = ap is_definition is; used = ap is_use is; loc = λ u v. absurd (let y = both-not o u in cc) }
-  as-before k q o o' (left d is) = record { definition = ap is_definition is; used = ap is_use is; loc = λ u v. ap (λ (x : RegOp). x.loc) is }
-  as-before k q o o' (reads p m u v g w loc l x def imp) = record {
+  as-before k q o o' (own_register d is) = record { definition = ap is_definition is; used = ap is_use is; loc = λ u v. ap (λ (x : RegOp). x.loc) is }
+  as-before k q o o' (new_register x p m j d a low class is) = record { definition = ap is_definition is; used = ap is_use is; loc = λ u v. absurd (let y = both-not o u in cc) }
+  as-before k q o o' (unchanged d is) = record { definition = ap is_definition is; used = ap is_use is; loc = λ u v. ap (λ (x : RegOp). x.loc) is }
+  as-before k q o o' (reads_definition p m u v g w loc l x def imp) = record {
     definition = (λ s. def s && not o'.implicit) ∙ sym (both-not o u);
     used = (λ s. not (def s) && not (imp s)) ∙ sym u;
     loc = λ y w'. absurd (let x = v in cc);
   }
-  as-before k q o o' (reads_new x p m u v g a low class is) = record { definition = ap is_definition is ∙ sym (both-not o u); used = ap is_use is ∙ sym u; loc = λ y w'. absurd (let b = v in cc) }
-  as-before k q o o' (fixes p u v w g first is) = record { definition = ap is_definition is ∙ sym (both-not o u); used = ap is_use is ∙ sym u; loc = λ y w'. absurd (let b = v in cc) }
+  as-before k q o o' (reads_new_register x p m u v g a low class is) = record { definition = ap is_definition is ∙ sym (both-not o u); used = ap is_use is ∙ sym u; loc = λ y w'. absurd (let b = v in cc) }
+  as-before k q o o' (reads_fixed p u v w g first is) = record { definition = ap is_definition is ∙ sym (both-not o u); used = ap is_use is ∙ sym u; loc = λ y w'. absurd (let b = v in cc) }
 
   same-implicit : (k : ℕ) (q : Option Role) (o o' : RegOp) → Turns t f z k q o o' → o'.implicit ≡ o.implicit → SameImplicit o o'
-  same-implicit k q o o' (owned d is) e = record { stays = e; same = λ w. absurd (definition-explicit o d w) }
-  same-implicit k q o o' (renewed x p m j d a low class is) e = record { stays = e; same = λ w. absurd (definition-explicit o d w) }
-  same-implicit k q o o' (left d is) e = record { stays = e; same = λ w. is }
-  same-implicit k q o o' (reads p m u v g w loc l x def imp) e = record { stays = e; same = λ w'. absurd (use-explicit o u w') }
-  same-implicit k q o o' (reads_new x p m u v g a low class is) e = record { stays = e; same = λ w'. absurd (use-explicit o u w') }
-  same-implicit k q o o' (fixes p u v w g first is) e = record { stays = e; same = λ w'. absurd (use-explicit o u w') }
+  same-implicit k q o o' (own_register d is) e = record { stays = e; same = λ w. absurd (definition-explicit o d w) }
+  same-implicit k q o o' (new_register x p m j d a low class is) e = record { stays = e; same = λ w. absurd (definition-explicit o d w) }
+  same-implicit k q o o' (unchanged d is) e = record { stays = e; same = λ w. is }
+  same-implicit k q o o' (reads_definition p m u v g w loc l x def imp) e = record { stays = e; same = λ w'. absurd (use-explicit o u w') }
+  same-implicit k q o o' (reads_new_register x p m u v g a low class is) e = record { stays = e; same = λ w'. absurd (use-explicit o u w') }
+  same-implicit k q o o' (reads_fixed p u v w g first is) e = record { stays = e; same = λ w'. absurd (use-explicit o u w') }
 
   fit-on : FitOn t f.classes T e es os
   fit-on k s (operands.Reg o) m w = fits-on t e o (retied t f.classes T k (Some s) o) (as-before k (Some s) o (retied t f.classes T k (Some s) o) (turns t f z k (Some s) o m)) s w

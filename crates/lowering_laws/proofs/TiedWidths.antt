@@ -35,7 +35,7 @@ use Rattle.live_laws.proofs.Touch.Cells.{any-of}
 use Rattle.live_laws.proofs.Touch.Roles.{has_roles, met}
 use Rattle.lowering_laws.proofs.Classes.{class-stays}
 use Rattle.lowering_laws.proofs.Counted.{definition-class, operand-class}
-use Rattle.lowering_laws.proofs.EachBehind.{Retied}
+use Rattle.lowering_laws.proofs.EachBehind.{TiedInstr}
 use Rattle.lowering_laws.proofs.Formed.{all-by}
 use Rattle.lowering_laws.proofs.Operands.{named, shaped}
 use Rattle.lowering_laws.proofs.Replaced.{h, made}
@@ -43,7 +43,7 @@ use Rattle.lowering_laws.proofs.Rolled.{Leads, defined-by, definition-explicit, 
 use Rattle.lowering_laws.proofs.RulesStay.{in-class, lies-within}
 use Rattle.lowering_laws.proofs.Seated.{bound-operand, bound-role, register-in, role-tied}
 use Rattle.lowering_laws.proofs.Seats.{Seat, all-pairs, explicit, implicit, pairs-all}
-use Rattle.lowering_laws.proofs.Turns.{Turns, fixes, left, owned, reads, reads_new, renewed, turns}
+use Rattle.lowering_laws.proofs.Turns.{Turns, new_register, own_register, reads_definition, reads_fixed, reads_new_register, turns, unchanged}
 use Rattle.lowering_laws.proofs.Widths.{find-in}
 
 or-true : (b : Bool) → (b || true) ≡ true
@@ -145,7 +145,7 @@ no-widths t g effects.RegSequence os h = absurd (cc)
 no-widths t g effects.InsertSubreg os h = absurd (cc)
 no-widths t g e os h = refl
 
-module _ (t : Target) (f : Function) (z : Retied t f) where
+module _ (t : Target) (f : Function) (z : TiedInstr t f) where
   open z use {i, r, e, known, rolled, c}
 
   abbrev H : Function
@@ -240,9 +240,9 @@ module _ (t : Target) (f : Function) (z : Retied t f) where
       o-there = register-in o os (bound-operand es os q (operands.Reg o) m)
 
       by : Turns t f z k q o o' → in_operand_class t H e (q, operands.Reg o') ≡ true
-      by (owned d is) = own-class q o o' o-there (ap (λ (y : RegOp). y.loc) is) (ap (λ (y : RegOp). y.index) is) w
-      by (left d is) = own-class q o o' o-there (ap (λ (y : RegOp). y.loc) is) (ap (λ (y : RegOp). y.index) is) w
-      by (renewed x p mp same d a low class is) =
+      by (own_register d is) = own-class q o o' o-there (ap (λ (y : RegOp). y.loc) is) (ap (λ (y : RegOp). y.index) is) w
+      by (unchanged d is) = own-class q o o' o-there (ap (λ (y : RegOp). y.loc) is) (ap (λ (y : RegOp). y.index) is) w
+      by (new_register x p mp same d a low class is) =
           let leads = (pair-leads t f i e known rolled r.one p mp).0 in
           let l = subst (λ n. Leads n rs leads.0) same leads.1 in
           let y = definition-class leads.0 (leads-definition l) in
@@ -252,19 +252,19 @@ module _ (t : Target) (f : Function) (z : Retied t f) where
           subst (λ u. in_operand_class t H e (u, operands.Reg o') ≡ true) (sym q-is)
           (subst (λ u. in_operand_class t H e (Some leads.0, operands.Reg u) ≡ true) (sym is)
           (lying (Some leads.0) (record o { loc = Virtual x; index = None; undef = false }) (subst (λ u. list_all (λ c. register_lies_in t H c (Virtual x) None) (option_to_list u) ≡ true) (sym y.2) one)))
-      by (reads p mp u v g n at' l x def imp) =
+      by (reads_definition p mp u v g n at' l x def imp) =
           let tied = tied-within q (operands.Reg o) m p.number g in
           let own = definition-lies p mp n at' tied.0 tied.2 in
           subst (λ y. in_operand_class t H e (y, operands.Reg o') ≡ true) (sym tied.1)
           (lying (Some (roles.Tied tied.0 p.number)) o' (one-class tied.0 o' ((λ s. register_lies_in t H tied.0 (l s) (x s)) ∙ own)))
-      by (reads_new x p mp u v g a low class is) =
+      by (reads_new_register x p mp u v g a low class is) =
           let tied = tied-within q (operands.Reg o) m p.number g in
           let d = defined-by t f i e known rolled r.one p mp in
           let new = new-lies x d.role p.number d.at d.defines class tied.0 (λ c y. tied.2 d.role c d.at y) in
           subst (λ y. in_operand_class t H e (y, operands.Reg o') ≡ true) (sym tied.1)
           (subst (λ y. in_operand_class t H e (Some (roles.Tied tied.0 p.number), operands.Reg y) ≡ true) (sym is)
           (lying (Some (roles.Tied tied.0 p.number)) (whole_use x) (one-class tied.0 (whole_use x) new)))
-      by (fixes p u v w' g found is) = subst (λ y. in_operand_class t H e (q, operands.Reg y) ≡ true) (sym is) (lying q (undef_fixed o (Some p)) (fixed-lies t f.classes H q o p found))
+      by (reads_fixed p u v w' g found is) = subst (λ y. in_operand_class t H e (q, operands.Reg y) ≡ true) (sym is) (lying q (undef_fixed o (Some p)) (fixed-lies t f.classes H q o p found))
 
   explicit-class : (k : ℕ) (q : Option Role) (x : Operand) → Among (q, x) (seated t i) → slice_get (seated t i) k ≡ Some (q, x) → in_operand_class t f e (q, x) ≡ true → in_operand_class t H e (q, retied_operand t f.classes T (k, (q, x))) ≡ true
   explicit-class k q (operands.Reg o) m at w = turned-class k q o (retied t f.classes T k q o) m at (turns t f z k q o m) w

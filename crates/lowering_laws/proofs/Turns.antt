@@ -19,7 +19,7 @@ use Rattle.two_address.specs.Ties.{defined_aside, defined_use, definition_class,
 use Rattle.two_address.specs.declared.ties.Tie.{Tie}
 use Rattle.phi_elim.specs.Moves.{destination_of, source_of, whole_use}
 use Rattle.lowering_laws.proofs.CountedOperands.{same-number}
-use Rattle.lowering_laws.proofs.EachBehind.{Retied}
+use Rattle.lowering_laws.proofs.EachBehind.{TiedInstr}
 use Rattle.lowering_laws.proofs.Operands.{named}
 use Rattle.lowering_laws.proofs.Replaced.{h}
 use Rattle.lowering_laws.proofs.Rolled.{numbers-differ}
@@ -30,7 +30,7 @@ not-true : (b : Bool) → not b ≡ true → b ≡ false
 not-true true e = absurd (cc)
 not-true false e = refl
 
-module _ (t : Target) (f : Function) (z : Retied t f) where
+module _ (t : Target) (f : Function) (z : TiedInstr t f) where
   open z use {classes, i, r, e, known, rolled, c, stands}
 
   abbrev H : Function
@@ -58,14 +58,14 @@ module _ (t : Target) (f : Function) (z : Retied t f) where
   each-tie-is tie m = ties-are bs H rs n ps c ps (λ p k. k) stands tie m
 
   -- what becomes of operand o, of number k and role q: a definition keeps its register or has one that stands in for it;
-  -- another operand stays, or is a use that reads what a definition has, or a physical register in place of what is undefined
+  -- another operand stays, or is a use that reads_definition what a definition has, or a physical register in place of what is undefined
   pub data Turns (k : ℕ) (q : Option Role) (o o' : RegOp) : Type 0 where
-    owned : is_definition o ≡ true → o' ≡ record o { undef = false } → Turns k q o o'
-    renewed : (x : ℕ) (p : TiedPair) → Among p ps → p.number ≡ k → is_definition o ≡ true → (tie_to k T).aside ≡ Some x → n ≤ x → class_of H x ≡ definition_class rs k → o' ≡ record o { loc = Virtual x; index = None; undef = false } → Turns k q o o'
-    left : is_definition o ≡ false → o' ≡ o → Turns k q o o'
-    reads : (p : TiedPair) → Among p ps → is_use o ≡ true → is_virtual o.loc ≡ true → option_and_then tied_number q ≡ Some p.number → (v : ℕ) → p.definition.loc ≡ Virtual v → o'.loc ≡ p.definition.loc → o'.index ≡ p.definition.index → o'.def ≡ false → o'.implicit ≡ false → Turns k q o o'
-    reads_new : (x : ℕ) (p : TiedPair) → Among p ps → is_use o ≡ true → is_virtual o.loc ≡ true → option_and_then tied_number q ≡ Some p.number → (tie_to p.number T).aside ≡ Some x → n ≤ x → class_of H x ≡ definition_class rs p.number → o' ≡ whole_use x → Turns k q o o'
-    fixes : (p : Reg) → is_use o ≡ true → is_virtual o.loc ≡ true → o.undef ≡ true → option_and_then tied_number q ≡ None → first_register t (class_asked t f.classes q o) ≡ Some p → o' ≡ undef_fixed o (Some p) → Turns k q o o'
+    own_register : is_definition o ≡ true → o' ≡ record o { undef = false } → Turns k q o o'
+    new_register : (x : ℕ) (p : TiedPair) → Among p ps → p.number ≡ k → is_definition o ≡ true → (tie_to k T).aside ≡ Some x → n ≤ x → class_of H x ≡ definition_class rs k → o' ≡ record o { loc = Virtual x; index = None; undef = false } → Turns k q o o'
+    unchanged : is_definition o ≡ false → o' ≡ o → Turns k q o o'
+    reads_definition : (p : TiedPair) → Among p ps → is_use o ≡ true → is_virtual o.loc ≡ true → option_and_then tied_number q ≡ Some p.number → (v : ℕ) → p.definition.loc ≡ Virtual v → o'.loc ≡ p.definition.loc → o'.index ≡ p.definition.index → o'.def ≡ false → o'.implicit ≡ false → Turns k q o o'
+    reads_new_register : (x : ℕ) (p : TiedPair) → Among p ps → is_use o ≡ true → is_virtual o.loc ≡ true → option_and_then tied_number q ≡ Some p.number → (tie_to p.number T).aside ≡ Some x → n ≤ x → class_of H x ≡ definition_class rs p.number → o' ≡ whole_use x → Turns k q o o'
+    reads_fixed : (p : Reg) → is_use o ≡ true → is_virtual o.loc ≡ true → o.undef ≡ true → option_and_then tied_number q ≡ None → first_register t (class_asked t f.classes q o) ≡ Some p → o' ≡ undef_fixed o (Some p) → Turns k q o o'
 
   there-is : (q : Option Role) (o : RegOp) → Among (q, operands.Reg o) bs → Among o (registers os)
   there-is q o m = register-in o os (bound-operand (explicit_roles rs) os q (operands.Reg o) m)
@@ -105,7 +105,7 @@ module _ (t : Target) (f : Function) (z : Retied t f) where
   tied-turns k q o j m plain g = by (found-or j T)
     where
       by : (tie_to j T ≡ untied j) ⊎ ((tie : Tie) × Among tie T × (tie.number ≡ j) × (tie_to j T ≡ tie)) → Turns k q o (unwrap_or (tie_to j T).reading o)
-      by (inl y) = left plain (ap (λ (x : Tie). unwrap_or x.reading o) y)
+      by (inl y) = unchanged plain (ap (λ (x : Tie). unwrap_or x.reading o) y)
       by (inr y) = kinds (each-tie-is y.0 y.1).kind
         where
           tie : Tie
@@ -139,39 +139,39 @@ module _ (t : Target) (f : Function) (z : Retied t f) where
           reading-is x w = ap (λ (u : Tie). unwrap_or u.reading o) (found x w)
 
           kinds : Kind it.new p (is_read bs p) tie → Turns k q o (unwrap_or (tie_to j T).reading o)
-          kinds (fixed v w) = left plain (reading-is (untied p.number) w)
+          kinds (fixed v w) = unchanged plain (reading-is (untied p.number) w)
           kinds (blank v u w) =
               let d = pair-virtual p it.member v in
               let is = reading-is (record (untied p.number) { reading = Some (undef_use_of p.definition) }) w in
-              reads p it.member used (virtual-so v) g' d.0 d.1 (ap (λ (x : RegOp). x.loc) is) (ap (λ (x : RegOp). x.index) is) (ap (λ (x : RegOp). x.def) is) (ap (λ (x : RegOp). x.implicit) is)
+              reads_definition p it.member used (virtual-so v) g' d.0 d.1 (ap (λ (x : RegOp). x.loc) is) (ap (λ (x : RegOp). x.index) is) (ap (λ (x : RegOp). x.def) is) (ap (λ (x : RegOp). x.implicit) is)
           kinds (own v u l x w) =
               let d = pair-virtual p it.member v in
               let is = reading-is (record (untied p.number) { reading = Some (use_of p.definition) }) w in
-              reads p it.member used (virtual-so v) g' d.0 d.1 (ap (λ (x : RegOp). x.loc) is) (ap (λ (x : RegOp). x.index) is) (ap (λ (x : RegOp). x.def) is) (ap (λ (x : RegOp). x.implicit) is)
+              reads_definition p it.member used (virtual-so v) g' d.0 d.1 (ap (λ (x : RegOp). x.loc) is) (ap (λ (x : RegOp). x.index) is) (ap (λ (x : RegOp). x.def) is) (ap (λ (x : RegOp). x.implicit) is)
           kinds (copied_kind v u a w) =
               let d = pair-virtual p it.member v in
               let is = reading-is (record (untied p.number) { reading = Some (use_of p.definition); before = Some (record { to = destination_of p.definition; from = source_of p.tied_use }) }) w in
-              reads p it.member used (virtual-so v) g' d.0 d.1 (ap (λ (x : RegOp). x.loc) is) (ap (λ (x : RegOp). x.index) is) (ap (λ (x : RegOp). x.def) is) (ap (λ (x : RegOp). x.implicit) is)
+              reads_definition p it.member used (virtual-so v) g' d.0 d.1 (ap (λ (x : RegOp). x.loc) is) (ap (λ (x : RegOp). x.index) is) (ap (λ (x : RegOp). x.def) is) (ap (λ (x : RegOp). x.implicit) is)
           kinds (aside v u w) =
               let stands-in : tie.aside ≡ Some it.new = ap (λ (x : Tie). x.aside) w in
               let class = it.class stands-in in
-              reads_new it.new p it.member used (virtual-so v) g' (ap (λ (m : ℕ). (tie_to m T).aside) (sym number-is) ∙ (ap (λ (x : Tie). x.aside) y.3 ∙ stands-in)) class.0 class.1 (reading-is (tie_aside it.new p) w)
+              reads_new_register it.new p it.member used (virtual-so v) g' (ap (λ (m : ℕ). (tie_to m T).aside) (sym number-is) ∙ (ap (λ (x : Tie). x.aside) y.3 ∙ stands-in)) class.0 class.1 (reading-is (tie_aside it.new p) w)
 
   free-turns : (k : ℕ) (q : Option Role) (o : RegOp) → Among (q, operands.Reg o) bs → is_definition o ≡ false → option_and_then tied_number q ≡ None → Turns k q o (defined_use t f.classes q o)
   free-turns k q o m plain g = by (is_virtual o.loc) refl (not o.def) refl o.undef refl
     where
       at : is_virtual o.loc ≡ true → not o.def ≡ true → o.undef ≡ true → (x : Option Reg) → first_register t (class_asked t f.classes q o) ≡ x → Turns k q o (undef_fixed o x)
-      at v d u None w = left plain refl
-      at v d u (Some p) w = fixes p (λ s. d s && not (plain-use q o m v s)) v u g w refl
+      at v d u None w = unchanged plain refl
+      at v d u (Some p) w = reads_fixed p (λ s. d s && not (plain-use q o m v s)) v u g w refl
 
       by : (x : Bool) → is_virtual o.loc ≡ x → (y : Bool) → not o.def ≡ y → (w : Bool) → o.undef ≡ w → Turns k q o (cond (x && y && w) (undef_fixed o (first_register t (class_asked t f.classes q o))) o)
       by true v true d true u = at v d u (first_register t (class_asked t f.classes q o)) refl
-      by true v true d false u = left plain refl
-      by true v false d w u = left plain refl
-      by false v y d w u = left plain refl
+      by true v true d false u = unchanged plain refl
+      by true v false d w u = unchanged plain refl
+      by false v y d w u = unchanged plain refl
 
   defined-turns : (k : ℕ) (q : Option Role) (o : RegOp) → is_definition o ≡ true → (x : Option ℕ) → (tie_to k T).aside ≡ x → Turns k q o (defined_aside x o)
-  defined-turns k q o d None w = owned d refl
+  defined-turns k q o d None w = own_register d refl
   defined-turns k q o d (Some x) w = by (found-or k T)
     where
       by : (tie_to k T ≡ untied k) ⊎ ((tie : Tie) × Among tie T × (tie.number ≡ k) × (tie_to k T ≡ tie)) → Turns k q o (defined_aside (Some x) o)
@@ -181,7 +181,7 @@ module _ (t : Target) (f : Function) (z : Retied t f) where
           let stands-in : y.0.aside ≡ Some x = sym (ap (λ (u : Tie). u.aside) y.3) ∙ w in
           let new = it.stands x stands-in in
           let class = it.class (stands-in ∙ ap Some (sym new)) in
-          renewed x it.pair it.member (sym it.number ∙ y.2) d w (subst (λ u. n ≤ u) new class.0) (ap (class_of H) (sym new) ∙ (class.1 ∙ ap (definition_class rs) (sym it.number ∙ y.2))) refl
+          new_register x it.pair it.member (sym it.number ∙ y.2) d w (subst (λ u. n ≤ u) new class.0) (ap (class_of H) (sym new) ∙ (class.1 ∙ ap (definition_class rs) (sym it.number ∙ y.2))) refl
 
   pub turns : (k : ℕ) (q : Option Role) (o : RegOp) → Among (q, operands.Reg o) bs → Turns k q o (retied t f.classes T k q o)
   turns k q o m = by (is_definition o) refl
