@@ -1,5 +1,5 @@
 -- A register that is put together of parts one after the other, in itself or in another one that is copied to it.
-use Rattle.std.proofs.Common.{◌≡◌, ◌⊎◌, inl, inr, ◌∷◌, ◌++◌, ◌∙◌, ◌+◌, ◌<◌, ◌≤◌, ℕ, Bool, true, false, cond, List, Some, None, map, length, refl, sym, ap, subst, append_assoc, arith, []}
+use Rattle.std.proofs.Common.{◌≡◌, ◌⊎◌, inl, inr, ◌∷◌, ◌++◌, ◌∙◌, ◌<◌, ◌≤◌, ℕ, Bool, true, false, cond, List, Some, None, map, length, refl, sym, ap, subst, append_assoc, arith, []}
 use Rattle.target_base.specs.declared.types.Target.{Target}
 use Rattle.target_base.specs.Registers.{lanes_of}
 use Rattle.meaning.specs.Lanes.{Writes, filled, settled, through}

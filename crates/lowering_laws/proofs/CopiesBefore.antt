@@ -1,5 +1,5 @@
 -- What is written before a counted instruction whose ties are lowered, and what its operands read behind that.
-use Rattle.std.proofs.Common.{◌≡◌, ◌∷◌, ◌++◌, ◌∙◌, ◌&&◌, ◌||◌, ◌+◌, not, ℕ, Bool, true, false, cond, List, Option, Some, None, map, flat_map, length, refl, sym, ap, subst, append-nil, append_assoc, eqb-true, arith, []}
+use Rattle.std.proofs.Common.{◌≡◌, ◌∷◌, ◌++◌, ◌∙◌, ◌&&◌, ◌||◌, not, ℕ, Bool, true, false, cond, List, Option, Some, None, map, flat_map, length, refl, sym, ap, subst, append-nil, append_assoc, eqb-true, arith, []}
 use Rattle.std.specs.Prelude.{filter_map, nat_eq, option_and_then}
 use Rattle.target_base.specs.declared.types.Role.{Role}
 use Rattle.target_base.proofs.Tests.{first_of_both}

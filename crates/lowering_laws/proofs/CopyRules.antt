@@ -22,7 +22,7 @@ use Rattle.lowering_laws.proofs.Rolled.{bare-roles}
 use Rattle.lowering_laws.proofs.Ruled.{InstrRules}
 
 -- the opcode of an effect
-opcode-of : (t : Target) (i : Instr) (e : Effect) → effect_of t i ≡ Some e → (d : OpcodeDesc) × (known_opcode t i.op ≡ Some d) × (d.effect ≡ e)
+pub opcode-of : (t : Target) (i : Instr) (e : Effect) → effect_of t i ≡ Some e → (d : OpcodeDesc) × (known_opcode t i.op ≡ Some d) × (d.effect ≡ e)
 opcode-of t i e h = go (known_opcode t i.op) refl h
   where
     same : (x y : Effect) → Some x ≡ Some y → x ≡ y

@@ -57,7 +57,7 @@ not-true : (b : Bool) → not b ≡ true → b ≡ false
 not-true true e = absurd (cc)
 not-true false e = refl
 
-definition-class : (q : Role) → is_definition_role q ≡ true → (k : ClassId) × (role_class q ≡ Some k) × (asked_class q ≡ Some k)
+pub definition-class : (q : Role) → is_definition_role q ≡ true → (k : ClassId) × (role_class q ≡ Some k) × (asked_class q ≡ Some k)
 definition-class (roles.Def k) e = (k, refl, refl)
 definition-class (roles.Early k) e = (k, refl, refl)
 definition-class q e = absurd (cc)

@@ -61,7 +61,7 @@ ties-none : (r : Option Role) (m : ℕ) → option_and_then tied_number r ≡ No
 ties-none None m e = refl
 ties-none (Some q) m e = λ k. passes (nat_eq m) (e k)
 
-same-number : (ps : List TiedPair) (p q : TiedPair) → Apart (map (λ (x : TiedPair). x.number) ps) → Among p ps → Among q ps → p.number ≡ q.number → p ≡ q
+pub same-number : (ps : List TiedPair) (p q : TiedPair) → Apart (map (λ (x : TiedPair). x.number) ps) → Among p ps → Among q ps → p.number ≡ q.number → p ≡ q
 same-number [] p q a m k e = absurd (member-none p m)
 same-number (x ∷ ps) p q a m k e =
     member-elim p x ps
@@ -70,7 +70,7 @@ same-number (x ∷ ps) p q a m k e =
     m
 
 -- an explicit operand takes its role among explicit ones
-plain-bound : (rs : List Role) (os : List Operand) (r : Option Role) (o : Operand) → implicit_last os ≡ true → is_implicit_operand o ≡ false → Among (r, o) (explicit_bound rs os) → Among (r, o) (explicit_bound rs (explicit_operands os))
+pub plain-bound : (rs : List Role) (os : List Operand) (r : Option Role) (o : Operand) → implicit_last os ≡ true → is_implicit_operand o ≡ false → Among (r, o) (explicit_bound rs os) → Among (r, o) (explicit_bound rs (explicit_operands os))
 plain-bound rs [] r o last e m = absurd (member-none (r, o) m)
 plain-bound rs (x ∷ os) r o last e m = go (is_implicit_operand x) refl (λ qs later k. plain-bound qs os r o later e k)
   where

@@ -1,6 +1,6 @@
 -- A counted instruction does behind lowering of its ties what it did: each tied use has become the register of its
 -- definition, or one that stands in for it, and `undef` operands are none or read no register of the function.
-use Rattle.std.proofs.Common.{◌≡◌, ◌∷◌, ◌++◌, ◌∙◌, ◌&&◌, ◌||◌, ◌+◌, ℕ, Bool, true, false, cond, List, Option, Some, None, map, flat_map, length, refl, sym, ap, subst, append-nil, append_assoc, []}
+use Rattle.std.proofs.Common.{◌≡◌, ◌∷◌, ◌++◌, ◌∙◌, ◌&&◌, ◌||◌, ℕ, Bool, true, false, cond, List, Option, Some, None, map, flat_map, length, refl, sym, ap, subst, append-nil, append_assoc, []}
 use Rattle.std.specs.Prelude.{option_map}
 use Rattle.meaning.specs.Code.{Counted, Item, Silent}
 use Rattle.meaning.specs.Lanes.{Writes, filled, through}

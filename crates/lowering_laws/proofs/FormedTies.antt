@@ -49,7 +49,7 @@ not-true false e = refl
 
 module _ (bs : List Bound) where
   -- each tie is one of a pair
-  each-tie : (c : ℕ) (ps : List TiedPair) (tie : Tie) → Among tie (ties_among bs c ps) → (p : TiedPair) × Among p ps × (x : ℕ) × Kind x p (is_read bs p) tie
+  pub each-tie : (c : ℕ) (ps : List TiedPair) (tie : Tie) → Among tie (ties_among bs c ps) → (p : TiedPair) × Among p ps × (x : ℕ) × Kind x p (is_read bs p) tie
   each-tie c [] tie m = absurd (member-none tie m)
   each-tie c (p ∷ ps) tie m =
       member-elim tie (tie_among bs c p) (ties_among bs (number_behind c (tie_among bs c p)) ps)
@@ -67,14 +67,14 @@ module _ (bs : List Bound) where
 -- operands behind the pass, from the m-th on
 
 module _ (t : Target) (cs : List (Option ClassId)) (ties : List Tie) where
-  abbrev after : ℕ → List Role → List Operand → List Operand
+  abbrev pub after : ℕ → List Role → List Operand → List Operand
   after m rs os = map (retied_operand t cs ties) (numbered m (explicit_bound rs os))
 
-  register-from : (k : ℕ) (q : Option Role) (y : Operand) (o : RegOp) → operands.Reg o ≡ retied_operand t cs ties (k, (q, y)) → (d : RegOp) × (y ≡ operands.Reg d) × (o ≡ retied t cs ties k q d)
+  pub register-from : (k : ℕ) (q : Option Role) (y : Operand) (o : RegOp) → operands.Reg o ≡ retied_operand t cs ties (k, (q, y)) → (d : RegOp) × (y ≡ operands.Reg d) × (o ≡ retied t cs ties k q d)
   register-from k q (operands.Reg d) o e = (d, refl, same-register o (retied t cs ties k q d) e)
   register-from k q y o e = absurd (cc)
 
-  seat-of : (m : ℕ) (rs : List Role) (os : List Operand) (q : Option Role) (x : Operand) → Among (q, x) (explicit_bound rs (after m rs os)) → (k : ℕ) × (y : Operand) × Among (q, y) (explicit_bound rs os) × (x ≡ retied_operand t cs ties (k, (q, y)))
+  pub seat-of : (m : ℕ) (rs : List Role) (os : List Operand) (q : Option Role) (x : Operand) → Among (q, x) (explicit_bound rs (after m rs os)) → (k : ℕ) × (y : Operand) × Among (q, y) (explicit_bound rs os) × (x ≡ retied_operand t cs ties (k, (q, y)))
   seat-of m rs [] q x k = absurd (member-none (q, x) k)
   seat-of m [] (y ∷ os) q x k =
       member-elim (q, x) (None, retied_operand t cs ties (m, (None, y))) (explicit_bound [] (after (suc m) [] os))
@@ -91,7 +91,7 @@ module _ (t : Target) (cs : List (Option ClassId)) (ties : List Tie) where
       (λ j. let z = seat-of (suc m) rest os q x j in (z.0, z.1, there z.2, z.3)) k
 
   -- a register among them
-  registers-of : (m : ℕ) (rs : List Role) (os : List Operand) (o : RegOp) → Among o (registers (after m rs os)) → (k : ℕ) × (q : Option Role) × (d : RegOp) × Among (q, operands.Reg d) (explicit_bound rs os) × (o ≡ retied t cs ties k q d)
+  pub registers-of : (m : ℕ) (rs : List Role) (os : List Operand) (o : RegOp) → Among o (registers (after m rs os)) → (k : ℕ) × (q : Option Role) × (d : RegOp) × Among (q, operands.Reg d) (explicit_bound rs os) × (o ≡ retied t cs ties k q d)
   registers-of m rs os o a =
       let z = told-of as_register o (after m rs os) a in
       let y = map-of (retied_operand t cs ties) z.0 (numbered m (explicit_bound rs os)) z.1 in
@@ -99,7 +99,7 @@ module _ (t : Target) (cs : List (Option ClassId)) (ties : List Tie) where
       (y.0.0, y.0.1.0, w.0, subst (λ (x : Operand). Among (y.0.1.0, x) (explicit_bound rs os)) w.1 (numbered-of m (explicit_bound rs os) y.0 y.1), w.2)
 
   -- the register at a number
-  number-of : (m : ℕ) (rs : List Role) (os : List Operand) (k : ℕ) (o : RegOp) → register_at (after m rs os) k ≡ Some o → (q : Option Role) × (d : RegOp) × (n : ℕ) × (n ≡ m + k) × (register_at os k ≡ Some d) × (o ≡ retied t cs ties n q d)
+  pub number-of : (m : ℕ) (rs : List Role) (os : List Operand) (k : ℕ) (o : RegOp) → register_at (after m rs os) k ≡ Some o → (q : Option Role) × (d : RegOp) × (n : ℕ) × (n ≡ m + k) × (register_at os k ≡ Some d) × (o ≡ retied t cs ties n q d)
   number-of m rs [] k o e = absurd (cc)
   number-of m [] (y ∷ os) zero o e = let z = register-from m None y o (sym (register-of (retied_operand t cs ties (m, (None, y))) o e)) in (None, z.0, m, omega arith, ap as_register z.1, z.2)
   number-of m [] (y ∷ os) (suc k) o e = let z = number-of (suc m) [] os k o e in let same = z.3 in (z.0, z.1, z.2, omega (arith, same), z.4, z.5)
@@ -107,15 +107,15 @@ module _ (t : Target) (cs : List (Option ClassId)) (ties : List Tie) where
   number-of m (s ∷ rs) (y ∷ os) (suc k) o e = let z = number-of (suc m) (cond (takes_many s) (s ∷ rs) rs) os k o e in let same = z.3 in (z.0, z.1, z.2, omega (arith, same), z.4, z.5)
 
   -- implicit operands stay so, and the others too
-  abbrev Stay : List Role → List Operand → Type 0
+  abbrev pub Stay : List Role → List Operand → Type 0
   Stay rs os = (k : ℕ) (q : Option Role) (y : Operand) → Among (q, y) (explicit_bound rs os) → is_implicit_operand (retied_operand t cs ties (k, (q, y))) ≡ is_implicit_operand y
 
-  all-stay : (m : ℕ) (rs : List Role) (os : List Operand) → Stay rs os → list_all is_implicit_operand (after m rs os) ≡ list_all is_implicit_operand os
+  pub all-stay : (m : ℕ) (rs : List Role) (os : List Operand) → Stay rs os → list_all is_implicit_operand (after m rs os) ≡ list_all is_implicit_operand os
   all-stay m rs [] h = refl
   all-stay m [] (y ∷ os) h = λ i. h m None y here i && all-stay (suc m) [] os (λ k q x a. h k q x (there a)) i
   all-stay m (s ∷ rs) (y ∷ os) h = λ i. h m (Some s) y here i && all-stay (suc m) (cond (takes_many s) (s ∷ rs) rs) os (λ k q x a. h k q x (there a)) i
 
-  last-stays : (m : ℕ) (rs : List Role) (os : List Operand) → Stay rs os → implicit_last (after m rs os) ≡ implicit_last os
+  pub last-stays : (m : ℕ) (rs : List Role) (os : List Operand) → Stay rs os → implicit_last (after m rs os) ≡ implicit_last os
   last-stays m rs [] h = refl
   last-stays m [] (y ∷ os) h = λ i. cond (h m None y here i) (all-stay (suc m) [] os (λ k q x a. h k q x (there a)) i) (last-stays (suc m) [] os (λ k q x a. h k q x (there a)) i)
   last-stays m (s ∷ rs) (y ∷ os) h =
@@ -123,7 +123,7 @@ module _ (t : Target) (cs : List (Option ClassId)) (ties : List Tie) where
       λ i. cond (h m (Some s) y here i) (all-stay (suc m) rest os (λ k q x a. h k q x (there a)) i) (last-stays (suc m) rest os (λ k q x a. h k q x (there a)) i)
 
 -- what takes a role among explicit operands takes it among all
-seat-all : (rs : List Role) (os : List Operand) (q : Option Role) (x : Operand) → implicit_last os ≡ true → Among (q, x) (explicit_bound rs (explicit_operands os)) → Among (q, x) (explicit_bound rs os)
+pub seat-all : (rs : List Role) (os : List Operand) (q : Option Role) (x : Operand) → implicit_last os ≡ true → Among (q, x) (explicit_bound rs (explicit_operands os)) → Among (q, x) (explicit_bound rs os)
 seat-all rs [] q x last m = m
 seat-all rs (y ∷ os) q x last m = go (is_implicit_operand y) refl (λ ss later k. seat-all ss os q x later k)
   where
@@ -146,7 +146,7 @@ seat-all rs (y ∷ os) q x last m = go (is_implicit_operand y) refl (λ ss later
 
 -- opcodes with roles
 
-roles-kept : (e : Effect) → has_roles e ≡ true → (is_lowered_away e ≡ false) × (is_copy e ≡ false)
+pub roles-kept : (e : Effect) → has_roles e ≡ true → (is_lowered_away e ≡ false) × (is_copy e ≡ false)
 roles-kept effects.Copy h = absurd (cc)
 roles-kept effects.Phi h = absurd (cc)
 roles-kept effects.ImplicitDef h = absurd (cc)
@@ -206,7 +206,7 @@ module _ (t : Target) (f : Function) (i : Instr) (r : InstrRules t f i) (e : Eff
       go true d true u false w = absurd (let x : true ≡ false = (λ k. sym d k && not (sym w k)) ∙ plain in cc)
 
   -- what a tie has its use read is a use
-  kind-reading : (x : ℕ) (p : TiedPair) (read : Bool) (tie : Tie) → Kind x p read tie → (tie.reading ≡ None) ⊎ ((v : RegOp) × (tie.reading ≡ Some v) × (v.def ≡ false) × (v.implicit ≡ false))
+  pub kind-reading : (x : ℕ) (p : TiedPair) (read : Bool) (tie : Tie) → Kind x p read tie → (tie.reading ≡ None) ⊎ ((v : RegOp) × (tie.reading ≡ Some v) × (v.def ≡ false) × (v.implicit ≡ false))
   kind-reading x p read tie (fixed g q) = inl (ap (λ (z : Tie). z.reading) q)
   kind-reading x p read tie (blank g u q) = inr (undef_use_of p.definition, ap (λ (z : Tie). z.reading) q, refl, refl)
   kind-reading x p read tie (own g u l w q) = inr (use_of p.definition, ap (λ (z : Tie). z.reading) q, refl, refl)
@@ -275,11 +275,11 @@ module _ (t : Target) (f : Function) (i : Instr) (r : InstrRules t f i) (e : Eff
   abbrev new : Instr
   new = with_operands t cs T i
 
-  stay-implicit : (k : ℕ) (q : Option Role) (y : Operand) → Among (q, y) bs → is_implicit_operand (retied_operand t cs T (k, (q, y))) ≡ is_implicit_operand y
+  pub stay-implicit : (k : ℕ) (q : Option Role) (y : Operand) → Among (q, y) bs → is_implicit_operand (retied_operand t cs T (k, (q, y))) ≡ is_implicit_operand y
   stay-implicit k q (operands.Reg o) m = (becomes k q o m).implicit
   stay-implicit k q y m = refl
 
-  last : implicit_last new.operands ≡ true
+  pub last : implicit_last new.operands ≡ true
   last = last-stays t cs T 0 rs os stay-implicit ∙ (fit-operands t f i e known rolled r.one).0
 
   -- ties

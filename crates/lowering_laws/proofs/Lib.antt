@@ -59,3 +59,13 @@ pub mod TieBlocks
 pub mod TieClasses
 pub mod TieNames
 pub mod Names
+pub mod EachBehind
+pub mod CopyShapes
+pub mod Turns
+pub mod TiedOperands
+pub mod Seats
+pub mod TiedWidths
+pub mod SharedLanes
+pub mod TiedDefinitions
+pub mod ShapesBehind
+pub mod LoweredRules

@@ -1,5 +1,5 @@
 -- An instruction with other uses in the places of its own, each as wide, does the same with what these read.
-use Rattle.std.proofs.Common.{◌≡◌, ◌∷◌, ◌++◌, ◌∙◌, ◌&&◌, ◌||◌, ◌+◌, append_assoc, arith, length-append, not, ℕ, zero, suc, Bool, true, false, cond, List, Option, Some, None, map, filter, flat_map, length, refl, sym, ap, subst, []}
+use Rattle.std.proofs.Common.{◌≡◌, ◌∷◌, ◌++◌, ◌∙◌, ◌&&◌, ◌||◌, append_assoc, arith, length-append, not, ℕ, zero, suc, Bool, true, false, cond, List, Option, Some, None, map, filter, flat_map, length, refl, sym, ap, subst, []}
 use Rattle.std.specs.Prelude.{filter_map, pos, sum}
 use Rattle.std.specs.List.{cons_option, list_any}
 use Rattle.target_base.specs.declared.types.Effect.{Effect}

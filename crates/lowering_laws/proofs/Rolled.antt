@@ -36,11 +36,11 @@ use Rattle.live_laws.proofs.Touch.Roles.{fit-role, has_roles, known-shape, met, 
 use Rattle.lowering_laws.proofs.Seated.{bound-role, last-fits, none-explicit, pair-is, register-of, role-tied, told-of}
 
 -- the role of that number is a definition's, and so are those before it
-data Leads : ℕ → List Role → Role → Type 0 where
+pub data Leads : ℕ → List Role → Role → Type 0 where
   first : {r : Role} {rs : List Role} → is_definition_role r ≡ true → Leads 0 (r ∷ rs) r
   later : {n : ℕ} {q r : Role} {rs : List Role} → is_definition_role q ≡ true → Leads n rs r → Leads (suc n) (q ∷ rs) r
 
-leads-definition : {n : ℕ} {rs : List Role} {r : Role} → Leads n rs r → is_definition_role r ≡ true
+pub leads-definition : {n : ℕ} {rs : List Role} {r : Role} → Leads n rs r → is_definition_role r ≡ true
 leads-definition (first g) = g
 leads-definition (later g l) = leads-definition l
 
@@ -48,7 +48,7 @@ leads-there : {n : ℕ} {rs : List Role} {r : Role} → Leads n rs r → Among r
 leads-there (first g) = here
 leads-there (later g l) = there (leads-there l)
 
-leads-at : {n : ℕ} {rs : List Role} {r : Role} → Leads n rs r → slice_get rs n ≡ Some r
+pub leads-at : {n : ℕ} {rs : List Role} {r : Role} → Leads n rs r → slice_get rs n ≡ Some r
 leads-at (first g) = refl
 leads-at (later g l) = leads-at l
 
@@ -101,7 +101,7 @@ defined-first k (roles.Def c ∷ rs) e = (roles.Def c, first refl)
 defined-first k (roles.Early c ∷ rs) e = (roles.Early c, first refl)
 defined-first k rs e = absurd (cc)
 
-at-number : (t : Target) (k : ClassId) (q : Option Role) → defines_within t.classes k q ≡ true → (r : Role) × (q ≡ Some r) × (is_definition_role r ≡ true)
+pub at-number : (t : Target) (k : ClassId) (q : Option Role) → defines_within t.classes k q ≡ true → (r : Role) × (q ≡ Some r) × (is_definition_role r ≡ true)
 at-number t k (Some (roles.Def c)) e = (roles.Def c, refl, refl)
 at-number t k (Some (roles.Early c)) e = (roles.Early c, refl, refl)
 at-number t k q e = absurd (cc)
@@ -199,7 +199,7 @@ explicit-tied (r ∷ rs) = go (is_implicit r) refl (explicit-tied rs)
     go true e ih = λ k. sym (implicit-untied r e) k ++ ih k
     go false e ih = ap (λ ns. tied_to r ++ ns) ih
 
-tied-role : (q : Role) (n : ℕ) → tied_number q ≡ Some n → (k : ClassId) × (q ≡ roles.Tied k n)
+pub tied-role : (q : Role) (n : ℕ) → tied_number q ≡ Some n → (k : ClassId) × (q ≡ roles.Tied k n)
 tied-role (roles.Tied k m) n e = (k, ap (roles.Tied k) (same m n e))
   where
     same : (a b : ℕ) → Some a ≡ Some b → a ≡ b
@@ -252,12 +252,12 @@ pairs-apart os (r ∷ rs) (o ∷ qs) a = go (tied_pair os (Some r, o)) refl (pai
 
 -- the operand of a definition's role
 
-definition-explicit : (r : Role) → is_definition_role r ≡ true → (is_implicit r ≡ false) × (takes_many r ≡ false)
+pub definition-explicit : (r : Role) → is_definition_role r ≡ true → (is_implicit r ≡ false) × (takes_many r ≡ false)
 definition-explicit (roles.Def k) e = (refl, refl)
 definition-explicit (roles.Early k) e = (refl, refl)
 definition-explicit r e = absurd (cc)
 
-definition-fits : (t : Target) (e : Effect) (r : Role) (d : RegOp) → is_definition_role r ≡ true → fits_at t e r (operands.Reg d) ≡ true → is_definition d ≡ true
+pub definition-fits : (t : Target) (e : Effect) (r : Role) (d : RegOp) → is_definition_role r ≡ true → fits_at t e r (operands.Reg d) ≡ true → is_definition d ≡ true
 definition-fits t e (roles.Def k) d g h = either (is_definition d) (is_opaque e) h
   where
     either : (a b : Bool) → (a || (b && false)) ≡ true → a ≡ true
@@ -314,7 +314,7 @@ definition-at t e (later {q = q} {r = r} {rs = rs} g l) (x ∷ os) last fits d a
     (ih.0, subst (λ qs. Among (Some r, operands.Reg d) (explicit_bound qs (explicit_operands (x ∷ os)))) (sym (front-role q rs g)) (subst (λ qs. Among (Some r, operands.Reg d) (explicit_bound (q ∷ explicit_roles rs) qs)) (sym front) own))
 
 module _ (t : Target) (f : Function) (i : Instr) (e : Effect) (known : effect_of t i ≡ Some e) (h : has_roles e ≡ true) (one : V1 t f i ≡ true) where
-  fit-roles : roles_fit t.units t.regs t.classes e (roles_of t i) ≡ true
+  pub fit-roles : roles_fit t.units t.regs t.classes e (roles_of t i) ≡ true
   fit-roles =
       let w = met t f i e known one in
       subst (λ rs. roles_fit t.units t.regs t.classes e rs ≡ true) (ap (λ q. elim q as (λ q. List Role) [ None ↦ [] | Some d ↦ d.roles ]) (sym w.1)) (roles-sound t f i e known one h)
@@ -338,7 +338,7 @@ module _ (t : Target) (f : Function) (i : Instr) (e : Effect) (known : effect_of
     pub is : is_definition p.definition ≡ true
     pub takes : Among (Some role, operands.Reg p.definition) (explicit_bound (explicit_roles (roles_of t i)) (explicit_operands i.operands))
 
-  pair-leads : (p : TiedPair) → Among p (filter_map (tied_pair i.operands) (seated t i)) → ((r : Role) × Leads p.number (roles_of t i) r) × (register_at i.operands p.number ≡ Some p.definition)
+  pub pair-leads : (p : TiedPair) → Among p (filter_map (tied_pair i.operands) (seated t i)) → ((r : Role) × Leads p.number (roles_of t i) r) × (register_at i.operands p.number ≡ Some p.definition)
   pair-leads p m =
       let y = told-of (tied_pair i.operands) p (seated t i) m in
       let x = pair-is i.operands y.0.0 y.0.1 p y.2 in
@@ -490,7 +490,7 @@ terminator-roles t e rs h g r m = absurd (cc)
 
 -- an explicit definition takes a definition's role
 
-defined-role : (t : Target) (e : Effect) (r : Role) (d : RegOp) → is_definition d ≡ true → fits_at t e r (operands.Reg d) ≡ true → is_definition_role r ≡ true
+pub defined-role : (t : Target) (e : Effect) (r : Role) (d : RegOp) → is_definition d ≡ true → fits_at t e r (operands.Reg d) ≡ true → is_definition_role r ≡ true
 defined-role t e r d g h = by r h
   where
     unused : is_use d ≡ false

@@ -44,7 +44,7 @@ map-same : {X Y : Type 0} (p q : X → Y) (xs : List X) → ((x : X) → Among x
 map-same p q [] h = refl
 map-same p q (x ∷ xs) h = λ k. h x here k ∷ map-same p q xs (λ y m. h y (there m)) k
 
-all-more : {X : Type 0} (p q : X → Bool) (xs : List X) → ((x : X) → p x ≡ true → q x ≡ true) → list_all p xs ≡ true → list_all q xs ≡ true
+pub all-more : {X : Type 0} (p q : X → Bool) (xs : List X) → ((x : X) → p x ≡ true → q x ≡ true) → list_all p xs ≡ true → list_all q xs ≡ true
 all-more p q [] h e = refl
 all-more p q (x ∷ xs) h e = λ k. h x (first_of_both (p x) (list_all p xs) e) k && all-more p q xs h (second_of_both (p x) (list_all p xs) e) k
 
@@ -62,16 +62,16 @@ module _ (t : Target) (f g : Function) (stay : (v : ℕ) → is_some (class_of f
   class-stays (Virtual v) h = ap is_some (stay v h) ∙ h
   class-stays (Fixed r) h = refl
 
-  has-lanes : (l : Loc) (x : Option IndexId) → has_class f l ≡ true → has_lanes_at t g l x ≡ has_lanes_at t f l x
+  pub has-lanes : (l : Loc) (x : Option IndexId) → has_class f l ≡ true → has_lanes_at t g l x ≡ has_lanes_at t f l x
   has-lanes (Virtual v) x h = ap (passes (λ c. fits t c x)) (stay v h)
   has-lanes (Fixed r) x h = refl
 
-  lanes : (l : Loc) (x : Option IndexId) → has_class f l ≡ true → located_lanes t g l x ≡ located_lanes t f l x
+  pub lanes : (l : Loc) (x : Option IndexId) → has_class f l ≡ true → located_lanes t g l x ≡ located_lanes t f l x
   lanes (Virtual v) None h = ap (λ q. map (VirtualLane v) (numbers 0 (length (widths_of_some t q)))) (stay v h)
   lanes (Virtual v) (Some x) h = refl
   lanes (Fixed r) x h = refl
 
-  widths : (l : Loc) (x : Option IndexId) → has_class f l ≡ true → located_widths t g l x ≡ located_widths t f l x
+  pub widths : (l : Loc) (x : Option IndexId) → has_class f l ≡ true → located_widths t g l x ≡ located_widths t f l x
   widths (Virtual v) None h = ap (widths_of_some t) (stay v h)
   widths (Virtual v) (Some x) h = ap (λ q. map (slice_index (widths_of_some t q)) (lanes_of t x)) (stay v h)
   widths (Fixed r) x h = refl
@@ -80,17 +80,17 @@ module _ (t : Target) (f g : Function) (stay : (v : ℕ) → is_some (class_of f
   index-stays (Virtual v) x h = ap (λ q. elim q as (λ q. Bool) [ None ↦ true | Some c ↦ fits t c x ]) (stay v h)
   index-stays (Fixed r) x h = refl
 
-  lies-within : (k : ClassId) (l : Loc) (x : Option IndexId) → has_class f l ≡ true → register_lies_in t g k l x ≡ register_lies_in t f k l x
+  pub lies-within : (k : ClassId) (l : Loc) (x : Option IndexId) → has_class f l ≡ true → register_lies_in t g k l x ≡ register_lies_in t f k l x
   lies-within k (Virtual v) x h = ap (passes (λ c. lies_in t k c x)) (stay v h)
   lies-within k (Fixed r) x h = refl
 
-  wide : (a b : RegOp) → has_class f a.loc ≡ true → has_class f b.loc ≡ true → same_widths t g a b ≡ same_widths t f a b
+  pub wide : (a b : RegOp) → has_class f a.loc ≡ true → has_class f b.loc ≡ true → same_widths t g a b ≡ same_widths t f a b
   wide a b ha hb = λ k. not (has-lanes a.loc a.index ha k && has-lanes b.loc b.index hb k) || same_numbers (widths a.loc a.index ha k) (widths b.loc b.index hb k)
 
-  clashing : (o : RegOp) → has_class f o.loc ≡ true → clashing_lanes t g o ≡ clashing_lanes t f o
+  pub clashing : (o : RegOp) → has_class f o.loc ≡ true → clashing_lanes t g o ≡ clashing_lanes t f o
   clashing o h = λ k. cond (has-lanes o.loc o.index h k) (unreserved t (lanes o.loc o.index h k)) []
 
-  defines : (opaque : Bool) (d : RegOp) → has_class f d.loc ≡ true → defined_lanes t g opaque d ≡ defined_lanes t f opaque d
+  pub defines : (opaque : Bool) (d : RegOp) → has_class f d.loc ≡ true → defined_lanes t g opaque d ≡ defined_lanes t f opaque d
   defines true d h = λ k. cond (has-lanes d.loc d.index h k) (lanes d.loc d.index h k) []
   defines false d h = clashing d h
 
@@ -119,7 +119,7 @@ module _ (t : Target) (f g : Function) (stay : (v : ℕ) → is_some (class_of f
   fit d os effects.Reload h = absurd (cc)
   fit d os e h = refl
 
-  in-class : (e : Effect) (x : Bound) → ((o : RegOp) → x.1 ≡ operands.Reg o → has_class f o.loc ≡ true) → in_operand_class t g e x ≡ in_operand_class t f e x
+  pub in-class : (e : Effect) (x : Bound) → ((o : RegOp) → x.1 ≡ operands.Reg o → has_class f o.loc ≡ true) → in_operand_class t g e x ≡ in_operand_class t f e x
   in-class e (r, operands.Reg o) h =
       let c : has_class f o.loc ≡ true = h o refl in
       λ k. not (has-lanes o.loc o.index c k) || is_taken_reserved t e r o.loc || all-same (λ q. register_lies_in t g q o.loc o.index) (λ q. register_lies_in t f q o.loc o.index) (option_to_list (option_and_then asked_class r)) (λ q m. lies-within q o.loc o.index c) k

@@ -150,7 +150,7 @@ module _ (t : Target) (f : Function) (classes : AreClasses t f) where
 
 -- the widths of the first unreserved register of a class
 
-find-in : {A : Type 0} (p : A → Bool) (xs : List A) (x : A) → find p xs ≡ Some x → Among x xs
+pub find-in : {A : Type 0} (p : A → Bool) (xs : List A) (x : A) → find p xs ≡ Some x → Among x xs
 find-in p [] x e = absurd (cc)
 find-in {A} p (y ∷ xs) x e = go (p y) e (find-in p xs x)
   where

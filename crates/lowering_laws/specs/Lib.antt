@@ -1,3 +1,4 @@
 pub mod Blocks
 pub mod Form
 pub mod Laws
+pub mod Shapes

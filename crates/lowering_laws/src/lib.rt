@@ -1,11 +1,13 @@
 //! Laws of lowering: a function that was lowered does what it did, and is in lowered form.
 //!
 //! Each is the contract of a function, so that a check proves it. Begin with `lowered_law`, which is of
-//! both passes; `phis_law` and `tied_law` are of each.
+//! both passes; `phis_law` and `tied_law` are of each. `splittable_law` has what splits of ranges ask of the
+//! function to start from.
 #![tactic(auto)]
 
 ghost use Rattle.lowering_laws.specs.Blocks.{LoweredClasses, LoweredKeepBlockRules, LoweredNames, LoweredOpcodes, PhisKeepBlockRules};
 ghost use Rattle.lowering_laws.specs.Laws.{IdsAreDistinct, LoweredForm, LoweredPhisRefine, LoweredRefine, LoweredTiedRefine, NoneLoweredAway, PhisAreGone};
+ghost use Rattle.lowering_laws.specs.Shapes.{LoweredDefinitions, LoweredIsSplittable, LoweredKeepsRules, LoweredOperands, LoweredShapes, LoweredWidths};
 
 /// A valid source without its phis does what it did.
 pub fn phis_law()
@@ -66,4 +68,34 @@ pub fn opcodes_law()
 /// Each register that its instructions name has a class, and its index fits it.
 pub fn names_law()
     ensures { LoweredNames }
+{}
+
+/// Rule 1: its operands fit the roles of its opcode in number, kind and value.
+pub fn operands_law()
+    ensures { LoweredOperands }
+{}
+
+/// Rule 2: its registers lie in the classes that roles ask for, and what is copied has equal widths.
+pub fn widths_law()
+    ensures { LoweredWidths }
+{}
+
+/// Rule 12: its definitions are apart from each other and, where they are early, from uses.
+pub fn definitions_law()
+    ensures { LoweredDefinitions }
+{}
+
+/// So each of its instructions meets the rules on operands, widths, classes, indexes and definitions.
+pub fn shaped_law()
+    ensures { LoweredShapes }
+{}
+
+/// And it keeps the rules on which liveness rests.
+pub fn kept_law()
+    ensures { LoweredKeepsRules }
+{}
+
+/// A valid source with a block is, behind both passes, in the form in which ranges are split.
+pub fn splittable_law()
+    ensures { LoweredIsSplittable }
 {}
