@@ -41,10 +41,10 @@ LoweredShapes =
 abbrev pub LoweredKeepsRules : Type 0
 LoweredKeepsRules = (t : Target) (f : Function) → IsValid t forms.Source f → AreClasses t f → KeepsRules t (lowered t f)
 
--- A function in the form in which ranges are split, as `IsLowered` of split_laws asks it: ids are distinct; the rules on which
--- liveness rests are kept; each opcode is known, and none is PHI, REG_SEQUENCE or INSERT_SUBREG; blocks end in their
--- terminators and lead to their successors.
-pub record IsSplittable (t : Target) (f : Function) : Type 0 where
+-- A function in the form in which ranges are split: ids are distinct; operands, indexes and block numbers meet the rules on
+-- which liveness rests; each opcode is known, and none is PHI, REG_SEQUENCE or INSERT_SUBREG; blocks end in their terminators
+-- and lead to their successors.
+pub record IsLowered (t : Target) (f : Function) : Type 0 where
   pub function : IsFunction f.blocks f.next_id
   pub rules : KeepsRules t f
   pub lowered : (b : Block) (i : Instr) → Member b f.blocks → Member i b.instrs → does (λ e. not (is_lowered_away e)) t i ≡ true
@@ -53,4 +53,4 @@ pub record IsSplittable (t : Target) (f : Function) : Type 0 where
 
 -- a valid source is in it behind both passes, where it has a block
 abbrev pub LoweredIsSplittable : Type 0
-LoweredIsSplittable = (t : Target) (f : Function) → IsValid t forms.Source f → AreClasses t f → 0 < length f.blocks → IsSplittable t (lowered t f)
+LoweredIsSplittable = (t : Target) (f : Function) → IsValid t forms.Source f → AreClasses t f → 0 < length f.blocks → IsLowered t (lowered t f)

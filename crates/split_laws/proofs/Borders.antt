@@ -26,9 +26,9 @@ use Rattle.instr_effects.proofs.Members.{flat-in, map-in, member-elim, member-no
 use Rattle.live_laws.proofs.Effects.Blocks.{numbers-apart}
 use Rattle.live_laws.proofs.Effects.Lists.{all-of, any-in}
 use Rattle.live_laws.proofs.Effects.Moved.{Apart}
+use Rattle.lowering_laws.specs.Shapes.{IsLowered}
 use Rattle.split_kit.specs.Split.{RangeLive, last_point}
 use Rattle.split_choose.specs.Offers.{Border, In, OneBundle, Out, Shows, View, back, block_of, border_clear, borders, edge, end_point, is_clear, is_in, itself, live_at, onward}
-use Rattle.split_laws.specs.Laws.{IsLowered}
 use Rattle.split_laws.proofs.Laid.{found-at}
 use Rattle.split_laws.proofs.Marked.{differ}
 use Rattle.split_laws.proofs.Points.{EndsWith, code-at, end-of, rest-at}

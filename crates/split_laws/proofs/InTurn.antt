@@ -5,7 +5,11 @@ use Rattle.mir_func.specs.Value.{Function}
 use Rattle.mir_meaning.specs.Codes.{meaning_of, refines}
 use Rattle.laws.proofs.Refines.{refines_refl, refines_trans}
 use Rattle.live_lanes.specs.declared.ask.labels.Mark.{Mark}
-use Rattle.split_laws.specs.Laws.{IsLowered, SplitInTurn, SplitsRefine}
+use Rattle.two_address.specs.Lowered.{lowered}
+use Rattle.lowering_laws.specs.Shapes.{IsLowered}
+use Rattle.lowering_laws.proofs.Both.{lowered_refine}
+use Rattle.lowering_laws.proofs.LoweredRules.{lowered_is_splittable}
+use Rattle.split_laws.specs.Laws.{LoweredSplitsRefine, SplitInTurn, SplitsRefine}
 use Rattle.split_laws.proofs.Kept.{split_keeps_lowered}
 use Rattle.split_laws.proofs.Splitting.{split_refines}
 
@@ -17,3 +21,7 @@ in-turn t g (s ∷ splits) f low z =
 
 pub splits_refine : SplitsRefine
 splits_refine t f g splits low z = in-turn t g splits f low z
+
+pub lowered_splits_refine : LoweredSplitsRefine
+lowered_splits_refine t f g splits valid classes some z =
+    refines_trans (meaning_of t f) (meaning_of t (lowered t f)) (meaning_of t g) (lowered_refine t f valid classes) (splits_refine t (lowered t f) g splits (lowered_is_splittable t f valid classes some) z).0

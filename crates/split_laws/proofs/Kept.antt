@@ -18,8 +18,9 @@ use Rattle.mir_meaning.specs.Rules.{V1, V5, V7, V8, V9, block_numbers, phi_stand
 use Rattle.live_lanes.specs.declared.ask.labels.Mark.{Mark}
 use Rattle.live_laws.specs.Effects.Shaped.{IsShaped}
 use Rattle.live_laws.proofs.Effects.Blocks.{slice-member}
+use Rattle.lowering_laws.specs.Shapes.{IsLowered}
 use Rattle.split_kit.specs.Split.{RangeLive, as_part, block_split, blocks_split, greatest_label, part, split_by, start_label, whole}
-use Rattle.split_laws.specs.Laws.{IsLowered, LabelsAgree, SplitKeepsLowered}
+use Rattle.split_laws.specs.Laws.{LabelsAgree, SplitKeepsLowered}
 use Rattle.split_laws.proofs.Suits.{Suits}
 use Rattle.split_laws.proofs.Ends.{Stay, copy-effect, meet-stay}
 use Rattle.split_laws.proofs.Parts.{class-part}

@@ -27,8 +27,8 @@ use Rattle.live_laws.proofs.Effects.Blocks.{block_code, items-past, numbers-apar
 use Rattle.live_laws.proofs.Effects.Lists.{all-of}
 use Rattle.live_laws.proofs.Effects.Moved.{Apart}
 use Rattle.live_laws.proofs.Effects.Moving.{some-same}
+use Rattle.lowering_laws.specs.Shapes.{IsLowered}
 use Rattle.split_laws.proofs.Branches.{branch-ends, counted-roles, no-terminators, target-branches, target-named}
-use Rattle.split_laws.specs.Laws.{IsLowered}
 
 -- a list by what stands before one of it
 

@@ -20,9 +20,10 @@ use Rattle.live_laws.proofs.Effects.Blocks.{block-numbered, member-slice, named-
 use Rattle.live_laws.proofs.Effects.Lists.{any-in}
 use Rattle.live_laws.proofs.Effects.Moved.{Apart}
 use Rattle.live_laws.proofs.Effects.Moving.{some-same}
+use Rattle.lowering_laws.specs.Shapes.{IsLowered}
 use Rattle.split_kit.specs.Split.{RangeLive, is_gap, label_behind, last_label, marks_at, same_number, start_label}
 use Rattle.split_choose.specs.Offers.{In, Out, Shows, Touched, View, at_gap, at_start, blocks_between, borders, clear_along, end_place, ends_of, first_id, gap_behind, is_dividable, last_id, live_at, run_ends, run_marks, runs, runs_of, runs_up_to, terminators, touched_places, touching}
-use Rattle.split_laws.specs.Laws.{AllMeet, IsLowered, LabelsAgree, Meets, next_gap}
+use Rattle.split_laws.specs.Laws.{AllMeet, LabelsAgree, Meets, next_gap}
 use Rattle.split_laws.specs.Offers.{LocalLabelsAgree}
 use Rattle.split_laws.proofs.Borders.{between, enters, own-numbers}
 use Rattle.split_laws.proofs.Points.{block-ids-apart, gap-at}

@@ -16,10 +16,11 @@ use Rattle.instr_effects.proofs.Members.{map-in, member-elim, member-none}
 use Rattle.live_laws.proofs.Effects.Blocks.{block-numbered, member-slice, named-there, slice-member}
 use Rattle.live_laws.proofs.Effects.Moved.{Apart}
 use Rattle.live_laws.proofs.Effects.Moving.{some-same}
+use Rattle.lowering_laws.specs.Shapes.{IsLowered}
 use Rattle.split_kit.specs.Split.{RangeLive, start_label}
 use Rattle.split_choose.specs.Offers.{Head, In, Inside, Nowhere, Out, Shows, Tail, View, Whole, at_gap, at_start, block_marks, borders, first_id, inside, inside_marks, is_clear, is_dividable, is_in, least, live_at, region_marks, regions, some_marks, touching}
 use Rattle.split_choose.specs.Cuts.{Bundle, Choice, IsChoice, change_at, choice_marks, choice_of, from_first_gap, in_end, in_inside, in_start, label_of}
-use Rattle.split_laws.specs.Laws.{IsLowered, LabelsAgree, Meets}
+use Rattle.split_laws.specs.Laws.{LabelsAgree, Meets}
 use Rattle.split_laws.specs.Offers.{BlockLabelsAgree, CutLabelsAgree, RegionLabelsAgree}
 use Rattle.split_laws.proofs.Borders.{enters, enters-point, in-end-clear, in-same, in-start-clear, joined, leaves, leaves-point, own-numbers}
 use Rattle.split_laws.proofs.Marked.{Owns, Parted, agrees, end_label, own-behind, own-first, owns-each, starts-with, taken, three, three-block}

@@ -38,8 +38,9 @@ use Rattle.mir_meaning.proofs.Points.{both, points_are_code}
 use Rattle.mir_meaning.proofs.Renaming.{law_of_renaming}
 use Rattle.instr_effects.proofs.Members.{map-of, member-none}
 use Rattle.live_lanes.specs.declared.ask.labels.Mark.{Mark}
+use Rattle.lowering_laws.specs.Shapes.{IsLowered}
 use Rattle.split_kit.specs.Split.{RangeLive, as_part, block_split, blocks_split, changed, greatest_label, instrs_split, label_behind, last_point, number_behind, part, split_by, start_label, whole}
-use Rattle.split_laws.specs.Laws.{AllMeet, IsLowered, LabelsAgree, Meets, SplitRefines}
+use Rattle.split_laws.specs.Laws.{AllMeet, LabelsAgree, Meets, SplitRefines}
 use Rattle.split_laws.proofs.Suits.{Suits}
 use Rattle.split_laws.proofs.Named.{named}
 use Rattle.split_laws.proofs.Laid.{points-laid}

@@ -1,5 +1,5 @@
 -- Splitting keeps the meaning.
-use Rattle.std.specs.Prelude.{◌≡◌, ◌<◌, ◌↔◌, ◌+◌, not, ℕ, true, false, List, [], ◌∷◌, ◌++◌, length, replicate, Option, Some, None, slice_get}
+use Rattle.std.specs.Prelude.{◌≡◌, ◌<◌, ◌↔◌, ◌+◌, ℕ, true, false, List, [], ◌∷◌, ◌++◌, length, replicate, Option, Some, None}
 use Rattle.target_base.specs.declared.types.Target.{Target}
 use Rattle.meaning.specs.declared.types.Lane.{Lane}
 use Rattle.meaning.specs.declared.types.Lane.TheVariants.{VirtualLane, UnitLane, SlotLane}
@@ -7,26 +7,18 @@ use Rattle.meaning.specs.Live.{Among as Member}
 use Rattle.mir_func.specs.declared.func.Edge.{Edge}
 use Rattle.mir_func.specs.declared.func.Instr.{Instr}
 use Rattle.mir_func.specs.declared.func.Block.{Block}
-use Rattle.mir_func.specs.Value.{Function, IsFunction}
+use Rattle.mir_func.specs.Value.{Function}
 use Rattle.mir_func.specs.Binding.{class_of, does, is_lowered_away, is_terminator}
+use Rattle.mir_meaning.specs.declared.Form.TheVariants as forms
 use Rattle.mir_meaning.specs.Codes.{refines}
 use Rattle.mir_meaning.specs.Points.{Point, Start, Entry, Exit, LiveAt, OccupiedAt}
 use Rattle.mir_meaning.specs.Renaming.{renamed_instr}
-use Rattle.mir_meaning.specs.Rules.{V8, V9}
+use Rattle.mir_meaning.specs.Valid.{IsValid}
 use Rattle.live_lanes.specs.declared.ask.labels.Mark.{Mark}
-use Rattle.live_laws.specs.Effects.Coded.{KeepsRules}
-use Rattle.live_laws.specs.Effects.Shaped.{IsShaped}
+use Rattle.live_laws.specs.Effects.Shaped.{AreClasses, IsShaped}
+use Rattle.two_address.specs.Lowered.{lowered}
+use Rattle.lowering_laws.specs.Shapes.{IsLowered}
 use Rattle.split_kit.specs.Split.{RangeLive, Split, as_part, label_behind, start_label, greatest_label, part}
-
--- A function in the form in which ranges are split: ids are distinct; operands, indexes and block numbers meet the rules on
--- which liveness rests; each opcode is known, and none is PHI, REG_SEQUENCE or INSERT_SUBREG; blocks end in their terminators
--- and lead to their successors.
-pub record IsLowered (t : Target) (f : Function) : Type 0 where
-  pub function : IsFunction f.blocks f.next_id
-  pub rules : KeepsRules t f
-  pub lowered : (b : Block) (i : Instr) → Member b f.blocks → Member i b.instrs → does (λ e. not (is_lowered_away e)) t i ≡ true
-  pub terminators : (b : Block) (j : ℕ) (i : Instr) → Member b f.blocks → slice_get b.instrs j ≡ Some i → V8 t b j i ≡ true
-  pub successors : (k : ℕ) (b : Block) → slice_get f.blocks k ≡ Some b → V9 t f k b ≡ true
 
 -- where some lane of the range is live at the start of one of these successors, the label there is this one
 abbrev pub Meets : Target → Function → ℕ → List Mark → List Edge → ℕ → Type 0
@@ -72,6 +64,13 @@ SplitInTurn t f (s ∷ splits) g = (h : Function) × LabelsAgree t f s.0 s.1 × 
 -- after any number of splits the function does what it did
 abbrev pub SplitsRefine : Type 0
 SplitsRefine = (t : Target) (f g : Function) (splits : List (ℕ × List Mark)) → IsLowered t f → SplitInTurn t f splits g → refines t f g × IsLowered t g
+
+-- A valid source, lowered and then with any number of splits, does what it did. Its classes are the target's, and it has a
+-- block.
+abbrev pub LoweredSplitsRefine : Type 0
+LoweredSplitsRefine =
+    (t : Target) (f g : Function) (splits : List (ℕ × List Mark)) → IsValid t forms.Source f → AreClasses t f → 0 < length f.blocks
+    → SplitInTurn t (lowered t f) splits g → refines t f g
 
 -- a point of the function, whose instructions have ids below the next
 abbrev pub IsPointOf : Function → Point → Type 0

@@ -4,10 +4,11 @@ use Rattle.target_base.specs.declared.types.Reg.{Reg}
 use Rattle.target_base.specs.declared.types.Target.{Target}
 use Rattle.mir_func.specs.Value.{Function}
 use Rattle.live_lanes.specs.declared.ask.labels.Mark.{Mark}
+use Rattle.lowering_laws.specs.Shapes.{IsLowered}
 use Rattle.split_choose.specs.declared.cuts.Region.{Region as CutRegion}
 use Rattle.split_choose.specs.Offers.{Local, PerBlock, Region, Shows, View}
 use Rattle.split_choose.specs.Cuts.{IsCutOffer}
-use Rattle.split_laws.specs.Laws.{IsLowered, LabelsAgree}
+use Rattle.split_laws.specs.Laws.{LabelsAgree}
 
 -- a block split
 abbrev pub BlockLabelsAgree : Type 0

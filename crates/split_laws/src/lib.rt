@@ -1,11 +1,12 @@
 //! Laws of splits: a function in which a range became several, with copies between them, does what it
 //! did.
 //!
-//! Each is the contract of a function, so that a check proves it. Begin with the functions here: the
-//! law of one split, of many, and of the labels that each kind of offered split gives.
+//! Each is the contract of a function, so that a check proves it. Begin with `split_law`, which is of one
+//! split; `splits_law` is of many, and `lowered_splits_law` of many behind lowering. `block_law` and the
+//! three behind it are of the labels that each kind of offered split gives.
 #![tactic(auto)]
 
-ghost use Rattle.split_laws.specs.Laws.{PartsKeepShape, SplitKeepsLowered, SplitKeepsOthers, SplitRefines, SplitSharesRange, SplitsRefine};
+ghost use Rattle.split_laws.specs.Laws.{LoweredSplitsRefine, PartsKeepShape, SplitKeepsLowered, SplitKeepsOthers, SplitRefines, SplitSharesRange, SplitsRefine};
 ghost use Rattle.split_laws.specs.Offers.{BlockLabelsAgree, CutLabelsAgree, LocalLabelsAgree, RegionLabelsAgree};
 
 /// A function with a range split does what it did, where labels agree on the ways between blocks.
@@ -21,6 +22,11 @@ pub fn kept_law()
 /// After any number of splits, one after the other, a function does what it did.
 pub fn splits_law()
     ensures { SplitsRefine }
+{}
+
+/// A valid source, lowered and then with any number of splits, does what it did.
+pub fn lowered_splits_law()
+    ensures { LoweredSplitsRefine }
 {}
 
 /// Other ranges, units and slots are live and occupied where they were.
