@@ -1,0 +1,133 @@
+-- Rows of which one cell changes.
+use Rattle.std.proofs.Common.{◌≡◌, ◌<◌, ◌≤◌, ℕ, Bool, true, false, cond, ◌&&◌, length, List, [], ◌⊎◌, inl, inr, Option, None, Some, refl, sym, ap, ◌∙◌, subst, arith, eqb-true, eq-eqb, get_or, set, length-set}
+use Rattle.std.specs.Prelude.{nat_eq, slice_get, is_some}
+use Rattle.std.specs.List.{insert}
+use Rattle.std.proofs.lemmas.Option.{slice_get-get_or, slice_get_cases}
+use Rattle.live_lanes.specs.declared.row.Cell.{Cell}
+use Rattle.live_lanes.specs.declared.row.LaneRange.{LaneRange}
+use Rattle.live_lanes.specs.Table.{Seen, seen_in, seen_cell, find_cell, descends, is_before, leading}
+use Rattle.live_lanes.specs.Entered.{rows_seen, cells_of}
+use Rattle.live_lanes.proofs.Cells.{of_block, found-at, found-block, is-found, none-found, there-found, insert-find, set-descends, set-find, change-seen}
+use Rattle.live_lanes.proofs.Rows.{get-set, rows-set, row-of}
+use Rattle.live_edits.specs.Logged.{has_cell}
+use Rattle.live_edits.specs.Changes.{ChangesRow, ChangesCell, AddsCells}
+
+-- whether a row has a cell of a block is told where the search for it ends
+some-cond : (t : Bool) (x : Cell) → t ≡ is_some (cond t (Some x) None)
+some-cond true x = refl
+some-cond false x = refl
+
+pub has-here : (b : ℕ) (cs : List Cell) (at : ℕ) (x : Cell) → descends cs ≡ true → at ≡ leading (is_before b) cs → at < length cs → x ≡ get_or cs at x → nat_eq x.block b ≡ is_some (find_cell b cs)
+has-here b cs at x s e h is =
+    let found : find_cell b cs ≡ of_block b (Some x) = found-at b cs s ∙ (ap (λ k. of_block b (slice_get cs k)) (sym e) ∙ ap (of_block b) (slice_get-get_or cs at x h ∙ ap Some (sym is))) in
+    some-cond (nat_eq x.block b) x ∙ sym (ap is_some found)
+
+-- the cell at a place is another one of its block
+module _ (cs : List Cell) (at : ℕ) (x y : Cell) (s : descends cs ≡ true) (h : at < length cs) (is : x ≡ get_or cs at x) (block : y.block ≡ x.block) where
+  found : slice_get cs at ≡ Some x
+  found = slice_get-get_or cs at x h ∙ ap Some (sym is)
+
+  pub still-descends : descends (set cs at y) ≡ true
+  still-descends = set-descends cs at x y s found block
+
+  same-cells : (q : ℕ) → is_some (find_cell q (set cs at y)) ≡ is_some (find_cell q cs)
+  same-cells q = ap is_some (set-find q cs at x y s found block) ∙ go (nat_eq x.block q) refl
+    where
+      go : (t : Bool) → nat_eq x.block q ≡ t → is_some (cond t (Some y) (find_cell q cs)) ≡ is_some (find_cell q cs)
+      go true e = sym (ap is_some (subst (λ n. find_cell n cs ≡ Some x) (eqb-true x.block q e) (is-found cs at x s found)))
+      go false e = refl
+
+-- where a block has a cell, that is at the place where the search for it ends
+pub block-there : (b : ℕ) (cs : List Cell) (at : ℕ) (x : Cell) → descends cs ≡ true → at ≡ leading (is_before b) cs → is_some (find_cell b cs) ≡ true → x ≡ get_or cs at x → (at < length cs) × (x.block ≡ b)
+block-there b cs at x s e has is =
+    let f = there-found b cs at s e has in
+    (f.0, found-block b cs x (sym f.1 ∙ (slice_get-get_or cs at x f.0 ∙ ap Some (sym is))))
+
+pub row-changes : (b : ℕ) (cs : List Cell) (at : ℕ) (x y : Cell) (change : Seen → Seen) → descends cs ≡ true → at ≡ leading (is_before b) cs → is_some (find_cell b cs) ≡ true → x ≡ get_or cs at x → y.block ≡ x.block → seen_cell y ≡ change (seen_cell x) → ChangesRow cs (set cs at y) b change
+row-changes b cs at x y change s e has is block new =
+    let f = there-found b cs at s e has in
+    record {
+      seen = λ q. change-seen b cs at x y s f.0 f.1 is block change (seen_in cs) (λ p. refl) new q ∙ own q (nat_eq b q) refl;
+      cells = same-cells cs at x y s f.0 is block;
+    }
+  where
+    own : (q : ℕ) (t : Bool) → nat_eq b q ≡ t → cond t (change (seen_in cs b)) (seen_in cs q) ≡ cond t (change (seen_in cs q)) (seen_in cs q)
+    own q true g = ap (λ n. change (seen_in cs n)) (eqb-true b q g)
+    own q false g = refl
+
+pub not-past : (b : ℕ) (cs : List Cell) (at : ℕ) → descends cs ≡ true → at ≡ leading (is_before b) cs → length cs ≤ at → is_some (find_cell b cs) ≡ true → ⊥
+not-past b cs at s e h has = let f = (there-found b cs at s e has).0 in omega arith
+
+-- no cell goes where one is put
+pub put-kept : (b : ℕ) (cs : List Cell) (at : ℕ) (x : Cell) → descends cs ≡ true → at ≡ leading (is_before b) cs → is_some (find_cell b cs) ≡ false → x.block ≡ b → (ys : List Cell) → ys ≡ insert cs at x → (q : ℕ) → is_some (find_cell q cs) ≡ true → is_some (find_cell q ys) ≡ true
+put-kept b cs at x s e none block ys f q h =
+    ap (λ zs. is_some (find_cell q zs)) f ∙ (ap (λ n. is_some (find_cell q (insert cs n x))) e ∙ (ap is_some (insert-find b q cs x block (none-found b cs none)) ∙ go (nat_eq b q)))
+  where
+    go : (t : Bool) → is_some (cond t (Some x) (find_cell q cs)) ≡ true
+    go true = refl
+    go false = h
+
+-- the cells of one of the rows
+abbrev pub row_cells : Option LaneRange → List Cell
+row_cells o = elim o [ None ↦ [] | Some r ↦ r.cells.items ]
+
+module _ (rows : List LaneRange) (lane : ℕ) (x : LaneRange) (h : lane < length rows) (is : x ≡ get_or rows lane x) where
+  pub cells-of : cells_of rows lane ≡ x.cells.items
+  cells-of = ap row_cells (slice_get-get_or rows lane x h ∙ ap Some (sym is))
+
+  module _ (y : LaneRange) where
+    set-has : (l b : ℕ) → has_cell (set rows lane y) l b ≡ cond (nat_eq lane l) (is_some (find_cell b y.cells.items)) (has_cell rows l b)
+    set-has l b = ap (λ o. is_some (find_cell b (row_cells o))) (get-set rows lane l y h) ∙ go (nat_eq lane l)
+      where
+        go : (t : Bool) → is_some (find_cell b (row_cells (cond t (Some y) (slice_get rows l)))) ≡ cond t (is_some (find_cell b y.cells.items)) (has_cell rows l b)
+        go true = refl
+        go false = refl
+
+    pub cell-changes : (block : ℕ) (change : Seen → Seen) → (is_some (find_cell block x.cells.items) ≡ true → ChangesRow x.cells.items y.cells.items block change) → has_cell rows lane block ≡ true → ChangesCell rows (set rows lane y) lane block change
+    cell-changes block change f has = record {
+      seen = λ l b. rows-set rows lane l b y h ∙ told l b (nat_eq lane l) refl;
+      cells = λ l b. set-has l b ∙ kept l b (nat_eq lane l) refl;
+      lanes = length-set rows lane y;
+    }
+      where
+        r : ChangesRow x.cells.items y.cells.items block change
+        r = f (ap (λ cs. is_some (find_cell block cs)) (sym cells-of) ∙ has)
+
+        told : (l b : ℕ) (t : Bool) → nat_eq lane l ≡ t → cond t (seen_in y.cells.items b) (rows_seen rows l b) ≡ cond (t && nat_eq block b) (change (rows_seen rows l b)) (rows_seen rows l b)
+        told l b true e = r.seen b ∙ ap (λ v. cond (nat_eq block b) (change v) v) (row-of rows lane b x h is ∙ ap (λ k. rows_seen rows k b) (eqb-true lane l e))
+        told l b false e = refl
+
+        kept : (l b : ℕ) (t : Bool) → nat_eq lane l ≡ t → cond t (is_some (find_cell b y.cells.items)) (has_cell rows l b) ≡ has_cell rows l b
+        kept l b true e = r.cells b ∙ (ap (λ cs. is_some (find_cell b cs)) (sym cells-of) ∙ ap (λ k. has_cell rows k b) (eqb-true lane l e))
+        kept l b false e = refl
+
+    -- cells are made in a row
+    pub cells-added : ((b : ℕ) → seen_in y.cells.items b ≡ seen_in x.cells.items b) → ((b : ℕ) → is_some (find_cell b x.cells.items) ≡ true → is_some (find_cell b y.cells.items) ≡ true) → AddsCells rows (set rows lane y)
+    cells-added same kept = record {
+      seen = λ l b. rows-set rows lane l b y h ∙ told l b (nat_eq lane l) refl;
+      cells = λ l b has. set-has l b ∙ still l b (nat_eq lane l) refl has;
+      lanes = length-set rows lane y;
+    }
+      where
+        told : (l b : ℕ) (t : Bool) → nat_eq lane l ≡ t → cond t (seen_in y.cells.items b) (rows_seen rows l b) ≡ rows_seen rows l b
+        told l b true e = same b ∙ (row-of rows lane b x h is ∙ ap (λ k. rows_seen rows k b) (eqb-true lane l e))
+        told l b false e = refl
+
+        still : (l b : ℕ) (t : Bool) → nat_eq lane l ≡ t → has_cell rows l b ≡ true → cond t (is_some (find_cell b y.cells.items)) (has_cell rows l b) ≡ true
+        still l b true e has = kept b (ap (λ cs. is_some (find_cell b cs)) (sym cells-of) ∙ (ap (λ k. has_cell rows k b) (eqb-true lane l e) ∙ has))
+        still l b false e has = has
+
+    pub has-made : (block at : ℕ) → at < length y.cells.items → slice_get y.cells.items at ≡ find_cell block y.cells.items → has_cell (set rows lane y) lane block ≡ true
+    has-made block at within there = set-has lane block ∙ (ap (λ t. cond t (is_some (find_cell block y.cells.items)) (has_cell rows lane block)) (eq-eqb lane lane refl) ∙ (ap is_some (sym there) ∙ go (slice_get_cases y.cells.items at).1))
+      where
+        go : ((z : Cell) × (at < length y.cells.items) × (slice_get y.cells.items at ≡ Some z) × (get_or y.cells.items at z ≡ z)) ⊎ ((length y.cells.items ≤ at) × (slice_get y.cells.items at ≡ None)) → is_some (slice_get y.cells.items at) ≡ true
+        go (inl z) = ap is_some z.2
+        go (inr z) = absurd (let w = z.0 in omega arith)
+
+-- past the rows there are no cells
+pub no-lane : (rows : List LaneRange) (lane block : ℕ) → length rows ≤ lane → has_cell rows lane block ≡ true → ⊥
+no-lane rows lane block h has = go (slice_get_cases rows lane).1
+  where
+    go : ((x : LaneRange) × (lane < length rows) × (slice_get rows lane ≡ Some x) × (get_or rows lane x ≡ x)) ⊎ ((length rows ≤ lane) × (slice_get rows lane ≡ None)) → ⊥
+    go (inl z) = let w = z.1 in omega arith
+    go (inr z) = let e : false ≡ true = ap (λ o. is_some (find_cell block (row_cells o))) (sym z.1) ∙ has in cc

@@ -1,0 +1,323 @@
+-- A run of edits leads from a computed table to that of the edited function.
+use Rattle.std.proofs.Common.{◌≡◌, ◌∷◌, ◌∙◌, ◌<◌, ℕ, true, length, List, [], Some, None, refl, sym, ap, subst}
+use Rattle.target_base.specs.declared.types.Target.{Target}
+use Rattle.mir_func.specs.Value.{Function, IsFunction}
+use Rattle.mir_meaning.specs.Paths.{Among, here, there, Code, Step, IsMatched, Unused, Into, has, steps_of}
+use Rattle.instr_effects.specs.declared.lanes.LaneTable.{LaneTable}
+use Rattle.instr_effects.specs.Numbered.{number_in, NumbersAll}
+use Rattle.instr_effects.specs.Steps.{Numbering}
+use Rattle.live_lanes.specs.declared.row.LaneRange.{LaneRange}
+use Rattle.live_lanes.specs.declared.table.Table.{Table}
+use Rattle.live_lanes.specs.Doing.{lane_code, IsComputed}
+use Rattle.live_lanes.specs.Entered.{causes, rows_seen, IsTableOf}
+use Rattle.live_lanes.specs.Laws.{AllMatched}
+use Rattle.live_lanes.specs.Table.{Numbers}
+use Rattle.live_lanes.proofs.Few.{few-points}
+use Rattle.live_lanes.proofs.Growth.{piece-law}
+use Rattle.live_lanes.proofs.Homes.{ids-below}
+use Rattle.live_laws.proofs.Exact.Inside.{all}
+use Rattle.edit_laws.specs.CarriedRows.{AreCopied}
+use Rattle.edit_laws.specs.Chains.{Node}
+use Rattle.edit_laws.specs.Deferred.{all_deferred, all_deleted, all_gone, nothing, standing_code, TouchesEdits}
+use Rattle.edit_laws.specs.EditedTable.{HasOrder, AreRowsEdited, AreStages}
+use Rattle.edit_laws.specs.Edits.{Edit, edited, all_edited}
+use Rattle.edit_laws.specs.Ordering.{IsOrdered}
+use Rattle.edit_laws.specs.Reasons.{Touched, IsEditOf}
+use Rattle.edit_laws.specs.Rebuilt.{IsRebuilt, AreRebuilt, AreTaken}
+use Rattle.edit_laws.proofs.CarriedRows.{carried-rows-law}
+use Rattle.edit_laws.proofs.Deferred.{all-deferred-law}
+use Rattle.edit_laws.proofs.EditedTable.{edited-table-law, flow-law, standing-order-law}
+use Rattle.edit_laws.proofs.ErasedLast.{deferred-single, erased-last-law}
+use Rattle.edit_laws.proofs.Further.{further-lanes-law}
+use Rattle.edit_laws.proofs.Left.{AreLeft, none_left, one_left, one_goes}
+use Rattle.edit_laws.proofs.Numbered.{numbers-edit-law}
+use Rattle.edit_laws.proofs.Rebuilt.{rebuilt-rows-law}
+use Rattle.edit_laws.proofs.Rechecked.{listed-law}
+use Rattle.edit_laws.proofs.Standing.{is-left}
+use Rattle.live_edits.specs.declared.cells.CellNotes.{CellNotes}
+use Rattle.live_edits.specs.declared.edit_run.EditRun.{EditRun}
+use Rattle.live_edits.specs.declared.log.LoggedRows.{LoggedRows}
+use Rattle.live_edits.specs.Drafts.{IsOrderOf}
+use Rattle.live_edits.specs.EditedRuns.{HaveRows, BringsUp, IsEditedRun, EditedRunLaw}
+use Rattle.live_edits.specs.Noted.{HasNotes, touched_at}
+use Rattle.live_edits.specs.Pieces.{nodes_of}
+use Rattle.live_edits.specs.Remade.{RemakesAll}
+use Rattle.live_edits.specs.Runs.{table_of, NumbersSlots, AreSuspects, entry_side, exit_side, MayBeEdited}
+use Rattle.live_edits.specs.Updated.{Updates, IsCarriedOver, AreUpdated}
+use Rattle.live_edits.proofs.DraftWays.{HasWays, ordered as in-order}
+use Rattle.live_edits.proofs.EditedGone.{deleted-same, gone-same, is-function-still}
+use Rattle.live_edits.proofs.EditedNotes.{includes, told-ids, all-notes-of, listed-by, suspects-there}
+use Rattle.live_edits.proofs.EditedWays.{all-deferred-ways, all-erased-ways}
+
+-- numbers of the edited function's lanes
+
+numbers-all : (t : Target) (tab : LaneTable) (es : List Edit) (f : Function) → NumbersSlots tab es → NumbersAll t f tab → NumbersAll t (all_edited f es) tab
+numbers-all t tab [] f named numbers = numbers
+numbers-all t tab (e ∷ es) f named numbers = numbers-all t tab es (edited f e) (λ x m. named x (there m)) (numbers-edit-law t f e tab numbers (named e here))
+
+-- instructions of the code in which erased ones stand are matched where those of the edited function are
+
+nothing-matched : (id : ℕ) → IsMatched (nothing id).0
+nothing-matched id = record {
+  filled = λ l a e. absurd (let z : Unused ≡ Into a = e in cc);
+  used = λ l a w e g h. absurd (let z : None ≡ Some w = e in cc);
+  once = λ l a c w e g h. absurd (let z : None ≡ Some w = e in cc);
+}
+
+matched-before : {ss rs : List Step} → AreLeft ss rs → ((s : Step) → Among s rs → IsMatched s) → (s : Step) → Among s ss → IsMatched s
+matched-before none_left h s m = elim m [ ]
+matched-before (one_left a) h s here = h s here
+matched-before (one_left a) h s (there m) = matched-before a (λ r k. h r (there k)) s m
+matched-before (one_goes {id = id} a) h s here = nothing-matched id
+matched-before (one_goes a) h s (there m) = matched-before a h s m
+
+module _ (t : Target) (es : List Edit) (old ready done new : EditRun) (may : MayBeEdited t old.draft.func (table_of old) es) (run : IsEditedRun t es old ready done new) where
+  abbrev f : Function
+  f = old.draft.func
+
+  abbrev num : Numbering
+  num = number_in ready.lanes
+
+  abbrev erased : List ℕ
+  erased = all_gone [] es
+
+  abbrev standing : Function
+  standing = all_deferred f es
+
+  abbrev g : Function
+  g = all_edited f es
+
+  abbrev brings : BringsUp t done new
+  brings = run.brings
+
+  abbrev lists : List CellNotes
+  lists = brings.all
+
+  abbrev touched : Touched
+  touched = touched_at done.touched.items
+
+  abbrev slots : Numbers
+  slots = done.draft.order.slots
+
+  abbrev made : List LaneRange
+  made = brings.made
+
+  abbrev list : List Node
+  list = nodes_of brings.suspects
+
+  -- the tables of before, while edits are done, and after
+  abbrev x : Table
+  x = table_of ready
+
+  abbrev u : Table
+  u = record { lanes = ready.lanes; order = done.draft.order; flow = ready.flow; rows = ready.rows.rows }
+
+  abbrev y : Table
+  y = record { lanes = ready.lanes; order = new.draft.order; flow = ready.flow; rows = new.rows.rows }
+
+  abbrev rows : List LaneRange
+  rows = ready.rows.rows.rows.items
+
+  abbrev rows' : List LaneRange
+  rows' = new.rows.rows.rows.items
+
+  computed : IsComputed t f x
+  computed = further-lanes-law t f (table_of old) x may.computed may.rules may.last run.first.numbers run.first.further
+
+  -- the function while edits are done
+
+  func-is : done.draft.func ≡ standing
+  func-is = run.does.func ∙ ap (λ (h : Function). all_deferred h es) run.first.func
+
+  gone-are : (id : ℕ) → has id done.gone.keys ≡ has id erased
+  gone-are id = run.does.gone id ∙ gone-same es ready.gone.keys [] run.first.gone id
+
+  notes : HasNotes t standing num done.gone.keys done.touched.items lists
+  notes =
+      subst (λ (h : Function). HasNotes t h num done.gone.keys done.touched.items lists) func-is
+      (subst (λ (ls : LaneTable). HasNotes t done.draft.func (number_in ls) done.gone.keys done.touched.items lists) run.does.lanes brings.notes)
+
+  touches : TouchesEdits touched t f num es
+  touches =
+      subst (λ (h : Function). TouchesEdits touched t h num es) run.first.func
+      (run.does.touched touched (includes done.touched.items))
+
+  standing-ways : HasWays t standing ready.flow.items
+  standing-ways = all-deferred-ways touched t num ready.flow.items es f touches computed.ways
+
+  standing-order : IsOrderOf standing done.draft.order
+  standing-order = subst (λ (h : Function). IsOrderOf h done.draft.order) func-is run.does.order
+
+  ordered : IsOrdered t standing u
+  ordered = in-order t standing u standing-order standing-ways
+
+  -- the edited function
+
+  g-is : all_deleted standing erased ≡ g
+  g-is = sym (erased-last-law f es may.spare)
+
+  erased-are : (id : ℕ) → has id run.erased ≡ has id erased
+  erased-are id = run.erases id ∙ gone-are id
+
+  new-is : new.draft.func ≡ g
+  new-is = run.goes.func ∙ (ap (λ (h : Function). all_deleted h run.erased) func-is ∙ (deleted-same standing run.erased erased (deferred-single f es may.function) erased-are ∙ g-is))
+
+  new-ways : HasWays t g ready.flow.items
+  new-ways = subst (λ (h : Function). HasWays t h ready.flow.items) g-is (all-erased-ways touched t num ready.flow.items es f touches standing-ways)
+
+  new-order : IsOrderOf g new.draft.order
+  new-order = subst (λ (h : Function). IsOrderOf h new.draft.order) new-is run.goes.order
+
+  after : IsOrdered t g y
+  after = in-order t g y new-order new-ways
+
+  function : IsFunction g.blocks g.next_id
+  function =
+      subst (λ (h : Function). IsFunction h.blocks h.next_id) g-is
+      (is-function-still standing erased (subst (λ (h : Function). IsFunction h.blocks h.next_id) func-is run.does.function))
+
+  short : g.next_id < 4294967296
+  short = subst (λ (h : Function). h.next_id < 4294967296) new-is run.short
+
+  few : length g.blocks < 4294967296
+  few = subst (λ n. n < 4294967296) (sym computed.ways.blocks ∙ new-ways.blocks) may.blocks
+
+  stages : AreStages t f es x u y
+  stages = record {
+    ordered = ordered;
+    small = run.small;
+    ways = refl;
+    after = after;
+    same_ways = refl;
+    same_numbers = λ id o. run.goes.numbers id (erased-are id ∙ o);
+    function = function;
+    short = short;
+    few = few;
+    lanes = numbers-all t ready.lanes es f run.first.named run.first.numbers;
+    kept_lanes = λ o n e. e;
+  }
+
+  -- the rows
+
+  abbrev before : Code
+  before = lane_code t f num
+
+  abbrev mid : Code
+  mid = standing_code t f num es
+
+  before-matched : AllMatched before
+  before-matched = all t f x computed may.rules may.last
+
+  tabled : IsTableOf before ready.draft.order.slots ready.flow.items rows
+  tabled = computed.table before-matched
+
+  edit : IsEditOf touched before mid
+  edit = all-deferred-law touched t f num es touches
+
+  order : HasOrder mid slots ready.flow.items
+  order = standing-order-law t f num es u may.function ordered run.small
+
+  have-rows : HaveRows rows lists
+  have-rows = subst (λ (r : LoggedRows). HaveRows r.rows.rows.items lists) run.does.rows brings.there
+
+  remade : RemakesAll slots rows made lists
+  remade = subst (λ (r : LoggedRows). RemakesAll slots r.rows.rows.items made lists) run.does.rows brings.remade
+
+  made-lanes : length made ≡ length rows
+  made-lanes = brings.made_lanes ∙ ap (λ (r : LoggedRows). length r.rows.rows.items) run.does.rows
+
+  made-few : length made < 4294967296
+  made-few = subst (λ n. n < 4294967296) (sym made-lanes) tabled.few
+
+  made-rows : HaveRows made lists
+  made-rows c m = subst (λ n. c.lane < n) (sym made-lanes) (have-rows c m)
+
+  cells : (l b : ℕ) → IsRebuilt before mid l b (rows_seen rows l b) (rows_seen made l b)
+  cells =
+      remade touched before mid ready.draft.order.slots ready.flow.items tabled edit order.numbered
+      (all-notes-of t standing num done.gone.keys done.touched.items lists notes erased gone-are rows have-rows)
+
+  updates : Updates brings.told slots ready.flow.items made rows' brings.suspects
+  updates = subst (λ w. Updates brings.told slots w.items made rows' brings.suspects) run.does.flow brings.updated
+
+  module _ (m : AllMatched (lane_code t g num)) where
+    matched : (b : ℕ) (s : Step) → Among s (steps_of mid b) → IsMatched s
+    matched b = matched-before ((is-left t f num es may.function may.spare).steps b) (m b)
+
+    taken : AreTaken mid slots ready.flow.items rows made
+    taken =
+        let rebuilt : AreRebuilt before mid slots ready.flow.items rows made = record { last = edit.last; numbered = order.numbered; ways = flow-law touched before mid ready.flow.items edit tabled.ways; matched = matched; few = made-few; cells = cells } in
+        rebuilt-rows-law before mid ready.draft.order.slots slots ready.flow.items ready.flow.items rows made tabled rebuilt
+
+    copied : AreCopied touched before mid rows made
+    copied = carried-rows-law touched before mid ready.draft.order.slots slots ready.flow.items ready.flow.items rows made tabled taken.table taken.copies
+
+    suspects : AreSuspects slots made lists list
+    suspects = brings.suspected (piece-law mid slots ready.flow.items made taken.table)
+
+    listed : (l b id : ℕ) → touched l b id ≡ true → Among (entry_side slots made l b id) list × Among (exit_side slots made l b id) list
+    listed = listed-by t standing num done.gone.keys done.touched.items lists notes slots made list suspects
+
+    over : IsCarriedOver touched before mid (causes rows) slots ready.flow.items made list
+    over = record {
+      grown = computed.grown before-matched;
+      table = taken.table;
+      outward = order.outward;
+      edited = edit;
+      carried = copied.carried;
+      listed = listed-law touched mid slots ready.flow.items made list taken.table listed;
+      there = suspects-there t standing num done.gone.keys done.touched.items lists notes slots made list suspects made-rows;
+    }
+
+    updated : AreUpdated touched mid slots ready.flow.items made rows' list
+    updated = updates touched before mid (causes rows) (told-ids t standing num done.gone.keys done.touched.items lists notes brings.told brings.telling) over
+
+    rows-edited : AreRowsEdited touched before mid slots ready.flow.items rows made rows'
+    rows-edited = record {
+      cells = cells;
+      few = made-few;
+      kept_shapes = updated.shapes_stay;
+      lanes = brings.lanes;
+      list = list;
+      listed = listed;
+      between = updated.between;
+      fallen = updated.fallen;
+      falls = updated.falls;
+      queue = updated.queue;
+      asks = updated.asks;
+      risen = updated.risen;
+      rises = updated.rises;
+      again = updated.again;
+      with_list = updated.with_list;
+      with_needs = updated.with_needs;
+      ended = updated.ended;
+      kept = updated.kept;
+    }
+
+    done-then : IsComputed t g y
+    done-then = edited-table-law touched t f es x u y made computed may.rules may.last may.function may.spare touches stages rows-edited
+
+  -- what a table says of pieces is asked for where instructions are matched alone
+  computed-then : IsComputed t g y
+  computed-then = record {
+    numbers = stages.lanes;
+    positions = after.positions;
+    homes = after.homes;
+    ways = after.ways;
+    layout = after.layout;
+    numbered = after.numbered;
+    short = ids-below g.blocks g.next_id 4294967296 function short;
+    few = few-points g.blocks g.next_id function short few;
+    table = λ m. (done-then m).table m;
+    grown = λ m. (done-then m).grown m;
+    ended = λ m. (done-then m).ended m;
+  }
+
+  y-is : y ≡ table_of new
+  y-is = λ k. record { lanes = sym (run.lanes ∙ run.does.lanes) k; order = new.draft.order; flow = sym (run.flow ∙ run.does.flow) k; rows = new.rows.rows }
+
+  computed-new : IsComputed t g (table_of new)
+  computed-new = subst (IsComputed t g) y-is computed-then
+
+pub edited-run-law : EditedRunLaw
+edited-run-law t es old ready done new may run = (new-is t es old ready done new may run, computed-new t es old ready done new may run)

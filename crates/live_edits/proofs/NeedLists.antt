@@ -1,0 +1,125 @@
+-- Lists of what leads to a piece: how they grow, and that they hold exactly that.
+use Rattle.std.proofs.Common.{◌≡◌, ◌⊎◌, inl, inr, ◌<◌, ◌+◌, ℕ, zero, suc, Bool, true, false, cond, ◌&&◌, nat_eq, length, List, [], ◌∷◌, ◌++◌, map, take, get_or, append_assoc, Option, None, Some, refl, sym, ap, ◌∙◌, subst, eqb-true, eq-eqb}
+use Rattle.std.specs.List.{list_any, flat_map}
+use Rattle.std.proofs.lemmas.List.{map_push, map_more, take_more, flat_map_more}
+use Rattle.mir_meaning.specs.Paths.{Among, here, there, is_some_number}
+use Rattle.live_lanes.specs.declared.compute.flow.BlockFlow.{BlockFlow}
+use Rattle.live_lanes.specs.declared.row.Cause.TheVariants as causes
+use Rattle.live_lanes.specs.declared.row.LaneRange.{LaneRange}
+use Rattle.live_lanes.specs.declared.row.LaneUse.{LaneUse}
+use Rattle.live_lanes.specs.declared.table.PieceSpot.{PieceSpot}
+use Rattle.live_lanes.specs.Ways.{predecessors, terminators}
+use Rattle.live_lanes.specs.Table.{Numbers, entry_rank, exit_rank, readings_in, moved_in}
+use Rattle.live_lanes.specs.Entered.{reading, rows_seen}
+use Rattle.live_lanes.specs.Growth.{piece_in_rows}
+use Rattle.live_lanes.proofs.Basics.{none-among}
+use Rattle.live_lanes.proofs.Numbered.{among-cases}
+use Rattle.edit_laws.specs.Chains.{Node}
+use Rattle.edit_laws.specs.Needs.{IsNeed, need_end, need_exit, need_move}
+use Rattle.edit_laws.specs.Update.{Request}
+use Rattle.live_edits.specs.declared.pieces.Need.{Need}
+use Rattle.live_edits.specs.Leading.{end_need, exit_need, exit_needs, needs_before, is_move, move_need, move_needs, needs_of}
+use Rattle.live_edits.specs.Pieces.{request_of, requests_of}
+use Rattle.live_edits.specs.Updated.{AreNeedsOf}
+use Rattle.live_edits.proofs.AskMembers.{among-flat, flat-among, among-map, map-among, any-among, among-any}
+
+-- the piece at an exit, as it is looked up
+pub exit-is : (slots : Numbers) (rows : List LaneRange) (l x b id at : ℕ) (s : PieceSpot) → s.lane ≡ l → s.block ≡ b → s.index ≡ piece_in_rows slots rows l b at → at ≡ exit_rank slots id → request_of (record { spot = s; cause = causes.Follower x }) ≡ exit_need slots rows l x b id
+exit-is slots rows l x b id at s e f g h = let n : s.index ≡ piece_in_rows slots rows l b (exit_rank slots id) = g ∙ ap (piece_in_rows slots rows l b) h in λ i. record { node = (e i, f i, n i); cause = causes.Follower x }
+
+-- the exit of one terminator more
+pub exits-more : (slots : Numbers) (rows : List LaneRange) (l x b : ℕ) (ids : List ℕ) (k : ℕ) (from mid to : List Need) (n : Need) → k < length ids → requests_of mid ≡ requests_of from ++ exit_needs slots rows l x b (take k ids) → to ≡ mid ++ n ∷ [] → request_of n ≡ exit_need slots rows l x b (get_or ids k 0) → requests_of to ≡ requests_of from ++ exit_needs slots rows l x b (take (k + 1) ids)
+exits-more slots rows l x b ids k from mid to n h e t r =
+    ap requests_of t ∙ (map_push request_of mid n ∙ (ap (λ q. q ++ request_of n ∷ []) e ∙ (append_assoc (requests_of from) (exit_needs slots rows l x b (take k ids)) (request_of n ∷ []) ∙ ap (λ q. requests_of from ++ q) more)))
+  where
+    more : exit_needs slots rows l x b (take k ids) ++ request_of n ∷ [] ≡ exit_needs slots rows l x b (take (k + 1) ids)
+    more =
+        ap (λ q. end_need rows l x b ∷ (map (exit_need slots rows l x b) (take k ids) ++ q ∷ [])) r
+        ∙ ap (λ q. end_need rows l x b ∷ q) (sym (map_more (exit_need slots rows l x b) ids k 0 h))
+
+-- the exits of one block more
+pub before-more : (f : ℕ → List Request) (from mid to : List Request) (bs : List ℕ) (k : ℕ) → k < length bs → mid ≡ from ++ flat_map f (take k bs) → to ≡ mid ++ f (get_or bs k 0) → to ≡ from ++ flat_map f (take (k + 1) bs)
+before-more f from mid to bs k h e t =
+    t ∙ (ap (λ q. q ++ f (get_or bs k 0)) e ∙ (flat_map_more f from (take k bs) (get_or bs k 0) ∙ ap (λ q. from ++ flat_map f q) (sym (take_more bs k 0 h))))
+
+-- the readings that move a lane
+
+both : (a b : Bool) → (a && b) ≡ true → (a ≡ true) × (b ≡ true)
+both true b e = (refl, e)
+both false b e = absurd (cc)
+
+is-lane : (l : ℕ) (o : Option ℕ) → is_some_number l o ≡ true → o ≡ Some l
+is-lane l None e = absurd (cc)
+is-lane l (Some x) e = ap Some (eqb-true x l e)
+
+pub move-is : (id l : ℕ) (r : LaneUse) → is_move id l r ≡ true → r ≡ reading id (Some l)
+move-is id l r e =
+    let z = both (nat_eq r.id id) (is_some_number l r.into) e in
+    let p : r.id ≡ id = eqb-true r.id id z.0 in
+    let q : r.into ≡ Some l = is-lane l r.into z.1 in
+    λ i. record { id = p i; into = q i }
+
+move-passes : (id l : ℕ) → is_move id l (reading id (Some l)) ≡ true
+move-passes id l = ap (λ b. b && nat_eq l l) (eq-eqb id id refl) ∙ eq-eqb l l refl
+
+module _ (slots : Numbers) (flow : List BlockFlow) (rows : List LaneRange) where
+  -- what is listed leads to the piece
+
+  exit-in : (l x b : ℕ) (r : Request) → Among b (predecessors flow x) → Among r (exit_needs slots rows l x b (terminators flow b)) → IsNeed slots flow rows (l, x, 0) r
+  exit-in l x b r a m = go (among-cases r (end_need rows l x b) (map (exit_need slots rows l x b) (terminators flow b)) m)
+    where
+      go : (r ≡ end_need rows l x b) ⊎ Among r (map (exit_need slots rows l x b) (terminators flow b)) → IsNeed slots flow rows (l, x, 0) r
+      go (inl e) = subst (IsNeed slots flow rows (l, x, 0)) (sym e) (need_end a)
+      go (inr c) = let z = among-map (exit_need slots rows l x b) r (terminators flow b) c in subst (IsNeed slots flow rows (l, x, 0)) (sym z.2) (need_exit a z.1)
+
+  move-in : (l b n : ℕ) (o : Option (ℕ × ℕ)) (r : Request) → moved_in (rows_seen rows l b) n ≡ o → Among r (move_needs slots rows l b o) → IsNeed slots flow rows (l, b, n) r
+  move-in l b n None r e m = absurd (none-among r m)
+  move-in l b n (Some q) r e m = go (list_any (is_move q.0 l) readings) refl m
+    where
+      readings : List LaneUse
+      readings = readings_in (rows_seen rows q.1 b) (piece_in_rows slots rows q.1 b (entry_rank slots q.0))
+
+      go : (t : Bool) → list_any (is_move q.0 l) readings ≡ t → Among r (cond t (move_need slots rows b q.0 q.1 ∷ []) []) → IsNeed slots flow rows (l, b, n) r
+      go true f c = here' (among-cases r (move_need slots rows b q.0 q.1) [] c)
+        where
+          here' : (r ≡ move_need slots rows b q.0 q.1) ⊎ Among r [] → IsNeed slots flow rows (l, b, n) r
+          here' (inl g) =
+              let z = any-among (is_move q.0 l) readings f in
+              let there' : Among (reading q.0 (Some l)) readings = subst (λ d. Among d readings) (move-is q.0 l z.0 z.2) z.1 in
+              subst (IsNeed slots flow rows (l, b, n)) (sym g) (need_move e there')
+          here' (inr d) = absurd (none-among r d)
+      go false f c = absurd (none-among r c)
+
+  listed-leads : (l b n : ℕ) (r : Request) → Among r (needs_of slots flow rows l b n) → IsNeed slots flow rows (l, b, n) r
+  listed-leads l b zero r m = let z = among-flat (λ x. exit_needs slots rows l b x (terminators flow x)) r (predecessors flow b) m in exit-in l b z.0 r z.1 z.2
+  listed-leads l b (suc k) r m = move-in l b (suc k) (moved_in (rows_seen rows l b) (suc k)) r refl m
+
+  -- what leads to the piece is listed
+
+  move-listed : (l b n a id : ℕ) → moved_in (rows_seen rows l b) n ≡ Some (id, a) → Among (reading id (Some l)) (readings_in (rows_seen rows a b) (piece_in_rows slots rows a b (entry_rank slots id))) → Among (move_need slots rows b id a) (needs_of slots flow rows l b n)
+  move-listed l b zero a id e m = absurd (cc)
+  move-listed l b (suc k) a id e m =
+      let some : list_any (is_move id l) (readings_in (rows_seen rows a b) (piece_in_rows slots rows a b (entry_rank slots id))) ≡ true = among-any (is_move id l) (reading id (Some l)) (readings_in (rows_seen rows a b) (piece_in_rows slots rows a b (entry_rank slots id))) m (move-passes id l) in
+      let own : Among (move_need slots rows b id a) (move_needs slots rows l b (Some (id, a))) = subst (λ t. Among (move_need slots rows b id a) (cond t (move_need slots rows b id a ∷ []) [])) (sym some) here in
+      subst (λ o. Among (move_need slots rows b id a) (move_needs slots rows l b o)) (sym e) own
+
+  leads-listed : {m : Node} {r : Request} → IsNeed slots flow rows m r → Among r (needs_of slots flow rows m.0 m.1 m.2)
+  leads-listed (need_end {l = l} {b = b} {x = x} a) = flat-among (λ y. exit_needs slots rows l x y (terminators flow y)) (end_need rows l x b) b (predecessors flow x) a here
+  leads-listed (need_exit {l = l} {b = b} {x = x} {id = id} a i) = flat-among (λ y. exit_needs slots rows l x y (terminators flow y)) (exit_need slots rows l x b id) b (predecessors flow x) a (there (map-among (exit_need slots rows l x b) id (terminators flow b) i))
+  leads-listed (need_move {l = l} {b = b} {n = n} {a = a} {id = id} e m) = move-listed l b n a id e m
+
+  pub needs-are : (l b n : ℕ) (needs : List Need) → requests_of needs ≡ needs_of slots flow rows l b n → AreNeedsOf slots flow rows (l, b, n) needs
+  needs-are l b n needs e = record {
+    each = λ r m. listed-leads l b n r (subst (Among r) e m);
+    whole = λ r m. subst (Among r) (sym e) (leads-listed m);
+  }
+
+  -- of a piece that begins with its block
+  pub needs-first : (l b n : ℕ) (from to : List Need) → n ≡ 0 → from ≡ [] → requests_of to ≡ requests_of from ++ needs_before slots flow rows l b → AreNeedsOf slots flow rows (l, b, n) to
+  needs-first l b n from to z none e =
+      needs-are l b n to (e ∙ (ap (λ q. requests_of q ++ needs_before slots flow rows l b) none ∙ ap (needs_of slots flow rows l b) (sym z)))
+
+  -- and of another one
+  pub needs-later : (l b n : ℕ) (from to : List Need) → (n ≡ 0 → ⊥) → from ≡ [] → requests_of to ≡ requests_of from ++ move_needs slots rows l b (moved_in (rows_seen rows l b) n) → AreNeedsOf slots flow rows (l, b, n) to
+  needs-later l b zero from to z none e = absurd (z refl)
+  needs-later l b (suc k) from to z none e = needs-are l b (suc k) to (e ∙ ap (λ q. requests_of q ++ move_needs slots rows l b (moved_in (rows_seen rows l b) (suc k))) none)

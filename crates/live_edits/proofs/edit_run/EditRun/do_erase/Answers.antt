@@ -1,0 +1,48 @@
+use Rattle.std.proofs.Common.{◌∙◌, refl, ap}
+use Rattle.mir_meaning.specs.Paths.{has}
+use Rattle.instr_effects.specs.Numbered.{number_in}
+use Rattle.live_edits.specs.declared.notes.TouchedInstr.{TouchedInstr}
+use Rattle.live_edits.proofs.RunEdits.{touched-kept, tells-last, erase-touches, erase-stands, no-erase}
+use Rattle.live_edits.proofs.RunIds.{has-inserted}
+use Rattle.live_edits.proofs.edit_run.EditRun.do_erase.Goals as goal
+
+pub returns-in_default-clause-done : goal.returns-in_default-clause-done
+returns-in_default-clause-done c = λ order.
+    let t = c.args.target.now in
+    let f = c.args.self.now.draft.func in
+    let o = c.args.self.now.draft.order in
+    record {
+      func = refl;
+      order = order;
+      function = c.find.ensures.function;
+      gone = λ id. ap (has id) c.in_ok-insert.ensures.keys ∙ has-inserted c.args.self.now.gone.keys c.args.id id;
+      touched = λ touched all. no-erase t f o c.args.id c.find.ensures.function order (number_in c.args.self.now.lanes) touched (c.in_default.ensures.place order);
+      kept = λ y m. m;
+      stand = λ stand. stand;
+      lanes = refl;
+      flow = refl;
+      rows = refl;
+    }
+
+pub returns-clause-done : goal.returns-clause-done
+returns-clause-done c = λ order.
+    let found = c.in-Some.ensures.place order in
+    let push = c.in_ok-push.ensures.items in
+    let t = c.args.target.now in
+    let f = c.args.self.now.draft.func in
+    let o = c.args.self.now.draft.order in
+    let xs = c.args.self.now.touched.items in
+    let ys = c.push.new.self.items in
+    let x : TouchedInstr = record { id = c.args.id; block = c.in-Some.at.0; lanes = c.add_lanes.new.lanes } in
+    record {
+      func = refl;
+      order = order;
+      function = c.find.ensures.function;
+      gone = λ id. ap (has id) c.in_ok-insert.ensures.keys ∙ has-inserted c.args.self.now.gone.keys c.args.id id;
+      touched = λ touched all. erase-touches t f o c.args.id c.find.ensures.function order (number_in c.args.self.now.lanes) touched c.in-Some.at.0 c.in-Some.at.1 c.new-lanes.result.items x.lanes.items found c.in_ok-add_lanes.ensures (tells-last xs ys x push touched all);
+      kept = touched-kept xs ys x push;
+      stand = erase-stands t f o c.args.id c.find.ensures.function order xs ys x c.in-Some.at.0 c.in-Some.at.1 push refl refl found;
+      lanes = refl;
+      flow = refl;
+      rows = refl;
+    }

@@ -1,0 +1,13 @@
+pub mod Pieces
+pub mod Leading
+pub mod Logged
+pub mod Updated
+pub mod RemadeSteps
+pub mod Remade
+pub mod Fallen
+pub mod Changes
+pub mod Drafts
+pub mod Noted
+pub mod Runs
+pub mod NotedTable
+pub mod EditedRuns

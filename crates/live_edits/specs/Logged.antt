@@ -1,0 +1,50 @@
+-- What takes changes of rows back.
+use Rattle.std.specs.Prelude.{◌≡◌, ℕ, Bool, true, cond, ◌&&◌, nat_eq, List, [], ◌∷◌, ◌++◌, is_some, length}
+use Rattle.mir_meaning.specs.Paths.{Among}
+use Rattle.live_lanes.specs.declared.row.LaneRange.{LaneRange}
+use Rattle.live_lanes.specs.Table.{Seen, seen_cell, find_cell, with_cause, with_end}
+use Rattle.live_lanes.specs.Entered.{rows_seen, cells_of}
+use Rattle.live_edits.specs.declared.log.Former.{Former}
+use Rattle.live_edits.specs.declared.log.Former.TheVariants as formers
+use Rattle.live_edits.specs.declared.log.LoggedRows.{LoggedRows}
+
+-- each lane in each block
+abbrev pub AllSeen : Type 0
+AllSeen = ℕ → ℕ → Seen
+
+-- one of them as it was before a change
+abbrev pub taken_back : Former → AllSeen → AllSeen
+taken_back (formers.Life spot cause end) seen l b = cond (nat_eq spot.lane l && nat_eq spot.block b) (with_end (with_cause (seen l b) spot.index cause) spot.index end) (seen l b)
+taken_back (formers.Whole lane cell) seen l b = cond (nat_eq lane l && nat_eq cell.block b) (seen_cell cell) (seen l b)
+
+-- before all these changes, of which the last is taken back first
+abbrev pub all_taken_back : List Former → AllSeen → AllSeen
+all_taken_back [] seen = seen
+all_taken_back (e ∷ es) seen = taken_back e (all_taken_back es seen)
+
+-- the lane has a cell of its own in the block
+abbrev pub has_cell : List LaneRange → ℕ → ℕ → Bool
+has_cell rows l b = is_some (find_cell b (cells_of rows l))
+
+abbrev pub cell_there : List LaneRange → Former → Bool
+cell_there rows (formers.Life spot cause end) = has_cell rows spot.lane spot.block
+cell_there rows (formers.Whole lane cell) = has_cell rows lane cell.block
+
+-- each change that is logged concerns a cell that is there
+abbrev pub HasAllCells : List LaneRange → List Former → Type 0
+HasAllCells rows es = (e : Former) → Among e es → cell_there rows e ≡ true
+
+-- what changed is logged, so that it can be taken back; no cell goes
+pub record IsLogged (old new : LoggedRows) : Type 0 where
+  pub added : List Former
+  pub list : new.log.items ≡ old.log.items ++ added
+  pub back : (l b : ℕ) → all_taken_back added (rows_seen new.rows.rows.items) l b ≡ rows_seen old.rows.rows.items l b
+  pub lanes : length new.rows.rows.items ≡ length old.rows.rows.items
+  pub cells : (l b : ℕ) → has_cell old.rows.rows.items l b ≡ true → has_cell new.rows.rows.items l b ≡ true
+  pub there : HasAllCells new.rows.rows.items added
+
+-- rows as they were before all logged changes
+pub record IsTakenBack (old new : LoggedRows) : Type 0 where
+  pub seen : (l b : ℕ) → rows_seen new.rows.rows.items l b ≡ all_taken_back old.log.items (rows_seen old.rows.rows.items) l b
+  pub lanes : length new.rows.rows.items ≡ length old.rows.rows.items
+  pub empty : new.log.items ≡ []

@@ -1,0 +1,159 @@
+//! Live pieces whose causes are gone take a reading that needs no other lane as their cause, or fall;
+//! with them fall the pieces that are live for their sake.
+
+ghost use Rattle.std.specs.Prelude.{◌≡◌, ◌↔◌, true, false, [], ◌∷◌, ◌++◌, nat_eq, IfOk, OnOk};
+ghost use Rattle.live_lanes.specs.Entered.{causes};
+ghost use Rattle.live_lanes.specs.Graph.{is_live};
+ghost use Rattle.live_lanes.specs.Growth.{piece_in_rows};
+ghost use Rattle.live_lanes.specs.Lasting.{AllRise};
+ghost use Rattle.live_lanes.specs.Table.{exit_rank};
+ghost use Rattle.edit_laws.specs.Reasons.{Touched};
+ghost use Rattle.edit_laws.specs.Rechecked.{IsHeld};
+ghost use Rattle.live_edits.specs.Fallen.{spots_of, LosesAll};
+ghost use Rattle.live_edits.specs.Logged.{IsLogged};
+ghost use Rattle.live_edits.specs.Pieces.{node_of, KeepsPieces};
+ghost use Rattle.live_edits.specs.Updated.{AreTold, LooksAgain, LosesCause, ListsFallen, LetsFall, LastsToExit};
+
+use crate::log::LoggedRows;
+use crate::pieces::Need;
+use live_lanes::compute::flow::{BlockFlow, terminators};
+use live_lanes::order::Order;
+use live_lanes::row::{Cause, entry_rank, exit_rank};
+use live_lanes::table::PieceSpot;
+use std::alloc::AllocError;
+use std::collections::BTreeSet;
+
+/// Adds a piece to a list.
+pub(crate) fn add_piece(pieces: &mut Vec<PieceSpot>, spot: PieceSpot) -> Result<(), AllocError>
+    ensures { OnOk result (pieces.new.items ≡ pieces.old.items ++ spot ∷ []) }
+{
+    pieces.push(spot)?;
+    Ok(())
+}
+
+impl LoggedRows {
+    /// Whether a piece isn't live, or its cause holds as before, where the instructions of these ids
+    /// were changed.
+    fn holds(&self, order: &Order, flow: &[BlockFlow], spot: PieceSpot, ids: &BTreeSet<u32>) -> bool
+        ensures held { (touched : Touched) → AreTold touched ids.now.keys → AllRise order.now.slots self.now.rows.rows.items → result ≡ true
+            → IsHeld touched order.now.slots flow.now self.now.rows.rows.items spot.lane spot.block spot.index }
+        ensures live { result ≡ false → is_live (causes self.now.rows.rows.items spot.lane spot.block spot.index) ≡ true }
+    {
+        match self.cause_of(spot) {
+            Cause::None => true,
+            Cause::Phi => false,
+            Cause::Reading(id) => {
+                if ids.contains(&id) {
+                    return false;
+                }
+                let at = entry_rank(&order.slots, id);
+                self.piece_at(order, spot.lane, spot.block, at).index == spot.index
+            }
+            Cause::Follower(_) => self.has_exit(order, flow, spot),
+        }
+    }
+
+    /// Whether paths lead from a piece to the blocks that follow.
+    pub(crate) fn has_exit(&self, order: &Order, flow: &[BlockFlow], spot: PieceSpot) -> bool
+        ensures { AllRise order.now.slots self.now.rows.rows.items → (result ≡ true) ↔ LastsToExit order.now.slots flow.now self.now.rows.rows.items (node_of spot) }
+    {
+        if self.last_piece(spot.lane, spot.block).index == spot.index {
+            return true;
+        }
+        let ids = terminators(flow, spot.block);
+        ids.iter().any(|id| self.has_exit_of(order, spot, *id))
+    }
+
+    /// Whether the exit of an instruction of its block lies in a piece.
+    fn has_exit_of(&self, order: &Order, spot: PieceSpot, id: u32) -> bool
+        ensures { AllRise order.now.slots self.now.rows.rows.items
+            → result ≡ nat_eq (piece_in_rows order.now.slots self.now.rows.rows.items spot.lane spot.block (exit_rank order.now.slots id)) spot.index }
+    {
+        let at = exit_rank(&order.slots, id);
+        self.piece_at(order, spot.lane, spot.block, at).index == spot.index
+    }
+
+    /// Looks at the causes of pieces again, where the instructions of these ids were changed, and
+    /// answers the pieces that fell.
+    pub fn look_again(
+        &mut self,
+        order: &Order,
+        flow: &[BlockFlow],
+        suspects: &[PieceSpot],
+        ids: &BTreeSet<u32>,
+    ) -> Result<Vec<PieceSpot>, AllocError>
+        ensures looks { IfOk result (λ fallen. LooksAgain ids.now.keys order.now.slots flow.now self.old.rows.rows.items self.new.rows.rows.items suspects.now fallen.items) }
+        ensures pieces { KeepsPieces self.old.rows.rows.items self.new.rows.rows.items }
+        ensures logged { IsLogged self.old self.new }
+    {
+        let mut fallen = Vec::new(self.rows.alloc);
+        'suspects: for spot in suspects {
+            if !self.holds(order, flow, *spot, ids) {
+                self.lose_cause(*spot, &mut fallen)?;
+            }
+        }
+        Ok(fallen)
+    }
+
+    /// Lets all fall that is live for the sake of fallen pieces, and adds it to them. The pieces that
+    /// led to them are added to those around.
+    pub fn fall(
+        &mut self,
+        order: &Order,
+        flow: &[BlockFlow],
+        fallen: &mut Vec<PieceSpot>,
+        around: &mut Vec<PieceSpot>,
+    ) -> Result<(), AllocError>
+        ensures falls { OnOk result (LetsFall order.now.slots flow.now self.old.rows.rows.items self.new.rows.rows.items fallen.old.items fallen.new.items around.old.items around.new.items) }
+        ensures pieces { KeepsPieces self.old.rows.rows.items self.new.rows.rows.items }
+        ensures logged { IsLogged self.old self.new }
+    {
+        let mut needs = Vec::new(self.rows.alloc);
+        'fallen: for k in 0..usize::MAX {
+            if k >= fallen.len() {
+                break;
+            }
+            let piece = fallen[k];
+            self.find_needs(order, flow, piece, &mut needs)?;
+            self.lose_all(needs.as_slice(), fallen, around)?;
+        }
+        Ok(())
+    }
+
+    /// Lets the pieces fall that are live for these causes, and adds them to the fallen ones. All the
+    /// pieces are added to those around.
+    fn lose_all(
+        &mut self,
+        needs: &[Need],
+        fallen: &mut Vec<PieceSpot>,
+        around: &mut Vec<PieceSpot>,
+    ) -> Result<(), AllocError>
+        ensures loses { OnOk result (LosesAll self.old.rows.rows.items self.new.rows.rows.items needs.now fallen.old.items fallen.new.items) }
+        ensures around { OnOk result (around.new.items ≡ around.old.items ++ spots_of needs.now) }
+        ensures pieces { KeepsPieces self.old.rows.rows.items self.new.rows.rows.items }
+        ensures logged { IsLogged self.old self.new }
+    {
+        'needs: for need in needs {
+            if self.cause_of(need.spot) == need.cause {
+                self.lose_cause(need.spot, fallen)?;
+            }
+            add_piece(around, need.spot)?;
+        }
+        Ok(())
+    }
+
+    /// Gives a piece a cause that needs no other lane, or lets it fall and lists it.
+    fn lose_cause(&mut self, spot: PieceSpot, fallen: &mut Vec<PieceSpot>) -> Result<(), AllocError>
+        ensures given { OnOk result (LosesCause self.old.rows.rows.items self.new.rows.rows.items spot) }
+        ensures fallen { OnOk result (ListsFallen self.old.rows.rows.items spot fallen.old.items fallen.new.items) }
+        ensures pieces { KeepsPieces self.old.rows.rows.items self.new.rows.rows.items }
+        ensures logged { IsLogged self.old self.new }
+    {
+        let cause = self.certain_cause(spot);
+        self.set_cause(spot, cause)?;
+        if cause == Cause::None {
+            fallen.push(spot)?;
+        }
+        Ok(())
+    }
+}

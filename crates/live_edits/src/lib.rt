@@ -1,0 +1,26 @@
+//! Edits of a function with what is live in it, after which the pieces kept are those of the function
+//! as it then stands.
+//!
+//! Cells of the lanes that edited instructions name are made anew (`cells`). Then pieces whose causes
+//! are gone fall (`fall`), those that still have a reason come alive again (`ask`, `rise`), and the
+//! pieces concerned get their ends anew (`ends`): begin with `update`. Each change of a row is logged
+//! (`log`), so that it can be taken back without memory. The function itself and the order of its
+//! instructions are edited as a `draft`. `edits` does a whole list of them (`edit_run`), or none.
+#![tactic(auto)]
+
+mod ask;
+mod cells;
+mod change;
+mod draft;
+mod edit_run;
+mod edits;
+mod ends;
+mod fall;
+mod log;
+mod needs;
+mod notes;
+mod pieces;
+mod rise;
+mod update;
+
+pub use edit_run::EditRun;

@@ -1,0 +1,62 @@
+//! Rows with a log of what takes each change of them back, which takes no memory.
+
+ghost use Rattle.std.specs.Prelude.{◌≡◌, true, []};
+ghost use Rattle.live_edits.specs.Logged.{HasAllCells, cell_there, IsTakenBack};
+ghost use Rattle.live_edits.specs.Changes.{TakesBack};
+
+use crate::change::{give_cause, give_end, put_cell};
+use live_lanes::row::{Cause, Cell, PieceEnd};
+use live_lanes::table::{LaneRanges, PieceSpot};
+
+/// What something was before it was changed.
+#[derive(Drop)]
+pub enum Former {
+    /// The piece at a spot was live for this cause, up to this end.
+    Life(PieceSpot, Cause, PieceEnd),
+    /// A lane had this cell.
+    Whole(u32, Cell),
+}
+
+/// The pieces of all lanes while edits are done, and what takes each change of them back, in the order
+/// of the changes.
+#[derive(Drop)]
+pub struct LoggedRows {
+    /// The pieces.
+    pub rows: LaneRanges,
+    /// What they were.
+    pub log: Vec<Former>,
+}
+
+impl LoggedRows {
+    /// Rows that weren't changed yet.
+    pub fn new(rows: LaneRanges) -> LoggedRows
+        ensures rows { result.rows ≡ rows }
+        ensures log { result.log.items ≡ [] }
+    {
+        let log = Vec::new(rows.alloc);
+        LoggedRows { rows, log }
+    }
+
+    /// Takes all changes back, the last one first. It takes no memory.
+    pub fn take_back(&mut self)
+        ensures { HasAllCells self.old.rows.rows.items self.old.log.items → IsTakenBack self.old self.new }
+    {
+        'changes: while let Some(former) = self.log.pop() {
+            self.take_one_back(former);
+        }
+    }
+
+    /// Takes one change back.
+    fn take_one_back(&mut self, former: Former)
+        ensures back { cell_there self.old.rows.rows.items former ≡ true → TakesBack self.old.rows.rows.items self.new.rows.rows.items former }
+        ensures log { self.new.log ≡ self.old.log }
+    {
+        match former {
+            Former::Life(spot, cause, end) => {
+                give_cause(&mut self.rows, spot, cause);
+                give_end(&mut self.rows, spot, end);
+            }
+            Former::Whole(lane, cell) => put_cell(&mut self.rows, lane, cell),
+        }
+    }
+}

@@ -1,0 +1,147 @@
+//! What leads to a piece: where its lane, or the lane that is moved to it, is live because it is.
+
+ghost use Rattle.std.specs.Prelude.{◌≡◌, ◌++◌, OnOk};
+ghost use Rattle.std.specs.List.{list_any};
+ghost use Rattle.live_lanes.specs.Table.{readings_in, moved_in};
+ghost use Rattle.live_lanes.specs.Entered.{rows_seen};
+ghost use Rattle.live_lanes.specs.Lasting.{AllRise};
+ghost use Rattle.live_edits.specs.Leading.{exit_needs, needs_before, move_needs, is_move};
+ghost use Rattle.live_edits.specs.Pieces.{node_of, requests_of};
+ghost use Rattle.live_edits.specs.Updated.{AreNeedsOf};
+
+use crate::log::LoggedRows;
+use crate::pieces::Need;
+use live_lanes::compute::flow::{BlockFlow, predecessors, terminators};
+use live_lanes::order::Order;
+use live_lanes::row::{Cause, LaneUse, entry_rank, exit_rank};
+use live_lanes::table::PieceSpot;
+use std::alloc::AllocError;
+
+impl LoggedRows {
+    /// Makes a list that of what leads to a piece: the exits of the blocks before its block, where it
+    /// begins with that; else the lane that is moved where it begins, if it is live for the move's
+    /// sake alone.
+    pub fn find_needs(
+        &self,
+        order: &Order,
+        flow: &[BlockFlow],
+        spot: PieceSpot,
+        needs: &mut Vec<Need>,
+    ) -> Result<(), AllocError>
+        ensures { OnOk result (AllRise order.now.slots self.now.rows.rows.items
+            → AreNeedsOf order.now.slots flow.now self.now.rows.rows.items (node_of spot) needs.new.items) }
+    {
+        needs.clear();
+        if spot.index == 0 {
+            return self.add_exits_before(order, flow, spot, needs);
+        }
+        self.add_source(order, spot, needs)
+    }
+
+    /// Adds the exits of the blocks before a piece's, which begins with its block.
+    fn add_exits_before(
+        &self,
+        order: &Order,
+        flow: &[BlockFlow],
+        spot: PieceSpot,
+        needs: &mut Vec<Need>,
+    ) -> Result<(), AllocError>
+        ensures { OnOk result (AllRise order.now.slots self.now.rows.rows.items
+            → requests_of needs.new.items ≡ requests_of needs.old.items ++ needs_before order.now.slots flow.now self.now.rows.rows.items spot.lane spot.block) }
+    {
+        'predecessors: for before in predecessors(flow, spot.block) {
+            let ids = terminators(flow, *before);
+            self.add_exits(order, spot, *before, ids, needs)?;
+        }
+        Ok(())
+    }
+
+    /// Adds the exits of a block before a piece's.
+    fn add_exits(
+        &self,
+        order: &Order,
+        spot: PieceSpot,
+        before: u32,
+        terminators: &[u32],
+        needs: &mut Vec<Need>,
+    ) -> Result<(), AllocError>
+        ensures { OnOk result (AllRise order.now.slots self.now.rows.rows.items
+            → requests_of needs.new.items ≡ requests_of needs.old.items ++ exit_needs order.now.slots self.now.rows.rows.items spot.lane spot.block before terminators.now) }
+    {
+        let cause = Cause::Follower(spot.block);
+        let last = self.last_piece(spot.lane, before);
+        needs.push(Need { spot: last, cause })?;
+        'terminators: for id in terminators {
+            let at = exit_rank(&order.slots, *id);
+            let exit = self.piece_at(order, spot.lane, before, at);
+            needs.push(Need { spot: exit, cause })?;
+        }
+        Ok(())
+    }
+
+    /// Adds the lane that is moved where a piece begins, where it is read for the move's sake alone.
+    fn add_source(
+        &self,
+        order: &Order,
+        spot: PieceSpot,
+        needs: &mut Vec<Need>,
+    ) -> Result<(), AllocError>
+        ensures { OnOk result (AllRise order.now.slots self.now.rows.rows.items
+            → requests_of needs.new.items ≡ requests_of needs.old.items ++ move_needs order.now.slots self.now.rows.rows.items spot.lane spot.block (moved_in (rows_seen self.now.rows.rows.items spot.lane spot.block) spot.index)) }
+    {
+        if let Some((id, from)) = self.move_source(spot) {
+            let at = entry_rank(&order.slots, id);
+            let source = self.piece_at(order, from, spot.block, at);
+            if self.is_moved_into(source, id, spot.lane) {
+                let cause = Cause::Reading(id);
+                needs.push(Need {
+                    spot: source,
+                    cause,
+                })?;
+            }
+        }
+        Ok(())
+    }
+
+    /// The instruction that begins a piece by a move, and the lane that it moves.
+    fn move_source(&self, spot: PieceSpot) -> Option<(u32, u32)>
+        ensures { result ≡ moved_in (rows_seen self.now.rows.rows.items spot.lane spot.block) spot.index }
+    {
+        match self.rows.cell(spot.lane, spot.block) {
+            Some(cell) => cell.move_source(spot.index),
+            None => None,
+        }
+    }
+
+    /// Whether an instruction reads a piece to move it into a lane.
+    fn is_moved_into(&self, spot: PieceSpot, id: u32, into: u32) -> bool
+        ensures { result ≡ list_any (is_move id into) (readings_in (rows_seen self.now.rows.rows.items spot.lane spot.block) spot.index) }
+    {
+        self.readings(spot)
+            .iter()
+            .any(|reading| is_move(reading, id, into))
+    }
+
+    /// The readings of a piece, in order.
+    pub(crate) fn readings(&self, spot: PieceSpot) -> &[LaneUse]
+        ensures { result.now ≡ readings_in (rows_seen self.now.rows.rows.items spot.lane spot.block) spot.index }
+    {
+        match self.rows.cell(spot.lane, spot.block) {
+            Some(cell) => match cell.piece(spot.index) {
+                Some(piece) => piece.readings.as_slice(),
+                None => &[],
+            },
+            None => &[],
+        }
+    }
+}
+
+/// Whether a reading is that of an instruction, which moves it into a lane.
+fn is_move(reading: &LaneUse, id: u32, into: u32) -> bool
+    ensures { result ≡ is_move id into reading.now }
+{
+    match reading.into {
+        Some(lane) => reading.id == id && lane == into,
+        None => false,
+    }
+}
