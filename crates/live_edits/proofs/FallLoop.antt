@@ -12,7 +12,7 @@ use Rattle.live_lanes.specs.Entered.{causes, IsTableOf}
 use Rattle.live_lanes.specs.Lasting.{AllRise}
 use Rattle.live_lanes.proofs.Basics.{none-among}
 use Rattle.live_lanes.proofs.Growth.{piece-law}
-use Rattle.live_lanes.proofs.Numbered.{among-cases, among-left, among-right, among-split}
+use Rattle.live_lanes.proofs.Numbered.{among-cases, among-split}
 use Rattle.edit_laws.specs.Chains.{Node}
 use Rattle.edit_laws.specs.Needs.{AreNeeds, NeedsServe}
 use Rattle.edit_laws.specs.Reasons.{ReasonFor, Touched}
@@ -20,10 +20,11 @@ use Rattle.edit_laws.specs.Update.{Fall, Falls, falling, fell, fall, told, Reque
 use Rattle.edit_laws.proofs.Needs.{needs-law, needs-serve-law}
 use Rattle.edit_laws.proofs.Runs.{runs-follow}
 use Rattle.live_edits.specs.declared.pieces.Need.{Need}
-use Rattle.live_edits.specs.Pieces.{node_of, nodes_of, request_of, requests_of, KeepsPieces}
+use Rattle.live_edits.specs.Pieces.{node_of, nodes_of, HasAll, request_of, requests_of, KeepsPieces}
 use Rattle.live_edits.specs.Updated.{AreNeedsOf, LetsFall}
 use Rattle.live_edits.specs.Fallen.{spots_of, LosesAll}
 use Rattle.live_edits.proofs.FallNeeds.{nodes-append, table-stays}
+use Rattle.live_edits.proofs.RiseSteps.{node-before, node-after}
 
 -- as far as the loop over the fallen pieces has come
 pub record FallsSome (slots : Numbers) (flow : List BlockFlow) (old new : List LaneRange) (k : ℕ) (first fallen around around' : List PieceSpot) : Type 0 where
@@ -51,7 +52,7 @@ among-nodes n (x ∷ needs) r a e = go (among-cases r (request_of x) (requests_o
     go (inr b) ih = there (ih b)
 
 -- one piece more
-module _ (slots : Numbers) (flow : List BlockFlow) (old mid new : List LaneRange) (k : ℕ) (x : PieceSpot) (needs : List Need) (first between fallen around around' around'' : List PieceSpot) (s : FallsSome slots flow old mid k first between around around') (within : k < length between) (is : x ≡ get_or between k x) (found : AllRise slots mid → AreNeedsOf slots flow mid (node_of x) needs) (y : LosesAll mid new needs between fallen) (are : around'' ≡ around' ++ spots_of needs) (pieces : KeepsPieces old mid) where
+module _ (slots : Numbers) (flow : List BlockFlow) (old mid new : List LaneRange) (k : ℕ) (x : PieceSpot) (needs : List Need) (first between fallen around around' around'' : List PieceSpot) (s : FallsSome slots flow old mid k first between around around') (within : k < length between) (is : x ≡ get_or between k x) (found : AllRise slots mid → AreNeedsOf slots flow mid (node_of x) needs) (y : LosesAll mid new needs between fallen) (are : HasAll around'' (around' ++ spots_of needs)) (pieces : KeepsPieces old mid) where
   -- the first pieces of the longer list
   taken : take (suc k) fallen ≡ take k between ++ x ∷ []
   taken = ap (take (suc k)) y.list ∙ (take-append-le (suc k) between y.more (omega arith) ∙ (take-suc between k x within ∙ ap (λ z. take k between ++ z ∷ []) (sym is)))
@@ -62,11 +63,8 @@ module _ (slots : Numbers) (flow : List BlockFlow) (old mid new : List LaneRange
   rest-after : drop (suc k) fallen ≡ drop (suc k) between ++ y.more
   rest-after = ap (drop (suc k)) y.list ∙ drop-append-le (suc k) between y.more (omega arith)
 
-  around-are : nodes_of around'' ≡ nodes_of around' ++ nodes_of (spots_of needs)
-  around-are = ap nodes_of are ∙ map-append node_of around' (spots_of needs)
-
   kept-more : (n : Node) → Among n (nodes_of around') → Among n (nodes_of around'')
-  kept-more n a = subst (Among n) (sym around-are) (among-left n (nodes_of around') (nodes_of (spots_of needs)) a)
+  kept-more n a = are n (node-before n around' (spots_of needs) a)
 
   module _ (code : Code) (t : IsTableOf code slots flow old) where
     t' : IsTableOf code slots flow mid
@@ -95,7 +93,7 @@ module _ (slots : Numbers) (flow : List BlockFlow) (old mid new : List LaneRange
         own : n' ≡ node_of x → Among n (nodes_of around'')
         own e =
             let w = are-needs.whole n c (subst (λ (z : Node). ReasonFor code n c (Some z)) e r) in
-            subst (Among n) (sym around-are) (among-right n (nodes_of around') (nodes_of (spots_of needs)) (among-nodes n needs w.0 w.1 w.2))
+            are n (node-after n around' (spots_of needs) (among-nodes n needs w.0 w.1 w.2))
 
         last : (n' ≡ node_of x) ⊎ Among n' [] → Among n (nodes_of around'')
         last (inl e) = own e

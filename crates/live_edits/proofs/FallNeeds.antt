@@ -22,11 +22,12 @@ use Rattle.edit_laws.proofs.Rechecked.{certain-cause-law}
 use Rattle.edit_laws.proofs.RowCause.{row-cause-law}
 use Rattle.edit_laws.proofs.Runs.{runs-follow}
 use Rattle.live_edits.specs.declared.pieces.Need.{Need}
-use Rattle.live_edits.specs.Pieces.{node_of, nodes_of, request_of, requests_of, KeepsPieces}
+use Rattle.live_edits.specs.Pieces.{node_of, nodes_of, HasAll, request_of, requests_of, KeepsPieces}
 use Rattle.live_edits.specs.Updated.{certain_at, LosesCause, ListsFallen, unless_live}
 use Rattle.live_edits.specs.Fallen.{spots_of, AllLeadTo, LosesAll}
 use Rattle.live_edits.proofs.FallReasons.{dead-none, reasons-apart}
 use Rattle.live_edits.proofs.KeptPieces.{live-there}
+use Rattle.live_edits.proofs.SpotLists.{has-both}
 
 -- rows stay a table while causes change
 pub table-stays : (code : Code) (slots : Numbers) (flow : List BlockFlow) (old new : List LaneRange) → IsTableOf code slots flow old → KeepsPieces old new → IsTableOf code slots flow new
@@ -172,6 +173,6 @@ module _ (old mid new : List LaneRange) (needs : List Need) (need : Need) (first
 pub taken-more : (needs : List Need) (k : ℕ) (d : Need) → k < length needs → take (k + 1) needs ≡ take k needs ++ get_or needs k d ∷ []
 taken-more needs k d h = ap (λ j. take j needs) (let e : k + 1 ≡ suc k = omega arith in e) ∙ take-suc needs k d h
 
-pub around-more : (from between to : List PieceSpot) (needs : List Need) (need : Need) → between ≡ from ++ spots_of needs → to ≡ between ++ need.spot ∷ [] → to ≡ from ++ spots_of (needs ++ need ∷ [])
+pub around-more : (from between to : List PieceSpot) (needs : List Need) (need : Need) → HasAll between (from ++ spots_of needs) → HasAll to (between ++ need.spot ∷ []) → HasAll to (from ++ spots_of (needs ++ need ∷ []))
 around-more from between to needs need e f =
-    f ∙ (ap (λ xs. xs ++ need.spot ∷ []) e ∙ (append_assoc from (spots_of needs) (need.spot ∷ []) ∙ ap (λ xs. from ++ xs) (sym (spots-append needs (need ∷ [])))))
+    subst (λ xs. HasAll to (from ++ xs)) (sym (spots-append needs (need ∷ []))) (has-both from between to (spots_of needs) (need.spot ∷ []) e f)

@@ -20,6 +20,8 @@ pub mod RiseRuns
 pub mod RiseSteps
 pub mod RiseThere
 pub mod TakenBack
+pub mod SpotLists
+pub mod AlikeLists
 pub mod UpdateSteps
 pub mod RunLanes
 pub mod RunPlaces
@@ -44,3 +46,12 @@ pub mod EditedSteps
 pub mod EditedRun
 pub mod EditedBack
 pub mod EditedParts
+pub mod JoiningMembers
+pub mod JoiningEdits
+pub mod JoiningStays
+pub mod JoiningLaw
+pub mod JoiningPlaces
+pub mod JoiningClasses
+pub mod JoiningLists
+pub mod JoiningFound
+pub mod JoiningRun

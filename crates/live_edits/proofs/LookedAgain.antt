@@ -1,5 +1,5 @@
 -- Pieces that are looked at again: those whose causes hold stay, the others take certain causes or fall.
-use Rattle.std.proofs.Common.{◌≡◌, ◌<◌, ◌+◌, ◌⊎◌, ℕ, suc, Bool, true, false, length, List, [], ◌∷◌, ◌++◌, None, refl, sym, ap, ◌∙◌, subst, inl, inr, drop, get_or, drop-cons, add-one, append_assoc, append-nil}
+use Rattle.std.proofs.Common.{◌≡◌, ◌<◌, ◌+◌, ◌⊎◌, ℕ, Bool, true, false, length, List, [], ◌∷◌, ◌++◌, None, refl, sym, ap, ◌∙◌, subst, inl, inr, drop, get_or, drop-cons, add-one, append_assoc, append-nil}
 use Rattle.std.proofs.lemmas.List.{length-map, map-append}
 use Rattle.mir_meaning.specs.Paths.{Code}
 use Rattle.live_lanes.specs.declared.compute.flow.BlockFlow.{BlockFlow}

@@ -1,5 +1,5 @@
 -- Lists of what leads to a piece: how they grow, and that they hold exactly that.
-use Rattle.std.proofs.Common.{◌≡◌, ◌⊎◌, inl, inr, ◌<◌, ◌+◌, ℕ, zero, suc, Bool, true, false, cond, ◌&&◌, nat_eq, length, List, [], ◌∷◌, ◌++◌, map, take, get_or, append_assoc, Option, None, Some, refl, sym, ap, ◌∙◌, subst, eqb-true, eq-eqb}
+use Rattle.std.proofs.Common.{◌≡◌, ◌⊎◌, inl, inr, ◌<◌, ◌+◌, ℕ, zero, suc, Bool, true, false, cond, ◌&&◌, nat_eq, length, List, [], ◌∷◌, ◌++◌, map, take, get_or, append_assoc, Option, None, Some, refl, sym, ap, ◌∙◌, subst, arith, eqb-true, eq-eqb}
 use Rattle.std.specs.List.{list_any, flat_map}
 use Rattle.std.proofs.lemmas.List.{map_push, map_more, take_more, flat_map_more}
 use Rattle.mir_meaning.specs.Paths.{Among, here, there, is_some_number}
@@ -9,38 +9,86 @@ use Rattle.live_lanes.specs.declared.row.LaneRange.{LaneRange}
 use Rattle.live_lanes.specs.declared.row.LaneUse.{LaneUse}
 use Rattle.live_lanes.specs.declared.table.PieceSpot.{PieceSpot}
 use Rattle.live_lanes.specs.Ways.{predecessors, terminators}
-use Rattle.live_lanes.specs.Table.{Numbers, entry_rank, exit_rank, readings_in, moved_in}
+use Rattle.live_lanes.specs.Table.{Numbers, is_begun, entry_rank, exit_rank, readings_in, moved_in}
 use Rattle.live_lanes.specs.Entered.{reading, rows_seen}
 use Rattle.live_lanes.specs.Growth.{piece_in_rows}
 use Rattle.live_lanes.proofs.Basics.{none-among}
-use Rattle.live_lanes.proofs.Numbered.{among-cases}
+use Rattle.live_lanes.proofs.Numbered.{among-cases, among-right}
 use Rattle.edit_laws.specs.Chains.{Node}
 use Rattle.edit_laws.specs.Needs.{IsNeed, need_end, need_exit, need_move}
 use Rattle.edit_laws.specs.Update.{Request}
 use Rattle.live_edits.specs.declared.pieces.Need.{Need}
-use Rattle.live_edits.specs.Leading.{end_need, exit_need, exit_needs, needs_before, is_move, move_need, move_needs, needs_of}
+use Rattle.live_edits.specs.Leading.{AreAlike, end_need, exit_need, exit_needs, needs_before, is_move, move_need, move_needs, needs_of}
 use Rattle.live_edits.specs.Pieces.{request_of, requests_of}
 use Rattle.live_edits.specs.Updated.{AreNeedsOf}
+use Rattle.live_edits.proofs.AlikeLists.{alike-equal, alike-then, alike-before, alike-own}
 use Rattle.live_edits.proofs.AskMembers.{among-flat, flat-among, among-map, map-among, any-among, among-any}
+use Rattle.live_edits.proofs.RiseSteps.{only}
+use Rattle.live_edits.proofs.RiseThere.{leading-within}
 
 -- the piece at an exit, as it is looked up
 pub exit-is : (slots : Numbers) (rows : List LaneRange) (l x b id at : ℕ) (s : PieceSpot) → s.lane ≡ l → s.block ≡ b → s.index ≡ piece_in_rows slots rows l b at → at ≡ exit_rank slots id → request_of (record { spot = s; cause = causes.Follower x }) ≡ exit_need slots rows l x b id
 exit-is slots rows l x b id at s e f g h = let n : s.index ≡ piece_in_rows slots rows l b (exit_rank slots id) = g ∙ ap (piece_in_rows slots rows l b) h in λ i. record { node = (e i, f i, n i); cause = causes.Follower x }
 
--- the exit of one terminator more
-pub exits-more : (slots : Numbers) (rows : List LaneRange) (l x b : ℕ) (ids : List ℕ) (k : ℕ) (from mid to : List Need) (n : Need) → k < length ids → requests_of mid ≡ requests_of from ++ exit_needs slots rows l x b (take k ids) → to ≡ mid ++ n ∷ [] → request_of n ≡ exit_need slots rows l x b (get_or ids k 0) → requests_of to ≡ requests_of from ++ exit_needs slots rows l x b (take (k + 1) ids)
-exits-more slots rows l x b ids k from mid to n h e t r =
-    ap requests_of t ∙ (map_push request_of mid n ∙ (ap (λ q. q ++ request_of n ∷ []) e ∙ (append_assoc (requests_of from) (exit_needs slots rows l x b (take k ids)) (request_of n ∷ []) ∙ ap (λ q. requests_of from ++ q) more)))
-  where
-    more : exit_needs slots rows l x b (take k ids) ++ request_of n ∷ [] ≡ exit_needs slots rows l x b (take (k + 1) ids)
-    more =
-        ap (λ q. end_need rows l x b ∷ (map (exit_need slots rows l x b) (take k ids) ++ q ∷ [])) r
-        ∙ ap (λ q. end_need rows l x b ∷ q) (sym (map_more (exit_need slots rows l x b) ids k 0 h))
+-- the exits of one block
+
+module _ (slots : Numbers) (rows : List LaneRange) (l x b : ℕ) where
+  end-among : (from : List Request) (ids : List ℕ) → Among (end_need rows l x b) (from ++ exit_needs slots rows l x b ids)
+  end-among from ids = among-right (end_need rows l x b) from (exit_needs slots rows l x b ids) here
+
+  -- the last piece alone, as far as no terminator was looked at
+  pub exits-none : (from to : List Need) (n : Need) → to ≡ from ++ n ∷ [] → request_of n ≡ end_need rows l x b → AreAlike (requests_of to) (requests_of from ++ exit_needs slots rows l x b [])
+  exits-none from to n t r = alike-equal (requests_of to) (requests_of from ++ exit_needs slots rows l x b []) (ap requests_of t ∙ (map_push request_of from n ∙ ap (λ q. requests_of from ++ q ∷ []) r))
+
+  -- and where it is the only one
+  pub exits-only : (from to : List Need) (n : Need) (ids : List ℕ) → to ≡ from ++ n ∷ [] → request_of n ≡ end_need rows l x b → length (rows_seen rows l b).segments ≡ 0 → AreAlike (requests_of to) (requests_of from ++ exit_needs slots rows l x b ids)
+  exits-only from to n ids t r none =
+      alike-then (requests_of to) (requests_of from ++ end_need rows l x b ∷ []) (requests_of from ++ exit_needs slots rows l x b ids) (exits-none from to n t r)
+      (subst (AreAlike (requests_of from ++ end_need rows l x b ∷ [])) (append_assoc (requests_of from) (end_need rows l x b ∷ []) (map (exit_need slots rows l x b) ids))
+      (alike-own (requests_of from ++ end_need rows l x b ∷ []) (map (exit_need slots rows l x b) ids) own))
+    where
+      at-first : (id : ℕ) → piece_in_rows slots rows l b (exit_rank slots id) ≡ length (rows_seen rows l b).segments
+      at-first id = let w = leading-within (is_begun slots (exit_rank slots id)) (rows_seen rows l b).segments in omega (arith, w, none)
+
+      own : (q : Request) → Among q (map (exit_need slots rows l x b) ids) → Among q (requests_of from ++ end_need rows l x b ∷ [])
+      own q a =
+          let z = among-map (exit_need slots rows l x b) q ids a in
+          let e : end_need rows l x b ≡ q = (λ i. record { node = (l, b, sym (at-first z.0) i); cause = causes.Follower x }) ∙ sym z.2 in
+          subst (λ y. Among y (requests_of from ++ end_need rows l x b ∷ [])) e (end-among (requests_of from) [])
+
+  module _ (ids : List ℕ) (k : ℕ) (from mid : List Need) (h : k < length ids) (e : AreAlike (requests_of mid) (requests_of from ++ exit_needs slots rows l x b (take k ids))) where
+    one-more : (requests_of from ++ exit_needs slots rows l x b (take k ids)) ++ exit_need slots rows l x b (get_or ids k 0) ∷ [] ≡ requests_of from ++ exit_needs slots rows l x b (take (k + 1) ids)
+    one-more =
+        append_assoc (requests_of from) (exit_needs slots rows l x b (take k ids)) (exit_need slots rows l x b (get_or ids k 0) ∷ [])
+        ∙ ap (λ q. requests_of from ++ end_need rows l x b ∷ q) (sym (map_more (exit_need slots rows l x b) ids k 0 h))
+
+    -- the exit of one terminator more
+    pub exits-more : (to : List Need) (n : Need) → to ≡ mid ++ n ∷ [] → request_of n ≡ exit_need slots rows l x b (get_or ids k 0) → AreAlike (requests_of to) (requests_of from ++ exit_needs slots rows l x b (take (k + 1) ids))
+    exits-more to n t r =
+        subst (AreAlike (requests_of to)) one-more
+        (subst (λ ys. AreAlike ys ((requests_of from ++ exit_needs slots rows l x b (take k ids)) ++ exit_need slots rows l x b (get_or ids k 0) ∷ [])) (sym (ap requests_of t ∙ (map_push request_of mid n ∙ ap (λ q. requests_of mid ++ q ∷ []) r)))
+        (alike-before (requests_of mid) (requests_of from ++ exit_needs slots rows l x b (take k ids)) (exit_need slots rows l x b (get_or ids k 0) ∷ []) e))
+
+    -- it lies in the last piece
+    pub exits-same : (n : Need) → request_of n ≡ exit_need slots rows l x b (get_or ids k 0) → n.spot.index ≡ length (rows_seen rows l b).segments → AreAlike (requests_of mid) (requests_of from ++ exit_needs slots rows l x b (take (k + 1) ids))
+    exits-same n r i =
+        subst (AreAlike (requests_of mid)) one-more
+        (alike-then (requests_of mid) (requests_of from ++ exit_needs slots rows l x b (take k ids)) ((requests_of from ++ exit_needs slots rows l x b (take k ids)) ++ exit_need slots rows l x b (get_or ids k 0) ∷ []) e
+        (alike-own (requests_of from ++ exit_needs slots rows l x b (take k ids)) (exit_need slots rows l x b (get_or ids k 0) ∷ []) own))
+      where
+        at-last : piece_in_rows slots rows l b (exit_rank slots (get_or ids k 0)) ≡ length (rows_seen rows l b).segments
+        at-last = sym (ap (λ (q : Request). q.node.2) r) ∙ i
+
+        own : (q : Request) → Among q (exit_need slots rows l x b (get_or ids k 0) ∷ []) → Among q (requests_of from ++ exit_needs slots rows l x b (take k ids))
+        own q a =
+            let f : end_need rows l x b ≡ q = (λ i. record { node = (l, b, sym at-last i); cause = causes.Follower x }) ∙ sym (only q (exit_need slots rows l x b (get_or ids k 0)) a) in
+            subst (λ y. Among y (requests_of from ++ exit_needs slots rows l x b (take k ids))) f (end-among (requests_of from) (take k ids))
 
 -- the exits of one block more
-pub before-more : (f : ℕ → List Request) (from mid to : List Request) (bs : List ℕ) (k : ℕ) → k < length bs → mid ≡ from ++ flat_map f (take k bs) → to ≡ mid ++ f (get_or bs k 0) → to ≡ from ++ flat_map f (take (k + 1) bs)
+pub before-more : (f : ℕ → List Request) (from mid to : List Request) (bs : List ℕ) (k : ℕ) → k < length bs → AreAlike mid (from ++ flat_map f (take k bs)) → AreAlike to (mid ++ f (get_or bs k 0)) → AreAlike to (from ++ flat_map f (take (k + 1) bs))
 before-more f from mid to bs k h e t =
-    t ∙ (ap (λ q. q ++ f (get_or bs k 0)) e ∙ (flat_map_more f from (take k bs) (get_or bs k 0) ∙ ap (λ q. from ++ flat_map f q) (sym (take_more bs k 0 h))))
+    subst (AreAlike to) (flat_map_more f from (take k bs) (get_or bs k 0) ∙ ap (λ q. from ++ flat_map f q) (sym (take_more bs k 0 h)))
+    (alike-then to (mid ++ f (get_or bs k 0)) ((from ++ flat_map f (take k bs)) ++ f (get_or bs k 0)) t (alike-before mid (from ++ flat_map f (take k bs)) (f (get_or bs k 0)) e))
 
 -- the readings that move a lane
 
@@ -108,18 +156,19 @@ module _ (slots : Numbers) (flow : List BlockFlow) (rows : List LaneRange) where
   leads-listed (need_exit {l = l} {b = b} {x = x} {id = id} a i) = flat-among (λ y. exit_needs slots rows l x y (terminators flow y)) (exit_need slots rows l x b id) b (predecessors flow x) a (there (map-among (exit_need slots rows l x b) id (terminators flow b) i))
   leads-listed (need_move {l = l} {b = b} {n = n} {a = a} {id = id} e m) = move-listed l b n a id e m
 
-  pub needs-are : (l b n : ℕ) (needs : List Need) → requests_of needs ≡ needs_of slots flow rows l b n → AreNeedsOf slots flow rows (l, b, n) needs
+  pub needs-are : (l b n : ℕ) (needs : List Need) → AreAlike (requests_of needs) (needs_of slots flow rows l b n) → AreNeedsOf slots flow rows (l, b, n) needs
   needs-are l b n needs e = record {
-    each = λ r m. listed-leads l b n r (subst (Among r) e m);
-    whole = λ r m. subst (Among r) (sym e) (leads-listed m);
+    each = λ r m. listed-leads l b n r ((e r).0 m);
+    whole = λ r m. (e r).1 (leads-listed m);
   }
 
   -- of a piece that begins with its block
-  pub needs-first : (l b n : ℕ) (from to : List Need) → n ≡ 0 → from ≡ [] → requests_of to ≡ requests_of from ++ needs_before slots flow rows l b → AreNeedsOf slots flow rows (l, b, n) to
+  pub needs-first : (l b n : ℕ) (from to : List Need) → n ≡ 0 → from ≡ [] → AreAlike (requests_of to) (requests_of from ++ needs_before slots flow rows l b) → AreNeedsOf slots flow rows (l, b, n) to
   needs-first l b n from to z none e =
-      needs-are l b n to (e ∙ (ap (λ q. requests_of q ++ needs_before slots flow rows l b) none ∙ ap (needs_of slots flow rows l b) (sym z)))
+      needs-are l b n to (subst (AreAlike (requests_of to)) (ap (λ q. requests_of q ++ needs_before slots flow rows l b) none ∙ ap (needs_of slots flow rows l b) (sym z)) e)
 
   -- and of another one
   pub needs-later : (l b n : ℕ) (from to : List Need) → (n ≡ 0 → ⊥) → from ≡ [] → requests_of to ≡ requests_of from ++ move_needs slots rows l b (moved_in (rows_seen rows l b) n) → AreNeedsOf slots flow rows (l, b, n) to
   needs-later l b zero from to z none e = absurd (z refl)
-  needs-later l b (suc k) from to z none e = needs-are l b (suc k) to (e ∙ ap (λ q. requests_of q ++ move_needs slots rows l b (moved_in (rows_seen rows l b) (suc k))) none)
+  needs-later l b (suc k) from to z none e =
+      needs-are l b (suc k) to (alike-equal (requests_of to) (needs_of slots flow rows l b (suc k)) (e ∙ ap (λ q. requests_of q ++ move_needs slots rows l b (moved_in (rows_seen rows l b) (suc k))) none))

@@ -14,7 +14,7 @@ use Rattle.edit_laws.specs.Update.{given, Request, Wanted, Rise, Rises, rising, 
 use Rattle.edit_laws.proofs.RowCause.{row-cause-law}
 use Rattle.edit_laws.proofs.Runs.{runs-follow}
 use Rattle.live_edits.specs.declared.pieces.Need.{Need}
-use Rattle.live_edits.specs.Pieces.{node_of, nodes_of, request_of, requests_of, IsThere, AreThere, KeepsPieces}
+use Rattle.live_edits.specs.Pieces.{node_of, nodes_of, HasAll, request_of, requests_of, IsThere, AreThere, KeepsPieces}
 use Rattle.live_edits.specs.Updated.{Raises}
 use Rattle.live_edits.proofs.RiseThere.{there-kept}
 
@@ -121,7 +121,7 @@ module _ (old mid : List LaneRange) (queue : List Need) (k : ℕ) (from to aroun
   own = among-map request_of x queue (among-at queue k x d within is)
 
   -- the piece is live already
-  pub raised-passes : (around'' : List PieceSpot) → around'' ≡ around' ++ x.spot ∷ [] → cause_at (causes mid) (node_of x.spot) ≡ true → SomeRaised old mid queue (k + 1) from to around around''
+  pub raised-passes : (around'' : List PieceSpot) → HasAll around'' (around' ++ x.spot ∷ []) → cause_at (causes mid) (node_of x.spot) ≡ true → SomeRaised old mid queue (k + 1) from to around around''
   raised-passes around'' e live = record {
     added = so.added;
     list = so.list;
@@ -132,7 +132,7 @@ module _ (old mid : List LaneRange) (queue : List Need) (k : ℕ) (from to aroun
   }
     where
       grown : (n : Node) → Among n (nodes_of around') → Among n (nodes_of around'')
-      grown n a = subst (λ ys. Among n (nodes_of ys)) (sym e) (node-before n around' (x.spot ∷ []) a)
+      grown n a = e n (node-before n around' (x.spot ∷ []) a)
 
       old-beside : (r : Request) → Among r.node (nodes_of so.added) ⊎ Among r.node (nodes_of around') → Among r.node (nodes_of so.added) ⊎ Among r.node (nodes_of around'')
       old-beside r (inl a) = inl a
@@ -140,7 +140,7 @@ module _ (old mid : List LaneRange) (queue : List Need) (k : ℕ) (from to aroun
 
       beside : (r : Request) → Among r (requests_of (take k queue)) ⊎ (r ≡ request_of x) → Among r.node (nodes_of so.added) ⊎ Among r.node (nodes_of around'')
       beside r (inl a) = old-beside r (so.beside r a)
-      beside r (inr f) = inr (subst (λ ys. Among r.node (nodes_of ys)) (sym e) (subst (λ n. Among n (nodes_of (around' ++ x.spot ∷ []))) (ap (λ (q : Request). q.node) (sym f)) (node-last around' x.spot)))
+      beside r (inr f) = inr (e r.node (subst (λ n. Among n (nodes_of (around' ++ x.spot ∷ []))) (ap (λ (q : Request). q.node) (sym f)) (node-last around' x.spot)))
 
   -- it isn't, and comes alive
   pub raised-rises : (new : List LaneRange) (to' : List PieceSpot) → KeepsPieces old mid → to' ≡ to ++ x.spot ∷ [] → cause_at (causes mid) (node_of x.spot) ≡ false → (IsThere mid (node_of x.spot) → GivesCause mid new (node_of x.spot) x.cause) → SomeRaised old new queue (k + 1) from to' around around'

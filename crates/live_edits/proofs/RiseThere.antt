@@ -100,7 +100,7 @@ read-last-there rows l b e = go (lane-or-unseen rows l b)
     go (inl h) = h
     go (inr f) = absurd (let k : false ≡ true = sym (ap (λ (v : Seen). v.is_read_last) f) ∙ e in cc)
 
-leading-within : {X : Type 0} (test : X → Bool) (xs : List X) → leading test xs ≤ length xs
+pub leading-within : {X : Type 0} (test : X → Bool) (xs : List X) → leading test xs ≤ length xs
 leading-within test [] = omega arith
 leading-within test (x ∷ xs) = go (test x) (leading-within test xs)
   where

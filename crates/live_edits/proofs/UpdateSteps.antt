@@ -19,7 +19,7 @@ use Rattle.edit_laws.specs.Update.{Falls, falling, Asks, Rises, rising}
 use Rattle.edit_laws.proofs.Asked.{asks-law}
 use Rattle.edit_laws.proofs.Runs.{runs-follow}
 use Rattle.live_edits.specs.declared.pieces.Need.{Need}
-use Rattle.live_edits.specs.Pieces.{nodes_of, request_of, requests_of, IsThere, AreThere, KeepsPieces}
+use Rattle.live_edits.specs.Pieces.{nodes_of, HasAll, request_of, requests_of, IsThere, AreThere, KeepsPieces}
 use Rattle.live_edits.specs.Updated.{AreTold, IsCarriedOver, LooksAgain, LetsFall, AsksFor, Revives, EndsAgain, AreUpdated}
 use Rattle.live_edits.proofs.EndSteps.{right-same}
 use Rattle.live_edits.proofs.RiseSteps.{nodes-both, node-before, node-after}
@@ -30,20 +30,30 @@ pub on-ok : {T E : Type 0} (r : Result T E) {P Q : Type 0} → OnOk r P → (P �
 on-ok (Ok x) h f = f h
 on-ok (Err e) h f = tt
 
+-- what is asked of the pieces of one list is asked of those of another that has the same
+pub asks-alike : (slots : Numbers) (flow : List BlockFlow) (rows : List LaneRange) (xs ys : List PieceSpot) (from to : List Need) → HasAll xs ys → HasAll ys xs → AsksFor slots flow rows xs from to → AsksFor slots flow rows ys from to
+asks-alike slots flow rows xs ys from to f g x = record {
+  added = x.added;
+  list = x.list;
+  each = λ r a. let e = x.each r a in (g r.node e.0, e.1);
+  whole = λ n a. x.whole n (f n a);
+}
+
 -- each part as its contract tells it, from rows to rows
-pub record DoesParts (ids : List ℕ) (slots : Numbers) (flow : List BlockFlow) (r0 r1 r2 r3 r4 : List LaneRange) (suspects first fallen around around' : List PieceSpot) (some queue : List Need) (risen again : List PieceSpot) : Type 0 where
+pub record DoesParts (ids : List ℕ) (slots : Numbers) (flow : List BlockFlow) (r0 r1 r2 r3 r4 : List LaneRange) (suspects start first fallen around around' : List PieceSpot) (some queue : List Need) (risen again : List PieceSpot) : Type 0 where
   pub looks : LooksAgain ids slots flow r0 r1 suspects first
   pub looks_keep : KeepsPieces r0 r1
-  pub falls : LetsFall slots flow r1 r2 first fallen [] around
+  pub falls : LetsFall slots flow r1 r2 first fallen start around
   pub falls_keep : KeepsPieces r1 r2
   pub asks : AllRise slots r2 → AsksFor slots flow r2 suspects [] some
   pub asks_more : AllRise slots r2 → AsksFor slots flow r2 fallen some queue
   pub revives : Revives slots flow r2 r3 queue risen around around'
   pub rises_keep : KeepsPieces r2 r3
   pub ends : AllRise slots r3 → EndsAgain slots flow r3 r4 (nodes_of again)
-  pub all : again ≡ (suspects ++ around') ++ risen
+  pub starts : HasAll start suspects
+  pub all : HasAll again (around' ++ risen)
 
-module _ (ids : List ℕ) (slots : Numbers) (flow : List BlockFlow) (r0 r1 r2 r3 r4 : List LaneRange) (suspects first fallen around around' : List PieceSpot) (some queue : List Need) (risen again : List PieceSpot) (d : DoesParts ids slots flow r0 r1 r2 r3 r4 suspects first fallen around around' some queue risen again) (touched : Touched) (before code : Code) (was : Causes) (told : AreTold touched ids) (over : IsCarriedOver touched before code was slots flow r0 (nodes_of suspects)) where
+module _ (ids : List ℕ) (slots : Numbers) (flow : List BlockFlow) (r0 r1 r2 r3 r4 : List LaneRange) (suspects start first fallen around around' : List PieceSpot) (some queue : List Need) (risen again : List PieceSpot) (d : DoesParts ids slots flow r0 r1 r2 r3 r4 suspects start first fallen around around' some queue risen again) (touched : Touched) (before code : Code) (was : Causes) (told : AreTold touched ids) (over : IsCarriedOver touched before code was slots flow r0 (nodes_of suspects)) where
   t1 : IsTableOf code slots flow r1
   t1 = table-stays r0 r1 d.looks_keep code slots flow over.table
 
@@ -92,13 +102,13 @@ module _ (ids : List ℕ) (slots : Numbers) (flow : List BlockFlow) (r0 r1 r2 r3
       subst (λ w. Rises code (rising (causes r2) (requests_of queue) [] (nodes_of suspects ++ nodes_of fallen)) (rising w [] [] ((nodes_of suspects ++ nodes_of fallen) ++ nodes_of risen))) same (d.revives.rises code (nodes_of suspects ++ nodes_of fallen) t2 all-there)
 
   again-list : (n : Node) → Among n (nodes_of suspects) → Among n (nodes_of again)
-  again-list n a = subst (λ ys. Among n (nodes_of ys)) (sym d.all) (node-before n (suspects ++ around') risen (node-before n suspects around' a))
+  again-list n a = d.all n (node-before n around' risen (d.revives.kept n (d.falls.kept n (d.starts n a))))
 
   again-around : (n : Node) → Among n (nodes_of around') → Among n (nodes_of again)
-  again-around n a = subst (λ ys. Among n (nodes_of ys)) (sym d.all) (node-before n (suspects ++ around') risen (node-after n suspects around' a))
+  again-around n a = d.all n (node-before n around' risen a)
 
   again-risen : (n : Node) → Among n (nodes_of risen) → Among n (nodes_of again)
-  again-risen n a = subst (λ ys. Among n (nodes_of ys)) (sym d.all) (node-after n (suspects ++ around') risen a)
+  again-risen n a = d.all n (node-after n around' risen a)
 
   needs-again : (m : Node) → Among m (nodes_of fallen) ⊎ Among m (nodes_of risen) → (n : Node) (c : Cause) → ReasonFor code n c (Some m) → Among n (nodes_of again)
   needs-again m (inl a) n c w = again-around n (d.revives.kept n (d.falls.beside code t1 m a n c w))

@@ -1,7 +1,7 @@
 -- What leads to a piece, as a list, and by which readings a lane is moved to where it is live.
-use Rattle.std.specs.Prelude.{ℕ, zero, suc, Bool, false, cond, ◌&&◌, nat_eq, List, [], ◌∷◌, Option, None, Some, map, length}
+use Rattle.std.specs.Prelude.{◌↔◌, ℕ, zero, suc, Bool, false, cond, ◌&&◌, nat_eq, List, [], ◌∷◌, Option, None, Some, map, length}
 use Rattle.std.specs.List.{list_any, flat_map}
-use Rattle.mir_meaning.specs.Paths.{is_some_number}
+use Rattle.mir_meaning.specs.Paths.{Among, is_some_number}
 use Rattle.live_lanes.specs.declared.compute.flow.BlockFlow.{BlockFlow}
 use Rattle.live_lanes.specs.declared.row.Cause.TheVariants as causes
 use Rattle.live_lanes.specs.declared.row.LaneRange.{LaneRange}
@@ -13,6 +13,10 @@ use Rattle.live_lanes.specs.Entered.{rows_seen}
 use Rattle.live_lanes.specs.Entered.{causes as why_of}
 use Rattle.live_lanes.specs.Growth.{piece_in_rows}
 use Rattle.edit_laws.specs.Update.{Request}
+
+-- both lists have the same requests, in whatever order and however often
+abbrev pub AreAlike : List Request → List Request → Type 0
+AreAlike xs ys = (r : Request) → Among r xs ↔ Among r ys
 
 -- the last piece of a lane in block b, from which paths lead to block x
 abbrev pub end_need : List LaneRange → ℕ → ℕ → ℕ → Request

@@ -11,3 +11,4 @@ pub mod Noted
 pub mod Runs
 pub mod NotedTable
 pub mod EditedRuns
+pub mod Folded

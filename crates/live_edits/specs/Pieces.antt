@@ -15,6 +15,10 @@ node_of p = (p.lane, p.block, p.index)
 abbrev pub nodes_of : List PieceSpot → List Node
 nodes_of ps = map node_of ps
 
+-- the first list has all pieces of the other one
+abbrev pub HasAll : List PieceSpot → List PieceSpot → Type 0
+HasAll xs ys = (n : Node) → Among n (nodes_of ys) → Among n (nodes_of xs)
+
 abbrev pub request_of : Need → Request
 request_of n = record { node = node_of n.spot; cause = n.cause }
 

@@ -11,6 +11,7 @@ ghost use Rattle.live_edits.specs.Leading.{moves_on};
 ghost use Rattle.live_edits.specs.Pieces.{node_of};
 ghost use Rattle.live_edits.specs.Updated.{AsksFor};
 
+use crate::change::near_next;
 use crate::log::LoggedRows;
 use crate::pieces::Need;
 use live_lanes::compute::flow::{BlockFlow, successors};
@@ -34,16 +35,17 @@ impl LoggedRows {
         ensures whole { AllRise order.now.slots self.now.rows.rows.items → is_live (causes self.now.rows.rows.items spot.lane spot.block spot.index) ≡ false → is_live result ≡ false
             → (c : Cause) → IsFound order.now.slots flow.now self.now.rows.rows.items (node_of spot) c → ⊥ }
     {
-        if is_live(self.cause_of(spot)) {
+        let near = self.near(spot.lane, spot.block);
+        if is_live(self.cause_of(near, spot)) {
             return Cause::None;
         }
-        let certain = self.certain_cause(spot);
+        let certain = self.certain_cause(near, spot);
         if is_live(certain) {
             return certain;
         }
-        match self.live_follower(order, flow, spot) {
+        match self.live_follower(order, flow, near, spot) {
             Some(next) => Cause::Follower(next),
-            None => self.live_reading(order, spot),
+            None => self.live_reading(order, near, spot),
         }
     }
 
@@ -68,33 +70,38 @@ impl LoggedRows {
     }
 
     /// A block to which a path leads from a piece, and at whose start the lane is live.
-    fn live_follower(&self, order: &Order, flow: &[BlockFlow], spot: PieceSpot) -> Option<u32>
+    fn live_follower(
+        &self,
+        order: &Order,
+        flow: &[BlockFlow],
+        near: usize,
+        spot: PieceSpot,
+    ) -> Option<u32>
         ensures found { AllRise order.now.slots self.now.rows.rows.items → IfSome result (λ x. IsFound order.now.slots flow.now self.now.rows.rows.items (node_of spot) (Cause.Follower x)) }
         ensures whole { AllRise order.now.slots self.now.rows.rows.items → result ≡ None
             → (x : ℕ) → IsFound order.now.slots flow.now self.now.rows.rows.items (node_of spot) (Cause.Follower x) → ⊥ }
     {
-        if !self.has_exit(order, flow, spot) {
+        if !self.has_exit(order, flow, near, spot) {
             return None;
         }
-        self.live_block(spot.lane, successors(flow, spot.block))
+        self.live_block(near, spot.lane, successors(flow, spot.block))
     }
 
-    /// One of these blocks at whose start a lane is live.
-    fn live_block(&self, lane: u32, blocks: &[u32]) -> Option<u32>
+    /// One of these blocks at whose start a lane is live. They follow one whose cell is near a place.
+    fn live_block(&self, near: usize, lane: u32, blocks: &[u32]) -> Option<u32>
         ensures { result ≡ find (λ x. is_live (causes self.now.rows.rows.items lane x 0)) blocks.now }
     {
-        blocks
-            .iter()
-            .copied()
-            .find(|next| self.rows.is_live_in(lane, 0, *next))
+        blocks.iter().copied().find(|next| self
+            .rows
+            .is_live_in(lane, near_next(&self.rows, near, lane, *next), *next))
     }
 
     /// A reading of a piece by which it is moved to where it is live.
-    fn live_reading(&self, order: &Order, spot: PieceSpot) -> Cause
+    fn live_reading(&self, order: &Order, near: usize, spot: PieceSpot) -> Cause
         ensures { AllRise order.now.slots self.now.rows.rows.items
             → result ≡ cause_of (find (moves_on order.now.slots self.now.rows.rows.items spot.block) (readings_in (rows_seen self.now.rows.rows.items spot.lane spot.block) spot.index)) }
     {
-        match self.moved_reading(order, spot.block, self.readings(spot)) {
+        match self.moved_reading(order, spot.block, self.readings(near, spot)) {
             Some(reading) => Cause::Reading(reading.id),
             None => Cause::None,
         }

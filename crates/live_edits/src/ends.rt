@@ -19,21 +19,21 @@ use std::alloc::AllocError;
 
 impl LoggedRows {
     /// The cell of a piece, where its lane has one in its block.
-    fn cell_of(&self, spot: PieceSpot) -> Option<&Cell>
+    fn cell_of(&self, near: usize, spot: PieceSpot) -> Option<&Cell>
         ensures { option_copied result ≡ find_cell spot.block (cells_of self.now.rows.rows.items spot.lane) }
     {
         match self.rows.rows.as_slice().get(spot.lane as usize) {
-            Some(row) => row.cell(spot.block),
+            Some(row) => row.cell_near(near, spot.block),
             None => None,
         }
     }
 
     /// Up to where a piece is live, by the readings and exits that count.
-    fn end_now(&self, order: &Order, flow: &[BlockFlow], spot: PieceSpot) -> PieceEnd
+    fn end_now(&self, order: &Order, flow: &[BlockFlow], near: usize, spot: PieceSpot) -> PieceEnd
         ensures { AllRise order.now.slots self.now.rows.rows.items
             → result ≡ right_end order.now.slots flow.now (causes self.now.rows.rows.items) (shapes self.now.rows.rows.items) spot.lane spot.block spot.index }
     {
-        let Some(cell) = self.cell_of(spot) else {
+        let Some(cell) = self.cell_of(near, spot) else {
             return PieceEnd::Never;
         };
         let Some(piece) = cell.piece(spot.index) else {
@@ -44,7 +44,7 @@ impl LoggedRows {
         }
         let at = PieceAt {
             lane: spot.lane,
-            place: 0,
+            place: near,
             cell,
             index: spot.index,
             piece,
@@ -53,21 +53,21 @@ impl LoggedRows {
     }
 
     /// Up to where a piece is live, as it was found last.
-    fn end_kept(&self, spot: PieceSpot) -> PieceEnd
+    fn end_kept(&self, near: usize, spot: PieceSpot) -> PieceEnd
         ensures { result ≡ row_end self.now.rows.rows.items spot.lane spot.block spot.index }
     {
-        match self.rows.cell(spot.lane, spot.block) {
+        match self.rows.cell_near(spot.lane, near, spot.block) {
             Some(cell) => cell.end_of(spot.index),
             None => PieceEnd::Never,
         }
     }
 
     /// Whether a piece was last found to have this end.
-    fn has_end(&self, spot: PieceSpot, end: PieceEnd) -> bool
+    fn has_end(&self, near: usize, spot: PieceSpot, end: PieceEnd) -> bool
         ensures has { result ≡ true → row_end self.now.rows.rows.items spot.lane spot.block spot.index ≡ end }
         ensures lacks { result ≡ false → row_end self.now.rows.rows.items spot.lane spot.block spot.index ≢ end }
     {
-        self.end_kept(spot) == end
+        self.end_kept(near, spot) == end
     }
 
     /// Gives pieces their ends anew, where these changed.
@@ -82,9 +82,10 @@ impl LoggedRows {
         ensures logged { IsLogged self.old self.new }
     {
         'pieces: for spot in pieces {
-            let end = self.end_now(order, flow, *spot);
-            if !self.has_end(*spot, end) {
-                self.set_end(*spot, end)?;
+            let near = self.near(spot.lane, spot.block);
+            let end = self.end_now(order, flow, near, *spot);
+            if !self.has_end(near, *spot, end) {
+                self.set_end(near, *spot, end)?;
             }
         }
         Ok(())

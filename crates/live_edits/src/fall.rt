@@ -1,7 +1,7 @@
 //! Live pieces whose causes are gone take a reading that needs no other lane as their cause, or fall;
 //! with them fall the pieces that are live for their sake.
 
-ghost use Rattle.std.specs.Prelude.{◌≡◌, ◌↔◌, true, false, [], ◌∷◌, ◌++◌, nat_eq, IfOk, OnOk};
+ghost use Rattle.std.specs.Prelude.{◌≡◌, ◌↔◌, true, false, ◌++◌, nat_eq, IfOk, OnOk};
 ghost use Rattle.live_lanes.specs.Entered.{causes};
 ghost use Rattle.live_lanes.specs.Graph.{is_live};
 ghost use Rattle.live_lanes.specs.Growth.{piece_in_rows};
@@ -11,25 +11,18 @@ ghost use Rattle.edit_laws.specs.Reasons.{Touched};
 ghost use Rattle.edit_laws.specs.Rechecked.{IsHeld};
 ghost use Rattle.live_edits.specs.Fallen.{spots_of, LosesAll};
 ghost use Rattle.live_edits.specs.Logged.{IsLogged};
-ghost use Rattle.live_edits.specs.Pieces.{node_of, KeepsPieces};
+ghost use Rattle.live_edits.specs.Pieces.{node_of, HasAll, KeepsPieces};
 ghost use Rattle.live_edits.specs.Updated.{AreTold, LooksAgain, LosesCause, ListsFallen, LetsFall, LastsToExit};
 
 use crate::log::LoggedRows;
 use crate::pieces::Need;
+use crate::spots::SpotList;
 use live_lanes::compute::flow::{BlockFlow, terminators};
 use live_lanes::order::Order;
 use live_lanes::row::{Cause, entry_rank, exit_rank};
 use live_lanes::table::PieceSpot;
 use std::alloc::AllocError;
 use std::collections::BTreeSet;
-
-/// Adds a piece to a list.
-pub(crate) fn add_piece(pieces: &mut Vec<PieceSpot>, spot: PieceSpot) -> Result<(), AllocError>
-    ensures { OnOk result (pieces.new.items ≡ pieces.old.items ++ spot ∷ []) }
-{
-    pieces.push(spot)?;
-    Ok(())
-}
 
 impl LoggedRows {
     /// Whether a piece isn't live, or its cause holds as before, where the instructions of these ids
@@ -39,7 +32,8 @@ impl LoggedRows {
             → IsHeld touched order.now.slots flow.now self.now.rows.rows.items spot.lane spot.block spot.index }
         ensures live { result ≡ false → is_live (causes self.now.rows.rows.items spot.lane spot.block spot.index) ≡ true }
     {
-        match self.cause_of(spot) {
+        let near = self.near(spot.lane, spot.block);
+        match self.cause_of(near, spot) {
             Cause::None => true,
             Cause::Phi => false,
             Cause::Reading(id) => {
@@ -49,15 +43,21 @@ impl LoggedRows {
                 let at = entry_rank(&order.slots, id);
                 self.piece_at(order, spot.lane, spot.block, at).index == spot.index
             }
-            Cause::Follower(_) => self.has_exit(order, flow, spot),
+            Cause::Follower(_) => self.has_exit(order, flow, near, spot),
         }
     }
 
     /// Whether paths lead from a piece to the blocks that follow.
-    pub(crate) fn has_exit(&self, order: &Order, flow: &[BlockFlow], spot: PieceSpot) -> bool
+    pub(crate) fn has_exit(
+        &self,
+        order: &Order,
+        flow: &[BlockFlow],
+        near: usize,
+        spot: PieceSpot,
+    ) -> bool
         ensures { AllRise order.now.slots self.now.rows.rows.items → (result ≡ true) ↔ LastsToExit order.now.slots flow.now self.now.rows.rows.items (node_of spot) }
     {
-        if self.last_piece(spot.lane, spot.block).index == spot.index {
+        if self.last_piece(near, spot.lane, spot.block).index == spot.index {
             return true;
         }
         let ids = terminators(flow, spot.block);
@@ -89,7 +89,8 @@ impl LoggedRows {
         let mut fallen = Vec::new(self.rows.alloc);
         'suspects: for spot in suspects {
             if !self.holds(order, flow, *spot, ids) {
-                self.lose_cause(*spot, &mut fallen)?;
+                let near = self.near(spot.lane, spot.block);
+                self.lose_cause(near, *spot, &mut fallen)?;
             }
         }
         Ok(fallen)
@@ -102,9 +103,9 @@ impl LoggedRows {
         order: &Order,
         flow: &[BlockFlow],
         fallen: &mut Vec<PieceSpot>,
-        around: &mut Vec<PieceSpot>,
+        around: &mut SpotList,
     ) -> Result<(), AllocError>
-        ensures falls { OnOk result (LetsFall order.now.slots flow.now self.old.rows.rows.items self.new.rows.rows.items fallen.old.items fallen.new.items around.old.items around.new.items) }
+        ensures falls { OnOk result (LetsFall order.now.slots flow.now self.old.rows.rows.items self.new.rows.rows.items fallen.old.items fallen.new.items around.old.spots.items around.new.spots.items) }
         ensures pieces { KeepsPieces self.old.rows.rows.items self.new.rows.rows.items }
         ensures logged { IsLogged self.old self.new }
     {
@@ -126,31 +127,37 @@ impl LoggedRows {
         &mut self,
         needs: &[Need],
         fallen: &mut Vec<PieceSpot>,
-        around: &mut Vec<PieceSpot>,
+        around: &mut SpotList,
     ) -> Result<(), AllocError>
         ensures loses { OnOk result (LosesAll self.old.rows.rows.items self.new.rows.rows.items needs.now fallen.old.items fallen.new.items) }
-        ensures around { OnOk result (around.new.items ≡ around.old.items ++ spots_of needs.now) }
+        ensures around { OnOk result (HasAll around.new.spots.items (around.old.spots.items ++ spots_of needs.now)) }
         ensures pieces { KeepsPieces self.old.rows.rows.items self.new.rows.rows.items }
         ensures logged { IsLogged self.old self.new }
     {
         'needs: for need in needs {
-            if self.cause_of(need.spot) == need.cause {
-                self.lose_cause(need.spot, fallen)?;
+            let near = self.near(need.spot.lane, need.spot.block);
+            if self.cause_of(near, need.spot) == need.cause {
+                self.lose_cause(near, need.spot, fallen)?;
             }
-            add_piece(around, need.spot)?;
+            around.add(need.spot)?;
         }
         Ok(())
     }
 
     /// Gives a piece a cause that needs no other lane, or lets it fall and lists it.
-    fn lose_cause(&mut self, spot: PieceSpot, fallen: &mut Vec<PieceSpot>) -> Result<(), AllocError>
+    fn lose_cause(
+        &mut self,
+        near: usize,
+        spot: PieceSpot,
+        fallen: &mut Vec<PieceSpot>,
+    ) -> Result<(), AllocError>
         ensures given { OnOk result (LosesCause self.old.rows.rows.items self.new.rows.rows.items spot) }
         ensures fallen { OnOk result (ListsFallen self.old.rows.rows.items spot fallen.old.items fallen.new.items) }
         ensures pieces { KeepsPieces self.old.rows.rows.items self.new.rows.rows.items }
         ensures logged { IsLogged self.old self.new }
     {
-        let cause = self.certain_cause(spot);
-        self.set_cause(spot, cause)?;
+        let cause = self.certain_cause(near, spot);
+        self.set_cause(near, spot, cause)?;
         if cause == Cause::None {
             fallen.push(spot)?;
         }

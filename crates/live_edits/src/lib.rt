@@ -16,11 +16,14 @@ mod edit_run;
 mod edits;
 mod ends;
 mod fall;
+mod fold;
 mod log;
 mod needs;
 mod notes;
 mod pieces;
 mod rise;
+mod spots;
 mod update;
 
 pub use edit_run::EditRun;
+pub use fold::Join;

@@ -5,7 +5,7 @@ ghost use Rattle.std.specs.List.{list_any};
 ghost use Rattle.live_lanes.specs.Table.{readings_in, moved_in};
 ghost use Rattle.live_lanes.specs.Entered.{rows_seen};
 ghost use Rattle.live_lanes.specs.Lasting.{AllRise};
-ghost use Rattle.live_edits.specs.Leading.{exit_needs, needs_before, move_needs, is_move};
+ghost use Rattle.live_edits.specs.Leading.{AreAlike, exit_needs, needs_before, move_needs, is_move};
 ghost use Rattle.live_edits.specs.Pieces.{node_of, requests_of};
 ghost use Rattle.live_edits.specs.Updated.{AreNeedsOf};
 
@@ -47,7 +47,7 @@ impl LoggedRows {
         needs: &mut Vec<Need>,
     ) -> Result<(), AllocError>
         ensures { OnOk result (AllRise order.now.slots self.now.rows.rows.items
-            → requests_of needs.new.items ≡ requests_of needs.old.items ++ needs_before order.now.slots flow.now self.now.rows.rows.items spot.lane spot.block) }
+            → AreAlike (requests_of needs.new.items) (requests_of needs.old.items ++ needs_before order.now.slots flow.now self.now.rows.rows.items spot.lane spot.block)) }
     {
         'predecessors: for before in predecessors(flow, spot.block) {
             let ids = terminators(flow, *before);
@@ -66,15 +66,21 @@ impl LoggedRows {
         needs: &mut Vec<Need>,
     ) -> Result<(), AllocError>
         ensures { OnOk result (AllRise order.now.slots self.now.rows.rows.items
-            → requests_of needs.new.items ≡ requests_of needs.old.items ++ exit_needs order.now.slots self.now.rows.rows.items spot.lane spot.block before terminators.now) }
+            → AreAlike (requests_of needs.new.items) (requests_of needs.old.items ++ exit_needs order.now.slots self.now.rows.rows.items spot.lane spot.block before terminators.now)) }
     {
         let cause = Cause::Follower(spot.block);
-        let last = self.last_piece(spot.lane, before);
+        let near = self.near(spot.lane, before);
+        let last = self.last_piece(near, spot.lane, before);
         needs.push(Need { spot: last, cause })?;
+        if last.index == 0 {
+            return Ok(());
+        }
         'terminators: for id in terminators {
             let at = exit_rank(&order.slots, *id);
             let exit = self.piece_at(order, spot.lane, before, at);
-            needs.push(Need { spot: exit, cause })?;
+            if exit.index != last.index {
+                needs.push(Need { spot: exit, cause })?;
+            }
         }
         Ok(())
     }
@@ -107,7 +113,8 @@ impl LoggedRows {
     fn move_source(&self, spot: PieceSpot) -> Option<(u32, u32)>
         ensures { result ≡ moved_in (rows_seen self.now.rows.rows.items spot.lane spot.block) spot.index }
     {
-        match self.rows.cell(spot.lane, spot.block) {
+        let near = self.near(spot.lane, spot.block);
+        match self.rows.cell_near(spot.lane, near, spot.block) {
             Some(cell) => cell.move_source(spot.index),
             None => None,
         }
@@ -117,16 +124,17 @@ impl LoggedRows {
     fn is_moved_into(&self, spot: PieceSpot, id: u32, into: u32) -> bool
         ensures { result ≡ list_any (is_move id into) (readings_in (rows_seen self.now.rows.rows.items spot.lane spot.block) spot.index) }
     {
-        self.readings(spot)
+        let near = self.near(spot.lane, spot.block);
+        self.readings(near, spot)
             .iter()
             .any(|reading| is_move(reading, id, into))
     }
 
     /// The readings of a piece, in order.
-    pub(crate) fn readings(&self, spot: PieceSpot) -> &[LaneUse]
+    pub(crate) fn readings(&self, near: usize, spot: PieceSpot) -> &[LaneUse]
         ensures { result.now ≡ readings_in (rows_seen self.now.rows.rows.items spot.lane spot.block) spot.index }
     {
-        match self.rows.cell(spot.lane, spot.block) {
+        match self.rows.cell_near(spot.lane, near, spot.block) {
             Some(cell) => match cell.piece(spot.index) {
                 Some(piece) => piece.readings.as_slice(),
                 None => &[],

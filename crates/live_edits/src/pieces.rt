@@ -1,4 +1,5 @@
-//! The pieces of logged rows by their spots: what is known of them, and their causes and ends.
+//! The pieces of logged rows by their spots: what is known of them, and their causes and ends. Their
+//! cells are looked for near a place, which may be any, and at which they are mostly found.
 
 ghost use Rattle.std.specs.Prelude.{◌≡◌, ◌<◌, ℕ, length, OnOk, OnErr};
 ghost use Rattle.live_lanes.specs.Table.{certain_cause, cause_in, end_in, seen_cell};
@@ -12,7 +13,7 @@ ghost use Rattle.live_edits.specs.Logged.{IsLogged};
 ghost use Rattle.live_edits.specs.Pieces.{node_of, IsThere, KeepsPieces};
 ghost use Rattle.live_edits.specs.Changes.{AddsCells, LogsLife};
 
-use crate::change::{give_cause, give_end, make_cell};
+use crate::change::{give_cause_near, give_end_near, make_cell_near, near_in};
 use crate::log::{Former, LoggedRows};
 use live_lanes::order::Order;
 use live_lanes::row::{Cause, Cell, PieceEnd};
@@ -40,11 +41,16 @@ fn life_of(cell: &Cell, spot: PieceSpot) -> Former
 }
 
 impl LoggedRows {
+    /// A place at which the cell of a lane in a block is likely to be found, or behind it.
+    pub(crate) fn near(&self, lane: u32, block: u32) -> usize {
+        near_in(&self.rows, lane, block)
+    }
+
     /// Why a piece is live.
-    pub fn cause_of(&self, spot: PieceSpot) -> Cause
+    pub fn cause_of(&self, near: usize, spot: PieceSpot) -> Cause
         ensures { result ≡ causes self.now.rows.rows.items spot.lane spot.block spot.index }
     {
-        match self.rows.cell(spot.lane, spot.block) {
+        match self.rows.cell_near(spot.lane, near, spot.block) {
             Some(cell) => match cell.piece(spot.index) {
                 Some(piece) => piece.cause,
                 None => Cause::None,
@@ -54,10 +60,10 @@ impl LoggedRows {
     }
 
     /// Why a piece is live without any other lane.
-    pub fn certain_cause(&self, spot: PieceSpot) -> Cause
+    pub fn certain_cause(&self, near: usize, spot: PieceSpot) -> Cause
         ensures { result ≡ certain_cause (rows_seen self.now.rows.rows.items spot.lane spot.block) spot.index }
     {
-        match self.rows.cell(spot.lane, spot.block) {
+        match self.rows.cell_near(spot.lane, near, spot.block) {
             Some(cell) => cell.certain_cause(spot.index),
             None => Cause::None,
         }
@@ -69,7 +75,8 @@ impl LoggedRows {
         ensures block { result.block ≡ block }
         ensures index { AllRise order.now.slots self.now.rows.rows.items → result.index ≡ piece_in_rows order.now.slots self.now.rows.rows.items lane block at }
     {
-        let index = match self.rows.cell(lane, block) {
+        let near = self.near(lane, block);
+        let index = match self.rows.cell_near(lane, near, block) {
             Some(cell) => cell.piece_at(&order.slots, at),
             None => 0,
         };
@@ -77,20 +84,21 @@ impl LoggedRows {
     }
 
     /// The last piece of a lane in a block.
-    pub fn last_piece(&self, lane: u32, block: u32) -> PieceSpot
+    pub fn last_piece(&self, near: usize, lane: u32, block: u32) -> PieceSpot
         ensures lane { result.lane ≡ lane }
         ensures block { result.block ≡ block }
         ensures index { result.index ≡ length (rows_seen self.now.rows.rows.items lane block).segments }
     {
-        let index = match self.rows.cell(lane, block) {
+        let index = match self.rows.cell_near(lane, near, block) {
             Some(cell) => cell.segments.len(),
             None => 0,
         };
         PieceSpot { lane, block, index }
     }
 
-    /// Makes the cell of a piece, where there is none, and logs the piece's cause and end.
-    fn log_life(&mut self, spot: PieceSpot) -> Result<(), AllocError>
+    /// Makes the cell of a piece, where there is none, and logs the piece's cause and end. Answers the
+    /// cell's place.
+    fn log_life(&mut self, near: usize, spot: PieceSpot) -> Result<usize, AllocError>
         requires { spot.lane < length self.old.rows.rows.items }
         ensures rows { AddsCells self.old.rows.rows.items self.new.rows.rows.items }
         ensures life { OnOk result (LogsLife self.old self.new spot) }
@@ -98,14 +106,19 @@ impl LoggedRows {
     {
         let alloc = self.rows.alloc;
         let row = &mut self.rows.rows[spot.lane as usize];
-        let place = make_cell(row, alloc, spot.block)?;
+        let place = make_cell_near(row, alloc, near, spot.block)?;
         let former = life_of(&row.cells[place], spot);
         self.log.push(former)?;
-        Ok(())
+        Ok(place)
     }
 
     /// Gives a piece a cause. A lane that has no row stays without.
-    pub fn set_cause(&mut self, spot: PieceSpot, cause: Cause) -> Result<(), AllocError>
+    pub fn set_cause(
+        &mut self,
+        near: usize,
+        spot: PieceSpot,
+        cause: Cause,
+    ) -> Result<(), AllocError>
         ensures given { OnOk result (IsThere self.old.rows.rows.items (node_of spot) → GivesCause self.old.rows.rows.items self.new.rows.rows.items (node_of spot) cause) }
         ensures pieces { KeepsPieces self.old.rows.rows.items self.new.rows.rows.items }
         ensures logged { IsLogged self.old self.new }
@@ -113,13 +126,13 @@ impl LoggedRows {
         if spot.lane as usize >= self.rows.rows.len() {
             return Ok(());
         }
-        self.log_life(spot)?;
-        give_cause(&mut self.rows, spot, cause);
+        let place = self.log_life(near, spot)?;
+        give_cause_near(&mut self.rows, place, spot, cause);
         Ok(())
     }
 
     /// Gives a piece an end. A lane that has no row stays without.
-    pub fn set_end(&mut self, spot: PieceSpot, end: PieceEnd) -> Result<(), AllocError>
+    pub fn set_end(&mut self, near: usize, spot: PieceSpot, end: PieceEnd) -> Result<(), AllocError>
         ensures given { OnOk result (IsThere self.old.rows.rows.items (node_of spot) → GivesEnd self.old.rows.rows.items self.new.rows.rows.items (node_of spot) end) }
         ensures absent { OnOk result ((IsThere self.old.rows.rows.items (node_of spot) → ⊥) → (l b : ℕ) → rows_seen self.new.rows.rows.items l b ≡ rows_seen self.old.rows.rows.items l b) }
         ensures causes { KeepsCauses self.old.rows.rows.items self.new.rows.rows.items }
@@ -128,8 +141,8 @@ impl LoggedRows {
         if spot.lane as usize >= self.rows.rows.len() {
             return Ok(());
         }
-        self.log_life(spot)?;
-        give_end(&mut self.rows, spot, end);
+        let place = self.log_life(near, spot)?;
+        give_end_near(&mut self.rows, place, spot, end);
         Ok(())
     }
 }

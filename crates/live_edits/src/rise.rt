@@ -9,6 +9,7 @@ ghost use Rattle.live_edits.specs.Updated.{Raises, Revives};
 
 use crate::log::LoggedRows;
 use crate::pieces::Need;
+use crate::spots::SpotList;
 use live_lanes::compute::flow::BlockFlow;
 use live_lanes::order::Order;
 use live_lanes::row::Cause;
@@ -23,9 +24,9 @@ impl LoggedRows {
         order: &Order,
         flow: &[BlockFlow],
         reasons: &[Need],
-        around: &mut Vec<PieceSpot>,
+        around: &mut SpotList,
     ) -> Result<Vec<PieceSpot>, AllocError>
-        ensures rises { IfOk result (λ risen. Revives order.now.slots flow.now self.old.rows.rows.items self.new.rows.rows.items reasons.now risen.items around.old.items around.new.items) }
+        ensures rises { IfOk result (λ risen. Revives order.now.slots flow.now self.old.rows.rows.items self.new.rows.rows.items reasons.now risen.items around.old.spots.items around.new.spots.items) }
         ensures pieces { KeepsPieces self.old.rows.rows.items self.new.rows.rows.items }
         ensures logged { IsLogged self.old self.new }
     {
@@ -43,10 +44,10 @@ impl LoggedRows {
     }
 
     /// Whether a piece is live.
-    fn is_live(&self, spot: PieceSpot) -> bool
+    fn is_live(&self, near: usize, spot: PieceSpot) -> bool
         ensures { result ≡ is_live (causes self.now.rows.rows.items spot.lane spot.block spot.index) }
     {
-        !matches!(self.cause_of(spot), Cause::None)
+        !matches!(self.cause_of(near, spot), Cause::None)
     }
 
     /// Lets the pieces come alive that aren't live, and lists them; those that are are around.
@@ -54,17 +55,18 @@ impl LoggedRows {
         &mut self,
         needs: &[Need],
         risen: &mut Vec<PieceSpot>,
-        around: &mut Vec<PieceSpot>,
+        around: &mut SpotList,
     ) -> Result<(), AllocError>
-        ensures raises { OnOk result (Raises self.old.rows.rows.items self.new.rows.rows.items needs.now risen.old.items risen.new.items around.old.items around.new.items) }
+        ensures raises { OnOk result (Raises self.old.rows.rows.items self.new.rows.rows.items needs.now risen.old.items risen.new.items around.old.spots.items around.new.spots.items) }
         ensures pieces { KeepsPieces self.old.rows.rows.items self.new.rows.rows.items }
         ensures logged { IsLogged self.old self.new }
     {
         'needs: for need in needs {
-            if self.is_live(need.spot) {
-                around.push(need.spot)?;
+            let near = self.near(need.spot.lane, need.spot.block);
+            if self.is_live(near, need.spot) {
+                around.add(need.spot)?;
             } else {
-                self.set_cause(need.spot, need.cause)?;
+                self.set_cause(near, need.spot, need.cause)?;
                 risen.push(need.spot)?;
             }
         }

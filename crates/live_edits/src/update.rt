@@ -6,25 +6,33 @@ ghost use Rattle.live_edits.specs.Logged.{IsLogged};
 ghost use Rattle.live_edits.specs.Updated.{Updates};
 
 use crate::log::LoggedRows;
+use crate::spots::SpotList;
 use live_lanes::compute::flow::BlockFlow;
 use live_lanes::order::Order;
 use live_lanes::table::PieceSpot;
 use std::alloc::{AllocError, Global};
 use std::collections::BTreeSet;
 
-/// Three lists of pieces, one behind the other.
+/// Two lists of pieces, one behind the other.
 fn concatenate(
     alloc: Global,
     first: &[PieceSpot],
     second: &[PieceSpot],
-    third: &[PieceSpot],
 ) -> Result<Vec<PieceSpot>, AllocError>
-    ensures { IfOk result (λ all. all.items ≡ (first.now ++ second.now) ++ third.now) }
+    ensures { IfOk result (λ all. all.items ≡ first.now ++ second.now) }
 {
     let mut all = Vec::new(alloc);
     all.extend_from_slice(first)?;
     all.extend_from_slice(second)?;
-    all.extend_from_slice(third)?;
+    Ok(all)
+}
+
+/// The same list once more.
+fn copied(alloc: Global, spots: &[PieceSpot]) -> Result<Vec<PieceSpot>, AllocError>
+    ensures { IfOk result (λ all. all.items ≡ spots.now) }
+{
+    let mut all = Vec::new(alloc);
+    all.extend_from_slice(spots)?;
     Ok(all)
 }
 
@@ -42,14 +50,17 @@ impl LoggedRows {
         ensures logged { IsLogged self.old self.new }
     {
         let alloc = self.rows.alloc;
+        // Both sides of an instruction mostly lie in one piece, and those of the next one too.
+        let mut around = SpotList::new(alloc)?;
+        around.add_all(suspects)?;
+        let list = copied(alloc, around.spots.as_slice())?;
         let mut fallen = self.look_again(order, flow, suspects, ids)?;
-        let mut around = Vec::new(alloc);
         self.fall(order, flow, &mut fallen, &mut around)?;
         let mut reasons = Vec::new(alloc);
-        self.ask(order, flow, suspects, &mut reasons)?;
+        self.ask(order, flow, list.as_slice(), &mut reasons)?;
         self.ask(order, flow, fallen.as_slice(), &mut reasons)?;
         let risen = self.rise(order, flow, reasons.as_slice(), &mut around)?;
-        let again = concatenate(alloc, suspects, around.as_slice(), risen.as_slice())?;
+        let again = concatenate(alloc, around.spots.as_slice(), risen.as_slice())?;
         self.end_again(order, flow, again.as_slice())
     }
 }

@@ -11,7 +11,7 @@ use Rattle.live_edits.proofs.log.LoggedRows.fall.Goals.{else-fallen-test, then-f
 
 pub fallen-init : goal.fallen-init
 fallen-init c = record {
-  falls = falls-none c.args.order.now.slots c.args.flow.now c.args.self.now.rows.rows.items c.args.fallen.now.items c.args.around.now.items;
+  falls = falls-none c.args.order.now.slots c.args.flow.now c.args.self.now.rows.rows.items c.args.fallen.now.items c.args.around.now.spots.items;
   pieces = pieces-same c.args.self.now.rows.rows.items;
   logged = logged-same c.args.self.now;
 }
@@ -27,7 +27,7 @@ fallen-preserved c =
     subst (λ (ns : List Need). AreNeedsOf c.args.order.now.slots c.args.flow.now mid (node_of c.index-piece.result.now) ns) (sym c.as_slice.ensures.value) (c.in_ok-find_needs.ensures rise) in
     let i = c.fallen.invariant in
     record {
-      falls = falls-more c.args.order.now.slots c.args.flow.now old mid new c.fallen.k c.index-piece.result.now c.as_slice.result.now c.args.fallen.now.items fallen.items c.lose_all.new.fallen.items c.args.around.now.items c.fallen.around.items c.lose_all.new.around.items
+      falls = falls-more c.args.order.now.slots c.args.flow.now old mid new c.fallen.k c.index-piece.result.now c.as_slice.result.now c.args.fallen.now.items fallen.items c.lose_all.new.fallen.items c.args.around.now.spots.items c.fallen.around.spots.items c.lose_all.new.around.spots.items
           i.falls within c.index-piece.ensures found c.in_ok-lose_all.ensures.loses c.in_ok-lose_all.ensures.around i.pieces;
       pieces = pieces-then old mid new i.pieces c.in_ok-lose_all.ensures.pieces;
       logged = logged-then c.args.self.now c.fallen.self c.lose_all.new.self i.logged c.in_ok-lose_all.ensures.logged;
@@ -42,7 +42,7 @@ returns c =
     let all : length fallen.items ≤ c.fallen.k = elim c.fallen-test.branch [ else-fallen-test w ↦ omega (arith, fallen.ok.0, fallen.ok.1, fallen.small, w.fallen-test.false) | then-fallen-test+then-k-len w ↦ omega (arith, fallen.ok.0, w.len.ensures, w.if-k-len.true) ] in
     let i = c.fallen.invariant in
     record {
-      falls = falls-all c.args.order.now.slots c.args.flow.now c.args.self.now.rows.rows.items c.fallen.self.rows.rows.items c.fallen.k c.args.fallen.now.items fallen.items c.args.around.now.items c.fallen.around.items i.falls all;
+      falls = falls-all c.args.order.now.slots c.args.flow.now c.args.self.now.rows.rows.items c.fallen.self.rows.rows.items c.fallen.k c.args.fallen.now.items fallen.items c.args.around.now.spots.items c.fallen.around.spots.items i.falls all;
       pieces = i.pieces;
       logged = i.logged;
     }

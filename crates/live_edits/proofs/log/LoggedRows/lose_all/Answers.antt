@@ -1,12 +1,13 @@
-use Rattle.std.proofs.Common.{◌≡◌, ◌++◌, ◌∷◌, [], ◌+◌, List, take, get_or, sym, ap, ◌∙◌, subst, arith, rules, append-nil}
+use Rattle.std.proofs.Common.{◌≡◌, ◌++◌, ◌∷◌, [], ◌+◌, List, take, get_or, sym, ◌∙◌, subst, arith, rules}
 use Rattle.live_lanes.specs.declared.row.Cause.TheVariants as reasons
 use Rattle.live_edits.specs.declared.pieces.Need.{Need}
 use Rattle.live_edits.specs.Logged.{IsLogged}
-use Rattle.live_edits.specs.Pieces.{KeepsPieces}
+use Rattle.live_edits.specs.Pieces.{HasAll, KeepsPieces}
 use Rattle.live_edits.specs.Fallen.{spots_of, LosesAll}
 use Rattle.live_edits.proofs.Logged.{logged-same, logged-then}
 use Rattle.live_edits.proofs.KeptPieces.{pieces-same, pieces-then}
 use Rattle.live_edits.proofs.FallNeeds.{LosesOne, passes-one, loses-one, loses-none, loses-more, taken-more, around-more}
+use Rattle.live_edits.proofs.SpotLists.{has-first}
 use Rattle.live_edits.proofs.log.LoggedRows.lose_all.Goals as goal
 use Rattle.live_edits.proofs.log.LoggedRows.lose_all.Goals.{then-eq+in_ok-lose_cause, else-eq}
 
@@ -16,7 +17,7 @@ nothing = record { spot = record { lane = 0; block = 0; index = 0 }; cause = rea
 pub needs-init : goal.needs-init
 needs-init c = record {
   loses = loses-none c.args.self.now.rows.rows.items c.args.fallen.now.items;
-  around = sym (append-nil c.args.around.now.items);
+  around = has-first c.args.around.now.spots.items;
   pieces = pieces-same c.args.self.now.rows.rows.items;
   logged = logged-same c.args.self.now;
 }
@@ -46,8 +47,8 @@ needs-preserved c =
     record {
       loses = subst (λ (ns : List Need). LosesAll old c.if-eq.self.rows.rows.items ns c.args.fallen.now.items c.if-eq.fallen.items) (sym more)
           (loses-more old mid c.if-eq.self.rows.rows.items (take k needs) need c.args.fallen.now.items c.needs.fallen.items c.if-eq.fallen.items i.loses i.pieces one);
-      around = around-more c.args.around.now.items c.needs.around.items c.add_piece.new.pieces.items (take k needs) need i.around c.in_ok-add_piece.ensures
-          ∙ ap (λ (ns : List Need). c.args.around.now.items ++ spots_of ns) (sym more);
+      around = subst (λ (ns : List Need). HasAll c.add.new.self.spots.items (c.args.around.now.spots.items ++ spots_of ns)) (sym more)
+          (around-more c.args.around.now.spots.items c.needs.around.spots.items c.add.new.self.spots.items (take k needs) need i.around c.in_ok-add.ensures.has);
       pieces = pieces-then old mid c.if-eq.self.rows.rows.items i.pieces kept;
       logged = logged-then c.args.self.now c.needs.self c.if-eq.self i.logged log;
     }
@@ -55,8 +56,8 @@ needs-preserved c =
 pub returns-in_err-lose_cause-clause-logged : goal.returns-in_err-lose_cause-clause-logged
 returns-in_err-lose_cause-clause-logged c = logged-then c.args.self.now c.needs.self c.lose_cause.new.self c.needs.invariant.logged c.lose_cause.ensures.logged
 
-pub returns-in_err-add_piece-clause-logged : goal.returns-in_err-add_piece-clause-logged
-returns-in_err-add_piece-clause-logged c =
+pub returns-in_err-add-clause-logged : goal.returns-in_err-add-clause-logged
+returns-in_err-add-clause-logged c =
     let log : IsLogged c.needs.self c.if-eq.self =
     elim c.if-eq.branch [ then-eq+in_ok-lose_cause w ↦ rw w.self-is w.in_ok-lose_cause.ensures.logged | else-eq w ↦ rw w.self-is (logged-same c.needs.self) ] in
     logged-then c.args.self.now c.needs.self c.if-eq.self c.needs.invariant.logged log

@@ -1,13 +1,13 @@
-use Rattle.std.proofs.Common.{◌≡◌, ◌++◌, take}
+use Rattle.std.proofs.Common.{◌++◌, take}
 use Rattle.live_edits.specs.Fallen.{spots_of, LosesAll}
 use Rattle.live_edits.specs.Logged.{IsLogged}
-use Rattle.live_edits.specs.Pieces.{KeepsPieces}
+use Rattle.live_edits.specs.Pieces.{HasAll, KeepsPieces}
 use Rattle.live_edits.proofs.log.LoggedRows.lose_all.Given as goal
 
 abbrev pub invariant-needs : goal.invariant-needs
 invariant-needs l = record {
   loses : LosesAll l.fn.self.rows.rows.items l.self.rows.rows.items (take l.need-index l.needs) l.fn.fallen.items l.fallen.items;
-  around : l.around.items ≡ l.fn.around.items ++ spots_of (take l.need-index l.needs);
+  around : HasAll l.around.spots.items (l.fn.around.spots.items ++ spots_of (take l.need-index l.needs));
   pieces : KeepsPieces l.fn.self.rows.rows.items l.self.rows.rows.items;
   logged : IsLogged l.fn.self l.self;
 }

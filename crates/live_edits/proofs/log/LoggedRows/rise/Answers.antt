@@ -12,8 +12,8 @@ risen-init c =
     let old = c.args.self.now.rows.rows.items in
     let new = c.revive_all.new.self.rows.rows.items in
     let risen = c.revive_all.new.risen.items in
-    let around = c.args.around.now.items in
-    let around' = c.revive_all.new.around.items in
+    let around = c.args.around.now.spots.items in
+    let around' = c.revive_all.new.around.spots.items in
     let done = c.in_ok-revive_all.ensures in
     record {
       some = risen-first c.args.order.now.slots c.args.flow.now old new c.args.reasons.now risen around around' done.pieces (subst (λ from. Raises old new c.args.reasons.now from risen around around') c.new-risen.ensures.items done.raises);
@@ -34,7 +34,7 @@ risen-preserved c =
     let now = c.risen.invariant in
     let done = c.in_ok-revive_all-2.ensures in
     record {
-      some = risen-more slots flow old mid new c.args.reasons.now c.risen.k risen.items c.args.around.now.items c.risen.around.items now.some now.pieces done.pieces x x within c.index.ensures c.as_slice.result.now (λ r. subst (λ ns. AreNeedsOf slots flow mid (node_of x) ns) (sym c.as_slice.ensures.value) (c.in_ok-find_needs.ensures r)) c.revive_all-in-risen.new.risen.items c.revive_all-in-risen.new.around.items done.raises;
+      some = risen-more slots flow old mid new c.args.reasons.now c.risen.k risen.items c.args.around.now.spots.items c.risen.around.spots.items now.some now.pieces done.pieces x x within c.index.ensures c.as_slice.result.now (λ r. subst (λ ns. AreNeedsOf slots flow mid (node_of x) ns) (sym c.as_slice.ensures.value) (c.in_ok-find_needs.ensures r)) c.revive_all-in-risen.new.risen.items c.revive_all-in-risen.new.around.spots.items done.raises;
       pieces = pieces-then old mid new now.pieces done.pieces;
       logged = logged-then c.args.self.now c.risen.self c.revive_all-in-risen.new.self now.logged done.logged;
     }
@@ -43,7 +43,7 @@ pub returns-clause-rises : goal.returns-clause-rises
 returns-clause-rises c =
     let risen = c.risen.risen in
     let all : length risen.items ≤ c.risen.k = elim c.risen-test.branch [ else-risen-test w ↦ omega (arith, risen.ok.0, risen.ok.1, risen.small, w.risen-test.false) | then-risen-test+then-k-len w ↦ omega (arith, risen.ok.0, w.len.ensures, w.if-k-len.true) ] in
-    risen-all c.args.order.now.slots c.args.flow.now c.args.self.now.rows.rows.items c.risen.self.rows.rows.items c.args.reasons.now c.risen.k risen.items c.args.around.now.items c.risen.around.items all c.risen.invariant.some
+    risen-all c.args.order.now.slots c.args.flow.now c.args.self.now.rows.rows.items c.risen.self.rows.rows.items c.args.reasons.now c.risen.k risen.items c.args.around.now.spots.items c.risen.around.spots.items all c.risen.invariant.some
 
 pub returns-in_err-revive_all-2-clause-logged : goal.returns-in_err-revive_all-2-clause-logged
 returns-in_err-revive_all-2-clause-logged c = logged-then c.args.self.now c.risen.self c.revive_all-in-risen.new.self c.risen.invariant.logged c.in_err-revive_all-2.ensures.logged

@@ -3,18 +3,18 @@ use Rattle.live_lanes.specs.Table.{with_cause}
 use Rattle.live_edits.proofs.Lives.{added-logged, added-pieces, life-logged, cause-back, cause-pieces}
 use Rattle.live_edits.proofs.log.LoggedRows.set_cause.Goals as goal
 
-pub returns-in_err-log_life-clause-pieces : goal.returns-in_err-log_life-clause-pieces
-returns-in_err-log_life-clause-pieces c = added-pieces c.args.self.now.rows.rows.items c.log_life.new.self.rows.rows.items c.log_life.ensures.rows
+pub returns-in_err-place-clause-pieces : goal.returns-in_err-place-clause-pieces
+returns-in_err-place-clause-pieces c = added-pieces c.args.self.now.rows.rows.items c.log_life.new.self.rows.rows.items c.log_life.ensures.rows
 
-pub returns-in_err-log_life-clause-logged : goal.returns-in_err-log_life-clause-logged
-returns-in_err-log_life-clause-logged c = added-logged c.args.self.now c.log_life.new.self c.log_life.ensures.rows c.in_err-log_life.ensures.log
+pub returns-in_err-place-clause-logged : goal.returns-in_err-place-clause-logged
+returns-in_err-place-clause-logged c = added-logged c.args.self.now c.log_life.new.self c.log_life.ensures.rows c.in_err-place.ensures.log
 
 pub returns-clause-pieces : goal.returns-clause-pieces
 returns-clause-pieces c =
-    let logs = c.in_ok-log_life.ensures.life in
-    cause-pieces c.args.self.now c.log_life.new.self _ c.args.spot c.args.cause logs (c.give_cause.ensures logs.there)
+    let logs = c.in_ok-place.ensures.life in
+    cause-pieces c.args.self.now c.log_life.new.self _ c.args.spot c.args.cause logs (c.give_cause_near.ensures logs.there)
 
 pub returns-clause-logged : goal.returns-clause-logged
 returns-clause-logged c =
-    let logs = c.in_ok-log_life.ensures.life in
-    life-logged c.args.self.now c.log_life.new.self _ c.args.spot (λ v. with_cause v c.args.spot.index c.args.cause) logs (c.give_cause.ensures logs.there) refl (cause-back c.args.spot.index c.args.cause)
+    let logs = c.in_ok-place.ensures.life in
+    life-logged c.args.self.now c.log_life.new.self _ c.args.spot (λ v. with_cause v c.args.spot.index c.args.cause) logs (c.give_cause_near.ensures logs.there) refl (cause-back c.args.spot.index c.args.cause)

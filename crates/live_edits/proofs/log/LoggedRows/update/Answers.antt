@@ -1,8 +1,13 @@
-use Rattle.std.proofs.Common.{◌≡◌, ◌++◌, ◌∙◌, subst}
-use Rattle.live_edits.specs.Updated.{LetsFall, AsksFor, Revives}
-use Rattle.live_edits.proofs.Logged.{logged-then}
-use Rattle.live_edits.proofs.UpdateSteps.{parts-update, on-ok}
+use Rattle.std.proofs.Common.{◌≡◌, [], ◌++◌, ◌∙◌, subst}
+use Rattle.live_edits.specs.Pieces.{HasAll}
+use Rattle.live_edits.specs.Updated.{AsksFor, Revives}
+use Rattle.live_edits.proofs.Logged.{logged-same, logged-then}
+use Rattle.live_edits.proofs.SpotLists.{has-equal}
+use Rattle.live_edits.proofs.UpdateSteps.{asks-alike, parts-update, on-ok}
 use Rattle.live_edits.proofs.log.LoggedRows.update.Goals as goal
+
+pub returns-in_err-list-clause-logged : goal.returns-in_err-list-clause-logged
+returns-in_err-list-clause-logged c = logged-same c.args.self.now
 
 pub returns-in_err-fall-clause-logged : goal.returns-in_err-fall-clause-logged
 returns-in_err-fall-clause-logged c = logged-then c.args.self.now c.look_again.new.self c.fall.new.self c.in_ok-fallen.ensures.logged c.in_err-fall.ensures.logged
@@ -41,23 +46,29 @@ returns-clause-updates c =
     let suspects = c.args.suspects.now in
     let first = c.in_ok-fallen.fallen.items in
     let fallen = c.fall.new.fallen.items in
-    let around = c.fall.new.around.items in
-    let around' = c.rise.new.around.items in
+    let around = c.fall.new.around.spots.items in
+    let around' = c.rise.new.around.spots.items in
     let some = c.ask.new.reasons.items in
     let queue = c.ask-2.new.reasons.items in
     let risen = c.in_ok-risen.risen.items in
-    let again = c.as_slice-5.result.now in
-    let all : again ≡ (suspects ++ around') ++ risen =
-    c.as_slice-5.ensures.value ∙ (c.in_ok-again.ensures ∙ (λ i. (suspects ++ c.as_slice-3.ensures.value i) ++ c.as_slice-4.ensures.value i)) in
-    on-ok c.end_again.result c.end_again.ensures.again (λ ends. parts-update c.args.ids.now.keys slots flow r0 r1 r2 r3 r4 suspects first fallen around around' some queue risen again record {
+    let start = c.add_all.new.self.spots.items in
+    let list = c.in_ok-list.list.items in
+    let same : list ≡ start = c.in_ok-list.ensures ∙ c.as_slice.ensures.value in
+    let starts : HasAll start suspects = subst (λ xs. HasAll start (xs ++ suspects)) c.in_ok-around.ensures c.in_ok-add_all.ensures.has in
+    let only : HasAll suspects start = subst (λ xs. HasAll (xs ++ suspects) start) c.in_ok-around.ensures c.in_ok-add_all.ensures.only in
+    let again = c.as_slice-7.result.now in
+    let all : again ≡ around' ++ risen = c.as_slice-7.ensures.value ∙ (c.in_ok-again.ensures ∙ (λ i. c.as_slice-5.ensures.value i ++ c.as_slice-6.ensures.value i)) in
+    on-ok c.end_again.result c.end_again.ensures.again (λ ends. parts-update c.args.ids.now.keys slots flow r0 r1 r2 r3 r4 suspects start first fallen around around' some queue risen again record {
       looks = c.in_ok-fallen.ensures.looks;
       looks_keep = c.in_ok-fallen.ensures.pieces;
-      falls = subst (λ from. LetsFall slots flow r1 r2 first fallen from around) c.new-around.ensures.items c.in_ok-fall.ensures.falls;
+      falls = c.in_ok-fall.ensures.falls;
       falls_keep = c.in_ok-fall.ensures.pieces;
-      asks = λ r. subst (λ from. AsksFor slots flow r2 suspects from some) c.new-reasons.ensures.items (c.in_ok-ask.ensures r);
-      asks_more = λ r. subst (λ asked. AsksFor slots flow r2 asked some queue) c.as_slice.ensures.value (c.in_ok-ask-2.ensures r);
-      revives = subst (λ q. Revives slots flow r2 r3 q risen around around') c.as_slice-2.ensures.value c.in_ok-risen.ensures.rises;
+      asks = λ r. asks-alike slots flow r2 start suspects [] some starts only
+          (subst (λ asked. AsksFor slots flow r2 asked [] some) (c.as_slice-2.ensures.value ∙ same) (subst (λ from. AsksFor slots flow r2 c.as_slice-2.result.now from some) c.new-reasons.ensures.items (c.in_ok-ask.ensures r)));
+      asks_more = λ r. subst (λ asked. AsksFor slots flow r2 asked some queue) c.as_slice-3.ensures.value (c.in_ok-ask-2.ensures r);
+      revives = subst (λ q. Revives slots flow r2 r3 q risen around around') c.as_slice-4.ensures.value c.in_ok-risen.ensures.rises;
       rises_keep = c.in_ok-risen.ensures.pieces;
       ends = ends;
-      all = all;
+      starts = starts;
+      all = has-equal again (around' ++ risen) all;
     })

@@ -2,7 +2,7 @@ use Rattle.std.proofs.Common.{sym, ◌∙◌}
 use Rattle.std.specs.Prelude.{is_ok}
 use Rattle.live_lanes.proofs.Cells.{there-found, put-descends, put-there, put-same}
 use Rattle.live_edits.proofs.ChangedRows.{put-kept}
-use Rattle.live_edits.proofs.change.make_cell.Goals as goal
+use Rattle.live_edits.proofs.change.make_cell_near.Goals as goal
 
 pub returns-then-has_at-clause-within : goal.returns-then-has_at-clause-within
 returns-then-has_at-clause-within c =
