@@ -89,9 +89,8 @@ fn make_room(block_of: &mut Vec<u32>, id: u32) -> Result<(), AllocError>
     ensures same { (n : ℕ) → slice_index block_of.new.items n ≡ slice_index block_of.old.items n }
     ensures room { OnOk result (id < length block_of.new.items) }
 {
-    let count = id as usize + 1;
-    if block_of.len() < count {
-        block_of.resize(count, 0)?;
+    if id as usize >= block_of.len() {
+        block_of.resize(id as usize + 1, 0)?;
     }
     Ok(())
 }

@@ -109,12 +109,7 @@ fn images(
 fn is_same_lane(a: Lane, b: Lane) -> bool
     ensures { result ≡ same_lane a b }
 {
-    match (a, b) {
-        (Lane::VirtualLane(v, k), Lane::VirtualLane(w, l)) => v == w && k == l,
-        (Lane::UnitLane(u), Lane::UnitLane(w)) => u == w,
-        (Lane::SlotLane(s, k, x), Lane::SlotLane(t, l, y)) => s == t && (k == l && x == y),
-        _ => false,
-    }
+    a == b
 }
 
 /// Whether two lists have the same lanes.
