@@ -1,23 +1,20 @@
 -- Cells that are made anew one after the other.
-use Rattle.std.proofs.Common.{◌≡◌, ◌<◌, ◌≤◌, ◌+◌, ◌∙◌, ◌⊎◌, inl, inr, ℕ, suc, Bool, true, false, cond, ◌&&◌, List, [], ◌∷◌, ◌++◌, Option, Some, length, drop, get_or, refl, sym, ap, subst, arith, eqb-true, eq-eqb}
+use Rattle.std.proofs.Common.{◌≡◌, ◌<◌, ◌≤◌, ◌+◌, ◌∙◌, ◌⊎◌, inl, inr, ℕ, suc, Bool, true, false, ◌&&◌, List, [], ◌∷◌, Some, length, drop, get_or, refl, sym, ap, subst, arith, eqb-true, eq-eqb}
 use Rattle.std.specs.Prelude.{nat_eq, slice_get}
 use Rattle.std.proofs.lemmas.List.{drop_more, drop_all}
 use Rattle.mir_meaning.specs.Paths.{Among, here, there}
-use Rattle.live_lanes.specs.declared.row.Cell.{Cell}
 use Rattle.live_lanes.specs.declared.row.LaneRange.{LaneRange}
-use Rattle.live_lanes.specs.Table.{Numbers, seen, seen_cell}
+use Rattle.live_lanes.specs.Table.{Numbers}
 use Rattle.live_lanes.specs.Entered.{rows_seen}
 use Rattle.live_lanes.proofs.Basics.{none-among}
 use Rattle.live_lanes.proofs.Numbered.{among-cases}
 use Rattle.edit_laws.specs.Rebuilt.{IsRebuilt, stays}
 use Rattle.edit_laws.proofs.Rebuilt.{untouched-law}
 use Rattle.live_edits.specs.declared.cells.CellNotes.{CellNotes}
-use Rattle.live_edits.specs.declared.log.Former.{Former}
-use Rattle.live_edits.specs.declared.log.Former.TheVariants as formers
-use Rattle.live_edits.specs.declared.log.LoggedRows.{LoggedRows}
-use Rattle.live_edits.specs.Changes.{AddsCells, ChangesCell}
-use Rattle.live_edits.specs.Logged.{has_cell, cell_there, IsLogged}
-use Rattle.live_edits.specs.Remade.{RemakesCell, IsRemade, RemakesOne, RemakesAll}
+use Rattle.live_edits.specs.declared.cells.Note.{Note}
+use Rattle.live_edits.specs.Renoted.{NotesAll, NotesCell, ChangesOne}
+use Rattle.live_edits.proofs.RenoteWhole.{notes-rebuilt}
+use Rattle.live_edits.specs.Remade.{RemakesAll}
 
 abbrev is_at : ℕ → ℕ → ℕ → ℕ → Bool
 is_at lane block l b = nat_eq lane l && nat_eq block b
@@ -39,57 +36,20 @@ at-block lane block l b e = go (nat_eq lane l) e
 at-own : (lane block : ℕ) → is_at lane block lane block ≡ true
 at-own lane block = ap (λ u. u && nat_eq block block) (eq-eqb lane lane refl) ∙ eq-eqb block block refl
 
-pub none-added : (rows : List LaneRange) → AddsCells rows rows
-none-added rows = record { seen = λ l b. refl; cells = λ l b h. h; lanes = refl }
-
--- a cell is replaced, and the old one logged
-module _ (x z : LoggedRows) (mid : List LaneRange) (lane : ℕ) (cell old : Cell) (a : AddsCells x.rows.rows.items mid) (has : has_cell mid lane cell.block ≡ true) (q : ChangesCell mid z.rows.rows.items lane cell.block (λ v. seen_cell cell)) where
-  pub replaced-logged : old.block ≡ cell.block → seen_cell old ≡ rows_seen mid lane cell.block → z.log.items ≡ x.log.items ++ formers.Whole lane old ∷ [] → IsLogged x z
-  replaced-logged block was list = record {
-    added = formers.Whole lane old ∷ [];
-    list = list;
-    back = λ l b. ap (λ n. cond (nat_eq lane l && nat_eq n b) (seen_cell old) (rows_seen z.rows.rows.items l b)) block ∙ back l b (is_at lane cell.block l b) refl;
-    lanes = q.lanes ∙ a.lanes;
-    cells = λ l b h. q.cells l b ∙ a.cells l b h;
-    there = λ f m. there-is f (among-cases f (formers.Whole lane old) [] m);
-  }
-    where
-      back : (l b : ℕ) (t : Bool) → is_at lane cell.block l b ≡ t → cond (is_at lane cell.block l b) (seen_cell old) (rows_seen z.rows.rows.items l b) ≡ rows_seen x.rows.rows.items l b
-      back l b true e =
-          ap (λ u. cond u (seen_cell old) (rows_seen z.rows.rows.items l b)) e
-          ∙ (was ∙ ((λ i. rows_seen mid (at-lane lane cell.block l b e i) (at-block lane cell.block l b e i)) ∙ a.seen l b))
-      back l b false e =
-          ap (λ u. cond u (seen_cell old) (rows_seen z.rows.rows.items l b)) e
-          ∙ (q.seen l b ∙ (ap (λ u. cond u (seen_cell cell) (rows_seen mid l b)) e ∙ a.seen l b))
-
-      there-is : (f : Former) → (f ≡ formers.Whole lane old) ⊎ Among f [] → cell_there z.rows.rows.items f ≡ true
-      there-is f (inl e) = ap (cell_there z.rows.rows.items) e ∙ (ap (has_cell z.rows.rows.items lane) block ∙ (q.cells lane cell.block ∙ has))
-      there-is f (inr m) = absurd (none-among f m)
-
-  pub replaced-one : (slots : Numbers) (c : CellNotes) (before : Option Cell) → c.lane ≡ lane → cell.block ≡ c.block → seen before ≡ rows_seen x.rows.rows.items c.lane c.block → RemakesCell slots c.lane c.block before c.notes.items cell → RemakesOne slots x.rows.rows.items z.rows.rows.items c
-  replaced-one slots c before own block was remakes = record {
-    lanes = q.lanes ∙ a.lanes;
-    others = λ l b e. q.seen l b ∙ (ap (λ u. cond u (seen_cell cell) (rows_seen mid l b)) ((λ i. nat_eq (sym own i) l && nat_eq (block i) b) ∙ e) ∙ a.seen l b);
-    one = λ h. record {
-      cell = before;
-      now = cell;
-      was = was;
-      is = q.seen c.lane c.block ∙ ap (λ u. cond u (seen_cell cell) (rows_seen mid c.lane c.block)) ((λ i. nat_eq (sym own i) c.lane && nat_eq (block i) c.block) ∙ at-own c.lane c.block);
-      remakes = remakes;
-    };
-  }
-
 -- a lane without rows
-pub past-one : (slots : Numbers) (rows : List LaneRange) (c : CellNotes) → length rows ≤ c.lane → RemakesOne slots rows rows c
-past-one slots rows c past = record { lanes = refl; others = λ l b e. refl; one = λ h. absurd (omega (arith, past, h)) }
+pub past-one : (slots : Numbers) (rows : List LaneRange) (c : CellNotes) → length rows ≤ c.lane → NotesCell slots rows rows c
+past-one slots rows c past = record { own = λ h. absurd (omega (arith, past, h)); others = λ l b e. refl; lanes = refl }
+
+pub one-cell : (slots : Numbers) (old new : List LaneRange) (c : CellNotes) (notes : List Note) → notes ≡ c.notes.items → ChangesOne old new c.lane c.block (NotesAll slots notes) → NotesCell slots old new c
+one-cell slots old new c notes e p = record { own = λ h. subst (λ ns. NotesAll slots ns (rows_seen old c.lane c.block) (rows_seen new c.lane c.block)) e p.own; others = p.others; lanes = p.lanes }
 
 -- one after the other
 abbrev pub RemakesEach : Numbers → List LaneRange → List CellNotes → List LaneRange → Type 0
 RemakesEach slots old [] new = new ≡ old
-RemakesEach slots old (c ∷ cs) new = (mid : List LaneRange) × RemakesOne slots old mid c × RemakesEach slots mid cs new
+RemakesEach slots old (c ∷ cs) new = (mid : List LaneRange) × NotesCell slots old mid c × RemakesEach slots mid cs new
 
 module _ (slots : Numbers) where
-  pub each-more : (old mid new : List LaneRange) (all : List CellNotes) (k : ℕ) (c : CellNotes) → k < length all → c ≡ get_or all k c → RemakesOne slots old mid c → RemakesEach slots mid (drop (k + 1) all) new → RemakesEach slots old (drop k all) new
+  pub each-more : (old mid new : List LaneRange) (all : List CellNotes) (k : ℕ) (c : CellNotes) → k < length all → c ≡ get_or all k c → NotesCell slots old mid c → RemakesEach slots mid (drop (k + 1) all) new → RemakesEach slots old (drop k all) new
   each-more old mid new all k c h own one rest = subst (λ cs. RemakesEach slots old cs new) (ap (λ d. d ∷ drop (k + 1) all) own ∙ sym (drop_more all k c h)) (mid, one, rest)
 
   pub each-all : (rows : List LaneRange) (all : List CellNotes) (k : ℕ) → length all ≤ k → RemakesEach slots rows (drop k all) rows
@@ -133,14 +93,15 @@ module _ (slots : Numbers) where
           absurd (omega (arith, same))
       go false e = refl
 
-  own-remade : (old new : List LaneRange) (cs : List CellNotes) (c : CellNotes) → RemakesEach slots old cs new → AreApart cs → Among c cs → c.lane < length old → IsRemade slots old new c
-  own-remade old new [] c r apart m h = elim m [ ]
-  own-remade old new (d ∷ cs) c r apart here h =
-      let o = r.1.one h in
-      record { cell = o.cell; now = o.now; was = o.was; is = others-stay r.0 new cs c.lane c.block r.2 (none-behind c cs apart) ∙ o.is; remakes = o.remakes }
-  own-remade old new (d ∷ cs) c r apart (there m) h =
-      let o = own-remade r.0 new cs c r.2 (behind-apart d cs apart) m (subst (λ n. c.lane < n) (sym r.1.lanes) h) in
-      record { cell = o.cell; now = o.now; was = o.was ∙ r.1.others c.lane c.block (other-first d c cs apart m); is = o.is; remakes = o.remakes }
+  abbrev Own : List LaneRange → List LaneRange → CellNotes → Type 0
+  Own old new c = NotesAll slots c.notes.items (rows_seen old c.lane c.block) (rows_seen new c.lane c.block)
+
+  own-noted : (old new : List LaneRange) (cs : List CellNotes) (c : CellNotes) → RemakesEach slots old cs new → AreApart cs → Among c cs → c.lane < length old → Own old new c
+  own-noted old new [] c r apart m h = elim m [ ]
+  own-noted old new (d ∷ cs) c r apart here h =
+      subst (NotesAll slots c.notes.items (rows_seen old c.lane c.block)) (sym (others-stay r.0 new cs c.lane c.block r.2 (none-behind c cs apart))) (r.1.own h)
+  own-noted old new (d ∷ cs) c r apart (there m) h =
+      subst (λ v. NotesAll slots c.notes.items v (rows_seen new c.lane c.block)) (r.1.others c.lane c.block (other-first d c cs apart m)) (own-noted r.0 new cs c r.2 (behind-apart d cs apart) m (subst (λ n. c.lane < n) (sym r.1.lanes) h))
 
   -- the notes of a lane in a block, if there are any
   find-at : (cs : List CellNotes) (l b : ℕ) → ((c : CellNotes) × Among c cs × (c.lane ≡ l) × (c.block ≡ b)) ⊎ None-at cs l b
@@ -162,9 +123,9 @@ module _ (slots : Numbers) where
       go : ((c : CellNotes) × Among c all × (c.lane ≡ l) × (c.block ≡ b)) ⊎ None-at all l b → IsRebuilt before code l b (rows_seen old l b) (rows_seen new l b)
       go (inl z) =
           let c = z.0 in
-          let o = own-remade old new all c r n.apart z.1 (n.lanes c z.1) in
+          let own = own-noted old new all c r n.apart z.1 (n.lanes c z.1) in
           let made : IsRebuilt before code c.lane c.block (rows_seen old c.lane c.block) (rows_seen new c.lane c.block) =
-          subst (λ v. IsRebuilt before code c.lane c.block (rows_seen old c.lane c.block) v) (sym o.is) (o.remakes touched before code was flow old t e numbered (n.each c z.1) o.was) in
+          notes-rebuilt touched before code was slots flow old c.lane c.block c.notes.items t e numbered (n.each c z.1) (rows_seen new c.lane c.block) own in
           subst (λ k. IsRebuilt before code l k (rows_seen old l k) (rows_seen new l k)) z.3 (subst (λ k. IsRebuilt before code k c.block (rows_seen old k c.block) (rows_seen new k c.block)) z.2 made)
       go (inr none) =
           stays (untouched-law touched before code l b e (n.others l b (λ c m f g. elsewhere c m f g))) (others-stay old new all l b r none)

@@ -1,15 +1,18 @@
 -- Rows of which one cell changes.
-use Rattle.std.proofs.Common.{◌≡◌, ◌<◌, ◌≤◌, ℕ, Bool, true, false, cond, ◌&&◌, length, List, [], ◌⊎◌, inl, inr, Option, None, Some, refl, sym, ap, ◌∙◌, subst, arith, eqb-true, eq-eqb, get_or, set, length-set}
-use Rattle.std.specs.Prelude.{nat_eq, slice_get, is_some}
+use Rattle.std.proofs.Common.{◌≡◌, ◌<◌, ◌≤◌, ℕ, Bool, true, false, cond, ◌&&◌, length, List, [], ◌⊎◌, inl, inr, Option, None, Some, refl, sym, ap, ◌∙◌, subst, arith, eqb-true, eq-eqb, get_or, set, length-set, vec_capacity}
+use Rattle.std.specs.Prelude.{nat_eq, slice_get, is_some, IfOk, Result}
+use Rattle.std.specs.declared.result.Result.TheVariants as results
 use Rattle.std.specs.List.{insert}
 use Rattle.std.proofs.lemmas.Option.{slice_get-get_or, slice_get_cases}
 use Rattle.live_lanes.specs.declared.row.Cell.{Cell}
 use Rattle.live_lanes.specs.declared.row.LaneRange.{LaneRange}
-use Rattle.live_lanes.specs.Table.{Seen, seen_in, seen_cell, find_cell, descends, is_before, leading}
+use Rattle.live_lanes.specs.Table.{Seen, seen, seen_in, seen_cell, find_cell, descends, is_before, leading}
 use Rattle.live_lanes.specs.Entered.{rows_seen, cells_of}
 use Rattle.live_lanes.proofs.Cells.{of_block, found-at, found-block, is-found, none-found, there-found, insert-find, set-descends, set-find, change-seen}
 use Rattle.live_lanes.proofs.Rows.{get-set, rows-set, row-of}
-use Rattle.live_edits.specs.Logged.{has_cell}
+use Rattle.live_edits.specs.declared.cell_change.CellChange.{CellChange}
+use Rattle.live_edits.specs.CellChanges.{seen_changed, fits_in}
+use Rattle.live_edits.specs.Logged.{has_cell, cell_room, room_of}
 use Rattle.live_edits.specs.Changes.{ChangesRow, ChangesCell, AddsCells}
 
 -- whether a row has a cell of a block is told where the search for it ends
@@ -37,23 +40,51 @@ module _ (cs : List Cell) (at : ℕ) (x y : Cell) (s : descends cs ≡ true) (h 
       go true e = sym (ap is_some (subst (λ n. find_cell n cs ≡ Some x) (eqb-true x.block q e) (is-found cs at x s found)))
       go false e = refl
 
+  no-room-goes : vec_capacity x.segments ≤ vec_capacity y.segments → (q : ℕ) → cell_room (find_cell q cs) ≤ cell_room (find_cell q (set cs at y))
+  no-room-goes room q = go (nat_eq x.block q) refl (ap cell_room (set-find q cs at x y s found block))
+    where
+      go : (t : Bool) → nat_eq x.block q ≡ t → cell_room (find_cell q (set cs at y)) ≡ cell_room (cond t (Some y) (find_cell q cs)) → cell_room (find_cell q cs) ≤ cell_room (find_cell q (set cs at y))
+      go true e f =
+          let own : cell_room (find_cell q cs) ≡ vec_capacity x.segments = ap cell_room (subst (λ n. find_cell n cs ≡ Some x) (eqb-true x.block q e) (is-found cs at x s found)) in
+          omega (arith, own, f, room)
+      go false e f = omega (arith, f)
+
 -- where a block has a cell, that is at the place where the search for it ends
 pub block-there : (b : ℕ) (cs : List Cell) (at : ℕ) (x : Cell) → descends cs ≡ true → at ≡ leading (is_before b) cs → is_some (find_cell b cs) ≡ true → x ≡ get_or cs at x → (at < length cs) × (x.block ≡ b)
 block-there b cs at x s e has is =
     let f = there-found b cs at s e has in
     (f.0, found-block b cs x (sym f.1 ∙ (slice_get-get_or cs at x f.0 ∙ ap Some (sym is))))
 
-pub row-changes : (b : ℕ) (cs : List Cell) (at : ℕ) (x y : Cell) (change : Seen → Seen) → descends cs ≡ true → at ≡ leading (is_before b) cs → is_some (find_cell b cs) ≡ true → x ≡ get_or cs at x → y.block ≡ x.block → seen_cell y ≡ change (seen_cell x) → ChangesRow cs (set cs at y) b change
-row-changes b cs at x y change s e has is block new =
+pub row-changes : (b : ℕ) (cs : List Cell) (at : ℕ) (x y : Cell) (change : Seen → Seen) → descends cs ≡ true → at ≡ leading (is_before b) cs → is_some (find_cell b cs) ≡ true → x ≡ get_or cs at x → y.block ≡ x.block → vec_capacity x.segments ≤ vec_capacity y.segments → seen_cell y ≡ change (seen_cell x) → ChangesRow cs (set cs at y) b change
+row-changes b cs at x y change s e has is block room new =
     let f = there-found b cs at s e has in
     record {
       seen = λ q. change-seen b cs at x y s f.0 f.1 is block change (seen_in cs) (λ p. refl) new q ∙ own q (nat_eq b q) refl;
       cells = same-cells cs at x y s f.0 is block;
+      rooms = no-room-goes cs at x y s f.0 is block room;
     }
   where
     own : (q : ℕ) (t : Bool) → nat_eq b q ≡ t → cond t (change (seen_in cs b)) (seen_in cs q) ≡ cond t (change (seen_in cs q)) (seen_in cs q)
     own q true g = ap (λ n. change (seen_in cs n)) (eqb-true b q g)
     own q false g = refl
+
+-- what takes a change of the cell back takes that of the row back
+module _ (b : ℕ) (cs : List Cell) (at : ℕ) (x : Cell) (s : descends cs ≡ true) (e : at ≡ leading (is_before b) cs) (has : is_some (find_cell b cs) ≡ true) (is : x ≡ get_or cs at x) where
+  own-cell : find_cell b cs ≡ Some x
+  own-cell = let f = there-found b cs at s e has in sym f.1 ∙ (slice_get-get_or cs at x f.0 ∙ ap Some (sym is))
+
+  pub row-fits : (change : CellChange) → fits_in change (cell_room (find_cell b cs)) ≡ true → fits_in change (vec_capacity x.segments) ≡ true
+  row-fits change h = ap (λ o. fits_in change (cell_room o)) (sym own-cell) ∙ h
+
+  module _ (y : Cell) (block : y.block ≡ x.block) where
+    new-cell : find_cell b (set cs at y) ≡ Some y
+    new-cell =
+        let f = there-found b cs at s e has in
+        set-find b cs at x y s (found cs at x y s f.0 is block) block ∙ ap (λ t. cond t (Some y) (find_cell b cs)) (ap (λ n. nat_eq n b) (found-block b cs x own-cell) ∙ eq-eqb b b refl)
+
+    pub row-back : {E : Type 0} (r : Result CellChange E) → IfOk r (λ back. seen_changed back (seen_cell y) ≡ seen_cell x) → IfOk r (λ back. fits_in back (vec_capacity y.segments) ≡ true) → IfOk r (λ back. (seen_changed back (seen_in (set cs at y) b) ≡ seen_in cs b) × (fits_in back (cell_room (find_cell b (set cs at y))) ≡ true))
+    row-back (results.Ok back) h g = (ap (λ o. seen_changed back (seen o)) new-cell ∙ (h ∙ sym (ap seen own-cell)), ap (λ o. fits_in back (cell_room o)) new-cell ∙ g)
+    row-back (results.Err z) h g = tt
 
 pub not-past : (b : ℕ) (cs : List Cell) (at : ℕ) → descends cs ≡ true → at ≡ leading (is_before b) cs → length cs ≤ at → is_some (find_cell b cs) ≡ true → ⊥
 not-past b cs at s e h has = let f = (there-found b cs at s e has).0 in omega arith
@@ -67,6 +98,15 @@ put-kept b cs at x s e none block ys f q h =
     go true = refl
     go false = h
 
+-- nor any room
+pub put-rooms : (b : ℕ) (cs : List Cell) (at : ℕ) (x : Cell) → descends cs ≡ true → at ≡ leading (is_before b) cs → is_some (find_cell b cs) ≡ false → x.block ≡ b → (ys : List Cell) → ys ≡ insert cs at x → (q : ℕ) → cell_room (find_cell q cs) ≤ cell_room (find_cell q ys)
+put-rooms b cs at x s e none block ys f q =
+    go (nat_eq b q) refl (ap (λ zs. cell_room (find_cell q zs)) f ∙ (ap (λ n. cell_room (find_cell q (insert cs n x))) e ∙ ap cell_room (insert-find b q cs x block (none-found b cs none))))
+  where
+    go : (t : Bool) → nat_eq b q ≡ t → cell_room (find_cell q ys) ≡ cell_room (cond t (Some x) (find_cell q cs)) → cell_room (find_cell q cs) ≤ cell_room (find_cell q ys)
+    go true g h = let gone : cell_room (find_cell q cs) ≡ 0 = ap (λ n. cell_room (find_cell n cs)) (sym (eqb-true b q g)) ∙ ap cell_room (none-found b cs none) in omega (arith, gone)
+    go false g h = omega (arith, h)
+
 -- the cells of one of the rows
 abbrev pub row_cells : Option LaneRange → List Cell
 row_cells o = elim o [ None ↦ [] | Some r ↦ r.cells.items ]
@@ -74,6 +114,12 @@ row_cells o = elim o [ None ↦ [] | Some r ↦ r.cells.items ]
 module _ (rows : List LaneRange) (lane : ℕ) (x : LaneRange) (h : lane < length rows) (is : x ≡ get_or rows lane x) where
   pub cells-of : cells_of rows lane ≡ x.cells.items
   cells-of = ap row_cells (slice_get-get_or rows lane x h ∙ ap Some (sym is))
+
+  pub cell-has : (b : ℕ) → has_cell rows lane b ≡ true → is_some (find_cell b x.cells.items) ≡ true
+  cell-has b has = ap (λ cs. is_some (find_cell b cs)) (sym cells-of) ∙ has
+
+  pub cell-fits : (b : ℕ) (change : CellChange) → fits_in change (room_of rows lane b) ≡ true → fits_in change (cell_room (find_cell b x.cells.items)) ≡ true
+  cell-fits b change h = ap (λ cs. fits_in change (cell_room (find_cell b cs))) (sym cells-of) ∙ h
 
   module _ (y : LaneRange) where
     set-has : (l b : ℕ) → has_cell (set rows lane y) l b ≡ cond (nat_eq lane l) (is_some (find_cell b y.cells.items)) (has_cell rows l b)
@@ -83,10 +129,38 @@ module _ (rows : List LaneRange) (lane : ℕ) (x : LaneRange) (h : lane < length
         go true = refl
         go false = refl
 
+    set-room : (l b : ℕ) → room_of (set rows lane y) l b ≡ cond (nat_eq lane l) (cell_room (find_cell b y.cells.items)) (room_of rows l b)
+    set-room l b = ap (λ o. cell_room (find_cell b (row_cells o))) (get-set rows lane l y h) ∙ go (nat_eq lane l)
+      where
+        go : (t : Bool) → cell_room (find_cell b (row_cells (cond t (Some y) (slice_get rows l)))) ≡ cond t (cell_room (find_cell b y.cells.items)) (room_of rows l b)
+        go true = refl
+        go false = refl
+
+    no-room : ((b : ℕ) → cell_room (find_cell b x.cells.items) ≤ cell_room (find_cell b y.cells.items)) → (l b : ℕ) → room_of rows l b ≤ room_of (set rows lane y) l b
+    no-room f l b = go (nat_eq lane l) refl (set-room l b)
+      where
+        go : (t : Bool) → nat_eq lane l ≡ t → room_of (set rows lane y) l b ≡ cond t (cell_room (find_cell b y.cells.items)) (room_of rows l b) → room_of rows l b ≤ room_of (set rows lane y) l b
+        go true e g =
+            let own : room_of rows l b ≡ cell_room (find_cell b x.cells.items) = ap (λ k. room_of rows k b) (sym (eqb-true lane l e)) ∙ ap (λ cs. cell_room (find_cell b cs)) cells-of in
+            let more = f b in
+            omega (arith, own, more, g)
+        go false e g = omega (arith, g)
+
+    -- the row has the cell's room
+    pub own-room : (b : ℕ) → room_of (set rows lane y) lane b ≡ cell_room (find_cell b y.cells.items)
+    own-room b = set-room lane b ∙ ap (λ t. cond t (cell_room (find_cell b y.cells.items)) (room_of rows lane b)) (eq-eqb lane lane refl)
+
+    pub cell-back : (b : ℕ) {E : Type 0} (r : Result CellChange E) → IfOk r (λ back. (seen_changed back (seen_in y.cells.items b) ≡ seen_in x.cells.items b) × (fits_in back (cell_room (find_cell b y.cells.items)) ≡ true)) → IfOk r (λ back. (seen_changed back (rows_seen (set rows lane y) lane b) ≡ rows_seen rows lane b) × (fits_in back (room_of (set rows lane y) lane b) ≡ true))
+    cell-back b (results.Ok back) g =
+        let own : rows_seen (set rows lane y) lane b ≡ seen_in y.cells.items b = rows-set rows lane lane b y h ∙ ap (λ t. cond t (seen_in y.cells.items b) (rows_seen rows lane b)) (eq-eqb lane lane refl) in
+        (ap (seen_changed back) own ∙ (g.0 ∙ row-of rows lane b x h is), ap (fits_in back) (own-room b) ∙ g.1)
+    cell-back b (results.Err z) g = tt
+
     pub cell-changes : (block : ℕ) (change : Seen → Seen) → (is_some (find_cell block x.cells.items) ≡ true → ChangesRow x.cells.items y.cells.items block change) → has_cell rows lane block ≡ true → ChangesCell rows (set rows lane y) lane block change
     cell-changes block change f has = record {
       seen = λ l b. rows-set rows lane l b y h ∙ told l b (nat_eq lane l) refl;
       cells = λ l b. set-has l b ∙ kept l b (nat_eq lane l) refl;
+      rooms = no-room r.rooms;
       lanes = length-set rows lane y;
     }
       where
@@ -102,10 +176,11 @@ module _ (rows : List LaneRange) (lane : ℕ) (x : LaneRange) (h : lane < length
         kept l b false e = refl
 
     -- cells are made in a row
-    pub cells-added : ((b : ℕ) → seen_in y.cells.items b ≡ seen_in x.cells.items b) → ((b : ℕ) → is_some (find_cell b x.cells.items) ≡ true → is_some (find_cell b y.cells.items) ≡ true) → AddsCells rows (set rows lane y)
-    cells-added same kept = record {
+    pub cells-added : ((b : ℕ) → seen_in y.cells.items b ≡ seen_in x.cells.items b) → ((b : ℕ) → is_some (find_cell b x.cells.items) ≡ true → is_some (find_cell b y.cells.items) ≡ true) → ((b : ℕ) → cell_room (find_cell b x.cells.items) ≤ cell_room (find_cell b y.cells.items)) → AddsCells rows (set rows lane y)
+    cells-added same kept rooms = record {
       seen = λ l b. rows-set rows lane l b y h ∙ told l b (nat_eq lane l) refl;
       cells = λ l b has. set-has l b ∙ still l b (nat_eq lane l) refl has;
+      rooms = no-room rooms;
       lanes = length-set rows lane y;
     }
       where

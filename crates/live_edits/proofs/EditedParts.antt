@@ -2,7 +2,7 @@
 use Rattle.std.proofs.Common.{◌≡◌, ◌⊎◌, inl, inr, ◌∷◌, ◌++◌, ◌∙◌, ◌<◌, ◌≤◌, ◌+◌, ℕ, true, length, drop, get_or, List, [], sym, ap, subst}
 use Rattle.target_base.specs.declared.types.Target.{Target}
 use Rattle.mir_func.specs.Value.{Function, IsFunction}
-use Rattle.mir_meaning.specs.Paths.{Among, there, has}
+use Rattle.mir_meaning.specs.Paths.{Among, has}
 use Rattle.instr_effects.specs.declared.lanes.LaneTable.{LaneTable}
 use Rattle.instr_effects.specs.Numbered.{number_in, counts, NumbersAll, KeepsNumbers}
 use Rattle.live_lanes.specs.declared.row.LaneRange.{LaneRange}
@@ -129,7 +129,7 @@ module _ (t : Target) (old done new : EditRun) (h : IsRunLogged t old done) (k :
   cells-all e m = go (among-split e done.rows.log.items g.added m)
     where
       go : Among e done.rows.log.items ⊎ Among e g.added → cell_there rows e ≡ true
-      go (inl a) = cells-stay done.rows.rows.rows.items rows g.cells done.rows.log.items h.cells e a
+      go (inl a) = cells-stay done.rows.rows.rows.items rows g.cells g.rooms done.rows.log.items h.cells e a
       go (inr a) = g.there e a
 
   pub logged-rows : IsRunLogged t old new

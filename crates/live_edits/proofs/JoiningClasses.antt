@@ -7,20 +7,15 @@ use Rattle.target_base.specs.declared.types.Target.{Target}
 use Rattle.target_base.specs.declared.types.Unit.{Unit as UnitNumber}
 use Rattle.target_base.specs.Registers.{lanes_of, units_of, widths_of_some}
 use Rattle.meaning.specs.declared.types.Lane.TheVariants.{UnitLane, VirtualLane}
-use Rattle.meaning.specs.Live.{Among}
-use Rattle.mir_func.specs.declared.func.Block.{Block}
 use Rattle.mir_func.specs.declared.func.Instr.{Instr}
 use Rattle.mir_func.specs.declared.func.Loc.{Loc}
 use Rattle.mir_func.specs.declared.func.Loc.TheVariants.{Fixed, Virtual}
-use Rattle.mir_func.specs.declared.func.RegOp.{RegOp}
 use Rattle.mir_func.specs.Value.{Function}
-use Rattle.mir_func.specs.Binding.{class_of}
 use Rattle.mir_meaning.specs.Paths.{Code}
 use Rattle.mir_meaning.specs.Registers.{located_lanes, located_widths, numbers, range_widths, whole_lanes}
-use Rattle.instr_effects.specs.Numbered.{number_in, NumbersAll, class_counts}
+use Rattle.instr_effects.specs.Numbered.{number_in, class_counts}
 use Rattle.instr_effects.specs.Steps.{Numbering}
-use Rattle.live_lanes.specs.declared.table.Table.{Table}
-use Rattle.live_lanes.specs.Doing.{doing_of, lane_code, IsComputed}
+use Rattle.live_lanes.specs.Doing.{doing_of, lane_code}
 use Rattle.live_lanes.specs.Ends.{AreEnds}
 use Rattle.live_lanes.specs.Entered.{causes, IsTableOf}
 use Rattle.live_lanes.specs.Graph.{IsGrown}
@@ -28,7 +23,7 @@ use Rattle.live_lanes.specs.Laws.{AllMatched}
 use Rattle.live_lanes.specs.Ordered.{place_of}
 use Rattle.edit_laws.proofs.Numbers.{bodies-do, entries-do}
 use Rattle.edit_laws.proofs.Paired.{Paired, no_pairs, map-paired}
-use Rattle.edit_laws.proofs.Walked.{IsAgreed, SameLane, doing-same}
+use Rattle.edit_laws.proofs.Walked.{SameLane, doing-same}
 use Rattle.live_edits.specs.Folded.{NarrowLaw}
 
 -- the class at a place of a list; none where there is no such place

@@ -1,6 +1,6 @@
 -- Edits that replace or erase instructions, as what they make of each instruction where ids are single.
-use Rattle.std.proofs.Common.{◌≡◌, ◌∷◌, ◌++◌, ◌∙◌, ◌+◌, ◌≤◌, ◌<◌, not, ℕ, zero, suc, Bool, true, false, cond, List, [], refl, sym, ap, subst, map, drop, append_assoc, append-nil, arith}
-use Rattle.std.specs.Prelude.{filter, flat_map, nat_eq, nat_lt}
+use Rattle.std.proofs.Common.{◌≡◌, ◌∷◌, ◌++◌, ◌∙◌, ◌+◌, ◌≤◌, not, ℕ, suc, Bool, true, false, cond, List, [], refl, sym, ap, map, drop, append_assoc, arith}
+use Rattle.std.specs.Prelude.{flat_map, nat_eq, nat_lt}
 use Rattle.std.specs.List.{remove}
 use Rattle.std.proofs.lemmas.List.Sums.{sum_by-append, sum_by-cons}
 use Rattle.target_base.specs.declared.types.OpId.{OpId}

@@ -1,5 +1,5 @@
 -- What a join makes of the instruction of an id, by where it stands.
-use Rattle.std.proofs.Common.{arith, zero, suc, ◌≡◌, ◌≢◌, ◌∷◌, ◌∙◌, ◌+◌, ◌<◌, ℕ, Bool, true, false, cond, List, [], Option, Some, None, length, map, take, get_or, refl, sym, ap, subst, add-one, ◌++◌, eqb-true}
+use Rattle.std.proofs.Common.{arith, zero, suc, ◌≡◌, ◌≢◌, ◌∷◌, ◌∙◌, ◌+◌, ◌<◌, ℕ, Bool, true, false, cond, List, [], Option, Some, None, length, map, take, get_or, refl, sym, ap, add-one, ◌++◌, eqb-true}
 use Rattle.std.specs.Prelude.{IfOk, Ok, Err, find, flat_map, nat_eq, slice_get}
 use Rattle.std.specs.Option.{option_map_or}
 use Rattle.std.specs.declared.result.Result.{Result}
@@ -9,7 +9,7 @@ use Rattle.meaning.specs.Live.{Among, here, there}
 use Rattle.mir_func.specs.declared.func.Block.{Block}
 use Rattle.mir_func.specs.declared.func.Instr.{Instr}
 use Rattle.mir_func.specs.Value.{Function, IsFunction}
-use Rattle.mir_func.specs.At.{instrs_at, instr_at}
+use Rattle.mir_func.specs.At.{instr_at}
 use Rattle.live_laws.proofs.Effects.Blocks.{member-slice, slice-member}
 use Rattle.live_lanes.specs.declared.edit.edits.Edit.{Edit as CodeEdit}
 use Rattle.edit_laws.specs.Edits.{Edit, Erase}
@@ -17,8 +17,8 @@ use Rattle.live_edits.specs.declared.fold.Join.{Join}
 use Rattle.live_edits.specs.Drafts.{IsPlaceOf}
 use Rattle.live_edits.specs.Folded.{all_instrs, edit_at, fold_edit}
 use Rattle.live_edits.specs.Runs.{edit_of}
-use Rattle.live_edits.proofs.JoiningEdits.{AreSingle, single-of}
-use Rattle.live_edits.proofs.JoiningLaw.{AreApart, all-apart, find-own}
+use Rattle.live_edits.proofs.JoiningEdits.{single-of}
+use Rattle.live_edits.proofs.JoiningLaw.{all-apart, find-own}
 use Rattle.live_edits.proofs.JoiningMembers.{instr-member}
 use Rattle.live_edits.proofs.JoiningPlaces.{made-member}
 

@@ -1,32 +1,22 @@
 -- Where the instructions that name the range that goes are edited one after the other, a join is done.
-use Rattle.std.proofs.Common.{◌≡◌, ◌∷◌, ◌++◌, ◌∙◌, ◌+◌, ◌≤◌, not, ℕ, Bool, true, false, cond, List, [], Option, Some, None, refl, sym, ap, subst, map, ◌&&◌, ◌||◌, append-nil, arith, eq-eqb, eqb-true}
-use Rattle.std.specs.Prelude.{filter, flat_map, find, nat_eq, is_some}
-use Rattle.std.specs.List.{list_all, list_any}
+use Rattle.std.proofs.Common.{◌≡◌, ◌∷◌, ◌++◌, ◌∙◌, ◌+◌, ◌≤◌, ℕ, Bool, true, false, cond, List, [], Option, Some, None, refl, sym, ap, map, ◌&&◌, append-nil, arith, eq-eqb, eqb-true}
+use Rattle.std.specs.Prelude.{filter, flat_map, find, nat_eq}
+use Rattle.std.specs.List.{list_all}
 use Rattle.target_base.specs.declared.types.OpId.{OpId}
 use Rattle.target_base.specs.declared.types.Target.{Target}
-use Rattle.target_base.specs.Rules.{is_copy}
-use Rattle.meaning.specs.declared.types.Lane.{Lane}
-use Rattle.meaning.specs.declared.types.Lane.TheVariants.{VirtualLane}
 use Rattle.meaning.specs.Live.{Among, here, there}
 use Rattle.mir_func.specs.declared.func.Block.{Block}
 use Rattle.mir_func.specs.declared.func.Instr.{Instr}
-use Rattle.mir_func.specs.declared.func.Loc.{Loc}
-use Rattle.mir_func.specs.declared.func.Loc.TheVariants.{Virtual, Fixed}
 use Rattle.mir_func.specs.declared.func.Op.{Op}
 use Rattle.mir_func.specs.declared.func.Op.TheVariants as ops
 use Rattle.mir_func.specs.declared.func.Operand.{Operand}
-use Rattle.mir_func.specs.declared.func.Operand.TheVariants as operands
-use Rattle.mir_func.specs.declared.func.RegOp.{RegOp}
 use Rattle.mir_func.specs.Value.{Function, IsFunction, id_count, id_total}
-use Rattle.mir_func.specs.Binding.{does, registers}
-use Rattle.mir_meaning.specs.Points.{is_range}
-use Rattle.mir_meaning.specs.Registers.{numbers, operand_lanes}
 use Rattle.mir_meaning.specs.Renaming.{renamed_operand}
 use Rattle.live_laws.specs.Touch.{are_known, is_known}
-use Rattle.edit_laws.specs.Edits.{Edit, Replace, Erase, with_op, all_edited}
+use Rattle.edit_laws.specs.Edits.{Edit, Erase, with_op, all_edited}
 use Rattle.edit_laws.proofs.ErasedLast.{head-other, tail-none, total-step}
 use Rattle.live_edits.specs.declared.fold.Join.{Join}
-use Rattle.live_edits.specs.Folded.{image, joined_operand, joined_instr, same_lanes, two_sides, copy_sides, unites, becomes_identity, folded_block, joined, rename_edit, fold_edit, all_instrs, edit_at, fold_edits, names_range, AreNamed, FoldLaw}
+use Rattle.live_edits.specs.Folded.{joined_operand, joined_instr, becomes_identity, rename_edit, fold_edit, all_instrs, edit_at, fold_edits, AreNamed, FoldLaw}
 use Rattle.live_edits.proofs.JoiningMembers.{filter-member, among-first, among-later}
 use Rattle.live_edits.proofs.JoiningStays.{folded-blocks}
 use Rattle.live_edits.proofs.JoiningEdits.{did, done, each, with_each, Changes, AllChange, AreSingle, flat-same, count-step, count-append, all-edited-each, single-of}

@@ -1,5 +1,5 @@
 -- Members of lists that are filtered or put together.
-use Rattle.std.proofs.Common.{◌≡◌, ◌∷◌, ◌++◌, Bool, true, false, cond, List, []}
+use Rattle.std.proofs.Common.{◌∷◌, ◌++◌, Bool, true, false, cond, List, []}
 use Rattle.std.specs.Prelude.{filter, flat_map}
 use Rattle.meaning.specs.Live.{Among, here, there}
 use Rattle.mir_func.specs.declared.func.Block.{Block}

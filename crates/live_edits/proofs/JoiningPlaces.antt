@@ -1,7 +1,6 @@
 -- The edits of a join have their places in a function without phis, and none changes what is erased.
-use Rattle.std.proofs.Common.{◌≡◌, ◌∷◌, ◌++◌, ◌∙◌, ◌+◌, ◌≤◌, not, ℕ, Bool, true, false, cond, List, [], Option, Some, None, refl, sym, ap, subst, map, arith, eq-eqb, eqb-true}
+use Rattle.std.proofs.Common.{◌≡◌, ◌∷◌, ◌++◌, ◌∙◌, ◌≤◌, not, ℕ, Bool, true, false, cond, List, [], Option, Some, None, refl, sym, ap, subst, map, arith, eq-eqb, eqb-true}
 use Rattle.std.specs.Prelude.{filter, flat_map, nat_eq}
-use Rattle.std.specs.List.{list_all}
 use Rattle.target_base.specs.declared.types.Effect.{Effect}
 use Rattle.target_base.specs.declared.types.Effect.TheVariants as effects
 use Rattle.target_base.specs.declared.types.OpId.{OpId}
@@ -13,19 +12,17 @@ use Rattle.mir_func.specs.declared.func.Instr.{Instr}
 use Rattle.mir_func.specs.declared.func.Op.{Op}
 use Rattle.mir_func.specs.declared.func.Op.TheVariants as ops
 use Rattle.mir_func.specs.declared.func.Operand.{Operand}
-use Rattle.mir_func.specs.Value.{Function, IsFunction, id_count}
-use Rattle.mir_func.specs.Binding.{does, effect_of, known_opcode, is_terminator, passes}
+use Rattle.mir_func.specs.Value.{Function, id_count}
+use Rattle.mir_func.specs.Binding.{does, effect_of, is_terminator, passes}
 use Rattle.mir_meaning.specs.Paths.{has}
-use Rattle.mir_meaning.specs.Points.{has_no_phis}
 use Rattle.mir_meaning.specs.Renaming.{renamed_operand}
-use Rattle.live_laws.specs.Touch.{are_known}
-use Rattle.edit_laws.specs.Deferred.{deferred, gone_after, Spares, SpareGone}
-use Rattle.edit_laws.specs.Edits.{Edit, Replace, Erase, replaced, with_op, Stands, IsPlain, KeepsWays}
+use Rattle.edit_laws.specs.Deferred.{SpareGone}
+use Rattle.edit_laws.specs.Edits.{Replace, Erase, replaced, with_op, Stands, KeepsWays}
 use Rattle.live_edits.specs.declared.fold.Join.{Join}
-use Rattle.live_edits.specs.Folded.{image, joined_operand, two_sides, unites, becomes_identity, rename_edit, fold_edit, all_instrs, fold_edits, AreNamed, FoldPlacesLaw}
+use Rattle.live_edits.specs.Folded.{image, joined_operand, two_sides, unites, becomes_identity, rename_edit, fold_edit, all_instrs, fold_edits, FoldPlacesLaw}
 use Rattle.live_edits.specs.Runs.{HavePlaces}
 use Rattle.live_edits.proofs.JoiningMembers.{filter-member, instr-member}
-use Rattle.live_edits.proofs.JoiningEdits.{did, each, with_each, AreSingle, count-step, did-keeps, each-single, edited-each, single-of}
+use Rattle.live_edits.proofs.JoiningEdits.{did, each, AreSingle, count-step, did-keeps, each-single, edited-each, single-of}
 use Rattle.live_edits.proofs.JoiningLaw.{AreApart, all-apart, later-apart, others-apart, same-other, all-blocks-true, has-opcode, edits-listed}
 
 -- members of what is made of others

@@ -1,21 +1,18 @@
 -- A run over a join.
-use Rattle.std.proofs.Common.{◌≡◌, ◌∙◌, not, ℕ, Bool, true, false, cond, List, [], Option, Some, None, refl, sym, ap, subst, ◌&&◌}
-use Rattle.std.specs.Prelude.{slice_set}
-use Rattle.target_base.specs.declared.types.ClassId.{ClassId}
+use Rattle.std.proofs.Common.{◌≡◌, ◌∙◌, not, ℕ, Bool, true, false, cond, List, Option, Some, None, refl, sym, ap, subst, ◌&&◌}
 use Rattle.target_base.specs.declared.types.IndexId.{IndexId}
 use Rattle.target_base.specs.declared.types.Target.{Target}
 use Rattle.target_base.specs.Registers.{widths_of_some}
 use Rattle.mir_func.specs.Value.{Function}
 use Rattle.mir_func.specs.Binding.{class_of}
 use Rattle.mir_meaning.specs.Registers.{range_widths}
-use Rattle.live_lanes.specs.declared.table.Table.{Table}
 use Rattle.live_lanes.specs.Doing.{IsComputed}
 use Rattle.edit_laws.specs.Edits.{Edit, all_edited}
 use Rattle.live_edits.specs.declared.edit_run.EditRun.{EditRun}
 use Rattle.live_edits.specs.declared.fold.Join.{Join}
 use Rattle.live_edits.specs.Drafts.{IsOrderOf}
-use Rattle.live_edits.specs.EditedRuns.{IsFresh, MayBegin, HasTable}
-use Rattle.live_edits.specs.Folded.{is_narrower, joined_class, joined, narrowed, folded, fold_edits, SharesWidths, MayFold, Narrows}
+use Rattle.live_edits.specs.EditedRuns.{MayBegin, HasTable}
+use Rattle.live_edits.specs.Folded.{is_narrower, joined_class, joined, narrowed, folded, fold_edits, MayFold, Narrows}
 use Rattle.live_edits.specs.Runs.{table_of}
 use Rattle.live_edits.proofs.JoiningClasses.{narrow-law}
 use Rattle.live_edits.proofs.JoiningLaw.{fold-law}

@@ -23,7 +23,7 @@ use Rattle.mir_meaning.specs.Registers.{numbers, range_widths, located_lanes, op
 use Rattle.mir_meaning.specs.Renaming.{renamed_operand}
 use Rattle.std.specs.List.{list_any}
 use Rattle.live_edits.specs.declared.fold.Join.{Join}
-use Rattle.live_edits.specs.Folded.{lane_within, image, index_within, joined_operand, joined_instr, same_lanes, two_sides, copy_sides, unites, becomes_identity, folded_block, names_range}
+use Rattle.live_edits.specs.Folded.{lane_within, image, index_within, joined_operand, joined_instr, same_lanes, two_sides, unites, becomes_identity, folded_block, names_range}
 use Rattle.live_edits.proofs.JoiningEdits.{each}
 use Rattle.live_edits.proofs.JoiningMembers.{among-first, among-later}
 

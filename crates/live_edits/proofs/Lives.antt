@@ -1,16 +1,17 @@
 -- Lives of pieces that are logged, changed and taken back.
-use Rattle.std.proofs.Common.{◌≡◌, ◌<◌, ◌≤◌, ℕ, zero, suc, Bool, true, false, cond, ◌&&◌, length, List, [], ◌∷◌, ◌⊎◌, inl, inr, refl, sym, ap, ◌∙◌, map, arith, eqb-true, append-nil}
-use Rattle.std.specs.Prelude.{nat_eq, slice_get}
+use Rattle.std.proofs.Common.{◌≡◌, ◌<◌, ◌≤◌, ℕ, zero, suc, Bool, true, false, cond, ◌&&◌, length, List, [], ◌∷◌, ◌++◌, ◌⊎◌, inl, inr, refl, sym, ap, ◌∙◌, map, arith, eqb-true, append-nil}
+use Rattle.std.specs.Prelude.{nat_eq, slice_get, Result, IsOk, OnOk}
+use Rattle.std.specs.declared.result.Result.TheVariants as results
 use Rattle.mir_meaning.specs.Paths.{Among}
 use Rattle.live_lanes.specs.declared.row.Cause.{Cause}
-use Rattle.live_lanes.specs.declared.row.Cell.{Cell}
 use Rattle.live_lanes.specs.declared.row.LaneRange.{LaneRange}
 use Rattle.live_lanes.specs.declared.row.PieceEnd.{PieceEnd}
 use Rattle.live_lanes.specs.declared.table.PieceSpot.{PieceSpot}
-use Rattle.live_lanes.specs.Table.{Seen, seen_cell, Begun, begun_cause, begun_end, begun_with_cause, begun_with_end, changed_at, cause_in, end_in, with_cause, with_end}
+use Rattle.live_lanes.specs.Table.{Seen, Begun, begun_cause, begun_end, begun_with_cause, begun_with_end, changed_at, cause_in, end_in, with_cause, with_end}
 use Rattle.live_lanes.specs.Entered.{start_of, shape, rows_seen}
 use Rattle.live_lanes.specs.Marks.{KeepsCauses}
 use Rattle.live_lanes.proofs.Basics.{none-among}
+use Rattle.live_lanes.proofs.Cells.{both}
 use Rattle.live_lanes.proofs.Growth.{shape-cause}
 use Rattle.live_lanes.proofs.Numbered.{among-cases}
 use Rattle.live_lanes.proofs.Segments.{changed-past}
@@ -19,7 +20,9 @@ use Rattle.edit_laws.specs.RowEnd.{GivesEnd}
 use Rattle.live_edits.specs.declared.log.Former.{Former}
 use Rattle.live_edits.specs.declared.log.Former.TheVariants as formers
 use Rattle.live_edits.specs.declared.log.LoggedRows.{LoggedRows}
-use Rattle.live_edits.specs.Logged.{cell_there, IsLogged}
+use Rattle.live_edits.specs.declared.cell_change.CellChange.{CellChange}
+use Rattle.live_edits.specs.CellChanges.{seen_changed, fits_in}
+use Rattle.live_edits.specs.Logged.{has_cell, room_of, cell_there, IsLogged}
 use Rattle.live_edits.specs.Pieces.{node_of, IsThere, KeepsPieces}
 use Rattle.live_edits.specs.Changes.{ChangesCell, AddsCells, LogsLife, TakesBack}
 use Rattle.live_edits.proofs.KeptPieces.{end-cause}
@@ -83,6 +86,7 @@ added-logged x y a e = record {
   back = a.seen;
   lanes = a.lanes;
   cells = a.cells;
+  rooms = a.rooms;
   there = λ f m. absurd (none-among f m);
 }
 
@@ -148,6 +152,7 @@ life-logged x y z spot change p q e back = record {
   back = λ l b. ap (λ v. cond (at l b) (with_end (with_cause v spot.index (cause_in own spot.index)) spot.index (end_in own spot.index)) v) (own-changed x y z.rows.rows.items spot change p q l b) ∙ put l b (at l b) refl;
   lanes = same-lanes x y z.rows.rows.items spot change p q;
   cells = λ l b h. q.cells l b ∙ p.rows.cells l b h;
+  rooms = λ l b. let f = p.rows.rooms l b in let g = q.rooms l b in omega (arith, f, g);
   there = λ f m. there f (among-cases f former [] m);
 }
   where
@@ -246,6 +251,7 @@ pub life-back : (old mid new : List LaneRange) (spot : PieceSpot) (cause : Cause
 life-back old mid new spot cause end p q = record {
   seen = λ l b. q.seen l b ∙ (ap (λ v. cond (nat_eq spot.lane l && nat_eq spot.block b) (with_end v spot.index end) v) (p.seen l b) ∙ go (nat_eq spot.lane l && nat_eq spot.block b) (rows_seen old l b));
   cells = λ l b. q.cells l b ∙ p.cells l b;
+  rooms = λ l b. let f = p.rooms l b in let g = q.rooms l b in omega (arith, f, g);
   lanes = q.lanes ∙ p.lanes;
 }
   where
@@ -253,5 +259,37 @@ life-back old mid new spot cause end p q = record {
     go true v = refl
     go false v = refl
 
-pub cell-back : (old new : List LaneRange) (lane : ℕ) (cell : Cell) → ChangesCell old new lane cell.block (λ v. seen_cell cell) → TakesBack old new (formers.Whole lane cell)
-cell-back old new lane cell p = record { seen = p.seen; cells = p.cells; lanes = p.lanes }
+-- a change is logged
+pub change-logged : (x z : LoggedRows) (mid : List LaneRange) (lane block : ℕ) (change back : CellChange) → AddsCells x.rows.rows.items mid → has_cell mid lane block ≡ true → ChangesCell mid z.rows.rows.items lane block (seen_changed change) → seen_changed back (rows_seen z.rows.rows.items lane block) ≡ rows_seen mid lane block → fits_in back (room_of z.rows.rows.items lane block) ≡ true → z.log.items ≡ x.log.items ++ formers.Shape lane block back ∷ [] → IsLogged x z
+change-logged x z mid lane block change back a has q undone fits list = record {
+  added = formers.Shape lane block back ∷ [];
+  list = list;
+  back = λ l b. go l b (nat_eq lane l) (nat_eq block b) refl refl;
+  lanes = q.lanes ∙ a.lanes;
+  cells = λ l b h. q.cells l b ∙ a.cells l b h;
+  rooms = λ l b. let f = a.rooms l b in let g = q.rooms l b in omega (arith, f, g);
+  there = λ f m. there-is f (among-cases f (formers.Shape lane block back) [] m);
+}
+  where
+    go : (l b : ℕ) (t u : Bool) → nat_eq lane l ≡ t → nat_eq block b ≡ u → cond (nat_eq lane l && nat_eq block b) (seen_changed back (rows_seen z.rows.rows.items l b)) (rows_seen z.rows.rows.items l b) ≡ rows_seen x.rows.rows.items l b
+    go l b true true e f =
+        (λ i. cond (e i && f i) (seen_changed back (rows_seen z.rows.rows.items l b)) (rows_seen z.rows.rows.items l b))
+        ∙ ((λ i. seen_changed back (rows_seen z.rows.rows.items (sym (eqb-true lane l e) i) (sym (eqb-true block b f) i))) ∙ (undone ∙ ((λ i. rows_seen mid (eqb-true lane l e i) (eqb-true block b f i)) ∙ a.seen l b)))
+    go l b true false e f =
+        (λ i. cond (e i && f i) (seen_changed back (rows_seen z.rows.rows.items l b)) (rows_seen z.rows.rows.items l b))
+        ∙ (q.seen l b ∙ ((λ i. cond (e i && f i) (seen_changed change (rows_seen mid l b)) (rows_seen mid l b)) ∙ a.seen l b))
+    go l b false u e f =
+        (λ i. cond (e i && nat_eq block b) (seen_changed back (rows_seen z.rows.rows.items l b)) (rows_seen z.rows.rows.items l b))
+        ∙ (q.seen l b ∙ ((λ i. cond (e i && nat_eq block b) (seen_changed change (rows_seen mid l b)) (rows_seen mid l b)) ∙ a.seen l b))
+
+    there-is : (f : Former) → (f ≡ formers.Shape lane block back) ⊎ Among f [] → cell_there z.rows.rows.items f ≡ true
+    there-is f (inl e) = ap (cell_there z.rows.rows.items) e ∙ both (has_cell z.rows.rows.items lane block) (fits_in back (room_of z.rows.rows.items lane block)) (q.cells lane block ∙ has) fits
+    there-is f (inr m) = absurd (none-among f m)
+
+-- a change is taken back
+pub shape-back : (old new : List LaneRange) (lane block : ℕ) (change : CellChange) → ChangesCell old new lane block (seen_changed change) → TakesBack old new (formers.Shape lane block change)
+shape-back old new lane block change p = record { seen = p.seen; cells = p.cells; rooms = p.rooms; lanes = p.lanes }
+
+pub shape-taken : {B E : Type 0} (old new : List LaneRange) (lane block : ℕ) (change : CellChange) (r : Result B E) → IsOk r → OnOk r (ChangesCell old new lane block (λ v. seen_changed change v)) → TakesBack old new (formers.Shape lane block change)
+shape-taken old new lane block change (results.Ok b) ok p = shape-back old new lane block change p
+shape-taken old new lane block change (results.Err e) ok p = absurd (let f : false ≡ true = ok in cc)

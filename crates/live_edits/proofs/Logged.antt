@@ -1,29 +1,48 @@
 -- Logged changes follow one another.
-use Rattle.std.proofs.Common.{◌≡◌, ℕ, true, List, [], ◌∷◌, ◌++◌, ◌⊎◌, inl, inr, refl, sym, ap, ◌∙◌, append_assoc, append-nil}
+use Rattle.std.proofs.Common.{◌≡◌, ◌≤◌, ℕ, true, List, [], ◌∷◌, ◌++◌, ◌⊎◌, inl, inr, refl, sym, ap, ◌∙◌, append_assoc, append-nil, arith}
+use Rattle.std.proofs.lemmas.Bool.{leb-true, le-leb}
 use Rattle.mir_meaning.specs.Paths.{Among}
 use Rattle.live_lanes.specs.declared.row.LaneRange.{LaneRange}
 use Rattle.live_lanes.specs.Entered.{rows_seen}
 use Rattle.live_lanes.proofs.Basics.{none-among}
+use Rattle.live_lanes.proofs.Cells.{both, both-left, both-right}
 use Rattle.live_lanes.proofs.Numbered.{among-split}
+use Rattle.live_edits.specs.declared.cell_change.CellChange.{CellChange}
+use Rattle.live_edits.specs.declared.cell_change.CellChange.TheVariants as changes
+use Rattle.live_edits.specs.CellChanges.{fits_in}
 use Rattle.live_edits.specs.declared.log.Former.{Former}
 use Rattle.live_edits.specs.declared.log.Former.TheVariants as formers
 use Rattle.live_edits.specs.declared.log.LoggedRows.{LoggedRows}
-use Rattle.live_edits.specs.Logged.{AllSeen, all_taken_back, taken_back, has_cell, cell_there, HasAllCells, IsLogged}
+use Rattle.live_edits.specs.Logged.{AllSeen, all_taken_back, taken_back, has_cell, room_of, cell_there, HasAllCells, IsLogged}
 
 -- no cell goes
 abbrev pub KeepsCells : List LaneRange → List LaneRange → Type 0
 KeepsCells old new = (l b : ℕ) → has_cell old l b ≡ true → has_cell new l b ≡ true
 
+-- nor any room
+abbrev pub KeepsRooms : List LaneRange → List LaneRange → Type 0
+KeepsRooms old new = (l b : ℕ) → room_of old l b ≤ room_of new l b
+
+-- what fits a room fits a larger one
+pub still-fits : (c : CellChange) (n m : ℕ) → n ≤ m → fits_in c n ≡ true → fits_in c m ≡ true
+still-fits (changes.Readings index readings) n m h f = refl
+still-fits (changes.Writing at early from) n m h f = refl
+still-fits (changes.Begin at piece count) n m h f = let k = leb-true count n f in le-leb count m (omega (arith, h, k))
+still-fits (changes.Join at) n m h f = refl
+
 pub all-taken-back-append : (es fs : List Former) (seen : AllSeen) → all_taken_back (es ++ fs) seen ≡ all_taken_back es (all_taken_back fs seen)
 all-taken-back-append [] fs seen = refl
 all-taken-back-append (e ∷ es) fs seen = ap (taken_back e) (all-taken-back-append es fs seen)
 
-pub cell-stays : (old new : List LaneRange) → KeepsCells old new → (e : Former) → cell_there old e ≡ true → cell_there new e ≡ true
-cell-stays old new k (formers.Life spot cause end) h = k spot.lane spot.block h
-cell-stays old new k (formers.Whole lane cell) h = k lane cell.block h
+pub cell-stays : (old new : List LaneRange) → KeepsCells old new → KeepsRooms old new → (e : Former) → cell_there old e ≡ true → cell_there new e ≡ true
+cell-stays old new k r (formers.Life spot cause end) h = k spot.lane spot.block h
+cell-stays old new k r (formers.Shape lane block change) h =
+    let has = both-left (has_cell old lane block) (fits_in change (room_of old lane block)) h in
+    let fits = both-right (has_cell old lane block) (fits_in change (room_of old lane block)) h in
+    both (has_cell new lane block) (fits_in change (room_of new lane block)) (k lane block has) (still-fits change (room_of old lane block) (room_of new lane block) (r lane block) fits)
 
-pub cells-stay : (old new : List LaneRange) → KeepsCells old new → (es : List Former) → HasAllCells old es → HasAllCells new es
-cells-stay old new k es h e a = cell-stays old new k e (h e a)
+pub cells-stay : (old new : List LaneRange) → KeepsCells old new → KeepsRooms old new → (es : List Former) → HasAllCells old es → HasAllCells new es
+cells-stay old new k r es h e a = cell-stays old new k r e (h e a)
 
 pub logged-same : (x : LoggedRows) → IsLogged x x
 logged-same x = record {
@@ -32,6 +51,7 @@ logged-same x = record {
   back = λ l b. refl;
   lanes = refl;
   cells = λ l b h. h;
+  rooms = λ l b. omega arith;
   there = λ e a. absurd (none-among e a);
 }
 
@@ -42,12 +62,16 @@ logged-then x y z p q = record {
   back = λ l b. ap (λ f. f l b) (all-taken-back-append p.added q.added (rows_seen z.rows.rows.items)) ∙ (ap (λ f. all_taken_back p.added f l b) between ∙ p.back l b);
   lanes = q.lanes ∙ p.lanes;
   cells = λ l b h. q.cells l b (p.cells l b h);
+  rooms = λ l b. more (p.rooms l b) (q.rooms l b);
   there = λ e a. go e (among-split e p.added q.added a);
 }
   where
+    more : {i j k : ℕ} → i ≤ j → j ≤ k → i ≤ k
+    more {i} {j} {k} f g = omega (arith, f, g)
+
     between : all_taken_back q.added (rows_seen z.rows.rows.items) ≡ rows_seen y.rows.rows.items
     between = λ i. λ l b. q.back l b i
 
     go : (e : Former) → Among e p.added ⊎ Among e q.added → cell_there z.rows.rows.items e ≡ true
-    go e (inl a) = cells-stay y.rows.rows.items z.rows.rows.items q.cells p.added p.there e a
+    go e (inl a) = cells-stay y.rows.rows.items z.rows.rows.items q.cells q.rooms p.added p.there e a
     go e (inr a) = q.there e a

@@ -25,7 +25,7 @@ pub leads-further : (old now new : List LaneRange) (all left rest : List Former)
 leads-further old now new all left rest e f k t = record {
   seen = λ l b. ap (λ s. all_taken_back rest s l b) one ∙ (ap (λ s. s l b) (sym (all-taken-back-append rest (e ∷ []) (rows_seen now))) ∙ (ap (λ es. all_taken_back es (rows_seen now) l b) (sym f) ∙ k.seen l b));
   lanes = t.lanes ∙ k.lanes;
-  there = cells-stay now new (λ l b h. t.cells l b ∙ h) rest (λ x m. k.there x (subst (Among x) (sym f) (among-left x rest (e ∷ []) m)));
+  there = cells-stay now new (λ l b h. t.cells l b ∙ h) t.rooms rest (λ x m. k.there x (subst (Among x) (sym f) (among-left x rest (e ∷ []) m)));
 }
   where
     one : rows_seen new ≡ taken_back e (rows_seen now)

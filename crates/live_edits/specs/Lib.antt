@@ -1,9 +1,11 @@
 pub mod Pieces
 pub mod Leading
+pub mod CellChanges
 pub mod Logged
 pub mod Updated
 pub mod RemadeSteps
 pub mod Remade
+pub mod Renoted
 pub mod Fallen
 pub mod Changes
 pub mod Drafts

@@ -1,9 +1,11 @@
 -- What takes changes of rows back.
-use Rattle.std.specs.Prelude.{◌≡◌, ℕ, Bool, true, cond, ◌&&◌, nat_eq, List, [], ◌∷◌, ◌++◌, is_some, length}
+use Rattle.std.specs.Prelude.{◌≡◌, ◌≤◌, ℕ, Bool, true, cond, ◌&&◌, nat_eq, List, [], ◌∷◌, ◌++◌, Option, None, Some, is_some, length, vec_capacity}
 use Rattle.mir_meaning.specs.Paths.{Among}
+use Rattle.live_lanes.specs.declared.row.Cell.{Cell}
 use Rattle.live_lanes.specs.declared.row.LaneRange.{LaneRange}
-use Rattle.live_lanes.specs.Table.{Seen, seen_cell, find_cell, with_cause, with_end}
+use Rattle.live_lanes.specs.Table.{Seen, find_cell, with_cause, with_end}
 use Rattle.live_lanes.specs.Entered.{rows_seen, cells_of}
+use Rattle.live_edits.specs.CellChanges.{seen_changed, fits_in}
 use Rattle.live_edits.specs.declared.log.Former.{Former}
 use Rattle.live_edits.specs.declared.log.Former.TheVariants as formers
 use Rattle.live_edits.specs.declared.log.LoggedRows.{LoggedRows}
@@ -15,7 +17,7 @@ AllSeen = ℕ → ℕ → Seen
 -- one of them as it was before a change
 abbrev pub taken_back : Former → AllSeen → AllSeen
 taken_back (formers.Life spot cause end) seen l b = cond (nat_eq spot.lane l && nat_eq spot.block b) (with_end (with_cause (seen l b) spot.index cause) spot.index end) (seen l b)
-taken_back (formers.Whole lane cell) seen l b = cond (nat_eq lane l && nat_eq cell.block b) (seen_cell cell) (seen l b)
+taken_back (formers.Shape lane block change) seen l b = cond (nat_eq lane l && nat_eq block b) (seen_changed change (seen l b)) (seen l b)
 
 -- before all these changes, of which the last is taken back first
 abbrev pub all_taken_back : List Former → AllSeen → AllSeen
@@ -26,21 +28,31 @@ all_taken_back (e ∷ es) seen = taken_back e (all_taken_back es seen)
 abbrev pub has_cell : List LaneRange → ℕ → ℕ → Bool
 has_cell rows l b = is_some (find_cell b (cells_of rows l))
 
+-- how many pieces the cell's list of those that writings begin has room for
+abbrev pub cell_room : Option Cell → ℕ
+cell_room None = 0
+cell_room (Some c) = vec_capacity c.segments
+
+abbrev pub room_of : List LaneRange → ℕ → ℕ → ℕ
+room_of rows l b = cell_room (find_cell b (cells_of rows l))
+
+-- the cell is there, and so is the room that the change needs
 abbrev pub cell_there : List LaneRange → Former → Bool
 cell_there rows (formers.Life spot cause end) = has_cell rows spot.lane spot.block
-cell_there rows (formers.Whole lane cell) = has_cell rows lane cell.block
+cell_there rows (formers.Shape lane block change) = has_cell rows lane block && fits_in change (room_of rows lane block)
 
--- each change that is logged concerns a cell that is there
+-- each change that is logged concerns a cell that is there, with room for it
 abbrev pub HasAllCells : List LaneRange → List Former → Type 0
 HasAllCells rows es = (e : Former) → Among e es → cell_there rows e ≡ true
 
--- what changed is logged, so that it can be taken back; no cell goes
+-- what changed is logged, so that it can be taken back; no cell and no room goes
 pub record IsLogged (old new : LoggedRows) : Type 0 where
   pub added : List Former
   pub list : new.log.items ≡ old.log.items ++ added
   pub back : (l b : ℕ) → all_taken_back added (rows_seen new.rows.rows.items) l b ≡ rows_seen old.rows.rows.items l b
   pub lanes : length new.rows.rows.items ≡ length old.rows.rows.items
   pub cells : (l b : ℕ) → has_cell old.rows.rows.items l b ≡ true → has_cell new.rows.rows.items l b ≡ true
+  pub rooms : (l b : ℕ) → room_of old.rows.rows.items l b ≤ room_of new.rows.rows.items l b
   pub there : HasAllCells new.rows.rows.items added
 
 -- rows as they were before all logged changes

@@ -1,48 +1,23 @@
 -- Cells that are made anew from what they tell and from notes of the touched instructions.
-use Rattle.std.specs.Prelude.{◌≡◌, ◌&&◌, nat_eq, ◌≤◌, ◌<◌, ℕ, false, List, Option, Some, length, slice_get}
+use Rattle.std.specs.Prelude.{◌≡◌, ◌≤◌, ◌<◌, ℕ, false, List, Some, length, slice_get}
 use Rattle.mir_meaning.specs.Paths.{Among, Step, Code, steps_of, has}
 use Rattle.live_lanes.specs.declared.compute.flow.BlockFlow.{BlockFlow}
-use Rattle.live_lanes.specs.declared.row.Cell.{Cell}
 use Rattle.live_lanes.specs.declared.row.LaneRange.{LaneRange}
-use Rattle.live_lanes.specs.Table.{Numbers, seen, seen_cell}
+use Rattle.live_lanes.specs.Table.{Numbers}
 use Rattle.live_lanes.specs.Entered.{rows_seen, IsNumbered, IsTableOf}
 use Rattle.live_lanes.specs.Ordered.{times}
-use Rattle.edit_laws.specs.LaneSteps.{LaneStep, lane_step}
+use Rattle.edit_laws.specs.LaneSteps.{lane_step}
 use Rattle.edit_laws.specs.Reasons.{Touched, IsEditOf}
 use Rattle.edit_laws.specs.Rebuilt.{IsRebuilt}
-pub use Rattle.live_edits.specs.RemadeSteps.{use_of_read, def_of_write, noted_ids}
+pub use Rattle.live_edits.specs.RemadeSteps.{use_of_read, def_of_write, noted_ids, noted_step}
 use Rattle.live_edits.specs.declared.cells.Note.{Note}
 use Rattle.live_edits.specs.declared.cells.CellNotes.{CellNotes}
-
--- what a note says that its instruction does to the lane
-abbrev pub noted_step : Note → LaneStep
-noted_step n = record { id = n.id; used = use_of_read n.act.read; writing = def_of_write n.act.lane n.act.write }
 
 -- the notes are of exactly the instructions of the block that are touched at the lane, each once, and say what these do now
 pub record AreNotesOf (touched : Touched) (code : Code) (l b : ℕ) (notes : List Note) : Type 0 where
   pub told : (id : ℕ) → touched l b id ≡ has id (noted_ids notes)
   pub single : (id : ℕ) → times id (noted_ids notes) ≤ 1
   pub does : (n : Note) → Among n notes → (s : Step) × Among s (steps_of code b) × (lane_step l s ≡ noted_step n)
-
--- the cell of a lane in a block is made anew
-abbrev pub RemakesCell : Numbers → ℕ → ℕ → Option Cell → List Note → Cell → Type 0
-RemakesCell slots l b cell notes new =
-    (touched : Touched) (before code : Code) (was : Numbers) (flow : List BlockFlow) (rows : List LaneRange) → IsTableOf before was flow rows → IsEditOf touched before code → IsNumbered code slots
-    → AreNotesOf touched code l b notes → seen cell ≡ rows_seen rows l b → IsRebuilt before code l b (rows_seen rows l b) (seen_cell new)
-
--- the cell of these notes, before and after
-pub record IsRemade (slots : Numbers) (old new : List LaneRange) (c : CellNotes) : Type 0 where
-  pub cell : Option Cell
-  pub now : Cell
-  pub was : seen cell ≡ rows_seen old c.lane c.block
-  pub is : rows_seen new c.lane c.block ≡ seen_cell now
-  pub remakes : RemakesCell slots c.lane c.block cell c.notes.items now
-
--- it is made anew, and all others stay
-pub record RemakesOne (slots : Numbers) (old new : List LaneRange) (c : CellNotes) : Type 0 where
-  pub lanes : length new ≡ length old
-  pub others : (l b : ℕ) → (nat_eq c.lane l && nat_eq c.block b) ≡ false → rows_seen new l b ≡ rows_seen old l b
-  pub one : c.lane < length old → IsRemade slots old new c
 
 -- The notes of all cells: those of one lane in one block stand in one list, and each lane of the touched instructions has rows.
 pub record AreAllNotes (touched : Touched) (code : Code) (rows : List LaneRange) (all : List CellNotes) : Type 0 where

@@ -1,10 +1,13 @@
 //! Changes of single cells of rows.
 
-ghost use Rattle.std.specs.Prelude.{◌≡◌, ◌<◌, ℕ, true, length, IfOk, is_some, slice_get};
-ghost use Rattle.live_lanes.specs.Table.{find_cell, is_before, leading, seen_in, seen_cell, with_cause, with_end};
-ghost use Rattle.live_edits.specs.Logged.{has_cell};
-ghost use Rattle.live_edits.specs.Changes.{ChangesRow, ChangesCell};
+ghost use Rattle.std.specs.Prelude.{◌≡◌, ◌<◌, ◌≤◌, ℕ, true, length, IfOk, IsOk, OnOk, OnErr, is_some, slice_get};
+ghost use Rattle.live_lanes.specs.Table.{find_cell, is_before, leading, seen_in, with_cause, with_end};
+ghost use Rattle.live_lanes.specs.Entered.{rows_seen};
+ghost use Rattle.live_edits.specs.Logged.{has_cell, cell_room, room_of};
+ghost use Rattle.live_edits.specs.Changes.{AddsCells, ChangesRow, ChangesCell};
+ghost use Rattle.live_edits.specs.CellChanges.{seen_changed, fits_in};
 
+use crate::cell_change::{CellChange, change_cell, set_cell_cause, set_cell_end};
 use live_lanes::row::{Cause, Cell, LaneRange, PieceEnd, insert_one};
 use live_lanes::table::{LaneRanges, PieceSpot};
 use std::alloc::{AllocError, Global};
@@ -83,6 +86,7 @@ pub fn make_cell_near(
     ensures within { IfOk result (λ at. at < length row.new.cells.items) }
     ensures there { IfOk result (λ at. slice_get row.new.cells.items at ≡ find_cell block row.new.cells.items) }
     ensures same { (b : ℕ) → seen_in row.new.cells.items b ≡ seen_in row.old.cells.items b }
+    ensures rooms { (b : ℕ) → cell_room (find_cell b row.old.cells.items) ≤ cell_room (find_cell b row.new.cells.items) }
     ensures kept { (b : ℕ) → is_some (find_cell b row.old.cells.items) ≡ true → is_some (find_cell b row.new.cells.items) ≡ true }
 {
     let at = row.place_near(near, block);
@@ -98,6 +102,7 @@ pub fn make_cell(row: &mut LaneRange, alloc: Global, block: u32) -> Result<usize
     ensures within { IfOk result (λ at. at < length row.new.cells.items) }
     ensures there { IfOk result (λ at. slice_get row.new.cells.items at ≡ find_cell block row.new.cells.items) }
     ensures same { (b : ℕ) → seen_in row.new.cells.items b ≡ seen_in row.old.cells.items b }
+    ensures rooms { (b : ℕ) → cell_room (find_cell b row.old.cells.items) ≤ cell_room (find_cell b row.new.cells.items) }
     ensures kept { (b : ℕ) → is_some (find_cell b row.old.cells.items) ≡ true → is_some (find_cell b row.new.cells.items) ≡ true }
 {
     let near = near_of(row, block);
@@ -111,7 +116,7 @@ fn give_row_cause(row: &mut LaneRange, near: usize, spot: PieceSpot, cause: Caus
 {
     let place = row.place_near(near, spot.block);
     if place < row.cells.len() {
-        row.cells[place].set_cause(spot.index, cause);
+        set_cell_cause(&mut row.cells[place], spot.index, cause);
     }
 }
 
@@ -122,19 +127,30 @@ fn give_row_end(row: &mut LaneRange, near: usize, spot: PieceSpot, end: PieceEnd
 {
     let place = row.place_near(near, spot.block);
     if place < row.cells.len() {
-        row.cells[place].set_end(spot.index, end);
+        set_cell_end(&mut row.cells[place], spot.index, end);
     }
 }
 
-/// Puts a cell in the place of another one of its block.
-fn put_row_cell(row: &mut LaneRange, cell: Cell)
-    ensures { is_some (find_cell cell.block row.old.cells.items) ≡ true
-        → ChangesRow row.old.cells.items row.new.cells.items cell.block (λ _. seen_cell cell) }
+/// Changes a cell of a row. It gives the change that takes this one back.
+fn change_row_cell(
+    row: &mut LaneRange,
+    block: u32,
+    change: CellChange,
+) -> Result<CellChange, AllocError>
+    ensures changed { is_some (find_cell block row.old.cells.items) ≡ true
+        → OnOk result (ChangesRow row.old.cells.items row.new.cells.items block (λ v. seen_changed change v)) }
+    ensures failed { is_some (find_cell block row.old.cells.items) ≡ true
+        → OnErr result (ChangesRow row.old.cells.items row.new.cells.items block (λ v. v)) }
+    ensures back { is_some (find_cell block row.old.cells.items) ≡ true
+        → IfOk result (λ back. (seen_changed back (seen_in row.new.cells.items block) ≡ seen_in row.old.cells.items block) × (fits_in back (cell_room (find_cell block row.new.cells.items)) ≡ true)) }
+    ensures succeeds { is_some (find_cell block row.old.cells.items) ≡ true
+        → fits_in change (cell_room (find_cell block row.old.cells.items)) ≡ true → IsOk result }
 {
-    let place = row.place_near(near_of(row, cell.block), cell.block);
-    if has_at(row, place, cell.block) {
-        row.cells[place] = cell;
+    let place = row.place_near(near_of(row, block), block);
+    if place >= row.cells.len() {
+        return Ok(change);
     }
+    change_cell(&mut row.cells[place], change)
 }
 
 /// Gives a piece a cause, where it has a cell, which is looked for at a place and behind it first.
@@ -142,8 +158,9 @@ pub fn give_cause_near(rows: &mut LaneRanges, near: usize, spot: PieceSpot, caus
     ensures { has_cell rows.old.rows.items spot.lane spot.block ≡ true
         → ChangesCell rows.old.rows.items rows.new.rows.items spot.lane spot.block (λ v. with_cause v spot.index cause) }
 {
-    if let Some(row) = rows.rows.get_mut(spot.lane as usize) {
-        give_row_cause(row, near, spot, cause);
+    let lane = spot.lane as usize;
+    if lane < rows.rows.len() {
+        give_row_cause(&mut rows.rows[lane], near, spot, cause);
     }
 }
 
@@ -161,8 +178,9 @@ pub fn give_end_near(rows: &mut LaneRanges, near: usize, spot: PieceSpot, end: P
     ensures { has_cell rows.old.rows.items spot.lane spot.block ≡ true
         → ChangesCell rows.old.rows.items rows.new.rows.items spot.lane spot.block (λ v. with_end v spot.index end) }
 {
-    if let Some(row) = rows.rows.get_mut(spot.lane as usize) {
-        give_row_end(row, near, spot, end);
+    let lane = spot.lane as usize;
+    if lane < rows.rows.len() {
+        give_row_end(&mut rows.rows[lane], near, spot, end);
     }
 }
 
@@ -175,12 +193,36 @@ pub fn give_end(rows: &mut LaneRanges, spot: PieceSpot, end: PieceEnd)
     give_end_near(rows, near, spot, end);
 }
 
-/// Puts a cell of a lane in the place of another one of its block.
-pub fn put_cell(rows: &mut LaneRanges, lane: u32, cell: Cell)
-    ensures { has_cell rows.old.rows.items lane cell.block ≡ true
-        → ChangesCell rows.old.rows.items rows.new.rows.items lane cell.block (λ _. seen_cell cell) }
+/// Changes a cell of a lane, where there is one. It gives the change that takes this one back.
+pub fn change_in(
+    rows: &mut LaneRanges,
+    lane: u32,
+    block: u32,
+    change: CellChange,
+) -> Result<CellChange, AllocError>
+    ensures changed { has_cell rows.old.rows.items lane block ≡ true
+        → OnOk result (ChangesCell rows.old.rows.items rows.new.rows.items lane block (λ v. seen_changed change v)) }
+    ensures failed { has_cell rows.old.rows.items lane block ≡ true
+        → OnErr result (ChangesCell rows.old.rows.items rows.new.rows.items lane block (λ v. v)) }
+    ensures back { has_cell rows.old.rows.items lane block ≡ true
+        → IfOk result (λ back. (seen_changed back (rows_seen rows.new.rows.items lane block) ≡ rows_seen rows.old.rows.items lane block) × (fits_in back (room_of rows.new.rows.items lane block) ≡ true)) }
+    ensures succeeds { has_cell rows.old.rows.items lane block ≡ true
+        → fits_in change (room_of rows.old.rows.items lane block) ≡ true → IsOk result }
 {
-    if let Some(row) = rows.rows.get_mut(lane as usize) {
-        put_row_cell(row, cell);
+    let lane = lane as usize;
+    if lane >= rows.rows.len() {
+        return Ok(change);
     }
+    change_row_cell(&mut rows.rows[lane], block, change)
+}
+
+/// Makes the cell of a lane in a block, where there is none.
+pub fn make_in(rows: &mut LaneRanges, lane: u32, block: u32) -> Result<(), AllocError>
+    requires { lane < length rows.old.rows.items }
+    ensures added { AddsCells rows.old.rows.items rows.new.rows.items }
+    ensures there { OnOk result (has_cell rows.new.rows.items lane block ≡ true) }
+{
+    let alloc = rows.alloc;
+    let _ = make_cell(&mut rows.rows[lane as usize], alloc, block)?;
+    Ok(())
 }

@@ -1,7 +1,8 @@
 //! Edits of a function with what is live in it, after which the pieces kept are those of the function
 //! as it then stands.
 //!
-//! Cells of the lanes that edited instructions name are made anew (`cells`). Then pieces whose causes
+//! Cells of the lanes that edited instructions name are changed to what these do now (`renote`, by the
+//! notes of `cells`, through changes of single cells in `cell_change`). Then pieces whose causes
 //! are gone fall (`fall`), those that still have a reason come alive again (`ask`, `rise`), and the
 //! pieces concerned get their ends anew (`ends`): begin with `update`. Each change of a row is logged
 //! (`log`), so that it can be taken back without memory. The function itself and the order of its
@@ -9,6 +10,7 @@
 #![tactic(auto)]
 
 mod ask;
+mod cell_change;
 mod cells;
 mod change;
 mod draft;
@@ -21,6 +23,7 @@ mod log;
 mod needs;
 mod notes;
 mod pieces;
+mod renote;
 mod rise;
 mod spots;
 mod update;

@@ -4,8 +4,9 @@ ghost use Rattle.std.specs.Prelude.{◌≡◌, true, []};
 ghost use Rattle.live_edits.specs.Logged.{HasAllCells, cell_there, IsTakenBack};
 ghost use Rattle.live_edits.specs.Changes.{TakesBack};
 
-use crate::change::{give_cause, give_end, put_cell};
-use live_lanes::row::{Cause, Cell, PieceEnd};
+use crate::cell_change::CellChange;
+use crate::change::{change_in, give_cause, give_end};
+use live_lanes::row::{Cause, PieceEnd};
 use live_lanes::table::{LaneRanges, PieceSpot};
 
 /// What something was before it was changed.
@@ -13,8 +14,8 @@ use live_lanes::table::{LaneRanges, PieceSpot};
 pub enum Former {
     /// The piece at a spot was live for this cause, up to this end.
     Life(PieceSpot, Cause, PieceEnd),
-    /// A lane had this cell.
-    Whole(u32, Cell),
+    /// The cell of a lane in a block was as this change makes it.
+    Shape(u32, u32, CellChange),
 }
 
 /// The pieces of all lanes while edits are done, and what takes each change of them back, in the order
@@ -56,7 +57,9 @@ impl LoggedRows {
                 give_cause(&mut self.rows, spot, cause);
                 give_end(&mut self.rows, spot, end);
             }
-            Former::Whole(lane, cell) => put_cell(&mut self.rows, lane, cell),
+            Former::Shape(lane, block, change) => {
+                let _ = change_in(&mut self.rows, lane, block, change);
+            }
         }
     }
 }

@@ -7,11 +7,11 @@ pub invariant_of-row : goal.invariant_of-row
 invariant_of-row c =
     let cells = c.args.row.now.cells in
     let within : c.place_near-place.result < length cells.items = omega (arith, cells.ok.0, c.len.ensures, c.if-place-len.true) in
-    record { sorted = still-descends cells.items c.place_near-place.result c.index_mut.result.now c.set_end.new.self c.args.row.now.sorted within c.index_mut.ensures.value c.set_end.ensures.block }
+    record { sorted = still-descends cells.items c.place_near-place.result c.index_mut.result.now c.set_cell_end.new.cell c.args.row.now.sorted within c.index_mut.ensures.value c.set_cell_end.ensures.block }
 
 pub returns-then-place-len : goal.returns-then-place-len
 returns-then-place-len c has =
-    row-changes c.args.spot.block c.args.row.now.cells.items c.place_near-place.result c.index_mut.result.now c.set_end.new.self (λ v. with_end v c.args.spot.index c.args.end) c.args.row.now.sorted c.place_near-place.ensures.place has c.index_mut.ensures.value c.set_end.ensures.block c.set_end.ensures.changed
+    row-changes c.args.spot.block c.args.row.now.cells.items c.place_near-place.result c.index_mut.result.now c.set_cell_end.new.cell (λ v. with_end v c.args.spot.index c.args.end) c.args.row.now.sorted c.place_near-place.ensures.place has c.index_mut.ensures.value c.set_cell_end.ensures.block c.set_cell_end.ensures.room c.set_cell_end.ensures.changed
 
 pub returns-else-place-len : goal.returns-else-place-len
 returns-else-place-len c has =

@@ -1,4 +1,4 @@
-use Rattle.std.proofs.Common.{◌≡◌, ◌∙◌, ℕ, List, Bool, refl, sym, arith}
+use Rattle.std.proofs.Common.{◌∙◌, ℕ, List, Bool, refl, sym, arith}
 use Rattle.std.specs.Prelude.{slice_get}
 use Rattle.live_edits.specs.Folded.{are_picked, is_number}
 use Rattle.live_edits.proofs.JoiningLists.{IsOfElements, other-lengths, all-stop, all-on}

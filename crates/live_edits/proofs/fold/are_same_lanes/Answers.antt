@@ -1,4 +1,4 @@
-use Rattle.std.proofs.Common.{◌≡◌, ◌∙◌, refl, sym, arith}
+use Rattle.std.proofs.Common.{◌∙◌, refl, sym, arith}
 use Rattle.meaning.specs.Lanes.{same_lane}
 use Rattle.live_edits.specs.Folded.{same_lanes}
 use Rattle.live_edits.proofs.JoiningLists.{IsOfElements, other-lengths, all-stop, all-on}

@@ -1,4 +1,4 @@
-use Rattle.std.proofs.Common.{arith, sym, subst, reverse}
+use Rattle.std.proofs.Common.{arith, sym, subst}
 use Rattle.live_edits.specs.EditedRuns.{MayDo, DoesEdits}
 use Rattle.live_edits.specs.Runs.{edits_of, NumbersSlots}
 use Rattle.live_edits.proofs.EditedParts.{adds-rows, may-do, is-ready, logged-first, logged-edits}

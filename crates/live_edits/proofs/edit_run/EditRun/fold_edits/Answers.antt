@@ -1,4 +1,4 @@
-use Rattle.std.proofs.Common.{◌≡◌, ◌<◌, length, get_or, refl, arith}
+use Rattle.std.proofs.Common.{◌<◌, length, get_or, refl, arith}
 use Rattle.live_edits.specs.Folded.{edit_at}
 use Rattle.live_edits.proofs.JoiningFound.{edits-more}
 use Rattle.live_edits.proofs.edit_run.EditRun.fold_edits.Goals as goal

@@ -9,15 +9,15 @@ use Rattle.live_edits.proofs.log.LoggedRows.log_life.Goals as goal
 
 pub returns-in_err-place-clause-rows : goal.returns-in_err-place-clause-rows
 returns-in_err-place-clause-rows c =
-    cells-added c.args.self.now.rows.rows.items c.args.spot.lane c.index_mut-row.result.now c.requires c.index_mut-row.ensures.value c.make_cell_near.new.row c.make_cell_near.ensures.same c.make_cell_near.ensures.kept
+    cells-added c.args.self.now.rows.rows.items c.args.spot.lane c.index_mut-row.result.now c.requires c.index_mut-row.ensures.value c.make_cell_near.new.row c.make_cell_near.ensures.same c.make_cell_near.ensures.kept c.make_cell_near.ensures.rooms
 
 pub returns-in_err-push-clause-rows : goal.returns-in_err-push-clause-rows
 returns-in_err-push-clause-rows c =
-    cells-added c.args.self.now.rows.rows.items c.args.spot.lane c.index_mut-row.result.now c.requires c.index_mut-row.ensures.value c.make_cell_near.new.row c.make_cell_near.ensures.same c.make_cell_near.ensures.kept
+    cells-added c.args.self.now.rows.rows.items c.args.spot.lane c.index_mut-row.result.now c.requires c.index_mut-row.ensures.value c.make_cell_near.new.row c.make_cell_near.ensures.same c.make_cell_near.ensures.kept c.make_cell_near.ensures.rooms
 
 pub returns-clause-rows : goal.returns-clause-rows
 returns-clause-rows c =
-    cells-added c.args.self.now.rows.rows.items c.args.spot.lane c.index_mut-row.result.now c.requires c.index_mut-row.ensures.value c.make_cell_near.new.row c.make_cell_near.ensures.same c.make_cell_near.ensures.kept
+    cells-added c.args.self.now.rows.rows.items c.args.spot.lane c.index_mut-row.result.now c.requires c.index_mut-row.ensures.value c.make_cell_near.new.row c.make_cell_near.ensures.same c.make_cell_near.ensures.kept c.make_cell_near.ensures.rooms
 
 pub returns-clause-life : goal.returns-clause-life
 returns-clause-life c =
@@ -27,7 +27,7 @@ returns-clause-life c =
     let y = c.make_cell_near.new.row in
     let own : seen_cell c.index.result.now ≡ rows_seen rows spot.lane spot.block = cell-seen spot.block y.cells.items c.in_ok-place.place c.index.result.now c.in_ok-place.ensures.within c.in_ok-place.ensures.there c.index.ensures ∙ (c.make_cell_near.ensures.same spot.block ∙ row-of rows spot.lane spot.block x c.requires c.index_mut-row.ensures.value) in
     record {
-      rows = cells-added rows spot.lane x c.requires c.index_mut-row.ensures.value y c.make_cell_near.ensures.same c.make_cell_near.ensures.kept;
+      rows = cells-added rows spot.lane x c.requires c.index_mut-row.ensures.value y c.make_cell_near.ensures.same c.make_cell_near.ensures.kept c.make_cell_near.ensures.rooms;
       there = has-made rows spot.lane x c.requires c.index_mut-row.ensures.value y spot.block c.in_ok-place.place c.in_ok-place.ensures.within c.in_ok-place.ensures.there;
       list = c.in_ok-push.ensures.items ∙ ap (λ e. c.args.self.now.log.items ++ e ∷ []) (c.life_of-former.ensures ∙ ap (λ (v : Seen). formers.Life spot (cause_in v spot.index) (end_in v spot.index)) own);
     }

@@ -10,12 +10,12 @@ pub cells-preserved : goal.cells-preserved
 cells-preserved c =
     let within : c.cells.notes-index < length c.args.all.now = omega arith in
     record {
-      logged = logged-then c.args.self.now c.cells.self c.remake.new.self c.cells.invariant.logged c.remake.ensures.logged;
-      rest = λ new r. c.cells.invariant.rest new (each-more c.args.slots.now c.cells.self.rows.rows.items c.remake.new.self.rows.rows.items new c.args.all.now c.cells.notes-index c.notes-item.result within c.notes-item.is c.in_ok-remake.ensures.remade r);
+      logged = logged-then c.args.self.now c.cells.self c.note_cell.new.self c.cells.invariant.logged c.note_cell.ensures.logged;
+      rest = λ new r. c.cells.invariant.rest new (each-more c.args.slots.now c.cells.self.rows.rows.items c.note_cell.new.self.rows.rows.items new c.args.all.now c.cells.notes-index c.notes-item.result within c.notes-item.is c.in_ok-note_cell.ensures.noted r);
     }
 
-pub returns-in_err-remake-clause-logged : goal.returns-in_err-remake-clause-logged
-returns-in_err-remake-clause-logged c = logged-then c.args.self.now c.cells.self c.remake.new.self c.cells.invariant.logged c.remake.ensures.logged
+pub returns-in_err-note_cell-clause-logged : goal.returns-in_err-note_cell-clause-logged
+returns-in_err-note_cell-clause-logged c = logged-then c.args.self.now c.cells.self c.note_cell.new.self c.cells.invariant.logged c.note_cell.ensures.logged
 
 pub returns-clause-remade : goal.returns-clause-remade
 returns-clause-remade c =

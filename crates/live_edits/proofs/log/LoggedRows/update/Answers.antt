@@ -9,6 +9,9 @@ use Rattle.live_edits.proofs.log.LoggedRows.update.Goals as goal
 pub returns-in_err-list-clause-logged : goal.returns-in_err-list-clause-logged
 returns-in_err-list-clause-logged c = logged-same c.args.self.now
 
+pub returns-in_err-add_all-clause-logged : goal.returns-in_err-add_all-clause-logged
+returns-in_err-add_all-clause-logged c = logged-same c.args.self.now
+
 pub returns-in_err-fall-clause-logged : goal.returns-in_err-fall-clause-logged
 returns-in_err-fall-clause-logged c = logged-then c.args.self.now c.look_again.new.self c.fall.new.self c.in_ok-fallen.ensures.logged c.in_err-fall.ensures.logged
 

@@ -1,0 +1,391 @@
+//! Cells that are changed, note by note, to what touched instructions do now.
+
+ghost use Rattle.std.specs.Prelude.{◌≡◌, ◌<◌, ◌≤◌, ◌++◌, ℕ, true, length, IfOk, OnOk};
+ghost use Rattle.live_lanes.specs.Table.{Seen, seen_cell};
+ghost use Rattle.live_lanes.specs.Entered.{reading_of};
+ghost use Rattle.live_edits.specs.Logged.{IsLogged};
+ghost use Rattle.live_edits.specs.Remade.{RemakesAll};
+ghost use Rattle.live_edits.specs.RemadeSteps.{use_of_read, def_of_write};
+ghost use Rattle.live_edits.specs.CellChanges.{seen_changed};
+ghost use Rattle.live_edits.specs.Renoted.{CutsReadings, CutsPieces, piece_readings, under, not_over, first_read, without_first, is_begun_by, changed_maybe, all_changed, rewritten, Begins, piece_joined, NotesReading, NotesWriting, NotesSeen, NotesAll, NotesCell, ChangesOne};
+
+use crate::cell_change::CellChange;
+use crate::cells::{CellNotes, Note};
+use crate::change::{change_in, make_in};
+use crate::log::{Former, LoggedRows};
+use instr_effects::lane_acts::{LaneRead, LaneWrite};
+use live_lanes::row::{Cause, Cell, DefPiece, LaneUse, Piece, PieceEnd};
+use slot_index::Slots;
+use std::alloc::{AllocError, Global};
+
+/// The place, among the pieces that writings begin, behind those that begin before an instruction. It
+/// is also the number of the piece that the instruction's entry lies in.
+fn piece_before(slots: &Slots, cell: &Cell, id: u32) -> usize
+    ensures within { result ≤ length cell.now.segments.items }
+    ensures cut { CutsPieces slots.now id (seen_cell cell.now).segments result }
+{
+    let number = slots.number(id);
+    cell.segments
+        .as_slice()
+        .partition_point(|s| slots.number(s.start) < number)
+}
+
+/// The readings of a piece.
+fn readings_of(cell: &Cell, index: usize) -> &[LaneUse]
+    requires { index ≤ length cell.now.segments.items }
+    ensures { result.now ≡ piece_readings (seen_cell cell.now).readings (seen_cell cell.now).segments index }
+{
+    if index == 0 {
+        return cell.first.readings.as_slice();
+    }
+    cell.segments[index - 1].piece.readings.as_slice()
+}
+
+/// How many of the readings are of instructions before this one.
+fn readings_before(slots: &Slots, readings: &[LaneUse], id: u32) -> usize
+    ensures within { result ≤ length readings.now }
+    ensures cut { CutsReadings (under slots.now id) readings.now result }
+{
+    let number = slots.number(id);
+    readings.partition_point(|r| slots.number(r.id) < number)
+}
+
+/// How many of the readings are of instructions before this one, or of this one.
+fn readings_through(slots: &Slots, readings: &[LaneUse], id: u32) -> usize
+    ensures within { result ≤ length readings.now }
+    ensures cut { CutsReadings (not_over slots.now id) readings.now result }
+{
+    let number = slots.number(id);
+    readings.partition_point(|r| slots.number(r.id) <= number)
+}
+
+/// What the first of these readings is, if it is of an instruction.
+fn first_read(readings: &[LaneUse], id: u32) -> Option<LaneRead>
+    ensures { result ≡ first_read id readings.now }
+{
+    match readings.first() {
+        Some(reading) => {
+            if reading.id == id {
+                Some(LaneRead { into: reading.into })
+            } else {
+                None
+            }
+        }
+        None => None,
+    }
+}
+
+/// The readings, without the first one if it is of an instruction.
+fn without_first(readings: &[LaneUse], id: u32) -> &[LaneUse]
+    ensures { result.now ≡ without_first id readings.now }
+{
+    if readings.len() > 0 && readings[0].id == id {
+        return &readings[1..];
+    }
+    readings
+}
+
+/// The readings before one, this one if there is any, and those behind it.
+fn with_read(
+    alloc: Global,
+    before: &[LaneUse],
+    id: u32,
+    read: Option<LaneRead>,
+    behind: &[LaneUse],
+) -> Result<Vec<LaneUse>, AllocError>
+    ensures { IfOk result (λ new. new.items ≡ before.now ++ (reading_of id (use_of_read read) ++ behind.now)) }
+{
+    let mut new = Vec::new(alloc);
+    new.extend_from_slice(before)?;
+    if let Some(read) = read {
+        new.push(LaneUse {
+            id,
+            into: read.into,
+        })?;
+    }
+    new.extend_from_slice(behind)?;
+    Ok(new)
+}
+
+/// These readings, and then those.
+fn joined(alloc: Global, before: &[LaneUse], behind: &[LaneUse]) -> Result<Vec<LaneUse>, AllocError>
+    ensures { IfOk result (λ new. new.items ≡ before.now ++ behind.now) }
+{
+    let mut new = Vec::new(alloc);
+    new.extend_from_slice(before)?;
+    new.extend_from_slice(behind)?;
+    Ok(new)
+}
+
+/// Whether the piece at a place among those that writings begin begins with an instruction.
+fn is_begun_by(cell: &Cell, at: usize, id: u32) -> bool
+    ensures { result ≡ is_begun_by id (seen_cell cell.now).segments at }
+{
+    if at >= cell.segments.len() {
+        return false;
+    }
+    cell.segments[at].start == id
+}
+
+/// Changes of a cell, one after the other.
+#[derive(Drop)]
+struct CellChanges {
+    /// The first.
+    first: Option<CellChange>,
+    /// The second.
+    second: Option<CellChange>,
+}
+
+/// What changes a cell so that an instruction reads the lane so.
+fn read_changes(
+    alloc: Global,
+    slots: &Slots,
+    cell: &Cell,
+    id: u32,
+    read: Option<LaneRead>,
+) -> Result<CellChanges, AllocError>
+    ensures { IfOk result (λ changes. NotesReading slots.now id (use_of_read read) (seen_cell cell.now) (all_changed changes (seen_cell cell.now))) }
+{
+    let index = piece_before(slots, cell, id);
+    let readings = readings_of(cell, index);
+    let at = readings_before(slots, readings, id);
+    let behind = &readings[at..];
+    let second = None;
+    if first_read(behind, id) == read {
+        let first = None;
+        return Ok(CellChanges { first, second });
+    }
+    let new = with_read(alloc, &readings[..at], id, read, without_first(behind, id))?;
+    let first = Some(CellChange::Readings(index, new));
+    Ok(CellChanges { first, second })
+}
+
+/// What changes a cell so that an instruction that writes the lane does it so.
+fn rewrite(at: usize, write: LaneWrite) -> CellChanges
+    ensures { (v : Seen) → all_changed result v ≡ rewritten at write.early write.from v }
+{
+    CellChanges {
+        first: Some(CellChange::Writing(at, write.early, write.from)),
+        second: None,
+    }
+}
+
+/// What lets a piece of a cell begin with an instruction, which takes readings of the one before.
+fn begin(
+    alloc: Global,
+    slots: &Slots,
+    cell: &Cell,
+    index: usize,
+    id: u32,
+    write: LaneWrite,
+) -> Result<CellChanges, AllocError>
+    requires { index ≤ length cell.now.segments.items }
+    ensures { IfOk result (λ changes. Begins slots.now index id write (seen_cell cell.now) (all_changed changes (seen_cell cell.now))) }
+{
+    let readings = readings_of(cell, index);
+    let at = readings_through(slots, readings, id);
+    let before = joined(alloc, &readings[..at], &[])?;
+    let behind = joined(alloc, &readings[at..], &[])?;
+    let piece = DefPiece {
+        start: id,
+        early: write.early,
+        from: write.from,
+        piece: Piece {
+            cause: Cause::None,
+            end: PieceEnd::Never,
+            readings: behind,
+        },
+    };
+    let count = cell.segments.len() + 1;
+    Ok(CellChanges {
+        first: Some(CellChange::Begin(index, piece, count)),
+        second: Some(CellChange::Readings(index, before)),
+    })
+}
+
+/// What joins the piece at a place among those that writings begin to the one before.
+fn join(alloc: Global, cell: &Cell, at: usize) -> Result<CellChanges, AllocError>
+    requires { at < length cell.now.segments.items }
+    ensures { IfOk result (λ changes. all_changed changes (seen_cell cell.now) ≡ piece_joined at (seen_cell cell.now)) }
+{
+    let readings = joined(alloc, readings_of(cell, at), readings_of(cell, at + 1))?;
+    Ok(CellChanges {
+        first: Some(CellChange::Readings(at, readings)),
+        second: Some(CellChange::Join(at)),
+    })
+}
+
+/// What changes a cell so that an instruction writes the lane so.
+fn write_changes(
+    alloc: Global,
+    slots: &Slots,
+    cell: &Cell,
+    id: u32,
+    write: Option<LaneWrite>,
+) -> Result<CellChanges, AllocError>
+    ensures { IfOk result (λ changes. (l : ℕ) → NotesWriting slots.now id (def_of_write l write) (seen_cell cell.now) (all_changed changes (seen_cell cell.now))) }
+{
+    let index = piece_before(slots, cell, id);
+    let is_begun = is_begun_by(cell, index, id);
+    match write {
+        Some(write) => {
+            if is_begun {
+                Ok(rewrite(index, write))
+            } else {
+                begin(alloc, slots, cell, index, id, write)
+            }
+        }
+        None => {
+            if is_begun {
+                join(alloc, cell, index)
+            } else {
+                Ok(CellChanges {
+                    first: None,
+                    second: None,
+                })
+            }
+        }
+    }
+}
+
+impl LoggedRows {
+    /// Changes a cell, and logs what takes the change back.
+    fn change(&mut self, lane: u32, block: u32, change: CellChange) -> Result<(), AllocError>
+        requires { lane < length self.old.rows.rows.items }
+        ensures changed { OnOk result (ChangesOne self.old.rows.rows.items self.new.rows.rows.items lane block (λ v w. w ≡ seen_changed change v)) }
+        ensures lanes { length self.new.rows.rows.items ≡ length self.old.rows.rows.items }
+        ensures logged { IsLogged self.old self.new }
+    {
+        // Memory for the log is taken first, so that no cell changes without what takes it back.
+        self.log.reserve(1)?;
+        make_in(&mut self.rows, lane, block)?;
+        let back = change_in(&mut self.rows, lane, block, change)?;
+        self.log.push(Former::Shape(lane, block, back))?;
+        Ok(())
+    }
+
+    /// Changes a cell, if there is a change.
+    fn change_maybe(
+        &mut self,
+        lane: u32,
+        block: u32,
+        change: Option<CellChange>,
+    ) -> Result<(), AllocError>
+        requires { lane < length self.old.rows.rows.items }
+        ensures changed { OnOk result (ChangesOne self.old.rows.rows.items self.new.rows.rows.items lane block (λ v w. w ≡ changed_maybe change v)) }
+        ensures lanes { length self.new.rows.rows.items ≡ length self.old.rows.rows.items }
+        ensures logged { IsLogged self.old self.new }
+    {
+        match change {
+            Some(change) => self.change(lane, block, change),
+            None => Ok(()),
+        }
+    }
+
+    /// Changes a cell by all of these.
+    fn change_all(&mut self, lane: u32, block: u32, changes: CellChanges) -> Result<(), AllocError>
+        requires { lane < length self.old.rows.rows.items }
+        ensures changed { OnOk result (ChangesOne self.old.rows.rows.items self.new.rows.rows.items lane block (λ v w. w ≡ all_changed changes v)) }
+        ensures lanes { length self.new.rows.rows.items ≡ length self.old.rows.rows.items }
+        ensures logged { IsLogged self.old self.new }
+    {
+        self.change_maybe(lane, block, changes.first)?;
+        self.change_maybe(lane, block, changes.second)
+    }
+
+    /// Lets a cell tell that an instruction reads the lane so.
+    fn note_read(
+        &mut self,
+        slots: &Slots,
+        lane: u32,
+        block: u32,
+        id: u32,
+        read: Option<LaneRead>,
+    ) -> Result<(), AllocError>
+        requires { lane < length self.old.rows.rows.items }
+        ensures noted { OnOk result (ChangesOne self.old.rows.rows.items self.new.rows.rows.items lane block (NotesReading slots.now id (use_of_read read))) }
+        ensures lanes { length self.new.rows.rows.items ≡ length self.old.rows.rows.items }
+        ensures logged { IsLogged self.old self.new }
+    {
+        let alloc = self.rows.alloc;
+        // Where there is no cell, one that tells nothing stands for it, which takes no memory.
+        let empty = Cell::new(alloc, block);
+        let cell = self.rows.cell(lane, block).unwrap_or(&empty);
+        let changes = read_changes(alloc, slots, cell, id, read)?;
+        self.change_all(lane, block, changes)
+    }
+
+    /// Lets a cell tell that an instruction writes the lane so.
+    fn note_write(
+        &mut self,
+        slots: &Slots,
+        lane: u32,
+        block: u32,
+        id: u32,
+        write: Option<LaneWrite>,
+    ) -> Result<(), AllocError>
+        requires { lane < length self.old.rows.rows.items }
+        ensures noted { OnOk result ((l : ℕ) → ChangesOne self.old.rows.rows.items self.new.rows.rows.items lane block (NotesWriting slots.now id (def_of_write l write))) }
+        ensures lanes { length self.new.rows.rows.items ≡ length self.old.rows.rows.items }
+        ensures logged { IsLogged self.old self.new }
+    {
+        let alloc = self.rows.alloc;
+        let empty = Cell::new(alloc, block);
+        let cell = self.rows.cell(lane, block).unwrap_or(&empty);
+        let changes = write_changes(alloc, slots, cell, id, write)?;
+        self.change_all(lane, block, changes)
+    }
+
+    /// Lets a cell tell what a note says.
+    fn note(&mut self, slots: &Slots, lane: u32, block: u32, note: Note) -> Result<(), AllocError>
+        requires { lane < length self.old.rows.rows.items }
+        ensures noted { OnOk result (ChangesOne self.old.rows.rows.items self.new.rows.rows.items lane block (NotesSeen slots.now note)) }
+        ensures lanes { length self.new.rows.rows.items ≡ length self.old.rows.rows.items }
+        ensures logged { IsLogged self.old self.new }
+    {
+        self.note_read(slots, lane, block, note.id, note.act.read)?;
+        self.note_write(slots, lane, block, note.id, note.act.write)
+    }
+
+    /// Lets a cell tell what notes say, one after the other.
+    fn note_each(
+        &mut self,
+        slots: &Slots,
+        lane: u32,
+        block: u32,
+        notes: &[Note],
+    ) -> Result<(), AllocError>
+        requires { lane < length self.old.rows.rows.items }
+        ensures noted { OnOk result (ChangesOne self.old.rows.rows.items self.new.rows.rows.items lane block (NotesAll slots.now notes.now)) }
+        ensures lanes { length self.new.rows.rows.items ≡ length self.old.rows.rows.items }
+        ensures logged { IsLogged self.old self.new }
+    {
+        'notes: for each in notes {
+            self.note(slots, lane, block, *each)?;
+        }
+        Ok(())
+    }
+
+    /// Lets a cell tell what its notes say.
+    fn note_cell(&mut self, slots: &Slots, notes: &CellNotes) -> Result<(), AllocError>
+        ensures noted { OnOk result (NotesCell slots.now self.old.rows.rows.items self.new.rows.rows.items notes.now) }
+        ensures lanes { length self.new.rows.rows.items ≡ length self.old.rows.rows.items }
+        ensures logged { IsLogged self.old self.new }
+    {
+        if notes.lane as usize >= self.rows.rows.len() {
+            return Ok(());
+        }
+        self.note_each(slots, notes.lane, notes.block, notes.notes.as_slice())
+    }
+
+    /// Lets the cells that have notes tell what these say.
+    pub fn remake_all(&mut self, slots: &Slots, all: &[CellNotes]) -> Result<(), AllocError>
+        ensures remade { OnOk result (RemakesAll slots.now self.old.rows.rows.items self.new.rows.rows.items all.now) }
+        ensures logged { IsLogged self.old self.new }
+    {
+        'cells: for notes in all {
+            self.note_cell(slots, notes)?;
+        }
+        Ok(())
+    }
+}
