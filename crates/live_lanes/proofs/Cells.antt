@@ -7,7 +7,7 @@ use Rattle.std.proofs.lemmas.Bool.{ltb-true, ltb-false, lt-ltb, false≢true}
 use Rattle.std.specs.List.Sorted.{IsPartitionedBy}
 use Rattle.std.proofs.lemmas.Option.{slice_get-get_or, slice_get_cases}
 use Rattle.live_lanes.specs.declared.row.Cell.{Cell}
-use Rattle.live_lanes.specs.Table.{leading, find_cell, is_before, is_below, descends, Seen, seen, seen_in, seen_cell, unseen}
+use Rattle.live_lanes.specs.Table.{leading, find_cell, cell_room, is_before, is_below, descends, Seen, seen, seen_in, seen_cell, unseen}
 
 -- where a search by halves ends, so many elements pass the test
 pub partition-leading : {X : Type 0} (test : X → Bool) (xs : List X) (i : ℕ) → i ≤ length xs → AllWithin (λ y. test y ≡ true) xs 0 i → AllWithin (λ y. test y ≡ false) xs i (length xs) → i ≡ leading test xs
@@ -345,3 +345,21 @@ is-found (x ∷ cs) (suc at) c s e =
 
 pub cell-seen : (b : ℕ) (cs : List Cell) (at : ℕ) (x : Cell) → at < length cs → slice_get cs at ≡ find_cell b cs → x ≡ get_or cs at x → seen_cell x ≡ seen_in cs b
 cell-seen b cs at x h there is = sym (ap seen (sym there ∙ slice_get-get_or cs at x h ∙ ap Some (sym is)))
+
+-- no cell goes where one is put
+pub put-kept : (b : ℕ) (cs : List Cell) (at : ℕ) (x : Cell) → descends cs ≡ true → at ≡ leading (is_before b) cs → is_some (find_cell b cs) ≡ false → x.block ≡ b → (ys : List Cell) → ys ≡ insert cs at x → (q : ℕ) → is_some (find_cell q cs) ≡ true → is_some (find_cell q ys) ≡ true
+put-kept b cs at x s e none block ys f q h =
+    ap (λ zs. is_some (find_cell q zs)) f ∙ (ap (λ n. is_some (find_cell q (insert cs n x))) e ∙ (ap is_some (insert-find b q cs x block (none-found b cs none)) ∙ go (nat_eq b q)))
+  where
+    go : (t : Bool) → is_some (cond t (Some x) (find_cell q cs)) ≡ true
+    go true = refl
+    go false = h
+
+-- nor any room
+pub put-rooms : (b : ℕ) (cs : List Cell) (at : ℕ) (x : Cell) → descends cs ≡ true → at ≡ leading (is_before b) cs → is_some (find_cell b cs) ≡ false → x.block ≡ b → (ys : List Cell) → ys ≡ insert cs at x → (q : ℕ) → cell_room (find_cell q cs) ≤ cell_room (find_cell q ys)
+put-rooms b cs at x s e none block ys f q =
+    go (nat_eq b q) refl (ap (λ zs. cell_room (find_cell q zs)) f ∙ (ap (λ n. cell_room (find_cell q (insert cs n x))) e ∙ ap cell_room (insert-find b q cs x block (none-found b cs none))))
+  where
+    go : (t : Bool) → nat_eq b q ≡ t → cell_room (find_cell q ys) ≡ cell_room (cond t (Some x) (find_cell q cs)) → cell_room (find_cell q cs) ≤ cell_room (find_cell q ys)
+    go true g h = let gone : cell_room (find_cell q cs) ≡ 0 = ap (λ n. cell_room (find_cell n cs)) (sym (eqb-true b q g)) ∙ ap cell_room (none-found b cs none) in omega (arith, gone)
+    go false g h = omega (arith, h)

@@ -1,5 +1,5 @@
 -- The pieces of the lanes of a function as the code keeps them, and how it finds them.
-use Rattle.std.specs.Prelude.{◌≡◌, ◌≢◌, ℕ, zero, suc, ◌+◌, ◌*◌, Bool, true, false, cond, ◌&&◌, nat_eq, nat_lt, nat_le, List, [], ◌∷◌, Option, None, Some, slice_get, slice_set, option_map, find, reverse, length, map, ◌++◌}
+use Rattle.std.specs.Prelude.{◌≡◌, ◌≢◌, ℕ, zero, suc, ◌+◌, ◌*◌, Bool, true, false, cond, ◌&&◌, nat_eq, nat_lt, nat_le, List, [], ◌∷◌, Option, None, Some, slice_get, slice_set, option_map, find, reverse, length, map, ◌++◌, vec_capacity}
 use Rattle.slot_index.specs.Order.{number_of}
 use Rattle.live_lanes.specs.declared.row.Cause.{Cause}
 use Rattle.live_lanes.specs.declared.row.Cause.TheVariants as causes
@@ -36,6 +36,11 @@ end_rank slots ends.Last = 340282366920938463463374607431768211455
 abbrev pub find_cell : ℕ → List Cell → Option Cell
 find_cell b [] = None
 find_cell b (c ∷ cs) = cond (nat_eq c.block b) (Some c) (find_cell b cs)
+
+-- how many pieces its list of those that writings begin has room for
+abbrev pub cell_room : Option Cell → ℕ
+cell_room None = 0
+cell_room (Some c) = vec_capacity c.segments
 
 abbrev pub is_before : ℕ → Cell → Bool
 is_before b c = nat_lt b c.block

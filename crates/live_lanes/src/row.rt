@@ -3,10 +3,10 @@
 //! A piece of a lane begins at a block's start or with a writing, and lasts until the next writing
 //! or the block's end. In it the lane is live up to the last reading that counts.
 
-ghost use Rattle.std.specs.Prelude.{◌≡◌, ℕ, ◌<◌, ◌≤◌, ◌+◌, ◌*◌, length, IfOk, IsTrue, true, option_copied, slice_get, find, reverse, [], OnOk, OnErr, cond, is_ok, is_some, map, nat_eq, not, MatchOption, Some, if◌then◌else◌};
+ghost use Rattle.std.specs.Prelude.{◌≡◌, ℕ, ◌<◌, ◌≤◌, ◌+◌, ◌*◌, length, IfOk, IsTrue, true, option_copied, slice_get, find, reverse, [], OnOk, OnErr, cond, is_ok, is_some, map, nat_eq, not, MatchOption, Some, if◌then◌else◌, vec_capacity};
 ghost use Rattle.std.specs.List.{insert};
 ghost use Rattle.live_lanes.specs.Certain.{blocks_of, KeepsCertain, RaisesCertain};
-ghost use Rattle.live_lanes.specs.Table.{entry_rank, exit_rank, end_rank, descends, leading, is_before, find_cell, seen_in, seen_cell, unseen, rises_from, piece_at, piece_in, cause_in, end_in, with_cause, with_end, certain_cause, is_certain, cause_of, read_at_end, IsRaised, with_last, with_reading, with_segment, ends_with, starts_last, begun, with_end_at, begun_move, moved_in};
+ghost use Rattle.live_lanes.specs.Table.{entry_rank, exit_rank, end_rank, descends, leading, is_before, find_cell, cell_room, seen_in, seen_cell, unseen, rises_from, piece_at, piece_in, cause_in, end_in, with_cause, with_end, certain_cause, is_certain, cause_of, read_at_end, IsRaised, with_last, with_reading, with_segment, ends_with, starts_last, begun, with_end_at, begun_move, moved_in};
 ghost use Rattle.live_lanes.specs.Graph.{is_live};
 ghost use Rattle.live_lanes.specs.Reach.{is_never, reaches, seen_at};
 
@@ -162,6 +162,24 @@ pub fn insert_one<T: Drop>(list: &mut Vec<T>, at: usize, element: T) -> Result<(
     Ok(())
 }
 
+/// Where the cell of a block stands or would stand, as a hint. Each cell has a block of its own: so it
+/// can't be farther from the first and the last cell than its block from theirs.
+fn near_of(cells: &[Cell], block: u32) -> usize {
+    let (Some(first), Some(last)) = (cells.first(), cells.last()) else {
+        return 0;
+    };
+    if block < last.block {
+        return cells.len();
+    }
+    let behind = cells.len().saturating_sub(1);
+    let to = behind.min(first.block.saturating_sub(block) as usize);
+    let from = behind.saturating_sub(block.saturating_sub(last.block) as usize);
+    match cells.get(from..to) {
+        Some(between) => from.saturating_add(between.partition_point(|c| c.block > block)),
+        None => to,
+    }
+}
+
 impl LaneRange {
     /// No cells, which takes no memory.
     pub fn new(alloc: Global) -> LaneRange
@@ -177,6 +195,10 @@ impl LaneRange {
         ensures within { result ≤ length self.now.cells.items }
         ensures place { result ≡ leading (is_before block) self.now.cells.items }
     {
+        let near = near_of(self.cells.as_slice(), block);
+        if self.is_place(near, block) {
+            return near;
+        }
         self.cells.as_slice().partition_point(|c| c.block > block)
     }
 
@@ -255,6 +277,8 @@ impl LaneRange {
         ensures there { IfOk result (λ at. slice_get self.new.cells.items at
             ≡ find_cell block self.new.cells.items) }
         ensures same { (b : ℕ) → seen_in self.new.cells.items b ≡ seen_in self.old.cells.items b }
+        ensures rooms { (b : ℕ) → cell_room (find_cell b self.old.cells.items) ≤ cell_room (find_cell b self.new.cells.items) }
+        ensures kept { (b : ℕ) → is_some (find_cell b self.old.cells.items) ≡ true → is_some (find_cell b self.new.cells.items) ≡ true }
     {
         let at = self.place_near(near, block);
         if self.has_at(at, block) {
@@ -599,6 +623,7 @@ impl Cell {
     /// Gives a piece a cause.
     pub fn set_cause(&mut self, index: usize, cause: Cause)
         ensures block { self.new.block ≡ self.old.block }
+        ensures room { vec_capacity self.old.segments ≤ vec_capacity self.new.segments }
         ensures changed { seen_cell self.new ≡ with_cause (seen_cell self.old) index cause }
     {
         if index == 0 {
@@ -611,6 +636,7 @@ impl Cell {
     /// Gives a piece an end.
     pub fn set_end(&mut self, index: usize, end: PieceEnd)
         ensures block { self.new.block ≡ self.old.block }
+        ensures room { vec_capacity self.old.segments ≤ vec_capacity self.new.segments }
         ensures changed { seen_cell self.new ≡ with_end (seen_cell self.old) index end }
     {
         if index == 0 {
