@@ -23,7 +23,7 @@ use Rattle.live_lanes.specs.Extents.{cell_extents, stretch_of, is_met, some_exte
 use Rattle.live_lanes.proofs.Held.{or-left, or-none, le-false}
 use Rattle.interference.specs.declared.held.RangeExtent.{RangeExtent}
 use Rattle.interference.specs.declared.held.HeldList.{HeldList}
-use Rattle.interference.specs.declared.matrix.UnitTable.{UnitTable}
+use Rattle.interference.specs.declared.unit_table.UnitTable.{UnitTable}
 use Rattle.interference.specs.declared.matrix.Matrix.{Matrix}
 use Rattle.interference.specs.Clashes.{register_in, holds, list_in, AreApart, AreFilled, AreKnown, IsOrdered, Points, cell_points, lane_points, range_points, points_in, is_held_at, is_taken, is_free}
 use Rattle.interference.specs.Changes.{begins_with, others_of, own_of, starting}

@@ -8,8 +8,8 @@ use Rattle.target_base.specs.declared.types.Reg.{Reg}
 use Rattle.live_lanes.specs.Looks.{InOrder}
 use Rattle.live_lanes.proofs.Held.{or-none}
 use Rattle.interference.specs.declared.held.HeldList.{HeldList}
-use Rattle.interference.specs.declared.matrix.UnitTable.{UnitTable}
-use Rattle.interference.specs.declared.matrix.UnitExtents.{UnitExtents}
+use Rattle.interference.specs.declared.unit_table.UnitTable.{UnitTable}
+use Rattle.interference.specs.declared.unit_table.UnitExtents.{UnitExtents}
 use Rattle.interference.specs.declared.matrix.Matrix.{Matrix}
 use Rattle.interference.specs.Clashes.{IsOrdered, AreApart, AreKnown, register_in, part_of, held_of_some, list_in}
 use Rattle.interference.specs.Parts.{has_parts, has_lists}

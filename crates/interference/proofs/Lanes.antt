@@ -13,7 +13,7 @@ use Rattle.live_lanes.specs.Entered.{cells_of}
 use Rattle.live_lanes.specs.Extents.{cell_extents, stretch_of, some_extents}
 use Rattle.live_lanes.proofs.Cells.{is-found, both-left, both-right}
 use Rattle.interference.specs.declared.held.HeldList.{HeldList}
-use Rattle.interference.specs.declared.matrix.UnitTable.{UnitTable}
+use Rattle.interference.specs.declared.unit_table.UnitTable.{UnitTable}
 use Rattle.interference.specs.Clashes.{AreApart, AreFilled, held_of, held_of_some, list_in, is_taken}
 use Rattle.interference.specs.Changes.{others_of, own_of}
 use Rattle.interference.specs.Listed.{lane_extents, listed, AreInTurn, has_some, IsFront, HasRoom, IsKept, IsBegun, IsFilled, ChangesAt, ChangesCell, AreSorted, KeepsOthers, Lots, LaneHasRoom, with_lane, Begins, Fills}

@@ -6,8 +6,8 @@ use Rattle.std.proofs.lemmas.List.Folds.{list_all-append}
 use Rattle.target_base.specs.declared.types.Reg.{Reg}
 use Rattle.live_lanes.proofs.Cells.{both, both-left, both-right}
 use Rattle.interference.specs.declared.held.HeldList.{HeldList}
-use Rattle.interference.specs.declared.matrix.UnitTable.{UnitTable}
-use Rattle.interference.specs.declared.matrix.UnitExtents.{UnitExtents}
+use Rattle.interference.specs.declared.unit_table.UnitTable.{UnitTable}
+use Rattle.interference.specs.declared.unit_table.UnitExtents.{UnitExtents}
 use Rattle.interference.specs.declared.matrix.Matrix.{Matrix}
 use Rattle.interference.specs.Clashes.{IsOrdered, register_in, list_in}
 use Rattle.interference.specs.Parts.{has_lists}

@@ -13,7 +13,7 @@ use Rattle.live_lanes.specs.declared.table.Table.{Table}
 use Rattle.live_lanes.specs.Table.{Numbers}
 use Rattle.live_lanes.specs.Extents.{stretch_of}
 use Rattle.live_lanes.proofs.Cells.{both-left, both-right}
-use Rattle.interference.specs.declared.matrix.UnitTable.{UnitTable}
+use Rattle.interference.specs.declared.unit_table.UnitTable.{UnitTable}
 use Rattle.interference.specs.Clashes.{is_taken}
 use Rattle.interference.specs.Changes.{own_of}
 use Rattle.interference.specs.Listed.{lane_extents, range_extents, listed, AreInTurn, has_some, IsFront, LaneHasRoom, RangeHasRoom, with_lane, Begins, Fills}

@@ -12,8 +12,8 @@ use Rattle.live_lanes.specs.Entered.{piece_count}
 use Rattle.live_lanes.specs.Extents.{extent_in, cell_extents, some_extents}
 use Rattle.live_lanes.proofs.Held.{or-left, or-right}
 use Rattle.interference.specs.declared.held.HeldList.{HeldList}
-use Rattle.interference.specs.declared.matrix.UnitExtents.{UnitExtents}
-use Rattle.interference.specs.declared.matrix.UnitTable.{UnitTable}
+use Rattle.interference.specs.declared.unit_table.UnitExtents.{UnitExtents}
+use Rattle.interference.specs.declared.unit_table.UnitTable.{UnitTable}
 use Rattle.interference.specs.Clashes.{AreApart, AreFilled, held_of, list_in}
 use Rattle.interference.specs.Changes.{same_start, begins_with, is_piece, others_of, own_of, starting}
 use Rattle.interference.specs.Listed.{AreAmong, IsThinned, ChangesRow, ChangesAt, ChangesCell}

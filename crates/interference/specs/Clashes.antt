@@ -17,7 +17,7 @@ use Rattle.live_lanes.specs.Looks.{InOrder}
 use Rattle.live_lanes.specs.Extents.{cell_extents, first_rank, last_rank, stretch_of, is_met}
 use Rattle.interference.specs.declared.held.RangeExtent.{RangeExtent}
 use Rattle.interference.specs.declared.held.HeldList.{HeldList}
-use Rattle.interference.specs.declared.matrix.UnitTable.{UnitTable}
+use Rattle.interference.specs.declared.unit_table.UnitTable.{UnitTable}
 use Rattle.interference.specs.declared.matrix.Matrix.{Matrix}
 use Rattle.interference.specs.declared.matrix.Clash.{Clash}
 use Rattle.interference.specs.declared.matrix.Clash.TheVariants as clashes

@@ -16,7 +16,7 @@ use Rattle.live_lanes.specs.Extents.{cell_extents, extents_in, first_rank, last_
 use Rattle.live_lanes.specs.Looks.{InOrder}
 use Rattle.interference.specs.declared.held.RangeExtent.{RangeExtent}
 use Rattle.interference.specs.declared.held.HeldList.{HeldList}
-use Rattle.interference.specs.declared.matrix.UnitTable.{UnitTable}
+use Rattle.interference.specs.declared.unit_table.UnitTable.{UnitTable}
 use Rattle.interference.specs.declared.matrix.Matrix.{Matrix}
 use Rattle.interference.specs.Clashes.{AreApart, AreFilled, IsOrdered, held_of, held_of_some, holds, is_free, is_taken, list_in, register_in}
 use Rattle.interference.specs.Changes.{begins_with, others_of, own_of, starting}

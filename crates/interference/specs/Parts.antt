@@ -7,7 +7,7 @@ use Rattle.live_lanes.specs.Extents.{last_rank}
 use Rattle.interference.specs.declared.held.ListPosition.{ListPosition}
 use Rattle.interference.specs.declared.held.RangeExtent.{RangeExtent}
 use Rattle.interference.specs.declared.held.HeldList.{HeldList}
-use Rattle.interference.specs.declared.matrix.UnitExtents.{UnitExtents}
+use Rattle.interference.specs.declared.unit_table.UnitExtents.{UnitExtents}
 use Rattle.interference.specs.declared.held.OverlapResult.{OverlapResult}
 use Rattle.interference.specs.declared.held.OverlapResult.TheVariants as mets
 use Rattle.interference.specs.Clashes.{held_of, AreApart, AreFilled, part_of, begins_by, is_taken, is_taken_by}

@@ -1,0 +1,15 @@
+use Rattle.std.proofs.Common.{◌<◌, Option, length, arith}
+use Rattle.std.specs.Prelude.{slice_get}
+use Rattle.live_lanes.specs.declared.row.Cell.{Cell}
+use Rattle.live_lanes.specs.Entered.{cells_of}
+use Rattle.live_lanes.specs.Extents.{some_extents}
+use Rattle.interference.specs.Listed.{IsThinned}
+use Rattle.interference.proofs.Thinned.{row-changed}
+use Rattle.interference.proofs.unit_table.remove_in.Goals as goal
+
+pub returns : goal.returns
+returns c =
+    let ls = c.args.lists.now.items in
+    let o : Option Cell = slice_get (cells_of c.args.live.now.table.rows.rows.items c.args.lane) c.args.place in
+    let lt : c.args.block < length ls = omega arith in
+    row-changed (IsThinned c.args.live.now.table.order.slots c.args.range (some_extents o)) ls c.args.block c.index_mut.result.now c.remove_extents.new.list lt c.index_mut.ensures.value c.remove_extents.ensures
