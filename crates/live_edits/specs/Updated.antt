@@ -6,7 +6,7 @@ use Rattle.live_lanes.specs.declared.row.Cause.{Cause}
 use Rattle.live_lanes.specs.declared.row.LaneRange.{LaneRange}
 use Rattle.live_lanes.specs.declared.table.PieceSpot.{PieceSpot}
 use Rattle.live_lanes.specs.Graph.{Causes, is_live, IsGrown}
-use Rattle.live_lanes.specs.Table.{Numbers, exit_rank, certain_cause}
+use Rattle.live_lanes.specs.Table.{Numbers, Seen, exit_rank, piece_at, certain_cause}
 use Rattle.live_lanes.specs.Entered.{shape, rows_seen, causes, IsTableOf}
 use Rattle.live_lanes.specs.Ends.{row_end}
 use Rattle.live_lanes.specs.Growth.{piece_in_rows}
@@ -41,7 +41,11 @@ LooksAgain ids slots flow old new list fallen =
     (touched : Touched) (before code : Code) (was : Causes) → AreTold touched ids → IsCarriedOver touched before code was slots flow old (nodes_of list)
     → Falls touched code (falling (causes old) (nodes_of list) [] (nodes_of list)) (falling (causes new) [] (nodes_of fallen) (nodes_of list ++ nodes_of fallen))
 
--- a piece lasts up to the end of its block, or up to the exit of a terminator in it
+-- a piece of a cell lasts up to the end of the block, or up to the exit of a terminator in it
+abbrev pub LeadsOut : Numbers → List BlockFlow → Seen → ℕ → ℕ → Type 0
+LeadsOut slots flow v block index = (length v.segments ≡ index) ⊎ ((id : ℕ) × Among id (terminators flow block) × (piece_at slots (exit_rank slots id) v.segments ≡ index))
+
+-- a piece of the rows does
 abbrev pub LastsToExit : Numbers → List BlockFlow → List LaneRange → Node → Type 0
 LastsToExit slots flow rows n = (length (rows_seen rows n.0 n.1).segments ≡ n.2) ⊎ ((id : ℕ) × Among id (terminators flow n.1) × (piece_in_rows slots rows n.0 n.1 (exit_rank slots id) ≡ n.2))
 

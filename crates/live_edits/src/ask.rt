@@ -1,8 +1,8 @@
 //! Which pieces that aren't live have a reason to be.
 
-ghost use Rattle.std.specs.Prelude.{◌≡◌, ℕ, true, false, OnOk, IfSome, find, option_copied};
+ghost use Rattle.std.specs.Prelude.{◌≡◌, true, false, OnOk, find, option_copied};
 ghost use Rattle.live_lanes.specs.declared.row.Cause.{Cause};
-ghost use Rattle.live_lanes.specs.Entered.{rows_seen, causes};
+ghost use Rattle.live_lanes.specs.Entered.{causes};
 ghost use Rattle.live_lanes.specs.Graph.{is_live};
 ghost use Rattle.live_lanes.specs.Table.{readings_in, cause_of};
 ghost use Rattle.live_lanes.specs.Lasting.{AllRise};
@@ -11,12 +11,13 @@ ghost use Rattle.live_edits.specs.Leading.{moves_on};
 ghost use Rattle.live_edits.specs.Pieces.{node_of};
 ghost use Rattle.live_edits.specs.Updated.{AsksFor};
 
-use crate::change::near_next;
+use crate::fall::has_exit;
 use crate::log::LoggedRows;
-use crate::pieces::Need;
+use crate::needs::readings_in;
+use crate::pieces::{Need, cause_in};
 use live_lanes::compute::flow::{BlockFlow, successors};
 use live_lanes::order::Order;
-use live_lanes::row::{Cause, LaneUse};
+use live_lanes::row::{Cause, Cell, LaneUse};
 use live_lanes::table::PieceSpot;
 use std::alloc::AllocError;
 
@@ -35,18 +36,27 @@ impl LoggedRows {
         ensures whole { AllRise order.now.slots self.now.rows.rows.items → is_live (causes self.now.rows.rows.items spot.lane spot.block spot.index) ≡ false → is_live result ≡ false
             → (c : Cause) → IsFound order.now.slots flow.now self.now.rows.rows.items (node_of spot) c → ⊥ }
     {
-        let near = self.near(spot.lane, spot.block);
-        if is_live(self.cause_of(near, spot)) {
+        match self.cell_of(spot) {
+            Some(cell) => self.reason_in(order, flow, cell, spot),
+            // A lane without a cell in the block has one piece there, which no instruction reads.
+            None => self.follower_cause(flow, spot, spot.index == 0),
+        }
+    }
+
+    /// Why a piece of a cell that isn't live has to be.
+    fn reason_in(&self, order: &Order, flow: &[BlockFlow], cell: &Cell, spot: PieceSpot) -> Cause {
+        if is_live(cause_in(cell, spot.index)) {
             return Cause::None;
         }
-        let certain = self.certain_cause(near, spot);
+        let certain = cell.certain_cause(spot.index);
         if is_live(certain) {
             return certain;
         }
-        match self.live_follower(order, flow, near, spot) {
-            Some(next) => Cause::Follower(next),
-            None => self.live_reading(order, near, spot),
+        let follower = self.follower_cause(flow, spot, has_exit(order, flow, cell, spot));
+        if is_live(follower) {
+            return follower;
         }
+        self.moving_cause(order, spot.block, readings_in(cell, spot.index))
     }
 
     /// Adds the pieces that aren't live and have a reason to be, with this.
@@ -69,39 +79,44 @@ impl LoggedRows {
         Ok(())
     }
 
-    /// A block to which a path leads from a piece, and at whose start the lane is live.
-    fn live_follower(
-        &self,
-        order: &Order,
-        flow: &[BlockFlow],
-        near: usize,
-        spot: PieceSpot,
-    ) -> Option<u32>
-        ensures found { AllRise order.now.slots self.now.rows.rows.items → IfSome result (λ x. IsFound order.now.slots flow.now self.now.rows.rows.items (node_of spot) (Cause.Follower x)) }
-        ensures whole { AllRise order.now.slots self.now.rows.rows.items → result ≡ None
-            → (x : ℕ) → IsFound order.now.slots flow.now self.now.rows.rows.items (node_of spot) (Cause.Follower x) → ⊥ }
-    {
-        if !self.has_exit(order, flow, near, spot) {
-            return None;
+    /// A block to which a path leads from a piece, if any do, and at whose start the lane is live, as a
+    /// cause.
+    fn follower_cause(&self, flow: &[BlockFlow], spot: PieceSpot, leads_out: bool) -> Cause {
+        if !leads_out {
+            return Cause::None;
         }
-        self.live_block(near, spot.lane, successors(flow, spot.block))
+        match self.live_block(spot.lane, successors(flow, spot.block)) {
+            Some(next) => Cause::Follower(next),
+            None => Cause::None,
+        }
     }
 
-    /// One of these blocks at whose start a lane is live. They follow one whose cell is near a place.
-    fn live_block(&self, near: usize, lane: u32, blocks: &[u32]) -> Option<u32>
+    /// One of these blocks at whose start a lane is live.
+    fn live_block(&self, lane: u32, blocks: &[u32]) -> Option<u32>
         ensures { result ≡ find (λ x. is_live (causes self.now.rows.rows.items lane x 0)) blocks.now }
     {
-        blocks.iter().copied().find(|next| self
-            .rows
-            .is_live_in(lane, near_next(&self.rows, near, lane, *next), *next))
+        blocks
+            .iter()
+            .copied()
+            .find(|next| self.is_live_in(lane, *next))
     }
 
-    /// A reading of a piece by which it is moved to where it is live.
-    fn live_reading(&self, order: &Order, near: usize, spot: PieceSpot) -> Cause
-        ensures { AllRise order.now.slots self.now.rows.rows.items
-            → result ≡ cause_of (find (moves_on order.now.slots self.now.rows.rows.items spot.block) (readings_in (rows_seen self.now.rows.rows.items spot.lane spot.block) spot.index)) }
+    /// Whether a lane is live at the start of a block.
+    fn is_live_in(&self, lane: u32, block: u32) -> bool
+        ensures { result ≡ is_live (causes self.now.rows.rows.items lane block 0) }
     {
-        match self.moved_reading(order, spot.block, self.readings(near, spot)) {
+        match self.rows.cell(lane, block) {
+            Some(cell) => cell.is_live(0),
+            None => false,
+        }
+    }
+
+    /// A reading by which a piece is moved to where it is live, as a cause.
+    fn moving_cause(&self, order: &Order, block: u32, readings: &[LaneUse]) -> Cause
+        ensures { AllRise order.now.slots self.now.rows.rows.items
+            → result ≡ cause_of (find (moves_on order.now.slots self.now.rows.rows.items block) readings.now) }
+    {
+        match self.moved_reading(order, block, readings) {
             Some(reading) => Cause::Reading(reading.id),
             None => Cause::None,
         }

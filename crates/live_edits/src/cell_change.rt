@@ -1,7 +1,7 @@
 //! Changes of what a cell tells, in place, each of which gives the change that takes it back.
 
 ghost use Rattle.std.specs.Prelude.{◌≡◌, ◌≤◌, true, vec_capacity, IfOk, IsOk, OnOk, OnErr};
-ghost use Rattle.live_lanes.specs.Table.{seen_cell, with_cause, with_end};
+ghost use Rattle.live_lanes.specs.Table.{seen_cell};
 ghost use Rattle.live_edits.specs.CellChanges.{seen_changed, fits_in};
 
 use live_lanes::row::{Cause, Cell, DefPiece, LaneUse, PieceEnd};
@@ -20,32 +20,6 @@ pub enum CellChange {
     Begin(usize, DefPiece, usize),
     /// The piece at a place among those that writings begin goes.
     Join(usize),
-}
-
-/// Gives a piece a cause.
-pub fn set_cell_cause(cell: &mut Cell, index: usize, cause: Cause)
-    ensures block { cell.new.block ≡ cell.old.block }
-    ensures room { vec_capacity cell.old.segments ≤ vec_capacity cell.new.segments }
-    ensures changed { seen_cell cell.new ≡ with_cause (seen_cell cell.old) index cause }
-{
-    if index == 0 {
-        cell.first.cause = cause;
-    } else if index - 1 < cell.segments.len() {
-        cell.segments[index - 1].piece.cause = cause;
-    }
-}
-
-/// Gives a piece an end.
-pub fn set_cell_end(cell: &mut Cell, index: usize, end: PieceEnd)
-    ensures block { cell.new.block ≡ cell.old.block }
-    ensures room { vec_capacity cell.old.segments ≤ vec_capacity cell.new.segments }
-    ensures changed { seen_cell cell.new ≡ with_end (seen_cell cell.old) index end }
-{
-    if index == 0 {
-        cell.first.end = end;
-    } else if index - 1 < cell.segments.len() {
-        cell.segments[index - 1].piece.end = end;
-    }
 }
 
 /// Gives a piece readings.

@@ -1,6 +1,6 @@
 //! Ends of pieces that are found anew.
 
-ghost use Rattle.std.specs.Prelude.{◌≡◌, ◌≢◌, true, false, OnOk, option_copied};
+ghost use Rattle.std.specs.Prelude.{◌≡◌, ◌≢◌, Some, None, OnOk, IfSome};
 ghost use Rattle.live_lanes.specs.Entered.{cells_of, causes};
 ghost use Rattle.live_lanes.specs.Ends.{row_end};
 ghost use Rattle.live_lanes.specs.Lasting.{AllRise, shapes, right_end};
@@ -18,24 +18,19 @@ use live_lanes::table::PieceSpot;
 use std::alloc::AllocError;
 
 impl LoggedRows {
-    /// The cell of a piece, where its lane has one in its block.
-    fn cell_of(&self, near: usize, spot: PieceSpot) -> Option<&Cell>
-        ensures { option_copied result ≡ find_cell spot.block (cells_of self.now.rows.rows.items spot.lane) }
-    {
-        match self.rows.rows.as_slice().get(spot.lane as usize) {
-            Some(row) => row.cell_near(near, spot.block),
-            None => None,
-        }
-    }
-
-    /// Up to where a piece is live, by the readings and exits that count.
-    fn end_now(&self, order: &Order, flow: &[BlockFlow], near: usize, spot: PieceSpot) -> PieceEnd
+    /// Up to where a piece of a cell at a place is live, by the readings and exits that count.
+    fn end_in_cell(
+        &self,
+        order: &Order,
+        flow: &[BlockFlow],
+        place: usize,
+        cell: &Cell,
+        spot: PieceSpot,
+    ) -> PieceEnd
+        requires { find_cell spot.block (cells_of self.now.rows.rows.items spot.lane) ≡ Some cell.now }
         ensures { AllRise order.now.slots self.now.rows.rows.items
             → result ≡ right_end order.now.slots flow.now (causes self.now.rows.rows.items) (shapes self.now.rows.rows.items) spot.lane spot.block spot.index }
     {
-        let Some(cell) = self.cell_of(near, spot) else {
-            return PieceEnd::Never;
-        };
         let Some(piece) = cell.piece(spot.index) else {
             return PieceEnd::Never;
         };
@@ -44,7 +39,7 @@ impl LoggedRows {
         }
         let at = PieceAt {
             lane: spot.lane,
-            place: near,
+            place,
             cell,
             index: spot.index,
             piece,
@@ -52,22 +47,20 @@ impl LoggedRows {
         self.rows.end_of(order, flow, &at)
     }
 
-    /// Up to where a piece is live, as it was found last.
-    fn end_kept(&self, near: usize, spot: PieceSpot) -> PieceEnd
-        ensures { result ≡ row_end self.now.rows.rows.items spot.lane spot.block spot.index }
+    /// Up to where a piece is live, if that isn't where it was found to be last.
+    fn new_end(&self, order: &Order, flow: &[BlockFlow], spot: PieceSpot) -> Option<PieceEnd>
+        ensures changed { AllRise order.now.slots self.now.rows.rows.items
+            → IfSome result (λ end. (end ≡ right_end order.now.slots flow.now (causes self.now.rows.rows.items) (shapes self.now.rows.rows.items) spot.lane spot.block spot.index) × (row_end self.now.rows.rows.items spot.lane spot.block spot.index ≢ end)) }
+        ensures same { AllRise order.now.slots self.now.rows.rows.items → result ≡ None
+            → row_end self.now.rows.rows.items spot.lane spot.block spot.index ≡ right_end order.now.slots flow.now (causes self.now.rows.rows.items) (shapes self.now.rows.rows.items) spot.lane spot.block spot.index }
     {
-        match self.rows.cell_near(spot.lane, near, spot.block) {
-            Some(cell) => cell.end_of(spot.index),
-            None => PieceEnd::Never,
+        let row = self.rows.rows.as_slice().get(spot.lane as usize)?;
+        let cell = row.cell(spot.block)?;
+        let end = self.end_in_cell(order, flow, row.place(spot.block), cell, spot);
+        if end == cell.end_of(spot.index) {
+            return None;
         }
-    }
-
-    /// Whether a piece was last found to have this end.
-    fn has_end(&self, near: usize, spot: PieceSpot, end: PieceEnd) -> bool
-        ensures has { result ≡ true → row_end self.now.rows.rows.items spot.lane spot.block spot.index ≡ end }
-        ensures lacks { result ≡ false → row_end self.now.rows.rows.items spot.lane spot.block spot.index ≢ end }
-    {
-        self.end_kept(near, spot) == end
+        Some(end)
     }
 
     /// Gives pieces their ends anew, where these changed.
@@ -82,10 +75,8 @@ impl LoggedRows {
         ensures logged { IsLogged self.old self.new }
     {
         'pieces: for spot in pieces {
-            let near = self.near(spot.lane, spot.block);
-            let end = self.end_now(order, flow, near, *spot);
-            if !self.has_end(near, *spot, end) {
-                self.set_end(near, *spot, end)?;
+            if let Some(end) = self.new_end(order, flow, *spot) {
+                self.set_end(*spot, end)?;
             }
         }
         Ok(())

@@ -4,25 +4,45 @@
 ghost use Rattle.std.specs.Prelude.{◌≡◌, ◌↔◌, true, false, ◌++◌, nat_eq, IfOk, OnOk};
 ghost use Rattle.live_lanes.specs.Entered.{causes};
 ghost use Rattle.live_lanes.specs.Graph.{is_live};
-ghost use Rattle.live_lanes.specs.Growth.{piece_in_rows};
 ghost use Rattle.live_lanes.specs.Lasting.{AllRise};
-ghost use Rattle.live_lanes.specs.Table.{exit_rank};
+ghost use Rattle.live_lanes.specs.Table.{exit_rank, piece_at, rises_from, seen_cell};
 ghost use Rattle.edit_laws.specs.Reasons.{Touched};
 ghost use Rattle.edit_laws.specs.Rechecked.{IsHeld};
 ghost use Rattle.live_edits.specs.Fallen.{spots_of, LosesAll};
 ghost use Rattle.live_edits.specs.Logged.{IsLogged};
-ghost use Rattle.live_edits.specs.Pieces.{node_of, HasAll, KeepsPieces};
-ghost use Rattle.live_edits.specs.Updated.{AreTold, LooksAgain, LosesCause, ListsFallen, LetsFall, LastsToExit};
+ghost use Rattle.live_edits.specs.Pieces.{HasAll, KeepsPieces};
+ghost use Rattle.live_edits.specs.Updated.{AreTold, LooksAgain, LosesCause, ListsFallen, LetsFall, LeadsOut};
 
 use crate::log::LoggedRows;
-use crate::pieces::Need;
+use crate::pieces::{Need, cause_in};
 use crate::spots::SpotList;
 use live_lanes::compute::flow::{BlockFlow, terminators};
 use live_lanes::order::Order;
-use live_lanes::row::{Cause, entry_rank, exit_rank};
+use live_lanes::row::{Cause, Cell, entry_rank, exit_rank};
 use live_lanes::table::PieceSpot;
 use std::alloc::AllocError;
 use std::collections::BTreeSet;
+
+/// Whether the exit of an instruction of its block lies in a piece of a cell.
+fn has_exit_of(order: &Order, cell: &Cell, index: usize, id: u32) -> bool
+    ensures { rises_from order.now.slots 0 (seen_cell cell.now).segments ≡ true
+        → result ≡ nat_eq (piece_at order.now.slots (exit_rank order.now.slots id) (seen_cell cell.now).segments) index }
+{
+    cell.piece_at(&order.slots, exit_rank(&order.slots, id)) == index
+}
+
+/// Whether paths lead from a piece of a cell to the blocks that follow.
+pub(crate) fn has_exit(order: &Order, flow: &[BlockFlow], cell: &Cell, spot: PieceSpot) -> bool
+    ensures { rises_from order.now.slots 0 (seen_cell cell.now).segments ≡ true
+        → (result ≡ true) ↔ LeadsOut order.now.slots flow.now (seen_cell cell.now) spot.block spot.index }
+{
+    if cell.segments.len() == spot.index {
+        return true;
+    }
+    let ids = terminators(flow, spot.block);
+    ids.iter()
+        .any(|id| has_exit_of(order, cell, spot.index, *id))
+}
 
 impl LoggedRows {
     /// Whether a piece isn't live, or its cause holds as before, where the instructions of these ids
@@ -32,8 +52,10 @@ impl LoggedRows {
             → IsHeld touched order.now.slots flow.now self.now.rows.rows.items spot.lane spot.block spot.index }
         ensures live { result ≡ false → is_live (causes self.now.rows.rows.items spot.lane spot.block spot.index) ≡ true }
     {
-        let near = self.near(spot.lane, spot.block);
-        match self.cause_of(near, spot) {
+        let Some(cell) = self.cell_of(spot) else {
+            return true;
+        };
+        match cause_in(cell, spot.index) {
             Cause::None => true,
             Cause::Phi => false,
             Cause::Reading(id) => {
@@ -41,36 +63,10 @@ impl LoggedRows {
                     return false;
                 }
                 let at = entry_rank(&order.slots, id);
-                self.piece_at(order, spot.lane, spot.block, at).index == spot.index
+                cell.piece_at(&order.slots, at) == spot.index
             }
-            Cause::Follower(_) => self.has_exit(order, flow, near, spot),
+            Cause::Follower(_) => has_exit(order, flow, cell, spot),
         }
-    }
-
-    /// Whether paths lead from a piece to the blocks that follow.
-    pub(crate) fn has_exit(
-        &self,
-        order: &Order,
-        flow: &[BlockFlow],
-        near: usize,
-        spot: PieceSpot,
-    ) -> bool
-        ensures { AllRise order.now.slots self.now.rows.rows.items → (result ≡ true) ↔ LastsToExit order.now.slots flow.now self.now.rows.rows.items (node_of spot) }
-    {
-        if self.last_piece(near, spot.lane, spot.block).index == spot.index {
-            return true;
-        }
-        let ids = terminators(flow, spot.block);
-        ids.iter().any(|id| self.has_exit_of(order, spot, *id))
-    }
-
-    /// Whether the exit of an instruction of its block lies in a piece.
-    fn has_exit_of(&self, order: &Order, spot: PieceSpot, id: u32) -> bool
-        ensures { AllRise order.now.slots self.now.rows.rows.items
-            → result ≡ nat_eq (piece_in_rows order.now.slots self.now.rows.rows.items spot.lane spot.block (exit_rank order.now.slots id)) spot.index }
-    {
-        let at = exit_rank(&order.slots, id);
-        self.piece_at(order, spot.lane, spot.block, at).index == spot.index
     }
 
     /// Looks at the causes of pieces again, where the instructions of these ids were changed, and
@@ -89,8 +85,7 @@ impl LoggedRows {
         let mut fallen = Vec::new(self.rows.alloc);
         'suspects: for spot in suspects {
             if !self.holds(order, flow, *spot, ids) {
-                let near = self.near(spot.lane, spot.block);
-                self.lose_cause(near, *spot, &mut fallen)?;
+                self.lose_cause(*spot, &mut fallen)?;
             }
         }
         Ok(fallen)
@@ -135,9 +130,8 @@ impl LoggedRows {
         ensures logged { IsLogged self.old self.new }
     {
         'needs: for need in needs {
-            let near = self.near(need.spot.lane, need.spot.block);
-            if self.cause_of(near, need.spot) == need.cause {
-                self.lose_cause(near, need.spot, fallen)?;
+            if self.cause_of(need.spot) == need.cause {
+                self.lose_cause(need.spot, fallen)?;
             }
             around.add(need.spot)?;
         }
@@ -145,19 +139,14 @@ impl LoggedRows {
     }
 
     /// Gives a piece a cause that needs no other lane, or lets it fall and lists it.
-    fn lose_cause(
-        &mut self,
-        near: usize,
-        spot: PieceSpot,
-        fallen: &mut Vec<PieceSpot>,
-    ) -> Result<(), AllocError>
+    fn lose_cause(&mut self, spot: PieceSpot, fallen: &mut Vec<PieceSpot>) -> Result<(), AllocError>
         ensures given { OnOk result (LosesCause self.old.rows.rows.items self.new.rows.rows.items spot) }
         ensures fallen { OnOk result (ListsFallen self.old.rows.rows.items spot fallen.old.items fallen.new.items) }
         ensures pieces { KeepsPieces self.old.rows.rows.items self.new.rows.rows.items }
         ensures logged { IsLogged self.old self.new }
     {
-        let cause = self.certain_cause(near, spot);
-        self.set_cause(near, spot, cause)?;
+        let cause = self.certain_cause(spot);
+        self.set_cause(spot, cause)?;
         if cause == Cause::None {
             fallen.push(spot)?;
         }

@@ -5,7 +5,7 @@ ghost use Rattle.live_edits.specs.Logged.{HasAllCells, cell_there, IsTakenBack};
 ghost use Rattle.live_edits.specs.Changes.{TakesBack};
 
 use crate::cell_change::CellChange;
-use crate::change::{change_in, give_cause, give_end};
+use crate::change::{change_in, give_life};
 use live_lanes::row::{Cause, PieceEnd};
 use live_lanes::table::{LaneRanges, PieceSpot};
 
@@ -54,8 +54,7 @@ impl LoggedRows {
     {
         match former {
             Former::Life(spot, cause, end) => {
-                give_cause(&mut self.rows, spot, cause);
-                give_end(&mut self.rows, spot, end);
+                give_life(&mut self.rows, spot, cause, end);
             }
             Former::Shape(lane, block, change) => {
                 let _ = change_in(&mut self.rows, lane, block, change);

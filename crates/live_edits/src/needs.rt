@@ -1,8 +1,8 @@
 //! What leads to a piece: where its lane, or the lane that is moved to it, is live because it is.
 
-ghost use Rattle.std.specs.Prelude.{◌≡◌, ◌++◌, OnOk};
+ghost use Rattle.std.specs.Prelude.{◌≡◌, ◌++◌, OnOk, Some};
 ghost use Rattle.std.specs.List.{list_any};
-ghost use Rattle.live_lanes.specs.Table.{readings_in, moved_in};
+ghost use Rattle.live_lanes.specs.Table.{readings_in, moved_in, seen_cell};
 ghost use Rattle.live_lanes.specs.Entered.{rows_seen};
 ghost use Rattle.live_lanes.specs.Lasting.{AllRise};
 ghost use Rattle.live_edits.specs.Leading.{AreAlike, exit_needs, needs_before, move_needs, is_move};
@@ -13,7 +13,7 @@ use crate::log::LoggedRows;
 use crate::pieces::Need;
 use live_lanes::compute::flow::{BlockFlow, predecessors, terminators};
 use live_lanes::order::Order;
-use live_lanes::row::{Cause, LaneUse, entry_rank, exit_rank};
+use live_lanes::row::{Cause, Cell, LaneUse, entry_rank, exit_rank};
 use live_lanes::table::PieceSpot;
 use std::alloc::AllocError;
 
@@ -69,20 +69,27 @@ impl LoggedRows {
             → AreAlike (requests_of needs.new.items) (requests_of needs.old.items ++ exit_needs order.now.slots self.now.rows.rows.items spot.lane spot.block before terminators.now)) }
     {
         let cause = Cause::Follower(spot.block);
-        let near = self.near(spot.lane, before);
-        let last = self.last_piece(near, spot.lane, before);
-        needs.push(Need { spot: last, cause })?;
-        if last.index == 0 {
+        let lane = spot.lane;
+        let Some(cell) = self.rows.cell(lane, before) else {
+            let spot = PieceSpot {
+                lane,
+                block: before,
+                index: 0,
+            };
+            needs.push(Need { spot, cause })?;
+            return Ok(());
+        };
+        let index = cell.segments.len();
+        let spot = PieceSpot {
+            lane,
+            block: before,
+            index,
+        };
+        needs.push(Need { spot, cause })?;
+        if index == 0 {
             return Ok(());
         }
-        'terminators: for id in terminators {
-            let at = exit_rank(&order.slots, *id);
-            let exit = self.piece_at(order, spot.lane, before, at);
-            if exit.index != last.index {
-                needs.push(Need { spot: exit, cause })?;
-            }
-        }
-        Ok(())
+        add_terminator_exits(order, cell, Need { spot, cause }, terminators, needs)
     }
 
     /// Adds the lane that is moved where a piece begins, where it is read for the move's sake alone.
@@ -96,15 +103,38 @@ impl LoggedRows {
             → requests_of needs.new.items ≡ requests_of needs.old.items ++ move_needs order.now.slots self.now.rows.rows.items spot.lane spot.block (moved_in (rows_seen self.now.rows.rows.items spot.lane spot.block) spot.index)) }
     {
         if let Some((id, from)) = self.move_source(spot) {
-            let at = entry_rank(&order.slots, id);
-            let source = self.piece_at(order, from, spot.block, at);
-            if self.is_moved_into(source, id, spot.lane) {
-                let cause = Cause::Reading(id);
-                needs.push(Need {
-                    spot: source,
-                    cause,
-                })?;
-            }
+            self.add_moved(order, spot, id, from, needs)?;
+        }
+        Ok(())
+    }
+
+    /// Adds the lane that an instruction moves where a piece begins, where it is read for the move's sake
+    /// alone.
+    fn add_moved(
+        &self,
+        order: &Order,
+        spot: PieceSpot,
+        id: u32,
+        from: u32,
+        needs: &mut Vec<Need>,
+    ) -> Result<(), AllocError>
+        ensures { OnOk result (AllRise order.now.slots self.now.rows.rows.items
+            → requests_of needs.new.items ≡ requests_of needs.old.items ++ move_needs order.now.slots self.now.rows.rows.items spot.lane spot.block (Some (id, from))) }
+    {
+        let Some(cell) = self.rows.cell(from, spot.block) else {
+            return Ok(());
+        };
+        let index = cell.piece_at(&order.slots, entry_rank(&order.slots, id));
+        if is_moved_into(readings_in(cell, index), id, spot.lane) {
+            let source = PieceSpot {
+                lane: from,
+                block: spot.block,
+                index,
+            };
+            needs.push(Need {
+                spot: source,
+                cause: Cause::Reading(id),
+            })?;
         }
         Ok(())
     }
@@ -113,35 +143,46 @@ impl LoggedRows {
     fn move_source(&self, spot: PieceSpot) -> Option<(u32, u32)>
         ensures { result ≡ moved_in (rows_seen self.now.rows.rows.items spot.lane spot.block) spot.index }
     {
-        let near = self.near(spot.lane, spot.block);
-        match self.rows.cell_near(spot.lane, near, spot.block) {
+        match self.rows.cell(spot.lane, spot.block) {
             Some(cell) => cell.move_source(spot.index),
             None => None,
         }
     }
+}
 
-    /// Whether an instruction reads a piece to move it into a lane.
-    fn is_moved_into(&self, spot: PieceSpot, id: u32, into: u32) -> bool
-        ensures { result ≡ list_any (is_move id into) (readings_in (rows_seen self.now.rows.rows.items spot.lane spot.block) spot.index) }
-    {
-        let near = self.near(spot.lane, spot.block);
-        self.readings(near, spot)
-            .iter()
-            .any(|reading| is_move(reading, id, into))
+/// Whether one of these readings is that of an instruction, which moves it into a lane.
+fn is_moved_into(readings: &[LaneUse], id: u32, into: u32) -> bool
+    ensures { result ≡ list_any (is_move id into) readings.now }
+{
+    readings.iter().any(|reading| is_move(reading, id, into))
+}
+
+/// The readings of a piece of a cell, in order.
+pub(crate) fn readings_in(cell: &Cell, index: usize) -> &[LaneUse]
+    ensures { result.now ≡ readings_in (seen_cell cell.now) index }
+{
+    match cell.piece(index) {
+        Some(piece) => piece.readings.as_slice(),
+        None => &[],
     }
+}
 
-    /// The readings of a piece, in order.
-    pub(crate) fn readings(&self, near: usize, spot: PieceSpot) -> &[LaneUse]
-        ensures { result.now ≡ readings_in (rows_seen self.now.rows.rows.items spot.lane spot.block) spot.index }
-    {
-        match self.rows.cell_near(spot.lane, near, spot.block) {
-            Some(cell) => match cell.piece(spot.index) {
-                Some(piece) => piece.readings.as_slice(),
-                None => &[],
-            },
-            None => &[],
+/// Adds the exits of terminators of a block, but for those that lie in its last piece, which is given.
+fn add_terminator_exits(
+    order: &Order,
+    cell: &Cell,
+    last: Need,
+    terminators: &[u32],
+    needs: &mut Vec<Need>,
+) -> Result<(), AllocError> {
+    'terminators: for id in terminators {
+        let index = cell.piece_at(&order.slots, exit_rank(&order.slots, *id));
+        if index != last.spot.index {
+            let spot = PieceSpot { index, ..last.spot };
+            needs.push(Need { spot, ..last })?;
         }
     }
+    Ok(())
 }
 
 /// Whether a reading is that of an instruction, which moves it into a lane.

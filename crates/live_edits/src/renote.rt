@@ -258,7 +258,7 @@ impl LoggedRows {
     {
         // Memory for the log is taken first, so that no cell changes without what takes it back.
         self.log.reserve(1)?;
-        make_in(&mut self.rows, lane, block)?;
+        let _ = make_in(&mut self.rows, lane, block)?;
         let back = change_in(&mut self.rows, lane, block, change)?;
         self.log.push(Former::Shape(lane, block, back))?;
         Ok(())

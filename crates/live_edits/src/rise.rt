@@ -44,10 +44,10 @@ impl LoggedRows {
     }
 
     /// Whether a piece is live.
-    fn is_live(&self, near: usize, spot: PieceSpot) -> bool
+    fn is_live(&self, spot: PieceSpot) -> bool
         ensures { result ≡ is_live (causes self.now.rows.rows.items spot.lane spot.block spot.index) }
     {
-        !matches!(self.cause_of(near, spot), Cause::None)
+        !matches!(self.cause_of(spot), Cause::None)
     }
 
     /// Lets the pieces come alive that aren't live, and lists them; those that are are around.
@@ -62,11 +62,10 @@ impl LoggedRows {
         ensures logged { IsLogged self.old self.new }
     {
         'needs: for need in needs {
-            let near = self.near(need.spot.lane, need.spot.block);
-            if self.is_live(near, need.spot) {
+            if self.is_live(need.spot) {
                 around.add(need.spot)?;
             } else {
-                self.set_cause(near, need.spot, need.cause)?;
+                self.set_cause(need.spot, need.cause)?;
                 risen.push(need.spot)?;
             }
         }
