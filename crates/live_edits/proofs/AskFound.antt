@@ -67,9 +67,6 @@ module _ (slots : Numbers) (flow : List BlockFlow) (rows : List LaneRange) where
   of-follower l b k x (inl e) a live = subst (λ m. IsFound slots flow rows (l, b, m) (reasons.Follower x)) e (found_end a live)
   of-follower l b k x (inr z) a live = subst (λ m. IsFound slots flow rows (l, b, m) (reasons.Follower x)) z.2 (found_exit z.1 a live)
 
-  pub none-leaves : (l b k : ℕ) → (LastsToExit slots flow rows (l, b, k) → ⊥) → (x : ℕ) → IsFound slots flow rows (l, b, k) (reasons.Follower x) → ⊥
-  none-leaves l b k none x f = none (follower-of f x refl).0
-
   pub follower-found : (l b k : ℕ) (o : Option ℕ) → LastsToExit slots flow rows (l, b, k) → o ≡ find (λ x. is_live (causes rows l x 0)) (successors flow b) → IfSome o (λ x. IsFound slots flow rows (l, b, k) (reasons.Follower x))
   follower-found l b k None exit e = tt
   follower-found l b k (Some x) exit e =

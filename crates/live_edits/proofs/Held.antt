@@ -10,16 +10,14 @@ use Rattle.live_lanes.specs.declared.compute.flow.BlockFlow.{BlockFlow}
 use Rattle.live_lanes.specs.declared.row.Cause.TheVariants as reasons
 use Rattle.live_lanes.specs.declared.row.LaneRange.{LaneRange}
 use Rattle.live_lanes.specs.Ways.{terminators}
-use Rattle.live_lanes.specs.Table.{Numbers, exit_rank}
-use Rattle.live_lanes.specs.Entered.{rows_seen, causes}
-use Rattle.live_lanes.specs.Growth.{piece_in_rows}
+use Rattle.live_lanes.specs.Table.{Numbers, Seen, exit_rank, piece_at}
+use Rattle.live_lanes.specs.Entered.{causes}
 use Rattle.live_lanes.proofs.Basics.{none-among}
 use Rattle.live_lanes.proofs.Numbered.{among-cases}
-use Rattle.edit_laws.specs.Chains.{Node}
 use Rattle.edit_laws.specs.Reasons.{Touched}
 use Rattle.edit_laws.specs.Rechecked.{IsHeld, held_exit, held_end}
 use Rattle.edit_laws.proofs.Fallen.{no-other}
-use Rattle.live_edits.specs.Updated.{AreTold, LastsToExit}
+use Rattle.live_edits.specs.Updated.{AreTold, LastsToExit, LeadsOut}
 
 -- a number of which a test holds
 
@@ -62,21 +60,21 @@ untold touched keys id r told is absent l b = go (touched l b id) refl
     go true e = no-other r (is ∙ keys-have id keys (told l b id e)) absent
     go false e = refl
 
-module _ (slots : Numbers) (flow : List BlockFlow) (rows : List LaneRange) (n : Node) where
+module _ (slots : Numbers) (flow : List BlockFlow) (v : Seen) (b n : ℕ) where
   -- the exit of an instruction lies in the piece
   abbrev lies : ℕ → Bool
-  lies id = nat_eq (piece_in_rows slots rows n.0 n.1 (exit_rank slots id)) n.2
+  lies id = nat_eq (piece_at slots (exit_rank slots id) v.segments) n
 
-  found-lasts : (id : ℕ) × Among id (terminators flow n.1) × (lies id ≡ true) → LastsToExit slots flow rows n
-  found-lasts z = inr (z.0, z.1, eqb-true (piece_in_rows slots rows n.0 n.1 (exit_rank slots z.0)) n.2 z.2)
+  found-leads : (id : ℕ) × Among id (terminators flow b) × (lies id ≡ true) → LeadsOut slots flow v b n
+  found-leads z = inr (z.0, z.1, eqb-true (piece_at slots (exit_rank slots z.0) v.segments) n z.2)
 
-  lasts-found : (length (rows_seen rows n.0 n.1).segments ≡ n.2 → ⊥) → LastsToExit slots flow rows n → list_any lies (terminators flow n.1) ≡ true
-  lasts-found short (inl e) = absurd (short e)
-  lasts-found short (inr z) = any-there lies (terminators flow n.1) z.0 z.1 (eq-eqb (piece_in_rows slots rows n.0 n.1 (exit_rank slots z.0)) n.2 z.2)
+  leads-found : (length v.segments ≡ n → ⊥) → LeadsOut slots flow v b n → list_any lies (terminators flow b) ≡ true
+  leads-found short (inl e) = absurd (short e)
+  leads-found short (inr z) = any-there lies (terminators flow b) z.0 z.1 (eq-eqb (piece_at slots (exit_rank slots z.0) v.segments) n z.2)
 
-  -- a piece that isn't the last of its block lasts to an exit where one of a terminator lies in it
-  pub exit-lasts : (r : Bool) → (length (rows_seen rows n.0 n.1).segments ≡ n.2 → ⊥) → r ≡ list_any lies (terminators flow n.1) → (r ≡ true → LastsToExit slots flow rows n) × (LastsToExit slots flow rows n → r ≡ true)
-  exit-lasts r short is = (λ e. found-lasts (any-found lies (terminators flow n.1) (sym is ∙ e)), λ w. is ∙ lasts-found short w)
+  -- a piece that isn't the last of its cell lasts to an exit where one of a terminator lies in it
+  pub exit-leads : (r : Bool) → (length v.segments ≡ n → ⊥) → r ≡ list_any lies (terminators flow b) → (r ≡ true → LeadsOut slots flow v b n) × (LeadsOut slots flow v b n → r ≡ true)
+  exit-leads r short is = (λ e. found-leads (any-found lies (terminators flow b) (sym is ∙ e)), λ w. is ∙ leads-found short w)
 
 -- a piece that is live for a block that follows holds where it lasts to an exit
 pub exit-held : (touched : Touched) (slots : Numbers) (flow : List BlockFlow) (rows : List LaneRange) (l b n x : ℕ) → causes rows l b n ≡ reasons.Follower x → LastsToExit slots flow rows (l, b, n) → IsHeld touched slots flow rows l b n

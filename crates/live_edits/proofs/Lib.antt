@@ -10,6 +10,7 @@ pub mod RenoteSteps
 pub mod RenoteShape
 pub mod RenoteWhole
 pub mod CellsRemade
+pub mod CellsSeen
 pub mod KeptPieces
 pub mod FallReasons
 pub mod FallNeeds

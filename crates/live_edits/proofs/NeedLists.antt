@@ -7,18 +7,17 @@ use Rattle.live_lanes.specs.declared.compute.flow.BlockFlow.{BlockFlow}
 use Rattle.live_lanes.specs.declared.row.Cause.TheVariants as causes
 use Rattle.live_lanes.specs.declared.row.LaneRange.{LaneRange}
 use Rattle.live_lanes.specs.declared.row.LaneUse.{LaneUse}
-use Rattle.live_lanes.specs.declared.table.PieceSpot.{PieceSpot}
 use Rattle.live_lanes.specs.Ways.{predecessors, terminators}
-use Rattle.live_lanes.specs.Table.{Numbers, is_begun, entry_rank, exit_rank, readings_in, moved_in}
+use Rattle.live_lanes.specs.Table.{Numbers, Seen, is_begun, entry_rank, exit_rank, readings_in, moved_in}
 use Rattle.live_lanes.specs.Entered.{reading, rows_seen}
 use Rattle.live_lanes.specs.Growth.{piece_in_rows}
 use Rattle.live_lanes.proofs.Basics.{none-among}
-use Rattle.live_lanes.proofs.Numbered.{among-cases, among-right}
+use Rattle.live_lanes.proofs.Numbered.{among-cases, among-left, among-right}
 use Rattle.edit_laws.specs.Chains.{Node}
 use Rattle.edit_laws.specs.Needs.{IsNeed, need_end, need_exit, need_move}
 use Rattle.edit_laws.specs.Update.{Request}
 use Rattle.live_edits.specs.declared.pieces.Need.{Need}
-use Rattle.live_edits.specs.Leading.{AreAlike, end_need, exit_need, exit_needs, needs_before, is_move, move_need, move_needs, needs_of}
+use Rattle.live_edits.specs.Leading.{AreAlike, exit_beside, end_need, exit_need, exit_needs, needs_before, is_move, move_need, move_needs, needs_of}
 use Rattle.live_edits.specs.Pieces.{request_of, requests_of}
 use Rattle.live_edits.specs.Updated.{AreNeedsOf}
 use Rattle.live_edits.proofs.AlikeLists.{alike-equal, alike-then, alike-before, alike-own}
@@ -26,24 +25,21 @@ use Rattle.live_edits.proofs.AskMembers.{among-flat, flat-among, among-map, map-
 use Rattle.live_edits.proofs.RiseSteps.{only}
 use Rattle.live_edits.proofs.RiseThere.{leading-within}
 
--- the piece at an exit, as it is looked up
-pub exit-is : (slots : Numbers) (rows : List LaneRange) (l x b id at : ℕ) (s : PieceSpot) → s.lane ≡ l → s.block ≡ b → s.index ≡ piece_in_rows slots rows l b at → at ≡ exit_rank slots id → request_of (record { spot = s; cause = causes.Follower x }) ≡ exit_need slots rows l x b id
-exit-is slots rows l x b id at s e f g h = let n : s.index ≡ piece_in_rows slots rows l b (exit_rank slots id) = g ∙ ap (piece_in_rows slots rows l b) h in λ i. record { node = (e i, f i, n i); cause = causes.Follower x }
-
 -- the exits of one block
 
 module _ (slots : Numbers) (rows : List LaneRange) (l x b : ℕ) where
+  -- the last piece of the lane in the block, where it has that number
+  abbrev pub last-need : ℕ → Need
+  last-need k = record { spot = record { lane = l; block = b; index = k }; cause = causes.Follower x }
+
   end-among : (from : List Request) (ids : List ℕ) → Among (end_need rows l x b) (from ++ exit_needs slots rows l x b ids)
   end-among from ids = among-right (end_need rows l x b) from (exit_needs slots rows l x b ids) here
 
-  -- the last piece alone, as far as no terminator was looked at
-  pub exits-none : (from to : List Need) (n : Need) → to ≡ from ++ n ∷ [] → request_of n ≡ end_need rows l x b → AreAlike (requests_of to) (requests_of from ++ exit_needs slots rows l x b [])
-  exits-none from to n t r = alike-equal (requests_of to) (requests_of from ++ exit_needs slots rows l x b []) (ap requests_of t ∙ (map_push request_of from n ∙ ap (λ q. requests_of from ++ q ∷ []) r))
-
-  -- and where it is the only one
-  pub exits-only : (from to : List Need) (n : Need) (ids : List ℕ) → to ≡ from ++ n ∷ [] → request_of n ≡ end_need rows l x b → length (rows_seen rows l b).segments ≡ 0 → AreAlike (requests_of to) (requests_of from ++ exit_needs slots rows l x b ids)
-  exits-only from to n ids t r none =
-      alike-then (requests_of to) (requests_of from ++ end_need rows l x b ∷ []) (requests_of from ++ exit_needs slots rows l x b ids) (exits-none from to n t r)
+  -- the last piece alone, where it is the only one
+  pub exits-only : (from to : List Need) (ids : List ℕ) → to ≡ from ++ last-need 0 ∷ [] → 0 ≡ length (rows_seen rows l b).segments → AreAlike (requests_of to) (requests_of from ++ exit_needs slots rows l x b ids)
+  exits-only from to ids t none =
+      alike-then (requests_of to) (requests_of from ++ end_need rows l x b ∷ []) (requests_of from ++ exit_needs slots rows l x b ids)
+      (alike-equal (requests_of to) (requests_of from ++ end_need rows l x b ∷ []) (ap requests_of t ∙ (map_push request_of from (last-need 0) ∙ (λ i. requests_of from ++ record { node = (l, b, none i); cause = causes.Follower x } ∷ []))))
       (subst (AreAlike (requests_of from ++ end_need rows l x b ∷ [])) (append_assoc (requests_of from) (end_need rows l x b ∷ []) (map (exit_need slots rows l x b) ids))
       (alike-own (requests_of from ++ end_need rows l x b ∷ []) (map (exit_need slots rows l x b) ids) own))
     where
@@ -56,33 +52,51 @@ module _ (slots : Numbers) (rows : List LaneRange) (l x b : ℕ) where
           let e : end_need rows l x b ≡ q = (λ i. record { node = (l, b, sym (at-first z.0) i); cause = causes.Follower x }) ∙ sym z.2 in
           subst (λ y. Among y (requests_of from ++ end_need rows l x b ∷ [])) e (end-among (requests_of from) [])
 
-  module _ (ids : List ℕ) (k : ℕ) (from mid : List Need) (h : k < length ids) (e : AreAlike (requests_of mid) (requests_of from ++ exit_needs slots rows l x b (take k ids))) where
-    one-more : (requests_of from ++ exit_needs slots rows l x b (take k ids)) ++ exit_need slots rows l x b (get_or ids k 0) ∷ [] ≡ requests_of from ++ exit_needs slots rows l x b (take (k + 1) ids)
-    one-more =
-        append_assoc (requests_of from) (exit_needs slots rows l x b (take k ids)) (exit_need slots rows l x b (get_or ids k 0) ∷ [])
-        ∙ ap (λ q. requests_of from ++ end_need rows l x b ∷ q) (sym (map_more (exit_need slots rows l x b) ids k 0 h))
+  -- the last piece, and then the exits of the terminators, as its cell tells them
+  pub exits-all : (from mid to : List Need) (k : ℕ) (ids : List ℕ) (v : Seen) → v ≡ rows_seen rows l b → k ≡ length v.segments → mid ≡ from ++ last-need k ∷ []
+      → AreAlike (requests_of to) (requests_of mid ++ map (exit_beside slots v (request_of (last-need k))) ids) → AreAlike (requests_of to) (requests_of from ++ exit_needs slots rows l x b ids)
+  exits-all from mid to k ids v seen last t e = subst (AreAlike (requests_of to)) whole e
+    where
+      beside : Seen → List Request
+      beside w = map (exit_beside slots w (request_of (last-need k))) ids
 
-    -- the exit of one terminator more
-    pub exits-more : (to : List Need) (n : Need) → to ≡ mid ++ n ∷ [] → request_of n ≡ exit_need slots rows l x b (get_or ids k 0) → AreAlike (requests_of to) (requests_of from ++ exit_needs slots rows l x b (take (k + 1) ids))
-    exits-more to n t r =
-        subst (AreAlike (requests_of to)) one-more
-        (subst (λ ys. AreAlike ys ((requests_of from ++ exit_needs slots rows l x b (take k ids)) ++ exit_need slots rows l x b (get_or ids k 0) ∷ [])) (sym (ap requests_of t ∙ (map_push request_of mid n ∙ ap (λ q. requests_of mid ++ q ∷ []) r)))
-        (alike-before (requests_of mid) (requests_of from ++ exit_needs slots rows l x b (take k ids)) (exit_need slots rows l x b (get_or ids k 0) ∷ []) e))
+      at-last : k ≡ length (rows_seen rows l b).segments
+      at-last = last ∙ ap (λ w. length w.segments) seen
 
-    -- it lies in the last piece
-    pub exits-same : (n : Need) → request_of n ≡ exit_need slots rows l x b (get_or ids k 0) → n.spot.index ≡ length (rows_seen rows l b).segments → AreAlike (requests_of mid) (requests_of from ++ exit_needs slots rows l x b (take (k + 1) ids))
-    exits-same n r i =
-        subst (AreAlike (requests_of mid)) one-more
-        (alike-then (requests_of mid) (requests_of from ++ exit_needs slots rows l x b (take k ids)) ((requests_of from ++ exit_needs slots rows l x b (take k ids)) ++ exit_need slots rows l x b (get_or ids k 0) ∷ []) e
-        (alike-own (requests_of from ++ exit_needs slots rows l x b (take k ids)) (exit_need slots rows l x b (get_or ids k 0) ∷ []) own))
-      where
-        at-last : piece_in_rows slots rows l b (exit_rank slots (get_or ids k 0)) ≡ length (rows_seen rows l b).segments
-        at-last = sym (ap (λ (q : Request). q.node.2) r) ∙ i
+      whole : requests_of mid ++ beside v ≡ requests_of from ++ exit_needs slots rows l x b ids
+      whole =
+          ap (λ ns. requests_of ns ++ beside v) t
+          ∙ (ap (λ q. q ++ beside v) (map_push request_of from (last-need k))
+          ∙ (append_assoc (requests_of from) (request_of (last-need k) ∷ []) (beside v)
+          ∙ (λ i. requests_of from ++ record { node = (l, b, at-last i); cause = causes.Follower x } ∷ beside (seen i))))
 
-        own : (q : Request) → Among q (exit_need slots rows l x b (get_or ids k 0) ∷ []) → Among q (requests_of from ++ exit_needs slots rows l x b (take k ids))
-        own q a =
-            let f : end_need rows l x b ≡ q = (λ i. record { node = (l, b, sym at-last i); cause = causes.Follower x }) ∙ sym (only q (exit_need slots rows l x b (get_or ids k 0)) a) in
-            subst (λ y. Among y (requests_of from ++ exit_needs slots rows l x b (take k ids))) f (end-among (requests_of from) (take k ids))
+-- what was added last is there
+pub last-among : (from to : List Need) (n : Need) → to ≡ from ++ n ∷ [] → Among (request_of n) (requests_of to)
+last-among from to n t =
+    subst (λ ns. Among (request_of n) (requests_of ns)) (sym t)
+    (subst (Among (request_of n)) (sym (map_push request_of from n)) (among-right (request_of n) (requests_of from) (request_of n ∷ []) here))
+
+-- what is listed for numbers one by one
+module _ (f : ℕ → Request) (from : List Request) (ids : List ℕ) (k : ℕ) (mid : List Need) (h : k < length ids) (e : AreAlike (requests_of mid) (from ++ map f (take k ids))) where
+  one-more : (from ++ map f (take k ids)) ++ f (get_or ids k 0) ∷ [] ≡ from ++ map f (take (k + 1) ids)
+  one-more = append_assoc from (map f (take k ids)) (f (get_or ids k 0) ∷ []) ∙ ap (λ q. from ++ q) (sym (map_more f ids k 0 h))
+
+  -- one more is added
+  pub listed-more : (to : List Need) (n : Need) → to ≡ mid ++ n ∷ [] → request_of n ≡ f (get_or ids k 0) → AreAlike (requests_of to) (from ++ map f (take (k + 1) ids))
+  listed-more to n t r =
+      subst (AreAlike (requests_of to)) one-more
+      (subst (λ ys. AreAlike ys ((from ++ map f (take k ids)) ++ f (get_or ids k 0) ∷ [])) (sym (ap requests_of t ∙ (map_push request_of mid n ∙ ap (λ q. requests_of mid ++ q ∷ []) r)))
+      (alike-before (requests_of mid) (from ++ map f (take k ids)) (f (get_or ids k 0) ∷ []) e))
+
+  -- it was there to begin with
+  pub listed-same : (r : Request) → Among r from → r ≡ f (get_or ids k 0) → AreAlike (requests_of mid) (from ++ map f (take (k + 1) ids))
+  listed-same r a s =
+      subst (AreAlike (requests_of mid)) one-more
+      (alike-then (requests_of mid) (from ++ map f (take k ids)) ((from ++ map f (take k ids)) ++ f (get_or ids k 0) ∷ []) e
+      (alike-own (from ++ map f (take k ids)) (f (get_or ids k 0) ∷ []) own))
+    where
+      own : (q : Request) → Among q (f (get_or ids k 0) ∷ []) → Among q (from ++ map f (take k ids))
+      own q m = subst (λ y. Among y (from ++ map f (take k ids))) (s ∙ sym (only q (f (get_or ids k 0)) m)) (among-left r from (map f (take k ids)) a)
 
 -- the exits of one block more
 pub before-more : (f : ℕ → List Request) (from mid to : List Request) (bs : List ℕ) (k : ℕ) → k < length bs → AreAlike mid (from ++ flat_map f (take k bs)) → AreAlike to (mid ++ f (get_or bs k 0)) → AreAlike to (from ++ flat_map f (take (k + 1) bs))

@@ -8,7 +8,7 @@ use Rattle.live_lanes.specs.declared.row.LaneRange.{LaneRange}
 use Rattle.live_lanes.specs.declared.row.LaneUse.{LaneUse}
 use Rattle.live_lanes.specs.Graph.{is_live}
 use Rattle.live_lanes.specs.Ways.{predecessors, terminators}
-use Rattle.live_lanes.specs.Table.{Numbers, entry_rank, exit_rank, readings_in, moved_in}
+use Rattle.live_lanes.specs.Table.{Numbers, Seen, entry_rank, exit_rank, piece_at, readings_in, moved_in}
 use Rattle.live_lanes.specs.Entered.{rows_seen}
 use Rattle.live_lanes.specs.Entered.{causes as why_of}
 use Rattle.live_lanes.specs.Growth.{piece_in_rows}
@@ -25,6 +25,10 @@ end_need rows l x b = record { node = (l, b, length (rows_seen rows l b).segment
 -- the piece at the exit of a terminator there
 abbrev pub exit_need : Numbers → List LaneRange → ℕ → ℕ → ℕ → ℕ → Request
 exit_need slots rows l x b id = record { node = (l, b, piece_in_rows slots rows l b (exit_rank slots id)); cause = causes.Follower x }
+
+-- the same in the cell of a piece that leads there
+abbrev pub exit_beside : Numbers → Seen → Request → ℕ → Request
+exit_beside slots v r id = record { node = (r.node.0, r.node.1, piece_at slots (exit_rank slots id) v.segments); cause = r.cause }
 
 -- both, of terminators with these ids
 abbrev pub exit_needs : Numbers → List LaneRange → ℕ → ℕ → ℕ → List ℕ → List Request

@@ -9,7 +9,6 @@ use Rattle.live_lanes.specs.Graph.{Causes, is_live, IsGrown}
 use Rattle.live_lanes.specs.Table.{Numbers, Seen, exit_rank, piece_at, certain_cause}
 use Rattle.live_lanes.specs.Entered.{shape, rows_seen, causes, IsTableOf}
 use Rattle.live_lanes.specs.Ends.{row_end}
-use Rattle.live_lanes.specs.Growth.{piece_in_rows}
 use Rattle.live_lanes.specs.Ways.{terminators}
 use Rattle.live_lanes.specs.Lasting.{shapes, right_end, AreOutward}
 use Rattle.edit_laws.specs.Asked.{IsFound}
@@ -47,7 +46,7 @@ LeadsOut slots flow v block index = (length v.segments ≡ index) ⊎ ((id : ℕ
 
 -- a piece of the rows does
 abbrev pub LastsToExit : Numbers → List BlockFlow → List LaneRange → Node → Type 0
-LastsToExit slots flow rows n = (length (rows_seen rows n.0 n.1).segments ≡ n.2) ⊎ ((id : ℕ) × Among id (terminators flow n.1) × (piece_in_rows slots rows n.0 n.1 (exit_rank slots id) ≡ n.2))
+LastsToExit slots flow rows n = LeadsOut slots flow (rows_seen rows n.0 n.1) n.1 n.2
 
 -- why a piece is live without any other lane
 abbrev pub certain_at : List LaneRange → Node → Cause

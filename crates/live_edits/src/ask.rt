@@ -1,15 +1,15 @@
 //! Which pieces that aren't live have a reason to be.
 
-ghost use Rattle.std.specs.Prelude.{◌≡◌, true, false, OnOk, find, option_copied};
+ghost use Rattle.std.specs.Prelude.{◌≡◌, ℕ, true, false, OnOk, find, option_copied};
 ghost use Rattle.live_lanes.specs.declared.row.Cause.{Cause};
-ghost use Rattle.live_lanes.specs.Entered.{causes};
+ghost use Rattle.live_lanes.specs.Entered.{rows_seen, causes};
 ghost use Rattle.live_lanes.specs.Graph.{is_live};
-ghost use Rattle.live_lanes.specs.Table.{readings_in, cause_of};
+ghost use Rattle.live_lanes.specs.Table.{Numbers, seen_cell, cause_of};
 ghost use Rattle.live_lanes.specs.Lasting.{AllRise};
 ghost use Rattle.edit_laws.specs.Asked.{IsFound};
 ghost use Rattle.live_edits.specs.Leading.{moves_on};
 ghost use Rattle.live_edits.specs.Pieces.{node_of};
-ghost use Rattle.live_edits.specs.Updated.{AsksFor};
+ghost use Rattle.live_edits.specs.Updated.{AsksFor, LastsToExit};
 
 use crate::fall::has_exit;
 use crate::log::LoggedRows;
@@ -44,7 +44,13 @@ impl LoggedRows {
     }
 
     /// Why a piece of a cell that isn't live has to be.
-    fn reason_in(&self, order: &Order, flow: &[BlockFlow], cell: &Cell, spot: PieceSpot) -> Cause {
+    fn reason_in(&self, order: &Order, flow: &[BlockFlow], cell: &Cell, spot: PieceSpot) -> Cause
+        requires { seen_cell cell.now ≡ rows_seen self.now.rows.rows.items spot.lane spot.block }
+        ensures dead { is_live result ≡ true → is_live (causes self.now.rows.rows.items spot.lane spot.block spot.index) ≡ false }
+        ensures found { AllRise order.now.slots self.now.rows.rows.items → is_live result ≡ true → IsFound order.now.slots flow.now self.now.rows.rows.items (node_of spot) result }
+        ensures whole { AllRise order.now.slots self.now.rows.rows.items → is_live (causes self.now.rows.rows.items spot.lane spot.block spot.index) ≡ false → is_live result ≡ false
+            → (c : Cause) → IsFound order.now.slots flow.now self.now.rows.rows.items (node_of spot) c → ⊥ }
+    {
         if is_live(cause_in(cell, spot.index)) {
             return Cause::None;
         }
@@ -81,7 +87,12 @@ impl LoggedRows {
 
     /// A block to which a path leads from a piece, if any do, and at whose start the lane is live, as a
     /// cause.
-    fn follower_cause(&self, flow: &[BlockFlow], spot: PieceSpot, leads_out: bool) -> Cause {
+    fn follower_cause(&self, flow: &[BlockFlow], spot: PieceSpot, leads_out: bool) -> Cause
+        ensures found { (slots : Numbers) → (leads_out ≡ true → LastsToExit slots flow.now self.now.rows.rows.items (node_of spot))
+            → is_live result ≡ true → IsFound slots flow.now self.now.rows.rows.items (node_of spot) result }
+        ensures whole { (slots : Numbers) → (LastsToExit slots flow.now self.now.rows.rows.items (node_of spot) → leads_out ≡ true)
+            → is_live result ≡ false → (x : ℕ) → IsFound slots flow.now self.now.rows.rows.items (node_of spot) (Cause.Follower x) → ⊥ }
+    {
         if !leads_out {
             return Cause::None;
         }

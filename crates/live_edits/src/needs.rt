@@ -1,12 +1,13 @@
 //! What leads to a piece: where its lane, or the lane that is moved to it, is live because it is.
 
-ghost use Rattle.std.specs.Prelude.{◌≡◌, ◌++◌, OnOk, Some};
+ghost use Rattle.std.specs.Prelude.{◌≡◌, ◌++◌, true, map, OnOk, Some};
 ghost use Rattle.std.specs.List.{list_any};
-ghost use Rattle.live_lanes.specs.Table.{readings_in, moved_in, seen_cell};
+ghost use Rattle.mir_meaning.specs.Paths.{Among};
+ghost use Rattle.live_lanes.specs.Table.{readings_in, moved_in, rises_from, seen_cell};
 ghost use Rattle.live_lanes.specs.Entered.{rows_seen};
 ghost use Rattle.live_lanes.specs.Lasting.{AllRise};
-ghost use Rattle.live_edits.specs.Leading.{AreAlike, exit_needs, needs_before, move_needs, is_move};
-ghost use Rattle.live_edits.specs.Pieces.{node_of, requests_of};
+ghost use Rattle.live_edits.specs.Leading.{AreAlike, exit_beside, exit_needs, needs_before, move_needs, is_move};
+ghost use Rattle.live_edits.specs.Pieces.{node_of, request_of, requests_of};
 ghost use Rattle.live_edits.specs.Updated.{AreNeedsOf};
 
 use crate::log::LoggedRows;
@@ -174,7 +175,11 @@ fn add_terminator_exits(
     last: Need,
     terminators: &[u32],
     needs: &mut Vec<Need>,
-) -> Result<(), AllocError> {
+) -> Result<(), AllocError>
+    requires { Among (request_of last) (requests_of needs.old.items) }
+    ensures { OnOk result (rises_from order.now.slots 0 (seen_cell cell.now).segments ≡ true
+        → AreAlike (requests_of needs.new.items) (requests_of needs.old.items ++ map (exit_beside order.now.slots (seen_cell cell.now) (request_of last)) terminators.now)) }
+{
     'terminators: for id in terminators {
         let index = cell.piece_at(&order.slots, exit_rank(&order.slots, *id));
         if index != last.spot.index {

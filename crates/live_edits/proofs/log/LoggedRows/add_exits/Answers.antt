@@ -1,36 +1,37 @@
-use Rattle.std.proofs.Common.{◌≡◌, ◌∙◌, get_or, sym}
+use Rattle.std.proofs.Common.{◌≡◌, ◌++◌, ◌∷◌, [], ◌∙◌, ℕ, true, length, ap, arith}
+use Rattle.std.proofs.lemmas.List.{length-map}
 use Rattle.live_lanes.specs.declared.row.Cause.TheVariants as why
+use Rattle.live_lanes.specs.Table.{Seen, begun, rises_from, seen_cell}
+use Rattle.live_lanes.specs.Entered.{rows_seen}
+use Rattle.live_lanes.proofs.Raised.{on-ok}
 use Rattle.live_edits.specs.declared.pieces.Need.{Need}
-use Rattle.live_edits.specs.Leading.{end_need, exit_need}
-use Rattle.live_edits.specs.Pieces.{request_of}
-use Rattle.live_edits.proofs.NeedLists.{exit-is, exits-only, exits-more, exits-same}
+use Rattle.live_edits.proofs.NeedLists.{exits-only, exits-all, last-among}
 use Rattle.live_edits.proofs.log.LoggedRows.add_exits.Goals as goal
-use Rattle.live_edits.proofs.log.LoggedRows.add_exits.Goals.{then-exit-last+in_ok-push-2, else-exit-last}
 
-pub returns-then-last-eq0 : goal.returns-then-last-eq0
-returns-then-last-eq0 c = λ rise.
-    let slots = c.args.order.now.slots in
-    let rows = c.args.self.now.rows.rows.items in
+pub returns-in_default : goal.returns-in_default
+returns-in_default c = λ rise.
     let s = c.args.spot in
-    let e = c.last_piece-last.ensures in
-    let n : Need = record { spot = c.last_piece-last.result; cause = why.Follower s.block } in
-    let is : request_of n ≡ end_need rows s.lane s.block c.args.before = (λ i. record { node = (e.lane i, e.block i, e.index i); cause = why.Follower s.block }) in
-    exits-only slots rows s.lane s.block c.args.before c.args.needs.now.items c.push.new.self.items n c.args.terminators.now c.in_ok-push.ensures.items is (sym e.index ∙ c.if-last-eq0.true)
+    exits-only c.args.order.now.slots c.args.self.now.rows.rows.items s.lane s.block c.args.before c.args.needs.now.items c.push.new.self.items c.args.terminators.now c.in_ok-push.ensures.items (ap (λ v. length v.segments) c.in_default.ensures)
 
-pub terminators-preserved : goal.terminators-preserved
-terminators-preserved c = λ rise.
-    let slots = c.args.order.now.slots in
-    let rows = c.args.self.now.rows.rows.items in
+pub returns-then-index-eq0 : goal.returns-then-index-eq0
+returns-then-index-eq0 c = λ rise.
     let s = c.args.spot in
-    let ids = c.args.terminators.now in
-    let k = c.terminators.id-index in
     let from = c.args.needs.now.items in
-    let mid = c.terminators.needs.items in
-    let e = c.piece_at-exit.ensures in
-    let n : Need = record { spot = c.piece_at-exit.result; cause = why.Follower s.block } in
-    let is : request_of n ≡ exit_need slots rows s.lane s.block c.args.before (get_or ids k 0) =
-    exit-is slots rows s.lane s.block c.args.before (get_or ids k 0) c.exit_rank-at.result c.piece_at-exit.result e.lane e.block (e.index rise) c.exit_rank-at.ensures in
-    elim c.if-exit-last.branch [
-      | then-exit-last+in_ok-push-2 w ↦ (rw w.needs-is (exits-more slots rows s.lane s.block c.args.before ids k from mid c.terminators-test.true (c.terminators.invariant rise) w.push-then-exit-last.new.self.items n w.in_ok-push-2.ensures.items is))
-      | else-exit-last w ↦ (rw w.needs-is (exits-same slots rows s.lane s.block c.args.before ids k from mid c.terminators-test.true (c.terminators.invariant rise) n is (w.if-exit-last.false ∙ c.last_piece-last.ensures.index)))
-    ]
+    let last : ℕ → Need = λ k. record { spot = record { lane = s.lane; block = c.args.before; index = k }; cause = why.Follower s.block } in
+    let count : length (seen_cell c.in-Some.cell.now).segments ≡ length (rows_seen c.args.self.now.rows.rows.items s.lane c.args.before).segments = ap (λ (v : Seen). length v.segments) c.in-Some.ensures in
+    exits-only c.args.order.now.slots c.args.self.now.rows.rows.items s.lane s.block c.args.before from c.push-2.new.self.items c.args.terminators.now (c.in_ok-push-2.ensures.items ∙ ap (λ k. from ++ last k ∷ []) c.if-index-eq0.true)
+    (omega (arith, c.if-index-eq0.true, c.len-index.ensures, length-map c.in-Some.cell.now.segments.items begun, count))
+
+pub add_terminator_exits-requires : goal.add_terminator_exits-requires
+add_terminator_exits-requires c =
+    let s = c.args.spot in
+    last-among c.args.needs.now.items c.push-2.new.self.items (record { spot = record { lane = s.lane; block = c.args.before; index = c.len-index.result }; cause = why.Follower s.block }) c.in_ok-push-2.ensures.items
+
+pub returns : goal.returns
+returns c =
+    let s = c.args.spot in
+    let slots = c.args.order.now.slots in
+    let cell = c.in-Some.cell.now in
+    on-ok c.add_terminator_exits.result c.add_terminator_exits.ensures (λ h rise. exits-all slots c.args.self.now.rows.rows.items s.lane s.block c.args.before c.args.needs.now.items c.push-2.new.self.items c.add_terminator_exits.new.needs.items c.len-index.result c.args.terminators.now (seen_cell cell) c.in-Some.ensures
+    (omega (arith, c.len-index.ensures, length-map cell.segments.items begun)) c.in_ok-push-2.ensures.items
+    (h (ap (λ (v : Seen). rises_from slots 0 v.segments) c.in-Some.ensures ∙ rise s.lane c.args.before)))

@@ -1,19 +1,38 @@
-use Rattle.std.proofs.Common.{sym, ◌∙◌}
-use Rattle.live_edits.proofs.AskFound.{certain-found, moved-found, none-found}
+use Rattle.std.proofs.Common.{◌≡◌, None, refl, sym, ap, subst}
+use Rattle.std.specs.Prelude.{find}
+use Rattle.live_lanes.specs.declared.row.Cause.TheVariants as reasons
+use Rattle.live_lanes.specs.Table.{unseen, cause_of}
+use Rattle.live_lanes.specs.Entered.{rows_seen}
+use Rattle.live_edits.specs.Leading.{moves_on}
+use Rattle.live_edits.specs.Updated.{LeadsOut}
+use Rattle.live_edits.proofs.AskFound.{none-found}
+use Rattle.live_edits.proofs.CellsSeen.{found-seen, none-seen, none-dead, none-read, none-certain, unseen-leads, unseen-first}
 use Rattle.live_edits.proofs.log.LoggedRows.reason.Goals as goal
 
-pub returns-then-is_live-2-clause-found : goal.returns-then-is_live-2-clause-found
-returns-then-is_live-2-clause-found c = λ rise live.
+pub reason_in-requires : goal.reason_in-requires
+reason_in-requires c = found-seen c.args.self.now.rows.rows.items c.args.spot.lane c.args.spot.block c.in-Some.cell.now c.in-Some.ensures
+
+pub returns-in-None-clause-dead : goal.returns-in-None-clause-dead
+returns-in-None-clause-dead c = λ live.
     let s = c.args.spot in
-    certain-found c.args.order.now.slots c.args.flow.now c.args.self.now.rows.rows.items s.lane s.block s.index c.certain_cause-certain.result c.certain_cause-certain.ensures live
+    let rows = c.args.self.now.rows.rows.items in
+    none-dead rows s.lane s.block s.index (none-seen rows s.lane s.block c.in-None.ensures)
 
 pub returns-in-None-clause-found : goal.returns-in-None-clause-found
 returns-in-None-clause-found c = λ rise live.
     let s = c.args.spot in
-    moved-found c.args.order.now.slots c.args.flow.now c.args.self.now.rows.rows.items s.lane s.block s.index c.live_reading.result (c.live_reading.ensures rise) live
+    let slots = c.args.order.now.slots in
+    let flow = c.args.flow.now in
+    let none : unseen ≡ rows_seen c.args.self.now.rows.rows.items s.lane s.block = none-seen c.args.self.now.rows.rows.items s.lane s.block c.in-None.ensures in
+    c.follower_cause.ensures.found slots (λ e. subst (λ v. LeadsOut slots flow v s.block s.index) none (unseen-leads slots flow s.block s.index e)) live
 
 pub returns-in-None-clause-whole : goal.returns-in-None-clause-whole
-returns-in-None-clause-whole c = λ rise dead none.
+returns-in-None-clause-whole c = λ rise dead stays.
     let s = c.args.spot in
-    none-found c.args.order.now.slots c.args.flow.now c.args.self.now.rows.rows.items s.lane s.block s.index c.certain_cause-certain.result c.live_reading.result c.certain_cause-certain.ensures (sym c.is_live-2.ensures ∙ c.if-is_live-2.false)
-    (c.live_follower.ensures.whole rise c.in-None.is) (c.live_reading.ensures rise) none
+    let slots = c.args.order.now.slots in
+    let flow = c.args.flow.now in
+    let rows = c.args.self.now.rows.rows.items in
+    let none : unseen ≡ rows_seen rows s.lane s.block = none-seen rows s.lane s.block c.in-None.ensures in
+    none-found slots flow rows s.lane s.block s.index reasons.None reasons.None (none-certain rows s.lane s.block s.index none) refl
+    (c.follower_cause.ensures.whole slots (λ out. unseen-first slots flow s.block s.index (subst (λ v. LeadsOut slots flow v s.block s.index) (sym none) out)) stays)
+    (sym (ap (λ rs. cause_of (find (moves_on slots rows s.block) rs)) (none-read rows s.lane s.block s.index none))) refl
