@@ -16,7 +16,7 @@ use Rattle.live_lanes.specs.declared.table.Table.{Table}
 use Rattle.live_lanes.specs.Table.{Numbers}
 use Rattle.live_lanes.specs.Coded.{Doing, bodies_from}
 use Rattle.live_lanes.specs.Doing.{doing_of, lane_code, IsComputed}
-use Rattle.live_lanes.specs.Entered.{shape, shape_of, rows_seen, Rises, IsFlow, IsTableOf}
+use Rattle.live_lanes.specs.Entered.{Rises, IsFlow, IsTableOf}
 use Rattle.live_lanes.specs.Flowing.{exits_at, terminator_ids}
 use Rattle.live_lanes.specs.Laws.{AllMatched}
 use Rattle.live_lanes.specs.Ordered.{AreRising, AreSingle, all_ids, ids_of, last_id, place_of}
@@ -35,8 +35,7 @@ use Rattle.edit_laws.specs.Further.{KeepsLast}
 use Rattle.edit_laws.specs.Kept.{IsLaidOut}
 use Rattle.edit_laws.specs.Ordering.{IsOrdered}
 use Rattle.edit_laws.specs.Reasons.{Touched, AreEdited, edit_none, edit_stays, edit_comes, IsEditOf}
-use Rattle.edit_laws.specs.LetGo.{IsLetGo, IsLaneEdited, cells_rebuilt, let_go}
-use Rattle.edit_laws.specs.Rebuilt.{IsRebuilt}
+use Rattle.edit_laws.specs.LetGo.{AreLanesEdited}
 use Rattle.edit_laws.specs.RowsUpdated.{AreRowsUpdated}
 use Rattle.edit_laws.proofs.Composed.{all-classes-stay}
 use Rattle.edit_laws.proofs.Deferred.{all-deferred-law}
@@ -44,9 +43,8 @@ use Rattle.edit_laws.proofs.ErasedLast.{deferred-single}
 use Rattle.edit_laws.proofs.Further.{with-lanes}
 use Rattle.edit_laws.proofs.Left.{AreLeft, none_left, one_left, one_goes, among-split, split-among}
 use Rattle.edit_laws.proofs.Ordering.{laid-out-law}
-use Rattle.edit_laws.proofs.Rebuilt.{cell-shape, cell-copies}
+use Rattle.edit_laws.proofs.LanesEdited.{emptied, copied, table}
 use Rattle.edit_laws.proofs.Standing.{edited-rows-law, is-left, standing-table-law}
-use Rattle.edit_laws.proofs.Unnamed.{unseen-shape}
 
 -- ways over edits
 
@@ -181,16 +179,6 @@ matched-before (one_left a) h s (there m) = matched-before a (λ r k. h r (there
 matched-before (one_goes {id = id} a) h s here = nothing-matched id
 matched-before (one_goes a) h s (there m) = matched-before a h s m
 
--- what becomes of a lane
-
-lane-gone : {old new : Code} {l : ℕ} {x z : List LaneRange} {v : Bool} → IsLaneEdited old new l x z v → v ≡ true → IsLetGo new z l
-lane-gone (cells_rebuilt h) e = absurd (let z : false ≡ true = e in cc)
-lane-gone (let_go h) e = h
-
-lane-cells : {old new : Code} {l : ℕ} {x z : List LaneRange} {v : Bool} → IsLaneEdited old new l x z v → v ≡ false → (b : ℕ) → IsRebuilt old new l b (rows_seen x l b) (rows_seen z l b)
-lane-cells (cells_rebuilt h) e b = h b
-lane-cells (let_go h) e b = absurd (let z : true ≡ false = e in cc)
-
 -- all together
 
 module _ (touched : Touched) (t : Target) (f : Function) (es : List Edit) (x u y : Table) (z : List LaneRange) (computed : IsComputed t f x) (rules : KeepsRules t f) (last : KeepsLast t f) (is : IsFunction f.blocks f.next_id) (spare : SpareGone [] f es) (touches : TouchesEdits touched t f (number_in y.lanes) es) (stages : AreStages t f es x u y) (rows : AreRowsEdited touched (lane_code t f (number_in y.lanes)) (standing_code t f (number_in y.lanes) es) u.order.slots u.flow.items x.rows.rows.items z y.rows.rows.items) where
@@ -231,26 +219,15 @@ module _ (touched : Touched) (t : Target) (f : Function) (es : List Edit) (x u y
     matched : (b : ℕ) (s : Step) → Among s (steps_of mid b) → IsMatched s
     matched b = matched-before ((is-left t f num es is spare).steps b) (m b)
 
-    -- lanes that are let go, and the cells of all others
-    emptied : (l : ℕ) → rows.gone l ≡ true → IsLetGo mid z l
-    emptied l e = lane-gone (rows.lanes_edited l) e
-
-    cell-at : (l b : ℕ) → rows.gone l ≡ false → IsRebuilt old mid l b (rows_seen x.rows.rows.items l b) (rows_seen z l b)
-    cell-at l b e = lane-cells (rows.lanes_edited l) e b
-
-    entered : (l b : ℕ) → shape (rows_seen z l b) ≡ shape_of mid l b
-    entered l b = go (rows.gone l) refl
-      where
-        go : (v : Bool) → rows.gone l ≡ v → shape (rows_seen z l b) ≡ shape_of mid l b
-        go true e = ap shape ((emptied l e).empty b) ∙ unseen-shape mid l b (emptied l e).unnamed
-        go false e = cell-shape old mid x.order.slots u.order.slots x.flow.items x.rows.rows.items z was edited.last order.numbered l b (cell-at l b e)
+    made : AreLanesEdited old mid u.order.slots u.flow.items rows.gone x.rows.rows.items z
+    made = record { last = edited.last; numbered = order.numbered; ways = ways; matched = matched; few = rows.few; lanes = rows.lanes_edited }
 
     first-table : IsTableOf mid u.order.slots u.flow.items z
-    first-table = record { entered = entered; numbered = order.numbered; ways = ways; matched = matched; few = rows.few }
+    first-table = table old mid x.order.slots u.order.slots x.flow.items u.flow.items rows.gone x.rows.rows.items z was made
 
     at-last : IsTableOf mid u.order.slots u.flow.items y.rows.rows.items
     at-last = record {
-      entered = λ l b. rows.kept_shapes l b ∙ entered l b;
+      entered = λ l b. rows.kept_shapes l b ∙ first-table.entered l b;
       numbered = order.numbered;
       ways = ways;
       matched = matched;
@@ -264,8 +241,8 @@ module _ (touched : Touched) (t : Target) (f : Function) (es : List Edit) (x u y
       first = first-table;
       table = at-last;
       gone = rows.gone;
-      emptied = emptied;
-      copied = λ l b e. cell-copies old mid x.order.slots u.order.slots x.flow.items x.rows.rows.items z was edited.last order.numbered l b (cell-at l b e);
+      emptied = emptied old mid x.order.slots u.order.slots x.flow.items u.flow.items rows.gone x.rows.rows.items z was made;
+      copied = copied old mid x.order.slots u.order.slots x.flow.items u.flow.items rows.gone x.rows.rows.items z was made;
       list = rows.list;
       listed = rows.listed;
       between = rows.between;

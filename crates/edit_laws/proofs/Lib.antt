@@ -37,6 +37,7 @@ pub mod RowEnd
 pub mod Turned
 pub mod Unnamed
 pub mod CodeLanes
+pub mod LanesEdited
 pub mod LetGo
 pub mod RowsUpdated
 pub mod SideBySide

@@ -1,5 +1,5 @@
 -- A table whose rows are brought up to date after edits is computed for the edited function.
-use Rattle.std.proofs.Common.{◌≡◌, ◌⊎◌, ℕ, zero, suc, Bool, true, false, List, [], ◌∷◌, ◌++◌, Option, Some, refl, sym, ap, ◌∙◌, subst, inl, inr, append_assoc}
+use Rattle.std.proofs.Common.{◌≡◌, ◌⊎◌, ℕ, Bool, true, false, List, [], ◌∷◌, ◌++◌, Option, Some, refl, sym, ap, ◌∙◌, subst, inl, inr, append_assoc}
 use Rattle.target_base.specs.declared.types.Target.{Target}
 use Rattle.mir_func.specs.Value.{Function}
 use Rattle.mir_meaning.specs.Paths.{Among, Step, Code, steps_of}
@@ -9,7 +9,7 @@ use Rattle.live_lanes.specs.declared.row.LaneRange.{LaneRange}
 use Rattle.live_lanes.specs.declared.row.PieceEnd.TheVariants as ends
 use Rattle.live_lanes.specs.declared.table.Table.{Table}
 use Rattle.live_lanes.specs.Graph.{is_live, writes_in, IsGrown}
-use Rattle.live_lanes.specs.Table.{Numbers, Seen, unseen, cause_in, end_in}
+use Rattle.live_lanes.specs.Table.{Numbers}
 use Rattle.live_lanes.specs.Entered.{causes, rows_seen, IsTableOf}
 use Rattle.live_lanes.specs.Ends.{IsEnd, row_end, AreEnds}
 use Rattle.live_lanes.specs.Laws.{AllMatched}
@@ -23,6 +23,7 @@ use Rattle.edit_laws.specs.RowsUpdated.{AreRowsUpdated, RowsUpdateLaw}
 use Rattle.edit_laws.specs.Steps.{AreCodes}
 use Rattle.edit_laws.proofs.CarriedRows.{alike, kept}
 use Rattle.edit_laws.proofs.Ended.{ends-law}
+use Rattle.edit_laws.proofs.LanesEdited.{empty-dead, empty-ends}
 use Rattle.edit_laws.proofs.LetGo.{AreCarriedBut, AreListedBut, fewer, before, all-list, other-cause, edit-fewer, all-carried, all-listed-now, only-listed, on, holds-right, carried-over}
 use Rattle.edit_laws.proofs.Needs.{entry-at, exit-at, count-is}
 use Rattle.edit_laws.proofs.Others.{gone-law}
@@ -30,16 +31,6 @@ use Rattle.edit_laws.proofs.Recomputed.{among-or-not, IsLaneRecomputed, lane-end
 use Rattle.edit_laws.proofs.Risen.{brought-up}
 use Rattle.edit_laws.proofs.Turned.{turned-behind}
 use Rattle.edit_laws.proofs.Unnamed.{reason-apart, grown-dead, never-ends}
-
--- an empty cell
-
-unseen-dead : (n : ℕ) → is_live (cause_in unseen n) ≡ false
-unseen-dead zero = refl
-unseen-dead (suc n) = refl
-
-unseen-ends : (n : ℕ) → end_in unseen n ≡ ends.Never
-unseen-ends zero = refl
-unseen-ends (suc n) = refl
 
 module _ (touched : Touched) (old standing : Code) (slots slots' : Numbers) (ways flow : List BlockFlow) (x z y : List LaneRange) (t : IsTableOf old slots ways x) (grown : IsGrown old (causes x)) (matched : AllMatched old) (ended : AreEnds old slots x) (rows : AreRowsUpdated touched old standing slots' flow x z y) where
   abbrev gone : ℕ → Bool
@@ -51,7 +42,7 @@ module _ (touched : Touched) (old standing : Code) (slots slots' : Numbers) (way
   over : AreCarriedBut gone old standing (causes x) (causes z)
   over = record {
     unnamed = unnamed;
-    dead = λ l b n e. ap (λ (v : Seen). is_live (cause_in v n)) ((rows.emptied l e).empty b) ∙ unseen-dead n;
+    dead = λ l b n e. empty-dead (rows.emptied l e) b n;
     kept = λ l b m n start e u v. (alike old standing slots slots' ways flow x z t rows.first l b (rows.copied l b e) m n start u v).0;
     live = λ l b n e live. kept old standing slots slots' ways flow x z t rows.first l b (rows.copied l b e) n live;
   }
@@ -81,7 +72,7 @@ module _ (touched : Touched) (old standing : Code) (slots slots' : Numbers) (way
       go : Among {A = Node} (l, b, n) rows.again ⊎ (Among {A = Node} (l, b, n) rows.again → ⊥) → IsEnd standing slots' (causes y) l b n (row_end y l b n)
       go (inl a) = right-again (l, b, n) a
       go (inr out) =
-          let none : row_end y l b n ≡ ends.Never = rows.kept (l, b, n) out ∙ (ap (λ (v : Seen). end_in v n) ((rows.emptied l e).empty b) ∙ unseen-ends n) in
+          let none : row_end y l b n ≡ ends.Never = rows.kept (l, b, n) out ∙ empty-ends (rows.emptied l e) b n in
           subst (IsEnd standing slots' (causes y) l b n) (sym none) (never-ends standing (causes y) l b n (unnamed l e) (λ k. grown-dead standing (causes y) grown-now l k 0 (unnamed l e)) slots')
 
   -- and of all others
