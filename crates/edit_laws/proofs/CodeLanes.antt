@@ -89,10 +89,10 @@ code-leaves l (x ∷ xs) (suc b) e s a = code-leaves l xs b (both-other l (steps
 -- a lane that the test tells is touched only where the old code names it
 
 abbrev spared : Bool → Bool → Bool → Bool
-spared gone named touched = cond gone (named && touched) touched
+spared lets_go named touched = cond lets_go (named && touched) touched
 
 abbrev pub touched_named : (ℕ → Bool) → Code → Touched → Touched
-touched_named gone old touched l b id = spared (gone l) (has l (code_lanes old)) (touched l b id)
+touched_named lets_go old touched l b id = spared (lets_go l) (has l (code_lanes old)) (touched l b id)
 
 spared-false : (g n t : Bool) → spared g n t ≡ false → (t ≡ false) ⊎ ((g ≡ true) × (n ≡ false))
 spared-false true true t e = inl e
@@ -109,38 +109,35 @@ spared-none true true t e = e
 spared-none true false t e = refl
 spared-none false n t e = e
 
-module _ (touched : Touched) (old new : Code) (gone : ℕ → Bool) (unnamed : (l : ℕ) → gone l ≡ true → IsUnnamed new l) where
+module _ (touched : Touched) (old new : Code) (lets_go : ℕ → Bool) (unnamed : (l : ℕ) → lets_go l ≡ true → IsUnnamed new l) where
   abbrev fewer : Touched
-  fewer = touched_named gone old touched
+  fewer = touched_named lets_go old touched
 
   pub fewer-false : (l b id : ℕ) → touched l b id ≡ false → fewer l b id ≡ false
-  fewer-false l b id e = spared-none (gone l) (has l (code_lanes old)) (touched l b id) e
+  fewer-false l b id e = spared-none (lets_go l) (has l (code_lanes old)) (touched l b id) e
 
-  pub fewer-other : (l b id : ℕ) → gone l ≡ false → fewer l b id ≡ touched l b id
-  fewer-other l b id e = ap (λ g. spared g (has l (code_lanes old)) (touched l b id)) e
-
-  was-false : (l b id : ℕ) → fewer l b id ≡ false → (touched l b id ≡ false) ⊎ ((gone l ≡ true) × (has l (code_lanes old) ≡ false))
-  was-false l b id e = spared-false (gone l) (has l (code_lanes old)) (touched l b id) e
+  was-false : (l b id : ℕ) → fewer l b id ≡ false → (touched l b id ≡ false) ⊎ ((lets_go l ≡ true) × (has l (code_lanes old) ≡ false))
+  was-false l b id e = spared-false (lets_go l) (has l (code_lanes old)) (touched l b id) e
 
   like-still : (b : ℕ) (s r : Step) → Among s (steps_of old b) → Among r (steps_of new b) → IsLike (λ l i. touched l b i) s r → IsLike (λ l i. fewer l b i) s r
   like-still b s r m n h = record { id = h.id; leaves = h.leaves; used = λ l e. used l (was-false l b r.id e); writing = λ l e. writing l (was-false l b r.id e) }
     where
-      used : (l : ℕ) → (touched l b r.id ≡ false) ⊎ ((gone l ≡ true) × (has l (code_lanes old) ≡ false)) → use_of l s ≡ use_of l r
+      used : (l : ℕ) → (touched l b r.id ≡ false) ⊎ ((lets_go l ≡ true) × (has l (code_lanes old) ≡ false)) → use_of l s ≡ use_of l r
       used l (inl e) = h.used l e
       used l (inr x) = (code-leaves l old b x.1 s m).0 ∙ sym ((unnamed l x.0).unused b r n)
 
-      writing : (l : ℕ) → (touched l b r.id ≡ false) ⊎ ((gone l ≡ true) × (has l (code_lanes old) ≡ false)) → writing_of l s.writes ≡ writing_of l r.writes
+      writing : (l : ℕ) → (touched l b r.id ≡ false) ⊎ ((lets_go l ≡ true) × (has l (code_lanes old) ≡ false)) → writing_of l s.writes ≡ writing_of l r.writes
       writing l (inl e) = h.writing l e
       writing l (inr x) = (code-leaves l old b x.1 s m).1 ∙ sym (none-written (writing_of l r.writes) ((unnamed l x.0).unwritten b r n))
 
   new-still : (b : ℕ) (r : Step) → Among r (steps_of new b) → IsNew (λ l i. touched l b i) r → IsNew (λ l i. fewer l b i) r
   new-still b r n h = record { leaves = h.leaves; unused = λ l e. unused l (was-false l b r.id e); unwritten = λ l e. unwritten l (was-false l b r.id e) }
     where
-      unused : (l : ℕ) → (touched l b r.id ≡ false) ⊎ ((gone l ≡ true) × (has l (code_lanes old) ≡ false)) → use_of l r ≡ Unused
+      unused : (l : ℕ) → (touched l b r.id ≡ false) ⊎ ((lets_go l ≡ true) × (has l (code_lanes old) ≡ false)) → use_of l r ≡ Unused
       unused l (inl e) = h.unused l e
       unused l (inr x) = (unnamed l x.0).unused b r n
 
-      unwritten : (l : ℕ) → (touched l b r.id ≡ false) ⊎ ((gone l ≡ true) × (has l (code_lanes old) ≡ false)) → is_written l r ≡ false
+      unwritten : (l : ℕ) → (touched l b r.id ≡ false) ⊎ ((lets_go l ≡ true) × (has l (code_lanes old) ≡ false)) → is_written l r ≡ false
       unwritten l (inl e) = h.unwritten l e
       unwritten l (inr x) = (unnamed l x.0).unwritten b r n
 
@@ -179,28 +176,28 @@ module _ (touched : Touched) (old new : Code) (gone : ℕ → Bool) (unnamed : (
 
   abbrev pub lane_pieces : List ℕ → List Node
   lane_pieces [] = []
-  lane_pieces (l ∷ ls) = cond (gone l) (block_pieces l (length new)) [] ++ lane_pieces ls
+  lane_pieces (l ∷ ls) = cond (lets_go l) (block_pieces l (length new)) [] ++ lane_pieces ls
 
-  lane-there : (l b : ℕ) (ls : List ℕ) → Among l ls → gone l ≡ true → b < length new → Among {A = Node} (l, b, 0) (lane_pieces ls)
+  lane-there : (l b : ℕ) (ls : List ℕ) → Among l ls → lets_go l ≡ true → b < length new → Among {A = Node} (l, b, 0) (lane_pieces ls)
   lane-there l b [] a e h = absurd (none-among l a)
   lane-there l b (k ∷ ls) a e h = go (among-cases l k ls a) (λ c. lane-there l b ls c e h)
     where
-      go : (l ≡ k) ⊎ Among l ls → (Among l ls → Among {A = Node} (l, b, 0) (lane_pieces ls)) → Among {A = Node} (l, b, 0) (cond (gone k) (block_pieces k (length new)) [] ++ lane_pieces ls)
+      go : (l ≡ k) ⊎ Among l ls → (Among l ls → Among {A = Node} (l, b, 0) (lane_pieces ls)) → Among {A = Node} (l, b, 0) (cond (lets_go k) (block_pieces k (length new)) [] ++ lane_pieces ls)
       go (inl f) ih =
-          let own : Among {A = Node} (l, b, 0) (cond (gone l) (block_pieces l (length new)) []) = subst (λ u. Among {A = Node} (l, b, 0) (cond u (block_pieces l (length new)) [])) (sym e) (block-there l b (length new) h) in
-          among-left (l, b, 0) (cond (gone k) (block_pieces k (length new)) []) (lane_pieces ls) (subst (λ j. Among {A = Node} (l, b, 0) (cond (gone j) (block_pieces j (length new)) [])) f own)
-      go (inr c) ih = among-right (l, b, 0) (cond (gone k) (block_pieces k (length new)) []) (lane_pieces ls) (ih c)
+          let own : Among {A = Node} (l, b, 0) (cond (lets_go l) (block_pieces l (length new)) []) = subst (λ u. Among {A = Node} (l, b, 0) (cond u (block_pieces l (length new)) [])) (sym e) (block-there l b (length new) h) in
+          among-left (l, b, 0) (cond (lets_go k) (block_pieces k (length new)) []) (lane_pieces ls) (subst (λ j. Among {A = Node} (l, b, 0) (cond (lets_go j) (block_pieces j (length new)) [])) f own)
+      go (inr c) ih = among-right (l, b, 0) (cond (lets_go k) (block_pieces k (length new)) []) (lane_pieces ls) (ih c)
 
-  lanes-gone : (ls : List ℕ) (k : Node) → Among k (lane_pieces ls) → gone k.0 ≡ true
+  lanes-gone : (ls : List ℕ) (k : Node) → Among k (lane_pieces ls) → lets_go k.0 ≡ true
   lanes-gone [] k a = absurd (none-among k a)
-  lanes-gone (l ∷ ls) k a = go (among-split k (cond (gone l) (block_pieces l (length new)) []) (lane_pieces ls) a) (λ c. lanes-gone ls k c)
+  lanes-gone (l ∷ ls) k a = go (among-split k (cond (lets_go l) (block_pieces l (length new)) []) (lane_pieces ls) a) (λ c. lanes-gone ls k c)
     where
-      first : (u : Bool) → gone l ≡ u → Among k (cond u (block_pieces l (length new)) []) → gone k.0 ≡ true
-      first true e c = ap gone (block-lane l (length new) k c) ∙ e
+      first : (u : Bool) → lets_go l ≡ u → Among k (cond u (block_pieces l (length new)) []) → lets_go k.0 ≡ true
+      first true e c = ap lets_go (block-lane l (length new) k c) ∙ e
       first false e c = absurd (none-among k c)
 
-      go : Among k (cond (gone l) (block_pieces l (length new)) []) ⊎ Among k (lane_pieces ls) → (Among k (lane_pieces ls) → gone k.0 ≡ true) → gone k.0 ≡ true
-      go (inl c) ih = first (gone l) refl c
+      go : Among k (cond (lets_go l) (block_pieces l (length new)) []) ⊎ Among k (lane_pieces ls) → (Among k (lane_pieces ls) → lets_go k.0 ≡ true) → lets_go k.0 ≡ true
+      go (inl c) ih = first (lets_go l) refl c
       go (inr c) ih = ih c
 
   -- behind the last block there are no instructions
@@ -211,12 +208,12 @@ module _ (touched : Touched) (old new : Code) (gone : ℕ → Bool) (unnamed : (
       go true f = ltb-true b (length new) f
       go false f = absurd (no-split before s rest (sym (ap (λ (o : Option Body). elim o as (λ q. List Step) [ None ↦ [] | Some x ↦ x.steps ]) (slice_get_past new b (ltb-false b (length new) f))) ∙ e))
 
-  module _ (list : List Node) (listed : (l b : ℕ) (before : List Step) (s : Step) (rest : List Step) → gone l ≡ false → steps_of new b ≡ before ++ s ∷ rest → touched l b s.id ≡ true → Among {A = Node} (l, b, writes_in l before) list × Among {A = Node} (l, b, writes_in l (before ++ s ∷ [])) list) where
+  module _ (list : List Node) (listed : (l b : ℕ) (before : List Step) (s : Step) (rest : List Step) → lets_go l ≡ false → steps_of new b ≡ before ++ s ∷ rest → touched l b s.id ≡ true → Among {A = Node} (l, b, writes_in l before) list × Among {A = Node} (l, b, writes_in l (before ++ s ∷ [])) list) where
     -- with them all that is touched is listed
     abbrev pub more_listed : List Node
     more_listed = lane_pieces (code_lanes old) ++ list
 
-    gone-listed : (l b : ℕ) (before : List Step) (s : Step) (rest : List Step) → gone l ≡ true → has l (code_lanes old) ≡ true → steps_of new b ≡ before ++ s ∷ rest → Among {A = Node} (l, b, writes_in l before) more_listed × Among {A = Node} (l, b, writes_in l (before ++ s ∷ [])) more_listed
+    gone-listed : (l b : ℕ) (before : List Step) (s : Step) (rest : List Step) → lets_go l ≡ true → has l (code_lanes old) ≡ true → steps_of new b ≡ before ++ s ∷ rest → Among {A = Node} (l, b, writes_in l before) more_listed × Among {A = Node} (l, b, writes_in l (before ++ s ∷ [])) more_listed
     gone-listed l b before s rest g h e =
         let own : Among {A = Node} (l, b, 0) more_listed = among-left (l, b, 0) (lane_pieces (code_lanes old)) list (lane-there l b (code_lanes old) (has-among l (code_lanes old) h) g (block-bound b before s rest e)) in (
           subst (λ k. Among {A = Node} (l, b, k) more_listed) (sym (first-piece new l b (unnamed l g) before (s ∷ rest) e)) own,
@@ -224,18 +221,18 @@ module _ (touched : Touched) (old new : Code) (gone : ℕ → Bool) (unnamed : (
         )
 
     pub more-listed : AreListed fewer new more_listed
-    more-listed l b before s rest e t = go (gone l) refl (spared-true (gone l) (has l (code_lanes old)) (touched l b s.id) t)
+    more-listed l b before s rest e t = go (lets_go l) refl (spared-true (lets_go l) (has l (code_lanes old)) (touched l b s.id) t)
       where
-        go : (u : Bool) → gone l ≡ u → (touched l b s.id ≡ true) × ((gone l ≡ true) → has l (code_lanes old) ≡ true) → Among {A = Node} (l, b, writes_in l before) more_listed × Among {A = Node} (l, b, writes_in l (before ++ s ∷ [])) more_listed
+        go : (u : Bool) → lets_go l ≡ u → (touched l b s.id ≡ true) × ((lets_go l ≡ true) → has l (code_lanes old) ≡ true) → Among {A = Node} (l, b, writes_in l before) more_listed × Among {A = Node} (l, b, writes_in l (before ++ s ∷ [])) more_listed
         go true f x = gone-listed l b before s rest f (x.1 f) e
         go false f x =
             let z = listed l b before s rest f e x.0 in
             (among-right (l, b, writes_in l before) (lane_pieces (code_lanes old)) list z.0, among-right (l, b, writes_in l (before ++ s ∷ [])) (lane_pieces (code_lanes old)) list z.1)
 
     -- of other lanes no more pieces
-    pub listed-only : (n : Node) → gone n.0 ≡ false → Among n more_listed → Among n list
+    pub listed-only : (n : Node) → lets_go n.0 ≡ false → Among n more_listed → Among n list
     listed-only n e a = go (among-split n (lane_pieces (code_lanes old)) list a)
       where
         go : Among n (lane_pieces (code_lanes old)) ⊎ Among n list → Among n list
-        go (inl c) = no-other (gone n.0) (lanes-gone (code_lanes old) n c) e
+        go (inl c) = no-other (lets_go n.0) (lanes-gone (code_lanes old) n c) e
         go (inr c) = c

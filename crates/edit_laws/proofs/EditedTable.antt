@@ -219,11 +219,11 @@ module _ (touched : Touched) (t : Target) (f : Function) (es : List Edit) (x u y
     matched : (b : ℕ) (s : Step) → Among s (steps_of mid b) → IsMatched s
     matched b = matched-before ((is-left t f num es is spare).steps b) (m b)
 
-    made : AreLanesEdited old mid u.order.slots u.flow.items rows.gone x.rows.rows.items z
+    made : AreLanesEdited old mid u.order.slots u.flow.items rows.lets_go x.rows.rows.items z
     made = record { last = edited.last; numbered = order.numbered; ways = ways; matched = matched; few = rows.few; lanes = rows.lanes_edited }
 
     first-table : IsTableOf mid u.order.slots u.flow.items z
-    first-table = table old mid x.order.slots u.order.slots x.flow.items u.flow.items rows.gone x.rows.rows.items z was made
+    first-table = table old mid x.order.slots u.order.slots x.flow.items u.flow.items rows.lets_go x.rows.rows.items z was made
 
     at-last : IsTableOf mid u.order.slots u.flow.items y.rows.rows.items
     at-last = record {
@@ -240,9 +240,9 @@ module _ (touched : Touched) (t : Target) (f : Function) (es : List Edit) (x u y
       outward = order.outward;
       first = first-table;
       table = at-last;
-      gone = rows.gone;
-      emptied = emptied old mid x.order.slots u.order.slots x.flow.items u.flow.items rows.gone x.rows.rows.items z was made;
-      copied = copied old mid x.order.slots u.order.slots x.flow.items u.flow.items rows.gone x.rows.rows.items z was made;
+      lets_go = rows.lets_go;
+      emptied = emptied old mid x.order.slots u.order.slots x.flow.items u.flow.items rows.lets_go x.rows.rows.items z was made;
+      copied = copied old mid x.order.slots u.order.slots x.flow.items u.flow.items rows.lets_go x.rows.rows.items z was made;
       list = rows.list;
       listed = rows.listed;
       between = rows.between;

@@ -44,20 +44,20 @@ lane-cells : {old new : Code} {l : ℕ} {x z : List LaneRange} {v : Bool} → Is
 lane-cells (cells_rebuilt h) e b = h b
 lane-cells (let_go h) e b = absurd (let z : true ≡ false = e in cc)
 
-module _ (old new : Code) (slots slots' : Numbers) (flow flow' : List BlockFlow) (gone : ℕ → Bool) (x z : List LaneRange) (t : IsTableOf old slots flow x) (r : AreLanesEdited old new slots' flow' gone x z) where
-  pub emptied : (l : ℕ) → gone l ≡ true → IsLetGo new z l
+module _ (old new : Code) (slots slots' : Numbers) (flow flow' : List BlockFlow) (lets_go : ℕ → Bool) (x z : List LaneRange) (t : IsTableOf old slots flow x) (r : AreLanesEdited old new slots' flow' lets_go x z) where
+  pub emptied : (l : ℕ) → lets_go l ≡ true → IsLetGo new z l
   emptied l e = lane-gone (r.lanes l) e
 
-  cell-at : (l b : ℕ) → gone l ≡ false → IsRebuilt old new l b (rows_seen x l b) (rows_seen z l b)
+  cell-at : (l b : ℕ) → lets_go l ≡ false → IsRebuilt old new l b (rows_seen x l b) (rows_seen z l b)
   cell-at l b e = lane-cells (r.lanes l) e b
 
-  pub copied : (l b : ℕ) → gone l ≡ false → CopiesPieces (rows_seen x l b) (rows_seen z l b)
+  pub copied : (l b : ℕ) → lets_go l ≡ false → CopiesPieces (rows_seen x l b) (rows_seen z l b)
   copied l b e = cell-copies old new slots slots' flow x z t r.last r.numbered l b (cell-at l b e)
 
   entered : (l b : ℕ) → shape (rows_seen z l b) ≡ shape_of new l b
-  entered l b = go (gone l) refl
+  entered l b = go (lets_go l) refl
     where
-      go : (v : Bool) → gone l ≡ v → shape (rows_seen z l b) ≡ shape_of new l b
+      go : (v : Bool) → lets_go l ≡ v → shape (rows_seen z l b) ≡ shape_of new l b
       go true e = ap shape ((emptied l e).empty b) ∙ unseen-shape new l b (emptied l e).unnamed
       go false e = cell-shape old new slots slots' flow x z t r.last r.numbered l b (cell-at l b e)
 
@@ -65,13 +65,13 @@ module _ (old new : Code) (slots slots' : Numbers) (flow flow' : List BlockFlow)
   table = record { entered = entered; numbered = r.numbered; ways = r.ways; matched = r.matched; few = r.few }
 
   keep-causes : KeepCauses old new (causes x) (causes z)
-  keep-causes l b n live = go (gone l) refl
+  keep-causes l b n live = go (lets_go l) refl
     where
-      go : (v : Bool) → gone l ≡ v → (k : IsKept old new l b n) × (causes z l b n ≡ causes x l b k.number)
+      go : (v : Bool) → lets_go l ≡ v → (k : IsKept old new l b n) × (causes z l b n ≡ causes x l b k.number)
       go true e = no-other (is_live (causes z l b n)) live (empty-dead (emptied l e) b n)
       go false e =
           let k : IsKept old new l b n = kept old new slots slots' flow flow' x z t table l b (copied l b e) n live in
           (k, (alike old new slots slots' flow flow' x z t table l b (copied l b e) k.number n k.start k.before k.after).0)
 
 pub lanes-edited-law : LanesEditedLaw
-lanes-edited-law old new slots slots' flow flow' gone x z t r = (table old new slots slots' flow flow' gone x z t r, keep-causes old new slots slots' flow flow' gone x z t r)
+lanes-edited-law old new slots slots' flow flow' lets_go x z t r = (table old new slots slots' flow flow' lets_go x z t r, keep-causes old new slots slots' flow flow' lets_go x z t r)

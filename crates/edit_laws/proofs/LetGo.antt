@@ -19,16 +19,16 @@ use Rattle.edit_laws.proofs.Fallen.{no-other, holds-moves, Falling}
 use Rattle.edit_laws.proofs.Unnamed.{begins-first, reason-idle, reason-apart}
 
 -- the code names none of the lanes that the test tells, and they are live nowhere; all others are live as before
-pub record AreCarriedBut (gone : ℕ → Bool) (old new : Code) (was now : Causes) : Type 0 where
-  pub unnamed : (l : ℕ) → gone l ≡ true → IsUnnamed new l
-  pub dead : (l b n : ℕ) → gone l ≡ true → is_live (now l b n) ≡ false
-  pub kept : (l b m n : ℕ) (start : Option ℕ) → gone l ≡ false → Begins old l b m start → Begins new l b n start → now l b n ≡ was l b m
-  pub live : (l b n : ℕ) → gone l ≡ false → is_live (now l b n) ≡ true → IsKept old new l b n
+pub record AreCarriedBut (lets_go : ℕ → Bool) (old new : Code) (was now : Causes) : Type 0 where
+  pub unnamed : (l : ℕ) → lets_go l ≡ true → IsUnnamed new l
+  pub dead : (l b n : ℕ) → lets_go l ≡ true → is_live (now l b n) ≡ false
+  pub kept : (l b m n : ℕ) (start : Option ℕ) → lets_go l ≡ false → Begins old l b m start → Begins new l b n start → now l b n ≡ was l b m
+  pub live : (l b n : ℕ) → lets_go l ≡ false → is_live (now l b n) ≡ true → IsKept old new l b n
 
 -- and the pieces on both sides of all that is touched at the others are listed
 abbrev pub AreListedBut : (ℕ → Bool) → Touched → Code → List Node → Type 0
-AreListedBut gone touched code list =
-    (l b : ℕ) (before : List Step) (s : Step) (rest : List Step) → gone l ≡ false → steps_of code b ≡ before ++ s ∷ rest → touched l b s.id ≡ true
+AreListedBut lets_go touched code list =
+    (l b : ℕ) (before : List Step) (s : Step) (rest : List Step) → lets_go l ≡ false → steps_of code b ≡ before ++ s ∷ rest → touched l b s.id ≡ true
     → Among {A = Node} (l, b, writes_in l before) list × Among {A = Node} (l, b, writes_in l (before ++ s ∷ [])) list
 
 -- what holds where more is touched holds where less is
@@ -44,12 +44,12 @@ first_only c zero = c
 first_only c (suc n) = causes.None
 
 abbrev pub unless_gone : (ℕ → Bool) → Causes → Causes → Causes
-unless_gone gone was now l b n = cond (gone l) (first_only (was l b 0) n) (now l b n)
+unless_gone lets_go was now l b n = cond (lets_go l) (first_only (was l b 0) n) (now l b n)
 
 -- no piece of them is rested on
 abbrev apart_from : (ℕ → Bool) → Option Node → Option Node
-apart_from gone None = None
-apart_from gone (Some m) = cond (gone m.0) None (Some m)
+apart_from lets_go None = None
+apart_from lets_go (Some m) = cond (lets_go m.0) None (Some m)
 
 none-is : (m : Node) → None ≡ Some m → ⊥
 none-is m e = cc
@@ -57,109 +57,109 @@ none-is m e = cc
 some-is : (k m : Node) → Some k ≡ Some m → k ≡ m
 some-is k m e = cc
 
-module _ (touched : Touched) (old new : Code) (slots slots' : Numbers) (was now : Causes) (gone : ℕ → Bool) (grown : IsGrown old was) (numbered : IsNumbered old slots) (numbered' : IsNumbered new slots') (edit : IsEditOf touched old new) (c : AreCarriedBut gone old new was now) (list : List Node) (listed : AreListedBut gone touched new list) where
+module _ (touched : Touched) (old new : Code) (slots slots' : Numbers) (was now : Causes) (lets_go : ℕ → Bool) (grown : IsGrown old was) (numbered : IsNumbered old slots) (numbered' : IsNumbered new slots') (edit : IsEditOf touched old new) (c : AreCarriedBut lets_go old new was now) (list : List Node) (listed : AreListedBut lets_go touched new list) where
   abbrev pub fewer : Touched
-  fewer = touched_named gone old touched
+  fewer = touched_named lets_go old touched
 
   abbrev pub before : Causes
-  before = unless_gone gone was now
+  before = unless_gone lets_go was now
 
   abbrev pub all-list : List Node
-  all-list = more_listed touched old new gone c.unnamed list listed
+  all-list = more_listed touched old new lets_go c.unnamed list listed
 
-  gone-cause : (l b n : ℕ) → gone l ≡ true → before l b n ≡ first_only (was l b 0) n
+  gone-cause : (l b n : ℕ) → lets_go l ≡ true → before l b n ≡ first_only (was l b 0) n
   gone-cause l b n e = ap (λ u. cond u (first_only (was l b 0) n) (now l b n)) e
 
-  pub other-cause : (l b n : ℕ) → gone l ≡ false → before l b n ≡ now l b n
+  pub other-cause : (l b n : ℕ) → lets_go l ≡ false → before l b n ≡ now l b n
   other-cause l b n e = ap (λ u. cond u (first_only (was l b 0) n) (now l b n)) e
 
   pub edit-fewer : IsEditOf fewer old new
-  edit-fewer = edit-still touched old new gone c.unnamed edit
+  edit-fewer = edit-still touched old new lets_go c.unnamed edit
 
   pub all-carried : AreCarried fewer old new was before
   all-carried = record {
-    kept = λ l b m n start u v. carried (same l b m n start u v (gone l) refl);
-    live = λ l b n live. there l b n live (gone l) refl;
+    kept = λ l b m n start u v. carried (same l b m n start u v (lets_go l) refl);
+    live = λ l b n live. there l b n live (lets_go l) refl;
   }
     where
-      same : (l b m n : ℕ) (start : Option ℕ) → Begins old l b m start → Begins new l b n start → (t : Bool) → gone l ≡ t → before l b n ≡ was l b m
+      same : (l b m n : ℕ) (start : Option ℕ) → Begins old l b m start → Begins new l b n start → (t : Bool) → lets_go l ≡ t → before l b n ≡ was l b m
       same l b m n start u v true e =
           let y = begins-first new v (c.unnamed l e) in
           let z : m ≡ 0 = one-number old slots numbered u at_start y.1 in
           gone-cause l b n e ∙ (ap (first_only (was l b 0)) y.0 ∙ ap (was l b) (sym z))
       same l b m n start u v false e = other-cause l b n e ∙ c.kept l b m n start e u v
 
-      there : (l b n : ℕ) → is_live (before l b n) ≡ true → (t : Bool) → gone l ≡ t → IsKept old new l b n
+      there : (l b n : ℕ) → is_live (before l b n) ≡ true → (t : Bool) → lets_go l ≡ t → IsKept old new l b n
       there l b zero live true e = record { number = 0; start = None; before = at_start; after = at_start }
       there l b (suc n) live true e = no-other (is_live (before l b (suc n))) live (ap is_live (gone-cause l b (suc n) e))
       there l b n live false e = c.live l b n e (ap is_live (sym (other-cause l b n e)) ∙ live)
 
   pub all-listed-now : AreListed fewer new all-list
-  all-listed-now = more-listed touched old new gone c.unnamed list listed
+  all-listed-now = more-listed touched old new lets_go c.unnamed list listed
 
-  pub only-listed : (n : Node) → gone n.0 ≡ false → Among n all-list → Among n list
-  only-listed = listed-only touched old new gone c.unnamed list listed
+  pub only-listed : (n : Node) → lets_go n.0 ≡ false → Among n all-list → Among n list
+  only-listed = listed-only touched old new lets_go c.unnamed list listed
 
   module _ (matched : AllMatched new) where
     abbrev notes : Notes
     notes = first_notes old new before
 
     abbrev pub on : Notes
-    on n = cond (gone n.0) None (apart_from gone (notes n))
+    on n = cond (lets_go n.0) None (apart_from lets_go (notes n))
 
-    on-gone : (n : Node) → gone n.0 ≡ true → on n ≡ None
-    on-gone n e = ap (λ u. cond u None (apart_from gone (notes n))) e
+    on-gone : (n : Node) → lets_go n.0 ≡ true → on n ≡ None
+    on-gone n e = ap (λ u. cond u None (apart_from lets_go (notes n))) e
 
-    on-other : (n : Node) → gone n.0 ≡ false → on n ≡ apart_from gone (notes n)
-    on-other n e = ap (λ u. cond u None (apart_from gone (notes n))) e
+    on-other : (n : Node) → lets_go n.0 ≡ false → on n ≡ apart_from lets_go (notes n)
+    on-other n e = ap (λ u. cond u None (apart_from lets_go (notes n))) e
 
-    apart-only : (o : Option Node) (m : Node) → apart_from gone o ≡ Some m → (o ≡ Some m) × (gone m.0 ≡ false)
+    apart-only : (o : Option Node) (m : Node) → apart_from lets_go o ≡ Some m → (o ≡ Some m) × (lets_go m.0 ≡ false)
     apart-only None m e = absurd (none-is m e)
-    apart-only (Some k) m e = go (gone k.0) refl e
+    apart-only (Some k) m e = go (lets_go k.0) refl e
       where
-        go : (u : Bool) → gone k.0 ≡ u → cond u None (Some k) ≡ Some m → (Some k ≡ Some m) × (gone m.0 ≡ false)
+        go : (u : Bool) → lets_go k.0 ≡ u → cond u None (Some k) ≡ Some m → (Some k ≡ Some m) × (lets_go m.0 ≡ false)
         go true f g = absurd (none-is m g)
-        go false f g = (g, ap (λ (z : Node). gone z.0) (sym (some-is k m g)) ∙ f)
+        go false f g = (g, ap (λ (z : Node). lets_go z.0) (sym (some-is k m g)) ∙ f)
 
-    apart-same : (o : Option Node) → ((m : Node) → o ≡ Some m → gone m.0 ≡ false) → apart_from gone o ≡ o
+    apart-same : (o : Option Node) → ((m : Node) → o ≡ Some m → lets_go m.0 ≡ false) → apart_from lets_go o ≡ o
     apart-same None h = refl
     apart-same (Some k) h = ap (λ u. cond u None (Some k)) (h k refl)
 
     -- a live piece is one of another lane
-    other-lane : (n : Node) → cause_at now n ≡ true → gone n.0 ≡ false
-    other-lane n live = go (gone n.0) refl
+    other-lane : (n : Node) → cause_at now n ≡ true → lets_go n.0 ≡ false
+    other-lane n live = go (lets_go n.0) refl
       where
-        go : (u : Bool) → gone n.0 ≡ u → gone n.0 ≡ false
+        go : (u : Bool) → lets_go n.0 ≡ u → lets_go n.0 ≡ false
         go true e = no-other (cause_at now n) live (c.dead n.0 n.1 n.2 e)
         go false e = e
 
     -- a chain ends, or ends before
-    chain-at : (n : Node) → (on n ≡ apart_from gone (notes n) → Ends on n) → Ends on n
-    chain-at n more = go (gone n.0) refl
+    chain-at : (n : Node) → (on n ≡ apart_from lets_go (notes n) → Ends on n) → Ends on n
+    chain-at n more = go (lets_go n.0) refl
       where
-        go : (u : Bool) → gone n.0 ≡ u → Ends on n
+        go : (u : Bool) → lets_go n.0 ≡ u → Ends on n
         go true e = at_none (on-gone n e)
         go false e = more (on-other n e)
 
     ends-still : {n : Node} → Ends notes n → Ends on n
-    ends-still (at_none {n = n} e) = chain-at n (λ f. at_none (f ∙ ap (apart_from gone) e))
-    ends-still (at_next {n = n} {m = m} e x) = let y : Ends on m = ends-still x in chain-at n (λ f. next (gone m.0) refl (f ∙ ap (apart_from gone) e) y)
+    ends-still (at_none {n = n} e) = chain-at n (λ f. at_none (f ∙ ap (apart_from lets_go) e))
+    ends-still (at_next {n = n} {m = m} e x) = let y : Ends on m = ends-still x in chain-at n (λ f. next (lets_go m.0) refl (f ∙ ap (apart_from lets_go) e) y)
       where
-        next : (u : Bool) → gone m.0 ≡ u → on n ≡ cond (gone m.0) None (Some m) → Ends on m → Ends on n
+        next : (u : Bool) → lets_go m.0 ≡ u → on n ≡ cond (lets_go m.0) None (Some m) → Ends on m → Ends on n
         next true g f y = at_none (f ∙ ap (λ u. cond u None (Some m)) g)
         next false g f y = at_next (f ∙ ap (λ u. cond u None (Some m)) g) y
 
     -- a right cause of another lane is right still
-    right-of : (n : Node) → gone n.0 ≡ false → ReasonFor new n (cause_of before n) (notes n) → ReasonFor new n (cause_of now n) (on n)
-    right-of n o r = reason-moves r refl (other-cause n.0 n.1 n.2 o) (sym (on-other n o ∙ apart-same (notes n) (λ m e. reason-apart new r gone c.unnamed o m e)))
+    right-of : (n : Node) → lets_go n.0 ≡ false → ReasonFor new n (cause_of before n) (notes n) → ReasonFor new n (cause_of now n) (on n)
+    right-of n o r = reason-moves r refl (other-cause n.0 n.1 n.2 o) (sym (on-other n o ∙ apart-same (notes n) (λ m e. reason-apart new r lets_go c.unnamed o m e)))
 
-    live-before : (n : Node) → gone n.0 ≡ false → cause_at before n ≡ cause_at now n
+    live-before : (n : Node) → lets_go n.0 ≡ false → cause_at before n ≡ cause_at now n
     live-before n o = ap is_live (other-cause n.0 n.1 n.2 o)
 
     pub holds-right : (n : Node) → cause_at now n ≡ true → Holds touched new now n.0 n.1 n.2 → ReasonFor new n (cause_of now n) (on n)
     holds-right n live h =
         let o = other-lane n live in
-        let h' : Holds fewer new before n.0 n.1 n.2 = holds-fewer (holds-moves h before (other-cause n.0 n.1 n.2 o)) (fewer-false touched old new gone c.unnamed) in
+        let h' : Holds fewer new before n.0 n.1 n.2 = holds-fewer (holds-moves h before (other-cause n.0 n.1 n.2 o)) (fewer-false touched old new lets_go c.unnamed) in
         right-of n o (all-hold fewer old new slots slots' was before grown numbered numbered' matched edit-fewer all-carried all-list all-listed-now n (live-before n o ∙ live) h')
 
     rests-live : (n m : Node) → cause_at now n ≡ true → on n ≡ Some m → cause_at now m ≡ true
@@ -170,18 +170,18 @@ module _ (touched : Touched) (old new : Code) (slots slots' : Numbers) (was now 
     right-or-listed : (n : Node) → cause_at now n ≡ true → ReasonFor new n (cause_of now n) (on n) ⊎ (Among n list × ((cause_of now n ≡ cause_of now n) × (on n ≡ on n)))
     right-or-listed n live = go (other-lane n live) (all-right fewer old new slots slots' was before grown numbered numbered' matched edit-fewer all-carried all-list all-listed-now n (live-before n (other-lane n live) ∙ live))
       where
-        go : gone n.0 ≡ false → ReasonFor new n (cause_of before n) (notes n) ⊎ Among n all-list → ReasonFor new n (cause_of now n) (on n) ⊎ (Among n list × ((cause_of now n ≡ cause_of now n) × (on n ≡ on n)))
+        go : lets_go n.0 ≡ false → ReasonFor new n (cause_of before n) (notes n) ⊎ Among n all-list → ReasonFor new n (cause_of now n) (on n) ⊎ (Among n list × ((cause_of now n ≡ cause_of now n) × (on n ≡ on n)))
         go o (inl r) = inl (right-of n o r)
         go o (inr a) = inr (only-listed n o a, (refl, refl))
 
-    counted : (n : Node) (d : Cause) (o : Option Node) → gone n.0 ≡ false → ReasonFor new n d o → counts now o ≡ true → counts before o ≡ true
+    counted : (n : Node) (d : Cause) (o : Option Node) → lets_go n.0 ≡ false → ReasonFor new n d o → counts now o ≡ true → counts before o ≡ true
     counted n d None f r up = refl
-    counted n d (Some m) f r up = live-before m (reason-apart new r gone c.unnamed f m refl) ∙ up
+    counted n d (Some m) f r up = live-before m (reason-apart new r lets_go c.unnamed f m refl) ∙ up
 
     idle-listed : (n : Node) (d : Cause) (o : Option Node) → cause_at now n ≡ false → ReasonFor new n d o → counts now o ≡ true → Among n list
-    idle-listed n d o dead r up = go (gone n.0) refl
+    idle-listed n d o dead r up = go (lets_go n.0) refl
       where
-        go : (u : Bool) → gone n.0 ≡ u → Among n list
+        go : (u : Bool) → lets_go n.0 ≡ u → Among n list
         go true e = absurd (reason-idle new now r (c.unnamed n.0 e) (λ x. c.dead n.0 x 0 e) up)
         go false e =
             only-listed n e

@@ -33,13 +33,13 @@ use Rattle.edit_laws.proofs.Turned.{turned-behind}
 use Rattle.edit_laws.proofs.Unnamed.{reason-apart, grown-dead, never-ends}
 
 module _ (touched : Touched) (old standing : Code) (slots slots' : Numbers) (ways flow : List BlockFlow) (x z y : List LaneRange) (t : IsTableOf old slots ways x) (grown : IsGrown old (causes x)) (matched : AllMatched old) (ended : AreEnds old slots x) (rows : AreRowsUpdated touched old standing slots' flow x z y) where
-  abbrev gone : ℕ → Bool
-  gone = rows.gone
+  abbrev lets_go : ℕ → Bool
+  lets_go = rows.lets_go
 
-  unnamed : (l : ℕ) → gone l ≡ true → IsUnnamed standing l
+  unnamed : (l : ℕ) → lets_go l ≡ true → IsUnnamed standing l
   unnamed l e = (rows.emptied l e).unnamed
 
-  over : AreCarriedBut gone old standing (causes x) (causes z)
+  over : AreCarriedBut lets_go old standing (causes x) (causes z)
   over = record {
     unnamed = unnamed;
     dead = λ l b n e. empty-dead (rows.emptied l e) b n;
@@ -47,7 +47,7 @@ module _ (touched : Touched) (old standing : Code) (slots slots' : Numbers) (way
     live = λ l b n e live. kept old standing slots slots' ways flow x z t rows.first l b (rows.copied l b e) n live;
   }
 
-  listed : AreListedBut gone touched standing rows.list
+  listed : AreListedBut lets_go touched standing rows.list
   listed l b us s vs e split h = (
     subst (λ k. Among {A = Node} (l, b, k) rows.list) (entry-at standing slots' flow z rows.first l b us s vs split) (rows.listed l b s.id e h).0,
     subst (λ k. Among {A = Node} (l, b, k) rows.list) (exit-at standing slots' flow z rows.first l b us s vs split) (rows.listed l b s.id e h).1,
@@ -56,9 +56,9 @@ module _ (touched : Touched) (old standing : Code) (slots slots' : Numbers) (way
   pub grown-now : IsGrown standing (causes y)
   grown-now =
       (brought-up touched standing (causes z) rows.between (causes y) rows.list (rows.list ++ rows.fallen) ((rows.list ++ rows.fallen) ++ rows.risen) rows.queue
-      (on touched old standing slots slots' (causes x) (causes z) gone grown t.numbered rows.table.numbered rows.edited over rows.list listed rows.table.matched)
-      (holds-right touched old standing slots slots' (causes x) (causes z) gone grown t.numbered rows.table.numbered rows.edited over rows.list listed rows.table.matched)
-      (carried-over touched old standing slots slots' (causes x) (causes z) gone grown t.numbered rows.table.numbered rows.edited over rows.list listed rows.table.matched)
+      (on touched old standing slots slots' (causes x) (causes z) lets_go grown t.numbered rows.table.numbered rows.edited over rows.list listed rows.table.matched)
+      (holds-right touched old standing slots slots' (causes x) (causes z) lets_go grown t.numbered rows.table.numbered rows.edited over rows.list listed rows.table.matched)
+      (carried-over touched old standing slots slots' (causes x) (causes z) lets_go grown t.numbered rows.table.numbered rows.edited over rows.list listed rows.table.matched)
       rows.falls rows.asks rows.rises rows.table.matched).grown
 
   -- ends of lanes that are let go
@@ -66,7 +66,7 @@ module _ (touched : Touched) (old standing : Code) (slots slots' : Numbers) (way
   right-again : (n : Node) → Among n rows.again → IsEnd standing slots' (causes y) n.0 n.1 n.2 (row_end y n.0 n.1 n.2)
   right-again n a = subst (IsEnd standing slots' (causes y) n.0 n.1 n.2) (sym (rows.ended n a)) (right-law standing slots' flow y rows.table rows.outward grown-now n.0 n.1 n.2)
 
-  gone-ends : (l b n : ℕ) → gone l ≡ true → IsEnd standing slots' (causes y) l b n (row_end y l b n)
+  gone-ends : (l b n : ℕ) → lets_go l ≡ true → IsEnd standing slots' (causes y) l b n (row_end y l b n)
   gone-ends l b n e = go (among-or-not (l, b, n) rows.again)
     where
       go : Among {A = Node} (l, b, n) rows.again ⊎ (Among {A = Node} (l, b, n) rows.again → ⊥) → IsEnd standing slots' (causes y) l b n (row_end y l b n)
@@ -78,10 +78,10 @@ module _ (touched : Touched) (old standing : Code) (slots slots' : Numbers) (way
   -- and of all others
 
   abbrev shadow : ℕ → ℕ → ℕ → Cause
-  shadow = before touched old standing slots slots' (causes x) (causes z) gone grown t.numbered rows.table.numbered rows.edited over rows.list listed
+  shadow = before touched old standing slots slots' (causes x) (causes z) lets_go grown t.numbered rows.table.numbered rows.edited over rows.list listed
 
   abbrev more : List Node
-  more = all-list touched old standing slots slots' (causes x) (causes z) gone grown t.numbered rows.table.numbered rows.edited over rows.list listed
+  more = all-list touched old standing slots slots' (causes x) (causes z) lets_go grown t.numbered rows.table.numbered rows.edited over rows.list listed
 
   leads-again : (n m : Node) (c : Cause) → ReasonFor standing n c (Some m) → (cause_at (causes y) m ≡ cause_at (causes z) m → ⊥) → Among n rows.again
   leads-again n m c reason differs =
@@ -91,9 +91,9 @@ module _ (touched : Touched) (old standing : Code) (slots slots' : Numbers) (way
       go (inl a) = rows.with_needs m a n c reason
       go (inr e) = absurd (differs e)
 
-  at-lane : (l : ℕ) → gone l ≡ false → IsLaneRecomputed old standing slots' shadow more rows.again x y l
+  at-lane : (l : ℕ) → lets_go l ≡ false → IsLaneRecomputed old standing slots' shadow more rows.again x y l
   at-lane l e = record {
-    listed = λ b n a. rows.with_list (l, b, n) (only-listed touched old standing slots slots' (causes x) (causes z) gone grown t.numbered rows.table.numbered rows.edited over rows.list listed (l, b, n) e a);
+    listed = λ b n a. rows.with_list (l, b, n) (only-listed touched old standing slots slots' (causes x) (causes z) lets_go grown t.numbered rows.table.numbered rows.edited over rows.list listed (l, b, n) e a);
     leading = leading;
     right = λ b n a. right-again (l, b, n) a;
     kept = λ b m n start u v out. rows.kept (l, b, n) out ∙ (alike old standing slots slots' ways flow x z t rows.first l b (rows.copied l b e) m n start u v).1;
@@ -101,21 +101,21 @@ module _ (touched : Touched) (old standing : Code) (slots slots' : Numbers) (way
     where
       leading : (b n : ℕ) (m : Node) (c : Cause) → IsReason standing l b n c (Some m) → (cause_at (causes y) m ≡ cause_at shadow m → ⊥) → Among {A = Node} (l, b, n) rows.again
       leading b n m c r differs =
-          let other = reason-apart standing r gone unnamed e m refl in
-          let same = other-cause touched old standing slots slots' (causes x) (causes z) gone grown t.numbered rows.table.numbered rows.edited over rows.list listed m.0 m.1 m.2 other in
+          let other = reason-apart standing r lets_go unnamed e m refl in
+          let same = other-cause touched old standing slots slots' (causes x) (causes z) lets_go grown t.numbered rows.table.numbered rows.edited over rows.list listed m.0 m.1 m.2 other in
           leads-again (l, b, n) m c r (λ f. differs (f ∙ ap is_live (sym same)))
 
-  other-ends : (l b n : ℕ) → gone l ≡ false → IsEnd standing slots' (causes y) l b n (row_end y l b n)
+  other-ends : (l b n : ℕ) → lets_go l ≡ false → IsEnd standing slots' (causes y) l b n (row_end y l b n)
   other-ends l b n e =
-      lane-ends (fewer touched old standing slots slots' (causes x) (causes z) gone grown t.numbered rows.table.numbered rows.edited over rows.list listed) old standing slots slots' x y shadow more rows.again grown t.numbered rows.table.numbered matched rows.table.matched
-      (edit-fewer touched old standing slots slots' (causes x) (causes z) gone grown t.numbered rows.table.numbered rows.edited over rows.list listed)
-      (all-carried touched old standing slots slots' (causes x) (causes z) gone grown t.numbered rows.table.numbered rows.edited over rows.list listed)
-      (all-listed-now touched old standing slots slots' (causes x) (causes z) gone grown t.numbered rows.table.numbered rows.edited over rows.list listed) ended l (count-is standing slots' flow y rows.table l) (at-lane l e) b n
+      lane-ends (fewer touched old standing slots slots' (causes x) (causes z) lets_go grown t.numbered rows.table.numbered rows.edited over rows.list listed) old standing slots slots' x y shadow more rows.again grown t.numbered rows.table.numbered matched rows.table.matched
+      (edit-fewer touched old standing slots slots' (causes x) (causes z) lets_go grown t.numbered rows.table.numbered rows.edited over rows.list listed)
+      (all-carried touched old standing slots slots' (causes x) (causes z) lets_go grown t.numbered rows.table.numbered rows.edited over rows.list listed)
+      (all-listed-now touched old standing slots slots' (causes x) (causes z) lets_go grown t.numbered rows.table.numbered rows.edited over rows.list listed) ended l (count-is standing slots' flow y rows.table l) (at-lane l e) b n
 
   pub ends-now : AreEnds standing slots' y
-  ends-now l b n = go (gone l) refl
+  ends-now l b n = go (lets_go l) refl
     where
-      go : (u : Bool) → gone l ≡ u → IsEnd standing slots' (causes y) l b n (row_end y l b n)
+      go : (u : Bool) → lets_go l ≡ u → IsEnd standing slots' (causes y) l b n (row_end y l b n)
       go true e = gone-ends l b n e
       go false e = other-ends l b n e
 

@@ -74,16 +74,16 @@ module _ (code : Code) where
       no-other (counts why o) live (ap (counts why) z.1 ∙ dead z.0)
 
   -- reasons for pieces of other lanes rest on pieces of others
-  pub reason-apart : {l b n : ℕ} {c : Cause} {o : Option Node} → IsReason code l b n c o → (gone : ℕ → Bool) → ((k : ℕ) → gone k ≡ true → IsUnnamed code k) → gone l ≡ false → (m : Node) → o ≡ Some m → gone m.0 ≡ false
-  reason-apart {o = o} (for_reading before s rest e u) gone un other m g = absurd (none-is o m g)
-  reason-apart (for_move {l = l} {a = a} {b = b} before s rest e u w) gone un other m g = ap (λ (z : Node). gone z.0) (sym (some-node (a, b, writes_in a (before ++ s ∷ [])) m g)) ∙ go (gone a) refl
+  pub reason-apart : {l b n : ℕ} {c : Cause} {o : Option Node} → IsReason code l b n c o → (lets_go : ℕ → Bool) → ((k : ℕ) → lets_go k ≡ true → IsUnnamed code k) → lets_go l ≡ false → (m : Node) → o ≡ Some m → lets_go m.0 ≡ false
+  reason-apart {o = o} (for_reading before s rest e u) lets_go un other m g = absurd (none-is o m g)
+  reason-apart (for_move {l = l} {a = a} {b = b} before s rest e u w) lets_go un other m g = ap (λ (z : Node). lets_go z.0) (sym (some-node (a, b, writes_in a (before ++ s ∷ [])) m g)) ∙ go (lets_go a) refl
     where
-      go : (v : Bool) → gone a ≡ v → gone a ≡ false
+      go : (v : Bool) → lets_go a ≡ v → lets_go a ≡ false
       go true f = no-other (is_written a s) w ((un a f).unwritten b s (inside b before s rest e))
       go false f = f
-  reason-apart (for_exit {l = l} {x = x} before s rest e t a) gone un other m g = ap (λ (z : Node). gone z.0) (sym (some-node (l, x, 0) m g)) ∙ other
-  reason-apart (for_end {l = l} {x = x} a) gone un other m g = ap (λ (z : Node). gone z.0) (sym (some-node (l, x, 0) m g)) ∙ other
-  reason-apart {o = o} (for_phi a) gone un other m g = absurd (none-is o m g)
+  reason-apart (for_exit {l = l} {x = x} before s rest e t a) lets_go un other m g = ap (λ (z : Node). lets_go z.0) (sym (some-node (l, x, 0) m g)) ∙ other
+  reason-apart (for_end {l = l} {x = x} a) lets_go un other m g = ap (λ (z : Node). lets_go z.0) (sym (some-node (l, x, 0) m g)) ∙ other
+  reason-apart {o = o} (for_phi a) lets_go un other m g = absurd (none-is o m g)
 
   -- it is live in no grown table
   founded-not : {why : Causes} {l b n : ℕ} → Founded code why l b n → IsUnnamed code l → ⊥

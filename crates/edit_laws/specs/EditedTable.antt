@@ -48,13 +48,13 @@ StandingOrderLaw =
 -- causes and ends of before, and the rows of lanes that are let go are emptied; y: the rows in the end. Between z and y pieces fall
 -- and come alive, and ends are computed anew, as in `AreRowsUpdated`.
 pub record AreRowsEdited (touched : Touched) (old standing : Code) (slots : Numbers) (flow : List BlockFlow) (x z y : List LaneRange) : Type 0 where
-  pub gone : ℕ → Bool
-  pub lanes_edited : (l : ℕ) → IsLaneEdited old standing l x z (gone l)
+  pub lets_go : ℕ → Bool
+  pub lanes_edited : (l : ℕ) → IsLaneEdited old standing l x z (lets_go l)
   pub few : length z < 4294967296
   pub kept_shapes : (l b : ℕ) → shape (rows_seen y l b) ≡ shape (rows_seen z l b)
   pub lanes : length y ≡ length z
   pub list : List Node
-  pub listed : (l b id : ℕ) → gone l ≡ false → touched l b id ≡ true → Among {A = Node} (l, b, piece_in_rows slots z l b (entry_rank slots id)) list × Among {A = Node} (l, b, piece_in_rows slots z l b (exit_rank slots id)) list
+  pub listed : (l b id : ℕ) → lets_go l ≡ false → touched l b id ≡ true → Among {A = Node} (l, b, piece_in_rows slots z l b (entry_rank slots id)) list × Among {A = Node} (l, b, piece_in_rows slots z l b (exit_rank slots id)) list
   pub between : Causes
   pub fallen : List Node
   pub falls : Falls touched standing (falling (causes z) list [] list) (falling between [] [] (list ++ fallen))

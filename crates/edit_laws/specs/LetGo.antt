@@ -25,16 +25,16 @@ pub data IsLaneEdited (old new : Code) (l : ℕ) (x z : List LaneRange) : Bool �
   let_go : IsLetGo new z l → IsLaneEdited old new l x z true
 
 -- rows of a new code, of whose lanes this becomes
-pub record AreLanesEdited (old new : Code) (slots : Numbers) (flow : List BlockFlow) (gone : ℕ → Bool) (x z : List LaneRange) : Type 0 where
+pub record AreLanesEdited (old new : Code) (slots : Numbers) (flow : List BlockFlow) (lets_go : ℕ → Bool) (x z : List LaneRange) : Type 0 where
   pub last : (b : ℕ) → last_of old b ≡ last_of new b
   pub numbered : IsNumbered new slots
   pub ways : IsFlow new flow
   pub matched : (b : ℕ) (s : Step) → Among s (steps_of new b) → IsMatched s
   pub few : length z < 4294967296
-  pub lanes : (l : ℕ) → IsLaneEdited old new l x z (gone l)
+  pub lanes : (l : ℕ) → IsLaneEdited old new l x z (lets_go l)
 
 -- They are a table of the new code, in which what is live keeps its cause of before.
 abbrev pub LanesEditedLaw : Type 0
 LanesEditedLaw =
-    (old new : Code) (slots slots' : Numbers) (flow flow' : List BlockFlow) (gone : ℕ → Bool) (x z : List LaneRange) → IsTableOf old slots flow x → AreLanesEdited old new slots' flow' gone x z
+    (old new : Code) (slots slots' : Numbers) (flow flow' : List BlockFlow) (lets_go : ℕ → Bool) (x z : List LaneRange) → IsTableOf old slots flow x → AreLanesEdited old new slots' flow' lets_go x z
     → IsTableOf new slots' flow' z × KeepCauses old new (causes x) (causes z)

@@ -60,7 +60,7 @@ module _ (t : Target) (f : Function) (x y : Table) (computed : IsComputed t f x)
   rows-edited : AreRowsEdited none_touched code (standing_code t f (number_in y.lanes) []) y.order.slots y.flow.items x.rows.rows.items rows rows
   unfolding none_touched
   rows-edited = record {
-    gone = λ l. false;
+    lets_go = λ l. false;
     lanes_edited = λ l. cells_rebuilt (λ b. stays refl (alike.seen l b));
     few = alike.few;
     kept_shapes = λ l b. refl;

@@ -275,7 +275,7 @@ module _ (t : Target) (es : List Edit) (old ready done new : EditRun) (may : May
 
     rows-edited : AreRowsEdited touched before mid slots ready.flow.items rows made rows'
     rows-edited = record {
-      gone = λ l. false;
+      lets_go = λ l. false;
       lanes_edited = λ l. cells_rebuilt (cells l);
       few = made-few;
       kept_shapes = updated.shapes_stay;
