@@ -15,7 +15,7 @@ use Rattle.live_lanes.proofs.Basics.{writes-more}
 use Rattle.live_lanes.proofs.Cells.{both-left, both-right}
 use Rattle.live_lanes.proofs.Growth.{piece-law}
 use Rattle.live_lanes.proofs.Sources.{starts-at, starts-there}
-use Rattle.edit_laws.specs.Reasons.{Touched, Begins, at_start, at_write, IsKept, carried}
+use Rattle.edit_laws.specs.Reasons.{Begins, at_start, at_write, IsKept, carried}
 use Rattle.edit_laws.specs.CarriedRows.{started, CopiesPieces, CarriedRowsLaw}
 use Rattle.edit_laws.proofs.Begun.{one-number}
 use Rattle.edit_laws.proofs.Needs.{map-get, get-map, starts-are}

@@ -1,5 +1,5 @@
 -- Rows of a new code, whose cells are made anew or stay, or whose lanes are let go.
-use Rattle.std.proofs.Common.{◌≡◌, ℕ, zero, suc, Bool, true, false, List, refl, sym, ap, ◌∙◌, subst}
+use Rattle.std.proofs.Common.{◌≡◌, ℕ, zero, suc, Bool, true, false, List, refl, ap, ◌∙◌}
 use Rattle.mir_meaning.specs.Paths.{Code}
 use Rattle.live_lanes.specs.declared.compute.flow.BlockFlow.{BlockFlow}
 use Rattle.live_lanes.specs.declared.row.LaneRange.{LaneRange}

@@ -16,7 +16,7 @@ use Rattle.live_lanes.proofs.Gathered.{added, after_step, bare, bare-step, fresh
 use Rattle.live_lanes.proofs.Growth.{piece-law}
 use Rattle.live_lanes.proofs.Stepped.{appended, appended-starts, last_readings, used, written}
 use Rattle.edit_laws.specs.CarriedRows.{started, CopiesPieces}
-use Rattle.edit_laws.specs.Rebuilt.{lane_used, lane_written, lane_entered, rebuilt, copied_piece, copied, HasPieces, RebuiltLaw, UntouchedLaw, IsRebuilt, made_anew, stays, AreRebuilt, RebuiltRowsLaw}
+use Rattle.edit_laws.specs.Rebuilt.{lane_used, lane_written, lane_entered, rebuilt, copied_piece, copied, HasPieces, RebuiltLaw, UntouchedLaw, IsRebuilt, made_anew, stays, RebuiltRowsLaw}
 use Rattle.edit_laws.specs.Reasons.{AreEdited, edit_none, edit_stays, edit_comes}
 use Rattle.edit_laws.proofs.CarriedRows.{found-first}
 use Rattle.edit_laws.proofs.Deferred.{none-written}

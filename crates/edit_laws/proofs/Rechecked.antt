@@ -19,7 +19,7 @@ use Rattle.live_lanes.proofs.Coded.{has-among, among-has}
 use Rattle.live_lanes.proofs.Numbered.{among-cases}
 use Rattle.live_lanes.proofs.Whole.{piece-readings, readings-there}
 use Rattle.edit_laws.specs.Chains.{Node}
-use Rattle.edit_laws.specs.Reasons.{IsReason, for_reading, for_move, for_exit, for_end, for_phi, Touched, AreEdited, edit_none, edit_stays, edit_comes, IsEditOf, IsKept, AreCarried, AreListed}
+use Rattle.edit_laws.specs.Reasons.{IsReason, for_reading, for_move, for_exit, for_end, for_phi, Touched, AreEdited, edit_none, edit_stays, edit_comes, IsEditOf, IsKept}
 use Rattle.edit_laws.specs.Update.{Holds, holds_dead, holds_reading, holds_exit, holds_end}
 use Rattle.edit_laws.specs.Rechecked.{IsHeld, held_dead, held_reading, held_exit, held_end, KeepCauses, KeptHeldLaw, HeldLaw, ListedLaw, CertainCauseLaw}
 use Rattle.edit_laws.proofs.Carried.{reason-moves, live-same}

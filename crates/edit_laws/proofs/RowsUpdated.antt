@@ -1,16 +1,16 @@
 -- A table whose rows are brought up to date after edits is computed for the edited function.
-use Rattle.std.proofs.Common.{◌≡◌, ◌⊎◌, ℕ, Bool, true, false, List, [], ◌∷◌, ◌++◌, Option, Some, refl, sym, ap, ◌∙◌, subst, inl, inr, append_assoc}
+use Rattle.std.proofs.Common.{◌≡◌, ◌⊎◌, ℕ, Bool, true, false, List, ◌++◌, Some, refl, sym, ap, ◌∙◌, subst, inl, inr, append_assoc}
 use Rattle.target_base.specs.declared.types.Target.{Target}
 use Rattle.mir_func.specs.Value.{Function}
-use Rattle.mir_meaning.specs.Paths.{Among, Step, Code, steps_of}
+use Rattle.mir_meaning.specs.Paths.{Among, Code}
 use Rattle.live_lanes.specs.declared.compute.flow.BlockFlow.{BlockFlow}
 use Rattle.live_lanes.specs.declared.row.Cause.{Cause}
 use Rattle.live_lanes.specs.declared.row.LaneRange.{LaneRange}
 use Rattle.live_lanes.specs.declared.row.PieceEnd.TheVariants as ends
 use Rattle.live_lanes.specs.declared.table.Table.{Table}
-use Rattle.live_lanes.specs.Graph.{is_live, writes_in, IsGrown}
+use Rattle.live_lanes.specs.Graph.{is_live, IsGrown}
 use Rattle.live_lanes.specs.Table.{Numbers}
-use Rattle.live_lanes.specs.Entered.{causes, rows_seen, IsTableOf}
+use Rattle.live_lanes.specs.Entered.{causes, IsTableOf}
 use Rattle.live_lanes.specs.Ends.{IsEnd, row_end, AreEnds}
 use Rattle.live_lanes.specs.Laws.{AllMatched}
 use Rattle.live_lanes.specs.Doing.{IsComputed}
@@ -18,7 +18,7 @@ use Rattle.live_lanes.proofs.Right.{right-law}
 use Rattle.edit_laws.specs.Chains.{Node, cause_at}
 use Rattle.edit_laws.specs.Kept.{code_in, IsLaidOut}
 use Rattle.edit_laws.specs.LetGo.{IsUnnamed}
-use Rattle.edit_laws.specs.Reasons.{IsReason, ReasonFor, Touched, Begins}
+use Rattle.edit_laws.specs.Reasons.{IsReason, ReasonFor, Touched}
 use Rattle.edit_laws.specs.RowsUpdated.{AreRowsUpdated, RowsUpdateLaw}
 use Rattle.edit_laws.specs.Steps.{AreCodes}
 use Rattle.edit_laws.proofs.CarriedRows.{alike, kept}

@@ -2,12 +2,11 @@
 use Rattle.std.proofs.Common.{◌≡◌, ℕ, suc, Bool, true, false, cond, List, [], ◌∷◌, ◌++◌, Option, None, Some, refl, sym, ap, ◌∙◌, subst, inl}
 use Rattle.mir_meaning.specs.Paths.{Among, here, there, Step, Code, steps_of, last_of, has, Use, Unused, Certain, Into, use_of, writing_of, is_written}
 use Rattle.live_lanes.specs.declared.row.Cause.{Cause}
-use Rattle.live_lanes.specs.declared.row.LaneUse.{LaneUse}
 use Rattle.live_lanes.specs.declared.row.PieceEnd.{PieceEnd}
 use Rattle.live_lanes.specs.declared.row.PieceEnd.TheVariants as ends
 use Rattle.live_lanes.specs.Graph.{Causes, is_live, writes_in, Founded, by_reading, by_move, by_exit, by_end, by_phi, IsGrown}
 use Rattle.live_lanes.specs.Table.{Numbers, unseen}
-use Rattle.live_lanes.specs.Entered.{Shape, shape, Start, reading_of, readings_until, starts, shape_of}
+use Rattle.live_lanes.specs.Entered.{shape, Start, reading_of, readings_until, starts, shape_of}
 use Rattle.live_lanes.specs.Ends.{Counts, reads, moves, leaves, goes, phi, IsEnd}
 use Rattle.live_lanes.proofs.Basics.{among-append}
 use Rattle.live_lanes.proofs.Coded.{has-among}
