@@ -10,7 +10,7 @@ use Rattle.live_lanes.proofs.Basics.{among-append, writes-more, writes-same, wri
 use Rattle.live_lanes.proofs.Numbered.{rises-above}
 use Rattle.edit_laws.specs.Reasons.{Begins, at_start, at_write}
 
-no-split : (before : List Step) (s : Step) (rest : List Step) → [] ≡ before ++ s ∷ rest → ⊥
+pub no-split : (before : List Step) (s : Step) (rest : List Step) → [] ≡ before ++ s ∷ rest → ⊥
 no-split [] s rest e = cc
 no-split (y ∷ before) s rest e = cc
 

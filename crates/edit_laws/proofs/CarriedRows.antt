@@ -15,7 +15,7 @@ use Rattle.live_lanes.proofs.Basics.{writes-more}
 use Rattle.live_lanes.proofs.Cells.{both-left, both-right}
 use Rattle.live_lanes.proofs.Growth.{piece-law}
 use Rattle.live_lanes.proofs.Sources.{starts-at, starts-there}
-use Rattle.edit_laws.specs.Reasons.{Touched, Begins, at_start, at_write, IsKept, carried}
+use Rattle.edit_laws.specs.Reasons.{Begins, at_start, at_write, IsKept, carried}
 use Rattle.edit_laws.specs.CarriedRows.{started, CopiesPieces, CarriedRowsLaw}
 use Rattle.edit_laws.proofs.Begun.{one-number}
 use Rattle.edit_laws.proofs.Needs.{map-get, get-map, starts-are}
@@ -87,32 +87,32 @@ module _ (code : Code) (slots : Numbers) (flow : List BlockFlow) (rows : List La
       let w : is_written l z.step ≡ true = ap is_present z.writes in
       subst (λ n. Begins code l b n (Some g.start)) z.number (subst (λ i. Begins code l b (writes_in l (z.before ++ z.step ∷ [])) (Some i)) (sym z.id) (at_write z.before z.step z.rest z.split w))
 
-module _ (touched : Touched) (old new : Code) (slots slots' : Numbers) (flow flow' : List BlockFlow) (x y : List LaneRange) (t : IsTableOf old slots flow x) (t' : IsTableOf new slots' flow' y) (copies : (l b : ℕ) → CopiesPieces (rows_seen x l b) (rows_seen y l b)) where
+module _ (old new : Code) (slots slots' : Numbers) (flow flow' : List BlockFlow) (x y : List LaneRange) (t : IsTableOf old slots flow x) (t' : IsTableOf new slots' flow' y) (l b : ℕ) (copies : CopiesPieces (rows_seen x l b) (rows_seen y l b)) where
   -- a piece that begins as one of before
-  abbrev Alike : ℕ → ℕ → ℕ → ℕ → Type 0
-  Alike l b m n = (causes y l b n ≡ causes x l b m) × (row_end y l b n ≡ row_end x l b m)
+  abbrev pub Alike : ℕ → ℕ → Type 0
+  Alike m n = (causes y l b n ≡ causes x l b m) × (row_end y l b n ≡ row_end x l b m)
 
-  first-alike : (l b m n : ℕ) → m ≡ 0 → n ≡ 0 → Alike l b m n
-  first-alike l b m n e f = (
-    ap (cause_in (rows_seen y l b)) f ∙ ((copies l b).first_cause ∙ sym (ap (cause_in (rows_seen x l b)) e)),
-    ap (end_in (rows_seen y l b)) f ∙ ((copies l b).first_end ∙ sym (ap (end_in (rows_seen x l b)) e)),
+  first-alike : (m n : ℕ) → m ≡ 0 → n ≡ 0 → Alike m n
+  first-alike m n e f = (
+    ap (cause_in (rows_seen y l b)) f ∙ (copies.first_cause ∙ sym (ap (cause_in (rows_seen x l b)) e)),
+    ap (end_in (rows_seen y l b)) f ∙ (copies.first_end ∙ sym (ap (end_in (rows_seen x l b)) e)),
   )
 
-  segment-alike : (l b m n id : ℕ) → SegmentOf old slots flow x t l b m id → SegmentOf new slots' flow' y t' l b n id → Alike l b m n
-  segment-alike l b m n id p q =
+  segment-alike : (m n id : ℕ) → SegmentOf old slots flow x t l b m id → SegmentOf new slots' flow' y t' l b n id → Alike m n
+  segment-alike m n id p q =
       let found : started q.1.start (rows_seen x l b).segments ≡ Some p.1 = ap (λ i. started i (rows_seen x l b).segments) (q.4 ∙ sym p.4) ∙ found-first slots 0 (rows_seen x l b).segments p.0 p.1 (piece-law old slots flow x t l b) p.3 in (
-        ap (cause_in (rows_seen y l b)) q.2 ∙ (ap begun_cause q.3 ∙ ((copies l b).piece_cause q.0 q.1 q.3 ∙ (ap begun_cause (found ∙ sym p.3) ∙ sym (ap (cause_in (rows_seen x l b)) p.2)))),
-        ap (end_in (rows_seen y l b)) q.2 ∙ (ap begun_end q.3 ∙ ((copies l b).piece_end q.0 q.1 q.3 ∙ (ap begun_end (found ∙ sym p.3) ∙ sym (ap (end_in (rows_seen x l b)) p.2)))),
+        ap (cause_in (rows_seen y l b)) q.2 ∙ (ap begun_cause q.3 ∙ (copies.piece_cause q.0 q.1 q.3 ∙ (ap begun_cause (found ∙ sym p.3) ∙ sym (ap (cause_in (rows_seen x l b)) p.2)))),
+        ap (end_in (rows_seen y l b)) q.2 ∙ (ap begun_end q.3 ∙ (copies.piece_end q.0 q.1 q.3 ∙ (ap begun_end (found ∙ sym p.3) ∙ sym (ap (end_in (rows_seen x l b)) p.2)))),
       )
 
-  alike : (l b m n : ℕ) (start : Option ℕ) → Begins old l b m start → Begins new l b n start → Alike l b m n
-  alike l b m n None u v = first-alike l b m n (one-number old slots t.numbered u at_start refl) (one-number new slots' t'.numbered v at_start refl)
-  alike l b m n (Some id) u v = segment-alike l b m n id (segment-of old slots flow x t l b u id refl) (segment-of new slots' flow' y t' l b v id refl)
+  pub alike : (m n : ℕ) (start : Option ℕ) → Begins old l b m start → Begins new l b n start → Alike m n
+  alike m n None u v = first-alike m n (one-number old slots t.numbered u at_start refl) (one-number new slots' t'.numbered v at_start refl)
+  alike m n (Some id) u v = segment-alike m n id (segment-of old slots flow x t l b u id refl) (segment-of new slots' flow' y t' l b v id refl)
 
   -- a live piece began so before
-  kept : (l b n : ℕ) → is_live (causes y l b n) ≡ true → IsKept old new l b n
-  kept l b zero live = record { number = 0; start = None; before = at_start; after = at_start }
-  kept l b (suc k) live = go (slice_get (rows_seen y l b).segments k) refl live
+  pub kept : (n : ℕ) → is_live (causes y l b n) ≡ true → IsKept old new l b n
+  kept zero live = record { number = 0; start = None; before = at_start; after = at_start }
+  kept (suc k) live = go (slice_get (rows_seen y l b).segments k) refl live
     where
       began : (g : Begun) → slice_get (rows_seen y l b).segments k ≡ Some g → (o : Option Begun) → started g.start (rows_seen x l b).segments ≡ o → is_live (begun_cause o) ≡ true → IsKept old new l b (suc k)
       began g f None e h = absurd (cc)
@@ -127,13 +127,13 @@ module _ (touched : Touched) (old new : Code) (slots slots' : Numbers) (flow flo
 
       go : (o : Option Begun) → slice_get (rows_seen y l b).segments k ≡ o → is_live (begun_cause o) ≡ true → IsKept old new l b (suc k)
       go None f h = absurd (cc)
-      go (Some g) f h = began g f (started g.start (rows_seen x l b).segments) refl (ap is_live (sym ((copies l b).piece_cause k g f)) ∙ h)
+      go (Some g) f h = began g f (started g.start (rows_seen x l b).segments) refl (ap is_live (sym (copies.piece_cause k g f)) ∙ h)
 
 pub carried-rows-law : CarriedRowsLaw
 carried-rows-law touched old new slots slots' flow flow' x y t t' copies = record {
   carried = record {
-    kept = λ l b m n start u v. carried (alike touched old new slots slots' flow flow' x y t t' copies l b m n start u v).0;
-    live = λ l b n live. kept touched old new slots slots' flow flow' x y t t' copies l b n live;
+    kept = λ l b m n start u v. carried (alike old new slots slots' flow flow' x y t t' l b (copies l b) m n start u v).0;
+    live = λ l b n live. kept old new slots slots' flow flow' x y t t' l b (copies l b) n live;
   };
-  ends = λ l b m n start u v. (alike touched old new slots slots' flow flow' x y t t' copies l b m n start u v).1;
+  ends = λ l b m n start u v. (alike old new slots slots' flow flow' x y t t' l b (copies l b) m n start u v).1;
 }

@@ -35,7 +35,7 @@ use Rattle.edit_laws.specs.Further.{KeepsLast}
 use Rattle.edit_laws.specs.Kept.{IsLaidOut}
 use Rattle.edit_laws.specs.Ordering.{IsOrdered}
 use Rattle.edit_laws.specs.Reasons.{Touched, AreEdited, edit_none, edit_stays, edit_comes, IsEditOf}
-use Rattle.edit_laws.specs.Rebuilt.{AreRebuilt, AreTaken}
+use Rattle.edit_laws.specs.LetGo.{AreLanesEdited}
 use Rattle.edit_laws.specs.RowsUpdated.{AreRowsUpdated}
 use Rattle.edit_laws.proofs.Composed.{all-classes-stay}
 use Rattle.edit_laws.proofs.Deferred.{all-deferred-law}
@@ -43,7 +43,7 @@ use Rattle.edit_laws.proofs.ErasedLast.{deferred-single}
 use Rattle.edit_laws.proofs.Further.{with-lanes}
 use Rattle.edit_laws.proofs.Left.{AreLeft, none_left, one_left, one_goes, among-split, split-among}
 use Rattle.edit_laws.proofs.Ordering.{laid-out-law}
-use Rattle.edit_laws.proofs.Rebuilt.{rebuilt-rows-law}
+use Rattle.edit_laws.proofs.LanesEdited.{emptied, copied, table}
 use Rattle.edit_laws.proofs.Standing.{edited-rows-law, is-left, standing-table-law}
 
 -- ways over edits
@@ -219,14 +219,15 @@ module _ (touched : Touched) (t : Target) (f : Function) (es : List Edit) (x u y
     matched : (b : ℕ) (s : Step) → Among s (steps_of mid b) → IsMatched s
     matched b = matched-before ((is-left t f num es is spare).steps b) (m b)
 
-    taken : AreTaken mid u.order.slots u.flow.items x.rows.rows.items z
-    taken =
-        let made : AreRebuilt old mid u.order.slots u.flow.items x.rows.rows.items z = record { last = edited.last; numbered = order.numbered; ways = ways; matched = matched; few = rows.few; cells = rows.cells } in
-        rebuilt-rows-law old mid x.order.slots u.order.slots x.flow.items u.flow.items x.rows.rows.items z was made
+    made : AreLanesEdited old mid u.order.slots u.flow.items rows.lets_go x.rows.rows.items z
+    made = record { last = edited.last; numbered = order.numbered; ways = ways; matched = matched; few = rows.few; lanes = rows.lanes_edited }
+
+    first-table : IsTableOf mid u.order.slots u.flow.items z
+    first-table = table old mid x.order.slots u.order.slots x.flow.items u.flow.items rows.lets_go x.rows.rows.items z was made
 
     at-last : IsTableOf mid u.order.slots u.flow.items y.rows.rows.items
     at-last = record {
-      entered = λ l b. rows.kept_shapes l b ∙ taken.table.entered l b;
+      entered = λ l b. rows.kept_shapes l b ∙ first-table.entered l b;
       numbered = order.numbered;
       ways = ways;
       matched = matched;
@@ -237,9 +238,11 @@ module _ (touched : Touched) (t : Target) (f : Function) (es : List Edit) (x u y
     updated = record {
       edited = edited;
       outward = order.outward;
-      first = taken.table;
+      first = first-table;
       table = at-last;
-      copied = taken.copies;
+      lets_go = rows.lets_go;
+      emptied = emptied old mid x.order.slots u.order.slots x.flow.items u.flow.items rows.lets_go x.rows.rows.items z was made;
+      copied = copied old mid x.order.slots u.order.slots x.flow.items u.flow.items rows.lets_go x.rows.rows.items z was made;
       list = rows.list;
       listed = rows.listed;
       between = rows.between;

@@ -30,7 +30,7 @@ reason-of (on_exit before s rest e c t m) = reason-moves (for_exit before s rest
 reason-of (on_end c m) = reason-moves (for_end m) refl (sym c) refl
 reason-of (on_phi c m) = reason-moves (for_phi m) refl (sym c) refl
 
-holds-moves : {touched : Touched} {code : Code} {why : Causes} {l b n : ℕ} → Holds touched code why l b n → (why' : Causes) → why' l b n ≡ why l b n → Holds touched code why' l b n
+pub holds-moves : {touched : Touched} {code : Code} {why : Causes} {l b n : ℕ} → Holds touched code why l b n → (why' : Causes) → why' l b n ≡ why l b n → Holds touched code why' l b n
 holds-moves (holds_dead d) why' e = holds_dead (ap is_live e ∙ d)
 holds-moves (holds_reading before s rest g c t) why' e = holds_reading before s rest g (e ∙ c) t
 holds-moves (holds_exit before s rest g c t) why' e = holds_exit before s rest g (e ∙ c) t

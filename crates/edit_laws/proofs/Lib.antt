@@ -35,6 +35,10 @@ pub mod RowCause
 pub mod CarriedRows
 pub mod RowEnd
 pub mod Turned
+pub mod Unnamed
+pub mod CodeLanes
+pub mod LanesEdited
+pub mod LetGo
 pub mod RowsUpdated
 pub mod SideBySide
 pub mod Deferred

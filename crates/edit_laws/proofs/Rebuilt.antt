@@ -10,13 +10,13 @@ use Rattle.live_lanes.specs.declared.row.LaneRange.{LaneRange}
 use Rattle.live_lanes.specs.declared.row.LaneUse.{LaneUse}
 use Rattle.live_lanes.specs.declared.row.PieceEnd.{PieceEnd}
 use Rattle.live_lanes.specs.Table.{Numbers, Begun, Seen, unseen, begun_cause, begun_end, changed_last, ends_with, new_begun, starts_last, with_last, with_reading}
-use Rattle.live_lanes.specs.Entered.{Shape, shape, Start, start_of, reading, reading_of, readings_until, starts, shape_of, rows_seen, Rises, IsTableOf}
+use Rattle.live_lanes.specs.Entered.{Shape, shape, Start, start_of, reading, reading_of, readings_until, starts, shape_of, rows_seen, Rises, IsNumbered, IsTableOf}
 use Rattle.live_lanes.specs.Entering.{AreApart, enter_all}
 use Rattle.live_lanes.proofs.Gathered.{added, after_step, bare, bare-step, fresh-step, IsFresh, pieces, pieces-more}
 use Rattle.live_lanes.proofs.Growth.{piece-law}
 use Rattle.live_lanes.proofs.Stepped.{appended, appended-starts, last_readings, used, written}
 use Rattle.edit_laws.specs.CarriedRows.{started, CopiesPieces}
-use Rattle.edit_laws.specs.Rebuilt.{lane_used, lane_written, lane_entered, rebuilt, copied_piece, copied, HasPieces, RebuiltLaw, UntouchedLaw, IsRebuilt, made_anew, stays, AreRebuilt, RebuiltRowsLaw}
+use Rattle.edit_laws.specs.Rebuilt.{lane_used, lane_written, lane_entered, rebuilt, copied_piece, copied, HasPieces, RebuiltLaw, UntouchedLaw, IsRebuilt, made_anew, stays, RebuiltRowsLaw}
 use Rattle.edit_laws.specs.Reasons.{AreEdited, edit_none, edit_stays, edit_comes}
 use Rattle.edit_laws.proofs.CarriedRows.{found-first}
 use Rattle.edit_laws.proofs.Deferred.{none-written}
@@ -118,16 +118,16 @@ copies-anew was made = record {
   piece_end = λ k s e. let g = get-map (copied_piece was) made.segments k s e in sym (ap (λ (y : Begun). y.end) g.2) ∙ ap (λ (y : Begun). begun_end (started y.start was.segments)) g.2;
 }
 
-module _ (old new : Code) (slots slots' : Numbers) (flow flow' : List BlockFlow) (x z : List LaneRange) (t : IsTableOf old slots flow x) (r : AreRebuilt old new slots' flow' x z) where
+module _ (old new : Code) (slots slots' : Numbers) (flow : List BlockFlow) (x z : List LaneRange) (t : IsTableOf old slots flow x) (last : (b : ℕ) → last_of old b ≡ last_of new b) (numbered : IsNumbered new slots') where
   last-kept : (l b : ℕ) → (rows_seen x l b).is_read_last ≡ has l (last_of new b)
-  last-kept l b = ap (λ (v : Shape). v.is_read_last) (t.entered l b) ∙ ap (has l) (r.last b)
+  last-kept l b = ap (λ (v : Shape). v.is_read_last) (t.entered l b) ∙ ap (has l) (last b)
 
-  cell-shape : (l b : ℕ) → IsRebuilt old new l b (rows_seen x l b) (rows_seen z l b) → shape (rows_seen z l b) ≡ shape_of new l b
+  pub cell-shape : (l b : ℕ) → IsRebuilt old new l b (rows_seen x l b) (rows_seen z l b) → shape (rows_seen z l b) ≡ shape_of new l b
   cell-shape l b (stays same e) = ap shape e ∙ (t.entered l b ∙ same)
   cell-shape l b (made_anew e) =
       let was : Seen = rows_seen x l b in
       let made : Seen = rebuilt l (steps_of new b) in
-      let has-pieces : HasPieces l (steps_of new b) made = rebuilt-law l (steps_of new b) (apart-of slots' 0 (steps_of new b) (r.numbered b)) in
+      let has-pieces : HasPieces l (steps_of new b) made = rebuilt-law l (steps_of new b) (apart-of slots' 0 (steps_of new b) (numbered b)) in
       let segments : map start_of (map (copied_piece was) made.segments) ≡ starts l (steps_of new b) = starts-copied was made.segments ∙ has-pieces.segments in
       ap shape e ∙ (λ k. record { is_read_last = last-kept l b k; readings = has-pieces.readings k; segments = segments k })
 
@@ -139,20 +139,20 @@ module _ (old new : Code) (slots slots' : Numbers) (flow flow' : List BlockFlow)
     piece_end = λ k s e. sym (ap begun_end (found-first slots 0 (rows_seen x l b).segments k s (piece-law old slots flow x t l b) e));
   }
 
-  cell-copies : (l b : ℕ) → IsRebuilt old new l b (rows_seen x l b) (rows_seen z l b) → CopiesPieces (rows_seen x l b) (rows_seen z l b)
+  pub cell-copies : (l b : ℕ) → IsRebuilt old new l b (rows_seen x l b) (rows_seen z l b) → CopiesPieces (rows_seen x l b) (rows_seen z l b)
   cell-copies l b (stays same e) = subst (CopiesPieces (rows_seen x l b)) (sym e) (copies-self l b)
   cell-copies l b (made_anew e) = subst (CopiesPieces (rows_seen x l b)) (sym e) (copies-anew (rows_seen x l b) (rebuilt l (steps_of new b)))
 
 pub rebuilt-rows-law : RebuiltRowsLaw
 rebuilt-rows-law old new slots slots' flow flow' x z t r = record {
   table = record {
-    entered = λ l b. cell-shape old new slots slots' flow flow' x z t r l b (r.cells l b);
+    entered = λ l b. cell-shape old new slots slots' flow x z t r.last r.numbered l b (r.cells l b);
     numbered = r.numbered;
     ways = r.ways;
     matched = r.matched;
     few = r.few;
   };
-  copies = λ l b. cell-copies old new slots slots' flow flow' x z t r l b (r.cells l b);
+  copies = λ l b. cell-copies old new slots slots' flow x z t r.last r.numbered l b (r.cells l b);
 }
 
 -- where nothing is touched

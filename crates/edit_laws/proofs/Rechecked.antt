@@ -19,11 +19,11 @@ use Rattle.live_lanes.proofs.Coded.{has-among, among-has}
 use Rattle.live_lanes.proofs.Numbered.{among-cases}
 use Rattle.live_lanes.proofs.Whole.{piece-readings, readings-there}
 use Rattle.edit_laws.specs.Chains.{Node}
-use Rattle.edit_laws.specs.Reasons.{IsReason, for_reading, for_move, for_exit, for_end, for_phi, Touched, IsEditOf, IsKept, AreCarried, AreListed}
+use Rattle.edit_laws.specs.Reasons.{IsReason, for_reading, for_move, for_exit, for_end, for_phi, Touched, AreEdited, edit_none, edit_stays, edit_comes, IsEditOf, IsKept}
 use Rattle.edit_laws.specs.Update.{Holds, holds_dead, holds_reading, holds_exit, holds_end}
-use Rattle.edit_laws.specs.Rechecked.{IsHeld, held_dead, held_reading, held_exit, held_end, HeldLaw, ListedLaw, CertainCauseLaw}
+use Rattle.edit_laws.specs.Rechecked.{IsHeld, held_dead, held_reading, held_exit, held_end, KeepCauses, KeptHeldLaw, HeldLaw, ListedLaw, CertainCauseLaw}
 use Rattle.edit_laws.proofs.Carried.{reason-moves, live-same}
-use Rattle.edit_laws.proofs.Counterparts.{pair-of}
+use Rattle.edit_laws.proofs.Left.{among-split}
 use Rattle.edit_laws.proofs.Needs.{reads-in, count-is, readings-are, entry-at, exit-at}
 
 some-use : (x y : LaneUse) → Some x ≡ Some y → x ≡ y
@@ -32,15 +32,23 @@ some-use x y e = cc
 never-none : {A : Type 0} (m : Node) → Some m ≡ None → A
 never-none m e = absurd (cc)
 
+-- what became of an instruction
+stays-after : {touched : ℕ → ℕ → Bool} {ss rs : List Step} → AreEdited touched ss rs → (s : Step) → Among s ss → (r : Step) × Among r rs × (r.id ≡ s.id)
+stays-after edit_none s m = absurd (none-among s m)
+stays-after (edit_stays {r = r} h a) s here = (r, here, sym h.id)
+stays-after (edit_stays h a) s (there m) = let z = stays-after a s m in (z.0, there z.1, z.2)
+stays-after (edit_comes h a) s m = let z = stays-after a s m in (z.0, there z.1, z.2)
+
 -- an instruction that stays, at its new place
 abbrev Stands : Code → ℕ → ℕ → Type 0
 Stands code b id = (us : List Step) × (r : Step) × (vs : List Step) × (steps_of code b ≡ us ++ r ∷ vs) × (r.id ≡ id)
 
-module _ (touched : Touched) (old new : Code) (slots : Numbers) (flow : List BlockFlow) (was : Causes) (rows : List LaneRange) (list : List Node) (grown : IsGrown old was) (t : IsTableOf new slots flow rows) (edit : IsEditOf touched old new) (kept : AreCarried touched old new was (causes rows)) (listed : AreListed touched new list) where
+module _ (touched : Touched) (old new : Code) (slots : Numbers) (flow : List BlockFlow) (was : Causes) (rows : List LaneRange) (grown : IsGrown old was) (t : IsTableOf new slots flow rows) (edit : IsEditOf touched old new) (kept : KeepCauses old new was (causes rows)) where
   stays-there : (b : ℕ) (us : List Step) (s : Step) (vs : List Step) → steps_of old b ≡ us ++ s ∷ vs → Stands new b s.id
   stays-there b us s vs e =
-      let p = pair-of touched old new slots t.numbered edit list listed b s (subst (Among s) (sym e) (among-append s us vs)) in
-      (p.1.before', p.0, p.1.rest', p.1.e', sym p.1.like.id)
+      let z = stays-after (edit.steps b) s (subst (Among s) (sym e) (among-append s us vs)) in
+      let q = among-split z.0 (steps_of new b) z.1 in
+      (q.0, z.0, q.1, q.2, z.2)
 
   same-reading : (c : Cause) (i j : ℕ) → c ≡ reasons.Reading i → c ≡ reasons.Reading j → i ≡ j
   same-reading c i j e f = let z : reasons.Reading i ≡ reasons.Reading j = sym e ∙ f in cc
@@ -59,10 +67,10 @@ module _ (touched : Touched) (old new : Code) (slots : Numbers) (flow : List Blo
       live = ap is_live c
 
       k : IsKept old new l b n
-      k = kept.live l b n live
+      k = (kept l b n live).0
 
       same : causes rows l b n ≡ was l b k.number
-      same = live-same (kept.kept l b k.number n k.start k.before k.after) live
+      same = (kept l b n live).1
 
       go : Stands new b id → Holds touched new (causes rows) l b n
       go z =
@@ -87,8 +95,14 @@ module _ (touched : Touched) (old new : Code) (slots : Numbers) (flow : List Blo
   held-holds l b n (held_exit x id c i at) = exit-holds l b n x id c i at
   held-holds l b n (held_end x c at) = end-holds l b n x c at
 
+pub kept-held-law : KeptHeldLaw
+kept-held-law touched old new slots flow was rows grown t edit kept l b n h = held-holds touched old new slots flow was rows grown t edit kept l b n h
+
 pub held-law : HeldLaw
-held-law touched old new slots flow was rows list grown t edit kept listed l b n h = held-holds touched old new slots flow was rows list grown t edit kept listed l b n h
+held-law touched old new slots flow was rows list grown t edit kept listed l b n h = held-holds touched old new slots flow was rows grown t edit keep l b n h
+  where
+    keep : KeepCauses old new was (causes rows)
+    keep a d m live = let k = kept.live a d m live in (k, live-same (kept.kept a d k.number m k.start k.before k.after) live)
 
 pub listed-law : ListedLaw
 listed-law touched code slots flow rows list t sides l b us s vs e h = (

@@ -37,7 +37,7 @@ use Rattle.edit_laws.proofs.Lasted.{lasting}
 use Rattle.edit_laws.proofs.Others.{gone-law}
 use Rattle.edit_laws.proofs.Risen.{update-law}
 
-among-or-not : (n : Node) (ns : List Node) → Among n ns ⊎ (Among n ns → ⊥)
+pub among-or-not : (n : Node) (ns : List Node) → Among n ns ⊎ (Among n ns → ⊥)
 among-or-not n [] = inr (λ a. none-among n a)
 among-or-not n (k ∷ ns) = go (same_node n k) refl (among-or-not n ns)
   where
@@ -92,7 +92,14 @@ begins-from code l b n done (s ∷ rest) o e x low high =
         let same : writes_in l done ≡ n = omega (arith, h, low) in
         (o, subst (λ k. Begins code l b k o) same x)
 
-module _ (touched : Touched) (old new : Code) (slots slots' : Numbers) (x y : List LaneRange) (before : Causes) (list again : List Node) (grown : IsGrown old (causes x)) (numbered : IsNumbered old slots) (numbered' : IsNumbered new slots') (matched-old : AllMatched old) (matched : AllMatched new) (edit : IsEditOf touched old new) (kept : AreCarried touched old new (causes x) before) (listed : AreListed touched new list) (ended : AreEnds old slots x) (pieces : HaveAllPieces new y) (are : AreRecomputed old new slots' before list again x y) where
+-- the same of the pieces of a lane
+pub record IsLaneRecomputed (old new : Code) (slots : Numbers) (before : Causes) (list again : List Node) (x y : List LaneRange) (l : ℕ) : Type 0 where
+  pub listed : (b n : ℕ) → Among {A = Node} (l, b, n) list → Among {A = Node} (l, b, n) again
+  pub leading : (b n : ℕ) (m : Node) (c : Cause) → IsReason new l b n c (Some m) → (cause_at (causes y) m ≡ cause_at before m → ⊥) → Among {A = Node} (l, b, n) again
+  pub right : (b n : ℕ) → Among {A = Node} (l, b, n) again → IsEnd new slots (causes y) l b n (row_end y l b n)
+  pub kept : (b m n : ℕ) (start : Option ℕ) → Begins old l b m start → Begins new l b n start → (Among {A = Node} (l, b, n) again → ⊥) → row_end y l b n ≡ row_end x l b m
+
+module _ (touched : Touched) (old new : Code) (slots slots' : Numbers) (x y : List LaneRange) (before : Causes) (list again : List Node) (grown : IsGrown old (causes x)) (numbered : IsNumbered old slots) (numbered' : IsNumbered new slots') (matched-old : AllMatched old) (matched : AllMatched new) (edit : IsEditOf touched old new) (kept : AreCarried touched old new (causes x) before) (listed : AreListed touched new list) (ended : AreEnds old slots x) (lane : ℕ) (pieces : (b : ℕ) → length (rows_seen y lane b).segments ≡ writes_in lane (steps_of new b)) (are : IsLaneRecomputed old new slots' before list again x y lane) where
   -- a piece begins as one of before, or it is listed
   abbrev Found : ℕ → ℕ → ℕ → Type 0
   Found l b n = IsKept old new l b n ⊎ Among {A = Node} (l, b, n) list
@@ -117,11 +124,11 @@ module _ (touched : Touched) (old new : Code) (slots slots' : Numbers) (x y : Li
       written l b us r vs e w (touched l b r.id) refl (pair-to touched old new slots' numbered' edit list listed b r (subst (Among r) (sym e) (among-append r us vs)))
 
   -- one whose end isn't computed anew leads to none that died or came alive
-  same-life : (l b n : ℕ) → (Among {A = Node} (l, b, n) again → ⊥) → (c : Cause) (m : Node) → IsReason new l b n c (Some m) → cause_at (causes y) m ≡ cause_at before m
-  same-life l b n out c m r = go (cause_at (causes y) m) (cause_at before m) refl refl
+  same-life : (b n : ℕ) → (Among {A = Node} (lane, b, n) again → ⊥) → (c : Cause) (m : Node) → IsReason new lane b n c (Some m) → cause_at (causes y) m ≡ cause_at before m
+  same-life b n out c m r = go (cause_at (causes y) m) (cause_at before m) refl refl
     where
       apart : (cause_at (causes y) m ≡ cause_at before m → ⊥) → ⊥
-      apart differs = out (are.leading (l, b, n) m c r differs)
+      apart differs = out (are.leading b n m c r differs)
 
       go : (u v : Bool) → cause_at (causes y) m ≡ u → cause_at before m ≡ v → cause_at (causes y) m ≡ cause_at before m
       go true true e f = e ∙ sym f
@@ -129,33 +136,41 @@ module _ (touched : Touched) (old new : Code) (slots slots' : Numbers) (x y : Li
       go true false e f = absurd (apart (λ g. let z : true ≡ false = sym e ∙ (g ∙ f) in cc))
       go false true e f = absurd (apart (λ g. let z : false ≡ true = sym e ∙ (g ∙ f) in cc))
 
-  stays : (l b n : ℕ) → (Among {A = Node} (l, b, n) again → ⊥) → Found l b n → IsEnd new slots' (causes y) l b n (row_end y l b n)
-  stays l b n out (inl k) =
-      subst (IsEnd new slots' (causes y) l b n) (sym (are.kept l b k.number n k.start k.before k.after out))
-      (lasting touched old new slots slots' (causes x) before (causes y) grown numbered numbered' matched-old matched edit kept list listed l b k.number n k.start k.before k.after (λ a. out (are.listed (l, b, n) a)) (same-life l b n out) (row_end x l b k.number)
-      (ended l b k.number))
-  stays l b n out (inr a) = absurd (out (are.listed (l, b, n) a))
+  stays : (b n : ℕ) → (Among {A = Node} (lane, b, n) again → ⊥) → Found lane b n → IsEnd new slots' (causes y) lane b n (row_end y lane b n)
+  stays b n out (inl k) =
+      subst (IsEnd new slots' (causes y) lane b n) (sym (are.kept b k.number n k.start k.before k.after out))
+      (lasting touched old new slots slots' (causes x) before (causes y) grown numbered numbered' matched-old matched edit kept list listed lane b k.number n k.start k.before k.after (λ a. out (are.listed b n a)) (same-life b n out) (row_end x lane b k.number)
+      (ended lane b k.number))
+  stays b n out (inr a) = absurd (out (are.listed b n a))
 
-  recomputed : AreEnds new slots' y
-  recomputed l b n = go (ltb (writes_in l (steps_of new b)) n) refl
+  pub lane-ends : (b n : ℕ) → IsEnd new slots' (causes y) lane b n (row_end y lane b n)
+  lane-ends b n = go (ltb (writes_in lane (steps_of new b)) n) refl
     where
-      inside : Found l b n → Among {A = Node} (l, b, n) again ⊎ (Among {A = Node} (l, b, n) again → ⊥) → IsEnd new slots' (causes y) l b n (row_end y l b n)
-      inside k (inl a) = are.right (l, b, n) a
-      inside k (inr out) = stays l b n out k
+      inside : Found lane b n → Among {A = Node} (lane, b, n) again ⊎ (Among {A = Node} (lane, b, n) again → ⊥) → IsEnd new slots' (causes y) lane b n (row_end y lane b n)
+      inside k (inl a) = are.right b n a
+      inside k (inr out) = stays b n out k
 
-      begun : n ≤ writes_in l (steps_of new b) → (q : Option ℕ) × Begins new l b n q
-      begun h = begins-from new l b n [] (steps_of new b) None refl at_start (omega arith) h
+      begun : n ≤ writes_in lane (steps_of new b) → (q : Option ℕ) × Begins new lane b n q
+      begun h = begins-from new lane b n [] (steps_of new b) None refl at_start (omega arith) h
 
-      go : (u : Bool) → ltb (writes_in l (steps_of new b)) n ≡ u → IsEnd new slots' (causes y) l b n (row_end y l b n)
+      go : (u : Bool) → ltb (writes_in lane (steps_of new b)) n ≡ u → IsEnd new slots' (causes y) lane b n (row_end y lane b n)
       go true e =
-          let past : writes_in l (steps_of new b) < n = ltb-true (writes_in l (steps_of new b)) n e in
-          let count = pieces l b in
-          subst (IsEnd new slots' (causes y) l b n) (sym (past-end (rows_seen y l b) n (omega (arith, past, count)))) (never-end new slots' (causes y) l b n past)
-      go false e = inside (found (begun (ltb-false (writes_in l (steps_of new b)) n e)).1) (among-or-not (l, b, n) again)
+          let past : writes_in lane (steps_of new b) < n = ltb-true (writes_in lane (steps_of new b)) n e in
+          let count = pieces b in
+          subst (IsEnd new slots' (causes y) lane b n) (sym (past-end (rows_seen y lane b) n (omega (arith, past, count)))) (never-end new slots' (causes y) lane b n past)
+      go false e = inside (found (begun (ltb-false (writes_in lane (steps_of new b)) n e)).1) (among-or-not (lane, b, n) again)
 
 pub recomputed-law : RecomputedLaw
-recomputed-law touched old new slots slots' x y before list again grown numbered numbered' matched-old matched edit kept listed ended pieces are =
-    recomputed touched old new slots slots' x y before list again grown numbered numbered' matched-old matched edit kept listed ended pieces are
+recomputed-law touched old new slots slots' x y before list again grown numbered numbered' matched-old matched edit kept listed ended pieces are l b n =
+    lane-ends touched old new slots slots' x y before list again grown numbered numbered' matched-old matched edit kept listed ended l (pieces l) at-lane b n
+  where
+    at-lane : IsLaneRecomputed old new slots' before list again x y l
+    at-lane = record {
+      listed = λ b n. are.listed (l, b, n);
+      leading = λ b n. are.leading (l, b, n);
+      right = λ b n. are.right (l, b, n);
+      kept = are.kept l;
+    }
 
 module _ (t : Target) (f g : Function) (x y : Table) (computed : IsComputed t f x) (matched : AllMatched (code_in t f x)) (laid : IsLaidOut t g y) (touched : Touched) (standing : Code) (slots : Numbers) (before : Causes) (changed again : List Node) (numbered : IsNumbered standing slots) (matched-new : AllMatched standing) (u : IsUpdated touched (code_in t f x) standing (causes x.rows.rows.items) before (causes y.rows.rows.items) changed) (gone : AreCodes (λ l. false) standing (code_in t g y)) (are : AreRecomputed (code_in t f x) standing slots before u.list again x.rows.rows.items y.rows.rows.items) where
   abbrev old-rows : List LaneRange

@@ -12,7 +12,7 @@ use Rattle.live_lanes.proofs.Numbered.{among-cases, among-left, among-right, amo
 use Rattle.edit_laws.specs.Chains.{Node, Notes, cause_at, RestsOn, Ends, at_none, StandFirm, same_node, noted}
 use Rattle.edit_laws.specs.Reasons.{for_reading, for_move, for_exit, for_end, for_phi, ReasonFor, cause_of, counts, Touched}
 use Rattle.edit_laws.specs.Steps.{AreRight}
-use Rattle.edit_laws.specs.Update.{Holds, given, Request, Wanted, HasReason, LeadTo, Rise, rising, RiseStep, passes, rises, follows, Rises, rose, rise, falling, IsUpdated, KeepLives, AreUpdated, UpdateLaw}
+use Rattle.edit_laws.specs.Update.{Holds, given, Request, Wanted, HasReason, LeadTo, Rise, rising, RiseStep, passes, rises, follows, Rises, rose, rise, falling, Falls, Asks, IsUpdated, KeepLives, AreUpdated, UpdateLaw}
 use Rattle.edit_laws.proofs.Chains.{noted-here, noted-there, cut-law, rise-law, firm-law}
 use Rattle.edit_laws.proofs.Carried.{reason-live, matched-written, first_notes, all-chained, all-live, all-right, all-hold, all-listed}
 use Rattle.edit_laws.proofs.Fallen.{no-other, rests, reason-of, Given, given-cases, other-is, Falling, falls-keep, firm-after}
@@ -221,6 +221,24 @@ module _ (code : Code) (before : Causes) where
     updated : AreUpdated code before why cs
     updated = record { notes = f.on; firm = f.firm; grown = grown-now; right = right-now; kept = f.kept }
 
+-- from where causes fall to where they have risen
+module _ (touched : Touched) (now : Code) (before between after : Causes) (list asked changed : List Node) (queue : List Request) (first : Notes) (hold : (n : Node) → cause_at before n ≡ true → Holds touched now before n.0 n.1 n.2 → ReasonFor now n (cause_of before n) (first n)) (start : Falling touched now before first hold (falling before list [] list)) (falls : Falls touched now (falling before list [] list) (falling between [] [] asked)) (asks : Asks now between asked queue) (rises : Rises now (rising between queue [] asked) (rising after [] [] changed)) where
+  fallen : Falling touched now before first hold (falling between [] [] asked)
+  fallen = falls-keep touched now before first hold falls start
+
+  to-rise : Rising now before (rising between queue [] asked)
+  to-rise = record {
+    on = fallen.on;
+    firm = firm-after touched now before first hold between asked fallen;
+    reasons = asks.founded;
+    alive = λ m a. absurd (none-among m a);
+    whole = λ n d o dead x up. inl (asks.whole n (fallen.idle n d o dead x up) dead d o x up);
+    kept = fallen.kept;
+  }
+
+  pub brought-up : AllMatched now → AreUpdated now before after changed
+  brought-up matched = updated now before after changed (rises-keep now before rises to-rise) matched
+
 module _ (touched : Touched) (old now : Code) (slots slots' : Numbers) (was before after : Causes) (changed : List Node) (grown : IsGrown old was) (numbered : IsNumbered old slots) (numbered' : IsNumbered now slots') (matched : AllMatched now) (u : IsUpdated touched old now was before after changed) where
   abbrev first : Notes
   first = first_notes old now before
@@ -242,21 +260,8 @@ module _ (touched : Touched) (old now : Code) (slots slots' : Numbers) (was befo
       go n (inl r) = inl r
       go n (inr a) = inr (a, (refl, refl))
 
-  fallen : Falling touched now before first hold (falling u.between [] [] u.asked)
-  fallen = falls-keep touched now before first hold u.falls carried-over
-
-  asked : Rising now before (rising u.between u.queue [] u.asked)
-  asked = record {
-    on = fallen.on;
-    firm = firm-after touched now before first hold u.between u.asked fallen;
-    reasons = u.asks.founded;
-    alive = λ m a. absurd (none-among m a);
-    whole = λ n d o dead x up. inl (u.asks.whole n (fallen.idle n d o dead x up) dead d o x up);
-    kept = fallen.kept;
-  }
-
   updated-after : AreUpdated now before after changed
-  updated-after = updated now before after changed (rises-keep now before u.rises asked) matched
+  updated-after = brought-up touched now before u.between after u.list u.asked changed u.queue first hold carried-over u.falls u.asks u.rises matched
 
 pub update-law : UpdateLaw
 update-law touched old now slots slots' was before after changed grown numbered numbered' matched u = updated-after touched old now slots slots' was before after changed grown numbered numbered' matched u

@@ -7,7 +7,7 @@ use Rattle.live_lanes.specs.Graph.{Causes, is_live}
 use Rattle.live_lanes.proofs.Numbered.{among-left, among-right}
 use Rattle.edit_laws.specs.Chains.{Node, cause_at}
 use Rattle.edit_laws.specs.Reasons.{Touched}
-use Rattle.edit_laws.specs.Update.{given, Fall, FallStep, stays, takes, falls, takes_too, falls_too, told, Falls, fell, fall, Rise, RiseStep, passes, rises, follows, Rises, rose, rise, KeepLives}
+use Rattle.edit_laws.specs.Update.{given, Fall, FallStep, stays, takes, falls, takes_too, falls_too, told, falling, Falls, fell, fall, Request, Rise, rising, RiseStep, passes, rises, follows, Rises, rose, rise, KeepLives}
 use Rattle.edit_laws.specs.Turned.{TurnedLaw}
 use Rattle.edit_laws.proofs.Carried.{reason-live}
 use Rattle.edit_laws.proofs.Fallen.{Given, given-cases}
@@ -76,10 +76,13 @@ same-behind : (ps xs ys : List Node) → ps ++ xs ≡ ps ++ ys → xs ≡ ys
 same-behind [] xs ys e = e
 same-behind (p ∷ ps) xs ys e = let tail : ps ++ xs ≡ ps ++ ys = cc in same-behind ps xs ys tail
 
-pub turned-law : TurnedLaw
-turned-law touched old new was before after changed turned u e =
-    let f = falls-turn touched new u.falls in
-    let g = rises-turn touched new u.rises in
-    let z = turns-then u.list u.asked changed before u.between after f g in
-    let same : z.0 ≡ turned = same-behind u.list z.0 turned (sym z.1 ∙ e) in
+-- behind the pieces of a list stand all that turn
+pub turned-behind : (touched : Touched) (code : Code) (before between after : Causes) (todo list asked changed turned : List Node) (queue : List Request) → Falls touched code (falling before todo [] list) (falling between [] [] asked) → Rises code (rising between queue [] asked) (rising after [] [] changed) → changed ≡ list ++ turned
+    → KeepLives turned before after
+turned-behind touched code before between after todo list asked changed turned queue down up e =
+    let z = turns-then list asked changed before between after (falls-turn touched code down) (rises-turn touched code up) in
+    let same : z.0 ≡ turned = same-behind list z.0 turned (sym z.1 ∙ e) in
     subst (λ ns. KeepLives ns before after) same z.2
+
+pub turned-law : TurnedLaw
+turned-law touched old new was before after changed turned u e = turned-behind touched new before u.between after u.list u.list u.asked changed turned u.queue u.falls u.rises e

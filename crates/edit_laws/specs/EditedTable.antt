@@ -1,5 +1,5 @@
 -- A table of live lanes over a list of edits, from the table of before to that of the edited function.
-use Rattle.std.specs.Prelude.{◌≡◌, ◌<◌, ℕ, true, false, List, [], ◌++◌, Some, length}
+use Rattle.std.specs.Prelude.{◌≡◌, ◌<◌, ℕ, Bool, true, false, List, [], ◌++◌, Some, length}
 use Rattle.target_base.specs.declared.types.Target.{Target}
 use Rattle.slot_index.specs.Order.{ids, number_of}
 use Rattle.slot_index.specs.Renewed.{low_end}
@@ -24,9 +24,9 @@ use Rattle.edit_laws.specs.Chains.{Node}
 use Rattle.edit_laws.specs.Deferred.{all_deferred, all_gone, standing_code, TouchesEdits, SpareGone}
 use Rattle.edit_laws.specs.Edits.{Edit, all_edited}
 use Rattle.edit_laws.specs.Further.{KeepsLast}
+use Rattle.edit_laws.specs.LetGo.{IsLaneEdited}
 use Rattle.edit_laws.specs.Ordering.{IsOrdered}
 use Rattle.edit_laws.specs.Reasons.{ReasonFor, Touched, IsEditOf}
-use Rattle.edit_laws.specs.Rebuilt.{IsRebuilt}
 use Rattle.edit_laws.specs.Update.{Falls, falling, Request, Asks, Rises, rising}
 
 -- Where terminators stay, the ways between blocks are those of the edited code too.
@@ -45,15 +45,16 @@ StandingOrderLaw =
     → low_end (last_id (ids u.order.slots)) u.order.slots < 18446744073709551616 → HasOrder (standing_code t f num es) u.order.slots u.flow.items
 
 -- x: the rows before edits; z: the cells of lanes touched are made anew over the code in which erased instructions stand, with the
--- causes and ends of before; y: the rows in the end. Between z and y pieces fall and come alive, and ends are computed anew, as in
--- `AreRowsUpdated`.
+-- causes and ends of before, and the rows of lanes that are let go are emptied; y: the rows in the end. Between z and y pieces fall
+-- and come alive, and ends are computed anew, as in `AreRowsUpdated`.
 pub record AreRowsEdited (touched : Touched) (old standing : Code) (slots : Numbers) (flow : List BlockFlow) (x z y : List LaneRange) : Type 0 where
-  pub cells : (l b : ℕ) → IsRebuilt old standing l b (rows_seen x l b) (rows_seen z l b)
+  pub lets_go : ℕ → Bool
+  pub lanes_edited : (l : ℕ) → IsLaneEdited old standing l x z (lets_go l)
   pub few : length z < 4294967296
   pub kept_shapes : (l b : ℕ) → shape (rows_seen y l b) ≡ shape (rows_seen z l b)
   pub lanes : length y ≡ length z
   pub list : List Node
-  pub listed : (l b id : ℕ) → touched l b id ≡ true → Among {A = Node} (l, b, piece_in_rows slots z l b (entry_rank slots id)) list × Among {A = Node} (l, b, piece_in_rows slots z l b (exit_rank slots id)) list
+  pub listed : (l b id : ℕ) → lets_go l ≡ false → touched l b id ≡ true → Among {A = Node} (l, b, piece_in_rows slots z l b (entry_rank slots id)) list × Among {A = Node} (l, b, piece_in_rows slots z l b (exit_rank slots id)) list
   pub between : Causes
   pub fallen : List Node
   pub falls : Falls touched standing (falling (causes z) list [] list) (falling between [] [] (list ++ fallen))

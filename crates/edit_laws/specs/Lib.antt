@@ -27,6 +27,7 @@ pub mod DeferredRows
 pub mod Ordering
 pub mod OrderSteps
 pub mod Rebuilt
+pub mod LetGo
 pub mod EditedTable
 pub mod Numbered
 pub mod LaneSteps

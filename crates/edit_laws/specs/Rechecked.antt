@@ -10,7 +10,7 @@ use Rattle.live_lanes.specs.Ways.{terminators}
 use Rattle.live_lanes.specs.Table.{Numbers, entry_rank, exit_rank, certain_cause}
 use Rattle.live_lanes.specs.Entered.{rows_seen, causes, IsTableOf}
 use Rattle.live_lanes.specs.Growth.{piece_in_rows}
-use Rattle.edit_laws.specs.Reasons.{IsReason, Touched, IsEditOf, AreCarried, AreListed}
+use Rattle.edit_laws.specs.Reasons.{IsReason, Touched, IsEditOf, IsKept, AreCarried, AreListed}
 use Rattle.edit_laws.specs.Chains.{Node}
 use Rattle.edit_laws.specs.Update.{Holds}
 
@@ -27,6 +27,16 @@ abbrev pub HeldLaw : Type 0
 HeldLaw =
     (touched : Touched) (old new : Code) (slots : Numbers) (flow : List BlockFlow) (was : Causes) (rows : List LaneRange) (list : List Node) → IsGrown old was
     → IsTableOf new slots flow rows → IsEditOf touched old new → AreCarried touched old new was (causes rows) → AreListed touched new list → (l b n : ℕ) → IsHeld touched slots flow rows l b n → Holds touched new (causes rows) l b n
+
+-- each live piece begins as one of before, and has its cause; some that were live may be so no longer
+abbrev pub KeepCauses : Code → Code → Causes → Causes → Type 0
+KeepCauses old new was why = (l b n : ℕ) → is_live (why l b n) ≡ true → (k : IsKept old new l b n) × (why l b n ≡ was l b k.number)
+
+-- This is enough.
+abbrev pub KeptHeldLaw : Type 0
+KeptHeldLaw =
+    (touched : Touched) (old new : Code) (slots : Numbers) (flow : List BlockFlow) (was : Causes) (rows : List LaneRange) → IsGrown old was → IsTableOf new slots flow rows → IsEditOf touched old new
+    → KeepCauses old new was (causes rows) → (l b n : ℕ) → IsHeld touched slots flow rows l b n → Holds touched new (causes rows) l b n
 
 -- where the pieces on both sides of each touched instruction are listed as the table tells them, they are
 abbrev pub ListedLaw : Type 0

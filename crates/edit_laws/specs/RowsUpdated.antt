@@ -1,5 +1,5 @@
 -- Rows of a table that are brought up to date after edits, from beginning to end.
-use Rattle.std.specs.Prelude.{◌≡◌, ℕ, true, false, List, [], ◌++◌, Some}
+use Rattle.std.specs.Prelude.{◌≡◌, ℕ, Bool, true, false, List, [], ◌++◌, Some}
 use Rattle.target_base.specs.declared.types.Target.{Target}
 use Rattle.mir_func.specs.Value.{Function}
 use Rattle.mir_meaning.specs.Paths.{Among, Code}
@@ -18,22 +18,25 @@ use Rattle.live_lanes.specs.Doing.{IsComputed}
 use Rattle.edit_laws.specs.CarriedRows.{CopiesPieces}
 use Rattle.edit_laws.specs.Chains.{Node}
 use Rattle.edit_laws.specs.Kept.{code_in, IsLaidOut}
+use Rattle.edit_laws.specs.LetGo.{IsLetGo}
 use Rattle.edit_laws.specs.Reasons.{ReasonFor, Touched, IsEditOf}
 use Rattle.edit_laws.specs.Steps.{AreCodes}
 use Rattle.edit_laws.specs.Update.{Falls, falling, Request, Asks, Rises, rising}
 
 -- x: the rows before edits; z: those of the edited code, in which erased instructions stand and do nothing, with the causes and ends
--- of x; y: those in the end. The pieces on both sides of each touched instruction are looked at again; some fall, and of all these
--- the ones that have a reason come alive. The pieces that were looked at, and those with a reason which rests on one that fell or came
--- alive, get their ends anew.
+-- of x, but that lanes which are let go are empty; y: those in the end. The pieces of the other lanes on both sides of each touched
+-- instruction are looked at again; some fall, and of all these the ones that have a reason come alive. The pieces that were looked
+-- at, and those with a reason which rests on one that fell or came alive, get their ends anew.
 pub record AreRowsUpdated (touched : Touched) (old standing : Code) (slots : Numbers) (flow : List BlockFlow) (x z y : List LaneRange) : Type 0 where
   pub edited : IsEditOf touched old standing
   pub outward : AreOutward standing slots flow
   pub first : IsTableOf standing slots flow z
   pub table : IsTableOf standing slots flow y
-  pub copied : (l b : ℕ) → CopiesPieces (rows_seen x l b) (rows_seen z l b)
+  pub lets_go : ℕ → Bool
+  pub emptied : (l : ℕ) → lets_go l ≡ true → IsLetGo standing z l
+  pub copied : (l b : ℕ) → lets_go l ≡ false → CopiesPieces (rows_seen x l b) (rows_seen z l b)
   pub list : List Node
-  pub listed : (l b id : ℕ) → touched l b id ≡ true → Among {A = Node} (l, b, piece_in_rows slots z l b (entry_rank slots id)) list × Among {A = Node} (l, b, piece_in_rows slots z l b (exit_rank slots id)) list
+  pub listed : (l b id : ℕ) → lets_go l ≡ false → touched l b id ≡ true → Among {A = Node} (l, b, piece_in_rows slots z l b (entry_rank slots id)) list × Among {A = Node} (l, b, piece_in_rows slots z l b (exit_rank slots id)) list
   pub between : Causes
   pub fallen : List Node
   pub falls : Falls touched standing (falling (causes z) list [] list) (falling between [] [] (list ++ fallen))

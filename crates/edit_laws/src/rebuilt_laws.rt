@@ -1,5 +1,6 @@
 //! Laws of cells that are made anew after edits, with the causes and the ends of before.
 
+ghost use Rattle.edit_laws.specs.LetGo.{LanesEditedLaw};
 ghost use Rattle.edit_laws.specs.LaneSteps.{LaneStepsLaw, MergedLaw, RemadeLaw, ToldLaw};
 ghost use Rattle.edit_laws.specs.Rebuilt.{RebuiltLaw, RebuiltRowsLaw, UntouchedLaw};
 
@@ -11,6 +12,12 @@ pub fn rebuilt_law()
 /// Rows whose cells are made so, or stay, are a table of the new code with the causes and ends of before.
 pub fn rebuilt_rows_law()
     ensures { RebuiltRowsLaw }
+{}
+
+/// So are rows of which some lanes are let go, since the new code names them nowhere; what is live keeps
+/// its cause.
+pub fn lanes_edited_law()
+    ensures { LanesEditedLaw }
 {}
 
 /// Where no instruction of a block is touched at a lane, the code still has the lane's pieces there.

@@ -4,7 +4,7 @@
 ghost use Rattle.edit_laws.specs.Asked.{AsksLaw};
 ghost use Rattle.edit_laws.specs.CarriedRows.{CarriedRowsLaw};
 ghost use Rattle.edit_laws.specs.Needs.{NeedsLaw, NeedsServeLaw};
-ghost use Rattle.edit_laws.specs.Rechecked.{CertainCauseLaw, HeldLaw, ListedLaw};
+ghost use Rattle.edit_laws.specs.Rechecked.{CertainCauseLaw, HeldLaw, KeptHeldLaw, ListedLaw};
 ghost use Rattle.edit_laws.specs.Recomputed.{RecomputedLaw, TableRecomputedLaw};
 ghost use Rattle.edit_laws.specs.RowCause.{RowCauseLaw};
 ghost use Rattle.edit_laws.specs.RowEnd.{RowEndLaw};
@@ -75,6 +75,11 @@ pub fn asks_law()
 /// A cause that holds as before, as a table tells it, does.
 pub fn held_law()
     ensures { HeldLaw }
+{}
+
+/// It does where each live piece keeps its cause of before, and others may have died.
+pub fn kept_held_law()
+    ensures { KeptHeldLaw }
 {}
 
 /// Where the pieces on both sides of each touched instruction are listed as a table tells them, they

@@ -15,6 +15,7 @@ use Rattle.live_laws.specs.Effects.Coded.{KeepsRules}
 use Rattle.edit_laws.specs.Deferred.{standing_code}
 use Rattle.edit_laws.specs.EditedTable.{AreRowsEdited, AreStages}
 use Rattle.edit_laws.specs.Further.{KeepsLast}
+use Rattle.edit_laws.specs.LetGo.{cells_rebuilt}
 use Rattle.edit_laws.specs.Ordering.{IsOrdered}
 use Rattle.edit_laws.specs.Reasons.{Touched}
 use Rattle.edit_laws.specs.Rebuilt.{stays}
@@ -59,12 +60,13 @@ module _ (t : Target) (f : Function) (x y : Table) (computed : IsComputed t f x)
   rows-edited : AreRowsEdited none_touched code (standing_code t f (number_in y.lanes) []) y.order.slots y.flow.items x.rows.rows.items rows rows
   unfolding none_touched
   rows-edited = record {
-    cells = λ l b. stays refl (alike.seen l b);
+    lets_go = λ l. false;
+    lanes_edited = λ l. cells_rebuilt (λ b. stays refl (alike.seen l b));
     few = alike.few;
     kept_shapes = λ l b. refl;
     lanes = refl;
     list = [];
-    listed = λ l b id e. absurd (let z : false ≡ true = e in cc);
+    listed = λ l b id o e. absurd (let z : false ≡ true = e in cc);
     between = causes rows;
     fallen = [];
     falls = fell;

@@ -1,5 +1,5 @@
 -- A run of edits leads from a computed table to that of the edited function.
-use Rattle.std.proofs.Common.{◌≡◌, ◌∷◌, ◌∙◌, ◌<◌, ℕ, true, length, List, [], Some, None, refl, sym, ap, subst}
+use Rattle.std.proofs.Common.{◌≡◌, ◌∷◌, ◌∙◌, ◌<◌, ℕ, true, false, length, List, [], Some, None, refl, sym, ap, subst}
 use Rattle.target_base.specs.declared.types.Target.{Target}
 use Rattle.mir_func.specs.Value.{Function, IsFunction}
 use Rattle.mir_meaning.specs.Paths.{Among, here, there, Code, Step, IsMatched, Unused, Into, has, steps_of}
@@ -21,6 +21,7 @@ use Rattle.edit_laws.specs.Chains.{Node}
 use Rattle.edit_laws.specs.Deferred.{all_deferred, all_deleted, all_gone, nothing, standing_code, TouchesEdits}
 use Rattle.edit_laws.specs.EditedTable.{HasOrder, AreRowsEdited, AreStages}
 use Rattle.edit_laws.specs.Edits.{Edit, edited, all_edited}
+use Rattle.edit_laws.specs.LetGo.{cells_rebuilt}
 use Rattle.edit_laws.specs.Ordering.{IsOrdered}
 use Rattle.edit_laws.specs.Reasons.{Touched, IsEditOf}
 use Rattle.edit_laws.specs.Rebuilt.{IsRebuilt, AreRebuilt, AreTaken}
@@ -274,12 +275,13 @@ module _ (t : Target) (es : List Edit) (old ready done new : EditRun) (may : May
 
     rows-edited : AreRowsEdited touched before mid slots ready.flow.items rows made rows'
     rows-edited = record {
-      cells = cells;
+      lets_go = λ l. false;
+      lanes_edited = λ l. cells_rebuilt (cells l);
       few = made-few;
       kept_shapes = updated.shapes_stay;
       lanes = brings.lanes;
       list = list;
-      listed = listed;
+      listed = λ l b id e. listed l b id;
       between = updated.between;
       fallen = updated.fallen;
       falls = updated.falls;
