@@ -7,7 +7,7 @@ use Rattle.live_edits.specs.Renoted.{under, CutsReadings, piece_readings, first_
 use Rattle.live_edits.proofs.RenotePieces.{take-rest}
 use Rattle.live_edits.proofs.RenoteNoted.{read-same, read-new}
 use Rattle.live_edits.proofs.RenoteLives.{same-first, readings-first, readings-lived}
-use Rattle.live_edits.proofs.renote.read_changes.Goals as goal
+use Rattle.live_edits.proofs.renote.read_change.Goals as goal
 
 pub returns-then-eq : goal.returns-then-eq
 returns-then-eq c =
