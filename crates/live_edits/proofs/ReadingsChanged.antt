@@ -91,3 +91,8 @@ module _ (c : Cell) (x y : DefPiece) (index : ℕ) (change : List LaneUse → Li
 
 pub into-back : (rs : List LaneUse) (at : ℕ) (x : LaneUse) (into : Option ℕ) → at < length rs → x ≡ get_or rs at x → changed_at at (reading_into x.into) (changed_at at (reading_into into) rs) ≡ rs
 into-back rs at x into h e = changed-back (reading_into into) (reading_into x.into) at rs x h e refl
+
+pub set-changed : (change : LaneUse → LaneUse) (rs : List LaneUse) (at : ℕ) (x : LaneUse) → at < length rs → x ≡ get_or rs at x → set rs at (change x) ≡ changed_at at change rs
+set-changed change [] at x h e = absurd (omega arith)
+set-changed change (r ∷ rs) zero x h e = ap (λ t. change t ∷ rs) e
+set-changed change (r ∷ rs) (suc at) x h e = ap (λ t. r ∷ t) (set-changed change rs at x (omega arith) e)
