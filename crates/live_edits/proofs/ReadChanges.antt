@@ -8,7 +8,7 @@ use Rattle.live_lanes.specs.declared.row.LaneUse.{LaneUse}
 use Rattle.live_lanes.specs.Table.{Numbers, Seen, changed_at}
 use Rattle.live_lanes.specs.Entered.{reading, reading_of}
 use Rattle.edit_laws.specs.LaneSteps as laws
-use Rattle.live_edits.specs.CellChanges.{with_readings, piece_readings, reading_put, reading_into}
+use Rattle.live_edits.specs.CellChanges.{with_readings, piece_readings, readings_changed, reading_put, reading_into, reading_added}
 use Rattle.live_edits.specs.RemadeSteps.{use_of_read}
 use Rattle.live_edits.specs.Renoted.{under, CutsPieces, CutsReadings, first_read, without_first, NotesReading}
 use Rattle.live_edits.proofs.RenoteNoted.{read-same, read-new}
@@ -17,6 +17,9 @@ use Rattle.live_edits.proofs.RenoteLives.{same-first, readings-first, readings-l
 -- the readings before the instruction, its own one if there is any, and those of the instructions behind it
 abbrev pub readings_with : ℕ → ℕ → Option LaneRead → List LaneUse → List LaneUse
 readings_with id at read rs = take at rs ++ (reading_of id (use_of_read read) ++ without_first id (drop at rs))
+
+abbrev read_if : Bool → LaneUse → Option LaneRead
+read_if t r = cond t (Some (record { into = r.into })) None
 
 one-reading : (id : ℕ) (read : LaneRead) → reading_of id (use_of_read (Some read)) ≡ reading id read.into ∷ []
 one-reading id read = go read.into
@@ -29,7 +32,7 @@ all-behind : (id : ℕ) (rs : List LaneUse) → first_read id rs ≡ None → wi
 all-behind id [] none = refl
 all-behind id (r ∷ rs) none = go (nat_eq r.id id) none
   where
-    go : (t : Bool) → cond t (Some (record { into = r.into })) None ≡ None {A = LaneRead} → cond t rs (r ∷ rs) ≡ r ∷ rs
+    go : (t : Bool) → read_if t r ≡ None → cond t rs (r ∷ rs) ≡ r ∷ rs
     go true e = absurd (cc)
     go false e = refl
 
@@ -45,7 +48,7 @@ read-moves id zero read [] some = absurd (cc)
 read-moves id (suc at) read [] some = absurd (cc)
 read-moves id zero read (r ∷ rs) some = go (nat_eq r.id id) refl some
   where
-    go : (t : Bool) → nat_eq r.id id ≡ t → is_some (cond t (Some (record { into = r.into })) (None {A = LaneRead})) ≡ true → reading_into read.into r ∷ rs ≡ reading_of id (use_of_read (Some read)) ++ cond t rs (r ∷ rs)
+    go : (t : Bool) → nat_eq r.id id ≡ t → is_some (read_if t r) ≡ true → reading_into read.into r ∷ rs ≡ reading_of id (use_of_read (Some read)) ++ cond t rs (r ∷ rs)
     go true e f = (λ i. reading (eqb-true r.id id e i) read.into ∷ rs) ∙ ap (λ xs. xs ++ rs) (sym (one-reading id read))
     go false e f = absurd (cc)
 read-moves id (suc at) read (r ∷ rs) some = ap (λ t. r ∷ t) (read-moves id at read rs some)
@@ -61,3 +64,19 @@ module _ (slots : Numbers) (id : ℕ) (v : Seen) (k : ℕ) (within : k ≤ lengt
   -- the piece gets these readings
   pub notes-readings : (new : List LaneUse) → new ≡ readings_with id at read own → NotesReading slots id (use_of_read read) v (with_readings v k new)
   notes-readings new is = record { told = read-new slots id v k within cut at those read new is; first = readings-first v k new; lives = readings-lived v k new }
+
+  -- its reading goes
+  pub notes-gone : (left : List LaneUse) → read ≡ None → left ≡ take at own ++ without_first id (drop at own) → NotesReading slots id (use_of_read read) v (with_readings v k left)
+  notes-gone left none is = notes-readings left (is ∙ ap (λ o. readings_with id at o own) (sym none))
+
+  -- it moves the lane elsewhere
+  pub notes-moved : (r : LaneRead) → read ≡ Some r → is_some (first_read id (drop at own)) ≡ true → NotesReading slots id (use_of_read read) v (readings_changed (changed_at at (reading_into r.into)) k v)
+  notes-moved r some there = notes-readings (changed_at at (reading_into r.into) own) (read-moves id at r own there ∙ ap (λ o. readings_with id at o own) (sym some))
+
+  -- it comes
+  pub notes-come : (r : LaneRead) → read ≡ Some r → at ≤ length own → is_some (first_read id (drop at own)) ≡ false → NotesReading slots id (use_of_read read) v (reading_added k at (reading id r.into) v)
+  notes-come r some h absent = notes-readings (reading_put at (reading id r.into) own) (read-comes id at r own h (is-none (first_read id (drop at own)) absent) ∙ ap (λ o. readings_with id at o own) (sym some))
+    where
+      is-none : (o : Option LaneRead) → is_some o ≡ false → o ≡ None
+      is-none None e = refl
+      is-none (Some x) e = absurd (cc)

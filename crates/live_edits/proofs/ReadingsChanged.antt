@@ -79,7 +79,7 @@ reading-back index at r v = changed-undone (reading_put at r) (λ rs. remove rs 
 -- a cell whose piece has its readings changed
 module _ (c : Cell) (x y : DefPiece) (index : ℕ) (change : List LaneUse → List LaneUse) (ne : index ≡ 0 → ⊥) (h : index - 1 < length c.segments.items) (e : x ≡ get_or c.segments.items (index - 1) x) where
   own-list : x.piece.readings.items ≡ piece_readings c.first.readings.items (map begun c.segments.items) index
-  own-list = readings-at c.first.readings.items c.segments.items index x ne (omega (arith, h, ne)) e
+  own-list = readings-at c.first.readings.items c.segments.items index x ne (omega (arith, h)) e
 
   pub piece-changed : begun y ≡ begun_with_readings (change x.piece.readings.items) (begun x) → record (seen_cell c) { segments = map begun (set c.segments.items (index - 1) y) } ≡ readings_changed change index (seen_cell c)
   piece-changed f = put-readings c x y index (change x.piece.readings.items) ne h e f ∙ ap (λ rs. with_readings (seen_cell c) index (change rs)) own-list

@@ -17,7 +17,7 @@ use Rattle.live_edits.specs.declared.cells.Note.{Note}
 use Rattle.live_edits.specs.declared.cells.CellNotes.{CellNotes}
 use Rattle.live_edits.specs.declared.renote.CellChanges.{CellChanges}
 use Rattle.live_edits.specs.declared.renote.ReadingChange.{ReadingChange}
-use Rattle.live_edits.specs.declared.renote.ReadingChange.TheVariants as readings
+use Rattle.live_edits.specs.declared.renote.ReadingChange.TheVariants as reading_changes
 use Rattle.instr_effects.specs.declared.lane_acts.LaneRead.{LaneRead}
 use Rattle.instr_effects.specs.declared.lane_acts.LaneWrite.{LaneWrite}
 use Rattle.std.specs.List.{insert, remove}
@@ -104,9 +104,9 @@ is_begun_by id (s ∷ ss) (suc k) = is_begun_by id ss k
 
 -- what a cell tells after its readings change
 abbrev pub reading_changed : ReadingChange → Seen → Seen
-reading_changed readings.None v = v
-reading_changed (readings.Put index at r) v = reading_added index at r v
-reading_changed (readings.Other c) v = seen_changed c v
+reading_changed reading_changes.None v = v
+reading_changed (reading_changes.Put index at r) v = reading_added index at r v
+reading_changed (reading_changes.Other c) v = seen_changed c v
 
 -- one or two changes, or none
 abbrev pub changed_maybe : Option CellChange → Seen → Seen
