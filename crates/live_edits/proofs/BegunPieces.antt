@@ -1,7 +1,6 @@
 -- A piece that begins with an instruction, and what it takes of the readings of the one before.
 use Rattle.std.proofs.Common.{◌≡◌, ◌≤◌, ◌+◌, ◌∙◌, ℕ, zero, suc, Bool, cond, length, List, [], ◌∷◌, Option, take, drop, refl, sym, ap, arith}
 use Rattle.std.specs.List.{insert}
-use Rattle.std.proofs.lemmas.List.{drop_all}
 use Rattle.live_lanes.specs.declared.row.DefPiece.{DefPiece}
 use Rattle.live_lanes.specs.declared.row.LaneUse.{LaneUse}
 use Rattle.live_lanes.specs.Table.{Seen, Begun, begun, new_begun}

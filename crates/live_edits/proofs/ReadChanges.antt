@@ -1,6 +1,6 @@
 -- What becomes of the readings of a piece where an instruction reads the lane otherwise.
 use Rattle.std.proofs.Common.{◌≡◌, ◌≤◌, ℕ, zero, suc, Bool, true, false, cond, length, List, [], ◌∷◌, ◌++◌, Option, None, Some, take, drop, refl, sym, ap, ◌∙◌, eqb-true}
-use Rattle.std.specs.Prelude.{nat_eq, nat_le, is_some}
+use Rattle.std.specs.Prelude.{nat_eq, is_some}
 use Rattle.std.specs.List.{insert}
 use Rattle.std.proofs.lemmas.Bool.{le-leb}
 use Rattle.instr_effects.specs.declared.lane_acts.LaneRead.{LaneRead}

@@ -1,14 +1,11 @@
 -- Readings of a piece that are changed in place, and what takes the changes back.
-use Rattle.std.proofs.Common.{◌≡◌, ◌<◌, ◌≤◌, ◌-◌, ◌∙◌, ◌⊎◌, inl, inr, ℕ, zero, suc, cond, length, List, [], ◌∷◌, ◌++◌, Option, None, Some, map, take, drop, get_or, set, refl, sym, ap, arith}
-use Rattle.std.specs.Prelude.{nat_eq, nat_le}
+use Rattle.std.proofs.Common.{◌≡◌, ◌<◌, ◌≤◌, ◌-◌, ◌∙◌, ◌⊎◌, inl, inr, ℕ, zero, suc, cond, length, List, [], ◌∷◌, Option, map, get_or, set, refl, sym, ap, arith}
 use Rattle.std.specs.List.{insert, remove}
-use Rattle.std.proofs.lemmas.List.{length-map}
 use Rattle.std.proofs.lemmas.Bool.{le-leb, lt-leb, cases_lt}
 use Rattle.live_lanes.specs.declared.row.LaneUse.{LaneUse}
 use Rattle.live_lanes.specs.declared.row.DefPiece.{DefPiece}
 use Rattle.live_lanes.specs.declared.row.Cell.{Cell}
 use Rattle.live_lanes.specs.Table.{Seen, Begun, seen_cell, begun, changed_at}
-use Rattle.live_lanes.proofs.Segments.{changed-past}
 use Rattle.live_edits.specs.CellChanges.{begun_with_readings, with_readings, piece_readings, readings_changed, reading_put, reading_into, reading_added, reading_removed}
 use Rattle.live_edits.proofs.CellChanged.{remove-inserted, remove-past, put-readings, readings-past, changed-back}
 use Rattle.live_edits.proofs.RenotePieces.{readings-at}

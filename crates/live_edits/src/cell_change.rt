@@ -5,7 +5,7 @@ ghost use Rattle.std.specs.List.{remove};
 ghost use Rattle.live_lanes.specs.Table.{changed_at, seen_cell};
 ghost use Rattle.live_edits.specs.CellChanges.{seen_changed, fits_in, reading_put, reading_into, reading_added, reading_removed};
 
-use live_lanes::row::{Cause, Cell, DefPiece, LaneUse, PieceEnd};
+use live_lanes::row::{Cell, DefPiece, LaneUse};
 use std::alloc::AllocError;
 use std::mem;
 

@@ -1,4 +1,4 @@
-use Rattle.std.proofs.Common.{◌≡◌, ◌<◌, ◌∙◌, ◌++◌, ◌∷◌, [], length, refl, ap, arith}
+use Rattle.std.proofs.Common.{◌<◌, ◌∙◌, ◌++◌, ◌∷◌, [], length, refl, ap, arith}
 use Rattle.live_edits.specs.CellChanges.{reading_added}
 use Rattle.live_edits.specs.declared.log.Former.TheVariants as formers
 use Rattle.live_edits.proofs.Lives.{added-logged, read-logged}

@@ -1,4 +1,4 @@
-use Rattle.std.proofs.Common.{◌≡◌, ◌<◌, ◌≤◌, ◌+◌, ◌-◌, length, drop, sym, subst, arith}
+use Rattle.std.proofs.Common.{◌≡◌, ◌<◌, ◌+◌, ◌-◌, length, drop, sym, subst, arith}
 use Rattle.live_edits.proofs.Logged.{logged-same, logged-then}
 use Rattle.live_edits.proofs.CellsRemade.{RemakesEach, each-more, each-none, all-remade}
 use Rattle.live_edits.proofs.log.LoggedRows.remake_all.Goals as goal
