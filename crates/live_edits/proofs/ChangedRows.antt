@@ -33,14 +33,14 @@ module _ (cs : List Cell) (at : ℕ) (x y : Cell) (s : descends cs ≡ true) (h 
   pub still-descends : descends (set cs at y) ≡ true
   still-descends = set-descends cs at x y s found block
 
-  same-cells : (q : ℕ) → is_some (find_cell q (set cs at y)) ≡ is_some (find_cell q cs)
+  pub same-cells : (q : ℕ) → is_some (find_cell q (set cs at y)) ≡ is_some (find_cell q cs)
   same-cells q = ap is_some (set-find q cs at x y s found block) ∙ go (nat_eq x.block q) refl
     where
       go : (t : Bool) → nat_eq x.block q ≡ t → is_some (cond t (Some y) (find_cell q cs)) ≡ is_some (find_cell q cs)
       go true e = sym (ap is_some (subst (λ n. find_cell n cs ≡ Some x) (eqb-true x.block q e) (is-found cs at x s found)))
       go false e = refl
 
-  no-room-goes : vec_capacity x.segments ≤ vec_capacity y.segments → (q : ℕ) → cell_room (find_cell q cs) ≤ cell_room (find_cell q (set cs at y))
+  pub no-room-goes : vec_capacity x.segments ≤ vec_capacity y.segments → (q : ℕ) → cell_room (find_cell q cs) ≤ cell_room (find_cell q (set cs at y))
   no-room-goes room q = go (nat_eq x.block q) refl (ap cell_room (set-find q cs at x y s found block))
     where
       go : (t : Bool) → nat_eq x.block q ≡ t → cell_room (find_cell q (set cs at y)) ≡ cell_room (cond t (Some y) (find_cell q cs)) → cell_room (find_cell q cs) ≤ cell_room (find_cell q (set cs at y))

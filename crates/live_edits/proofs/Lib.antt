@@ -5,6 +5,10 @@ pub mod RenoteCut
 pub mod RenoteNoted
 pub mod RenoteLives
 pub mod RenotePieces
+pub mod ReadingsChanged
+pub mod ReadChanges
+pub mod BegunPieces
+pub mod PlacedCells
 pub mod RenoteRows
 pub mod RenoteSteps
 pub mod RenoteShape

@@ -5,6 +5,7 @@ use Rattle.std.specs.declared.result.Result.TheVariants as results
 use Rattle.mir_meaning.specs.Paths.{Among}
 use Rattle.live_lanes.specs.declared.row.Cause.{Cause}
 use Rattle.live_lanes.specs.declared.row.LaneRange.{LaneRange}
+use Rattle.live_lanes.specs.declared.row.LaneUse.{LaneUse}
 use Rattle.live_lanes.specs.declared.row.PieceEnd.{PieceEnd}
 use Rattle.live_lanes.specs.declared.table.PieceSpot.{PieceSpot}
 use Rattle.live_lanes.specs.Table.{Seen, Begun, begun_cause, begun_end, begun_with_cause, begun_with_end, changed_at, cause_in, end_in, with_cause, with_end}
@@ -21,11 +22,12 @@ use Rattle.live_edits.specs.declared.log.Former.{Former}
 use Rattle.live_edits.specs.declared.log.Former.TheVariants as formers
 use Rattle.live_edits.specs.declared.log.LoggedRows.{LoggedRows}
 use Rattle.live_edits.specs.declared.cell_change.CellChange.{CellChange}
-use Rattle.live_edits.specs.CellChanges.{seen_changed, fits_in}
+use Rattle.live_edits.specs.CellChanges.{seen_changed, fits_in, reading_added, reading_removed}
 use Rattle.live_edits.specs.Logged.{has_cell, room_of, cell_there, IsLogged}
 use Rattle.live_edits.specs.Pieces.{node_of, IsThere, KeepsPieces}
 use Rattle.live_edits.specs.Changes.{ChangesCell, AddsCells, LogsLife, TakesBack}
 use Rattle.live_edits.proofs.KeptPieces.{end-cause}
+use Rattle.live_edits.proofs.ReadingsChanged.{reading-back}
 
 -- a piece that gets its own cause or end stays
 segment-own-cause : (ss : List Begun) (k : ℕ) → changed_at k (begun_with_cause (begun_cause (slice_get ss k))) ss ≡ ss
@@ -293,3 +295,26 @@ shape-back old new lane block change p = record { seen = p.seen; cells = p.cells
 pub shape-taken : {B E : Type 0} (old new : List LaneRange) (lane block : ℕ) (change : CellChange) (r : Result B E) → IsOk r → OnOk r (ChangesCell old new lane block (λ v. seen_changed change v)) → TakesBack old new (formers.Shape lane block change)
 shape-taken old new lane block change (results.Ok b) ok p = shape-back old new lane block change p
 shape-taken old new lane block change (results.Err e) ok p = absurd (let f : false ≡ true = ok in cc)
+
+-- a reading that comes is logged
+pub read-logged : (x z : LoggedRows) (mid : List LaneRange) (spot : PieceSpot) (at : ℕ) (r : LaneUse) → AddsCells x.rows.rows.items mid → has_cell mid spot.lane spot.block ≡ true → ChangesCell mid z.rows.rows.items spot.lane spot.block (λ v. reading_added spot.index at r v) → z.log.items ≡ x.log.items ++ formers.Read spot at ∷ [] → IsLogged x z
+read-logged x z mid spot at r a has q list = record {
+  added = formers.Read spot at ∷ [];
+  list = list;
+  back = λ l b. ap (λ v. cond (own l b) (reading_removed spot.index at v) v) (q.seen l b) ∙ (go (own l b) (rows_seen mid l b) ∙ a.seen l b);
+  lanes = q.lanes ∙ a.lanes;
+  cells = λ l b h. q.cells l b ∙ a.cells l b h;
+  rooms = λ l b. let f = a.rooms l b in let g = q.rooms l b in omega (arith, f, g);
+  there = λ f m. there f (among-cases f (formers.Read spot at) [] m);
+}
+  where
+    own : ℕ → ℕ → Bool
+    own l b = nat_eq spot.lane l && nat_eq spot.block b
+
+    go : (t : Bool) (v : Seen) → cond t (reading_removed spot.index at (cond t (reading_added spot.index at r v) v)) (cond t (reading_added spot.index at r v) v) ≡ v
+    go true v = reading-back spot.index at r v
+    go false v = refl
+
+    there : (f : Former) → (f ≡ formers.Read spot at) ⊎ Among f [] → cell_there z.rows.rows.items f ≡ true
+    there f (inl e) = ap (cell_there z.rows.rows.items) e ∙ (q.cells spot.lane spot.block ∙ has)
+    there f (inr m) = absurd (none-among f m)

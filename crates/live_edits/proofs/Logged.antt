@@ -26,6 +26,7 @@ KeepsRooms old new = (l b : ℕ) → room_of old l b ≤ room_of new l b
 -- what fits a room fits a larger one
 pub still-fits : (c : CellChange) (n m : ℕ) → n ≤ m → fits_in c n ≡ true → fits_in c m ≡ true
 still-fits (changes.Readings index readings) n m h f = refl
+still-fits (changes.SetReading index at into) n m h f = refl
 still-fits (changes.Writing at early from) n m h f = refl
 still-fits (changes.Begin at piece count) n m h f = let k = leb-true count n f in le-leb count m (omega (arith, h, k))
 still-fits (changes.Join at) n m h f = refl
@@ -40,6 +41,7 @@ cell-stays old new k r (formers.Shape lane block change) h =
     let has = both-left (has_cell old lane block) (fits_in change (room_of old lane block)) h in
     let fits = both-right (has_cell old lane block) (fits_in change (room_of old lane block)) h in
     both (has_cell new lane block) (fits_in change (room_of new lane block)) (k lane block has) (still-fits change (room_of old lane block) (room_of new lane block) (r lane block) fits)
+cell-stays old new k r (formers.Read spot at) h = k spot.lane spot.block h
 
 pub cells-stay : (old new : List LaneRange) → KeepsCells old new → KeepsRooms old new → (es : List Former) → HasAllCells old es → HasAllCells new es
 cells-stay old new k r es h e a = cell-stays old new k r e (h e a)

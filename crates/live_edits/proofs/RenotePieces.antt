@@ -27,7 +27,7 @@ readings-at rs ps (suc k) x ne h e =
     let one : suc k - 1 ≡ k = omega arith in
     readings-here rs ps k x (omega arith) (e ∙ ap (λ n. get_or ps n x) one)
 
-take-whole : {X : Type 0} (xs : List X) → take (length xs) xs ≡ xs
+pub take-whole : {X : Type 0} (xs : List X) → take (length xs) xs ≡ xs
 take-whole [] = refl
 take-whole (x ∷ xs) = ap (λ t. x ∷ t) (take-whole xs)
 

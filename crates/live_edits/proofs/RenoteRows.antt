@@ -80,6 +80,13 @@ one-then x y z lane block P Q R both p q = record {
   lanes = q.lanes ∙ p.lanes;
 }
 
+pub one-is : (x z : List LaneRange) (lane block : ℕ) (change : Seen → Seen) (v : Seen) (P : Seen → Seen → Type 0) → v ≡ rows_seen x lane block → P v (change v) → ChangesOne x z lane block (λ u w. w ≡ change u) → ChangesOne x z lane block P
+one-is x z lane block change v P same p q = record {
+  own = subst (P (rows_seen x lane block)) (sym q.own) (subst (λ u. P u (change u)) same p);
+  others = q.others;
+  lanes = q.lanes;
+}
+
 pub one-so : (x z : List LaneRange) (lane block : ℕ) (cs : CellChanges) (v : Seen) (P : ℕ → Seen → Seen → Type 0) → v ≡ rows_seen x lane block → ((l : ℕ) → P l v (all_changed cs v)) → ChangesOne x z lane block (λ u w. w ≡ all_changed cs u) → (l : ℕ) → ChangesOne x z lane block (P l)
 one-so x z lane block cs v P same p q l = record {
   own = subst (P l (rows_seen x lane block)) (sym q.own) (subst (λ u. P l u (all_changed cs u)) same (p l));

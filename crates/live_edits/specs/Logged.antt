@@ -5,7 +5,7 @@ use Rattle.live_lanes.specs.declared.row.Cell.{Cell}
 use Rattle.live_lanes.specs.declared.row.LaneRange.{LaneRange}
 use Rattle.live_lanes.specs.Table.{Seen, find_cell, with_cause, with_end}
 use Rattle.live_lanes.specs.Entered.{rows_seen, cells_of}
-use Rattle.live_edits.specs.CellChanges.{seen_changed, fits_in}
+use Rattle.live_edits.specs.CellChanges.{seen_changed, reading_removed, fits_in}
 use Rattle.live_edits.specs.declared.log.Former.{Former}
 use Rattle.live_edits.specs.declared.log.Former.TheVariants as formers
 use Rattle.live_edits.specs.declared.log.LoggedRows.{LoggedRows}
@@ -18,6 +18,7 @@ AllSeen = ℕ → ℕ → Seen
 abbrev pub taken_back : Former → AllSeen → AllSeen
 taken_back (formers.Life spot cause end) seen l b = cond (nat_eq spot.lane l && nat_eq spot.block b) (with_end (with_cause (seen l b) spot.index cause) spot.index end) (seen l b)
 taken_back (formers.Shape lane block change) seen l b = cond (nat_eq lane l && nat_eq block b) (seen_changed change (seen l b)) (seen l b)
+taken_back (formers.Read spot at) seen l b = cond (nat_eq spot.lane l && nat_eq spot.block b) (reading_removed spot.index at (seen l b)) (seen l b)
 
 -- before all these changes, of which the last is taken back first
 abbrev pub all_taken_back : List Former → AllSeen → AllSeen
@@ -40,6 +41,7 @@ room_of rows l b = cell_room (find_cell b (cells_of rows l))
 abbrev pub cell_there : List LaneRange → Former → Bool
 cell_there rows (formers.Life spot cause end) = has_cell rows spot.lane spot.block
 cell_there rows (formers.Shape lane block change) = has_cell rows lane block && fits_in change (room_of rows lane block)
+cell_there rows (formers.Read spot at) = has_cell rows spot.lane spot.block
 
 -- each change that is logged concerns a cell that is there, with room for it
 abbrev pub HasAllCells : List LaneRange → List Former → Type 0

@@ -16,10 +16,13 @@ use Rattle.live_edits.specs.declared.cell_change.CellChange.{CellChange}
 use Rattle.live_edits.specs.declared.cells.Note.{Note}
 use Rattle.live_edits.specs.declared.cells.CellNotes.{CellNotes}
 use Rattle.live_edits.specs.declared.renote.CellChanges.{CellChanges}
+use Rattle.live_edits.specs.declared.renote.ReadingChange.{ReadingChange}
+use Rattle.live_edits.specs.declared.renote.ReadingChange.TheVariants as reading_changes
 use Rattle.instr_effects.specs.declared.lane_acts.LaneRead.{LaneRead}
 use Rattle.instr_effects.specs.declared.lane_acts.LaneWrite.{LaneWrite}
 use Rattle.std.specs.List.{insert, remove}
-use Rattle.live_edits.specs.CellChanges.{seen_changed, with_readings, begun_with_writing}
+pub use Rattle.live_edits.specs.CellChanges.{piece_readings}
+use Rattle.live_edits.specs.CellChanges.{seen_changed, with_readings, reading_added, begun_with_writing}
 use Rattle.live_edits.specs.RemadeSteps.{noted_step}
 
 -- a reading, or a writing of the instruction of an id
@@ -84,12 +87,6 @@ CutsReadings test rs n = Cuts (λ r. test r.id) rs n
 abbrev pub CutsPieces : Numbers → ℕ → List Begun → ℕ → Type 0
 CutsPieces slots id ss n = Cuts (λ s. under slots id s.start) ss n
 
--- the readings of a piece, by its number
-abbrev pub piece_readings : List LaneUse → List Begun → ℕ → List LaneUse
-piece_readings rs ss zero = rs
-piece_readings rs [] (suc k) = []
-piece_readings rs (s ∷ ss) (suc k) = piece_readings s.readings ss k
-
 -- the first reading, if it is of the instruction, and what stands behind it
 abbrev pub first_read : ℕ → List LaneUse → Option LaneRead
 first_read id [] = None
@@ -104,6 +101,12 @@ abbrev pub is_begun_by : ℕ → List Begun → ℕ → Bool
 is_begun_by id [] k = false
 is_begun_by id (s ∷ ss) zero = nat_eq s.start id
 is_begun_by id (s ∷ ss) (suc k) = is_begun_by id ss k
+
+-- what a cell tells after its readings change
+abbrev pub reading_changed : ReadingChange → Seen → Seen
+reading_changed reading_changes.None v = v
+reading_changed (reading_changes.Put index at r) v = reading_added index at r v
+reading_changed (reading_changes.Other c) v = seen_changed c v
 
 -- one or two changes, or none
 abbrev pub changed_maybe : Option CellChange → Seen → Seen

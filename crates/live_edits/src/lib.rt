@@ -2,7 +2,7 @@
 //! as it then stands.
 //!
 //! Cells of the lanes that edited instructions name are changed to what these do now (`renote`, by the
-//! notes of `cells`, through changes of single cells in `cell_change`). Then pieces whose causes
+//! notes of `cells`, through changes of single cells in `cell_change` and `readings`). Then pieces whose causes
 //! are gone fall (`fall`), those that still have a reason come alive again (`ask`, `rise`), and the
 //! pieces concerned get their ends anew (`ends`): begin with `update`. Each change of a row is logged
 //! (`log`), so that it can be taken back without memory. The function itself and the order of its
@@ -23,6 +23,7 @@ mod log;
 mod needs;
 mod notes;
 mod pieces;
+mod readings;
 mod renote;
 mod rise;
 mod spots;

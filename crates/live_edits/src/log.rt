@@ -6,6 +6,7 @@ ghost use Rattle.live_edits.specs.Changes.{TakesBack};
 
 use crate::cell_change::CellChange;
 use crate::change::{change_in, give_life};
+use crate::readings::remove_read;
 use live_lanes::row::{Cause, PieceEnd};
 use live_lanes::table::{LaneRanges, PieceSpot};
 
@@ -16,6 +17,8 @@ pub enum Former {
     Life(PieceSpot, Cause, PieceEnd),
     /// The cell of a lane in a block was as this change makes it.
     Shape(u32, u32, CellChange),
+    /// The reading at this place of the piece at a spot wasn't there.
+    Read(PieceSpot, usize),
 }
 
 /// The pieces of all lanes while edits are done, and what takes each change of them back, in the order
@@ -58,6 +61,9 @@ impl LoggedRows {
             }
             Former::Shape(lane, block, change) => {
                 let _ = change_in(&mut self.rows, lane, block, change);
+            }
+            Former::Read(spot, at) => {
+                remove_read(&mut self.rows, spot, at);
             }
         }
     }

@@ -1,20 +1,20 @@
 //! Cells that are changed, note by note, to what touched instructions do now.
 
-ghost use Rattle.std.specs.Prelude.{◌≡◌, ◌<◌, ◌≤◌, ◌++◌, ℕ, true, length, IfOk, OnOk};
-ghost use Rattle.live_lanes.specs.Table.{Seen, seen_cell};
-ghost use Rattle.live_lanes.specs.Entered.{reading_of};
+ghost use Rattle.std.specs.Prelude.{◌≡◌, ◌<◌, ◌≤◌, ◌++◌, ℕ, length, IfOk, OnOk};
+ghost use Rattle.live_lanes.specs.Table.{Seen, seen_cell, begun, new_begun};
 ghost use Rattle.live_edits.specs.Logged.{IsLogged};
 ghost use Rattle.live_edits.specs.Remade.{RemakesAll};
 ghost use Rattle.live_edits.specs.RemadeSteps.{use_of_read, def_of_write};
-ghost use Rattle.live_edits.specs.CellChanges.{seen_changed};
-ghost use Rattle.live_edits.specs.Renoted.{CutsReadings, CutsPieces, piece_readings, under, not_over, first_read, without_first, is_begun_by, changed_maybe, all_changed, rewritten, Begins, piece_joined, NotesReading, NotesWriting, NotesSeen, NotesAll, NotesCell, ChangesOne};
+ghost use Rattle.live_edits.specs.CellChanges.{seen_changed, begun_with_readings};
+ghost use Rattle.live_edits.specs.Renoted.{CutsReadings, CutsPieces, piece_readings, under, not_over, first_read, without_first, is_begun_by, reading_changed, changed_maybe, all_changed, rewritten, Begins, piece_joined, NotesReading, NotesWriting, NotesSeen, NotesAll, NotesCell, ChangesOne};
 
-use crate::cell_change::CellChange;
+use crate::cell_change::{CellChange, change_cell};
 use crate::cells::{CellNotes, Note};
-use crate::change::{change_in, make_in};
+use crate::change::make_in;
 use crate::log::{Former, LoggedRows};
 use instr_effects::lane_acts::{LaneRead, LaneWrite};
 use live_lanes::row::{Cause, Cell, DefPiece, LaneUse, Piece, PieceEnd};
+use live_lanes::table::PieceSpot;
 use slot_index::Slots;
 use std::alloc::{AllocError, Global};
 
@@ -85,28 +85,6 @@ fn without_first(readings: &[LaneUse], id: u32) -> &[LaneUse]
     readings
 }
 
-/// The readings before one, this one if there is any, and those behind it.
-fn with_read(
-    alloc: Global,
-    before: &[LaneUse],
-    id: u32,
-    read: Option<LaneRead>,
-    behind: &[LaneUse],
-) -> Result<Vec<LaneUse>, AllocError>
-    ensures { IfOk result (λ new. new.items ≡ before.now ++ (reading_of id (use_of_read read) ++ behind.now)) }
-{
-    let mut new = Vec::new(alloc);
-    new.extend_from_slice(before)?;
-    if let Some(read) = read {
-        new.push(LaneUse {
-            id,
-            into: read.into,
-        })?;
-    }
-    new.extend_from_slice(behind)?;
-    Ok(new)
-}
-
 /// These readings, and then those.
 fn joined(alloc: Global, before: &[LaneUse], behind: &[LaneUse]) -> Result<Vec<LaneUse>, AllocError>
     ensures { IfOk result (λ new. new.items ≡ before.now ++ behind.now) }
@@ -136,28 +114,47 @@ struct CellChanges {
     second: Option<CellChange>,
 }
 
+/// A change of the readings of a cell.
+#[derive(Drop)]
+enum ReadingChange {
+    /// Nothing changes.
+    None,
+    /// A reading comes at a place of a piece.
+    Put(usize, usize, LaneUse),
+    /// The cell changes so.
+    Other(CellChange),
+}
+
 /// What changes a cell so that an instruction reads the lane so.
-fn read_changes(
+fn read_change(
     alloc: Global,
     slots: &Slots,
     cell: &Cell,
     id: u32,
     read: Option<LaneRead>,
-) -> Result<CellChanges, AllocError>
-    ensures { IfOk result (λ changes. NotesReading slots.now id (use_of_read read) (seen_cell cell.now) (all_changed changes (seen_cell cell.now))) }
+) -> Result<ReadingChange, AllocError>
+    ensures { IfOk result (λ change. NotesReading slots.now id (use_of_read read) (seen_cell cell.now) (reading_changed change (seen_cell cell.now))) }
 {
     let index = piece_before(slots, cell, id);
     let readings = readings_of(cell, index);
     let at = readings_before(slots, readings, id);
     let behind = &readings[at..];
-    let second = None;
-    if first_read(behind, id) == read {
-        let first = None;
-        return Ok(CellChanges { first, second });
+    let former = first_read(behind, id);
+    if former == read {
+        return Ok(ReadingChange::None);
     }
-    let new = with_read(alloc, &readings[..at], id, read, without_first(behind, id))?;
-    let first = Some(CellChange::Readings(index, new));
-    Ok(CellChanges { first, second })
+    let Some(read) = read else {
+        let left = joined(alloc, &readings[..at], without_first(behind, id))?;
+        return Ok(ReadingChange::Other(CellChange::Readings(index, left)));
+    };
+    if former.is_some() {
+        return Ok(ReadingChange::Other(CellChange::SetReading(index, at, read.into)));
+    }
+    let reading = LaneUse {
+        id,
+        into: read.into,
+    };
+    Ok(ReadingChange::Put(index, at, reading))
 }
 
 /// What changes a cell so that an instruction that writes the lane does it so.
@@ -167,6 +164,22 @@ fn rewrite(at: usize, write: LaneWrite) -> CellChanges
     CellChanges {
         first: Some(CellChange::Writing(at, write.early, write.from)),
         second: None,
+    }
+}
+
+/// A piece that begins with a writing, and has these readings.
+fn begun_piece(id: u32, write: LaneWrite, readings: Vec<LaneUse>) -> DefPiece
+    ensures { begun result ≡ begun_with_readings readings.items (new_begun id write.early write.from) }
+{
+    DefPiece {
+        start: id,
+        early: write.early,
+        from: write.from,
+        piece: Piece {
+            cause: Cause::None,
+            end: PieceEnd::Never,
+            readings,
+        },
     }
 }
 
@@ -184,23 +197,17 @@ fn begin(
 {
     let readings = readings_of(cell, index);
     let at = readings_through(slots, readings, id);
-    let before = joined(alloc, &readings[..at], &[])?;
     let behind = joined(alloc, &readings[at..], &[])?;
-    let piece = DefPiece {
-        start: id,
-        early: write.early,
-        from: write.from,
-        piece: Piece {
-            cause: Cause::None,
-            end: PieceEnd::Never,
-            readings: behind,
-        },
-    };
-    let count = cell.segments.len() + 1;
-    Ok(CellChanges {
-        first: Some(CellChange::Begin(index, piece, count)),
-        second: Some(CellChange::Readings(index, before)),
-    })
+    let piece = begun_piece(id, write, behind);
+    let first = Some(CellChange::Begin(index, piece, cell.segments.len() + 1));
+    // Where the new piece takes no readings, the one before keeps its list.
+    if at == readings.len() {
+        let second = None;
+        return Ok(CellChanges { first, second });
+    }
+    let before = joined(alloc, &readings[..at], &[])?;
+    let second = Some(CellChange::Readings(index, before));
+    Ok(CellChanges { first, second })
 }
 
 /// What joins the piece at a place among those that writings begin to the one before.
@@ -258,8 +265,9 @@ impl LoggedRows {
     {
         // Memory for the log is taken first, so that no cell changes without what takes it back.
         self.log.reserve(1)?;
-        let _ = make_in(&mut self.rows, lane, block)?;
-        let back = change_in(&mut self.rows, lane, block, change)?;
+        let place = make_in(&mut self.rows, lane, block)?;
+        let cell = &mut self.rows.rows[lane as usize].cells[place];
+        let back = change_cell(cell, change)?;
         self.log.push(Former::Shape(lane, block, back))?;
         Ok(())
     }
@@ -293,6 +301,27 @@ impl LoggedRows {
         self.change_maybe(lane, block, changes.second)
     }
 
+    /// Changes the readings of a cell.
+    fn change_readings(
+        &mut self,
+        lane: u32,
+        block: u32,
+        change: ReadingChange,
+    ) -> Result<(), AllocError>
+        requires { lane < length self.old.rows.rows.items }
+        ensures changed { OnOk result (ChangesOne self.old.rows.rows.items self.new.rows.rows.items lane block (λ v w. w ≡ reading_changed change v)) }
+        ensures lanes { length self.new.rows.rows.items ≡ length self.old.rows.rows.items }
+        ensures logged { IsLogged self.old self.new }
+    {
+        match change {
+            ReadingChange::None => Ok(()),
+            ReadingChange::Put(index, at, reading) => {
+                self.put_read(PieceSpot { lane, block, index }, at, reading)
+            }
+            ReadingChange::Other(change) => self.change(lane, block, change),
+        }
+    }
+
     /// Lets a cell tell that an instruction reads the lane so.
     fn note_read(
         &mut self,
@@ -311,8 +340,8 @@ impl LoggedRows {
         // Where there is no cell, one that tells nothing stands for it, which takes no memory.
         let empty = Cell::new(alloc, block);
         let cell = self.rows.cell(lane, block).unwrap_or(&empty);
-        let changes = read_changes(alloc, slots, cell, id, read)?;
-        self.change_all(lane, block, changes)
+        let change = read_change(alloc, slots, cell, id, read)?;
+        self.change_readings(lane, block, change)
     }
 
     /// Lets a cell tell that an instruction writes the lane so.
@@ -383,8 +412,12 @@ impl LoggedRows {
         ensures remade { OnOk result (RemakesAll slots.now self.old.rows.rows.items self.new.rows.rows.items all.now) }
         ensures logged { IsLogged self.old self.new }
     {
-        'cells: for notes in all {
-            self.note_cell(slots, notes)?;
+        // Rows have their cells from the last block to the first, and notes come in layout order: so a
+        // new cell comes at the end of its row.
+        let mut left = all.len();
+        'cells: while left > 0 {
+            left -= 1;
+            self.note_cell(slots, &all[left])?;
         }
         Ok(())
     }
