@@ -13,15 +13,15 @@ use Rattle.live_edits.proofs.NotedAll.{taken-more, taken-own, taken-cases}
 
 pub lane-has : (acts : List LaneAct) (a : LaneAct) (l : ℕ) → Among a acts → a.lane ≡ l → has l (act_lanes acts) ≡ true
 lane-has [] a l m e = absurd (none-among a m)
-lane-has (b ∷ bs) a l m e = go (among-cases a b bs m)
+lane-has (b ∷ bs) a l m e = go (among-cases a b bs m) (λ k. lane-has bs a l k e)
   where
     more : (u : Bool) → has l (act_lanes bs) ≡ true → cond u true (has l (act_lanes bs)) ≡ true
     more true h = refl
     more false h = h
 
-    go : (a ≡ b) ⊎ Among a bs → cond (nat_eq b.lane l) true (has l (act_lanes bs)) ≡ true
-    go (inl f) = ap (λ u. cond u true (has l (act_lanes bs))) (eq-eqb b.lane l (ap (λ (x : LaneAct). x.lane) (sym f) ∙ e))
-    go (inr k) = more (nat_eq b.lane l) (lane-has bs a l k e)
+    go : (a ≡ b) ⊎ Among a bs → (Among a bs → has l (act_lanes bs) ≡ true) → cond (nat_eq b.lane l) true (has l (act_lanes bs)) ≡ true
+    go (inl f) ih = ap (λ u. cond u true (has l (act_lanes bs))) (eq-eqb b.lane l (ap (λ (x : LaneAct). x.lane) (sym f) ∙ e))
+    go (inr k) ih = more (nat_eq b.lane l) (ih k)
 
 pub has-lane : (acts : List LaneAct) (l : ℕ) → has_act acts l ≡ has l (act_lanes acts)
 has-lane [] l = refl
@@ -49,7 +49,7 @@ act-found (a ∷ acts) l = go (nat_eq a.lane l) refl (act-found acts l)
 -- where no two are on one lane, each of them is the act on its lane
 pub once-act : (acts : List LaneAct) (a : LaneAct) → is_once acts ≡ true → Among a acts → a ≡ act_on acts a.lane
 once-act [] a o m = absurd (none-among a m)
-once-act (b ∷ bs) a o m = go (among-cases a b bs m)
+once-act (b ∷ bs) a o m = go (among-cases a b bs m) (λ k h. once-act bs a h k)
   where
     left : (u v : Bool) → not u && v ≡ true → u ≡ false
     left true v e = absurd (let z : false ≡ true = e in cc)
@@ -64,9 +64,9 @@ once-act (b ∷ bs) a o m = go (among-cases a b bs m)
         absurd (let z : true ≡ false = sym (lane-has bs a b.lane k (sym (eqb-true b.lane a.lane e))) ∙ (sym (has-lane bs b.lane) ∙ left (has_act bs b.lane) (is_once bs) o) in cc)
     apart false e k ih = ih
 
-    go : (a ≡ b) ⊎ Among a bs → a ≡ act_or a.lane (cond (nat_eq b.lane a.lane) (Some b) (find (is_on a.lane) bs))
-    go (inl f) = f ∙ ap (λ u. act_or a.lane (cond u (Some b) (find (is_on a.lane) bs))) (sym (eq-eqb b.lane a.lane (ap (λ (x : LaneAct). x.lane) (sym f))))
-    go (inr k) = apart (nat_eq b.lane a.lane) refl k (once-act bs a (right (has_act bs b.lane) (is_once bs) o) k)
+    go : (a ≡ b) ⊎ Among a bs → (Among a bs → is_once bs ≡ true → a ≡ act_on bs a.lane) → a ≡ act_or a.lane (cond (nat_eq b.lane a.lane) (Some b) (find (is_on a.lane) bs))
+    go (inl f) ih = f ∙ ap (λ u. act_or a.lane (cond u (Some b) (find (is_on a.lane) bs))) (sym (eq-eqb b.lane a.lane (ap (λ (x : LaneAct). x.lane) (sym f))))
+    go (inr k) ih = apart (nat_eq b.lane a.lane) refl k (ih k (right (has_act bs b.lane) (is_once bs) o))
 
 -- one more act is looked at
 
