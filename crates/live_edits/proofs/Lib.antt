@@ -50,6 +50,7 @@ pub mod NotedOrder
 pub mod NotedLists
 pub mod NotedTable
 pub mod NotedAll
+pub mod ActChanges
 pub mod NotedTouched
 pub mod EditedWays
 pub mod EditedGone

@@ -11,8 +11,9 @@ use Rattle.mir_func.specs.declared.func.Operand.{Operand}
 use Rattle.mir_func.specs.Value.{Function, IsFunction}
 use Rattle.mir_func.specs.At.{instr_at}
 use Rattle.mir_func.specs.Edits.{HasBlock, block_place, made, inserted}
-use Rattle.mir_meaning.specs.declared.writing.LaneDef.{LaneDef}
-use Rattle.mir_meaning.specs.Paths.{Among, here, Step, writing_of, is_present}
+use Rattle.mir_meaning.specs.Paths.{Among, here, Step}
+use Rattle.instr_effects.specs.declared.lane_acts.LaneAct.{LaneAct}
+use Rattle.instr_effects.specs.LaneActs.{act_on}
 use Rattle.instr_effects.specs.Steps.{Numbering}
 use Rattle.live_lanes.specs.declared.order.Order.{Order}
 use Rattle.live_lanes.proofs.Basics.{none-among}
@@ -20,12 +21,18 @@ use Rattle.live_lanes.proofs.Numbered.{among-cases, among-left, among-right, amo
 use Rattle.edit_laws.specs.Codes.{NamesTold, step_in}
 use Rattle.edit_laws.specs.Deferred.{TouchesEdit}
 use Rattle.edit_laws.specs.Edits.{Put, Replace, Erase, replaced, with_op, Stands, KeepsWays}
+use Rattle.edit_laws.specs.LaneSteps.{LaneStep, lane_step}
 use Rattle.edit_laws.specs.Reasons.{Touched, IsLike}
 use Rattle.edit_laws.proofs.Codes.{doing-same}
 use Rattle.live_edits.specs.declared.notes.TouchedInstr.{TouchedInstr}
+use Rattle.live_edits.specs.ActChanges.{act_lanes, AreChanged}
 use Rattle.live_edits.specs.Drafts.{IsOrderOf, IsPlaceOf}
 use Rattle.live_edits.specs.Noted.{TouchedStand}
-use Rattle.live_edits.specs.Runs.{Includes, ListsLanes, AddsLanes, AddsLanesOf}
+use Rattle.live_edits.specs.NotedTable.{AreActs}
+use Rattle.live_edits.specs.Remade.{noted_step}
+use Rattle.live_edits.specs.Runs.{Includes, AreActsAt, ListsLanes, AddsLanes, AddsLanesOf}
+use Rattle.live_edits.proofs.NotedActs.{step-noted}
+use Rattle.live_edits.proofs.RunLanes.{untold-absent}
 use Rattle.live_edits.proofs.RunPlaces.{member-place, place-member, in-block, one-place, new-stands, others-stand, replaced-stand, changed-there}
 
 -- the instruction of an id is that at its place
@@ -92,17 +99,17 @@ module _ (t : Target) (f : Function) (gap : Gap) (op : OpId) (os : List Operand)
 
 -- one is replaced
 
-none-written : (w : Option LaneDef) → is_present w ≡ false → w ≡ None
-none-written None e = refl
-none-written (Some w) e = absurd (cc)
+-- where the same act is done to a lane, the same is done to it
+same-steps : (l : ℕ) (s r : Step) (before after : List LaneAct) → s.id ≡ r.id → AreActs s before → AreActs r after → act_on before l ≡ act_on after l → lane_step l s ≡ lane_step l r
+same-steps l s r before after id was will same = step-noted l s before was ∙ ((λ k. noted_step (record { id = id k; act = same k })) ∙ sym (step-noted l r after will))
 
 module _ (t : Target) (f : Function) (o : Order) (id : ℕ) (op : OpId) (os : List Operand) (is : IsFunction f.blocks f.next_id) (order : IsOrderOf f o) where
   abbrev after-change : Function
   after-change = replaced f id op os
 
-  pub change-touches : (num : Numbering) (touched : Touched) (g : Function) (p k : ℕ) (from before after : List ℕ) → g ≡ after-change → KeepsWays t f (Replace id op os) → IsPlaceOf f id (Some (p, k))
-      → AddsLanes t f num p k from before → AddsLanes t g num p k before after → ((l : ℕ) → Among l after → touched l p id ≡ true) → TouchesEdit touched t f num (Replace id op os)
-  change-touches num touched g p k from before after change keeps found old new told = λ b x i at m own. go b x i at m own (member-place m)
+  pub change-touches : (num : Numbering) (touched : Touched) (g : Function) (p k : ℕ) (before after acts : List LaneAct) → g ≡ after-change → KeepsWays t f (Replace id op os) → IsPlaceOf f id (Some (p, k))
+      → AreActsAt t f num p k before → AreActsAt t g num p k after → AreChanged before after acts → ((l : ℕ) → Among l (act_lanes acts) → touched l p id ≡ true) → TouchesEdit touched t f num (Replace id op os)
+  change-touches num touched g p k before after acts change keeps found old new changed told = λ b x i at m own. go b x i at m own (member-place m)
     where
       go : (b : ℕ) (x : Block) (i : Instr) → slice_get f.blocks b ≡ Some x → Member i x.instrs → i.id ≡ id → (j : ℕ) × (slice_get x.instrs j ≡ Some i) → IsLike (λ l n. touched l b n) (step_in t f num i) (step_in t f num (with_op op os i))
       go b x i at m own z =
@@ -111,16 +118,17 @@ module _ (t : Target) (f : Function) (o : Order) (id : ℕ) (op : OpId) (os : Li
           let stands : Stands f id x i = record { block = place-member f.blocks b x at; instr = m; named = own } in
           let at-place : instr_at f.blocks p k ≡ Some i = found.1 ∙ ap (λ (y : Instr). Some y) (sym one.2) in
           let there : instr_at g.blocks p k ≡ Some (with_op op os i) = (λ u. instr_at (change u).blocks p k) ∙ changed-there f id op os p k i is at-place own in
-          let tell : (l : ℕ) → Among l after → touched l b i.id ≡ true = λ l a. (λ u. touched l (one.0 u) (own u)) ∙ told l a in
-          let was : NamesTold (λ l. touched l b i.id) (step_in t f num i) = old.named i at-place (λ l. touched l b i.id) (λ l a. tell l (new.kept l a)) in
-          let will : NamesTold (λ l. touched l b i.id) (step_in t f num (with_op op os i)) =
-          subst (λ (s : Step). NamesTold (λ l. touched l b i.id) s) (λ u. (doing-same t g f (ap (λ (h : Function). h.classes) change) num (with_op op os i) u).0)
-          (new.named (with_op op os i) there (λ l. touched l b i.id) tell) in
+          let tell : (l : ℕ) → Among l (act_lanes acts) → touched l b i.id ≡ true = λ l a. (λ u. touched l (one.0 u) (own u)) ∙ told l a in
+          let was : AreActs (step_in t f num i) before = old i at-place in
+          let will : AreActs (step_in t f num (with_op op os i)) after =
+          subst (λ (s : Step). AreActs s after) (λ u. (doing-same t g f (ap (λ (h : Function). h.classes) change) num (with_op op os i) u).0) (new (with_op op os i) there) in
+          let alike : (l : ℕ) → touched l b i.id ≡ false → lane_step l (step_in t f num i) ≡ lane_step l (step_in t f num (with_op op os i)) =
+          λ l e. same-steps l (step_in t f num i) (step_in t f num (with_op op os i)) before after refl was will (changed.whole l (untold-absent (λ n. touched n b i.id) (act_lanes acts) tell l e)) in
           record {
             id = refl;
             leaves = (keeps x i stands).2;
-            used = λ l e. was.unused l e ∙ sym (will.unused l e);
-            writing = λ l e. none-written (writing_of l (step_in t f num i).writes) (was.unwritten l e) ∙ sym (none-written (writing_of l (step_in t f num (with_op op os i)).writes) (will.unwritten l e));
+            used = λ l e. ap (λ (s : LaneStep). s.used) (alike l e);
+            writing = λ l e. ap (λ (s : LaneStep). s.writing) (alike l e);
           }
 
   pub no-change : (num : Numbering) (touched : Touched) → IsPlaceOf f id None → TouchesEdit touched t f num (Replace id op os)

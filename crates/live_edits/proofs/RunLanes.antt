@@ -14,10 +14,10 @@ use Rattle.live_lanes.proofs.Coded.{has-among}
 use Rattle.live_lanes.proofs.Numbered.{among-left, among-right}
 use Rattle.edit_laws.specs.Codes.{step_in}
 use Rattle.live_edits.specs.NotedTable.{AreActs}
-use Rattle.live_edits.specs.Runs.{ListsLanes, AddsLanes}
+use Rattle.live_edits.specs.Runs.{AreActsAt, ListsLanes, AddsLanes}
 use Rattle.live_edits.proofs.NotedActs.{acts-done, unnamed-unused, unnamed-unwritten}
 
-untold-absent : (told : ℕ → Bool) (xs : List ℕ) → ((l : ℕ) → Among l xs → told l ≡ true) → (l : ℕ) → told l ≡ false → has l xs ≡ false
+pub untold-absent : (told : ℕ → Bool) (xs : List ℕ) → ((l : ℕ) → Among l xs → told l ≡ true) → (l : ℕ) → told l ≡ false → has l xs ≡ false
 untold-absent told xs each l e = go (has l xs) refl
   where
     go : (u : Bool) → has l xs ≡ u → u ≡ false
@@ -35,15 +35,16 @@ acts-list s acts tell = λ told each. record {
 lists-more : (s : Step) (xs ys : List ℕ) → ((l : ℕ) → Among l xs → Among l ys) → ListsLanes s xs → ListsLanes s ys
 lists-more s xs ys more h = λ told each. h told (λ l m. each l (more l m))
 
+-- the acts of the effects of the instruction at a place
+pub acts-at : (t : Target) (f : Function) (num : Numbering) (p k : ℕ) (j : Instr) (acts : List LaneAct) (reads : List ℕ) (writes : List LaneDef) → Some j ≡ instr_at f.blocks p k → reads ≡ (step_in t f num j).reads → writes ≡ (step_in t f num j).writes
+    → ((l : ℕ) → act_on acts l ≡ lane_act reads writes l) → AreActsAt t f num p k acts
+acts-at t f num p k j acts reads writes at read written tell = λ i e. subst (λ (x : Instr). AreActs (step_in t f num x) acts) (same_Some j i (at ∙ e)) (acts-done (step_in t f num j) reads writes acts read written tell)
+
 -- a list to which the lanes of the acts of the instruction at a place are added
-pub lanes-added : (t : Target) (f : Function) (num : Numbering) (p k : ℕ) (j : Instr) (acts : List LaneAct) (reads : List ℕ) (writes : List LaneDef) (from to : List ℕ) → Some j ≡ instr_at f.blocks p k → reads ≡ (step_in t f num j).reads → writes ≡ (step_in t f num j).writes
-    → ((l : ℕ) → act_on acts l ≡ lane_act reads writes l) → to ≡ from ++ map (λ (a : LaneAct). a.lane) acts → AddsLanes t f num p k from to
-lanes-added t f num p k j acts reads writes from to at read written tell is = record {
+pub lanes-added : (t : Target) (f : Function) (num : Numbering) (p k : ℕ) (acts : List LaneAct) (from to : List ℕ) → AreActsAt t f num p k acts → to ≡ from ++ map (λ (a : LaneAct). a.lane) acts → AddsLanes t f num p k from to
+lanes-added t f num p k acts from to are is = record {
   kept = λ l m. subst (Among l) (sym is) (among-left l from (map (λ (a : LaneAct). a.lane) acts) m);
-  named = λ i e. subst (λ (x : Instr). ListsLanes (step_in t f num x) to) (same_Some j i (at ∙ e)) all;
+  named = λ i e.
+      lists-more (step_in t f num i) (map (λ (a : LaneAct). a.lane) acts) to (λ l m. subst (Among l) (sym is) (among-right l from (map (λ (a : LaneAct). a.lane) acts) m))
+      (acts-list (step_in t f num i) acts (are i e));
 }
-  where
-    all : ListsLanes (step_in t f num j) to
-    all =
-        lists-more (step_in t f num j) (map (λ (a : LaneAct). a.lane) acts) to (λ l m. subst (Among l) (sym is) (among-right l from (map (λ (a : LaneAct). a.lane) acts) m))
-        (acts-list (step_in t f num j) acts (acts-done (step_in t f num j) reads writes acts read written tell))

@@ -1,3 +1,4 @@
+pub mod ActChanges
 pub mod Pieces
 pub mod Leading
 pub mod CellChanges

@@ -6,6 +6,7 @@ use Rattle.mir_func.specs.At.{instr_at}
 use Rattle.mir_func.specs.Binding.{slot_at}
 use Rattle.mir_func.specs.declared.func.Instr.{Instr}
 use Rattle.mir_meaning.specs.Paths.{Among, Step, has}
+use Rattle.instr_effects.specs.declared.lane_acts.LaneAct.{LaneAct}
 use Rattle.instr_effects.specs.declared.lanes.LaneTable.{LaneTable}
 use Rattle.instr_effects.specs.Numbered.{number_in, IsTable, HasSlot, KeepsNumbers}
 use Rattle.instr_effects.specs.Steps.{Numbering}
@@ -31,6 +32,7 @@ use Rattle.live_edits.specs.declared.edit_run.EditRun.{EditRun}
 use Rattle.live_edits.specs.declared.notes.TouchedInstr.{TouchedInstr}
 use Rattle.live_edits.specs.Drafts.{IsOrderOf, HasGap}
 use Rattle.live_edits.specs.Noted.{TouchedStand}
+use Rattle.live_edits.specs.NotedTable.{AreActs}
 use Rattle.live_edits.specs.Pieces.{IsThere}
 use Rattle.live_edits.specs.Remade.{noted_ids}
 
@@ -86,6 +88,10 @@ pub record MayBeEdited (t : Target) (f : Function) (x : Table) (es : List Edit) 
   pub spare : SpareGone [] f es
 
 -- the parts of one edit
+
+-- the acts tell what the instruction at a place does
+abbrev pub AreActsAt : Target → Function → Numbering → ℕ → ℕ → List LaneAct → Type 0
+AreActsAt t f num position place acts = (i : Instr) → instr_at f.blocks position place ≡ Some i → AreActs (step_in t f num i) acts
 
 -- the list has all lanes that the instruction names
 abbrev pub ListsLanes : Step → List ℕ → Type 0

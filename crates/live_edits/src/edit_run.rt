@@ -1,7 +1,8 @@
 //! A list of edits as it is done: the function and its order, the numbers of lanes, the pieces, and
 //! which instructions were touched so far.
 
-ghost use Rattle.std.specs.Prelude.{◌≡◌, ◌<◌, ◌≤◌, ◌++◌, ℕ, length, IfOk, OnOk};
+ghost use Rattle.std.specs.Prelude.{◌≡◌, ◌<◌, ◌≤◌, ◌++◌, ℕ, true, length, IfOk, OnOk};
+ghost use Rattle.instr_effects.specs.LaneActs.{is_once};
 ghost use Rattle.mir_func.specs.Value.{IsFunction};
 ghost use Rattle.mir_meaning.specs.Paths.{has};
 ghost use Rattle.instr_effects.specs.Numbered.{number_in};
@@ -12,13 +13,15 @@ ghost use Rattle.edit_laws.specs.Numbered.{NumbersEdit};
 ghost use Rattle.live_edits.specs.Drafts.{IsOrderOf, HasGap, IsDraftLogged};
 ghost use Rattle.live_edits.specs.Pieces.{nodes_of};
 ghost use Rattle.live_edits.specs.Remade.{noted_ids};
-ghost use Rattle.live_edits.specs.Runs.{edit_of, edits_of, table_of, HasPlace, DoesEdit, AddsLanes, AddsLanesOf, KeepsTables, AddsSlots, named_slot, NumbersSlots, KeepsCells, KeepsDraft, cell_sides, AreSuspects, all_noted};
+ghost use Rattle.live_edits.specs.Runs.{edit_of, edits_of, table_of, HasPlace, DoesEdit, AreActsAt, AddsLanes, AddsLanesOf, KeepsTables, AddsSlots, named_slot, NumbersSlots, KeepsCells, KeepsDraft, cell_sides, AreSuspects, all_noted};
 
+use crate::act_changes::changed_acts;
 use crate::cells::CellNotes;
 use crate::draft::Draft;
 use crate::log::LoggedRows;
 use crate::notes::{TouchedInstr, lanes_of_acts};
 use instr_effects::EffectReader;
+use instr_effects::lane_acts::LaneAct;
 use instr_effects::lanes::LaneTable;
 use live_lanes::Edit;
 use live_lanes::compute::flow::BlockFlow;
@@ -48,6 +51,26 @@ pub struct EditRun {
 }
 
 impl EditRun {
+    /// What the instruction at a place of the block at a position does to lanes, where there is one.
+    fn acts_at(&self, target: &Target, at: (u32, usize)) -> Result<Vec<LaneAct>, AllocError>
+        ensures told { IfOk result (λ acts. AreActsAt target.now self.now.draft.func (number_in self.now.lanes) at.0 at.1 acts.items) }
+        ensures once { IfOk result (λ acts. is_once acts.items ≡ true) }
+    {
+        let alloc = self.rows.rows.alloc;
+        let (position, place) = at;
+        let Some(instr) = self.draft.func.instr_at(position as usize, place) else {
+            return Ok(Vec::new(alloc));
+        };
+        let reader = EffectReader {
+            alloc,
+            target,
+            func: &self.draft.func,
+            lanes: &self.lanes,
+        };
+        let acts = reader.effects(instr)?.acts(alloc)?;
+        Ok(acts)
+    }
+
     /// Adds the lanes that the instruction at a place of the block at a position names, where there is
     /// one.
     fn add_lanes(
@@ -58,18 +81,7 @@ impl EditRun {
     ) -> Result<(), AllocError>
         ensures { OnOk result (AddsLanes target.now self.now.draft.func (number_in self.now.lanes) at.0 at.1 lanes.old.items lanes.new.items) }
     {
-        let alloc = self.rows.rows.alloc;
-        let (position, place) = at;
-        let Some(instr) = self.draft.func.instr_at(position as usize, place) else {
-            return Ok(());
-        };
-        let reader = EffectReader {
-            alloc,
-            target,
-            func: &self.draft.func,
-            lanes: &self.lanes,
-        };
-        let acts = reader.effects(instr)?.acts(alloc)?;
+        let acts = self.acts_at(target, at)?;
         lanes_of_acts(acts.as_slice(), lanes)
     }
 
@@ -104,7 +116,8 @@ impl EditRun {
         Ok(())
     }
 
-    /// Gives the instruction of an id another opcode and other operands.
+    /// Gives the instruction of an id another opcode and other operands. Only lanes to which it does
+    /// something else than before are noted.
     fn do_replace(
         &mut self,
         target: &Target,
@@ -119,10 +132,13 @@ impl EditRun {
         let Some(at) = self.draft.find(id) else {
             return self.draft.replace(id, op, operands);
         };
-        let mut lanes = Vec::new(self.rows.rows.alloc);
-        self.add_lanes(target, at, &mut lanes)?;
+        let before = self.acts_at(target, at)?;
         self.draft.replace(id, op, operands)?;
-        self.add_lanes(target, at, &mut lanes)?;
+        let after = self.acts_at(target, at)?;
+        let alloc = self.rows.rows.alloc;
+        let changed = changed_acts(alloc, before.as_slice(), after.as_slice())?;
+        let mut lanes = Vec::new(alloc);
+        lanes_of_acts(changed.as_slice(), &mut lanes)?;
         let block = at.0;
         self.touched.push(TouchedInstr { id, block, lanes })?;
         Ok(())

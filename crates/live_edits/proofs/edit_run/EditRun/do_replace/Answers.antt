@@ -1,8 +1,12 @@
-use Rattle.std.proofs.Common.{refl, sym, subst}
+use Rattle.std.proofs.Common.{◌≡◌, ◌++◌, ◌∙◌, List, refl, sym, ap, subst}
 use Rattle.mir_func.specs.Value.{Function, IsFunction}
+use Rattle.mir_meaning.specs.Paths.{Among}
+use Rattle.instr_effects.specs.declared.lane_acts.LaneAct.{LaneAct}
+use Rattle.instr_effects.specs.LaneActs.{is_once}
 use Rattle.instr_effects.specs.Numbered.{number_in}
 use Rattle.live_lanes.proofs.Raised.{on-ok}
 use Rattle.live_edits.specs.declared.notes.TouchedInstr.{TouchedInstr}
+use Rattle.live_edits.specs.ActChanges.{act_lanes, AreChanged}
 use Rattle.live_edits.specs.Noted.{TouchedStand}
 use Rattle.live_edits.proofs.RunEdits.{touched-kept, tells-last, change-touches, change-stands, no-change, no-change-stands}
 use Rattle.live_edits.proofs.RunPlaces.{replaced-function}
@@ -47,13 +51,20 @@ returns-clause-done c = λ order keeps.
     let k = c.in-Some.at.1 in
     let xs = c.args.self.now.touched.items in
     let ys = c.push.new.self.items in
-    let x : TouchedInstr = record { id = id; block = p; lanes = c.add_lanes-2.new.lanes } in
+    let x : TouchedInstr = record { id = id; block = p; lanes = c.lanes_of_acts.new.lanes } in
+    let before = c.in_ok-before.before.items in
+    let after = c.in_ok-after.after.items in
+    let acts = c.in_ok-changed.changed.items in
+    let changed : AreChanged before after acts =
+    subst (λ (zs : List LaneAct). AreChanged zs after acts) c.as_slice.ensures.value
+    (subst (λ (zs : List LaneAct). AreChanged c.as_slice.result.now zs acts) c.as_slice-2.ensures.value (c.in_ok-changed.ensures (ap is_once c.as_slice-2.ensures.value ∙ c.in_ok-after.ensures.once))) in
+    let lanes : x.lanes.items ≡ act_lanes acts = c.in_ok-lanes_of_acts.ensures ∙ ((λ u. c.new-lanes.ensures.items u ++ act_lanes (c.as_slice-3.ensures.value u))) in
     record {
       func = replaces.func;
       order = replaces.order;
       function = subst (λ (g : Function). IsFunction g.blocks g.next_id) (sym replaces.func) (replaced-function f id op os is);
       gone = λ id. refl;
-      touched = λ touched all. change-touches t f o id op os is order (number_in c.args.self.now.lanes) touched c.replace-2.new.self.func p k c.new-lanes.result.items c.add_lanes.new.lanes.items x.lanes.items replaces.func keeps found c.in_ok-add_lanes.ensures c.in_ok-add_lanes-2.ensures (tells-last xs ys x push touched all);
+      touched = λ touched all. change-touches t f o id op os is order (number_in c.args.self.now.lanes) touched c.replace-2.new.self.func p k before after acts replaces.func keeps found c.in_ok-before.ensures.told c.in_ok-after.ensures.told changed (λ l m. tells-last xs ys x push touched all l (subst (Among l) (sym lanes) m));
       kept = touched-kept xs ys x push;
       stand = λ stand. subst (λ (g : Function). TouchedStand g ys) (sym replaces.func) (change-stands t f o id op os is order xs ys x p k push refl refl found stand);
       lanes = refl;
