@@ -117,6 +117,9 @@ module _ (rows : List LaneRange) (lane : ℕ) (x : LaneRange) (h : lane < length
     pub own-has : has_cell rows lane block ≡ true
     own-has = ap is_some (sym there) ∙ some-within (cells_of rows lane) at within
 
+    pub own-descends : (c d : Cell) → descends x.cells.items ≡ true → c ≡ get_or x.cells.items at c → d.block ≡ c.block → descends (set x.cells.items at d) ≡ true
+    own-descends c d s own kept = still-descends x.cells.items at c d s own-within own kept
+
     pub own-changes : (c d : Cell) (change : Seen → Seen) → descends x.cells.items ≡ true → c ≡ get_or x.cells.items at c → d.block ≡ c.block → vec_capacity c.segments ≤ vec_capacity d.segments → seen_cell d ≡ change (seen_cell c) → ChangesRow x.cells.items (set x.cells.items at d) block change
     own-changes c d change s own kept room new = row-changes-at block x.cells.items at c d change s own-within own-there own kept room new
 
