@@ -1,6 +1,6 @@
 -- Rows of which one cell changes.
 use Rattle.std.proofs.Common.{◌≡◌, ◌<◌, ◌≤◌, ℕ, Bool, true, false, cond, ◌&&◌, length, List, [], ◌⊎◌, inl, inr, Option, None, Some, refl, sym, ap, ◌∙◌, subst, arith, eqb-true, eq-eqb, get_or, set, length-set, vec_capacity}
-use Rattle.std.specs.Prelude.{nat_eq, slice_get, is_some, IfOk, OnOk, Result}
+use Rattle.std.specs.Prelude.{nat_eq, slice_get, is_some, IfOk, Result}
 use Rattle.std.specs.declared.result.Result.TheVariants as results
 use Rattle.std.proofs.lemmas.Option.{slice_get-get_or, slice_get_cases}
 use Rattle.live_lanes.specs.declared.row.Cell.{Cell}
@@ -12,7 +12,7 @@ use Rattle.live_lanes.proofs.Rows.{get-set, rows-set, row-of}
 use Rattle.live_edits.specs.declared.cell_change.CellChange.{CellChange}
 use Rattle.live_edits.specs.CellChanges.{seen_changed, fits_in}
 use Rattle.live_edits.specs.Logged.{has_cell, room_of}
-use Rattle.live_edits.specs.Changes.{ChangesRow, ChangesCell, AddsCells}
+use Rattle.live_edits.specs.Changes.{ChangesRow, ChangesCell}
 
 -- the cell at a place is another one of its block
 module _ (cs : List Cell) (at : ℕ) (x y : Cell) (s : descends cs ≡ true) (h : at < length cs) (is : x ≡ get_or cs at x) (block : y.block ≡ x.block) where
@@ -124,10 +124,6 @@ module _ (rows : List LaneRange) (lane : ℕ) (x : LaneRange) (h : lane < length
     own-changes c d change s own kept room new = row-changes-at block x.cells.items at c d change s own-within own-there own kept room new
 
   module _ (y : LaneRange) where
-    -- the row's cells afterwards
-    pub new-cells : cells_of (set rows lane y) lane ≡ y.cells.items
-    new-cells = ap row_cells (get-set rows lane lane y h ∙ ap (λ t. cond t (Some y) (slice_get rows lane)) (eq-eqb lane lane refl))
-
     set-has : (l b : ℕ) → has_cell (set rows lane y) l b ≡ cond (nat_eq lane l) (is_some (find_cell b y.cells.items)) (has_cell rows l b)
     set-has l b = ap (λ o. is_some (find_cell b (row_cells o))) (get-set rows lane l y h) ∙ go (nat_eq lane l)
       where
@@ -153,7 +149,7 @@ module _ (rows : List LaneRange) (lane : ℕ) (x : LaneRange) (h : lane < length
         go false e g = omega (arith, g)
 
     -- the row has the cell's room
-    pub own-room : (b : ℕ) → room_of (set rows lane y) lane b ≡ cell_room (find_cell b y.cells.items)
+    own-room : (b : ℕ) → room_of (set rows lane y) lane b ≡ cell_room (find_cell b y.cells.items)
     own-room b = set-room lane b ∙ ap (λ t. cond t (cell_room (find_cell b y.cells.items)) (room_of rows lane b)) (eq-eqb lane lane refl)
 
     pub cell-back : (b : ℕ) {E : Type 0} (r : Result CellChange E) → IfOk r (λ back. (seen_changed back (seen_in y.cells.items b) ≡ seen_in x.cells.items b) × (fits_in back (cell_room (find_cell b y.cells.items)) ≡ true)) → IfOk r (λ back. (seen_changed back (rows_seen (set rows lane y) lane b) ≡ rows_seen rows lane b) × (fits_in back (room_of (set rows lane y) lane b) ≡ true))
@@ -180,27 +176,6 @@ module _ (rows : List LaneRange) (lane : ℕ) (x : LaneRange) (h : lane < length
         kept : (l b : ℕ) (t : Bool) → nat_eq lane l ≡ t → cond t (is_some (find_cell b y.cells.items)) (has_cell rows l b) ≡ has_cell rows l b
         kept l b true e = r.cells b ∙ (ap (λ cs. is_some (find_cell b cs)) (sym cells-of) ∙ ap (λ k. has_cell rows k b) (eqb-true lane l e))
         kept l b false e = refl
-
-    -- cells are made in a row
-    pub cells-added : ((b : ℕ) → seen_in y.cells.items b ≡ seen_in x.cells.items b) → ((b : ℕ) → is_some (find_cell b x.cells.items) ≡ true → is_some (find_cell b y.cells.items) ≡ true) → ((b : ℕ) → cell_room (find_cell b x.cells.items) ≤ cell_room (find_cell b y.cells.items)) → AddsCells rows (set rows lane y)
-    cells-added same kept rooms = record {
-      seen = λ l b. rows-set rows lane l b y h ∙ told l b (nat_eq lane l) refl;
-      cells = λ l b has. set-has l b ∙ still l b (nat_eq lane l) refl has;
-      rooms = no-room rooms;
-      lanes = length-set rows lane y;
-    }
-      where
-        told : (l b : ℕ) (t : Bool) → nat_eq lane l ≡ t → cond t (seen_in y.cells.items b) (rows_seen rows l b) ≡ rows_seen rows l b
-        told l b true e = same b ∙ (row-of rows lane b x h is ∙ ap (λ k. rows_seen rows k b) (eqb-true lane l e))
-        told l b false e = refl
-
-        still : (l b : ℕ) (t : Bool) → nat_eq lane l ≡ t → has_cell rows l b ≡ true → cond t (is_some (find_cell b y.cells.items)) (has_cell rows l b) ≡ true
-        still l b true e has = kept b (ap (λ cs. is_some (find_cell b cs)) (sym cells-of) ∙ (ap (λ k. has_cell rows k b) (eqb-true lane l e) ∙ has))
-        still l b false e has = has
-
-    pub has-made : {E : Type 0} (block : ℕ) (r : Result ℕ E) → IfOk r (λ at. at < length y.cells.items) → IfOk r (λ at. slice_get y.cells.items at ≡ find_cell block y.cells.items) → OnOk r (has_cell (set rows lane y) lane block ≡ true)
-    has-made block (results.Ok at) within there = ap (λ cs. is_some (find_cell block cs)) new-cells ∙ (ap is_some (sym there) ∙ some-within y.cells.items at within)
-    has-made block (results.Err e) within there = tt
 
 -- past the rows there are no cells
 pub no-lane : (rows : List LaneRange) (lane block : ℕ) → length rows ≤ lane → has_cell rows lane block ≡ true → ⊥
