@@ -17,7 +17,7 @@ use Rattle.live_lanes.specs.Ends.{row_end}
 use Rattle.live_lanes.specs.Lasting.{shapes, readings_of, live_end, right_end}
 use Rattle.live_lanes.proofs.Basics.{none-among}
 use Rattle.live_lanes.proofs.Gives.{past-lasts, unseen-lasts}
-use Rattle.live_lanes.proofs.Lasting.{cell-piece, cell-none}
+use Rattle.live_lanes.proofs.Lasting.{cell-piece}
 use Rattle.edit_laws.specs.Chains.{Node, same_node}
 use Rattle.edit_laws.specs.RowEnd.{GivesEnd, HasEnd}
 use Rattle.edit_laws.proofs.RowEnd.{row-end-law}
@@ -62,22 +62,6 @@ module _ (slots : Numbers) (flow : List BlockFlow) (rows : List LaneRange) (l b 
       ∙ (ap (λ x. live_end slots flow (causes rows) (shapes rows) (shape (seen_cell c)) l c.block n (cause_in (seen_cell c) n) x) z.1
       ∙ ((λ i. of_seen (seen-here i) (block i))
       ∙ sym (ap (λ u. cond u (of_seen (rows_seen rows l b) b) ends.Never) live')))
-
-  -- a piece that isn't live has no end
-  pub dead-now : is_live (cause_in (seen_cell c) n) ≡ false → ends.Never ≡ right_end slots flow (causes rows) (shapes rows) l b n
-  dead-now dead =
-      let dead' : is_live (causes rows l b n) ≡ false = ap (λ (v : Seen). is_live (cause_in v n)) (sym seen-here) ∙ dead in
-      sym (ap (λ u. cond u (of_seen (rows_seen rows l b) b) ends.Never) dead')
-
-  pub none-now : None ≡ piece_in c n → ends.Never ≡ right_end slots flow (causes rows) (shapes rows) l b n
-  none-now f = dead-now (ap is_live (cell-none c n f))
-
-  pub still-now : (p : Piece) → Some p ≡ piece_in c n → is_live p.cause ≡ false → ends.Never ≡ right_end slots flow (causes rows) (shapes rows) l b n
-  still-now p f dead = dead-now (ap is_live (sym (cell-piece c n p f).0) ∙ dead)
-
--- a piece of a lane that has no cell in the block lasts as it has to
-pub absent-lasts : (slots : Numbers) (flow : List BlockFlow) (rows : List LaneRange) (l b n : ℕ) → None ≡ find_cell b (cells_of rows l) → row_end rows l b n ≡ right_end slots flow (causes rows) (shapes rows) l b n
-absent-lasts slots flow rows l b n e = unseen-lasts slots flow rows l b n (sym (ap seen e ∙ seen-of rows l b))
 
 -- equal pieces
 

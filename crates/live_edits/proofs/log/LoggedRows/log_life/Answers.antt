@@ -9,7 +9,8 @@ pub index-requires-2 : goal.index-requires-2
 index-requires-2 c =
     let rows = c.make_in.new.rows.rows.items in
     let here : c.args.spot.lane < length rows = omega (arith, c.requires, c.make_in.ensures.added.lanes) in
-    own-within rows c.args.spot.lane c.index.result.now here c.index.ensures c.args.spot.block c.in_ok-place.place c.in_ok-place.ensures.within c.in_ok-place.ensures.place
+    let within = own-within rows c.args.spot.lane c.index.result.now here c.index.ensures c.args.spot.block c.in_ok-place.place c.in_ok-place.ensures.within c.in_ok-place.ensures.place in
+    omega (arith, within, c.index.result.now.cells.ok.0)
 
 pub returns-clause-life : goal.returns-clause-life
 returns-clause-life c =
