@@ -2,28 +2,17 @@
 use Rattle.std.proofs.Common.{◌≡◌, ◌<◌, ◌≤◌, ℕ, Bool, true, false, cond, ◌&&◌, length, List, [], ◌⊎◌, inl, inr, Option, None, Some, refl, sym, ap, ◌∙◌, subst, arith, eqb-true, eq-eqb, get_or, set, length-set, vec_capacity}
 use Rattle.std.specs.Prelude.{nat_eq, slice_get, is_some, IfOk, Result}
 use Rattle.std.specs.declared.result.Result.TheVariants as results
-use Rattle.std.specs.List.{insert}
 use Rattle.std.proofs.lemmas.Option.{slice_get-get_or, slice_get_cases}
 use Rattle.live_lanes.specs.declared.row.Cell.{Cell}
 use Rattle.live_lanes.specs.declared.row.LaneRange.{LaneRange}
-use Rattle.live_lanes.specs.Table.{Seen, seen, seen_in, seen_cell, find_cell, descends, is_before, leading}
+use Rattle.live_lanes.specs.Table.{Seen, seen, seen_in, seen_cell, find_cell, cell_room, descends, is_before, leading}
 use Rattle.live_lanes.specs.Entered.{rows_seen, cells_of}
-use Rattle.live_lanes.proofs.Cells.{of_block, found-at, found-block, is-found, none-found, there-found, insert-find, set-descends, set-find, change-seen}
+use Rattle.live_lanes.proofs.Cells.{found-block, is-found, there-found, set-descends, set-find, change-seen, cell-seen}
 use Rattle.live_lanes.proofs.Rows.{get-set, rows-set, row-of}
 use Rattle.live_edits.specs.declared.cell_change.CellChange.{CellChange}
 use Rattle.live_edits.specs.CellChanges.{seen_changed, fits_in}
-use Rattle.live_edits.specs.Logged.{has_cell, cell_room, room_of}
-use Rattle.live_edits.specs.Changes.{ChangesRow, ChangesCell, AddsCells}
-
--- whether a row has a cell of a block is told where the search for it ends
-some-cond : (t : Bool) (x : Cell) → t ≡ is_some (cond t (Some x) None)
-some-cond true x = refl
-some-cond false x = refl
-
-pub has-here : (b : ℕ) (cs : List Cell) (at : ℕ) (x : Cell) → descends cs ≡ true → at ≡ leading (is_before b) cs → at < length cs → x ≡ get_or cs at x → nat_eq x.block b ≡ is_some (find_cell b cs)
-has-here b cs at x s e h is =
-    let found : find_cell b cs ≡ of_block b (Some x) = found-at b cs s ∙ (ap (λ k. of_block b (slice_get cs k)) (sym e) ∙ ap (of_block b) (slice_get-get_or cs at x h ∙ ap Some (sym is))) in
-    some-cond (nat_eq x.block b) x ∙ sym (ap is_some found)
+use Rattle.live_edits.specs.Logged.{has_cell, room_of}
+use Rattle.live_edits.specs.Changes.{ChangesRow, ChangesCell}
 
 -- the cell at a place is another one of its block
 module _ (cs : List Cell) (at : ℕ) (x y : Cell) (s : descends cs ≡ true) (h : at < length cs) (is : x ≡ get_or cs at x) (block : y.block ≡ x.block) where
@@ -55,18 +44,22 @@ block-there b cs at x s e has is =
     let f = there-found b cs at s e has in
     (f.0, found-block b cs x (sym f.1 ∙ (slice_get-get_or cs at x f.0 ∙ ap Some (sym is))))
 
-pub row-changes : (b : ℕ) (cs : List Cell) (at : ℕ) (x y : Cell) (change : Seen → Seen) → descends cs ≡ true → at ≡ leading (is_before b) cs → is_some (find_cell b cs) ≡ true → x ≡ get_or cs at x → y.block ≡ x.block → vec_capacity x.segments ≤ vec_capacity y.segments → seen_cell y ≡ change (seen_cell x) → ChangesRow cs (set cs at y) b change
-row-changes b cs at x y change s e has is block room new =
-    let f = there-found b cs at s e has in
-    record {
-      seen = λ q. change-seen b cs at x y s f.0 f.1 is block change (seen_in cs) (λ p. refl) new q ∙ own q (nat_eq b q) refl;
-      cells = same-cells cs at x y s f.0 is block;
-      rooms = no-room-goes cs at x y s f.0 is block room;
-    }
+-- a cell that changes where its block's cell stands
+pub row-changes-at : (b : ℕ) (cs : List Cell) (at : ℕ) (x y : Cell) (change : Seen → Seen) → descends cs ≡ true → at < length cs → slice_get cs at ≡ find_cell b cs → x ≡ get_or cs at x → y.block ≡ x.block → vec_capacity x.segments ≤ vec_capacity y.segments → seen_cell y ≡ change (seen_cell x) → ChangesRow cs (set cs at y) b change
+row-changes-at b cs at x y change s h there is block room new = record {
+  seen = λ q. change-seen b cs at x y s h there is block change (seen_in cs) (λ p. refl) new q ∙ own q (nat_eq b q) refl;
+  cells = same-cells cs at x y s h is block;
+  rooms = no-room-goes cs at x y s h is block room;
+}
   where
     own : (q : ℕ) (t : Bool) → nat_eq b q ≡ t → cond t (change (seen_in cs b)) (seen_in cs q) ≡ cond t (change (seen_in cs q)) (seen_in cs q)
     own q true g = ap (λ n. change (seen_in cs n)) (eqb-true b q g)
     own q false g = refl
+
+pub row-changes : (b : ℕ) (cs : List Cell) (at : ℕ) (x y : Cell) (change : Seen → Seen) → descends cs ≡ true → at ≡ leading (is_before b) cs → is_some (find_cell b cs) ≡ true → x ≡ get_or cs at x → y.block ≡ x.block → vec_capacity x.segments ≤ vec_capacity y.segments → seen_cell y ≡ change (seen_cell x) → ChangesRow cs (set cs at y) b change
+row-changes b cs at x y change s e has is block room new =
+    let f = there-found b cs at s e has in
+    row-changes-at b cs at x y change s f.0 f.1 is block room new
 
 -- what takes a change of the cell back takes that of the row back
 module _ (b : ℕ) (cs : List Cell) (at : ℕ) (x : Cell) (s : descends cs ≡ true) (e : at ≡ leading (is_before b) cs) (has : is_some (find_cell b cs) ≡ true) (is : x ≡ get_or cs at x) where
@@ -89,23 +82,12 @@ module _ (b : ℕ) (cs : List Cell) (at : ℕ) (x : Cell) (s : descends cs ≡ t
 pub not-past : (b : ℕ) (cs : List Cell) (at : ℕ) → descends cs ≡ true → at ≡ leading (is_before b) cs → length cs ≤ at → is_some (find_cell b cs) ≡ true → ⊥
 not-past b cs at s e h has = let f = (there-found b cs at s e has).0 in omega arith
 
--- no cell goes where one is put
-pub put-kept : (b : ℕ) (cs : List Cell) (at : ℕ) (x : Cell) → descends cs ≡ true → at ≡ leading (is_before b) cs → is_some (find_cell b cs) ≡ false → x.block ≡ b → (ys : List Cell) → ys ≡ insert cs at x → (q : ℕ) → is_some (find_cell q cs) ≡ true → is_some (find_cell q ys) ≡ true
-put-kept b cs at x s e none block ys f q h =
-    ap (λ zs. is_some (find_cell q zs)) f ∙ (ap (λ n. is_some (find_cell q (insert cs n x))) e ∙ (ap is_some (insert-find b q cs x block (none-found b cs none)) ∙ go (nat_eq b q)))
+some-within : (cs : List Cell) (at : ℕ) → at < length cs → is_some (slice_get cs at) ≡ true
+some-within cs at h = go (slice_get_cases cs at).1
   where
-    go : (t : Bool) → is_some (cond t (Some x) (find_cell q cs)) ≡ true
-    go true = refl
-    go false = h
-
--- nor any room
-pub put-rooms : (b : ℕ) (cs : List Cell) (at : ℕ) (x : Cell) → descends cs ≡ true → at ≡ leading (is_before b) cs → is_some (find_cell b cs) ≡ false → x.block ≡ b → (ys : List Cell) → ys ≡ insert cs at x → (q : ℕ) → cell_room (find_cell q cs) ≤ cell_room (find_cell q ys)
-put-rooms b cs at x s e none block ys f q =
-    go (nat_eq b q) refl (ap (λ zs. cell_room (find_cell q zs)) f ∙ (ap (λ n. cell_room (find_cell q (insert cs n x))) e ∙ ap cell_room (insert-find b q cs x block (none-found b cs none))))
-  where
-    go : (t : Bool) → nat_eq b q ≡ t → cell_room (find_cell q ys) ≡ cell_room (cond t (Some x) (find_cell q cs)) → cell_room (find_cell q cs) ≤ cell_room (find_cell q ys)
-    go true g h = let gone : cell_room (find_cell q cs) ≡ 0 = ap (λ n. cell_room (find_cell n cs)) (sym (eqb-true b q g)) ∙ ap cell_room (none-found b cs none) in omega (arith, gone)
-    go false g h = omega (arith, h)
+    go : ((z : Cell) × (at < length cs) × (slice_get cs at ≡ Some z) × (get_or cs at z ≡ z)) ⊎ ((length cs ≤ at) × (slice_get cs at ≡ None)) → is_some (slice_get cs at) ≡ true
+    go (inl z) = ap is_some z.2
+    go (inr z) = absurd (let w = z.0 in omega arith)
 
 -- the cells of one of the rows
 abbrev pub row_cells : Option LaneRange → List Cell
@@ -120,6 +102,26 @@ module _ (rows : List LaneRange) (lane : ℕ) (x : LaneRange) (h : lane < length
 
   pub cell-fits : (b : ℕ) (change : CellChange) → fits_in change (room_of rows lane b) ≡ true → fits_in change (cell_room (find_cell b x.cells.items)) ≡ true
   cell-fits b change h = ap (λ cs. fits_in change (cell_room (find_cell b cs))) (sym cells-of) ∙ h
+
+  -- the cell at the place of a block's is what is seen there
+  module _ (block at : ℕ) (within : at < length (cells_of rows lane)) (there : slice_get (cells_of rows lane) at ≡ find_cell block (cells_of rows lane)) where
+    pub own-within : at < length x.cells.items
+    own-within = subst (λ cs. at < length cs) cells-of within
+
+    own-there : slice_get x.cells.items at ≡ find_cell block x.cells.items
+    own-there = subst (λ cs. slice_get cs at ≡ find_cell block cs) cells-of there
+
+    pub own-seen : (c : Cell) → c ≡ get_or x.cells.items at c → seen_cell c ≡ rows_seen rows lane block
+    own-seen c own = cell-seen block x.cells.items at c own-within own-there own ∙ row-of rows lane block x h is
+
+    pub own-has : has_cell rows lane block ≡ true
+    own-has = ap is_some (sym there) ∙ some-within (cells_of rows lane) at within
+
+    pub own-descends : (c d : Cell) → descends x.cells.items ≡ true → c ≡ get_or x.cells.items at c → d.block ≡ c.block → descends (set x.cells.items at d) ≡ true
+    own-descends c d s own kept = still-descends x.cells.items at c d s own-within own kept
+
+    pub own-changes : (c d : Cell) (change : Seen → Seen) → descends x.cells.items ≡ true → c ≡ get_or x.cells.items at c → d.block ≡ c.block → vec_capacity c.segments ≤ vec_capacity d.segments → seen_cell d ≡ change (seen_cell c) → ChangesRow x.cells.items (set x.cells.items at d) block change
+    own-changes c d change s own kept room new = row-changes-at block x.cells.items at c d change s own-within own-there own kept room new
 
   module _ (y : LaneRange) where
     set-has : (l b : ℕ) → has_cell (set rows lane y) l b ≡ cond (nat_eq lane l) (is_some (find_cell b y.cells.items)) (has_cell rows l b)
@@ -147,7 +149,7 @@ module _ (rows : List LaneRange) (lane : ℕ) (x : LaneRange) (h : lane < length
         go false e g = omega (arith, g)
 
     -- the row has the cell's room
-    pub own-room : (b : ℕ) → room_of (set rows lane y) lane b ≡ cell_room (find_cell b y.cells.items)
+    own-room : (b : ℕ) → room_of (set rows lane y) lane b ≡ cell_room (find_cell b y.cells.items)
     own-room b = set-room lane b ∙ ap (λ t. cond t (cell_room (find_cell b y.cells.items)) (room_of rows lane b)) (eq-eqb lane lane refl)
 
     pub cell-back : (b : ℕ) {E : Type 0} (r : Result CellChange E) → IfOk r (λ back. (seen_changed back (seen_in y.cells.items b) ≡ seen_in x.cells.items b) × (fits_in back (cell_room (find_cell b y.cells.items)) ≡ true)) → IfOk r (λ back. (seen_changed back (rows_seen (set rows lane y) lane b) ≡ rows_seen rows lane b) × (fits_in back (room_of (set rows lane y) lane b) ≡ true))
@@ -174,30 +176,6 @@ module _ (rows : List LaneRange) (lane : ℕ) (x : LaneRange) (h : lane < length
         kept : (l b : ℕ) (t : Bool) → nat_eq lane l ≡ t → cond t (is_some (find_cell b y.cells.items)) (has_cell rows l b) ≡ has_cell rows l b
         kept l b true e = r.cells b ∙ (ap (λ cs. is_some (find_cell b cs)) (sym cells-of) ∙ ap (λ k. has_cell rows k b) (eqb-true lane l e))
         kept l b false e = refl
-
-    -- cells are made in a row
-    pub cells-added : ((b : ℕ) → seen_in y.cells.items b ≡ seen_in x.cells.items b) → ((b : ℕ) → is_some (find_cell b x.cells.items) ≡ true → is_some (find_cell b y.cells.items) ≡ true) → ((b : ℕ) → cell_room (find_cell b x.cells.items) ≤ cell_room (find_cell b y.cells.items)) → AddsCells rows (set rows lane y)
-    cells-added same kept rooms = record {
-      seen = λ l b. rows-set rows lane l b y h ∙ told l b (nat_eq lane l) refl;
-      cells = λ l b has. set-has l b ∙ still l b (nat_eq lane l) refl has;
-      rooms = no-room rooms;
-      lanes = length-set rows lane y;
-    }
-      where
-        told : (l b : ℕ) (t : Bool) → nat_eq lane l ≡ t → cond t (seen_in y.cells.items b) (rows_seen rows l b) ≡ rows_seen rows l b
-        told l b true e = same b ∙ (row-of rows lane b x h is ∙ ap (λ k. rows_seen rows k b) (eqb-true lane l e))
-        told l b false e = refl
-
-        still : (l b : ℕ) (t : Bool) → nat_eq lane l ≡ t → has_cell rows l b ≡ true → cond t (is_some (find_cell b y.cells.items)) (has_cell rows l b) ≡ true
-        still l b true e has = kept b (ap (λ cs. is_some (find_cell b cs)) (sym cells-of) ∙ (ap (λ k. has_cell rows k b) (eqb-true lane l e) ∙ has))
-        still l b false e has = has
-
-    pub has-made : (block at : ℕ) → at < length y.cells.items → slice_get y.cells.items at ≡ find_cell block y.cells.items → has_cell (set rows lane y) lane block ≡ true
-    has-made block at within there = set-has lane block ∙ (ap (λ t. cond t (is_some (find_cell block y.cells.items)) (has_cell rows lane block)) (eq-eqb lane lane refl) ∙ (ap is_some (sym there) ∙ go (slice_get_cases y.cells.items at).1))
-      where
-        go : ((z : Cell) × (at < length y.cells.items) × (slice_get y.cells.items at ≡ Some z) × (get_or y.cells.items at z ≡ z)) ⊎ ((length y.cells.items ≤ at) × (slice_get y.cells.items at ≡ None)) → is_some (slice_get y.cells.items at) ≡ true
-        go (inl z) = ap is_some z.2
-        go (inr z) = absurd (let w = z.0 in omega arith)
 
 -- past the rows there are no cells
 pub no-lane : (rows : List LaneRange) (lane block : ℕ) → length rows ≤ lane → has_cell rows lane block ≡ true → ⊥

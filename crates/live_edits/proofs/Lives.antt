@@ -16,8 +16,6 @@ use Rattle.live_lanes.proofs.Cells.{both}
 use Rattle.live_lanes.proofs.Growth.{shape-cause}
 use Rattle.live_lanes.proofs.Numbered.{among-cases}
 use Rattle.live_lanes.proofs.Segments.{changed-past}
-use Rattle.edit_laws.specs.RowCause.{GivesCause}
-use Rattle.edit_laws.specs.RowEnd.{GivesEnd}
 use Rattle.live_edits.specs.declared.log.Former.{Former}
 use Rattle.live_edits.specs.declared.log.Former.TheVariants as formers
 use Rattle.live_edits.specs.declared.log.LoggedRows.{LoggedRows}
@@ -175,20 +173,6 @@ life-logged x y z spot change p q e back = record {
     there f (inl d) = ap (cell_there z.rows.rows.items) d ∙ (q.cells spot.lane spot.block ∙ p.there)
     there f (inr m) = absurd (none-among f m)
 
-pub gives-cause : (x y : LoggedRows) (new : List LaneRange) (spot : PieceSpot) (cause : Cause) → LogsLife x y spot → ChangesCell y.rows.rows.items new spot.lane spot.block (λ v. with_cause v spot.index cause) → IsThere x.rows.rows.items (node_of spot) → GivesCause x.rows.rows.items new (node_of spot) cause
-gives-cause x y new spot cause p q t = record {
-  within = t.piece;
-  seen = own-changed x y new spot (λ v. with_cause v spot.index cause) p q;
-  lanes = same-lanes x y new spot (λ v. with_cause v spot.index cause) p q;
-}
-
-pub gives-end : (x y : LoggedRows) (new : List LaneRange) (spot : PieceSpot) (end : PieceEnd) → LogsLife x y spot → ChangesCell y.rows.rows.items new spot.lane spot.block (λ v. with_end v spot.index end) → IsThere x.rows.rows.items (node_of spot) → GivesEnd x.rows.rows.items new (node_of spot) end
-gives-end x y new spot end p q t = record {
-  within = t.piece;
-  seen = own-changed x y new spot (λ v. with_end v spot.index end) p q;
-  lanes = same-lanes x y new spot (λ v. with_end v spot.index end) p q;
-}
-
 pub cause-pieces : (x y : LoggedRows) (new : List LaneRange) (spot : PieceSpot) (cause : Cause) → LogsLife x y spot → ChangesCell y.rows.rows.items new spot.lane spot.block (λ v. with_cause v spot.index cause) → KeepsPieces x.rows.rows.items new
 cause-pieces x y new spot cause p q = record {
   shapes = told-same x y new spot (λ v. with_cause v spot.index cause) p q shape (λ v. shape-cause v spot.index cause);
@@ -247,19 +231,6 @@ end-absent x y new spot end p q h none l b =
     go : (t : Bool) → at l b ≡ t → cond t (with_end own spot.index end) (rows_seen x.rows.rows.items l b) ≡ rows_seen x.rows.rows.items l b
     go true e = end-past own spot.index end past ∙ sym (at-own x y new spot (λ v. with_end v spot.index end) p q (λ v. v) l b e)
     go false e = refl
-
--- a cause and an end are put back
-pub life-back : (old mid new : List LaneRange) (spot : PieceSpot) (cause : Cause) (end : PieceEnd) → ChangesCell old mid spot.lane spot.block (λ v. with_cause v spot.index cause) → ChangesCell mid new spot.lane spot.block (λ v. with_end v spot.index end) → TakesBack old new (formers.Life spot cause end)
-life-back old mid new spot cause end p q = record {
-  seen = λ l b. q.seen l b ∙ (ap (λ v. cond (nat_eq spot.lane l && nat_eq spot.block b) (with_end v spot.index end) v) (p.seen l b) ∙ go (nat_eq spot.lane l && nat_eq spot.block b) (rows_seen old l b));
-  cells = λ l b. q.cells l b ∙ p.cells l b;
-  rooms = λ l b. let f = p.rooms l b in let g = q.rooms l b in omega (arith, f, g);
-  lanes = q.lanes ∙ p.lanes;
-}
-  where
-    go : (t : Bool) (v : Seen) → cond t (with_end (cond t (with_cause v spot.index cause) v) spot.index end) (cond t (with_cause v spot.index cause) v) ≡ cond t (with_end (with_cause v spot.index cause) spot.index end) v
-    go true v = refl
-    go false v = refl
 
 -- a change is logged
 pub change-logged : (x z : LoggedRows) (mid : List LaneRange) (lane block : ℕ) (change back : CellChange) → AddsCells x.rows.rows.items mid → has_cell mid lane block ≡ true → ChangesCell mid z.rows.rows.items lane block (seen_changed change) → seen_changed back (rows_seen z.rows.rows.items lane block) ≡ rows_seen mid lane block → fits_in back (room_of z.rows.rows.items lane block) ≡ true → z.log.items ≡ x.log.items ++ formers.Shape lane block back ∷ [] → IsLogged x z

@@ -3,13 +3,13 @@ use Rattle.std.specs.Prelude.{◌≡◌, ◌≤◌, ℕ, true, cond, ◌&&◌, n
 use Rattle.live_lanes.specs.declared.row.Cell.{Cell}
 use Rattle.live_lanes.specs.declared.row.LaneRange.{LaneRange}
 use Rattle.live_lanes.specs.declared.table.PieceSpot.{PieceSpot}
-use Rattle.live_lanes.specs.Table.{Seen, seen_in, find_cell}
+use Rattle.live_lanes.specs.Table.{Seen, seen_in, find_cell, cell_room}
 use Rattle.live_lanes.specs.Entered.{rows_seen, causes}
 use Rattle.live_lanes.specs.Ends.{row_end}
 use Rattle.live_edits.specs.declared.log.Former.{Former}
 use Rattle.live_edits.specs.declared.log.Former.TheVariants as formers
 use Rattle.live_edits.specs.declared.log.LoggedRows.{LoggedRows}
-use Rattle.live_edits.specs.Logged.{has_cell, cell_room, room_of, taken_back}
+use Rattle.live_edits.specs.Logged.{has_cell, room_of, taken_back}
 
 -- the cell of a block of a row changes so; no cell comes or goes, and no room goes
 pub record ChangesRow (old new : List Cell) (block : ℕ) (change : Seen → Seen) : Type 0 where

@@ -1,9 +1,8 @@
 -- What takes changes of rows back.
-use Rattle.std.specs.Prelude.{◌≡◌, ◌≤◌, ℕ, Bool, true, cond, ◌&&◌, nat_eq, List, [], ◌∷◌, ◌++◌, Option, None, Some, is_some, length, vec_capacity}
+use Rattle.std.specs.Prelude.{◌≡◌, ◌≤◌, ℕ, Bool, true, cond, ◌&&◌, nat_eq, List, [], ◌∷◌, ◌++◌, is_some, length}
 use Rattle.mir_meaning.specs.Paths.{Among}
-use Rattle.live_lanes.specs.declared.row.Cell.{Cell}
 use Rattle.live_lanes.specs.declared.row.LaneRange.{LaneRange}
-use Rattle.live_lanes.specs.Table.{Seen, find_cell, with_cause, with_end}
+use Rattle.live_lanes.specs.Table.{Seen, find_cell, cell_room, with_cause, with_end}
 use Rattle.live_lanes.specs.Entered.{rows_seen, cells_of}
 use Rattle.live_edits.specs.CellChanges.{seen_changed, reading_removed, fits_in}
 use Rattle.live_edits.specs.declared.log.Former.{Former}
@@ -30,10 +29,6 @@ abbrev pub has_cell : List LaneRange → ℕ → ℕ → Bool
 has_cell rows l b = is_some (find_cell b (cells_of rows l))
 
 -- how many pieces the cell's list of those that writings begin has room for
-abbrev pub cell_room : Option Cell → ℕ
-cell_room None = 0
-cell_room (Some c) = vec_capacity c.segments
-
 abbrev pub room_of : List LaneRange → ℕ → ℕ → ℕ
 room_of rows l b = cell_room (find_cell b (cells_of rows l))
 

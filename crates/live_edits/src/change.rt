@@ -1,9 +1,9 @@
 //! Changes of single cells of rows.
 
 ghost use Rattle.std.specs.Prelude.{◌≡◌, ◌<◌, true, length, IfOk, IsOk, OnOk, OnErr, is_some, slice_get};
-ghost use Rattle.live_lanes.specs.Table.{find_cell, seen_in, with_cause, with_end};
+ghost use Rattle.live_lanes.specs.Table.{find_cell, cell_room, seen_in, with_cause, with_end};
 ghost use Rattle.live_lanes.specs.Entered.{rows_seen, cells_of};
-ghost use Rattle.live_edits.specs.Logged.{has_cell, cell_room, room_of};
+ghost use Rattle.live_edits.specs.Logged.{has_cell, room_of};
 ghost use Rattle.live_edits.specs.Changes.{AddsCells, ChangesRow, ChangesCell};
 ghost use Rattle.live_edits.specs.CellChanges.{seen_changed, fits_in};
 
@@ -19,8 +19,9 @@ fn give_row_life(row: &mut LaneRange, spot: PieceSpot, cause: Cause, end: PieceE
 {
     let place = row.place(spot.block);
     if place < row.cells.len() {
-        row.cells[place].set_cause(spot.index, cause);
-        row.cells[place].set_end(spot.index, end);
+        let cell = &mut row.cells[place];
+        cell.set_cause(spot.index, cause);
+        cell.set_end(spot.index, end);
     }
 }
 
@@ -55,6 +56,28 @@ pub fn give_life(rows: &mut LaneRanges, spot: PieceSpot, cause: Cause, end: Piec
     if lane < rows.rows.len() {
         give_row_life(&mut rows.rows[lane], spot, cause, end);
     }
+}
+
+/// Gives a piece a cause, where its cell stands at this place.
+pub fn give_cause_at(rows: &mut LaneRanges, place: usize, spot: PieceSpot, cause: Cause)
+    requires lane { spot.lane < length rows.old.rows.items }
+    requires within { place < length (cells_of rows.old.rows.items spot.lane) }
+    requires there { slice_get (cells_of rows.old.rows.items spot.lane) place ≡ find_cell spot.block (cells_of rows.old.rows.items spot.lane) }
+    ensures { ChangesCell rows.old.rows.items rows.new.rows.items spot.lane spot.block (λ v. with_cause v spot.index cause) }
+{
+    let row = &mut rows.rows[spot.lane as usize];
+    row.cells[place].set_cause(spot.index, cause);
+}
+
+/// Gives a piece an end, where its cell stands at this place.
+pub fn give_end_at(rows: &mut LaneRanges, place: usize, spot: PieceSpot, end: PieceEnd)
+    requires lane { spot.lane < length rows.old.rows.items }
+    requires within { place < length (cells_of rows.old.rows.items spot.lane) }
+    requires there { slice_get (cells_of rows.old.rows.items spot.lane) place ≡ find_cell spot.block (cells_of rows.old.rows.items spot.lane) }
+    ensures { ChangesCell rows.old.rows.items rows.new.rows.items spot.lane spot.block (λ v. with_end v spot.index end) }
+{
+    let row = &mut rows.rows[spot.lane as usize];
+    row.cells[place].set_end(spot.index, end);
 }
 
 /// Changes a cell of a lane, where there is one. It gives the change that takes this one back.

@@ -12,7 +12,7 @@ ghost use Rattle.live_edits.specs.Logged.{IsLogged};
 ghost use Rattle.live_edits.specs.Pieces.{node_of, IsThere, KeepsPieces};
 ghost use Rattle.live_edits.specs.Changes.{AddsCells, LogsLife};
 
-use crate::change::make_in;
+use crate::change::{give_cause_at, give_end_at, make_in};
 use crate::log::{Former, LoggedRows};
 use live_lanes::order::Order;
 use live_lanes::row::{Cause, Cell, PieceEnd};
@@ -115,7 +115,7 @@ impl LoggedRows {
             return Ok(());
         }
         let place = self.log_life(spot)?;
-        self.rows.rows[spot.lane as usize].cells[place].set_cause(spot.index, cause);
+        give_cause_at(&mut self.rows, place, spot, cause);
         Ok(())
     }
 
@@ -130,7 +130,7 @@ impl LoggedRows {
             return Ok(());
         }
         let place = self.log_life(spot)?;
-        self.rows.rows[spot.lane as usize].cells[place].set_end(spot.index, end);
+        give_end_at(&mut self.rows, place, spot, end);
         Ok(())
     }
 }

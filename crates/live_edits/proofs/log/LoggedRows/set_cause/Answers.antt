@@ -12,9 +12,9 @@ returns-in_err-place-clause-logged c = added-logged c.args.self.now c.log_life.n
 pub returns-clause-pieces : goal.returns-clause-pieces
 returns-clause-pieces c =
     let logs = c.in_ok-place.ensures.life in
-    cause-pieces c.args.self.now c.log_life.new.self _ c.args.spot c.args.cause logs (c.give_cause_near.ensures logs.there)
+    cause-pieces c.args.self.now c.log_life.new.self _ c.args.spot c.args.cause logs c.give_cause_at.ensures
 
 pub returns-clause-logged : goal.returns-clause-logged
 returns-clause-logged c =
     let logs = c.in_ok-place.ensures.life in
-    life-logged c.args.self.now c.log_life.new.self _ c.args.spot (λ v. with_cause v c.args.spot.index c.args.cause) logs (c.give_cause_near.ensures logs.there) refl (cause-back c.args.spot.index c.args.cause)
+    life-logged c.args.self.now c.log_life.new.self _ c.args.spot (λ v. with_cause v c.args.spot.index c.args.cause) logs c.give_cause_at.ensures refl (cause-back c.args.spot.index c.args.cause)

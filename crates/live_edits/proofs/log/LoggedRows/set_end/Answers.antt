@@ -12,16 +12,16 @@ returns-in_err-place-clause-logged c = added-logged c.args.self.now c.log_life.n
 pub returns-clause-causes : goal.returns-clause-causes
 returns-clause-causes c =
     let logs = c.in_ok-place.ensures.life in
-    end-causes c.args.self.now c.log_life.new.self _ c.args.spot c.args.end logs (c.give_end_near.ensures logs.there)
+    end-causes c.args.self.now c.log_life.new.self _ c.args.spot c.args.end logs c.give_end_at.ensures
 
 pub returns-clause-logged : goal.returns-clause-logged
 returns-clause-logged c =
     let logs = c.in_ok-place.ensures.life in
-    life-logged c.args.self.now c.log_life.new.self _ c.args.spot (λ v. with_end v c.args.spot.index c.args.end) logs (c.give_end_near.ensures logs.there) refl (end-back c.args.spot.index c.args.end)
+    life-logged c.args.self.now c.log_life.new.self _ c.args.spot (λ v. with_end v c.args.spot.index c.args.end) logs c.give_end_at.ensures refl (end-back c.args.spot.index c.args.end)
 
 pub returns-clause-absent : goal.returns-clause-absent
 returns-clause-absent c =
     let logs = c.in_ok-place.ensures.life in
     let rows = c.args.self.now.rows.rows in
     let within : c.args.spot.lane < length rows.items = omega (arith, rows.ok.0, c.len.ensures, c.if-spot-len.false) in
-    end-absent c.args.self.now c.log_life.new.self _ c.args.spot c.args.end logs (c.give_end_near.ensures logs.there) within
+    end-absent c.args.self.now c.log_life.new.self _ c.args.spot c.args.end logs c.give_end_at.ensures within
