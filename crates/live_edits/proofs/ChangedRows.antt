@@ -149,7 +149,7 @@ module _ (rows : List LaneRange) (lane : ℕ) (x : LaneRange) (h : lane < length
         go false e g = omega (arith, g)
 
     -- the row has the cell's room
-    own-room : (b : ℕ) → room_of (set rows lane y) lane b ≡ cell_room (find_cell b y.cells.items)
+    pub own-room : (b : ℕ) → room_of (set rows lane y) lane b ≡ cell_room (find_cell b y.cells.items)
     own-room b = set-room lane b ∙ ap (λ t. cond t (cell_room (find_cell b y.cells.items)) (room_of rows lane b)) (eq-eqb lane lane refl)
 
     pub cell-back : (b : ℕ) {E : Type 0} (r : Result CellChange E) → IfOk r (λ back. (seen_changed back (seen_in y.cells.items b) ≡ seen_in x.cells.items b) × (fits_in back (cell_room (find_cell b y.cells.items)) ≡ true)) → IfOk r (λ back. (seen_changed back (rows_seen (set rows lane y) lane b) ≡ rows_seen rows lane b) × (fits_in back (room_of (set rows lane y) lane b) ≡ true))

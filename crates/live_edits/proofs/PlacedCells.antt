@@ -4,13 +4,13 @@ use Rattle.std.specs.Prelude.{nat_eq, slice_get}
 use Rattle.std.proofs.lemmas.Option.{slice_get-get_or}
 use Rattle.live_lanes.specs.declared.row.Cell.{Cell}
 use Rattle.live_lanes.specs.declared.row.LaneRange.{LaneRange}
-use Rattle.live_lanes.specs.Table.{Seen, seen, seen_in, seen_cell, find_cell, descends}
+use Rattle.live_lanes.specs.Table.{Seen, seen, seen_in, seen_cell, find_cell, cell_room, descends}
 use Rattle.live_lanes.specs.Entered.{rows_seen, cells_of}
 use Rattle.live_lanes.proofs.Cells.{cell-seen, change-descends, change-seen, found-block, set-find}
 use Rattle.live_lanes.proofs.Rows.{row-of, rows-set}
 use Rattle.live_edits.specs.declared.cell_change.CellChange.{CellChange}
 use Rattle.live_edits.specs.CellChanges.{seen_changed, fits_in}
-use Rattle.live_edits.specs.Logged.{has_cell, cell_room, room_of}
+use Rattle.live_edits.specs.Logged.{has_cell, room_of}
 use Rattle.live_edits.specs.Changes.{ChangesRow, ChangesCell}
 use Rattle.live_edits.proofs.ChangedRows.{same-cells, no-room-goes, cells-of, cell-changes, own-room}
 
