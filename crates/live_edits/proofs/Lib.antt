@@ -46,6 +46,8 @@ pub mod NotedLists
 pub mod NotedTable
 pub mod NotedAll
 pub mod NotedTouched
+pub mod NotNamed
+pub mod Unnamed
 pub mod EditedWays
 pub mod EditedGone
 pub mod EditedNotes

@@ -9,6 +9,7 @@
 //! instructions are edited as a `draft`. `edits` does a whole list of them (`edit_run`), or none.
 #![tactic(auto)]
 
+mod aside;
 mod ask;
 mod cell_change;
 mod cells;

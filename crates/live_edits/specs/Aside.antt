@@ -1,0 +1,71 @@
+-- Rows of a range that no instruction names after edits: they are taken away whole.
+use Rattle.std.specs.Prelude.{◌≡◌, ◌&&◌, ℕ, Bool, true, false, not, List, [], ◌∷◌, Some, flat_map}
+use Rattle.std.specs.List.{list_all, list_any}
+use Rattle.target_base.specs.declared.types.Target.{Target}
+use Rattle.mir_func.specs.declared.func.Operand.{Operand}
+use Rattle.mir_func.specs.declared.func.Operand.TheVariants as operands
+use Rattle.mir_func.specs.Value.{Function, IsFunction}
+use Rattle.mir_meaning.specs.Paths.{Among, Step, Code, steps_of, last_of, has, Unused, use_of, is_written}
+use Rattle.mir_meaning.specs.Points.{is_range}
+use Rattle.instr_effects.specs.declared.owner.Owner.TheVariants as owners
+use Rattle.instr_effects.specs.Numbered.{number_in, IsTable}
+use Rattle.live_lanes.specs.declared.row.LaneUse.{LaneUse}
+use Rattle.live_lanes.specs.declared.table.Table.{Table}
+use Rattle.live_lanes.specs.Doing.{lane_code}
+use Rattle.live_lanes.specs.Entered.{rows_seen, IsTableOf}
+use Rattle.live_lanes.specs.Table.{Seen, Begun}
+use Rattle.edit_laws.specs.Deferred.{standing_code, TouchesEdits}
+use Rattle.edit_laws.specs.Edits.{Edit, Put, Replace, Erase}
+use Rattle.edit_laws.specs.Reasons.{Touched}
+
+-- the operand names the range
+abbrev pub names_range : ℕ → Operand → Bool
+names_range v (operands.Reg o) = is_range v o.loc
+names_range v _ = false
+
+-- one of the operands does
+abbrev pub any_names : ℕ → List Operand → Bool
+any_names v os = list_any (names_range v) os
+
+-- an operand that the edit brings does
+abbrev pub brings : ℕ → Edit → Bool
+brings v (Put gap op os) = any_names v os
+brings v (Replace id op os) = any_names v os
+brings v (Erase id) = false
+
+-- the ids of the instructions that edits replace or erase
+abbrev pub changed_by : Edit → List ℕ
+changed_by (Put gap op os) = []
+changed_by (Replace id op os) = id ∷ []
+changed_by (Erase id) = id ∷ []
+
+abbrev pub changed_ids : List Edit → List ℕ
+changed_ids es = flat_map changed_by es
+
+-- a lane's cell names no instructions but those that the test tells, and no phi reads it where the block ends
+abbrev pub are_told : (ℕ → Bool) → List LaneUse → Bool
+are_told told rs = list_all (λ r. told r.id) rs
+
+abbrev pub is_begun_told : (ℕ → Bool) → Begun → Bool
+is_begun_told told s = told s.start && are_told told s.readings
+
+abbrev pub is_all_told : (ℕ → Bool) → Seen → Bool
+is_all_told told v = not v.is_read_last && (are_told told v.readings && list_all (is_begun_told told) v.segments)
+
+-- no instruction of the code uses or writes the lane, and no phi reads it where a block ends
+pub record IsUnnamed (code : Code) (l : ℕ) : Type 0 where
+  pub unused : (b : ℕ) (s : Step) → Among s (steps_of code b) → use_of l s ≡ Unused
+  pub unwritten : (b : ℕ) (s : Step) → Among s (steps_of code b) → is_written l s ≡ false
+  pub unread : (b : ℕ) → Among l (last_of code b) → ⊥
+
+-- Edits bring no operand that names the range, and all that the table tells of its lanes is of instructions that they replace or erase.
+pub record LeavesNone (x : Table) (es : List Edit) (v : ℕ) : Type 0 where
+  pub brings : list_any (brings v) es ≡ false
+  pub told : (k l b : ℕ) → number_in x.lanes (owners.Range v k) ≡ Some l → is_all_told (λ id. has id (changed_ids es)) (rows_seen x.rows.rows.items l b) ≡ true
+
+-- then the code in which erased instructions stand names none of them
+abbrev pub UnnamedLaw : Type 0
+UnnamedLaw =
+    (touched : Touched) (t : Target) (f : Function) (x : Table) (es : List Edit) (v k l : ℕ) → IsFunction f.blocks f.next_id → IsTable x.lanes
+    → IsTableOf (lane_code t f (number_in x.lanes)) x.order.slots x.flow.items x.rows.rows.items → TouchesEdits touched t f (number_in x.lanes) es
+    → LeavesNone x es v → number_in x.lanes (owners.Range v k) ≡ Some l → IsUnnamed (standing_code t f (number_in x.lanes) es) l
