@@ -330,13 +330,13 @@ module _ (t : Target) (f : Function) (num : Numbering) (v k l : ℕ) (only : (o 
     where
       go : (q : Option ℕ) → num a.lane ≡ q → elim q [ None ↦ None | Some n ↦ Some (writing num a n) ] ≡ Some w → (n : ℕ) × WrittenBy w a n
       go None h g = absurd (cc)
-      go (Some n) h g = (n, h, same_Some (writing num a n) w g)
+      go (Some n) h g = (n, (h, same_Some (writing num a n) w g))
 
   no-move : (w : LaneDef) → Member w (act_writings num acts) → is_some_number l w.from ≡ false
   no-move w m =
       let z = filtered-of (act_writing num) w acts m in
       let y = written-by w z.0 z.2 in
-      sym (ap (λ (x : LaneDef). is_some_number l x.from) y.2) ∙ go z.0 z.1 (option_and_then num z.0.from) refl
+      sym (ap (λ (x : LaneDef). is_some_number l x.from) y.1.1) ∙ go z.0 z.1 (option_and_then num z.0.from) refl
     where
       at : (a : Act) → Member a acts → (n : ℕ) → option_and_then num a.from ≡ Some n → (b : Bool) → nat_eq n l ≡ b → b ≡ false
       at a j n e true h = absurd (not-moved a j a.from refl (e ∙ ap Some (eqb-true n l h)))
@@ -350,7 +350,7 @@ module _ (t : Target) (f : Function) (num : Numbering) (v k l : ℕ) (only : (o 
   no-lane w m =
       let z = filtered-of (act_writing num) w acts m in
       let y = written-by w z.0 z.2 in
-      sym (ap (λ (x : LaneDef). nat_eq x.lane l) y.2) ∙ go z.0 z.1 y.0 y.1 (nat_eq y.0 l) refl
+      sym (ap (λ (x : LaneDef). nat_eq x.lane l) y.1.1) ∙ go z.0 z.1 y.0 y.1.0 (nat_eq y.0 l) refl
     where
       go : (a : Act) → Member a acts → (n : ℕ) → num a.lane ≡ Some n → (b : Bool) → nat_eq n l ≡ b → b ≡ false
       go a j n e true h = absurd (unnamed ((entered-acts t f v k i a j).0 (only a.lane (e ∙ ap Some (eqb-true n l h)))))

@@ -29,6 +29,7 @@ use Rattle.live_lanes.specs.Entering.{EnteredStep}
 use Rattle.live_lanes.specs.Ordered.{place_of}
 use Rattle.live_lanes.specs.Table.{Begun, Seen}
 use Rattle.live_lanes.proofs.Basics.{none-among}
+use Rattle.live_lanes.proofs.Numbered.{among-cases}
 use Rattle.live_laws.proofs.Effects.Blocks.{among-of, of-among}
 use Rattle.live_laws.proofs.Effects.Moving.{some-same}
 use Rattle.edit_laws.specs.Deferred.{all_deferred, all_gone, deferred, gone_after, idle, nothing, standing_code, TouchesEdits}
@@ -64,12 +65,13 @@ step-in doing place all n (y ∷ bs) x i m j = member-elim x y bs own (λ k. let
 -- what a cell tells of instructions
 
 has-among : (l : ℕ) (xs : List ℕ) → Among l xs → has l xs ≡ true
-has-among l (l ∷ xs) here = ap (λ b. cond b true (has l xs)) (eq-eqb l l refl)
-has-among l (x ∷ xs) (there m) = go (nat_eq x l)
+has-among l [] m = absurd (none-among l m)
+has-among l (x ∷ xs) m = go (nat_eq x l) refl (among-cases l x xs m) (has-among l xs)
   where
-    go : (b : Bool) → cond b true (has l xs) ≡ true
-    go true = refl
-    go false = has-among l xs m
+    go : (b : Bool) → nat_eq x l ≡ b → (l ≡ x) ⊎ Among l xs → (Among l xs → has l xs ≡ true) → cond b true (has l xs) ≡ true
+    go true e k h = refl
+    go false e (inl g) h = absurd (let z : true ≡ false = sym (eq-eqb x l (sym g)) ∙ e in cc)
+    go false e (inr k) h = h k
 
 abbrev Quiet : ℕ → Step → Type 0
 Quiet l s = (use_of l s ≡ Unused) × (is_written l s ≡ false)
@@ -177,16 +179,16 @@ module _ (id : ℕ) (change : Instr → Instr) where
 
   changed-in : (is : List Instr) → id_count id is ≤ 1 → (j : Instr) → Member j (update (instr_place id is) change is) → IsChanged is j
   changed-in [] few j m = absurd (member-none j m)
-  changed-in (i ∷ is) few j m = go (nat_eq i.id id) refl m
+  changed-in (i ∷ is) few j m = go (nat_eq i.id id) refl (λ left n. changed-in is left j n) m
     where
-      go : (u : Bool) → nat_eq i.id id ≡ u → Member j (update (cond (not u) (1 + instr_place id is) 0) change (i ∷ is)) → IsChanged (i ∷ is) j
-      go true e k =
+      go : (u : Bool) → nat_eq i.id id ≡ u → (id_count id is ≤ 1 → Member j (update (instr_place id is) change is) → IsChanged is j) → Member j (update (cond (not u) (1 + instr_place id is) 0) change (i ∷ is)) → IsChanged (i ∷ is) j
+      go true e later-on k =
           let none : id_count id is ≡ 0 = let s : id_count id (i ∷ is) ≡ 1 + id_count id is = count-step i is ∙ ap (λ u. cond u 1 0 + id_count id is) e in omega (arith, s, few) in
           member-elim j (change i) is (λ h. inl (i, first, h)) (λ n. inr (later n, others is none j n)) k
-      go false e k =
+      go false e later-on k =
           let next : 1 + instr_place id is ≡ suc (instr_place id is) = omega arith in
           let left : id_count id is ≤ 1 = omega (arith, count-step i is, few) in
-          member-elim j i (update (instr_place id is) change is) (λ h. inr (subst (λ (o : Instr). Member o (i ∷ is)) (sym h) first, ap (λ (o : Instr). nat_eq o.id id) h ∙ e)) (λ n. more-changed i is j (changed-in is left j n))
+          member-elim j i (update (instr_place id is) change is) (λ h. inr (subst (λ (o : Instr). Member o (i ∷ is)) (sym h) first, ap (λ (o : Instr). nat_eq o.id id) h ∙ e)) (λ n. more-changed i is j (later-on left n))
           (subst (λ n. Member j (update n change (i ∷ is))) next k)
 
   once-in : (bs : List Block) → id_total id bs ≤ 1 → (b : Block) → Member b bs → id_count id b.instrs ≤ 1
@@ -239,8 +241,8 @@ module _ (quiet : Instr → Type 0) (v : ℕ) where
   replaced-fine id op os changed gone is none all j (inr z) = not-this id changed gone j z.1 (all j z.0)
 
   one-edit : (e : Edit) (g : Function) (changed gone : List ℕ) → ((id : ℕ) → id_total id g.blocks ≤ 1) → brings v e ≡ false → AllOf (Fine (changed_by e ++ changed) gone) g.blocks → AllOf (Fine changed (gone_after gone e)) (deferred g e).blocks
-  one-edit (Put gap op os) g changed gone once none all =
-      put-all (Fine changed gone) (made g.next_id op os) (is_other none) (put-blocks Never (λ j. j ≡ made g.next_id op os) NeverBoth (made g.next_id op os) refl gap.before (block_place gap.block g.blocks) g.blocks) all
+  one-edit (Put gap op os) g changed gone once none all b i m n =
+      put-all (Fine changed gone) (made g.next_id op os) (is_other none) (put-blocks Never (λ j. j ≡ made g.next_id op os) NeverBoth (made g.next_id op os) refl gap.before (block_place gap.block g.blocks) g.blocks) all b i m n
   one-edit (Replace id op os) g changed gone once none all b i m n =
       let z = map-of (changed_in id (with_op op os)) b g.blocks m in
       replaced-fine id op os changed gone z.0.instrs none (λ j k. all z.0 j z.1 k) i
