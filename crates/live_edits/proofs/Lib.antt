@@ -46,6 +46,9 @@ pub mod NotedLists
 pub mod NotedTable
 pub mod NotedAll
 pub mod NotedTouched
+pub mod AsideTold
+pub mod AsideRows
+pub mod AsideLanes
 pub mod NotNamed
 pub mod Unnamed
 pub mod EditedWays

@@ -14,6 +14,7 @@ ghost use Rattle.live_edits.specs.Pieces.{nodes_of};
 ghost use Rattle.live_edits.specs.Remade.{noted_ids};
 ghost use Rattle.live_edits.specs.Runs.{edit_of, edits_of, table_of, HasPlace, DoesEdit, AddsLanes, AddsLanesOf, KeepsTables, AddsSlots, named_slot, NumbersSlots, KeepsCells, KeepsDraft, cell_sides, AreSuspects, all_noted};
 
+use crate::aside::AsideRow;
 use crate::cells::CellNotes;
 use crate::draft::Draft;
 use crate::log::LoggedRows;
@@ -45,6 +46,8 @@ pub struct EditRun {
     pub touched: Vec<TouchedInstr>,
     /// The instructions that are erased.
     pub gone: BTreeSet<u32>,
+    /// The rows that were taken away whole.
+    pub aside: Vec<AsideRow>,
 }
 
 impl EditRun {

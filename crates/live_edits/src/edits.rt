@@ -62,6 +62,7 @@ impl EditRun {
             rows: LoggedRows::new(rows),
             touched: Vec::new(alloc),
             gone: BTreeSet::new(alloc),
+            aside: Vec::new(alloc),
         }
     }
 
@@ -181,6 +182,7 @@ impl EditRun {
         self.rows.log.clear();
         self.touched.clear();
         self.gone.clear();
+        self.aside.clear();
     }
 
     /// Keeps all that was done, and lets erased instructions go.
