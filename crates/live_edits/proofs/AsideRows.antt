@@ -1,14 +1,13 @@
 -- Rows that are taken away and put back.
-use Rattle.std.proofs.Common.{◌≡◌, ◌⊎◌, inl, inr, ◌++◌, ◌∙◌, ◌<◌, ℕ, Bool, true, false, cond, List, [], ◌∷◌, Option, Some, None, length, set, refl, sym, ap, subst, eqb-true, eq-eqb}
-use Rattle.std.specs.Prelude.{◌||◌, nat_eq, slice_get}
-use Rattle.std.specs.List.{list_any}
+use Rattle.std.proofs.Common.{◌≡◌, ◌⊎◌, inl, inr, ◌++◌, ◌∙◌, ◌<◌, ℕ, Bool, true, false, cond, List, [], ◌∷◌, length, set, refl, sym, ap, subst, eqb-true}
+use Rattle.std.specs.Prelude.{◌||◌, nat_eq}
 use Rattle.mir_meaning.specs.Paths.{Among, here, there}
 use Rattle.live_lanes.specs.declared.row.LaneRange.{LaneRange}
 use Rattle.live_lanes.specs.Entered.{rows_seen}
 use Rattle.live_lanes.specs.Table.{Seen, seen_in, unseen}
 use Rattle.live_lanes.proofs.Basics.{none-among}
 use Rattle.live_lanes.proofs.Numbered.{among-cases, among-split}
-use Rattle.live_lanes.proofs.Rows.{get-set}
+use Rattle.live_lanes.proofs.Rows.{rows-set}
 use Rattle.live_edits.specs.declared.aside.AsideRow.{AsideRow}
 use Rattle.live_edits.specs.declared.edit_run.EditRun.{EditRun}
 use Rattle.live_edits.specs.Aside.{AreThere, IsPutBack, IsRowPutBack, IsRowTaken, KeepsOthers, TakesSome, is_aside, put_back}
@@ -70,14 +69,9 @@ module _ (a b c : EditRun) (P Q : ℕ → Type 0) (h : TakesSome a b P) (g : Tak
     only = only-then;
   }
 
--- a row of the list is another one
-
-pub row-set : (rows : List LaneRange) (lane : ℕ) (r : LaneRange) → lane < length rows → (l b : ℕ) → rows_seen (set rows lane r) l b ≡ cond (nat_eq lane l) (seen_in r.cells.items b) (rows_seen rows l b)
-row-set rows lane r h l b = ap (λ (q : Option LaneRange). elim q [ None ↦ unseen | Some x ↦ seen_in x.cells.items b ]) (get-set rows lane l r h) ∙ go (nat_eq lane l)
-  where
-    go : (u : Bool) → elim (cond u (Some r) (slice_get rows l)) [ None ↦ unseen | Some x ↦ seen_in x.cells.items b ] ≡ cond u (seen_in r.cells.items b) (rows_seen rows l b)
-    go true = refl
-    go false = refl
+-- the same may be said otherwise of the lanes
+pub takes-other : (a b : EditRun) (P Q : ℕ → Type 0) → ((l : ℕ) → P l → Q l) → TakesSome a b P → TakesSome a b Q
+takes-other a b P Q into h = takes-then a a b Q P (takes-none a Q) h into
 
 -- one more row is aside
 
@@ -100,7 +94,7 @@ aside-more (y ∷ xs) x l = ap (λ u. nat_eq y.lane l || u) (aside-more xs x l) 
     go true = refl
     go false = refl
 
-module _ (old new : EditRun) (lane : ℕ) (row none : LaneRange) (there : slice_get old.rows.rows.rows.items lane ≡ Some row) (within : lane < length old.rows.rows.rows.items) (empty : none.cells.items ≡ []) (others : KeepsOthers old new) (rows : new.rows.rows.rows.items ≡ set old.rows.rows.rows.items lane none) (long : length new.rows.rows.rows.items ≡ length old.rows.rows.rows.items) (aside : new.aside.items ≡ old.aside.items ++ record { lane = lane; row = row } ∷ []) where
+module _ (old new : EditRun) (lane : ℕ) (row none : LaneRange) (there : (b : ℕ) → seen_in row.cells.items b ≡ rows_seen old.rows.rows.rows.items lane b) (within : lane < length old.rows.rows.rows.items) (empty : none.cells.items ≡ []) (others : KeepsOthers old new) (rows : new.rows.rows.rows.items ≡ set old.rows.rows.rows.items lane none) (long : length new.rows.rows.rows.items ≡ length old.rows.rows.rows.items) (aside : new.aside.items ≡ old.aside.items ++ record { lane = lane; row = row } ∷ []) where
   abbrev x : AsideRow
   x = record { lane = lane; row = row }
 
@@ -111,13 +105,13 @@ module _ (old new : EditRun) (lane : ℕ) (row none : LaneRange) (there : slice_
   after = new.rows.rows.rows.items
 
   seen-now : (l b : ℕ) → rows_seen after l b ≡ cond (nat_eq lane l) unseen (rows_seen before l b)
-  seen-now l b = ap (λ rs. rows_seen rs l b) rows ∙ (row-set before lane none within l b ∙ ap (λ cs. cond (nat_eq lane l) (seen_in cs b) (rows_seen before l b)) empty)
+  seen-now l b = ap (λ rs. rows_seen rs l b) rows ∙ (rows-set before lane l b none within ∙ ap (λ cs. cond (nat_eq lane l) (seen_in cs b) (rows_seen before l b)) empty)
 
   seen-back : (l b : ℕ) → cond (nat_eq lane l) (seen_in row.cells.items b) (rows_seen after l b) ≡ rows_seen before l b
   seen-back l b = go (nat_eq lane l) refl (seen-now l b)
     where
       go : (u : Bool) → nat_eq lane l ≡ u → rows_seen after l b ≡ cond u unseen (rows_seen before l b) → cond u (seen_in row.cells.items b) (rows_seen after l b) ≡ rows_seen before l b
-      go true e now = sym (ap (λ n. rows_seen before n b) (sym (eqb-true lane l e)) ∙ ap (λ (q : Option LaneRange). elim q [ None ↦ unseen | Some r ↦ seen_in r.cells.items b ]) there)
+      go true e now = there b ∙ ap (λ n. rows_seen before n b) (eqb-true lane l e)
       go false e now = now
 
   aside-now : (l : ℕ) → is_aside new.aside.items l ≡ (is_aside old.aside.items l || nat_eq lane l)
@@ -226,10 +220,10 @@ module _ (first now mid new : EditRun) (x : AsideRow) (h : LeadsBack first now) 
     seen = λ all l b. seen-then (h.there all) l b ∙ h.seen all l b;
   }
 
-pub leads-back : (first new : EditRun) → LeadsBack first new → new.aside.items ≡ [] → IsPutBack first new
-leads-back first new h none = record {
-  others = h.others;
-  lanes = h.lanes;
+pub leads-back : (first now new : EditRun) → LeadsBack first now → KeepsOthers now new → new.rows.rows.rows.items ≡ now.rows.rows.rows.items → now.aside.items ≡ [] → new.aside.items ≡ [] → IsPutBack first new
+leads-back first now new h same rows left none = record {
+  others = others-then first now new h.others same;
+  lanes = ap length rows ∙ h.lanes;
   none = none;
-  seen = λ all l b. ap (λ xs. put_back xs (rows_seen new.rows.rows.rows.items) l b) (sym none) ∙ h.seen all l b;
+  seen = λ all l b. ap (λ rs. rows_seen rs l b) rows ∙ (ap (λ xs. put_back xs (rows_seen now.rows.rows.rows.items) l b) (sym left) ∙ h.seen all l b);
 }

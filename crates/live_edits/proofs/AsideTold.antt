@@ -1,5 +1,5 @@
 -- Which instructions edits change, and whether the rows of a range tell of no others.
-use Rattle.std.proofs.Common.{◌≡◌, ◌++◌, ◌∙◌, ◌<◌, ◌≤◌, ◌+◌, ℕ, zero, suc, Bool, true, false, cond, List, [], ◌∷◌, Option, Some, None, take, length, map, get_or, refl, sym, ap, arith, append-nil, append_assoc}
+use Rattle.std.proofs.Common.{◌≡◌, ◌++◌, ◌∙◌, ◌<◌, ◌≤◌, ◌+◌, ℕ, zero, suc, Bool, true, false, cond, not, List, [], ◌∷◌, Option, Some, None, take, length, map, get_or, refl, sym, ap, arith, append-nil, append_assoc}
 use Rattle.std.specs.Prelude.{◌&&◌, ◌||◌, nat_eq, nat_lt, slice_get}
 use Rattle.std.specs.List.{list_all, list_any}
 use Rattle.std.proofs.lemmas.Bool.{ltb-false, ltb-true}
@@ -16,7 +16,7 @@ use Rattle.live_lanes.specs.declared.row.LaneRange.{LaneRange}
 use Rattle.live_lanes.specs.declared.table.Table.{Table}
 use Rattle.live_lanes.specs.Entered.{cells_of, rows_seen}
 use Rattle.live_lanes.specs.Table.{begun, find_cell, seen, seen_cell, seen_in, unseen}
-use Rattle.live_edits.specs.Aside.{LeavesNone, brings, changed_by, changed_ids, is_all_told, is_begun_told}
+use Rattle.live_edits.specs.Aside.{LeavesNone, are_told, brings, changed_by, changed_ids, is_all_told, is_begun_told}
 use Rattle.live_edits.specs.Runs.{edit_of, edits_of}
 use Rattle.live_edits.proofs.RunIds.{has-more, has-turned}
 
@@ -49,6 +49,9 @@ any-brought v (e ∷ es) = ap (λ b. brings v (edit_of e) || b) (any-brought v e
 pub begun-told : (told : ℕ → Bool) (ss : List DefPiece) → list_all (λ s. is_begun_told told (begun s)) ss ≡ list_all (is_begun_told told) (map begun ss)
 begun-told told [] = refl
 begun-told told (s ∷ ss) = ap (λ b. is_begun_told told (begun s) && b) (begun-told told ss)
+
+pub cell-told : (told : ℕ → Bool) (c : Cell) → c.is_read_last ≡ false → are_told told c.first.readings.items ≡ true → list_all (λ s. is_begun_told told (begun s)) c.segments.items ≡ is_all_told told (seen_cell c)
+cell-told told c last read = begun-told told c.segments.items ∙ sym (λ i. not (last i) && (read i && list_all (is_begun_told told) (map begun c.segments.items)))
 
 cells-told : (told : ℕ → Bool) (cells : List Cell) → list_all (λ c. is_all_told told (seen_cell c)) cells ≡ true → (b : ℕ) → is_all_told told (seen_in cells b) ≡ true
 cells-told told [] h b = refl

@@ -1,5 +1,5 @@
 -- A run of edits leads from a computed table to that of the edited function.
-use Rattle.std.proofs.Common.{◌≡◌, ◌∷◌, ◌∙◌, ◌<◌, ℕ, true, length, List, [], Some, None, refl, sym, ap, subst}
+use Rattle.std.proofs.Common.{◌≡◌, ◌∷◌, ◌∙◌, ◌<◌, ℕ, true, false, length, List, [], Some, None, refl, sym, ap, subst}
 use Rattle.target_base.specs.declared.types.Target.{Target}
 use Rattle.mir_func.specs.Value.{Function, IsFunction}
 use Rattle.mir_meaning.specs.Paths.{Among, here, there, Code, Step, IsMatched, Unused, Into, has, steps_of}
@@ -37,6 +37,7 @@ use Rattle.edit_laws.proofs.Standing.{is-left}
 use Rattle.live_edits.specs.declared.cells.CellNotes.{CellNotes}
 use Rattle.live_edits.specs.declared.edit_run.EditRun.{EditRun}
 use Rattle.live_edits.specs.declared.log.LoggedRows.{LoggedRows}
+use Rattle.live_edits.specs.Aside.{is_aside}
 use Rattle.live_edits.specs.Drafts.{IsOrderOf}
 use Rattle.live_edits.specs.EditedRuns.{HaveRows, BringsUp, IsEditedRun, EditedRunLaw}
 use Rattle.live_edits.specs.Noted.{HasNotes, touched_at}
@@ -71,7 +72,7 @@ matched-before (one_left a) h s (there m) = matched-before a (λ r k. h r (there
 matched-before (one_goes {id = id} a) h s here = nothing-matched id
 matched-before (one_goes a) h s (there m) = matched-before a h s m
 
-module _ (t : Target) (es : List Edit) (old ready done new : EditRun) (may : MayBeEdited t old.draft.func (table_of old) es) (run : IsEditedRun t es old ready done new) where
+module _ (t : Target) (es : List Edit) (old ready done new : EditRun) (may : MayBeEdited t old.draft.func (table_of old) es) (empty : old.aside.items ≡ []) (run : IsEditedRun t es old ready done new) where
   abbrev f : Function
   f = old.draft.func
 
@@ -140,7 +141,7 @@ module _ (t : Target) (es : List Edit) (old ready done new : EditRun) (may : May
   touches : TouchesEdits touched t f num es
   touches =
       subst (λ (h : Function). TouchesEdits touched t h num es) run.first.func
-      (run.does.touched touched (includes done.touched.items))
+      (run.does.touched touched (includes done.touched.items) (λ l b id m. absurd (let z : true ≡ false = sym m ∙ ap (λ xs. is_aside xs l) (ap (λ v. v.items) run.first.aside ∙ empty) in cc)))
 
   standing-ways : HasWays t standing ready.flow.items
   standing-ways = all-deferred-ways touched t num ready.flow.items es f touches computed.ways
@@ -234,8 +235,8 @@ module _ (t : Target) (es : List Edit) (old ready done new : EditRun) (may : May
 
   cells : (l b : ℕ) → IsRebuilt before mid l b (rows_seen rows l b) (rows_seen made l b)
   cells =
-      remade touched before mid ready.draft.order.slots ready.flow.items tabled edit order.numbered
-      (all-notes-of t standing num done.gone.keys done.touched.items lists notes erased gone-are rows have-rows)
+      remade.rebuilt touched touched before mid ready.draft.order.slots ready.flow.items rows tabled edit order.numbered
+      (all-notes-of t standing num done.gone.keys done.touched.items lists notes erased gone-are rows have-rows) l (λ c id. refl) (λ c. refl) b
 
   updates : Updates brings.told slots ready.flow.items made rows' brings.suspects
   updates = subst (λ w. Updates brings.told slots w.items made rows' brings.suspects) run.does.flow brings.updated
@@ -320,4 +321,4 @@ module _ (t : Target) (es : List Edit) (old ready done new : EditRun) (may : May
   computed-new = subst (IsComputed t g) y-is computed-then
 
 pub edited-run-law : EditedRunLaw
-edited-run-law t es old ready done new may run = (new-is t es old ready done new may run, computed-new t es old ready done new may run)
+edited-run-law t es old ready done new may empty run = (new-is t es old ready done new may empty run, computed-new t es old ready done new may empty run)

@@ -33,6 +33,7 @@ pub mod UpdateSteps
 pub mod RunLanes
 pub mod RunPlaces
 pub mod RunEdits
+pub mod RunAside
 pub mod RunIds
 pub mod RunSides
 pub mod RunSlots

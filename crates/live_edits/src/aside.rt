@@ -1,13 +1,13 @@
 //! Rows of a range that no instruction names after edits: they are taken away whole.
 
-ghost use Rattle.std.specs.Prelude.{◌≡◌, ◌<◌, ◌++◌, ◌∷◌, ℕ, true, [], Some, IfOk, OnOk, vec_len, vec_capacity};
+ghost use Rattle.std.specs.Prelude.{◌≡◌, ◌⊎◌, ◌<◌, ◌++◌, ◌∷◌, ℕ, true, cond, [], Some, IfOk, OnOk, vec_len, vec_capacity};
 ghost use Rattle.std.specs.List.{list_all, list_any};
 ghost use Rattle.mir_meaning.specs.Paths.{has};
 ghost use Rattle.instr_effects.specs.declared.owner.Owner.TheVariants as owners;
 ghost use Rattle.instr_effects.specs.Numbered.{number_in};
 ghost use Rattle.live_lanes.specs.Entered.{rows_seen};
 ghost use Rattle.live_lanes.specs.Table.{begun, seen_cell};
-ghost use Rattle.live_edits.specs.Aside.{UnnamedLaw, any_names, are_told, brings, changed_by, changed_ids, is_all_told, is_aside, is_begun_told, names_range, IsPutBack, IsRowPutBack, IsRowTaken, LeavesNone, LeavesOut, TakesRows};
+ghost use Rattle.live_edits.specs.Aside.{UnnamedLaw, any_names, are_told, brings, changed_by, changed_ids, is_all_told, is_aside, is_begun_told, names_range, IsPutBack, IsRowPutBack, IsRowTaken, LeavesNone, LeavesOut, TakesRows, TakesSome};
 ghost use Rattle.live_edits.specs.Runs.{edit_of, edits_of, table_of};
 
 use crate::edit_run::EditRun;
@@ -214,15 +214,35 @@ impl EditRun {
         Ok(())
     }
 
+    /// The same of a lane that there may be.
+    fn take_lane(&mut self, lane: Option<u32>) -> Result<(), AllocError>
+        ensures { TakesSome self.old self.new (λ l. lane ≡ Some l) }
+    {
+        match lane {
+            Some(lane) => self.take_row(lane),
+            None => Ok(()),
+        }
+    }
+
     /// Takes the rows of a range's lanes away. After a refusal some may have gone.
     pub(crate) fn take_rows(&mut self, v: u32) -> Result<(), AllocError>
         ensures { TakesRows self.old self.new v }
     {
         let own = self.lanes.of_range(v);
         'lanes: for k in 0..own.count {
-            if let Some(lane) = own.lane(k) {
-                self.take_row(lane)?;
-            }
+            self.take_lane(own.lane(k))?;
+        }
+        Ok(())
+    }
+
+    /// Takes the rows of a range's lanes away, if edits leave nothing that names it. After a refusal some
+    /// may have gone.
+    pub(crate) fn clear_range(&mut self, edits: &[Edit], v: u32) -> Result<(), AllocError>
+        ensures takes { TakesRows self.old self.new v }
+        ensures leaves { (l : ℕ) → is_aside self.new.aside.items l ≡ true → (is_aside self.old.aside.items l ≡ true) ⊎ LeavesNone (table_of self.old) (edits_of edits.now) v }
+    {
+        if self.may_go(edits, v)? {
+            return self.take_rows(v);
         }
         Ok(())
     }
@@ -246,6 +266,16 @@ impl EditRun {
         }
     }
 
+    /// Adds a lane to a list, unless its row was taken away.
+    fn add_own(&self, lane: u32, own: &mut Vec<u32>) -> Result<(), AllocError>
+        ensures { OnOk result (own.new.items ≡ cond (is_aside self.now.aside.items lane) own.old.items (own.old.items ++ lane ∷ [])) }
+    {
+        if !self.is_aside(lane) {
+            own.push(lane)?;
+        }
+        Ok(())
+    }
+
     /// Those of lanes whose rows weren't taken away.
     pub(crate) fn own_lanes(&self, lanes: Vec<u32>) -> Result<Vec<u32>, AllocError>
         ensures { IfOk result (λ own. LeavesOut self.now.aside.items lanes.items own.items) }
@@ -255,9 +285,7 @@ impl EditRun {
         }
         let mut own = Vec::new(self.rows.rows.alloc);
         'lanes: for lane in lanes.as_slice() {
-            if !self.is_aside(*lane) {
-                own.push(*lane)?;
-            }
+            self.add_own(*lane, &mut own)?;
         }
         Ok(own)
     }

@@ -103,6 +103,7 @@ impl EditRun {
         let (block, id) = self.draft.put(gap, op, operands)?;
         let mut lanes = Vec::new(self.rows.rows.alloc);
         self.add_lanes_of(target, id, &mut lanes)?;
+        let lanes = self.own_lanes(lanes)?;
         self.touched.push(TouchedInstr { id, block, lanes })?;
         Ok(())
     }
@@ -126,6 +127,7 @@ impl EditRun {
         self.add_lanes(target, at, &mut lanes)?;
         self.draft.replace(id, op, operands)?;
         self.add_lanes(target, at, &mut lanes)?;
+        let lanes = self.own_lanes(lanes)?;
         let block = at.0;
         self.touched.push(TouchedInstr { id, block, lanes })?;
         Ok(())
@@ -143,6 +145,7 @@ impl EditRun {
         };
         let mut lanes = Vec::new(self.rows.rows.alloc);
         self.add_lanes(target, at, &mut lanes)?;
+        let lanes = self.own_lanes(lanes)?;
         let block = at.0;
         self.touched.push(TouchedInstr { id, block, lanes })?;
         Ok(())
@@ -200,6 +203,7 @@ impl EditRun {
         ensures whole { OnOk result (length self.new.lanes.owners.items ≤ length self.new.rows.rows.rows.items) }
         ensures added { AddsSlots self.old.lanes self.new.lanes }
         ensures further { length self.old.rows.rows.rows.items < 4294967296 → HasFurtherLanes (table_of self.old) (table_of self.new) }
+        ensures long { length self.old.rows.rows.rows.items ≤ length self.new.rows.rows.rows.items }
         ensures cells { KeepsCells self.old.rows.rows.rows.items self.new.rows.rows.rows.items }
         ensures draft { KeepsDraft self.old self.new }
     {
@@ -249,6 +253,7 @@ fn number_slots(alloc: Global, lanes: &mut LaneTable, edits: &[Edit]) -> Result<
 fn add_rows(rows: &mut LaneRanges, count: u32) -> Result<(), AllocError>
     ensures enough { OnOk result (count ≤ length rows.new.rows.items) }
     ensures few { length rows.old.rows.items < 4294967296 → length rows.new.rows.items < 4294967296 }
+    ensures long { length rows.old.rows.items ≤ length rows.new.rows.items }
     ensures cells { KeepsCells rows.old.rows.items rows.new.rows.items }
 {
     let alloc = rows.alloc;
