@@ -141,7 +141,7 @@ module _ (t : Target) (es : List Edit) (old ready done new : EditRun) (may : May
   touches : TouchesEdits touched t f num es
   touches =
       subst (λ (h : Function). TouchesEdits touched t h num es) run.first.func
-      (run.does.touched touched (includes done.touched.items) (λ l b id m. absurd (let z : true ≡ false = sym m ∙ ap (λ xs. is_aside xs l) (ap (λ v. v.items) run.first.aside ∙ empty) in cc)))
+      (run.does.touched touched (includes done.touched.items) (λ i a l m. absurd (let z : true ≡ false = sym m ∙ ap (λ xs. is_aside xs l) (ap (λ v. v.items) run.first.aside ∙ empty) in cc)))
 
   standing-ways : HasWays t standing ready.flow.items
   standing-ways = all-deferred-ways touched t num ready.flow.items es f touches computed.ways

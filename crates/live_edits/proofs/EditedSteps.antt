@@ -58,8 +58,8 @@ one-more-edit t r s q es e a keeps d = record {
   function = d.function;
   gone = λ id. d.gone id ∙ (after-same e s.gone.keys (all_gone r.gone.keys es) a.gone id ∙ ap (has id) (sym (gone-more es r.gone.keys e)));
   touched = λ touched h aside.
-      let one : TouchesEdit touched t s.draft.func (number_in r.lanes) e = subst (λ (ls : LaneTable). TouchesEdit touched t s.draft.func (number_in ls) e) a.lanes (d.touched touched h (λ l b id m. aside l b id (ap (λ v. is_aside v.items l) (sym a.aside) ∙ m))) in
-      touches-more touched t (number_in r.lanes) es r.draft.func e (a.touched touched (λ x m. h x (d.kept x m)) aside)
+      let one : TouchesEdit touched t s.draft.func (number_in r.lanes) e = subst (λ (ls : LaneTable). TouchesEdit touched t s.draft.func (number_in ls) e) a.lanes (d.touched touched h (λ x m l e. aside x m l (ap (λ v. is_aside v.items l) (sym a.aside) ∙ e))) in
+      touches-more touched t (number_in r.lanes) es r.draft.func e (a.touched touched (λ x m. h x (d.kept x m)) (λ x m. aside x (d.kept x m)))
       (subst (λ (f : Function). KeepsWays t f e) a.func keeps) (subst (λ (f : Function). TouchesEdit touched t f (number_in r.lanes) e) a.func one);
   stand = d.stand a.stand;
   apart = d.apart a.apart;

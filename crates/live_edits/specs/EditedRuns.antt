@@ -76,7 +76,7 @@ pub record DoesEdits (t : Target) (old new : EditRun) (es : List Edit) : Type 0 
   pub order : IsOrderOf new.draft.func new.draft.order
   pub function : IsFunction new.draft.func.blocks new.draft.func.next_id
   pub gone : (id : ℕ) → has id new.gone.keys ≡ has id (all_gone old.gone.keys es)
-  pub touched : (touched : Touched) → Includes touched new.touched.items → TakesAside touched old.aside.items → TouchesEdits touched t old.draft.func (number_in old.lanes) es
+  pub touched : (touched : Touched) → Includes touched new.touched.items → TakesAside touched old.aside.items new.touched.items → TouchesEdits touched t old.draft.func (number_in old.lanes) es
   pub stand : TouchedStand new.draft.func new.touched.items
   pub apart : LeavesAside new.aside.items new.touched.items
   pub lanes : new.lanes ≡ old.lanes

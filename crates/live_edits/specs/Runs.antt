@@ -64,9 +64,9 @@ HavePlaces t f (e ∷ es) = HasPlace f e × KeepsWays t f e × HavePlaces t (def
 abbrev pub Includes : Touched → List TouchedInstr → Type 0
 Includes touched xs = (x : TouchedInstr) → Among x xs → (l : ℕ) → Among l x.lanes.items → touched l x.block x.id ≡ true
 
--- the test tells all lanes whose rows were taken away
-abbrev pub TakesAside : Touched → List AsideRow → Type 0
-TakesAside touched aside = (l b id : ℕ) → is_aside aside l ≡ true → touched l b id ≡ true
+-- at these instructions the test tells all lanes whose rows were taken away
+abbrev pub TakesAside : Touched → List AsideRow → List TouchedInstr → Type 0
+TakesAside touched aside xs = (x : TouchedInstr) → Among x xs → (l : ℕ) → is_aside aside l ≡ true → touched l x.block x.id ≡ true
 
 -- none of these lanes is listed as touched
 abbrev pub LeavesAside : List AsideRow → List TouchedInstr → Type 0
@@ -79,7 +79,7 @@ pub record DoesEdit (t : Target) (old new : EditRun) (e : Edit) : Type 0 where
   pub order : IsOrderOf new.draft.func new.draft.order
   pub function : IsFunction new.draft.func.blocks new.draft.func.next_id
   pub gone : (id : ℕ) → has id new.gone.keys ≡ has id (gone_after old.gone.keys e)
-  pub touched : (touched : Touched) → Includes touched new.touched.items → TakesAside touched old.aside.items → TouchesEdit touched t old.draft.func (number_in old.lanes) e
+  pub touched : (touched : Touched) → Includes touched new.touched.items → TakesAside touched old.aside.items new.touched.items → TouchesEdit touched t old.draft.func (number_in old.lanes) e
   pub kept : (x : TouchedInstr) → Among x old.touched.items → Among x new.touched.items
   pub stand : TouchedStand old.draft.func old.touched.items → TouchedStand new.draft.func new.touched.items
   pub apart : LeavesAside old.aside.items old.touched.items → LeavesAside new.aside.items new.touched.items
