@@ -32,7 +32,7 @@ use Rattle.edit_laws.proofs.Further.{further-lanes-law}
 use Rattle.edit_laws.proofs.Left.{AreLeft, none_left, one_left, one_goes}
 use Rattle.edit_laws.proofs.Numbered.{numbers-edit-law}
 use Rattle.edit_laws.proofs.Rebuilt.{rebuilt-rows-law}
-use Rattle.edit_laws.proofs.Rechecked.{listed-law}
+use Rattle.edit_laws.proofs.Rechecked.{held-law, listed-law}
 use Rattle.edit_laws.proofs.Standing.{is-left}
 use Rattle.live_edits.specs.declared.cells.CellNotes.{CellNotes}
 use Rattle.live_edits.specs.declared.edit_run.EditRun.{EditRun}
@@ -259,19 +259,16 @@ module _ (t : Target) (es : List Edit) (old ready done new : EditRun) (may : May
     listed : (l b id : ℕ) → touched l b id ≡ true → Among (entry_side slots made l b id) list × Among (exit_side slots made l b id) list
     listed = listed-by t standing num done.gone.keys done.touched.items lists notes slots made list suspects
 
-    over : IsCarriedOver touched before mid (causes rows) slots ready.flow.items made list
+    over : IsCarriedOver touched mid slots ready.flow.items made list
     over = record {
-      grown = computed.grown before-matched;
       table = taken.table;
       outward = order.outward;
-      edited = edit;
-      carried = copied.carried;
-      listed = listed-law touched mid slots ready.flow.items made list taken.table listed;
+      held = held-law touched before mid slots ready.flow.items (causes rows) made list (computed.grown before-matched) taken.table edit copied.carried (listed-law touched mid slots ready.flow.items made list taken.table listed);
       there = suspects-there t standing num done.gone.keys done.touched.items lists notes slots made list suspects made-rows;
     }
 
     updated : AreUpdated touched mid slots ready.flow.items made rows' list
-    updated = updates touched before mid (causes rows) (told-ids t standing num done.gone.keys done.touched.items lists notes brings.told brings.telling) over
+    updated = updates touched mid (told-ids t standing num done.gone.keys done.touched.items lists notes brings.told brings.telling) over
 
     rows-edited : AreRowsEdited touched before mid slots ready.flow.items rows made rows'
     rows-edited = record {

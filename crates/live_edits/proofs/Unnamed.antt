@@ -41,7 +41,7 @@ use Rattle.edit_laws.proofs.Deferred.{all-deferred-law}
 use Rattle.edit_laws.proofs.Edited.{Never, NeverBoth}
 use Rattle.edit_laws.proofs.ErasedLast.{deferred-single, head-other, tail-none, total-step}
 use Rattle.edit_laws.proofs.Placed.{put-blocks}
-use Rattle.live_edits.specs.Aside.{IsUnnamed, LeavesNone, UnnamedLaw, any_names, are_told, brings, changed_by, changed_ids, is_all_told, is_begun_told}
+use Rattle.live_edits.specs.Aside.{IsUnnamed, UnnamedLaw, any_names, are_told, brings, changed_by, changed_ids, is_all_told, is_begun_told}
 use Rattle.live_edits.proofs.NotNamed.{not-used, not-written}
 
 -- the steps of a block are those of its instructions
@@ -258,7 +258,7 @@ module _ (quiet : Instr → Type 0) (v : ℕ) where
       subst (λ (h : Function). AllOf (Fine [] (all_gone (gone_after gone e) es)) (all_deferred h es).blocks) (deferred-more ds f e)
       (all-edits f is es (ds ++ e ∷ []) (gone_after gone e) not.1 (subst (λ (h : Function). AllOf (Fine (changed_ids es) (gone_after gone e)) h.blocks) (sym (deferred-more ds f e)) one))
 
-module _ (touched : Touched) (t : Target) (f : Function) (x : Table) (es : List Edit) (v k l : ℕ) (is : IsFunction f.blocks f.next_id) (table : IsTable x.lanes) (tabled : IsTableOf (lane_code t f (number_in x.lanes)) x.order.slots x.flow.items x.rows.rows.items) (touches : TouchesEdits touched t f (number_in x.lanes) es) (leaves : LeavesNone x es v) (own : number_in x.lanes (owners.Range v k) ≡ Some l) where
+module _ (touched : Touched) (t : Target) (f : Function) (x : Table) (es : List Edit) (v k l : ℕ) (is : IsFunction f.blocks f.next_id) (table : IsTable x.lanes) (tabled : IsTableOf (lane_code t f (number_in x.lanes)) x.order.slots x.flow.items x.rows.rows.items) (touches : TouchesEdits touched t f (number_in x.lanes) es) (none : list_any (brings v) es ≡ false) (own : number_in x.lanes (owners.Range v k) ≡ Some l) (cells : (b : ℕ) → is_all_told (λ id. has id (changed_ids es)) (rows_seen x.rows.rows.items l b) ≡ true) where
   abbrev num : Numbering
   num = number_in x.lanes
 
@@ -280,7 +280,7 @@ module _ (touched : Touched) (t : Target) (f : Function) (x : Table) (es : List 
   cell-told : (b : ℕ) → is_shape_told told l (shape_of before l b) ≡ true
   cell-told b =
       ap (is_shape_told told l) (sym (tabled.entered l b))
-      ∙ (sym (shape-told told l (rows_seen x.rows.rows.items l b)) ∙ leaves.told k l b own)
+      ∙ (sym (shape-told told l (rows_seen x.rows.rows.items l b)) ∙ cells b)
 
   abbrev QuietAt : Instr → Type 0
   QuietAt i = Quiet l (doing_of t f num i).0
@@ -298,7 +298,7 @@ module _ (touched : Touched) (t : Target) (f : Function) (x : Table) (es : List 
       go (inr h) = is_quiet h
 
   last-fine : AllOf (IsFine QuietAt v [] gone) g.blocks
-  last-fine = all-edits QuietAt v f is es [] [] leaves.brings first-fine
+  last-fine = all-edits QuietAt v f is es [] [] none first-fine
 
   -- what stands does nothing to the lane
 
@@ -329,8 +329,8 @@ module _ (touched : Touched) (t : Target) (f : Function) (x : Table) (es : List 
       let z : false ≡ true = sym (ap not read) ∙ unread in cc
 
 pub unnamed-law : UnnamedLaw
-unnamed-law touched t f x es v k l is table tabled touches leaves own = record {
-  unused = λ b s m. (step-quiet touched t f x es v k l is table tabled touches leaves own b s m).0;
-  unwritten = λ b s m. (step-quiet touched t f x es v k l is table tabled touches leaves own b s m).1;
-  unread = not-last touched t f x es v k l is table tabled touches leaves own;
+unnamed-law touched t f x es v k l is table tabled touches none own cells = record {
+  unused = λ b s m. (step-quiet touched t f x es v k l is table tabled touches none own cells b s m).0;
+  unwritten = λ b s m. (step-quiet touched t f x es v k l is table tabled touches none own cells b s m).1;
+  unread = not-last touched t f x es v k l is table tabled touches none own cells;
 }

@@ -67,12 +67,13 @@ pub record LeavesNone (x : Table) (es : List Edit) (v : ℕ) : Type 0 where
   pub brings : list_any (brings v) es ≡ false
   pub told : (k l b : ℕ) → number_in x.lanes (owners.Range v k) ≡ Some l → is_all_told (λ id. has id (changed_ids es)) (rows_seen x.rows.rows.items l b) ≡ true
 
--- then the code in which erased instructions stand names none of them
+-- then the code in which erased instructions stand names none of them, as one sees lane by lane
 abbrev pub UnnamedLaw : Type 0
 UnnamedLaw =
     (touched : Touched) (t : Target) (f : Function) (x : Table) (es : List Edit) (v k l : ℕ) → IsFunction f.blocks f.next_id → IsTable x.lanes
     → IsTableOf (lane_code t f (number_in x.lanes)) x.order.slots x.flow.items x.rows.rows.items → TouchesEdits touched t f (number_in x.lanes) es
-    → LeavesNone x es v → number_in x.lanes (owners.Range v k) ≡ Some l → IsUnnamed (standing_code t f (number_in x.lanes) es) l
+    → list_any (brings v) es ≡ false → number_in x.lanes (owners.Range v k) ≡ Some l → ((b : ℕ) → is_all_told (λ id. has id (changed_ids es)) (rows_seen x.rows.rows.items l b) ≡ true)
+    → IsUnnamed (standing_code t f (number_in x.lanes) es) l
 
 -- rows that were taken away
 
