@@ -100,10 +100,11 @@ module _ (told : ℕ → Bool) (l : ℕ) where
     -- what begins here tells of what follows
     begun-told : (w : LaneDef) → list_all is_start_told (begin w ∷ more) ≡ true → (told s.id ≡ true) × (are_told told rest ≡ true) × (list_all is_start_told more ≡ true)
     begun-told w h =
-        let own : is_start_told (begin w) ≡ true = first_of_both (is_start_told (begin w)) (list_all is_start_told more) h in
-        (ap told (sym (begins w).0) ∙ first_of_both (told (begin w).start) (are_told told (begin w).readings) own,
-        ap (are_told told) (sym (begins w).1) ∙ second_of_both (told (begin w).start) (are_told told (begin w).readings) own,
-        second_of_both (is_start_told (begin w)) (list_all is_start_told more) h)
+        let own : is_start_told (begin w) ≡ true = first_of_both (is_start_told (begin w)) (list_all is_start_told more) h in (
+          ap told (sym (begins w).0) ∙ first_of_both (told (begin w).start) (are_told told (begin w).readings) own,
+          ap (are_told told) (sym (begins w).1) ∙ second_of_both (told (begin w).start) (are_told told (begin w).readings) own,
+          second_of_both (is_start_told (begin w)) (list_all is_start_told more) h,
+        )
 
     split : (u : Use) → use_of l s ≡ u → (w : Option LaneDef) → writing_of l s.writes ≡ w → are_told told (reading_of s.id u ++ cond (is_present w) [] rest) ≡ true
         → list_all is_start_told (elim w [ None ↦ more | Some x ↦ begin x ∷ more ]) ≡ true → Split

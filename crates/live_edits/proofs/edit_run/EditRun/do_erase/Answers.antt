@@ -37,16 +37,16 @@ returns-clause-done c = λ order.
     let xs = c.args.self.now.touched.items in
     let ys = c.push.new.self.items in
     let named = c.add_lanes.nenamed in
-    let x : TouchedInstr = record { id = c.args.id; block = c.in-Some.at.0; lanes = c.in_ok-own_lanes.field-0 } in
+    let x : TouchedInstr = record { id = c.args.id; block = c.in-Some.at.0; lanes = c.in_ok-lanes.lanes } in
     record {
       func = refl;
       order = order;
       function = c.find.ensures.function;
       gone = λ id. ap (has id) c.in_ok-insert.ensures.keys ∙ has-inserted c.args.self.now.gone.keys c.args.id id;
-      touched = λ touched all aside. erase-touches t f o c.args.id c.find.ensures.function order (number_in c.args.self.now.lanes) touched c.in-Some.at.0 c.in-Some.at.1 c.new-lanes.result.items named found c.in_ok-add_lanes.ensures (tells-own c.args.self.now.aside.items named xs ys x push c.in_ok-own_lanes.ensures touched all aside);
+      touched = λ touched all aside. erase-touches t f o c.args.id c.find.ensures.function order (number_in c.args.self.now.lanes) touched c.in-Some.at.0 c.in-Some.at.1 c.new-lanes.result.items named found c.in_ok-add_lanes.ensures (tells-own c.args.self.now.aside.items named xs ys x push c.in_ok-lanes.ensures touched all aside);
       kept = touched-kept xs ys x push;
       stand = erase-stands t f o c.args.id c.find.ensures.function order xs ys x c.in-Some.at.0 c.in-Some.at.1 push refl refl found;
-      apart = apart-more c.args.self.now.aside.items named xs ys x push c.in_ok-own_lanes.ensures;
+      apart = apart-more c.args.self.now.aside.items named xs ys x push c.in_ok-lanes.ensures;
       lanes = refl;
       flow = refl;
       rows = refl;
