@@ -36,7 +36,7 @@ returns-clause-done c = λ order.
     let o = c.args.self.now.draft.order in
     let xs = c.args.self.now.touched.items in
     let ys = c.push.new.self.items in
-    let named = c.add_lanes.nenamed in
+    let named = c.add_lanes.new.lanes.items in
     let x : TouchedInstr = record { id = c.args.id; block = c.in-Some.at.0; lanes = c.in_ok-lanes.lanes } in
     record {
       func = refl;

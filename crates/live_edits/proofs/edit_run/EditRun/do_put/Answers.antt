@@ -17,7 +17,7 @@ returns-clause-done c = λ order there.
     let gap = c.args.gap in
     let xs = c.args.self.now.touched.items in
     let ys = c.push.new.self.items in
-    let named = c.add_lanes_of.nenamed in
+    let named = c.add_lanes_of.new.lanes.items in
     let x : TouchedInstr = record { id = c.in_ok-block.id; block = c.in_ok-block.block; lanes = c.in_ok-lanes.lanes } in
     record {
       func = put.func;

@@ -50,14 +50,14 @@ returns-clause-done c = λ order keeps.
     let k = c.in-Some.at.1 in
     let xs = c.args.self.now.touched.items in
     let ys = c.push.new.self.items in
-    let named = c.add_lanes-2.nenamed in
+    let named = c.add_lanes-2.new.lanes.items in
     let x : TouchedInstr = record { id = id; block = p; lanes = c.in_ok-lanes.lanes } in
     record {
       func = replaces.func;
       order = replaces.order;
       function = subst (λ (g : Function). IsFunction g.blocks g.next_id) (sym replaces.func) (replaced-function f id op os is);
       gone = λ id. refl;
-      touched = λ touched all aside. change-touches t f o id op os is order (number_in c.args.self.now.lanes) touched c.replace-2.new.self.func p k c.new-lanes.result.items c.add_lanes.nenamed named replaces.func keeps found c.in_ok-add_lanes.ensures c.in_ok-add_lanes-2.ensures (tells-own c.args.self.now.aside.items named xs ys x push c.in_ok-lanes.ensures touched all aside);
+      touched = λ touched all aside. change-touches t f o id op os is order (number_in c.args.self.now.lanes) touched c.replace-2.new.self.func p k c.new-lanes.result.items c.add_lanes.new.lanes.items named replaces.func keeps found c.in_ok-add_lanes.ensures c.in_ok-add_lanes-2.ensures (tells-own c.args.self.now.aside.items named xs ys x push c.in_ok-lanes.ensures touched all aside);
       kept = touched-kept xs ys x push;
       stand = λ stand. subst (λ (g : Function). TouchedStand g ys) (sym replaces.func) (change-stands t f o id op os is order xs ys x p k push refl refl found stand);
       apart = apart-more c.args.self.now.aside.items named xs ys x push c.in_ok-lanes.ensures;
