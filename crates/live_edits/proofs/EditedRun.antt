@@ -234,7 +234,7 @@ module _ (t : Target) (es : List Edit) (old ready done new : EditRun) (may : May
   made-rows c m = subst (λ n. c.lane < n) (sym made-lanes) (have-rows c m)
 
   cells : (l b : ℕ) → IsRebuilt before mid l b (rows_seen rows l b) (rows_seen made l b)
-  cells =
+  cells l b =
       remade.rebuilt touched touched before mid ready.draft.order.slots ready.flow.items rows tabled edit order.numbered
       (all-notes-of t standing num done.gone.keys done.touched.items lists notes erased gone-are rows have-rows) l (λ c id. refl) (λ c. refl) b
 
