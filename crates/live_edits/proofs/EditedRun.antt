@@ -33,11 +33,12 @@ use Rattle.edit_laws.proofs.Further.{further-lanes-law}
 use Rattle.edit_laws.proofs.Left.{AreLeft, none_left, one_left, one_goes}
 use Rattle.edit_laws.proofs.Numbered.{numbers-edit-law}
 use Rattle.edit_laws.proofs.Rebuilt.{rebuilt-rows-law}
-use Rattle.edit_laws.proofs.Rechecked.{listed-law}
+use Rattle.edit_laws.proofs.Rechecked.{held-law, listed-law}
 use Rattle.edit_laws.proofs.Standing.{is-left}
 use Rattle.live_edits.specs.declared.cells.CellNotes.{CellNotes}
 use Rattle.live_edits.specs.declared.edit_run.EditRun.{EditRun}
 use Rattle.live_edits.specs.declared.log.LoggedRows.{LoggedRows}
+use Rattle.live_edits.specs.Aside.{is_aside}
 use Rattle.live_edits.specs.Drafts.{IsOrderOf}
 use Rattle.live_edits.specs.EditedRuns.{HaveRows, BringsUp, IsEditedRun, EditedRunLaw}
 use Rattle.live_edits.specs.Noted.{HasNotes, touched_at}
@@ -72,7 +73,7 @@ matched-before (one_left a) h s (there m) = matched-before a (λ r k. h r (there
 matched-before (one_goes {id = id} a) h s here = nothing-matched id
 matched-before (one_goes a) h s (there m) = matched-before a h s m
 
-module _ (t : Target) (es : List Edit) (old ready done new : EditRun) (may : MayBeEdited t old.draft.func (table_of old) es) (run : IsEditedRun t es old ready done new) where
+module _ (t : Target) (es : List Edit) (old ready done new : EditRun) (may : MayBeEdited t old.draft.func (table_of old) es) (empty : old.aside.items ≡ []) (run : IsEditedRun t es old ready done new) where
   abbrev f : Function
   f = old.draft.func
 
@@ -141,7 +142,7 @@ module _ (t : Target) (es : List Edit) (old ready done new : EditRun) (may : May
   touches : TouchesEdits touched t f num es
   touches =
       subst (λ (h : Function). TouchesEdits touched t h num es) run.first.func
-      (run.does.touched touched (includes done.touched.items))
+      (run.does.touched touched (includes done.touched.items) (λ i a l m. absurd (let z : true ≡ false = sym m ∙ ap (λ xs. is_aside xs l) (ap (λ v. v.items) run.first.aside ∙ empty) in cc)))
 
   standing-ways : HasWays t standing ready.flow.items
   standing-ways = all-deferred-ways touched t num ready.flow.items es f touches computed.ways
@@ -234,9 +235,9 @@ module _ (t : Target) (es : List Edit) (old ready done new : EditRun) (may : May
   made-rows c m = subst (λ n. c.lane < n) (sym made-lanes) (have-rows c m)
 
   cells : (l b : ℕ) → IsRebuilt before mid l b (rows_seen rows l b) (rows_seen made l b)
-  cells =
-      remade touched before mid ready.draft.order.slots ready.flow.items tabled edit order.numbered
-      (all-notes-of t standing num done.gone.keys done.touched.items lists notes erased gone-are rows have-rows)
+  cells l b =
+      remade.rebuilt touched touched before mid ready.draft.order.slots ready.flow.items rows tabled edit order.numbered
+      (all-notes-of t standing num done.gone.keys done.touched.items lists notes erased gone-are rows have-rows) l (λ c id. refl) (λ c. refl) b
 
   updates : Updates brings.told slots ready.flow.items made rows' brings.suspects
   updates = subst (λ w. Updates brings.told slots w.items made rows' brings.suspects) run.does.flow brings.updated
@@ -259,19 +260,16 @@ module _ (t : Target) (es : List Edit) (old ready done new : EditRun) (may : May
     listed : (l b id : ℕ) → touched l b id ≡ true → Among (entry_side slots made l b id) list × Among (exit_side slots made l b id) list
     listed = listed-by t standing num done.gone.keys done.touched.items lists notes slots made list suspects
 
-    over : IsCarriedOver touched before mid (causes rows) slots ready.flow.items made list
+    over : IsCarriedOver touched mid slots ready.flow.items made list
     over = record {
-      grown = computed.grown before-matched;
       table = taken.table;
       outward = order.outward;
-      edited = edit;
-      carried = copied.carried;
-      listed = listed-law touched mid slots ready.flow.items made list taken.table listed;
+      held = held-law touched before mid slots ready.flow.items (causes rows) made list (computed.grown before-matched) taken.table edit copied.carried (listed-law touched mid slots ready.flow.items made list taken.table listed);
       there = suspects-there t standing num done.gone.keys done.touched.items lists notes slots made list suspects made-rows;
     }
 
     updated : AreUpdated touched mid slots ready.flow.items made rows' list
-    updated = updates touched before mid (causes rows) (told-ids t standing num done.gone.keys done.touched.items lists notes brings.told brings.telling) over
+    updated = updates touched mid (told-ids t standing num done.gone.keys done.touched.items lists notes brings.told brings.telling) over
 
     rows-edited : AreRowsEdited touched before mid slots ready.flow.items rows made rows'
     rows-edited = record {
@@ -322,4 +320,4 @@ module _ (t : Target) (es : List Edit) (old ready done new : EditRun) (may : May
   computed-new = subst (IsComputed t g) y-is computed-then
 
 pub edited-run-law : EditedRunLaw
-edited-run-law t es old ready done new may run = (new-is t es old ready done new may run, computed-new t es old ready done new may run)
+edited-run-law t es old ready done new may empty run = (new-is t es old ready done new may empty run, computed-new t es old ready done new may empty run)

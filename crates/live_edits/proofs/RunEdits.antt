@@ -51,7 +51,7 @@ module _ (xs ys : List TouchedInstr) (x : TouchedInstr) (more : ys ≡ xs ++ x �
   pub touched-kept : (y : TouchedInstr) → Among y xs → Among y ys
   touched-kept y m = subst (Among y) (sym more) (among-left y xs (x ∷ []) m)
 
-  touched-last : Among x ys
+  pub touched-last : Among x ys
   touched-last = subst (Among x) (sym more) (among-right x xs (x ∷ []) here)
 
   -- a test of touched lanes tells its lanes

@@ -33,7 +33,7 @@ has-inserted (x ∷ xs) k n = go (nat_cmp k x) refl (has-inserted xs k n)
 
 -- the ids of two lists
 
-has-more : (n : ℕ) (xs ys zs : List ℕ) → has n ys ≡ has n zs → has n (xs ++ ys) ≡ has n (xs ++ zs)
+pub has-more : (n : ℕ) (xs ys zs : List ℕ) → has n ys ≡ has n zs → has n (xs ++ ys) ≡ has n (xs ++ zs)
 has-more n [] ys zs e = e
 has-more n (x ∷ xs) ys zs e = ap (λ h. cond (nat_eq x n) true h) (has-more n xs ys zs e)
 
@@ -41,7 +41,7 @@ has-between : (n k : ℕ) (xs ys : List ℕ) → has n (k ∷ xs ++ ys) ≡ has 
 has-between n k [] ys = refl
 has-between n k (x ∷ xs) ys = turned (nat_eq k n) (nat_eq x n) (has n (xs ++ ys)) ∙ ap (λ h. cond (nat_eq x n) true h) (has-between n k xs ys)
 
-has-turned : (n : ℕ) (xs ys : List ℕ) → has n (xs ++ ys) ≡ has n (ys ++ xs)
+pub has-turned : (n : ℕ) (xs ys : List ℕ) → has n (xs ++ ys) ≡ has n (ys ++ xs)
 has-turned n [] ys = ap (has n) (sym (append-nil ys))
 has-turned n (x ∷ xs) ys = ap (λ h. cond (nat_eq x n) true h) (has-turned n xs ys) ∙ has-between n x ys xs
 

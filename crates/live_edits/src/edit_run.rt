@@ -16,6 +16,7 @@ ghost use Rattle.live_edits.specs.Remade.{noted_ids};
 ghost use Rattle.live_edits.specs.Runs.{edit_of, edits_of, table_of, HasPlace, DoesEdit, AreActsAt, AddsLanes, AddsLanesOf, KeepsTables, AddsSlots, named_slot, NumbersSlots, KeepsCells, KeepsDraft, cell_sides, AreSuspects, all_noted};
 
 use crate::act_changes::changed_acts;
+use crate::aside::AsideRow;
 use crate::cells::CellNotes;
 use crate::draft::Draft;
 use crate::log::LoggedRows;
@@ -48,6 +49,8 @@ pub struct EditRun {
     pub touched: Vec<TouchedInstr>,
     /// The instructions that are erased.
     pub gone: BTreeSet<u32>,
+    /// The rows that were taken away whole.
+    pub aside: Vec<AsideRow>,
 }
 
 impl EditRun {
@@ -112,6 +115,7 @@ impl EditRun {
         let (block, id) = self.draft.put(gap, op, operands)?;
         let mut lanes = Vec::new(self.rows.rows.alloc);
         self.add_lanes_of(target, id, &mut lanes)?;
+        let lanes = self.own_lanes(lanes)?;
         self.touched.push(TouchedInstr { id, block, lanes })?;
         Ok(())
     }
@@ -139,6 +143,7 @@ impl EditRun {
         let changed = changed_acts(alloc, before.as_slice(), after.as_slice())?;
         let mut lanes = Vec::new(alloc);
         lanes_of_acts(changed.as_slice(), &mut lanes)?;
+        let lanes = self.own_lanes(lanes)?;
         let block = at.0;
         self.touched.push(TouchedInstr { id, block, lanes })?;
         Ok(())
@@ -156,6 +161,7 @@ impl EditRun {
         };
         let mut lanes = Vec::new(self.rows.rows.alloc);
         self.add_lanes(target, at, &mut lanes)?;
+        let lanes = self.own_lanes(lanes)?;
         let block = at.0;
         self.touched.push(TouchedInstr { id, block, lanes })?;
         Ok(())
@@ -213,6 +219,7 @@ impl EditRun {
         ensures whole { OnOk result (length self.new.lanes.owners.items ≤ length self.new.rows.rows.rows.items) }
         ensures added { AddsSlots self.old.lanes self.new.lanes }
         ensures further { length self.old.rows.rows.rows.items < 4294967296 → HasFurtherLanes (table_of self.old) (table_of self.new) }
+        ensures long { length self.old.rows.rows.rows.items ≤ length self.new.rows.rows.rows.items }
         ensures cells { KeepsCells self.old.rows.rows.rows.items self.new.rows.rows.rows.items }
         ensures draft { KeepsDraft self.old self.new }
     {
@@ -262,6 +269,7 @@ fn number_slots(alloc: Global, lanes: &mut LaneTable, edits: &[Edit]) -> Result<
 fn add_rows(rows: &mut LaneRanges, count: u32) -> Result<(), AllocError>
     ensures enough { OnOk result (count ≤ length rows.new.rows.items) }
     ensures few { length rows.old.rows.items < 4294967296 → length rows.new.rows.items < 4294967296 }
+    ensures long { length rows.old.rows.items ≤ length rows.new.rows.items }
     ensures cells { KeepsCells rows.old.rows.items rows.new.rows.items }
 {
     let alloc = rows.alloc;

@@ -10,11 +10,11 @@ use Rattle.live_edits.proofs.log.LoggedRows.look_again.Goals as goal
 
 pub suspects-init : goal.suspects-init
 suspects-init c = record {
-  looked = λ touched before code was told carried.
+  looked = λ touched code told carried.
       let rows = c.args.self.now.rows.rows.items in
       let list = nodes_of c.args.suspects.now in
       subst (λ (fallen : List PieceSpot). RunsSoFar touched code c.args.order.now.slots c.args.flow.now rows rows list list (nodes_of fallen)) (sym c.new-fallen.ensures.items)
-      (runs-at-first touched before code was c.args.order.now.slots c.args.flow.now rows list carried);
+      (runs-at-first touched code c.args.order.now.slots c.args.flow.now rows list carried);
   pieces = pieces-same c.args.self.now.rows.rows.items;
   logged = logged-same c.args.self.now;
 }
