@@ -17,9 +17,9 @@ use Rattle.live_edits.specs.declared.cells.CellNotes.{CellNotes}
 use Rattle.live_edits.specs.declared.draft.Draft.{Draft}
 use Rattle.live_edits.specs.declared.edit_run.EditRun.{EditRun}
 use Rattle.live_edits.specs.declared.log.LoggedRows.{LoggedRows}
-use Rattle.live_edits.specs.Aside.{AreThere, TakesSome, put_back}
+use Rattle.live_edits.specs.Aside.{AreThere, TakesRows, TakesSome, put_back}
 use Rattle.live_edits.specs.Drafts.{IsOrderOf, LetsGo, IsDraftLogged, all_undone}
-use Rattle.live_edits.specs.EditedRuns.{MayBegin, MayStart, HasTable, MayDo, AddsRows, IsReady, AreBelow, BringsUp, ChangesRows, IsDone, IsRunLogged, LetsAllGo, IsRunUndone, IsEditedRun, TellsAlike}
+use Rattle.live_edits.specs.EditedRuns.{MayBegin, MayStart, HasTable, MayDo, AddsRows, IsReady, AreBelow, BringsUp, ChangesRows, IsDone, IsRunLogged, LetsAllGo, IsRunUndone, IsEditedRun, LeavesTaken, TellsAlike}
 use Rattle.live_edits.specs.Logged.{AllSeen, all_taken_back, cell_there, HasAllCells, IsLogged}
 use Rattle.live_edits.specs.Runs.{table_of, HavePlaces, KeepsTables, AddsSlots, NumbersSlots, KeepsDraft}
 use Rattle.live_edits.specs.Updated.{Updates}
@@ -194,7 +194,7 @@ module _ (t : Target) (old done new : EditRun) (h : IsRunLogged t old done) (k :
 
 -- all is kept
 
-module _ (t : Target) (es : List Edit) (old mid new : EditRun) (erased : List ℕ) (may : MayBegin t old es) (d : IsDone t es old mid erased) (l : LetsAllGo mid new erased) where
+module _ (t : Target) (es : List Edit) (v : ℕ) (first old mid new : EditRun) (erased : List ℕ) (may : MayBegin t first es) (takes : TakesRows first old v) (leaves : LeavesTaken es v first old) (d : IsDone t es old mid erased) (l : LetsAllGo mid new erased) where
   brings-new : BringsUp t d.done new
   brings-new =
       let b = d.brings in
@@ -232,8 +232,8 @@ module _ (t : Target) (es : List Edit) (old mid new : EditRun) (erased : List �
     flow = l.flow ∙ d.kept.flow;
   }
 
-  pub all-kept : HasTable t (all_edited old.draft.func es) new
-  all-kept = let r = edited-run-law t es old d.edits.ready d.done new may.edited may.fresh.aside is-run in record { func = r.0; computed = r.1; fresh = l.fresh }
+  pub all-kept : HasTable t (all_edited first.draft.func es) new
+  all-kept = let r = edited-run-law t es v first old d.edits.ready d.done new may.edited may.fresh.aside takes leaves is-run in record { func = r.0; computed = r.1; fresh = l.fresh }
 
 -- all is taken back
 

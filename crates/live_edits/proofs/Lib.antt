@@ -61,6 +61,7 @@ pub mod Unnamed
 pub mod EditedWays
 pub mod EditedGone
 pub mod EditedNotes
+pub mod AsideTouched
 pub mod EditedSteps
 pub mod EditedRun
 pub mod EditedBack

@@ -26,7 +26,7 @@ use Rattle.live_edits.specs.Logged.{HasAllCells, all_taken_back}
 use Rattle.live_edits.specs.Noted.{TouchedStand, HasNotes}
 use Rattle.live_edits.specs.Pieces.{nodes_of}
 use Rattle.live_edits.specs.Remade.{RemakesAll}
-use Rattle.live_edits.specs.Runs.{table_of, HavePlaces, Includes, TakesAside, LeavesAside, NumbersSlots, AreSuspects, all_noted, MayBeEdited}
+use Rattle.live_edits.specs.Runs.{table_of, HavePlaces, Includes, TakesAside, LeavesAside, NumbersSlots, AreSuspects, HasIds, MayBeEdited}
 use Rattle.live_edits.specs.Updated.{Updates}
 
 -- no edit is under way: nothing is logged, touched, erased or taken away
@@ -123,7 +123,7 @@ pub record BringsUp (t : Target) (done new : EditRun) : Type 0 where
   pub suspects : List PieceSpot
   pub suspected : AllRise done.draft.order.slots made → AreSuspects done.draft.order.slots made all (nodes_of suspects)
   pub told : List ℕ
-  pub telling : (id : ℕ) → has id told ≡ has id (all_noted all)
+  pub telling : HasIds done.touched.items told
   pub updated : Updates told done.draft.order.slots done.flow.items made new.rows.rows.rows.items suspects
   pub lanes : length new.rows.rows.rows.items ≡ length made
 
@@ -197,11 +197,15 @@ pub record IsEditedRun (t : Target) (es : List Edit) (old ready done new : EditR
   pub lanes : new.lanes ≡ done.lanes
   pub flow : new.flow ≡ done.flow
 
+-- rows may have gone that edits leave nowhere
+abbrev pub LeavesTaken : List Edit → ℕ → EditRun → EditRun → Type 0
+LeavesTaken es v old cleared = (l : ℕ) → is_aside cleared.aside.items l ≡ true → (is_aside old.aside.items l ≡ true) ⊎ LeavesNone (table_of old) es v
+
 -- then the function is the edited one, and the table is computed for it
 abbrev pub EditedRunLaw : Type 0
 EditedRunLaw =
-    (t : Target) (es : List Edit) (old ready done new : EditRun) → MayBeEdited t old.draft.func (table_of old) es → old.aside.items ≡ [] → IsEditedRun t es old ready done new
-    → (new.draft.func ≡ all_edited old.draft.func es) × IsComputed t (all_edited old.draft.func es) (table_of new)
+    (t : Target) (es : List Edit) (v : ℕ) (old cleared ready done new : EditRun) → MayBeEdited t old.draft.func (table_of old) es → old.aside.items ≡ [] → TakesRows old cleared v → LeavesTaken es v old cleared
+    → IsEditedRun t es cleared ready done new → (new.draft.func ≡ all_edited old.draft.func es) × IsComputed t (all_edited old.draft.func es) (table_of new)
 
 -- A table is computed for its function still where the order of instructions has other numbers, further lanes have numbers, and rows tell
 -- what they did.
@@ -232,5 +236,5 @@ pub record IsLoggedOf (t : Target) (old new : EditRun) : Type 0 where
 pub record IsDoneOf (t : Target) (es : List Edit) (v : ℕ) (old new : EditRun) (erased : List ℕ) : Type 0 where
   pub cleared : EditRun
   pub takes : TakesRows old cleared v
-  pub leaves : (l : ℕ) → is_aside cleared.aside.items l ≡ true → (is_aside old.aside.items l ≡ true) ⊎ LeavesNone (table_of old) es v
+  pub leaves : LeavesTaken es v old cleared
   pub done : IsDone t es cleared new erased

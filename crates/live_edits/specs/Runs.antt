@@ -36,7 +36,6 @@ use Rattle.live_edits.specs.Drafts.{IsOrderOf, HasGap}
 use Rattle.live_edits.specs.Noted.{TouchedStand}
 use Rattle.live_edits.specs.NotedTable.{AreActs}
 use Rattle.live_edits.specs.Pieces.{IsThere}
-use Rattle.live_edits.specs.Remade.{noted_ids}
 
 -- an edit as a value
 abbrev pub edit_of : CodeEdit → Edit
@@ -186,6 +185,6 @@ pub record AreSuspects (slots : Numbers) (rows : List LaneRange) (all : List Cel
   pub each : (m : Node) → Among m list → (c : CellNotes) × Among c all × ((n : Note) × Among n c.notes.items × ((m ≡ entry_side slots rows c.lane c.block n.id) ⊎ (m ≡ exit_side slots rows c.lane c.block n.id)))
   pub there : (m : Node) → Among m list → m.0 < length rows → IsThere rows m
 
--- the ids of all notes
-abbrev pub all_noted : List CellNotes → List ℕ
-all_noted all = flat_map (λ c. noted_ids c.notes.items) all
+-- the ids of touched instructions are among these
+abbrev pub HasIds : List TouchedInstr → List ℕ → Type 0
+HasIds xs ids = (x : TouchedInstr) → Among x xs → has x.id ids ≡ true

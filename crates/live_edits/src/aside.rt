@@ -81,7 +81,7 @@ fn add_changed(edit: &Edit, ids: &mut BTreeSet<u32>) -> Result<(), AllocError>
 }
 
 /// Adds an id.
-fn add_id(id: u32, ids: &mut BTreeSet<u32>) -> Result<(), AllocError>
+pub(crate) fn add_id(id: u32, ids: &mut BTreeSet<u32>) -> Result<(), AllocError>
     ensures { OnOk result ((n : ℕ) → has n ids.new.keys ≡ has n (id ∷ ids.old.keys)) }
 {
     ids.insert(id)?;

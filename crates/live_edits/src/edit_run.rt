@@ -4,7 +4,6 @@
 ghost use Rattle.std.specs.Prelude.{◌≡◌, ◌<◌, ◌≤◌, ◌++◌, ℕ, true, length, IfOk, OnOk};
 ghost use Rattle.instr_effects.specs.LaneActs.{is_once};
 ghost use Rattle.mir_func.specs.Value.{IsFunction};
-ghost use Rattle.mir_meaning.specs.Paths.{has};
 ghost use Rattle.instr_effects.specs.Numbered.{number_in};
 ghost use Rattle.live_lanes.specs.Lasting.{AllRise};
 ghost use Rattle.edit_laws.specs.Edits.{Put, Replace, Erase, KeepsWays};
@@ -12,11 +11,10 @@ ghost use Rattle.edit_laws.specs.Further.{HasFurtherLanes};
 ghost use Rattle.edit_laws.specs.Numbered.{NumbersEdit};
 ghost use Rattle.live_edits.specs.Drafts.{IsOrderOf, HasGap, IsDraftLogged};
 ghost use Rattle.live_edits.specs.Pieces.{nodes_of};
-ghost use Rattle.live_edits.specs.Remade.{noted_ids};
-ghost use Rattle.live_edits.specs.Runs.{edit_of, edits_of, table_of, HasPlace, DoesEdit, AreActsAt, AddsLanes, AddsLanesOf, KeepsTables, AddsSlots, named_slot, NumbersSlots, KeepsCells, KeepsDraft, cell_sides, AreSuspects, all_noted};
+ghost use Rattle.live_edits.specs.Runs.{edit_of, edits_of, table_of, HasPlace, DoesEdit, AreActsAt, AddsLanes, AddsLanesOf, KeepsTables, AddsSlots, named_slot, NumbersSlots, KeepsCells, KeepsDraft, cell_sides, AreSuspects, HasIds};
 
 use crate::act_changes::changed_acts;
-use crate::aside::AsideRow;
+use crate::aside::{AsideRow, add_id};
 use crate::cells::CellNotes;
 use crate::draft::Draft;
 use crate::log::LoggedRows;
@@ -279,23 +277,13 @@ fn add_rows(rows: &mut LaneRanges, count: u32) -> Result<(), AllocError>
     Ok(())
 }
 
-/// Adds the ids of a cell's notes.
-fn add_ids(cell: &CellNotes, ids: &mut BTreeSet<u32>) -> Result<(), AllocError>
-    ensures { OnOk result ((id : ℕ) → has id ids.new.keys ≡ has id (noted_ids cell.now.notes.items ++ ids.old.keys)) }
-{
-    'notes: for note in cell.notes.as_slice() {
-        ids.insert(note.id)?;
-    }
-    Ok(())
-}
-
-/// The ids of all notes.
-pub fn ids_of(alloc: Global, all: &[CellNotes]) -> Result<BTreeSet<u32>, AllocError>
-    ensures { IfOk result (λ ids. (id : ℕ) → has id ids.keys ≡ has id (all_noted all.now)) }
+/// The ids of touched instructions.
+pub fn ids_of(alloc: Global, touched: &[TouchedInstr]) -> Result<BTreeSet<u32>, AllocError>
+    ensures { IfOk result (λ ids. HasIds touched.now ids.keys) }
 {
     let mut ids = BTreeSet::new(alloc);
-    'cells: for cell in all {
-        add_ids(cell, &mut ids)?;
+    'touched: for instr in touched {
+        add_id(instr.id, &mut ids)?;
     }
     Ok(ids)
 }

@@ -142,7 +142,7 @@ impl EditRun {
         self.rows
             .remake_all(&self.draft.order.slots, all.as_slice())?;
         let suspects = self.suspects(all.as_slice())?;
-        let ids = ids_of(alloc, all.as_slice())?;
+        let ids = ids_of(alloc, self.touched.as_slice())?;
         self.rows.update(
             &self.draft.order,
             self.flow.as_slice(),

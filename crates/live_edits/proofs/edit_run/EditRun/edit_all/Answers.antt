@@ -1,13 +1,18 @@
-use Rattle.std.proofs.Common.{List, ℕ, sym, subst}
+use Rattle.std.proofs.Common.{◌≡◌, List, ℕ, Some, inl, sym, subst}
 use Rattle.instr_effects.specs.declared.lanes.LaneTable.{LaneTable}
+use Rattle.instr_effects.specs.declared.owner.Owner.TheVariants as owners
 use Rattle.instr_effects.specs.Numbered.{number_in, KeepsNumbers}
+use Rattle.live_edits.specs.declared.edit_run.EditRun.{EditRun}
 use Rattle.live_edits.specs.EditedRuns.{LetsAllGo}
 use Rattle.live_edits.specs.Runs.{edits_of}
 use Rattle.live_edits.proofs.AsideRows.{takes-none}
 use Rattle.live_edits.proofs.EditedParts.{all-kept, all-back, may-start, still-there}
 use Rattle.live_edits.proofs.edit_run.EditRun.edit_all.Goals as goal
 
--- no rows are taken away
+-- of any range no rows are taken away
+abbrev TakenOf : EditRun → ℕ → Type 0
+TakenOf r l = (k : ℕ) × (number_in r.lanes (owners.Range 0 k) ≡ Some l)
+
 abbrev Never : ℕ → Type 0
 Never l = ⊥
 
@@ -18,7 +23,7 @@ returns-in-Ok-clause-ok c = λ may.
     let old = c.args.self.now in
     let mid = c.try_all.new.self in
     let new = c.keep.new.self in
-    all-kept t es old mid new c.in-Ok.erased.items may (c.in-Ok.ensures.done (may-start t es old old Never may (takes-none old Never))) (subst (λ (xs : List ℕ). LetsAllGo mid new xs) c.as_slice.ensures.value c.keep.ensures)
+    all-kept t es 0 old old mid new c.in-Ok.erased.items may (takes-none old (TakenOf old)) (λ l e. inl e) (c.in-Ok.ensures.done (may-start t es old old Never may (takes-none old Never))) (subst (λ (xs : List ℕ). LetsAllGo mid new xs) c.as_slice.ensures.value c.keep.ensures)
 
 pub returns-in-Err-clause-err : goal.returns-in-Err-clause-err
 returns-in-Err-clause-err c = λ may.

@@ -3,15 +3,20 @@ use Rattle.instr_effects.specs.declared.lanes.LaneTable.{LaneTable}
 use Rattle.instr_effects.specs.declared.owner.Owner.TheVariants as owners
 use Rattle.instr_effects.specs.Numbered.{number_in, KeepsNumbers}
 use Rattle.live_edits.specs.declared.edit_run.EditRun.{EditRun}
+use Rattle.live_edits.specs.EditedRuns.{LetsAllGo}
 use Rattle.live_edits.specs.Runs.{edits_of}
-use Rattle.live_edits.proofs.EditedParts.{all-back, keeps-first, still-there}
+use Rattle.live_edits.proofs.EditedParts.{all-back, all-kept, keeps-first, still-there}
 use Rattle.live_edits.proofs.edit_run.EditRun.edit_all_of.Goals as goal
 
 abbrev TakenOf : EditRun → ℕ → ℕ → Type 0
 TakenOf r v l = (k : ℕ) × (number_in r.lanes (owners.Range v k) ≡ Some l)
 
 pub returns-in-Ok-clause-ok : goal.returns-in-Ok-clause-ok
-returns-in-Ok-clause-ok c = ?
+returns-in-Ok-clause-ok c = λ may.
+    let mid = c.try_all_of.new.self in
+    let new = c.keep.new.self in
+    let z = c.in-Ok.ensures.done may in
+    all-kept c.args.target.now (edits_of c.args.edits.items) c.args.v c.args.self.now z.cleared mid new c.in-Ok.erased.items may z.takes z.leaves z.done (subst (λ (xs : List ℕ). LetsAllGo mid new xs) c.as_slice.ensures.value c.keep.ensures)
 
 pub returns-in-Err-clause-err : goal.returns-in-Err-clause-err
 returns-in-Err-clause-err c = λ may.
