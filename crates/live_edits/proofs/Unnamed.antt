@@ -34,6 +34,7 @@ use Rattle.live_laws.proofs.Effects.Blocks.{among-of, of-among}
 use Rattle.live_laws.proofs.Effects.Moving.{some-same}
 use Rattle.edit_laws.specs.Deferred.{all_deferred, all_gone, deferred, gone_after, idle, nothing, standing_code, TouchesEdits}
 use Rattle.edit_laws.specs.Edits.{Edit, Put, Replace, Erase, with_op}
+use Rattle.edit_laws.specs.LetGo.{IsUnnamed}
 use Rattle.edit_laws.specs.Reasons.{Touched, IsEditOf}
 use Rattle.edit_laws.proofs.Aligned.{AreBlocks, AreInstrs, block_stays, instr_changes, instr_comes, instr_goes, instr_stays, no_blocks, no_instrs}
 use Rattle.edit_laws.proofs.Codes.{doing-same}
@@ -41,7 +42,7 @@ use Rattle.edit_laws.proofs.Deferred.{all-deferred-law}
 use Rattle.edit_laws.proofs.Edited.{Never, NeverBoth}
 use Rattle.edit_laws.proofs.ErasedLast.{deferred-single, head-other, tail-none, total-step}
 use Rattle.edit_laws.proofs.Placed.{put-blocks}
-use Rattle.live_edits.specs.Aside.{IsUnnamed, UnnamedLaw, any_names, are_told, brings, changed_by, changed_ids, is_all_told, is_begun_told}
+use Rattle.live_edits.specs.Aside.{UnnamedLaw, any_names, are_told, brings, changed_by, changed_ids, is_all_told, is_begun_told}
 use Rattle.live_edits.proofs.NotNamed.{not-used, not-written}
 
 -- the steps of a block are those of its instructions

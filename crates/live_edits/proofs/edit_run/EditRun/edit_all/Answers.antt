@@ -9,10 +9,11 @@ use Rattle.live_edits.proofs.AsideRows.{takes-none}
 use Rattle.live_edits.proofs.EditedParts.{all-kept, all-back, may-start, still-there}
 use Rattle.live_edits.proofs.edit_run.EditRun.edit_all.Goals as goal
 
--- of any range no rows are taken away
+-- no rows of a range are taken away
 abbrev TakenOf : EditRun → ℕ → Type 0
 TakenOf r l = (k : ℕ) × (number_in r.lanes (owners.Range 0 k) ≡ Some l)
 
+-- of none at all
 abbrev Never : ℕ → Type 0
 Never l = ⊥
 
