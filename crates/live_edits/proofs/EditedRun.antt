@@ -1,5 +1,5 @@
 -- A run of edits leads from a computed table to that of the edited function.
-use Rattle.std.proofs.Common.{◌≡◌, ◌∷◌, ◌∙◌, ◌<◌, ⊎_elim, ℕ, Bool, true, false, length, List, [], Some, None, Vec, refl, sym, ap, subst}
+use Rattle.std.proofs.Common.{◌≡◌, ◌∷◌, ◌∙◌, ◌<◌, ⊎_elim, ℕ, Bool, true, false, length, List, [], Some, None, refl, sym, ap, subst}
 use Rattle.target_base.specs.declared.types.Target.{Target}
 use Rattle.mir_func.specs.Value.{Function, IsFunction}
 use Rattle.mir_meaning.specs.Paths.{Among, here, there, Code, Step, IsMatched, Unused, Into, has, steps_of}
@@ -175,7 +175,7 @@ module _ (t : Target) (es : List Edit) (v : ℕ) (old cleared ready done new : E
   touches : TouchesEdits touched t f num es
   touches =
       subst (λ (h : Function). TouchesEdits touched t h num es) func-first
-      (run.does.touched touched (includes-with aside done.touched.items) (subst (λ (xs : Vec AsideRow). TakesAside touched xs.items done.touched.items) (sym run.first.aside) (takes-aside aside done.touched.items)))
+      (run.does.touched touched (includes-with aside done.touched.items) (subst (λ (xs : List AsideRow). TakesAside touched xs done.touched.items) (sym (ap (λ u. u.items) run.first.aside)) (takes-aside aside done.touched.items)))
 
   standing-ways : HasWays t standing ready.flow.items
   standing-ways = all-deferred-ways touched t num ready.flow.items es f touches computed.ways
@@ -283,7 +283,7 @@ module _ (t : Target) (es : List Edit) (v : ℕ) (old cleared ready done new : E
   aside-same = run.does.aside ∙ run.first.aside
 
   apart : LeavesAside aside done.touched.items
-  apart = subst (λ (xs : Vec AsideRow). LeavesAside xs.items done.touched.items) aside-same run.does.apart
+  apart = subst (λ (xs : List AsideRow). LeavesAside xs done.touched.items) (ap (λ u. u.items) aside-same) run.does.apart
 
   not-first : (l : ℕ) → is_aside old.aside.items l ≡ true → ⊥
   not-first l e = let z : true ≡ false = sym e ∙ ap (λ xs. is_aside xs l) none in absurd (cc)

@@ -53,5 +53,5 @@ returns-clause-looks c = λ touched code told carried.
     let list = nodes_of c.args.suspects.now in
     let fallen = nodes_of c.suspects.fallen.items in
     let past : length c.args.suspects.now ≤ c.suspects.spot-index = omega arith in
-    subst (λ todo. Falls touched code (falling (causes old) list [] list) (falling (causes now) todo fallen (list ++ fallen))) (ap nodes_of (drop_all c.args.suspects.now c.suspects.spot-index past))
+    subst (λ todo. Falls touched code (falling (causes old) list [] list) (falling (causes now) todo fallen (list ++ fallen))) (ap nodes_of (drop_all c.suspects.spot-index c.args.suspects.now past))
     (c.suspects.invariant.looked touched code told carried).run
