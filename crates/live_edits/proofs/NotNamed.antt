@@ -1,8 +1,7 @@
 -- An instruction none of whose operands names a range does nothing to its lanes.
 use Rattle.std.proofs.lemmas.Option.{same_Some}
-use Rattle.std.proofs.Common.{◌≡◌, ◌⊎◌, inl, inr, ℕ, zero, suc, Bool, true, false, cond, not, List, [], ◌∷◌, ◌++◌, Option, Some, None, map, filter, filter_map, flat_map, length, refl, sym, ap, ◌∙◌, subst, eqb-true}
+use Rattle.std.proofs.Common.{◌≡◌, ℕ, zero, suc, Bool, true, false, cond, not, List, [], ◌∷◌, ◌++◌, Option, Some, None, map, filter, filter_map, flat_map, length, refl, sym, ap, ◌∙◌, subst, eqb-true}
 use Rattle.std.specs.Prelude.{◌&&◌, nat_abs, nat_eq, option_and_then, sum}
-use Rattle.std.specs.List.{list_any}
 use Rattle.target_base.specs.declared.types.Effect.{Effect}
 use Rattle.target_base.specs.declared.types.Effect.TheVariants as effects
 use Rattle.target_base.specs.declared.types.OpcodeDesc.{OpcodeDesc}
@@ -10,7 +9,6 @@ use Rattle.target_base.specs.declared.types.Role.{Role}
 use Rattle.target_base.specs.declared.types.Target.{Target}
 use Rattle.target_base.specs.Roles.{is_silent}
 use Rattle.meaning.specs.declared.types.Lane.TheVariants.{UnitLane}
-use Rattle.meaning.specs.Lanes.{Writes}
 use Rattle.meaning.specs.Live.{Among as Member, here as first, there as later}
 use Rattle.meaning.specs.Perform.{condition_lane}
 use Rattle.mir_func.specs.declared.func.Instr.{Instr}
@@ -21,7 +19,7 @@ use Rattle.mir_func.specs.Binding.{as_register, definitions, immediate_of, impli
 use Rattle.mir_func.specs.Value.{Function}
 use Rattle.mir_meaning.specs.declared.writing.LaneDef.{LaneDef}
 use Rattle.mir_meaning.specs.Items.{constant_lanes, constant_of, copied, defined_undef, given_constant, implicit_definitions, pick, reloaded, silent_reads, undefined, uses}
-use Rattle.mir_meaning.specs.Paths.{Certain, Into, Unused, has, is_present, is_some_number, is_written, move_of, use_of, writing_of}
+use Rattle.mir_meaning.specs.Paths.{Certain, Into, Unused, has, is_some_number, move_of, use_of, writing_of}
 use Rattle.mir_meaning.specs.Points.{is_range}
 use Rattle.mir_meaning.specs.Registers.{operand_lanes, operand_widths, undefined_lanes, use_sources}
 use Rattle.instr_effects.specs.declared.acts.Act.{Act}
@@ -32,10 +30,9 @@ use Rattle.instr_effects.specs.Owners.{operand_owners, owner_of, source_owner}
 use Rattle.instr_effects.specs.Steps.{Numbering, act_reading, act_readings, act_writing, act_writings, is_unnumbered, writing}
 use Rattle.instr_effects.proofs.Defined.{definition-of}
 use Rattle.instr_effects.proofs.Known.{reads_known, reads_unknown, writes_known, writes_unknown}
-use Rattle.instr_effects.proofs.Members.{either-elim, filter-of, flat-of, in-either, map-of, member-elim, member-none}
+use Rattle.instr_effects.proofs.Members.{either-elim, filter-of, flat-of, map-of, member-elim, member-none}
 use Rattle.instr_effects.proofs.Readings.{other_read, together_read}
 use Rattle.instr_effects.proofs.Writes.{acts-counted, acts-defined, acts-reloaded, acts-stored, acts-undef, acts-undefined, acts-units, constants-none, no_call}
-use Rattle.live_lanes.specs.Doing.{doing_of}
 use Rattle.live_laws.proofs.Effects.Blocks.{filtered-in, filtered-of}
 use Rattle.live_laws.proofs.Effects.Lists.{any-in}
 use Rattle.live_laws.proofs.Touch.Effects.{given, given-of}

@@ -1,6 +1,6 @@
 -- Where edits replace or erase all instructions that name a range, and bring none, the code in which erased ones stand doesn't name it.
-use Rattle.std.proofs.Common.{◌≡◌, ◌⊎◌, inl, inr, ◌∷◌, ◌++◌, ◌∙◌, ◌≤◌, ◌+◌, ℕ, zero, suc, Bool, true, false, cond, not, List, [], Option, Some, None, refl, sym, ap, subst, map, take, drop, eqb-true, eq-eqb, arith}
-use Rattle.std.specs.Prelude.{◌&&◌, ◌||◌, nat_eq, slice_get}
+use Rattle.std.proofs.Common.{◌≡◌, ◌⊎◌, inl, inr, ◌∷◌, ◌++◌, ◌∙◌, ◌≤◌, ◌+◌, ℕ, zero, suc, Bool, true, false, cond, not, List, [], Option, Some, None, refl, sym, ap, subst, map, eqb-true, eq-eqb, arith}
+use Rattle.std.specs.Prelude.{◌&&◌, ◌||◌, nat_eq}
 use Rattle.std.specs.List.{list_all, list_any}
 use Rattle.std.proofs.lemmas.List.Sums.{sum_by-cons}
 use Rattle.target_base.specs.declared.types.OpId.{OpId}
@@ -13,8 +13,7 @@ use Rattle.mir_func.specs.declared.func.Operand.{Operand}
 use Rattle.mir_func.specs.Edits.{block_place, changed_in, instr_place, made, update}
 use Rattle.mir_func.specs.Value.{Function, IsFunction, id_count, id_total}
 use Rattle.mir_meaning.specs.declared.writing.LaneDef.{LaneDef}
-use Rattle.mir_meaning.specs.Paths.{Among, here, there, Certain, Code, Into, Step, Unused, Use, has, is_present, is_written, last_of, steps_of, use_of, writing_of}
-use Rattle.instr_effects.specs.declared.lanes.LaneTable.{LaneTable}
+use Rattle.mir_meaning.specs.Paths.{Among, Certain, Code, Into, Step, Unused, Use, has, is_present, is_written, last_of, steps_of, use_of, writing_of}
 use Rattle.instr_effects.specs.declared.owner.Owner.{Owner}
 use Rattle.instr_effects.specs.declared.owner.Owner.TheVariants as owners
 use Rattle.instr_effects.specs.Numbered.{number_in, IsTable}
@@ -22,7 +21,7 @@ use Rattle.instr_effects.specs.Steps.{Numbering}
 use Rattle.instr_effects.proofs.Members.{map-in, map-of, member-elim, member-none}
 use Rattle.live_lanes.specs.declared.row.LaneUse.{LaneUse}
 use Rattle.live_lanes.specs.declared.table.Table.{Table}
-use Rattle.live_lanes.specs.Coded.{Doing, bodies_from, code_of}
+use Rattle.live_lanes.specs.Coded.{Doing, bodies_from}
 use Rattle.live_lanes.specs.Doing.{doing_of, lane_code}
 use Rattle.live_lanes.specs.Entered.{Shape, Start, IsTableOf, reading_of, readings_until, rows_seen, shape, shape_of, start_of, starts}
 use Rattle.live_lanes.specs.Entering.{EnteredStep}
@@ -34,7 +33,6 @@ use Rattle.live_laws.proofs.Effects.Blocks.{among-of, of-among}
 use Rattle.live_laws.proofs.Effects.Moving.{some-same}
 use Rattle.edit_laws.specs.Deferred.{all_deferred, all_gone, deferred, gone_after, idle, nothing, standing_code, TouchesEdits}
 use Rattle.edit_laws.specs.Edits.{Edit, Put, Replace, Erase, with_op}
-use Rattle.edit_laws.specs.LetGo.{IsUnnamed}
 use Rattle.edit_laws.specs.Reasons.{Touched, IsEditOf}
 use Rattle.edit_laws.proofs.Aligned.{AreBlocks, AreInstrs, block_stays, instr_changes, instr_comes, instr_goes, instr_stays, no_blocks, no_instrs}
 use Rattle.edit_laws.proofs.Codes.{doing-same}

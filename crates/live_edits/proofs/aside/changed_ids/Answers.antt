@@ -1,5 +1,5 @@
-use Rattle.std.proofs.Common.{◌+◌, ◌≤◌, length, arith}
-use Rattle.live_edits.proofs.AsideTold.{all-changed, changed-more}
+use Rattle.std.proofs.Common.{◌+◌, arith}
+use Rattle.live_edits.proofs.AsideTold.{changed-more}
 use Rattle.live_edits.proofs.aside.changed_ids.Goals as goal
 
 pub edits-preserved : goal.edits-preserved

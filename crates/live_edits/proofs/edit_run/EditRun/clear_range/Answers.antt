@@ -1,4 +1,4 @@
-use Rattle.std.proofs.Common.{◌≡◌, ◌∙◌, ℕ, Some, inl, inr}
+use Rattle.std.proofs.Common.{◌≡◌, ℕ, Some, inl, inr}
 use Rattle.instr_effects.specs.declared.owner.Owner.TheVariants as owners
 use Rattle.instr_effects.specs.Numbered.{number_in}
 use Rattle.live_edits.specs.declared.edit_run.EditRun.{EditRun}

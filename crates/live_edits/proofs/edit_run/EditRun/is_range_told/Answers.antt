@@ -1,4 +1,4 @@
-use Rattle.std.proofs.Common.{◌≡◌, ◌∙◌, ◌+◌, ◌≤◌, arith}
+use Rattle.std.proofs.Common.{◌∙◌, ◌+◌, ◌≤◌, arith}
 use Rattle.mir_meaning.specs.Paths.{has}
 use Rattle.live_edits.proofs.AsideTold.{all-told, more-told}
 use Rattle.live_edits.proofs.edit_run.EditRun.is_range_told.Goals as goal

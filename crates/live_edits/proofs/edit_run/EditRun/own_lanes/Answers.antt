@@ -1,6 +1,6 @@
-use Rattle.std.proofs.Common.{◌<◌, ◌≤◌, ◌≡◌, ◌++◌, ◌∷◌, ◌∙◌, ◌+◌, cond, [], length, get_or, sym, ap, arith, eqb-true}
+use Rattle.std.proofs.Common.{◌<◌, ◌≤◌, ◌++◌, ◌∷◌, ◌∙◌, cond, [], length, get_or, sym, ap, arith, eqb-true}
 use Rattle.live_edits.specs.Aside.{is_aside}
-use Rattle.live_edits.proofs.AsideLanes.{lanes-left, more-own, none-out, none-yet}
+use Rattle.live_edits.proofs.AsideLanes.{lanes-left, more-own, none-out}
 use Rattle.live_edits.proofs.edit_run.EditRun.own_lanes.Goals as goal
 
 pub returns-then-is_empty : goal.returns-then-is_empty

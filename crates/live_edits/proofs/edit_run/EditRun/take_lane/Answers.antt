@@ -1,4 +1,4 @@
-use Rattle.std.proofs.Common.{◌≡◌, ◌∙◌, ℕ, Some, sym, ap}
+use Rattle.std.proofs.Common.{◌≡◌, ◌∙◌, Some, sym, ap}
 use Rattle.live_edits.proofs.AsideRows.{takes-none, takes-other}
 use Rattle.live_edits.proofs.edit_run.EditRun.take_lane.Goals as goal
 

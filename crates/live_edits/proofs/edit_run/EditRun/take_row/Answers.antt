@@ -1,4 +1,4 @@
-use Rattle.std.proofs.Common.{◌<◌, ◌≤◌, ◌++◌, ◌∷◌, ◌∙◌, [], length, length-set, refl, ap, arith}
+use Rattle.std.proofs.Common.{◌<◌, ◌++◌, ◌∷◌, ◌∙◌, [], length, length-set, refl, ap, arith}
 use Rattle.live_lanes.specs.declared.row.LaneRange.{LaneRange}
 use Rattle.live_lanes.specs.Table.{seen_in}
 use Rattle.live_lanes.proofs.Rows.{row-of}
