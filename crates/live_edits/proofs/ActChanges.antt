@@ -1,5 +1,5 @@
 -- Acts at lanes to which an instruction does something else than before.
-use Rattle.std.proofs.Common.{◌≡◌, ◌∙◌, ◌<◌, ◌+◌, ◌⊎◌, inl, inr, ⊎_elim, ◌&&◌, ◌||◌, not, ℕ, Bool, true, false, cond, length, List, [], ◌∷◌, ◌++◌, Option, None, Some, find, get_or, map, take, refl, sym, ap, subst, eqb-true, eq-eqb}
+use Rattle.std.proofs.Common.{◌≡◌, ◌∙◌, ◌<◌, ◌+◌, ◌⊎◌, inl, inr, ⊎_elim, ◌&&◌, ◌||◌, not, ℕ, Bool, true, false, cond, length, List, [], ◌∷◌, ◌++◌, Option, None, Some, find, get_or, take, refl, sym, ap, subst, eqb-true, eq-eqb}
 use Rattle.std.specs.Prelude.{nat_eq}
 use Rattle.mir_meaning.specs.Paths.{Among, here, there, has}
 use Rattle.instr_effects.specs.declared.lane_acts.LaneAct.{LaneAct}

@@ -2,19 +2,21 @@
 use Rattle.std.proofs.Common.{◌≡◌, ◌<◌, ◌≤◌, ◌+◌, ◌∙◌, ◌⊎◌, inl, inr, ℕ, suc, Bool, true, false, ◌&&◌, List, [], ◌∷◌, Some, length, drop, get_or, refl, sym, ap, subst, arith, eqb-true, eq-eqb}
 use Rattle.std.specs.Prelude.{nat_eq, slice_get}
 use Rattle.std.proofs.lemmas.List.{drop_more, drop_all}
-use Rattle.mir_meaning.specs.Paths.{Among, here, there}
+use Rattle.mir_meaning.specs.Paths.{Among, here, there, Code}
+use Rattle.live_lanes.specs.declared.compute.flow.BlockFlow.{BlockFlow}
 use Rattle.live_lanes.specs.declared.row.LaneRange.{LaneRange}
 use Rattle.live_lanes.specs.Table.{Numbers}
-use Rattle.live_lanes.specs.Entered.{rows_seen}
+use Rattle.live_lanes.specs.Entered.{rows_seen, IsNumbered, IsTableOf}
 use Rattle.live_lanes.proofs.Basics.{none-among}
 use Rattle.live_lanes.proofs.Numbered.{among-cases}
+use Rattle.edit_laws.specs.Reasons.{Touched, IsEditOf}
 use Rattle.edit_laws.specs.Rebuilt.{IsRebuilt, stays}
 use Rattle.edit_laws.proofs.Rebuilt.{untouched-law}
 use Rattle.live_edits.specs.declared.cells.CellNotes.{CellNotes}
 use Rattle.live_edits.specs.declared.cells.Note.{Note}
 use Rattle.live_edits.specs.Renoted.{NotesAll, NotesCell, ChangesOne}
 use Rattle.live_edits.proofs.RenoteWhole.{notes-rebuilt}
-use Rattle.live_edits.specs.Remade.{RemakesAll}
+use Rattle.live_edits.specs.Remade.{AreAllNotes, AreNotesOf, RemakesAll}
 
 abbrev is_at : ℕ → ℕ → ℕ → ℕ → Bool
 is_at lane block l b = nat_eq lane l && nat_eq block b
@@ -121,18 +123,31 @@ module _ (slots : Numbers) where
       go false e (inl z) = inl (z.0, there z.1, z.2, z.3)
       go false e (inr none) = inr (λ d m. both e none d (among-cases d c cs m))
 
-  pub all-remade : (old new : List LaneRange) (all : List CellNotes) → RemakesEach slots old all new → RemakesAll slots old new all
-  all-remade old new all r touched before code was flow t e numbered n l b = go (find-at all l b)
+  elsewhere : (all : List CellNotes) (l b : ℕ) → None-at all l b → (c : CellNotes) → Among c all → c.lane ≡ l → c.block ≡ b → ⊥
+  elsewhere all l b none c m f g = let h : true ≡ false = sym (at-own l b) ∙ ((λ i. nat_eq (sym f i) l && nat_eq (sym g i) b) ∙ none c m) in cc
+
+  not-there : (all : List CellNotes) (l b : ℕ) → ((c : CellNotes) → Among c all → c.lane ≡ l → c.block ≡ b → ⊥) → None-at all l b
+  not-there all l b none c m = go (is_at c.lane c.block l b) refl
     where
-      go : ((c : CellNotes) × Among c all × (c.lane ≡ l) × (c.block ≡ b)) ⊎ None-at all l b → IsRebuilt before code l b (rows_seen old l b) (rows_seen new l b)
-      go (inl z) =
-          let c = z.0 in
-          let own = own-noted old new all c r n.apart z.1 (n.lanes c z.1) in
-          let made : IsRebuilt before code c.lane c.block (rows_seen old c.lane c.block) (rows_seen new c.lane c.block) =
-          notes-rebuilt touched before code was slots flow old c.lane c.block c.notes.items t e numbered (n.each c z.1) (rows_seen new c.lane c.block) own in
-          subst (λ k. IsRebuilt before code l k (rows_seen old l k) (rows_seen new l k)) z.3 (subst (λ k. IsRebuilt before code k c.block (rows_seen old k c.block) (rows_seen new k c.block)) z.2 made)
-      go (inr none) =
-          stays (untouched-law touched before code l b e (n.others l b (λ c m f g. elsewhere c m f g))) (others-stay old new all l b r none)
-        where
-          elsewhere : (c : CellNotes) → Among c all → c.lane ≡ l → c.block ≡ b → ⊥
-          elsewhere c m f g = let h : true ≡ false = sym (at-own l b) ∙ ((λ i. nat_eq (sym f i) l && nat_eq (sym g i) b) ∙ none c m) in cc
+      go : (u : Bool) → is_at c.lane c.block l b ≡ u → u ≡ false
+      go true e = absurd (none c m (at-lane c.lane c.block l b e) (at-block c.lane c.block l b e))
+      go false e = refl
+
+  module _ (old new : List LaneRange) (all : List CellNotes) (r : RemakesEach slots old all new) where
+    all-rebuilt : (touched noted : Touched) (before code : Code) (was : Numbers) (flow : List BlockFlow) (x : List LaneRange) → IsTableOf before was flow x → IsEditOf touched before code → IsNumbered code slots
+        → AreAllNotes noted code old all → (l : ℕ) → ((b id : ℕ) → touched l b id ≡ noted l b id) → ((b : ℕ) → rows_seen old l b ≡ rows_seen x l b) → (b : ℕ) → IsRebuilt before code l b (rows_seen x l b) (rows_seen new l b)
+    all-rebuilt touched noted before code was flow x t e numbered n l agree same b = go (find-at all l b)
+      where
+        go : ((c : CellNotes) × Among c all × (c.lane ≡ l) × (c.block ≡ b)) ⊎ None-at all l b → IsRebuilt before code l b (rows_seen x l b) (rows_seen new l b)
+        go (inl z) =
+            let c = z.0 in
+            let at-own-lane : (k id : ℕ) → touched c.lane k id ≡ noted c.lane k id = subst (λ m. (k id : ℕ) → touched m k id ≡ noted m k id) (sym z.2) agree in
+            let seen-same : rows_seen old c.lane c.block ≡ rows_seen x c.lane c.block = subst (λ m. (k : ℕ) → rows_seen old m k ≡ rows_seen x m k) (sym z.2) same c.block in
+            let own = subst (λ v. NotesAll slots c.notes.items v (rows_seen new c.lane c.block)) seen-same (own-noted old new all c r n.apart z.1 (n.lanes c z.1)) in
+            let notes : AreNotesOf touched code c.lane c.block c.notes.items = record { told = λ id. at-own-lane c.block id ∙ (n.each c z.1).told id; single = (n.each c z.1).single; does = (n.each c z.1).does } in
+            let made : IsRebuilt before code c.lane c.block (rows_seen x c.lane c.block) (rows_seen new c.lane c.block) = notes-rebuilt touched before code was slots flow x c.lane c.block c.notes.items t e numbered notes (rows_seen new c.lane c.block) own in
+            subst (λ k. IsRebuilt before code l k (rows_seen x l k) (rows_seen new l k)) z.3 (subst (λ k. IsRebuilt before code k c.block (rows_seen x k c.block) (rows_seen new k c.block)) z.2 made)
+        go (inr none) = stays (untouched-law touched before code l b e (λ id. agree b id ∙ n.others l b (elsewhere all l b none) id)) (others-stay old new all l b r none ∙ same b)
+
+    pub all-remade : RemakesAll slots old new all
+    all-remade = record { rebuilt = all-rebuilt; kept = λ l b none. others-stay old new all l b r (not-there all l b none) }

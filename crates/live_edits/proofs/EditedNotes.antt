@@ -21,9 +21,8 @@ use Rattle.live_edits.specs.EditedRuns.{HaveRows}
 use Rattle.live_edits.specs.Noted.{HasNotes, touches, touched_at}
 use Rattle.live_edits.specs.Pieces.{IsThere}
 use Rattle.live_edits.specs.Remade.{noted_ids, AreAllNotes}
-use Rattle.live_edits.specs.Runs.{Includes, AreSuspects, all_noted, entry_side, exit_side}
-use Rattle.live_edits.specs.Updated.{AreTold}
-use Rattle.live_edits.proofs.AskMembers.{any-among, among-any, flat-among}
+use Rattle.live_edits.specs.Runs.{Includes, AreSuspects, entry_side, exit_side}
+use Rattle.live_edits.proofs.AskMembers.{any-among, among-any}
 use Rattle.live_edits.proofs.NotedLists.{has-note}
 use Rattle.live_edits.proofs.NotedTouched.{all-notes}
 
@@ -44,11 +43,6 @@ module _ (t : Target) (f : Function) (num : Numbering) (gone : List ℕ) (xs : L
       let block : x.block ≡ b = eqb-true x.block b (both-left (nat_eq x.block b) (has l x.lanes.items) rest) in
       let w = h.whole x z.1 l (has-among l x.lanes.items (both-right (nat_eq x.block b) (has l x.lanes.items) rest)) in
       (w.0, w.1, w.2, w.3 ∙ block, subst (λ n. has n (noted_ids w.0.notes.items) ≡ true) own w.4)
-
-  pub told-ids : (ids : List ℕ) → ((id : ℕ) → has id ids ≡ has id (all_noted all)) → AreTold (touched_at xs) ids
-  told-ids ids are l b id e =
-      let z = noted-of l b id e in
-      are id ∙ among-has id (all_noted all) (flat-among (λ (c : CellNotes). noted_ids c.notes.items) id z.0 all z.1 (has-among id (noted_ids z.0.notes.items) z.4))
 
   lane-there : (rows : List LaneRange) → HaveRows rows all → (x : TouchedInstr) → Among x xs → (l : ℕ) → Among l x.lanes.items → l < length rows
   lane-there rows have x m l k = let w = h.whole x m l k in subst (λ n. n < length rows) w.2 (have w.0 w.1)

@@ -1,5 +1,5 @@
 -- From part to part of a run of edits.
-use Rattle.std.proofs.Common.{◌≡◌, ◌⊎◌, inl, inr, ◌∷◌, ◌++◌, ◌∙◌, ◌<◌, ◌≤◌, ◌+◌, ℕ, true, length, drop, get_or, List, [], sym, ap, subst}
+use Rattle.std.proofs.Common.{arith, ◌≡◌, ◌⊎◌, inl, inr, ◌∷◌, ◌++◌, ◌∙◌, ◌<◌, ◌≤◌, ◌+◌, ℕ, true, length, drop, get_or, List, [], refl, sym, ap, subst}
 use Rattle.target_base.specs.declared.types.Target.{Target}
 use Rattle.mir_func.specs.Value.{Function, IsFunction}
 use Rattle.mir_meaning.specs.Paths.{Among, has}
@@ -17,12 +17,14 @@ use Rattle.live_edits.specs.declared.cells.CellNotes.{CellNotes}
 use Rattle.live_edits.specs.declared.draft.Draft.{Draft}
 use Rattle.live_edits.specs.declared.edit_run.EditRun.{EditRun}
 use Rattle.live_edits.specs.declared.log.LoggedRows.{LoggedRows}
+use Rattle.live_edits.specs.Aside.{AreThere, TakesRows, TakesSome, put_back}
 use Rattle.live_edits.specs.Drafts.{IsOrderOf, LetsGo, IsDraftLogged, all_undone}
-use Rattle.live_edits.specs.EditedRuns.{MayBegin, HasTable, MayDo, AddsRows, IsReady, AreBelow, BringsUp, ChangesRows, IsDone, IsRunLogged, LetsAllGo, IsRunUndone, IsEditedRun, TellsAlike}
+use Rattle.live_edits.specs.EditedRuns.{MayBegin, MayStart, HasTable, MayDo, AddsRows, IsReady, AreBelow, BringsUp, ChangesRows, IsDone, IsRunLogged, LetsAllGo, IsRunUndone, IsEditedRun, LeavesTaken, TellsAlike}
 use Rattle.live_edits.specs.Logged.{AllSeen, all_taken_back, cell_there, HasAllCells, IsLogged}
 use Rattle.live_edits.specs.Runs.{table_of, HavePlaces, KeepsTables, AddsSlots, NumbersSlots, KeepsDraft}
 use Rattle.live_edits.specs.Updated.{Updates}
 use Rattle.std.proofs.lemmas.List.{drop_more, drop_all}
+use Rattle.live_edits.proofs.AsideRows.{back-same}
 use Rattle.live_edits.proofs.EditedBack.{alike-table-law}
 use Rattle.live_edits.proofs.EditedRun.{edited-run-law}
 use Rattle.live_edits.proofs.EditedSteps.{draft-same, draft-then}
@@ -42,12 +44,14 @@ below-more n all k x h own less rest c m = go (among-cases c x (drop (k + 1) all
 
 -- further slots have numbers, and their lanes rows
 
-pub adds-rows : (old new : EditRun) → AddsSlots old.lanes new.lanes → (length old.rows.rows.rows.items < 4294967296 → HasFurtherLanes (table_of old) (table_of new)) → KeepsDraft old new → AddsRows old new
-adds-rows old new a further k = record {
+pub adds-rows : (old new : EditRun) → AddsSlots old.lanes new.lanes → (length old.rows.rows.rows.items < 4294967296 → HasFurtherLanes (table_of old) (table_of new)) → length old.rows.rows.rows.items ≤ length new.rows.rows.rows.items → KeepsDraft old new → AddsRows old new
+adds-rows old new a further long k = record {
   draft = k.draft;
   log = k.log;
   touched = k.touched;
   gone = k.gone;
+  aside = k.aside;
+  long = long;
   numbers = λ t f n. record {
     table = a.table n.table;
     reserved = ap (λ v. v.items) a.reserved ∙ n.reserved;
@@ -59,45 +63,83 @@ adds-rows old new a further k = record {
 
 -- what a run begins with
 
-module _ (t : Target) (es : List Edit) (old ready : EditRun) (may : MayBegin t old es) (adds : AddsRows old ready) where
+module _ (t : Target) (es : List Edit) (first old : EditRun) (Taken : ℕ → Type 0) (may : MayBegin t first es) (takes : TakesSome first old Taken) where
+  first-order : IsOrderOf first.draft.func first.draft.order
+  first-order = record { positions = may.edited.computed.positions; homes = may.edited.computed.homes; layout = may.edited.computed.layout; numbered = may.edited.computed.numbered }
+
+  -- rows may have been taken away before
+  pub may-start : MayStart t old es
+  may-start = record {
+    draft = ap (λ (d : Draft). d.log.items) takes.others.draft ∙ may.fresh.draft;
+    rows = ap (λ v. v.items) takes.others.log ∙ may.fresh.rows;
+    touched = ap (λ v. v.items) takes.others.touched ∙ may.fresh.touched;
+    gone = ap (λ s. s.keys) takes.others.gone ∙ may.fresh.gone;
+    order = subst (λ (d : Draft). IsOrderOf d.func d.order) (sym takes.others.draft) first-order;
+    function = subst (λ (d : Draft). IsFunction d.func.blocks d.func.next_id) (sym takes.others.draft) may.edited.function;
+    numbers = subst (λ (d : Draft). NumbersAll t d.func old.lanes) (sym takes.others.draft) (subst (NumbersAll t first.draft.func) (sym takes.others.lanes) may.edited.computed.numbers);
+    few = subst (λ n. n < 4294967296) (sym takes.lanes) (may.edited.computed.table (all t first.draft.func (table_of first) may.edited.computed may.edited.rules may.edited.last)).few;
+    places = subst (λ (d : Draft). HavePlaces t d.func es) (sym takes.others.draft) may.edited.places;
+  }
+
+  -- all rows that were taken away have their places still
+  pub still-there : (mid : EditRun) → IsRunLogged t old mid → AreThere mid.rows.rows.rows.items mid.aside.items
+  still-there mid g r m =
+      let within : r.lane < length old.rows.rows.rows.items = takes.there (λ q a. absurd (none-among q (subst (Among q) may.fresh.aside a))) r (subst (Among r) (ap (λ v. v.items) g.aside) m) in
+      omega (arith, within, g.long)
+
+-- nothing is edited yet
+pub logged-none : (t : Target) (es : List Edit) (r : EditRun) → MayStart t r es → IsRunLogged t r r
+logged-none t es r may = record {
+  numbers = may.numbers;
+  keeps = λ o n e. e;
+  flow = refl;
+  draft = draft-same r.draft may.order;
+  aside = refl;
+  long = omega arith;
+  seen = λ l b. ap (λ xs. all_taken_back xs (rows_seen r.rows.rows.rows.items) l b) may.rows;
+  cells = λ e m. absurd (none-among e (subst (Among e) may.rows m));
+  few = may.few;
+}
+
+-- then further slots have numbers
+
+module _ (t : Target) (es : List Edit) (old ready : EditRun) (may : MayStart t old es) (adds : AddsRows old ready) where
   abbrev f : Function
   f = old.draft.func
 
-  first-order : IsOrderOf f old.draft.order
-  first-order = record { positions = may.edited.computed.positions; homes = may.edited.computed.homes; layout = may.edited.computed.layout; numbered = may.edited.computed.numbered }
-
-  few : length old.rows.rows.rows.items < 4294967296
-  few = (may.edited.computed.table (all t f (table_of old) may.edited.computed may.edited.rules may.edited.last)).few
-
   further : HasFurtherLanes (table_of old) (table_of ready)
-  further = adds.further few
+  further = adds.further may.few
 
   pub may-do : MayDo t ready es
   may-do = record {
-    order = subst (λ (d : Draft). IsOrderOf d.func d.order) (sym adds.draft) first-order;
-    function = subst (λ (d : Draft). IsFunction d.func.blocks d.func.next_id) (sym adds.draft) may.edited.function;
-    stand = λ x m. absurd (none-among x (subst (Among x) (ap (λ v. v.items) adds.touched ∙ may.fresh.touched) m));
-    places = subst (λ (d : Draft). HavePlaces t d.func es) (sym adds.draft) may.edited.places;
+    order = subst (λ (d : Draft). IsOrderOf d.func d.order) (sym adds.draft) may.order;
+    function = subst (λ (d : Draft). IsFunction d.func.blocks d.func.next_id) (sym adds.draft) may.function;
+    stand = λ x m. absurd (none-among x (subst (Among x) (ap (λ v. v.items) adds.touched ∙ may.touched) m));
+    apart = λ x m. absurd (none-among x (subst (Among x) (ap (λ v. v.items) adds.touched ∙ may.touched) m));
+    places = subst (λ (d : Draft). HavePlaces t d.func es) (sym adds.draft) may.places;
   }
 
   pub is-ready : NumbersSlots ready.lanes es → IsReady t old ready es
   is-ready named = record {
     func = ap (λ (d : Draft). d.func) adds.draft;
-    numbers = adds.numbers t f may.edited.computed.numbers;
+    numbers = adds.numbers t f may.numbers;
     further = further;
     named = named;
-    gone = λ id. ap (has id) (ap (λ s. s.keys) adds.gone ∙ may.fresh.gone);
+    gone = λ id. ap (has id) (ap (λ s. s.keys) adds.gone ∙ may.gone);
+    aside = adds.aside;
   }
 
   no-log : ready.rows.log.items ≡ []
-  no-log = ap (λ v. v.items) adds.log ∙ may.fresh.rows
+  no-log = ap (λ v. v.items) adds.log ∙ may.rows
 
   pub logged-first : IsRunLogged t old ready
   logged-first = record {
-    numbers = adds.numbers t f may.edited.computed.numbers;
+    numbers = adds.numbers t f may.numbers;
     keeps = further.numbers;
     flow = further.flow;
-    draft = subst (IsDraftLogged old.draft) (sym adds.draft) (draft-same old.draft first-order);
+    draft = subst (IsDraftLogged old.draft) (sym adds.draft) (draft-same old.draft may.order);
+    aside = adds.aside;
+    long = adds.long;
     seen = λ l b. ap (λ es. all_taken_back es (rows_seen ready.rows.rows.rows.items) l b) no-log ∙ further.rows l b;
     cells = λ e m. absurd (none-among e (subst (Among e) no-log m));
     few = further.few;
@@ -111,6 +153,8 @@ logged-edits t old ready done h k d = record {
   keeps = subst (λ (ls : LaneTable). KeepsNumbers (number_in old.lanes) (number_in ls)) (sym k.lanes) h.keeps;
   flow = k.flow ∙ h.flow;
   draft = draft-then old.draft ready.draft done.draft h.draft d;
+  aside = k.aside ∙ h.aside;
+  long = subst (λ (r : LoggedRows). length old.rows.rows.rows.items ≤ length r.rows.rows.items) (sym k.rows) h.long;
   seen = λ l b. subst (λ (r : LoggedRows). all_taken_back r.log.items (rows_seen r.rows.rows.items) l b ≡ rows_seen old.rows.rows.rows.items l b) (sym k.rows) (h.seen l b);
   cells = subst (λ (r : LoggedRows). HasAllCells r.rows.rows.items r.log.items) (sym k.rows) h.cells;
   few = subst (λ (r : LoggedRows). length r.rows.rows.items < 4294967296) (sym k.rows) h.few;
@@ -138,6 +182,8 @@ module _ (t : Target) (old done new : EditRun) (h : IsRunLogged t old done) (k :
     keeps = subst (λ (ls : LaneTable). KeepsNumbers (number_in old.lanes) (number_in ls)) (sym k.lanes) h.keeps;
     flow = k.flow ∙ h.flow;
     draft = subst (IsDraftLogged old.draft) (sym k.draft) h.draft;
+    aside = k.aside ∙ h.aside;
+    long = subst (λ n. length old.rows.rows.rows.items ≤ n) (sym g.lanes) h.long;
     seen = λ l b.
         ap (λ es. all_taken_back es (rows_seen rows) l b) g.list
         ∙ (ap (λ (s : AllSeen). s l b) (all-taken-back-append done.rows.log.items g.added (rows_seen rows))
@@ -148,7 +194,7 @@ module _ (t : Target) (old done new : EditRun) (h : IsRunLogged t old done) (k :
 
 -- all is kept
 
-module _ (t : Target) (es : List Edit) (old mid new : EditRun) (erased : List ℕ) (may : MayBegin t old es) (d : IsDone t es old mid erased) (l : LetsAllGo mid new erased) where
+module _ (t : Target) (es : List Edit) (v : ℕ) (first old mid new : EditRun) (erased : List ℕ) (may : MayBegin t first es) (takes : TakesRows first old v) (leaves : LeavesTaken es v first old) (d : IsDone t es old mid erased) (l : LetsAllGo mid new erased) where
   brings-new : BringsUp t d.done new
   brings-new =
       let b = d.brings in
@@ -186,34 +232,47 @@ module _ (t : Target) (es : List Edit) (old mid new : EditRun) (erased : List �
     flow = l.flow ∙ d.kept.flow;
   }
 
-  pub all-kept : HasTable t (all_edited old.draft.func es) new
-  all-kept = let r = edited-run-law t es old d.edits.ready d.done new may.edited is-run in record { func = r.0; computed = r.1; fresh = l.fresh }
+  pub all-kept : HasTable t (all_edited first.draft.func es) new
+  all-kept = let r = edited-run-law t es v first old d.edits.ready d.done new may.edited may.fresh.aside takes leaves is-run in record { func = r.0; computed = r.1; fresh = l.fresh }
 
 -- all is taken back
 
-module _ (t : Target) (es : List Edit) (old mid new : EditRun) (may : MayBegin t old es) (g : IsRunLogged t old mid) (u : IsRunUndone mid new) where
+-- first: before; old: where rows may have been taken away
+
+pub keeps-first : (t : Target) (first old mid : EditRun) (Taken : ℕ → Type 0) → TakesSome first old Taken → IsRunLogged t old mid → KeepsNumbers (number_in first.lanes) (number_in mid.lanes)
+keeps-first t first old mid Taken takes g = subst (λ (ls : LaneTable). KeepsNumbers (number_in ls) (number_in mid.lanes)) takes.others.lanes g.keeps
+
+module _ (t : Target) (es : List Edit) (first old mid new : EditRun) (Taken : ℕ → Type 0) (may : MayBegin t first es) (takes : TakesSome first old Taken) (g : IsRunLogged t old mid) (u : IsRunUndone mid new) where
   log-is : mid.draft.log.items ≡ g.draft.added
-  log-is = g.draft.list ∙ ap (λ xs. xs ++ g.draft.added) may.fresh.draft
+  log-is = g.draft.list ∙ ap (λ xs. xs ++ g.draft.added) (ap (λ (d : Draft). d.log.items) takes.others.draft ∙ may.fresh.draft)
 
-  func-back : new.draft.func ≡ old.draft.func
-  func-back = u.func ∙ (ap (λ xs. all_undone xs mid.draft.func) log-is ∙ g.draft.back)
+  func-back : new.draft.func ≡ first.draft.func
+  func-back = u.func ∙ (ap (λ xs. all_undone xs mid.draft.func) log-is ∙ (g.draft.back ∙ ap (λ (d : Draft). d.func) takes.others.draft))
 
-  tells : TellsAlike t old.draft.func (table_of old) (table_of new)
+  -- rows are seen as before
+  seen-first : (l b : ℕ) → rows_seen new.rows.rows.rows.items l b ≡ rows_seen first.rows.rows.rows.items l b
+  seen-first l b =
+      u.seen l b
+      ∙ (back-same mid.aside.items (all_taken_back mid.rows.log.items (rows_seen mid.rows.rows.rows.items)) (rows_seen old.rows.rows.rows.items) g.seen l b
+      ∙ (ap (λ v. put_back v.items (rows_seen old.rows.rows.rows.items) l b) g.aside
+      ∙ (takes.back l b ∙ ap (λ xs. put_back xs (rows_seen first.rows.rows.rows.items) l b) may.fresh.aside)))
+
+  tells : TellsAlike t first.draft.func (table_of first) (table_of new)
   tells = record {
-    numbers = subst (NumbersAll t old.draft.func) (sym u.lanes) g.numbers;
-    keeps = subst (λ (ls : LaneTable). KeepsNumbers (number_in old.lanes) (number_in ls)) (sym u.lanes) g.keeps;
-    flow = u.flow ∙ g.flow;
+    numbers = subst (NumbersAll t first.draft.func) (sym u.lanes) (subst (λ (d : Draft). NumbersAll t d.func mid.lanes) takes.others.draft g.numbers);
+    keeps = subst (λ (ls : LaneTable). KeepsNumbers (number_in first.lanes) (number_in ls)) (sym u.lanes) (keeps-first t first old mid Taken takes g);
+    flow = u.flow ∙ (g.flow ∙ takes.others.flow);
     order = subst (λ (h : Function). IsOrderOf h new.draft.order) func-back u.order;
     small = u.small;
-    seen = λ l b. u.seen l b ∙ g.seen l b;
+    seen = seen-first;
     few = subst (λ n. n < 4294967296) (sym u.rows) g.few;
   }
 
-  pub all-back : HasTable t old.draft.func new
+  pub all-back : HasTable t first.draft.func new
   all-back = record {
     func = func-back;
     computed =
-        alike-table-law t old.draft.func (table_of old) (table_of new) may.edited.computed may.edited.rules may.edited.last may.edited.function
+        alike-table-law t first.draft.func (table_of first) (table_of new) may.edited.computed may.edited.rules may.edited.last may.edited.function
         (subst (λ (h : Function). h.next_id < 4294967296) func-back u.short) may.edited.blocks tells;
     fresh = u.fresh;
   }

@@ -15,6 +15,7 @@ use Rattle.edit_laws.specs.Reasons.{Touched}
 use Rattle.live_edits.specs.declared.draft.Draft.{Draft}
 use Rattle.live_edits.specs.declared.draft.FormerInstr.{FormerInstr}
 use Rattle.live_edits.specs.declared.edit_run.EditRun.{EditRun}
+use Rattle.live_edits.specs.Aside.{is_aside}
 use Rattle.live_edits.specs.Drafts.{IsOrderOf, undone, all_undone, IsDraftLogged}
 use Rattle.live_edits.specs.EditedRuns.{DoesEdits, MayDo}
 use Rattle.live_edits.specs.Runs.{edit_of, edits_of, HavePlaces, DoesEdit, KeepsTables}
@@ -41,11 +42,13 @@ no-edits t r es may = record {
   order = may.order;
   function = may.function;
   gone = λ id. refl;
-  touched = λ touched h. tt;
+  touched = λ touched h aside. tt;
   stand = may.stand;
+  apart = may.apart;
   lanes = refl;
   flow = refl;
   rows = refl;
+  aside = refl;
 }
 
 pub one-more-edit : (t : Target) (r s q : EditRun) (es : List Edit) (e : Edit) → DoesEdits t r s es → KeepsWays t s.draft.func e → DoesEdit t s q e → DoesEdits t r q (es ++ e ∷ [])
@@ -54,14 +57,16 @@ one-more-edit t r s q es e a keeps d = record {
   order = d.order;
   function = d.function;
   gone = λ id. d.gone id ∙ (after-same e s.gone.keys (all_gone r.gone.keys es) a.gone id ∙ ap (has id) (sym (gone-more es r.gone.keys e)));
-  touched = λ touched h.
-      let one : TouchesEdit touched t s.draft.func (number_in r.lanes) e = subst (λ (ls : LaneTable). TouchesEdit touched t s.draft.func (number_in ls) e) a.lanes (d.touched touched h) in
-      touches-more touched t (number_in r.lanes) es r.draft.func e (a.touched touched (λ x m. h x (d.kept x m)))
+  touched = λ touched h aside.
+      let one : TouchesEdit touched t s.draft.func (number_in r.lanes) e = subst (λ (ls : LaneTable). TouchesEdit touched t s.draft.func (number_in ls) e) a.lanes (d.touched touched h (λ x m l e. aside x m l (ap (λ v. is_aside v.items l) (sym a.aside) ∙ e))) in
+      touches-more touched t (number_in r.lanes) es r.draft.func e (a.touched touched (λ x m. h x (d.kept x m)) (λ x m. aside x (d.kept x m)))
       (subst (λ (f : Function). KeepsWays t f e) a.func keeps) (subst (λ (f : Function). TouchesEdit touched t f (number_in r.lanes) e) a.func one);
   stand = d.stand a.stand;
+  apart = d.apart a.apart;
   lanes = d.lanes ∙ a.lanes;
   flow = d.flow ∙ a.flow;
   rows = d.rows ∙ a.rows;
+  aside = d.aside ∙ a.aside;
 }
 
 -- as far as the loop over edits has come
@@ -103,10 +108,10 @@ draft-then x y z a b = record {
 }
 
 pub tables-same : (r : EditRun) → KeepsTables r r
-tables-same r = record { lanes = refl; flow = refl; rows = refl }
+tables-same r = record { lanes = refl; flow = refl; rows = refl; aside = refl }
 
 pub tables-then : (r s q : EditRun) → KeepsTables r s → KeepsTables s q → KeepsTables r q
-tables-then r s q a b = record { lanes = b.lanes ∙ a.lanes; flow = b.flow ∙ a.flow; rows = b.rows ∙ a.rows }
+tables-then r s q a b = record { lanes = b.lanes ∙ a.lanes; flow = b.flow ∙ a.flow; rows = b.rows ∙ a.rows; aside = b.aside ∙ a.aside }
 
 -- edits that stand from the last to the first
 

@@ -58,5 +58,6 @@ folds-all t r mid new j ids es may same has narrows =
         rows = (λ k. (narrows.rows k).log.items) ∙ there.fresh.rows;
         touched = (λ k. (narrows.touched k).items) ∙ there.fresh.touched;
         gone = (λ k. (narrows.gone k).keys) ∙ there.fresh.gone;
+        aside = (λ k. (narrows.aside k).items) ∙ there.fresh.aside;
       };
     }

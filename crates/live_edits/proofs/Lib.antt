@@ -38,6 +38,7 @@ pub mod UpdateSteps
 pub mod RunLanes
 pub mod RunPlaces
 pub mod RunEdits
+pub mod RunAside
 pub mod RunIds
 pub mod RunSides
 pub mod RunSlots
@@ -52,9 +53,15 @@ pub mod NotedTable
 pub mod NotedAll
 pub mod ActChanges
 pub mod NotedTouched
+pub mod AsideTold
+pub mod AsideRows
+pub mod AsideLanes
+pub mod NotNamed
+pub mod Unnamed
 pub mod EditedWays
 pub mod EditedGone
 pub mod EditedNotes
+pub mod AsideTouched
 pub mod EditedSteps
 pub mod EditedRun
 pub mod EditedBack

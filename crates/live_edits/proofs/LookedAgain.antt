@@ -21,7 +21,7 @@ use Rattle.edit_laws.specs.RowCause.{GivesCause, HasGiven}
 use Rattle.edit_laws.specs.Rechecked.{IsHeld, held_dead, held_reading, held_exit, held_end}
 use Rattle.edit_laws.specs.Update.{Holds, holds_dead, holds_reading, holds_exit, holds_end, given, Fall, falling, FallStep, stays, takes, falls, Falls, fell, fall}
 use Rattle.edit_laws.proofs.Fallen.{Given, given-cases}
-use Rattle.edit_laws.proofs.Rechecked.{held-law, certain-cause-law}
+use Rattle.edit_laws.proofs.Rechecked.{certain-cause-law}
 use Rattle.edit_laws.proofs.RowCause.{row-cause-law}
 use Rattle.edit_laws.proofs.Runs.{runs-follow}
 use Rattle.live_edits.specs.declared.log.LoggedRows.{LoggedRows}
@@ -81,7 +81,7 @@ pub record RunsSoFar (touched : Touched) (code : Code) (slots : Numbers) (flow :
 then-step : (touched : Touched) (code : Code) (why : Causes) (list : List Node) (d e : Fall) → Falls touched code (falling why list [] list) d → FallStep touched code d e → Falls touched code (falling why list [] list) e
 then-step touched code why list d e x s = runs-follow.falls touched code (falling why list [] list) d e x (fall s fell)
 
-module _ (touched : Touched) (before code : Code) (was : Causes) (slots : Numbers) (flow : List BlockFlow) (old : List LaneRange) (list : List Node) (c : IsCarriedOver touched before code was slots flow old list) where
+module _ (touched : Touched) (code : Code) (slots : Numbers) (flow : List BlockFlow) (old : List LaneRange) (list : List Node) (c : IsCarriedOver touched code slots flow old list) where
   abbrev Run : Causes → List Node → List Node → Type 0
   Run why todo fallen = Falls touched code (falling (causes old) list [] list) (falling why todo fallen (list ++ fallen))
 
@@ -110,11 +110,11 @@ module _ (touched : Touched) (before code : Code) (was : Causes) (slots : Number
       certain false e is = held (holds_dead (ap is_live is ∙ e))
 
       go : (cause_of (causes now) n ≡ cause_of (causes old) n) ⊎ (cause_of (causes now) n ≡ certain_at old n) → Run (causes now) todo fallen
-      go (inl same) = held (holds-moves (held-law touched before code slots flow was old list c.grown c.table c.edited c.carried c.listed n.0 n.1 n.2 (held-first old now keeps touched slots flow n.0 n.1 n.2 same h)) (causes now) same)
+      go (inl same) = held (holds-moves (c.held n.0 n.1 n.2 (held-first old now keeps touched slots flow n.0 n.1 n.2 same h)) (causes now) same)
       go (inr is) = certain (is_live (certain_at old n)) refl is
 
 -- a piece that loses its cause
-module _ (touched : Touched) (before code : Code) (was : Causes) (slots : Numbers) (flow : List BlockFlow) (old now new : List LaneRange) (list todo : List Node) (from to : List PieceSpot) (spot : PieceSpot) (c : IsCarriedOver touched before code was slots flow old list) (keeps : KeepsPieces old now)
+module _ (touched : Touched) (code : Code) (slots : Numbers) (flow : List BlockFlow) (old now new : List LaneRange) (list todo : List Node) (from to : List PieceSpot) (spot : PieceSpot) (c : IsCarriedOver touched code slots flow old list) (keeps : KeepsPieces old now)
     (live : is_live (causes now spot.lane spot.block spot.index) ≡ true) (gives : GivesCause now new (node_of spot) (certain_at now (node_of spot))) (lists : ListsFallen now spot from to) (k : RunsSoFar touched code slots flow old now list (node_of spot ∷ todo) (nodes_of from)) where
   abbrev n : Node
   n = node_of spot
@@ -168,7 +168,7 @@ todo-is suspects k d inside = ap nodes_of (drop-cons suspects k d inside) ∙ ap
 
 -- so many of the suspects have been looked at
 pub record LooksSoFar (ids : List ℕ) (slots : Numbers) (flow : List BlockFlow) (old now : LoggedRows) (suspects : List PieceSpot) (k : ℕ) (fallen : List PieceSpot) : Type 0 where
-  pub looked : (touched : Touched) (before code : Code) (was : Causes) → AreTold touched ids → IsCarriedOver touched before code was slots flow old.rows.rows.items (nodes_of suspects)
+  pub looked : (touched : Touched) (code : Code) → AreTold touched ids → IsCarriedOver touched code slots flow old.rows.rows.items (nodes_of suspects)
       → RunsSoFar touched code slots flow old.rows.rows.items now.rows.rows.items (nodes_of suspects) (nodes_of (drop k suspects)) (nodes_of fallen)
   pub pieces : KeepsPieces old.rows.rows.items now.rows.rows.items
   pub logged : IsLogged old now
@@ -180,17 +180,17 @@ module _ (ids : List ℕ) (slots : Numbers) (flow : List BlockFlow) (old now : L
   abbrev spot : PieceSpot
   spot = get_or suspects k d
 
-  runs-to : (touched : Touched) (before code : Code) (was : Causes) → AreTold touched ids → IsCarriedOver touched before code was slots flow old.rows.rows.items (nodes_of suspects)
+  runs-to : (touched : Touched) (code : Code) → AreTold touched ids → IsCarriedOver touched code slots flow old.rows.rows.items (nodes_of suspects)
       → RunsSoFar touched code slots flow old.rows.rows.items rows (nodes_of suspects) (node_of spot ∷ nodes_of (drop (k + 1) suspects)) (nodes_of from)
-  runs-to touched before code was told carried =
+  runs-to touched code told carried =
       subst (λ todo. RunsSoFar touched code slots flow old.rows.rows.items rows (nodes_of suspects) todo (nodes_of from)) (todo-is suspects k d inside)
-      (s.looked touched before code was told carried)
+      (s.looked touched code told carried)
 
   pub stays-so-far : ((touched : Touched) → AreTold touched ids → AllRise slots rows → IsHeld touched slots flow rows spot.lane spot.block spot.index) → LooksSoFar ids slots flow old now suspects (k + 1) from
   stays-so-far held = record {
-    looked = λ touched before code was told carried.
-        let l = runs-to touched before code was told carried in
-        runs-where-held touched before code was slots flow old.rows.rows.items (nodes_of suspects) carried rows (node_of spot) (nodes_of (drop (k + 1) suspects)) (nodes_of from) s.pieces
+    looked = λ touched code told carried.
+        let l = runs-to touched code told carried in
+        runs-where-held touched code slots flow old.rows.rows.items (nodes_of suspects) carried rows (node_of spot) (nodes_of (drop (k + 1) suspects)) (nodes_of from) s.pieces
         (held touched told (piece-law code slots flow rows l.table)) l;
     pieces = s.pieces;
     logged = s.logged;
@@ -199,9 +199,9 @@ module _ (ids : List ℕ) (slots : Numbers) (flow : List BlockFlow) (old now : L
   pub loses-so-far : (new : LoggedRows) (to : List PieceSpot) → is_live (causes rows spot.lane spot.block spot.index) ≡ true → LosesCause rows new.rows.rows.items spot → ListsFallen rows spot from to
       → KeepsPieces rows new.rows.rows.items → IsLogged now new → LooksSoFar ids slots flow old new suspects (k + 1) to
   loses-so-far new to live loses lists keeps logged = record {
-    looked = λ touched before code was told carried.
-        runs-where-lost touched before code was slots flow old.rows.rows.items rows new.rows.rows.items (nodes_of suspects) (nodes_of (drop (k + 1) suspects)) from to spot carried s.pieces live
-        (loses (live-there rows spot.lane spot.block spot.index live)) lists (runs-to touched before code was told carried);
+    looked = λ touched code told carried.
+        runs-where-lost touched code slots flow old.rows.rows.items rows new.rows.rows.items (nodes_of suspects) (nodes_of (drop (k + 1) suspects)) from to spot carried s.pieces live
+        (loses (live-there rows spot.lane spot.block spot.index live)) lists (runs-to touched code told carried);
     pieces = pieces-then old.rows.rows.items rows new.rows.rows.items s.pieces keeps;
     logged = logged-then old now new s.logged logged;
   }

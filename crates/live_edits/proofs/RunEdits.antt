@@ -1,5 +1,5 @@
 -- What an edit of a run touches.
-use Rattle.std.proofs.Common.{◌≡◌, ◌++◌, ◌∙◌, ◌⊎◌, inl, inr, ℕ, true, false, List, [], ◌∷◌, Option, None, Some, refl, sym, ap, subst}
+use Rattle.std.proofs.Common.{◌≡◌, ◌++◌, ◌∙◌, ◌⊎◌, inl, inr, ℕ, true, false, List, [], ◌∷◌, None, Some, refl, sym, ap, subst}
 use Rattle.std.specs.Prelude.{slice_get}
 use Rattle.target_base.specs.declared.types.OpId.{OpId}
 use Rattle.target_base.specs.declared.types.Target.{Target}
@@ -51,7 +51,7 @@ module _ (xs ys : List TouchedInstr) (x : TouchedInstr) (more : ys ≡ xs ++ x �
   pub touched-kept : (y : TouchedInstr) → Among y xs → Among y ys
   touched-kept y m = subst (Among y) (sym more) (among-left y xs (x ∷ []) m)
 
-  touched-last : Among x ys
+  pub touched-last : Among x ys
   touched-last = subst (Among x) (sym more) (among-right x xs (x ∷ []) here)
 
   -- a test of touched lanes tells its lanes

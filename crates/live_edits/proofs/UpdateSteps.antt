@@ -7,7 +7,6 @@ use Rattle.live_lanes.specs.declared.compute.flow.BlockFlow.{BlockFlow}
 use Rattle.live_lanes.specs.declared.row.Cause.{Cause}
 use Rattle.live_lanes.specs.declared.row.LaneRange.{LaneRange}
 use Rattle.live_lanes.specs.declared.table.PieceSpot.{PieceSpot}
-use Rattle.live_lanes.specs.Graph.{Causes}
 use Rattle.live_lanes.specs.Table.{Numbers}
 use Rattle.live_lanes.specs.Entered.{causes, IsTableOf}
 use Rattle.live_lanes.specs.Lasting.{AllRise}
@@ -53,7 +52,7 @@ pub record DoesParts (ids : List ℕ) (slots : Numbers) (flow : List BlockFlow) 
   pub starts : HasAll start suspects
   pub all : HasAll again (around' ++ risen)
 
-module _ (ids : List ℕ) (slots : Numbers) (flow : List BlockFlow) (r0 r1 r2 r3 r4 : List LaneRange) (suspects start first fallen around around' : List PieceSpot) (some queue : List Need) (risen again : List PieceSpot) (d : DoesParts ids slots flow r0 r1 r2 r3 r4 suspects start first fallen around around' some queue risen again) (touched : Touched) (before code : Code) (was : Causes) (told : AreTold touched ids) (over : IsCarriedOver touched before code was slots flow r0 (nodes_of suspects)) where
+module _ (ids : List ℕ) (slots : Numbers) (flow : List BlockFlow) (r0 r1 r2 r3 r4 : List LaneRange) (suspects start first fallen around around' : List PieceSpot) (some queue : List Need) (risen again : List PieceSpot) (d : DoesParts ids slots flow r0 r1 r2 r3 r4 suspects start first fallen around around' some queue risen again) (touched : Touched) (code : Code) (told : AreTold touched ids) (over : IsCarriedOver touched code slots flow r0 (nodes_of suspects)) where
   t1 : IsTableOf code slots flow r1
   t1 = table-stays r0 r1 d.looks_keep code slots flow over.table
 
@@ -69,7 +68,7 @@ module _ (ids : List ℕ) (slots : Numbers) (flow : List BlockFlow) (r0 r1 r2 r3
   falls-all : Falls touched code (falling (causes r0) (nodes_of suspects) [] (nodes_of suspects)) (falling (causes r2) [] [] (nodes_of suspects ++ nodes_of fallen))
   falls-all =
       subst (λ qs. Falls touched code (falling (causes r0) (nodes_of suspects) [] (nodes_of suspects)) (falling (causes r2) [] [] qs)) fallen-is
-      (runs-follow.falls touched code _ _ _ (d.looks touched before code was told over) (d.falls.falls touched code (nodes_of suspects ++ nodes_of first) t1))
+      (runs-follow.falls touched code _ _ _ (d.looks touched code told over) (d.falls.falls touched code (nodes_of suspects ++ nodes_of first) t1))
 
   first-asks : AsksFor slots flow r2 suspects [] some
   first-asks = d.asks (piece-law code slots flow r2 t2)

@@ -217,3 +217,4 @@ pub record Narrows (t : Target) (j : Join) (old new : EditRun) : Type 0 where
   pub rows : new.rows ≡ old.rows
   pub touched : new.touched ≡ old.touched
   pub gone : new.gone ≡ old.gone
+  pub aside : new.aside ≡ old.aside

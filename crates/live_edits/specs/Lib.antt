@@ -14,4 +14,5 @@ pub mod Noted
 pub mod Runs
 pub mod NotedTable
 pub mod EditedRuns
+pub mod Aside
 pub mod Folded

@@ -26,8 +26,9 @@ pub record AreAllNotes (touched : Touched) (code : Code) (rows : List LaneRange)
   pub apart : (i j : ℕ) (c d : CellNotes) → slice_get all i ≡ Some c → slice_get all j ≡ Some d → c.lane ≡ d.lane → c.block ≡ d.block → i ≡ j
   pub lanes : (c : CellNotes) → Among c all → c.lane < length rows
 
--- all cells with notes are made anew, and all others stay
-abbrev pub RemakesAll : Numbers → List LaneRange → List LaneRange → List CellNotes → Type 0
-RemakesAll slots old new all =
-    (touched : Touched) (before code : Code) (was : Numbers) (flow : List BlockFlow) → IsTableOf before was flow old → IsEditOf touched before code → IsNumbered code slots
-    → AreAllNotes touched code old all → (l b : ℕ) → IsRebuilt before code l b (rows_seen old l b) (rows_seen new l b)
+-- All cells with notes are made anew, and all others stay. A lane is rebuilt from what it was in a table, where the notes tell all that
+-- is touched there: other lanes may be elsewhere than the table says.
+pub record RemakesAll (slots : Numbers) (old new : List LaneRange) (all : List CellNotes) : Type 0 where
+  pub rebuilt : (touched noted : Touched) (before code : Code) (was : Numbers) (flow : List BlockFlow) (x : List LaneRange) → IsTableOf before was flow x → IsEditOf touched before code → IsNumbered code slots
+      → AreAllNotes noted code old all → (l : ℕ) → ((b id : ℕ) → touched l b id ≡ noted l b id) → ((b : ℕ) → rows_seen old l b ≡ rows_seen x l b) → (b : ℕ) → IsRebuilt before code l b (rows_seen x l b) (rows_seen new l b)
+  pub kept : (l b : ℕ) → ((c : CellNotes) → Among c all → c.lane ≡ l → c.block ≡ b → ⊥) → rows_seen new l b ≡ rows_seen old l b

@@ -1,5 +1,5 @@
 -- A list of edits as it is done.
-use Rattle.std.specs.Prelude.{◌≡◌, ◌⊎◌, ◌<◌, ℕ, Bool, true, List, [], ◌∷◌, Option, Some, None, map, flat_map, length}
+use Rattle.std.specs.Prelude.{◌≡◌, ◌⊎◌, ◌<◌, ℕ, Bool, true, false, List, [], ◌∷◌, Option, Some, None, map, flat_map, length}
 use Rattle.target_base.specs.declared.types.Target.{Target}
 use Rattle.mir_func.specs.Value.{Function, IsFunction}
 use Rattle.mir_func.specs.At.{instr_at}
@@ -26,15 +26,16 @@ use Rattle.edit_laws.specs.Edits.{Edit, Put, Replace, Erase, KeepsWays}
 use Rattle.edit_laws.specs.Further.{KeepsLast}
 use Rattle.edit_laws.specs.Numbered.{NumbersEdit}
 use Rattle.edit_laws.specs.Reasons.{Touched}
+use Rattle.live_edits.specs.declared.aside.AsideRow.{AsideRow}
 use Rattle.live_edits.specs.declared.cells.CellNotes.{CellNotes}
 use Rattle.live_edits.specs.declared.cells.Note.{Note}
 use Rattle.live_edits.specs.declared.edit_run.EditRun.{EditRun}
 use Rattle.live_edits.specs.declared.notes.TouchedInstr.{TouchedInstr}
+use Rattle.live_edits.specs.Aside.{is_aside}
 use Rattle.live_edits.specs.Drafts.{IsOrderOf, HasGap}
 use Rattle.live_edits.specs.Noted.{TouchedStand}
 use Rattle.live_edits.specs.NotedTable.{AreActs}
 use Rattle.live_edits.specs.Pieces.{IsThere}
-use Rattle.live_edits.specs.Remade.{noted_ids}
 
 -- an edit as a value
 abbrev pub edit_of : CodeEdit → Edit
@@ -64,18 +65,29 @@ HavePlaces t f (e ∷ es) = HasPlace f e × KeepsWays t f e × HavePlaces t (def
 abbrev pub Includes : Touched → List TouchedInstr → Type 0
 Includes touched xs = (x : TouchedInstr) → Among x xs → (l : ℕ) → Among l x.lanes.items → touched l x.block x.id ≡ true
 
--- one edit is done: the function is that after it, in which erased instructions stand; what it touches is listed
+-- at these instructions the test tells all lanes whose rows were taken away
+abbrev pub TakesAside : Touched → List AsideRow → List TouchedInstr → Type 0
+TakesAside touched aside xs = (x : TouchedInstr) → Among x xs → (l : ℕ) → is_aside aside l ≡ true → touched l x.block x.id ≡ true
+
+-- none of these lanes is listed as touched
+abbrev pub LeavesAside : List AsideRow → List TouchedInstr → Type 0
+LeavesAside aside xs = (x : TouchedInstr) → Among x xs → (l : ℕ) → Among l x.lanes.items → is_aside aside l ≡ false
+
+-- One edit is done: the function is that after it, in which erased instructions stand; what it touches is listed, but for lanes whose
+-- rows were taken away.
 pub record DoesEdit (t : Target) (old new : EditRun) (e : Edit) : Type 0 where
   pub func : new.draft.func ≡ deferred old.draft.func e
   pub order : IsOrderOf new.draft.func new.draft.order
   pub function : IsFunction new.draft.func.blocks new.draft.func.next_id
   pub gone : (id : ℕ) → has id new.gone.keys ≡ has id (gone_after old.gone.keys e)
-  pub touched : (touched : Touched) → Includes touched new.touched.items → TouchesEdit touched t old.draft.func (number_in old.lanes) e
+  pub touched : (touched : Touched) → Includes touched new.touched.items → TakesAside touched old.aside.items new.touched.items → TouchesEdit touched t old.draft.func (number_in old.lanes) e
   pub kept : (x : TouchedInstr) → Among x old.touched.items → Among x new.touched.items
   pub stand : TouchedStand old.draft.func old.touched.items → TouchedStand new.draft.func new.touched.items
+  pub apart : LeavesAside old.aside.items old.touched.items → LeavesAside new.aside.items new.touched.items
   pub lanes : new.lanes ≡ old.lanes
   pub flow : new.flow ≡ old.flow
   pub rows : new.rows ≡ old.rows
+  pub aside : new.aside ≡ old.aside
 
 -- what a list of edits asks of the function and of its table
 pub record MayBeEdited (t : Target) (f : Function) (x : Table) (es : List Edit) : Type 0 where
@@ -112,6 +124,7 @@ pub record KeepsTables (old new : EditRun) : Type 0 where
   pub lanes : new.lanes ≡ old.lanes
   pub flow : new.flow ≡ old.flow
   pub rows : new.rows ≡ old.rows
+  pub aside : new.aside ≡ old.aside
 
 -- slots
 
@@ -144,6 +157,7 @@ pub record KeepsDraft (old new : EditRun) : Type 0 where
   pub log : new.rows.log ≡ old.rows.log
   pub touched : new.touched ≡ old.touched
   pub gone : new.gone ≡ old.gone
+  pub aside : new.aside ≡ old.aside
 
 -- the pieces beside touched instructions
 
@@ -171,6 +185,6 @@ pub record AreSuspects (slots : Numbers) (rows : List LaneRange) (all : List Cel
   pub each : (m : Node) → Among m list → (c : CellNotes) × Among c all × ((n : Note) × Among n c.notes.items × ((m ≡ entry_side slots rows c.lane c.block n.id) ⊎ (m ≡ exit_side slots rows c.lane c.block n.id)))
   pub there : (m : Node) → Among m list → m.0 < length rows → IsThere rows m
 
--- the ids of all notes
-abbrev pub all_noted : List CellNotes → List ℕ
-all_noted all = flat_map (λ c. noted_ids c.notes.items) all
+-- the ids of touched instructions are among these
+abbrev pub HasIds : List TouchedInstr → List ℕ → Type 0
+HasIds xs ids = (x : TouchedInstr) → Among x xs → has x.id ids ≡ true

@@ -5,7 +5,7 @@ use Rattle.live_lanes.specs.declared.compute.flow.BlockFlow.{BlockFlow}
 use Rattle.live_lanes.specs.declared.row.Cause.{Cause}
 use Rattle.live_lanes.specs.declared.row.LaneRange.{LaneRange}
 use Rattle.live_lanes.specs.declared.table.PieceSpot.{PieceSpot}
-use Rattle.live_lanes.specs.Graph.{Causes, is_live, IsGrown}
+use Rattle.live_lanes.specs.Graph.{Causes, is_live}
 use Rattle.live_lanes.specs.Table.{Numbers, Seen, exit_rank, piece_at, certain_cause}
 use Rattle.live_lanes.specs.Entered.{shape, rows_seen, causes, IsTableOf}
 use Rattle.live_lanes.specs.Ends.{row_end}
@@ -14,9 +14,10 @@ use Rattle.live_lanes.specs.Lasting.{shapes, right_end, AreOutward}
 use Rattle.edit_laws.specs.Asked.{IsFound}
 use Rattle.edit_laws.specs.Chains.{Node, cause_at}
 use Rattle.edit_laws.specs.Needs.{IsNeed}
-use Rattle.edit_laws.specs.Reasons.{ReasonFor, Touched, IsEditOf, AreCarried, AreListed}
+use Rattle.edit_laws.specs.Reasons.{ReasonFor, Touched}
+use Rattle.edit_laws.specs.Rechecked.{IsHeld}
 use Rattle.edit_laws.specs.RowCause.{GivesCause}
-use Rattle.edit_laws.specs.Update.{Falls, falling, Request, Wanted, Asks, Rises, rising}
+use Rattle.edit_laws.specs.Update.{Falls, falling, Holds, Request, Wanted, Asks, Rises, rising}
 use Rattle.live_edits.specs.declared.pieces.Need.{Need}
 use Rattle.live_edits.specs.Pieces.{node_of, nodes_of, requests_of, IsThere, AreThere}
 
@@ -24,20 +25,17 @@ use Rattle.live_edits.specs.Pieces.{node_of, nodes_of, requests_of, IsThere, Are
 abbrev pub AreTold : Touched → List ℕ → Type 0
 AreTold touched ids = (l b id : ℕ) → touched l b id ≡ true → has id ids ≡ true
 
--- rows of the code after edits, with the causes of a table that was grown before them; the pieces beside all that is touched are listed
-pub record IsCarriedOver (touched : Touched) (before code : Code) (was : Causes) (slots : Numbers) (flow : List BlockFlow) (rows : List LaneRange) (list : List Node) : Type 0 where
-  pub grown : IsGrown before was
+-- Rows of the code after edits, in which causes of before hold that look as if they did; the pieces that are listed are there.
+pub record IsCarriedOver (touched : Touched) (code : Code) (slots : Numbers) (flow : List BlockFlow) (rows : List LaneRange) (list : List Node) : Type 0 where
   pub table : IsTableOf code slots flow rows
   pub outward : AreOutward code slots flow
-  pub edited : IsEditOf touched before code
-  pub carried : AreCarried touched before code was (causes rows)
-  pub listed : AreListed touched code list
+  pub held : (l b n : ℕ) → IsHeld touched slots flow rows l b n → Holds touched code (causes rows) l b n
   pub there : (n : Node) → Among n list → IsThere rows n
 
 -- the listed pieces are looked at again; those that fell are answered
 abbrev pub LooksAgain : List ℕ → Numbers → List BlockFlow → List LaneRange → List LaneRange → List PieceSpot → List PieceSpot → Type 0
 LooksAgain ids slots flow old new list fallen =
-    (touched : Touched) (before code : Code) (was : Causes) → AreTold touched ids → IsCarriedOver touched before code was slots flow old (nodes_of list)
+    (touched : Touched) (code : Code) → AreTold touched ids → IsCarriedOver touched code slots flow old (nodes_of list)
     → Falls touched code (falling (causes old) (nodes_of list) [] (nodes_of list)) (falling (causes new) [] (nodes_of fallen) (nodes_of list ++ nodes_of fallen))
 
 -- a piece of a cell lasts up to the end of the block, or up to the exit of a terminator in it
@@ -124,5 +122,5 @@ pub record AreUpdated (touched : Touched) (code : Code) (slots : Numbers) (flow 
 
 abbrev pub Updates : List ℕ → Numbers → List BlockFlow → List LaneRange → List LaneRange → List PieceSpot → Type 0
 Updates ids slots flow old new list =
-    (touched : Touched) (before code : Code) (was : Causes) → AreTold touched ids → IsCarriedOver touched before code was slots flow old (nodes_of list)
+    (touched : Touched) (code : Code) → AreTold touched ids → IsCarriedOver touched code slots flow old (nodes_of list)
     → AreUpdated touched code slots flow old new (nodes_of list)

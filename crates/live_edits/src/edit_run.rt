@@ -4,7 +4,6 @@
 ghost use Rattle.std.specs.Prelude.{◌≡◌, ◌<◌, ◌≤◌, ◌++◌, ℕ, true, length, IfOk, OnOk};
 ghost use Rattle.instr_effects.specs.LaneActs.{is_once};
 ghost use Rattle.mir_func.specs.Value.{IsFunction};
-ghost use Rattle.mir_meaning.specs.Paths.{has};
 ghost use Rattle.instr_effects.specs.Numbered.{number_in};
 ghost use Rattle.live_lanes.specs.Lasting.{AllRise};
 ghost use Rattle.edit_laws.specs.Edits.{Put, Replace, Erase, KeepsWays};
@@ -12,10 +11,10 @@ ghost use Rattle.edit_laws.specs.Further.{HasFurtherLanes};
 ghost use Rattle.edit_laws.specs.Numbered.{NumbersEdit};
 ghost use Rattle.live_edits.specs.Drafts.{IsOrderOf, HasGap, IsDraftLogged};
 ghost use Rattle.live_edits.specs.Pieces.{nodes_of};
-ghost use Rattle.live_edits.specs.Remade.{noted_ids};
-ghost use Rattle.live_edits.specs.Runs.{edit_of, edits_of, table_of, HasPlace, DoesEdit, AreActsAt, AddsLanes, AddsLanesOf, KeepsTables, AddsSlots, named_slot, NumbersSlots, KeepsCells, KeepsDraft, cell_sides, AreSuspects, all_noted};
+ghost use Rattle.live_edits.specs.Runs.{edit_of, edits_of, table_of, HasPlace, DoesEdit, AreActsAt, AddsLanes, AddsLanesOf, KeepsTables, AddsSlots, named_slot, NumbersSlots, KeepsCells, KeepsDraft, cell_sides, AreSuspects, HasIds};
 
 use crate::act_changes::changed_acts;
+use crate::aside::{AsideRow, add_id};
 use crate::cells::CellNotes;
 use crate::draft::Draft;
 use crate::log::LoggedRows;
@@ -48,6 +47,8 @@ pub struct EditRun {
     pub touched: Vec<TouchedInstr>,
     /// The instructions that are erased.
     pub gone: BTreeSet<u32>,
+    /// The rows that were taken away whole.
+    pub aside: Vec<AsideRow>,
 }
 
 impl EditRun {
@@ -112,6 +113,7 @@ impl EditRun {
         let (block, id) = self.draft.put(gap, op, operands)?;
         let mut lanes = Vec::new(self.rows.rows.alloc);
         self.add_lanes_of(target, id, &mut lanes)?;
+        let lanes = self.own_lanes(lanes)?;
         self.touched.push(TouchedInstr { id, block, lanes })?;
         Ok(())
     }
@@ -139,6 +141,7 @@ impl EditRun {
         let changed = changed_acts(alloc, before.as_slice(), after.as_slice())?;
         let mut lanes = Vec::new(alloc);
         lanes_of_acts(changed.as_slice(), &mut lanes)?;
+        let lanes = self.own_lanes(lanes)?;
         let block = at.0;
         self.touched.push(TouchedInstr { id, block, lanes })?;
         Ok(())
@@ -156,6 +159,7 @@ impl EditRun {
         };
         let mut lanes = Vec::new(self.rows.rows.alloc);
         self.add_lanes(target, at, &mut lanes)?;
+        let lanes = self.own_lanes(lanes)?;
         let block = at.0;
         self.touched.push(TouchedInstr { id, block, lanes })?;
         Ok(())
@@ -213,6 +217,7 @@ impl EditRun {
         ensures whole { OnOk result (length self.new.lanes.owners.items ≤ length self.new.rows.rows.rows.items) }
         ensures added { AddsSlots self.old.lanes self.new.lanes }
         ensures further { length self.old.rows.rows.rows.items < 4294967296 → HasFurtherLanes (table_of self.old) (table_of self.new) }
+        ensures long { length self.old.rows.rows.rows.items ≤ length self.new.rows.rows.rows.items }
         ensures cells { KeepsCells self.old.rows.rows.rows.items self.new.rows.rows.rows.items }
         ensures draft { KeepsDraft self.old self.new }
     {
@@ -262,6 +267,7 @@ fn number_slots(alloc: Global, lanes: &mut LaneTable, edits: &[Edit]) -> Result<
 fn add_rows(rows: &mut LaneRanges, count: u32) -> Result<(), AllocError>
     ensures enough { OnOk result (count ≤ length rows.new.rows.items) }
     ensures few { length rows.old.rows.items < 4294967296 → length rows.new.rows.items < 4294967296 }
+    ensures long { length rows.old.rows.items ≤ length rows.new.rows.items }
     ensures cells { KeepsCells rows.old.rows.items rows.new.rows.items }
 {
     let alloc = rows.alloc;
@@ -271,23 +277,13 @@ fn add_rows(rows: &mut LaneRanges, count: u32) -> Result<(), AllocError>
     Ok(())
 }
 
-/// Adds the ids of a cell's notes.
-fn add_ids(cell: &CellNotes, ids: &mut BTreeSet<u32>) -> Result<(), AllocError>
-    ensures { OnOk result ((id : ℕ) → has id ids.new.keys ≡ has id (noted_ids cell.now.notes.items ++ ids.old.keys)) }
-{
-    'notes: for note in cell.notes.as_slice() {
-        ids.insert(note.id)?;
-    }
-    Ok(())
-}
-
-/// The ids of all notes.
-pub fn ids_of(alloc: Global, all: &[CellNotes]) -> Result<BTreeSet<u32>, AllocError>
-    ensures { IfOk result (λ ids. (id : ℕ) → has id ids.keys ≡ has id (all_noted all.now)) }
+/// The ids of touched instructions.
+pub fn ids_of(alloc: Global, touched: &[TouchedInstr]) -> Result<BTreeSet<u32>, AllocError>
+    ensures { IfOk result (λ ids. HasIds touched.now ids.keys) }
 {
     let mut ids = BTreeSet::new(alloc);
-    'cells: for cell in all {
-        add_ids(cell, &mut ids)?;
+    'touched: for instr in touched {
+        add_id(instr.id, &mut ids)?;
     }
     Ok(ids)
 }

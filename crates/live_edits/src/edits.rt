@@ -3,8 +3,9 @@
 ghost use Rattle.std.specs.Prelude.{◌≡◌, ◌<◌, ℕ, true, [], reverse, IfOk, OnOk, OnErr};
 ghost use Rattle.instr_effects.specs.Numbered.{number_in, KeepsNumbers};
 ghost use Rattle.edit_laws.specs.Edits.{all_edited};
+ghost use Rattle.live_edits.specs.Aside.{AreThere};
 ghost use Rattle.live_edits.specs.Drafts.{IsOrderOf, IsDraftLogged};
-ghost use Rattle.live_edits.specs.EditedRuns.{IsFresh, MayBegin, HasTable, MayDo, DoesEdits, AreBelow, BringsUp, ChangesRows, AreDone, IsDone, IsRunLogged, LetsAllGo, IsRunUndone};
+ghost use Rattle.live_edits.specs.EditedRuns.{IsFresh, MayBegin, MayStart, HasTable, MayDo, DoesEdits, AreBelow, BringsUp, ChangesRows, AreDone, IsDone, IsRunLogged, LetsAllGo, IsRunUndone, IsLoggedOf, IsDoneOf};
 ghost use Rattle.live_edits.specs.Logged.{HasAllCells, IsLogged};
 ghost use Rattle.live_edits.specs.Noted.{TouchedStand};
 ghost use Rattle.live_edits.specs.Runs.{edits_of, table_of, KeepsTables};
@@ -62,6 +63,7 @@ impl EditRun {
             rows: LoggedRows::new(rows),
             touched: Vec::new(alloc),
             gone: BTreeSet::new(alloc),
+            aside: Vec::new(alloc),
         }
     }
 
@@ -103,8 +105,8 @@ impl EditRun {
 
     /// Does edits. Erased instructions still stand then.
     fn do_edits(&mut self, target: &Target, edits: Vec<Edit>) -> Result<(), AllocError>
-        ensures done { OnOk result (MayBegin target.now self.old (edits_of edits.items) → AreDone target.now (edits_of edits.items) self.old self.new) }
-        ensures logged { MayBegin target.now self.old (edits_of edits.items) → IsRunLogged target.now self.old self.new }
+        ensures done { OnOk result (MayStart target.now self.old (edits_of edits.items) → AreDone target.now (edits_of edits.items) self.old self.new) }
+        ensures logged { MayStart target.now self.old (edits_of edits.items) → IsRunLogged target.now self.old self.new }
     {
         self.add_slots(edits.as_slice())?;
         let mut turned = edits;
@@ -140,7 +142,7 @@ impl EditRun {
         self.rows
             .remake_all(&self.draft.order.slots, all.as_slice())?;
         let suspects = self.suspects(all.as_slice())?;
-        let ids = ids_of(alloc, all.as_slice())?;
+        let ids = ids_of(alloc, self.touched.as_slice())?;
         self.rows.update(
             &self.draft.order,
             self.flow.as_slice(),
@@ -159,13 +161,27 @@ impl EditRun {
     /// Does edits and brings the pieces up to date. It answers the ids of the erased instructions, which
     /// still stand.
     fn try_all(&mut self, target: &Target, edits: Vec<Edit>) -> Result<Vec<u32>, AllocError>
-        ensures done { IfOk result (λ erased. MayBegin target.now self.old (edits_of edits.items) → IsDone target.now (edits_of edits.items) self.old self.new erased.items) }
-        ensures logged { MayBegin target.now self.old (edits_of edits.items) → IsRunLogged target.now self.old self.new }
+        ensures done { IfOk result (λ erased. MayStart target.now self.old (edits_of edits.items) → IsDone target.now (edits_of edits.items) self.old self.new erased.items) }
+        ensures logged { MayStart target.now self.old (edits_of edits.items) → IsRunLogged target.now self.old self.new }
     {
         self.do_edits(target, edits)?;
         self.bring_up(target)?;
         let erased = self.erased()?;
         Ok(erased)
+    }
+
+    /// Does edits as `try_all` does, over emptied rows of a range that they leave nowhere.
+    fn try_all_of(
+        &mut self,
+        target: &Target,
+        edits: Vec<Edit>,
+        v: u32,
+    ) -> Result<Vec<u32>, AllocError>
+        ensures done { IfOk result (λ erased. MayBegin target.now self.old (edits_of edits.items) → IsDoneOf target.now (edits_of edits.items) v self.old self.new erased.items) }
+        ensures logged { MayBegin target.now self.old (edits_of edits.items) → IsLoggedOf target.now self.old self.new }
+    {
+        self.clear_range(edits.as_slice(), v)?;
+        self.try_all(target, edits)
     }
 
     /// Empties the logs and what is noted of edits.
@@ -181,6 +197,7 @@ impl EditRun {
         self.rows.log.clear();
         self.touched.clear();
         self.gone.clear();
+        self.aside.clear();
     }
 
     /// Keeps all that was done, and lets erased instructions go.
@@ -192,11 +209,13 @@ impl EditRun {
         self.forget();
     }
 
-    /// Takes all back that is logged.
+    /// Takes all back that is logged, and puts rows back that were taken away. It takes no memory.
     fn take_back(&mut self)
-        ensures { IsOrderOf self.old.draft.func self.old.draft.order → HasAllCells self.old.rows.rows.rows.items self.old.rows.log.items → IsRunUndone self.old self.new }
+        ensures { IsOrderOf self.old.draft.func self.old.draft.order → HasAllCells self.old.rows.rows.rows.items self.old.rows.log.items
+            → AreThere self.old.rows.rows.rows.items self.old.aside.items → IsRunUndone self.old self.new }
     {
         self.rows.take_back();
+        self.put_rows_back();
         self.draft.take_back();
         // Ids fit 32 bits, and the numbers of all instructions 64.
         let _next = next_id(&self.draft.func);
@@ -212,6 +231,30 @@ impl EditRun {
         ensures numbers { MayBegin target.now self.old (edits_of edits.items) → KeepsNumbers (number_in self.old.lanes) (number_in self.new.lanes) }
     {
         match self.try_all(target, edits) {
+            Ok(erased) => {
+                self.keep(erased.as_slice());
+                Ok(())
+            }
+            Err(e) => {
+                self.take_back();
+                Err(e)
+            }
+        }
+    }
+
+    /// Does all edits as `edit_all` does, which is done sooner where they replace or erase all that names a
+    /// range and bring nothing that does: its rows are taken away whole then.
+    pub fn edit_all_of(
+        &mut self,
+        target: &Target,
+        edits: Vec<Edit>,
+        v: u32,
+    ) -> Result<(), AllocError>
+        ensures ok { OnOk result (MayBegin target.now self.old (edits_of edits.items) → HasTable target.now (all_edited self.old.draft.func (edits_of edits.items)) self.new) }
+        ensures err { OnErr result (MayBegin target.now self.old (edits_of edits.items) → HasTable target.now self.old.draft.func self.new) }
+        ensures numbers { MayBegin target.now self.old (edits_of edits.items) → KeepsNumbers (number_in self.old.lanes) (number_in self.new.lanes) }
+    {
+        match self.try_all_of(target, edits, v) {
             Ok(erased) => {
                 self.keep(erased.as_slice());
                 Ok(())

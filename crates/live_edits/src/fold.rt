@@ -190,7 +190,7 @@ fn index_within(target: &Target, outer: Option<IndexId>, inner: Option<IndexId>)
 }
 
 /// Whether a location is a range.
-fn is_range(v: u32, loc: Loc) -> bool
+pub(crate) fn is_range(v: u32, loc: Loc) -> bool
     ensures { result ≡ is_range v loc }
 {
     match loc {

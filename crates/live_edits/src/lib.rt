@@ -10,6 +10,7 @@
 #![tactic(auto)]
 
 mod act_changes;
+mod aside;
 mod ask;
 mod cell_change;
 mod cells;

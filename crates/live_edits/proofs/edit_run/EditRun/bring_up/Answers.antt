@@ -1,6 +1,5 @@
-use Rattle.std.proofs.Common.{◌≡◌, ℕ, List, length, ap, sym, subst, ◌∙◌}
+use Rattle.std.proofs.Common.{◌≡◌, List, length, sym, subst, ◌∙◌}
 use Rattle.std.proofs.lemmas.Result.{on_ok_weaker}
-use Rattle.mir_meaning.specs.Paths.{has}
 use Rattle.instr_effects.specs.Numbered.{number_in}
 use Rattle.live_lanes.specs.Lasting.{AllRise}
 use Rattle.live_edits.specs.declared.cells.CellNotes.{CellNotes}
@@ -11,7 +10,7 @@ use Rattle.live_edits.specs.EditedRuns.{AreBelow}
 use Rattle.live_edits.specs.Noted.{HasNotes, TouchedStand}
 use Rattle.live_edits.specs.Pieces.{nodes_of}
 use Rattle.live_edits.specs.Remade.{RemakesAll}
-use Rattle.live_edits.specs.Runs.{AreSuspects, all_noted}
+use Rattle.live_edits.specs.Runs.{AreSuspects, HasIds}
 use Rattle.live_edits.specs.Updated.{Updates}
 use Rattle.live_edits.proofs.Logged.{logged-then}
 use Rattle.live_edits.proofs.edit_run.EditRun.bring_up.Goals as goal
@@ -30,7 +29,7 @@ returns-clause-brings c =
     let told = c.in_ok-ids.ids.keys in
     let remade = subst (λ (xs : List CellNotes). RemakesAll slots rows made xs) c.as_slice-3.ensures.value c.in_ok-remake_all.ensures.remade in
     let suspected = λ (r : AllRise slots made). subst (λ (xs : List CellNotes). AreSuspects slots made xs (nodes_of suspects)) c.as_slice-4.ensures.value (c.in_ok-suspects.ensures r) in
-    let telling = λ (id : ℕ). c.in_ok-ids.ensures id ∙ ap (λ (xs : List CellNotes). has id (all_noted xs)) c.as_slice-5.ensures.value in
+    let telling = subst (λ (xs : List TouchedInstr). HasIds xs told) c.as_slice-5.ensures.value c.in_ok-ids.ensures in
     let count : c.len.result ≡ length rows = c.len.ensures ∙ old.rows.rows.rows.ok.0 in
     let below : AreBelow (length rows) all = subst (λ (xs : List CellNotes). AreBelow (length rows) xs) c.as_slice-2.ensures.value (subst (λ n. AreBelow n c.as_slice-2.result.now) count (c.are_below.ensures c.if-not-are_below.false)) in
     on_ok_weaker c.update.result

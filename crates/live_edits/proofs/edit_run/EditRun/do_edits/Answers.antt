@@ -7,7 +7,7 @@ use Rattle.live_edits.proofs.edit_run.EditRun.do_edits.Goals as goal
 
 pub returns-in_err-add_slots-clause-logged : goal.returns-in_err-add_slots-clause-logged
 returns-in_err-add_slots-clause-logged c = λ may.
-    let adds = adds-rows c.args.self.now c.add_slots.new.self c.add_slots.ensures.added c.add_slots.ensures.further c.add_slots.ensures.draft in
+    let adds = adds-rows c.args.self.now c.add_slots.new.self c.add_slots.ensures.added c.add_slots.ensures.further c.add_slots.ensures.long c.add_slots.ensures.draft in
     logged-first c.args.target.now (edits_of c.args.edits.items) c.args.self.now c.add_slots.new.self may adds
 
 pub returns-in_err-do_all-clause-logged : goal.returns-in_err-do_all-clause-logged
@@ -16,7 +16,7 @@ returns-in_err-do_all-clause-logged c = λ may.
     let es = edits_of c.args.edits.items in
     let old = c.args.self.now in
     let ready = c.add_slots.new.self in
-    let adds = adds-rows old ready c.add_slots.ensures.added c.add_slots.ensures.further c.add_slots.ensures.draft in
+    let adds = adds-rows old ready c.add_slots.ensures.added c.add_slots.ensures.further c.add_slots.ensures.long c.add_slots.ensures.draft in
     let turned = turned-twice c.args.edits.items c.reverse.new.self.items c.reverse.ensures.items in
     let asked = subst (MayDo t ready) (sym turned) (may-do t es old ready may adds) in
     logged-edits t old ready c.do_all.new.self (logged-first t es old ready may adds) c.do_all.ensures.tables (c.do_all.ensures.logged asked)
@@ -27,7 +27,7 @@ returns-clause-done c = λ may.
     let es = edits_of c.args.edits.items in
     let old = c.args.self.now in
     let ready = c.add_slots.new.self in
-    let adds = adds-rows old ready c.add_slots.ensures.added c.add_slots.ensures.further c.add_slots.ensures.draft in
+    let adds = adds-rows old ready c.add_slots.ensures.added c.add_slots.ensures.further c.add_slots.ensures.long c.add_slots.ensures.draft in
     let done = c.do_all.new.self in
     let turned = turned-twice c.args.edits.items c.reverse.new.self.items c.reverse.ensures.items in
     let asked = subst (MayDo t ready) (sym turned) (may-do t es old ready may adds) in
@@ -42,7 +42,7 @@ returns-clause-logged c = λ may.
     let es = edits_of c.args.edits.items in
     let old = c.args.self.now in
     let ready = c.add_slots.new.self in
-    let adds = adds-rows old ready c.add_slots.ensures.added c.add_slots.ensures.further c.add_slots.ensures.draft in
+    let adds = adds-rows old ready c.add_slots.ensures.added c.add_slots.ensures.further c.add_slots.ensures.long c.add_slots.ensures.draft in
     let turned = turned-twice c.args.edits.items c.reverse.new.self.items c.reverse.ensures.items in
     let asked = subst (MayDo t ready) (sym turned) (may-do t es old ready may adds) in
     logged-edits t old ready c.do_all.new.self (logged-first t es old ready may adds) c.do_all.ensures.tables (c.do_all.ensures.logged asked)

@@ -1,5 +1,8 @@
-use Rattle.std.proofs.Common.{List, ◌+◌, sym, ap, subst}
+use Rattle.std.proofs.Common.{List, [], length, ◌+◌, ◌++◌, ◌≤◌, sym, ap, subst, arith}
+use Rattle.std.proofs.lemmas.List.{drop_all}
 use Rattle.live_lanes.specs.declared.table.PieceSpot.{PieceSpot}
+use Rattle.live_lanes.specs.Entered.{causes}
+use Rattle.edit_laws.specs.Update.{Falls, falling}
 use Rattle.live_edits.specs.declared.log.LoggedRows.{LoggedRows}
 use Rattle.live_edits.specs.Pieces.{nodes_of}
 use Rattle.live_edits.proofs.Logged.{logged-same, logged-then}
@@ -10,11 +13,11 @@ use Rattle.live_edits.proofs.log.LoggedRows.look_again.Goals as goal
 
 pub suspects-init : goal.suspects-init
 suspects-init c = record {
-  looked = λ touched before code was told carried.
+  looked = λ touched code told carried.
       let rows = c.args.self.now.rows.rows.items in
       let list = nodes_of c.args.suspects.now in
       subst (λ (fallen : List PieceSpot). RunsSoFar touched code c.args.order.now.slots c.args.flow.now rows rows list list (nodes_of fallen)) (sym c.new-fallen.ensures.items)
-      (runs-at-first touched before code was c.args.order.now.slots c.args.flow.now rows list carried);
+      (runs-at-first touched code c.args.order.now.slots c.args.flow.now rows list carried);
   pieces = pieces-same c.args.self.now.rows.rows.items;
   logged = logged-same c.args.self.now;
 }
@@ -42,3 +45,13 @@ suspects-preserved c =
           (subst (λ (fallen : List PieceSpot). LooksSoFar ids slots flow old c.suspects.self suspects (k + 1) fallen) (ap (λ fallen. fallen.items) (sym w.fallen-is))
           (stays-so-far ids slots flow old c.suspects.self suspects k c.suspects.fallen.items none c.suspects-test.true c.suspects.invariant (λ touched told rise. c.holds.ensures.held touched told rise w.if-not-holds.false)))
     ]
+
+pub returns-clause-looks : goal.returns-clause-looks
+returns-clause-looks c = λ touched code told carried.
+    let old = c.args.self.now.rows.rows.items in
+    let now = c.suspects.self.rows.rows.items in
+    let list = nodes_of c.args.suspects.now in
+    let fallen = nodes_of c.suspects.fallen.items in
+    let past : length c.args.suspects.now ≤ c.suspects.spot-index = omega arith in
+    subst (λ todo. Falls touched code (falling (causes old) list [] list) (falling (causes now) todo fallen (list ++ fallen))) (ap nodes_of (drop_all c.suspects.spot-index c.args.suspects.now past))
+    (c.suspects.invariant.looked touched code told carried).run

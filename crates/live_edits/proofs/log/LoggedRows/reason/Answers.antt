@@ -1,4 +1,4 @@
-use Rattle.std.proofs.Common.{◌≡◌, None, refl, sym, ap, subst}
+use Rattle.std.proofs.Common.{◌≡◌, refl, sym, ap, subst}
 use Rattle.std.specs.Prelude.{find}
 use Rattle.live_lanes.specs.declared.row.Cause.TheVariants as reasons
 use Rattle.live_lanes.specs.Table.{unseen, cause_of}
