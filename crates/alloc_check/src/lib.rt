@@ -1,12 +1,14 @@
 //! The checker of allocations: whether an allocated function agrees with its source, whoever made it.
 //! What it says Yes to is right, and No comes with the first doubt.
 //!
-//! It keeps facts: a row of the source's place holds which source each lane of the allocated function
-//! has, or none. Facts at the start of a block are a lattice: they only fall, from all that may hold to
-//! what holds on every way, until each block's end allows what the blocks behind it begin with. What is
-//! left is the greatest family of facts, and by it each instruction must read what its partner reads.
-//! Begin with `check`; facts are in `facts` and `rows`, their fall in `family` and `settle`, and doubts
-//! in `doubts`.
+//! It asks for facts: that a lane of the allocated function holds at a place what a lane of the source
+//! holds at the place beside it. What instructions read must be known where they read it, and what a
+//! place needs to be known is taken backward through its block, and from a block's start to the ends of
+//! the blocks before it. The sets of facts that blocks need at their starts are a lattice: they only grow,
+//! from none to the least that each instruction and each way between blocks asks for. A fact that can't
+//! hold (a result that the source alone has) is the first doubt. Begin with `check`; rows are in `rows`,
+//! needs in `needs`, the least sets in `family`, their test in `closed` and `settle`, and doubts in
+//! `doubts`.
 #![tactic(auto)]
 
 mod alike;

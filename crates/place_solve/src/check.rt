@@ -220,8 +220,7 @@ fn place_of(block: &Block, at: usize) -> Place
     }
 }
 
-/// The first instruction of a function one of whose places admits nothing, by the live lanes of a copy
-/// of it.
+/// The first instruction of a function one of whose places admits nothing, by the lanes that are live in it.
 fn first_unassignable(alloc: Global, live: &LiveFunc, f: &Func) -> Result<Option<Place>, AllocError>
     ensures { IfOk result (λ q. InOrder live.now.table → told.IsLost live.now.target live.now.func live.now.table f.now.blocks q) }
 {

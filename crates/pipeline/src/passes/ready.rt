@@ -36,7 +36,7 @@ pub fn lower_source(alloc: Global, target: &Target, source: Valid) -> Result<Fun
 }
 
 /// The function lowered, and then its copies joined by the frequencies of its blocks, which stay the
-/// same. What was live in it before is let go, and its copy of the target is kept.
+/// same. What was live in it before is let go, and its share of the target is kept.
 pub fn prepare(alloc: Global, target: &Target, source: LiveFunc) -> Result<PreparedFunc, AllocError>
     ensures { bulk source.func ≤ 2 ^ 24 → IfOk result (λ made. made.freqs ≡ frequencies_of (lowered target.now source.func).blocks) }
 {
