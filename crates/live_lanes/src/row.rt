@@ -180,6 +180,22 @@ fn near_of(cells: &[Cell], block: u32) -> usize {
     }
 }
 
+/// Where the cell of a block would stand, if the lane had one in each block from it on up to that of the
+/// last cell, as a hint.
+fn dense_place(cells: &[Cell], block: u32) -> usize {
+    match cells.last() {
+        Some(last) => {
+            if block < last.block {
+                cells.len()
+            } else {
+                let behind = cells.len().saturating_sub(1);
+                behind.saturating_sub((block - last.block) as usize)
+            }
+        }
+        None => 0,
+    }
+}
+
 impl LaneRange {
     /// No cells, which takes no memory.
     pub fn new(alloc: Global) -> LaneRange
@@ -195,11 +211,11 @@ impl LaneRange {
         ensures within { result ≤ length self.now.cells.items }
         ensures place { result ≡ leading (is_before block) self.now.cells.items }
     {
-        let near = near_of(self.cells.as_slice(), block);
-        if self.is_place(near, block) {
-            return near;
+        let dense = dense_place(self.cells.as_slice(), block);
+        if self.is_place(dense, block) {
+            return dense;
         }
-        self.cells.as_slice().partition_point(|c| c.block > block)
+        self.sparse_place(block)
     }
 
     /// Whether a place is that of a block's cell, or where it would stand.
@@ -231,6 +247,18 @@ impl LaneRange {
             return behind;
         }
         self.place(block)
+    }
+
+    /// The place of the cell of a block, or at which it would stand, where that isn't the dense one.
+    fn sparse_place(&self, block: u32) -> usize
+        ensures within { result ≤ length self.now.cells.items }
+        ensures place { result ≡ leading (is_before block) self.now.cells.items }
+    {
+        let near = near_of(self.cells.as_slice(), block);
+        if self.is_place(near, block) {
+            return near;
+        }
+        self.cells.as_slice().partition_point(|c| c.block > block)
     }
 
     /// The cell of a block.

@@ -3,7 +3,7 @@ use Rattle.std.specs.List.Sorted.{IsPartitionedBy}
 use Rattle.std.proofs.lemmas.List.Sorted.{IsPartitionPoint-from_clause}
 use Rattle.live_lanes.specs.Table.{is_before, leading}
 use Rattle.live_lanes.proofs.Cells.{partition-leading, parted}
-use Rattle.live_lanes.proofs.row.LaneRange.place.Goals as goal
+use Rattle.live_lanes.proofs.row.LaneRange.sparse_place.Goals as goal
 
 pub returns-clause-place : goal.returns-clause-place
 returns-clause-place c =
