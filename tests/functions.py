@@ -20,7 +20,7 @@ class Wide:
         free = [o for o in t.ops if all(x[0] == "impdef" or not t.unreserved(x[1]) for x in o.implicit)]
         self.plain = [o for o in free if not o.terminator
                       and o.effect not in ("phi", "spill", "reload", "insert_subreg")]
-        self.of = {e: [o for o in t.ops if o.effect == e] for e in ("jump", "jcc", "jnz", "ret", "cmp", "const")}
+        self.of = {e: [o for o in t.ops if o.effect == e] for e in ("jump", "jcc", "jnz", "ret", "cmp", "const", "obranch")}
 
     def name(self, v, i=None):
         t = self.t
@@ -64,7 +64,10 @@ class Wide:
         r, t = self.r, self.t
         if role[0] in ("use", "tied") or (role[0] == "addr" and r.random() < 0.8):
             return self.use(role[1])
+        if role[0] == "val" and role[1:] and r.random() < 0.7:
+            return self.use(role[1])
         return {"addr": lambda: r.choice(["%stack.0", "%fixed-stack.1", "@x"]), "imm": lambda: str(r.randrange(-40, 70000)),
+                "val": lambda: str(r.randrange(-40, 70000)),
                 "frame": lambda: "%stack.0", "sym": lambda: r.choice(["@x", "&y"]),
                 "mask": lambda: r.choice(t.masks)[0].decode() if t.masks else None}[role[0]]()
 
@@ -91,8 +94,12 @@ class Wide:
                 uses.append(self.operand(role))
         if None in uses:
             return
-        d = "".join(self.defn(role[1], set(re.findall(r"%\d+", " ".join(uses)))) + " = "
-                    for role in o.explicit if role[0] in ("def", "early"))
+        used, defs = set(re.findall(r"%\d+", " ".join(uses))), []
+        for role in o.explicit:
+            if role[0] in ("def", "early"):
+                defs.append(self.defn(role[1], used))
+                used |= set(re.findall(r"%\d+", defs[-1]))
+        d = ", ".join(defs) + " = " * bool(defs)
         uses += ["implicit%s $%s" % ("-def" if role[0] == "impdef" else "", t.regs[role[1]][0].decode())
                  for role in o.implicit]
         out.append("    " + d + o.name.decode() + " " * bool(uses) + ", ".join(uses))
@@ -120,6 +127,13 @@ class Wide:
                 if u:
                     imp = "".join(", implicit-def $" + t.regs[x[1]][0].decode() for x in o.implicit)
                     body.append("    %s %s, %%bb.%d%s" % (o.name.decode(), u, b, imp))
+                    self.branched = True
+            opaque = [o for o in self.of["obranch"] if not o.implicit]
+            if opaque:
+                o = r.choice(opaque)
+                uses = ["%%bb.%d" % b if x[0] == "target" else self.operand(x) for x in o.explicit]
+                if None not in uses:
+                    body.append("    %s %s" % (o.name.decode(), ", ".join(uses)))
                     self.branched = True
 
     def function(self):

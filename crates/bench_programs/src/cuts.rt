@@ -29,7 +29,7 @@ fn next_state(state: u64) -> u64 {
 }
 
 /// Draws a number of 31 bits.
-fn draw(state: &mut u64) -> u32 {
+pub fn draw(state: &mut u64) -> u32 {
     *state = next_state(*state);
     (*state >> 33) as u32
 }

@@ -14,14 +14,17 @@ use target_base::{Target, Unit};
 
 /// A point, by the block's number or the instruction's id.
 #[derive(Clone, Copy)]
-enum Point {
+pub enum Point {
+    /// The start of a block.
     Start(u32),
+    /// The entry of an instruction.
     Entry(u32),
+    /// The exit of an instruction.
     Exit(u32),
 }
 
 /// Whether a lane of a range is live at a point.
-fn lane_lives(live: &LiveFunc, v: u32, lane: usize, at: Point) -> bool {
+pub fn lane_lives(live: &LiveFunc, v: u32, lane: usize, at: Point) -> bool {
     match at {
         Point::Start(block) => live.live_at(v, lane, block),
         Point::Entry(id) => live.live_in(v, lane, id),
@@ -30,7 +33,7 @@ fn lane_lives(live: &LiveFunc, v: u32, lane: usize, at: Point) -> bool {
 }
 
 /// Whether a unit is live at a point.
-fn unit_lives(live: &LiveFunc, unit: Unit, at: Point) -> bool {
+pub fn unit_lives(live: &LiveFunc, unit: Unit, at: Point) -> bool {
     match at {
         Point::Start(block) => live.unit_at(unit, block),
         Point::Entry(id) => live.unit_in(unit, id),
@@ -70,13 +73,19 @@ fn tell_units(rt: &HostRuntime, live: &LiveFunc, at: Point) -> Result<()> {
     Ok(())
 }
 
-/// Prints what is live at a point, behind the point's name.
-fn tell_point(rt: &HostRuntime, live: &LiveFunc, at: Point) -> Result<()> {
+/// Prints a point's name.
+pub fn tell_name(rt: &HostRuntime, at: Point) -> Result<()> {
     match at {
         Point::Start(block) => print!(rt; "bb.{block} start")?,
         Point::Entry(id) => print!(rt; "{id} entry")?,
         Point::Exit(id) => print!(rt; "{id} exit")?,
     }
+    Ok(())
+}
+
+/// Prints what is live at a point, behind the point's name.
+fn tell_point(rt: &HostRuntime, live: &LiveFunc, at: Point) -> Result<()> {
+    tell_name(rt, at)?;
     tell_ranges(rt, live, at)?;
     tell_units(rt, live, at)?;
     println!(rt; "")?;

@@ -15,6 +15,9 @@
 //!   lines that the module `regions` says;
 //! - `--live TARGET FILE..` prints what is live in the function of each document, by the lines that the module `lives`
 //!   says;
+//! - `--edits TARGET SEED COUNT FILE..` does COUNT lists of random edits to the function of each document, a valid
+//!   source, with what is live in it, and compares this behind each list with what is computed anew, by the lines that
+//!   the module `edits` says;
 //! - `--coloured TARGET FILE..` prints the function of each document, whose registers are physical, with its spill slots
 //!   coloured;
 //! - `--operand TARGET FILE ID OPERAND REGISTER WORD..` puts a physical register in the place of an operand of the
@@ -29,14 +32,18 @@
 
 mod cuts;
 mod documents;
+mod edits;
 mod functions;
+mod live_differences;
 mod lives;
 mod operands;
 mod pairs;
+mod random_edits;
 mod regions;
 
 use crate::cuts::{answer_cut, answer_net};
 use crate::documents::{target_of, tell_documents, tell_targets};
+use crate::edits::answer_edits;
 use crate::functions::{FunctionQuestion, answer_functions};
 use crate::operands::answer_operand;
 use crate::pairs::{PairQuestion, ValidQuestion, answer_pairs};
@@ -55,6 +62,8 @@ enum Question {
     Functions(FunctionQuestion),
     /// Regions of ranges.
     Region,
+    /// Whether edits keep what is live exact.
+    Edits,
     /// Whether a function with another operand is valid.
     Operand,
 }
@@ -68,6 +77,7 @@ fn question_of(word: &str) -> Option<Question> {
         "--live" => Some(Question::Functions(FunctionQuestion::Live)),
         "--coloured" => Some(Question::Functions(FunctionQuestion::Coloured)),
         "--region" => Some(Question::Region),
+        "--edits" => Some(Question::Edits),
         "--operand" => Some(Question::Operand),
         _ => None,
     }
@@ -84,6 +94,7 @@ fn answer_over(
         Question::Pairs(question) => answer_pairs(rt, question, target, words),
         Question::Functions(question) => answer_functions(rt, question, target, words),
         Question::Region => answer_region(rt, target, words),
+        Question::Edits => answer_edits(rt, target, words),
         Question::Operand => answer_operand(rt, target, words),
     }
 }
@@ -108,7 +119,7 @@ fn answer_group(rt: &HostRuntime, kind: &str, words: &[String]) -> Result<()> {
         "--cut" => answer_cut(rt, words),
         "--net" => answer_net(rt, words),
         _ => bail!(
-            "a group begins with --targets, --documents, --pairs, --texts, --reserved, --region, --live, --coloured, --operand, --cut or --net"
+            "a group begins with --targets, --documents, --pairs, --texts, --reserved, --region, --live, --edits, --coloured, --operand, --cut or --net"
         ),
     }
 }

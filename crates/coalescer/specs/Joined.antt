@@ -13,12 +13,9 @@ use Rattle.mir_func.specs.declared.func.Block.{Block}
 use Rattle.mir_func.specs.Value.{Function}
 use Rattle.mir_func.specs.Binding.{registers}
 use Rattle.mir_meaning.specs.Points.{is_range}
-use Rattle.coalescer.specs.declared.joins.Join.{Join}
-use Rattle.coalescer.specs.Fold.{IsQuiet, composed, copy_sides, registers_of, is_narrower, folded}
-
--- all instructions of a function, in layout
-abbrev pub all_instrs : Function → List Instr
-all_instrs f = flat_map (λ b. b.instrs) f.blocks
+use Rattle.live_edits.specs.declared.fold.Join.{Join}
+use Rattle.live_edits.specs.Folded.{composed, copy_sides, registers_of, is_narrower, folded, all_instrs}
+use Rattle.coalescer.specs.Quiet.{IsQuiet}
 
 -- the index with which an operand names the range
 abbrev pub index_on : ℕ → RegOp → Option IndexId

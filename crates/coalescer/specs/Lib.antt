@@ -1,2 +1,2 @@
-pub mod Fold
+pub mod Quiet
 pub mod Joined

@@ -2,33 +2,17 @@
 
 use crate::quiet::is_quiet;
 use block_freq::Freqs;
+use live_edits::live::fold;
+use live_edits::{Join, compose_indexes};
 use live_lanes::LiveFunc;
-use live_lanes::edit::fold::compose_indexes;
 use mir_func::operands::class_of;
 use mir_func::{Block, Instr, Loc, Op, Operand, RegOp};
 use std::alloc::{AllocError, Global};
 use target_base::classes::{are_within, have_subs, hold_subs, regs_at};
-use target_base::{ClassId, Copied, IndexId, List, OpId, Reg, Target};
+use target_base::{ClassId, IndexId, List, OpId, Reg, Target};
 
 /// The opcode COPY of every target.
 pub(crate) const COPY: OpId = OpId(0);
-
-/// A join of two ranges.
-#[derive(Clone, Copy, Debug, PartialEq, Eq)]
-pub struct Join {
-    /// The range that stays.
-    pub keep: u32,
-    /// The range that it stands for from now on.
-    pub gone: u32,
-    /// The index of the lanes that stand for it; none where all do.
-    pub index: Option<IndexId>,
-}
-
-impl Copied for Join {
-    fn copied(&self, _alloc: Global) -> Result<Join, AllocError> {
-        Ok(*self)
-    }
-}
 
 /// Joins in order.
 pub type Joins = List<Join>;
@@ -57,7 +41,8 @@ pub fn coalesce(
     let copies = copies_of(alloc, &live, freqs)?;
     'copies: for copy in copies.as_slice() {
         if let Some(join) = join_of(alloc, target, &live, copy.id)? {
-            live.fold(join.keep, join.gone, join.index)?;
+            let touched = live.touched(alloc, join.gone)?;
+            fold(&mut live, touched.as_slice(), join)?;
             joins.push(join)?;
         }
     }

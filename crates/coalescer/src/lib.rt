@@ -7,4 +7,4 @@
 mod joins;
 mod quiet;
 
-pub use joins::{Join, Joins, coalesce};
+pub use joins::{Joins, coalesce};

@@ -1,7 +1,8 @@
 //! Whether a join loses no value: where a lane is written, no other lane that would be one with it
 //! is live behind the instruction or written by it.
 
-use crate::joins::{COPY, Join};
+use crate::joins::COPY;
+use live_edits::Join;
 use live_lanes::{LiveFunc, Stretch};
 use mir_func::{Instr, Loc, Op, Operand, RegOp};
 use target_base::{IndexId, Target};

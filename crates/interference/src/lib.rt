@@ -1,8 +1,8 @@
 //! Which register each live range has, and what it would clash with elsewhere (LLVM's LiveRegMatrix).
 //!
 //! Assigning and unassigning list exactly what assigned ranges hold, and clashes of listed ranges are
-//! told exactly; what stands behind edits is tested. Begin with `matrix`; the lists are in `held`,
-//! by units in `unit_table`, and edits in `matrix_edit`.
+//! told exactly. Behind edits what is live is exact too, and what the ranges hold then is tested.
+//! Begin with `matrix`; the lists are in `held`, by units in `unit_table`, and edits in `matrix_edit`.
 #![tactic(auto)]
 
 mod held;

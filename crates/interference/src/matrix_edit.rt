@@ -1,7 +1,14 @@
 //! Edits of the matrix's function, after which the ranges that are assigned hold what they then do.
 
+ghost use Rattle.std.specs.Prelude.{◌≡◌, List, OnOk, OnErr};
+ghost use Rattle.edit_laws.specs.Edits.{all_edited};
+ghost use Rattle.live_edits.specs.LiveRuns.{IsExact, IsBegun, MayBeEditedLive};
+ghost use Rattle.live_edits.specs.Runs.{edits_of};
+
 use crate::matrix::Matrix;
-use live_lanes::{ChangedPiece, Changes, Edit};
+use live_edits::Edit;
+use live_edits::live::{EditChanges, begin_edits, commit, roll_back};
+use live_lanes::{ChangedPiece, LiveFunc};
 use mir_func::{Gap, Operand, Operands, RegOp};
 use std::alloc::AllocError;
 use target_base::OpId;
@@ -66,79 +73,84 @@ impl Matrix {
     fn edit_one(&mut self, edit: Edit) -> Result<(), AllocError> {
         let mut edits = Vec::new(self.alloc);
         edits.push(edit)?;
-        self.edit_all(edits)
+        self.edit_all(edits, None)
     }
 
     /// Does edits in order. What is live, and what the assigned ranges hold, is brought up to date
-    /// once, after the last of them. After a refusal the function and the registers are unchanged.
-    pub fn edit_all(&mut self, edits: Vec<Edit>) -> Result<(), AllocError> {
-        let changes = self.live.begin_edits(edits)?;
+    /// once, after the last of them. It is done sooner where they replace or erase all that names a range
+    /// and bring nothing that does, if it is given and has no register. After a refusal the function and
+    /// the registers are unchanged.
+    pub fn edit_all(&mut self, edits: Vec<Edit>, v: Option<u32>) -> Result<(), AllocError>
+        ensures ok { OnOk result (MayBeEditedLive self.old.live (edits_of edits.items) → IsExact self.old.live.target (all_edited self.old.live.func (edits_of edits.items)) self.new.live) }
+        ensures err { OnErr result (MayBeEditedLive self.old.live (edits_of edits.items) → IsExact self.old.live.target self.old.live.func self.new.live) }
+    {
+        let unheld = self.without_register(v);
+        let changes = begin_edits(&mut self.live, edits, unheld)?;
         self.commit_or_roll_back(changes)
     }
 
-    /// Does edits as `edit_all` does, which is done sooner where these edit each instruction that
-    /// touches an unassigned range. These are given, as `LiveFunc::touched` answers them.
-    pub fn edit_all_of(
-        &mut self,
-        edits: Vec<Edit>,
-        v: u32,
-        touched: &[u32],
-    ) -> Result<(), AllocError> {
-        if self.register_of(v).is_some() {
-            return self.edit_all(edits);
+    /// A range, if it has no register: none of its points are held then.
+    fn without_register(&self, v: Option<u32>) -> Option<u32> {
+        match v {
+            Some(v) if self.register_of(v).is_none() => Some(v),
+            _ => None,
         }
-        let changes = self.live.begin_edits_of(edits, v, touched)?;
-        self.commit_or_roll_back(changes)
     }
 
-    /// Brings what the assigned ranges hold up to date after edits, and keeps these.
-    fn commit_or_roll_back(&mut self, changes: Changes) -> Result<(), AllocError> {
-        let mut changes = changes;
-        match self.settle_pieces(&mut changes) {
+    /// Brings what the assigned ranges hold up to date after edits, and keeps these. After a refusal they
+    /// are taken back.
+    fn commit_or_roll_back(&mut self, changes: EditChanges) -> Result<(), AllocError>
+        ensures ok { OnOk result ((edits : List Edit) (before : LiveFunc) → IsBegun (edits_of edits) before self.old.live changes → IsExact before.target (all_edited before.func (edits_of edits)) self.new.live) }
+        ensures err { OnErr result ((edits : List Edit) (before : LiveFunc) → IsBegun (edits_of edits) before self.old.live changes → IsExact before.target before.func self.new.live) }
+    {
+        match self.held_pieces(&changes) {
+            Ok(pieces) => self.settle_pieces(pieces.as_slice(), changes),
+            Err(e) => {
+                roll_back(&mut self.live, changes);
+                Err(e)
+            }
+        }
+    }
+
+    /// Brings what these pieces hold up to date after edits, and keeps these. After a refusal they are
+    /// taken back.
+    fn settle_pieces(
+        &mut self,
+        pieces: &[AssignedPiece],
+        changes: EditChanges,
+    ) -> Result<(), AllocError>
+        ensures ok { OnOk result ((edits : List Edit) (before : LiveFunc) → IsBegun (edits_of edits) before self.old.live changes → IsExact before.target (all_edited before.func (edits_of edits)) self.new.live) }
+        ensures err { OnErr result ((edits : List Edit) (before : LiveFunc) → IsBegun (edits_of edits) before self.old.live changes → IsExact before.target before.func self.new.live) }
+    {
+        self.release_pieces(pieces);
+        match self.hold(pieces) {
             Ok(()) => {
-                self.live.commit(changes);
+                commit(&mut self.live, changes);
                 Ok(())
             }
-            Err(e) => Err(e),
-        }
-    }
-
-    /// Brings what the assigned ranges hold up to date after edits. After a refusal these are taken
-    /// back.
-    fn settle_pieces(&mut self, changes: &mut Changes) -> Result<(), AllocError> {
-        let pieces = match self.held_pieces(changes) {
-            Ok(pieces) => pieces,
             Err(e) => {
-                self.live.roll_back(changes);
-                return Err(e);
+                self.release_pieces(pieces);
+                roll_back(&mut self.live, changes);
+                // Where this is refused too, ranges hold less than they should, and the run is given up.
+                let _ = self.hold(pieces);
+                Err(e)
             }
-        };
-        self.release_pieces(pieces.as_slice());
-        if let Err(e) = self.hold(pieces.as_slice()) {
-            self.release_pieces(pieces.as_slice());
-            self.live.roll_back(changes);
-            // Where this is refused too, ranges hold less than they should, and the run is given up.
-            let _ = self.hold(pieces.as_slice());
-            return Err(e);
         }
-        Ok(())
     }
 
     /// The pieces of assigned ranges that edits changed. One that comes several times in a row is
     /// given once.
-    fn held_pieces(&self, changes: &Changes) -> Result<Vec<AssignedPiece>, AllocError> {
+    fn held_pieces(&self, changes: &EditChanges) -> Result<Vec<AssignedPiece>, AllocError> {
         let mut pieces = Vec::new(self.alloc);
         let mut last = LaneHolder {
             lane: u32::MAX,
             holder: None,
         };
-        'steps: for k in 0..changes.len() {
-            if let Some(piece) = changes.changed_piece(k) {
-                if piece.lane != last.lane {
-                    last = self.holder_of(piece.lane);
-                }
-                add_held(last, piece, &mut pieces)?;
+        'pieces: for piece in changes.pieces() {
+            if piece.lane != last.lane {
+                last = self.holder_of(piece.lane);
             }
+            add_held(last, *piece, &mut pieces)?;
         }
         Ok(pieces)
     }
@@ -160,20 +172,26 @@ impl Matrix {
     }
 
     /// Takes away the points of the pieces that edits changed, as they were held before.
-    fn release_pieces(&mut self, pieces: &[AssignedPiece]) {
+    fn release_pieces(&mut self, pieces: &[AssignedPiece])
+        ensures { self.new.live ≡ self.old.live }
+    {
         'pieces: for held in pieces {
             self.let_go_piece(held);
         }
     }
 
-    fn let_go_piece(&mut self, held: &AssignedPiece) {
+    fn let_go_piece(&mut self, held: &AssignedPiece)
+        ensures { self.new.live ≡ self.old.live }
+    {
         let slots = self.live.slots();
         self.held
             .remove_piece(slots, held.range, held.unit, held.piece);
     }
 
     /// Adds the points of the pieces that edits changed, as they are now.
-    fn hold(&mut self, pieces: &[AssignedPiece]) -> Result<(), AllocError> {
+    fn hold(&mut self, pieces: &[AssignedPiece]) -> Result<(), AllocError>
+        ensures { self.new.live ≡ self.old.live }
+    {
         'pieces: for held in pieces {
             self.hold_piece(held)?;
         }
@@ -181,7 +199,9 @@ impl Matrix {
     }
 
     /// Adds the points of a piece. It may have been added by an earlier step.
-    fn hold_piece(&mut self, held: &AssignedPiece) -> Result<(), AllocError> {
+    fn hold_piece(&mut self, held: &AssignedPiece) -> Result<(), AllocError>
+        ensures { self.new.live ≡ self.old.live }
+    {
         self.let_go_piece(held);
         self.held
             .add_piece(&self.live, held.range, held.unit, held.piece)

@@ -1,5 +1,5 @@
 -- Acts at lanes to which an instruction does something else than before.
-use Rattle.std.proofs.Common.{◌≡◌, ◌∙◌, ◌<◌, ◌+◌, ◌⊎◌, inl, inr, ⊎_elim, ◌&&◌, ◌||◌, not, ℕ, Bool, true, false, cond, length, List, [], ◌∷◌, ◌++◌, Option, None, Some, find, get_or, take, refl, sym, ap, subst, eqb-true, eq-eqb}
+use Rattle.std.proofs.Common.{◌≡◌, ◌∙◌, ◌<◌, ◌+◌, ◌⊎◌, inl, inr, ⊎_elim, ◌&&◌, ◌||◌, not, ℕ, Bool, true, false, cond, length, List, [], ◌∷◌, ◌++◌, Option, None, Some, find, get_or, map, take, refl, sym, ap, subst, eqb-true, eq-eqb}
 use Rattle.std.specs.Prelude.{nat_eq}
 use Rattle.mir_meaning.specs.Paths.{Among, here, there, has}
 use Rattle.instr_effects.specs.declared.lane_acts.LaneAct.{LaneAct}
@@ -7,7 +7,7 @@ use Rattle.instr_effects.specs.LaneActs.{no_act, is_on, has_act, act_on, is_once
 use Rattle.live_lanes.proofs.Basics.{none-among}
 use Rattle.live_lanes.proofs.Numbered.{among-cases, among-left, among-right, among-split}
 use Rattle.live_edits.specs.ActChanges.{act_lanes, IsActedOn, AddsFormer, AddsFurther, AreChanged}
-use Rattle.live_edits.proofs.NotedAll.{taken-more, taken-own, taken-cases}
+use Rattle.live_edits.proofs.NotedLists.{taken-more, taken-own, taken-cases}
 
 -- acts and their lanes
 
@@ -22,6 +22,29 @@ lane-has (b ∷ bs) a l m e = go (among-cases a b bs m) (λ k. lane-has bs a l k
     go : (a ≡ b) ⊎ Among a bs → (Among a bs → has l (act_lanes bs) ≡ true) → cond (nat_eq b.lane l) true (has l (act_lanes bs)) ≡ true
     go (inl f) ih = ap (λ u. cond u true (has l (act_lanes bs))) (eq-eqb b.lane l (ap (λ (x : LaneAct). x.lane) (sym f) ∙ e))
     go (inr k) ih = more (nat_eq b.lane l) (ih k)
+
+pub lane-act : (acts : List LaneAct) (l : ℕ) → Among l (act_lanes acts) → IsActedOn acts l
+lane-act [] l m = absurd (none-among l m)
+lane-act (a ∷ acts) l m = go (among-cases l a.lane (act_lanes acts) m) (lane-act acts l)
+  where
+    go : (l ≡ a.lane) ⊎ Among l (act_lanes acts) → (Among l (act_lanes acts) → IsActedOn acts l) → IsActedOn (a ∷ acts) l
+    go (inl e) ih = (a, here, sym e)
+    go (inr n) ih = let z = ih n in (z.0, there z.1, z.2)
+
+pub act-lane : (acts : List LaneAct) (a : LaneAct) → Among a acts → Among a.lane (act_lanes acts)
+act-lane [] a m = absurd (none-among a m)
+act-lane (b ∷ bs) a here = here
+act-lane (b ∷ bs) a (there m) = there (act-lane bs a m)
+
+-- acts of nothing
+
+pub idle-act : (acts : List LaneAct) (a : LaneAct) → Among a (map (λ (b : LaneAct). no_act b.lane) acts) → a ≡ no_act a.lane
+idle-act [] a m = absurd (none-among a m)
+idle-act (b ∷ bs) a m = ⊎_elim (λ e. e ∙ ap no_act (sym (ap (λ (x : LaneAct). x.lane) e))) (λ n. idle-act bs a n) (among-cases a (no_act b.lane) (map (λ (c : LaneAct). no_act c.lane) bs) m)
+
+pub idle-lanes : (acts : List LaneAct) → act_lanes (map (λ (b : LaneAct). no_act b.lane) acts) ≡ act_lanes acts
+idle-lanes [] = refl
+idle-lanes (a ∷ acts) = ap (λ ls. a.lane ∷ ls) (idle-lanes acts)
 
 pub has-lane : (acts : List LaneAct) (l : ℕ) → has_act acts l ≡ has l (act_lanes acts)
 has-lane [] l = refl

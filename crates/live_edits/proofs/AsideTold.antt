@@ -9,7 +9,7 @@ use Rattle.mir_meaning.specs.Paths.{has}
 use Rattle.instr_effects.specs.declared.owner.Owner.TheVariants as owners
 use Rattle.instr_effects.specs.Numbered.{number_in}
 use Rattle.instr_effects.specs.Row.{lane_in}
-use Rattle.live_lanes.specs.declared.edit.edits.Edit.{Edit as CodeEdit}
+use Rattle.live_edits.specs.declared.edit.Edit.{Edit as CodeEdit}
 use Rattle.live_lanes.specs.declared.row.Cell.{Cell}
 use Rattle.live_lanes.specs.declared.row.DefPiece.{DefPiece}
 use Rattle.live_lanes.specs.declared.row.LaneRange.{LaneRange}

@@ -5,6 +5,7 @@ use Rattle.std.specs.List.{list_any}
 use Rattle.target_base.specs.declared.types.Target.{Target}
 use Rattle.mir_func.specs.Value.{Function}
 use Rattle.mir_meaning.specs.Paths.{Among, has}
+use Rattle.instr_effects.specs.declared.lane_acts.LaneAct.{LaneAct}
 use Rattle.instr_effects.specs.Steps.{Numbering}
 use Rattle.live_lanes.proofs.Cells.{both, both-left, both-right}
 use Rattle.edit_laws.specs.Reasons.{Touched}
@@ -12,10 +13,10 @@ use Rattle.live_edits.specs.declared.aside.AsideRow.{AsideRow}
 use Rattle.live_edits.specs.declared.cells.CellNotes.{CellNotes}
 use Rattle.live_edits.specs.declared.notes.TouchedInstr.{TouchedInstr}
 use Rattle.live_edits.specs.Aside.{is_aside}
-use Rattle.live_edits.specs.Noted.{HasNotes, touches, touched_at}
+use Rattle.live_edits.specs.Noted.{HasNotes, touched_lanes, touches, touched_at}
 use Rattle.live_edits.specs.Runs.{HasIds, Includes, LeavesAside, TakesAside}
 use Rattle.live_edits.specs.Updated.{AreTold}
-use Rattle.live_edits.proofs.AskMembers.{any-among, among-any}
+use Rattle.live_edits.proofs.AskMembers.{any-among, among-any, among-map}
 use Rattle.live_edits.proofs.EditedNotes.{includes}
 
 -- an instruction of an id is touched in a block
@@ -60,7 +61,7 @@ module _ (aside : List AsideRow) (xs : List TouchedInstr) where
       own x m same = subst (λ n. has n ids ≡ true) (eqb-true x.id id same) (all x m)
 
       go : (touched_at xs l b id ≡ true) ⊎ ((is_aside aside l && stands_in xs b id) ≡ true) → has id ids ≡ true
-      go (inl f) = let z = any-among (λ (y : TouchedInstr). touches y l b id) xs f in own z.0 z.1 (both-left (nat_eq z.0.id id) (nat_eq z.0.block b && has l z.0.lanes.items) z.2)
+      go (inl f) = let z = any-among (λ (y : TouchedInstr). touches y l b id) xs f in own z.0 z.1 (both-left (nat_eq z.0.id id) (nat_eq z.0.block b && has l (touched_lanes z.0)) z.2)
       go (inr f) =
           let z = any-among (λ (y : TouchedInstr). nat_eq y.id id && nat_eq y.block b) xs (both-right (is_aside aside l) (stands_in xs b id) f) in
           own z.0 z.1 (both-left (nat_eq z.0.id id) (nat_eq z.0.block b) z.2)
@@ -74,5 +75,6 @@ module _ (aside : List AsideRow) (xs : List TouchedInstr) where
   no-note t f num gone all h apart l e c m own =
       let n = h.filled c m in
       let w = h.none c m n.0 n.1 in
-      let z : true ≡ false = sym e ∙ (ap (is_aside aside) (sym own) ∙ apart w.0 w.1 c.lane w.4) in
+      let a = among-map (λ (a : LaneAct). a.lane) c.lane w.0.acts.items w.4 in
+      let z : true ≡ false = sym e ∙ (ap (is_aside aside) (sym own ∙ a.2) ∙ apart w.0 w.1 a.0 a.1) in
       absurd (cc)

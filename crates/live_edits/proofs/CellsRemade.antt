@@ -45,28 +45,24 @@ past-one slots rows c past = record { own = λ h. absurd (omega (arith, past, h)
 pub one-cell : (slots : Numbers) (old new : List LaneRange) (c : CellNotes) (notes : List Note) → notes ≡ c.notes.items → ChangesOne old new c.lane c.block (NotesAll slots notes) → NotesCell slots old new c
 one-cell slots old new c notes e p = record { own = λ h. subst (λ ns. NotesAll slots ns (rows_seen old c.lane c.block) (rows_seen new c.lane c.block)) e p.own; others = p.others; lanes = p.lanes }
 
--- one after the other, from the last one to the first
+-- one after the other
 abbrev pub RemakesEach : Numbers → List LaneRange → List CellNotes → List LaneRange → Type 0
 RemakesEach slots old [] new = new ≡ old
-RemakesEach slots old (c ∷ cs) new = (mid : List LaneRange) × RemakesEach slots old cs mid × NotesCell slots mid new c
+RemakesEach slots old (c ∷ cs) new = (mid : List LaneRange) × NotesCell slots old mid c × RemakesEach slots mid cs new
 
 module _ (slots : Numbers) where
-  pub each-more : (old mid new : List LaneRange) (all : List CellNotes) (k : ℕ) (c : CellNotes) → k < length all → c ≡ get_or all k c → RemakesEach slots old (drop (k + 1) all) mid → NotesCell slots mid new c → RemakesEach slots old (drop k all) new
-  each-more old mid new all k c h own rest one = subst (λ cs. RemakesEach slots old cs new) (ap (λ d. d ∷ drop (k + 1) all) own ∙ sym (drop_more all k c h)) (mid, rest, one)
+  pub each-more : (old mid new : List LaneRange) (all : List CellNotes) (k : ℕ) (c : CellNotes) → k < length all → c ≡ get_or all k c → NotesCell slots old mid c → RemakesEach slots mid (drop (k + 1) all) new → RemakesEach slots old (drop k all) new
+  each-more old mid new all k c h own one rest = subst (λ cs. RemakesEach slots old cs new) (ap (λ d. d ∷ drop (k + 1) all) own ∙ sym (drop_more all k c h)) (mid, one, rest)
 
-  pub each-none : (rows : List LaneRange) (all : List CellNotes) (k : ℕ) → length all ≤ k → RemakesEach slots rows (drop k all) rows
-  each-none rows all k h = subst (λ cs. RemakesEach slots rows cs rows) (sym (drop_all k all h)) refl
-
-  each-lanes : (old new : List LaneRange) (cs : List CellNotes) → RemakesEach slots old cs new → length new ≡ length old
-  each-lanes old new [] r = ap length r
-  each-lanes old new (c ∷ cs) r = r.2.lanes ∙ each-lanes old r.0 cs r.1
+  pub each-all : (rows : List LaneRange) (all : List CellNotes) (k : ℕ) → length all ≤ k → RemakesEach slots rows (drop k all) rows
+  each-all rows all k h = subst (λ cs. RemakesEach slots rows cs rows) (sym (drop_all k all h)) refl
 
   abbrev None-at : List CellNotes → ℕ → ℕ → Type 0
   None-at cs l b = (c : CellNotes) → Among c cs → is_at c.lane c.block l b ≡ false
 
   others-stay : (old new : List LaneRange) (cs : List CellNotes) (l b : ℕ) → RemakesEach slots old cs new → None-at cs l b → rows_seen new l b ≡ rows_seen old l b
   others-stay old new [] l b r none = ap (λ x. rows_seen x l b) r
-  others-stay old new (c ∷ cs) l b r none = r.2.others l b (none c here) ∙ others-stay old r.0 cs l b r.1 (λ d m. none d (there m))
+  others-stay old new (c ∷ cs) l b r none = others-stay r.0 new cs l b r.2 (λ d m. none d (there m)) ∙ r.1.others l b (none c here)
 
   abbrev AreApart : List CellNotes → Type 0
   AreApart cs = (i j : ℕ) (c d : CellNotes) → slice_get cs i ≡ Some c → slice_get cs j ≡ Some d → c.lane ≡ d.lane → c.block ≡ d.block → i ≡ j
@@ -105,9 +101,9 @@ module _ (slots : Numbers) where
   own-noted : (old new : List LaneRange) (cs : List CellNotes) (c : CellNotes) → RemakesEach slots old cs new → AreApart cs → Among c cs → c.lane < length old → Own old new c
   own-noted old new [] c r apart m h = elim m [ ]
   own-noted old new (d ∷ cs) c r apart here h =
-      subst (λ v. NotesAll slots c.notes.items v (rows_seen new c.lane c.block)) (others-stay old r.0 cs c.lane c.block r.1 (none-behind c cs apart)) (r.2.own (subst (λ n. c.lane < n) (sym (each-lanes old r.0 cs r.1)) h))
+      subst (NotesAll slots c.notes.items (rows_seen old c.lane c.block)) (sym (others-stay r.0 new cs c.lane c.block r.2 (none-behind c cs apart))) (r.1.own h)
   own-noted old new (d ∷ cs) c r apart (there m) h =
-      subst (NotesAll slots c.notes.items (rows_seen old c.lane c.block)) (sym (r.2.others c.lane c.block (other-first d c cs apart m))) (own-noted old r.0 cs c r.1 (behind-apart d cs apart) m h)
+      subst (λ v. NotesAll slots c.notes.items v (rows_seen new c.lane c.block)) (r.1.others c.lane c.block (other-first d c cs apart m)) (own-noted r.0 new cs c r.2 (behind-apart d cs apart) m (subst (λ n. c.lane < n) (sym r.1.lanes) h))
 
   -- the notes of a lane in a block, if there are any
   find-at : (cs : List CellNotes) (l b : ℕ) → ((c : CellNotes) × Among c cs × (c.lane ≡ l) × (c.block ≡ b)) ⊎ None-at cs l b

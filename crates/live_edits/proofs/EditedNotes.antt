@@ -18,7 +18,7 @@ use Rattle.live_edits.specs.declared.cells.CellNotes.{CellNotes}
 use Rattle.live_edits.specs.declared.cells.Note.{Note}
 use Rattle.live_edits.specs.declared.notes.TouchedInstr.{TouchedInstr}
 use Rattle.live_edits.specs.EditedRuns.{HaveRows}
-use Rattle.live_edits.specs.Noted.{HasNotes, touches, touched_at}
+use Rattle.live_edits.specs.Noted.{HasNotes, touched_lanes, touches, touched_at}
 use Rattle.live_edits.specs.Pieces.{IsThere}
 use Rattle.live_edits.specs.Remade.{noted_ids, AreAllNotes}
 use Rattle.live_edits.specs.Runs.{Includes, AreSuspects, entry_side, exit_side}
@@ -28,9 +28,9 @@ use Rattle.live_edits.proofs.NotedTouched.{all-notes}
 
 pub includes : (xs : List TouchedInstr) → Includes (touched_at xs) xs
 includes xs x m l k =
-    let lane : has l x.lanes.items ≡ true = among-has l x.lanes.items k in
+    let lane : has l (touched_lanes x) ≡ true = among-has l (touched_lanes x) k in
     among-any (λ (y : TouchedInstr). touches y l x.block x.id) x xs m
-    (both (nat_eq x.id x.id) (nat_eq x.block x.block && has l x.lanes.items) (eq-eqb x.id x.id refl) (both (nat_eq x.block x.block) (has l x.lanes.items) (eq-eqb x.block x.block refl) lane))
+    (both (nat_eq x.id x.id) (nat_eq x.block x.block && has l (touched_lanes x)) (eq-eqb x.id x.id refl) (both (nat_eq x.block x.block) (has l (touched_lanes x)) (eq-eqb x.block x.block refl) lane))
 
 module _ (t : Target) (f : Function) (num : Numbering) (gone : List ℕ) (xs : List TouchedInstr) (all : List CellNotes) (h : HasNotes t f num gone xs all) where
   -- what is touched has a note
@@ -38,13 +38,13 @@ module _ (t : Target) (f : Function) (num : Numbering) (gone : List ℕ) (xs : L
   noted-of l b id e =
       let z = any-among (λ (y : TouchedInstr). touches y l b id) xs e in
       let x = z.0 in
-      let rest = both-right (nat_eq x.id id) (nat_eq x.block b && has l x.lanes.items) z.2 in
-      let own : x.id ≡ id = eqb-true x.id id (both-left (nat_eq x.id id) (nat_eq x.block b && has l x.lanes.items) z.2) in
-      let block : x.block ≡ b = eqb-true x.block b (both-left (nat_eq x.block b) (has l x.lanes.items) rest) in
-      let w = h.whole x z.1 l (has-among l x.lanes.items (both-right (nat_eq x.block b) (has l x.lanes.items) rest)) in
+      let rest = both-right (nat_eq x.id id) (nat_eq x.block b && has l (touched_lanes x)) z.2 in
+      let own : x.id ≡ id = eqb-true x.id id (both-left (nat_eq x.id id) (nat_eq x.block b && has l (touched_lanes x)) z.2) in
+      let block : x.block ≡ b = eqb-true x.block b (both-left (nat_eq x.block b) (has l (touched_lanes x)) rest) in
+      let w = h.whole x z.1 l (has-among l (touched_lanes x) (both-right (nat_eq x.block b) (has l (touched_lanes x)) rest)) in
       (w.0, w.1, w.2, w.3 ∙ block, subst (λ n. has n (noted_ids w.0.notes.items) ≡ true) own w.4)
 
-  lane-there : (rows : List LaneRange) → HaveRows rows all → (x : TouchedInstr) → Among x xs → (l : ℕ) → Among l x.lanes.items → l < length rows
+  lane-there : (rows : List LaneRange) → HaveRows rows all → (x : TouchedInstr) → Among x xs → (l : ℕ) → Among l (touched_lanes x) → l < length rows
   lane-there rows have x m l k = let w = h.whole x m l k in subst (λ n. n < length rows) w.2 (have w.0 w.1)
 
   -- the same instructions do nothing

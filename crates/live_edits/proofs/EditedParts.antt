@@ -11,6 +11,7 @@ use Rattle.live_lanes.specs.Entered.{rows_seen}
 use Rattle.live_lanes.proofs.Basics.{none-among}
 use Rattle.live_lanes.proofs.Numbered.{among-cases, among-split}
 use Rattle.live_laws.proofs.Exact.Inside.{all}
+use Rattle.edit_laws.specs.Deferred.{SpareGone}
 use Rattle.edit_laws.specs.Edits.{Edit, all_edited}
 use Rattle.edit_laws.specs.Further.{HasFurtherLanes}
 use Rattle.live_edits.specs.declared.cells.CellNotes.{CellNotes}
@@ -18,9 +19,11 @@ use Rattle.live_edits.specs.declared.draft.Draft.{Draft}
 use Rattle.live_edits.specs.declared.edit_run.EditRun.{EditRun}
 use Rattle.live_edits.specs.declared.log.LoggedRows.{LoggedRows}
 use Rattle.live_edits.specs.Aside.{AreThere, TakesRows, TakesSome, put_back}
+use Rattle.live_edits.specs.declared.notes.TouchedInstr.{TouchedInstr}
 use Rattle.live_edits.specs.Drafts.{IsOrderOf, LetsGo, IsDraftLogged, all_undone}
 use Rattle.live_edits.specs.EditedRuns.{MayBegin, MayStart, HasTable, MayDo, AddsRows, IsReady, AreBelow, BringsUp, ChangesRows, IsDone, IsRunLogged, LetsAllGo, IsRunUndone, IsEditedRun, LeavesTaken, TellsAlike}
 use Rattle.live_edits.specs.Logged.{AllSeen, all_taken_back, cell_there, HasAllCells, IsLogged}
+use Rattle.live_edits.specs.Noted.{TellLatest}
 use Rattle.live_edits.specs.Runs.{table_of, HavePlaces, KeepsTables, AddsSlots, NumbersSlots, KeepsDraft}
 use Rattle.live_edits.specs.Updated.{Updates}
 use Rattle.std.proofs.lemmas.List.{drop_more, drop_all}
@@ -79,6 +82,7 @@ module _ (t : Target) (es : List Edit) (first old : EditRun) (Taken : ℕ → Ty
     numbers = subst (λ (d : Draft). NumbersAll t d.func old.lanes) (sym takes.others.draft) (subst (NumbersAll t first.draft.func) (sym takes.others.lanes) may.edited.computed.numbers);
     few = subst (λ n. n < 4294967296) (sym takes.lanes) (may.edited.computed.table (all t first.draft.func (table_of first) may.edited.computed may.edited.rules may.edited.last)).few;
     places = subst (λ (d : Draft). HavePlaces t d.func es) (sym takes.others.draft) may.edited.places;
+    spare = subst (λ (d : Draft). SpareGone [] d.func es) (sym takes.others.draft) may.edited.spare;
   }
 
   -- all rows that were taken away have their places still
@@ -114,7 +118,7 @@ module _ (t : Target) (es : List Edit) (old ready : EditRun) (may : MayStart t o
   may-do = record {
     order = subst (λ (d : Draft). IsOrderOf d.func d.order) (sym adds.draft) may.order;
     function = subst (λ (d : Draft). IsFunction d.func.blocks d.func.next_id) (sym adds.draft) may.function;
-    stand = λ x m. absurd (none-among x (subst (Among x) (ap (λ v. v.items) adds.touched ∙ may.touched) m));
+    tells = subst (λ (xs : List TouchedInstr). TellLatest t ready.draft.func (number_in ready.lanes) ready.gone.keys xs) (sym (ap (λ v. v.items) adds.touched ∙ may.touched)) tt;
     apart = λ x m. absurd (none-among x (subst (Among x) (ap (λ v. v.items) adds.touched ∙ may.touched) m));
     places = subst (λ (d : Draft). HavePlaces t d.func es) (sym adds.draft) may.places;
   }
@@ -128,6 +132,11 @@ module _ (t : Target) (es : List Edit) (old ready : EditRun) (may : MayStart t o
     gone = λ id. ap (has id) (ap (λ s. s.keys) adds.gone ∙ may.gone);
     aside = adds.aside;
   }
+
+  pub may-spare : SpareGone ready.gone.keys ready.draft.func es
+  may-spare =
+      subst (λ (gone : List ℕ). SpareGone gone ready.draft.func es) (sym (ap (λ s. s.keys) adds.gone ∙ may.gone))
+      (subst (λ (d : Draft). SpareGone [] d.func es) (sym adds.draft) may.spare)
 
   no-log : ready.rows.log.items ≡ []
   no-log = ap (λ v. v.items) adds.log ∙ may.rows

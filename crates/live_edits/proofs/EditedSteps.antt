@@ -8,8 +8,8 @@ use Rattle.mir_meaning.specs.Paths.{has}
 use Rattle.instr_effects.specs.declared.lanes.LaneTable.{LaneTable}
 use Rattle.instr_effects.specs.Numbered.{number_in}
 use Rattle.instr_effects.specs.Steps.{Numbering}
-use Rattle.live_lanes.specs.declared.edit.edits.Edit.{Edit as CodeEdit}
-use Rattle.edit_laws.specs.Deferred.{deferred, all_deferred, all_gone, gone_after, TouchesEdit, TouchesEdits}
+use Rattle.live_edits.specs.declared.edit.Edit.{Edit as CodeEdit}
+use Rattle.edit_laws.specs.Deferred.{deferred, all_deferred, all_gone, gone_after, Spares, SpareGone, TouchesEdit, TouchesEdits}
 use Rattle.edit_laws.specs.Edits.{Edit, KeepsWays}
 use Rattle.edit_laws.specs.Reasons.{Touched}
 use Rattle.live_edits.specs.declared.draft.Draft.{Draft}
@@ -18,7 +18,7 @@ use Rattle.live_edits.specs.declared.edit_run.EditRun.{EditRun}
 use Rattle.live_edits.specs.Aside.{is_aside}
 use Rattle.live_edits.specs.Drafts.{IsOrderOf, undone, all_undone, IsDraftLogged}
 use Rattle.live_edits.specs.EditedRuns.{DoesEdits, MayDo}
-use Rattle.live_edits.specs.Runs.{edit_of, edits_of, HavePlaces, DoesEdit, KeepsTables}
+use Rattle.live_edits.specs.Runs.{edit_of, edits_of, AllSpared, HavePlaces, DoesEdit, KeepsTables}
 use Rattle.live_edits.proofs.EditedGone.{after-same}
 
 -- one edit behind others
@@ -36,6 +36,11 @@ touches-more : (touched : Touched) (t : Target) (num : Numbering) (es : List Edi
 touches-more touched t num [] f e told keeps one = (keeps, one, tt)
 touches-more touched t num (d ∷ es) f e told keeps one = (told.0, told.1, touches-more touched t num es (deferred f d) e told.2 keeps one)
 
+-- edits leave what is erased by then
+spare-more : (es : List Edit) (gone : List ℕ) (f : Function) (e : Edit) → SpareGone gone f (es ++ e ∷ []) → SpareGone gone f es × AllSpared (all_gone gone es) (all_deferred f es) e
+spare-more [] gone f e spare = (tt, spare.0)
+spare-more (d ∷ es) gone f e spare = let z = spare-more es (gone_after gone d) (deferred f d) e spare.1 in ((spare.0, z.0), z.1)
+
 pub no-edits : (t : Target) (r : EditRun) (es : List Edit) → MayDo t r es → DoesEdits t r r []
 no-edits t r es may = record {
   func = refl;
@@ -43,7 +48,7 @@ no-edits t r es may = record {
   function = may.function;
   gone = λ id. refl;
   touched = λ touched h aside. tt;
-  stand = may.stand;
+  tells = λ spare. may.tells;
   apart = may.apart;
   lanes = refl;
   flow = refl;
@@ -61,7 +66,9 @@ one-more-edit t r s q es e a keeps d = record {
       let one : TouchesEdit touched t s.draft.func (number_in r.lanes) e = subst (λ (ls : LaneTable). TouchesEdit touched t s.draft.func (number_in ls) e) a.lanes (d.touched touched h (λ x m l e. aside x m l (ap (λ v. is_aside v.items l) (sym a.aside) ∙ e))) in
       touches-more touched t (number_in r.lanes) es r.draft.func e (a.touched touched (λ x m. h x (d.kept x m)) (λ x m. aside x (d.kept x m)))
       (subst (λ (f : Function). KeepsWays t f e) a.func keeps) (subst (λ (f : Function). TouchesEdit touched t f (number_in r.lanes) e) a.func one);
-  stand = d.stand a.stand;
+  tells = λ spare.
+      let z = spare-more es r.gone.keys r.draft.func e spare in
+      d.tells (λ id m. subst (λ (f : Function). Spares f e id) (sym a.func) (z.1 id (sym (a.gone id) ∙ m))) a.apart (a.tells z.0);
   apart = d.apart a.apart;
   lanes = d.lanes ∙ a.lanes;
   flow = d.flow ∙ a.flow;

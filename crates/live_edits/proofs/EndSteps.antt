@@ -9,7 +9,7 @@ use Rattle.live_lanes.specs.declared.row.LaneRange.{LaneRange}
 use Rattle.live_lanes.specs.declared.row.Piece.{Piece}
 use Rattle.live_lanes.specs.declared.row.PieceEnd.{PieceEnd}
 use Rattle.live_lanes.specs.declared.row.PieceEnd.TheVariants as ends
-use Rattle.live_lanes.specs.declared.table.PieceSpot.{PieceSpot}
+use Rattle.live_edits.specs.declared.pieces.PieceSpot.{PieceSpot}
 use Rattle.live_lanes.specs.Graph.{is_live}
 use Rattle.live_lanes.specs.Table.{Numbers, Begun, Seen, seen, seen_cell, seen_in, unseen, find_cell, piece_in, cause_in, begun_with_end, changed_at, with_end, rises_from}
 use Rattle.live_lanes.specs.Entered.{start_of, shape, rows_seen, cells_of, causes}

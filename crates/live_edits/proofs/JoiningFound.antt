@@ -11,7 +11,7 @@ use Rattle.mir_func.specs.declared.func.Instr.{Instr}
 use Rattle.mir_func.specs.Value.{Function, IsFunction}
 use Rattle.mir_func.specs.At.{instr_at}
 use Rattle.live_laws.proofs.Effects.Blocks.{member-slice, slice-member}
-use Rattle.live_lanes.specs.declared.edit.edits.Edit.{Edit as CodeEdit}
+use Rattle.live_edits.specs.declared.edit.Edit.{Edit as CodeEdit}
 use Rattle.edit_laws.specs.Edits.{Edit, Erase}
 use Rattle.live_edits.specs.declared.fold.Join.{Join}
 use Rattle.live_edits.specs.Drafts.{IsPlaceOf}

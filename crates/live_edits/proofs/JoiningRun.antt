@@ -27,32 +27,32 @@ class-widths t f j None same = go (is_narrower t f j.gone j.keep && not (is_narr
 class-widths t f j (Some x) same = refl
 
 pub order-there : (t : Target) (r : EditRun) (j : Join) (ids : List ℕ) → MayFold t r j ids → IsOrderOf r.draft.func r.draft.order
-order-there t r j ids may = record { positions = may.computed.positions; homes = may.computed.homes; layout = may.computed.layout; numbered = may.computed.numbered }
+order-there t r j ids may = record { positions = may.join.computed.positions; homes = may.join.computed.homes; layout = may.join.computed.layout; numbered = may.join.computed.numbered }
 
 -- nothing is done
 pub folds-none : (t : Target) (r : EditRun) (j : Join) (ids : List ℕ) → MayFold t r j ids → HasTable t r.draft.func r
-folds-none t r j ids may = record { func = refl; computed = may.computed; fresh = may.fresh }
+folds-none t r j ids may = record { func = refl; computed = may.join.computed; fresh = may.fresh }
 
 -- the edits may begin
 pub may-begin : (t : Target) (r : EditRun) (j : Join) (ids : List ℕ) (es : List Edit) → MayFold t r j ids → es ≡ fold_edits t r.draft.func j ids → MayBegin t r es
 may-begin t r j ids es may same =
-    let places = fold-places-law t r.draft.func j ids may.function may.known may.phis may.named in
+    let places = fold-places-law t r.draft.func j ids may.join.function may.join.known may.join.phis may.join.named in
     subst (MayBegin t r) (sym same) (record {
       fresh = may.fresh;
-      edited = record { computed = may.computed; rules = may.rules; last = may.last; function = may.function; blocks = may.blocks; places = places.0; spare = places.1 };
+      edited = record { computed = may.join.computed; rules = may.join.rules; last = may.join.last; function = may.join.function; blocks = may.join.blocks; places = places.0; spare = places.1 };
     })
 
 -- then the function is the joined one, and with its class the folded one
 pub folds-all : (t : Target) (r mid new : EditRun) (j : Join) (ids : List ℕ) (es : List Edit) → MayFold t r j ids → es ≡ fold_edits t r.draft.func j ids → HasTable t (all_edited r.draft.func es) mid → Narrows t j mid new → HasTable t (folded t j r.draft.func) new
 folds-all t r mid new j ids es may same has narrows =
     let f : Function = r.draft.func in
-    let done : all_edited f es ≡ joined t j f = ap (all_edited f) same ∙ fold-law t f j ids may.function may.known may.named in
+    let done : all_edited f es ≡ joined t j f = ap (all_edited f) same ∙ fold-law t f j ids may.join.function may.join.known may.join.named in
     let there : HasTable t (joined t j f) mid = subst (λ (g : Function). HasTable t g mid) done has in
     let table : table_of mid ≡ table_of new =
     λ k. record { lanes = (sym narrows.lanes) k; order = (sym narrows.order) k; flow = (sym narrows.flow) k; rows = ((sym narrows.rows) k).rows } in
     record {
       func = narrows.func ∙ ap (narrowed t j) there.func;
-      computed = subst (IsComputed t (folded t j f)) table (narrow-law t (joined t j f) (table_of mid) j.keep (joined_class t f j j.index) there.computed (class-widths t f j j.index may.widths));
+      computed = subst (IsComputed t (folded t j f)) table (narrow-law t (joined t j f) (table_of mid) j.keep (joined_class t f j j.index) there.computed (class-widths t f j j.index may.join.widths));
       fresh = record {
         draft = (λ k. (narrows.draft_log k).items) ∙ there.fresh.draft;
         rows = (λ k. (narrows.rows k).log.items) ∙ there.fresh.rows;

@@ -37,6 +37,7 @@ pub mod AlikeLists
 pub mod UpdateSteps
 pub mod RunLanes
 pub mod RunPlaces
+pub mod RunTells
 pub mod RunEdits
 pub mod RunAside
 pub mod RunIds
@@ -47,15 +48,14 @@ pub mod DraftOrder
 pub mod DraftEdits
 pub mod DraftWays
 pub mod NotedActs
-pub mod NotedOrder
 pub mod NotedLists
 pub mod NotedTable
-pub mod NotedAll
 pub mod ActChanges
+pub mod NotedAll
 pub mod NotedTouched
 pub mod AsideTold
 pub mod AsideRows
-pub mod AsideLanes
+pub mod AsideActs
 pub mod NotNamed
 pub mod Unnamed
 pub mod EditedWays
@@ -75,3 +75,4 @@ pub mod JoiningClasses
 pub mod JoiningLists
 pub mod JoiningFound
 pub mod JoiningRun
+pub mod LiveRuns

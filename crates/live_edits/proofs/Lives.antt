@@ -7,7 +7,7 @@ use Rattle.live_lanes.specs.declared.row.Cause.{Cause}
 use Rattle.live_lanes.specs.declared.row.LaneRange.{LaneRange}
 use Rattle.live_lanes.specs.declared.row.LaneUse.{LaneUse}
 use Rattle.live_lanes.specs.declared.row.PieceEnd.{PieceEnd}
-use Rattle.live_lanes.specs.declared.table.PieceSpot.{PieceSpot}
+use Rattle.live_edits.specs.declared.pieces.PieceSpot.{PieceSpot}
 use Rattle.live_lanes.specs.Table.{Seen, Begun, begun_cause, begun_end, begun_with_cause, begun_with_end, changed_at, cause_in, end_in, with_cause, with_end}
 use Rattle.live_lanes.specs.Entered.{start_of, shape, rows_seen}
 use Rattle.live_lanes.specs.Marks.{KeepsCauses}

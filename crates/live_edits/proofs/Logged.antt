@@ -1,8 +1,9 @@
 -- Logged changes follow one another.
-use Rattle.std.proofs.Common.{◌≡◌, ◌≤◌, ℕ, true, List, [], ◌∷◌, ◌++◌, ◌⊎◌, inl, inr, refl, sym, ap, ◌∙◌, append_assoc, append-nil, arith}
+use Rattle.std.proofs.Common.{◌≡◌, ◌≤◌, ℕ, true, List, [], ◌∷◌, ◌++◌, ◌⊎◌, inl, inr, refl, sym, ap, ◌∙◌, append_assoc, append-nil, length, arith}
 use Rattle.std.proofs.lemmas.Bool.{leb-true, le-leb}
 use Rattle.mir_meaning.specs.Paths.{Among}
 use Rattle.live_lanes.specs.declared.row.LaneRange.{LaneRange}
+use Rattle.live_lanes.specs.declared.table.LaneRanges.{LaneRanges}
 use Rattle.live_lanes.specs.Entered.{rows_seen}
 use Rattle.live_lanes.proofs.Basics.{none-among}
 use Rattle.live_lanes.proofs.Cells.{both, both-left, both-right}
@@ -57,6 +58,18 @@ logged-same x = record {
   there = λ e a. absurd (none-among e a);
 }
 
+-- the same rows, and the same changes that are logged
+pub logged-alike : (x y : LoggedRows) → y.rows ≡ x.rows → y.log.items ≡ x.log.items → IsLogged x y
+logged-alike x y rows log = record {
+  added = [];
+  list = log ∙ sym (append-nil x.log.items);
+  back = λ l b. ap (λ (r : LaneRanges). rows_seen r.rows.items l b) rows;
+  lanes = ap (λ (r : LaneRanges). length r.rows.items) rows;
+  cells = λ l b h. ap (λ (r : LaneRanges). has_cell r.rows.items l b) rows ∙ h;
+  rooms = λ l b. let e = ap (λ (r : LaneRanges). room_of r.rows.items l b) rows in omega (arith, e);
+  there = λ e a. absurd (none-among e a);
+}
+
 pub logged-then : (x y z : LoggedRows) → IsLogged x y → IsLogged y z → IsLogged x z
 logged-then x y z p q = record {
   added = p.added ++ q.added;
@@ -77,3 +90,6 @@ logged-then x y z p q = record {
     go : (e : Former) → Among e p.added ⊎ Among e q.added → cell_there z.rows.rows.items e ≡ true
     go e (inl a) = cells-stay y.rows.rows.items z.rows.rows.items q.cells q.rooms p.added p.there e a
     go e (inr a) = q.there e a
+
+pub logged-behind : (x y z : LoggedRows) → y.rows ≡ x.rows → y.log.items ≡ x.log.items → IsLogged y z → IsLogged x z
+logged-behind x y z rows log p = logged-then x y z (logged-alike x y rows log) p

@@ -6,7 +6,7 @@ use Rattle.live_lanes.specs.declared.compute.flow.BlockFlow.{BlockFlow}
 use Rattle.live_lanes.specs.declared.row.Cause.{Cause}
 use Rattle.live_lanes.specs.declared.row.Cause.TheVariants as reasons
 use Rattle.live_lanes.specs.declared.row.LaneRange.{LaneRange}
-use Rattle.live_lanes.specs.declared.table.PieceSpot.{PieceSpot}
+use Rattle.live_edits.specs.declared.pieces.PieceSpot.{PieceSpot}
 use Rattle.live_lanes.specs.Graph.{Causes, is_live}
 use Rattle.live_lanes.specs.Table.{Numbers, entry_rank, exit_rank}
 use Rattle.live_lanes.specs.Entered.{start_of, rows_seen, causes, IsTableOf}

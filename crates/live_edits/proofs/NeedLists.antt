@@ -1,7 +1,7 @@
 -- Lists of what leads to a piece: how they grow, and that they hold exactly that.
 use Rattle.std.proofs.Common.{◌≡◌, ◌⊎◌, inl, inr, ◌<◌, ◌+◌, ℕ, zero, suc, Bool, true, false, cond, ◌&&◌, nat_eq, length, List, [], ◌∷◌, ◌++◌, map, take, get_or, append_assoc, Option, None, Some, refl, sym, ap, ◌∙◌, subst, arith, eqb-true, eq-eqb}
-use Rattle.std.specs.List.{list_any, flat_map}
-use Rattle.std.proofs.lemmas.List.{map_push, map_more, take_more, flat_map_more}
+use Rattle.std.specs.List.{list_any}
+use Rattle.std.proofs.lemmas.List.{map_push, map_more}
 use Rattle.mir_meaning.specs.Paths.{Among, here, there, is_some_number}
 use Rattle.live_lanes.specs.declared.compute.flow.BlockFlow.{BlockFlow}
 use Rattle.live_lanes.specs.declared.row.Cause.TheVariants as causes
@@ -29,17 +29,17 @@ use Rattle.live_edits.proofs.RiseThere.{leading-within}
 
 module _ (slots : Numbers) (rows : List LaneRange) (l x b : ℕ) where
   -- the last piece of the lane in the block, where it has that number
-  abbrev pub last-need : ℕ → Need
-  last-need k = record { spot = record { lane = l; block = b; index = k }; cause = causes.Follower x }
+  abbrev pub last-need : ℕ → ℕ → Need
+  last-need near k = record { spot = record { lane = l; block = b; index = k; near = near }; cause = causes.Follower x }
 
   end-among : (from : List Request) (ids : List ℕ) → Among (end_need rows l x b) (from ++ exit_needs slots rows l x b ids)
   end-among from ids = among-right (end_need rows l x b) from (exit_needs slots rows l x b ids) here
 
   -- the last piece alone, where it is the only one
-  pub exits-only : (from to : List Need) (ids : List ℕ) → to ≡ from ++ last-need 0 ∷ [] → 0 ≡ length (rows_seen rows l b).segments → AreAlike (requests_of to) (requests_of from ++ exit_needs slots rows l x b ids)
-  exits-only from to ids t none =
+  pub exits-only : (near : ℕ) (from to : List Need) (ids : List ℕ) → to ≡ from ++ last-need near 0 ∷ [] → 0 ≡ length (rows_seen rows l b).segments → AreAlike (requests_of to) (requests_of from ++ exit_needs slots rows l x b ids)
+  exits-only near from to ids t none =
       alike-then (requests_of to) (requests_of from ++ end_need rows l x b ∷ []) (requests_of from ++ exit_needs slots rows l x b ids)
-      (alike-equal (requests_of to) (requests_of from ++ end_need rows l x b ∷ []) (ap requests_of t ∙ (map_push request_of from (last-need 0) ∙ (λ i. requests_of from ++ record { node = (l, b, none i); cause = causes.Follower x } ∷ []))))
+      (alike-equal (requests_of to) (requests_of from ++ end_need rows l x b ∷ []) (ap requests_of t ∙ (map_push request_of from (last-need near 0) ∙ (λ i. requests_of from ++ record { node = (l, b, none i); cause = causes.Follower x } ∷ []))))
       (subst (AreAlike (requests_of from ++ end_need rows l x b ∷ [])) (append_assoc (requests_of from) (end_need rows l x b ∷ []) (map (exit_need slots rows l x b) ids))
       (alike-own (requests_of from ++ end_need rows l x b ∷ []) (map (exit_need slots rows l x b) ids) own))
     where
@@ -53,12 +53,12 @@ module _ (slots : Numbers) (rows : List LaneRange) (l x b : ℕ) where
           subst (λ y. Among y (requests_of from ++ end_need rows l x b ∷ [])) e (end-among (requests_of from) [])
 
   -- the last piece, and then the exits of the terminators, as its cell tells them
-  pub exits-all : (from mid to : List Need) (k : ℕ) (ids : List ℕ) (v : Seen) → v ≡ rows_seen rows l b → k ≡ length v.segments → mid ≡ from ++ last-need k ∷ []
-      → AreAlike (requests_of to) (requests_of mid ++ map (exit_beside slots v (request_of (last-need k))) ids) → AreAlike (requests_of to) (requests_of from ++ exit_needs slots rows l x b ids)
-  exits-all from mid to k ids v seen last t e = subst (AreAlike (requests_of to)) whole e
+  pub exits-all : (near : ℕ) (from mid to : List Need) (k : ℕ) (ids : List ℕ) (v : Seen) → v ≡ rows_seen rows l b → k ≡ length v.segments → mid ≡ from ++ last-need near k ∷ []
+      → AreAlike (requests_of to) (requests_of mid ++ map (exit_beside slots v (request_of (last-need near k))) ids) → AreAlike (requests_of to) (requests_of from ++ exit_needs slots rows l x b ids)
+  exits-all near from mid to k ids v seen last t e = subst (AreAlike (requests_of to)) whole e
     where
       beside : Seen → List Request
-      beside w = map (exit_beside slots w (request_of (last-need k))) ids
+      beside w = map (exit_beside slots w (request_of (last-need near k))) ids
 
       at-last : k ≡ length (rows_seen rows l b).segments
       at-last = last ∙ ap (λ w. length w.segments) seen
@@ -66,8 +66,8 @@ module _ (slots : Numbers) (rows : List LaneRange) (l x b : ℕ) where
       whole : requests_of mid ++ beside v ≡ requests_of from ++ exit_needs slots rows l x b ids
       whole =
           ap (λ ns. requests_of ns ++ beside v) t
-          ∙ (ap (λ q. q ++ beside v) (map_push request_of from (last-need k))
-          ∙ (append_assoc (requests_of from) (request_of (last-need k) ∷ []) (beside v)
+          ∙ (ap (λ q. q ++ beside v) (map_push request_of from (last-need near k))
+          ∙ (append_assoc (requests_of from) (request_of (last-need near k) ∷ []) (beside v)
           ∙ (λ i. requests_of from ++ record { node = (l, b, at-last i); cause = causes.Follower x } ∷ beside (seen i))))
 
 -- what was added last is there
@@ -97,12 +97,6 @@ module _ (f : ℕ → Request) (from : List Request) (ids : List ℕ) (k : ℕ) 
     where
       own : (q : Request) → Among q (f (get_or ids k 0) ∷ []) → Among q (from ++ map f (take k ids))
       own q m = subst (λ y. Among y (from ++ map f (take k ids))) (s ∙ sym (only q (f (get_or ids k 0)) m)) (among-left r from (map f (take k ids)) a)
-
--- the exits of one block more
-pub before-more : (f : ℕ → List Request) (from mid to : List Request) (bs : List ℕ) (k : ℕ) → k < length bs → AreAlike mid (from ++ flat_map f (take k bs)) → AreAlike to (mid ++ f (get_or bs k 0)) → AreAlike to (from ++ flat_map f (take (k + 1) bs))
-before-more f from mid to bs k h e t =
-    subst (AreAlike to) (flat_map_more f from (take k bs) (get_or bs k 0) ∙ ap (λ q. from ++ flat_map f q) (sym (take_more bs k 0 h)))
-    (alike-then to (mid ++ f (get_or bs k 0)) ((from ++ flat_map f (take k bs)) ++ f (get_or bs k 0)) t (alike-before mid (from ++ flat_map f (take k bs)) (f (get_or bs k 0)) e))
 
 -- the readings that move a lane
 

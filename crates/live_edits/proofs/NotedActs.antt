@@ -1,13 +1,7 @@
 -- What acts and notes tell of what an instruction does to a lane.
-use Rattle.std.proofs.Common.{◌≡◌, ℕ, Bool, true, false, cond, ◌||◌, List, [], ◌∷◌, Option, None, Some, refl, sym, ap, ◌∙◌, subst, map, find, eqb-true, eq-eqb}
+use Rattle.std.proofs.Common.{◌≡◌, ℕ, Bool, true, false, cond, List, [], ◌∷◌, Option, None, Some, refl, sym, ap, ◌∙◌, map, find, eqb-true}
 use Rattle.std.specs.Prelude.{nat_eq}
 use Rattle.std.specs.Option.{option_or}
-use Rattle.std.specs.List.{list_any}
-use Rattle.std.specs.Ordering.{nat_cmp, is_eq}
-use Rattle.std.specs.BTreeMap.{is_at}
-use Rattle.std.proofs.lemmas.Map.Lookups.{exact_unsigned}
-use Rattle.std.proofs.lemmas.Map.Views.{tells_apart}
-use Rattle.slot_index.proofs.Ordered.{cmp_equal}
 use Rattle.mir_func.specs.declared.func.Instr.{Instr}
 use Rattle.mir_meaning.specs.declared.writing.LaneDef.{LaneDef}
 use Rattle.mir_meaning.specs.Paths.{Step, Use, Unused, Certain, Into, has, use_of, move_of, writing_of, is_present, is_some_number, is_written}
@@ -63,7 +57,7 @@ write-told l (w ∷ ws) = go (nat_eq w.lane l) refl (write-told l ws)
     go true e ih = λ k. Some (record { lane = eqb-true w.lane l e k; from = w.from; early = w.early })
     go false e ih = ih
 
-note-step : (l : ℕ) (s : Step) → lane_step l s ≡ noted_step (record { id = s.id; act = lane_act s.reads s.writes l })
+pub note-step : (l : ℕ) (s : Step) → lane_step l s ≡ noted_step (record { id = s.id; act = lane_act s.reads s.writes l })
 note-step l s = λ k. record { id = s.id; used = read-told l s.reads (first_of (move_at l) s.writes) (move_of l s.writes) (move-told l s.writes) k; writing = write-told l s.writes k }
 
 -- acts that tell what an instruction does make its note
@@ -72,7 +66,7 @@ step-noted l s acts told = note-step l s ∙ ap (λ (a : LaneAct). noted_step (r
 
 -- a lane that no act names
 
-none-on : (acts : List LaneAct) (l : ℕ) → has l (map (λ (a : LaneAct). a.lane) acts) ≡ false → act_on acts l ≡ no_act l
+pub none-on : (acts : List LaneAct) (l : ℕ) → has l (map (λ (a : LaneAct). a.lane) acts) ≡ false → act_on acts l ≡ no_act l
 none-on [] l h = refl
 none-on (a ∷ acts) l h = go (nat_eq a.lane l) h (none-on acts l)
   where
@@ -95,41 +89,7 @@ unnamed-unwritten l s acts told h = ap is_present (unnamed-writing l s acts told
 
 -- instructions that are gone
 
-at-key : (id k : ℕ) → is_eq (nat_cmp id k) ≡ nat_eq k id
-at-key id k = go (nat_eq k id) refl
-  where
-    other : (b : Bool) → is_eq (nat_cmp id k) ≡ b → nat_eq k id ≡ false → b ≡ false
-    other true e f =
-        let own : nat_eq k k ≡ true = eq-eqb k k refl in
-        let none : nat_eq k k ≡ false = ap (λ n. nat_eq k n) (sym (tells_apart exact_unsigned id k e)) ∙ f in
-        absurd (let z : true ≡ false = sym own ∙ none in cc)
-    other false e f = refl
-
-    go : (b : Bool) → nat_eq k id ≡ b → is_eq (nat_cmp id k) ≡ b
-    go true e = ap (λ n. is_eq (nat_cmp id n)) (eqb-true k id e) ∙ ap is_eq (cmp_equal id)
-    go false e = other (is_eq (nat_cmp id k)) refl e
-
-pub keys-has : (id : ℕ) (keys : List ℕ) → list_any (is_at (nat_cmp id)) keys ≡ has id keys
-keys-has id [] = refl
-keys-has id (k ∷ keys) = ap (λ b. b || list_any (is_at (nat_cmp id)) keys) (at-key id k) ∙ go (nat_eq k id) (keys-has id keys)
-  where
-    go : (b : Bool) → list_any (is_at (nat_cmp id)) keys ≡ has id keys → b || list_any (is_at (nat_cmp id)) keys ≡ cond b true (has id keys)
-    go true e = refl
-    go false e = e
-
 module _ (gone : List ℕ) (doing : Doing) (i : Instr) where
-  -- one that is gone does nothing
-  pub gone-acts : (id : ℕ) (acts : List LaneAct) → i.id ≡ id → list_any (is_at (nat_cmp id)) gone ≡ true → acts ≡ [] → AreActs ((idle gone doing) i).0 acts
-  gone-acts id acts e h none =
-      let own : has i.id gone ≡ true = ap (λ n. has n gone) e ∙ sym (keys-has id gone) ∙ h in
-      subst (λ b. AreActs (cond b (nothing i.id) (doing i)).0 acts) (sym own) (λ l. ap (λ (xs : List LaneAct). act_on xs l) none)
-
-  -- another does what it does
-  pub other-acts : (id : ℕ) (acts : List LaneAct) → i.id ≡ id → list_any (is_at (nat_cmp id)) gone ≡ false → AreActs (doing i).0 acts → AreActs ((idle gone doing) i).0 acts
-  other-acts id acts e h told =
-      let own : has i.id gone ≡ false = ap (λ n. has n gone) e ∙ sym (keys-has id gone) ∙ h in
-      subst (λ b. AreActs (cond b (nothing i.id) (doing i)).0 acts) (sym own) told
-
   pub idle-id : (doing i).0.id ≡ i.id → ((idle gone doing) i).0.id ≡ i.id
   idle-id e = go (has i.id gone)
     where

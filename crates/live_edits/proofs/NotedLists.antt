@@ -1,7 +1,8 @@
 -- Elements of lists by their places, and lists of notes to which one more is added.
-use Rattle.std.proofs.Common.{◌≡◌, ◌<◌, ◌≤◌, ◌+◌, ◌||◌, ℕ, zero, suc, Bool, true, false, cond, length, List, [], ◌∷◌, ◌++◌, None, Some, ◌⊎◌, inl, inr, ⊎_elim, get_or, set, refl, sym, ap, ◌∙◌, subst, arith, eqb-true, eq-eqb}
+use Rattle.std.proofs.Common.{◌≡◌, ◌<◌, ◌≤◌, ◌+◌, ◌||◌, ℕ, zero, suc, Bool, true, false, cond, length, List, [], ◌∷◌, ◌++◌, None, Some, ◌⊎◌, inl, inr, ⊎_elim, get_or, set, take, refl, sym, ap, ◌∙◌, subst, arith, eqb-true, eq-eqb}
 use Rattle.std.specs.Prelude.{nat_eq, slice_get}
 use Rattle.std.specs.List.{list_any}
+use Rattle.std.proofs.lemmas.List.{take_more}
 use Rattle.mir_meaning.specs.Paths.{Among, here, there, has}
 use Rattle.live_lanes.specs.Ordered.{times}
 use Rattle.live_lanes.proofs.Basics.{none-among}
@@ -58,6 +59,25 @@ push-cases [] y (suc k) x e = absurd (cc)
 push-cases (z ∷ xs) y zero x e = inl e
 push-cases (z ∷ xs) y (suc k) x e = ⊎_elim (λ h. inl h) (λ h. inr (ap (λ n. suc n) h.0, h.1)) (push-cases xs y k x e)
 
+-- one more element
+
+module _ {X : Type 0} (xs : List X) (k : ℕ) (x : X) (h : k < length xs) (own : x ≡ get_or xs k x) where
+  next-taken : take (k + 1) xs ≡ take k xs ++ x ∷ []
+  next-taken = take_more xs k x h ∙ ap (λ y. take k xs ++ y ∷ []) (sym own)
+
+  pub taken-more : (y : X) → Among y (take k xs) → Among y (take (k + 1) xs)
+  taken-more y a = subst (λ ys. Among y ys) (sym next-taken) (among-left y (take k xs) (x ∷ []) a)
+
+  pub taken-own : Among x (take (k + 1) xs)
+  taken-own = subst (λ ys. Among x ys) (sym next-taken) (among-right x (take k xs) (x ∷ []) here)
+
+  pub taken-cases : (y : X) → Among y (take (k + 1) xs) → Among y (take k xs) ⊎ (y ≡ x)
+  taken-cases y a = ⊎_elim (λ b. inl b) (λ b. inr (only (among-cases y x [] b))) (among-split y (take k xs) (x ∷ []) (subst (λ ys. Among y ys) next-taken a))
+    where
+      only : (y ≡ x) ⊎ Among y [] → y ≡ x
+      only (inl e) = e
+      only (inr b) = absurd (none-among y b)
+
 -- one that is changed
 
 pub set-here : {X : Type 0} (xs : List X) (k : ℕ) (x y : X) → slice_get xs k ≡ Some x → slice_get (set xs k y) k ≡ Some y
@@ -112,6 +132,35 @@ note-has n id (m ∷ ns) a e = go (nat_eq m.id id) refl (among-cases n m ns a) (
     go true f o ih = refl
     go false f (inl g) ih = absurd (let own : nat_eq m.id id ≡ true = eq-eqb m.id id (ap (λ (x : Note). x.id) (sym g) ∙ e) in let z : true ≡ false = sym own ∙ f in cc)
     go false f (inr b) ih = ih b
+
+has-some : (id : ℕ) (xs : List ℕ) → has id xs ≡ true → 1 ≤ times id xs
+has-some id [] h = absurd (let z : false ≡ true = h in cc)
+has-some id (x ∷ xs) h = go (nat_eq x id) h (has-some id xs)
+  where
+    go : (b : Bool) → cond b true (has id xs) ≡ true → (has id xs ≡ true → 1 ≤ times id xs) → 1 ≤ cond b (suc (times id xs)) (times id xs)
+    go true g ih = omega arith
+    go false g ih = ih g
+
+-- where an id stands once at most, there is one note of it
+pub one-of-id : (id : ℕ) (ns : List Note) → times id (noted_ids ns) ≤ 1 → (n m : Note) → Among n ns → Among m ns → n.id ≡ id → m.id ≡ id → n ≡ m
+one-of-id id [] single n m a b e f = absurd (none-among n a)
+one-of-id id (x ∷ ns) single n m a b e f = go (among-cases n x ns a) (among-cases m x ns b) (λ h p q. one-of-id id ns h n m p q e f)
+  where
+    again : (k : Note) → Among k ns → k.id ≡ id → x.id ≡ id → ⊥
+    again k c g h =
+        let some : 1 ≤ times id (noted_ids ns) = has-some id (noted_ids ns) (note-has k id ns c g) in
+        let more : suc (times id (noted_ids ns)) ≤ 1 = subst (λ u. cond u (suc (times id (noted_ids ns))) (times id (noted_ids ns)) ≤ 1) (eq-eqb x.id id h) single in
+        omega arith
+
+    fewer : (u : Bool) → cond u (suc (times id (noted_ids ns))) (times id (noted_ids ns)) ≤ 1 → times id (noted_ids ns) ≤ 1
+    fewer true h = omega arith
+    fewer false h = h
+
+    go : (n ≡ x) ⊎ Among n ns → (m ≡ x) ⊎ Among m ns → (times id (noted_ids ns) ≤ 1 → Among n ns → Among m ns → n ≡ m) → n ≡ m
+    go (inl p) (inl q) ih = p ∙ sym q
+    go (inl p) (inr q) ih = absurd (again m q f (ap (λ (y : Note). y.id) (sym p) ∙ e))
+    go (inr p) (inl q) ih = absurd (again n p e (ap (λ (y : Note). y.id) (sym q) ∙ f))
+    go (inr p) (inr q) ih = ih (fewer (nat_eq x.id id) single) p q
 
 -- with one more note
 

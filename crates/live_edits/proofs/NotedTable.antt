@@ -12,8 +12,8 @@ use Rattle.live_edits.specs.declared.cells.Note.{Note}
 use Rattle.live_edits.specs.declared.cells.CellNotes.{CellNotes}
 use Rattle.live_edits.specs.declared.notes.NoteTable.{NoteTable}
 use Rattle.live_edits.specs.Remade.{noted_ids}
-use Rattle.live_edits.specs.NotedTable.{cell_key, with_note, IsListAt, HasNote, AreFilled, AreOld, AddsNotes, IsNoteTable}
-use Rattle.live_edits.proofs.NotedLists.{push-kept, push-last, push-cases, set-here, set-other, set-cases, same-or-not, some-same, note-kept, note-back, note-there, note-single}
+use Rattle.live_edits.specs.NotedTable.{cell_key, with_note, IsListAt, IsNoted, HasNote, AreFilled, AreOld, AddsNotes, IsNoteTable}
+use Rattle.live_edits.proofs.NotedLists.{push-kept, push-last, push-cases, set-here, set-other, set-cases, same-or-not, some-same, note-kept, note-back, note-there, note-single, one-of-id}
 
 none-twice : 0 ≤ 1
 none-twice = omega arith
@@ -188,3 +188,11 @@ module _ (old mid new : List CellNotes) (A B C : ℕ → ℕ → Note → Type 0
 
 pub note-stays : (old new : List CellNotes) (A : ℕ → ℕ → Note → Type 0) → AddsNotes old new A → (l b id : ℕ) → HasNote old l b id → HasNote new l b id
 note-stays old new A x l b id h = (h.0, x.kept l b h.0 h.1, h.2)
+
+-- a table has one note of an instruction at a lane
+pub one-note : (x : NoteTable) → IsNoteTable x → (l b : ℕ) (n m : Note) → IsNoted x.all.items l b n → IsNoted x.all.items l b m → n.id ≡ m.id → n ≡ m
+one-note x table l b n m y z same =
+    let key : cell_key y.1.lane y.1.block ≡ cell_key z.1.lane z.1.block = λ i. cell_key ((y.3 ∙ sym z.3) i) ((y.4 ∙ sym z.4) i) in
+    let place : y.0 ≡ z.0 = some-same (sym (table.leads y.0 y.1 y.2) ∙ (ap (λ q. get nat_cmp x.places q) key ∙ table.leads z.0 z.1 z.2)) in
+    let own : z.1 ≡ y.1 = some-same (sym z.2 ∙ (ap (λ k. slice_get x.all.items k) (sym place) ∙ y.2)) in
+    one-of-id m.id y.1.notes.items (table.single y.0 y.1 y.2 m.id) n m y.5 (subst (λ (c : CellNotes). Among m c.notes.items) own z.5) same refl

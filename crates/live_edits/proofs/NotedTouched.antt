@@ -20,7 +20,7 @@ use Rattle.edit_laws.specs.Deferred.{idle, idle_code}
 use Rattle.live_edits.specs.declared.cells.CellNotes.{CellNotes}
 use Rattle.live_edits.specs.declared.notes.TouchedInstr.{TouchedInstr}
 use Rattle.live_edits.specs.Remade.{noted_ids, AreAllNotes}
-use Rattle.live_edits.specs.Noted.{HasNotes, touches, touched_at}
+use Rattle.live_edits.specs.Noted.{HasNotes, touched_lanes, touches, touched_at}
 use Rattle.live_edits.proofs.NotedLists.{among-get, get-among, some-same, has-note}
 
 -- touched instructions of which a test holds
@@ -76,11 +76,11 @@ module _ (t : Target) (f : Function) (num : Numbering) (gone : List ℕ) (touche
   touched-noted l b id e =
       let z = any-found (λ (x : TouchedInstr). touches x l b id) touched e in
       let x = z.0 in
-      let own = both-left (nat_eq x.id id) (nat_eq x.block b && has l x.lanes.items) z.2 in
-      let rest = both-right (nat_eq x.id id) (nat_eq x.block b && has l x.lanes.items) z.2 in
-      let there-in = both-left (nat_eq x.block b) (has l x.lanes.items) rest in
-      let named = both-right (nat_eq x.block b) (has l x.lanes.items) rest in
-      let y = has-notes.whole x z.1 l (has-among l x.lanes.items named) in
+      let own = both-left (nat_eq x.id id) (nat_eq x.block b && has l (touched_lanes x)) z.2 in
+      let rest = both-right (nat_eq x.id id) (nat_eq x.block b && has l (touched_lanes x)) z.2 in
+      let there-in = both-left (nat_eq x.block b) (has l (touched_lanes x)) rest in
+      let named = both-right (nat_eq x.block b) (has l (touched_lanes x)) rest in
+      let y = has-notes.whole x z.1 l (has-among l (touched_lanes x) named) in
       (y.0, y.1, y.2, y.3 ∙ eqb-true x.block b there-in, ap (λ n. has n (noted_ids y.0.notes.items)) (sym (eqb-true x.id id own)) ∙ y.4)
 
   noted-touched : (c : CellNotes) (id : ℕ) → Among c all → has id (noted_ids c.notes.items) ≡ true → touched_at touched c.lane c.block id ≡ true
@@ -89,8 +89,8 @@ module _ (t : Target) (f : Function) (num : Numbering) (gone : List ℕ) (touche
       let z = has-notes.none c a n.0 n.1 in
       let x = z.0 in
       any-there (λ (y : TouchedInstr). touches y c.lane c.block id) touched x z.1
-      (both (nat_eq x.id id) (nat_eq x.block c.block && has c.lane x.lanes.items) (eq-eqb x.id id (z.2 ∙ n.2))
-      (both (nat_eq x.block c.block) (has c.lane x.lanes.items) (eq-eqb x.block c.block z.3) (among-has c.lane x.lanes.items z.4)))
+      (both (nat_eq x.id id) (nat_eq x.block c.block && has c.lane (touched_lanes x)) (eq-eqb x.id id (z.2 ∙ n.2))
+      (both (nat_eq x.block c.block) (has c.lane (touched_lanes x)) (eq-eqb x.block c.block z.3) (among-has c.lane (touched_lanes x) z.4)))
 
   list-told : (c : CellNotes) → Among c all → (id : ℕ) → touched_at touched c.lane c.block id ≡ has id (noted_ids c.notes.items)
   list-told c a id =
@@ -106,7 +106,7 @@ module _ (t : Target) (f : Function) (num : Numbering) (gone : List ℕ) (touche
       go false e = refl
 
   -- where the lanes of the touched instructions have rows
-  pub all-notes : (rows : List LaneRange) → ((x : TouchedInstr) → Among x touched → (l : ℕ) → Among l x.lanes.items → l < length rows) → AreAllNotes (touched_at touched) (idle_code t f num gone) rows all
+  pub all-notes : (rows : List LaneRange) → ((x : TouchedInstr) → Among x touched → (l : ℕ) → Among l (touched_lanes x) → l < length rows) → AreAllNotes (touched_at touched) (idle_code t f num gone) rows all
   all-notes rows within = record {
     each = λ c a. record {
       told = list-told c a;

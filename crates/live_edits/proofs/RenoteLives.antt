@@ -1,5 +1,5 @@
 -- Lives of pieces where one of them is changed.
-use Rattle.std.proofs.Common.{◌≡◌, ◌≤◌, ◌∙◌, ℕ, zero, suc, List, [], ◌∷◌, ◌++◌, Option, None, map, take, drop, refl, sym, ap, subst}
+use Rattle.std.proofs.Common.{◌≡◌, ◌≤◌, ◌∙◌, ℕ, zero, suc, List, [], ◌∷◌, ◌++◌, map, take, drop, refl, sym, ap, subst}
 use Rattle.std.specs.List.{insert, remove}
 use Rattle.instr_effects.specs.declared.lane_acts.LaneWrite.{LaneWrite}
 use Rattle.live_lanes.specs.declared.row.Cause.TheVariants as reasons

@@ -15,7 +15,7 @@ use Rattle.live_lanes.proofs.Numbered.{among-right}
 use Rattle.edit_laws.specs.LaneSteps as laws
 use Rattle.live_edits.specs.CellChanges.{with_readings}
 use Rattle.live_edits.specs.RemadeSteps.{use_of_read, def_of_write}
-use Rattle.live_edits.specs.Renoted.{Event, reads, writes, seen_told, use_told, def_told, under, not_over, before_entry, before_exit, AllPass, NonePass, CutsReadings, CutsPieces, piece_readings, first_read, without_first, is_begun_by, rewritten, piece_begun, piece_joined, Begins, NoReading, NoWriting, NotesUse, NotesDef}
+use Rattle.live_edits.specs.Renoted.{Event, reads, writes, seen_told, use_told, def_told, under, not_over, before_entry, before_exit, AllPass, NonePass, CutsReadings, CutsPieces, piece_readings, first_read, without_first, is_begun_by, rewritten, piece_joined, Begins, NoReading, NoWriting, NotesUse, NotesDef}
 use Rattle.live_edits.proofs.RenoteTold.{writing, told_before, told_rest, told_after, with-told, begun-told, joined-told, begun-within, after-begun, rewritten-told}
 use Rattle.live_edits.proofs.RenoteCut.{first_or, rest_of, find-cut}
 

@@ -1,5 +1,5 @@
 -- A cell whose instructions write otherwise, and rows of which one cell changes after another.
-use Rattle.std.proofs.Common.{◌≡◌, ◌≤◌, ◌∙◌, ℕ, Bool, true, false, cond, ◌&&◌, length, List, ◌∷◌, ◌<◌, ◌+◌, drop, get_or, Option, None, Some, refl, sym, ap, subst, eqb-true, eq-eqb}
+use Rattle.std.proofs.Common.{◌≡◌, ◌≤◌, ◌∙◌, ℕ, Bool, true, false, cond, ◌&&◌, length, List, ◌<◌, ◌+◌, drop, get_or, Option, None, Some, refl, sym, ap, subst, eq-eqb}
 use Rattle.std.specs.Prelude.{nat_eq, unwrap_or, option_copied, IfOk, Result}
 use Rattle.std.specs.Borrow.{Bor}
 use Rattle.std.specs.declared.result.Result.TheVariants as results

@@ -4,7 +4,7 @@ use Rattle.std.proofs.Math.Seq.{drop-cons, take-suc}
 use Rattle.std.proofs.lemmas.List.{map-append, take_all, drop_all}
 use Rattle.mir_meaning.specs.Paths.{Among, here, there, Code}
 use Rattle.live_lanes.specs.declared.row.LaneRange.{LaneRange}
-use Rattle.live_lanes.specs.declared.table.PieceSpot.{PieceSpot}
+use Rattle.live_edits.specs.declared.pieces.PieceSpot.{PieceSpot}
 use Rattle.live_lanes.specs.Entered.{causes}
 use Rattle.live_lanes.proofs.Basics.{none-among, among-append}
 use Rattle.live_lanes.proofs.Numbered.{among-cases, among-left, among-right, among-split}

@@ -1,15 +1,19 @@
 -- The ids that a set has once one is inserted, and those of touched instructions.
-use Rattle.std.proofs.Common.{◌≡◌, ◌++◌, ◌∙◌, ◌<◌, ◌+◌, ⊎_elim, ℕ, Bool, true, false, cond, List, [], ◌∷◌, take, length, get_or, refl, sym, ap, append-nil, eq-eqb}
+use Rattle.std.proofs.Common.{◌≡◌, ◌++◌, ◌∙◌, ◌<◌, ◌+◌, ⊎_elim, ℕ, Bool, true, false, cond, List, [], ◌∷◌, take, length, get_or, refl, sym, ap, append-nil, eqb-true, eq-eqb, ◌||◌}
 use Rattle.std.specs.Prelude.{nat_eq}
-use Rattle.std.specs.Ordering.{nat_cmp, match_ordering}
+use Rattle.std.specs.BTreeMap.{is_at}
+use Rattle.std.specs.List.{list_any}
+use Rattle.std.specs.Ordering.{nat_cmp, is_eq, match_ordering}
 use Rattle.std.specs.declared.cmp.Ordering.{Ordering}
 use Rattle.std.specs.declared.cmp.Ordering.TheVariants.{Less, Equal, Greater}
 use Rattle.std.specs.BTreeSet.{insert_key}
 use Rattle.std.proofs.lemmas.Map.Lookups.{exact_unsigned}
+use Rattle.std.proofs.lemmas.Map.Views.{tells_apart}
 use Rattle.mir_meaning.specs.Paths.{has}
+use Rattle.slot_index.proofs.Ordered.{cmp_equal}
 use Rattle.live_edits.specs.declared.notes.TouchedInstr.{TouchedInstr}
 use Rattle.live_edits.specs.Runs.{HasIds}
-use Rattle.live_edits.proofs.NotedAll.{taken-cases}
+use Rattle.live_edits.proofs.NotedLists.{taken-cases}
 
 twice : (u h : Bool) → cond u true h ≡ cond u true (cond u true h)
 twice true h = refl
@@ -29,6 +33,30 @@ has-inserted (x ∷ xs) k n = go (nat_cmp k x) refl (has-inserted xs k n)
     go Less e rest = refl
     go Equal e rest = let same : k ≡ x = exact_unsigned k x e in twice (nat_eq x n) (has n xs) ∙ ap (λ y. cond (nat_eq y n) true (has n (x ∷ xs))) (sym same)
     go Greater e rest = ap (λ h. cond (nat_eq x n) true h) rest ∙ turned (nat_eq x n) (nat_eq k n) (has n xs)
+
+-- the ids that a set has
+
+at-key : (id k : ℕ) → is_eq (nat_cmp id k) ≡ nat_eq k id
+at-key id k = go (nat_eq k id) refl
+  where
+    other : (b : Bool) → is_eq (nat_cmp id k) ≡ b → nat_eq k id ≡ false → b ≡ false
+    other true e f =
+        let own : nat_eq k k ≡ true = eq-eqb k k refl in
+        let none : nat_eq k k ≡ false = ap (λ n. nat_eq k n) (sym (tells_apart exact_unsigned id k e)) ∙ f in
+        absurd (let z : true ≡ false = sym own ∙ none in cc)
+    other false e f = refl
+
+    go : (b : Bool) → nat_eq k id ≡ b → is_eq (nat_cmp id k) ≡ b
+    go true e = ap (λ n. is_eq (nat_cmp id n)) (eqb-true k id e) ∙ ap is_eq (cmp_equal id)
+    go false e = other (is_eq (nat_cmp id k)) refl e
+
+pub keys-has : (id : ℕ) (keys : List ℕ) → list_any (is_at (nat_cmp id)) keys ≡ has id keys
+keys-has id [] = refl
+keys-has id (k ∷ keys) = ap (λ b. b || list_any (is_at (nat_cmp id)) keys) (at-key id k) ∙ go (nat_eq k id) (keys-has id keys)
+  where
+    go : (b : Bool) → list_any (is_at (nat_cmp id)) keys ≡ has id keys → b || list_any (is_at (nat_cmp id)) keys ≡ cond b true (has id keys)
+    go true e = refl
+    go false e = e
 
 -- the ids of two lists
 

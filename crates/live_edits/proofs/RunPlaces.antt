@@ -1,6 +1,6 @@
 -- Where instructions stand in a function and in the function after an edit.
-use Rattle.std.proofs.Common.{◌≡◌, ◌++◌, ◌∙◌, ◌<◌, ℕ, zero, suc, List, [], ◌∷◌, Option, Some, map, take, drop, length, refl, sym, ap, subst, arith}
-use Rattle.std.specs.Prelude.{slice_get}
+use Rattle.std.proofs.Common.{◌≡◌, ◌++◌, ◌∙◌, ◌<◌, ◌+◌, ℕ, zero, suc, Bool, true, false, List, [], ◌∷◌, Option, Some, map, take, drop, length, refl, sym, ap, subst, eqb-true, arith}
+use Rattle.std.specs.Prelude.{nat_eq, slice_get}
 use Rattle.std.specs.Option.{option_map_or}
 use Rattle.std.specs.List.{insert}
 use Rattle.std.proofs.lemmas.List.{length-map}
@@ -15,7 +15,7 @@ use Rattle.mir_func.specs.declared.func.Operand.{Operand}
 use Rattle.mir_func.specs.Value.{Function, IsFunction, id_count, id_total}
 use Rattle.mir_func.specs.At.{instrs_at, instr_at}
 use Rattle.mir_func.specs.Edits.{block_place, gap_place, instr_place, update, put, made, inserted, changed_in}
-use Rattle.mir_func.proofs.ByPlace.{gap_before_is}
+use Rattle.mir_func.proofs.ByPlace.{gap_before_is, place_behind}
 use Rattle.mir_func.proofs.Counts.{id_count-update}
 use Rattle.live_lanes.specs.declared.order.Order.{Order}
 use Rattle.live_lanes.proofs.Finding.{home-of}
@@ -88,22 +88,6 @@ others-stand f gap op os q m i e = put-others f.blocks (block_place gap.block f.
 
 -- a changed instruction
 
-update-kept : (g : Instr → Instr) → ((i : Instr) → (g i).id ≡ i.id) → (is : List Instr) (n m : ℕ) (i : Instr) → slice_get is m ≡ Some i → (j : Instr) × (slice_get (update n g is) m ≡ Some j) × (j.id ≡ i.id)
-update-kept g keeps [] n m i e = absurd (cc)
-update-kept g keeps (x ∷ xs) zero zero i e = (g x, refl, keeps x ∙ ap (λ (y : Instr). y.id) (same_Some x i e))
-update-kept g keeps (x ∷ xs) zero (suc m) i e = (i, e, refl)
-update-kept g keeps (x ∷ xs) (suc n) zero i e = (i, e, refl)
-update-kept g keeps (x ∷ xs) (suc n) (suc m) i e = update-kept g keeps xs n m i e
-
-map-kept : (g : Instr → Instr) → ((i : Instr) → (g i).id ≡ i.id) → (id : ℕ) (bs : List Block) (q m : ℕ) (i : Instr) → instr_at bs q m ≡ Some i → (j : Instr) × (instr_at (map (changed_in id g) bs) q m ≡ Some j) × (j.id ≡ i.id)
-map-kept g keeps id [] q m i e = absurd (cc)
-map-kept g keeps id (b ∷ bs) zero m i e = update-kept g keeps b.instrs (instr_place id b.instrs) m i e
-map-kept g keeps id (b ∷ bs) (suc q) m i e = map-kept g keeps id bs q m i e
-
--- all instructions stand where they stood
-pub replaced-stand : (f : Function) (id : ℕ) (op : OpId) (os : List Operand) (q m : ℕ) (i : Instr) → instr_at f.blocks q m ≡ Some i → (j : Instr) × (instr_at (replaced f id op os).blocks q m ≡ Some j) × (j.id ≡ i.id)
-replaced-stand f id op os q m i e = map-kept (with_op op os) (λ j. refl) id f.blocks q m i e
-
 update-at : (g : Instr → Instr) (is : List Instr) (n : ℕ) (i : Instr) → slice_get is n ≡ Some i → slice_get (update n g is) n ≡ Some (g i)
 update-at g [] n i e = absurd (cc)
 update-at g (x ∷ xs) zero i e = ap (λ y. Some (g y)) (same_Some x i e)
@@ -117,6 +101,25 @@ map-at g id (b ∷ bs) (suc p) k i e at = map-at g id bs p k i e at
 -- the one of that id is changed
 pub changed-there : (f : Function) (id : ℕ) (op : OpId) (os : List Operand) (p k : ℕ) (i : Instr) → IsFunction f.blocks f.next_id → instr_at f.blocks p k ≡ Some i → i.id ≡ id → instr_at (replaced f id op os).blocks p k ≡ Some (with_op op os i)
 changed-there f id op os p k i is at own = map-at (with_op op os) id f.blocks p k i at (sym (ap (λ n. instr_place n (instrs_at f.blocks p)) own) ∙ gap_before_is f p k i is at)
+
+-- all others stay
+update-other : (g : Instr → Instr) (id : ℕ) (is : List Instr) (m : ℕ) (i : Instr) → slice_get is m ≡ Some i → (i.id ≡ id → ⊥) → slice_get (update (instr_place id is) g is) m ≡ Some i
+update-other g id [] m i e other = absurd (cc)
+update-other g id (x ∷ xs) m i e other = go (nat_eq x.id id) refl m e (λ k h. update-other g id xs k i h other)
+  where
+    go : (u : Bool) → nat_eq x.id id ≡ u → (n : ℕ) → slice_get (x ∷ xs) n ≡ Some i → ((k : ℕ) → slice_get xs k ≡ Some i → slice_get (update (instr_place id xs) g xs) k ≡ Some i) → slice_get (update (place_behind (instr_place id xs) u) g (x ∷ xs)) n ≡ Some i
+    go true f zero h ih = absurd (other (ap (λ (y : Instr). y.id) (sym (same_Some x i h)) ∙ eqb-true x.id id f))
+    go true f (suc n) h ih = h
+    go false f zero h ih = let next : suc (instr_place id xs) ≡ 1 + instr_place id xs = omega arith in subst (λ k. slice_get (update k g (x ∷ xs)) 0 ≡ Some i) next h
+    go false f (suc n) h ih = let next : suc (instr_place id xs) ≡ 1 + instr_place id xs = omega arith in subst (λ k. slice_get (update k g (x ∷ xs)) (suc n) ≡ Some i) next (ih n h)
+
+map-other : (g : Instr → Instr) (id : ℕ) (bs : List Block) (q m : ℕ) (i : Instr) → instr_at bs q m ≡ Some i → (i.id ≡ id → ⊥) → instr_at (map (changed_in id g) bs) q m ≡ Some i
+map-other g id [] q m i e other = absurd (cc)
+map-other g id (b ∷ bs) zero m i e other = update-other g id b.instrs m i e other
+map-other g id (b ∷ bs) (suc q) m i e other = map-other g id bs q m i e other
+
+pub other-stays : (f : Function) (id : ℕ) (op : OpId) (os : List Operand) (q m : ℕ) (i : Instr) → instr_at f.blocks q m ≡ Some i → (i.id ≡ id → ⊥) → instr_at (replaced f id op os).blocks q m ≡ Some i
+other-stays f id op os q m i e other = map-other (with_op op os) id f.blocks q m i e other
 
 totals-stay : (g : Instr → Instr) → ((i : Instr) → (g i).id ≡ i.id) → (id x : ℕ) (bs : List Block) → id_total x (map (changed_in id g) bs) ≡ id_total x bs
 totals-stay g keeps id x [] = refl

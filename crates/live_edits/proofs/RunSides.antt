@@ -1,9 +1,9 @@
 -- The pieces on both sides of instructions with notes.
-use Rattle.std.proofs.Common.{◌≡◌, ◌⊎◌, inl, inr, ◌++◌, ◌∙◌, ◌<◌, ◌≤◌, ℕ, zero, suc, Bool, true, false, cond, List, [], ◌∷◌, take, length, refl, sym, ap, subst, arith}
+use Rattle.std.proofs.Common.{◌≡◌, ◌⊎◌, inl, inr, ◌++◌, ◌∙◌, ◌<◌, ◌≤◌, ℕ, zero, suc, Bool, true, false, cond, List, [], ◌∷◌, take, get_or, ◌+◌, length, refl, sym, ap, subst, arith}
 use Rattle.std.specs.Prelude.{flat_map}
 use Rattle.mir_meaning.specs.Paths.{Among, here, there}
 use Rattle.live_lanes.specs.declared.row.LaneRange.{LaneRange}
-use Rattle.live_lanes.specs.declared.table.PieceSpot.{PieceSpot}
+use Rattle.live_edits.specs.declared.pieces.PieceSpot.{PieceSpot}
 use Rattle.live_lanes.specs.Table.{Numbers, leading, is_begun, entry_rank, exit_rank}
 use Rattle.live_lanes.specs.Entered.{rows_seen}
 use Rattle.live_lanes.specs.Growth.{piece_in_rows}
@@ -12,8 +12,10 @@ use Rattle.live_lanes.proofs.Numbered.{among-cases}
 use Rattle.edit_laws.specs.Chains.{Node}
 use Rattle.live_edits.specs.declared.cells.CellNotes.{CellNotes}
 use Rattle.live_edits.specs.declared.cells.Note.{Note}
-use Rattle.live_edits.specs.Pieces.{nodes_of, IsThere}
+use Rattle.live_edits.specs.Leading.{AreAlike}
+use Rattle.live_edits.specs.Pieces.{node_of, nodes_of, IsThere}
 use Rattle.live_edits.specs.Runs.{entry_side, exit_side, both_sides, cell_sides, all_sides, AreSuspects}
+use Rattle.live_edits.proofs.AlikeLists.{alike-two, alike-more}
 use Rattle.live_edits.proofs.AskMembers.{among-flat, flat-among}
 
 -- all elements were gone through
@@ -71,5 +73,26 @@ module _ (slots : Numbers) (rows : List LaneRange) where
     there = λ m a h. sides-there all m (sides-each all m a) h;
   }
 
-  pub suspects-whole : (all : List CellNotes) (i : ℕ) (to : List PieceSpot) → length all ≡ i → nodes_of to ≡ all_sides slots rows (take i all) → AreSuspects slots rows all (nodes_of to)
-  suspects-whole all i to e so = subst (AreSuspects slots rows all) (sym (so ∙ flat-whole (cell_sides slots rows) all i e)) (are-suspects all)
+  -- the sides of one more note of a cell
+  pub sides-more : (l b : ℕ) (from : List Node) (mid between to : List PieceSpot) (notes : List Note) (k : ℕ) (d : Note) (entry exit : ℕ) (p q : PieceSpot) → k < length notes
+      → entry ≡ entry_rank slots (get_or notes k d).id → exit ≡ exit_rank slots (get_or notes k d).id
+      → p.lane ≡ l → p.block ≡ b → p.index ≡ piece_in_rows slots rows l b entry → q.lane ≡ l → q.block ≡ b → q.index ≡ piece_in_rows slots rows l b exit
+      → AreAlike (nodes_of mid) (from ++ flat_map (both_sides slots rows l b) (take k notes)) → AreAlike (nodes_of between) (nodes_of mid ++ node_of p ∷ []) → AreAlike (nodes_of to) (nodes_of between ++ node_of q ∷ [])
+      → AreAlike (nodes_of to) (from ++ flat_map (both_sides slots rows l b) (take (k + 1) notes))
+  sides-more l b from mid between to notes k d entry exit p q h en ex pl pb pi ql qb qi so one two =
+      let n = get_or notes k d in
+      let e : node_of p ≡ entry_side slots rows l b n.id = (λ i. (pl i, pb i, (pi ∙ ap (λ r. piece_in_rows slots rows l b r) en) i)) in
+      let x : node_of q ≡ exit_side slots rows l b n.id = (λ i. (ql i, qb i, (qi ∙ ap (λ r. piece_in_rows slots rows l b r) ex) i)) in
+      alike-more (both_sides slots rows l b) from (nodes_of mid) (nodes_of to) notes k n d h refl so
+      (subst (λ ms. AreAlike (nodes_of to) (nodes_of mid ++ ms)) (λ i. e i ∷ x i ∷ []) (alike-two (nodes_of mid) (nodes_of between) (nodes_of to) (node_of p) (node_of q) one two))
+
+  pub suspects-whole : (all : List CellNotes) (i : ℕ) (to : List PieceSpot) → length all ≡ i → AreAlike (nodes_of to) (all_sides slots rows (take i all)) → AreSuspects slots rows all (nodes_of to)
+  suspects-whole all i to e so =
+      let are = are-suspects all in
+      let alike : AreAlike (nodes_of to) (all_sides slots rows all) = subst (AreAlike (nodes_of to)) (flat-whole (cell_sides slots rows) all i e) so in
+      record {
+        entry = λ c m n a. (alike (entry_side slots rows c.lane c.block n.id)).1 (are.entry c m n a);
+        exit = λ c m n a. (alike (exit_side slots rows c.lane c.block n.id)).1 (are.exit c m n a);
+        each = λ m a. are.each m ((alike m).0 a);
+        there = λ m a h. are.there m ((alike m).0 a) h;
+      }

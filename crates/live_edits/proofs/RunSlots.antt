@@ -2,7 +2,7 @@
 use Rattle.std.proofs.Common.{◌≡◌, ◌⊎◌, inl, inr, ◌++◌, ◌∙◌, ◌<◌, ℕ, zero, suc, List, [], ◌∷◌, take, length, get_or, refl, sym, ap, subst, arith}
 use Rattle.mir_meaning.specs.Paths.{Among}
 use Rattle.instr_effects.specs.declared.lanes.LaneTable.{LaneTable}
-use Rattle.live_lanes.specs.declared.edit.edits.Edit.{Edit as CodeEdit}
+use Rattle.live_edits.specs.declared.edit.Edit.{Edit as CodeEdit}
 use Rattle.edit_laws.specs.Edits.{Edit, Put, Replace, Erase}
 use Rattle.edit_laws.specs.Numbered.{NumbersEdit}
 use Rattle.live_lanes.proofs.Basics.{none-among}

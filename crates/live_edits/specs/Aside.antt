@@ -7,6 +7,7 @@ use Rattle.mir_func.specs.declared.func.Operand.TheVariants as operands
 use Rattle.mir_func.specs.Value.{Function, IsFunction}
 use Rattle.mir_meaning.specs.Paths.{Among, has}
 use Rattle.mir_meaning.specs.Points.{is_range}
+use Rattle.instr_effects.specs.declared.lane_acts.LaneAct.{LaneAct}
 use Rattle.instr_effects.specs.declared.owner.Owner.TheVariants as owners
 use Rattle.instr_effects.specs.Numbered.{number_in, IsTable}
 use Rattle.live_lanes.specs.declared.row.LaneRange.{LaneRange}
@@ -126,7 +127,7 @@ pub record IsPutBack (old new : EditRun) : Type 0 where
   pub none : new.aside.items ≡ []
   pub seen : AreThere old.rows.rows.rows.items old.aside.items → (l b : ℕ) → rows_seen new.rows.rows.rows.items l b ≡ put_back old.aside.items (rows_seen old.rows.rows.rows.items) l b
 
--- those of lanes whose rows weren't taken away
-pub record LeavesOut (aside : List AsideRow) (lanes own : List ℕ) : Type 0 where
-  pub whole : (l : ℕ) → Among l lanes → is_aside aside l ≡ false → Among l own
-  pub within : (l : ℕ) → Among l own → is_aside aside l ≡ false
+-- those of acts that are on lanes whose rows weren't taken away
+pub record LeavesOut (aside : List AsideRow) (acts own : List LaneAct) : Type 0 where
+  pub whole : (a : LaneAct) → Among a acts → is_aside aside a.lane ≡ false → Among a own
+  pub within : (a : LaneAct) → Among a own → Among a acts × (is_aside aside a.lane ≡ false)

@@ -2,7 +2,7 @@
 use Rattle.std.specs.Prelude.{◌≡◌, ◌≤◌, ℕ, true, cond, ◌&&◌, nat_eq, List, [], ◌∷◌, ◌++◌, is_some, length}
 use Rattle.live_lanes.specs.declared.row.Cell.{Cell}
 use Rattle.live_lanes.specs.declared.row.LaneRange.{LaneRange}
-use Rattle.live_lanes.specs.declared.table.PieceSpot.{PieceSpot}
+use Rattle.live_edits.specs.declared.pieces.PieceSpot.{PieceSpot}
 use Rattle.live_lanes.specs.Table.{Seen, seen_in, find_cell, cell_room}
 use Rattle.live_lanes.specs.Entered.{rows_seen, causes}
 use Rattle.live_lanes.specs.Ends.{row_end}

@@ -7,14 +7,14 @@ use Rattle.mir_func.specs.Value.{Function, IsFunction}
 use Rattle.mir_meaning.specs.Paths.{Among, has}
 use Rattle.instr_effects.specs.Numbered.{number_in, NumbersAll, KeepsNumbers}
 use Rattle.live_lanes.specs.declared.row.LaneRange.{LaneRange}
-use Rattle.live_lanes.specs.declared.table.PieceSpot.{PieceSpot}
+use Rattle.live_edits.specs.declared.pieces.PieceSpot.{PieceSpot}
 use Rattle.live_lanes.specs.declared.table.Table.{Table}
 use Rattle.live_lanes.specs.Doing.{IsComputed}
 use Rattle.live_lanes.specs.Entered.{rows_seen}
 use Rattle.live_lanes.specs.Lasting.{AllRise}
 use Rattle.live_laws.specs.Effects.Coded.{KeepsRules}
 use Rattle.live_lanes.specs.Ordered.{last_id}
-use Rattle.edit_laws.specs.Deferred.{all_deferred, all_gone, TouchesEdits}
+use Rattle.edit_laws.specs.Deferred.{all_deferred, all_gone, SpareGone, TouchesEdits}
 use Rattle.edit_laws.specs.Edits.{Edit, all_edited}
 use Rattle.edit_laws.specs.Further.{KeepsLast, HasFurtherLanes}
 use Rattle.edit_laws.specs.Reasons.{Touched}
@@ -23,7 +23,7 @@ use Rattle.live_edits.specs.declared.edit_run.EditRun.{EditRun}
 use Rattle.live_edits.specs.Aside.{LeavesNone, TakesRows, is_aside, put_back}
 use Rattle.live_edits.specs.Drafts.{IsOrderOf, LetsGo, IsDraftLogged, all_undone}
 use Rattle.live_edits.specs.Logged.{HasAllCells, all_taken_back}
-use Rattle.live_edits.specs.Noted.{TouchedStand, HasNotes}
+use Rattle.live_edits.specs.Noted.{TellLatest, HasNotes}
 use Rattle.live_edits.specs.Pieces.{nodes_of}
 use Rattle.live_edits.specs.Remade.{RemakesAll}
 use Rattle.live_edits.specs.Runs.{table_of, HavePlaces, Includes, TakesAside, LeavesAside, NumbersSlots, AreSuspects, HasIds, MayBeEdited}
@@ -61,12 +61,13 @@ pub record MayStart (t : Target) (r : EditRun) (es : List Edit) : Type 0 where
   pub numbers : NumbersAll t r.draft.func r.lanes
   pub few : length r.rows.rows.rows.items < 4294967296
   pub places : HavePlaces t r.draft.func es
+  pub spare : SpareGone [] r.draft.func es
 
 -- what edits one after the other ask of it
 pub record MayDo (t : Target) (r : EditRun) (es : List Edit) : Type 0 where
   pub order : IsOrderOf r.draft.func r.draft.order
   pub function : IsFunction r.draft.func.blocks r.draft.func.next_id
-  pub stand : TouchedStand r.draft.func r.touched.items
+  pub tells : TellLatest t r.draft.func (number_in r.lanes) r.gone.keys r.touched.items
   pub apart : LeavesAside r.aside.items r.touched.items
   pub places : HavePlaces t r.draft.func es
 
@@ -77,7 +78,7 @@ pub record DoesEdits (t : Target) (old new : EditRun) (es : List Edit) : Type 0 
   pub function : IsFunction new.draft.func.blocks new.draft.func.next_id
   pub gone : (id : ℕ) → has id new.gone.keys ≡ has id (all_gone old.gone.keys es)
   pub touched : (touched : Touched) → Includes touched new.touched.items → TakesAside touched old.aside.items new.touched.items → TouchesEdits touched t old.draft.func (number_in old.lanes) es
-  pub stand : TouchedStand new.draft.func new.touched.items
+  pub tells : SpareGone old.gone.keys old.draft.func es → TellLatest t new.draft.func (number_in new.lanes) new.gone.keys new.touched.items
   pub apart : LeavesAside new.aside.items new.touched.items
   pub lanes : new.lanes ≡ old.lanes
   pub flow : new.flow ≡ old.flow
@@ -141,6 +142,7 @@ pub record AreDone (t : Target) (es : List Edit) (old done : EditRun) : Type 0 w
   pub ready : EditRun
   pub first : IsReady t old ready es
   pub does : DoesEdits t ready done es
+  pub tells : TellLatest t done.draft.func (number_in done.lanes) done.gone.keys done.touched.items
   pub small : low_end (last_id (ids done.draft.order.slots)) done.draft.order.slots < 18446744073709551616
 
 -- then pieces are brought up to date
@@ -225,6 +227,12 @@ AlikeTableLaw =
 
 -- over emptied rows
 
+-- the rows of a range may be taken away, if edits leave it nowhere
+pub record ClearsRange (es : List Edit) (old cleared : EditRun) : Type 0 where
+  pub range : ℕ
+  pub takes : TakesRows old cleared range
+  pub leaves : LeavesTaken es range old cleared
+
 -- rows may have been taken away, and then what edits changed can be taken back
 pub record IsLoggedOf (t : Target) (old new : EditRun) : Type 0 where
   pub cleared : EditRun
@@ -233,8 +241,7 @@ pub record IsLoggedOf (t : Target) (old new : EditRun) : Type 0 where
   pub logged : IsRunLogged t cleared new
 
 -- Rows of a range are taken away, if edits leave it nowhere, and then edits are done.
-pub record IsDoneOf (t : Target) (es : List Edit) (v : ℕ) (old new : EditRun) (erased : List ℕ) : Type 0 where
+pub record IsDoneOf (t : Target) (es : List Edit) (old new : EditRun) (erased : List ℕ) : Type 0 where
   pub cleared : EditRun
-  pub takes : TakesRows old cleared v
-  pub leaves : LeavesTaken es v old cleared
+  pub clears : ClearsRange es old cleared
   pub done : IsDone t es cleared new erased

@@ -194,18 +194,22 @@ NarrowLaw =
 abbrev pub SharesWidths : Target → Function → Join → Type 0
 SharesWidths t f j = j.index ≡ None → range_widths t f j.gone ≡ range_widths t f j.keep
 
--- what a fold asks of a run
+-- what a join asks of a function and its table
+pub record MayBeFolded (t : Target) (f : Function) (x : Table) (j : Join) (ids : List ℕ) : Type 0 where
+  pub computed : IsComputed t f x
+  pub rules : KeepsRules t f
+  pub last : KeepsLast t f
+  pub function : IsFunction f.blocks f.next_id
+  pub blocks : length f.blocks < 4294967296
+  pub phis : has_no_phis t f.blocks ≡ true
+  pub known : are_known t f.blocks ≡ true
+  pub named : AreNamed f j.gone ids
+  pub widths : SharesWidths t f j
+
+-- what a join asks of a run
 pub record MayFold (t : Target) (r : EditRun) (j : Join) (ids : List ℕ) : Type 0 where
   pub fresh : IsFresh r
-  pub computed : IsComputed t r.draft.func (table_of r)
-  pub rules : KeepsRules t r.draft.func
-  pub last : KeepsLast t r.draft.func
-  pub function : IsFunction r.draft.func.blocks r.draft.func.next_id
-  pub blocks : length r.draft.func.blocks < 4294967296
-  pub phis : has_no_phis t r.draft.func.blocks ≡ true
-  pub known : are_known t r.draft.func.blocks ≡ true
-  pub named : AreNamed r.draft.func j.gone ids
-  pub widths : SharesWidths t r.draft.func j
+  pub join : MayBeFolded t r.draft.func (table_of r) j ids
 
 -- the range that stays has its class after the join, and all else is as it was
 pub record Narrows (t : Target) (j : Join) (old new : EditRun) : Type 0 where

@@ -14,9 +14,9 @@ use Rattle.live_lanes.specs.Entered.{causes as why_of}
 use Rattle.live_lanes.specs.Growth.{piece_in_rows}
 use Rattle.edit_laws.specs.Update.{Request}
 
--- both lists have the same requests, in whatever order and however often
-abbrev pub AreAlike : List Request → List Request → Type 0
-AreAlike xs ys = (r : Request) → Among r xs ↔ Among r ys
+-- both lists have the same elements, in whatever order and however often
+abbrev pub AreAlike : {X : Type 0} → List X → List X → Type 0
+AreAlike {X} xs ys = (x : X) → Among x xs ↔ Among x ys
 
 -- the last piece of a lane in block b, from which paths lead to block x
 abbrev pub end_need : List LaneRange → ℕ → ℕ → ℕ → Request

@@ -16,3 +16,4 @@ pub mod NotedTable
 pub mod EditedRuns
 pub mod Aside
 pub mod Folded
+pub mod LiveRuns

@@ -1,18 +1,11 @@
--- Lists of notes that are found by lanes and blocks, and what the acts of touched instructions tell.
+-- Lists of notes that are found by lanes and blocks, and what acts tell.
 use Rattle.std.specs.Prelude.{◌≡◌, ◌≤◌, ◌<◌, ◌+◌, ◌*◌, ◌⊎◌, ℕ, cond, List, [], ◌∷◌, ◌++◌, Some, slice_get}
 use Rattle.std.specs.Ordering.{nat_cmp}
 use Rattle.std.specs.BTreeMap.{get}
-use Rattle.target_base.specs.declared.types.Target.{Target}
-use Rattle.mir_func.specs.declared.func.Instr.{Instr}
-use Rattle.mir_func.specs.Value.{Function}
-use Rattle.mir_func.specs.At.{instr_at}
 use Rattle.mir_meaning.specs.Paths.{Among, Step, has}
 use Rattle.instr_effects.specs.declared.lane_acts.LaneAct.{LaneAct}
 use Rattle.instr_effects.specs.LaneActs.{act_on, lane_act}
-use Rattle.instr_effects.specs.Steps.{Numbering}
-use Rattle.live_lanes.specs.Doing.{doing_of}
 use Rattle.live_lanes.specs.Ordered.{times}
-use Rattle.edit_laws.specs.Deferred.{idle}
 use Rattle.live_edits.specs.declared.cells.Note.{Note}
 use Rattle.live_edits.specs.declared.cells.CellNotes.{CellNotes}
 use Rattle.live_edits.specs.declared.notes.NoteTable.{NoteTable}
@@ -58,14 +51,10 @@ pub record IsNoteTable (x : NoteTable) : Type 0 where
   pub backs : (key k : ℕ) → get nat_cmp x.places key ≡ Some k → (c : CellNotes) × (slice_get x.all.items k ≡ Some c) × (cell_key c.lane c.block ≡ key) × (c.block < 4294967296)
   pub single : (k : ℕ) (c : CellNotes) → slice_get x.all.items k ≡ Some c → (id : ℕ) → times id (noted_ids c.notes.items) ≤ 1
 
--- the notes of a touched instruction at these lanes, where it does these acts
-abbrev pub IsNoteOf : TouchedInstr → List LaneAct → List ℕ → ℕ → ℕ → Note → Type 0
-IsNoteOf x acts lanes l b n = Among l lanes × (b ≡ x.block) × (n ≡ record { id = x.id; act = act_on acts l })
+-- the notes of a touched instruction with these acts
+abbrev pub IsNoteOf : TouchedInstr → List LaneAct → ℕ → ℕ → Note → Type 0
+IsNoteOf x acts l b n = (a : LaneAct) × Among a acts × (l ≡ a.lane) × (b ≡ x.block) × (n ≡ record { id = x.id; act = a })
 
 -- the acts tell what an instruction does to each lane
 abbrev pub AreActs : Step → List LaneAct → Type 0
 AreActs s acts = (l : ℕ) → act_on acts l ≡ lane_act s.reads s.writes l
-
--- the acts of a touched instruction, where it stands in the function
-abbrev pub AreActsNow : Target → Function → Numbering → List ℕ → TouchedInstr → List LaneAct → Type 0
-AreActsNow t f num gone x acts = (place : ℕ) (i : Instr) → instr_at f.blocks x.block place ≡ Some i → i.id ≡ x.id → AreActs ((idle gone (doing_of t f num)) i).0 acts

@@ -1,11 +1,11 @@
 -- A list of edits as it is done.
-use Rattle.std.specs.Prelude.{◌≡◌, ◌⊎◌, ◌<◌, ℕ, Bool, true, false, List, [], ◌∷◌, Option, Some, None, map, flat_map, length}
+use Rattle.std.specs.Prelude.{◌≡◌, ◌⊎◌, ◌<◌, ℕ, true, false, List, [], ◌∷◌, Option, Some, None, map, flat_map, length}
 use Rattle.target_base.specs.declared.types.Target.{Target}
 use Rattle.mir_func.specs.Value.{Function, IsFunction}
 use Rattle.mir_func.specs.At.{instr_at}
 use Rattle.mir_func.specs.Binding.{slot_at}
 use Rattle.mir_func.specs.declared.func.Instr.{Instr}
-use Rattle.mir_meaning.specs.Paths.{Among, Step, has}
+use Rattle.mir_meaning.specs.Paths.{Among, has}
 use Rattle.instr_effects.specs.declared.lane_acts.LaneAct.{LaneAct}
 use Rattle.instr_effects.specs.declared.lanes.LaneTable.{LaneTable}
 use Rattle.instr_effects.specs.Numbered.{number_in, IsTable, HasSlot, KeepsNumbers}
@@ -14,14 +14,14 @@ use Rattle.live_lanes.specs.declared.row.LaneRange.{LaneRange}
 use Rattle.live_lanes.specs.Table.{Numbers, entry_rank, exit_rank}
 use Rattle.live_lanes.specs.Entered.{cells_of}
 use Rattle.live_lanes.specs.Growth.{piece_in_rows}
-use Rattle.live_lanes.specs.declared.edit.edits.Edit.TheVariants as code_edits
-use Rattle.live_lanes.specs.declared.edit.edits.Edit.{Edit as CodeEdit}
+use Rattle.live_edits.specs.declared.edit.Edit.TheVariants as code_edits
+use Rattle.live_edits.specs.declared.edit.Edit.{Edit as CodeEdit}
 use Rattle.live_lanes.specs.declared.table.Table.{Table}
 use Rattle.live_lanes.specs.Doing.{IsComputed}
 use Rattle.live_laws.specs.Effects.Coded.{KeepsRules}
 use Rattle.edit_laws.specs.Chains.{Node}
-use Rattle.edit_laws.specs.Codes.{NamesTold, step_in}
-use Rattle.edit_laws.specs.Deferred.{deferred, gone_after, SpareGone, TouchesEdit}
+use Rattle.edit_laws.specs.Codes.{step_in}
+use Rattle.edit_laws.specs.Deferred.{deferred, gone_after, Spares, SpareGone, TouchesEdit}
 use Rattle.edit_laws.specs.Edits.{Edit, Put, Replace, Erase, KeepsWays}
 use Rattle.edit_laws.specs.Further.{KeepsLast}
 use Rattle.edit_laws.specs.Numbered.{NumbersEdit}
@@ -33,7 +33,7 @@ use Rattle.live_edits.specs.declared.edit_run.EditRun.{EditRun}
 use Rattle.live_edits.specs.declared.notes.TouchedInstr.{TouchedInstr}
 use Rattle.live_edits.specs.Aside.{is_aside}
 use Rattle.live_edits.specs.Drafts.{IsOrderOf, HasGap}
-use Rattle.live_edits.specs.Noted.{TouchedStand}
+use Rattle.live_edits.specs.Noted.{touched_lanes, TellLatest}
 use Rattle.live_edits.specs.NotedTable.{AreActs}
 use Rattle.live_edits.specs.Pieces.{IsThere}
 
@@ -63,7 +63,7 @@ HavePlaces t f (e ∷ es) = HasPlace f e × KeepsWays t f e × HavePlaces t (def
 
 -- the test tells all lanes of touched instructions
 abbrev pub Includes : Touched → List TouchedInstr → Type 0
-Includes touched xs = (x : TouchedInstr) → Among x xs → (l : ℕ) → Among l x.lanes.items → touched l x.block x.id ≡ true
+Includes touched xs = (x : TouchedInstr) → Among x xs → (l : ℕ) → Among l (touched_lanes x) → touched l x.block x.id ≡ true
 
 -- at these instructions the test tells all lanes whose rows were taken away
 abbrev pub TakesAside : Touched → List AsideRow → List TouchedInstr → Type 0
@@ -71,10 +71,14 @@ TakesAside touched aside xs = (x : TouchedInstr) → Among x xs → (l : ℕ) �
 
 -- none of these lanes is listed as touched
 abbrev pub LeavesAside : List AsideRow → List TouchedInstr → Type 0
-LeavesAside aside xs = (x : TouchedInstr) → Among x xs → (l : ℕ) → Among l x.lanes.items → is_aside aside l ≡ false
+LeavesAside aside xs = (x : TouchedInstr) → Among x xs → (a : LaneAct) → Among a x.acts.items → is_aside aside a.lane ≡ false
 
--- One edit is done: the function is that after it, in which erased instructions stand; what it touches is listed, but for lanes whose
--- rows were taken away.
+-- an edit leaves all instructions that are erased
+abbrev pub AllSpared : List ℕ → Function → Edit → Type 0
+AllSpared gone f e = (id : ℕ) → has id gone ≡ true → Spares f e id
+
+-- One edit is done: the function is that after it, in which erased instructions stand. What it touches is listed, with what is done there
+-- then, but for lanes whose rows were taken away.
 pub record DoesEdit (t : Target) (old new : EditRun) (e : Edit) : Type 0 where
   pub func : new.draft.func ≡ deferred old.draft.func e
   pub order : IsOrderOf new.draft.func new.draft.order
@@ -82,7 +86,7 @@ pub record DoesEdit (t : Target) (old new : EditRun) (e : Edit) : Type 0 where
   pub gone : (id : ℕ) → has id new.gone.keys ≡ has id (gone_after old.gone.keys e)
   pub touched : (touched : Touched) → Includes touched new.touched.items → TakesAside touched old.aside.items new.touched.items → TouchesEdit touched t old.draft.func (number_in old.lanes) e
   pub kept : (x : TouchedInstr) → Among x old.touched.items → Among x new.touched.items
-  pub stand : TouchedStand old.draft.func old.touched.items → TouchedStand new.draft.func new.touched.items
+  pub tells : AllSpared old.gone.keys old.draft.func e → LeavesAside old.aside.items old.touched.items → TellLatest t old.draft.func (number_in old.lanes) old.gone.keys old.touched.items → TellLatest t new.draft.func (number_in new.lanes) new.gone.keys new.touched.items
   pub apart : LeavesAside old.aside.items old.touched.items → LeavesAside new.aside.items new.touched.items
   pub lanes : new.lanes ≡ old.lanes
   pub flow : new.flow ≡ old.flow
@@ -105,19 +109,9 @@ pub record MayBeEdited (t : Target) (f : Function) (x : Table) (es : List Edit) 
 abbrev pub AreActsAt : Target → Function → Numbering → ℕ → ℕ → List LaneAct → Type 0
 AreActsAt t f num position place acts = (i : Instr) → instr_at f.blocks position place ≡ Some i → AreActs (step_in t f num i) acts
 
--- the list has all lanes that the instruction names
-abbrev pub ListsLanes : Step → List ℕ → Type 0
-ListsLanes s lanes = (told : ℕ → Bool) → ((l : ℕ) → Among l lanes → told l ≡ true) → NamesTold told s
-
--- the lanes that the instruction at a place names are added to a list
-pub record AddsLanes (t : Target) (f : Function) (num : Numbering) (position place : ℕ) (from to : List ℕ) : Type 0 where
-  pub kept : (l : ℕ) → Among l from → Among l to
-  pub named : (i : Instr) → instr_at f.blocks position place ≡ Some i → ListsLanes (step_in t f num i) to
-
 -- the same of the instruction of an id
-pub record AddsLanesOf (t : Target) (f : Function) (num : Numbering) (id : ℕ) (from to : List ℕ) : Type 0 where
-  pub kept : (l : ℕ) → Among l from → Among l to
-  pub named : (position place : ℕ) (i : Instr) → instr_at f.blocks position place ≡ Some i → i.id ≡ id → ListsLanes (step_in t f num i) to
+abbrev pub AreActsOf : Target → Function → Numbering → ℕ → List LaneAct → Type 0
+AreActsOf t f num id acts = (position place : ℕ) (i : Instr) → instr_at f.blocks position place ≡ Some i → i.id ≡ id → AreActs (step_in t f num i) acts
 
 -- the numbers of lanes, the ways between blocks and the pieces stay
 pub record KeepsTables (old new : EditRun) : Type 0 where

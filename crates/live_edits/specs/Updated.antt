@@ -4,7 +4,7 @@ use Rattle.mir_meaning.specs.Paths.{Among, Code, has}
 use Rattle.live_lanes.specs.declared.compute.flow.BlockFlow.{BlockFlow}
 use Rattle.live_lanes.specs.declared.row.Cause.{Cause}
 use Rattle.live_lanes.specs.declared.row.LaneRange.{LaneRange}
-use Rattle.live_lanes.specs.declared.table.PieceSpot.{PieceSpot}
+use Rattle.live_edits.specs.declared.pieces.PieceSpot.{PieceSpot}
 use Rattle.live_lanes.specs.Graph.{Causes, is_live}
 use Rattle.live_lanes.specs.Table.{Numbers, Seen, exit_rank, piece_at, certain_cause}
 use Rattle.live_lanes.specs.Entered.{shape, rows_seen, causes, IsTableOf}

@@ -1,7 +1,7 @@
 //! What an instruction does to lanes otherwise than before.
 
-ghost use Rattle.std.specs.Prelude.{◌≡◌, true, IfOk, OnOk};
-ghost use Rattle.instr_effects.specs.LaneActs.{is_once};
+ghost use Rattle.std.specs.Prelude.{◌≡◌, true, map, IfOk, OnOk};
+ghost use Rattle.instr_effects.specs.LaneActs.{no_act, is_once};
 ghost use Rattle.live_edits.specs.ActChanges.{AddsFormer, AddsFurther, AreChanged};
 
 use instr_effects::lane_acts::{LaneAct, act_on, has_act};
@@ -48,6 +48,21 @@ fn add_further(
     Ok(())
 }
 
+/// Acts of nothing on the lanes of acts.
+pub fn idle_acts(alloc: Global, acts: &[LaneAct]) -> Result<Vec<LaneAct>, AllocError>
+    ensures { IfOk result (λ idle. idle.items ≡ map (λ a. no_act a.lane) acts.now) }
+{
+    let mut idle = Vec::with_capacity(alloc, acts.len())?;
+    'acts: for act in acts {
+        idle.push(LaneAct {
+            lane: act.lane,
+            read: None,
+            write: None,
+        })?;
+    }
+    Ok(idle)
+}
+
 /// What is done now to the lanes to which something else was done before.
 pub fn changed_acts(
     alloc: Global,
@@ -56,7 +71,7 @@ pub fn changed_acts(
 ) -> Result<Vec<LaneAct>, AllocError>
     ensures { IfOk result (λ acts. is_once after.now ≡ true → AreChanged before.now after.now acts.items) }
 {
-    let mut changed = Vec::new(alloc);
+    let mut changed = Vec::with_capacity(alloc, after.len())?;
     add_former(before, after, &mut changed)?;
     add_further(before, after, &mut changed)?;
     Ok(changed)

@@ -8,11 +8,13 @@ ghost use Rattle.instr_effects.specs.Numbered.{number_in};
 ghost use Rattle.live_lanes.specs.Entered.{rows_seen};
 ghost use Rattle.live_lanes.specs.Table.{begun, seen_cell};
 ghost use Rattle.live_edits.specs.Aside.{UnnamedLaw, any_names, are_told, brings, changed_by, changed_ids, is_all_told, is_aside, is_begun_told, names_range, IsPutBack, IsRowPutBack, IsRowTaken, LeavesNone, LeavesOut, TakesRows, TakesSome};
+ghost use Rattle.live_edits.specs.EditedRuns.{ClearsRange};
 ghost use Rattle.live_edits.specs.Runs.{edit_of, edits_of, table_of};
 
+use crate::edit::Edit;
 use crate::edit_run::EditRun;
 use crate::fold::is_range;
-use live_lanes::Edit;
+use instr_effects::lane_acts::LaneAct;
 use live_lanes::row::{Cell, DefPiece, LaneRange, LaneUse};
 use mir_func::Operand;
 use std::alloc::{AllocError, Global};
@@ -237,7 +239,7 @@ impl EditRun {
 
     /// Takes the rows of a range's lanes away, if edits leave nothing that names it. After a refusal some
     /// may have gone.
-    pub(crate) fn clear_range(&mut self, edits: &[Edit], v: u32) -> Result<(), AllocError>
+    fn clear_rows(&mut self, edits: &[Edit], v: u32) -> Result<(), AllocError>
         ensures takes { TakesRows self.old self.new v }
         ensures leaves { (l : ℕ) → is_aside self.new.aside.items l ≡ true → (is_aside self.old.aside.items l ≡ true) ⊎ LeavesNone (table_of self.old) (edits_of edits.now) v }
     {
@@ -245,6 +247,16 @@ impl EditRun {
             return self.take_rows(v);
         }
         Ok(())
+    }
+
+    /// The same of a range that may be given.
+    pub(crate) fn clear_range(&mut self, edits: &[Edit], v: Option<u32>) -> Result<(), AllocError>
+        ensures { ClearsRange (edits_of edits.now) self.old self.new }
+    {
+        match v {
+            Some(v) => self.clear_rows(edits, v),
+            None => Ok(()),
+        }
     }
 
     /// Puts one row back.
@@ -266,26 +278,26 @@ impl EditRun {
         }
     }
 
-    /// Adds a lane to a list, unless its row was taken away.
-    fn add_own(&self, lane: u32, own: &mut Vec<u32>) -> Result<(), AllocError>
-        ensures { OnOk result (own.new.items ≡ cond (is_aside self.now.aside.items lane) own.old.items (own.old.items ++ lane ∷ [])) }
+    /// Adds an act to a list, unless the row of its lane was taken away.
+    fn add_own(&self, act: LaneAct, own: &mut Vec<LaneAct>) -> Result<(), AllocError>
+        ensures { OnOk result (own.new.items ≡ cond (is_aside self.now.aside.items act.lane) own.old.items (own.old.items ++ act ∷ [])) }
     {
-        if !self.is_aside(lane) {
-            own.push(lane)?;
+        if !self.is_aside(act.lane) {
+            own.push(act)?;
         }
         Ok(())
     }
 
-    /// Those of lanes whose rows weren't taken away.
-    pub(crate) fn own_lanes(&self, lanes: Vec<u32>) -> Result<Vec<u32>, AllocError>
-        ensures { IfOk result (λ own. LeavesOut self.now.aside.items lanes.items own.items) }
+    /// Those of acts that are on lanes whose rows weren't taken away.
+    pub(crate) fn own_acts(&self, acts: Vec<LaneAct>) -> Result<Vec<LaneAct>, AllocError>
+        ensures { IfOk result (λ own. LeavesOut self.now.aside.items acts.items own.items) }
     {
         if self.aside.is_empty() {
-            return Ok(lanes);
+            return Ok(acts);
         }
-        let mut own = Vec::new(self.rows.rows.alloc);
-        'lanes: for lane in lanes.as_slice() {
-            self.add_own(*lane, &mut own)?;
+        let mut own = Vec::with_capacity(self.rows.rows.alloc, acts.len())?;
+        'acts: for act in acts.as_slice() {
+            self.add_own(*act, &mut own)?;
         }
         Ok(own)
     }

@@ -14,11 +14,10 @@ ghost use Rattle.live_edits.specs.Updated.{AsksFor, LastsToExit};
 use crate::fall::has_exit;
 use crate::log::LoggedRows;
 use crate::needs::readings_in;
-use crate::pieces::{Need, cause_in};
+use crate::pieces::{Need, PieceSpot, cause_in};
 use live_lanes::compute::flow::{BlockFlow, successors};
 use live_lanes::order::Order;
 use live_lanes::row::{Cause, Cell, LaneUse};
-use live_lanes::table::PieceSpot;
 use std::alloc::AllocError;
 
 /// Whether a piece with this cause is live.
@@ -96,30 +95,28 @@ impl LoggedRows {
         if !leads_out {
             return Cause::None;
         }
-        match self.live_block(spot.lane, successors(flow, spot.block)) {
+        match self.live_block(spot, successors(flow, spot.block)) {
             Some(next) => Cause::Follower(next),
             None => Cause::None,
         }
     }
 
-    /// One of these blocks at whose start a lane is live.
-    fn live_block(&self, lane: u32, blocks: &[u32]) -> Option<u32>
-        ensures { result ≡ find (λ x. is_live (causes self.now.rows.rows.items lane x 0)) blocks.now }
+    /// One of these blocks at whose start the lane of a piece is live.
+    fn live_block(&self, spot: PieceSpot, blocks: &[u32]) -> Option<u32>
+        ensures { result ≡ find (λ x. is_live (causes self.now.rows.rows.items spot.lane x 0)) blocks.now }
     {
         blocks
             .iter()
             .copied()
-            .find(|next| self.is_live_in(lane, *next))
+            .find(|next| self.is_live_in(spot, *next))
     }
 
-    /// Whether a lane is live at the start of a block.
-    fn is_live_in(&self, lane: u32, block: u32) -> bool
-        ensures { result ≡ is_live (causes self.now.rows.rows.items lane block 0) }
+    /// Whether the lane of a piece is live at the start of a block.
+    fn is_live_in(&self, spot: PieceSpot, block: u32) -> bool
+        ensures { result ≡ is_live (causes self.now.rows.rows.items spot.lane block 0) }
     {
-        match self.rows.cell(lane, block) {
-            Some(cell) => cell.is_live(0),
-            None => false,
-        }
+        let near = spot.place_beside(block);
+        self.rows.is_live_in(spot.lane, near, block)
     }
 
     /// A reading by which a piece is moved to where it is live, as a cause.

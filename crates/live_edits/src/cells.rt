@@ -11,6 +11,17 @@ pub struct Note {
     pub act: LaneAct,
 }
 
+/// Where the cell of a lane in a block stands.
+#[derive(Clone, Copy)]
+pub struct CellSpot {
+    /// The lane.
+    pub lane: u32,
+    /// The block's position in the layout.
+    pub block: u32,
+    /// The place among the lane's cells at which this one was found last, as a hint: it may be any.
+    pub near: usize,
+}
+
 /// The notes of the instructions of a block that are touched at a lane.
 #[derive(Drop)]
 pub struct CellNotes {

@@ -8,8 +8,9 @@ ghost use Rattle.live_edits.specs.Changes.{AddsCells, ChangesRow, ChangesCell};
 ghost use Rattle.live_edits.specs.CellChanges.{seen_changed, fits_in};
 
 use crate::cell_change::{CellChange, change_cell};
+use crate::pieces::PieceSpot;
 use live_lanes::row::{Cause, LaneRange, PieceEnd};
-use live_lanes::table::{LaneRanges, PieceSpot};
+use live_lanes::table::LaneRanges;
 use std::alloc::AllocError;
 
 /// Gives a piece of a row a cause and an end.
@@ -17,7 +18,7 @@ fn give_row_life(row: &mut LaneRange, spot: PieceSpot, cause: Cause, end: PieceE
     ensures { is_some (find_cell spot.block row.old.cells.items) ≡ true
         → ChangesRow row.old.cells.items row.new.cells.items spot.block (λ v. with_end (with_cause v spot.index cause) spot.index end) }
 {
-    let place = row.place(spot.block);
+    let place = row.place_near(spot.near, spot.block);
     if place < row.cells.len() {
         let cell = &mut row.cells[place];
         cell.set_cause(spot.index, cause);
@@ -103,8 +104,14 @@ pub fn change_in(
     change_row_cell(&mut rows.rows[lane], block, change)
 }
 
-/// Makes the cell of a lane in a block, where there is none, and answers its place.
-pub fn make_in(rows: &mut LaneRanges, lane: u32, block: u32) -> Result<usize, AllocError>
+/// Makes the cell of a lane in a block, where there is none, and answers its place. It is looked for at
+/// a place and behind it first.
+pub fn make_in(
+    rows: &mut LaneRanges,
+    lane: u32,
+    near: usize,
+    block: u32,
+) -> Result<usize, AllocError>
     requires { lane < length rows.old.rows.items }
     ensures added { AddsCells rows.old.rows.items rows.new.rows.items }
     ensures there { OnOk result (has_cell rows.new.rows.items lane block ≡ true) }
@@ -113,6 +120,5 @@ pub fn make_in(rows: &mut LaneRanges, lane: u32, block: u32) -> Result<usize, Al
 {
     let alloc = rows.alloc;
     let row = &mut rows.rows[lane as usize];
-    let near = row.place(block);
     row.make(alloc, near, block)
 }

@@ -1,31 +1,36 @@
 //! A list of edits as it is done: the function and its order, the numbers of lanes, the pieces, and
 //! which instructions were touched so far.
 
-ghost use Rattle.std.specs.Prelude.{◌≡◌, ◌<◌, ◌≤◌, ◌++◌, ℕ, true, length, IfOk, OnOk};
+ghost use Rattle.std.specs.Prelude.{◌≡◌, ◌<◌, ◌≤◌, ◌++◌, true, length, IfOk, OnOk, option_copied};
 ghost use Rattle.instr_effects.specs.LaneActs.{is_once};
 ghost use Rattle.mir_func.specs.Value.{IsFunction};
 ghost use Rattle.instr_effects.specs.Numbered.{number_in};
 ghost use Rattle.live_lanes.specs.Lasting.{AllRise};
+ghost use Rattle.live_lanes.specs.Table.{piece_at, rises_from, seen};
 ghost use Rattle.edit_laws.specs.Edits.{Put, Replace, Erase, KeepsWays};
 ghost use Rattle.edit_laws.specs.Further.{HasFurtherLanes};
 ghost use Rattle.edit_laws.specs.Numbered.{NumbersEdit};
 ghost use Rattle.live_edits.specs.Drafts.{IsOrderOf, HasGap, IsDraftLogged};
+ghost use Rattle.live_edits.specs.Leading.{AreAlike};
 ghost use Rattle.live_edits.specs.Pieces.{nodes_of};
-ghost use Rattle.live_edits.specs.Runs.{edit_of, edits_of, table_of, HasPlace, DoesEdit, AreActsAt, AddsLanes, AddsLanesOf, KeepsTables, AddsSlots, named_slot, NumbersSlots, KeepsCells, KeepsDraft, cell_sides, AreSuspects, HasIds};
+ghost use Rattle.live_edits.specs.Runs.{edit_of, edits_of, table_of, HasPlace, DoesEdit, AreActsAt, AreActsOf, KeepsTables, AddsSlots, named_slot, NumbersSlots, KeepsCells, KeepsDraft, cell_sides, AreSuspects, HasIds};
 
-use crate::act_changes::changed_acts;
+use crate::act_changes::{changed_acts, idle_acts};
 use crate::aside::{AsideRow, add_id};
 use crate::cells::CellNotes;
 use crate::draft::Draft;
+use crate::edit::Edit;
 use crate::log::LoggedRows;
-use crate::notes::{TouchedInstr, lanes_of_acts};
+use crate::notes::TouchedInstr;
+use crate::pieces::PieceSpot;
+use crate::spots::add_new;
 use instr_effects::EffectReader;
 use instr_effects::lane_acts::LaneAct;
 use instr_effects::lanes::LaneTable;
-use live_lanes::Edit;
 use live_lanes::compute::flow::BlockFlow;
-use live_lanes::row::{LaneRange, entry_rank, exit_rank};
-use live_lanes::table::{LaneRanges, PieceSpot};
+use live_lanes::order::Order;
+use live_lanes::row::{Cell, LaneRange, entry_rank, exit_rank};
+use live_lanes::table::LaneRanges;
 use mir_func::operands::slot_at;
 use mir_func::{Gap, Operands};
 use std::alloc::{AllocError, Global};
@@ -51,6 +56,16 @@ pub struct EditRun {
     pub aside: Vec<AsideRow>,
 }
 
+/// The number of the piece of a cell, if there is one, that the point of this rank lies in.
+fn index_at(order: &Order, found: Option<&Cell>, at: u128) -> usize
+    ensures { rises_from order.now.slots 0 (seen (option_copied found.entry)).segments ≡ true → result ≡ piece_at order.now.slots at (seen (option_copied found.entry)).segments }
+{
+    match found {
+        Some(cell) => cell.piece_at(&order.slots, at),
+        None => 0,
+    }
+}
+
 impl EditRun {
     /// What the instruction at a place of the block at a position does to lanes, where there is one.
     fn acts_at(&self, target: &Target, at: (u32, usize)) -> Result<Vec<LaneAct>, AllocError>
@@ -72,29 +87,15 @@ impl EditRun {
         Ok(acts)
     }
 
-    /// Adds the lanes that the instruction at a place of the block at a position names, where there is
-    /// one.
-    fn add_lanes(
-        &self,
-        target: &Target,
-        at: (u32, usize),
-        lanes: &mut Vec<u32>,
-    ) -> Result<(), AllocError>
-        ensures { OnOk result (AddsLanes target.now self.now.draft.func (number_in self.now.lanes) at.0 at.1 lanes.old.items lanes.new.items) }
-    {
-        let acts = self.acts_at(target, at)?;
-        lanes_of_acts(acts.as_slice(), lanes)
-    }
-
-    /// Adds the lanes that the instruction of an id names, where there is one.
-    fn add_lanes_of(&self, target: &Target, id: u32, lanes: &mut Vec<u32>) -> Result<(), AllocError>
+    /// What the instruction of an id does to lanes, where there is one.
+    fn acts_of(&self, target: &Target, id: u32) -> Result<Vec<LaneAct>, AllocError>
         ensures function { IsFunction self.now.draft.func.blocks self.now.draft.func.next_id }
-        ensures added { OnOk result (IsOrderOf self.now.draft.func self.now.draft.order
-            → AddsLanesOf target.now self.now.draft.func (number_in self.now.lanes) id lanes.old.items lanes.new.items) }
+        ensures told { IfOk result (λ acts. IsOrderOf self.now.draft.func self.now.draft.order → AreActsOf target.now self.now.draft.func (number_in self.now.lanes) id acts.items) }
+        ensures once { IfOk result (λ acts. is_once acts.items ≡ true) }
     {
         match self.draft.find(id) {
-            Some(at) => self.add_lanes(target, at, lanes),
-            None => Ok(()),
+            Some(at) => self.acts_at(target, at),
+            None => Ok(Vec::new(self.rows.rows.alloc)),
         }
     }
 
@@ -111,10 +112,9 @@ impl EditRun {
         ensures tables { KeepsTables self.old self.new }
     {
         let (block, id) = self.draft.put(gap, op, operands)?;
-        let mut lanes = Vec::new(self.rows.rows.alloc);
-        self.add_lanes_of(target, id, &mut lanes)?;
-        let lanes = self.own_lanes(lanes)?;
-        self.touched.push(TouchedInstr { id, block, lanes })?;
+        let named = self.acts_of(target, id)?;
+        let acts = self.own_acts(named)?;
+        self.touched.push(TouchedInstr { id, block, acts })?;
         Ok(())
     }
 
@@ -139,11 +139,9 @@ impl EditRun {
         let after = self.acts_at(target, at)?;
         let alloc = self.rows.rows.alloc;
         let changed = changed_acts(alloc, before.as_slice(), after.as_slice())?;
-        let mut lanes = Vec::new(alloc);
-        lanes_of_acts(changed.as_slice(), &mut lanes)?;
-        let lanes = self.own_lanes(lanes)?;
+        let acts = self.own_acts(changed)?;
         let block = at.0;
-        self.touched.push(TouchedInstr { id, block, lanes })?;
+        self.touched.push(TouchedInstr { id, block, acts })?;
         Ok(())
     }
 
@@ -157,11 +155,11 @@ impl EditRun {
         let Some(at) = self.draft.find(id) else {
             return Ok(());
         };
-        let mut lanes = Vec::new(self.rows.rows.alloc);
-        self.add_lanes(target, at, &mut lanes)?;
-        let lanes = self.own_lanes(lanes)?;
+        let before = self.acts_at(target, at)?;
+        let idle = idle_acts(self.rows.rows.alloc, before.as_slice())?;
+        let acts = self.own_acts(idle)?;
         let block = at.0;
-        self.touched.push(TouchedInstr { id, block, lanes })?;
+        self.touched.push(TouchedInstr { id, block, acts })?;
         Ok(())
     }
 
@@ -183,14 +181,33 @@ impl EditRun {
     /// Adds the pieces on both sides of the instructions that have notes of a cell.
     fn add_suspects(&self, cell: &CellNotes, spots: &mut Vec<PieceSpot>) -> Result<(), AllocError>
         ensures { OnOk result (AllRise self.now.draft.order.slots self.now.rows.rows.rows.items
-            → nodes_of spots.new.items ≡ nodes_of spots.old.items ++ cell_sides self.now.draft.order.slots self.now.rows.rows.rows.items cell.now) }
+            → AreAlike (nodes_of spots.new.items) (nodes_of spots.old.items ++ cell_sides self.now.draft.order.slots self.now.rows.rows.rows.items cell.now)) }
     {
         let order = &self.draft.order;
+        let (near, found) = self.rows.find(cell.lane, 0, cell.block);
+        let spot = PieceSpot {
+            lane: cell.lane,
+            block: cell.block,
+            index: 0,
+            near,
+        };
         'notes: for note in cell.notes.as_slice() {
             let entry = entry_rank(&order.slots, note.id);
             let exit = exit_rank(&order.slots, note.id);
-            spots.push(self.rows.piece_at(order, cell.lane, cell.block, entry))?;
-            spots.push(self.rows.piece_at(order, cell.lane, cell.block, exit))?;
+            add_new(
+                spots,
+                PieceSpot {
+                    index: index_at(order, found, entry),
+                    ..spot
+                },
+            )?;
+            add_new(
+                spots,
+                PieceSpot {
+                    index: index_at(order, found, exit),
+                    ..spot
+                },
+            )?;
         }
         Ok(())
     }

@@ -1,22 +1,21 @@
 //! A list of edits as a whole: all of them are done and the pieces brought up to date, or none is.
 
-ghost use Rattle.std.specs.Prelude.{◌≡◌, ◌<◌, ℕ, true, [], reverse, IfOk, OnOk, OnErr};
+ghost use Rattle.std.specs.Prelude.{◌≡◌, ◌<◌, true, reverse, IfOk, OnOk, OnErr};
 ghost use Rattle.instr_effects.specs.Numbered.{number_in, KeepsNumbers};
 ghost use Rattle.edit_laws.specs.Edits.{all_edited};
 ghost use Rattle.live_edits.specs.Aside.{AreThere};
 ghost use Rattle.live_edits.specs.Drafts.{IsOrderOf, IsDraftLogged};
 ghost use Rattle.live_edits.specs.EditedRuns.{IsFresh, MayBegin, MayStart, HasTable, MayDo, DoesEdits, AreBelow, BringsUp, ChangesRows, AreDone, IsDone, IsRunLogged, LetsAllGo, IsRunUndone, IsLoggedOf, IsDoneOf};
 ghost use Rattle.live_edits.specs.Logged.{HasAllCells, IsLogged};
-ghost use Rattle.live_edits.specs.Noted.{TouchedStand};
+ghost use Rattle.live_edits.specs.Noted.{TellLatest};
 ghost use Rattle.live_edits.specs.Runs.{edits_of, table_of, KeepsTables};
 
 use crate::cells::CellNotes;
 use crate::draft::Draft;
+use crate::edit::Edit;
 use crate::edit_run::{EditRun, ids_of};
 use crate::log::LoggedRows;
 use crate::notes::notes_of;
-use instr_effects::EffectReader;
-use live_lanes::Edit;
 use live_lanes::table::Table;
 use mir_func::Func;
 use std::alloc::AllocError;
@@ -40,6 +39,15 @@ fn next_id(func: &Func) -> u32
     ensures { result ≡ func.now.next_id }
 {
     func.next_id
+}
+
+/// What edits did that still can be taken back.
+#[derive(Drop)]
+pub struct EditOutcome {
+    /// The ids of the erased instructions, which still stand.
+    pub erased: Vec<u32>,
+    /// What touched instructions do now, by the cells of the lanes to which they do it.
+    pub notes: Vec<CellNotes>,
 }
 
 impl EditRun {
@@ -117,28 +125,19 @@ impl EditRun {
         Ok(())
     }
 
-    /// Makes the cells of touched lanes anew, and brings the pieces up to date.
-    fn bring_up(&mut self, target: &Target) -> Result<(), AllocError>
-        ensures brings { OnOk result (IsOrderOf self.old.draft.func self.old.draft.order → TouchedStand self.old.draft.func self.old.touched.items → BringsUp target.now self.old self.new) }
+    /// Makes the cells of touched lanes anew, and brings the pieces up to date. It answers the notes by
+    /// which the cells were made.
+    fn bring_up(&mut self) -> Result<Vec<CellNotes>, AllocError>
+        ensures brings { OnOk result ((t : Target) → TellLatest t self.old.draft.func (number_in self.old.lanes) self.old.gone.keys self.old.touched.items → BringsUp t self.old self.new) }
         ensures kept { ChangesRows self.old self.new }
         ensures logged { IsLogged self.old.rows self.new.rows }
     {
         let alloc = self.rows.rows.alloc;
-        let reader = EffectReader {
-            alloc,
-            target,
-            func: &self.draft.func,
-            lanes: &self.lanes,
-        };
-        let all = notes_of(
-            &reader,
-            &self.draft.order,
-            &self.gone,
-            self.touched.as_slice(),
-        )?;
+        let all = notes_of(alloc, self.touched.as_slice())?;
         if !are_below(all.as_slice(), self.rows.rows.rows.len()) {
             return Err(AllocError);
         }
+        self.rows.make_room(self.touched.len().saturating_mul(16))?;
         self.rows
             .remake_all(&self.draft.order.slots, all.as_slice())?;
         let suspects = self.suspects(all.as_slice())?;
@@ -148,7 +147,8 @@ impl EditRun {
             self.flow.as_slice(),
             suspects.as_slice(),
             &ids,
-        )
+        )?;
+        Ok(all)
     }
 
     /// The ids of the erased instructions.
@@ -158,26 +158,25 @@ impl EditRun {
         self.gone.iter().copied().collect(self.rows.rows.alloc)
     }
 
-    /// Does edits and brings the pieces up to date. It answers the ids of the erased instructions, which
-    /// still stand.
-    fn try_all(&mut self, target: &Target, edits: Vec<Edit>) -> Result<Vec<u32>, AllocError>
-        ensures done { IfOk result (λ erased. MayStart target.now self.old (edits_of edits.items) → IsDone target.now (edits_of edits.items) self.old self.new erased.items) }
+    /// Does edits and brings the pieces up to date.
+    fn try_all(&mut self, target: &Target, edits: Vec<Edit>) -> Result<EditOutcome, AllocError>
+        ensures done { IfOk result (λ made. MayStart target.now self.old (edits_of edits.items) → IsDone target.now (edits_of edits.items) self.old self.new made.erased.items) }
         ensures logged { MayStart target.now self.old (edits_of edits.items) → IsRunLogged target.now self.old self.new }
     {
         self.do_edits(target, edits)?;
-        self.bring_up(target)?;
+        let notes = self.bring_up()?;
         let erased = self.erased()?;
-        Ok(erased)
+        Ok(EditOutcome { erased, notes })
     }
 
-    /// Does edits as `try_all` does, over emptied rows of a range that they leave nowhere.
+    /// Does edits as `try_all` does, over emptied rows of a range that they leave nowhere, if one is given.
     fn try_all_of(
         &mut self,
         target: &Target,
         edits: Vec<Edit>,
-        v: u32,
-    ) -> Result<Vec<u32>, AllocError>
-        ensures done { IfOk result (λ erased. MayBegin target.now self.old (edits_of edits.items) → IsDoneOf target.now (edits_of edits.items) v self.old self.new erased.items) }
+        v: Option<u32>,
+    ) -> Result<EditOutcome, AllocError>
+        ensures done { IfOk result (λ made. MayBegin target.now self.old (edits_of edits.items) → IsDoneOf target.now (edits_of edits.items) self.old self.new made.erased.items) }
         ensures logged { MayBegin target.now self.old (edits_of edits.items) → IsLoggedOf target.now self.old self.new }
     {
         self.clear_range(edits.as_slice(), v)?;
@@ -201,7 +200,7 @@ impl EditRun {
     }
 
     /// Keeps all that was done, and lets erased instructions go.
-    fn keep(&mut self, erased: &[u32])
+    pub(crate) fn keep(&mut self, erased: &[u32])
         ensures { LetsAllGo self.old self.new erased.now }
     {
         self.draft.finish(erased);
@@ -210,7 +209,7 @@ impl EditRun {
     }
 
     /// Takes all back that is logged, and puts rows back that were taken away. It takes no memory.
-    fn take_back(&mut self)
+    pub(crate) fn take_back(&mut self)
         ensures { IsOrderOf self.old.draft.func self.old.draft.order → HasAllCells self.old.rows.rows.rows.items self.old.rows.log.items
             → AreThere self.old.rows.rows.rows.items self.old.aside.items → IsRunUndone self.old self.new }
     {
@@ -223,18 +222,20 @@ impl EditRun {
         self.forget();
     }
 
-    /// Does all edits to the function and brings what is live in it up to date. Where memory is short,
-    /// the function is as before, and the pieces are its pieces still.
-    pub fn edit_all(&mut self, target: &Target, edits: Vec<Edit>) -> Result<(), AllocError>
-        ensures ok { OnOk result (MayBegin target.now self.old (edits_of edits.items) → HasTable target.now (all_edited self.old.draft.func (edits_of edits.items)) self.new) }
+    /// Does edits, all or none. They can still be taken back then, and erased instructions still stand.
+    pub(crate) fn begin(
+        &mut self,
+        target: &Target,
+        edits: Vec<Edit>,
+        v: Option<u32>,
+    ) -> Result<EditOutcome, AllocError>
+        ensures done { IfOk result (λ made. MayBegin target.now self.old (edits_of edits.items) → IsDoneOf target.now (edits_of edits.items) self.old self.new made.erased.items) }
+        ensures logged { OnOk result (MayBegin target.now self.old (edits_of edits.items) → IsLoggedOf target.now self.old self.new) }
         ensures err { OnErr result (MayBegin target.now self.old (edits_of edits.items) → HasTable target.now self.old.draft.func self.new) }
         ensures numbers { MayBegin target.now self.old (edits_of edits.items) → KeepsNumbers (number_in self.old.lanes) (number_in self.new.lanes) }
     {
-        match self.try_all(target, edits) {
-            Ok(erased) => {
-                self.keep(erased.as_slice());
-                Ok(())
-            }
+        match self.try_all_of(target, edits, v) {
+            Ok(made) => Ok(made),
             Err(e) => {
                 self.take_back();
                 Err(e)
@@ -242,27 +243,22 @@ impl EditRun {
         }
     }
 
-    /// Does all edits as `edit_all` does, which is done sooner where they replace or erase all that names a
-    /// range and bring nothing that does: its rows are taken away whole then.
-    pub fn edit_all_of(
+    /// Does all edits to the function and brings what is live in it up to date. It is done sooner where
+    /// they replace or erase all that names a range and bring nothing that does: its rows are taken away
+    /// whole then, if it is given. Where memory is short, the function is as before, and the pieces are
+    /// its pieces still.
+    pub fn edit_all(
         &mut self,
         target: &Target,
         edits: Vec<Edit>,
-        v: u32,
+        v: Option<u32>,
     ) -> Result<(), AllocError>
         ensures ok { OnOk result (MayBegin target.now self.old (edits_of edits.items) → HasTable target.now (all_edited self.old.draft.func (edits_of edits.items)) self.new) }
         ensures err { OnErr result (MayBegin target.now self.old (edits_of edits.items) → HasTable target.now self.old.draft.func self.new) }
         ensures numbers { MayBegin target.now self.old (edits_of edits.items) → KeepsNumbers (number_in self.old.lanes) (number_in self.new.lanes) }
     {
-        match self.try_all_of(target, edits, v) {
-            Ok(erased) => {
-                self.keep(erased.as_slice());
-                Ok(())
-            }
-            Err(e) => {
-                self.take_back();
-                Err(e)
-            }
-        }
+        let made = self.begin(target, edits, v)?;
+        self.keep(made.erased.as_slice());
+        Ok(())
     }
 }

@@ -10,11 +10,11 @@ ghost use Rattle.live_edits.specs.Pieces.{nodes_of};
 ghost use Rattle.live_edits.specs.Updated.{EndsAgain};
 
 use crate::log::LoggedRows;
+use crate::pieces::PieceSpot;
 use live_lanes::compute::ends::PieceAt;
 use live_lanes::compute::flow::BlockFlow;
 use live_lanes::order::Order;
 use live_lanes::row::{Cell, PieceEnd};
-use live_lanes::table::PieceSpot;
 use std::alloc::AllocError;
 
 impl LoggedRows {
@@ -55,8 +55,9 @@ impl LoggedRows {
             → row_end self.now.rows.rows.items spot.lane spot.block spot.index ≡ right_end order.now.slots flow.now (causes self.now.rows.rows.items) (shapes self.now.rows.rows.items) spot.lane spot.block spot.index }
     {
         let row = self.rows.rows.as_slice().get(spot.lane as usize)?;
-        let cell = row.cell(spot.block)?;
-        let end = self.end_in_cell(order, flow, row.place(spot.block), cell, spot);
+        let place = row.place_near(spot.near, spot.block);
+        let cell = row.cell_at(place, spot.block)?;
+        let end = self.end_in_cell(order, flow, place, cell, spot);
         if end == cell.end_of(spot.index) {
             return None;
         }

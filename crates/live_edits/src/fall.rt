@@ -14,12 +14,11 @@ ghost use Rattle.live_edits.specs.Pieces.{HasAll, KeepsPieces};
 ghost use Rattle.live_edits.specs.Updated.{AreTold, LooksAgain, LosesCause, ListsFallen, LetsFall, LeadsOut};
 
 use crate::log::LoggedRows;
-use crate::pieces::{Need, cause_in};
+use crate::pieces::{Need, PieceSpot, cause_in};
 use crate::spots::SpotList;
 use live_lanes::compute::flow::{BlockFlow, terminators};
 use live_lanes::order::Order;
 use live_lanes::row::{Cause, Cell, entry_rank, exit_rank};
-use live_lanes::table::PieceSpot;
 use std::alloc::AllocError;
 use std::collections::BTreeSet;
 

@@ -3,18 +3,17 @@
 ghost use Rattle.std.specs.Prelude.{◌≡◌, List, Some, IfOk, OnOk, OnErr, map, position, slice_get, slice_set};
 ghost use Rattle.target_base.specs.Registers.{lanes_of};
 ghost use Rattle.meaning.specs.Lanes.{same_lane};
-ghost use Rattle.mir_func.specs.Value.{IsFunction};
 ghost use Rattle.mir_meaning.specs.Registers.{operand_lanes};
 ghost use Rattle.mir_meaning.specs.Points.{is_range};
 ghost use Rattle.mir_meaning.specs.Renaming.{renamed_operand};
 ghost use Rattle.live_edits.specs.Drafts.{IsOrderOf};
 ghost use Rattle.live_edits.specs.EditedRuns.{HasTable};
-ghost use Rattle.live_edits.specs.Folded.{lane_within, image, is_number, are_picked, composed, index_within, joined_operand, same_lanes, two_sides, unites, becomes_identity, is_narrower, joined_class, narrowed, folded, fold_edit, edit_at, fold_edits, NamedLaw, FoldLaw, FoldPlacesLaw, NarrowLaw, MayFold, Narrows};
+ghost use Rattle.live_edits.specs.Folded.{lane_within, image, is_number, are_picked, composed, index_within, joined_operand, same_lanes, two_sides, unites, becomes_identity, is_narrower, joined_class, folded, fold_edit, edit_at, fold_edits, NamedLaw, FoldLaw, FoldPlacesLaw, NarrowLaw, MayFold, Narrows};
 ghost use Rattle.live_edits.specs.Runs.{edit_of, edits_of};
 
+use crate::edit::Edit;
 use crate::edit_run::EditRun;
 use instr_effects::items::lanes::{LaneList, push_operand_lanes};
-use live_lanes::Edit;
 use meaning::Lane;
 use mir_func::opcodes::is_copy;
 use mir_func::operands::{class_of, register_at};
@@ -351,6 +350,9 @@ fn is_narrower(target: &Target, func: &Func, v: u32, w: u32) -> bool
 fn joined_class(target: &Target, func: &Func, join: Join) -> Option<ClassId>
     ensures { result ≡ joined_class target.now func.now join join.index }
 {
+    if class_of(func, join.gone) == class_of(func, join.keep) {
+        return class_of(func, join.keep);
+    }
     if join.index.is_none()
         && is_narrower(target, func, join.gone, join.keep)
         && !is_narrower(target, func, join.keep, join.gone)
@@ -418,7 +420,7 @@ impl EditRun {
         ensures err { OnErr result (MayFold target.now self.old join touched.now → HasTable target.now self.old.draft.func self.new) }
     {
         let edits = self.fold_edits(target, touched, join)?;
-        self.edit_all(target, edits)?;
+        self.edit_all(target, edits, Some(join.gone))?;
         self.narrow(target, join);
         Ok(())
     }

@@ -6,9 +6,11 @@ ghost use Rattle.live_edits.specs.Changes.{TakesBack};
 
 use crate::cell_change::CellChange;
 use crate::change::{change_in, give_life};
+use crate::pieces::PieceSpot;
 use crate::readings::remove_read;
 use live_lanes::row::{Cause, PieceEnd};
-use live_lanes::table::{LaneRanges, PieceSpot};
+use live_lanes::table::LaneRanges;
+use std::alloc::AllocError;
 
 /// What something was before it was changed.
 #[derive(Drop)]
@@ -39,6 +41,14 @@ impl LoggedRows {
     {
         let log = Vec::new(rows.alloc);
         LoggedRows { rows, log }
+    }
+
+    /// Makes room for so many more changes.
+    pub fn make_room(&mut self, count: usize) -> Result<(), AllocError>
+        ensures rows { self.new.rows ≡ self.old.rows }
+        ensures log { self.new.log.items ≡ self.old.log.items }
+    {
+        self.log.reserve(count)
     }
 
     /// Takes all changes back, the last one first. It takes no memory.

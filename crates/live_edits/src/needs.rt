@@ -11,11 +11,10 @@ ghost use Rattle.live_edits.specs.Pieces.{node_of, request_of, requests_of};
 ghost use Rattle.live_edits.specs.Updated.{AreNeedsOf};
 
 use crate::log::LoggedRows;
-use crate::pieces::Need;
+use crate::pieces::{Need, PieceSpot};
 use live_lanes::compute::flow::{BlockFlow, predecessors, terminators};
 use live_lanes::order::Order;
 use live_lanes::row::{Cause, Cell, LaneUse, entry_rank, exit_rank};
-use live_lanes::table::PieceSpot;
 use std::alloc::AllocError;
 
 impl LoggedRows {
@@ -71,11 +70,13 @@ impl LoggedRows {
     {
         let cause = Cause::Follower(spot.block);
         let lane = spot.lane;
-        let Some(cell) = self.rows.cell(lane, before) else {
+        let (near, found) = self.find(lane, spot.place_beside(before), before);
+        let Some(cell) = found else {
             let spot = PieceSpot {
                 lane,
                 block: before,
                 index: 0,
+                near,
             };
             needs.push(Need { spot, cause })?;
             return Ok(());
@@ -85,6 +86,7 @@ impl LoggedRows {
             lane,
             block: before,
             index,
+            near,
         };
         needs.push(Need { spot, cause })?;
         if index == 0 {
@@ -122,7 +124,8 @@ impl LoggedRows {
         ensures { OnOk result (AllRise order.now.slots self.now.rows.rows.items
             → requests_of needs.new.items ≡ requests_of needs.old.items ++ move_needs order.now.slots self.now.rows.rows.items spot.lane spot.block (Some (id, from))) }
     {
-        let Some(cell) = self.rows.cell(from, spot.block) else {
+        let (near, found) = self.find(from, spot.near, spot.block);
+        let Some(cell) = found else {
             return Ok(());
         };
         let index = cell.piece_at(&order.slots, entry_rank(&order.slots, id));
@@ -131,6 +134,7 @@ impl LoggedRows {
                 lane: from,
                 block: spot.block,
                 index,
+                near,
             };
             needs.push(Need {
                 spot: source,
@@ -144,7 +148,7 @@ impl LoggedRows {
     fn move_source(&self, spot: PieceSpot) -> Option<(u32, u32)>
         ensures { result ≡ moved_in (rows_seen self.now.rows.rows.items spot.lane spot.block) spot.index }
     {
-        match self.rows.cell(spot.lane, spot.block) {
+        match self.rows.cell_near(spot.lane, spot.near, spot.block) {
             Some(cell) => cell.move_source(spot.index),
             None => None,
         }

@@ -1,35 +1,28 @@
-//! Notes of what the instructions that edits touched do now, for each lane that they named before or
-//! name now.
+//! Notes of what the instructions that edits touched do now, for each lane that an edit noted.
 
-ghost use Rattle.std.specs.Prelude.{◌≡◌, ◌++◌, ℕ, List, Some, IfOk, OnOk, map, nat_eq, slice_get, option_copied};
+ghost use Rattle.std.specs.Prelude.{◌≡◌, ℕ, List, IfOk, OnOk, nat_eq};
 ghost use Rattle.std.specs.List.{list_any};
-ghost use Rattle.mir_func.specs.At.{instr_at};
+ghost use Rattle.target_base.specs.declared.types.Target.{Target};
+ghost use Rattle.mir_func.specs.Value.{Function};
 ghost use Rattle.mir_meaning.specs.Paths.{Among};
-ghost use Rattle.slot_index.specs.Order.{ids};
-ghost use Rattle.instr_effects.specs.Numbered.{number_in};
-ghost use Rattle.live_lanes.specs.Ordered.{ids_of};
-ghost use Rattle.live_edits.specs.Drafts.{IsOrderOf};
-ghost use Rattle.live_edits.specs.Noted.{HasNotes, TouchedStand};
-ghost use Rattle.live_edits.specs.NotedTable.{cell_key, with_note, IsListAt, HasNote, AreFilled, AreOld, AddsNotes, IsNoteTable, IsNoteOf, AreActsNow};
+ghost use Rattle.instr_effects.specs.Steps.{Numbering};
+ghost use Rattle.live_edits.specs.Noted.{HasNotes, TellLatest};
+ghost use Rattle.live_edits.specs.NotedTable.{cell_key, with_note, IsListAt, HasNote, AreFilled, AreOld, AddsNotes, IsNoteTable, IsNoteOf};
 
 use crate::cells::{CellNotes, Note};
-use instr_effects::EffectReader;
-use instr_effects::lane_acts::{LaneAct, act_on};
-use live_lanes::order::Order;
-use mir_func::{Func, Instr};
+use instr_effects::lane_acts::LaneAct;
 use std::alloc::{AllocError, Global};
-use std::collections::{BTreeMap, BTreeSet};
-use target_base::Boxed;
+use std::collections::BTreeMap;
 
-/// An instruction that an edit touched.
+/// What an edit noted of an instruction.
 #[derive(Drop)]
 pub struct TouchedInstr {
     /// Its id.
     pub id: u32,
     /// The position of its block in the layout.
     pub block: u32,
-    /// The lanes that it named before or names now, by their numbers.
-    pub lanes: Vec<u32>,
+    /// What it does after the edit to each lane to which it did something else before.
+    pub acts: Vec<LaneAct>,
 }
 
 /// Notes, in one list for each lane in each block.
@@ -100,105 +93,40 @@ impl NoteTable {
         add_note(&mut self.all[place].notes, note)
     }
 
-    /// Adds what a touched instruction does now to the lanes that it named before or names now.
-    fn add_touched(
-        &mut self,
-        alloc: Global,
-        touched: &TouchedInstr,
-        acts: &[LaneAct],
-    ) -> Result<(), AllocError>
+    /// Adds what an edit noted of an instruction.
+    fn add_touched(&mut self, alloc: Global, touched: &TouchedInstr) -> Result<(), AllocError>
         requires { IsNoteTable self.old }
         ensures table { OnOk result (IsNoteTable self.new) }
-        ensures added { OnOk result (AddsNotes self.old.all.items self.new.all.items (IsNoteOf touched.now acts.now touched.now.lanes.items)) }
-        ensures noted { OnOk result ((l : ℕ) → Among l touched.now.lanes.items → HasNote self.new.all.items l touched.now.block touched.now.id) }
+        ensures added { OnOk result (AddsNotes self.old.all.items self.new.all.items (IsNoteOf touched.now touched.now.acts.items)) }
+        ensures noted { OnOk result ((a : LaneAct) → Among a touched.now.acts.items → HasNote self.new.all.items a.lane touched.now.block touched.now.id) }
         ensures filled { OnOk result (AreFilled self.old.all.items → AreFilled self.new.all.items) }
     {
-        'lanes: for lane in touched.lanes.as_slice() {
+        'acts: for act in touched.acts.as_slice() {
             let note = Note {
                 id: touched.id,
-                act: act_on(acts, *lane),
+                act: *act,
             };
-            self.add(alloc, *lane, touched.block, note)?;
+            self.add(alloc, act.lane, touched.block, note)?;
         }
         Ok(())
     }
 }
 
-/// The instruction of an id among those of a block.
-fn instr_among<'a>(order: &Order, instrs: &'a [Boxed<Instr>], id: u32) -> Option<&'a Instr>
-    ensures { (before rest : List ℕ) → ids order.now.slots ≡ before ++ (ids_of instrs.now ++ rest)
-        → (j : ℕ) (i : Instr) → slice_get instrs.now j ≡ Some i → i.id ≡ id → option_copied result ≡ Some i }
+/// Notes of what the touched instructions do now: at each lane what the last edit noted that touched
+/// the instruction there.
+pub fn notes_of(alloc: Global, touched: &[TouchedInstr]) -> Result<Vec<CellNotes>, AllocError>
+    ensures { IfOk result (λ all. (t : Target) (f : Function) (num : Numbering) (gone : List ℕ) → TellLatest t f num gone touched.now → HasNotes t f num gone touched.now all.items) }
 {
-    let Some(last) = instrs.last() else {
-        return None;
-    };
-    // The numbers of these instructions rise up to this one.
-    let _highest = order.slots.number(last.get().id);
-    match instrs.get(order.place(instrs, id)) {
-        Some(instr) => Some(instr.get()),
-        None => None,
-    }
-}
-
-/// A touched instruction as it stands in the function.
-fn touched_instr<'a>(func: &'a Func, order: &Order, touched: &TouchedInstr) -> Option<&'a Instr>
-    ensures { IsOrderOf func.now order.now → (place : ℕ) (i : Instr) → instr_at func.now.blocks touched.now.block place ≡ Some i
-        → i.id ≡ touched.now.id → option_copied result ≡ Some i }
-{
-    match func.blocks.as_slice().get(touched.block as usize) {
-        Some(block) => instr_among(order, block.instrs.as_slice(), touched.id),
-        None => None,
-    }
-}
-
-/// What a touched instruction does to lanes now; nothing if it is gone.
-fn acts_now(
-    reader: &EffectReader<'_>,
-    order: &Order,
-    gone: &BTreeSet<u32>,
-    touched: &TouchedInstr,
-) -> Result<Vec<LaneAct>, AllocError>
-    ensures { IfOk result (λ acts. IsOrderOf reader.now.func.now order.now
-        → AreActsNow reader.now.target.now reader.now.func.now (number_in reader.now.lanes.now) gone.now.keys touched.now acts.items) }
-{
-    if gone.contains(&touched.id) {
-        return Ok(Vec::new(reader.alloc));
-    }
-    match touched_instr(reader.func, order, touched) {
-        Some(instr) => reader.effects(instr)?.acts(reader.alloc),
-        None => Ok(Vec::new(reader.alloc)),
-    }
-}
-
-/// Notes of what the touched instructions do now, where those that are gone do nothing.
-pub fn notes_of(
-    reader: &EffectReader<'_>,
-    order: &Order,
-    gone: &BTreeSet<u32>,
-    touched: &[TouchedInstr],
-) -> Result<Vec<CellNotes>, AllocError>
-    ensures { IfOk result (λ all. IsOrderOf reader.now.func.now order.now → TouchedStand reader.now.func.now touched.now
-        → HasNotes reader.now.target.now reader.now.func.now (number_in reader.now.lanes.now) gone.now.keys touched.now all.items) }
-{
-    let alloc = reader.alloc;
     let mut table = NoteTable {
         all: Vec::new(alloc),
         places: BTreeMap::new(alloc),
     };
-    'touched: for instr in touched {
-        let acts = acts_now(reader, order, gone, instr)?;
-        table.add_touched(alloc, instr, acts.as_slice())?;
+    let mut left = touched.len();
+    // The note that comes first stays, so the last edit comes first.
+    'edits: while left > 0 {
+        left -= 1;
+        table.add_touched(alloc, &touched[left])?;
     }
     let NoteTable { all, .. } = table;
     Ok(all)
-}
-
-/// Adds the lanes of acts to a list.
-pub fn lanes_of_acts(acts: &[LaneAct], lanes: &mut Vec<u32>) -> Result<(), AllocError>
-    ensures { OnOk result (lanes.new.items ≡ lanes.old.items ++ map (λ a. a.lane) acts.now) }
-{
-    'acts: for act in acts {
-        lanes.push(act.lane)?;
-    }
-    Ok(())
 }

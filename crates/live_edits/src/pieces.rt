@@ -1,11 +1,9 @@
 //! The pieces of logged rows by their spots: what is known of them, and their causes and ends.
 
 ghost use Rattle.std.specs.Prelude.{◌≡◌, ◌<◌, ℕ, length, IfOk, OnOk, OnErr, option_copied, slice_get};
-ghost use Rattle.live_lanes.specs.Table.{certain_cause, cause_in, end_in, find_cell, seen_cell};
+ghost use Rattle.live_lanes.specs.Table.{certain_cause, cause_in, end_in, find_cell, seen, seen_cell};
 ghost use Rattle.live_lanes.specs.Entered.{rows_seen, cells_of, causes};
-ghost use Rattle.live_lanes.specs.Growth.{piece_in_rows};
 ghost use Rattle.live_lanes.specs.Marks.{KeepsCauses};
-ghost use Rattle.live_lanes.specs.Lasting.{AllRise};
 ghost use Rattle.edit_laws.specs.RowCause.{GivesCause};
 ghost use Rattle.edit_laws.specs.RowEnd.{GivesEnd};
 ghost use Rattle.live_edits.specs.Logged.{IsLogged};
@@ -14,13 +12,36 @@ ghost use Rattle.live_edits.specs.Changes.{AddsCells, LogsLife};
 
 use crate::change::{give_cause_at, give_end_at, make_in};
 use crate::log::{Former, LoggedRows};
-use live_lanes::order::Order;
 use live_lanes::row::{Cause, Cell, PieceEnd};
-use live_lanes::table::PieceSpot;
 use std::alloc::AllocError;
 
+/// Where a piece stands.
+#[derive(Clone, Copy)]
+pub struct PieceSpot {
+    /// The lane.
+    pub lane: u32,
+    /// The block's position in the layout.
+    pub block: u32,
+    /// The place among the lane's pieces in the block: 0 is the one that begins with the block.
+    pub index: usize,
+    /// The place among the lane's cells at which that of the block was found last, as a hint: it may be
+    /// any.
+    pub near: usize,
+}
+
+impl PieceSpot {
+    /// Where to look first for the lane's cell of another block: a row has its cells from the last block
+    /// to the first, and mostly those of neighbouring blocks next to each other.
+    pub(crate) fn place_beside(self, block: u32) -> usize {
+        if block < self.block {
+            return self.near.saturating_add(1);
+        }
+        self.near.saturating_sub(1)
+    }
+}
+
 /// A piece is live for a cause.
-#[derive(Clone, Copy, PartialEq, Eq)]
+#[derive(Clone, Copy)]
 pub struct Need {
     /// The piece.
     pub spot: PieceSpot,
@@ -46,12 +67,36 @@ fn life_of(cell: &Cell, spot: PieceSpot) -> Former
 }
 
 impl LoggedRows {
+    /// The place of a lane's cell of a block, as a hint, which is looked for at a place and behind it
+    /// first.
+    pub(crate) fn place_near(&self, lane: u32, near: usize, block: u32) -> usize {
+        match self.rows.rows.as_slice().get(lane as usize) {
+            Some(row) => row.place_near(near, block),
+            None => 0,
+        }
+    }
+
+    /// The cell of a lane in a block, where it has one, and its place, as a hint. It is looked for at a
+    /// place and behind it first.
+    pub(crate) fn find(&self, lane: u32, near: usize, block: u32) -> (usize, Option<&Cell>)
+        ensures cell { option_copied result.1 ≡ find_cell block (cells_of self.now.rows.rows.items lane) }
+        ensures seen { seen (option_copied result.1) ≡ rows_seen self.now.rows.rows.items lane block }
+    {
+        match self.rows.rows.as_slice().get(lane as usize) {
+            Some(row) => {
+                let place = row.place_near(near, block);
+                (place, row.cell_at(place, block))
+            }
+            None => (0, None),
+        }
+    }
+
     /// The cell of a piece, where its lane has one in its block.
     pub(crate) fn cell_of(&self, spot: PieceSpot) -> Option<&Cell>
         ensures { option_copied result ≡ find_cell spot.block (cells_of self.now.rows.rows.items spot.lane) }
     {
         match self.rows.rows.as_slice().get(spot.lane as usize) {
-            Some(row) => row.cell(spot.block),
+            Some(row) => row.cell_near(spot.near, spot.block),
             None => None,
         }
     }
@@ -76,19 +121,6 @@ impl LoggedRows {
         }
     }
 
-    /// The piece of a lane that the point of this rank in a block lies in.
-    pub fn piece_at(&self, order: &Order, lane: u32, block: u32, at: u128) -> PieceSpot
-        ensures lane { result.lane ≡ lane }
-        ensures block { result.block ≡ block }
-        ensures index { AllRise order.now.slots self.now.rows.rows.items → result.index ≡ piece_in_rows order.now.slots self.now.rows.rows.items lane block at }
-    {
-        let index = match self.rows.cell(lane, block) {
-            Some(cell) => cell.piece_at(&order.slots, at),
-            None => 0,
-        };
-        PieceSpot { lane, block, index }
-    }
-
     /// Makes the cell of a piece, where there is none, and logs the piece's cause and end. Answers the
     /// cell's place.
     fn log_life(&mut self, spot: PieceSpot) -> Result<usize, AllocError>
@@ -99,7 +131,7 @@ impl LoggedRows {
         ensures within { IfOk result (λ at. at < length (cells_of self.new.rows.rows.items spot.lane)) }
         ensures place { IfOk result (λ at. slice_get (cells_of self.new.rows.rows.items spot.lane) at ≡ find_cell spot.block (cells_of self.new.rows.rows.items spot.lane)) }
     {
-        let place = make_in(&mut self.rows, spot.lane, spot.block)?;
+        let place = make_in(&mut self.rows, spot.lane, spot.near, spot.block)?;
         let former = life_of(&self.rows.rows[spot.lane as usize].cells[place], spot);
         self.log.push(former)?;
         Ok(place)

@@ -10,8 +10,9 @@ ghost use Rattle.live_edits.specs.Renoted.{ChangesOne};
 use crate::cell_change::{put_reading, remove_reading};
 use crate::change::make_in;
 use crate::log::{Former, LoggedRows};
+use crate::pieces::PieceSpot;
 use live_lanes::row::{LaneRange, LaneUse};
-use live_lanes::table::{LaneRanges, PieceSpot};
+use live_lanes::table::LaneRanges;
 use std::alloc::AllocError;
 
 /// Removes the reading at a place of a piece of a row, if there is one.
@@ -19,7 +20,7 @@ fn remove_row_read(row: &mut LaneRange, spot: PieceSpot, at: usize)
     ensures { is_some (find_cell spot.block row.old.cells.items) ≡ true
         → ChangesRow row.old.cells.items row.new.cells.items spot.block (λ v. reading_removed spot.index at v) }
 {
-    let place = row.place(spot.block);
+    let place = row.place_near(spot.near, spot.block);
     if place < row.cells.len() {
         remove_reading(&mut row.cells[place], spot.index, at);
     }
@@ -51,7 +52,7 @@ impl LoggedRows {
     {
         // Memory for the log is taken first, so that no reading comes without what takes it back.
         self.log.reserve(1)?;
-        let place = make_in(&mut self.rows, spot.lane, spot.block)?;
+        let place = make_in(&mut self.rows, spot.lane, spot.near, spot.block)?;
         let cell = &mut self.rows.rows[spot.lane as usize].cells[place];
         put_reading(cell, spot.index, at, reading)?;
         self.log.push(Former::Read(spot, at))?;

@@ -9,12 +9,12 @@ ghost use Rattle.live_edits.specs.CellChanges.{seen_changed, begun_with_readings
 ghost use Rattle.live_edits.specs.Renoted.{CutsReadings, CutsPieces, piece_readings, under, not_over, first_read, without_first, is_begun_by, reading_changed, changed_maybe, all_changed, rewritten, Begins, piece_joined, NotesReading, NotesWriting, NotesSeen, NotesAll, NotesCell, ChangesOne};
 
 use crate::cell_change::{CellChange, change_cell};
-use crate::cells::{CellNotes, Note};
+use crate::cells::{CellNotes, CellSpot, Note};
 use crate::change::make_in;
 use crate::log::{Former, LoggedRows};
+use crate::pieces::PieceSpot;
 use instr_effects::lane_acts::{LaneRead, LaneWrite};
 use live_lanes::row::{Cause, Cell, DefPiece, LaneUse, Piece, PieceEnd};
-use live_lanes::table::PieceSpot;
 use slot_index::Slots;
 use std::alloc::{AllocError, Global};
 
@@ -85,11 +85,16 @@ fn without_first(readings: &[LaneUse], id: u32) -> &[LaneUse]
     readings
 }
 
+/// Room for so many further readings is made with a list.
+const ROOM: usize = 4;
+
 /// These readings, and then those.
 fn joined(alloc: Global, before: &[LaneUse], behind: &[LaneUse]) -> Result<Vec<LaneUse>, AllocError>
     ensures { IfOk result (λ new. new.items ≡ before.now ++ behind.now) }
 {
-    let mut new = Vec::new(alloc);
+    // A reading that comes later mostly finds room.
+    let count = before.len().saturating_add(behind.len());
+    let mut new = Vec::with_capacity(alloc, count.saturating_add(ROOM))?;
     new.extend_from_slice(before)?;
     new.extend_from_slice(behind)?;
     Ok(new)
@@ -257,68 +262,64 @@ fn write_changes(
 
 impl LoggedRows {
     /// Changes a cell, and logs what takes the change back.
-    fn change(&mut self, lane: u32, block: u32, change: CellChange) -> Result<(), AllocError>
-        requires { lane < length self.old.rows.rows.items }
-        ensures changed { OnOk result (ChangesOne self.old.rows.rows.items self.new.rows.rows.items lane block (λ v w. w ≡ seen_changed change v)) }
+    fn change(&mut self, spot: CellSpot, change: CellChange) -> Result<(), AllocError>
+        requires { spot.lane < length self.old.rows.rows.items }
+        ensures changed { OnOk result (ChangesOne self.old.rows.rows.items self.new.rows.rows.items spot.lane spot.block (λ v w. w ≡ seen_changed change v)) }
         ensures lanes { length self.new.rows.rows.items ≡ length self.old.rows.rows.items }
         ensures logged { IsLogged self.old self.new }
     {
         // Memory for the log is taken first, so that no cell changes without what takes it back.
         self.log.reserve(1)?;
-        let place = make_in(&mut self.rows, lane, block)?;
-        let cell = &mut self.rows.rows[lane as usize].cells[place];
+        let place = make_in(&mut self.rows, spot.lane, spot.near, spot.block)?;
+        let cell = &mut self.rows.rows[spot.lane as usize].cells[place];
         let back = change_cell(cell, change)?;
-        self.log.push(Former::Shape(lane, block, back))?;
+        self.log.push(Former::Shape(spot.lane, spot.block, back))?;
         Ok(())
     }
 
     /// Changes a cell, if there is a change.
-    fn change_maybe(
-        &mut self,
-        lane: u32,
-        block: u32,
-        change: Option<CellChange>,
-    ) -> Result<(), AllocError>
-        requires { lane < length self.old.rows.rows.items }
-        ensures changed { OnOk result (ChangesOne self.old.rows.rows.items self.new.rows.rows.items lane block (λ v w. w ≡ changed_maybe change v)) }
+    fn change_maybe(&mut self, spot: CellSpot, change: Option<CellChange>) -> Result<(), AllocError>
+        requires { spot.lane < length self.old.rows.rows.items }
+        ensures changed { OnOk result (ChangesOne self.old.rows.rows.items self.new.rows.rows.items spot.lane spot.block (λ v w. w ≡ changed_maybe change v)) }
         ensures lanes { length self.new.rows.rows.items ≡ length self.old.rows.rows.items }
         ensures logged { IsLogged self.old self.new }
     {
         match change {
-            Some(change) => self.change(lane, block, change),
+            Some(change) => self.change(spot, change),
             None => Ok(()),
         }
     }
 
     /// Changes a cell by all of these.
-    fn change_all(&mut self, lane: u32, block: u32, changes: CellChanges) -> Result<(), AllocError>
-        requires { lane < length self.old.rows.rows.items }
-        ensures changed { OnOk result (ChangesOne self.old.rows.rows.items self.new.rows.rows.items lane block (λ v w. w ≡ all_changed changes v)) }
+    fn change_all(&mut self, spot: CellSpot, changes: CellChanges) -> Result<(), AllocError>
+        requires { spot.lane < length self.old.rows.rows.items }
+        ensures changed { OnOk result (ChangesOne self.old.rows.rows.items self.new.rows.rows.items spot.lane spot.block (λ v w. w ≡ all_changed changes v)) }
         ensures lanes { length self.new.rows.rows.items ≡ length self.old.rows.rows.items }
         ensures logged { IsLogged self.old self.new }
     {
-        self.change_maybe(lane, block, changes.first)?;
-        self.change_maybe(lane, block, changes.second)
+        self.change_maybe(spot, changes.first)?;
+        self.change_maybe(spot, changes.second)
     }
 
     /// Changes the readings of a cell.
-    fn change_readings(
-        &mut self,
-        lane: u32,
-        block: u32,
-        change: ReadingChange,
-    ) -> Result<(), AllocError>
-        requires { lane < length self.old.rows.rows.items }
-        ensures changed { OnOk result (ChangesOne self.old.rows.rows.items self.new.rows.rows.items lane block (λ v w. w ≡ reading_changed change v)) }
+    fn change_readings(&mut self, spot: CellSpot, change: ReadingChange) -> Result<(), AllocError>
+        requires { spot.lane < length self.old.rows.rows.items }
+        ensures changed { OnOk result (ChangesOne self.old.rows.rows.items self.new.rows.rows.items spot.lane spot.block (λ v w. w ≡ reading_changed change v)) }
         ensures lanes { length self.new.rows.rows.items ≡ length self.old.rows.rows.items }
         ensures logged { IsLogged self.old self.new }
     {
         match change {
             ReadingChange::None => Ok(()),
             ReadingChange::Put(index, at, reading) => {
-                self.put_read(PieceSpot { lane, block, index }, at, reading)
+                let piece = PieceSpot {
+                    lane: spot.lane,
+                    block: spot.block,
+                    index,
+                    near: spot.near,
+                };
+                self.put_read(piece, at, reading)
             }
-            ReadingChange::Other(change) => self.change(lane, block, change),
+            ReadingChange::Other(change) => self.change(spot, change),
         }
     }
 
@@ -326,71 +327,65 @@ impl LoggedRows {
     fn note_read(
         &mut self,
         slots: &Slots,
-        lane: u32,
-        block: u32,
+        spot: CellSpot,
         id: u32,
         read: Option<LaneRead>,
     ) -> Result<(), AllocError>
-        requires { lane < length self.old.rows.rows.items }
-        ensures noted { OnOk result (ChangesOne self.old.rows.rows.items self.new.rows.rows.items lane block (NotesReading slots.now id (use_of_read read))) }
+        requires { spot.lane < length self.old.rows.rows.items }
+        ensures noted { OnOk result (ChangesOne self.old.rows.rows.items self.new.rows.rows.items spot.lane spot.block (NotesReading slots.now id (use_of_read read))) }
         ensures lanes { length self.new.rows.rows.items ≡ length self.old.rows.rows.items }
         ensures logged { IsLogged self.old self.new }
     {
         let alloc = self.rows.alloc;
         // Where there is no cell, one that tells nothing stands for it, which takes no memory.
-        let empty = Cell::new(alloc, block);
-        let cell = self.rows.cell(lane, block).unwrap_or(&empty);
+        let empty = Cell::new(alloc, spot.block);
+        let found = self.rows.cell_near(spot.lane, spot.near, spot.block);
+        let cell = found.unwrap_or(&empty);
         let change = read_change(alloc, slots, cell, id, read)?;
-        self.change_readings(lane, block, change)
+        self.change_readings(spot, change)
     }
 
     /// Lets a cell tell that an instruction writes the lane so.
     fn note_write(
         &mut self,
         slots: &Slots,
-        lane: u32,
-        block: u32,
+        spot: CellSpot,
         id: u32,
         write: Option<LaneWrite>,
     ) -> Result<(), AllocError>
-        requires { lane < length self.old.rows.rows.items }
-        ensures noted { OnOk result ((l : ℕ) → ChangesOne self.old.rows.rows.items self.new.rows.rows.items lane block (NotesWriting slots.now id (def_of_write l write))) }
+        requires { spot.lane < length self.old.rows.rows.items }
+        ensures noted { OnOk result ((l : ℕ) → ChangesOne self.old.rows.rows.items self.new.rows.rows.items spot.lane spot.block (NotesWriting slots.now id (def_of_write l write))) }
         ensures lanes { length self.new.rows.rows.items ≡ length self.old.rows.rows.items }
         ensures logged { IsLogged self.old self.new }
     {
         let alloc = self.rows.alloc;
-        let empty = Cell::new(alloc, block);
-        let cell = self.rows.cell(lane, block).unwrap_or(&empty);
+        let empty = Cell::new(alloc, spot.block);
+        let found = self.rows.cell_near(spot.lane, spot.near, spot.block);
+        let cell = found.unwrap_or(&empty);
         let changes = write_changes(alloc, slots, cell, id, write)?;
-        self.change_all(lane, block, changes)
+        self.change_all(spot, changes)
     }
 
     /// Lets a cell tell what a note says.
-    fn note(&mut self, slots: &Slots, lane: u32, block: u32, note: Note) -> Result<(), AllocError>
-        requires { lane < length self.old.rows.rows.items }
-        ensures noted { OnOk result (ChangesOne self.old.rows.rows.items self.new.rows.rows.items lane block (NotesSeen slots.now note)) }
+    fn note(&mut self, slots: &Slots, spot: CellSpot, note: Note) -> Result<(), AllocError>
+        requires { spot.lane < length self.old.rows.rows.items }
+        ensures noted { OnOk result (ChangesOne self.old.rows.rows.items self.new.rows.rows.items spot.lane spot.block (NotesSeen slots.now note)) }
         ensures lanes { length self.new.rows.rows.items ≡ length self.old.rows.rows.items }
         ensures logged { IsLogged self.old self.new }
     {
-        self.note_read(slots, lane, block, note.id, note.act.read)?;
-        self.note_write(slots, lane, block, note.id, note.act.write)
+        self.note_read(slots, spot, note.id, note.act.read)?;
+        self.note_write(slots, spot, note.id, note.act.write)
     }
 
     /// Lets a cell tell what notes say, one after the other.
-    fn note_each(
-        &mut self,
-        slots: &Slots,
-        lane: u32,
-        block: u32,
-        notes: &[Note],
-    ) -> Result<(), AllocError>
-        requires { lane < length self.old.rows.rows.items }
-        ensures noted { OnOk result (ChangesOne self.old.rows.rows.items self.new.rows.rows.items lane block (NotesAll slots.now notes.now)) }
+    fn note_each(&mut self, slots: &Slots, spot: CellSpot, notes: &[Note]) -> Result<(), AllocError>
+        requires { spot.lane < length self.old.rows.rows.items }
+        ensures noted { OnOk result (ChangesOne self.old.rows.rows.items self.new.rows.rows.items spot.lane spot.block (NotesAll slots.now notes.now)) }
         ensures lanes { length self.new.rows.rows.items ≡ length self.old.rows.rows.items }
         ensures logged { IsLogged self.old self.new }
     {
         'notes: for each in notes {
-            self.note(slots, lane, block, *each)?;
+            self.note(slots, spot, *each)?;
         }
         Ok(())
     }
@@ -404,7 +399,13 @@ impl LoggedRows {
         if notes.lane as usize >= self.rows.rows.len() {
             return Ok(());
         }
-        self.note_each(slots, notes.lane, notes.block, notes.notes.as_slice())
+        // All its notes find the cell where it is now, or where the first one makes it.
+        let spot = CellSpot {
+            lane: notes.lane,
+            block: notes.block,
+            near: self.place_near(notes.lane, 0, notes.block),
+        };
+        self.note_each(slots, spot, notes.notes.as_slice())
     }
 
     /// Lets the cells that have notes tell what these say.
@@ -412,12 +413,10 @@ impl LoggedRows {
         ensures remade { OnOk result (RemakesAll slots.now self.old.rows.rows.items self.new.rows.rows.items all.now) }
         ensures logged { IsLogged self.old self.new }
     {
-        // Rows have their cells from the last block to the first, and notes come in layout order: so a
-        // new cell comes at the end of its row.
-        let mut left = all.len();
-        'cells: while left > 0 {
-            left -= 1;
-            self.note_cell(slots, &all[left])?;
+        // Rows have their cells from the last block to the first, and notes come so too, mostly: a new
+        // cell comes at the end of its row then.
+        'cells: for notes in all {
+            self.note_cell(slots, notes)?;
         }
         Ok(())
     }

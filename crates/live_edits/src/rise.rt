@@ -8,12 +8,11 @@ ghost use Rattle.live_edits.specs.Pieces.{KeepsPieces};
 ghost use Rattle.live_edits.specs.Updated.{Raises, Revives};
 
 use crate::log::LoggedRows;
-use crate::pieces::Need;
+use crate::pieces::{Need, PieceSpot};
 use crate::spots::SpotList;
 use live_lanes::compute::flow::BlockFlow;
 use live_lanes::order::Order;
 use live_lanes::row::Cause;
-use live_lanes::table::PieceSpot;
 use std::alloc::AllocError;
 
 impl LoggedRows {

@@ -6,10 +6,10 @@ ghost use Rattle.live_edits.specs.Logged.{IsLogged};
 ghost use Rattle.live_edits.specs.Updated.{Updates};
 
 use crate::log::LoggedRows;
+use crate::pieces::PieceSpot;
 use crate::spots::SpotList;
 use live_lanes::compute::flow::BlockFlow;
 use live_lanes::order::Order;
-use live_lanes::table::PieceSpot;
 use std::alloc::{AllocError, Global};
 use std::collections::BTreeSet;
 
@@ -51,7 +51,7 @@ impl LoggedRows {
     {
         let alloc = self.rows.alloc;
         // Both sides of an instruction mostly lie in one piece, and those of the next one too.
-        let mut around = SpotList::new(alloc)?;
+        let mut around = SpotList::with_room(alloc, suspects.len())?;
         around.add_all(suspects)?;
         let list = copied(alloc, around.spots.as_slice())?;
         let mut fallen = self.look_again(order, flow, suspects, ids)?;

@@ -1,14 +1,12 @@
 -- The last block before a position in which a lane has a cell.
-use Rattle.std.proofs.Common.{◌≡◌, ◌<◌, ◌≤◌, ℕ, zero, suc, ◌+◌, Bool, true, false, cond, ◌&&◌, leb, length, List, [], ◌∷◌, Option, None, Some, refl, sym, ap, ◌∙◌, subst, arith, get_or}
-use Rattle.std.specs.Prelude.{nat_eq, nat_le, nat_lt, slice_get, option_map, max}
+use Rattle.std.proofs.Common.{◌≡◌, ◌<◌, ◌≤◌, ℕ, zero, suc, Bool, true, false, cond, leb, length, List, [], ◌∷◌, Option, None, Some, refl, sym, ap, ◌∙◌, subst, arith, get_or}
+use Rattle.std.specs.Prelude.{nat_le, slice_get, option_map}
 use Rattle.std.specs.List.Sorted.{IsPartitionedBy}
-use Rattle.std.proofs.lemmas.Bool.{ltb-true, leb-true, leb-false, le-leb, eqb-true, ne_eqb, eq-eqb}
+use Rattle.std.proofs.lemmas.Bool.{ltb-true, leb-true, leb-false, le-leb, ne_eqb}
 use Rattle.std.proofs.lemmas.Option.{slice_get-get_or, slice_get_past}
 use Rattle.live_lanes.specs.declared.row.Cell.{Cell}
-use Rattle.live_lanes.specs.declared.row.LaneRange.{LaneRange}
 use Rattle.live_lanes.specs.Table.{leading, find_cell, is_below, descends, seen, seen_in, unseen}
-use Rattle.live_lanes.specs.Entered.{rows_seen}
-use Rattle.live_lanes.specs.Held.{IsLastBefore, later_place, AreUnseen}
+use Rattle.live_lanes.specs.Held.{IsLastBefore}
 use Rattle.live_lanes.proofs.Cells.{both-left, both-right}
 
 -- the cell is of that block or one behind it
@@ -87,23 +85,3 @@ pub last-none : (bound : ℕ) (cs : List Cell) (at : ℕ) → descends cs ≡ tr
 last-none bound cs at s e past =
     let there : slice_get cs (leading (is_from bound) cs) ≡ None = ap (slice_get cs) (sym e) ∙ slice_get_past cs at past in
     subst (λ q. IsLastBefore (Empty cs) bound (option_map (λ x. x.block) q)) there (last-found bound cs s)
-
--- of two such positions the later one is that of both
-pub later-both : (P Q R : ℕ → Type 0) (bound : ℕ) (p q : Option ℕ) → ((b : ℕ) → P b → Q b → R b) → IsLastBefore P bound p → IsLastBefore Q bound q → IsLastBefore R bound (later_place p q)
-later-both P Q R bound None None f x y = λ b lt. f b (x b lt) (y b lt)
-later-both P Q R bound None (Some c) f x y = (y.0, λ b more lt. f b (x b lt) (y.1 b more lt))
-later-both P Q R bound (Some a) None f x y = (x.0, λ b more lt. f b (x.1 b more lt) (y b lt))
-later-both P Q R bound (Some a) (Some c) f x y =
-    let low = x.0 in
-    let low' = y.0 in
-    (omega arith, λ b more lt. f b (x.1 b (omega (arith, more)) lt) (y.1 b (omega (arith, more)) lt))
-
-pub more-unseen : (rows : List LaneRange) (first k b : ℕ) → rows_seen rows (first + k) b ≡ unseen → AreUnseen rows first k b → AreUnseen rows first (suc k) b
-more-unseen rows first k b h hs j lt = go (nat_eq j k) refl
-  where
-    go : (u : Bool) → nat_eq j k ≡ u → rows_seen rows (first + j) b ≡ unseen
-    go true e = ap (λ i. rows_seen rows (first + i) b) (eqb-true j k e) ∙ h
-    go false e = hs j (omega (arith, unequal e))
-      where
-        unequal : nat_eq j k ≡ false → (j ≡ k) → ⊥
-        unequal f q = let z : true ≡ false = sym (eq-eqb j k q) ∙ f in absurd (cc)

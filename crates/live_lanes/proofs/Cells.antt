@@ -1,6 +1,6 @@
 -- Finding, putting and changing cells of a row.
-use Rattle.std.proofs.Common.{◌≡◌, ◌≢◌, ◌<◌, ◌≤◌, ℕ, zero, suc, ◌+◌, Bool, true, false, cond, ◌&&◌, eqb, ltb, length, List, [], ◌∷◌, ◌++◌, ◌⊎◌, Option, None, Some, refl, sym, ap, ◌∙◌, subst, inl, inr, arith, take, drop, get_or, set, eq-eqb, eqb-true}
-use Rattle.std.specs.Prelude.{slice_get, slice_set, nat_eq, nat_lt, is_some}
+use Rattle.std.proofs.Common.{◌≡◌, ◌≢◌, ◌<◌, ◌≤◌, ℕ, zero, suc, Bool, true, false, cond, ◌&&◌, eqb, ltb, length, List, [], ◌∷◌, ◌⊎◌, Option, None, Some, refl, sym, ap, ◌∙◌, subst, inl, inr, arith, get_or, set, eq-eqb, eqb-true}
+use Rattle.std.specs.Prelude.{slice_get, nat_eq, is_some}
 use Rattle.std.specs.List.{insert, AllWithin}
 use Rattle.std.proofs.lemmas.Bool.Decides.{eqb_tells}
 use Rattle.std.proofs.lemmas.Bool.{ltb-true, ltb-false, lt-ltb, false≢true}
@@ -205,29 +205,6 @@ found-block b (x ∷ cs) c e = go (nat_eq x.block b) refl e (λ g. found-block b
     go : (t : Bool) → nat_eq x.block b ≡ t → cond t (Some x) (find_cell b cs) ≡ Some c → (find_cell b cs ≡ Some c → c.block ≡ b) → c.block ≡ b
     go true f g ih = let z : x ≡ c = cc in ap (λ t. t.block) (sym z) ∙ eqb-true x.block b f
     go false f g ih = ih g
-
--- a row whose cell of a block is another
-abbrev pub with_seen : ℕ → Seen → (ℕ → Seen) → ℕ → Seen
-with_seen b v old q = cond (nat_eq b q) v (old q)
-
-pub set-seen : (b q : ℕ) (cs : List Cell) (at : ℕ) (x : Cell) → descends cs ≡ true → at < length cs → slice_get cs at ≡ find_cell b cs → x.block ≡ (get_or cs at x).block → (descends (set cs at x) ≡ true) × (seen_in (set cs at x) q ≡ cond (nat_eq b q) (seen_cell x) (seen_in cs q))
-set-seen b q cs at x s h e f = (set-descends cs at old x s there same, ap seen (set-find q cs at old x s there same) ∙ ap (λ n. seen (cond (nat_eq n q) (Some x) (find_cell q cs))) block ∙ out (nat_eq b q))
-  where
-    old : Cell
-    old = get_or cs at x
-
-    there : slice_get cs at ≡ Some old
-    there = slice_get-get_or cs at x h
-
-    same : x.block ≡ old.block
-    same = f
-
-    block : old.block ≡ b
-    block = found-block b cs old (sym e ∙ there)
-
-    out : (t : Bool) → seen (cond t (Some x) (find_cell q cs)) ≡ cond t (seen_cell x) (seen (find_cell q cs))
-    out true = refl
-    out false = refl
 
 -- an empty cell put into a row changes nothing that is seen
 pub insert-seen : (b q : ℕ) (cs : List Cell) (x : Cell) → x.block ≡ b → find_cell b cs ≡ None → seen_cell x ≡ unseen → seen_in (insert cs (leading (is_before b) cs) x) q ≡ seen_in cs q

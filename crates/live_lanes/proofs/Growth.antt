@@ -1,25 +1,20 @@
 -- Growing a table of causes.
-use Rattle.std.proofs.Common.{◌≡◌, ◌≢◌, ◌<◌, ◌≤◌, ℕ, zero, suc, ◌+◌, Bool, true, false, cond, ◌&&◌, eqb, List, [], ◌∷◌, ◌++◌, ◌⊎◌, Option, None, Some, refl, sym, ap, ◌∙◌, subst, inl, inr, arith, map, length, append_assoc, append-nil, eqb-true, eq-eqb}
+use Rattle.std.proofs.Common.{◌≡◌, ◌<◌, ◌≤◌, ℕ, zero, suc, Bool, true, false, cond, ◌&&◌, List, [], ◌∷◌, ◌++◌, ◌⊎◌, refl, sym, ap, ◌∙◌, subst, inl, inr, arith, map, length, append_assoc, append-nil, eqb-true, eq-eqb}
 use Rattle.std.specs.Prelude.{slice_get, nat_eq}
-use Rattle.std.proofs.lemmas.Bool.Decides.{eqb_tells}
 use Rattle.std.proofs.Math.Dec.{eqb-zero-suc, eqb-suc-zero, eqb-suc-suc}
 use Rattle.live_lanes.specs.declared.row.Cause.{Cause}
-use Rattle.live_lanes.specs.declared.row.Cause.TheVariants as why
 use Rattle.live_lanes.specs.declared.row.LaneRange.{LaneRange}
 use Rattle.live_lanes.specs.declared.table.PieceSpot.{PieceSpot}
-use Rattle.mir_meaning.specs.Paths.{Among, here, there, Step, Code, steps_of, exits_of}
+use Rattle.mir_meaning.specs.Paths.{Among, here, there, Code, steps_of}
 use Rattle.live_lanes.specs.Graph.{Causes, is_live, writes_in, Founded, by_reading, by_move, by_exit, by_end, by_phi}
-use Rattle.live_lanes.specs.Table.{Numbers, Seen, Begun, leading, is_begun, piece_at, cause_in, begun_cause, with_cause, changed_at, begun_with_cause, raised_seen}
-use Rattle.live_lanes.specs.Entered.{start_of, shape, rows_seen, causes, IsTableOf}
+use Rattle.live_lanes.specs.Table.{Numbers, Seen, Begun, leading, is_begun, cause_in, begun_cause, with_cause, changed_at, begun_with_cause, raised_seen}
+use Rattle.live_lanes.specs.Entered.{start_of, shape, rows_seen, causes}
 use Rattle.live_lanes.specs.Growth.{spot, PieceLaw, piece_in_rows, raised_spots, RaisedAt, Raised, AllFounded, Grew}
 use Rattle.live_lanes.proofs.Basics.{none-among}
 use Rattle.live_lanes.proofs.Numbered.{segments-rise, among-split, among-left, among-right}
 
 pub piece-law : PieceLaw
 piece-law code slots flow rows t l b = segments-rise slots l 0 (steps_of code b) (rows_seen rows l b).segments (t.numbered b) (ap (λ s. s.segments) (t.entered l b))
-
-live-reading : (c : Cause) (id : ℕ) → c ≡ why.Reading id → is_live c ≡ true
-live-reading c id e = ap is_live e
 
 -- what is founded stays so where live pieces keep their causes
 pub founded-kept : (code : Code) (old new : Causes) → ((l b n : ℕ) → is_live (old l b n) ≡ true → new l b n ≡ old l b n) → {l b n : ℕ} → Founded code old l b n → Founded code new l b n

@@ -1,10 +1,10 @@
 -- The last element of a list.
-use Rattle.std.proofs.Common.{◌≡◌, ◌<◌, ◌≤◌, ℕ, zero, suc, ◌+◌, ◌-◌, Bool, true, false, cond, length, List, [], ◌∷◌, ◌++◌, Option, None, Some, refl, sym, ap, ◌∙◌, arith, get_or, set, map}
+use Rattle.std.proofs.Common.{◌≡◌, ℕ, zero, suc, ◌+◌, ◌-◌, Bool, false, cond, length, List, [], ◌∷◌, ◌++◌, None, Some, refl, sym, ap, ◌∙◌, arith, get_or, set, map}
 use Rattle.std.specs.Prelude.{slice_get}
 use Rattle.live_lanes.specs.declared.row.Cell.{Cell}
 use Rattle.live_lanes.specs.declared.row.LaneUse.{LaneUse}
 use Rattle.live_lanes.specs.declared.row.DefPiece.{DefPiece}
-use Rattle.live_lanes.specs.Table.{last_passes, changed_last, Begun, begun, is_none, with_reading, with_last, Seen, seen_cell, with_segment, new_begun, starts_last}
+use Rattle.live_lanes.specs.Table.{last_passes, changed_last, begun, is_none, with_reading, with_last, seen_cell}
 
 some-inj : {X : Type 0} (x y : X) → Some x ≡ Some y → x ≡ y
 some-inj x y e = cc
@@ -31,10 +31,6 @@ map-set-last f g (z ∷ []) (suc k) x y h e q = absurd (omega arith)
 map-set-last f g (z ∷ u ∷ xs) zero x y h e q = absurd (omega arith)
 map-set-last f g (z ∷ u ∷ xs) (suc k) x y h e q = ap (λ t. f z ∷ t) (map-set-last f g (u ∷ xs) k x y (omega arith) e q)
 
-none-map : {X Y : Type 0} (f : X → Y) (xs : List X) → length xs ≡ 0 → is_none (map f xs) ≡ true
-none-map f [] e = refl
-none-map f (x ∷ xs) e = absurd (omega arith)
-
 some-map : {X Y : Type 0} (f : X → Y) (xs : List X) → (length xs ≡ 0 → ⊥) → is_none (map f xs) ≡ false
 some-map f [] e = absurd (e refl)
 some-map f (x ∷ xs) e = refl
@@ -43,18 +39,8 @@ pub map-push : {X Y : Type 0} (f : X → Y) (xs : List X) (x : X) → map f (xs 
 map-push f [] x = refl
 map-push f (y ∷ xs) x = ap (λ t. f y ∷ t) (map-push f xs x)
 
--- a reading added to the first piece, where there is no other
-pub first-reading : (c : Cell) (r : LaneUse) (rs : List LaneUse) → length c.segments.items ≡ 0 → rs ≡ with_last r c.first.readings.items → record (seen_cell c) { readings = rs } ≡ with_reading r (seen_cell c)
-first-reading c r rs n e = ap (λ t. record (seen_cell c) { readings = t }) e ∙ sym (ap (λ b. cond b (record (seen_cell c) { readings = with_last r c.first.readings.items }) (record (seen_cell c) { segments = changed_last (λ s. record s { readings = with_last r s.readings }) (seen_cell c).segments })) (none-map begun c.segments.items n))
-
 -- a reading added to the last segment
 pub last-reading : (c : Cell) (r : LaneUse) (k : ℕ) (x y : DefPiece) → k + 1 ≡ length c.segments.items → x ≡ get_or c.segments.items k x → begun y ≡ record (begun x) { readings = with_last r (begun x).readings } → record (seen_cell c) { segments = map begun (set c.segments.items k y) } ≡ with_reading r (seen_cell c)
 last-reading c r k x y h e f =
     ap (λ t. record (seen_cell c) { segments = t }) (map-set-last begun (λ s. record s { readings = with_last r s.readings }) c.segments.items k x y h e f)
     ∙ sym (ap (λ b. cond b (record (seen_cell c) { readings = with_last r c.first.readings.items }) (record (seen_cell c) { segments = changed_last (λ s. record s { readings = with_last r s.readings }) (seen_cell c).segments })) (some-map begun c.segments.items (λ n. omega arith)))
-
--- a segment added
-pub new-segment : (c : Cell) (start : ℕ) (early : Bool) (from : Option ℕ) (ys : List DefPiece) (y : DefPiece) → starts_last start (map begun c.segments.items) ≡ false → ys ≡ c.segments.items ++ y ∷ [] → begun y ≡ new_begun start early from → record (seen_cell c) { segments = map begun ys } ≡ with_segment start early from (seen_cell c)
-new-segment c start early from ys y n e f =
-    ap (λ t. record (seen_cell c) { segments = t }) (ap (map begun) e ∙ map-push begun c.segments.items y ∙ ap (λ t. map begun c.segments.items ++ t ∷ []) f)
-    ∙ sym (ap (λ b. cond b (seen_cell c) (record (seen_cell c) { segments = map begun c.segments.items ++ new_begun start early from ∷ [] })) n)

@@ -1,5 +1,5 @@
 -- Pieces by their shapes, and the last elements that pass a test.
-use Rattle.std.proofs.Common.{◌≡◌, ◌<◌, ◌≤◌, ℕ, zero, suc, Bool, true, false, cond, leb, length, List, [], ◌∷◌, Option, None, Some, refl, sym, ap, ◌∙◌, arith, drop, get_or, map}
+use Rattle.std.proofs.Common.{◌≡◌, ◌<◌, ◌≤◌, ℕ, zero, suc, Bool, true, false, cond, length, List, [], ◌∷◌, Option, None, Some, refl, sym, ap, ◌∙◌, arith, drop, get_or, map}
 use Rattle.std.specs.Prelude.{slice_get, option_map, nat_le}
 use Rattle.live_lanes.specs.declared.compute.flow.BlockFlow.{BlockFlow}
 use Rattle.live_lanes.specs.declared.row.Cause.TheVariants as why
@@ -10,9 +10,9 @@ use Rattle.live_lanes.specs.declared.row.Piece.{Piece}
 use Rattle.live_lanes.specs.declared.row.LaneRange.{LaneRange}
 use Rattle.live_lanes.specs.declared.row.DefPiece.{DefPiece}
 use Rattle.live_lanes.specs.Graph.{is_live}
-use Rattle.live_lanes.specs.Table.{Numbers, exit_rank, Seen, Begun, begun, seen, seen_in, seen_cell, unseen, begun_cause, cause_in, piece_at, piece_in}
+use Rattle.live_lanes.specs.Table.{Numbers, exit_rank, Seen, begun, seen, seen_in, seen_cell, unseen, begun_cause, cause_in, piece_at, piece_in}
 use Rattle.live_lanes.specs.Entered.{Start, start_of, shape, rows_seen, cells_of, causes}
-use Rattle.live_lanes.specs.Lasting.{shapes, piece_of, start_readings, readings_of, later_of, last_with, live_end, right_end, cell_end}
+use Rattle.live_lanes.specs.Lasting.{shapes, piece_of, start_readings, readings_of, later_of, last_with, live_end, cell_end}
 use Rattle.live_lanes.proofs.Cells.{is-found}
 use Rattle.live_lanes.proofs.Segments.{leading-map}
 
@@ -54,11 +54,6 @@ last-past test [] zero h = refl
 last-past test [] (suc k) h = refl
 last-past test (x ∷ xs) zero h = absurd (omega arith)
 last-past test (x ∷ xs) (suc k) h = last-past test xs k (omega arith)
-
-pub last-less : {X : Type 0} (test : X → Bool) (xs : List X) (k : ℕ) (d : X) → k < length xs → test (get_or xs k d) ≡ false → last_with test (drop (suc k) xs) ≡ None → last_with test (drop k xs) ≡ None
-last-less test [] k d h t n = absurd (omega arith)
-last-less test (x ∷ xs) zero d h t n = ap (λ q. later_of q (cond (test x) (Some x) None)) n ∙ ap (λ u. cond u (Some x) None) t
-last-less test (x ∷ xs) (suc k) d h t n = last-less test xs k d (omega arith) t n
 
 pub last-here : {X : Type 0} (test : X → Bool) (xs : List X) (k : ℕ) (d : X) → k < length xs → test (get_or xs k d) ≡ true → last_with test (drop (suc k) xs) ≡ None → last_with test xs ≡ Some (get_or xs k d)
 last-here test [] k d h t n = absurd (omega arith)

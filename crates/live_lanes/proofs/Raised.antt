@@ -1,5 +1,5 @@
 -- Raising a piece of a row.
-use Rattle.std.proofs.Common.{◌≡◌, ◌<◌, ◌≤◌, ℕ, Bool, true, false, cond, List, Option, None, Some, length, refl, sym, ap, ◌∙◌, subst, arith, get_or, set, eqb-true, ◌⊎◌, inl, inr}
+use Rattle.std.proofs.Common.{◌≡◌, ◌<◌, ◌≤◌, ℕ, Bool, true, false, cond, List, None, Some, length, refl, sym, ap, ◌∙◌, subst, arith, get_or, set, eqb-true, ◌⊎◌, inl, inr}
 use Rattle.std.specs.Prelude.{slice_get, nat_eq, Result, Ok, Err, OnOk}
 use Rattle.std.proofs.lemmas.Option.{slice_get-get_or, slice_get_cases}
 use Rattle.live_lanes.specs.declared.row.Cause.{Cause}
@@ -9,8 +9,8 @@ use Rattle.live_lanes.specs.declared.row.Piece.{Piece}
 use Rattle.live_lanes.specs.declared.row.LaneUse.{LaneUse}
 use Rattle.live_lanes.specs.declared.row.DefPiece.{DefPiece}
 use Rattle.live_lanes.specs.Graph.{is_live}
-use Rattle.live_lanes.specs.Table.{Numbers, Seen, seen, seen_in, seen_cell, cause_in, piece_at, rises_from, with_cause, with_end, with_end_at, raised_index, raised_seen, IsRaised, find_cell, descends, begun, with_last}
-use Rattle.live_lanes.proofs.Cells.{set-descends, set-find, found-block, is-found}
+use Rattle.live_lanes.specs.Table.{Numbers, seen, seen_in, seen_cell, cause_in, piece_at, with_cause, with_end, with_end_at, raised_index, raised_seen, IsRaised, find_cell, descends, begun, with_last}
+use Rattle.live_lanes.proofs.Cells.{set-descends, set-find, is-found}
 
 -- what holds of an Ok
 pub on-ok : {T E P Q : Type 0} (r : Result T E) → OnOk r P → (P → Q) → OnOk r Q
@@ -25,19 +25,6 @@ raise-done slots old new block at cause index e dead f = record {
   where
     dead' : is_live (cause_in (seen_in old block) (piece_at slots at (seen_in old block).segments)) ≡ false
     dead' = ap (λ n. is_live (cause_in (seen_in old block) n)) (sym e) ∙ dead
-
-pub raise-stay : (slots : Numbers) (old new : List Cell) (block at : ℕ) (cause : Cause) (index : ℕ) → index ≡ piece_at slots at (seen_in old block).segments → is_live (cause_in (seen_in old block) index) ≡ true → ((b : ℕ) → seen_in new b ≡ seen_in old b) → IsRaised slots old new block at cause None
-raise-stay slots old new block at cause index e live f = record {
-  answer = sym (ap (λ t. raised_index t (piece_at slots at (seen_in old block).segments)) live');
-  seen = λ b. f b ∙ both b (nat_eq block b) refl ∙ sym (ap (λ t. cond (nat_eq block b) (raised_seen t (seen_in old block) (piece_at slots at (seen_in old block).segments) cause) (seen_in old b)) live');
-}
-  where
-    live' : is_live (cause_in (seen_in old block) (piece_at slots at (seen_in old block).segments)) ≡ true
-    live' = ap (λ n. is_live (cause_in (seen_in old block) n)) (sym e) ∙ live
-
-    both : (b : ℕ) (t : Bool) → nat_eq block b ≡ t → seen_in old b ≡ cond t (seen_in old block) (seen_in old b)
-    both b true g = ap (seen_in old) (sym (eqb-true block b g))
-    both b false g = refl
 
 -- a piece of the cell at a place gets an end
 pub ended : (cs : List Cell) (at : ℕ) (x y : Cell) (index : ℕ) (end : PieceEnd) → descends cs ≡ true → at < length cs → x ≡ get_or cs at x → y.block ≡ x.block → seen_cell y ≡ with_end (seen_cell x) index end → (descends (set cs at y) ≡ true) × ((b : ℕ) → seen_in (set cs at y) b ≡ with_end_at (slice_get cs at) index end (seen_in cs b) b)

@@ -1,5 +1,5 @@
 -- Finding and changing the segments of a cell.
-use Rattle.std.proofs.Common.{◌≡◌, ◌<◌, ◌≤◌, ℕ, zero, suc, ◌+◌, ◌-◌, ◌*◌, Bool, true, false, cond, ◌&&◌, leb, ltb, length, List, [], ◌∷◌, Option, None, Some, refl, sym, ap, ◌∙◌, arith, get_or, set, map}
+use Rattle.std.proofs.Common.{◌≡◌, ◌<◌, ◌≤◌, ℕ, zero, suc, ◌-◌, Bool, true, cond, ltb, length, List, [], ◌∷◌, None, Some, refl, sym, ap, ◌∙◌, arith, get_or, set, map}
 use Rattle.std.proofs.lemmas.List.{length-map, get_or-map}
 use Rattle.std.specs.Prelude.{slice_get}
 use Rattle.std.specs.List.Sorted.{IsPartitionedBy}
@@ -34,11 +34,6 @@ begun-parted slots at ss r i j d w h e =
     let x = leb-true (exit_rank slots (get_or ss j d).start) at e in
     let y = rise-le slots 0 ss i j d r w h in
     le-leb (exit_rank slots (get_or ss i d).start) at (omega arith)
-
-pub changed-set : {X : Type 0} (f : X → X) (xs : List X) (n : ℕ) (d : X) → n < length xs → set xs n (f (get_or xs n d)) ≡ changed_at n f xs
-changed-set f [] n d h = absurd (omega arith)
-changed-set f (x ∷ xs) zero d h = refl
-changed-set f (x ∷ xs) (suc n) d h = ap (λ t. x ∷ t) (changed-set f xs n d (omega arith))
 
 pub changed-past : {X : Type 0} (f : X → X) (xs : List X) (n : ℕ) → length xs ≤ n → changed_at n f xs ≡ xs
 changed-past f [] n h = refl

@@ -22,7 +22,7 @@ use Rattle.live_lanes.specs.Table.{Numbers}
 use Rattle.live_lanes.specs.Ends.{row_at}
 use Rattle.mir_meaning.specs.Paths.{has}
 use Rattle.live_lanes.specs.Touching.{some_below, some_of, some_lane, names_lane, layout_key, AreTouched, InLine, Meets}
-use Rattle.live_lanes.proofs.Flowing.{has-any, push-has, kept-has, or-assoc, or-false}
+use Rattle.live_lanes.proofs.Flowing.{has-any, push-has, or-assoc, or-false}
 
 -- meeting nothing, and meeting more
 
@@ -48,13 +48,6 @@ pub meets-same : (slots : Numbers) (a b : TouchList) (one other : ℕ → Bool) 
 meets-same slots a b one other first same = record {
   named = λ x. first.named x ∙ ap (λ t. has x a.ids.items || t) (same x);
   line = first.line;
-}
-
--- an instruction that is there
-pub meets-there : (slots : Numbers) (a b : TouchList) (id : ℕ) → has id a.ids.items ≡ true → b.ids ≡ a.ids → b.is_mixed ≡ a.is_mixed → Meets slots a b (nat_eq id)
-meets-there slots a b id there ids mixed = record {
-  named = λ x. ap (λ v. has x v.items) ids ∙ kept-has a.ids.items id x (sym (has-any id a.ids.items) ∙ there);
-  line = λ h m. subst (λ v. IsStrictlySortedBy nat_cmp (map (layout_key slots) v.items)) (sym ids) (h (sym mixed ∙ m));
 }
 
 pub has-there : (xs items : List ℕ) (k id other : ℕ) → xs ≡ items → k < length xs → other ≡ get_or xs k other → nat_eq other id ≡ true → has id items ≡ true

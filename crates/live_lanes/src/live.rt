@@ -11,11 +11,11 @@ ghost use Rattle.live_lanes.specs.Looks.{InOrder, entry_at, exit_at};
 
 use crate::compute::enter::enter_pieces;
 use crate::compute::flow::flow_of;
-use crate::edit::lanes::Owner;
 use crate::order::Order;
 use crate::row::{entry_rank, exit_rank};
 use crate::table::Table;
 use instr_effects::lanes_of;
+use instr_effects::owner::Owner;
 use mir_func::Func;
 use std::alloc::{AllocError, Global};
 use target_base::{Shared, Target, Unit};

@@ -276,7 +276,7 @@ impl LaneRange {
     }
 
     /// The cell of a block, where this is its place or where it would stand.
-    fn cell_at(&self, at: usize, block: u32) -> Option<&Cell>
+    pub fn cell_at(&self, at: usize, block: u32) -> Option<&Cell>
         requires { at ≡ leading (is_before block) self.now.cells.items }
         ensures { option_copied result ≡ find_cell block self.now.cells.items }
     {
@@ -318,16 +318,6 @@ impl LaneRange {
 }
 
 impl LaneRange {
-    /// Puts in a cell of a block that has none.
-    pub fn put(&mut self, cell: Cell) -> Result<(), AllocError> {
-        let block = cell.block;
-        let at = self.place_near(self.cells.len(), block);
-        if self.has_at(at, block) {
-            return Ok(());
-        }
-        insert_one(&mut self.cells, at, cell)
-    }
-
     /// Makes cells for the blocks between the last one that has a cell and this one, where these are
     /// few: a lane that is named on both sides of them is mostly live all through them, and so no
     /// cell has to be put between others for it.
@@ -684,6 +674,17 @@ impl Cell {
         match self.piece(index) {
             Some(piece) => piece.certain_cause(),
             None => Cause::None,
+        }
+    }
+
+    /// The instruction that begins a piece; none for the one that begins with the block.
+    pub(crate) fn start_of(&self, index: usize) -> Option<u32> {
+        if index == 0 {
+            return None;
+        }
+        match self.segments.get(index - 1) {
+            Some(segment) => Some(segment.start),
+            None => None,
         }
     }
 

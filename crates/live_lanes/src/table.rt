@@ -3,9 +3,9 @@
 ghost use Rattle.std.specs.Prelude.{◌≡◌, ◌<◌, option_copied, length, slice_get};
 
 use crate::compute::flow::BlockFlow;
-use crate::edit::lanes::LaneTable;
 use crate::order::Order;
 use crate::row::{Cell, LaneRange, exit_rank};
+use instr_effects::lanes::LaneTable;
 use std::alloc::{AllocError, Global};
 
 /// Where a piece stands.

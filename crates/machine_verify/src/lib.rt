@@ -21,7 +21,7 @@ mod verify;
 mod words;
 
 pub use blocks::has_successor;
-pub use liveins::names_virtual;
+pub use liveins::{is_set, is_whole, names_virtual, unreserved_registers};
 pub use mir_func::{Place, Valid};
 pub use stop::{Invalid, VerifyStop};
 pub use ties::same_lane;

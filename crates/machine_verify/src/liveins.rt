@@ -17,7 +17,7 @@ use std::alloc::{AllocError, Global};
 use target_base::{Boxed, Reg, Target, Unit};
 
 /// Whether the unit of that number is set among these flags.
-fn is_set(flags: &[bool], u: usize) -> bool
+pub fn is_set(flags: &[bool], u: usize) -> bool
     ensures { result ≡ is_set flags.now u }
 {
     match flags.get(u) {
@@ -113,7 +113,7 @@ fn push_unreserved(out: &mut Vec<Reg>, target: &Target, r: Reg) -> Result<(), Al
 
 /// The target's unreserved registers in order.
 #[tactic(auto, using(crate::proofs::Lived::few_regs))]
-pub(crate) fn unreserved_registers(alloc: Global, target: &Target) -> Result<Vec<Reg>, AllocError>
+pub fn unreserved_registers(alloc: Global, target: &Target) -> Result<Vec<Reg>, AllocError>
     ensures { IfOk result (λ made. made.items ≡ valid.unreserved_registers target.now) }
 {
     let mut made = Vec::new(alloc);
@@ -131,7 +131,7 @@ fn holds_unit(target: &Target, u: usize, r: Reg) -> bool
 }
 
 /// Whether all of a register's units are live.
-fn is_whole(target: &Target, live: &[bool], r: Reg) -> bool
+pub fn is_whole(target: &Target, live: &[bool], r: Reg) -> bool
     ensures { result ≡ list_all (λ w. is_set live.now w.0) (units_of target.now r) }
 {
     target

@@ -21,3 +21,4 @@ pub mod Copying
 pub mod Refused
 pub mod Pairing
 pub mod Placed
+pub mod Ties

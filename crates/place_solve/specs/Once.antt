@@ -1,6 +1,6 @@
 -- The variables of a place, put one behind the other.
-use Rattle.std.specs.Prelude.{ℕ, Bool, cond, not, ◌&&◌, ◌||◌, List, [], ◌∷◌, ◌++◌, Option, Some, None}
-use Rattle.std.specs.List.{list_any}
+use Rattle.std.specs.Prelude.{ℕ, Bool, cond, not, ◌&&◌, ◌||◌, List, [], ◌∷◌, ◌++◌, Option, Some, None, option_and_then}
+use Rattle.std.specs.List.{list_any, filter_map}
 use Rattle.target_base.specs.declared.types.Role.{Role}
 use Rattle.target_base.specs.declared.types.Target.{Target}
 use Rattle.target_base.specs.Roles.{is_tied}
@@ -8,7 +8,7 @@ use Rattle.mir_func.specs.declared.func.RegOp.{RegOp}
 use Rattle.mir_func.specs.declared.func.Operand.{Operand}
 use Rattle.mir_func.specs.declared.func.Operand.TheVariants as operands
 use Rattle.mir_func.specs.Value.{Function}
-use Rattle.mir_func.specs.Binding.{Bound, passes, is_early, is_virtual, ties_to}
+use Rattle.mir_func.specs.Binding.{Bound, passes, is_early, is_virtual, ties_to, tied_number}
 use Rattle.mir_meaning.specs.Registers.{operand_widths}
 use Rattle.mir_meaning.specs.Places.{Using, Defining, Kind as Use, Variable as Need, same_use, copy_variable, operand_variable}
 use Rattle.place_solve.specs.declared.variables.Variable.{Variable}
@@ -39,6 +39,10 @@ operand_use tied role o = cond o.def (Defining tied (passes is_early role)) Usin
 -- it reads nothing or is tied
 abbrev pub is_left_out : Option Role → RegOp → Bool
 is_left_out role o = not o.def && (o.undef || passes is_tied role)
+
+-- the numbers of the definitions to which operands are tied
+abbrev pub tied_numbers : List Bound → List ℕ
+tied_numbers bs = filter_map (λ b. option_and_then tied_number b.0) bs
 
 -- the variable of a numbered operand that stands among these
 abbrev pub numbered_variable : Target → Function → List Bound → ℕ × Bound → Option Need

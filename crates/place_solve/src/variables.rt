@@ -1,6 +1,6 @@
 //! The variables of a place: what needs a register of its class there.
 
-ghost use Rattle.std.specs.Prelude.{◌≡◌, [], OnOk, IfOk, map, flat_map, option_map};
+ghost use Rattle.std.specs.Prelude.{◌≡◌, [], nat_eq, OnOk, IfOk, map, flat_map, option_map};
 ghost use Rattle.std.specs.List.{list_any, filter_map};
 ghost use Rattle.mir_func.specs.Binding.{does, operand_class, numbered, passes, ties_to};
 ghost use Rattle.bound_operands.specs.Seen.{seen, seen_all};
@@ -12,7 +12,7 @@ ghost use Rattle.place_solve.specs.Once as once;
 use crate::widths::class_of_widths;
 use bound_operands::{BoundOperand, bind};
 use instr_effects::items::lanes::push_operand_widths;
-use mir_func::opcodes::{effect_of, is_copy, is_early, is_tied, roles_of, ties_to};
+use mir_func::opcodes::{effect_of, is_copy, is_early, is_tied, roles_of, tied_number};
 use mir_func::operands::{is_virtual, same_index};
 use mir_func::{Func, Instr, Loc, Operand, RegOp};
 use std::alloc::{AllocError, Global};
@@ -210,16 +210,34 @@ fn add_if(variables: &mut Vec<Variable>, v: Option<Variable>) -> Result<(), Allo
     Ok(())
 }
 
-/// Whether one of the operands is tied to the definition of that number.
-fn has_tied_use(bound: &[BoundOperand], number: usize) -> bool
-    ensures { result ≡ list_any (λ b. passes (ties_to number) b.0) (seen_all bound.now) }
+/// The numbers of the definitions to which uses among the operands are tied. An opcode has few, however
+/// many operands an instruction has.
+fn tied_numbers(alloc: Global, bound: &[BoundOperand]) -> Result<Vec<usize>, AllocError>
+    ensures { IfOk result (λ made. made.items ≡ once.tied_numbers (seen_all bound.now)) }
 {
-    for b in bound {
-        if ties_to(b.role, number) {
-            return true;
+    let mut numbers = Vec::new(alloc);
+    'operands: for b in bound {
+        if let Some(number) = tied_number(b.role) {
+            numbers.push(number)?;
         }
     }
-    false
+    Ok(numbers)
+}
+
+/// Whether a number is among these.
+fn is_among(numbers: &[usize], number: usize) -> bool
+    ensures { result ≡ list_any (nat_eq number) numbers.now }
+{
+    numbers.iter().any(|own| number == *own)
+}
+
+/// Whether one of the operands is tied to the definition of that number, where these are the numbers of
+/// all to which some are.
+fn has_tied_use(bound: &[BoundOperand], tied: &[usize], number: usize) -> bool
+    requires { tied.now ≡ once.tied_numbers (seen_all bound.now) }
+    ensures { result ≡ list_any (λ b. passes (ties_to number) b.0) (seen_all bound.now) }
+{
+    is_among(tied, number)
 }
 
 /// The variable of an operand with its role.
@@ -238,13 +256,15 @@ fn add_bound(
     target: &Target,
     f: &Func,
     bound: &[BoundOperand],
+    tied: &[usize],
     variables: &mut Vec<Variable>,
 ) -> Result<(), AllocError>
+    requires { tied.now ≡ once.tied_numbers (seen_all bound.now) }
     ensures { OnOk result (map need_of variables.new.items ≡ once.all_once (map need_of variables.old.items) (filter_map (once.numbered_variable target.now f.now (seen_all bound.now)) (numbered 0 (seen_all bound.now)))) }
 {
     'each: for k in 0..bound.len() {
-        let tied = has_tied_use(bound, k);
-        add_if(variables, operand_variable(target, f, tied, bound[k]))?;
+        let is_tied = has_tied_use(bound, tied, k);
+        add_if(variables, operand_variable(target, f, is_tied, bound[k]))?;
     }
     Ok(())
 }
@@ -261,7 +281,8 @@ fn add_operands(
     ensures { OnOk result (map need_of variables.new.items ≡ once.all_once (map need_of variables.old.items) (places.operand_variables target.now f.now i.now)) }
 {
     let bound = bind(alloc, roles_of(target, i), i.operands.as_slice())?;
-    add_bound(target, f, bound.as_slice(), variables)?;
+    let tied = tied_numbers(alloc, bound.as_slice())?;
+    add_bound(target, f, bound.as_slice(), tied.as_slice(), variables)?;
     Ok(())
 }
 

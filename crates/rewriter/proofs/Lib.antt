@@ -1,1 +1,10 @@
 pub mod Physicals
+pub mod Covers
+pub mod Rows
+pub mod HolderLists
+pub mod Heads
+pub mod Marked
+pub mod Rewritten
+pub mod Entered
+pub mod Starts
+pub mod Units

@@ -1,17 +1,16 @@
 -- What is in physical form so far.
-use Rattle.std.proofs.Common.{◌≡◌, ℕ, zero, suc, ◌+◌, ◌<◌, ◌≤◌, Bool, true, false, cond, not, min, if◌then◌else◌, nat_lt, List, [], ◌∷◌, ◌++◌, length, get_or, set, take, drop, map, Option, refl, ap, sym, ◌∙◌, arith, append_assoc, append-nil, take-append-drop}
-use Rattle.std.specs.List.{filter, count_by, sum_by}
+use Rattle.std.proofs.Common.{◌≡◌, ℕ, zero, suc, ◌+◌, ◌<◌, ◌≤◌, Bool, true, false, cond, not, min, List, [], ◌∷◌, ◌++◌, length, get_or, set, take, drop, map, refl, ap, sym, ◌∙◌, arith, append_assoc, append-nil, take-append-drop}
+use Rattle.std.specs.List.{filter}
 use Rattle.std.proofs.lemmas.List.{drop_more, drop-set-lt, map_more, map-append, length-map, take-append-le}
 use Rattle.std.proofs.lemmas.List.Sums.{length-filter, count_by-le-length}
-use Rattle.std.proofs.lemmas.List.Edits.{map_over_more}
 use Rattle.target_base.specs.declared.types.Reg.{Reg}
 use Rattle.target_base.specs.declared.types.Target.{Target}
 use Rattle.mir_func.specs.declared.func.Instr.{Instr}
 use Rattle.mir_func.specs.declared.func.Block.{Block}
 use Rattle.mir_func.specs.Value.{IsFunction, id_total}
 use Rattle.phi_elim.specs.Numbered.{instr_count}
-use Rattle.phi_elim.proofs.Walks.{walk_more, walk_all, drop_all}
-use Rattle.phi_elim.proofs.Sizes.{instr_count-cons, id_total-cons, instrs_below}
+use Rattle.phi_elim.proofs.Walks.{walk_more, drop_all}
+use Rattle.phi_elim.proofs.Sizes.{instr_count-cons, id_total-cons}
 use Rattle.rewriter.specs.Physical.{Assignment, physical_instr, physical_instrs, is_identity, physical_block, with_liveins}
 
 -- one instruction more, unless it is a copy of a register to itself

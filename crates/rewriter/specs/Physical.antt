@@ -1,5 +1,5 @@
 -- The physical form: each virtual register as the part of its physical register that its index names.
-use Rattle.std.specs.Prelude.{ℕ, Bool, true, false, cond, not, ◌&&◌, List, [], ◌∷◌, ◌++◌, map, filter, take, Option, Some, None, slice_get, ◌≡◌}
+use Rattle.std.specs.Prelude.{ℕ, Bool, true, false, not, ◌&&◌, List, [], ◌∷◌, ◌++◌, map, filter, take, Option, Some, None, slice_get, length, ◌≡◌}
 use Rattle.target_base.specs.declared.types.Reg.{Reg}
 use Rattle.target_base.specs.declared.types.ClassId.{ClassId}
 use Rattle.target_base.specs.declared.types.IndexId.{IndexId}
@@ -15,7 +15,10 @@ use Rattle.mir_func.specs.declared.func.Instr.{Instr}
 use Rattle.mir_func.specs.declared.func.Block.{Block}
 use Rattle.mir_func.specs.Value.{Function}
 use Rattle.mir_func.specs.Binding.{does, same_loc}
+use Rattle.mir_meaning.specs.Registers.{numbers}
+use Rattle.mir_meaning.specs.Valid.{cover}
 use Rattle.phi_elim.specs.Numbered.{blocks_numbered, instr_count}
+use Rattle.rewriter.specs.Head.{head_with_slots}
 
 -- the register of each range number, where it is assigned one
 abbrev pub Assignment : Type 0
@@ -100,3 +103,27 @@ pub record IsPhysical (t : Target) (rs : Assignment) (slots : List (ℕ × Class
   pub between : Function
   pub physical : IsPhysicalBut t rs slots f between
   pub liveins : HasLiveins between g
+
+-- The live-ins of blocks by the units that are live at the start of the block at each position: those of the first block stay,
+-- and another one lists the cover of its live units.
+abbrev pub physical_liveins : Target → (ℕ → ℕ → Bool) → List Block → List (List Reg)
+physical_liveins t live [] = []
+physical_liveins t live (b ∷ bs) = b.liveins ∷ map (λ p. cover t (live p)) (numbers 1 (length bs))
+
+abbrev pub with_covers : Target → (ℕ → ℕ → Bool) → Function → Function
+with_covers t live f = record f { blocks = with_liveins (physical_liveins t live f.blocks) f.blocks }
+
+-- a function in physical form with these slots, but with the live-ins that it had
+abbrev pub without_ranges : Target → Assignment → List (ℕ × ClassId) → Function → Function
+without_ranges t rs slots f = record {
+  name = f.name;
+  head = head_with_slots t slots f.head;
+  classes = [];
+  frames = f.frames ++ map slot_frame slots;
+  blocks = blocks_numbered 0 (map (physical_block t rs) f.blocks);
+  next_id = instr_count (map (physical_block t rs) f.blocks);
+}
+
+-- a function in physical form with these slots, where these units are live at the starts of blocks
+abbrev pub physical_form : Target → Assignment → List (ℕ × ClassId) → (ℕ → ℕ → Bool) → Function → Function
+physical_form t rs slots live f = with_covers t live (without_ranges t rs slots f)

@@ -1,5 +1,8 @@
 //! The end of a run in physical form.
 
+ghost use Rattle.std.specs.Prelude.{◌≡◌, length, IfOk};
+ghost use Rattle.rewriter.specs.Rewritten.{registers_of, IsRewritten};
+
 use crate::live_units::LiveUnits;
 use crate::physical::rewrite_assigned;
 use interference::Matrix;
@@ -9,11 +12,20 @@ use spiller::slot_map::RangeSlot;
 use std::alloc::{AllocError, Global};
 use target_base::{ClassId, Reg, Target};
 
+/// The number of ranges of the function.
+fn range_count(m: &Matrix) -> usize
+    ensures { result ≡ length m.now.live.func.classes }
+{
+    m.live().func().classes.len()
+}
+
 /// The register of each range of the function.
-fn registers_of(alloc: Global, m: &Matrix) -> Result<Vec<Option<Reg>>, AllocError> {
+fn registers_of(alloc: Global, m: &Matrix) -> Result<Vec<Option<Reg>>, AllocError>
+    ensures { IfOk result (λ made. made.items ≡ registers_of m.now) }
+{
     let mut made = Vec::new(alloc);
-    'ranges: for v in 0..m.live().func().classes.len() {
-        made.push(m.register_of(v.min(0xffff_ffff) as u32))?;
+    'each: for v in 0..range_count(m).min(0x1_0000_0000) {
+        made.push(m.register_of(v as u32))?;
     }
     Ok(made)
 }
@@ -31,7 +43,9 @@ fn numbers_of(alloc: Global, slots: &[RangeSlot]) -> Result<Vec<(u32, ClassId)>,
 /// range is assigned, without copies of a register to itself, with the live-ins of its blocks and with
 /// the slots declared. It is meant for an end at which every range that the function names is assigned;
 /// an operand of another one stays as it is.
-pub fn rewrite(alloc: Global, target: &Target, a: Allocated) -> Result<Func, AllocError> {
+pub fn rewrite(alloc: Global, target: &Target, a: Allocated) -> Result<Func, AllocError>
+    ensures { IfOk result (IsRewritten target.now a.matrix) }
+{
     let Allocated { matrix, slots } = a;
     let registers = registers_of(alloc, &matrix)?;
     let live = LiveUnits::of(alloc, matrix.live(), registers.as_slice())?;

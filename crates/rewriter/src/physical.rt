@@ -1,8 +1,9 @@
 //! A function in the registers that its ranges are assigned.
 
-ghost use Rattle.std.specs.Prelude.{◌≡◌, ◌≤◌, ◌++◌, OnOk, IfOk, map, take};
+ghost use Rattle.std.specs.Prelude.{◌≡◌, ◌≤◌, ◌++◌, OnOk, IfOk, map};
 ghost use Rattle.phi_elim.specs.Numbered.{blocks_numbered, instr_count};
-ghost use Rattle.rewriter.specs.Physical.{physical_block, with_liveins, slot_frame, HasLiveins, IsPhysical, IsPhysicalBut};
+ghost use Rattle.rewriter.specs.Physical.{physical_block, with_liveins, slot_frame, HasLiveins, IsPhysical, IsPhysicalBut, physical_liveins, with_covers, without_ranges, physical_form};
+ghost use Rattle.rewriter.specs.LiveUnits.{live_into};
 
 use crate::cover::all_liveins;
 use crate::head::with_slots;
@@ -79,7 +80,7 @@ fn liveins_of(
     live: &LiveUnits,
     f: &Func,
 ) -> Result<Vec<Regs>, AllocError>
-    ensures { IfOk result (λ made. take 1 made.items ≡ map (λ b. b.liveins) (take 1 f.now.blocks)) }
+    ensures { IfOk result (λ made. made.items ≡ physical_liveins target.now (live_into live.now) f.now.blocks) }
 {
     all_liveins(alloc, target, live, f.blocks.as_slice())
 }
@@ -92,7 +93,8 @@ fn with_covers(
     live: &LiveUnits,
     f: Func,
 ) -> Result<Func, AllocError>
-    ensures { IfOk result (HasLiveins f) }
+    ensures liveins { IfOk result (HasLiveins f) }
+    ensures exact { IfOk result (λ made. made ≡ with_covers target.now (live_into live.now) f) }
 {
     let liveins = liveins_of(alloc, target, live, &f)?;
     let Func {
@@ -127,14 +129,11 @@ pub fn rewrite_assigned(
     registers: &[Option<Reg>],
     slots: &[(u32, ClassId)],
 ) -> Result<Func, AllocError>
-    ensures { IfOk result (IsPhysical target.now registers.now slots.now f) }
+    ensures physical { IfOk result (IsPhysical target.now registers.now slots.now f) }
+    ensures exact { IfOk result (λ made. made ≡ physical_form target.now registers.now slots.now (live_into live.now) f) }
 {
-    with_covers(
-        alloc,
-        target,
-        live,
-        without_ranges(alloc, target, f, registers, slots)?,
-    )
+    let but = without_ranges(alloc, target, f, registers, slots)?;
+    with_covers(alloc, target, live, but)
 }
 
 /// Gives new ids to instructions, of which there are at most so many, and answers their number.
@@ -154,7 +153,8 @@ fn without_ranges(
     registers: &[Option<Reg>],
     slots: &[(u32, ClassId)],
 ) -> Result<Func, AllocError>
-    ensures { IfOk result (IsPhysicalBut target.now registers.now slots.now f) }
+    ensures physical { IfOk result (IsPhysicalBut target.now registers.now slots.now f) }
+    ensures exact { IfOk result (λ made. made ≡ without_ranges target.now registers.now slots.now f) }
 {
     let Func {
         name,

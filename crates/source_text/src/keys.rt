@@ -11,7 +11,7 @@ use target_base::Bytes;
 
 /// Key lines in two parts: what stands above the lines of new slots, and below them.
 #[derive(Drop)]
-pub(crate) struct Parts {
+pub struct Parts {
     /// What stands above.
     pub above: Bytes,
     /// What stands below.
@@ -172,7 +172,7 @@ fn push_around_body(above: &mut Bytes, below: &mut Bytes, head: &[u8]) -> Result
 }
 
 /// Key lines in two parts.
-fn parts_of(alloc: Global, head: &[u8]) -> Result<Parts, AllocError>
+pub fn parts_of(alloc: Global, head: &[u8]) -> Result<Parts, AllocError>
     ensures { IfOk result (λ p. p ≡ parts_of (lines head.now)) }
 {
     let mut above = Bytes::new(alloc);

@@ -9,9 +9,9 @@ mod blocks;
 mod frames;
 mod instructions;
 mod keeps;
-mod keys;
+pub mod keys;
 pub mod laws;
-mod slots;
+pub mod slots;
 mod stored;
 
 pub use keeps::keeps_text;

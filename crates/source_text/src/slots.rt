@@ -2,13 +2,13 @@
 
 ghost use Rattle.std.specs.Prelude.{◌≡◌, ◌++◌, ◌∷◌, [], ◌+◌, ◌/◌, ◌<◌, ◌*◌, ◌^◌, sum, map, option_map, OnOk, IfOk};
 ghost use Rattle.std.specs.Fmt.{decimal};
-ghost use Rattle.target_base.specs.Storage.{widths};
+ghost use Rattle.target_base.specs.Storage.{class_widths, widths};
 ghost use Rattle.source_text.specs.Slots.{bytes_of, alignment_of, line_start, alignment_part, line_end, size_of, and_rest, first_size, declared_slot, slots_behind, slots_in};
 
 use mir_lines::lexer::behind_word;
 use std::alloc::{AllocError, Global};
 use target_base::classes::{first_units, width_of};
-use target_base::{Bytes, ClassDesc, Target, Unit, UnitDesc};
+use target_base::{Bytes, ClassDesc, Reg, Target, Unit, UnitDesc};
 
 /// A size of slots.
 #[derive(Drop)]
@@ -40,12 +40,19 @@ fn total_width(units: &[UnitDesc], us: &[Unit]) -> u128
     total
 }
 
+/// The bytes that hold the first of these registers.
+pub fn bytes_of_regs(target: &Target, regs: &[Reg]) -> u128
+    ensures { result ≡ (sum (class_widths target.now.units target.now.regs regs.now) + 7) / 8 }
+{
+    let units = first_units(target.regs.as_slice(), regs);
+    (total_width(target.units.as_slice(), units) + 7) / 8
+}
+
 /// The bytes that hold a register of a class.
 pub(crate) fn bytes_of(target: &Target, class: &ClassDesc) -> u128
     ensures { result ≡ bytes_of target.now class.now }
 {
-    let units = first_units(target.regs.as_slice(), class.regs.as_slice());
-    (total_width(target.units.as_slice(), units) + 7) / 8
+    bytes_of_regs(target, class.regs.as_slice())
 }
 
 /// The least power of two that isn't less than the size, 16 at most.
@@ -86,7 +93,7 @@ fn push_bytes(text: &mut Bytes, n: u128) -> Result<(), AllocError>
 }
 
 /// How the line of a slot begins, up to its size.
-fn line_start(alloc: Global, n: u32) -> Result<Bytes, AllocError>
+pub fn line_start(alloc: Global, n: u32) -> Result<Bytes, AllocError>
     ensures { IfOk result (λ made. made ≡ line_start n) }
 {
     let mut text = Bytes::new(alloc);
@@ -108,7 +115,7 @@ fn alignment_part(alloc: Global, bytes: u128) -> Result<Bytes, AllocError>
 }
 
 /// How the line of a slot ends, from its size on.
-fn line_end(alloc: Global, bytes: u128) -> Result<Bytes, AllocError>
+pub fn line_end(alloc: Global, bytes: u128) -> Result<Bytes, AllocError>
     ensures { IfOk result (λ made. made ≡ line_end bytes) }
 {
     let mut text = Bytes::new(alloc);

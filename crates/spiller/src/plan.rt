@@ -2,7 +2,8 @@
 
 use crate::kinds::reload_op;
 use interference::{Tinies, Tiny};
-use live_lanes::{Edit, LiveFunc};
+use live_edits::Edit;
+use live_lanes::LiveFunc;
 use mir_func::{Gap, Instr, Loc, Op, Operand, Operands, RegOp};
 use phi_elim::moves::{whole_definition, whole_use};
 use std::alloc::{AllocError, Global};

@@ -41,7 +41,7 @@ pub fn spill(
         let _ = slots.give(m.live().func(), v)?;
     }
     make_ranges(m, slots, classes.as_slice())?;
-    m.edit_all_of(edits, v, touched.as_slice())?;
+    m.edit_all(edits, Some(v))?;
     Ok(tinies)
 }
 

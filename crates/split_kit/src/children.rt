@@ -1,7 +1,8 @@
 //! The call that splits a range by labels of its points.
 
 use interference::Matrix;
-use live_lanes::{Edit, Labels, LiveFunc, Mark, Spot};
+use live_edits::Edit;
+use live_lanes::{Labels, LiveFunc, Mark, Spot};
 use mir_func::operands::class_of;
 use mir_func::{Gap, Instr, Loc, Op, Operand, Operands, RegOp};
 use phi_elim::moves::{COPY, whole_definition, whole_use};
@@ -37,7 +38,7 @@ pub fn split(
         children: children.as_slice(),
     };
     let edits = edits_of(view, touched.as_slice(), labels.as_slice())?;
-    m.edit_all_of(edits, v, touched.as_slice())?;
+    m.edit_all(edits, Some(v))?;
     Ok(children)
 }
 

@@ -11,12 +11,22 @@ ghost use Rattle.live_lanes.specs.Entered.{cells_of, piece_count};
 ghost use Rattle.live_lanes.specs.Looks.{InOrder};
 ghost use Rattle.live_lanes.specs.Extents.{lanes_count, extent_in, first_rank, last_rank, stretch_of, begun_by, is_met_in, is_met};
 
-pub use crate::edit::edit_log::ChangedPiece;
-use crate::edit::edits::Changes;
-use crate::edit::lanes::{LaneSpan, Owner, owner_of};
 use crate::live::LiveFunc;
 use crate::row::{Cell, PieceEnd, entry_rank, exit_rank, rank};
+use instr_effects::owner::Owner;
+use instr_effects::row::LaneSpan;
 use slot_index::Slots;
+
+/// A piece that was changed, or came or went.
+#[derive(Clone, Copy, PartialEq, Eq)]
+pub struct ChangedPiece {
+    /// The lane.
+    pub lane: u32,
+    /// The block's position in the layout.
+    pub block: u32,
+    /// The instruction that begins the piece; none for the one that begins with the block.
+    pub start: Option<u32>,
+}
 
 /// Points of a block in a row, by numbers that rise along it: the first and the last.
 #[derive(Clone, Copy, PartialEq, Eq)]
@@ -169,7 +179,7 @@ impl LiveFunc {
 
     /// The range that a lane belongs to, and the number of the lane in it.
     pub fn range_of(&self, lane: u32) -> Option<(u32, u32)> {
-        match owner_of(&self.table.lanes, lane) {
+        match self.table.lanes.owners.get(lane as usize).copied() {
             Some(Owner::Range(v, k)) => Some((v, k)),
             _ => None,
         }
@@ -242,17 +252,5 @@ impl LiveFunc {
         ensures { result ≡ exit_rank self.now.table.order.slots id }
     {
         exit_rank(self.slots(), id)
-    }
-}
-
-impl Changes {
-    /// The number of steps in which the edits changed something.
-    pub fn len(&self) -> usize {
-        self.log.len()
-    }
-
-    /// The piece that a step changed; none where it changed none. A piece may come several times.
-    pub fn changed_piece(&self, k: usize) -> Option<ChangedPiece> {
-        self.log.changed_piece(k)
     }
 }

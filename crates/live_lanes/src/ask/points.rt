@@ -7,10 +7,10 @@ ghost use Rattle.live_lanes.specs.Ordered.{ids_of, AreRising};
 ghost use Rattle.live_lanes.specs.Looks.{InOrder};
 ghost use Rattle.live_lanes.specs.Held.{IsSpan, IsLastBefore, later_place, AreUnseen, AreRanked, next_rank, exits_at, begins_at, held_at, any_held, passing, block_held, sum_below, range_held};
 
-use crate::edit::lanes::LaneSpan;
 use crate::live::LiveFunc;
 use crate::row::{Cell, LaneRange, entry_rank, exit_rank, rank, reaches};
 use crate::table::{LaneRanges, Table};
+use instr_effects::row::LaneSpan;
 use mir_func::{Block, Instr};
 use slot_index::Slots;
 use target_base::Boxed;

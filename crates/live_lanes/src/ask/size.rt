@@ -6,9 +6,9 @@ ghost use Rattle.live_lanes.specs.Entered.{rows_seen};
 ghost use Rattle.live_lanes.specs.Held.{any_held};
 ghost use Rattle.live_lanes.specs.Table.{begun, seen_cell, seen_in};
 
-use crate::edit::lanes::LaneSpan;
 use crate::row::{Cell, DefPiece, PieceEnd};
 use crate::table::{LaneRanges, Table};
+use instr_effects::row::LaneSpan;
 
 /// Whether two ends are the same.
 fn is_same_end(a: PieceEnd, b: PieceEnd) -> bool

@@ -1,8 +1,8 @@
 //! Where in the layout a range has points.
 
-use crate::edit::lanes::LaneSpan;
 use crate::live::LiveFunc;
 use crate::row::{Cell, PieceEnd};
+use instr_effects::row::LaneSpan;
 use std::alloc::{AllocError, Global};
 
 /// Whether a lane has points in the block of a cell.

@@ -23,7 +23,7 @@ use crate::live::LiveFunc;
 use crate::row::{Cell, DefPiece, LaneUse, Piece, entry_rank, exit_rank};
 use crate::table::{LaneRanges, Table};
 use instr_effects::row::LaneSpan;
-use mir_func::{Block, Instr};
+use mir_func::{Block, Func, Instr};
 use slot_index::Slots;
 use std::alloc::{AllocError, Global};
 use target_base::Boxed;
@@ -193,6 +193,17 @@ fn put_in_order(ids: &mut Vec<u32>, slots: &Slots)
 }
 
 impl Table {
+    /// The place of an instruction among those of the block at a position.
+    fn place_in(&self, func: &Func, block: u32, id: u32) -> usize
+        ensures { (b : Block) → slice_get func.now.blocks block ≡ Some b → AreRising self.now.order.slots 0 (ids_of b.instrs)
+            → (j : ℕ) (i : Instr) → slice_get b.instrs j ≡ Some i → i.id ≡ id → result ≡ j }
+    {
+        match func.blocks.as_slice().get(block as usize) {
+            Some(here) => self.order.place(here.instrs.as_slice(), id),
+            None => 0,
+        }
+    }
+
     /// The instruction of an id among those of a block.
     fn instr_among<'a>(&self, instrs: &'a [Boxed<Instr>], id: u32) -> Option<&'a Instr>
         ensures { AreRising self.now.order.slots 0 (ids_of instrs.now) → (j : ℕ) (i : Instr) → slice_get instrs.now j ≡ Some i → i.id ≡ id → option_copied result ≡ Some i }

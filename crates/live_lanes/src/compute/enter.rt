@@ -11,10 +11,10 @@ ghost use Rattle.std.specs.BTreeMap.{get};
 ghost use Rattle.live_lanes.specs.Table.{unseen, with_reading, with_segment, read_at_end};
 ghost use Rattle.live_lanes.specs.Entering.{Enters, at_spot, reads_entered, move_entered, moves_entered, writes_entered, lasts_entered, end_entered, ends_entered, step_entered, block_entered, blocks_entered};
 
-use crate::edit::lanes::LaneTable;
 use crate::order::Order;
 use crate::row::LaneUse;
 use crate::table::LaneRanges;
+use instr_effects::lanes::LaneTable;
 use instr_effects::{EffectReader, LaneDef, PhiRead};
 use mir_func::{Block, Func, Instr, Operand};
 use std::alloc::{AllocError, Global};

@@ -11,8 +11,9 @@ use Rattle.mir_meaning.specs.Points.{Exit, LiveAt, points_of, point_item}
 use Rattle.worked_examples.specs.MachineCode.Sample.{virtual, as_def, part, op, def, val, fixed_def, fixed, implicit_def, implicit, imm, instr, block, function, gr32, grp, eax, edx, p0, eflags, sub_lo32, sub_hi32, COPY, IMPLICIT_DEF, ADD32rr, MOV32ri, RET}
 use Rattle.worked_examples.proofs.MachineCodeLemmas.Everywhere.{is_computed, live_at}
 use Rattle.worked_examples.proofs.MachineCodeLemmas.Quieted.{quieted}
-use Rattle.coalescer.specs.declared.joins.Join.{Join}
-use Rattle.coalescer.specs.Fold.{IsQuiet, folded, image}
+use Rattle.live_edits.specs.declared.fold.Join.{Join}
+use Rattle.live_edits.specs.Folded.{image}
+use Rattle.coalescer.specs.Quiet.{IsQuiet}
 use Rattle.coalescer.specs.Joined.{Joined, copies_in_order, join_at}
 use Rattle.coalescer.specs.Joined as tried
 
@@ -49,7 +50,7 @@ added_quiet = quieted mini_target added 5 12 (image mini_target one_into_zero) a
 
 -- the sum's copy is joined
 pub sum_joins : Joined mini_target (16384 ∷ []) added (one_into_zero ∷ []) added_joined
-unfolding mini_target folded
+unfolding mini_target
 sum_joins = tried.joins (refl, added_quiet) tried.done
 
 -- what a register is put together from: a copy into its low half
@@ -82,7 +83,7 @@ halves_quiet = quieted mini_target halves 5 12 (image mini_target zero_into_half
 
 -- a range joins lanes of another
 pub half_joins : Joined mini_target (16384 ∷ []) halves (zero_into_half ∷ []) halves_joined
-unfolding mini_target folded
+unfolding mini_target
 half_joins = tried.joins (refl, halves_quiet) tried.done
 
 -- the low half of %1 is written while %0, from which it was copied, is read later

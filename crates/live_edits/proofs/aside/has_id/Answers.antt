@@ -1,5 +1,5 @@
 use Rattle.std.proofs.Common.{◌∙◌}
-use Rattle.live_edits.proofs.NotedActs.{keys-has}
+use Rattle.live_edits.proofs.RunIds.{keys-has}
 use Rattle.live_edits.proofs.aside.has_id.Goals as goal
 
 pub returns : goal.returns

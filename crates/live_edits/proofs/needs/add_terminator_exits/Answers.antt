@@ -23,7 +23,7 @@ terminators-preserved c = λ rise.
     let exits : ℕ → Request = exit_beside slots v (request_of last) in
     let from = requests_of c.args.needs.now.items in
     let mid = c.terminators.needs.items in
-    let n : Need = record { spot = record { lane = last.spot.lane; block = last.spot.block; index = c.piece_at-index.result }; cause = last.cause } in
+    let n : Need = record { spot = record { lane = last.spot.lane; block = last.spot.block; index = c.piece_at-index.result; near = last.spot.near }; cause = last.cause } in
     let at : c.piece_at-index.result ≡ piece_at slots (exit_rank slots id) v.segments = c.piece_at-index.ensures.piece rise ∙ ap (λ r. piece_at slots r v.segments) c.exit_rank.ensures in
     let is : request_of n ≡ exits id = (λ i. record { node = (last.spot.lane, last.spot.block, at i); cause = last.cause }) in
     elim c.if-index-last.branch [

@@ -1,9 +1,14 @@
-use Rattle.std.proofs.Common.{take}
-use Rattle.instr_effects.specs.Numbered.{number_in}
-use Rattle.live_edits.specs.Drafts.{IsOrderOf}
+use Rattle.std.proofs.Common.{◌≤◌, length, drop}
 use Rattle.live_edits.specs.NotedTable.{IsNoteTable}
 use Rattle.live_edits.proofs.NotedAll.{AllNoted}
 use Rattle.live_edits.proofs.notes.notes_of.Given as goal
 
-abbrev pub invariant-touched : goal.invariant-touched
-invariant-touched l = IsNoteTable l.table × (IsOrderOf l.reader.func.now l.order → AllNoted l.reader.target.now l.reader.func.now (number_in l.reader.lanes.now) l.gone.keys (take l.instr-index l.touched) l.table.all.items)
+abbrev pub invariant-edits : goal.invariant-edits
+invariant-edits l = record {
+  table : IsNoteTable l.table;
+  within : l.left ≤ length l.touched;
+  noted : AllNoted (drop l.left l.touched) l.table.all.items;
+}
+
+abbrev pub decreases-edits : goal.decreases-edits
+decreases-edits l = l.left

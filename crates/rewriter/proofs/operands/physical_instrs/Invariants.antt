@@ -1,5 +1,5 @@
-use Rattle.std.proofs.Common.{◌≡◌, ◌≤◌, ◌+◌, ◌++◌, length, take, drop, map}
-use Rattle.rewriter.specs.Physical.{physical, physical_instrs, physical_block, with_liveins}
+use Rattle.std.proofs.Common.{◌≡◌, ◌++◌, drop}
+use Rattle.rewriter.specs.Physical.{physical_instrs}
 use Rattle.rewriter.proofs.operands.physical_instrs.Given as goal
 
 abbrev pub invariant-each : goal.invariant-each

@@ -1,5 +1,5 @@
-use Rattle.std.proofs.Common.{◌≡◌, ◌≤◌, ◌+◌, ◌++◌, length, take, drop, map}
-use Rattle.rewriter.specs.Physical.{physical, physical_instrs, physical_block, with_liveins}
+use Rattle.std.proofs.Common.{◌≡◌, take, map}
+use Rattle.rewriter.specs.Physical.{physical}
 use Rattle.rewriter.proofs.operands.physical_operands.Given as goal
 
 abbrev pub invariant-each : goal.invariant-each

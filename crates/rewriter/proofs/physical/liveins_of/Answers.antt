@@ -1,4 +1,4 @@
-use Rattle.std.proofs.Common.{◌≡◌, ◌∙◌, ap, sym}
+use Rattle.std.proofs.Common.{◌∙◌, ap}
 use Rattle.mir_func.specs.Value.{Function}
 use Rattle.rewriter.proofs.physical.liveins_of.Goals as goal
 

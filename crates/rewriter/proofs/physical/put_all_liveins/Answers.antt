@@ -1,4 +1,4 @@
-use Rattle.std.proofs.Common.{◌∙◌, arith, length-set, get_or, refl}
+use Rattle.std.proofs.Common.{◌∙◌, arith, length-set}
 use Rattle.std.proofs.lemmas.List.{get_or_default}
 use Rattle.rewriter.proofs.Physicals.{liveins_more, liveins_all}
 use Rattle.rewriter.proofs.physical.put_all_liveins.Goals as goal

@@ -1,5 +1,5 @@
-use Rattle.std.proofs.Common.{◌≡◌, ◌≤◌, ◌+◌, ◌++◌, length, take, drop, map}
-use Rattle.rewriter.specs.Physical.{physical, physical_instrs, physical_block, with_liveins}
+use Rattle.std.proofs.Common.{◌≡◌, ◌++◌, length, take, drop}
+use Rattle.rewriter.specs.Physical.{with_liveins}
 use Rattle.rewriter.proofs.physical.put_all_liveins.Given as goal
 
 abbrev pub invariant-layout : goal.invariant-layout

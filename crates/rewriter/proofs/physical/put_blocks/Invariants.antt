@@ -1,5 +1,5 @@
-use Rattle.std.proofs.Common.{◌≡◌, ◌≤◌, ◌+◌, ◌++◌, length, take, drop, map}
-use Rattle.rewriter.specs.Physical.{physical, physical_instrs, physical_block, with_liveins}
+use Rattle.std.proofs.Common.{◌≡◌, ◌++◌, take, drop, map}
+use Rattle.rewriter.specs.Physical.{physical_block}
 use Rattle.rewriter.proofs.physical.put_blocks.Given as goal
 
 abbrev pub invariant-layout : goal.invariant-layout

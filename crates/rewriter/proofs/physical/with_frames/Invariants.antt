@@ -1,4 +1,4 @@
-use Rattle.std.proofs.Common.{◌≡◌, ◌≤◌, ◌+◌, ◌++◌, length, take, drop, map, min}
+use Rattle.std.proofs.Common.{◌≡◌, ◌++◌, take, map}
 use Rattle.rewriter.specs.Physical.{slot_frame}
 use Rattle.rewriter.proofs.physical.with_frames.Given as goal
 

@@ -17,8 +17,12 @@ invariant_of-result c = record {
   once = λ x. rw (c.number_at_most-next_id.ensures.blocks, c.number_at_most-next_id.ensures.count) (ids_once x c.put_blocks.new.blocks);
 }
 
-pub returns : goal.returns
-returns c = record {
+pub returns-clause-physical : goal.returns-clause-physical
+returns-clause-physical c = record {
   head = c.in_ok-head.head;
   is = rw (← c.f.view_is, c.number_at_most-next_id.ensures.blocks, c.number_at_most-next_id.ensures.count, c.in_ok-put_blocks.ensures, c.in_ok-frames.ensures, c.new.ensures) refl;
 }
+
+pub returns-clause-exact : goal.returns-clause-exact
+returns-clause-exact c =
+    rw (← c.f.view_is, c.number_at_most-next_id.ensures.blocks, c.number_at_most-next_id.ensures.count, c.in_ok-put_blocks.ensures, c.in_ok-frames.ensures, c.in_ok-head.ensures, c.new.ensures) refl

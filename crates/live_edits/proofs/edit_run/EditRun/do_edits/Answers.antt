@@ -1,7 +1,7 @@
 use Rattle.std.proofs.Common.{arith, sym, subst}
 use Rattle.live_edits.specs.EditedRuns.{MayDo, DoesEdits}
 use Rattle.live_edits.specs.Runs.{edits_of, NumbersSlots}
-use Rattle.live_edits.proofs.EditedParts.{adds-rows, may-do, is-ready, logged-first, logged-edits}
+use Rattle.live_edits.proofs.EditedParts.{adds-rows, may-do, may-spare, is-ready, logged-first, logged-edits}
 use Rattle.live_edits.proofs.EditedSteps.{turned-twice}
 use Rattle.live_edits.proofs.edit_run.EditRun.do_edits.Goals as goal
 
@@ -34,7 +34,7 @@ returns-clause-done c = λ may.
     let does = subst (DoesEdits t ready done) turned (c.in_ok-do_all.ensures.done asked) in
     let named = subst (λ xs. NumbersSlots ready.lanes (edits_of xs)) c.as_slice.ensures.value c.in_ok-add_slots.ensures.numbered in
     let high = c.highest-highest.ensures does.order in
-    record { ready = ready; first = is-ready t es old ready may adds named; does = does; small = omega (arith, high) }
+    record { ready = ready; first = is-ready t es old ready may adds named; does = does; tells = does.tells (may-spare t es old ready may adds); small = omega (arith, high) }
 
 pub returns-clause-logged : goal.returns-clause-logged
 returns-clause-logged c = λ may.

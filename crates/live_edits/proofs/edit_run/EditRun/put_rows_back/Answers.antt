@@ -1,6 +1,6 @@
 use Rattle.std.proofs.Common.{◌∙◌, refl, sym}
 use Rattle.live_edits.specs.declared.edit_run.EditRun.{EditRun}
-use Rattle.live_edits.proofs.AsideLanes.{none-left}
+use Rattle.live_edits.proofs.AsideActs.{none-left}
 use Rattle.live_edits.proofs.AsideRows.{leads-back, leads-first, leads-further}
 use Rattle.live_edits.proofs.edit_run.EditRun.put_rows_back.Goals as goal
 

@@ -1,11 +1,11 @@
-use Rattle.std.proofs.Common.{ℕ, ◌++◌, List, arith, get_or, ◌∙◌, subst}
+use Rattle.std.proofs.Common.{ℕ, ◌++◌, List, arith, get_or, refl, ◌∙◌, subst}
 use Rattle.std.specs.List.{flat_map}
 use Rattle.std.proofs.lemmas.List.{take_all}
 use Rattle.live_lanes.specs.Ways.{terminators}
 use Rattle.edit_laws.specs.Update.{Request}
 use Rattle.live_edits.specs.Leading.{AreAlike, exit_needs}
 use Rattle.live_edits.specs.Pieces.{requests_of}
-use Rattle.live_edits.proofs.NeedLists.{before-more}
+use Rattle.live_edits.proofs.AlikeLists.{alike-more}
 use Rattle.live_edits.proofs.log.LoggedRows.add_exits_before.Goals as goal
 
 pub predecessors-preserved : goal.predecessors-preserved
@@ -17,7 +17,7 @@ predecessors-preserved c = λ rise.
     let k = c.predecessors.before-index in
     let b = get_or bs k 0 in
     let exits : ℕ → List Request = λ y. exit_needs slots rows s.lane s.block y (terminators c.args.flow.now y) in
-    before-more exits (requests_of c.args.needs.now.items) (requests_of c.predecessors.needs.items) (requests_of c.add_exits.new.needs.items) bs k (omega arith) (c.predecessors.invariant rise)
+    alike-more exits (requests_of c.args.needs.now.items) (requests_of c.predecessors.needs.items) (requests_of c.add_exits.new.needs.items) bs k b 0 (omega arith) refl (c.predecessors.invariant rise)
     (subst (λ ids. AreAlike (requests_of c.add_exits.new.needs.items) (requests_of c.predecessors.needs.items ++ exit_needs slots rows s.lane s.block b ids)) c.terminators-ids.ensures (c.in_ok-add_exits.ensures rise))
 
 pub returns : goal.returns

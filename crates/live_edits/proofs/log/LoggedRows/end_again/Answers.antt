@@ -1,5 +1,5 @@
 use Rattle.std.proofs.Common.{refl, sym, ◌∙◌, get_or}
-use Rattle.live_lanes.specs.declared.table.PieceSpot.{PieceSpot}
+use Rattle.live_edits.specs.declared.pieces.PieceSpot.{PieceSpot}
 use Rattle.live_lanes.specs.Ends.{row_end}
 use Rattle.live_lanes.specs.Lasting.{AllRise}
 use Rattle.live_lanes.proofs.Gives.{all-rise}
@@ -10,7 +10,7 @@ use Rattle.live_edits.proofs.log.LoggedRows.end_again.Goals as goal
 use Rattle.live_edits.proofs.log.LoggedRows.end_again.Goals.{in-Some+in_ok-set_end, in_default}
 
 abbrev no-spot : PieceSpot
-no-spot = record { lane = 0; block = 0; index = 0 }
+no-spot = record { lane = 0; block = 0; index = 0; near = 0 }
 
 pub returns-in_err-set_end-clause-logged : goal.returns-in_err-set_end-clause-logged
 returns-in_err-set_end-clause-logged c = logged-then c.args.self.now c.pieces.self c.set_end.new.self c.pieces.invariant.logged c.in_err-set_end.ensures.logged

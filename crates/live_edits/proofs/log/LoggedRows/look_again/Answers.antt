@@ -1,6 +1,6 @@
 use Rattle.std.proofs.Common.{List, [], length, ◌+◌, ◌++◌, ◌≤◌, sym, ap, subst, arith}
 use Rattle.std.proofs.lemmas.List.{drop_all}
-use Rattle.live_lanes.specs.declared.table.PieceSpot.{PieceSpot}
+use Rattle.live_edits.specs.declared.pieces.PieceSpot.{PieceSpot}
 use Rattle.live_lanes.specs.Entered.{causes}
 use Rattle.edit_laws.specs.Update.{Falls, falling}
 use Rattle.live_edits.specs.declared.log.LoggedRows.{LoggedRows}
@@ -33,7 +33,7 @@ suspects-preserved c =
     let old = c.args.self.now in
     let suspects = c.args.suspects.now in
     let k = c.suspects.spot-index in
-    let none : PieceSpot = record { lane = 0; block = 0; index = 0 } in
+    let none : PieceSpot = record { lane = 0; block = 0; index = 0; near = 0 } in
     elim c.if-not-holds.branch [
       | then-not-holds+in_ok-lose_cause w ↦
           subst (λ (now : LoggedRows). LooksSoFar ids slots flow old now suspects (k + 1) c.if-not-holds.fallen.items) (sym w.self-is)

@@ -12,7 +12,7 @@ use Rattle.live_edits.proofs.log.LoggedRows.lose_all.Goals as goal
 use Rattle.live_edits.proofs.log.LoggedRows.lose_all.Goals.{then-eq+in_ok-lose_cause, else-eq}
 
 abbrev nothing : Need
-nothing = record { spot = record { lane = 0; block = 0; index = 0 }; cause = reasons.None }
+nothing = record { spot = record { lane = 0; block = 0; index = 0; near = 0 }; cause = reasons.None }
 
 pub needs-init : goal.needs-init
 needs-init c = record {

@@ -25,7 +25,7 @@ pub returns-clause-noted : goal.returns-clause-noted
 returns-clause-noted c =
     let past : length c.args.notes.now ≤ c.notes.each-index = omega arith in
     record {
-      own = c.notes.invariant.rest (rows_seen c.notes.self.rows.rows.items c.args.lane c.args.block) (notes-over c.args.slots.now c.args.notes.now c.notes.each-index _ past);
+      own = c.notes.invariant.rest (rows_seen c.notes.self.rows.rows.items c.args.spot.lane c.args.spot.block) (notes-over c.args.slots.now c.args.notes.now c.notes.each-index _ past);
       others = c.notes.invariant.others;
       lanes = c.notes.invariant.lanes;
     }

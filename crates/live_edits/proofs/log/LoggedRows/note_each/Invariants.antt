@@ -10,6 +10,6 @@ abbrev pub invariant-notes : goal.invariant-notes
 invariant-notes x = record {
   lanes : length x.self.rows.rows.items ≡ length x.fn.self.rows.rows.items;
   logged : IsLogged x.fn.self x.self;
-  others : (l b : ℕ) → (nat_eq x.lane l && nat_eq x.block b) ≡ false → rows_seen x.self.rows.rows.items l b ≡ rows_seen x.fn.self.rows.rows.items l b;
-  rest : (w : Seen) → NotesAll x.slots (drop x.each-index x.notes) (rows_seen x.self.rows.rows.items x.lane x.block) w → NotesAll x.slots x.notes (rows_seen x.fn.self.rows.rows.items x.lane x.block) w;
+  others : (l b : ℕ) → (nat_eq x.spot.lane l && nat_eq x.spot.block b) ≡ false → rows_seen x.self.rows.rows.items l b ≡ rows_seen x.fn.self.rows.rows.items l b;
+  rest : (w : Seen) → NotesAll x.slots (drop x.each-index x.notes) (rows_seen x.self.rows.rows.items x.spot.lane x.spot.block) w → NotesAll x.slots x.notes (rows_seen x.fn.self.rows.rows.items x.spot.lane x.spot.block) w;
 }

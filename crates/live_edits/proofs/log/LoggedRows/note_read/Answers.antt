@@ -13,5 +13,5 @@ returns-in_err-change-clause-logged c = logged-same c.args.self.now
 pub returns-clause-noted : goal.returns-clause-noted
 returns-clause-noted c =
     let cell = seen_cell c.unwrap_or-cell.result.now in
-    let own = ap (λ o. seen_cell o.now) c.unwrap_or-cell.ensures ∙ (seen-or c.cell.result _ c.new-empty.ensures.unseen ∙ c.cell.ensures) in
-    on_ok_weaker c.change_readings.result (one-is c.args.self.now.rows.rows.items c.change_readings.new.self.rows.rows.items c.args.lane c.args.block (reading_changed c.in_ok-change.change) cell (NotesReading c.args.slots.now c.args.id (use_of_read c.args.read)) own c.in_ok-change.ensures) c.change_readings.ensures.changed
+    let own = ap (λ o. seen_cell o.now) c.unwrap_or-cell.ensures ∙ (seen-or c.cell_near-found.result _ c.new-empty.ensures.unseen ∙ c.cell_near-found.ensures) in
+    on_ok_weaker c.change_readings.result (one-is c.args.self.now.rows.rows.items c.change_readings.new.self.rows.rows.items c.args.spot.lane c.args.spot.block (reading_changed c.in_ok-change.change) cell (NotesReading c.args.slots.now c.args.id (use_of_read c.args.read)) own c.in_ok-change.ensures) c.change_readings.ensures.changed

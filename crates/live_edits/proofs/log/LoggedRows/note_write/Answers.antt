@@ -13,5 +13,5 @@ returns-in_err-changes-clause-logged c = logged-same c.args.self.now
 pub returns-clause-noted : goal.returns-clause-noted
 returns-clause-noted c =
     let cell = seen_cell c.unwrap_or-cell.result.now in
-    let own = ap (λ o. seen_cell o.now) c.unwrap_or-cell.ensures ∙ (seen-or c.cell.result _ c.new-empty.ensures.unseen ∙ c.cell.ensures) in
-    on_ok_weaker c.change_all.result (one-so c.args.self.now.rows.rows.items c.change_all.new.self.rows.rows.items c.args.lane c.args.block c.in_ok-changes.changes cell (λ l. NotesWriting c.args.slots.now c.args.id (def_of_write l c.args.write)) own c.in_ok-changes.ensures) c.change_all.ensures.changed
+    let own = ap (λ o. seen_cell o.now) c.unwrap_or-cell.ensures ∙ (seen-or c.cell_near-found.result _ c.new-empty.ensures.unseen ∙ c.cell_near-found.ensures) in
+    on_ok_weaker c.change_all.result (one-so c.args.self.now.rows.rows.items c.change_all.new.self.rows.rows.items c.args.spot.lane c.args.spot.block c.in_ok-changes.changes cell (λ l. NotesWriting c.args.slots.now c.args.id (def_of_write l c.args.write)) own c.in_ok-changes.ensures) c.change_all.ensures.changed

@@ -8,7 +8,7 @@ use Rattle.live_edits.proofs.log.LoggedRows.revive_all.Goals as goal
 use Rattle.live_edits.proofs.log.LoggedRows.revive_all.Goals.{then-is_live+in_ok-add, else-is_live+in_ok-set_cause+in_ok-push}
 
 abbrev no-need : Need
-no-need = record { spot = record { lane = 0; block = 0; index = 0 }; cause = why.None }
+no-need = record { spot = record { lane = 0; block = 0; index = 0; near = 0 }; cause = why.None }
 
 pub needs-init : goal.needs-init
 needs-init c =

@@ -1,30 +1,35 @@
-use Rattle.std.proofs.Common.{◌<◌, length, get_or, ap, subst, arith}
+use Rattle.std.proofs.Common.{◌<◌, ◌≤◌, List, None, length, get_or, refl, subst, arith}
+use Rattle.std.proofs.lemmas.List.{take_all}
 use Rattle.instr_effects.specs.declared.lane_acts.LaneAct.{LaneAct}
 use Rattle.instr_effects.proofs.Loops.{get-same}
 use Rattle.live_edits.specs.declared.cells.Note.{Note}
-use Rattle.live_edits.proofs.NotedAll.{LanesNoted, no-lanes, more-lanes, all-lanes}
+use Rattle.live_edits.proofs.NotedAll.{ActsNoted, no-acts, more-acts}
 use Rattle.live_edits.proofs.notes.NoteTable.add_touched.Goals as goal
 
-pub lanes-init : goal.lanes-init
-lanes-init c = (c.requires, no-lanes c.args.touched.now c.args.acts.now c.args.self.now.all.items)
+pub acts-init : goal.acts-init
+acts-init c = record { table = c.requires; noted = no-acts c.args.touched.now c.args.self.now.all.items }
 
-pub lanes-preserved : goal.lanes-preserved
-lanes-preserved c =
+pub acts-preserved : goal.acts-preserved
+acts-preserved c =
+    let none : LaneAct = record { lane = 0; read = None; write = None } in
     let x = c.args.touched.now in
-    let lanes = c.as_slice-lane-items.result.now in
-    let k = c.lanes.lane-index in
-    let within : k < length lanes = omega arith in
-    let note : Note = record { id = x.id; act = c.act_on.result } in (
-      c.in_ok-add.ensures.table,
-      more-lanes x c.args.acts.now c.args.self.now.all.items c.lanes.self.all.items c.add.new.self.all.items lanes k (get_or lanes k 0) note within (get-same lanes k 0 (get_or lanes k 0) within)
-          (ap (λ (a : LaneAct). record { id = x.id; act = a }) c.act_on.ensures) c.in_ok-add.ensures.added c.in_ok-add.ensures.noted c.in_ok-add.ensures.filled c.lanes.invariant.1,
-    )
+    let acts = c.as_slice-act-items.result.now in
+    let k = c.acts.act-index in
+    let within : k < length acts = omega arith in
+    let a = get_or acts k none in
+    let note : Note = record { id = x.id; act = a } in
+    record {
+      table = c.in_ok-add.ensures.table;
+      noted = more-acts x c.args.self.now.all.items c.acts.self.all.items c.add.new.self.all.items acts k a note within (get-same acts k none a within) refl c.in_ok-add.ensures.added c.in_ok-add.ensures.noted c.in_ok-add.ensures.filled c.acts.invariant.noted;
+    }
 
 pub returns : goal.returns
 returns c =
+    let x = c.args.touched.now in
     let old = c.args.self.now.all.items in
-    let new = c.lanes.self.all.items in
-    let lanes = c.as_slice-lane-items.result.now in
-    let whole : LanesNoted c.args.touched.now c.args.acts.now old new lanes = all-lanes c.args.touched.now c.args.acts.now old new lanes c.lanes.lane-index (omega arith) c.lanes.invariant.1 in
-    let all : LanesNoted c.args.touched.now c.args.acts.now old new c.args.touched.now.lanes.items = subst (λ ls. LanesNoted c.args.touched.now c.args.acts.now old new ls) c.as_slice-lane-items.ensures.value whole in
-    record { table = c.lanes.invariant.0; added = all.added; noted = all.noted; filled = all.filled }
+    let new = c.acts.self.all.items in
+    let acts = c.as_slice-act-items.result.now in
+    let past : length acts ≤ c.acts.act-index = omega arith in
+    let whole : ActsNoted x old new acts = subst (λ (zs : List LaneAct). ActsNoted x old new zs) (take_all c.acts.act-index acts past) c.acts.invariant.noted in
+    let all : ActsNoted x old new x.acts.items = subst (λ (zs : List LaneAct). ActsNoted x old new zs) c.as_slice-act-items.ensures.value whole in
+    record { table = c.acts.invariant.table; added = all.added; noted = all.noted; filled = all.filled }

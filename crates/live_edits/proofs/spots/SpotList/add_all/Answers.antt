@@ -1,5 +1,5 @@
 use Rattle.std.proofs.Common.{◌≡◌, ◌+◌, ◌++◌, ◌∷◌, [], List, take, get_or, sym, subst, refl, append-nil}
-use Rattle.live_lanes.specs.declared.table.PieceSpot.{PieceSpot}
+use Rattle.live_edits.specs.declared.pieces.PieceSpot.{PieceSpot}
 use Rattle.live_edits.specs.Pieces.{HasAll}
 use Rattle.live_edits.proofs.RiseSteps.{first-at}
 use Rattle.live_edits.proofs.SpotLists.{has-equal, has-first, has-both, only-both}
@@ -12,7 +12,7 @@ spots-init c =
 
 pub spots-preserved : goal.spots-preserved
 spots-preserved c =
-    let none : PieceSpot = record { lane = 0; block = 0; index = 0 } in
+    let none : PieceSpot = record { lane = 0; block = 0; index = 0; near = 0 } in
     let pieces = c.args.spots.now in
     let k = c.spots.spot-index in
     let x = get_or pieces k none in

@@ -1,5 +1,0 @@
-use Rattle.place_solve.proofs.Told.{copy-law}
-use Rattle.place_solve.proofs.laws.copy_law.Goals as goal
-
-pub returns : goal.returns
-returns c = copy-law
