@@ -1,2 +1,2 @@
-pub mod Quiet
-pub mod Joined
+pub mod Coalescing
+pub mod Asked

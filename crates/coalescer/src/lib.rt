@@ -1,10 +1,14 @@
 //! Coalescing: copies between live ranges go where the ranges can be one (LLVM's RegisterCoalescer).
 //!
-//! That the joins are those of the definition is tested and not proved. Begin with `joins`; whether a
-//! join is quiet is asked in `quiet`.
+//! The copies are tried in the order of the definition (`order`), each join is the one that the copy asks
+//! for (`joins`), and whether it loses a value is asked of the table of live lanes (`quiet`). So the joins
+//! are those of the definition where the table tells that exactly (`TellsQuiet`), which isn't proved.
+//! Begin with `joins`.
 #![tactic(auto)]
 
 mod joins;
+mod order;
 mod quiet;
+mod sides;
 
 pub use joins::{Joins, coalesce};

@@ -1,5 +1,5 @@
 -- Lanes that have numbers keep them while further ones get some.
-use Rattle.std.specs.Prelude.{◌≡◌, ◌<◌, ℕ, true, cond, nat_eq, nat_lt, List, ◌++◌, length, Option, Some, None, slice_get}
+use Rattle.std.specs.Prelude.{◌≡◌, ℕ, true, cond, nat_eq, nat_lt, List, ◌++◌, Option, Some, None, slice_get}
 use Rattle.target_base.specs.declared.types.ClassId.{ClassId}
 use Rattle.target_base.specs.declared.types.Target.{Target}
 use Rattle.meaning.specs.Live.{Among}
@@ -13,8 +13,8 @@ use Rattle.instr_effects.specs.Numbered.{number_in, KeepsNumbers, NumbersAll}
 use Rattle.instr_effects.specs.Row.{lane_in}
 use Rattle.instr_effects.specs.Steps.{Numbering}
 use Rattle.live_lanes.specs.declared.table.Table.{Table}
-use Rattle.live_lanes.specs.Entered.{rows_seen}
 use Rattle.live_lanes.specs.Doing.{IsComputed}
+pub use Rattle.live_lanes.specs.Further.{HasFurtherLanes}
 use Rattle.live_laws.specs.Effects.Coded.{KeepsRules}
 use Rattle.edit_laws.specs.Numbers.{DoesSame}
 
@@ -25,14 +25,6 @@ KeepsLast t f = (b : Block) (j : ℕ) (i : Instr) → Among b f.blocks → slice
 -- the function with further classes
 abbrev pub with_classes : Function → List (Option ClassId) → Function
 with_classes f cs = record f { classes = f.classes ++ cs }
-
--- The table with numbers for further lanes, whose rows are empty: lanes keep their numbers and rows, and all else stays.
-pub record HasFurtherLanes (x y : Table) : Type 0 where
-  pub numbers : KeepsNumbers (number_in x.lanes) (number_in y.lanes)
-  pub rows : (l b : ℕ) → rows_seen y.rows.rows.items l b ≡ rows_seen x.rows.rows.items l b
-  pub few : length y.rows.rows.items < 4294967296
-  pub order : y.order ≡ x.order
-  pub flow : y.flow ≡ x.flow
 
 -- Where both tables number all lanes of a function and each lane keeps its number, instructions do the same by the numbers of both.
 abbrev pub DoesSameLaw : Type 0

@@ -17,3 +17,4 @@ pub mod Ranges
 pub mod Starts
 pub mod Assigned
 pub mod NewLists
+pub mod NewRange

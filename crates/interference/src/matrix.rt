@@ -4,6 +4,9 @@ ghost use Rattle.std.specs.Prelude.{◌≡◌, ◌<◌, ◌≤◌, ◌*◌, ◌+
 ghost use Rattle.std.specs.List.{list_any};
 ghost use Rattle.std.specs.Ordering.{nat_cmp};
 ghost use Rattle.std.specs.BTreeMap.{get};
+ghost use Rattle.live_lanes.specs.Doing.{IsComputed};
+ghost use Rattle.live_laws.specs.Effects.Coded.{KeepsRules};
+ghost use Rattle.edit_laws.specs.Further.{KeepsLast};
 ghost use Rattle.instr_effects.specs.Numbered.{number_in};
 ghost use Rattle.instr_effects.specs.declared.owner.Owner.TheVariants as owners;
 ghost use Rattle.live_lanes.specs.Table.{entry_rank, exit_rank};
@@ -360,7 +363,10 @@ impl Matrix {
         ensures registers { OnOk result (self.new.registers.items ≡ self.old.registers.items ++ None ∷ []) }
         ensures func { length self.old.live.func.classes < 2 ^ 31 → IfOk result (λ v. (v ≡ length self.old.live.func.classes) × (self.new.live.func ≡ record self.old.live.func { classes = self.old.live.func.classes ++ Some class ∷ [] })) }
         ensures refused { OnErr result ((self.new.live.func ≡ self.old.live.func) × (self.new.registers.items ≡ self.old.registers.items)) }
+        ensures computed { length self.old.live.func.classes < 2 ^ 31 → IsComputed self.old.live.target self.old.live.func self.old.live.table → KeepsRules self.old.live.target self.old.live.func → KeepsLast self.old.live.target self.old.live.func → IsComputed self.new.live.target self.new.live.func self.new.live.table }
         ensures kept { length self.old.live.func.classes < 2 ^ 31 → KeepsExtents (length self.old.registers.items) self.old.live.table self.new.live.table → KeepsLists self.old → KeepsLists self.new }
+        ensures extents { length self.old.live.func.classes < 2 ^ 31 → IsComputed self.old.live.target self.old.live.func self.old.live.table → KeepsRules self.old.live.target self.old.live.func → KeepsLast self.old.live.target self.old.live.func → length self.old.registers.items ≤ length self.old.live.func.classes → KeepsExtents (length self.old.registers.items) self.old.live.table self.new.live.table }
+        ensures lists { length self.old.live.func.classes < 2 ^ 31 → IsComputed self.old.live.target self.old.live.func self.old.live.table → KeepsRules self.old.live.target self.old.live.func → KeepsLast self.old.live.target self.old.live.func → KeepsLists self.old → KeepsLists self.new }
     {
         let count = self.registers.len();
         self.registers.push(None)?;

@@ -1,11 +1,12 @@
 -- Cells that are made anew one after the other.
-use Rattle.std.proofs.Common.{◌≡◌, ◌<◌, ◌≤◌, ◌+◌, ◌∙◌, ◌⊎◌, inl, inr, ℕ, suc, Bool, true, false, ◌&&◌, List, [], ◌∷◌, Some, length, drop, get_or, refl, sym, ap, subst, arith, eqb-true, eq-eqb}
-use Rattle.std.specs.Prelude.{nat_eq, slice_get}
+use Rattle.std.proofs.Common.{◌≡◌, ◌<◌, ◌≤◌, ◌+◌, ◌∙◌, ◌⊎◌, inl, inr, ℕ, suc, Bool, true, false, ◌&&◌, List, [], ◌∷◌, Option, Some, length, drop, get_or, refl, sym, ap, subst, arith, ltb, eqb-true, eq-eqb}
+use Rattle.std.specs.Prelude.{nat_eq, is_some, slice_get}
+use Rattle.std.proofs.lemmas.Bool.{ltb-true, ltb-false}
 use Rattle.std.proofs.lemmas.List.{drop_more, drop_all}
 use Rattle.mir_meaning.specs.Paths.{Among, here, there, Code}
 use Rattle.live_lanes.specs.declared.compute.flow.BlockFlow.{BlockFlow}
 use Rattle.live_lanes.specs.declared.row.LaneRange.{LaneRange}
-use Rattle.live_lanes.specs.Table.{Numbers}
+use Rattle.live_lanes.specs.Table.{Numbers, Seen}
 use Rattle.live_lanes.specs.Entered.{rows_seen, IsNumbered, IsTableOf}
 use Rattle.live_lanes.proofs.Basics.{none-among}
 use Rattle.live_lanes.proofs.Numbered.{among-cases}
@@ -14,6 +15,8 @@ use Rattle.edit_laws.specs.Rebuilt.{IsRebuilt, stays}
 use Rattle.edit_laws.proofs.Rebuilt.{untouched-law}
 use Rattle.live_edits.specs.declared.cells.CellNotes.{CellNotes}
 use Rattle.live_edits.specs.declared.cells.Note.{Note}
+use Rattle.live_edits.specs.Told.{AreWritingsTold, KeepsUntold}
+use Rattle.live_edits.proofs.Untold.{kept-same, kept-then, unseen-past}
 use Rattle.live_edits.specs.Renoted.{NotesAll, NotesCell, ChangesOne}
 use Rattle.live_edits.proofs.RenoteWhole.{notes-rebuilt}
 use Rattle.live_edits.specs.Remade.{AreAllNotes, AreNotesOf, RemakesAll}
@@ -21,14 +24,14 @@ use Rattle.live_edits.specs.Remade.{AreAllNotes, AreNotesOf, RemakesAll}
 abbrev is_at : ℕ → ℕ → ℕ → ℕ → Bool
 is_at lane block l b = nat_eq lane l && nat_eq block b
 
-at-lane : (lane block l b : ℕ) → is_at lane block l b ≡ true → lane ≡ l
+pub at-lane : (lane block l b : ℕ) → is_at lane block l b ≡ true → lane ≡ l
 at-lane lane block l b e = go (nat_eq lane l) refl e
   where
     go : (u : Bool) → nat_eq lane l ≡ u → (u && nat_eq block b) ≡ true → lane ≡ l
     go true f h = eqb-true lane l f
     go false f h = absurd (cc)
 
-at-block : (lane block l b : ℕ) → is_at lane block l b ≡ true → block ≡ b
+pub at-block : (lane block l b : ℕ) → is_at lane block l b ≡ true → block ≡ b
 at-block lane block l b e = go (nat_eq lane l) e
   where
     go : (u : Bool) → (u && nat_eq block b) ≡ true → block ≡ b
@@ -129,6 +132,34 @@ module _ (slots : Numbers) where
       go true e = absurd (none c m (at-lane c.lane c.block l b e) (at-block c.lane c.block l b e))
       go false e = refl
 
+  -- pieces that aren't told
+
+  notes-kept : (told : Option ℕ → Bool) (notes : List Note) (v w : Seen) → NotesAll slots notes v w → ((n : Note) → Among n notes → is_some n.act.write ≡ true → told (Some n.id) ≡ true) → KeepsUntold told v w
+  notes-kept told [] v w p h = kept-same told v w p
+  notes-kept told (n ∷ ns) v w p h =
+      kept-then told v p.0 w (record { first = p.1.first.end; begun = p.1.untold told (h n here) }) (notes-kept told ns p.0 w p.2 (λ m a. h m (there a)))
+
+  cell-kept : (old new : List LaneRange) (c : CellNotes) → NotesCell slots old new c → (told : ℕ → ℕ → Option ℕ → Bool) → ((n : Note) → Among n c.notes.items → is_some n.act.write ≡ true → told c.lane c.block (Some n.id) ≡ true)
+      → (l b : ℕ) → KeepsUntold (told l b) (rows_seen old l b) (rows_seen new l b)
+  cell-kept old new c p told h l b = go (is_at c.lane c.block l b) refl
+    where
+      own : (u : Bool) → ltb c.lane (length old) ≡ u → KeepsUntold (told c.lane c.block) (rows_seen old c.lane c.block) (rows_seen new c.lane c.block)
+      own true e = notes-kept (told c.lane c.block) c.notes.items (rows_seen old c.lane c.block) (rows_seen new c.lane c.block) (p.own (ltb-true c.lane (length old) e)) h
+      own false e =
+          let far = ltb-false c.lane (length old) e in
+          kept-same (told c.lane c.block) _ _ (unseen-past new c.lane c.block (omega (arith, far, p.lanes)) ∙ sym (unseen-past old c.lane c.block far))
+
+      go : (u : Bool) → is_at c.lane c.block l b ≡ u → KeepsUntold (told l b) (rows_seen old l b) (rows_seen new l b)
+      go true e =
+          subst (λ k. KeepsUntold (told k b) (rows_seen old k b) (rows_seen new k b)) (at-lane c.lane c.block l b e)
+          (subst (λ k. KeepsUntold (told c.lane k) (rows_seen old c.lane k) (rows_seen new c.lane k)) (at-block c.lane c.block l b e) (own (ltb c.lane (length old)) refl))
+      go false e = kept-same (told l b) _ _ (p.others l b e)
+
+  all-kept : (old new : List LaneRange) (cs : List CellNotes) → RemakesEach slots old cs new → (told : ℕ → ℕ → Option ℕ → Bool) → AreWritingsTold told cs → (l b : ℕ) → KeepsUntold (told l b) (rows_seen old l b) (rows_seen new l b)
+  all-kept old new [] r told h l b = kept-same (told l b) _ _ (ap (λ x. rows_seen x l b) r)
+  all-kept old new (c ∷ cs) r told h l b =
+      kept-then (told l b) _ (rows_seen r.0 l b) _ (cell-kept old r.0 c r.1 told (h c here) l b) (all-kept r.0 new cs r.2 told (λ d m. h d (there m)) l b)
+
   module _ (old new : List LaneRange) (all : List CellNotes) (r : RemakesEach slots old all new) where
     all-rebuilt : (touched noted : Touched) (before code : Code) (was : Numbers) (flow : List BlockFlow) (x : List LaneRange) → IsTableOf before was flow x → IsEditOf touched before code → IsNumbered code slots
         → AreAllNotes noted code old all → (l : ℕ) → ((b id : ℕ) → touched l b id ≡ noted l b id) → ((b : ℕ) → rows_seen old l b ≡ rows_seen x l b) → (b : ℕ) → IsRebuilt before code l b (rows_seen x l b) (rows_seen new l b)
@@ -146,4 +177,4 @@ module _ (slots : Numbers) where
         go (inr none) = stays (untouched-law touched before code l b e (λ id. agree b id ∙ n.others l b (elsewhere all l b none) id)) (others-stay old new all l b r none ∙ same b)
 
     pub all-remade : RemakesAll slots old new all
-    all-remade = record { rebuilt = all-rebuilt; kept = λ l b none. others-stay old new all l b r (not-there all l b none) }
+    all-remade = record { rebuilt = all-rebuilt; kept = λ l b none. others-stay old new all l b r (not-there all l b none); untold = all-kept old new all r }

@@ -259,7 +259,7 @@ module _ (t : Target) (es : List Edit) (first old mid new : EditRun) (Taken : �
   func-back = u.func ∙ (ap (λ xs. all_undone xs mid.draft.func) log-is ∙ (g.draft.back ∙ ap (λ (d : Draft). d.func) takes.others.draft))
 
   -- rows are seen as before
-  seen-first : (l b : ℕ) → rows_seen new.rows.rows.rows.items l b ≡ rows_seen first.rows.rows.rows.items l b
+  pub seen-first : (l b : ℕ) → rows_seen new.rows.rows.rows.items l b ≡ rows_seen first.rows.rows.rows.items l b
   seen-first l b =
       u.seen l b
       ∙ (back-same mid.aside.items (all_taken_back mid.rows.log.items (rows_seen mid.rows.rows.rows.items)) (rows_seen old.rows.rows.rows.items) g.seen l b

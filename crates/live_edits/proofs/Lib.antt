@@ -9,11 +9,16 @@ pub mod ReadingsChanged
 pub mod ReadChanges
 pub mod BegunPieces
 pub mod PlacedCells
+pub mod Untold
 pub mod RenoteRows
 pub mod RenoteSteps
 pub mod RenoteShape
 pub mod RenoteWhole
 pub mod CellsRemade
+pub mod UntoldLogs
+pub mod ToldPieces
+pub mod ToldRows
+pub mod ToldRuns
 pub mod CellsSeen
 pub mod KeptPieces
 pub mod FallReasons
@@ -76,3 +81,4 @@ pub mod JoiningLists
 pub mod JoiningFound
 pub mod JoiningRun
 pub mod LiveRuns
+pub mod OrderKept

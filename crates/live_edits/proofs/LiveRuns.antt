@@ -1,5 +1,5 @@
 -- What runs of edits leave of a function with its table.
-use Rattle.std.proofs.Common.{◌≡◌, ◌∙◌, ℕ, List, Some, length, refl, sym, ap, subst}
+use Rattle.std.proofs.Common.{◌≡◌, ◌∙◌, ℕ, List, Option, Some, length, refl, sym, ap, subst}
 use Rattle.target_base.specs.declared.types.Target.{Target}
 use Rattle.mir_func.specs.Value.{Function}
 use Rattle.instr_effects.specs.declared.owner.Owner.TheVariants as owners
@@ -8,7 +8,9 @@ use Rattle.live_lanes.specs.declared.live.LiveFunc.{LiveFunc}
 use Rattle.live_lanes.specs.declared.order.Order.{Order}
 use Rattle.live_lanes.specs.declared.row.LaneRange.{LaneRange}
 use Rattle.live_lanes.specs.declared.table.Table.{Table}
+use Rattle.live_lanes.specs.declared.ask.extent.ChangedPiece.{ChangedPiece}
 use Rattle.live_lanes.specs.Doing.{IsComputed}
+use Rattle.live_lanes.specs.Extents.{extents_in}
 use Rattle.live_lanes.specs.Entered.{rows_seen}
 use Rattle.edit_laws.specs.Edits.{Edit, all_edited}
 use Rattle.live_edits.specs.declared.aside.AsideRow.{AsideRow}
@@ -24,7 +26,9 @@ use Rattle.live_edits.specs.Folded.{folded, MayBeFolded, MayFold}
 use Rattle.live_edits.specs.Logged.{HasAllCells, all_taken_back}
 use Rattle.live_edits.specs.LiveRuns.{IsExact, IsRunOf, HasLogs, IsBegun, MayBeEditedLive, MayBeFoldedLive}
 use Rattle.live_edits.specs.Runs.{table_of, MayBeEdited}
-use Rattle.live_edits.proofs.EditedParts.{all-kept, all-back, still-there}
+use Rattle.live_edits.specs.Told.{TellsPieces}
+use Rattle.live_edits.proofs.EditedParts.{all-kept, all-back, seen-first, still-there}
+use Rattle.live_edits.proofs.ToldRuns.{extents-same}
 
 -- what a run of the function has, it has too
 exact-live : (t : Target) (f : Function) (r : EditRun) (x : LiveFunc) → HasTable t f r → IsRunOf r x → IsExact t f x
@@ -73,6 +77,20 @@ module _ (t : Target) (es : List Edit) (old new : LiveFunc) (first last : EditRu
         done = subst (λ (u : Target). IsDoneOf u es first last changes.erased.items) same (done b);
         logged = subst (λ (u : Target). IsLoggedOf u first last) same (logged b);
       }
+
+  pub told-live : (v : Option ℕ) (pieces : List ChangedPiece) → (MayBegin t first es → TellsPieces (table_of first) (table_of last) v pieces) → MayBeEditedLive old es → TellsPieces old.table new.table v pieces
+  told-live v pieces told may =
+      subst (λ (y : Table). TellsPieces old.table y v pieces) to.table
+      (subst (λ (y : Table). TellsPieces y (table_of last) v pieces) from.table (told (may-begin-run t es first old same from fresh may)))
+
+  pub extents-back : (MayBegin t first es → (l k : ℕ) → rows_seen last.rows.rows.rows.items l k ≡ rows_seen first.rows.rows.rows.items l k) → MayBeEditedLive old es → (l k : ℕ) → extents_in new.table l k ≡ extents_in old.table l k
+  extents-back seen may =
+      subst (λ (y : Table). (l k : ℕ) → extents_in y l k ≡ extents_in old.table l k) to.table
+      (subst (λ (y : Table). (l k : ℕ) → extents_in (table_of last) l k ≡ extents_in y l k) from.table (extents-same (table_of first) (table_of last) (seen (may-begin-run t es first old same from fresh may))))
+
+  pub ranges-live : (MayBegin t first es → last.lanes.ranges ≡ first.lanes.ranges) → MayBeEditedLive old es → new.table.lanes.ranges ≡ old.table.lanes.ranges
+  ranges-live kept may =
+      ap (λ (y : Table). y.lanes.ranges) (sym to.table) ∙ (kept (may-begin-run t es first old same from fresh may) ∙ ap (λ (y : Table). y.lanes.ranges) from.table)
 
   pub back : (MayBegin t first es → HasTable t first.draft.func last) → MayBeEditedLive old es → IsExact old.target old.func new
   back has may =
@@ -156,19 +174,41 @@ abbrev TakenOf : EditRun → ℕ → ℕ → Type 0
 TakenOf r v l = (k : ℕ) × (number_in r.lanes (owners.Range v k) ≡ Some l)
 
 -- they are taken back
-pub taken : (es : List Edit) (before old new : LiveFunc) (changes : EditChanges) (run undone : EditRun) → IsBegun es before old changes → IsRunOf run old → HasLogs run changes.logs
-    → (IsOrderOf run.draft.func run.draft.order → HasAllCells run.rows.rows.rows.items run.rows.log.items → AreThere run.rows.rows.rows.items run.aside.items → IsRunUndone run undone) → IsRunOf undone new → IsExact before.target before.func new
-taken es before old new changes run undone b of has undoes to =
-    let t : Target = before.target in
-    let z = b.logged in
-    let g = z.logged in
-    let may : MayBegin t b.first es = may-begin-run t es b.first before refl b.from b.fresh b.may in
-    let logs : run.draft.log.items ≡ b.last.draft.log.items = ap (λ v. v.items) (sym has.draft ∙ b.logs.draft) in
-    let row-logs : run.rows.log.items ≡ b.last.rows.log.items = ap (λ v. v.items) (sym has.rows ∙ b.logs.rows) in
-    let asides : run.aside.items ≡ b.last.aside.items = ap (λ v. v.items) (sym has.aside ∙ b.logs.aside) in
-    let there : AreThere run.rows.rows.rows.items run.aside.items =
-    there-alike run b.last old of b.to asides (still-there t es b.first z.cleared (TakenOf b.first z.range) may z.takes b.last g) in
-    let u : IsRunUndone run undone = undoes (order-alike run b.last old of b.to g.draft.order) (cells-alike run b.last old of b.to row-logs g.cells) there in
-    let done : HasTable t b.first.draft.func undone =
-    all-back t es b.first z.cleared b.last undone (TakenOf b.first z.range) may z.takes g (undone-alike run b.last old of b.to undone logs row-logs asides u) in
-    subst (λ (f : Function). IsExact t f new) b.from.func (exact-live t b.first.draft.func undone new done to)
+module _ (es : List Edit) (before old new : LiveFunc) (changes : EditChanges) (run undone : EditRun) (b : IsBegun es before old changes) (of : IsRunOf run old) (has : HasLogs run changes.logs)
+    (undoes : IsOrderOf run.draft.func run.draft.order → HasAllCells run.rows.rows.rows.items run.rows.log.items → AreThere run.rows.rows.rows.items run.aside.items → IsRunUndone run undone) (to : IsRunOf undone new) where
+  abbrev t : Target
+  t = before.target
+
+  abbrev z : IsLoggedOf t b.first b.last
+  z = b.logged
+
+  first-may : MayBegin t b.first es
+  first-may = may-begin-run t es b.first before refl b.from b.fresh b.may
+
+  last-undone : IsRunUndone b.last undone
+  last-undone =
+      let g = z.logged in
+      let logs : run.draft.log.items ≡ b.last.draft.log.items = ap (λ v. v.items) (sym has.draft ∙ b.logs.draft) in
+      let row-logs : run.rows.log.items ≡ b.last.rows.log.items = ap (λ v. v.items) (sym has.rows ∙ b.logs.rows) in
+      let asides : run.aside.items ≡ b.last.aside.items = ap (λ v. v.items) (sym has.aside ∙ b.logs.aside) in
+      let rows-there : AreThere run.rows.rows.rows.items run.aside.items =
+      there-alike run b.last old of b.to asides (still-there t es b.first z.cleared (TakenOf b.first z.range) first-may z.takes b.last g) in
+      let u : IsRunUndone run undone = undoes (order-alike run b.last old of b.to g.draft.order) (cells-alike run b.last old of b.to row-logs g.cells) rows-there in
+      undone-alike run b.last old of b.to undone logs row-logs asides u
+
+  pub taken : IsExact before.target before.func new
+  taken =
+      let done : HasTable t b.first.draft.func undone =
+      all-back t es b.first z.cleared b.last undone (TakenOf b.first z.range) first-may z.takes z.logged last-undone in
+      subst (λ (f : Function). IsExact t f new) b.from.func (exact-live t b.first.draft.func undone new done to)
+
+  -- the extents of all lanes are as before
+  pub taken-extents : (l k : ℕ) → extents_in new.table l k ≡ extents_in before.table l k
+  taken-extents =
+      subst (λ (y : Table). (l k : ℕ) → extents_in y l k ≡ extents_in before.table l k) to.table
+      (subst (λ (y : Table). (l k : ℕ) → extents_in (table_of undone) l k ≡ extents_in y l k) b.from.table
+      (extents-same (table_of b.first) (table_of undone) (seen-first t es b.first z.cleared b.last undone (TakenOf b.first z.range) first-may z.takes z.logged last-undone)))
+
+  -- lanes have the numbers that they had
+  pub taken-lanes : new.table.lanes ≡ old.table.lanes
+  taken-lanes = ap (λ (y : Table). y.lanes) (sym to.table) ∙ (last-undone.lanes ∙ ap (λ (y : Table). y.lanes) b.to.table)

@@ -21,7 +21,7 @@ use Rattle.live_edits.specs.declared.log.Former.TheVariants as formers
 use Rattle.live_edits.specs.declared.log.LoggedRows.{LoggedRows}
 use Rattle.live_edits.specs.declared.cell_change.CellChange.{CellChange}
 use Rattle.live_edits.specs.CellChanges.{seen_changed, fits_in, reading_added, reading_removed}
-use Rattle.live_edits.specs.Logged.{has_cell, room_of, cell_there, IsLogged}
+use Rattle.live_edits.specs.Logged.{has_cell, room_of, cell_there, is_life, IsLogged, LogsLives}
 use Rattle.live_edits.specs.Pieces.{node_of, IsThere, KeepsPieces}
 use Rattle.live_edits.specs.Changes.{ChangesCell, AddsCells, LogsLife, TakesBack}
 use Rattle.live_edits.proofs.KeptPieces.{end-cause}
@@ -89,6 +89,10 @@ added-logged x y a e = record {
   rooms = a.rooms;
   there = λ f m. absurd (none-among f m);
 }
+
+pub added-lives : (x y : LoggedRows) → AddsCells x.rows.rows.items y.rows.rows.items → y.log.items ≡ x.log.items → LogsLives x y
+unfolding added-logged
+added-lives x y a e = record { logged = added-logged x y a e; lives = λ f m. absurd (none-among f m) }
 
 pub added-pieces : (old new : List LaneRange) → AddsCells old new → KeepsPieces old new
 added-pieces old new a = record {
@@ -172,6 +176,17 @@ life-logged x y z spot change p q e back = record {
     there : (f : Former) → (f ≡ former) ⊎ Among f [] → cell_there z.rows.rows.items f ≡ true
     there f (inl d) = ap (cell_there z.rows.rows.items) d ∙ (q.cells spot.lane spot.block ∙ p.there)
     there f (inr m) = absurd (none-among f m)
+
+pub life-lives : (x y z : LoggedRows) (spot : PieceSpot) (change : Seen → Seen) → LogsLife x y spot → ChangesCell y.rows.rows.items z.rows.rows.items spot.lane spot.block change → z.log.items ≡ y.log.items → PutsBack spot.index change → LogsLives x z
+unfolding life-logged
+life-lives x y z spot change p q e back = record { logged = life-logged x y z spot change p q e back; lives = λ f m. go f (among-cases f former [] m) }
+  where
+    former : Former
+    former = formers.Life spot (cause_in (rows_seen x.rows.rows.items spot.lane spot.block) spot.index) (end_in (rows_seen x.rows.rows.items spot.lane spot.block) spot.index)
+
+    go : (f : Former) → (f ≡ former) ⊎ Among f [] → is_life f ≡ true
+    go f (inl d) = ap is_life d
+    go f (inr m) = absurd (none-among f m)
 
 pub cause-pieces : (x y : LoggedRows) (new : List LaneRange) (spot : PieceSpot) (cause : Cause) → LogsLife x y spot → ChangesCell y.rows.rows.items new spot.lane spot.block (λ v. with_cause v spot.index cause) → KeepsPieces x.rows.rows.items new
 cause-pieces x y new spot cause p q = record {

@@ -14,7 +14,7 @@ use Rattle.live_edits.specs.CellChanges.{fits_in}
 use Rattle.live_edits.specs.declared.log.Former.{Former}
 use Rattle.live_edits.specs.declared.log.Former.TheVariants as formers
 use Rattle.live_edits.specs.declared.log.LoggedRows.{LoggedRows}
-use Rattle.live_edits.specs.Logged.{AllSeen, all_taken_back, taken_back, has_cell, room_of, cell_there, HasAllCells, IsLogged}
+use Rattle.live_edits.specs.Logged.{AllSeen, all_taken_back, taken_back, has_cell, room_of, cell_there, is_life, HasAllCells, IsLogged, LogsLives}
 
 -- no cell goes
 abbrev pub KeepsCells : List LaneRange → List LaneRange → Type 0
@@ -93,3 +93,17 @@ logged-then x y z p q = record {
 
 pub logged-behind : (x y z : LoggedRows) → y.rows ≡ x.rows → y.log.items ≡ x.log.items → IsLogged y z → IsLogged x z
 logged-behind x y z rows log p = logged-then x y z (logged-alike x y rows log) p
+
+-- lives that change one after the other
+
+pub lives-same : (x : LoggedRows) → LogsLives x x
+unfolding logged-same
+lives-same x = record { logged = logged-same x; lives = λ e a. absurd (none-among e a) }
+
+pub lives-then : (x y z : LoggedRows) → LogsLives x y → LogsLives y z → LogsLives x z
+unfolding logged-then
+lives-then x y z p q = record { logged = logged-then x y z p.logged q.logged; lives = λ e a. go e (among-split e p.logged.added q.logged.added a) }
+  where
+    go : (e : Former) → Among e p.logged.added ⊎ Among e q.logged.added → is_life e ≡ true
+    go e (inl a) = p.lives e a
+    go e (inr a) = q.lives e a

@@ -25,10 +25,10 @@ use Rattle.edit_laws.proofs.Rechecked.{certain-cause-law}
 use Rattle.edit_laws.proofs.RowCause.{row-cause-law}
 use Rattle.edit_laws.proofs.Runs.{runs-follow}
 use Rattle.live_edits.specs.declared.log.LoggedRows.{LoggedRows}
-use Rattle.live_edits.specs.Logged.{IsLogged}
+use Rattle.live_edits.specs.Logged.{LogsLives}
 use Rattle.live_edits.specs.Pieces.{node_of, nodes_of, KeepsPieces}
 use Rattle.live_edits.specs.Updated.{AreTold, IsCarriedOver, certain_at, LosesCause, unless_live, ListsFallen}
-use Rattle.live_edits.proofs.Logged.{logged-then}
+use Rattle.live_edits.proofs.Logged.{lives-then}
 use Rattle.live_edits.proofs.KeptPieces.{pieces-then, live-there}
 
 -- what of a piece's cause holds depends on that cause alone
@@ -171,7 +171,7 @@ pub record LooksSoFar (ids : List ℕ) (slots : Numbers) (flow : List BlockFlow)
   pub looked : (touched : Touched) (code : Code) → AreTold touched ids → IsCarriedOver touched code slots flow old.rows.rows.items (nodes_of suspects)
       → RunsSoFar touched code slots flow old.rows.rows.items now.rows.rows.items (nodes_of suspects) (nodes_of (drop k suspects)) (nodes_of fallen)
   pub pieces : KeepsPieces old.rows.rows.items now.rows.rows.items
-  pub logged : IsLogged old now
+  pub logged : LogsLives old now
 
 module _ (ids : List ℕ) (slots : Numbers) (flow : List BlockFlow) (old now : LoggedRows) (suspects : List PieceSpot) (k : ℕ) (from : List PieceSpot) (d : PieceSpot) (inside : k < length suspects) (s : LooksSoFar ids slots flow old now suspects k from) where
   abbrev rows : List LaneRange
@@ -197,11 +197,11 @@ module _ (ids : List ℕ) (slots : Numbers) (flow : List BlockFlow) (old now : L
   }
 
   pub loses-so-far : (new : LoggedRows) (to : List PieceSpot) → is_live (causes rows spot.lane spot.block spot.index) ≡ true → LosesCause rows new.rows.rows.items spot → ListsFallen rows spot from to
-      → KeepsPieces rows new.rows.rows.items → IsLogged now new → LooksSoFar ids slots flow old new suspects (k + 1) to
+      → KeepsPieces rows new.rows.rows.items → LogsLives now new → LooksSoFar ids slots flow old new suspects (k + 1) to
   loses-so-far new to live loses lists keeps logged = record {
     looked = λ touched code told carried.
         runs-where-lost touched code slots flow old.rows.rows.items rows new.rows.rows.items (nodes_of suspects) (nodes_of (drop (k + 1) suspects)) from to spot carried s.pieces live
         (loses (live-there rows spot.lane spot.block spot.index live)) lists (runs-to touched code told carried);
     pieces = pieces-then old.rows.rows.items rows new.rows.rows.items s.pieces keeps;
-    logged = logged-then old now new s.logged logged;
+    logged = lives-then old now new s.logged logged;
   }

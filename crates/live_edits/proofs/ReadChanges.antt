@@ -13,6 +13,7 @@ use Rattle.live_edits.specs.RemadeSteps.{use_of_read}
 use Rattle.live_edits.specs.Renoted.{under, CutsPieces, CutsReadings, first_read, without_first, NotesReading}
 use Rattle.live_edits.proofs.RenoteNoted.{read-same, read-new}
 use Rattle.live_edits.proofs.RenoteLives.{same-first, readings-first, readings-lived}
+use Rattle.live_edits.proofs.Untold.{readings-extents}
 
 -- the readings before the instruction, its own one if there is any, and those of the instructions behind it
 abbrev pub readings_with : ℕ → ℕ → Option LaneRead → List LaneUse → List LaneUse
@@ -59,11 +60,11 @@ module _ (slots : Numbers) (id : ℕ) (v : Seen) (k : ℕ) (within : k ≤ lengt
 
   -- the cell tells it already
   pub notes-same : first_read id (drop at own) ≡ read → NotesReading slots id (use_of_read read) v v
-  notes-same same = record { told = read-same slots id v k within cut at those read same; first = same-first v; lives = refl }
+  notes-same same = record { told = read-same slots id v k within cut at those read same; first = same-first v; lives = refl; extents = refl }
 
   -- the piece gets these readings
   pub notes-readings : (new : List LaneUse) → new ≡ readings_with id at read own → NotesReading slots id (use_of_read read) v (with_readings v k new)
-  notes-readings new is = record { told = read-new slots id v k within cut at those read new is; first = readings-first v k new; lives = readings-lived v k new }
+  notes-readings new is = record { told = read-new slots id v k within cut at those read new is; first = readings-first v k new; lives = readings-lived v k new; extents = readings-extents v k new }
 
   -- its reading goes
   pub notes-gone : (left : List LaneUse) → read ≡ None → left ≡ take at own ++ without_first id (drop at own) → NotesReading slots id (use_of_read read) v (with_readings v k left)

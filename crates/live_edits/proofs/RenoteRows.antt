@@ -1,5 +1,5 @@
 -- A cell whose instructions write otherwise, and rows of which one cell changes after another.
-use Rattle.std.proofs.Common.{◌≡◌, ◌≤◌, ◌∙◌, ℕ, Bool, true, false, cond, ◌&&◌, length, List, ◌<◌, ◌+◌, drop, get_or, Option, None, Some, refl, sym, ap, subst, eq-eqb}
+use Rattle.std.proofs.Common.{◌≡◌, ◌≤◌, ◌∙◌, inl, ℕ, Bool, true, false, cond, ◌&&◌, length, List, ◌<◌, ◌+◌, drop, get_or, Option, None, Some, refl, sym, ap, subst, eq-eqb}
 use Rattle.std.specs.Prelude.{nat_eq, unwrap_or, option_copied, IfOk, Result}
 use Rattle.std.specs.Borrow.{Bor}
 use Rattle.std.specs.declared.result.Result.TheVariants as results
@@ -15,6 +15,8 @@ use Rattle.live_edits.specs.Changes.{AddsCells, ChangesCell}
 use Rattle.live_edits.specs.RemadeSteps.{def_of_write}
 use Rattle.live_edits.specs.Renoted.{CutsPieces, is_begun_by, NotesWriting, rewritten, Begins, piece_joined, all_changed, NotesSeen, NotesAll, ChangesOne}
 use Rattle.live_edits.proofs.RenoteNoted.{write-again, write-no-more, write-none, write-begins}
+use Rattle.live_edits.specs.Told.{begun_left}
+use Rattle.live_edits.proofs.Untold.{rewritten-left, joined-left, begun-piece-left}
 use Rattle.live_edits.proofs.RenoteLives.{same-first, same-lives, rewritten-lives, joined-lives, joined-first, begun-lives, begun-first}
 
 module _ (slots : Numbers) (id : ℕ) (v : Seen) (k : ℕ) (within : k ≤ length v.segments) (cut : CutsPieces slots id v.segments k) where
@@ -25,6 +27,7 @@ module _ (slots : Numbers) (id : ℕ) (v : Seen) (k : ℕ) (within : k ≤ lengt
           told = write-again slots id v k within cut begun (record { lane = l; from = w.from; early = w.early });
           first = record { cause = refl; end = refl; last = refl };
           lives = rewritten-lives slots id v k w;
+          untold = λ told h. inl (rewritten-left told id v k w.early w.from begun (h refl));
         })
 
     pub notes-joined : {E : Type 0} (o : Option LaneWrite) → o ≡ None → (r : Result CellChanges E) → IfOk r (λ changes. all_changed changes v ≡ piece_joined k v) → IfOk r (λ changes. (l : ℕ) → NotesWriting slots id (def_of_write l o) v (all_changed changes v))
@@ -34,6 +37,7 @@ module _ (slots : Numbers) (id : ℕ) (v : Seen) (k : ℕ) (within : k ≤ lengt
           told = write-no-more slots id v k within cut begun;
           first = joined-first slots id v k;
           lives = joined-lives slots id v k;
+          untold = λ told h. joined-left told k v;
         }))
 
   module _ (other : is_begun_by id v.segments k ≡ false) where
@@ -44,10 +48,11 @@ module _ (slots : Numbers) (id : ℕ) (v : Seen) (k : ℕ) (within : k ≤ lengt
           told = write-begins slots id v k within cut other w (all_changed changes v) h l;
           first = begun-first slots id v k within cut other w (all_changed changes v) h;
           lives = begun-lives slots id v k within cut other w (all_changed changes v) h;
+          untold = λ told t. inl (ap (begun_left told) h.is ∙ begun-piece-left told id v k w.early w.from _ _ (t refl));
         })
 
     pub notes-none : NotesWriting slots id None v v
-    notes-none = record { told = write-none slots id v k within cut other; first = same-first v; lives = same-lives slots id v k }
+    notes-none = record { told = write-none slots id v k within cut other; first = same-first v; lives = same-lives slots id v k; untold = λ told h. inl refl }
 
 -- rows
 

@@ -1,6 +1,6 @@
 -- One note: an instruction reads and writes a lane as it says.
 use Rattle.std.proofs.Common.{◌≡◌, ◌<◌, ◌∙◌, ◌⊎◌, inl, inr, ℕ, Bool, true, false, List, [], ◌∷◌, ◌++◌, Option, None, Some, refl, sym, ap, subst, arith, append_assoc, eqb-true}
-use Rattle.std.specs.Prelude.{nat_eq}
+use Rattle.std.specs.Prelude.{nat_eq, is_some}
 use Rattle.std.proofs.lemmas.Bool.{le-ltb, lt-ltb, le-leb, leb-true}
 use Rattle.slot_index.specs.Order.{number_of}
 use Rattle.mir_meaning.specs.declared.writing.LaneDef.{LaneDef}
@@ -12,8 +12,10 @@ use Rattle.live_lanes.proofs.Basics.{none-among}
 use Rattle.live_lanes.proofs.Numbered.{among-cases, among-right, among-split}
 use Rattle.edit_laws.specs.LaneSteps.{LaneStep, StepsRise}
 use Rattle.live_edits.specs.declared.cells.Note.{Note}
+use Rattle.instr_effects.specs.declared.lane_acts.LaneWrite.{LaneWrite}
 use Rattle.live_edits.specs.RemadeSteps.{use_of_read, def_of_write, noted_step}
 use Rattle.live_edits.specs.Renoted.{Event, reads, writes, use_told, def_told, all_told, seen_told, not_over, before_entry, before_exit, AllPass, NonePass, NoReading, AllLive, NotesReading, NotesWriting, NotesSeen}
+use Rattle.live_edits.specs.Told.{begun_left, untold, StaysOrShrinks}
 use Rattle.live_edits.proofs.RenoteLives.{first-then}
 
 abbrev pub is_read : Event → Bool
@@ -181,4 +183,9 @@ module _ (slots : Numbers) where
         (λ e m. exit-high n.id e (high n front a back rise same e m))
         (λ i early from m. other n.id i (high n front a back rise same (writes i early from) m))
         new (subst (AllLive lives) (sym p.lives) old);
+    untold = λ told h. subst (λ xs. StaysOrShrinks xs (begun_left told w)) (ap (untold told) p.extents) (q.untold told (λ e. h (written n.act.write e)));
   }
+    where
+      written : (o : Option LaneWrite) → is_some (def_of_write n.act.lane o) ≡ true → is_some o ≡ true
+      written None e = absurd (cc)
+      written (Some x) e = refl

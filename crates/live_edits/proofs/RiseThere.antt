@@ -1,5 +1,5 @@
 -- Pieces that are there, and stay so while causes and ends change.
-use Rattle.std.proofs.Common.{◌≡◌, ◌<◌, ◌≤◌, ◌⊎◌, ℕ, zero, suc, Bool, true, false, cond, length, List, [], ◌∷◌, Option, None, Some, inl, inr, refl, sym, ap, ◌∙◌, subst, arith}
+use Rattle.std.proofs.Common.{◌≡◌, ◌<◌, ◌≤◌, ◌⊎◌, ℕ, zero, suc, Bool, true, false, cond, length, List, [], ◌∷◌, None, Some, inl, inr, refl, sym, ap, ◌∙◌, subst, arith}
 use Rattle.std.proofs.lemmas.Bool.{cases_lt}
 use Rattle.std.proofs.lemmas.List.{length-map}
 use Rattle.std.proofs.lemmas.Option.{slice_get_past}
@@ -9,7 +9,7 @@ use Rattle.live_lanes.specs.declared.row.Cause.{Cause}
 use Rattle.live_lanes.specs.declared.row.LaneRange.{LaneRange}
 use Rattle.live_lanes.specs.declared.row.LaneUse.{LaneUse}
 use Rattle.live_lanes.specs.Graph.{is_live}
-use Rattle.live_lanes.specs.Table.{Numbers, Seen, unseen, seen_in, leading, is_begun, begun_cause, begun_readings, readings_in, cause_in, exit_rank, entry_rank}
+use Rattle.live_lanes.specs.Table.{Numbers, Seen, unseen, leading, is_begun, begun_cause, begun_readings, readings_in, cause_in, exit_rank, entry_rank}
 use Rattle.live_lanes.specs.Entered.{Shape, start_of, shape, rows_seen, causes, reading, IsTableOf}
 use Rattle.live_lanes.specs.Growth.{piece_in_rows}
 use Rattle.live_lanes.proofs.Basics.{none-among}
@@ -19,6 +19,7 @@ use Rattle.edit_laws.specs.Needs.{IsNeed, need_end, need_exit, need_move}
 use Rattle.edit_laws.specs.Update.{Request}
 use Rattle.live_edits.specs.Pieces.{IsThere, KeepsPieces}
 use Rattle.live_edits.proofs.KeptPieces.{live-there}
+use Rattle.live_edits.proofs.Untold.{unseen-past}
 
 -- as many pieces, where shapes are the same
 pub same-count : (v w : Seen) → shape v ≡ shape w → length v.segments ≡ length w.segments
@@ -42,9 +43,6 @@ module _ (old new : List LaneRange) (k : KeepsPieces old new) where
 
 -- nothing is known of a lane without row, nor of a piece behind the segments
 
-past-unseen : (rows : List LaneRange) (l b : ℕ) → length rows ≤ l → rows_seen rows l b ≡ unseen
-past-unseen rows l b h = ap (λ (q : Option LaneRange). elim q [ None ↦ unseen | Some r ↦ seen_in r.cells.items b ]) (slice_get_past rows l h)
-
 no-readings : (v : Seen) (n : ℕ) → length v.segments < n → readings_in v n ≡ []
 no-readings v zero h = absurd (omega arith)
 no-readings v (suc k) h = ap begun_readings (slice_get_past v.segments k (omega arith))
@@ -66,7 +64,7 @@ lane-or-unseen rows l b = go (cases_lt l (length rows))
   where
     go : (l < length rows) ⊎ (length rows ≤ l) → (l < length rows) ⊎ (rows_seen rows l b ≡ unseen)
     go (inl h) = inl h
-    go (inr h) = inr (past-unseen rows l b h)
+    go (inr h) = inr (unseen-past rows l b h)
 
 -- the piece is there, or its lane has no row, or it is behind the segments
 pub there-or-past : (rows : List LaneRange) (l b n : ℕ) → IsThere rows (l, b, n) ⊎ ((rows_seen rows l b ≡ unseen) ⊎ (length (rows_seen rows l b).segments < n))

@@ -1,10 +1,11 @@
 -- A function and the order of its instructions while edits are done to it.
-use Rattle.std.specs.Prelude.{◌≡◌, ◌≢◌, ◌≤◌, ℕ, true, false, List, [], ◌∷◌, ◌++◌, Option, None, Some, length, slice_index}
+use Rattle.std.specs.Prelude.{◌≡◌, ◌≢◌, ◌<◌, ◌≤◌, ℕ, true, false, List, [], ◌∷◌, ◌++◌, Option, None, Some, length, slice_index}
 use Rattle.std.specs.List.{remove}
 use Rattle.std.specs.Ordering.{nat_cmp}
 use Rattle.std.specs.BTreeMap.{get}
 use Rattle.target_base.specs.declared.types.OpId.{OpId}
-use Rattle.slot_index.specs.Order.{ids, number_of, place, put_after, IsNumbered}
+use Rattle.slot_index.specs.Order.{ids, number_of, place, put_after, Has, IsNumbered}
+use Rattle.live_lanes.specs.Table.{Numbers}
 use Rattle.mir_func.specs.declared.func.Gap.{Gap}
 use Rattle.mir_func.specs.declared.func.Instr.{Instr}
 use Rattle.mir_func.specs.declared.func.Operand.{Operand}
@@ -75,6 +76,12 @@ pub record PutsAt (old new : Function) (o : Order) (position place : ℕ) (op : 
 pub record StaysOrdered (old new : Function) (o : Order) : Type 0 where
   pub func : new ≡ old
   pub order : IsOrderOf new o
+
+-- instructions of an order stay, and those that came before others still do
+pub record KeepsOrder (x y : Numbers) : Type 0 where
+  pub stays : (id : ℕ) → Has x id → Has y id
+  pub before : (a b : ℕ) → Has x a → Has x b → number_of x a < number_of x b → number_of y a < number_of y b
+  pub not_behind : (a b : ℕ) → Has x a → Has x b → number_of x a ≤ number_of x b → number_of y a ≤ number_of y b
 
 -- edits
 

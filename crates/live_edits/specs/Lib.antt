@@ -3,6 +3,7 @@ pub mod Pieces
 pub mod Leading
 pub mod CellChanges
 pub mod Logged
+pub mod Told
 pub mod Updated
 pub mod RemadeSteps
 pub mod Remade
@@ -15,5 +16,6 @@ pub mod Runs
 pub mod NotedTable
 pub mod EditedRuns
 pub mod Aside
+pub mod ToldRuns
 pub mod Folded
 pub mod LiveRuns

@@ -1,5 +1,5 @@
 -- What takes changes of rows back.
-use Rattle.std.specs.Prelude.{◌≡◌, ◌≤◌, ℕ, Bool, true, cond, ◌&&◌, nat_eq, List, [], ◌∷◌, ◌++◌, is_some, length}
+use Rattle.std.specs.Prelude.{◌≡◌, ◌≤◌, ℕ, Bool, true, false, cond, ◌&&◌, nat_eq, List, [], ◌∷◌, ◌++◌, is_some, length}
 use Rattle.mir_meaning.specs.Paths.{Among}
 use Rattle.live_lanes.specs.declared.row.LaneRange.{LaneRange}
 use Rattle.live_lanes.specs.Table.{Seen, find_cell, cell_room, with_cause, with_end}
@@ -51,6 +51,17 @@ pub record IsLogged (old new : LoggedRows) : Type 0 where
   pub cells : (l b : ℕ) → has_cell old.rows.rows.items l b ≡ true → has_cell new.rows.rows.items l b ≡ true
   pub rooms : (l b : ℕ) → room_of old.rows.rows.items l b ≤ room_of new.rows.rows.items l b
   pub there : HasAllCells new.rows.rows.items added
+
+-- it is the life of a piece
+abbrev pub is_life : Former → Bool
+is_life (formers.Life spot cause end) = true
+is_life (formers.Shape lane block change) = false
+is_life (formers.Read spot at) = false
+
+-- causes and ends change, and nothing else does; this is logged
+pub record LogsLives (old new : LoggedRows) : Type 0 where
+  pub logged : IsLogged old new
+  pub lives : (e : Former) → Among e logged.added → is_life e ≡ true
 
 -- rows as they were before all logged changes
 pub record IsTakenBack (old new : LoggedRows) : Type 0 where

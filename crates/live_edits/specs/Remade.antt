@@ -1,5 +1,5 @@
 -- Cells that are made anew from what they tell and from notes of the touched instructions.
-use Rattle.std.specs.Prelude.{◌≡◌, ◌≤◌, ◌<◌, ℕ, false, List, Some, length, slice_get}
+use Rattle.std.specs.Prelude.{◌≡◌, ◌≤◌, ◌<◌, ℕ, Bool, false, List, Option, Some, length, slice_get}
 use Rattle.mir_meaning.specs.Paths.{Among, Step, Code, steps_of, has}
 use Rattle.live_lanes.specs.declared.compute.flow.BlockFlow.{BlockFlow}
 use Rattle.live_lanes.specs.declared.row.LaneRange.{LaneRange}
@@ -12,6 +12,7 @@ use Rattle.edit_laws.specs.Rebuilt.{IsRebuilt}
 pub use Rattle.live_edits.specs.RemadeSteps.{use_of_read, def_of_write, noted_ids, noted_step}
 use Rattle.live_edits.specs.declared.cells.Note.{Note}
 use Rattle.live_edits.specs.declared.cells.CellNotes.{CellNotes}
+use Rattle.live_edits.specs.Told.{AreWritingsTold, KeepsUntold}
 
 -- the notes are of exactly the instructions of the block that are touched at the lane, each once, and say what these do now
 pub record AreNotesOf (touched : Touched) (code : Code) (l b : ℕ) (notes : List Note) : Type 0 where
@@ -32,3 +33,4 @@ pub record RemakesAll (slots : Numbers) (old new : List LaneRange) (all : List C
   pub rebuilt : (touched noted : Touched) (before code : Code) (was : Numbers) (flow : List BlockFlow) (x : List LaneRange) → IsTableOf before was flow x → IsEditOf touched before code → IsNumbered code slots
       → AreAllNotes noted code old all → (l : ℕ) → ((b id : ℕ) → touched l b id ≡ noted l b id) → ((b : ℕ) → rows_seen old l b ≡ rows_seen x l b) → (b : ℕ) → IsRebuilt before code l b (rows_seen x l b) (rows_seen new l b)
   pub kept : (l b : ℕ) → ((c : CellNotes) → Among c all → c.lane ≡ l → c.block ≡ b → ⊥) → rows_seen new l b ≡ rows_seen old l b
+  pub untold : (told : ℕ → ℕ → Option ℕ → Bool) → AreWritingsTold told all → (l b : ℕ) → KeepsUntold (told l b) (rows_seen old l b) (rows_seen new l b)

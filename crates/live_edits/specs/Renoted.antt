@@ -1,5 +1,5 @@
 -- What a cell tells, and how a note changes this.
-use Rattle.std.specs.Prelude.{◌≡◌, ◌<◌, ℕ, zero, suc, Bool, true, false, cond, ◌&&◌, nat_eq, nat_lt, nat_le, List, [], ◌∷◌, ◌++◌, Option, None, Some, length, map, take, drop}
+use Rattle.std.specs.Prelude.{◌≡◌, ◌<◌, ℕ, zero, suc, Bool, true, false, cond, ◌&&◌, nat_eq, nat_lt, nat_le, List, [], ◌∷◌, ◌++◌, Option, None, Some, is_some, length, map, take, drop}
 use Rattle.slot_index.specs.Order.{number_of}
 use Rattle.mir_meaning.specs.declared.writing.LaneDef.{LaneDef}
 use Rattle.mir_meaning.specs.Paths.{Among, Use}
@@ -24,6 +24,7 @@ use Rattle.std.specs.List.{insert, remove}
 pub use Rattle.live_edits.specs.CellChanges.{piece_readings}
 use Rattle.live_edits.specs.CellChanges.{seen_changed, with_readings, reading_added, begun_with_writing}
 use Rattle.live_edits.specs.RemadeSteps.{noted_step}
+use Rattle.live_edits.specs.Told.{begun_extent, begun_left, StaysOrShrinks}
 
 -- a reading, or a writing of the instruction of an id
 pub data Event : Type 0 where
@@ -186,17 +187,20 @@ pub record NotesReading (slots : Numbers) (id : ℕ) (used : Use) (v w : Seen) :
   pub told : NotesUse slots id used (seen_told v) (seen_told w)
   pub first : KeepsFirst v w
   pub lives : map lived w.segments ≡ map lived v.segments
+  pub extents : map begun_extent w.segments ≡ map begun_extent v.segments
 
 pub record NotesWriting (slots : Numbers) (id : ℕ) (writing : Option LaneDef) (v w : Seen) : Type 0 where
   pub told : NotesDef slots id writing (seen_told v) (seen_told w)
   pub first : KeepsFirst v w
   pub lives : KeepsLives slots id v w
+  pub untold : (told : Option ℕ → Bool) → (is_some writing ≡ true → told (Some id) ≡ true) → StaysOrShrinks (begun_left told v) (begun_left told w)
 
 -- in a cell that tells what instructions do, one of them does what its note says
 pub record NotesSeen (slots : Numbers) (n : Note) (v w : Seen) : Type 0 where
   pub told : (front : List LaneStep) (a : LaneStep) (back : List LaneStep) → StepsRise slots (front ++ a ∷ back) → a.id ≡ n.id → seen_told v ≡ all_told (front ++ a ∷ back) → seen_told w ≡ all_told (front ++ noted_step n ∷ back)
   pub first : KeepsFirst v w
   pub lives : (lives : Lives) (front : List LaneStep) (a : LaneStep) (back : List LaneStep) → StepsRise slots (front ++ a ∷ back) → a.id ≡ n.id → seen_told v ≡ all_told (front ++ a ∷ back) → (a.writing ≡ None → lives n.id ≡ (reasons.None, ends.Never)) → AllLive lives (map lived v.segments) → AllLive lives (map lived w.segments)
+  pub untold : (told : Option ℕ → Bool) → (is_some n.act.write ≡ true → told (Some n.id) ≡ true) → StaysOrShrinks (begun_left told v) (begun_left told w)
 
 -- so it is with the cell of a lane in a block, and all others stay
 pub record ChangesOne (old new : List LaneRange) (lane block : ℕ) (to : Seen → Seen → Type 0) : Type 0 where

@@ -10,6 +10,7 @@ ghost use Rattle.live_lanes.specs.Table.{begun, seen_cell};
 ghost use Rattle.live_edits.specs.Aside.{UnnamedLaw, any_names, are_told, brings, changed_by, changed_ids, is_all_told, is_aside, is_begun_told, names_range, IsPutBack, IsRowPutBack, IsRowTaken, LeavesNone, LeavesOut, TakesRows, TakesSome};
 ghost use Rattle.live_edits.specs.EditedRuns.{ClearsRange};
 ghost use Rattle.live_edits.specs.Runs.{edit_of, edits_of, table_of};
+ghost use Rattle.live_edits.specs.ToldRuns.{KeepsOtherRows};
 
 use crate::edit::Edit;
 use crate::edit_run::EditRun;
@@ -251,7 +252,8 @@ impl EditRun {
 
     /// The same of a range that may be given.
     pub(crate) fn clear_range(&mut self, edits: &[Edit], v: Option<u32>) -> Result<(), AllocError>
-        ensures { ClearsRange (edits_of edits.now) self.old self.new }
+        ensures clears { ClearsRange (edits_of edits.now) self.old self.new }
+        ensures kept { self.old.aside.items ≡ [] → KeepsOtherRows self.old self.new.rows.rows.rows.items v }
     {
         match v {
             Some(v) => self.clear_rows(edits, v),

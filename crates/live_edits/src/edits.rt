@@ -1,7 +1,8 @@
 //! A list of edits as a whole: all of them are done and the pieces brought up to date, or none is.
 
-ghost use Rattle.std.specs.Prelude.{◌≡◌, ◌<◌, true, reverse, IfOk, OnOk, OnErr};
+ghost use Rattle.std.specs.Prelude.{◌≡◌, ◌<◌, ℕ, true, reverse, IfOk, OnOk, OnErr};
 ghost use Rattle.instr_effects.specs.Numbered.{number_in, KeepsNumbers};
+ghost use Rattle.live_lanes.specs.Entered.{rows_seen};
 ghost use Rattle.edit_laws.specs.Edits.{all_edited};
 ghost use Rattle.live_edits.specs.Aside.{AreThere};
 ghost use Rattle.live_edits.specs.Drafts.{IsOrderOf, IsDraftLogged};
@@ -9,6 +10,8 @@ ghost use Rattle.live_edits.specs.EditedRuns.{IsFresh, MayBegin, MayStart, HasTa
 ghost use Rattle.live_edits.specs.Logged.{HasAllCells, IsLogged};
 ghost use Rattle.live_edits.specs.Noted.{TellLatest};
 ghost use Rattle.live_edits.specs.Runs.{edits_of, table_of, KeepsTables};
+ghost use Rattle.live_edits.specs.Told.{IsNotedAndLogged};
+ghost use Rattle.live_edits.specs.ToldRuns.{IsToldBy};
 
 use crate::cells::CellNotes;
 use crate::draft::Draft;
@@ -114,6 +117,7 @@ impl EditRun {
     /// Does edits. Erased instructions still stand then.
     fn do_edits(&mut self, target: &Target, edits: Vec<Edit>) -> Result<(), AllocError>
         ensures done { OnOk result (MayStart target.now self.old (edits_of edits.items) → AreDone target.now (edits_of edits.items) self.old self.new) }
+        ensures ranges { self.new.lanes.ranges ≡ self.old.lanes.ranges }
         ensures logged { MayStart target.now self.old (edits_of edits.items) → IsRunLogged target.now self.old self.new }
     {
         self.add_slots(edits.as_slice())?;
@@ -129,6 +133,7 @@ impl EditRun {
     /// which the cells were made.
     fn bring_up(&mut self) -> Result<Vec<CellNotes>, AllocError>
         ensures brings { OnOk result ((t : Target) → TellLatest t self.old.draft.func (number_in self.old.lanes) self.old.gone.keys self.old.touched.items → BringsUp t self.old self.new) }
+        ensures told { IfOk result (λ all. IsNotedAndLogged self.old.rows.rows.rows.items self.new.rows.rows.rows.items self.new.rows.log.items all.items) }
         ensures kept { ChangesRows self.old self.new }
         ensures logged { IsLogged self.old.rows self.new.rows }
     {
@@ -161,6 +166,8 @@ impl EditRun {
     /// Does edits and brings the pieces up to date.
     fn try_all(&mut self, target: &Target, edits: Vec<Edit>) -> Result<EditOutcome, AllocError>
         ensures done { IfOk result (λ made. MayStart target.now self.old (edits_of edits.items) → IsDone target.now (edits_of edits.items) self.old self.new made.erased.items) }
+        ensures told { IfOk result (λ made. MayStart target.now self.old (edits_of edits.items) → IsNotedAndLogged self.old.rows.rows.rows.items self.new.rows.rows.rows.items self.new.rows.log.items made.notes.items) }
+        ensures ranges { self.new.lanes.ranges ≡ self.old.lanes.ranges }
         ensures logged { MayStart target.now self.old (edits_of edits.items) → IsRunLogged target.now self.old self.new }
     {
         self.do_edits(target, edits)?;
@@ -177,6 +184,8 @@ impl EditRun {
         v: Option<u32>,
     ) -> Result<EditOutcome, AllocError>
         ensures done { IfOk result (λ made. MayBegin target.now self.old (edits_of edits.items) → IsDoneOf target.now (edits_of edits.items) self.old self.new made.erased.items) }
+        ensures told { IfOk result (λ made. MayBegin target.now self.old (edits_of edits.items) → IsToldBy self.old self.new v made.notes.items) }
+        ensures ranges { self.new.lanes.ranges ≡ self.old.lanes.ranges }
         ensures logged { MayBegin target.now self.old (edits_of edits.items) → IsLoggedOf target.now self.old self.new }
     {
         self.clear_range(edits.as_slice(), v)?;
@@ -230,8 +239,11 @@ impl EditRun {
         v: Option<u32>,
     ) -> Result<EditOutcome, AllocError>
         ensures done { IfOk result (λ made. MayBegin target.now self.old (edits_of edits.items) → IsDoneOf target.now (edits_of edits.items) self.old self.new made.erased.items) }
+        ensures told { IfOk result (λ made. MayBegin target.now self.old (edits_of edits.items) → IsToldBy self.old self.new v made.notes.items) }
+        ensures ranges { MayBegin target.now self.old (edits_of edits.items) → self.new.lanes.ranges ≡ self.old.lanes.ranges }
         ensures logged { OnOk result (MayBegin target.now self.old (edits_of edits.items) → IsLoggedOf target.now self.old self.new) }
         ensures err { OnErr result (MayBegin target.now self.old (edits_of edits.items) → HasTable target.now self.old.draft.func self.new) }
+        ensures seen { OnErr result (MayBegin target.now self.old (edits_of edits.items) → (l b : ℕ) → rows_seen self.new.rows.rows.rows.items l b ≡ rows_seen self.old.rows.rows.rows.items l b) }
         ensures numbers { MayBegin target.now self.old (edits_of edits.items) → KeepsNumbers (number_in self.old.lanes) (number_in self.new.lanes) }
     {
         match self.try_all_of(target, edits, v) {

@@ -5,7 +5,7 @@ ghost use Rattle.live_lanes.specs.Entered.{cells_of, causes};
 ghost use Rattle.live_lanes.specs.Ends.{row_end};
 ghost use Rattle.live_lanes.specs.Lasting.{AllRise, shapes, right_end};
 ghost use Rattle.live_lanes.specs.Table.{find_cell};
-ghost use Rattle.live_edits.specs.Logged.{IsLogged};
+ghost use Rattle.live_edits.specs.Logged.{LogsLives};
 ghost use Rattle.live_edits.specs.Pieces.{nodes_of};
 ghost use Rattle.live_edits.specs.Updated.{EndsAgain};
 
@@ -73,7 +73,7 @@ impl LoggedRows {
     ) -> Result<(), AllocError>
         ensures again { OnOk result (AllRise order.now.slots self.old.rows.rows.items
             → EndsAgain order.now.slots flow.now self.old.rows.rows.items self.new.rows.rows.items (nodes_of pieces.now)) }
-        ensures logged { IsLogged self.old self.new }
+        ensures logged { LogsLives self.old self.new }
     {
         'pieces: for spot in pieces {
             if let Some(end) = self.new_end(order, flow, *spot) {

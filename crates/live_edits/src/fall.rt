@@ -9,7 +9,7 @@ ghost use Rattle.live_lanes.specs.Table.{exit_rank, piece_at, rises_from, seen_c
 ghost use Rattle.edit_laws.specs.Reasons.{Touched};
 ghost use Rattle.edit_laws.specs.Rechecked.{IsHeld};
 ghost use Rattle.live_edits.specs.Fallen.{spots_of, LosesAll};
-ghost use Rattle.live_edits.specs.Logged.{IsLogged};
+ghost use Rattle.live_edits.specs.Logged.{LogsLives};
 ghost use Rattle.live_edits.specs.Pieces.{HasAll, KeepsPieces};
 ghost use Rattle.live_edits.specs.Updated.{AreTold, LooksAgain, LosesCause, ListsFallen, LetsFall, LeadsOut};
 
@@ -79,7 +79,7 @@ impl LoggedRows {
     ) -> Result<Vec<PieceSpot>, AllocError>
         ensures looks { IfOk result (λ fallen. LooksAgain ids.now.keys order.now.slots flow.now self.old.rows.rows.items self.new.rows.rows.items suspects.now fallen.items) }
         ensures pieces { KeepsPieces self.old.rows.rows.items self.new.rows.rows.items }
-        ensures logged { IsLogged self.old self.new }
+        ensures logged { LogsLives self.old self.new }
     {
         let mut fallen = Vec::new(self.rows.alloc);
         'suspects: for spot in suspects {
@@ -101,7 +101,7 @@ impl LoggedRows {
     ) -> Result<(), AllocError>
         ensures falls { OnOk result (LetsFall order.now.slots flow.now self.old.rows.rows.items self.new.rows.rows.items fallen.old.items fallen.new.items around.old.spots.items around.new.spots.items) }
         ensures pieces { KeepsPieces self.old.rows.rows.items self.new.rows.rows.items }
-        ensures logged { IsLogged self.old self.new }
+        ensures logged { LogsLives self.old self.new }
     {
         let mut needs = Vec::new(self.rows.alloc);
         'fallen: for k in 0..usize::MAX {
@@ -126,7 +126,7 @@ impl LoggedRows {
         ensures loses { OnOk result (LosesAll self.old.rows.rows.items self.new.rows.rows.items needs.now fallen.old.items fallen.new.items) }
         ensures around { OnOk result (HasAll around.new.spots.items (around.old.spots.items ++ spots_of needs.now)) }
         ensures pieces { KeepsPieces self.old.rows.rows.items self.new.rows.rows.items }
-        ensures logged { IsLogged self.old self.new }
+        ensures logged { LogsLives self.old self.new }
     {
         'needs: for need in needs {
             if self.cause_of(need.spot) == need.cause {
@@ -142,7 +142,7 @@ impl LoggedRows {
         ensures given { OnOk result (LosesCause self.old.rows.rows.items self.new.rows.rows.items spot) }
         ensures fallen { OnOk result (ListsFallen self.old.rows.rows.items spot fallen.old.items fallen.new.items) }
         ensures pieces { KeepsPieces self.old.rows.rows.items self.new.rows.rows.items }
-        ensures logged { IsLogged self.old self.new }
+        ensures logged { LogsLives self.old self.new }
     {
         let cause = self.certain_cause(spot);
         self.set_cause(spot, cause)?;

@@ -1,11 +1,17 @@
 //! Edits of a function with what is live in it, which are kept or taken back, and joins of its ranges.
 
-ghost use Rattle.std.specs.Prelude.{◌≡◌, List, [], IfOk, OnOk, OnErr};
+ghost use Rattle.std.specs.Prelude.{◌≡◌, ℕ, false, List, [], IfOk, OnOk, OnErr};
+ghost use Rattle.slot_index.specs.Order.{number_of};
+ghost use Rattle.mir_meaning.specs.Paths.{has};
+ghost use Rattle.live_lanes.specs.Entered.{rows_seen};
+ghost use Rattle.live_lanes.specs.Extents.{extents_in};
 ghost use Rattle.edit_laws.specs.Edits.{all_edited};
+ghost use Rattle.live_edits.specs.Drafts.{KeepsOrder};
 ghost use Rattle.live_edits.specs.EditedRuns.{IsFresh, MayBegin, HasTable, IsDoneOf, IsLoggedOf};
 ghost use Rattle.live_edits.specs.Folded.{folded};
 ghost use Rattle.live_edits.specs.LiveRuns.{IsRunOf, HasLogs, IsExact, MayBeEditedLive, MayBeFoldedLive, IsBegun};
-ghost use Rattle.live_edits.specs.Runs.{edits_of};
+ghost use Rattle.live_edits.specs.Runs.{edits_of, table_of};
+ghost use Rattle.live_edits.specs.Told.{TellsPieces};
 
 use crate::aside::AsideRow;
 use crate::draft::{Draft, FormerInstr};
@@ -155,8 +161,11 @@ fn begin_run(
     v: Option<u32>,
 ) -> Result<(Vec<u32>, Vec<ChangedPiece>), AllocError>
     ensures done { IfOk result (λ made. MayBegin target.now run.old (edits_of edits.items) → IsDoneOf target.now (edits_of edits.items) run.old run.new made.0.items) }
+    ensures told { IfOk result (λ made. MayBegin target.now run.old (edits_of edits.items) → TellsPieces (table_of run.old) (table_of run.new) v made.1.items) }
+    ensures ranges { MayBegin target.now run.old (edits_of edits.items) → run.new.lanes.ranges ≡ run.old.lanes.ranges }
     ensures logged { OnOk result (MayBegin target.now run.old (edits_of edits.items) → IsLoggedOf target.now run.old run.new) }
     ensures err { OnErr result (MayBegin target.now run.old (edits_of edits.items) → HasTable target.now run.old.draft.func run.new) }
+    ensures seen { OnErr result (MayBegin target.now run.old (edits_of edits.items) → (l b : ℕ) → rows_seen run.new.rows.rows.rows.items l b ≡ rows_seen run.old.rows.rows.rows.items l b) }
 {
     let made = run.begin(target, edits, v)?;
     match run.changed_pieces(made.notes.as_slice()) {
@@ -178,7 +187,11 @@ pub fn begin_edits(
     v: Option<u32>,
 ) -> Result<EditChanges, AllocError>
     ensures ok { IfOk result (λ changes. MayBeEditedLive live.old (edits_of edits.items) → IsBegun (edits_of edits.items) live.old live.new changes) }
+    ensures told { IfOk result (λ changes. MayBeEditedLive live.old (edits_of edits.items) → TellsPieces live.old.table live.new.table v changes.pieces.items) }
+    ensures order { OnOk result (MayBeEditedLive live.old (edits_of edits.items) → KeepsOrder live.old.table.order.slots live.new.table.order.slots) }
+    ensures ranges { MayBeEditedLive live.old (edits_of edits.items) → live.new.table.lanes.ranges ≡ live.old.table.lanes.ranges }
     ensures err { OnErr result (MayBeEditedLive live.old (edits_of edits.items) → IsExact live.old.target live.old.func live.new) }
+    ensures extents { OnErr result (MayBeEditedLive live.old (edits_of edits.items) → (l b : ℕ) → extents_in live.new.table l b ≡ extents_in live.old.table l b) }
     ensures target { live.new.target ≡ live.old.target }
 {
     let spare = spare_func(live.table.rows.alloc)?;
@@ -201,6 +214,10 @@ pub fn begin_edits(
 /// Keeps what edits changed.
 pub fn commit(live: &mut LiveFunc, changes: EditChanges)
     ensures exact { (edits : List Edit) (before : LiveFunc) → IsBegun (edits_of edits) before live.old changes → IsExact before.target (all_edited before.func (edits_of edits)) live.new }
+    ensures rows { live.new.table.rows ≡ live.old.table.rows }
+    ensures lanes { live.new.table.lanes ≡ live.old.table.lanes }
+    ensures numbers { (edits : List Edit) (before : LiveFunc) → IsBegun (edits_of edits) before live.old changes
+        → (id : ℕ) → has id changes.erased.items ≡ false → number_of live.new.table.order.slots id ≡ number_of live.old.table.order.slots id }
     ensures target { live.new.target ≡ live.old.target }
 {
     let EditChanges { logs, erased, .. } = changes;
@@ -213,6 +230,8 @@ pub fn commit(live: &mut LiveFunc, changes: EditChanges)
 /// Takes back what edits changed.
 pub fn roll_back(live: &mut LiveFunc, changes: EditChanges)
     ensures exact { (edits : List Edit) (before : LiveFunc) → IsBegun (edits_of edits) before live.old changes → IsExact before.target before.func live.new }
+    ensures extents { (edits : List Edit) (before : LiveFunc) → IsBegun (edits_of edits) before live.old changes → (l b : ℕ) → extents_in live.new.table l b ≡ extents_in before.table l b }
+    ensures lanes { (edits : List Edit) (before : LiveFunc) → IsBegun (edits_of edits) before live.old changes → live.new.table.lanes ≡ live.old.table.lanes }
     ensures target { live.new.target ≡ live.old.target }
 {
     let EditChanges { logs, .. } = changes;

@@ -6,7 +6,7 @@ ghost use Rattle.live_lanes.specs.Entered.{rows_seen, cells_of, causes};
 ghost use Rattle.live_lanes.specs.Marks.{KeepsCauses};
 ghost use Rattle.edit_laws.specs.RowCause.{GivesCause};
 ghost use Rattle.edit_laws.specs.RowEnd.{GivesEnd};
-ghost use Rattle.live_edits.specs.Logged.{IsLogged};
+ghost use Rattle.live_edits.specs.Logged.{LogsLives};
 ghost use Rattle.live_edits.specs.Pieces.{node_of, IsThere, KeepsPieces};
 ghost use Rattle.live_edits.specs.Changes.{AddsCells, LogsLife};
 
@@ -141,7 +141,7 @@ impl LoggedRows {
     pub fn set_cause(&mut self, spot: PieceSpot, cause: Cause) -> Result<(), AllocError>
         ensures given { OnOk result (IsThere self.old.rows.rows.items (node_of spot) → GivesCause self.old.rows.rows.items self.new.rows.rows.items (node_of spot) cause) }
         ensures pieces { KeepsPieces self.old.rows.rows.items self.new.rows.rows.items }
-        ensures logged { IsLogged self.old self.new }
+        ensures logged { LogsLives self.old self.new }
     {
         if spot.lane as usize >= self.rows.rows.len() {
             return Ok(());
@@ -156,7 +156,7 @@ impl LoggedRows {
         ensures given { OnOk result (IsThere self.old.rows.rows.items (node_of spot) → GivesEnd self.old.rows.rows.items self.new.rows.rows.items (node_of spot) end) }
         ensures absent { OnOk result ((IsThere self.old.rows.rows.items (node_of spot) → ⊥) → (l b : ℕ) → rows_seen self.new.rows.rows.items l b ≡ rows_seen self.old.rows.rows.items l b) }
         ensures causes { KeepsCauses self.old.rows.rows.items self.new.rows.rows.items }
-        ensures logged { IsLogged self.old self.new }
+        ensures logged { LogsLives self.old self.new }
     {
         if spot.lane as usize >= self.rows.rows.len() {
             return Ok(());

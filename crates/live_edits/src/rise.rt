@@ -3,7 +3,7 @@
 ghost use Rattle.std.specs.Prelude.{◌≡◌, IfOk, OnOk};
 ghost use Rattle.live_lanes.specs.Entered.{causes};
 ghost use Rattle.live_lanes.specs.Graph.{is_live};
-ghost use Rattle.live_edits.specs.Logged.{IsLogged};
+ghost use Rattle.live_edits.specs.Logged.{LogsLives};
 ghost use Rattle.live_edits.specs.Pieces.{KeepsPieces};
 ghost use Rattle.live_edits.specs.Updated.{Raises, Revives};
 
@@ -27,7 +27,7 @@ impl LoggedRows {
     ) -> Result<Vec<PieceSpot>, AllocError>
         ensures rises { IfOk result (λ risen. Revives order.now.slots flow.now self.old.rows.rows.items self.new.rows.rows.items reasons.now risen.items around.old.spots.items around.new.spots.items) }
         ensures pieces { KeepsPieces self.old.rows.rows.items self.new.rows.rows.items }
-        ensures logged { IsLogged self.old self.new }
+        ensures logged { LogsLives self.old self.new }
     {
         let mut risen = Vec::new(self.rows.alloc);
         self.revive_all(reasons, &mut risen, around)?;
@@ -58,7 +58,7 @@ impl LoggedRows {
     ) -> Result<(), AllocError>
         ensures raises { OnOk result (Raises self.old.rows.rows.items self.new.rows.rows.items needs.now risen.old.items risen.new.items around.old.spots.items around.new.spots.items) }
         ensures pieces { KeepsPieces self.old.rows.rows.items self.new.rows.rows.items }
-        ensures logged { IsLogged self.old self.new }
+        ensures logged { LogsLives self.old self.new }
     {
         'needs: for need in needs {
             if self.is_live(need.spot) {

@@ -2,7 +2,7 @@
 //! lanes made anew.
 
 ghost use Rattle.std.specs.Prelude.{◌≡◌, ◌++◌, IfOk, OnOk};
-ghost use Rattle.live_edits.specs.Logged.{IsLogged};
+ghost use Rattle.live_edits.specs.Logged.{LogsLives};
 ghost use Rattle.live_edits.specs.Updated.{Updates};
 
 use crate::log::LoggedRows;
@@ -47,7 +47,7 @@ impl LoggedRows {
         ids: &BTreeSet<u32>,
     ) -> Result<(), AllocError>
         ensures updates { OnOk result (Updates ids.now.keys order.now.slots flow.now self.old.rows.rows.items self.new.rows.rows.items suspects.now) }
-        ensures logged { IsLogged self.old self.new }
+        ensures logged { LogsLives self.old self.new }
     {
         let alloc = self.rows.alloc;
         // Both sides of an instruction mostly lie in one piece, and those of the next one too.

@@ -31,7 +31,7 @@ both true b e f = f
 both false b e f = absurd (cc)
 
 -- no cell of a block stands behind one of a lower block
-below-none : (n b : ℕ) (cs : List Cell) → is_below n cs ≡ true → descends cs ≡ true → n ≤ b → find_cell b cs ≡ None
+pub below-none : (n b : ℕ) (cs : List Cell) → is_below n cs ≡ true → descends cs ≡ true → n ≤ b → find_cell b cs ≡ None
 below-none n b [] h d w = refl
 below-none n b (c ∷ cs) h d w =
     let low : c.block < n = ltb-true c.block n h in

@@ -18,6 +18,7 @@ pub mod Whole
 pub mod Entering
 pub mod Ordered
 pub mod Stepped
+pub mod Further
 pub mod Gathered
 pub mod Filled
 pub mod Backward
@@ -45,6 +46,9 @@ pub mod Few
 pub mod Finding
 pub mod Alike
 pub mod Extents
+pub mod ExtentLists
+pub mod LayoutNumbers
+pub mod Spread
 pub mod Touching
 pub mod Starting
 pub mod Readings

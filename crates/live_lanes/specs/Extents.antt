@@ -1,7 +1,9 @@
 -- The points of lanes, piece by piece, and whether a lane has one of a stretch of points.
-use Rattle.std.specs.Prelude.{ℕ, zero, suc, ◌+◌, ◌-◌, Bool, false, cond, List, [], Option, None, Some, max, nat_le, slice_get, option_map}
+use Rattle.std.specs.Prelude.{ℕ, zero, suc, ◌+◌, ◌-◌, Bool, true, false, cond, nat_eq, List, [], Option, None, Some, max, nat_le, slice_get, option_map}
 use Rattle.std.specs.List.{list_any, filter_map}
 use Rattle.mir_meaning.specs.Registers.{numbers}
+use Rattle.instr_effects.specs.declared.owner.Owner.{Owner}
+use Rattle.instr_effects.specs.declared.owner.Owner.TheVariants as owners
 use Rattle.instr_effects.specs.declared.row.LaneSpan.{LaneSpan}
 use Rattle.live_lanes.specs.declared.row.PieceEnd.{PieceEnd}
 use Rattle.live_lanes.specs.declared.row.DefPiece.{DefPiece}
@@ -19,6 +21,13 @@ abbrev pub lanes_count : Option LaneSpan → ℕ
 lanes_count None = 0
 lanes_count (Some own) = own.count
 
+-- the range and the number of the lane in it, where the owner of a number is a range's lane
+abbrev pub range_lane : Option Owner → Option (ℕ × ℕ)
+range_lane None = None
+range_lane (Some (owners.Unit u)) = None
+range_lane (Some (owners.Range v k)) = Some (v, k)
+range_lane (Some (owners.Slot s k)) = None
+
 -- the points of the piece that begins with the block, if it has any
 abbrev pub block_extent : PieceEnd → Option Extent
 block_extent e = cond (is_never e) None (Some (record { start = None; early = false; end = e }))
@@ -33,7 +42,13 @@ extent_in None index = None
 extent_in (Some c) zero = block_extent c.first.end
 extent_in (Some c) (suc k) = option_map segment_extent (slice_get c.segments.items k)
 
--- those of all pieces of a cell
+-- the instruction that begins a piece of a cell, by the piece's number; none for the one that begins with the block
+abbrev pub start_in : Option Cell → ℕ → Option ℕ
+start_in None index = None
+start_in (Some c) zero = None
+start_in (Some c) (suc k) = option_map (λ s. s.start) (slice_get c.segments.items k)
+
+-- the points of all pieces of a cell
 abbrev pub cell_extents : Cell → List Extent
 cell_extents c = filter_map (extent_in (Some c)) (numbers 0 (piece_count (Some c)))
 
@@ -44,6 +59,17 @@ some_extents (Some c) = cell_extents c
 -- those of the lane of that number in the block at a position
 abbrev pub extents_in : Table → ℕ → ℕ → List Extent
 extents_in x n p = some_extents (find_cell p (cells_of x.rows.rows.items n))
+
+-- both are none, or the same instruction
+abbrev pub is_same_start : Option ℕ → Option ℕ → Bool
+is_same_start None None = true
+is_same_start None (Some b) = false
+is_same_start (Some a) None = false
+is_same_start (Some a) (Some b) = nat_eq a b
+
+-- the points begin with that instruction, or with the block
+abbrev pub begins_with : Option ℕ → Extent → Bool
+begins_with start e = is_same_start e.start start
 
 -- the block's start, or the first point that the writing occupies
 abbrev pub first_rank : Numbers → Extent → ℕ

@@ -22,3 +22,5 @@ pub mod Touching
 pub mod Alike
 pub mod Extents
 pub mod Tells
+pub mod Further
+pub mod Spread

@@ -677,17 +677,6 @@ impl Cell {
         }
     }
 
-    /// The instruction that begins a piece; none for the one that begins with the block.
-    pub(crate) fn start_of(&self, index: usize) -> Option<u32> {
-        if index == 0 {
-            return None;
-        }
-        match self.segments.get(index - 1) {
-            Some(segment) => Some(segment.start),
-            None => None,
-        }
-    }
-
     /// Up to where a piece is live.
     pub fn end_of(&self, index: usize) -> PieceEnd
         ensures { result ≡ end_in (seen_cell self.now) index }

@@ -3,3 +3,4 @@ pub mod Exact
 pub mod Touch
 pub mod Places
 pub mod Few
+pub mod Acts

@@ -2,3 +2,4 @@ pub mod Effects
 pub mod Exact
 pub mod Touch
 pub mod Places
+pub mod Acts

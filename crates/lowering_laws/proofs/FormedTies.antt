@@ -57,7 +57,7 @@ module _ (bs : List Bound) where
       (λ k. let z = each-tie (number_behind c (tie_among bs c p)) ps tie k in (z.0, there z.1, z.2, z.3)) m
 
   -- and each pair has one
-  each-pair : (c : ℕ) (ps : List TiedPair) (p : TiedPair) → Among p ps → (tie : Tie) × Among tie (ties_among bs c ps) × (x : ℕ) × Kind x p (is_read bs p) tie
+  pub each-pair : (c : ℕ) (ps : List TiedPair) (p : TiedPair) → Among p ps → (tie : Tie) × Among tie (ties_among bs c ps) × (x : ℕ) × Kind x p (is_read bs p) tie
   each-pair c [] p m = absurd (member-none p m)
   each-pair c (q ∷ ps) p m =
       member-elim p q ps

@@ -69,3 +69,6 @@ pub mod SharedLanes
 pub mod TiedDefinitions
 pub mod ShapesBehind
 pub mod LoweredRules
+pub mod FirstRegisters
+pub mod NamedTies
+pub mod NamedLowered

@@ -113,7 +113,7 @@ tied-leads t rs k n m e =
     (y.0, subst (λ x. Leads x rs y.0) (sym (eqb-true n 0 (first_of_both (nat_eq n 0) (defines k rs) z))) y.1)
 
 -- a tied role names a definition that leads
-role-leads : (t : Target) (e : Effect) (rs : List Role) → roles_fit t.units t.regs t.classes e rs ≡ true → has_roles e ≡ true → (k : ClassId) (n : ℕ) → Among (roles.Tied k n) rs → (r : Role) × Leads n rs r
+pub role-leads : (t : Target) (e : Effect) (rs : List Role) → roles_fit t.units t.regs t.classes e rs ≡ true → has_roles e ≡ true → (k : ClassId) (n : ℕ) → Among (roles.Tied k n) rs → (r : Role) × Leads n rs r
 role-leads t effects.Copy rs h g k n m = absurd (cc)
 role-leads t effects.Phi rs h g k n m = absurd (cc)
 role-leads t effects.ImplicitDef rs h g k n m = absurd (cc)
@@ -272,11 +272,11 @@ definition-fits t e (roles.Early k) d g h = either (is_definition d) (is_opaque 
     either false false h = absurd (cc)
 definition-fits t e r d g h = absurd (cc)
 
-front-role : (q : Role) (rs : List Role) → is_definition_role q ≡ true → explicit_roles (q ∷ rs) ≡ q ∷ explicit_roles rs
+pub front-role : (q : Role) (rs : List Role) → is_definition_role q ≡ true → explicit_roles (q ∷ rs) ≡ q ∷ explicit_roles rs
 front-role q rs g = ap (λ (y : Bool). cond (not y) (q ∷ explicit_roles rs) (explicit_roles rs)) (definition-explicit q g).0
 
 -- an operand that takes a definition's role isn't implicit
-explicit-front : (t : Target) (e : Effect) (q : Role) (rs : List Role) (x : Operand) (os : List Operand) → is_definition_role q ≡ true → implicit_last (x ∷ os) ≡ true → explicit_fit t e (explicit_roles (q ∷ rs)) (explicit_operands (x ∷ os)) ≡ true → (is_implicit_operand x ≡ false) × (implicit_last os ≡ true) × (fits_at t e q x ≡ true) × (explicit_fit t e (explicit_roles rs) (explicit_operands os) ≡ true)
+pub explicit-front : (t : Target) (e : Effect) (q : Role) (rs : List Role) (x : Operand) (os : List Operand) → is_definition_role q ≡ true → implicit_last (x ∷ os) ≡ true → explicit_fit t e (explicit_roles (q ∷ rs)) (explicit_operands (x ∷ os)) ≡ true → (is_implicit_operand x ≡ false) × (implicit_last os ≡ true) × (fits_at t e q x ≡ true) × (explicit_fit t e (explicit_roles rs) (explicit_operands os) ≡ true)
 explicit-front t e q rs x os g last fits = go (is_implicit_operand x) refl
   where
     go : (y : Bool) → is_implicit_operand x ≡ y → (is_implicit_operand x ≡ false) × (implicit_last os ≡ true) × (fits_at t e q x ≡ true) × (explicit_fit t e (explicit_roles rs) (explicit_operands os) ≡ true)

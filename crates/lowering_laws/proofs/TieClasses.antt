@@ -42,7 +42,7 @@ no-roles [] e = refl
 no-roles (r ∷ rs) e = absurd (let z = eqb-true (length (r ∷ rs)) 0 e in omega arith)
 
 module _ (t : Target) where
-  abbrev AreKnown : List Role → Type 0
+  abbrev pub AreKnown : List Role → Type 0
   AreKnown rs = list_all (role_known (length t.classes) (length t.regs)) rs ≡ true
 
   none-known : (a d : OpcodeDesc) → Some a ≡ Some d → (length a.roles == 0) ≡ true → AreKnown d.roles
@@ -63,7 +63,7 @@ module _ (t : Target) where
       let good = all-of (is_opcode_desc t.units t.regs t.classes) d os (slice-member os k d g) rest in
       second_of_both _ _ (first_of_both _ _ (first_of_both _ _ good))
 
-  roles-known : (i : Instr) → AreKnown (roles_of t i)
+  pub roles-known : (i : Instr) → AreKnown (roles_of t i)
   roles-known i = by i.op
     where
       at : (q : Option OpcodeDesc) (k : ℕ) → slice_get t.opcodes k ≡ q → AreKnown (elim q as (λ q. List Role) [ None ↦ [] | Some d ↦ d.roles ])

@@ -42,7 +42,7 @@ module _ (t : Target) where
   are-classes : list_all (is_class_desc t.units t.regs) t.classes ≡ true
   are-classes = second_of_both _ _ (first_of_both _ _ (classes_sound t.name t.version t.units t.regs t.reserved t.indexes t.classes t.masks t.opcodes t.sound))
 
-  are-registers : list_all (is_reg_desc t.version t.units) t.regs ≡ true
+  pub are-registers : list_all (is_reg_desc t.version t.units) t.regs ≡ true
   are-registers = second_of_both _ _ (first_of_both _ _ (regs_sound t.name t.version t.units t.regs t.reserved t.indexes t.classes t.masks t.opcodes t.sound))
 
   same-units : (q r : Reg) → (q.0 == r.0) ≡ true → units_of t q ≡ units_of t r
@@ -173,10 +173,10 @@ module _ (t : Target) where
       go (inr z) = absurd (let y = z.0 in omega arith)
 
   -- the class at the place of the first that passes a test
-  abbrev IsFound : (List Reg → Bool) → ClassId → Type 0
+  abbrev pub IsFound : (List Reg → Bool) → ClassId → Type 0
   IsFound p k = IsClass t k × (p (regs_of t k) ≡ true)
 
-  found-class : (p : List Reg → Bool) (k : ClassId) (q : Option ℕ) → position (λ (d : ClassDesc). p d.regs) t.classes ≡ q → option_map class_number q ≡ Some k → IsFound p k
+  pub found-class : (p : List Reg → Bool) (k : ClassId) (q : Option ℕ) → position (λ (d : ClassDesc). p d.regs) t.classes ≡ q → option_map class_number q ≡ Some k → IsFound p k
   found-class p k None e g = absurd (cc)
   found-class p k (Some n) e g = at t.classes refl
     where
@@ -189,7 +189,7 @@ module _ (t : Target) where
           let z = position-Some (λ (x : ClassDesc). p x.regs) t.classes n d e in
           subst (IsFound p) (same (class_number n) k g) (z.0, ap p (class-at n d z.0) ∙ z.1)
 
-  class-of-widths : (ws : List ℕ) (k : ClassId) → class_of_widths t ws ≡ Some k → IsClass t k × (widths_of t k ≡ ws)
+  pub class-of-widths : (ws : List ℕ) (k : ClassId) → class_of_widths t ws ≡ Some k → IsClass t k × (widths_of t k ≡ ws)
   class-of-widths ws k e =
       let z = found-class (λ rs. same_numbers (class_widths t.units t.regs rs) ws) k (position (λ (d : ClassDesc). same_numbers (class_widths t.units t.regs d.regs) ws) t.classes) refl e in
       (z.0, same-numbers (widths_of t k) ws z.1)

@@ -7,6 +7,7 @@
 
 ghost use Rattle.lowering_laws.specs.Blocks.{LoweredClasses, LoweredKeepBlockRules, LoweredNames, LoweredOpcodes, PhisKeepBlockRules};
 ghost use Rattle.lowering_laws.specs.Laws.{IdsAreDistinct, LoweredForm, LoweredPhisRefine, LoweredRefine, LoweredTiedRefine, NoneLoweredAway, PhisAreGone};
+ghost use Rattle.lowering_laws.specs.Named.{LoweredTouchesNamed};
 ghost use Rattle.lowering_laws.specs.Shapes.{LoweredDefinitions, LoweredIsSplittable, LoweredKeepsRules, LoweredOperands, LoweredShapes, LoweredWidths};
 
 /// A valid source without its phis does what it did.
@@ -68,6 +69,11 @@ pub fn opcodes_law()
 /// Each register that its instructions name has a class, and its index fits it.
 pub fn names_law()
     ensures { LoweredNames }
+{}
+
+/// No instruction names a range in `undef` uses alone.
+pub fn named_law()
+    ensures { LoweredTouchesNamed }
 {}
 
 /// Rule 1: its operands fit the roles of its opcode in number, kind and value.

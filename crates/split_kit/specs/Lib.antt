@@ -1,1 +1,4 @@
 pub mod Split
+pub mod PartEdits
+pub mod BlockWalk
+pub mod MaySplit

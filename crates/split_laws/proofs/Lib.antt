@@ -28,3 +28,7 @@ pub mod LiveClass
 pub mod SplitRules
 pub mod Kept
 pub mod InTurn
+pub mod LaidMarks
+pub mod OfferTurns
+pub mod LocalTurns
+pub mod TouchedNames

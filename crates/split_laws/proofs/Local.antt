@@ -108,10 +108,10 @@ past-more false true c e = absurd (cc)
 past-more false false c e = e
 
 module _ (p : Instr → Bool) where
-  abbrev InOrder : List Instr → Type 0
+  abbrev pub InOrder : List Instr → Type 0
   InOrder is = (j : ℕ) (y : Instr) → slice_get is j ≡ Some y → (p y || not (list_any p (take j is))) ≡ true
 
-  behind-passes : (front : List Instr) (i : Instr) (back : List Instr) → InOrder (front ++ i ∷ back) → p i ≡ true → (y : Instr) → Member y back → p y ≡ true
+  pub behind-passes : (front : List Instr) (i : Instr) (back : List Instr) → InOrder (front ++ i ∷ back) → p i ≡ true → (y : Instr) → Member y back → p y ≡ true
   behind-passes [] i back h g y m = let z = member-slice y back m in past-one (p y) (subst (λ b. (p y || not (b || list_any p (take z.0 back))) ≡ true) g (h (suc z.0) y z.1))
   behind-passes (x ∷ front) i back h g y m = behind-passes front i back (λ j c e. past-more (p c) (p x) (list_any p (take j (front ++ i ∷ back))) (h (suc j) c e)) g y m
 
@@ -122,7 +122,7 @@ taken-in zero xs x m = absurd (member-none x m)
 taken-in (suc n) [] x m = absurd (member-none x m)
 taken-in (suc n) (y ∷ xs) x m = member-elim x y (take n xs) (λ e. subst (λ z. Member x (z ∷ xs)) e first) (λ k. later (taken-in n xs x k)) m
 
-find-passes : {X : Type 0} (p : X → Bool) (xs : List X) (x : X) → find p xs ≡ Some x → Member x xs
+pub find-passes : {X : Type 0} (p : X → Bool) (xs : List X) (x : X) → find p xs ≡ Some x → Member x xs
 find-passes p [] x e = absurd (cc)
 find-passes {X} p (y ∷ xs) x e = go (p y) e (find-passes p xs x)
   where
@@ -134,7 +134,7 @@ both-none : (x y : Bool) → (x ≡ true → y ≡ false) → (x && y) ≡ false
 both-none true y h = h refl
 both-none false y h = refl
 
-not-true : (b : Bool) → not b ≡ true → b ≡ false
+pub not-true : (b : Bool) → not b ≡ true → b ≡ false
 not-true true e = absurd (cc)
 not-true false e = refl
 

@@ -8,6 +8,7 @@
 
 ghost use Rattle.split_laws.specs.Laws.{LoweredSplitsRefine, PartsKeepShape, SplitKeepsLowered, SplitKeepsOthers, SplitRefines, SplitSharesRange, SplitsRefine};
 ghost use Rattle.split_laws.specs.Offers.{BlockLabelsAgree, CutLabelsAgree, LocalLabelsAgree, RegionLabelsAgree};
+ghost use Rattle.split_laws.specs.Turns.{BlockLabelsInTurn, CutLabelsInTurn, LocalLabelsInTurn, RegionLabelsInTurn, SplitKeepsNamed};
 
 /// A function with a range split does what it did, where labels agree on the ways between blocks.
 pub fn split_law()
@@ -62,4 +63,17 @@ pub fn cut_law()
 /// and those of a local split.
 pub fn local_law()
     ensures { LocalLabelsAgree }
+{}
+
+/// The labels of each split that is offered stand in layout order, as splitting asks.
+pub fn turns_law()
+    ensures block { BlockLabelsInTurn }
+    ensures region { RegionLabelsInTurn }
+    ensures cut { CutLabelsInTurn }
+    ensures local { LocalLabelsInTurn }
+{}
+
+/// Where no instruction names a range in `undef` uses alone, none does behind a split.
+pub fn named_law()
+    ensures { SplitKeepsNamed }
 {}

@@ -1,18 +1,19 @@
 //! The points at which a lane is live or occupied, block by block, for the matrix of assigned
 //! ranges.
 
-ghost use Rattle.std.specs.Prelude.{◌≡◌, ◌≤◌, true, Some, length, slice_get, option_map};
+ghost use Rattle.std.specs.Prelude.{◌≡◌, ◌≤◌, ℕ, true, Some, IsTrue, find, length, slice_get, option_map};
 ghost use Rattle.std.specs.Ordering.{nat_cmp};
 ghost use Rattle.std.specs.BTreeMap.{get};
-ghost use Rattle.instr_effects.specs.Numbered.{number_in};
+ghost use Rattle.instr_effects.specs.Numbered.{number_in, IsTable};
 ghost use Rattle.instr_effects.specs.declared.owner.Owner.TheVariants as owners;
 ghost use Rattle.live_lanes.specs.Table.{entry_rank, exit_rank, rises_from, seen_cell};
 ghost use Rattle.live_lanes.specs.Entered.{cells_of, piece_count};
 ghost use Rattle.live_lanes.specs.Looks.{InOrder};
-ghost use Rattle.live_lanes.specs.Extents.{lanes_count, extent_in, first_rank, last_rank, stretch_of, begun_by, is_met_in, is_met};
+ghost use Rattle.live_lanes.specs.Extents.{lanes_count, range_lane, segment_extent, extent_in, start_in, begins_with, extents_in, cell_extents, first_rank, last_rank, stretch_of, begun_by, is_met_in, is_met};
 
 use crate::live::LiveFunc;
-use crate::row::{Cell, PieceEnd, entry_rank, exit_rank, rank};
+use crate::row::{Cell, DefPiece, PieceEnd, entry_rank, exit_rank, rank};
+use instr_effects::lanes::LaneTable;
 use instr_effects::owner::Owner;
 use instr_effects::row::LaneSpan;
 use slot_index::Slots;
@@ -81,8 +82,19 @@ impl Extent {
     }
 }
 
+/// The points of a piece that begins with a writing.
+fn segment_extent(segment: &DefPiece) -> Extent
+    ensures { result ≡ segment_extent segment.now }
+{
+    Extent {
+        start: Some(segment.start),
+        early: segment.early,
+        end: segment.piece.end,
+    }
+}
+
 /// The points of a piece of a cell, if it has any.
-fn extent_of(cell: &Cell, index: usize) -> Option<Extent>
+pub(crate) fn extent_of(cell: &Cell, index: usize) -> Option<Extent>
     ensures { result ≡ extent_in (Some cell.now) index }
 {
     if index == 0 {
@@ -95,12 +107,20 @@ fn extent_of(cell: &Cell, index: usize) -> Option<Extent>
             end: cell.first.end,
         });
     }
-    let segment = cell.segments.get(index - 1)?;
-    Some(Extent {
-        start: Some(segment.start),
-        early: segment.early,
-        end: segment.piece.end,
-    })
+    Some(segment_extent(cell.segments.get(index - 1)?))
+}
+
+/// The instruction that begins a piece; none for the one that begins with the block.
+fn start_of(cell: &Cell, index: usize) -> Option<u32>
+    ensures { result ≡ start_in (Some cell.now) index }
+{
+    if index == 0 {
+        return None;
+    }
+    match cell.segments.get(index - 1) {
+        Some(segment) => Some(segment.start),
+        None => None,
+    }
 }
 
 /// The number of pieces of a cell that begin at or before a point.
@@ -127,21 +147,33 @@ fn meets(slots: &Slots, cell: &Cell, at: Stretch) -> bool
     }
 }
 
-/// The place of the piece of a cell that an instruction begins, or that begins with the block.
-fn index_from(slots: &Slots, cell: &Cell, start: Option<u32>) -> Option<usize> {
+/// The points of the piece of a cell that an instruction begins, or that begins with the block.
+fn extent_from(slots: &Slots, cell: &Cell, start: Option<u32>) -> Option<Extent>
+    ensures { IsTrue (rises_from slots.now 0 (seen_cell cell.now).segments) → result ≡ find (begins_with start) (cell_extents cell.now) }
+{
     let Some(id) = start else {
-        return Some(0);
+        return extent_of(cell, 0);
     };
-    let at = slots.number(id);
-    let place = cell
-        .segments
-        .as_slice()
-        .partition_point(|s| slots.number(s.start) < at);
-    let segment = cell.segments.get(place)?;
-    if segment.start == id {
-        place.checked_add(1)
-    } else {
-        None
+    match cell.segment_of(slots, id) {
+        Some(segment) => Some(segment_extent(segment)),
+        None => None,
+    }
+}
+
+/// Whose lane a number is.
+fn owner_of(lanes: &LaneTable, lane: u32) -> Option<Owner>
+    ensures { result ≡ slice_get lanes.now.owners.items lane }
+{
+    lanes.owners.get(lane as usize).copied()
+}
+
+/// The range and the number of the lane in it, where the owner of a number is a range's lane.
+fn range_lane(owner: Option<Owner>) -> Option<(u32, u32)>
+    ensures { result ≡ range_lane owner }
+{
+    match owner {
+        Some(Owner::Range(v, k)) => Some((v, k)),
+        _ => None,
     }
 }
 
@@ -178,11 +210,11 @@ impl LiveFunc {
     }
 
     /// The range that a lane belongs to, and the number of the lane in it.
-    pub fn range_of(&self, lane: u32) -> Option<(u32, u32)> {
-        match self.table.lanes.owners.get(lane as usize).copied() {
-            Some(Owner::Range(v, k)) => Some((v, k)),
-            _ => None,
-        }
+    pub fn range_of(&self, lane: u32) -> Option<(u32, u32)>
+        ensures owner { result ≡ range_lane (slice_get self.now.table.lanes.owners.items lane) }
+        ensures numbered { IsTable self.now.table.lanes → (v k : ℕ) → number_in self.now.table.lanes (owners.Range v k) ≡ Some lane → result ≡ Some (v, k) }
+    {
+        range_lane(owner_of(&self.table.lanes, lane))
     }
 
     /// The number of blocks in which a lane is named or live.
@@ -219,15 +251,19 @@ impl LiveFunc {
 
     /// The instruction that begins a piece of a lane in one of these blocks; none for the one that
     /// begins with the block.
-    pub fn start_of(&self, lane: u32, place: usize, index: usize) -> Option<u32> {
-        self.table.rows.cells(lane).get(place)?.start_of(index)
+    pub fn start_of(&self, lane: u32, place: usize, index: usize) -> Option<u32>
+        ensures { result ≡ start_in (slice_get (cells_of self.now.table.rows.rows.items lane) place) index }
+    {
+        start_of(self.table.rows.cells(lane).get(place)?, index)
     }
 
     /// The points of the piece of a lane that an instruction begins in the block at a position, or
     /// that begins with the block.
-    pub fn extent_from(&self, lane: u32, block: u32, start: Option<u32>) -> Option<Extent> {
+    pub fn extent_from(&self, lane: u32, block: u32, start: Option<u32>) -> Option<Extent>
+        ensures { InOrder self.now.table → result ≡ find (begins_with start) (extents_in self.now.table lane block) }
+    {
         let cell = self.table.rows.cell(lane, block)?;
-        extent_of(cell, index_from(self.slots(), cell, start)?)
+        extent_from(&self.table.order.slots, cell, start)
     }
 
     /// Whether a lane is live or occupied at one of these points of the block at a position.

@@ -384,7 +384,7 @@ impl LaneRanges {
 
 impl Cell {
     /// The piece that an instruction begins.
-    fn segment_of(&self, slots: &Slots, id: u32) -> Option<&DefPiece>
+    pub(crate) fn segment_of(&self, slots: &Slots, id: u32) -> Option<&DefPiece>
         ensures { IsTrue (rises_from slots.now 0 (seen_cell self.now).segments) → option_map begun (option_copied result) ≡ begun_by id (seen_cell self.now).segments }
     {
         let index = self.piece_at(slots, exit_rank(slots, id));

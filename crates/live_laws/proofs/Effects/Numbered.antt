@@ -30,7 +30,7 @@ use Rattle.live_laws.proofs.Effects.Instrs.{same-law}
 use Rattle.live_laws.proofs.Effects.Blocks.{slice-member, numbers-apart, block_code, found-block}
 use Rattle.live_laws.proofs.Effects.Whole.{steps-at, standing, starts, is-out, step-at, code-of, points-are}
 
-drop-map : {X Y : Type 0} (g : X → Y) (k : ℕ) (xs : List X) → drop k (map g xs) ≡ map g (drop k xs)
+pub drop-map : {X Y : Type 0} (g : X → Y) (k : ℕ) (xs : List X) → drop k (map g xs) ≡ map g (drop k xs)
 drop-map g zero xs = refl
 drop-map g (suc k) [] = refl
 drop-map g (suc k) (x ∷ xs) = drop-map g k xs

@@ -124,7 +124,7 @@ module _ (t : Target) (f : Function) (num : Numbering) (rules : KeepsRules t f) 
   HasNumber = (n : ℕ) × (T l ≡ Some n)
 
   module _ (id x k : ℕ) (s : Spot t f id f.blocks x k) where
-    rest : (j : ℕ) → At R T (number_at f.blocks) C code x (map (point_item t f s.block) (drop j s.block.instrs) ++ (block_end t f s.block s.after ∷ blocks_code (point_item t f) t f s.after)) (map (instr_step t f num) (drop j s.block.instrs))
+    pub rest : (j : ℕ) → At R T (number_at f.blocks) C code x (map (point_item t f s.block) (drop j s.block.instrs) ++ (block_end t f s.block s.after ∷ blocks_code (point_item t f) t f s.after)) (map (instr_step t f num) (drop j s.block.instrs))
     rest j = standing t f num rules numbered x s.block s.place s.after (drop j s.block.instrs) (λ i m. drop-of i j s.block.instrs m)
 
     pub entry-numbered : LivePlace R C (from_instr t f id f.blocks) l → HasNumber
@@ -132,7 +132,7 @@ module _ (t : Target) (f : Function) (num : Numbering) (rules : KeepsRules t f) 
         let z = meets R T (number_at f.blocks) C code (code-of t f num rules numbered) (subst (λ p. LivePlace R C p l) s.code h) x _ (rest k) in
         (z.0, z.1)
 
-    inside : Member s.instr s.block.instrs
+    pub inside : Member s.instr s.block.instrs
     inside = drop-of s.instr k s.block.instrs (subst (Member s.instr) (sym (drop-at s.block.instrs k s.instr s.there).0) first)
 
     after-numbered : R l ≡ false → (p : Places) → (LivePlace R C p l → HasNumber) → LiveAfter R C (point_item t f s.block s.instr) p l → HasNumber
@@ -153,11 +153,11 @@ module _ (t : Target) (f : Function) (num : Numbering) (rules : KeepsRules t f) 
         let z = o.phis e w l out'.1 j g free in
         (z.0, z.1)
 
-    abbrev ahead : Places
+    abbrev pub ahead : Places
     ahead = map (point_item t f s.block) (drop (suc k) s.block.instrs) ++ (block_end t f s.block s.after ∷ blocks_code (point_item t f) t f s.after)
 
     -- the instruction comes first in the code from its id on
-    first-is : from_instr t f id f.blocks ≡ point_item t f s.block s.instr ∷ ahead
+    pub first-is : from_instr t f id f.blocks ≡ point_item t f s.block s.instr ∷ ahead
     first-is = s.code ∙ ap (λ (is : List Instr). map (point_item t f s.block) is ++ (block_end t f s.block s.after ∷ blocks_code (point_item t f) t f s.after)) (drop-at s.block.instrs k s.instr s.there).0
 
     onward : LivePlace R C ahead l → HasNumber

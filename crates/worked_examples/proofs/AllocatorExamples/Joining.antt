@@ -13,9 +13,9 @@ use Rattle.worked_examples.proofs.MachineCodeLemmas.Everywhere.{is_computed, liv
 use Rattle.worked_examples.proofs.MachineCodeLemmas.Quieted.{quieted}
 use Rattle.live_edits.specs.declared.fold.Join.{Join}
 use Rattle.live_edits.specs.Folded.{image}
-use Rattle.coalescer.specs.Quiet.{IsQuiet}
-use Rattle.coalescer.specs.Joined.{Joined, copies_in_order, join_at}
-use Rattle.coalescer.specs.Joined as tried
+use Rattle.join_laws.specs.Quiet.{IsQuiet}
+use Rattle.join_laws.specs.Joined.{Joined, copies_in_order, join_at}
+use Rattle.join_laws.specs.Joined as tried
 
 abbrev NOP : ℕ
 NOP = 44

@@ -1,4 +1,7 @@
 use Rattle.std.proofs.Common.{◌≡◌, List, length, sym, ap, subst, ◌∙◌}
+use Rattle.mir_meaning.specs.Paths.{Among}
+use Rattle.live_lanes.specs.Entered.{rows_seen}
+use Rattle.live_lanes.proofs.Numbered.{among-left, among-right}
 use Rattle.instr_effects.specs.Numbered.{number_in}
 use Rattle.live_lanes.specs.Lasting.{AllRise}
 use Rattle.live_lanes.specs.declared.table.LaneRanges.{LaneRanges}
@@ -45,15 +48,15 @@ returns-clause-brings c =
       told = told;
       telling = telling;
       updated = subst (λ (w : List BlockFlow). Updates told slots w made rows' suspects) c.as_slice-6.ensures.value (subst (λ (xs : List PieceSpot). Updates told slots c.as_slice-6.result.now made rows' xs) c.as_slice-7.ensures.value c.in_ok-update.ensures.updates);
-      lanes = c.update.ensures.logged.lanes;
+      lanes = c.update.ensures.logged.logged.lanes;
     }
 
 -- room for the log comes first, and then the cells are made
 pub returns-clause-logged : goal.returns-clause-logged
-returns-clause-logged c = logged-then c.args.self.now.rows c.remake_all.new.self c.update.new.self (logged-behind c.args.self.now.rows c.make_room.new.self c.remake_all.new.self c.make_room.ensures.rows c.make_room.ensures.log c.remake_all.ensures.logged) c.update.ensures.logged
+returns-clause-logged c = logged-then c.args.self.now.rows c.remake_all.new.self c.update.new.self (logged-behind c.args.self.now.rows c.make_room.new.self c.remake_all.new.self c.make_room.ensures.rows c.make_room.ensures.log c.remake_all.ensures.logged) c.update.ensures.logged.logged
 
 pub returns-in_err-update-clause-logged : goal.returns-in_err-update-clause-logged
-returns-in_err-update-clause-logged c = logged-then c.args.self.now.rows c.remake_all.new.self c.update.new.self (logged-behind c.args.self.now.rows c.make_room.new.self c.remake_all.new.self c.make_room.ensures.rows c.make_room.ensures.log c.remake_all.ensures.logged) c.update.ensures.logged
+returns-in_err-update-clause-logged c = logged-then c.args.self.now.rows c.remake_all.new.self c.update.new.self (logged-behind c.args.self.now.rows c.make_room.new.self c.remake_all.new.self c.make_room.ensures.rows c.make_room.ensures.log c.remake_all.ensures.logged) c.update.ensures.logged.logged
 
 pub returns-in_err-make_room-clause-logged : goal.returns-in_err-make_room-clause-logged
 returns-in_err-make_room-clause-logged c = logged-alike c.args.self.now.rows c.make_room.new.self c.make_room.ensures.rows c.make_room.ensures.log
@@ -66,3 +69,23 @@ returns-in_err-suspects-clause-logged c = logged-behind c.args.self.now.rows c.m
 
 pub returns-in_err-ids-clause-logged : goal.returns-in_err-ids-clause-logged
 returns-in_err-ids-clause-logged c = logged-behind c.args.self.now.rows c.make_room.new.self c.remake_all.new.self c.make_room.ensures.rows c.make_room.ensures.log c.remake_all.ensures.logged
+
+-- what is logged: cells that are made anew, and then lives
+pub returns-clause-told : goal.returns-clause-told
+returns-clause-told c =
+    let rows = c.args.self.now.rows.rows.rows.items in
+    let made = c.remake_all.new.self.rows.rows.items in
+    let first = c.remake_all.ensures.logged in
+    let second = c.update.ensures.logged in
+    let remade = subst (λ (xs : List CellNotes). RemakesAll c.args.self.now.draft.order.slots rows made xs) c.as_slice-3.ensures.value (subst (λ (r : LaneRanges). RemakesAll c.args.self.now.draft.order.slots r.rows.items made c.as_slice-3.result.now) c.make_room.ensures.rows c.in_ok-remake_all.ensures.remade) in
+    record {
+      made = made;
+      shapes = first.added;
+      lives = second.logged.added;
+      shapes_in = λ e m. subst (Among e) (sym second.logged.list) (among-left e c.remake_all.new.self.log.items second.logged.added (subst (Among e) (sym first.list) (among-right e c.make_room.new.self.log.items first.added m)));
+      lives_in = λ e m. subst (Among e) (sym second.logged.list) (among-right e c.remake_all.new.self.log.items second.logged.added m);
+      are_lives = second.lives;
+      shapes_back = λ l b. first.back l b ∙ ap (λ (r : LaneRanges). rows_seen r.rows.items l b) c.make_room.ensures.rows;
+      lives_back = second.logged.back;
+      remade = remade.untold;
+    }

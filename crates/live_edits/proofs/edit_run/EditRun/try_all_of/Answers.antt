@@ -18,7 +18,7 @@ returns-in_err-clear_range-clause-logged c = λ may.
     let es = edits_of c.args.edits.items in
     let old = c.args.self.now in
     let cleared = c.clear_range.new.self in
-    let clears = c.clear_range.ensures in
+    let clears = c.clear_range.ensures.clears in
     record { cleared = cleared; range = clears.range; takes = clears.takes; logged = logged-none t es cleared (may-start t es old cleared (TakenOf old clears.range) may clears.takes) }
 
 pub returns-clause-logged : goal.returns-clause-logged
@@ -27,7 +27,7 @@ returns-clause-logged c = λ may.
     let es = edits_of c.args.edits.items in
     let old = c.args.self.now in
     let cleared = c.clear_range.new.self in
-    let clears = c.clear_range.ensures in
+    let clears = c.clear_range.ensures.clears in
     record { cleared = cleared; range = clears.range; takes = clears.takes; logged = c.try_all.ensures.logged (may-start t es old cleared (TakenOf old clears.range) may clears.takes) }
 
 pub returns-clause-done : goal.returns-clause-done
@@ -36,7 +36,7 @@ returns-clause-done c =
     let es = edits_of c.args.edits.items in
     let old = c.args.self.now in
     let cleared = c.clear_range.new.self in
-    let clears = subst (λ (xs : List CodeEdit). ClearsRange (edits_of xs) old cleared) c.as_slice.ensures.value c.clear_range.ensures in
+    let clears = subst (λ (xs : List CodeEdit). ClearsRange (edits_of xs) old cleared) c.as_slice.ensures.value c.clear_range.ensures.clears in
     IfOk-weaker c.try_all.result _ _
     (λ made done may. record {
       cleared = cleared;
@@ -44,3 +44,18 @@ returns-clause-done c =
       done = done (may-start t es old cleared (TakenOf old clears.range) may clears.takes);
     })
     c.try_all.ensures.done
+
+pub returns-clause-told : goal.returns-clause-told
+returns-clause-told c =
+    let t = c.args.target.now in
+    let es = edits_of c.args.edits.items in
+    let old = c.args.self.now in
+    let cleared = c.clear_range.new.self in
+    let clears = subst (λ (xs : List CodeEdit). ClearsRange (edits_of xs) old cleared) c.as_slice.ensures.value c.clear_range.ensures.clears in
+    IfOk-weaker c.try_all.result _ _
+    (λ made told may. record {
+      cleared = cleared.rows.rows.rows.items;
+      kept = c.clear_range.ensures.kept may.fresh.aside;
+      changed = told (may-start t es old cleared (TakenOf old clears.range) may clears.takes);
+    })
+    c.try_all.ensures.told

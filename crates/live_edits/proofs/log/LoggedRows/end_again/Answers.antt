@@ -4,7 +4,8 @@ use Rattle.live_lanes.specs.Ends.{row_end}
 use Rattle.live_lanes.specs.Lasting.{AllRise}
 use Rattle.live_lanes.proofs.Gives.{all-rise}
 use Rattle.live_edits.specs.Pieces.{node_of}
-use Rattle.live_edits.proofs.Logged.{logged-then}
+use Rattle.live_lanes.proofs.Basics.{none-among}
+use Rattle.live_edits.proofs.Logged.{lives-same, lives-then}
 use Rattle.live_edits.proofs.EndSteps.{ended-more, wrong-there, end-stays, end-given}
 use Rattle.live_edits.proofs.log.LoggedRows.end_again.Goals as goal
 use Rattle.live_edits.proofs.log.LoggedRows.end_again.Goals.{in-Some+in_ok-set_end, in_default}
@@ -13,7 +14,13 @@ abbrev no-spot : PieceSpot
 no-spot = record { lane = 0; block = 0; index = 0; near = 0 }
 
 pub returns-in_err-set_end-clause-logged : goal.returns-in_err-set_end-clause-logged
-returns-in_err-set_end-clause-logged c = logged-then c.args.self.now c.pieces.self c.set_end.new.self c.pieces.invariant.logged c.in_err-set_end.ensures.logged
+returns-in_err-set_end-clause-logged c = lives-then c.args.self.now c.pieces.self c.set_end.new.self c.pieces.invariant.logged c.in_err-set_end.ensures.logged
+
+pub pieces-init : goal.pieces-init
+pieces-init c = record {
+  ended = λ r. record { shapes_stay = λ l b. refl; causes_stay = λ l b n. refl; ended = λ n m. absurd (none-among n m); kept = λ n h. refl };
+  logged = lives-same c.args.self.now;
+}
 
 pub pieces-preserved : goal.pieces-preserved
 pieces-preserved c =
@@ -32,7 +39,7 @@ pieces-preserved c =
             let end = w.in-Some.end in
             let new = w.in-Some.ensures.changed (rises r) in
             ended-more slots flow old mid w.set_end.new.self.rows.rows.items pieces k (so r) x no-spot c.pieces-test.true refl end new.0 (end-given mid w.set_end.new.self.rows.rows.items (node_of x) end (w.in_ok-set_end.ensures.given (wrong-there slots flow mid x.lane x.block x.index (λ e. new.1 (e ∙ sym new.0)))));
-        logged = logged-then c.args.self.now c.pieces.self w.set_end.new.self c.pieces.invariant.logged w.in_ok-set_end.ensures.logged;
+        logged = lives-then c.args.self.now c.pieces.self w.set_end.new.self c.pieces.invariant.logged w.in_ok-set_end.ensures.logged;
       })
       | in_default w ↦ (rw w.self-is record {
         ended = λ r.

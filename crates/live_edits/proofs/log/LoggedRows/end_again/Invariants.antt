@@ -1,6 +1,6 @@
 use Rattle.std.proofs.Common.{take}
 use Rattle.live_lanes.specs.Lasting.{AllRise}
-use Rattle.live_edits.specs.Logged.{IsLogged}
+use Rattle.live_edits.specs.Logged.{LogsLives}
 use Rattle.live_edits.specs.Pieces.{nodes_of}
 use Rattle.live_edits.specs.Updated.{EndsAgain}
 use Rattle.live_edits.proofs.log.LoggedRows.end_again.Given as goal
@@ -8,5 +8,5 @@ use Rattle.live_edits.proofs.log.LoggedRows.end_again.Given as goal
 abbrev pub invariant-pieces : goal.invariant-pieces
 invariant-pieces l = record {
   ended : AllRise l.order.slots l.fn.self.rows.rows.items → EndsAgain l.order.slots l.flow l.fn.self.rows.rows.items l.self.rows.rows.items (nodes_of (take l.spot-index l.pieces));
-  logged : IsLogged l.fn.self l.self;
+  logged : LogsLives l.fn.self l.self;
 }

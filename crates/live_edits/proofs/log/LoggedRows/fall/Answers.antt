@@ -3,7 +3,7 @@ use Rattle.live_lanes.specs.Lasting.{AllRise}
 use Rattle.live_edits.specs.declared.pieces.Need.{Need}
 use Rattle.live_edits.specs.Pieces.{node_of}
 use Rattle.live_edits.specs.Updated.{AreNeedsOf}
-use Rattle.live_edits.proofs.Logged.{logged-same, logged-then}
+use Rattle.live_edits.proofs.Logged.{lives-same, lives-then}
 use Rattle.live_edits.proofs.KeptPieces.{pieces-same, pieces-then}
 use Rattle.live_edits.proofs.FallLoop.{falls-none, falls-more, falls-all}
 use Rattle.live_edits.proofs.log.LoggedRows.fall.Goals as goal
@@ -13,7 +13,7 @@ pub fallen-init : goal.fallen-init
 fallen-init c = record {
   falls = falls-none c.args.order.now.slots c.args.flow.now c.args.self.now.rows.rows.items c.args.fallen.now.items c.args.around.now.spots.items;
   pieces = pieces-same c.args.self.now.rows.rows.items;
-  logged = logged-same c.args.self.now;
+  logged = lives-same c.args.self.now;
 }
 
 pub fallen-preserved : goal.fallen-preserved
@@ -30,11 +30,11 @@ fallen-preserved c =
       falls = falls-more c.args.order.now.slots c.args.flow.now old mid new c.fallen.k c.index-piece.result.now c.as_slice.result.now c.args.fallen.now.items fallen.items c.lose_all.new.fallen.items c.args.around.now.spots.items c.fallen.around.spots.items c.lose_all.new.around.spots.items
           i.falls within c.index-piece.ensures found c.in_ok-lose_all.ensures.loses c.in_ok-lose_all.ensures.around i.pieces;
       pieces = pieces-then old mid new i.pieces c.in_ok-lose_all.ensures.pieces;
-      logged = logged-then c.args.self.now c.fallen.self c.lose_all.new.self i.logged c.in_ok-lose_all.ensures.logged;
+      logged = lives-then c.args.self.now c.fallen.self c.lose_all.new.self i.logged c.in_ok-lose_all.ensures.logged;
     }
 
 pub returns-in_err-lose_all-clause-logged : goal.returns-in_err-lose_all-clause-logged
-returns-in_err-lose_all-clause-logged c = logged-then c.args.self.now c.fallen.self c.lose_all.new.self c.fallen.invariant.logged c.lose_all.ensures.logged
+returns-in_err-lose_all-clause-logged c = lives-then c.args.self.now c.fallen.self c.lose_all.new.self c.fallen.invariant.logged c.lose_all.ensures.logged
 
 pub returns : goal.returns
 returns c =

@@ -5,7 +5,7 @@ use Rattle.live_lanes.specs.Entered.{causes}
 use Rattle.edit_laws.specs.Update.{Falls, falling}
 use Rattle.live_edits.specs.declared.log.LoggedRows.{LoggedRows}
 use Rattle.live_edits.specs.Pieces.{nodes_of}
-use Rattle.live_edits.proofs.Logged.{logged-same, logged-then}
+use Rattle.live_edits.proofs.Logged.{lives-same, lives-then}
 use Rattle.live_edits.proofs.KeptPieces.{pieces-same}
 use Rattle.live_edits.proofs.LookedAgain.{RunsSoFar, runs-at-first, LooksSoFar, stays-so-far, loses-so-far}
 use Rattle.live_edits.proofs.log.LoggedRows.look_again.Goals.{then-not-holds+in_ok-lose_cause, else-not-holds}
@@ -19,11 +19,11 @@ suspects-init c = record {
       subst (λ (fallen : List PieceSpot). RunsSoFar touched code c.args.order.now.slots c.args.flow.now rows rows list list (nodes_of fallen)) (sym c.new-fallen.ensures.items)
       (runs-at-first touched code c.args.order.now.slots c.args.flow.now rows list carried);
   pieces = pieces-same c.args.self.now.rows.rows.items;
-  logged = logged-same c.args.self.now;
+  logged = lives-same c.args.self.now;
 }
 
 pub returns-in_err-lose_cause-clause-logged : goal.returns-in_err-lose_cause-clause-logged
-returns-in_err-lose_cause-clause-logged c = logged-then c.args.self.now c.suspects.self c.lose_cause.new.self c.suspects.invariant.logged c.lose_cause.ensures.logged
+returns-in_err-lose_cause-clause-logged c = lives-then c.args.self.now c.suspects.self c.lose_cause.new.self c.suspects.invariant.logged c.lose_cause.ensures.logged
 
 pub suspects-preserved : goal.suspects-preserved
 suspects-preserved c =

@@ -1,10 +1,10 @@
 use Rattle.std.proofs.Common.{◌≡◌, ◌++◌, ◌∷◌, [], ◌+◌, List, take, get_or, sym, ◌∙◌, subst, arith, rules}
 use Rattle.live_lanes.specs.declared.row.Cause.TheVariants as reasons
 use Rattle.live_edits.specs.declared.pieces.Need.{Need}
-use Rattle.live_edits.specs.Logged.{IsLogged}
+use Rattle.live_edits.specs.Logged.{LogsLives}
 use Rattle.live_edits.specs.Pieces.{HasAll, KeepsPieces}
 use Rattle.live_edits.specs.Fallen.{spots_of, LosesAll}
-use Rattle.live_edits.proofs.Logged.{logged-same, logged-then}
+use Rattle.live_edits.proofs.Logged.{lives-same, lives-then}
 use Rattle.live_edits.proofs.KeptPieces.{pieces-same, pieces-then}
 use Rattle.live_edits.proofs.FallNeeds.{LosesOne, passes-one, loses-one, loses-none, loses-more, taken-more, around-more}
 use Rattle.live_edits.proofs.SpotLists.{has-first}
@@ -19,7 +19,7 @@ needs-init c = record {
   loses = loses-none c.args.self.now.rows.rows.items c.args.fallen.now.items;
   around = has-first c.args.around.now.spots.items;
   pieces = pieces-same c.args.self.now.rows.rows.items;
-  logged = logged-same c.args.self.now;
+  logged = lives-same c.args.self.now;
 }
 
 pub needs-preserved : goal.needs-preserved
@@ -41,8 +41,8 @@ needs-preserved c =
     ] in
     let kept : KeepsPieces mid c.if-eq.self.rows.rows.items =
     elim c.if-eq.branch [ then-eq+in_ok-lose_cause w ↦ rw w.self-is w.in_ok-lose_cause.ensures.pieces | else-eq w ↦ rw w.self-is (pieces-same mid) ] in
-    let log : IsLogged c.needs.self c.if-eq.self =
-    elim c.if-eq.branch [ then-eq+in_ok-lose_cause w ↦ rw w.self-is w.in_ok-lose_cause.ensures.logged | else-eq w ↦ rw w.self-is (logged-same c.needs.self) ] in
+    let log : LogsLives c.needs.self c.if-eq.self =
+    elim c.if-eq.branch [ then-eq+in_ok-lose_cause w ↦ rw w.self-is w.in_ok-lose_cause.ensures.logged | else-eq w ↦ rw w.self-is (lives-same c.needs.self) ] in
     let i = c.needs.invariant in
     record {
       loses = subst (λ (ns : List Need). LosesAll old c.if-eq.self.rows.rows.items ns c.args.fallen.now.items c.if-eq.fallen.items) (sym more)
@@ -50,14 +50,14 @@ needs-preserved c =
       around = subst (λ (ns : List Need). HasAll c.add.new.self.spots.items (c.args.around.now.spots.items ++ spots_of ns)) (sym more)
           (around-more c.args.around.now.spots.items c.needs.around.spots.items c.add.new.self.spots.items (take k needs) need i.around c.in_ok-add.ensures.has);
       pieces = pieces-then old mid c.if-eq.self.rows.rows.items i.pieces kept;
-      logged = logged-then c.args.self.now c.needs.self c.if-eq.self i.logged log;
+      logged = lives-then c.args.self.now c.needs.self c.if-eq.self i.logged log;
     }
 
 pub returns-in_err-lose_cause-clause-logged : goal.returns-in_err-lose_cause-clause-logged
-returns-in_err-lose_cause-clause-logged c = logged-then c.args.self.now c.needs.self c.lose_cause.new.self c.needs.invariant.logged c.lose_cause.ensures.logged
+returns-in_err-lose_cause-clause-logged c = lives-then c.args.self.now c.needs.self c.lose_cause.new.self c.needs.invariant.logged c.lose_cause.ensures.logged
 
 pub returns-in_err-add-clause-logged : goal.returns-in_err-add-clause-logged
 returns-in_err-add-clause-logged c =
-    let log : IsLogged c.needs.self c.if-eq.self =
-    elim c.if-eq.branch [ then-eq+in_ok-lose_cause w ↦ rw w.self-is w.in_ok-lose_cause.ensures.logged | else-eq w ↦ rw w.self-is (logged-same c.needs.self) ] in
-    logged-then c.args.self.now c.needs.self c.if-eq.self c.needs.invariant.logged log
+    let log : LogsLives c.needs.self c.if-eq.self =
+    elim c.if-eq.branch [ then-eq+in_ok-lose_cause w ↦ rw w.self-is w.in_ok-lose_cause.ensures.logged | else-eq w ↦ rw w.self-is (lives-same c.needs.self) ] in
+    lives-then c.args.self.now c.needs.self c.if-eq.self c.needs.invariant.logged log

@@ -1,7 +1,7 @@
 use Rattle.std.proofs.Common.{◌<◌, ◌≤◌, arith, sym, length, subst}
 use Rattle.live_edits.specs.Pieces.{node_of}
 use Rattle.live_edits.specs.Updated.{AreNeedsOf, Raises}
-use Rattle.live_edits.proofs.Logged.{logged-then}
+use Rattle.live_edits.proofs.Logged.{lives-then}
 use Rattle.live_edits.proofs.KeptPieces.{pieces-then}
 use Rattle.live_edits.proofs.RiseRuns.{risen-first, risen-more, risen-all}
 use Rattle.live_edits.proofs.log.LoggedRows.rise.Goals as goal
@@ -36,7 +36,7 @@ risen-preserved c =
     record {
       some = risen-more slots flow old mid new c.args.reasons.now c.risen.k risen.items c.args.around.now.spots.items c.risen.around.spots.items now.some now.pieces done.pieces x x within c.index.ensures c.as_slice.result.now (λ r. subst (λ ns. AreNeedsOf slots flow mid (node_of x) ns) (sym c.as_slice.ensures.value) (c.in_ok-find_needs.ensures r)) c.revive_all-in-risen.new.risen.items c.revive_all-in-risen.new.around.spots.items done.raises;
       pieces = pieces-then old mid new now.pieces done.pieces;
-      logged = logged-then c.args.self.now c.risen.self c.revive_all-in-risen.new.self now.logged done.logged;
+      logged = lives-then c.args.self.now c.risen.self c.revive_all-in-risen.new.self now.logged done.logged;
     }
 
 pub returns-clause-rises : goal.returns-clause-rises
@@ -46,4 +46,4 @@ returns-clause-rises c =
     risen-all c.args.order.now.slots c.args.flow.now c.args.self.now.rows.rows.items c.risen.self.rows.rows.items c.args.reasons.now c.risen.k risen.items c.args.around.now.spots.items c.risen.around.spots.items all c.risen.invariant.some
 
 pub returns-in_err-revive_all-2-clause-logged : goal.returns-in_err-revive_all-2-clause-logged
-returns-in_err-revive_all-2-clause-logged c = logged-then c.args.self.now c.risen.self c.revive_all-in-risen.new.self c.risen.invariant.logged c.in_err-revive_all-2.ensures.logged
+returns-in_err-revive_all-2-clause-logged c = lives-then c.args.self.now c.risen.self c.revive_all-in-risen.new.self c.risen.invariant.logged c.in_err-revive_all-2.ensures.logged

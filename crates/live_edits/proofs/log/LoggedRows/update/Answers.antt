@@ -1,41 +1,44 @@
 use Rattle.std.proofs.Common.{◌≡◌, [], ◌++◌, ◌∙◌, subst}
 use Rattle.live_edits.specs.Pieces.{HasAll}
 use Rattle.live_edits.specs.Updated.{AsksFor, Revives}
-use Rattle.live_edits.proofs.Logged.{logged-same, logged-then}
+use Rattle.live_edits.proofs.Logged.{lives-same, lives-then}
 use Rattle.live_edits.proofs.SpotLists.{has-equal}
 use Rattle.live_edits.proofs.UpdateSteps.{asks-alike, parts-update, on-ok}
 use Rattle.live_edits.proofs.log.LoggedRows.update.Goals as goal
 
+pub returns-in_err-around-clause-logged : goal.returns-in_err-around-clause-logged
+returns-in_err-around-clause-logged c = lives-same c.args.self.now
+
 pub returns-in_err-list-clause-logged : goal.returns-in_err-list-clause-logged
-returns-in_err-list-clause-logged c = logged-same c.args.self.now
+returns-in_err-list-clause-logged c = lives-same c.args.self.now
 
 pub returns-in_err-add_all-clause-logged : goal.returns-in_err-add_all-clause-logged
-returns-in_err-add_all-clause-logged c = logged-same c.args.self.now
+returns-in_err-add_all-clause-logged c = lives-same c.args.self.now
 
 pub returns-in_err-fall-clause-logged : goal.returns-in_err-fall-clause-logged
-returns-in_err-fall-clause-logged c = logged-then c.args.self.now c.look_again.new.self c.fall.new.self c.in_ok-fallen.ensures.logged c.in_err-fall.ensures.logged
+returns-in_err-fall-clause-logged c = lives-then c.args.self.now c.look_again.new.self c.fall.new.self c.in_ok-fallen.ensures.logged c.in_err-fall.ensures.logged
 
 pub returns-in_err-ask-clause-logged : goal.returns-in_err-ask-clause-logged
-returns-in_err-ask-clause-logged c = logged-then c.args.self.now c.look_again.new.self c.fall.new.self c.in_ok-fallen.ensures.logged c.in_ok-fall.ensures.logged
+returns-in_err-ask-clause-logged c = lives-then c.args.self.now c.look_again.new.self c.fall.new.self c.in_ok-fallen.ensures.logged c.in_ok-fall.ensures.logged
 
 pub returns-in_err-ask-2-clause-logged : goal.returns-in_err-ask-2-clause-logged
-returns-in_err-ask-2-clause-logged c = logged-then c.args.self.now c.look_again.new.self c.fall.new.self c.in_ok-fallen.ensures.logged c.in_ok-fall.ensures.logged
+returns-in_err-ask-2-clause-logged c = lives-then c.args.self.now c.look_again.new.self c.fall.new.self c.in_ok-fallen.ensures.logged c.in_ok-fall.ensures.logged
 
 pub returns-in_err-risen-clause-logged : goal.returns-in_err-risen-clause-logged
 returns-in_err-risen-clause-logged c =
-    let fell = logged-then c.args.self.now c.look_again.new.self c.fall.new.self c.in_ok-fallen.ensures.logged c.in_ok-fall.ensures.logged in
-    logged-then c.args.self.now c.fall.new.self c.rise.new.self fell c.in_err-risen.ensures.logged
+    let fell = lives-then c.args.self.now c.look_again.new.self c.fall.new.self c.in_ok-fallen.ensures.logged c.in_ok-fall.ensures.logged in
+    lives-then c.args.self.now c.fall.new.self c.rise.new.self fell c.in_err-risen.ensures.logged
 
 pub returns-in_err-again-clause-logged : goal.returns-in_err-again-clause-logged
 returns-in_err-again-clause-logged c =
-    let fell = logged-then c.args.self.now c.look_again.new.self c.fall.new.self c.in_ok-fallen.ensures.logged c.in_ok-fall.ensures.logged in
-    logged-then c.args.self.now c.fall.new.self c.rise.new.self fell c.in_ok-risen.ensures.logged
+    let fell = lives-then c.args.self.now c.look_again.new.self c.fall.new.self c.in_ok-fallen.ensures.logged c.in_ok-fall.ensures.logged in
+    lives-then c.args.self.now c.fall.new.self c.rise.new.self fell c.in_ok-risen.ensures.logged
 
 pub returns-clause-logged : goal.returns-clause-logged
 returns-clause-logged c =
-    let fell = logged-then c.args.self.now c.look_again.new.self c.fall.new.self c.in_ok-fallen.ensures.logged c.in_ok-fall.ensures.logged in
-    let rose = logged-then c.args.self.now c.fall.new.self c.rise.new.self fell c.in_ok-risen.ensures.logged in
-    logged-then c.args.self.now c.rise.new.self c.end_again.new.self rose c.end_again.ensures.logged
+    let fell = lives-then c.args.self.now c.look_again.new.self c.fall.new.self c.in_ok-fallen.ensures.logged c.in_ok-fall.ensures.logged in
+    let rose = lives-then c.args.self.now c.fall.new.self c.rise.new.self fell c.in_ok-risen.ensures.logged in
+    lives-then c.args.self.now c.rise.new.self c.end_again.new.self rose c.end_again.ensures.logged
 
 pub returns-clause-updates : goal.returns-clause-updates
 returns-clause-updates c =

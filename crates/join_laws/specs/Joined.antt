@@ -15,7 +15,7 @@ use Rattle.mir_func.specs.Binding.{registers}
 use Rattle.mir_meaning.specs.Points.{is_range}
 use Rattle.live_edits.specs.declared.fold.Join.{Join}
 use Rattle.live_edits.specs.Folded.{composed, copy_sides, registers_of, is_narrower, folded, all_instrs}
-use Rattle.coalescer.specs.Quiet.{IsQuiet}
+use Rattle.join_laws.specs.Quiet.{IsQuiet}
 
 -- the index with which an operand names the range
 abbrev pub index_on : ℕ → RegOp → Option IndexId

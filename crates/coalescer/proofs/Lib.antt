@@ -1,0 +1,10 @@
+pub mod Found
+pub mod Frequencies
+pub mod Zipped
+pub mod Fitting
+pub mod Facts
+pub mod NamedAfter
+pub mod Turns
+pub mod Writings
+pub mod Along
+pub mod Unseen

@@ -1,0 +1,17 @@
+pub mod Asked
+pub mod Subsets
+pub mod Widths
+pub mod Operands
+pub mod Named
+pub mod Ends
+pub mod Branches
+pub mod Laid
+pub mod Folding
+pub mod Rules
+pub mod Silent
+pub mod Written
+pub mod Apart
+pub mod Kept
+pub mod Trying
+pub mod Plain
+pub mod TouchedNames

@@ -1,0 +1,14 @@
+pub mod EditRuns
+pub mod Seats
+pub mod SplitEdits
+pub mod SplitLaw
+pub mod PartLists
+pub mod GapEdits
+pub mod BlockEdits
+pub mod BlockLaw
+pub mod BlockWalk
+pub mod WalkLaw
+pub mod LiveTests
+pub mod FurtherShapes
+pub mod NewRanges
+pub mod Splits

@@ -1,0 +1,5 @@
+use Rattle.split_kit.proofs.PartLists.{none-behind}
+use Rattle.split_kit.proofs.block_walk.marks_in.Goals as goal
+
+pub returns-in-None : goal.returns-in-None
+returns-in-None c = none-behind _ c.args.marks.now c.in-None.ensures
