@@ -161,12 +161,7 @@ fn is_range(operand: &Operand, v: u32) -> bool {
 
 /// Whether one of the operands is a range.
 fn have_range(operands: &[Operand], v: u32) -> bool {
-    for operand in operands {
-        if is_range(operand, v) {
-            return true;
-        }
-    }
-    false
+    operands.iter().any(|operand| is_range(operand, v))
 }
 
 /// Whether an operand defines a range.
@@ -179,12 +174,7 @@ fn is_definition_of(operand: &Operand, v: u32) -> bool {
 
 /// Whether one of the operands defines a range.
 fn have_definition_of(operands: &[Operand], v: u32) -> bool {
-    for operand in operands {
-        if is_definition_of(operand, v) {
-            return true;
-        }
-    }
-    false
+    operands.iter().any(|operand| is_definition_of(operand, v))
 }
 
 /// Whether an operand is a definition behind which the other lanes of its register are undefined.
@@ -197,22 +187,12 @@ fn leaves_undefined(operand: &Operand) -> bool {
 
 /// Whether one of the operands is such a definition.
 fn leave_undefined(operands: &[Operand]) -> bool {
-    for operand in operands {
-        if leaves_undefined(operand) {
-            return true;
-        }
-    }
-    false
+    operands.iter().any(|operand| leaves_undefined(operand))
 }
 
 /// Whether one of these roles is that of an early-clobber definition.
 fn have_early(roles: &[Role]) -> bool {
-    for role in roles {
-        if is_early(Some(*role)) {
-            return true;
-        }
-    }
-    false
+    roles.iter().any(|role| is_early(Some(*role)))
 }
 
 /// Whether both ranges of a renaming may be one in an instruction: its definitions stay apart, and apart from uses

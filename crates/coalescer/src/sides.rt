@@ -3,42 +3,14 @@
 ghost use Rattle.std.specs.Prelude.{◌≡◌, option_copied};
 ghost use Rattle.mir_func.specs.Value.{IsFunction};
 ghost use Rattle.live_lanes.specs.Touching.{FindsInstrs};
-ghost use Rattle.live_edits.specs.Folded.{copy_sides, two_sides};
+ghost use Rattle.live_edits.specs.Folded.{copy_sides};
 ghost use Rattle.join_laws.specs.Joined.{copies_ranges, two_ranges};
 ghost use Rattle.coalescer.specs.Coalescing.{MayCoalesce, instr_of, sides_in};
 
+use live_edits::copy_sides;
 use live_lanes::LiveFunc;
-use mir_func::opcodes::is_copy;
-use mir_func::operands::register_at;
-use mir_func::{Instr, Loc, Operand, RegOp};
+use mir_func::{Instr, Loc, RegOp};
 use target_base::Target;
-
-/// The sides of a copy with these operands.
-fn two_sides(operands: &[Operand]) -> Option<(RegOp, RegOp)>
-    ensures { result ≡ two_sides operands.now }
-{
-    if operands.len() != 2 {
-        return None;
-    }
-    match register_at(operands, 0) {
-        None => None,
-        Some(to) => match register_at(operands, 1) {
-            None => None,
-            Some(from) => Some((to, from)),
-        },
-    }
-}
-
-/// The sides of a copy.
-pub(crate) fn copy_sides(target: &Target, instr: &Instr) -> Option<(RegOp, RegOp)>
-    ensures { result ≡ copy_sides target.now instr.now }
-{
-    if is_copy(target, instr) {
-        two_sides(instr.operands.as_slice())
-    } else {
-        None
-    }
-}
 
 /// The ranges of a copy between two different ranges.
 pub(crate) fn two_ranges(to: Loc, from: Loc) -> Option<(u32, u32)>

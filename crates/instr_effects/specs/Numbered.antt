@@ -1,5 +1,5 @@
 -- The numbers of lanes in a table.
-use Rattle.std.specs.Prelude.{◌≡◌, ◌<◌, ℕ, Bool, List, map, length, Option, Some, IsSome, slice_get}
+use Rattle.std.specs.Prelude.{◌≡◌, ◌<◌, ℕ, Bool, List, [], ◌∷◌, ◌++◌, map, take, length, Option, Some, IsSome, slice_get}
 use Rattle.std.specs.Ordering.{nat_cmp}
 use Rattle.std.specs.BTreeMap.{get}
 use Rattle.target_base.specs.declared.types.ClassId.{ClassId}
@@ -45,6 +45,22 @@ counts xs = map (λ x. x.count) xs
 
 abbrev pub class_counts : Target → List (Option ClassId) → List ℕ
 class_counts t cs = map (λ c. length (widths_of_some t c)) cs
+
+-- owners and ranges may have come behind those of before
+pub record AddsLanes (old new : LaneTable) : Type 0 where
+  pub owners : take (length old.owners.items) new.owners.items ≡ old.owners.items
+  pub ranges : take (length old.ranges.items) new.ranges.items ≡ old.ranges.items
+  pub reserved : new.reserved ≡ old.reserved
+  pub slots : new.slots ≡ old.slots
+
+-- so many lanes of the next range have numbers, in a row behind all others
+pub record NumbersNext (old new : LaneTable) (count : ℕ) : Type 0 where
+  pub own : LaneSpan
+  pub ranges : new.ranges.items ≡ old.ranges.items ++ own ∷ []
+  pub first : own.first ≡ length old.owners.items
+  pub long : own.count ≡ count
+  pub owned : new.owners.items ≡ old.owners.items ++ map (owners.Range (length old.ranges.items)) (numbers 0 count)
+  pub few : length new.owners.items < 4294967296
 
 -- the slots that are the second operand of these instructions have numbers
 abbrev pub HasSlotsOf : LaneTable → List Instr → Type 0

@@ -7,7 +7,7 @@ ghost use Rattle.mir_meaning.specs.Registers.{numbers};
 ghost use Rattle.target_base.specs.Registers.{is_reserved_unit};
 ghost use Rattle.instr_effects.specs.Row.{lane_in};
 ghost use Rattle.instr_effects.specs.Numbers.{unit_number_in, row_number_in};
-ghost use Rattle.instr_effects.specs.Numbered.{number_in, IsTable, HasSlot, KeepsNumbers, reserved_units, counts};
+ghost use Rattle.instr_effects.specs.Numbered.{number_in, IsTable, HasSlot, KeepsNumbers, AddsLanes, NumbersNext, reserved_units, counts};
 ghost use Rattle.instr_effects.specs.declared.owner.Owner.TheVariants as owners;
 
 use crate::lanes::LaneTable;
@@ -153,13 +153,15 @@ impl LaneTable {
         })
     }
 
-    /// Numbers the lanes of the next range.
+    /// Numbers the lanes of the next range. After a refusal owners may stand behind the last number.
     pub fn add_range(&mut self, alloc: Global, count: usize) -> Result<(), AllocError>
         ensures table { IsTable self.old → IsTable self.new }
         ensures reserved { self.new.reserved ≡ self.old.reserved }
         ensures ranges { OnOk result (counts self.new.ranges.items ≡ counts self.old.ranges.items ++ count ∷ []) }
         ensures slots { self.new.slots ≡ self.old.slots }
         ensures numbers { KeepsNumbers (number_in self.old) (number_in self.new) }
+        ensures adds { AddsLanes self.old self.new }
+        ensures numbered { OnOk result (NumbersNext self.old self.new count) }
     {
         let Ok(v) = u32::try_from(self.ranges.len()) else {
             return Err(AllocError);

@@ -19,14 +19,14 @@ use Rattle.live_lanes.specs.declared.row.Cell.{Cell}
 use Rattle.live_lanes.specs.declared.table.Table.{Table}
 use Rattle.live_lanes.specs.Table.{Numbers, find_cell}
 use Rattle.live_lanes.specs.Entered.{cells_of}
-use Rattle.live_lanes.specs.Extents.{cell_extents, stretch_of, is_met, some_extents}
+use Rattle.live_lanes.specs.Extents.{begins_with, cell_extents, stretch_of, is_met, some_extents}
 use Rattle.live_lanes.proofs.Held.{or-left, or-none, le-false}
 use Rattle.interference.specs.declared.held.RangeExtent.{RangeExtent}
 use Rattle.interference.specs.declared.held.HeldList.{HeldList}
 use Rattle.interference.specs.declared.unit_table.UnitTable.{UnitTable}
 use Rattle.interference.specs.declared.matrix.Matrix.{Matrix}
 use Rattle.interference.specs.Clashes.{register_in, holds, list_in, AreApart, AreFilled, AreKnown, IsOrdered, Points, cell_points, lane_points, range_points, points_in, is_held_at, is_taken, is_free}
-use Rattle.interference.specs.Changes.{begins_with, others_of, own_of, starting}
+use Rattle.interference.specs.Changes.{others_of, own_of, starting}
 use Rattle.interference.specs.Listed.{lane_extents, range_extents, extents_by, listed, BeginApart, AreAmong, AreInTurn, KeepsExtents, IsFront, has_some, KeepsLists, LiesInTurn, MayHold, AreSorted, AreTidy, KeepsOthers, range_lots, Thins, RangeHasRoom, Begins, Fills}
 use Rattle.interference.proofs.Owned.{only-others, own-others, others-twice, known-both, known-others, taken-others}
 use Rattle.interference.proofs.Thinned.{same-self}

@@ -12,12 +12,12 @@ use Rattle.live_lanes.specs.declared.row.Cell.{Cell}
 use Rattle.live_lanes.specs.declared.table.Table.{Table}
 use Rattle.live_lanes.specs.Table.{Numbers, find_cell}
 use Rattle.live_lanes.specs.Entered.{cells_of}
-use Rattle.live_lanes.specs.Extents.{cell_extents, some_extents}
+use Rattle.live_lanes.specs.Extents.{begins_with, cell_extents, some_extents}
 use Rattle.interference.specs.declared.held.RangeExtent.{RangeExtent}
 use Rattle.interference.specs.declared.held.HeldList.{HeldList}
 use Rattle.interference.specs.declared.unit_table.UnitTable.{UnitTable}
 use Rattle.interference.specs.Clashes.{AreApart, AreFilled, held_of, held_of_some, list_in}
-use Rattle.interference.specs.Changes.{begins_with, others_of, own_of}
+use Rattle.interference.specs.Changes.{others_of, own_of}
 use Rattle.interference.specs.Listed.{lane_extents, range_extents, listed, BeginApart, AreAmong, IsTidy, IsThinned, ChangesAt, ChangesCell, AreTidy, Lots, AreWithin, lane_lots, range_lots, Thins}
 
 -- one list and the others of a table

@@ -8,12 +8,12 @@ use Rattle.std.proofs.lemmas.List.Elements.{filter-append}
 use Rattle.live_lanes.specs.declared.ask.extent.Extent.{Extent}
 use Rattle.live_lanes.specs.declared.ask.extent.Stretch.{Stretch}
 use Rattle.live_lanes.specs.Table.{Numbers}
-use Rattle.live_lanes.specs.Extents.{first_rank, last_rank, stretch_of}
+use Rattle.live_lanes.specs.Extents.{begins_with, first_rank, last_rank, stretch_of}
 use Rattle.live_lanes.proofs.Cells.{both, both-left, both-right}
 use Rattle.live_lanes.proofs.Held.{or-none, le-false}
 use Rattle.interference.specs.declared.held.RangeExtent.{RangeExtent}
 use Rattle.interference.specs.Clashes.{AreApart, AreKnown, begins_by, touches, is_taken}
-use Rattle.interference.specs.Changes.{begins_with, is_piece, others_of, own_of, starting, IsCut, IsInserted}
+use Rattle.interference.specs.Changes.{is_piece, others_of, own_of, starting, IsCut, IsInserted}
 use Rattle.interference.proofs.Parts.{extent-le, and-left-none}
 
 any-left : (a b : Bool) → (a || b) ≡ false → a ≡ false

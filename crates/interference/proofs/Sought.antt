@@ -6,14 +6,14 @@ use Rattle.std.proofs.lemmas.Bool.{ltb-true, leb-false, lt-ltb}
 use Rattle.std.proofs.lemmas.List.Folds.{list_any-append, list_any_at}
 use Rattle.slot_index.specs.Order.{number_of}
 use Rattle.live_lanes.specs.Table.{Numbers, entry_rank, exit_rank}
-use Rattle.live_lanes.specs.Extents.{first_rank, last_rank}
+use Rattle.live_lanes.specs.Extents.{is_same_start, begins_with, first_rank, last_rank}
 use Rattle.live_lanes.proofs.Cells.{both-right}
 use Rattle.live_lanes.proofs.Held.{or-right, or-none}
 use Rattle.interference.specs.declared.held.ListPosition.{ListPosition}
 use Rattle.interference.specs.declared.held.RangeExtent.{RangeExtent}
 use Rattle.interference.specs.Clashes.{AreApart, begins_by}
 use Rattle.interference.specs.Parts.{part_in, part_before}
-use Rattle.interference.specs.Changes.{same_start, begins_with, is_piece, low_rank, high_rank, begins_before}
+use Rattle.interference.specs.Changes.{is_piece, low_rank, high_rank, begins_before}
 use Rattle.interference.proofs.Parts.{extent-le}
 
 pub take-there : {X : Type 0} (n k : ℕ) (xs : List X) (x : X) → slice_get (take n xs) k ≡ Some x → slice_get xs k ≡ Some x
@@ -35,14 +35,14 @@ get-there (x ∷ xs) zero d h = refl
 get-there (x ∷ xs) (suc i) d h = get-there xs i d (omega arith)
 
 module _ (slots : Numbers) (v : ℕ) (start : Option ℕ) where
-  low-in : (a b : Option ℕ) (early : Bool) → same_start a b ≡ true → low_rank slots b ≤ elim a [ None ↦ 0 | Some id ↦ cond early (entry_rank slots id) (exit_rank slots id) ]
+  low-in : (a b : Option ℕ) (early : Bool) → is_same_start a b ≡ true → low_rank slots b ≤ elim a [ None ↦ 0 | Some id ↦ cond early (entry_rank slots id) (exit_rank slots id) ]
   low-in None None early e = omega arith
   low-in None (Some b) early e = absurd (cc)
   low-in (Some a) None early e = absurd (cc)
   low-in (Some a) (Some b) true e = let r : number_of slots b ≡ number_of slots a = ap (number_of slots) (sym (eqb-true a b e)) in omega arith
   low-in (Some a) (Some b) false e = let r : number_of slots b ≡ number_of slots a = ap (number_of slots) (sym (eqb-true a b e)) in omega arith
 
-  high-in : (a b : Option ℕ) (early : Bool) → same_start a b ≡ true → elim a [ None ↦ 0 | Some id ↦ cond early (entry_rank slots id) (exit_rank slots id) ] ≤ high_rank slots b
+  high-in : (a b : Option ℕ) (early : Bool) → is_same_start a b ≡ true → elim a [ None ↦ 0 | Some id ↦ cond early (entry_rank slots id) (exit_rank slots id) ] ≤ high_rank slots b
   high-in None None early e = omega arith
   high-in None (Some b) early e = absurd (cc)
   high-in (Some a) None early e = absurd (cc)

@@ -9,26 +9,26 @@ use Rattle.live_lanes.specs.declared.ask.extent.Extent.{Extent}
 use Rattle.live_lanes.specs.declared.row.Cell.{Cell}
 use Rattle.live_lanes.specs.Table.{Numbers}
 use Rattle.live_lanes.specs.Entered.{piece_count}
-use Rattle.live_lanes.specs.Extents.{extent_in, cell_extents, some_extents}
+use Rattle.live_lanes.specs.Extents.{is_same_start, begins_with, extent_in, cell_extents, some_extents}
 use Rattle.live_lanes.proofs.Held.{or-left, or-right}
 use Rattle.interference.specs.declared.held.HeldList.{HeldList}
 use Rattle.interference.specs.declared.unit_table.UnitExtents.{UnitExtents}
 use Rattle.interference.specs.declared.unit_table.UnitTable.{UnitTable}
 use Rattle.interference.specs.Clashes.{AreApart, AreFilled, held_of, list_in}
-use Rattle.interference.specs.Changes.{same_start, begins_with, is_piece, others_of, own_of, starting}
+use Rattle.interference.specs.Changes.{is_piece, others_of, own_of, starting}
 use Rattle.interference.specs.Listed.{AreAmong, IsThinned, ChangesRow, ChangesAt, ChangesCell}
 use Rattle.interference.proofs.Parts.{apart-filter}
 use Rattle.interference.proofs.Owned.{others-spared, own-spared}
 
 -- how pieces begin
 
-same-is : (a b : Option ℕ) → same_start a b ≡ true → a ≡ b
+same-is : (a b : Option ℕ) → is_same_start a b ≡ true → a ≡ b
 same-is None None e = refl
 same-is None (Some b) e = absurd (cc)
 same-is (Some a) None e = absurd (cc)
 same-is (Some a) (Some b) e = ap Some (eqb-true a b e)
 
-pub same-self : (a : Option ℕ) → same_start a a ≡ true
+pub same-self : (a : Option ℕ) → is_same_start a a ≡ true
 same-self None = refl
 same-self (Some a) = eq-eqb a a refl
 
@@ -79,7 +79,7 @@ module _ (slots : Numbers) (v : ℕ) where
           go true f g = absurd (
               let a : x.start ≡ s = same-is x.start s at in
               let b : e.start ≡ s = same-is e.start s f in
-              let both : begins_with e.start x ≡ true = ap (λ y. same_start y e.start) (a ∙ sym b) ∙ same-self e.start in
+              let both : begins_with e.start x ≡ true = ap (λ y. is_same_start y e.start) (a ∙ sym b) ∙ same-self e.start in
               let z : not (begins_with e.start x) ≡ false = ap not both in cc)
           go false f g = g
 

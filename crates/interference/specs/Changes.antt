@@ -3,23 +3,13 @@ use Rattle.std.specs.Prelude.{◌≡◌, ◌<◌, ◌-◌, ℕ, suc, Bool, true,
 use Rattle.std.specs.List.{list_any}
 use Rattle.live_lanes.specs.declared.ask.extent.Extent.{Extent}
 use Rattle.live_lanes.specs.Table.{Numbers, entry_rank, exit_rank}
-use Rattle.live_lanes.specs.Extents.{first_rank}
+use Rattle.live_lanes.specs.Extents.{begins_with, first_rank}
 use Rattle.interference.specs.declared.held.ListPosition.{ListPosition}
 use Rattle.interference.specs.declared.held.RangeExtent.{RangeExtent}
 use Rattle.interference.specs.declared.held.HeldList.{HeldList}
 use Rattle.interference.specs.declared.held.SearchResult.{SearchResult}
 use Rattle.interference.specs.declared.held.SearchResult.TheVariants as seeks
 use Rattle.interference.specs.Parts.{parts_of, part_in}
-
--- both begin with the block, or with the same instruction
-abbrev pub same_start : Option ℕ → Option ℕ → Bool
-same_start None None = true
-same_start None (Some b) = false
-same_start (Some a) None = false
-same_start (Some a) (Some b) = nat_eq a b
-
-abbrev pub begins_with : Option ℕ → Extent → Bool
-begins_with start e = same_start e.start start
 
 -- a stretch of a range that begins so
 abbrev pub is_piece : ℕ → Option ℕ → RangeExtent → Bool

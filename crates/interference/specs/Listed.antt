@@ -12,14 +12,14 @@ use Rattle.live_lanes.specs.declared.ask.extent.Extent.{Extent}
 use Rattle.live_lanes.specs.declared.row.Cell.{Cell}
 use Rattle.live_lanes.specs.declared.table.Table.{Table}
 use Rattle.live_lanes.specs.Table.{Numbers}
-use Rattle.live_lanes.specs.Extents.{cell_extents, extents_in, first_rank, last_rank, stretch_of}
+use Rattle.live_lanes.specs.Extents.{begins_with, cell_extents, extents_in, first_rank, last_rank, stretch_of}
 use Rattle.live_lanes.specs.Looks.{InOrder}
 use Rattle.interference.specs.declared.held.RangeExtent.{RangeExtent}
 use Rattle.interference.specs.declared.held.HeldList.{HeldList}
 use Rattle.interference.specs.declared.unit_table.UnitTable.{UnitTable}
 use Rattle.interference.specs.declared.matrix.Matrix.{Matrix}
 use Rattle.interference.specs.Clashes.{AreApart, AreFilled, IsOrdered, held_of, held_of_some, holds, is_free, is_taken, list_in, register_in}
-use Rattle.interference.specs.Changes.{begins_with, others_of, own_of, starting}
+use Rattle.interference.specs.Changes.{others_of, own_of, starting}
 
 -- the extents of a lane, if there is one, in the block at a position
 abbrev pub lane_extents : Table → Option ℕ → ℕ → List Extent

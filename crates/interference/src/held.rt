@@ -3,11 +3,11 @@
 ghost use Rattle.std.specs.Prelude.{◌≡◌, ◌≤◌, ◌<◌, ◌-◌, ◌*◌, ℕ, suc, [], true, false, not, ◌&&◌, ◌||◌, nat_eq, length, filter, MatchOption, IfOk, OnOk, OnErr, Some, slice_get};
 ghost use Rattle.std.specs.List.{list_any, list_all, insert, remove};
 ghost use Rattle.live_lanes.specs.Table.{leading};
-ghost use Rattle.live_lanes.specs.Extents.{first_rank};
+ghost use Rattle.live_lanes.specs.Extents.{first_rank, is_same_start};
 ghost use Rattle.interference.specs.Clashes.{held_of, AreApart, AreFilled, begins_by, is_none, is_taken, is_taken_by};
 ghost use Rattle.interference.specs.Parts.{parts_of, part_in, part_before, before, part_begins, lies_before, IsMet, IsGap};
 ghost use Rattle.interference.specs.declared.held.RangeExtent.{RangeExtent};
-ghost use Rattle.interference.specs.Changes.{same_start, is_piece, low_rank, high_rank, own_of, starting, IsSought, IsFound, IsCut, IsInserted};
+ghost use Rattle.interference.specs.Changes.{is_piece, low_rank, high_rank, own_of, starting, IsSought, IsFound, IsCut, IsInserted};
 ghost use Rattle.interference.specs.Marked.{is_marked};
 
 use crate::marks::Marks;
@@ -127,7 +127,7 @@ fn mark_met(
 
 /// Whether two pieces begin with the same instruction, or both with the block.
 fn same_start(a: Option<u32>, b: Option<u32>) -> bool
-    ensures { result ≡ same_start a b }
+    ensures { result ≡ is_same_start a b }
 {
     match (a, b) {
         (None, None) => true,

@@ -8,7 +8,7 @@ ghost use Rattle.mir_meaning.specs.Points.{is_range};
 ghost use Rattle.mir_meaning.specs.Renaming.{renamed_operand};
 ghost use Rattle.live_edits.specs.Drafts.{IsOrderOf};
 ghost use Rattle.live_edits.specs.EditedRuns.{HasTable};
-ghost use Rattle.live_edits.specs.Folded.{lane_within, image, is_number, are_picked, composed, index_within, joined_operand, same_lanes, two_sides, unites, becomes_identity, is_narrower, joined_class, folded, fold_edit, edit_at, fold_edits, NamedLaw, FoldLaw, FoldPlacesLaw, NarrowLaw, MayFold, Narrows};
+ghost use Rattle.live_edits.specs.Folded.{lane_within, image, is_number, are_picked, composed, index_within, joined_operand, same_lanes, two_sides, copy_sides, unites, becomes_identity, is_narrower, joined_class, folded, fold_edit, edit_at, fold_edits, NamedLaw, FoldLaw, FoldPlacesLaw, NarrowLaw, MayFold, Narrows};
 ghost use Rattle.live_edits.specs.Runs.{edit_of, edits_of};
 
 use crate::edit::Edit;
@@ -258,7 +258,7 @@ fn lanes_of_operand(
     Ok(lanes)
 }
 
-/// The sides of a copy with these operands.
+/// Both operands, where they are two registers.
 fn two_sides(operands: &[Operand]) -> Option<(RegOp, RegOp)>
     ensures { result ≡ two_sides operands.now }
 {
@@ -271,6 +271,17 @@ fn two_sides(operands: &[Operand]) -> Option<(RegOp, RegOp)>
             None => None,
             Some(from) => Some((to, from)),
         },
+    }
+}
+
+/// The two operands of a copy, first the one that is written.
+pub fn copy_sides(target: &Target, instr: &Instr) -> Option<(RegOp, RegOp)>
+    ensures { result ≡ copy_sides target.now instr.now }
+{
+    if is_copy(target, instr) {
+        two_sides(instr.operands.as_slice())
+    } else {
+        None
     }
 }
 
@@ -304,10 +315,7 @@ fn becomes_identity(
 ) -> Result<bool, AllocError>
     ensures { IfOk result (λ u. u ≡ becomes_identity target.now func.now join instr.now) }
 {
-    if !is_copy(target, instr) {
-        return Ok(false);
-    }
-    match two_sides(instr.operands.as_slice()) {
+    match copy_sides(target, instr) {
         Some(sides) => unites(alloc, target, func, join, &sides),
         None => Ok(false),
     }

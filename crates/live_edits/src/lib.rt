@@ -38,5 +38,5 @@ mod update;
 
 pub use edit::Edit;
 pub use edit_run::EditRun;
-pub use fold::{Join, compose_indexes};
+pub use fold::{Join, compose_indexes, copy_sides};
 pub use live::EditChanges;

@@ -7,9 +7,8 @@ use Rattle.target_base.specs.declared.types.Target.{Target}
 use Rattle.target_base.specs.Registers.{widths_of, widths_of_some}
 use Rattle.mir_func.specs.Value.{Function}
 use Rattle.instr_effects.specs.declared.lanes.LaneTable.{LaneTable}
-use Rattle.instr_effects.specs.Numbered.{HasSlotsOf, NumbersAll, counts}
+use Rattle.instr_effects.specs.Numbered.{AddsLanes, NumbersNext, HasSlotsOf, NumbersAll, counts}
 use Rattle.instr_effects.proofs.Tables.{with-owners, with-range}
-use Rattle.live_lanes.specs.Further.{AddsLanes, NumbersNext}
 
 map-join : {X Y : Type 0} (f : X → Y) (xs ys : List X) → map f (xs ++ ys) ≡ map f xs ++ map f ys
 map-join f [] ys = refl

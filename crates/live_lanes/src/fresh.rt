@@ -1,65 +1,21 @@
 //! New ranges.
 
-ghost use Rattle.std.specs.Prelude.{◌≡◌, ℕ, ◌+◌, ◌<◌, ◌^◌, ◌++◌, ◌∷◌, [], Some, length, map, take, IfOk, OnOk, OnErr};
-ghost use Rattle.mir_meaning.specs.Registers.{numbers};
+ghost use Rattle.std.specs.Prelude.{◌≡◌, ℕ, ◌+◌, ◌<◌, ◌^◌, ◌++◌, ◌∷◌, [], Some, length, take, IfOk, OnOk, OnErr};
 ghost use Rattle.target_base.specs.Registers.{widths_of};
-ghost use Rattle.instr_effects.specs.Numbered.{NumbersAll};
-ghost use Rattle.instr_effects.specs.declared.owner.Owner.TheVariants as owners;
+ghost use Rattle.instr_effects.specs.Numbered.{NumbersAll, AddsLanes, NumbersNext};
 ghost use Rattle.live_lanes.specs.Entered.{rows_seen};
-ghost use Rattle.live_lanes.specs.Further.{AddsLanes, HasFurtherLanes, NumbersNext};
+ghost use Rattle.live_lanes.specs.Further.{HasFurtherLanes};
 
 use crate::live::LiveFunc;
 use crate::row::LaneRange;
 use crate::table::Table;
 use instr_effects::lanes::LaneTable;
-use instr_effects::owner::Owner;
 use instr_effects::registers::class_lanes;
-use instr_effects::row::LaneSpan;
 use std::alloc::AllocError;
 use target_base::ClassId;
 
 /// The number of range numbers that there are.
 const MOST: usize = 1 << 31;
-
-/// The next lanes, whose numbers come behind those of others.
-fn next_lanes(lanes: &LaneTable, count: usize) -> Result<LaneSpan, AllocError>
-    ensures first { IfOk result (λ x. x.first ≡ length lanes.now.owners.items) }
-    ensures count { IfOk result (λ x. x.count ≡ count) }
-{
-    let (Ok(first), Ok(count)) = (u32::try_from(lanes.owners.len()), u32::try_from(count)) else {
-        return Err(AllocError);
-    };
-    if first.checked_add(count).is_none() {
-        return Err(AllocError);
-    }
-    Ok(LaneSpan { first, count })
-}
-
-/// Adds so many lanes of a range behind others.
-fn add_owners(list: &mut Vec<Owner>, v: u32, count: u32) -> Result<(), AllocError>
-    ensures added { OnOk result (list.new.items ≡ list.old.items ++ map (owners.Range v) (numbers 0 count)) }
-    ensures long { OnOk result (length list.new.items ≡ length list.old.items + count) }
-    ensures kept { take (length list.old.items) list.new.items ≡ list.old.items }
-{
-    'lanes: for k in 0..count {
-        list.push(Owner::Range(v, k))?;
-    }
-    Ok(())
-}
-
-/// Numbers the lanes of the next range. After a refusal owners may stand behind the last number.
-fn add_lanes(lanes: &mut LaneTable, count: usize) -> Result<(), AllocError>
-    ensures adds { AddsLanes lanes.old lanes.new }
-    ensures numbered { OnOk result (NumbersNext lanes.old lanes.new count) }
-{
-    let Ok(v) = u32::try_from(lanes.ranges.len()) else {
-        return Err(AllocError);
-    };
-    let own = next_lanes(lanes, count)?;
-    add_owners(&mut lanes.owners, v, own.count)?;
-    lanes.ranges.push(own)?;
-    Ok(())
-}
 
 /// How many owners and ranges there are.
 fn counts(lanes: &LaneTable) -> (usize, usize)
@@ -132,8 +88,9 @@ impl LiveFunc {
         ensures seen { (l b : ℕ) → rows_seen self.new.table.rows.rows.items l b ≡ rows_seen self.old.table.rows.rows.items l b }
         ensures few { length self.old.table.rows.rows.items < 4294967296 → length self.new.table.rows.rows.items < 4294967296 }
     {
+        let alloc = self.table.rows.alloc;
         let count = class_lanes(self.target.get(), class);
-        add_lanes(&mut self.table.lanes, count)?;
+        self.table.lanes.add_range(alloc, count)?;
         self.table.add_rows()?;
         self.func.fresh(class)
     }

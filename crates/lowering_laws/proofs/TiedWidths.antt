@@ -104,7 +104,7 @@ module _ (t : Target) where
       let z = all-of (tie_fits rs) (roles.Tied k n) rs m (second_of_both _ (list_all (tie_fits rs) rs) e) in
       subst (λ x. Holds k x rs) (sym (eqb-true n 0 (first_of_both (nat_eq n 0) (defines k rs) z))) (first-holds k rs (second_of_both (nat_eq n 0) (defines k rs) z))
 
-  tie-holds : (e : Effect) (rs : List Role) → roles_fit t.units t.regs t.classes e rs ≡ true → has_roles e ≡ true → (k : ClassId) (n : ℕ) → Among (roles.Tied k n) rs → Holds k n rs
+  pub tie-holds : (e : Effect) (rs : List Role) → roles_fit t.units t.regs t.classes e rs ≡ true → has_roles e ≡ true → (k : ClassId) (n : ℕ) → Among (roles.Tied k n) rs → Holds k n rs
   tie-holds effects.Copy rs h g k n m = absurd (cc)
   tie-holds effects.Phi rs h g k n m = absurd (cc)
   tie-holds effects.ImplicitDef rs h g k n m = absurd (cc)
@@ -114,7 +114,7 @@ module _ (t : Target) where
   tie-holds e rs h g k n m = tied-holds rs k n m (second_of_both _ _ (first_of_both _ _ (first_of_both _ _ (first_of_both _ _ (first_of_both _ _ h)))))
 
   -- a definition's role is that of the operand of its number
-  lead-seat : {n : ℕ} {rs : List Role} {r : Role} → Leads n rs r → (os : List Operand) (q : Option Role) (x : Operand) → slice_get (explicit_bound (explicit_roles rs) os) n ≡ Some (q, x) → q ≡ Some r
+  pub lead-seat : {n : ℕ} {rs : List Role} {r : Role} → Leads n rs r → (os : List Operand) (q : Option Role) (x : Operand) → slice_get (explicit_bound (explicit_roles rs) os) n ≡ Some (q, x) → q ≡ Some r
   lead-seat l [] q x e = absurd (cc)
   lead-seat (first {r = r} {rs = rs} g) (y ∷ os) q x e = role-of (Some r, y) (q, x) (subst (λ (b : Bool). slice_get (explicit_bound (cond (not b) (r ∷ explicit_roles rs) (explicit_roles rs)) (y ∷ os)) 0 ≡ Some (q, x)) (definition-explicit r g).0 e)
     where

@@ -1,15 +1,14 @@
 -- The blocks of a function after a spill branch and end as they did, and name no other block.
-use Rattle.std.proofs.Common.{◌≡◌, ◌⊎◌, inl, inr, ◌+◌, ◌++◌, ◌∙◌, not, ◌&&◌, ◌||◌, ℕ, suc, Bool, true, false, cond, List, [], ◌∷◌, Option, Some, None, filter, flat_map, length, map, refl, sym, ap, subst, append-nil, append_assoc}
+use Rattle.std.proofs.Common.{◌≡◌, ◌+◌, ◌++◌, ◌∙◌, not, ◌&&◌, ◌||◌, ℕ, suc, Bool, true, false, cond, List, [], ◌∷◌, Option, Some, None, filter, flat_map, length, map, refl, sym, ap, subst, append-nil, append_assoc}
 use Rattle.std.specs.Prelude.{filter_map, nat_eq}
 use Rattle.std.specs.List.{cons_option, list_all, sum_by, zip}
 use Rattle.target_base.specs.declared.types.ClassId.{ClassId}
 use Rattle.target_base.specs.declared.types.Effect.{Effect}
 use Rattle.target_base.specs.declared.types.Effect.TheVariants as effects
-use Rattle.target_base.specs.declared.types.IndexId.{IndexId}
 use Rattle.target_base.specs.declared.types.Role.{Role}
 use Rattle.target_base.specs.declared.types.Target.{Target}
 use Rattle.target_base.specs.Roles.{is_silent}
-use Rattle.target_base.proofs.Tests.{first_of_both, second_of_both}
+use Rattle.target_base.proofs.Tests.{first_of_both}
 use Rattle.meaning.specs.Live.{Among as Member, here as first, there as later}
 use Rattle.mir_func.specs.declared.func.Loc.{Loc}
 use Rattle.mir_func.specs.declared.func.Loc.TheVariants.{Fixed, Virtual}
@@ -18,8 +17,7 @@ use Rattle.mir_func.specs.declared.func.Operand.{Operand}
 use Rattle.mir_func.specs.declared.func.Operand.TheVariants as operands
 use Rattle.mir_func.specs.declared.func.Instr.{Instr}
 use Rattle.mir_func.specs.declared.func.Block.{Block}
-use Rattle.mir_func.specs.Value.{Function}
-use Rattle.mir_func.specs.Binding.{Bound, does, effect_of, ends_control, explicit_bound, explicit_roles, implicit_registers, is_branch, is_conditional, is_definition, is_lowered_away, is_terminator, is_virtual, numbered, passes, registers, roles_of, TiedPair, operand_class, takes_many}
+use Rattle.mir_func.specs.Binding.{Bound, does, effect_of, ends_control, explicit_bound, explicit_roles, implicit_registers, is_branch, is_conditional, is_terminator, is_virtual, numbered, passes, registers, roles_of, TiedPair, operand_class, takes_many}
 use Rattle.mir_meaning.specs.Points.{is_range}
 use Rattle.mir_meaning.specs.Codes.{ends_without_terminator, falls_through}
 use Rattle.mir_meaning.specs.Places.{Variable}
@@ -27,14 +25,14 @@ use Rattle.mir_meaning.specs.Rules.{V1, block_of, branch_targets, named_blocks, 
 use Rattle.instr_effects.proofs.Members.{either-elim, filter-in, flat-of, left-in, map-of, member-elim, member-none, right-in}
 use Rattle.live_laws.proofs.Effects.Lists.{all-of}
 use Rattle.live_laws.proofs.Touch.Roles.{fit, has_roles, met}
-use Rattle.lowering_laws.proofs.BlockRules.{AllBecome, Becomes, Carries, ordered}
+use Rattle.lowering_laws.proofs.BlockRules.{AllBecome, Carries, ordered}
 use Rattle.lowering_laws.proofs.Ends.{no-branch}
 use Rattle.lowering_laws.proofs.Rolled.{terminator-plain}
-use Rattle.lowering_laws.proofs.Seated.{bound-operand, register-in, told-of}
+use Rattle.lowering_laws.proofs.Seated.{bound-operand, register-in}
 use Rattle.spiller.specs.Setting.{Spilling, class_beside, in_own_slot, is_live_behind, is_own, own_class, part_class, plain_definition, plain_use, reload, store, undef_use}
 use Rattle.spiller.specs.Rematerialised.{Reading, copy_reading, places_from, places_of, repeated, repeated_for, tied_readings, way_reading, ways_read}
 use Rattle.spiller.specs.Spilled.{Change, OwnDefinition, Seats, block_changes, change, changes, definitions_in, given, in_place_of, new_ids, numbered_change, numbered_operands, own_definition, seated_operand, seats_from, spilled, spilled_block, stored, tied_reload, tinies_of, with_ids, with_tinies}
-use Rattle.spill_laws.proofs.Outcomes.{Outcome, Passes, Replaces, ends-placed, from_range, goes, instrs-of, passed, places-whole, reloaded_on, repeats, replaced, seated, stays, stored_on, to_range, undefined, within}
+use Rattle.spill_laws.proofs.Outcomes.{Outcome, Passes, Replaces, ends-placed, from_range, goes, instrs-of, passed, reloaded_on, repeats, replaced, seated, stays, stored_on, to_range, undefined, within}
 use Rattle.spill_laws.proofs.Opcodes.{IsSlot, own-slot, reload-goes-on, reload-slot, repeated-goes-on, repeated-names, repeats-for, slot-names, spill-slot, store-goes-on}
 
 -- lists

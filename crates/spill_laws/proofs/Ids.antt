@@ -1,12 +1,12 @@
 -- The ids of a function after a spill: those that stay, and new ones, each once.
-use Rattle.std.proofs.Common.{◌≡◌, ◌<◌, ◌≤◌, ◌+◌, ◌++◌, ◌∙◌, ℕ, suc, Bool, true, false, cond, List, [], ◌∷◌, length, map, flat_map, refl, sym, ap, subst, arith, eqb-true, length-append}
-use Rattle.std.specs.Prelude.{◌==◌, if◌then◌else◌, nat_lt, Option, Some, None}
+use Rattle.std.proofs.Common.{◌≡◌, ◌<◌, ◌≤◌, ◌+◌, ◌++◌, ◌∙◌, ℕ, suc, Bool, true, false, cond, List, [], ◌∷◌, length, map, flat_map, refl, sym, ap, subst, arith, eqb-true}
+use Rattle.std.specs.Prelude.{◌==◌, if◌then◌else◌, nat_lt, None}
 use Rattle.std.specs.List.{sum_by, zip}
 use Rattle.std.proofs.lemmas.Bool.{ltb-false, ltb-true}
 use Rattle.std.proofs.lemmas.List.Sums.{sum_by-append, sum_by-cons}
 use Rattle.mir_func.specs.declared.func.Instr.{Instr}
 use Rattle.mir_func.specs.declared.func.Block.{Block}
-use Rattle.mir_func.specs.Value.{Function, IsFunction, id_count, id_total}
+use Rattle.mir_func.specs.Value.{IsFunction, id_count, id_total}
 use Rattle.meaning.specs.Live.{Among as Member, here as first, there as later}
 use Rattle.mir_func.specs.declared.func.Loc.TheVariants.{Virtual}
 use Rattle.spiller.specs.Setting.{Spilling, plain_definition, reload}

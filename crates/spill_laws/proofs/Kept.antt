@@ -1,21 +1,23 @@
 -- A function after a spill is in the form in which ranges are spilled.
 use Rattle.std.proofs.Common.{◌≡◌, ℕ, true, List, subst, sym}
-use Rattle.target_base.specs.declared.types.Target.{Target}
 use Rattle.meaning.specs.Live.{Among as Member}
 use Rattle.mir_func.specs.declared.func.Instr.{Instr}
 use Rattle.mir_func.specs.declared.func.Block.{Block}
 use Rattle.mir_func.specs.Value.{Function, IsFunction}
+use Rattle.std.specs.Prelude.{is_some}
+use Rattle.mir_func.specs.Binding.{class_of}
+use Rattle.live_laws.specs.Effects.Shaped.{AreClasses}
 use Rattle.mir_meaning.specs.Rules.{V1, V8}
 use Rattle.lowering_laws.specs.Blocks.{KeepsBlockRules}
 use Rattle.lowering_laws.specs.Shapes.{IsLowered}
 use Rattle.lowering_laws.proofs.BlockRules.{ordered, rules-carried}
 use Rattle.spiller.specs.Setting.{Spilling}
-use Rattle.spiller.specs.Slots.{Slots}
 use Rattle.spiller.specs.Rematerialised.{places_of}
 use Rattle.spiller.specs.Spilled.{change, setting_of, spilled}
-use Rattle.spill_laws.specs.Laws.{SpillKeepsBlockRules, SpillKeepsIds}
+use Rattle.spill_laws.specs.Laws.{SpillKeepsBlockRules, SpillKeepsClasses, SpillKeepsIds}
 use Rattle.spill_laws.proofs.Outcomes.{Outcome, ordered-by, place-outcome}
 use Rattle.spill_laws.proofs.Blocks.{all-carried}
+use Rattle.spill_laws.proofs.Ranges.{classes-known, classes-stay}
 use Rattle.spill_laws.proofs.Ids.{spilled-function}
 
 module _ (s : Spilling) (low : IsLowered s.target s.func) where
@@ -37,6 +39,11 @@ module _ (s : Spilling) (low : IsLowered s.target s.func) where
 
 pub spill_keeps_block_rules : SpillKeepsBlockRules
 spill_keeps_block_rules t f g slots new v made low z = subst (KeepsBlockRules t) (sym z.func) (blocks-kept (setting_of t f slots v z.facts) low)
+
+pub spill_keeps_classes : SpillKeepsClasses
+spill_keeps_classes t f g slots new v made low z =
+    let s = setting_of t f slots v z.facts in
+    subst (λ h. ((w : ℕ) → is_some (class_of f w) ≡ true → class_of h w ≡ class_of f w) × AreClasses t h) (sym z.func) (classes-stay s, classes-known s low.rules.classes (orderly s low))
 
 pub spill_keeps_ids : SpillKeepsIds
 spill_keeps_ids t f g slots new v made low z = subst (λ (h : Function). IsFunction h.blocks h.next_id) (sym z.func) (ids-kept (setting_of t f slots v z.facts) low)

@@ -1,5 +1,15 @@
 pub mod Outcomes
 pub mod Opcodes
+pub mod Moves
+pub mod Classes
+pub mod Copies
+pub mod Tinies
+pub mod Repeated
+pub mod Ranges
+pub mod Seated
+pub mod Given
+pub mod Beside
+pub mod Stays
 pub mod Ids
 pub mod Blocks
 pub mod Kept

@@ -1,5 +1,5 @@
 -- The opcodes of stores, reloads and repeated instructions: none is a terminator, and none names a block.
-use Rattle.std.proofs.Common.{◌≡◌, ◌<◌, ◌++◌, ◌∙◌, ℕ, Bool, true, false, cond, List, [], ◌∷◌, Option, Some, None, drop, flat_map, get_or, length, refl, sym, ap, subst, arith}
+use Rattle.std.proofs.Common.{◌≡◌, ◌++◌, ◌∙◌, ℕ, Bool, true, false, cond, List, [], ◌∷◌, Option, Some, None, drop, flat_map, get_or, refl, sym, ap, subst, arith}
 use Rattle.std.specs.Prelude.{option_and_then, option_map, position, slice_get}
 use Rattle.std.proofs.lemmas.List.Quantifiers.{position-Some}
 use Rattle.std.proofs.lemmas.Option.{slice_get-get_or}
@@ -17,7 +17,7 @@ use Rattle.target_base.specs.Rules.{is_reload, is_spill, operand_regs, reloads, 
 use Rattle.target_base.specs.Storage.{is_within}
 use Rattle.target_base.proofs.Lookups.{reload_there, spill_there}
 use Rattle.target_base.proofs.Tests.{first_of_both, position_within, second_of_both}
-use Rattle.meaning.specs.Live.{Among as Member, here as first, there as later}
+use Rattle.meaning.specs.Live.{Among as Member, here as first}
 use Rattle.mir_func.specs.declared.func.RegOp.{RegOp}
 use Rattle.mir_func.specs.declared.func.Operand.{Operand}
 use Rattle.mir_func.specs.declared.func.Operand.TheVariants as operands

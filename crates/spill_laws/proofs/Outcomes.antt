@@ -17,20 +17,17 @@ use Rattle.mir_func.specs.declared.func.Operand.{Operand}
 use Rattle.mir_func.specs.declared.func.Operand.TheVariants as operands
 use Rattle.mir_func.specs.declared.func.Instr.{Instr}
 use Rattle.mir_func.specs.Binding.{does, effect_of, is_lowered_away, is_terminator, passes}
-use Rattle.mir_meaning.specs.Rules.{V1, copy_fits, fits_role, implicit_def_fits, spills_or_reloads}
+use Rattle.mir_meaning.specs.Rules.{V1, copy_fits, fits_role, implicit_def_fits}
 use Rattle.live_laws.proofs.Effects.Lists.{all-of}
 use Rattle.lowering_laws.proofs.BlockRules.{ordered}
-use Rattle.live_laws.proofs.Touch.Roles.{TakeAll, has_roles, met, reload-takes, spill-takes}
+use Rattle.live_laws.proofs.Touch.Roles.{TakeAll, met, reload-takes, spill-takes}
+use Rattle.spill_laws.specs.Laws.{is_placed}
 use Rattle.instr_effects.proofs.Members.{member-elim, member-none}
 use Rattle.spiller.specs.Setting.{Spilling, class_beside, in_own_slot, is_live_behind, is_own, moving_class, own_class, own_lanes, part_class, plain_definition, plain_use, reload, store, undef_use}
 use Rattle.spiller.specs.Rematerialised.{all_readings, copy_reading, is_constant, is_needless, is_rematerialised, places_from, reaches, repeated, repeated_for}
-use Rattle.spiller.specs.Spilled.{Change, becomes, change, copied_in, copied_out, copied_within, copy_change, effect_change, in_place_of, is_own_part, place_change, slot_change, through_tiny, undefined_change}
+use Rattle.spiller.specs.Spilled.{Change, becomes, change, copied_in, copied_out, copied_within, effect_change, in_place_of, is_own_part, place_change, through_tiny}
 
--- an opcode with roles that is neither a store to a slot nor a reload
-abbrev pub is_placed : Effect → Bool
-is_placed e = has_roles e && not (spills_or_reloads e)
-
--- a terminator is one
+-- a terminator has roles, and is neither a store to a slot nor a reload
 pub ends-placed : (e : Effect) → is_terminator e ≡ true → is_placed e ≡ true
 ends-placed effects.Copy h = absurd (cc)
 ends-placed effects.Phi h = absurd (cc)

@@ -1,9 +1,9 @@
-//! Laws of spills: a function in which a range was spilled has ids of its own, and keeps the rules on blocks.
+//! Laws of spills: a function in which a range was spilled keeps the rules that liveness and edits rest on.
 //!
 //! Each is the contract of a function, so that a check proves it.
 #![tactic(auto)]
 
-ghost use Rattle.spill_laws.specs.Laws.{SpillKeepsBlockRules, SpillKeepsIds};
+ghost use Rattle.spill_laws.specs.Laws.{BesidesKeepRules, CopiesKeepRules, MovesKeepRules, PassesKeepRules, RepeatsKeepRules, SeatsHaveClasses, SpillKeepsBlockRules, SpillKeepsClasses, SpillKeepsIds, StaysKeepRules, UndefinedKeepRules};
 
 /// New instructions have ids of their own.
 pub fn ids_law()
@@ -13,4 +13,49 @@ pub fn ids_law()
 /// Blocks end in their terminators and lead to their successors, as they did.
 pub fn blocks_law()
     ensures { SpillKeepsBlockRules }
+{}
+
+/// Ranges keep their classes, and new ones have classes of the target.
+pub fn classes_law()
+    ensures { SpillKeepsClasses }
+{}
+
+/// A store to a slot, or a reload, of a register that lies in its class keeps the rules on its operands.
+pub fn moves_law()
+    ensures { MovesKeepRules }
+{}
+
+/// So does a constant or an address that is repeated for a register of its class,
+pub fn repeats_law()
+    ensures { RepeatsKeepRules }
+{}
+
+/// what stands in place of a copy between the range and another register,
+pub fn copies_law()
+    ensures { CopiesKeepRules }
+{}
+
+/// and the store in place of an IMPLICIT_DEF of the range.
+pub fn undefined_law()
+    ensures { UndefinedKeepRules }
+{}
+
+/// So do the reload and the store of a tiny through which lanes go from slot to slot.
+pub fn passes_law()
+    ensures { PassesKeepRules }
+{}
+
+/// A register that an instruction names has an operand class, so that a tiny can take its place.
+pub fn seats_law()
+    ensures { SeatsHaveClasses }
+{}
+
+/// What stands before and behind a place with tinies keeps the rules: reloads, repeated constants and stores.
+pub fn besides_law()
+    ensures { BesidesKeepRules }
+{}
+
+/// An instruction that stays keeps the rules.
+pub fn stays_law()
+    ensures { StaysKeepRules }
 {}
