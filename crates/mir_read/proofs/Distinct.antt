@@ -6,7 +6,7 @@ use Rattle.std.proofs.lemmas.List.{drop_more, drop_all}
 use Rattle.std.proofs.lemmas.Grind.{common_steps}
 use Rattle.target_base.specs.Names.{is_distinct, are_distinct_names}
 use Rattle.target_base.specs.Storage.{same_numbers}
-use Rattle.mir_read.specs.Names.{with_name}
+use Rattle.word_set.specs.Words.{with_name}
 
 -- put one after another
 abbrev pub with_names : List (List ℕ) → List (List ℕ) → List (List ℕ)

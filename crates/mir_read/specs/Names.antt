@@ -1,5 +1,5 @@
 -- The names of a target, by their numbers.
-use Rattle.std.specs.Prelude.{◌≤◌, ℕ, Bool, List, [], ◌∷◌, ◌++◌, Option, length, map, not, ◌==◌, position, option_map, is_some, if◌then◌else◌}
+use Rattle.std.specs.Prelude.{◌≤◌, ℕ, Bool, List, [], ◌∷◌, ◌++◌, Option, length, map, ◌==◌, position, option_map, is_some, if◌then◌else◌}
 use Rattle.std.specs.List.{list_any}
 use Rattle.target_base.specs.Storage.{same_numbers}
 use Rattle.target_base.specs.Numbers.{reg_number, index_number, class_number, op_number}
@@ -9,10 +9,6 @@ use Rattle.target_base.specs.declared.types.IndexId.{IndexId}
 use Rattle.target_base.specs.declared.types.ClassId.{ClassId}
 use Rattle.target_base.specs.declared.types.MaskId.{MaskId}
 use Rattle.target_base.specs.declared.types.OpId.{OpId}
-
--- the names with this one at the end, unless it is there
-abbrev pub with_name : List (List ℕ) → List ℕ → List (List ℕ)
-with_name names w = if not (list_any (same_numbers w) names) then names ++ w ∷ [] else names
 
 -- the numbers with this one at the end, unless it is there
 abbrev pub with_number : List ℕ → ℕ → List ℕ

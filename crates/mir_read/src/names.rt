@@ -2,8 +2,9 @@
 
 ghost use Rattle.std.specs.Prelude.{◌≡◌, ◌<◌, ◌≤◌, ◌==◌, [], length, position, OnOk, OnErr, IfOk, IsTrue, option_map, map};
 ghost use Rattle.target_base.specs.Names.{are_distinct_names};
-ghost use Rattle.mir_read.specs.Names.{with_name, with_number, place_of, reg_named, index_named, class_named, mask_named, op_named, has_flag, name_lists};
+ghost use Rattle.mir_read.specs.Names.{with_number, place_of, reg_named, index_named, class_named, mask_named, op_named, has_flag, name_lists};
 ghost use Rattle.target_base.specs.Storage.{same_numbers};
+ghost use Rattle.word_set.specs.Words.{with_name};
 
 use indexmap::IndexSet;
 use std::alloc::{AllocError, Global};
@@ -12,54 +13,7 @@ use target_base::{
     Bytes, ClassDesc, ClassId, IndexDesc, IndexId, MaskDesc, MaskId, OpId, OpcodeDesc, Reg,
     RegDesc, Target,
 };
-
-/// Distinct words in the order in which they came.
-#[derive(Drop)]
-struct WordSet {
-    set: IndexSet<Vec<u8>>,
-}
-
-impl Model for WordSet {
-    ghost use Rattle.std.specs.Prelude.{ℕ, List, map};
-
-    ghost Value = { List (List ℕ) };
-
-    ghost view = { λ w. map (λ v. v.items) w.set.keys };
-}
-
-impl WordSet {
-    /// No words.
-    fn new(alloc: Global) -> WordSet
-        ensures { result ≡ [] }
-    {
-        WordSet {
-            set: IndexSet::new(alloc),
-        }
-    }
-
-    /// The place of a word, from 0. None where it isn't there.
-    fn place(&self, word: &[u8]) -> Option<usize>
-        ensures { result ≡ position (same_numbers word.now) self.now }
-    {
-        self.set.get_index_of(word)
-    }
-
-    /// How many words there are.
-    fn len(&self) -> usize
-        ensures { result ≡ length self.now }
-    {
-        self.set.len()
-    }
-
-    /// Puts a word at the end, unless it is there. After a refusal the words are unchanged.
-    fn add(&mut self, alloc: Global, word: &[u8]) -> Result<(), AllocError>
-        ensures ok { OnOk result (self.new ≡ with_name self.old word.now) }
-        ensures err { OnErr result (self.new ≡ self.old) }
-    {
-        self.set.insert(Vec::from_slice(alloc, word)?)?;
-        Ok(())
-    }
-}
+use word_set::WordSet;
 
 /// Distinct names in order, fewer than 2^32 of them.
 #[derive(Drop)]

@@ -1,7 +1,7 @@
 //! What the effects and the roles of opcodes are. None of the questions takes memory.
 
 ghost use Rattle.std.specs.Prelude.{◌≡◌, find, filter};
-ghost use Rattle.target_base.specs.Roles.{is_definition, is_tied, is_implicit, is_silent, first_implicit};
+ghost use Rattle.target_base.specs.Roles.{is_definition, is_tied, is_implicit, is_silent, first_implicit, bound_roles};
 ghost use Rattle.target_base.specs.Rules.{is_copy, is_phi};
 
 use crate::types::{Effect, Role};
@@ -85,5 +85,27 @@ pub fn is_phi(e: Effect) -> bool
     match e {
         Effect::Phi => true,
         _ => false,
+    }
+}
+
+/// How many of the first roles are bound to one width.
+pub fn bound_roles(effect: Effect) -> usize
+    ensures { result ≡ bound_roles effect }
+{
+    match effect {
+        Effect::Add
+        | Effect::Sub
+        | Effect::Mul
+        | Effect::And
+        | Effect::Or
+        | Effect::Xor
+        | Effect::Shl
+        | Effect::Shr
+        | Effect::Sar
+        | Effect::Udiv
+        | Effect::Urem
+        | Effect::Madd => 3,
+        Effect::Neg | Effect::Not | Effect::Cmp => 2,
+        _ => 0,
     }
 }

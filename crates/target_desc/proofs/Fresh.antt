@@ -6,7 +6,7 @@ use Rattle.std.proofs.lemmas.List.Quantifiers.{position-Some}
 use Rattle.std.proofs.lemmas.List.Folds.{list_any_at}
 use Rattle.target_base.specs.Storage.{same_numbers}
 use Rattle.target_base.proofs.Tests.{position_there}
-use Rattle.target_desc.specs.Names.{is_fresh}
+use Rattle.word_set.specs.Words.{is_fresh}
 
 not_there : {X : Type 0} (p : X → Bool) (xs : List X) → None ≡ position p xs → list_any p xs ≡ false
 not_there p xs h = by (list_any p xs) refl

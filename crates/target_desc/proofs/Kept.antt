@@ -13,7 +13,7 @@ use Rattle.target_base.specs.declared.types.OpcodeDesc.{OpcodeDesc}
 use Rattle.target_base.specs.Names.{are_distinct_names}
 use Rattle.target_base.specs.Rules.{is_unit_desc, is_reg_desc, is_index_desc, is_class_desc, is_mask_desc, is_opcode_desc, are_units, are_regs, are_indexes, are_classes, are_masks, are_opcodes}
 use Rattle.target_base.proofs.Tests.{first_of_both, second_of_both}
-use Rattle.target_desc.specs.Names.{is_fresh}
+use Rattle.word_set.specs.Words.{is_fresh}
 use Rattle.target_desc.proofs.Grown.{both, all_kept, all_push, distinct_push}
 use Rattle.target_desc.proofs.SameWidths.{reg_kept, same_widths, class_kept, mask_kept}
 use Rattle.target_desc.proofs.RolesKept.{opcode_kept, five_kept, drop_five}

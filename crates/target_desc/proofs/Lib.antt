@@ -1,6 +1,5 @@
 pub mod Onto
 pub mod Cut
-pub mod Places
 pub mod Lists
 pub mod Grown
 pub mod SameWidths

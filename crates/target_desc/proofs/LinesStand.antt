@@ -27,7 +27,7 @@ use Rattle.target_desc.specs.declared.draft.Options.{Options}
 use Rattle.target_desc.specs.declared.draft.Line.{Line}
 use Rattle.target_desc.specs.declared.draft.Line.TheVariants as lines
 use Rattle.target_desc.specs.Text.{is_comment}
-use Rattle.target_desc.specs.Names.{is_fresh}
+use Rattle.word_set.specs.Words.{is_fresh}
 use Rattle.target_desc.specs.Forms.{text_forms_of, raw_line, formed, name_list, number_list}
 use Rattle.target_desc.specs.Drafts.{no_options, empty_draft, names_of, the_five}
 use Rattle.target_desc.specs.Resolving.{resolved, is_new}

@@ -8,7 +8,7 @@ use Rattle.target_base.proofs.Tests.{first_of_both, second_of_both}
 use Rattle.target_desc.specs.declared.raw.TextForm.{TextForm}
 use Rattle.target_desc.specs.declared.raw.TextForm.TheVariants as text_forms
 use Rattle.target_desc.specs.declared.draft.Options.{Options}
-use Rattle.target_desc.specs.Names.{is_fresh, with_name}
+use Rattle.word_set.specs.Words.{is_fresh, with_name}
 use Rattle.target_desc.specs.Forms.{text_forms_of}
 use Rattle.target_desc.specs.Drafts.{no_options}
 use Rattle.target_desc.specs.Adding.{with_form}

@@ -24,7 +24,7 @@ use Rattle.target_base.proofs.Tests.{first_of_both, second_of_both}
 use Rattle.target_desc.specs.declared.raw.Header.{Header}
 use Rattle.target_desc.specs.declared.draft.Draft.{Draft}
 use Rattle.target_desc.specs.declared.draft.Options.{Options}
-use Rattle.target_desc.specs.Names.{is_fresh, with_name}
+use Rattle.word_set.specs.Words.{is_fresh, with_name}
 use Rattle.target_desc.specs.Forms.{text_forms_of}
 use Rattle.target_desc.specs.Drafts.{no_options, empty_draft, the_five}
 use Rattle.target_desc.specs.Adding.{with_form}

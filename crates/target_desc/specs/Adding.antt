@@ -7,7 +7,7 @@ use Rattle.target_desc.specs.declared.draft.Options.{Options}
 use Rattle.target_desc.specs.declared.draft.Line.{Line}
 use Rattle.target_desc.specs.declared.draft.Line.TheVariants as lines
 use Rattle.target_desc.specs.declared.names.NameTables.{NameTables}
-use Rattle.target_desc.specs.Names.{with_name}
+use Rattle.word_set.specs.Words.{with_name}
 
 -- what is opted in with this form of text
 abbrev pub with_form : Options → TextForm → Options

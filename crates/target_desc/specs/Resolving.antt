@@ -16,7 +16,8 @@ use Rattle.target_desc.specs.declared.draft.Line.{Line}
 use Rattle.target_desc.specs.declared.draft.Line.TheVariants as lines
 use Rattle.target_desc.specs.declared.names.NameTables.{NameTables}
 use Rattle.target_desc.specs.Forms.{◌>>=◌}
-use Rattle.target_desc.specs.Names.{place_of, is_fresh}
+use Rattle.target_desc.specs.Names.{place_of}
+use Rattle.word_set.specs.Words.{is_fresh}
 
 abbrev pub unit_named : List (List ℕ) → List ℕ → Option UnitNumber
 unit_named names w = option_map unit_number (place_of names w)

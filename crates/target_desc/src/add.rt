@@ -2,16 +2,17 @@
 
 ghost use Rattle.std.specs.Prelude.{◌≡◌, ◌<◌, IfOk, IsTrue, length, map, fold, []};
 ghost use Rattle.target_desc.specs.Drafts.{no_options, empty_draft, names_of, without_roles, opcode_row, name_in};
-ghost use Rattle.target_desc.specs.Names.{with_name};
+ghost use Rattle.word_set.specs.Words.{with_name};
 ghost use Rattle.target_desc.specs.Resolving.{is_new};
 ghost use Rattle.target_desc.specs.Keeping.{AreFew};
 ghost use Rattle.target_desc.specs.Adding.{added, noted};
 
 use crate::draft::{Draft, Line, Options};
-use crate::names::{DeclaredNames, NameTables, WordSet};
+use crate::names::{DeclaredNames, NameTables};
 use crate::text::copy_of;
 use std::alloc::{AllocError, Global};
 use target_base::{Boxed, Effect, List, OpcodeDesc, OpcodeDescs};
+use word_set::WordSet;
 
 /// The opcodes that belong to every target.
 static THE_FIVE: [(&str, Effect); 5] = [

@@ -3,13 +3,13 @@
 ghost use Rattle.std.specs.Prelude.{◌≡◌, OnOk, fold};
 ghost use Rattle.target_desc.specs.Adding.{with_form, with_flags, added};
 
-use crate::names::WordSet;
 use crate::raw::{Header, TextForm};
 use std::alloc::{AllocError, Global};
 use target_base::{
     Bytes, ClassDesc, ClassDescs, IndexDesc, IndexDescs, List, MaskDesc, MaskDescs, OpcodeDesc,
     OpcodeDescs, RegDesc, RegDescs, Regs, UnitDesc, UnitDescs, Words,
 };
+use word_set::WordSet;
 
 /// What a line declares, its names looked up.
 #[derive(Drop)]

@@ -1,70 +1,16 @@
 //! Names in the order of their declaration, found fast.
 
 ghost use Rattle.std.specs.Prelude.{◌≡◌, ◌<◌, ◌≤◌, [], ◌∷◌, ◌++◌, length, position, OnOk, OnErr, IfOk, IsTrue};
-ghost use Rattle.target_desc.specs.Names.{with_name, is_fresh};
+ghost use Rattle.word_set.specs.Words.{with_name, is_fresh};
 ghost use Rattle.target_desc.specs.Resolving.{is_new};
 ghost use Rattle.target_desc.specs.Keeping.{AreFew};
 ghost use Rattle.target_desc.specs.Adding.{noted};
 ghost use Rattle.target_base.specs.Storage.{same_numbers};
 
 use crate::draft::Line;
-use crate::text::copy_of;
-use indexmap::IndexSet;
 use std::alloc::{AllocError, Global};
 use std::marker::Model;
-use target_base::{List, Words};
-
-/// Distinct words in the order in which they came.
-#[derive(Drop)]
-pub(crate) struct WordSet {
-    set: IndexSet<Vec<u8>>,
-}
-
-impl Model for WordSet {
-    ghost use Rattle.std.specs.Prelude.{ℕ, List, map};
-
-    ghost Value = { List (List ℕ) };
-
-    ghost view = { λ w. map (λ v. v.items) w.set.keys };
-}
-
-impl WordSet {
-    /// No words.
-    pub(crate) fn new(alloc: Global) -> WordSet
-        ensures { result ≡ [] }
-    {
-        WordSet {
-            set: IndexSet::new(alloc),
-        }
-    }
-
-    /// The place of a word, from 0. None where it isn't there.
-    fn place(&self, word: &[u8]) -> Option<usize>
-        ensures { result ≡ position (same_numbers word.now) self.now }
-    {
-        self.set.get_index_of(word)
-    }
-
-    /// Puts a word at the end, unless it is there. After a refusal the words are unchanged.
-    pub(crate) fn add(&mut self, alloc: Global, word: &[u8]) -> Result<(), AllocError>
-        ensures ok { OnOk result (self.new ≡ with_name self.old word.now) }
-        ensures err { OnErr result (self.new ≡ self.old) }
-    {
-        self.set.insert(Vec::from_slice(alloc, word)?)?;
-        Ok(())
-    }
-
-    /// The words as a list.
-    pub(crate) fn to_words(&self, alloc: Global) -> Result<Words, AllocError>
-        ensures { IfOk result (λ words. words ≡ self.now) }
-    {
-        let mut made = List::new(alloc);
-        for word in self.set.as_slice() {
-            made.push(copy_of(alloc, word.as_slice())?)?;
-        }
-        Ok(made)
-    }
-}
+use word_set::WordSet;
 
 /// Distinct names in the order of their declaration, at most 65,535 of them.
 #[derive(Drop)]

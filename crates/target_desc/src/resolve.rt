@@ -2,7 +2,7 @@
 
 ghost use Rattle.std.specs.Prelude.{◌≡◌, IfOk};
 ghost use Rattle.target_desc.specs.Resolving.{unit_named, reg_named, class_named, units_named, regs_named, role_with, role_named, roles_named, resolved, is_new};
-ghost use Rattle.target_desc.specs.Names.{is_fresh};
+ghost use Rattle.word_set.specs.Words.{is_fresh};
 
 use crate::draft::Line;
 use crate::names::{DeclaredNames, NameTables};

@@ -10,7 +10,9 @@ use crate::opaque::opaque_fit;
 use crate::widths::total_width;
 use target_base::classes::{class_of, first_units, regs_at, width_of};
 use target_base::registers::units_at;
-use target_base::roles::{first_implicit, is_definition, is_implicit, is_silent, is_tied};
+use target_base::roles::{
+    bound_roles, first_implicit, is_definition, is_implicit, is_silent, is_tied,
+};
 use target_base::{ClassDesc, ClassId, Effect, Reg, RegDesc, Role, Unit, UnitDesc};
 
 /// What an effect asks of one explicit role.
@@ -242,28 +244,6 @@ fn fits_shape(effect: Effect, rs: &[Role]) -> bool
         Effect::Marker => have_shape(&[Any], rs),
         Effect::Spill => have_shape(&[Use, Slot, Lanes], rs),
         Effect::Reload => have_shape(&[Definition, Slot, Lanes], rs),
-    }
-}
-
-/// How many of the first roles are bound to one width.
-fn bound_roles(effect: Effect) -> usize
-    ensures { result ≡ roles.bound_roles effect }
-{
-    match effect {
-        Effect::Add
-        | Effect::Sub
-        | Effect::Mul
-        | Effect::And
-        | Effect::Or
-        | Effect::Xor
-        | Effect::Shl
-        | Effect::Shr
-        | Effect::Sar
-        | Effect::Udiv
-        | Effect::Urem
-        | Effect::Madd => 3,
-        Effect::Neg | Effect::Not | Effect::Cmp => 2,
-        _ => 0,
     }
 }
 

@@ -21,34 +21,17 @@ use mir_func::operands::{immediate_of, is_implicit_operand, takes_role};
 use mir_func::spelling::event_name;
 use mir_func::{Func, Instr, Operand, RegOp};
 use std::alloc::{AllocError, Global};
-use target_base::roles::is_implicit;
+use target_base::roles::{bound_roles, is_implicit};
 use target_base::{Bytes, Copied, Effect, Flags, List, Numbers, Role, Target};
 
 /// Operands that are read: the sources of each, and their widths.
 pub type Values = List<(Sources, Numbers)>;
 
-/// Whether an immediate operand of this effect is read as a register is.
+/// Whether an immediate operand of this effect is read as a register is: where roles are bound to one width.
 pub fn computes_with_immediates(e: Effect) -> bool
     ensures { result ≡ computes_with_immediates e }
 {
-    match e {
-        Effect::Add
-        | Effect::Sub
-        | Effect::Mul
-        | Effect::And
-        | Effect::Or
-        | Effect::Xor
-        | Effect::Shl
-        | Effect::Shr
-        | Effect::Sar
-        | Effect::Udiv
-        | Effect::Urem
-        | Effect::Madd
-        | Effect::Neg
-        | Effect::Not
-        | Effect::Cmp => true,
-        _ => false,
-    }
+    bound_roles(e) > 0
 }
 
 /// Whether the effect is a load or a store.

@@ -82,24 +82,24 @@ impl MemFiles {
             },
         }
     }
+}
 
-    /// Counts a call, and answers whether it is to fail.
-    fn begin_call(&mut self) -> bool
-        ensures answer { result ≡ is_due self.old.fails self.old.calls }
-        ensures state { self.new ≡ record self.old { calls = raised self.old.calls } }
-    {
-        self.calls = raise(self.calls);
-        is_listed(self.fails.as_slice(), self.calls)
-    }
+/// Counts a call, and answers whether it is one of those that fail.
+fn count_call(calls: &mut u64, fails: &[u64]) -> bool
+    ensures answer { result ≡ is_due fails.now calls.old }
+    ensures counted { calls.new ≡ raised calls.old }
+{
+    *calls = raise(*calls);
+    is_listed(fails, *calls)
+}
 
-    /// Counts a fault.
-    fn fault(&mut self) -> Failed
-        ensures state { self.new ≡ record self.old { faults = raised self.old.faults } }
-        ensures cause { Rose self.old.faults self.new.faults }
-    {
-        self.faults = raise(self.faults);
-        Failed
-    }
+/// Counts a fault.
+fn count_fault(faults: &mut u64) -> Failed
+    ensures counted { faults.new ≡ raised faults.old }
+    ensures cause { Rose faults.old faults.new }
+{
+    *faults = raise(*faults);
+    Failed
 }
 
 /// One more, where that fits.
@@ -141,14 +141,14 @@ impl Files for MemFiles {
         ensures answer { is_ok result ≡ can_start name.now self.old }
         ensures state { self.new ≡ started name.now self.old }
     {
-        let fails = self.begin_call();
+        let fails = count_call(&mut self.calls, self.fails.as_slice());
         self.place = self.find(name);
         self.at = 0;
         if fails {
-            return Err(self.fault());
+            return Err(count_fault(&mut self.faults));
         }
         if self.place.is_none() {
-            return Err(self.fault());
+            return Err(count_fault(&mut self.faults));
         }
         Ok(())
     }
@@ -163,11 +163,11 @@ impl Files for MemFiles {
         ensures piece { piece.new ≡ read_piece piece.old self.old }
         ensures state { self.new ≡ was_read (length piece.old) self.old }
     {
-        if self.begin_call() {
-            return Err(self.fault());
+        if count_call(&mut self.calls, self.fails.as_slice()) {
+            return Err(count_fault(&mut self.faults));
         }
         let n = match self.left() {
-            None => return Err(self.fault()),
+            None => return Err(count_fault(&mut self.faults)),
             Some(left) => copy_front(left, self.most, piece),
         };
         self.at += n;
@@ -253,24 +253,6 @@ impl MemSink {
     {
         self.bytes.as_slice()
     }
-
-    /// Counts a call, and answers whether it is to fail.
-    fn begin_call(&mut self) -> bool
-        ensures answer { result ≡ is_due self.old.fails self.old.calls }
-        ensures state { self.new ≡ record self.old { calls = raised self.old.calls } }
-    {
-        self.calls = raise(self.calls);
-        is_listed(self.fails.as_slice(), self.calls)
-    }
-
-    /// Counts a fault.
-    fn fault(&mut self) -> Failed
-        ensures state { self.new ≡ record self.old { faults = raised self.old.faults } }
-        ensures cause { Rose self.old.faults self.new.faults }
-    {
-        self.faults = raise(self.faults);
-        Failed
-    }
 }
 
 impl Sink for MemSink {
@@ -291,17 +273,17 @@ impl Sink for MemSink {
         ensures answer { result ≡ write_answer (length piece.now) self.old }
         ensures state { self.new ≡ was_written piece.now self.old }
     {
-        if self.begin_call() {
-            return Err(self.fault());
+        if count_call(&mut self.calls, self.fails.as_slice()) {
+            return Err(count_fault(&mut self.faults));
         }
         let free = self.room.saturating_sub(self.bytes.len());
         let n = piece.len().min(self.most).min(free);
         if n == 0 && !piece.is_empty() {
-            return Err(self.fault());
+            return Err(count_fault(&mut self.faults));
         }
         match self.bytes.extend_from_slice(&piece[..n]) {
             Ok(()) => Ok(n),
-            Err(_) => Err(self.fault()),
+            Err(_) => Err(count_fault(&mut self.faults)),
         }
     }
 }

@@ -1,6 +1,6 @@
 use Rattle.std.proofs.Common.{◌≡◌, ◌≤◌, length, take, map, fold, []}
 use Rattle.target_desc.specs.Drafts.{name_in}
-use Rattle.target_desc.specs.Names.{with_name}
+use Rattle.word_set.specs.Words.{with_name}
 use Rattle.target_desc.proofs.add.names_in.Given as goal
 
 abbrev pub invariant-loop-row : goal.invariant-loop-row

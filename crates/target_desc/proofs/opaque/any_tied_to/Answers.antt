@@ -1,7 +1,7 @@
 use Rattle.std.proofs.Common.{◌∙◌}
 use Rattle.std.specs.Prelude.{◌==◌}
 use Rattle.target_base.specs.Roles.{tied_to}
-use Rattle.target_desc.proofs.Places.{any_of_flat}
+use Rattle.word_set.proofs.Places.{any_of_flat}
 use Rattle.target_desc.proofs.opaque.any_tied_to.Goals as goal
 
 pub returns : goal.returns

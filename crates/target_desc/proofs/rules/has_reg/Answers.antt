@@ -1,6 +1,6 @@
 use Rattle.std.proofs.Common.{◌∙◌}
 use Rattle.std.specs.Prelude.{◌==◌}
-use Rattle.target_desc.proofs.Places.{any_of_map}
+use Rattle.word_set.proofs.Places.{any_of_map}
 use Rattle.target_desc.proofs.rules.has_reg.Goals as goal
 
 pub returns : goal.returns

@@ -6,7 +6,7 @@ use Rattle.std.specs.Cmp.Lexicographic.{pointwise}
 use Rattle.std.proofs.lemmas.List.{length-map, map_push}
 use Rattle.std.proofs.lemmas.List.Folds.{list_any-append}
 use Rattle.target_base.specs.Storage.{same_numbers}
-use Rattle.target_desc.specs.Names.{with_name}
+use Rattle.word_set.specs.Words.{with_name}
 
 pub pointwise_same : (xs ys : List ℕ) → pointwise nat_eq xs ys ≡ same_numbers xs ys
 pointwise_same [] [] = refl

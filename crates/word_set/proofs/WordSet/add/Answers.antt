@@ -1,7 +1,7 @@
 use Rattle.std.proofs.Common.{◌∙◌, ap, map}
-use Rattle.target_desc.specs.Names.{with_name}
-use Rattle.target_desc.proofs.Places.{name_inserted}
-use Rattle.target_desc.proofs.names.WordSet.add.Goals as goal
+use Rattle.word_set.specs.Words.{with_name}
+use Rattle.word_set.proofs.Places.{name_inserted}
+use Rattle.word_set.proofs.WordSet.add.Goals as goal
 
 pub returns-clause-ok : goal.returns-clause-ok
 returns-clause-ok c =
