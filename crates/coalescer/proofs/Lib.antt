@@ -8,3 +8,11 @@ pub mod Turns
 pub mod Writings
 pub mod Along
 pub mod Unseen
+pub mod QuietLanes
+pub mod QuietRows
+pub mod QuietTable
+pub mod QuietAsked
+pub mod QuietPoints
+pub mod QuietFills
+pub mod QuietCopies
+pub mod QuietTold

@@ -1,2 +1,4 @@
 pub mod Coalescing
 pub mod Asked
+pub mod QuietInstrs
+pub mod QuietLaws

@@ -8,7 +8,6 @@ ghost use Rattle.mir_meaning.specs.Points.{is_range};
 ghost use Rattle.mir_func.specs.Binding.{registers};
 ghost use Rattle.live_edits.specs.Folded.{composed, is_narrower, registers_of};
 ghost use Rattle.join_laws.specs.Joined.{Joined, fits_range, index_on, indexed_join, join_at, part_join, sides_join, whole_join};
-ghost use Rattle.coalescer.specs.Asked.{TellsQuiet};
 ghost use Rattle.coalescer.specs.Coalescing.{IsJoinOf, IsTried, MayCoalesce, fits_instr, fits_operands, instr_of, joins_of};
 
 use crate::order::copies_in_order;
@@ -51,9 +50,9 @@ pub fn coalesce(
     f: LiveFunc,
     freqs: &Freqs,
 ) -> Result<(LiveFunc, Joins), AllocError>
-    ensures joined { IfOk result (λ r. TellsQuiet → MayCoalesce target.now f → Joined target.now freqs.now f.func r.1 r.0.func) }
-    ensures kept { IfOk result (λ r. TellsQuiet → MayCoalesce target.now f → MayCoalesce target.now r.0) }
-    ensures refines { IfOk result (λ r. TellsQuiet → MayCoalesce target.now f → refines target.now f.func r.0.func) }
+    ensures joined { IfOk result (λ r. MayCoalesce target.now f → Joined target.now freqs.now f.func r.1 r.0.func) }
+    ensures kept { IfOk result (λ r. MayCoalesce target.now f → MayCoalesce target.now r.0) }
+    ensures refines { IfOk result (λ r. MayCoalesce target.now f → refines target.now f.func r.0.func) }
 {
     let mut live = f;
     let mut joins = Joins::new(alloc);
@@ -82,7 +81,7 @@ fn try_copy(
     live: &mut LiveFunc,
     id: u32,
 ) -> Result<Option<Join>, AllocError>
-    ensures { IfOk result (λ made. TellsQuiet → MayCoalesce target.now live.old → IsTried target.now id live.old live.new made) }
+    ensures { IfOk result (λ made. MayCoalesce target.now live.old → IsTried target.now id live.old live.new made) }
 {
     let Some(join) = join_of(alloc, target, live, id)? else {
         return Ok(None);
@@ -99,7 +98,7 @@ fn join_of(
     live: &LiveFunc,
     id: u32,
 ) -> Result<Option<Join>, AllocError>
-    ensures { IfOk result (λ made. TellsQuiet → MayCoalesce target.now live.now → IsJoinOf target.now live.now.func id made) }
+    ensures { IfOk result (λ made. MayCoalesce target.now live.now → IsJoinOf target.now live.now.func id made) }
 {
     let Some(join) = join_at(alloc, target, live, id)? else {
         return Ok(None);
