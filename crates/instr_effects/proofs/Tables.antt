@@ -188,11 +188,11 @@ below-more P xs i here h e p before k x g f = go (nat_eq k i) refl
 pub below-all : {X : Type 0} (P : X → Type 0) (xs : List X) (i : ℕ) → length xs ≤ i → ((k : ℕ) (x : X) → k < i → slice_get xs k ≡ Some x → P x) → (k : ℕ) (x : X) → slice_get xs k ≡ Some x → P x
 below-all P xs i h before k x f = let g : k < length xs = slice_get_within xs k x f in before k x (omega arith) f
 
-numbers-long : (n k : ℕ) → length (numbers n k) ≡ k
+pub numbers-long : (n k : ℕ) → length (numbers n k) ≡ k
 numbers-long n zero = refl
 numbers-long n (suc k) = ap (λ m. suc m) (numbers-long (suc n) k)
 
-map-long : {X Y : Type 0} (g : X → Y) (xs : List X) → length (map g xs) ≡ length xs
+pub map-long : {X Y : Type 0} (g : X → Y) (xs : List X) → length (map g xs) ≡ length xs
 map-long g [] = refl
 map-long g (x ∷ xs) = ap (λ k. suc k) (map-long g xs)
 
