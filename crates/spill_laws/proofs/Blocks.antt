@@ -213,7 +213,7 @@ module _ (s : Spilling) (rules : (b : Block) (i : Instr) → Member b s.func.blo
       go p false m = absurd (member-none x m)
 
   -- the slots between which lanes pass
-  passing : (i : Instr) (k : Option ClassId) (from to : List Operand) → V1 t s.func i ≡ true → Passes s i k from to → (does is_silent t i ≡ true) × IsSlot from × IsSlot to
+  pub passing : (i : Instr) (k : Option ClassId) (from to : List Operand) → V1 t s.func i ≡ true → Passes s i k from to → (does is_silent t i ≡ true) × IsSlot from × IsSlot to
   passing i k from to rule (within {d} {o} e g p q) = (ap (passes is_silent) e, own-slot s o.index, own-slot s d.index)
   passing i k from to rule (stored_on {o} {slot} e g p) = (ap (passes is_silent) e, own-slot s o.index, spill-slot t s.func i o slot rule e g)
   passing i k from to rule (reloaded_on {o} {slot} e g p) = (ap (passes is_silent) e, reload-slot t s.func i o slot rule e g, own-slot s o.index)

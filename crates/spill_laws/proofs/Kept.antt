@@ -25,7 +25,7 @@ module _ (s : Spilling) (low : IsLowered s.target s.func) where
   unfolding V8
   in-order b mb = ordered-by s.target b.instrs (λ j i e. low.terminators b j i mb e)
 
-  orderly : (b : Block) → Member b s.func.blocks → (p : List Instr) → Member p (places_of s.target b) → (n c : ℕ) → Outcome s n c p (change s n c p)
+  pub orderly : (b : Block) → Member b s.func.blocks → (p : List Instr) → Member p (places_of s.target b) → (n c : ℕ) → Outcome s n c p (change s n c p)
   orderly b mb = place-outcome s b.instrs (λ i m. (low.rules.shaped b i mb m).operands) (λ i m. low.lowered b i mb m) (in-order b mb)
 
   pub ids-kept : IsFunction (spilled s).blocks (spilled s).next_id

@@ -1,5 +1,5 @@
 -- The classes of the function after a spill: those of its ranges stay, and each tiny has its own.
-use Rattle.std.proofs.Common.{◌≡◌, ◌<◌, ◌+◌, ◌++◌, ◌∙◌, ◌&&◌, ◌||◌, not, ℕ, zero, suc, Bool, true, false, cond, drop, List, [], ◌∷◌, Option, Some, None, flat_map, length, map, refl, sym, ap, subst, arith, eqb-true}
+use Rattle.std.proofs.Common.{◌≡◌, ◌<◌, ◌≤◌, ◌+◌, ◌++◌, ◌∙◌, ◌&&◌, ◌||◌, not, ℕ, zero, suc, Bool, true, false, cond, drop, List, [], ◌∷◌, Option, Some, None, flat_map, length, map, refl, sym, ap, subst, arith, eqb-true}
 use Rattle.std.specs.Prelude.{◌==◌, filter_map, nat_eq, nat_lt, option_and_then, option_map, position, slice_get}
 use Rattle.std.specs.List.{list_all, list_any, sum_by, zip}
 use Rattle.std.proofs.lemmas.Bool.{ltb-true}
@@ -91,10 +91,10 @@ module _ (s : Spilling) where
   abbrev class-in : Option ClassId × ℕ → Option ClassId
   class-in x = x.0
 
-  abbrev made : List (Option ClassId)
+  abbrev pub made : List (Option ClassId)
   made = map class-in (flat_map tinies_of (all_changes s))
 
-  classes-are : g.classes ≡ s.func.classes ++ made
+  pub classes-are : g.classes ≡ s.func.classes ++ made
   unfolding spilled
   classes-are = refl
 
@@ -104,20 +104,20 @@ module _ (s : Spilling) where
   has-made : Has g (length s.func.classes) made
   has-made j k e = ap (λ (cs : List (Option ClassId)). elim (slice_get cs (length s.func.classes + j)) as (λ q. Option ClassId) [ None ↦ None | Some c ↦ c ]) classes-are ∙ ap (λ q. elim q as (λ q. Option ClassId) [ None ↦ None | Some c ↦ c ]) (behind s.func.classes made j ∙ e)
 
-  -- what holds of the instructions of each place, whose tinies have their classes, holds of all
+  -- what holds of the instructions of each place, whose tinies have their classes from a further range number on, holds of all
 
   module _ (P : Instr → Type 0) (ids : (x : Instr) (n : ℕ) → P x → P (record x { id = n })) where
     abbrev Each : List Instr → Type 0
-    Each p = (n c : ℕ) → Has g c (map class-in (change s n c p).tinies) → (x : Instr) → Member x (instrs-of (change s n c p)) → P x
+    Each p = (n c : ℕ) → length s.func.classes ≤ c → Has g c (map class-in (change s n c p).tinies) → (x : Instr) → Member x (instrs-of (change s n c p)) → P x
 
     new-ids : (n : ℕ) (is : List Instr) → ((x : Instr) → Member x is → P x) → (x : Instr) → Member x (with_ids n is) → P x
     new-ids n [] h x m = absurd (member-none x m)
     new-ids n (i ∷ is) h x m = member-elim x (record i { id = n }) (with_ids (suc n) is) (λ e. subst P (sym e) (ids i n (h i first))) (λ k. new-ids (suc n) is (λ y q. h y (later q)) x k) m
 
-    place-each : (n c : ℕ) (p : List Instr) → Each p → Has g c (map class-in (change s n c p).tinies) → (x : Instr) → Member x (instrs-of (numbered_change s n c p)) → P x
-    place-each n c p each h x m =
+    place-each : (n c : ℕ) (p : List Instr) → Each p → length s.func.classes ≤ c → Has g c (map class-in (change s n c p).tinies) → (x : Instr) → Member x (instrs-of (numbered_change s n c p)) → P x
+    place-each n c p each low h x m =
         let y = change s n c p in
-        let all = each n c h in
+        let all = each n c low h in
         let behind = with_ids (n + length y.before) y.behind in
         either-elim x (with_ids n y.before) (y.own ++ behind)
         (λ k. new-ids n y.before (λ z q. all z (left-in z y.before (y.own ++ y.behind) q)) x k)
@@ -125,21 +125,21 @@ module _ (s : Spilling) where
         (λ q. all x (right-in x y.before (y.own ++ y.behind) (left-in x y.own y.behind q)))
         (λ q. new-ids (n + length y.before) y.behind (λ z r. all z (right-in z y.before (y.own ++ y.behind) (right-in z y.own y.behind r))) x q) k) m
 
-    places-each : (n c : ℕ) (ps : List (List Instr)) → ((p : List Instr) → Member p ps → Each p) → Has g c (map class-in (tinies_of (changes s n c ps))) → (x : Instr) → Member x (flat_map instrs-of (changes s n c ps)) → P x
-    places-each n c [] each h x m = absurd (member-none x m)
-    places-each n c (p ∷ ps) each h x m =
+    places-each : (n c : ℕ) (ps : List (List Instr)) → ((p : List Instr) → Member p ps → Each p) → length s.func.classes ≤ c → Has g c (map class-in (tinies_of (changes s n c ps))) → (x : Instr) → Member x (flat_map instrs-of (changes s n c ps)) → P x
+    places-each n c [] each low h x m = absurd (member-none x m)
+    places-each n c (p ∷ ps) each low h x m =
         let y = numbered_change s n c p in
         let rest = changes s (n + new_ids y) (c + length y.tinies) ps in
         let all : Has g c (map class-in y.tinies ++ map class-in (tinies_of rest)) = subst (Has g c) (map-append class-in y.tinies (tinies_of rest)) h in
         either-elim x (instrs-of y) (flat_map instrs-of rest)
-        (λ k. place-each n c p (each p first) (has-before g c (map class-in y.tinies) (map class-in (tinies_of rest)) all) x k)
-        (λ k. places-each (n + new_ids y) (c + length y.tinies) ps (λ q r. each q (later r))
+        (λ k. place-each n c p (each p first) low (has-before g c (map class-in y.tinies) (map class-in (tinies_of rest)) all) x k)
+        (λ k. places-each (n + new_ids y) (c + length y.tinies) ps (λ q r. each q (later r)) (omega (arith, low))
         (subst (λ d. Has g d (map class-in (tinies_of rest))) (ap (λ d. c + d) (length-map y.tinies class-in)) (has-behind g c (map class-in y.tinies) (map class-in (tinies_of rest)) all)) x k) m
 
-    blocks-each : (n c : ℕ) (bs : List Block) → ((b : Block) → Member b bs → (p : List Instr) → Member p (places_of s.target b) → Each p) → Has g c (map class-in (flat_map tinies_of (block_changes s n c bs)))
+    blocks-each : (n c : ℕ) (bs : List Block) → ((b : Block) → Member b bs → (p : List Instr) → Member p (places_of s.target b) → Each p) → length s.func.classes ≤ c → Has g c (map class-in (flat_map tinies_of (block_changes s n c bs)))
         → (d : Block) (x : Instr) → Member d (map spilled_block (zip bs (block_changes s n c bs))) → Member x d.instrs → P x
-    blocks-each n c [] each h d x md mx = absurd (member-none d md)
-    blocks-each n c (b ∷ bs) each h d x md mx =
+    blocks-each n c [] each low h d x md mx = absurd (member-none d md)
+    blocks-each n c (b ∷ bs) each low h d x md mx =
         let ys = changes s n c (places_of s.target b) in
         let m = n + sum_by new_ids ys in
         let e = c + length (tinies_of ys) in
@@ -147,12 +147,12 @@ module _ (s : Spilling) where
         let more = flat_map tinies_of rest in
         let all : Has g c (map class-in (tinies_of ys) ++ map class-in more) = subst (Has g c) (map-append class-in (tinies_of ys) more) h in
         member-elim d (spilled_block (b, ys)) (map spilled_block (zip bs rest))
-        (λ q. places-each n c (places_of s.target b) (each b first) (has-before g c (map class-in (tinies_of ys)) (map class-in more) all) x (subst (λ (z : Block). Member x z.instrs) q mx))
-        (λ q. blocks-each m e bs (λ z r. each z (later r)) (subst (λ z. Has g z (map class-in more)) (ap (λ z. c + z) (length-map (tinies_of ys) class-in)) (has-behind g c (map class-in (tinies_of ys)) (map class-in more) all)) d x q mx) md
+        (λ q. places-each n c (places_of s.target b) (each b first) low (has-before g c (map class-in (tinies_of ys)) (map class-in more) all) x (subst (λ (z : Block). Member x z.instrs) q mx))
+        (λ q. blocks-each m e bs (λ z r. each z (later r)) (omega (arith, low)) (subst (λ z. Has g z (map class-in more)) (ap (λ z. c + z) (length-map (tinies_of ys) class-in)) (has-behind g c (map class-in (tinies_of ys)) (map class-in more) all)) d x q mx) md
 
     pub all-instrs : ((b : Block) → Member b s.func.blocks → (p : List Instr) → Member p (places_of s.target b) → Each p) → (d : Block) (x : Instr) → Member d g.blocks → Member x d.instrs → P x
     unfolding spilled
-    all-instrs each d x md mx = blocks-each s.func.next_id (length s.func.classes) s.func.blocks each has-made d x md mx
+    all-instrs each d x md mx = blocks-each s.func.next_id (length s.func.classes) s.func.blocks each (omega arith) has-made d x md mx
 
 -- classes of roles are the target's
 
@@ -360,27 +360,39 @@ module _ (s : Spilling) where
   abbrev Out : List Instr → Type 0
   Out p = (n c : ℕ) → Outcome s n c p (change s n c p)
 
-  places-known : (n c : ℕ) (ps : List (List Instr)) → ((p : List Instr) → Member p ps → Out p) → AreKnownClasses (tinies_of (changes s n c ps))
-  places-known n c [] h x m = absurd (member-none x m)
-  places-known n c (p ∷ ps) h x m =
-      let y = numbered_change s n c p in
-      let rest = changes s (n + new_ids y) (c + length y.tinies) ps in
-      either-elim x y.tinies (tinies_of rest) (tinies-known n c p (change s n c p) (h p first n c) x) (places-known (n + new_ids y) (c + length y.tinies) ps (λ q k. h q (later k)) x) m
+  -- what holds of the tinies of each place holds of all
 
-  blocks-known : (n c : ℕ) (bs : List Block) → ((b : Block) → Member b bs → (p : List Instr) → Member p (places_of s.target b) → Out p) → AreKnownClasses (flat_map tinies_of (block_changes s n c bs))
-  blocks-known n c [] h x m = absurd (member-none x m)
-  blocks-known n c (b ∷ bs) h x m =
-      let ys = changes s n c (places_of s.target b) in
-      let rest = block_changes s (n + sum_by new_ids ys) (c + length (tinies_of ys)) bs in
-      either-elim x (tinies_of ys) (flat_map tinies_of rest) (places-known n c (places_of s.target b) (h b first) x) (blocks-known (n + sum_by new_ids ys) (c + length (tinies_of ys)) bs (λ d k. h d (later k)) x) m
+  module _ (Q : Option ClassId × ℕ → Type 0) where
+    abbrev pub GivenBy : List Instr → Type 0
+    GivenBy p = (n c : ℕ) (x : Option ClassId × ℕ) → Member x (change s n c p).tinies → Q x
+
+    places-tinies : (n c : ℕ) (ps : List (List Instr)) → ((p : List Instr) → Member p ps → GivenBy p) → (x : Option ClassId × ℕ) → Member x (tinies_of (changes s n c ps)) → Q x
+    places-tinies n c [] h x m = absurd (member-none x m)
+    places-tinies n c (p ∷ ps) h x m =
+        let y = numbered_change s n c p in
+        let rest = changes s (n + new_ids y) (c + length y.tinies) ps in
+        either-elim x y.tinies (tinies_of rest) (h p first n c x) (places-tinies (n + new_ids y) (c + length y.tinies) ps (λ q k. h q (later k)) x) m
+
+    blocks-tinies : (n c : ℕ) (bs : List Block) → ((b : Block) → Member b bs → (p : List Instr) → Member p (places_of s.target b) → GivenBy p) → (x : Option ClassId × ℕ) → Member x (flat_map tinies_of (block_changes s n c bs)) → Q x
+    blocks-tinies n c [] h x m = absurd (member-none x m)
+    blocks-tinies n c (b ∷ bs) h x m =
+        let ys = changes s n c (places_of s.target b) in
+        let rest = block_changes s (n + sum_by new_ids ys) (c + length (tinies_of ys)) bs in
+        either-elim x (tinies_of ys) (flat_map tinies_of rest) (places-tinies n c (places_of s.target b) (h b first) x) (blocks-tinies (n + sum_by new_ids ys) (c + length (tinies_of ys)) bs (λ d k. h d (later k)) x) m
+
+    pub all-tinies : ((b : Block) → Member b s.func.blocks → (p : List Instr) → Member p (places_of s.target b) → GivenBy p) → (x : Option ClassId × ℕ) → Member x (flat_map tinies_of (all_changes s)) → Q x
+    all-tinies h = blocks-tinies s.func.next_id (length s.func.classes) s.func.blocks h
 
   pub classes-known : AreClasses s.target s.func → ((b : Block) → Member b s.func.blocks → (p : List Instr) → Member p (places_of s.target b) → Out p) → AreClasses s.target (spilled s)
   classes-known classes h v k e = go (slice_get (s.func.classes ++ made s) v) refl (ap (λ (cs : List (Option ClassId)). elim (slice_get cs v) as (λ q. Option ClassId) [ None ↦ None | Some c ↦ c ]) (sym (classes-are s)) ∙ e)
     where
+      all-known : AreKnownClasses (flat_map tinies_of (all_changes s))
+      all-known = all-tinies (λ x. (k : ClassId) → x.0 ≡ Some k → IsClass s.target k) (λ b mb p mp n c. tinies-known n c p (change s n c p) (h b mb p mp n c))
+
       go : (q : Option (Option ClassId)) → slice_get (s.func.classes ++ made s) v ≡ q → elim q as (λ q. Option ClassId) [ None ↦ None | Some y ↦ y ] ≡ Some k → IsClass s.target k
       go None at h = absurd (cc)
       go (Some q) at is =
           let m : Member (Some k) (s.func.classes ++ made s) = subst (λ x. Member x (s.func.classes ++ made s)) is (slice-member (s.func.classes ++ made s) v q at) in
           either-elim (Some k) s.func.classes (made s)
           (λ a. let w = member-slice (Some k) s.func.classes a in classes w.0 k (ap (λ q. elim q as (λ q. Option ClassId) [ None ↦ None | Some y ↦ y ]) w.1))
-          (λ a. let w = map-of (λ (x : Option ClassId × ℕ). x.0) (Some k) (flat_map tinies_of (all_changes s)) a in blocks-known s.func.next_id (length s.func.classes) s.func.blocks h w.0 w.1 k (sym w.2)) m
+          (λ a. let w = map-of (λ (x : Option ClassId × ℕ). x.0) (Some k) (flat_map tinies_of (all_changes s)) a in all-known w.0 w.1 k (sym w.2)) m

@@ -91,13 +91,13 @@ module _ (s : Spilling) (g : Function) (stay : (w : ℕ) → is_some (class_of s
   through l b at e (Some y) = (λ k. located_widths t f (at k) (Some y)) ∙ ap (λ q. map (slice_index (widths_of_some t q)) (lanes_of t y)) e
 
   -- the class of a move of an operand of the range
-  record Moving (o : RegOp) : Type 0 where
+  pub record Moving (o : RegOp) : Type 0 where
     pub class : ClassId
     pub is : moving_class s o.index ≡ Some class
     pub known : IsClass t class
     pub long : length (widths_of t class) ≡ length (operand_widths t f o)
 
-  moving-of : (o : RegOp) → is_own s o ≡ true → has_class f o.loc ≡ true → index_fits t f o.loc o.index ≡ true → Moving o
+  pub moving-of : (o : RegOp) → is_own s o ≡ true → has_class f o.loc ≡ true → index_fits t f o.loc o.index ≡ true → Moving o
   moving-of o own h e = go (class_of f s.range) refl (subst (λ l. has_class f l ≡ true) at h) (subst (λ l. index_fits t f l o.index ≡ true) at e)
     where
       at : o.loc ≡ Virtual s.range

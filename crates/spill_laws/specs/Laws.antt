@@ -1,5 +1,5 @@
 -- Spills keep the form in which ranges are joined, split and spilled.
-use Rattle.std.specs.Prelude.{◌≡◌, ◌+◌, ◌++◌, ◌&&◌, ℕ, Bool, true, not, is_some, length, map, slice_get, List, [], ◌∷◌, Option, None, Some}
+use Rattle.std.specs.Prelude.{◌≡◌, ◌<◌, ◌≤◌, ◌+◌, ◌++◌, ◌&&◌, ℕ, Bool, true, not, is_some, length, map, slice_get, List, [], ◌∷◌, Option, None, Some}
 use Rattle.std.specs.List.{list_all}
 use Rattle.target_base.specs.declared.types.ClassId.{ClassId}
 use Rattle.target_base.specs.declared.types.Effect.TheVariants as effects
@@ -112,6 +112,12 @@ SpillKeepsClasses =
     (t : Target) (f g : Function) (slots new : Slots) (v : ℕ) (made : List (ℕ × ℕ)) → IsLowered t f → IsSpilled t f slots v g new made
     → ((w : ℕ) → is_some (class_of f w) ≡ true → class_of g w ≡ class_of f w) × AreClasses t g
 
+-- Each further range has a class, and that is the target's.
+abbrev pub SpillGivesClasses : Type 0
+SpillGivesClasses =
+    (t : Target) (f g : Function) (slots new : Slots) (v : ℕ) (made : List (ℕ × ℕ)) → IsLowered t f → IsSpilled t f slots v g new made
+    → (w : ℕ) → length f.classes ≤ w → w < length g.classes → (k : ClassId) × (class_of g w ≡ Some k) × IsClass t k
+
 -- A virtual register that an instruction with roles names has an operand class, with as many lanes: a tiny can take its place.
 abbrev pub SeatsHaveClasses : Type 0
 SeatsHaveClasses =
@@ -138,8 +144,24 @@ BesidesKeepRules =
     → ((j : ℕ) (k : Option ClassId) → slice_get (map (λ x. x.0) (place_change s c p).tinies) j ≡ Some k → class_of g (c + j) ≡ k)
     → (x : Instr) → Member x ((place_change s c p).before ++ (place_change s c p).behind) → IsInForm s.target g x
 
+-- A place of the function, whose instructions keep the rules and have ids of their own: each is in lowered form and gets
+-- tinies, which have their classes from a range number of g on.
+pub record HasTinies (s : Spilling) (g : Function) (c : ℕ) (p : List Instr) : Type 0 where
+  pub keeps : KeepsClasses s g
+  pub classes : AreClasses s.target s.func
+  pub further : length s.func.classes ≤ c
+  pub shaped : (i : Instr) → Member i p → IsShaped s.target s.func i
+  pub placed : (i : Instr) → Member i p → does is_placed s.target i ≡ true
+  pub lowered : (i : Instr) → Member i p → is_lowered s.target i ≡ true
+  pub once : (i j : Instr) → Member i p → Member j p → i.id ≡ j.id → i ≡ j
+  pub tinies : (j : ℕ) (k : Option ClassId) → slice_get (map (λ x. x.0) (place_change s c p).tinies) j ≡ Some k → class_of g (c + j) ≡ k
+
+-- Each of its instructions, with tinies in place of the range, is in form.
+abbrev pub TiniesKeepRules : Type 0
+TiniesKeepRules = (s : Spilling) (g : Function) (c : ℕ) (p : List Instr) → HasTinies s g c p → (x : Instr) → Member x (place_change s c p).own → IsInForm s.target g x
+
 -- The function after a spill of one of its ranges is in the form in which ranges are spilled, and its instructions are in lowered form.
 abbrev pub SpillKeepsLowered : Type 0
 SpillKeepsLowered =
-    (t : Target) (f g : Function) (slots new : Slots) (v : ℕ) (k : ClassId) (made : List (ℕ × ℕ)) → IsLowered t f → AreLowered t f → class_of f v ≡ Some k
-    → IsSpilled t f slots v g new made → IsLowered t g × AreLowered t g
+    (t : Target) (f g : Function) (slots new : Slots) (v : ℕ) (made : List (ℕ × ℕ)) → IsLowered t f → AreLowered t f → IsSpilled t f slots v g new made
+    → IsLowered t g × AreLowered t g

@@ -1,9 +1,12 @@
 //! Laws of spills: a function in which a range was spilled keeps the rules that liveness and edits rest on.
 //!
-//! Each is the contract of a function, so that a check proves it.
+//! Each is the contract of a function, so that a check proves it. Begin with `lowered_law`, which is of one spill; `spills_law` is
+//! of many behind lowering. `moves_law` and those behind it up to `stays_law` are of the instructions that a spill makes.
 #![tactic(auto)]
 
-ghost use Rattle.spill_laws.specs.Laws.{BesidesKeepRules, CopiesKeepRules, MovesKeepRules, PassesKeepRules, RepeatsKeepRules, SeatsHaveClasses, SpillKeepsBlockRules, SpillKeepsClasses, SpillKeepsIds, StaysKeepRules, UndefinedKeepRules};
+ghost use Rattle.spill_laws.specs.Laws.{BesidesKeepRules, CopiesKeepRules, MovesKeepRules, PassesKeepRules, RepeatsKeepRules, SeatsHaveClasses, SpillGivesClasses, SpillKeepsBlockRules, SpillKeepsClasses, SpillKeepsIds, SpillKeepsLowered, StaysKeepRules, TiniesKeepRules, UndefinedKeepRules};
+ghost use Rattle.spill_laws.specs.Named.{FormHasPlainUndefs, LoweredHasFixedUndefs, SpillKeepsNamed};
+ghost use Rattle.spill_laws.specs.Turns.{LoweredSpillsKeepForm};
 
 /// New instructions have ids of their own.
 pub fn ids_law()
@@ -18,6 +21,11 @@ pub fn blocks_law()
 /// Ranges keep their classes, and new ones have classes of the target.
 pub fn classes_law()
     ensures { SpillKeepsClasses }
+{}
+
+/// Each further range has a class.
+pub fn further_law()
+    ensures { SpillGivesClasses }
 {}
 
 /// A store to a slot, or a reload, of a register that lies in its class keeps the rules on its operands.
@@ -55,7 +63,38 @@ pub fn besides_law()
     ensures { BesidesKeepRules }
 {}
 
+/// So does an instruction with tinies in place of the range.
+pub fn tinies_law()
+    ensures { TiniesKeepRules }
+{}
+
 /// An instruction that stays keeps the rules.
 pub fn stays_law()
     ensures { StaysKeepRules }
+{}
+
+/// So the function after a spill is in the form in which ranges are spilled, and its instructions are in lowered form.
+pub fn lowered_law()
+    ensures { SpillKeepsLowered }
+{}
+
+/// Behind lowering no `undef` use names a virtual register but tied ones.
+pub fn undefs_law()
+    ensures { LoweredHasFixedUndefs }
+{}
+
+/// Where no `undef` use names a virtual register but tied ones, no instruction behind a spill names a range in `undef` uses
+/// alone.
+pub fn named_law()
+    ensures { SpillKeepsNamed }
+{}
+
+/// No instruction in lowered form has an `undef` definition, and none is a copy of an `undef` source.
+pub fn plain_law()
+    ensures { FormHasPlainUndefs }
+{}
+
+/// A valid source, lowered and then with any number of spills, is in the form in which ranges are spilled.
+pub fn spills_law()
+    ensures { LoweredSpillsKeepForm }
 {}
