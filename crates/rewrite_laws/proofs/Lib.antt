@@ -1,0 +1,10 @@
+pub mod Units
+pub mod Operands
+pub mod Named
+pub mod Spots
+pub mod Clear
+pub mod Bare
+pub mod Blocks
+pub mod Folding
+pub mod Forward
+pub mod Rewriting
