@@ -1,1 +1,2 @@
 pub mod Like
+pub mod Prepared

@@ -92,6 +92,7 @@ pub fn served_source(
 ) -> Result<ServedSource, FunctionStop>
     requires { FitsTarget target.now f }
     ensures ok { IfOk result (λ s. (s.name ≡ f.name) × (s.live.func ≡ f) × IsTaken target.now f × PlacesServe target.now f) }
+    ensures target { IfOk result (λ s. s.live.target ≡ target.now) }
     ensures err { IfErr result (IfRefused target.now f) }
     ensures early { IfErr result IfBeforeRun }
 {

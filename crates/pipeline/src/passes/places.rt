@@ -23,6 +23,7 @@ pub fn check_source_places(
 ) -> Result<LiveFunc, PlaceStop>
     requires { IsComputed target.now source.source.func source.table.table }
     ensures func { IfOk result (λ live. live.func ≡ source.source.func) }
+    ensures target { IfOk result (λ live. live.target ≡ target.now) }
     ensures variables { IfErr result (own.IfVariables (FirstPlace target.now source.source.func TooMany)) }
     ensures few_at_ok { OnOk result (own.HasFew target.now source.source.func) }
     ensures few_at_unassignable { IfErr result (own.IfUnassignable (λ _. own.HasFew target.now source.source.func)) }

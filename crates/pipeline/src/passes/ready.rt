@@ -4,7 +4,7 @@ ghost use Rattle.std.specs.Prelude.{◌≡◌, ◌≤◌, ◌^◌, IfOk, IfSome}
 ghost use Rattle.block_freq.specs.Frequencies.{frequencies_of};
 ghost use Rattle.phi_elim.specs.Bulk.{bulk};
 ghost use Rattle.two_address.specs.Lowered.{lowered};
-ghost use Rattle.pipeline.specs.Passes.Ready.{IsLive};
+ghost use Rattle.pipeline.specs.Passes.Ready.{IsLive, IsPrepared, MayPrepare};
 
 use crate::guarded::verify_live;
 use alloc_check::fits;
@@ -38,7 +38,8 @@ pub fn lower_source(alloc: Global, target: &Target, source: Valid) -> Result<Fun
 /// The function lowered, and then its copies joined by the frequencies of its blocks, which stay the
 /// same. What was live in it before is let go, and its share of the target is kept.
 pub fn prepare(alloc: Global, target: &Target, source: LiveFunc) -> Result<PreparedFunc, AllocError>
-    ensures { bulk source.func ≤ 2 ^ 24 → IfOk result (λ made. made.freqs ≡ frequencies_of (lowered target.now source.func).blocks) }
+    ensures freqs { bulk source.func ≤ 2 ^ 24 → IfOk result (λ made. made.freqs ≡ frequencies_of (lowered target.now source.func).blocks) }
+    ensures prepared { MayPrepare target.now source → IfOk result (IsPrepared target.now source.func) }
 {
     let (own_target, func) = source.into_parts();
     let f = lower_source(alloc, target, Valid { func })?;
