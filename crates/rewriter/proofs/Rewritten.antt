@@ -26,9 +26,10 @@ each_all f n k made total h was = sym (append-nil made) ∙ (ap (λ ns. made ++ 
 same_tests : (s t : ℕ → ℕ → Bool) → ((p u : ℕ) → s p u ≡ t p u) → s ≡ t
 same_tests s t h = λ i p u. h p u i
 
-pub rewritten : (t : Target) (rs qs : Assignment) (slots : List (ℕ × ClassId)) (live : LiveUnits) (x : LiveFunc) (f g : Function) → rs ≡ qs → f ≡ x.func → ((p u : ℕ) → live_into live p u ≡ is_live_unit x rs p u) → g ≡ physical_form t rs slots (live_into live) f → g ≡ physical_form t qs slots (is_live_unit x qs) x.func
-rewritten t rs qs slots live x f g r of told e =
+pub rewritten : (t : Target) (rs qs : Assignment) (given slots : List (ℕ × ClassId)) (live : LiveUnits) (x : LiveFunc) (f g : Function) → rs ≡ qs → given ≡ slots → f ≡ x.func → ((p u : ℕ) → live_into live p u ≡ is_live_unit x rs p u) → g ≡ physical_form t rs given (live_into live) f → g ≡ physical_form t qs slots (is_live_unit x qs) x.func
+rewritten t rs qs given slots live x f g r s of told e =
     e
-    ∙ (ap (λ l. physical_form t rs slots l f) (same_tests (live_into live) (is_live_unit x rs) told)
-    ∙ (ap (λ q. physical_form t q slots (is_live_unit x q) f) r
-    ∙ ap (λ h. physical_form t qs slots (is_live_unit x qs) h) of))
+    ∙ (ap (λ l. physical_form t rs given l f) (same_tests (live_into live) (is_live_unit x rs) told)
+    ∙ (ap (λ q. physical_form t q given (is_live_unit x q) f) r
+    ∙ (ap (λ ss. physical_form t qs ss (is_live_unit x qs) f) s
+    ∙ ap (λ h. physical_form t qs slots (is_live_unit x qs) h) of)))

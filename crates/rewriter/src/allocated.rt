@@ -1,6 +1,7 @@
 //! The end of a run in physical form.
 
 ghost use Rattle.std.specs.Prelude.{◌≡◌, length, IfOk};
+ghost use Rattle.spiller.specs.RangeSlots.{numbers_with_classes};
 ghost use Rattle.rewriter.specs.Rewritten.{registers_of, IsRewritten};
 
 use crate::live_units::LiveUnits;
@@ -31,9 +32,11 @@ fn registers_of(alloc: Global, m: &Matrix) -> Result<Vec<Option<Reg>>, AllocErro
 }
 
 /// The number of each slot with the class of its original.
-fn numbers_of(alloc: Global, slots: &[RangeSlot]) -> Result<Vec<(u32, ClassId)>, AllocError> {
+fn numbers_of(alloc: Global, slots: &[RangeSlot]) -> Result<Vec<(u32, ClassId)>, AllocError>
+    ensures { IfOk result (λ made. made.items ≡ numbers_with_classes slots.now) }
+{
     let mut made = Vec::new(alloc);
-    'slots: for s in slots {
+    'each: for s in slots {
         made.push((s.number, s.class))?;
     }
     Ok(made)
@@ -44,7 +47,7 @@ fn numbers_of(alloc: Global, slots: &[RangeSlot]) -> Result<Vec<(u32, ClassId)>,
 /// the slots declared. It is meant for an end at which every range that the function names is assigned;
 /// an operand of another one stays as it is.
 pub fn rewrite(alloc: Global, target: &Target, a: Allocated) -> Result<Func, AllocError>
-    ensures { IfOk result (IsRewritten target.now a.matrix) }
+    ensures { IfOk result (IsRewritten target.now a) }
 {
     let Allocated { matrix, slots } = a;
     let registers = registers_of(alloc, &matrix)?;

@@ -1,3 +1,6 @@
 pub mod Sample
 mod Examples
 mod Reached
+pub mod NumbersTaken
+pub mod LeastFree
+pub mod SlotsGiven

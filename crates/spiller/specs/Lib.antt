@@ -1,4 +1,6 @@
 pub mod Slots
+pub mod RangeSlots
+pub mod SlotMaps
 pub mod Reaching
 pub mod Setting
 pub mod Rematerialised

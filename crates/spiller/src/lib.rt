@@ -1,8 +1,9 @@
 //! Spilling: a live range is kept in a spill slot, and each place that touches it gets registers of its
 //! own for the moment (LLVM's InlineSpiller, with rematerialisation).
 //!
-//! That what it makes is the definition's is tested and not proved. Begin with `spilled`; which values
-//! are made anew is in `remat` and `reaching`, and slots are in `slot_map`.
+//! Begin with `spilled`; which values are made anew is in `remat` and `reaching`, and slots are in
+//! `slot_map`. That slots are the definition's is proved; that what spilling makes is the definition's is
+//! tested and not proved.
 #![tactic(auto)]
 
 mod kinds;
