@@ -62,7 +62,7 @@ register-set rs v q h w = go (cases_eq v w)
     go (inl e) = ap (λ n. register_in (set rs v q) n) (sym e) ∙ at rs v h ∙ sym (ap (λ t. cond t q (register_in rs w)) (eq-eqb v w e))
     go (inr ne) = off rs v w ne ∙ sym (ap (λ t. cond t q (register_in rs w)) (ne_eqb v w ne))
 
-register-past : (rs : List (Option Reg)) (v : ℕ) → length rs ≤ v → register_in rs v ≡ None
+pub register-past : (rs : List (Option Reg)) (v : ℕ) → length rs ≤ v → register_in rs v ≡ None
 register-past [] v h = refl
 register-past (r ∷ rs) zero h = absurd (omega arith)
 register-past (r ∷ rs) (suc v) h = register-past rs v (omega arith)

@@ -18,3 +18,15 @@ pub mod Starts
 pub mod Assigned
 pub mod NewLists
 pub mod NewRange
+pub mod PutBack
+pub mod HeldPieces
+pub mod Renumbered
+pub mod WholeLists
+pub mod HeldLanes
+pub mod EditedPieces
+pub mod ChangedWhole
+pub mod Ranks
+pub mod EditedMatrix
+pub mod EditedFunc
+pub mod ComputedEnds
+pub mod RowsOfExtents

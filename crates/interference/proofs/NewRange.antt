@@ -78,7 +78,7 @@ module _ (t : Target) (f g : Function) (more : List (Option ClassId)) (x y : Tab
 few-rows : (t : Target) (f : Function) (x : Table) → IsComputed t f x → KeepsRules t f → KeepsLast t f → length x.rows.rows.items < 4294967296
 few-rows t f x computed rules last = (computed.table (all t f x computed rules last)).few
 
-in-order : (t : Target) (f : Function) (x : Table) → IsComputed t f x → KeepsRules t f → KeepsLast t f → InOrder x
+pub in-order : (t : Target) (f : Function) (x : Table) → IsComputed t f x → KeepsRules t f → KeepsLast t f → InOrder x
 in-order t f x computed rules last = piece-law (lane_code t f (number_in x.lanes)) x.order.slots x.flow.items x.rows.rows.items (computed.table (all t f x computed rules last))
 
 -- the table itself keeps extents

@@ -29,6 +29,7 @@ use Rattle.live_lanes.specs.Looks.{InOrder}
 use Rattle.live_lanes.specs.Reach.{is_never}
 use Rattle.live_lanes.proofs.Cells.{both-left, both-right}
 use Rattle.interference.specs.Changes.{starting}
+use Rattle.interference.specs.HeldLanes.{lane_in}
 use Rattle.interference.specs.Listed.{lane_extents, range_extents, BeginApart}
 
 -- the extents of a cell, piece by piece
@@ -134,22 +135,22 @@ no-unit x v k (w ∷ us) u b e =
         go true g = absurd (let z : nat_eq c a ≡ true = eq-eqb c a (sym (eqb-true a c g)) in cc)
         go false g = g
 
-one-lane : (x : Table) (v k : ℕ) (us : List UnitNumber) (u b : ℕ) → are_distinct_numbers (map (λ w. w.0) us) ≡ true → (q : Option ℕ) × (range_extents x v k us u b ≡ lane_extents x q b)
-one-lane x v k [] u b d = (None, refl)
-one-lane x v k (w ∷ us) u b d = go (nat_eq w.0 u) refl (one-lane x v (suc k) us u b (both-right (not (list_any (λ n. w.0 == n) (map (λ z. z.0) us))) (is_distinct (λ m n. m == n) (map (λ z. z.0) us)) d))
+-- what a range has of a unit is what that lane has
+pub lane-alone : (x : Table) (v k : ℕ) (us : List UnitNumber) (u b : ℕ) → are_distinct_numbers (map (λ w. w.0) us) ≡ true → range_extents x v k us u b ≡ lane_extents x (lane_in x.lanes v k us u) b
+lane-alone x v k [] u b d = refl
+lane-alone x v k (w ∷ us) u b d = go (nat_eq w.0 u) refl (lane-alone x v (suc k) us u b (both-right (not (list_any (λ n. w.0 == n) (map (λ z. z.0) us))) (is_distinct (λ m n. m == n) (map (λ z. z.0) us)) d))
   where
     lone : list_any (λ n. w.0 == n) (map (λ z. z.0) us) ≡ false
     lone = not-true (list_any (λ n. w.0 == n) (map (λ z. z.0) us)) (both-left (not (list_any (λ n. w.0 == n) (map (λ z. z.0) us))) (is_distinct (λ m n. m == n) (map (λ z. z.0) us)) d)
 
-    go : (t : Bool) → nat_eq w.0 u ≡ t → (q : Option ℕ) × (range_extents x v (suc k) us u b ≡ lane_extents x q b) → (q : Option ℕ) × (cond t (lane_extents x (number_in x.lanes (owners.Range v k)) b) [] ++ range_extents x v (suc k) us u b ≡ lane_extents x q b)
-    go true e ih = (
-      number_in x.lanes (owners.Range v k),
-      ap (λ es. lane_extents x (number_in x.lanes (owners.Range v k)) b ++ es) (no-unit x v (suc k) us u b (ap (λ y. list_any (λ n. y == n) (map (λ z. z.0) us)) (sym (eqb-true w.0 u e)) ∙ lone)) ∙ append-nil (lane_extents x (number_in x.lanes (owners.Range v k)) b),
-    )
+    go : (t : Bool) → nat_eq w.0 u ≡ t → range_extents x v (suc k) us u b ≡ lane_extents x (lane_in x.lanes v (suc k) us u) b
+        → cond t (lane_extents x (number_in x.lanes (owners.Range v k)) b) [] ++ range_extents x v (suc k) us u b ≡ lane_extents x (cond t (number_in x.lanes (owners.Range v k)) (lane_in x.lanes v (suc k) us u)) b
+    go true e ih =
+        ap (λ es. lane_extents x (number_in x.lanes (owners.Range v k)) b ++ es) (no-unit x v (suc k) us u b (ap (λ y. list_any (λ n. y == n) (map (λ z. z.0) us)) (sym (eqb-true w.0 u e)) ∙ lone)) ∙ append-nil (lane_extents x (number_in x.lanes (owners.Range v k)) b)
     go false e ih = ih
 
 pub range-apart : (x : Table) → InOrder x → (v : ℕ) (us : List UnitNumber) (u b : ℕ) → are_distinct_numbers (map (λ w. w.0) us) ≡ true → BeginApart (range_extents x v 0 us u b)
-range-apart x order v us u b d s = let z = one-lane x v 0 us u b d in subst (λ es. starting s es ≤ 1) (sym z.1) (lane-apart x.order.slots x refl order z.0 b s)
+range-apart x order v us u b d s = subst (λ es. starting s es ≤ 1) (sym (lane-alone x v 0 us u b d)) (lane-apart x.order.slots x refl order (lane_in x.lanes v 0 us u) b s)
 
 -- the units of a register
 

@@ -113,7 +113,7 @@ upto-all (Some c) i e = ap (upto (Some c)) e
 
 -- one list among several changes
 
-get-within : {X : Type 0} (xs : List X) (i : ℕ) (x : X) → i < length xs → x ≡ get_or xs i x → slice_get xs i ≡ Some x
+pub get-within : {X : Type 0} (xs : List X) (i : ℕ) (x : X) → i < length xs → x ≡ get_or xs i x → slice_get xs i ≡ Some x
 get-within [] i x h e = absurd (omega arith)
 get-within (y ∷ xs) zero x h e = ap Some (sym e)
 get-within (y ∷ xs) (suc i) x h e = get-within xs i x (omega arith) e
@@ -140,6 +140,10 @@ row-changed P ls b l k h e p = record {
   other = λ p ne. get-beside ls b p k (unequal b p ne);
 }
 
+-- where there is a list
+pub row-there : {X : Type 0} (ls : List HeldList) (b : ℕ) (l : HeldList) → b < length ls → l ≡ get_or ls b l → slice_get ls b ≡ None → X
+row-there ls b l h e none = absurd (let z : Some l ≡ None = sym (get-within ls b l h e) ∙ none in cc)
+
 in-row : (a : UnitTable) (u b : ℕ) (o : Option UnitExtents) → slice_get a.units.items u ≡ o → list_in a u b ≡ elim o [ None ↦ None | Some r ↦ slice_get r.blocks.items b ]
 in-row a u b o e = ap (λ q. elim q [ None ↦ None | Some r ↦ slice_get r.blocks.items b ]) e
 
@@ -161,6 +165,9 @@ table-changed P old new u b r s h e is row = record {
         let off : nat_eq b p ≡ false = sym (ap (λ t. t && nat_eq b p) (eq-eqb u w same)) ∙ ne in
         ap (λ x. list_in new x p) (sym same) ∙ will p ∙ row.other p off ∙ sym (was p) ∙ ap (λ x. list_in old x p) same
     go w p (inr not) ne = in-row new w p (slice_get old.units.items w) (ap (λ xs. slice_get xs w) is ∙ get-beside old.units.items u w s not)
+
+pub table-there : {X : Type 0} (a : UnitTable) (u b : ℕ) (r : UnitExtents) → u < length a.units.items → r ≡ get_or a.units.items u r → (slice_get r.blocks.items b ≡ None → X) → list_in a u b ≡ None → X
+table-there a u b r h e rest none = rest (sym (in-row a u b (Some r) (get-within a.units.items u r h e)) ∙ none)
 
 -- the list of the block of a cell
 pub cell-some : (P : List Extent → HeldList → HeldList → Type 0) (u b : ℕ) (o : Option Cell) (a n : UnitTable) → Some b ≡ option_map (λ (c : Cell). c.block) o → ChangesAt (P (some_extents o)) u b a n → ChangesCell P u o a n

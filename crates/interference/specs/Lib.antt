@@ -4,3 +4,10 @@ pub mod Changes
 pub mod Listed
 pub mod Wide
 pub mod Marked
+pub mod ChangedLists
+pub mod SavedLists
+pub mod EditedLists
+pub mod HeldLanes
+pub mod EditedPieces
+pub mod EditedMatrix
+pub mod OneEdit

@@ -47,6 +47,11 @@ IsMet slots hs at but (mets.Other w) = (nat_eq w but ≡ false) × (is_taken_by 
 IsMet slots hs at but mets.Behind = (is_taken slots hs but at ≡ false) × (list_any (lies_before slots at.first) hs ≡ true)
 IsMet slots hs at but mets.Open = is_taken slots hs but at ≡ false
 
+-- a place behind all stretches that begin at the point or before it
+pub record IsBehind (slots : Numbers) (at : ℕ) (l : HeldList) (gap : ListPosition) : Type 0 where
+  pub within : gap.count ≤ length (part_in (parts_of l) gap.part)
+  pub begun : AreFilled l → AreApart slots 0 (held_of l) → before (parts_of l) gap (suc gap.part) ≡ filter (begins_by slots at) (held_of l)
+
 -- a place in a part, behind all stretches that begin at the point or before it
 pub record IsGap (slots : Numbers) (at : ℕ) (l : HeldList) (gap : ListPosition) : Type 0 where
   pub part : gap.part < length l.parts.items

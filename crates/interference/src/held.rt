@@ -1,16 +1,20 @@
 //! What ranges hold of one unit in one block, in order.
 
-ghost use Rattle.std.specs.Prelude.{◌≡◌, ◌≤◌, ◌<◌, ◌-◌, ◌*◌, ℕ, suc, [], true, false, not, ◌&&◌, ◌||◌, nat_eq, length, filter, MatchOption, IfOk, OnOk, OnErr, Some, slice_get};
+ghost use Rattle.std.specs.Prelude.{map, set, ◌≡◌, ◌≤◌, ◌<◌, ◌-◌, ◌*◌, ℕ, suc, [], true, false, not, ◌&&◌, ◌||◌, nat_eq, length, filter, MatchOption, IfOk, OnOk, OnErr, Some, slice_get};
 ghost use Rattle.std.specs.List.{list_any, list_all, insert, remove};
+ghost use Rattle.mir_meaning.specs.Paths.{Among};
 ghost use Rattle.live_lanes.specs.Table.{leading};
 ghost use Rattle.live_lanes.specs.Extents.{first_rank, is_same_start};
-ghost use Rattle.interference.specs.Clashes.{held_of, AreApart, AreFilled, begins_by, is_none, is_taken, is_taken_by};
-ghost use Rattle.interference.specs.Parts.{parts_of, part_in, part_before, before, part_begins, lies_before, IsMet, IsGap};
+ghost use Rattle.interference.specs.Clashes.{part_of, held_of, AreApart, AreFilled, begins_by, is_none, is_taken, is_taken_by};
+ghost use Rattle.interference.specs.Parts.{parts_of, part_in, part_before, before, part_begins, lies_before, IsBehind, IsMet, IsGap};
 ghost use Rattle.interference.specs.declared.held.RangeExtent.{RangeExtent};
 ghost use Rattle.interference.specs.Changes.{is_piece, low_rank, high_rank, own_of, starting, IsSought, IsFound, IsCut, IsInserted};
 ghost use Rattle.interference.specs.Marked.{is_marked};
+ghost use Rattle.interference.specs.ChangedLists.{PutsExtent, PutsPiece, TakesPiece};
+ghost use Rattle.interference.specs.SavedLists.{restored, with_behind, without_behind, ChangesPart, IsLogged, Logs, Saves};
 
 use crate::marks::Marks;
+use crate::saved_lists::{AssignedPiece, SavedList};
 use live_lanes::{Extent, Stretch};
 use slot_index::Slots;
 use std::alloc::{AllocError, Global};
@@ -27,7 +31,7 @@ pub(crate) struct RangeExtent {
 
 /// A place between two stretches of a list: behind so many of one part.
 #[derive(Clone, Copy)]
-struct ListPosition {
+pub(crate) struct ListPosition {
     part: usize,
     count: usize,
 }
@@ -52,6 +56,17 @@ enum SearchResult {
     Nowhere,
     /// It may stand before these.
     Open,
+}
+
+/// What stood in a list.
+#[derive(Drop)]
+pub(crate) enum SavedParts {
+    /// What stands there but for the stretch behind a place.
+    Less(ListPosition),
+    /// In one part, these; in the others, what stands there.
+    One(usize, Vec<RangeExtent>),
+    /// These parts.
+    All(Vec<Vec<RangeExtent>>),
 }
 
 /// The points at which ranges hold the unit, in order of their first ones. No two ranges hold it at
@@ -201,7 +216,8 @@ fn put(part: &mut Vec<RangeExtent>, count: usize, held: RangeExtent) -> Result<(
 
 /// Takes the last one of so many stretches out of a part.
 fn take_out(part: &mut Vec<RangeExtent>, count: usize)
-    ensures { 0 < count → count ≤ length part.old.items → part.new.items ≡ remove part.old.items (count - 1) }
+    ensures removed { 0 < count → count ≤ length part.old.items → part.new.items ≡ remove part.old.items (count - 1) }
+    ensures some { 2 ≤ length part.old.items → is_none part.new.items ≡ false }
 {
     if count == 0 {
         return;
@@ -210,6 +226,29 @@ fn take_out(part: &mut Vec<RangeExtent>, count: usize)
         return;
     }
     let _ = part.remove(count - 1);
+}
+
+/// Whether the last one of so many stretches is this one.
+fn is_last_of(stretches: &[RangeExtent], count: usize, held: RangeExtent) -> bool
+    ensures { result ≡ true → Among held stretches.now }
+{
+    if count == 0 {
+        return false;
+    }
+    if count > stretches.len() {
+        return false;
+    }
+    stretches[count - 1] == held
+}
+
+/// Takes the stretch behind so many out of a part, if there is one.
+fn remove_at(part: &mut Vec<RangeExtent>, count: usize)
+    ensures { part.new.items ≡ remove part.old.items count }
+{
+    if count >= part.len() {
+        return;
+    }
+    let _ = part.remove(count);
 }
 
 impl HeldList {
@@ -221,6 +260,81 @@ impl HeldList {
             alloc,
             parts: Vec::new(alloc),
         }
+    }
+
+    /// Copies of all parts.
+    fn copied(&self) -> Result<Vec<Vec<RangeExtent>>, AllocError>
+        ensures { IfOk result (λ ps. map part_of ps.items ≡ parts_of self.now) }
+    {
+        let mut parts = Vec::with_capacity(self.alloc, self.parts.len())?;
+        'parts: for part in self.parts.as_slice() {
+            parts.push(Vec::from_slice(self.alloc, part.as_slice())?)?;
+        }
+        Ok(parts)
+    }
+
+    /// A copy of a part; of all parts, where more than that part may change.
+    fn saved(&self, part: usize, all: bool) -> Result<SavedParts, AllocError>
+        ensures { IfOk result (Saves self.now part all) }
+    {
+        if all {
+            return Ok(SavedParts::All(self.copied()?));
+        }
+        if part >= self.parts.len() {
+            return Ok(SavedParts::All(self.copied()?));
+        }
+        let stretches = Vec::from_slice(self.alloc, self.parts[part].as_slice())?;
+        Ok(SavedParts::One(part, stretches))
+    }
+
+    /// Adds a copy of a part to what is saved; of all parts, where more than that part may change.
+    fn save(
+        &self,
+        part: usize,
+        all: bool,
+        at: &AssignedPiece,
+        log: &mut Vec<SavedList>,
+    ) -> Result<(), AllocError>
+        ensures ok { OnOk result (IsLogged at.now (Saves self.now part all) log.old.items log.new.items) }
+        ensures err { OnErr result (log.new.items ≡ log.old.items) }
+    {
+        let parts = self.saved(part, all)?;
+        log.push(SavedList {
+            unit: at.unit,
+            block: at.piece.block,
+            parts,
+        })?;
+        Ok(())
+    }
+
+    /// Puts back what stood.
+    pub fn restore(&mut self, saved: SavedParts)
+        ensures { parts_of self.new ≡ restored saved (parts_of self.old) }
+    {
+        match saved {
+            SavedParts::Less(gap) => self.cut_behind(gap),
+            SavedParts::One(part, stretches) => self.set_part(part, stretches),
+            SavedParts::All(parts) => self.parts = parts,
+        }
+    }
+
+    /// Takes away the stretch behind a place, if there is one.
+    fn cut_behind(&mut self, gap: ListPosition)
+        ensures { parts_of self.new ≡ without_behind gap (parts_of self.old) }
+    {
+        if gap.part >= self.parts.len() {
+            return;
+        }
+        remove_at(&mut self.parts[gap.part], gap.count);
+    }
+
+    fn set_part(&mut self, part: usize, stretches: Vec<RangeExtent>)
+        ensures { parts_of self.new ≡ set (parts_of self.old) part stretches.items }
+    {
+        if part >= self.parts.len() {
+            return;
+        }
+        self.parts[part] = stretches;
     }
 
     /// The place behind the stretches that begin at or before a point.
@@ -336,6 +450,26 @@ impl HeldList {
         Ok(())
     }
 
+    /// Whether there is such a part, which has room.
+    fn has_room(&self, part: usize) -> bool
+        ensures { result ≡ true → part < length self.now.parts.items }
+    {
+        if part >= self.parts.len() {
+            return false;
+        }
+        self.parts[part].len() < MOST_IN_A_PART
+    }
+
+    /// Whether a part has one stretch at most.
+    fn is_single(&self, part: usize) -> bool
+        ensures { result ≡ false → 2 ≤ length (part_in (parts_of self.now) part) }
+    {
+        if part >= self.parts.len() {
+            return true;
+        }
+        self.parts[part].len() < 2
+    }
+
     fn is_full(&self, part: usize) -> bool
         ensures { result ≡ true → 2 ≤ length (part_in (parts_of self.now) part) }
     {
@@ -368,6 +502,9 @@ impl HeldList {
         ensures err { OnErr result (held_of self.new ≡ held_of self.old) }
         ensures ok { gap.part < length self.old.parts.items → gap.count ≤ length (part_in (parts_of self.old) gap.part)
             → OnOk result (IsInserted (before (parts_of self.old) gap (suc gap.part)) held (held_of self.old) (held_of self.new)) }
+        ensures put { gap.part < length self.old.parts.items → gap.count ≤ length (part_in (parts_of self.old) gap.part)
+            → OnOk result (parts_of self.new ≡ with_behind gap held (parts_of self.old)) }
+        ensures same { OnErr result (parts_of self.new ≡ parts_of self.old) }
     {
         if gap.part >= self.parts.len() {
             return Ok(());
@@ -380,8 +517,22 @@ impl HeldList {
     fn find(&self, slots: &Slots, range: u32, start: Option<u32>) -> Option<ListPosition>
         ensures { AreFilled self.now → AreApart slots.now 0 (held_of self.now) → MatchOption result (list_any (is_piece range start) (held_of self.now) ≡ false) (IsFound self.now range start) }
     {
-        let low = low_rank(slots, start);
         let gap = self.behind(slots, high_rank(slots, start));
+        self.find_from(slots, gap, range, start)
+    }
+
+    /// The same, where the place is known behind all stretches that may begin so.
+    fn find_from(
+        &self,
+        slots: &Slots,
+        gap: ListPosition,
+        range: u32,
+        start: Option<u32>,
+    ) -> Option<ListPosition>
+        requires { gap.part ≤ length self.now.parts.items }
+        ensures { IsBehind slots.now (high_rank slots.now start) self.now gap → AreFilled self.now → AreApart slots.now 0 (held_of self.now) → MatchOption result (list_any (is_piece range start) (held_of self.now) ≡ false) (IsFound self.now range start) }
+    {
+        let low = low_rank(slots, start);
         'parts: for part in (0..gap.part + 1).rev() {
             match seek(slots, self.part_before(part, gap), range, start, low) {
                 SearchResult::UpTo(count) => return Some(ListPosition { part, count }),
@@ -404,10 +555,133 @@ impl HeldList {
         self.cut(gap);
     }
 
+    /// Takes away the points of the range of a piece that begin with an instruction or with the block.
+    /// What stood is added to what is saved. After a refusal nothing is taken away.
+    pub fn take_piece(
+        &mut self,
+        slots: &Slots,
+        at: &AssignedPiece,
+        start: Option<u32>,
+        log: &mut Vec<SavedList>,
+    ) -> Result<(), AllocError>
+        ensures ok { OnOk result (TakesPiece slots.now at.now.range start self.old self.new) }
+        ensures logged { Logs at.now log.old.items log.new.items self.old self.new }
+    {
+        let Some(gap) = self.find(slots, at.range, start) else {
+            return Ok(());
+        };
+        self.save(gap.part, self.is_single(gap.part), at, log)?;
+        self.cut(gap);
+        Ok(())
+    }
+
+    /// Adds points of the range of a piece. What stood is added to what is saved. After a refusal
+    /// nothing is added.
+    pub fn put_piece(
+        &mut self,
+        slots: &Slots,
+        at: &AssignedPiece,
+        extent: Extent,
+        log: &mut Vec<SavedList>,
+    ) -> Result<(), AllocError>
+        ensures ok { OnOk result (PutsExtent slots.now at.now.range extent self.old self.new) }
+        ensures logged { Logs at.now log.old.items log.new.items self.old self.new }
+    {
+        let gap = self.behind(slots, extent.first(slots));
+        self.put_at(slots, gap, at, extent, log)
+    }
+
+    /// Adds points of the range of a piece, in the place of those that begin so. What stood is added to
+    /// what is saved.
+    pub fn replace_piece(
+        &mut self,
+        slots: &Slots,
+        at: &AssignedPiece,
+        extent: Extent,
+        log: &mut Vec<SavedList>,
+    ) -> Result<(), AllocError>
+        ensures ok { OnOk result (PutsPiece slots.now at.now.range extent self.old self.new) }
+        ensures logged { Logs at.now log.old.items log.new.items self.old self.new }
+    {
+        let high = high_rank(slots, extent.start);
+        let gap = self.behind(slots, high);
+        let held = RangeExtent {
+            range: at.range,
+            extent,
+        };
+        match self.find_from(slots, gap, at.range, extent.start) {
+            // (a piece that changed several times comes several times)
+            Some(found) if self.is_at(found, held) => Ok(()),
+            Some(_) => {
+                self.take_piece(slots, at, extent.start, log)?;
+                self.put_piece(slots, at, extent, log)
+            }
+            None if extent.first(slots) == high => self.put_at(slots, gap, at, extent, log),
+            None => self.put_piece(slots, at, extent, log),
+        }
+    }
+
+    /// Whether the stretch before a place is this one.
+    fn is_at(&self, gap: ListPosition, held: RangeExtent) -> bool
+        ensures { result ≡ true → Among held (held_of self.now) }
+    {
+        if gap.part >= self.parts.len() {
+            return false;
+        }
+        is_last_of(self.parts[gap.part].as_slice(), gap.count, held)
+    }
+
+    /// Adds points of the range of a piece at a place, if it has room.
+    fn put_at(
+        &mut self,
+        slots: &Slots,
+        gap: ListPosition,
+        at: &AssignedPiece,
+        extent: Extent,
+        log: &mut Vec<SavedList>,
+    ) -> Result<(), AllocError>
+        ensures ok { IsBehind slots.now (first_rank slots.now extent) self.old gap → OnOk result (PutsExtent slots.now at.now.range extent self.old self.new) }
+        ensures logged { gap.count ≤ length (part_in (parts_of self.old) gap.part) → Logs at.now log.old.items log.new.items self.old self.new }
+    {
+        if self.has_room(gap.part) {
+            let range = at.range;
+            return self.insert_saved(gap, RangeExtent { range, extent }, at, log);
+        }
+        self.save(gap.part, true, at, log)?;
+        self.add(slots, at.range, extent)
+    }
+
+    /// Puts a stretch at a place. What stood is added to what is saved. After a refusal nothing is put.
+    fn insert_saved(
+        &mut self,
+        gap: ListPosition,
+        held: RangeExtent,
+        at: &AssignedPiece,
+        log: &mut Vec<SavedList>,
+    ) -> Result<(), AllocError>
+        ensures filled { AreFilled self.old → AreFilled self.new }
+        ensures ok { gap.part < length self.old.parts.items → gap.count ≤ length (part_in (parts_of self.old) gap.part)
+            → OnOk result (IsInserted (before (parts_of self.old) gap (suc gap.part)) held (held_of self.old) (held_of self.new)) }
+        ensures logged { gap.part < length self.old.parts.items → gap.count ≤ length (part_in (parts_of self.old) gap.part)
+            → Logs at.now log.old.items log.new.items self.old self.new }
+    {
+        log.push(SavedList {
+            unit: at.unit,
+            block: at.piece.block,
+            parts: SavedParts::Less(gap),
+        })?;
+        if let Err(e) = self.insert(gap, held) {
+            let _ = log.pop();
+            return Err(e);
+        }
+        Ok(())
+    }
+
     /// Takes away the stretch before a place.
     fn cut(&mut self, gap: ListPosition)
         ensures filled { AreFilled self.old → AreFilled self.new }
         ensures held { (h : RangeExtent) → 0 < gap.count → slice_get (part_in (parts_of self.old) gap.part) (gap.count - 1) ≡ Some h → IsCut h (held_of self.old) (held_of self.new) }
+        ensures part { 2 ≤ length (part_in (parts_of self.old) gap.part) → ChangesPart gap.part self.old self.new }
     {
         if gap.part >= self.parts.len() {
             return;
@@ -420,6 +694,7 @@ impl HeldList {
     fn drop_empty(&mut self, part: usize)
         ensures held { held_of self.new ≡ held_of self.old }
         ensures filled { part < length self.old.parts.items → (1 < length self.old.parts.items → list_any is_none (remove (parts_of self.old) part) ≡ false) → AreFilled self.new }
+        ensures part { is_none (part_in (parts_of self.old) part) ≡ false → parts_of self.new ≡ parts_of self.old }
     {
         if self.parts.len() <= 1 {
             return;

@@ -1,18 +1,22 @@
 //! What assigned ranges hold of each unit, in lists by blocks.
 
-ghost use Rattle.std.specs.Prelude.{◌≡◌, ◌<◌, ◌++◌, [], true, false, length, IfOk, OnOk, OnErr, option_copied, slice_get, Some, None};
+ghost use Rattle.std.specs.Prelude.{◌≡◌, ◌<◌, ◌≤◌, ◌++◌, ℕ, [], true, false, length, IfOk, OnOk, OnErr, option_copied, slice_get, Some, None};
 ghost use Rattle.std.specs.List.{list_any, list_all, cons_option};
 ghost use Rattle.target_base.specs.Registers.{units_of};
 ghost use Rattle.live_lanes.specs.Entered.{cells_of};
 ghost use Rattle.live_lanes.specs.Extents.{some_extents};
 ghost use Rattle.interference.specs.Clashes.{AreApart, AreFilled, held_of, list_in};
+ghost use Rattle.interference.specs.ChangedLists.{PutsPiece, TakesPiece};
+ghost use Rattle.interference.specs.SavedLists.{parts_at, IsPutBack, IsRestored, LogsRow, PutsBack};
+ghost use Rattle.interference.specs.declared.unit_table.UnitTable.{UnitTable};
 ghost use Rattle.interference.specs.Changes.{own_of};
-ghost use Rattle.interference.specs.Listed.{range_extents, IsThinned, IsKept, IsBegun, IsFilled, IsClear, ChangesRow, ChangesCell, lane_lots, range_lots, with_lane, Thins, LaneHasRoom, RangeHasRoom, Begins, Fills};
+ghost use Rattle.interference.specs.Listed.{range_extents, IsThinned, IsKept, IsBegun, IsFilled, IsClear, ChangesRow, ChangesAt, ChangesCell, lane_lots, range_lots, with_lane, Thins, LaneHasRoom, RangeHasRoom, Begins, Fills};
 ghost use Rattle.interference.specs.Parts.{has_lists};
 ghost use Rattle.interference.specs.Wide.{is_wide};
 
 use crate::held::HeldList;
-use live_lanes::{ChangedPiece, Extent, LiveFunc};
+use crate::saved_lists::{AssignedPiece, SavedList};
+use live_lanes::{Extent, LiveFunc};
 use slot_index::Slots;
 use std::alloc::{AllocError, Global};
 use target_base::Reg;
@@ -61,40 +65,51 @@ impl UnitTable {
         self.units.get(unit as usize)?.blocks.get(block as usize)
     }
 
-    /// Adds the points of a piece of a range, which begins with an instruction or with its block.
-    pub(crate) fn add_piece(
-        &mut self,
-        live: &LiveFunc,
-        range: u32,
-        unit: u32,
-        piece: ChangedPiece,
-    ) -> Result<(), AllocError> {
-        let Some(extent) = live.extent_from(piece.lane, piece.block, piece.start) else {
-            return Ok(());
-        };
-        let Some(row) = self.units.get_mut(unit as usize) else {
-            return Ok(());
-        };
-        match row.blocks.get_mut(piece.block as usize) {
-            Some(list) => list.add(live.slots(), range, extent),
-            None => Ok(()),
-        }
-    }
-
-    /// Takes away the points of a piece of a range.
-    pub(crate) fn remove_piece(
+    /// Takes away the points of the range of a piece that begin with an instruction or with the block.
+    pub(crate) fn take_piece(
         &mut self,
         slots: &Slots,
-        range: u32,
-        unit: u32,
-        piece: ChangedPiece,
-    ) {
-        let Some(row) = self.units.get_mut(unit as usize) else {
-            return;
-        };
-        if let Some(list) = row.blocks.get_mut(piece.block as usize) {
-            list.remove(slots, range, piece.start);
+        at: &AssignedPiece,
+        start: Option<u32>,
+        log: &mut Vec<SavedList>,
+    ) -> Result<(), AllocError>
+        ensures ok { OnOk result (ChangesAt (TakesPiece slots.now at.now.range start) at.now.unit at.now.piece.block self.old self.new) }
+        ensures back { (start : UnitTable) → PutsBack start log.old.items self.old → PutsBack start log.new.items self.new }
+    {
+        let unit = at.unit as usize;
+        if unit >= self.units.len() {
+            return Ok(());
         }
+        take_in(&mut self.units[unit].blocks, slots, at, start, log)
+    }
+
+    /// Adds points of the range of a piece, in the place of those that begin so.
+    pub(crate) fn replace_piece(
+        &mut self,
+        slots: &Slots,
+        at: &AssignedPiece,
+        extent: Extent,
+        log: &mut Vec<SavedList>,
+    ) -> Result<(), AllocError>
+        ensures ok { OnOk result (ChangesAt (PutsPiece slots.now at.now.range extent) at.now.unit at.now.piece.block self.old self.new) }
+        ensures back { (start : UnitTable) → PutsBack start log.old.items self.old → PutsBack start log.new.items self.new }
+    {
+        let unit = at.unit as usize;
+        if unit >= self.units.len() {
+            return Ok(());
+        }
+        replace_in(&mut self.units[unit].blocks, slots, at, extent, log)
+    }
+
+    /// Puts back what stood in a list.
+    pub(crate) fn restore(&mut self, saved: SavedList)
+        ensures { IsPutBack saved (parts_at self.old) (parts_at self.new) }
+    {
+        let unit = saved.unit as usize;
+        if unit >= self.units.len() {
+            return;
+        }
+        restore_in(&mut self.units[unit].blocks, saved);
     }
 
     /// Adds the points of a lane of a range in the block of a cell.
@@ -189,6 +204,53 @@ impl UnitTable {
             k = k.saturating_add(1);
         }
     }
+}
+
+/// Takes points away, by the lists of a unit.
+fn take_in(
+    lists: &mut Vec<HeldList>,
+    slots: &Slots,
+    at: &AssignedPiece,
+    start: Option<u32>,
+    log: &mut Vec<SavedList>,
+) -> Result<(), AllocError>
+    ensures ok { OnOk result (ChangesRow (TakesPiece slots.now at.now.range start) at.now.piece.block lists.old.items lists.new.items) }
+    ensures logged { LogsRow at.now log.old.items log.new.items lists.old.items lists.new.items }
+{
+    let block = at.piece.block as usize;
+    if block >= lists.len() {
+        return Ok(());
+    }
+    lists[block].take_piece(slots, at, start, log)
+}
+
+/// Adds points in the place of those that begin so, by the lists of a unit.
+fn replace_in(
+    lists: &mut Vec<HeldList>,
+    slots: &Slots,
+    at: &AssignedPiece,
+    extent: Extent,
+    log: &mut Vec<SavedList>,
+) -> Result<(), AllocError>
+    ensures ok { OnOk result (ChangesRow (PutsPiece slots.now at.now.range extent) at.now.piece.block lists.old.items lists.new.items) }
+    ensures logged { LogsRow at.now log.old.items log.new.items lists.old.items lists.new.items }
+{
+    let block = at.piece.block as usize;
+    if block >= lists.len() {
+        return Ok(());
+    }
+    lists[block].replace_piece(slots, at, extent, log)
+}
+
+/// Puts back what stood in a list, by the lists of its unit.
+fn restore_in(lists: &mut Vec<HeldList>, saved: SavedList)
+    ensures { ChangesRow (IsRestored saved.parts) saved.block lists.old.items lists.new.items }
+{
+    let block = saved.block as usize;
+    if block >= lists.len() {
+        return;
+    }
+    lists[block].restore(saved.parts);
 }
 
 /// Takes away the points of a piece of a range, where it has any.
