@@ -1,2 +1,3 @@
 pub mod Like
+pub mod Live
 pub mod Prepared

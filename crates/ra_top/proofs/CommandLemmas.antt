@@ -1,6 +1,7 @@
 pub mod Joined
 pub mod Runs
 pub mod Read
+pub mod Ready
 pub mod Refused
 pub mod Watched
 pub mod Causes

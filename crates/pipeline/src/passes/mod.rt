@@ -9,5 +9,5 @@ mod ready;
 pub use crate::passes::allocator::Allocator;
 pub use crate::passes::chosen::with_registers;
 pub use crate::passes::places::check_source_places;
-pub use crate::passes::ready::{PreparedFunc, live_anew, lower_source, prepare};
+pub use crate::passes::ready::{PreparedFunc, lower_source, prepare};
 pub use greedy_core::Watcher;

@@ -1,21 +1,18 @@
 //! A function made ready for the run.
 
-ghost use Rattle.std.specs.Prelude.{◌≡◌, ◌≤◌, ◌^◌, IfOk, IfSome};
+ghost use Rattle.std.specs.Prelude.{◌≡◌, ◌≤◌, ◌*◌, ◌^◌, IfOk};
 ghost use Rattle.block_freq.specs.Frequencies.{frequencies_of};
 ghost use Rattle.phi_elim.specs.Bulk.{bulk};
 ghost use Rattle.two_address.specs.Lowered.{lowered};
-ghost use Rattle.pipeline.specs.Passes.Ready.{IsLive, IsPrepared, MayPrepare};
+ghost use Rattle.pipeline.specs.Passes.Ready.{IsPrepared, MayPrepare};
 
-use crate::guarded::verify_live;
-use alloc_check::fits;
 use block_freq::{Freqs, frequencies};
 use coalescer::coalesce;
 use live_lanes::LiveFunc;
-use machine_verify::VerifyStop;
 use mir_func::{Func, Valid};
 use phi_elim::lower_phis;
 use std::alloc::{AllocError, Global};
-use target_base::{Shared, Target};
+use target_base::Target;
 use two_address::lower_tied;
 
 /// A function in lowered form whose copies were tried for joins.
@@ -30,7 +27,8 @@ pub struct PreparedFunc {
 /// The function in lowered form: without phis first, and then without tied operands of two registers,
 /// `undef` operands, REG_SEQUENCE and INSERT_SUBREG.
 pub fn lower_source(alloc: Global, target: &Target, source: Valid) -> Result<Func, AllocError>
-    ensures { bulk source.func ≤ 2 ^ 24 → IfOk result (λ g. g ≡ lowered target.now source.func) }
+    ensures value { bulk source.func ≤ 2 ^ 24 → IfOk result (λ g. g ≡ lowered target.now source.func) }
+    ensures bulk { IfOk result (λ g. bulk g ≤ 64 * bulk source.func) }
 {
     lower_tied(alloc, target, lower_phis(alloc, target, source)?)
 }
@@ -47,29 +45,4 @@ pub fn prepare(alloc: Global, target: &Target, source: LiveFunc) -> Result<Prepa
     let live = LiveFunc::compute_within(alloc, own_target, f)?;
     let (live, _) = coalesce(alloc, target, live, &freqs)?;
     Ok(PreparedFunc { live, freqs })
-}
-
-/// The function that was made ready, with what is live in it computed anew; what was known of it
-/// before, by edits of the table, is let go. None where the function isn't valid as a source, of which
-/// nothing is known: never seen.
-pub fn live_anew(
-    alloc: Global,
-    target: &Shared<Target>,
-    made: PreparedFunc,
-) -> Result<Option<PreparedFunc>, AllocError>
-    ensures { IfOk result (λ again. IfSome again (λ now. IsLive target.now now × (now.freqs ≡ made.freqs))) }
-{
-    let PreparedFunc { live, freqs } = made;
-    let f = live.into_func();
-    if !fits(target.get(), &f) {
-        return Ok(None);
-    }
-    match verify_live(alloc, target.get(), f) {
-        Ok(source) => {
-            let live = source.into_live(target)?;
-            Ok(Some(PreparedFunc { live, freqs }))
-        }
-        Err(VerifyStop::Invalid(_)) => Ok(None),
-        Err(VerifyStop::Memory(e)) => Err(e),
-    }
 }

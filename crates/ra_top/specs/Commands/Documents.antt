@@ -5,7 +5,7 @@ use Rattle.target_base.specs.declared.types.Target.{Target}
 use Rattle.mir_func.specs.Value.{Function}
 use Rattle.mir_meaning.specs.declared.Form.{Form}
 use Rattle.mir_meaning.specs.declared.Form.TheVariants as forms
-use Rattle.mir_meaning.specs.Codes.{meaning_of}
+use Rattle.mir_meaning.specs.Codes.{meaning_of, refines}
 use Rattle.mir_meaning.specs.Valid.{Fault, IsValid, FirstFault}
 use Rattle.mir_meaning.specs.Places.{PlacesServe}
 use Rattle.meaning.specs.Environment.{Environment}
@@ -26,6 +26,8 @@ use Rattle.mir_text.specs.declared.doc.Doc.TheVariants as docs
 use Rattle.block_freq.specs.Frequencies.{frequencies_of}
 use Rattle.phi_elim.specs.Bulk.{bulk}
 use Rattle.two_address.specs.Lowered.{lowered}
+use Rattle.live_edits.specs.declared.fold.Join.{Join}
+use Rattle.join_laws.specs.Joined.{Joined}
 use Rattle.ra_top.specs.Report.Intervals.Lines.{IsLiveText}
 use Rattle.ra_top.specs.declared.commands.answer.Job.{Job}
 use Rattle.ra_top.specs.declared.commands.answer.Job.TheVariants as jobs
@@ -73,19 +75,15 @@ pub record IsRunOf (t : Target) (f : Function) (n seed : ℕ) (text : List ℕ) 
   pub valid : IsRunnable t f
   pub run : IsTextOfRun t f n seed text
 
--- The text, behind a name, is the whole text of some function that is valid as a source: how often its blocks run, and what is live
--- where in it. The frequencies are those of f's blocks, lowered, where the bulk of f is at most 2^24. That this function is what f
--- becomes when it is made ready for the allocator's run, by lowering and joins of copies, isn't said: nothing else here ties it to f.
+-- The text, behind a name, is the whole text of a function that is f as it is made ready for the allocator's run: how often its
+-- blocks run, and what is live where in it. That function is f lowered, with its copies joined in order by the frequencies of its
+-- blocks, and it does what f does.
 pub record IsIntervals (t : Target) (f : Function) (name text : List ℕ) : Type 0 where
   pub func : Function
-  pub valid : IsValid t forms.Source func
-  pub freqs : List ℕ
-  pub frequencies : bulk f ≤ 2 ^ 24 → freqs ≡ frequencies_of (lowered t f).blocks
-  pub is : IsLiveText t name freqs func text
-
--- the text, behind a name, says what is live where in some function that is valid as a source and whose blocks run so often
-abbrev pub IsReadyText : Target → List ℕ → List ℕ → List ℕ → Type 0
-IsReadyText t freqs name text = (f : Function) × IsValid t forms.Source f × IsLiveText t name freqs f text
+  pub joins : List Join
+  pub joined : Joined t (frequencies_of (lowered t f).blocks) (lowered t f) joins func
+  pub refines : refines t f func
+  pub is : IsLiveText t name (frequencies_of (lowered t f).blocks) func text
 
 -- What is written for a function document where the run of the program goes on: the printed allocation, that the
 -- function is valid, what is live where (`IsIntervals`), or nothing where `run` passes over it or `trace` only tells the watchers.
@@ -142,9 +140,11 @@ AllocRefuses t f (status.Unassignable p) detail = IfRefused t f (stops.Unassigna
 AllocRefuses t f status.NotYet detail = IfRefused t f stops.NotYet
 AllocRefuses t f _ detail = ⊥
 
--- why `intervals` refuses a function: as `alloc` does, but for the limit of range numbers
+-- why `intervals` refuses a function: as `alloc` does before its run, so neither for the limit of range numbers nor as not yet
+-- allocated
 abbrev pub IntervalsRefuses : Target → Function → Status → List ℕ → Type 0
 IntervalsRefuses t f (status.Limit limits.Ranges) detail = ⊥
+IntervalsRefuses t f status.NotYet detail = ⊥
 IntervalsRefuses t f s detail = AllocRefuses t f s detail
 
 -- why `verify` refuses a function: a limit that it passes; within the limits, its first fault
@@ -179,6 +179,11 @@ RefusesDoc job t d s detail = ⊥
 abbrev pub DocFits : Target → Doc → Type 0
 DocFits t (docs.Function before f) = FitsTarget t f
 DocFits t d = Unit {0}
+
+-- the bulk of a document's function is at most 2^24, as that of each document is that is read, of at most 2^22 bytes
+abbrev pub IsDocWithin : Doc → Type 0
+IsDocWithin (docs.Function before f) = bulk f ≤ 2 ^ 24
+IsDocWithin d = Unit {0}
 
 abbrev pub IsDocAnswer : Job → Target → Doc → Answer → Type 0
 IsDocAnswer job t d (answers.Text text) = IsTextOf job t d text
@@ -221,11 +226,6 @@ IsSecondAnswer t n seed f x (answers.Text text) = ⊥
 IsSecondAnswer t n seed f x (answers.Last text) = IsValid t forms.Allocated f × IsTextOfRun t f n seed text
 IsSecondAnswer t n seed f x (answers.Refused s detail) =
     (s ≡ status.Invalid x) × ((y : Fault) × FirstFault t forms.Allocated f y) × (detail ≡ invalid_words f.name x)
-
--- a refusal isn't for the limit of range numbers
-abbrev pub IfNoRanges : FunctionStop → Type 0
-IfNoRanges (stops.Limit limits.Ranges) = ⊥
-IfNoRanges stop = Unit {0}
 
 -- the status by which a function is refused for a cause, and the detail of its line
 abbrev pub IsStatusOf : FunctionStop → Status → List ℕ → Type 0

@@ -6,7 +6,7 @@ ghost use Rattle.mir_text.specs.declared.doc.Doc.TheVariants as docs;
 ghost use Rattle.pipeline.specs.Guarded.Told.{ToldPart};
 ghost use Rattle.ra_top.specs.Commands.Told as watched;
 ghost use Rattle.ra_top.specs.Commands.Told.{next_number, ToldAnswer, ToldOne, IsEndOf};
-ghost use Rattle.ra_top.specs.Commands.Documents.{DocFits, IsDocAnswer, IsAllocAnswer, IsEndText, tells, text_of_lines};
+ghost use Rattle.ra_top.specs.Commands.Documents.{DocFits, IsDocAnswer, IsDocWithin, IsAllocAnswer, IsEndText, tells, text_of_lines};
 
 use crate::commands::answer::{AllocatorRun, Answer, Job};
 use crate::commands::intervals::intervals_of;
@@ -80,7 +80,8 @@ pub fn at_document<W: Watcher>(
     number: &mut u32,
     watchers: &mut Vec<W>,
 ) -> Result<Answer, AllocError>
-    requires { DocFits reader.now doc }
+    requires fits { DocFits reader.now doc }
+    requires within { IsDocWithin doc }
     ensures answer { IfOk result (IsDocAnswer job.entry reader.now doc) }
     ensures leaves { tells job.entry ≡ false → watchers.new ≡ watchers.old }
     ensures told { tells job.entry ≡ true → IfOk result (ToldAnswer (W.next reader.now) doc number.old number.new watchers.old.items watchers.new.items) }

@@ -12,7 +12,6 @@ use Rattle.mir_func.specs.declared.func.Block.{Block}
 use Rattle.mir_func.specs.declared.func.Instr.{Instr}
 use Rattle.mir_func.specs.Value.{Function}
 use Rattle.mir_func.specs.Binding.{class_of}
-use Rattle.mir_meaning.specs.declared.Form.TheVariants as forms
 use Rattle.mir_meaning.specs.Points.{Entry, Exit, block_points}
 use Rattle.mir_meaning.specs.Registers.{numbers, range_widths}
 use Rattle.mir_meaning.specs.Rules.{V8}
@@ -22,7 +21,6 @@ use Rattle.instr_effects.specs.Numbers.{row_number_in}
 use Rattle.instr_effects.specs.Numbered.{number_in, counts, class_counts}
 use Rattle.live_laws.specs.Effects.Coded.{KeepsRules}
 use Rattle.live_laws.specs.Exact.Occupied.{TellsPoints}
-use Rattle.live_laws.proofs.Effects.Valid.{valid-law, ends}
 use Rattle.live_laws.proofs.Exact.Pointed.{points-law}
 use Rattle.live_lanes.specs.declared.table.Table.{Table}
 use Rattle.live_lanes.specs.Doing.{IsComputed}
@@ -148,14 +146,8 @@ module _ (t : Target) (f : Function) (x : Table) (computed : IsComputed t f x) (
 
 -- of a function that was made ready
 module _ (t : Target) (p : PreparedFunc) (h : IsLive t p) where
-  rules-of : KeepsRules t p.live.func
-  rules-of = valid-law t forms.Source p.live.func h.valid.shape h.fits.classes
-
-  last-of : (b : Block) (j : ℕ) (i : Instr) → Member b p.live.func.blocks → slice_get b.instrs j ≡ Some i → V8 t b j i ≡ true
-  last-of = ends t forms.Source p.live.func h.valid.shape
-
   pub ready-of : IsReady p.live.table p.live.func.blocks
-  ready-of = ready t p.live.func p.live.table h.computed rules-of last-of
+  ready-of = ready t p.live.func p.live.table h.computed h.rules h.terminators
 
   pub told-of : (name freqs text : List ℕ) → IsToldText t p.live.table p.live.func name freqs text → IsLiveText t name freqs p.live.func text
-  told-of name freqs text told = text-told t p.live.func p.live.table h.computed rules-of last-of name freqs text told
+  told-of name freqs text told = text-told t p.live.func p.live.table h.computed h.rules h.terminators name freqs text told
