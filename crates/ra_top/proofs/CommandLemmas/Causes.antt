@@ -1,10 +1,9 @@
 -- A function that is refused for a cause is refused so by a command.
-use Rattle.std.specs.Prelude.{◌≡◌, ℕ, List, Result, Ok, Err, IfOk}
+use Rattle.std.specs.Prelude.{ℕ, List, Result, Ok, Err, IfOk}
 use Rattle.std.proofs.Common.{subst, sym, ap, refl, ◌∙◌}
 use Rattle.target_base.specs.declared.types.Target.{Target}
 use Rattle.mir_func.specs.Value.{Function}
 use Rattle.mir_meaning.specs.declared.Form.{Form}
-use Rattle.mir_meaning.specs.declared.Form.TheVariants as forms
 use Rattle.pipeline.specs.declared.guarded.stop.FunctionStop.{FunctionStop}
 use Rattle.pipeline.specs.declared.guarded.stop.FunctionStop.TheVariants as stops
 use Rattle.pipeline.specs.declared.guarded.stop.LimitName.{LimitName}

@@ -1,5 +1,5 @@
 -- The virtual registers of a document that is read are of classes of the target, and its bulk is small.
-use Rattle.std.proofs.Common.{◌≡◌, ◌≤◌, ◌^◌, ℕ, Bool, List, Ok, length, arith}
+use Rattle.std.proofs.Common.{◌≡◌, ◌≤◌, ℕ, Bool, List, Ok, length, arith}
 use Rattle.std.specs.List.{sum_by}
 use Rattle.target_base.specs.declared.types.Target.{Target}
 use Rattle.phi_elim.specs.Bulk.{operand_count}

@@ -12,7 +12,6 @@ use Rattle.pipeline.specs.Guarded.Function.{IsTaken}
 use Rattle.ra_top.specs.declared.commands.answer.Answer.{Answer}
 use Rattle.ra_top.specs.declared.commands.answer.Answer.TheVariants as answers
 use Rattle.ra_top.specs.declared.commands.status.Status.{Status}
-use Rattle.ra_top.specs.declared.commands.status.Status.TheVariants as status
 use Rattle.ra_top.specs.Commands.Documents.{IsRunOf, IsTextOfRun, RunRefuses, IsStatusOf, IsRefusalFor, IsRunAnswer}
 
 -- the copy g of f is taken, and handed back as h, which is run
