@@ -92,12 +92,12 @@ module _ (s : Spilling) (g : Function) (stay : (w : ℕ) → is_some (class_of s
   index-long h l v e x y g = ap length ((λ i. located_widths t h (e i) (g i))) ∙ length-map (lanes_of t y) (slice_index (range_widths t h v))
 
   -- the class beside a copy
-  record Beside (o : RegOp) (l : Loc) (x : Option IndexId) : Type 0 where
+  pub record Beside (o : RegOp) (l : Loc) (x : Option IndexId) : Type 0 where
     pub class : ClassId
     pub is : class_beside s o l ≡ Some class
     pub lies : LiesIn t g class l x
 
-  beside : (o : RegOp) (l : Loc) → has_class f l ≡ true → index_fits t f l o.index ≡ true → (m : Loc) → is_virtual m ≡ true → has_home t l m ≡ true → Beside o l o.index
+  pub beside : (o : RegOp) (l : Loc) → has_class f l ≡ true → index_fits t f l o.index ≡ true → (m : Loc) → is_virtual m ≡ true → has_home t l m ≡ true → Beside o l o.index
   beside o (Virtual w) c e m v h = go (class_of f w) refl c e
     where
       go : (q : Option ClassId) → class_of f w ≡ q → is_some q ≡ true → elim q as (λ q. Bool) [ None ↦ true | Some k ↦ fits t k o.index ] ≡ true → Beside o (Virtual w) o.index
@@ -162,7 +162,7 @@ module _ (s : Spilling) (g : Function) (stay : (w : ℕ) → is_some (class_of s
       go false h ih = ap (λ b. (r.0 == (first_of (filter p rs)).0) || b) (ih h) ∙ or-true (r.0 == (first_of (filter p rs)).0)
 
   -- the class's first unreserved register
-  unreserved-there : (k : ClassId) → IsClass t k → holds_reg (regs_of t k) (first_of (domain t (Some k))) ≡ true
+  pub unreserved-there : (k : ClassId) → IsClass t k → holds_reg (regs_of t k) (first_of (domain t (Some k))) ≡ true
   unreserved-there k h = go (slice_get t.classes k.0) refl
     where
       go : (q : Option ClassDesc) → slice_get t.classes k.0 ≡ q → holds_reg (regs_in q) (first_of (filter (is_unreserved t.reserved t.regs) (regs_in q))) ≡ true

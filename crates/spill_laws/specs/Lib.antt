@@ -1,3 +1,7 @@
 pub mod Laws
 pub mod Named
 pub mod Turns
+pub mod Standing
+pub mod Refined
+pub mod Seats
+pub mod SpillRefines
