@@ -1,0 +1,11 @@
+pub mod StepBlocks
+pub mod Unnamed
+pub mod SplitInstrs
+pub mod Starts
+pub mod SplitStarts
+pub mod JoinStarts
+pub mod FreeSlots
+pub mod NoSlots
+pub mod Frames
+pub mod SpillFrames
+pub mod Runs
