@@ -1,0 +1,13 @@
+pub mod Fitting
+pub mod Whole
+pub mod PhisFit
+pub mod TiesFit
+pub mod TiesBlocks
+pub mod Lowered
+pub mod Joining
+pub mod Splitting
+pub mod Examples
+pub mod SpillMoves
+pub mod SpillPlaces
+pub mod SpillChanges
+pub mod Allocating

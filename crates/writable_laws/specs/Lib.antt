@@ -1,0 +1,3 @@
+pub mod Writable
+pub mod Laws
+pub mod Examples
