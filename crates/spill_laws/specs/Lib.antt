@@ -4,4 +4,5 @@ pub mod Turns
 pub mod Standing
 pub mod Refined
 pub mod Seats
+pub mod TinyPlaces
 pub mod SpillRefines
