@@ -287,7 +287,7 @@ module _ (s : Spilling) (rules : (b : Block) (i : Instr) → Member b s.func.blo
 
   -- terminators define nothing
 
-  own-none : (i : Instr) → V1 t s.func i ≡ true → does is_terminator t i ≡ true → (o : RegOp) → Member (operands.Reg o) i.operands → (is_own s o && o.def) ≡ false
+  pub own-none : (i : Instr) → V1 t s.func i ≡ true → does is_terminator t i ≡ true → (o : RegOp) → Member (operands.Reg o) i.operands → (is_own s o && o.def) ≡ false
   own-none i rule ends o m = go (effect_of t i) refl ends
     where
       fixed : (l : Loc) → not (is_virtual l) ≡ true → is_range s.range l ≡ false
@@ -325,7 +325,7 @@ module _ (s : Spilling) (rules : (b : Block) (i : Instr) → Member b s.func.blo
           λ k. cond (z k) (Some (record { by = i; number = n; index = o.index; class = operand_class t s.func r o })) None
       by (n, (r, o)) m = refl
 
-  no-definitions : (p : List Instr) → ((i : Instr) → Member i p → V1 t s.func i ≡ true) → ((i : Instr) → Member i p → does is_terminator t i ≡ true) → definitions_in s p ≡ []
+  pub no-definitions : (p : List Instr) → ((i : Instr) → Member i p → V1 t s.func i ≡ true) → ((i : Instr) → Member i p → does is_terminator t i ≡ true) → definitions_in s p ≡ []
   no-definitions [] rule ends = refl
   no-definitions (i ∷ is) rule ends = λ k. no-definition i (rule i first) (ends i first) k ++ no-definitions is (λ j m. rule j (later m)) (λ j m. ends j (later m)) k
 

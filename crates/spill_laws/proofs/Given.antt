@@ -70,7 +70,7 @@ operand-at j (q ∷ rs) (o ∷ os) n r x m =
     one : (j k : ℕ) → suc j + k ≡ j + suc k
     one j k = omega arith
 
-same-index-is : (x y : Option IndexId) → same_index x y ≡ true → x ≡ y
+pub same-index-is : (x y : Option IndexId) → same_index x y ≡ true → x ≡ y
 same-index-is None None h = refl
 same-index-is (Some x) (Some y) h = ap (λ n. Some (record { 0 = n })) (eqb-true x.0 y.0 h)
 same-index-is None (Some y) h = absurd (cc)

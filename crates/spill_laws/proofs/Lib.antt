@@ -49,3 +49,11 @@ pub mod Joined
 pub mod WayLoads
 pub mod TinyMoves
 pub mod StrangePlaces
+pub mod ItemsStay
+pub mod OwnOperands
+pub mod SeatLoads
+pub mod PlaceReadings
+pub mod CountedPlaces
+pub mod ConstantPlaces
+pub mod TinyPlaces
+pub mod TerminatorPlaces

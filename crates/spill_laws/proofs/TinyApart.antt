@@ -179,7 +179,7 @@ module _ (s : Spilling) (g : Function) (c : ℕ) (p : List Instr) (h : HasTinies
       nothing k = omega arith
 
   -- the parts of the rule
-  old-definitions : no_two_share (map (defined_lanes t f opaque) (filter (λ (o : RegOp). o.def) (registers os))) ≡ true
+  pub old-definitions : no_two_share (map (defined_lanes t f opaque) (filter (λ (o : RegOp). o.def) (registers os))) ≡ true
   unfolding V12
   old-definitions = second_of_both _ _ (first_of_both _ _ (first_of_both _ _ (h.shaped i mi).definitions))
 

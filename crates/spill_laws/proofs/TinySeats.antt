@@ -45,7 +45,7 @@ pub low-number : {X : Type 0} (n : ℕ) (xs : List X) (x : ℕ × X) → Member 
 low-number n [] x m = absurd (member-none x m)
 low-number {X = X} n (y ∷ xs) x m = member-elim x (n, y) (numbered (suc n) xs) (λ e. let w : x.0 ≡ n = ap (λ (v : ℕ × X). v.0) e in omega (arith, w)) (λ k. let w = low-number (suc n) xs x k in omega (arith, w)) m
 
-high-number : {X : Type 0} (n : ℕ) (xs : List X) (x : ℕ × X) → Member x (numbered n xs) → x.0 < n + length xs
+pub high-number : {X : Type 0} (n : ℕ) (xs : List X) (x : ℕ × X) → Member x (numbered n xs) → x.0 < n + length xs
 high-number n [] x m = absurd (member-none x m)
 high-number {X = X} n (y ∷ xs) x m = member-elim x (n, y) (numbered (suc n) xs) (λ e. let w : x.0 ≡ n = ap (λ (v : ℕ × X). v.0) e in omega (arith, w)) (λ k. let w = high-number (suc n) xs x k in omega (arith, w)) m
 
@@ -72,7 +72,7 @@ slice-number {X = X} n (y ∷ xs) x m =
     one : (n j : ℕ) → suc n + j ≡ n + suc j
     one n j = omega arith
 
-found : {X : Type 0} (test : X → Bool) (xs : List X) (x : X) → find test xs ≡ Some x → Member x xs × (test x ≡ true)
+pub found : {X : Type 0} (test : X → Bool) (xs : List X) (x : X) → find test xs ≡ Some x → Member x xs × (test x ≡ true)
 found test [] x e = absurd (cc)
 found {X = X} test (y ∷ xs) x e = go (test y) refl e (found test xs x)
   where
@@ -80,7 +80,7 @@ found {X = X} test (y ∷ xs) x e = go (test y) refl e (found test xs x)
     go true g h ih = let w = some-same y x h in (subst (λ v. Member v (y ∷ xs)) w first, subst (λ v. test v ≡ true) w g)
     go false g h ih = let w = ih h in (later w.0, w.1)
 
-same-class-is : (x y : Option ClassId) → same_class x y ≡ true → x ≡ y
+pub same-class-is : (x y : Option ClassId) → same_class x y ≡ true → x ≡ y
 same-class-is None None h = refl
 same-class-is (Some x) (Some y) h = ap (λ n. Some (record { 0 = n })) (eqb-true x.0 y.0 h)
 same-class-is None (Some y) h = absurd (cc)
@@ -145,13 +145,13 @@ module _ (s : Spilling) (g : Function) (c : ℕ) (p : List Instr) (h : HasTinies
           by false b own e = absurd (cc)
       go n r x m e = absurd (cc)
 
-  record DefinedTiny (i : Instr) (k n : ℕ) : Type 0 where
+  pub record DefinedTiny (i : Instr) (k n : ℕ) : Type 0 where
     pub by : OwnDefinition
     pub among : Member (n, by) place_seats.definitions
     pub id : by.by.id ≡ i.id
     pub number : by.number ≡ k
 
-  defined-tiny : (i : Instr) (k n : ℕ) → tiny_defined place_seats i k ≡ Some n → DefinedTiny i k n
+  pub defined-tiny : (i : Instr) (k n : ℕ) → tiny_defined place_seats i k ≡ Some n → DefinedTiny i k n
   defined-tiny i k n e = go (find (λ (x : ℕ × OwnDefinition). nat_eq x.1.by.id i.id && nat_eq x.1.number k) place_seats.definitions) refl e
     where
       go : (q : Option (ℕ × OwnDefinition)) → find (λ (x : ℕ × OwnDefinition). nat_eq x.1.by.id i.id && nat_eq x.1.number k) place_seats.definitions ≡ q → option_map (λ (x : ℕ × OwnDefinition). x.0) q ≡ Some n → DefinedTiny i k n
@@ -192,7 +192,7 @@ module _ (s : Spilling) (g : Function) (c : ℕ) (p : List Instr) (h : HasTinies
   pub read-high : (q : Option Role) (o : RegOp) (n : ℕ) → tiny_read s place_seats q o ≡ Some n → n < c + ways
   read-high q o n e = let w = read-tiny q o n e in high-number c (ways_read s p) (n, w.way) w.among
 
-  read-low : (q : Option Role) (o : RegOp) (n : ℕ) → tiny_read s place_seats q o ≡ Some n → c ≤ n
+  pub read-low : (q : Option Role) (o : RegOp) (n : ℕ) → tiny_read s place_seats q o ≡ Some n → c ≤ n
   read-low q o n e = let w = read-tiny q o n e in low-number c (ways_read s p) (n, w.way) w.among
 
   -- which tiny takes an operand's place

@@ -63,7 +63,7 @@ definition-register t e (roles.Def k) x g h = absurd (not-either (is_opaque e) h
 definition-register t e (roles.Early k) x g h = absurd (not-either (is_opaque e) h)
 definition-register t e r x g h = absurd (cc)
 
-definition-there : (t : Target) (e : Effect) {n : ℕ} {rs : List Role} {r : Role} → Leads n rs r → (os : List Operand) → implicit_last os ≡ true → explicit_fit t e (explicit_roles rs) (explicit_operands os) ≡ true → (d : RegOp) × (register_at os n ≡ Some d)
+pub definition-there : (t : Target) (e : Effect) {n : ℕ} {rs : List Role} {r : Role} → Leads n rs r → (os : List Operand) → implicit_last os ≡ true → explicit_fit t e (explicit_roles rs) (explicit_operands os) ≡ true → (d : RegOp) × (register_at os n ≡ Some d)
 definition-there t e (first {r = r} {rs = rs} g) [] last fits = absurd (let a = first_of_both (takes_many r) (list_all takes_many (explicit_roles rs)) (subst (λ qs. explicit_fit t e qs [] ≡ true) (front-role r rs g) fits) in let b = (definition-explicit r g).1 in cc)
 definition-there t e (first {r = r} {rs = rs} g) (x ∷ os) last fits =
     let z = explicit-front t e r rs x os g last fits in

@@ -12,6 +12,7 @@ ghost use Rattle.spill_laws.specs.Named.{FormHasPlainUndefs, LoweredHasFixedUnde
 ghost use Rattle.spill_laws.specs.Turns.{LoweredSpillsKeepForm};
 ghost use Rattle.spill_laws.specs.Refined.{SitesApart};
 ghost use Rattle.spill_laws.specs.Seats.{ConstantSeatsStand, CountedSeatsStand, LoadsHold, ReadersHold, StrangePlaces, TinyMoves, UnservedStored, WaysLoad};
+ghost use Rattle.spill_laws.specs.TinyPlaces.{ItemsStay, TerminatorPlacesStand, TinyPlacesStand};
 ghost use Rattle.spill_laws.specs.Standing.{AllStandRefine, BystandersStand, CopiesStand, EndsStand, IdsChangeNothing, NeedlessStand, PlacesJoin, RepeatsStand, SlotMovesStand, StartsStand, StrangersPass, UndefinedStand};
 
 /// New instructions have ids of their own.
@@ -209,4 +210,19 @@ pub fn unserved_law()
 /// An instruction that names the range nowhere gets no tinies, and stays as it is.
 pub fn strange_places_law()
     ensures { StrangePlaces }
+{}
+
+/// An instruction that stays is the item that it was.
+pub fn items_stay_law()
+    ensures { ItemsStay }
+{}
+
+/// An instruction that is no terminator stands with its tinies, between what is loaded before it and what is stored behind it.
+pub fn tiny_places_law()
+    ensures { TinyPlacesStand }
+{}
+
+/// So do the terminators of a block.
+pub fn terminator_places_law()
+    ensures { TerminatorPlacesStand }
 {}
