@@ -57,3 +57,4 @@ pub mod CountedPlaces
 pub mod ConstantPlaces
 pub mod TinyPlaces
 pub mod TerminatorPlaces
+pub mod EffectPlaces

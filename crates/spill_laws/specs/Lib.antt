@@ -5,4 +5,5 @@ pub mod Standing
 pub mod Refined
 pub mod Seats
 pub mod TinyPlaces
+pub mod SpillPlaces
 pub mod SpillRefines

@@ -12,6 +12,7 @@ ghost use Rattle.spill_laws.specs.Named.{FormHasPlainUndefs, LoweredHasFixedUnde
 ghost use Rattle.spill_laws.specs.Turns.{LoweredSpillsKeepForm};
 ghost use Rattle.spill_laws.specs.Refined.{SitesApart};
 ghost use Rattle.spill_laws.specs.Seats.{ConstantSeatsStand, CountedSeatsStand, LoadsHold, ReadersHold, StrangePlaces, TinyMoves, UnservedStored, WaysLoad};
+ghost use Rattle.spill_laws.specs.SpillPlaces.{SpillPlacesStand};
 ghost use Rattle.spill_laws.specs.TinyPlaces.{ItemsStay, TerminatorPlacesStand, TinyPlacesStand};
 ghost use Rattle.spill_laws.specs.Standing.{AllStandRefine, BystandersStand, CopiesStand, EndsStand, IdsChangeNothing, NeedlessStand, PlacesJoin, RepeatsStand, SlotMovesStand, StartsStand, StrangersPass, UndefinedStand};
 
@@ -225,4 +226,9 @@ pub fn tiny_places_law()
 /// So do the terminators of a block.
 pub fn terminator_places_law()
     ensures { TerminatorPlacesStand }
+{}
+
+/// So each place of the function stands, whatever becomes of it.
+pub fn spill_places_law()
+    ensures { SpillPlacesStand }
 {}
