@@ -1,7 +1,6 @@
 -- Each place of a function in which a range is spilled stands: by the effect of its instruction, or as the terminators of a block.
-use Rattle.std.proofs.Common.{◌≡◌, ◌∷◌, ◌++◌, ◌∙◌, ◌&&◌, ◌+◌, ◌≤◌, not, ℕ, suc, Bool, true, false, cond, List, Option, Some, None, length, map, refl, sym, ap, subst, arith, []}
-use Rattle.std.specs.Prelude.{is_none, is_some, option_and_then, slice_get}
-use Rattle.std.specs.List.{cons_option}
+use Rattle.std.proofs.Common.{◌≡◌, ◌∷◌, ◌++◌, ◌∙◌, ◌&&◌, ◌+◌, ◌≤◌, not, ℕ, Bool, true, false, cond, List, Option, Some, None, length, map, refl, sym, ap, subst, arith, []}
+use Rattle.std.specs.Prelude.{is_none, option_and_then, slice_get}
 use Rattle.target_base.specs.declared.types.ClassId.{ClassId}
 use Rattle.target_base.specs.declared.types.Effect.{Effect}
 use Rattle.target_base.specs.declared.types.Effect.TheVariants as effects
@@ -12,7 +11,7 @@ use Rattle.target_base.specs.Roles.{has_shape, is_definition as is_definition_ro
 use Rattle.target_base.specs.Storage.{same_numbers}
 use Rattle.target_base.proofs.Tests.{first_of_both, second_of_both}
 use Rattle.meaning.specs.Code.{Code}
-use Rattle.meaning.specs.Live.{Among as Member, here as first, there as later}
+use Rattle.meaning.specs.Live.{Among as Member, here as first}
 use Rattle.mir_func.specs.declared.func.RegOp.{RegOp}
 use Rattle.mir_func.specs.declared.func.Operand.{Operand}
 use Rattle.mir_func.specs.declared.func.Operand.TheVariants as operands
@@ -34,12 +33,12 @@ use Rattle.lowering_laws.proofs.Rolled.{Leads, fit-roles, leads-at, leads-defini
 use Rattle.lowering_laws.proofs.Rolled as rolling
 use Rattle.lowering_laws.proofs.Seated.{bound-role, role-tied, some-role}
 use Rattle.spiller.specs.Setting.{Spilling, in_own_slot, is_live_behind, is_own, moving_class, own_class, own_lanes, part_class, store, undef_use}
-use Rattle.spiller.specs.Rematerialised.{copy_reading, is_constant, is_needless, repeated_for}
-use Rattle.spiller.specs.Spilled.{Change, becomes, change, copied_in, copied_out, copied_within, copy_change, effect_change, in_place_of, is_own_part, numbered_change, place_change, slot_change, through_tiny, undefined_change, with_ids}
-use Rattle.spill_laws.specs.Laws.{HasTinies, is_placed}
-use Rattle.spill_laws.specs.Standing.{ChangeStands, IsAt, IsInside, IsSetting, PlaceStands, instrs_of}
+use Rattle.spiller.specs.Rematerialised.{copy_reading, is_needless, repeated_for}
+use Rattle.spiller.specs.Spilled.{Change, becomes, change, copied_in, copied_out, copied_within, copy_change, effect_change, in_place_of, is_own_part, place_change, slot_change, through_tiny, undefined_change, with_ids}
+use Rattle.spill_laws.specs.Laws.{is_placed}
+use Rattle.spill_laws.specs.Standing.{ChangeStands, IsAt, IsSetting, PlaceStands, instrs_of}
 use Rattle.spill_laws.specs.SpillPlaces.{IsPart, IsPlace, SpillPlacesStand, alone, ends}
-use Rattle.spill_laws.specs.TinyPlaces.{AreAt, GetsTinies}
+use Rattle.spill_laws.specs.TinyPlaces.{GetsTinies}
 use Rattle.spill_laws.proofs.Bystanders.{bystanders_stand}
 use Rattle.spill_laws.proofs.CopyPlaces.{copies_stand}
 use Rattle.spill_laws.proofs.CountedPlaces.{fixed-of}

@@ -58,7 +58,7 @@ count-within x (d ∷ bs) b m =
     member-elim b d bs (λ e. let w : id_count x b.instrs ≡ id_count x d.instrs = ap (λ (y : Block). id_count x y.instrs) e in omega (arith, total, w)) (λ k. let w = count-within x bs b k in omega (arith, total, w)) m
 
 -- instructions of a block that have one id are one
-one-instr : (is : List Instr) → ((x : ℕ) → id_count x is ≤ 1) → (i j : Instr) → Member i is → Member j is → i.id ≡ j.id → i ≡ j
+pub one-instr : (is : List Instr) → ((x : ℕ) → id_count x is ≤ 1) → (i j : Instr) → Member i is → Member j is → i.id ≡ j.id → i ≡ j
 one-instr is once i j mi mj same =
     let a = member-slice i is mi in
     let b = member-slice j is mj in
@@ -186,10 +186,10 @@ module _ (s : Spilling) (low : IsLowered s.target s.func) (formed : AreLowered s
   abbrev after : Function
   after = spilled s
 
-  in-lowered-form : (b : Block) → Member b s.func.blocks → (i : Instr) → Member i b.instrs → is_lowered s.target i ≡ true
+  pub in-lowered-form : (b : Block) → Member b s.func.blocks → (i : Instr) → Member i b.instrs → is_lowered s.target i ≡ true
   in-lowered-form b mb i mi = all-of (is_lowered s.target) i b.instrs mi (all-of (λ (d : Block). list_all (is_lowered s.target) d.instrs) b s.func.blocks mb formed)
 
-  once : (b : Block) → Member b s.func.blocks → (x : ℕ) → id_count x b.instrs ≤ 1
+  pub once : (b : Block) → Member b s.func.blocks → (x : ℕ) → id_count x b.instrs ≤ 1
   once b mb x = let w = count-within x s.func.blocks b mb in let v = at-most (nat_lt x s.func.next_id) (low.function.once x) in omega (arith, w, v)
     where
       at-most : (y : Bool) → id_total x s.func.blocks ≤ (if y then 1 else 0) → id_total x s.func.blocks ≤ 1

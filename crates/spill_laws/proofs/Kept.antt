@@ -21,7 +21,7 @@ use Rattle.spill_laws.proofs.Ranges.{classes-known, classes-stay}
 use Rattle.spill_laws.proofs.Ids.{spilled-function}
 
 module _ (s : Spilling) (low : IsLowered s.target s.func) where
-  in-order : (b : Block) → Member b s.func.blocks → ordered s.target b.instrs ≡ true
+  pub in-order : (b : Block) → Member b s.func.blocks → ordered s.target b.instrs ≡ true
   unfolding V8
   in-order b mb = ordered-by s.target b.instrs (λ j i e. low.terminators b j i mb e)
 

@@ -58,3 +58,6 @@ pub mod ConstantPlaces
 pub mod TinyPlaces
 pub mod TerminatorPlaces
 pub mod EffectPlaces
+pub mod Following
+pub mod Positions
+pub mod Refining

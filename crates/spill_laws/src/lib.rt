@@ -12,6 +12,7 @@ ghost use Rattle.spill_laws.specs.Named.{FormHasPlainUndefs, LoweredHasFixedUnde
 ghost use Rattle.spill_laws.specs.Turns.{LoweredSpillsKeepForm};
 ghost use Rattle.spill_laws.specs.Refined.{SitesApart};
 ghost use Rattle.spill_laws.specs.Seats.{ConstantSeatsStand, CountedSeatsStand, LoadsHold, ReadersHold, StrangePlaces, TinyMoves, UnservedStored, WaysLoad};
+ghost use Rattle.spill_laws.specs.SpillRefines.{SpillRefines};
 ghost use Rattle.spill_laws.specs.SpillPlaces.{SpillPlacesStand};
 ghost use Rattle.spill_laws.specs.TinyPlaces.{ItemsStay, TerminatorPlacesStand, TinyPlacesStand};
 ghost use Rattle.spill_laws.specs.Standing.{AllStandRefine, BystandersStand, CopiesStand, EndsStand, IdsChangeNothing, NeedlessStand, PlacesJoin, RepeatsStand, SlotMovesStand, StartsStand, StrangersPass, UndefinedStand};
@@ -231,4 +232,9 @@ pub fn terminator_places_law()
 /// So each place of the function stands, whatever becomes of it.
 pub fn spill_places_law()
     ensures { SpillPlacesStand }
+{}
+
+/// Where the range's slot is apart from it, the function after a spill does what the function did.
+pub fn spill_refines_law()
+    ensures { SpillRefines }
 {}
