@@ -104,7 +104,7 @@ module _ (t : Target) (f : Function) (whole : IsFunction f.blocks f.next_id) (pl
   no-phis : has_no_phis t f.blocks ≡ true
   no-phis = all-by (λ (b : Block). list_all (λ i. not (does is_phi t i)) b.instrs) f.blocks (λ b mb. all-by (λ i. not (does is_phi t i)) b.instrs (λ i mi. ap not (plain b i mb mi)))
 
-  point-same : (b : Block) (i : Instr) → does is_phi t i ≡ false → point_item t f b i ≡ item_of t f b i
+  pub point-same : (b : Block) (i : Instr) → does is_phi t i ≡ false → point_item t f b i ≡ item_of t f b i
   unfolding point_item
   point-same b i e = λ k. cond (e k) (Silent [] (defined_undef t f i.operands)) (item_of t f b i)
 

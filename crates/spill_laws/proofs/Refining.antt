@@ -47,13 +47,13 @@ use Rattle.spill_laws.proofs.Ranges.{Has, classes-stay, has-before, has-behind, 
 use Rattle.spill_laws.proofs.Sites.{sites_apart}
 
 -- the effect of an instruction whose opcode is known, and isn't lowered away
-record IsKnown (t : Target) (i : Instr) : Type 0 where
+pub record IsKnown (t : Target) (i : Instr) : Type 0 where
   pub effect : Effect
   pub known : effect_of t i ≡ Some effect
   pub plain : is_phi effect ≡ false
   pub single : puts_together effect ≡ false
 
-known-by : (t : Target) (i : Instr) → does (λ e. not (is_lowered_away e)) t i ≡ true → IsKnown t i
+pub known-by : (t : Target) (i : Instr) → does (λ e. not (is_lowered_away e)) t i ≡ true → IsKnown t i
 known-by t i w = go (effect_of t i) refl w
   where
     left : (a b : Bool) → not (a || b) ≡ true → a ≡ false
@@ -69,7 +69,7 @@ known-by t i w = go (effect_of t i) refl w
     go None e h = absurd (cc)
     go (Some x) e h = record { effect = x; known = e; plain = left (is_phi x) (puts_together x) h; single = right (is_phi x) (puts_together x) h }
 
-no-phi : (t : Target) (i : Instr) → does (λ e. not (is_lowered_away e)) t i ≡ true → does is_phi t i ≡ false
+pub no-phi : (t : Target) (i : Instr) → does (λ e. not (is_lowered_away e)) t i ≡ true → does is_phi t i ≡ false
 no-phi t i w = let z = known-by t i w in ap (passes is_phi) z.known ∙ z.plain
 
 module _ (s : Spilling) (low : IsLowered s.target s.func) (formed : AreLowered s.target s.func) (fixed : HasFixedUndefs s.target s.func) (apart : SlotApart s.target s.func s.range s.slot) (facts : AreFacts s.target s.func s.range s.facts) where

@@ -3,8 +3,9 @@
 //! Each is the contract of a function, so that a check proves it. Begin with `lowered_law`, which is of one spill; `spills_law` is
 //! of many behind lowering. `moves_law` and those behind it up to `stays_law` are of the instructions that a spill makes.
 //!
-//! The laws from `bystanders_law` on are of what a spill does: where lanes are found after it, place by place. `assembled_law`
-//! says that a function whose places all stand so does what it did.
+//! The laws from `bystanders_law` on are of what a spill does: where lanes are found after it, place by place. `spill_places_law`
+//! is of each place, `assembled_law` says that a function whose places all stand so does what it did, and `spill_refines_law`,
+//! the last, that a function in which a range was spilled does what it did.
 #![tactic(auto)]
 
 ghost use Rattle.spill_laws.specs.Laws.{BesidesKeepRules, CopiesKeepRules, MovesKeepRules, PassesKeepRules, RepeatsKeepRules, SeatsHaveClasses, SpillGivesClasses, SpillKeepsBlockRules, SpillKeepsClasses, SpillKeepsIds, SpillKeepsLowered, StaysKeepRules, TiniesKeepRules, UndefinedKeepRules};
