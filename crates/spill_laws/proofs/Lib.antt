@@ -61,3 +61,5 @@ pub mod EffectPlaces
 pub mod Following
 pub mod Positions
 pub mod Refining
+pub mod NewSlots
+pub mod Unnamed

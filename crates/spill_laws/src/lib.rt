@@ -5,7 +5,7 @@
 //!
 //! The laws from `bystanders_law` on are of what a spill does: where lanes are found after it, place by place. `spill_places_law`
 //! is of each place, `assembled_law` says that a function whose places all stand so does what it did, and `spill_refines_law`,
-//! the last, that a function in which a range was spilled does what it did.
+//! that a function in which a range was spilled does what it did; `new_slot_law`, the last, is of a slot that no instruction names.
 #![tactic(auto)]
 
 ghost use Rattle.spill_laws.specs.Laws.{BesidesKeepRules, CopiesKeepRules, MovesKeepRules, PassesKeepRules, RepeatsKeepRules, SeatsHaveClasses, SpillGivesClasses, SpillKeepsBlockRules, SpillKeepsClasses, SpillKeepsIds, SpillKeepsLowered, StaysKeepRules, TiniesKeepRules, UndefinedKeepRules};
@@ -13,7 +13,7 @@ ghost use Rattle.spill_laws.specs.Named.{FormHasPlainUndefs, LoweredHasFixedUnde
 ghost use Rattle.spill_laws.specs.Turns.{LoweredSpillsKeepForm};
 ghost use Rattle.spill_laws.specs.Refined.{SitesApart};
 ghost use Rattle.spill_laws.specs.Seats.{ConstantSeatsStand, CountedSeatsStand, LoadsHold, ReadersHold, StrangePlaces, TinyMoves, UnservedStored, WaysLoad};
-ghost use Rattle.spill_laws.specs.SpillRefines.{SpillRefines};
+ghost use Rattle.spill_laws.specs.SpillRefines.{SpillRefines, SpillToNewSlotRefines};
 ghost use Rattle.spill_laws.specs.SpillPlaces.{SpillPlacesStand};
 ghost use Rattle.spill_laws.specs.TinyPlaces.{ItemsStay, TerminatorPlacesStand, TinyPlacesStand};
 ghost use Rattle.spill_laws.specs.Standing.{AllStandRefine, BystandersStand, CopiesStand, EndsStand, IdsChangeNothing, NeedlessStand, PlacesJoin, RepeatsStand, SlotMovesStand, StartsStand, StrangersPass, UndefinedStand};
@@ -238,4 +238,9 @@ pub fn spill_places_law()
 /// Where the range's slot is apart from it, the function after a spill does what the function did.
 pub fn spill_refines_law()
     ensures { SpillRefines }
+{}
+
+/// So it does where no instruction names the slot.
+pub fn new_slot_law()
+    ensures { SpillToNewSlotRefines }
 {}
