@@ -50,6 +50,7 @@ pub mod WayLoads
 pub mod TinyMoves
 pub mod StrangePlaces
 pub mod ItemsStay
+pub mod SameUses
 pub mod OwnOperands
 pub mod SeatLoads
 pub mod PlaceReadings
