@@ -1,0 +1,10 @@
+pub mod Originals
+pub mod SlotsApart
+pub mod Adopted
+pub mod SlotsNamed
+pub mod SplitFaces
+pub mod SplitPoints
+pub mod SplitSiblings
+pub mod SpillSiblings
+pub mod FirstSiblings
+pub mod Runs
