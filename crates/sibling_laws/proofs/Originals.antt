@@ -1,5 +1,5 @@
 -- Originals of ranges, and the slots that they were given.
-use Rattle.std.proofs.Common.{◌≡◌, ◌<◌, ◌+◌, ◌⊎◌, inl, inr, ◌++◌, ◌∙◌, ℕ, zero, suc, Bool, true, false, cond, List, [], ◌∷◌, Option, Some, None, map, length, replicate, refl, sym, ap, subst, arith, eqb-true, eq-eqb}
+use Rattle.std.proofs.Common.{◌≡◌, ◌<◌, ◌+◌, ◌⊎◌, inl, inr, ◌++◌, ◌∙◌, ℕ, zero, suc, Bool, true, false, cond, List, [], ◌∷◌, Option, Some, None, length, replicate, refl, sym, ap, subst, arith, eqb-true, eq-eqb}
 use Rattle.std.specs.Prelude.{nat_eq, ◌==◌, ◌||◌, find, option_map, slice_get}
 use Rattle.std.proofs.lemmas.List.Folds.{list_any-append}
 use Rattle.meaning.specs.Live.{Among as Member, here as first, there as later}
@@ -7,7 +7,7 @@ use Rattle.mir_meaning.specs.Registers.{has_number, numbers}
 use Rattle.instr_effects.proofs.Members.{map-in, member-elim, member-none}
 use Rattle.instr_effects.proofs.Tables.{slice-left, slice-right}
 use Rattle.live_laws.proofs.Effects.Blocks.{slice-member}
-use Rattle.spiller.specs.Slots.{Slots, given_numbers, least_free, next_slot, original_of, own_slot, slot_among, slot_of}
+use Rattle.spiller.specs.Slots.{Slots, given_numbers, next_slot, original_of, own_slot, slot_among, slot_of}
 use Rattle.spiller.proofs.LeastFree.{free-least}
 
 -- lists by their places

@@ -1,14 +1,12 @@
 -- A slot that is anywhere is named by a store or a reload.
-use Rattle.std.proofs.Common.{◌≡◌, ◌⊎◌, inl, inr, ◌++◌, ◌∙◌, ◌&&◌, ℕ, Bool, true, false, cond, not, List, [], ◌∷◌, Option, Some, None, map, refl, sym, ap, subst}
+use Rattle.std.proofs.Common.{◌≡◌, ◌⊎◌, inl, inr, ◌++◌, ◌∙◌, ℕ, Bool, true, false, cond, List, [], ◌∷◌, Option, Some, None, map, refl, sym, ap, subst}
 use Rattle.std.specs.Prelude.{nat_eq, option_map}
-use Rattle.std.proofs.lemmas.Bool.{or_parts}
 use Rattle.target_base.specs.declared.types.Effect.{Effect}
 use Rattle.target_base.specs.declared.types.Effect.TheVariants as effects
 use Rattle.target_base.specs.declared.types.Target.{Target}
 use Rattle.target_base.specs.Roles.{is_silent}
-use Rattle.target_base.specs.Rules.{is_phi, is_reload, is_spill}
 use Rattle.meaning.specs.Code.{BlockEnd, BlockStart, Code, Counted, Edge, Item, Silent, found}
-use Rattle.meaning.specs.Lanes.{Reads, Writes, filled}
+use Rattle.meaning.specs.Lanes.{Writes, filled}
 use Rattle.meaning.specs.Layout.{NoPhisAlong}
 use Rattle.meaning.specs.Live.{Among as Member, here as first, there as later, Feeds, Live, LiveAfter, OccupiedAfter, OccupiedBefore, after_leap, after_next, after_phi, exits_of, is_slot, kept, leap, next, phi, read, reads_of, store, writes_of}
 use Rattle.meaning.specs.declared.types.Fill.TheVariants.{Moved}
@@ -27,9 +25,9 @@ use Rattle.mir_func.specs.declared.func.Block.{Block}
 use Rattle.mir_func.specs.Value.{Function}
 use Rattle.mir_func.specs.Binding.{does, effect_of, is_early_clobber, is_terminator, passes, puts_together, roles_of}
 use Rattle.mir_meaning.specs.Registers.{is_reserved, operand_lanes, operand_widths, slot_lane_numbers, slot_lanes, undefined_lanes, use_sources}
-use Rattle.mir_meaning.specs.Items.{at_all_widths, counted_writes, defined_undef, lanes_beside, moved, reloaded, rest_of, silent_reads, silent_writes, spilled, undefined, values, widths_once}
+use Rattle.mir_meaning.specs.Items.{at_all_widths, counted_writes, lanes_beside, moved, reloaded, rest_of, silent_reads, silent_writes, spilled, undefined, values, widths_once}
 use Rattle.mir_meaning.specs.Codes.{block_end, blocks_code, effect_item, item_of, target_of, way, ways_out}
-use Rattle.mir_meaning.specs.Points.{AtFirst, Entry, Exit, Point, Start, from_instr, has_no_phis, point_item, points_of}
+use Rattle.mir_meaning.specs.Points.{AtFirst, Entry, Exit, Point, Start, from_instr, point_item, points_of}
 use Rattle.mir_meaning.specs.Rules.{spills_or_reloads}
 use Rattle.instr_effects.proofs.Members.{either-elim, flat-of, map-of, member-elim, member-none, right-in}
 use Rattle.live_laws.proofs.Effects.Moved.{moved-of, undefined-fill, undefined-lane}

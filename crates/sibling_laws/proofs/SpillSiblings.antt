@@ -1,11 +1,11 @@
 -- Spills keep siblings apart.
-use Rattle.std.proofs.Common.{◌≡◌, ◌≢◌, ◌<◌, ◌≤◌, ◌+◌, ◌⊎◌, inl, inr, ◌++◌, ◌∙◌, ℕ, zero, suc, Bool, true, false, cond, List, [], ◌∷◌, Option, Some, None, map, flat_map, length, refl, sym, ap, subst, arith, eq-eqb}
+use Rattle.std.proofs.Common.{◌≡◌, ◌≢◌, ◌<◌, ◌≤◌, ◌+◌, ◌⊎◌, inl, inr, ◌++◌, ◌∙◌, ℕ, suc, Bool, true, false, cond, List, [], ◌∷◌, Option, Some, None, map, flat_map, length, refl, sym, ap, subst, arith, eq-eqb}
 use Rattle.std.specs.Prelude.{nat_eq, nat_lt, ◌||◌, ◌-◌}
 use Rattle.std.specs.List.{list_any, zip}
 use Rattle.std.proofs.lemmas.Bool.{ltb-false, ltb-true}
 use Rattle.std.proofs.lemmas.List.{length-append, length-map}
 use Rattle.target_base.specs.declared.types.Target.{Target}
-use Rattle.meaning.specs.Live.{Among as Member, here as first, there as later}
+use Rattle.meaning.specs.Live.{Among as Member, here as first}
 use Rattle.meaning.specs.declared.types.Lane.TheVariants.{SlotLane, VirtualLane}
 use Rattle.mir_func.specs.declared.func.Operand.TheVariants as operands
 use Rattle.mir_func.specs.declared.func.Instr.{Instr}
@@ -17,7 +17,7 @@ use Rattle.instr_effects.proofs.Members.{either-elim, left-in, member-elim, memb
 use Rattle.lowering_laws.specs.Shapes.{IsLowered}
 use Rattle.spiller.specs.Reaching.{Facts}
 use Rattle.spiller.specs.Setting.{Spilling}
-use Rattle.spiller.specs.Slots.{Slots, given_numbers, next_slot, original_of, own_slot, slot_among, slot_of, with_ranges}
+use Rattle.spiller.specs.Slots.{Slots, given_numbers, original_of, own_slot, slot_among, slot_of, with_ranges}
 use Rattle.spiller.specs.Spilled.{all_changes, is_slot, names_slot, setting_of, slots_after, spilled, tinies, tinies_of}
 use Rattle.spill_laws.specs.Refined.{SlotApart}
 use Rattle.sibling_laws.specs.Siblings.{AreSiblingsApart, KnowsOriginals, SlotPoint}

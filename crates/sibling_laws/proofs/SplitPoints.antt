@@ -1,12 +1,12 @@
 -- At each point of a function with a range split lanes are live or occupied at most as at one point of the function, and of the
 -- parts one alone is, where the range was.
-use Rattle.std.proofs.Common.{◌≡◌, ◌<◌, ◌≤◌, ◌+◌, ◌⊎◌, inl, inr, ◌++◌, ◌∙◌, ℕ, suc, Bool, true, false, cond, List, [], ◌∷◌, map, length, refl, sym, ap, subst, arith}
+use Rattle.std.proofs.Common.{◌≡◌, ◌<◌, ◌+◌, ◌⊎◌, inl, inr, ◌∙◌, ℕ, Bool, true, false, cond, List, [], ◌∷◌, length, refl, sym, ap, subst, arith}
 use Rattle.std.specs.Prelude.{nat_eq, nat_lt}
-use Rattle.std.proofs.lemmas.Bool.{eqb-false, ltb-false, ltb-true, ne_eqb}
+use Rattle.std.proofs.lemmas.Bool.{eqb-false, ltb-false, ne_eqb}
 use Rattle.target_base.specs.declared.types.Target.{Target}
-use Rattle.meaning.specs.Code.{Code, Item, Silent, found}
+use Rattle.meaning.specs.Code.{Code, Item, found}
 use Rattle.meaning.specs.Lanes.{Writes, filled}
-use Rattle.meaning.specs.Live.{Among as Member, here as first, there as later, Live, LiveAfter, OccupiedAfter, OccupiedBefore, Writing, WritingEarly, after_leap, after_next, after_phi, exits_of, in_order, writes_of}
+use Rattle.meaning.specs.Live.{Among as Member, here as first, there as later, Live, LiveAfter, OccupiedAfter, OccupiedBefore, after_leap, after_next, after_phi, exits_of, in_order, writes_of}
 use Rattle.meaning.specs.Matched.{renamed, renamed_write}
 use Rattle.meaning.specs.declared.types.Fill.TheVariants.{Moved}
 use Rattle.meaning.specs.declared.types.Lane.{Lane}
