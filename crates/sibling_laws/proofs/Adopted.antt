@@ -4,7 +4,7 @@ use Rattle.std.proofs.lemmas.List.{length-append}
 use Rattle.mir_meaning.specs.Registers.{numbers}
 use Rattle.spiller.specs.Slots.{Slots, original_of, with_original}
 use Rattle.split_kit.specs.Split.{greatest_label}
-use Rattle.sibling_laws.specs.Siblings.{PartsAreAdopted, all_adopted, with_parts}
+use Rattle.sibling_laws.specs.Splits.{PartsAreAdopted, all_adopted, with_parts}
 use Rattle.sibling_laws.proofs.Originals.{original-old}
 
 in-turn : (n : ℕ) (s : Slots) (v a : ℕ) → a ≡ length s.originals → v < a → all_adopted (numbers a n) v s ≡ with_parts s v n

@@ -33,6 +33,7 @@ use Rattle.split_laws.proofs.Renamed.{bare-edge, exits-of, order-of, writes-of}
 use Rattle.split_laws.proofs.Splitting.{suits}
 use Rattle.split_laws.proofs.Suits.{Suits}
 use Rattle.clear_laws.proofs.Places.{Place, code-behind, code-here, place-of}
+use Rattle.sibling_laws.specs.Splits.{SplitPoint, SplitSharesPoints}
 use Rattle.sibling_laws.proofs.SplitFaces.{Spot, all-spots, all-starts, copy_item, live-none, new, old}
 
 source-same : (a b : Lane) → FromLane a ≡ FromLane b → a ≡ b
@@ -129,7 +130,7 @@ module _ (t : Target) (f : Function) (v : ℕ) (ms : List Mark) (live : Point �
   face-gone {label} {p} {r} F k x = let z = back t f v count C D begin starts x label p F in not-home label z.0 k z.1
 
   -- what is live or occupied at a point of the split function was so at a point of the function
-  pub record WasAt (p : Point) : Type 0 where
+  record WasAt (p : Point) : Type 0 where
     pub q : Point
     pub label : ℕ
     pub others : (l : Lane) → IsOther f v l → OccupiedAt t g p l → OccupiedAt t f q l
@@ -348,7 +349,18 @@ module _ (t : Target) (f : Function) (v : ℕ) (ms : List Mark) (live : Point �
           (code-here t g low-split.function z.pre z.block z.after z.blocks z.inside.front z.inside.instr z.inside.back z.inside.whole)
           (all-spots t f v ms live tests suit meet z.pre z.block z.after z.blocks z.inside.front z.inside.instr z.inside.back z.inside.whole))
 
-  pub was-at : (p : Point) → WasAt p
+  was-at : (p : Point) → WasAt p
   was-at (Start n) = start-was n
   was-at (Entry id) = (instr-was id).0
   was-at (Exit id) = (instr-was id).1
+
+pub split-shares-points : SplitSharesPoints
+split-shares-points t f g v ms low h meet s p =
+    let z = was-at t f v ms s.0 s.1 low meet h p in
+    subst (λ q. SplitPoint t f q v ms p) (sym s.2) (record {
+      at = z.q;
+      label = z.label;
+      others = z.others;
+      shared = λ n k x. z.parts n x.0 k x.1;
+      gone = λ x. z.gone x.0 x.1;
+    })

@@ -7,7 +7,7 @@ use Rattle.target_base.specs.declared.types.Target.{Target}
 use Rattle.meaning.specs.declared.types.Lane.TheVariants.{SlotLane, VirtualLane}
 use Rattle.mir_func.specs.Value.{Function}
 use Rattle.mir_func.specs.Binding.{class_of}
-use Rattle.mir_meaning.specs.Points.{OccupiedAt, Point, RangePoint, Tests}
+use Rattle.mir_meaning.specs.Points.{Point, RangePoint, Tests}
 use Rattle.instr_effects.proofs.Members.{either-elim}
 use Rattle.live_lanes.specs.declared.ask.labels.Mark.{Mark}
 use Rattle.lowering_laws.specs.Shapes.{IsLowered}
@@ -15,9 +15,10 @@ use Rattle.spiller.specs.Slots.{Slots, original_of, slot_among, slot_of}
 use Rattle.spill_laws.specs.Refined.{SlotApart}
 use Rattle.split_kit.specs.Split.{RangeLive, greatest_label, part, split_by}
 use Rattle.split_laws.specs.Laws.{LabelsAgree}
-use Rattle.sibling_laws.specs.Siblings.{AreSiblingsApart, KnowsOriginals, SlotPoint, SplitKeepsSiblings, with_parts}
+use Rattle.sibling_laws.specs.Siblings.{AreSiblingsApart, KnowsOriginals, SlotPoint}
+use Rattle.sibling_laws.specs.Splits.{SplitKeepsSiblings, SplitPoint, with_parts}
 use Rattle.sibling_laws.proofs.Originals.{get-replicate, original-further, original-in, original-old, same-of}
-use Rattle.sibling_laws.proofs.SplitPoints.{WasAt, was-at}
+use Rattle.sibling_laws.proofs.SplitPoints.{split-shares-points}
 
 module _ (t : Target) (f : Function) (v : ℕ) (ms : List Mark) (live : Point → Bool) (tests : Tests (RangeLive t f v) live) (low : IsLowered t f) (meet : LabelsAgree t f v ms) (is-range : v < length f.classes) (s : Slots) (knows : KnowsOriginals f s) where
   abbrev g : Function
@@ -73,14 +74,14 @@ module _ (t : Target) (f : Function) (v : ℕ) (ms : List Mark) (live : Point �
       go true e = inl (ltb-true w (length f.classes) e)
       go false e = let low = ltb-false w (length f.classes) e in inr (w - length f.classes, (let c = classes-are in omega (arith, c, h, low)), omega (arith, low))
 
-  was : (p : Point) → WasAt t f v ms live tests low meet is-range p
-  was p = was-at t f v ms live tests low meet is-range p
+  was : (p : Point) → SplitPoint t f g v ms p
+  was p = split-shares-points t f g v ms low is-range meet (live, tests, refl) p
 
   -- What a range at a point was: itself, and not the one that is split; or that one, where the range is its only part there.
   record Traced (w : ℕ) (p : Point) : Type 0 where
     pub range : ℕ
     pub within : range < length f.classes
-    pub there : RangePoint t f range ((was p).q)
+    pub there : RangePoint t f range ((was p).at)
     pub original : original_of r w ≡ original_of s range
     pub either : ((range ≡ w) × (w ≡ v → ⊥)) ⊎ ((range ≡ v) × (w ≡ part f (was p).label))
 
@@ -91,7 +92,7 @@ module _ (t : Target) (f : Function) (v : ℕ) (ms : List Mark) (live : Point �
       go (inl x) = by (nat_eq w v) refl
         where
           by : (b : Bool) → nat_eq w v ≡ b → Traced w p
-          by true e = absurd ((was p).gone z.0 (subst (λ u. OccupiedAt t g p (VirtualLane u z.0)) (eqb-true w v e) z.1))
+          by true e = absurd ((was p).gone (subst (λ u. RangePoint t g u p) (eqb-true w v e) z))
           by false e = record {
             range = w;
             within = x;
@@ -100,7 +101,7 @@ module _ (t : Target) (f : Function) (v : ℕ) (ms : List Mark) (live : Point �
             either = inl (refl, eqb-false w v e);
           }
       go (inr x) =
-          let y = (was p).parts x.0 z.0 x.1 (subst (λ u. OccupiedAt t g p (VirtualLane u z.0)) x.2 z.1) in
+          let y = (was p).shared x.0 x.1 (subst (λ u. RangePoint t g u p) x.2 z) in
           record {
             range = v;
             within = is-range;
@@ -109,7 +110,7 @@ module _ (t : Target) (f : Function) (v : ℕ) (ms : List Mark) (live : Point �
             either = inr (refl, x.2 ∙ ap (part f) y.1);
           }
 
-  slot-was : (m : ℕ) (p : Point) → SlotPoint t g m p → SlotPoint t f m ((was p).q)
+  slot-was : (m : ℕ) (p : Point) → SlotPoint t g m p → SlotPoint t f m ((was p).at)
   slot-was m p z = (z.0, z.1, (was p).others (SlotLane m z.0 z.1) tt z.2)
 
   module _ (apart : AreSiblingsApart t f s) where
@@ -133,16 +134,16 @@ module _ (t : Target) (f : Function) (v : ℕ) (ms : List Mark) (live : Point �
 
         go : (q : Bool) → nat_eq x.range y.range ≡ q → ⊥
         go true e = other (one (eqb-true x.range y.range e))
-        go false e = apart.ranges x.range y.range x.within y.within (eqb-false x.range y.range e) (sym x.original ∙ (same ∙ y.original)) ((was p).q) x.there y.there
+        go false e = apart.ranges x.range y.range x.within y.within (eqb-false x.range y.range e) (sym x.original ∙ (same ∙ y.original)) ((was p).at) x.there y.there
 
     part-slots : (w m : ℕ) → w < length g.classes → slot_of r w ≡ Some m → SlotApart t g w m
     part-slots w m h e p k j u a b =
         let x = trace w h p (k, a) in
         let y = slot-was m p (j, u, b) in
-        apart.slots x.range m x.within (ap (slot_among s.given) (sym x.original) ∙ e) ((was p).q) x.there.0 y.0 y.1 x.there.1 y.2
+        apart.slots x.range m x.within (ap (slot_among s.given) (sym x.original) ∙ e) ((was p).at) x.there.0 y.0 y.1 x.there.1 y.2
 
     parts-apart : AreSiblingsApart t g r
-    parts-apart = record { ranges = part-ranges; slots = part-slots; given = λ m p z. apart.given m ((was p).q) (slot-was m p z) }
+    parts-apart = record { ranges = part-ranges; slots = part-slots; given = λ m p z. apart.given m ((was p).at) (slot-was m p z) }
 
 pub split-keeps-siblings : SplitKeepsSiblings
 split-keeps-siblings t f g s v ms low h meet split knows apart =

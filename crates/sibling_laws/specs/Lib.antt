@@ -1,3 +1,4 @@
 pub mod Siblings
+pub mod Splits
 pub mod Spills
 pub mod Steps

@@ -1,17 +1,14 @@
 -- Ranges that come from one range, their original, and the slot that they share.
-use Rattle.std.specs.Prelude.{◌≡◌, ◌≢◌, ◌<◌, ◌++◌, ◌+◌, ℕ, true, length, replicate, List, [], ◌∷◌, Some}
+use Rattle.std.specs.Prelude.{◌≡◌, ◌≢◌, ◌<◌, ℕ, true, length, Some}
 use Rattle.target_base.specs.declared.types.Target.{Target}
 use Rattle.meaning.specs.Live.{Among as Member}
 use Rattle.meaning.specs.declared.types.Lane.TheVariants.{SlotLane}
 use Rattle.mir_func.specs.Value.{Function}
 use Rattle.mir_meaning.specs.Points.{OccupiedAt, Point, RangePoint}
 use Rattle.mir_meaning.specs.Registers.{has_number, numbers}
-use Rattle.live_lanes.specs.declared.ask.labels.Mark.{Mark}
 use Rattle.lowering_laws.specs.Shapes.{IsLowered}
-use Rattle.spiller.specs.Slots.{Slots, given_numbers, original_of, own_slot, slot_of, with_original}
+use Rattle.spiller.specs.Slots.{Slots, given_numbers, original_of, own_slot, slot_of}
 use Rattle.spill_laws.specs.Refined.{SlotApart}
-use Rattle.split_kit.specs.Split.{Split, greatest_label, parts}
-use Rattle.split_laws.specs.Laws.{LabelsAgree}
 use Rattle.ready_laws.specs.Frames.{AreFirst, HasNoSlots}
 
 -- some lane of the slot is live or written at the point
@@ -41,24 +38,3 @@ abbrev pub FirstSiblingsApart : Type 0
 FirstSiblingsApart =
     (t : Target) (f : Function) (s : Slots) → IsLowered t f → HasNoSlots t f → AreFirst f s → s.originals ≡ numbers 0 (length f.classes)
     → KnowsOriginals f s × AreSiblingsApart t f s
-
--- so many further ranges, each from this range's original
-abbrev pub with_parts : Slots → ℕ → ℕ → Slots
-with_parts s v n = record s { originals = s.originals ++ replicate n (original_of s v) }
-
--- further ranges, each of which gets the range's original in its turn
-abbrev pub all_adopted : List ℕ → ℕ → Slots → Slots
-all_adopted [] v s = s
-all_adopted (w ∷ ws) v s = all_adopted ws v (with_original s w (original_of s v))
-
--- So do the parts of a range that is split.
-abbrev pub PartsAreAdopted : Type 0
-PartsAreAdopted =
-    (f : Function) (s : Slots) (v : ℕ) (ms : List Mark) → length s.originals ≡ length f.classes → v < length f.classes
-    → all_adopted (parts f ms) v s ≡ with_parts s v (greatest_label ms + 1)
-
--- A split whose parts have the range's original keeps it.
-abbrev pub SplitKeepsSiblings : Type 0
-SplitKeepsSiblings =
-    (t : Target) (f g : Function) (s : Slots) (v : ℕ) (ms : List Mark) → IsLowered t f → v < length f.classes → LabelsAgree t f v ms → Split t f v ms g
-    → KnowsOriginals f s → AreSiblingsApart t f s → let r = with_parts s v (greatest_label ms + 1) in KnowsOriginals g r × AreSiblingsApart t g r

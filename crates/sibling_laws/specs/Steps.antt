@@ -12,7 +12,8 @@ use Rattle.split_laws.specs.Laws.{LabelsAgree}
 use Rattle.run_laws.specs.Form.{IsInRun}
 use Rattle.ready_laws.specs.Frames.{AreFirst, HasNoSlots}
 use Rattle.ready_laws.specs.Runs.{IsReachedWith, IsSlotStep}
-use Rattle.sibling_laws.specs.Siblings.{AreSiblingsApart, KnowsOriginals, with_parts}
+use Rattle.sibling_laws.specs.Siblings.{AreSiblingsApart, KnowsOriginals}
+use Rattle.sibling_laws.specs.Splits.{with_parts}
 use Rattle.sibling_laws.specs.Spills.{SpillsKeepSlots}
 
 -- One step of a run: a range of the function is split by labels that agree on the ways between blocks, and its parts have its

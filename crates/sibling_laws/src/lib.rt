@@ -4,8 +4,9 @@
 //! its slot, as its spill asks. `run_law` is of any number of steps, and `split_law` and `spill_law` are of one.
 #![tactic(auto)]
 
-ghost use Rattle.sibling_laws.specs.Siblings.{FirstSiblingsApart, PartsAreAdopted, SiblingsGiveSlotApart, SplitKeepsSiblings};
+ghost use Rattle.sibling_laws.specs.Siblings.{FirstSiblingsApart, SiblingsGiveSlotApart};
 ghost use Rattle.sibling_laws.specs.Spills.{SpillKeepsSiblings};
+ghost use Rattle.sibling_laws.specs.Splits.{PartsAreAdopted, SplitKeepsSiblings, SplitSharesPoints};
 ghost use Rattle.sibling_laws.specs.Steps.{OriginalsStepIsSlotStep, ReachedFromIsReachedWith, RunKeepsSiblings, RunKeepsSlotApart};
 
 /// Where siblings are apart, each range is apart from the slot that it has, or that it would get.
@@ -16,6 +17,11 @@ pub fn slot_law()
 /// A run begins with siblings apart: each range is its own original.
 pub fn first_law()
     ensures { FirstSiblingsApart }
+{}
+
+/// At each point of a function with a range split one part at most is live or written, where the range was.
+pub fn points_law()
+    ensures { SplitSharesPoints }
 {}
 
 /// Parts that get the range's original, one after the other, are so many further ranges with it.
