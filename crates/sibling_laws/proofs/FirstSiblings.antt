@@ -1,5 +1,5 @@
 -- A run begins with siblings apart.
-use Rattle.std.proofs.Common.{◌≡◌, ◌<◌, ◌+◌, ◌∙◌, ℕ, true, false, List, [], Some, None, length, refl, sym, ap, subst, arith}
+use Rattle.std.proofs.Common.{◌≡◌, ◌<◌, ◌+◌, ◌∙◌, ℕ, true, false, List, [], Some, None, length, sym, ap, subst, arith}
 use Rattle.std.specs.Prelude.{slice_get}
 use Rattle.target_base.specs.declared.types.Target.{Target}
 use Rattle.meaning.specs.Live.{Among as Member}
@@ -7,8 +7,8 @@ use Rattle.mir_func.specs.Value.{Function}
 use Rattle.mir_meaning.specs.Registers.{numbers}
 use Rattle.instr_effects.proofs.Members.{member-none}
 use Rattle.lowering_laws.specs.Shapes.{IsLowered}
-use Rattle.spiller.specs.Slots.{Slots, original_of, slot_among, slot_of}
-use Rattle.ready_laws.specs.Frames.{AreFirst, HasNoSlots}
+use Rattle.spiller.specs.Slots.{Slots, original_of, slot_among}
+use Rattle.ready_laws.specs.Frames.{HasNoSlots}
 use Rattle.sibling_laws.specs.Siblings.{AreSiblingsApart, FirstSiblingsApart, KnowsOriginals}
 use Rattle.sibling_laws.proofs.Originals.{get-numbers, length-numbers, number-below, original-is}
 use Rattle.sibling_laws.proofs.SlotsNamed.{occupied-named}
