@@ -9,3 +9,4 @@ pub mod NoSlots
 pub mod Frames
 pub mod SpillFrames
 pub mod Runs
+pub mod Listed

@@ -8,6 +8,7 @@
 #![tactic(auto)]
 
 ghost use Rattle.ready_laws.specs.Frames.{FirstHasFrames, FramesFit, JoinedHasNoSlots, LoweredHasNoSlots, SpillKeepsFrames, SplitKeepsFrames};
+ghost use Rattle.ready_laws.specs.Listed.{ApartIsReached, ApartRunIsReady, RunIsListed, SpillKeepsListed};
 ghost use Rattle.ready_laws.specs.Runs.{ComputedRunIsReady, JoinedIsReady, ReachedWithIsReached, RunIsReady, RunWithoutSpillsIsListed, SplitsKeepStart, StepKeepsReady};
 ghost use Rattle.ready_laws.specs.Starts.{JoinedKeepsListed, ListedHasStart, SplitKeepsListed, StartIsListed, WithinKeepsListed};
 ghost use Rattle.ready_laws.specs.Steps.{SpillKeepsBlocks, SplitKeepsBlocks, SplitKeepsStart};
@@ -115,4 +116,25 @@ pub fn computed_law()
 /// Without spills that is so behind a run where it is so behind lowering.
 pub fn run_listed_law()
     ensures { RunWithoutSpillsIsListed }
+{}
+
+/// Where a spill makes no more live at the starts of blocks, it keeps what is live where the function begins.
+pub fn spill_listed_law()
+    ensures { SpillKeepsListed }
+{}
+
+/// Runs whose spills go to slots that are apart from their ranges are runs.
+pub fn apart_law()
+    ensures { ApartIsReached }
+{}
+
+/// At their ends no range is live at the start, and the first block lists the units that are, where that is so behind lowering and
+/// such spills make no more live at the starts of blocks.
+pub fn run_starts_law()
+    ensures { RunIsListed }
+{}
+
+/// So a run with spills leads to a function that is ready to be rewritten.
+pub fn apart_run_law()
+    ensures { ApartRunIsReady }
 {}
