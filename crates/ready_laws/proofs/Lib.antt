@@ -2,6 +2,11 @@ pub mod StepBlocks
 pub mod Unnamed
 pub mod SplitInstrs
 pub mod Starts
+pub mod Lived
+pub mod Given
+pub mod Calm
+pub mod TiedStarts
+pub mod LoweredStarts
 pub mod SplitStarts
 pub mod JoinStarts
 pub mod FreeSlots

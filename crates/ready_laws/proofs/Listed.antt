@@ -22,6 +22,7 @@ use Rattle.ready_laws.specs.Runs.{IsReachedWith, IsSlotStep, spills, splits}
 use Rattle.ready_laws.specs.Runs as runs
 use Rattle.ready_laws.specs.Starts.{BeginsWithin, ListsStart}
 use Rattle.ready_laws.proofs.JoinStarts.{joined-keeps-listed}
+use Rattle.ready_laws.proofs.LoweredStarts.{lowered-is-listed}
 use Rattle.ready_laws.proofs.Runs.{computed-run-is-ready}
 use Rattle.ready_laws.proofs.SplitStarts.{split-keeps-listed}
 use Rattle.ready_laws.proofs.Starts.{within-keeps-listed}
@@ -80,12 +81,12 @@ steps-listed spill {t = t} run l (apart.step {g = g} {h = h} on z a) =
     (step_is_in_run t g h k.0 (plain-step z), step-listed spill k.0 z a k.1)
 
 pub run-is-listed : RunIsListed
-run-is-listed lower spill t freqs f g h js s r valid classes some z on =
+run-is-listed phis spill t freqs f g h js s r valid classes some z on =
     let run = lowered_is_in_run t f valid classes some in
     (steps-listed spill (joined_is_in_run t freqs (lowered t f) g js run z)
-    (joined-keeps-listed t freqs (lowered t f) g js run.lowered (form_has_plain_undefs t (lowered t f) run.instrs) z (lower t f valid classes some)) on).1
+    (joined-keeps-listed t freqs (lowered t f) g js run.lowered (form_has_plain_undefs t (lowered t f) run.instrs) z (lowered-is-listed phis t f valid classes)) on).1
 
 pub apart-run-is-ready : ApartRunIsReady
-apart-run-is-ready lower spill live freqs f g js s r rs slots valid classes some z first on same clear computed =
+apart-run-is-ready phis spill live freqs f g js s r rs slots valid classes some z first on same clear computed =
     computed-run-is-ready live freqs f g js s r rs slots valid classes some z first (apart-with on) same clear computed
-    (run-is-listed lower spill live.target freqs f g live.func js s r valid classes some z on)
+    (run-is-listed phis spill live.target freqs f g live.func js s r valid classes some z on)

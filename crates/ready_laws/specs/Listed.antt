@@ -1,4 +1,4 @@
--- What is live where a function begins, along a run with spills. Of lowering and of spills it is a premise here.
+-- What is live where a function begins, along a run with spills. Of phi elimination and of spills it is a premise here.
 use Rattle.std.specs.Prelude.{◌≡◌, ◌<◌, ℕ, length, map, List}
 use Rattle.target_base.specs.declared.types.ClassId.{ClassId}
 use Rattle.target_base.specs.declared.types.Target.{Target}
@@ -23,6 +23,7 @@ use Rattle.rewriter.specs.Physical.{Assignment}
 use Rattle.rewrite_laws.specs.Laws.{IsClear}
 use Rattle.valid_laws.specs.Valid.{IsReady}
 use Rattle.ready_laws.specs.Frames.{AreFirst, slot_numbers}
+use Rattle.ready_laws.specs.LoweredStarts.{PhisKeepStart}
 use Rattle.ready_laws.specs.Runs.{IsReachedWith, IsSlotStep, spills, splits}
 use Rattle.ready_laws.specs.Starts.{ListsStart}
 
@@ -36,10 +37,6 @@ abbrev pub SpillKeepsStarts : Type 0
 SpillKeepsStarts =
     (t : Target) (f g : Function) (slots new : Slots) (v : ℕ) (made : List (ℕ × ℕ)) → IsLowered t f → AreLowered t f → HasFixedUndefs t f → SlotApart t f v (own_slot slots v)
     → IsSpilled t f slots v g new made → KeepsStarts t f g
-
--- that at the start of a valid source, lowered, no range is live, and the first block lists the units that are; not proved yet
-abbrev pub LoweredIsListed : Type 0
-LoweredIsListed = (t : Target) (f : Function) → IsValid t forms.Source f → AreClasses t f → 0 < length f.blocks → ListsStart t (lowered t f)
 
 -- where a spill keeps starts so, no range is live at the start then, and the first block lists the units that are
 abbrev pub SpillKeepsListed : Type 0
@@ -60,18 +57,18 @@ pub data IsReachedApart (t : Target) (f : Function) (s : Slots) : Function → S
 abbrev pub ApartIsReached : Type 0
 ApartIsReached = (t : Target) (f g : Function) (s r : Slots) → IsReachedApart t f s g r → IsReachedWith t f s g r
 
--- So at the start of the function at the end of a run no range is live, and its first block lists the units that are, where that is so
--- behind lowering and spills keep starts so.
+-- So at the start of the function at the end of a run no range is live, and its first block lists the units that are, where phi
+-- elimination and spills make no more live there.
 abbrev pub RunIsListed : Type 0
 RunIsListed =
-    LoweredIsListed → SpillKeepsStarts
+    PhisKeepStart → SpillKeepsStarts
     → (t : Target) (freqs : List ℕ) (f g h : Function) (js : List Join) (s r : Slots) → IsValid t forms.Source f → AreClasses t f → 0 < length f.blocks
     → Joined t freqs (lowered t f) js g → IsReachedApart t g s h r → ListsStart t h
 
 -- Then the function of a computed table at the end of a run is ready to be rewritten.
 abbrev pub ApartRunIsReady : Type 0
 ApartRunIsReady =
-    LoweredIsListed → SpillKeepsStarts
+    PhisKeepStart → SpillKeepsStarts
     → (live : LiveFunc) (freqs : List ℕ) (f g : Function) (js : List Join) (s r : Slots) (rs : Assignment) (slots : List (ℕ × ClassId))
     → IsValid live.target forms.Source f → AreClasses live.target f → 0 < length f.blocks → Joined live.target freqs (lowered live.target f) js g → AreFirst g s
     → IsReachedApart live.target g s live.func r → map (λ p. p.0) slots ≡ slot_numbers r → IsClear live.target live.func rs

@@ -4,11 +4,13 @@
 //! of splits and spills, the function is ready to be rewritten, for any assignment without clashes, where no range is live at the
 //! start of its first block, which lists the units that are. `run_law` asks the rules of a source of the start instead. What a run
 //! keeps is said of its beginning by `joined_law` and of a step by `step_law`; the laws before these are of blocks, of frame
-//! objects and of the start.
+//! objects and of the start. `apart_run_law` needs nothing of the start: it rests on two statements that are not proved yet, of phi
+//! elimination and of spills.
 #![tactic(auto)]
 
 ghost use Rattle.ready_laws.specs.Frames.{FirstHasFrames, FramesFit, JoinedHasNoSlots, LoweredHasNoSlots, SpillKeepsFrames, SplitKeepsFrames};
 ghost use Rattle.ready_laws.specs.Listed.{ApartIsReached, ApartRunIsReady, RunIsListed, SpillKeepsListed};
+ghost use Rattle.ready_laws.specs.LoweredStarts.{LoweredIsListed, TiesKeepLive};
 ghost use Rattle.ready_laws.specs.Runs.{ComputedRunIsReady, JoinedIsReady, ReachedWithIsReached, RunIsReady, RunWithoutSpillsIsListed, SplitsKeepStart, StepKeepsReady};
 ghost use Rattle.ready_laws.specs.Starts.{JoinedKeepsListed, ListedHasStart, SplitKeepsListed, StartIsListed, WithinKeepsListed};
 ghost use Rattle.ready_laws.specs.Steps.{SpillKeepsBlocks, SplitKeepsBlocks, SplitKeepsStart};
@@ -118,6 +120,17 @@ pub fn run_listed_law()
     ensures { RunWithoutSpillsIsListed }
 {}
 
+/// What is live at the start of a block in two-address form was live there.
+pub fn ties_live_law()
+    ensures { TiesKeepLive }
+{}
+
+/// So at the start of a valid source, lowered, no range is live, and its first block lists the units that are, where phi elimination
+/// makes no more live there.
+pub fn lowered_listed_law()
+    ensures { LoweredIsListed }
+{}
+
 /// Where a spill makes no more live at the starts of blocks, it keeps what is live where the function begins.
 pub fn spill_listed_law()
     ensures { SpillKeepsListed }
@@ -128,8 +141,8 @@ pub fn apart_law()
     ensures { ApartIsReached }
 {}
 
-/// At their ends no range is live at the start, and the first block lists the units that are, where that is so behind lowering and
-/// such spills make no more live at the starts of blocks.
+/// At their ends no range is live at the start, and the first block lists the units that are, where phi elimination and such spills
+/// make no more live at the starts of blocks.
 pub fn run_starts_law()
     ensures { RunIsListed }
 {}
