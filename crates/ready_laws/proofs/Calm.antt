@@ -1,5 +1,5 @@
 -- What instructions become in two-address form gives no register to a reserved lane, but for copies of the function itself.
-use Rattle.std.proofs.Common.{◌≡◌, ◌⊎◌, inl, inr, ◌∷◌, ◌++◌, ◌∙◌, ◌&&◌, not, ℕ, Bool, true, false, cond, List, [], Option, Some, None, map, flat_map, length, refl, sym, ap, subst}
+use Rattle.std.proofs.Common.{◌≡◌, inl, ◌∷◌, ◌++◌, ◌∙◌, ◌&&◌, not, ℕ, Bool, true, false, cond, List, [], Option, Some, None, map, flat_map, length, refl, sym, ap, subst}
 use Rattle.std.specs.Prelude.{drop, filter_map, slice_get}
 use Rattle.std.specs.List.{list_any}
 use Rattle.target_base.specs.declared.types.ClassId.{ClassId}
@@ -26,11 +26,11 @@ use Rattle.mir_func.specs.Binding.{TiedPair, does, effect_of, is_definition, is_
 use Rattle.mir_meaning.specs.Codes.{item_of, way}
 use Rattle.mir_meaning.specs.Registers.{is_reserved}
 use Rattle.mir_meaning.specs.Rules.{V15, copy_fits, index_pairs, insertion, is_whole_definition, result_and, spills_or_reloads}
-use Rattle.phi_elim.specs.Moves.{copy_of, copy_op, destination_of, implicit_def_op, move_of, source_of, undefining, whole_definition, whole_use}
+use Rattle.phi_elim.specs.Moves.{copy_of, destination_of, implicit_def_op, move_of, source_of, undefining, whole_definition, whole_use}
 use Rattle.two_address.specs.Classes.{seated}
-use Rattle.two_address.specs.Lowered.{class_aside, copy_form, form_classes, form_lowered, form_of, instr_classes, instr_lowered, insertion_form, part_of_two, sequence_form, ties_lowered, virtual_in, virtual_loc}
-use Rattle.two_address.specs.Sequences.{at_last, beginning, built, fill_all, into_part, is_input, keeping_text, parts_of, sequence_lowered}
-use Rattle.two_address.specs.Ties.{copies, ties_in, tied_lowered, undefined_first, undefined_whole, with_operands}
+use Rattle.two_address.specs.Lowered.{copy_form, form_classes, form_lowered, form_of, instr_classes, instr_lowered, insertion_form, part_of_two, sequence_form, virtual_in, virtual_loc}
+use Rattle.two_address.specs.Sequences.{at_last, beginning, built, fill_all, into_part, is_input, keeping_text, parts_of}
+use Rattle.two_address.specs.Ties.{copies, ties_in, undefined_first, undefined_whole, with_operands}
 use Rattle.two_address.specs.declared.forms.InstrLowering.{InstrLowering}
 use Rattle.two_address.specs.declared.forms.InstrLowering.TheVariants as forms
 use Rattle.two_address.specs.declared.sequences.SubregInput.{SubregInput}

@@ -1,5 +1,5 @@
 -- What instructions give to reserved lanes and to lanes of slots.
-use Rattle.std.proofs.Common.{◌≡◌, ◌⊎◌, inl, inr, ◌∷◌, ◌++◌, ◌+◌, ◌∙◌, ◌&&◌, not, ℕ, zero, suc, Bool, true, false, cond, List, [], Option, Some, None, map, filter, length, refl, sym, ap, subst}
+use Rattle.std.proofs.Common.{◌≡◌, ◌⊎◌, inl, inr, ◌∷◌, ◌++◌, ◌+◌, ◌∙◌, ◌&&◌, not, ℕ, suc, Bool, true, false, cond, List, [], Option, Some, None, map, filter, length, refl, sym, ap, subst}
 use Rattle.std.specs.Prelude.{option_map}
 use Rattle.target_base.specs.declared.types.Effect.{Effect}
 use Rattle.target_base.specs.declared.types.Effect.TheVariants as effects
@@ -37,7 +37,7 @@ use Rattle.mir_func.specs.Value.{Function}
 use Rattle.mir_func.specs.Binding.{Definition, definitions, effect_of, implicit_roles, is_early_clobber, is_terminator, puts_together, roles_of}
 use Rattle.mir_meaning.specs.Codes.{effect_item, item_of, target_of, way, ways_out}
 use Rattle.mir_meaning.specs.Items.{all_lanes, answered, clobbered, computed, constant_bits, constant_lanes, constant_of, copied, counted_writes, defined_lanes, defined_undef, further_writes, given_constant, implicit_definitions, implicit_writes, is_flags, kept, moved, opaque_clobbers, rest_of, results, silent_reads, silent_writes, undefined, unreserved, values, write}
-use Rattle.mir_meaning.specs.Registers.{is_reserved, located_lanes, numbers, operand_lanes, operand_widths, range_widths, undefined_lanes, unit_lanes, use_sources, whole_lanes}
+use Rattle.mir_meaning.specs.Registers.{is_reserved, located_lanes, numbers, operand_lanes, operand_widths, range_widths, undefined_lanes, use_sources, whole_lanes}
 use Rattle.mir_meaning.specs.Rules.{spills_or_reloads}
 use Rattle.instr_effects.proofs.Members.{either-elim, filter-of, map-of, member-elim, member-none}
 use Rattle.ready_laws.proofs.Lived.{AllBare, Fine, KeepsNone, NoStores}

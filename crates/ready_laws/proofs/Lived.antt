@@ -1,13 +1,13 @@
 -- What is live in the second of two codes side by side is live in the first, where what instructions become gives the lanes of the
 -- first what they had.
-use Rattle.std.proofs.Common.{◌≡◌, ◌⊎◌, inl, inr, ◌++◌, ◌∙◌, ℕ, Bool, true, false, cond, List, [], ◌∷◌, Option, Some, None, refl, sym, ap, subst}
+use Rattle.std.proofs.Common.{◌≡◌, ◌⊎◌, inl, inr, ◌++◌, ◌∙◌, ℕ, Bool, true, false, cond, List, [], ◌∷◌, Option, None, refl, sym, ap, subst}
 use Rattle.std.specs.Prelude.{nat_eq, pos}
 use Rattle.target_base.specs.declared.types.Effect.TheVariants as effects
 use Rattle.meaning.specs.Code.{BlockEnd, BlockStart, Code, Counted, Edge, Item, Silent, found}
 use Rattle.meaning.specs.Lanes.{Reads, Writes, filled, settled, through}
 use Rattle.meaning.specs.Live.{Among, Feeds, Kept, KeptAfter, Live, exits_of, here, in_order, is_slot, reads_of, there, writes_of}
 use Rattle.meaning.specs.Live as live
-use Rattle.meaning.specs.Relations.{AlikeFill, AlikeOperands, AlikeReads, Rel, Within, after_both, after_first, after_second, along}
+use Rattle.meaning.specs.Relations.{AlikeFill, AlikeOperands, AlikeReads, Rel, after_both, after_first, after_second}
 use Rattle.meaning.specs.Rows.{first_edge, first_edges, first_of_rows, first_target, second_edge, second_edges, second_of_rows, second_target}
 use Rattle.meaning.specs.declared.types.EdgePair.{EdgePair}
 use Rattle.meaning.specs.declared.types.Fill.{Fill}

@@ -1,5 +1,5 @@
 -- What is live where a valid source begins behind lowering was live there before.
-use Rattle.std.proofs.Common.{◌≡◌, ◌&&◌, ◌∙◌, not, ℕ, Bool, true, List, [], ◌∷◌, Some, length, refl, sym, ap, subst}
+use Rattle.std.proofs.Common.{◌≡◌, ◌∙◌, not, ℕ, true, List, [], ◌∷◌, Some, length, refl, sym, ap, subst}
 use Rattle.std.specs.Prelude.{slice_get, take}
 use Rattle.std.specs.List.{list_all}
 use Rattle.target_base.specs.declared.types.Target.{Target}
@@ -8,7 +8,7 @@ use Rattle.meaning.specs.declared.types.Lane.{Lane}
 use Rattle.meaning.specs.declared.types.Lane.TheVariants.{UnitLane, VirtualLane}
 use Rattle.mir_func.specs.declared.func.Block.{Block}
 use Rattle.mir_func.specs.Value.{Function}
-use Rattle.mir_func.specs.Binding.{does, effect_of, is_lowered_away}
+use Rattle.mir_func.specs.Binding.{does, effect_of}
 use Rattle.mir_meaning.specs.declared.Form.TheVariants as forms
 use Rattle.mir_meaning.specs.Points.{LiveAt, Start, has_no_phis}
 use Rattle.mir_meaning.specs.Valid.{IsValid}
@@ -23,7 +23,7 @@ use Rattle.lowering_laws.proofs.Eliminated.{eliminated-classes, eliminated-rules
 use Rattle.lowering_laws.proofs.LoweredForm.{kept, lowered_form}
 use Rattle.lowering_laws.proofs.Ruled.{all-rules, each-rules}
 use Rattle.valid_laws.specs.Rules.{HasStart}
-use Rattle.ready_laws.specs.LoweredStarts.{LoweredIsListed, PhisKeepStart}
+use Rattle.ready_laws.specs.LoweredStarts.{LoweredIsListed}
 use Rattle.ready_laws.specs.Starts.{BeginsWithin}
 use Rattle.ready_laws.proofs.Starts.{start-is-listed, within-keeps-listed}
 use Rattle.ready_laws.proofs.TiedStarts.{no-phi-either, tied-live, weaker}

@@ -34,7 +34,7 @@ use Rattle.lowering_laws.proofs.Alike.{Equal}
 use Rattle.lowering_laws.proofs.Bare.{bare, bare-lowered}
 use Rattle.lowering_laws.proofs.Blocks.{none-written}
 use Rattle.lowering_laws.proofs.Chained.{both-ways, ends-ways, exits-within, first-ways, second-ways}
-use Rattle.lowering_laws.proofs.Classes.{AllNamed, item-stays}
+use Rattle.lowering_laws.proofs.Classes.{item-stays}
 use Rattle.lowering_laws.proofs.Lowering.{NoPhis, map-append}
 use Rattle.lowering_laws.proofs.LoweredForm.{none_lowered_away}
 use Rattle.lowering_laws.proofs.Made.{Stands, all-stand, made-append, stands-left, stands-right}

@@ -1,5 +1,5 @@
 -- What is live where a function begins, behind lowering.
-use Rattle.std.specs.Prelude.{◌≡◌, ◌<◌, ℕ, true, length, None, Some, slice_get}
+use Rattle.std.specs.Prelude.{◌≡◌, ℕ, true, None, Some, slice_get}
 use Rattle.target_base.specs.declared.types.Target.{Target}
 use Rattle.meaning.specs.declared.types.Lane.{Lane}
 use Rattle.mir_func.specs.declared.func.Block.{Block}
