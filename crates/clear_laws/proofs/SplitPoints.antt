@@ -48,7 +48,7 @@ use Rattle.clear_laws.proofs.Registers.{points_apart}
 use Rattle.clear_laws.proofs.SplitPlaces.{IsCopy, Stands, block-stands, follows, had, leads}
 
 -- items of instructions go on in order
-item-order : (t : Target) (f : Function) (b : Block) (i : Instr) → in_order (point_item t f b i) ≡ true
+pub item-order : (t : Target) (f : Function) (b : Block) (i : Instr) → in_order (point_item t f b i) ≡ true
 unfolding point_item item_of
 item-order t f b i = go (does is_phi t i) (effect_of t i)
   where
