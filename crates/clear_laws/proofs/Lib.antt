@@ -20,3 +20,8 @@ pub mod SilentForms
 pub mod PassForms
 pub mod SilentPlaces
 pub mod TinyPlaces
+pub mod MovePlaces
+pub mod GoneForms
+pub mod SlotMovePlaces
+pub mod StayPlaces
+pub mod CountedItems

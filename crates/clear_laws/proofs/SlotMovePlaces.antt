@@ -63,7 +63,7 @@ source-lane : (a b : Lane) → FromLane a ≡ FromLane b → a ≡ b
 source-lane a b e = cc
 
 -- lanes of a slot by their numbers
-slots-of : (m : ℕ) (js ws : List ℕ) (a : Lane) → Member a (slot_lanes m js ws) → (k : ℕ) × (w : ℕ) × Member k js × (a ≡ SlotLane m k w)
+pub slots-of : (m : ℕ) (js ws : List ℕ) (a : Lane) → Member a (slot_lanes m js ws) → (k : ℕ) × (w : ℕ) × Member k js × (a ≡ SlotLane m k w)
 slots-of m [] ws a h = absurd (member-none a h)
 slots-of m (j ∷ js) [] a h = absurd (member-none a h)
 slots-of m (j ∷ js) (w ∷ ws) a h = member-elim a (SlotLane m j w) (slot_lanes m js ws) (λ e. (j, w, first, e)) (λ k. let z = slots-of m js ws a k in (z.0, z.1, later z.2, z.3)) h

@@ -62,7 +62,7 @@ find-some {X = X} test (y ∷ xs) x m e = go (test y) refl (λ k. find-some test
     go true g ih = (y, refl, first, g)
     go false g ih = member-elim x y xs (λ q. absurd (let h : test y ≡ true = ap test (sym q) ∙ e in cc)) (λ k. let w = ih k in (w.0, w.1, later w.2, w.3)) m
 
-numbered-in : {X : Type 0} (n : ℕ) (xs : List X) (x : X) → Member x xs → (k : ℕ) × Member (k, x) (numbered n xs)
+pub numbered-in : {X : Type 0} (n : ℕ) (xs : List X) (x : X) → Member x xs → (k : ℕ) × Member (k, x) (numbered n xs)
 numbered-in n [] x m = absurd (member-none x m)
 numbered-in {X = X} n (y ∷ xs) x m =
     member-elim x y xs
