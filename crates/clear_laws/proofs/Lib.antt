@@ -25,3 +25,6 @@ pub mod GoneForms
 pub mod SlotMovePlaces
 pub mod StayPlaces
 pub mod CountedItems
+pub mod LiveWidths
+pub mod SeatedPairs
+pub mod SeatedLoads

@@ -41,7 +41,7 @@ unwritten (w ∷ ws) a h = go (same_lane w.lane a) refl (unwritten ws a (λ z. h
     go true e ih = absurd (h (w, first, same-true w.lane a e))
     go false e ih = ih
 
-bare-phis : (ws : Writes) (a b : Lane) → ws ≡ [] → filled ws a ≡ Moved (FromLane b) → a ≡ b
+pub bare-phis : (ws : Writes) (a b : Lane) → ws ≡ [] → filled ws a ≡ Moved (FromLane b) → a ≡ b
 bare-phis ws a b none g = lane-inj a b (sym (ap (λ x. filled x a) none) ∙ g)
 
 pub slot-same : (n m k j w x : ℕ) → SlotLane n k w ≡ SlotLane m j x → (n ≡ m) × (k ≡ j)

@@ -9,9 +9,9 @@ use Rattle.target_base.specs.declared.types.RegDesc.{RegDesc}
 use Rattle.target_base.specs.declared.types.Unit.{Unit as UnitNumber}
 use Rattle.target_base.specs.declared.types.UnitDesc.{UnitDesc}
 use Rattle.target_base.specs.declared.types.Target.{Target}
-use Rattle.target_base.specs.Registers.{regs_of, widths_of}
+use Rattle.target_base.specs.Registers.{regs_of, units_of, widths_of}
 use Rattle.target_base.specs.Rules.{is_reg_desc}
-use Rattle.target_base.specs.Storage.{class_units, unit_width, units_in, width_in}
+use Rattle.target_base.specs.Storage.{class_units, unit_width, units_in, width_in, widths}
 use Rattle.target_base.proofs.Sound.{regs_sound}
 use Rattle.target_base.proofs.Tests.{first_of_both, second_of_both}
 use Rattle.meaning.specs.Lanes.{Writes, filled, same_lane}
@@ -140,3 +140,11 @@ module _ (t : Target) where
       by : (rs : List Reg) (u : UnitNumber) → Member u (class_units t.regs rs) → Member (unit_width t.units u) (widths_once [] t.units)
       by [] u k = absurd (member-none u k)
       by (r ∷ rs) u k = inside (slice_get t.regs r.0) (λ d e. slice-member t.regs r.0 d e) u k
+
+  -- and those of a register's
+  pub reg-wide : (r : Reg) (w : ℕ) → Member w (widths t.units (units_of t r)) → Member w (widths_once [] t.units)
+  reg-wide r w m = let z = map-of (unit_width t.units) w (units_of t r) m in subst (λ y. Member y (widths_once [] t.units)) (sym z.2) (by (slice_get t.regs r.0) (λ d e. slice-member t.regs r.0 d e) z.0 z.1)
+    where
+      by : (q : Option RegDesc) → ((d : RegDesc) → q ≡ Some d → Member d t.regs) → (u : UnitNumber) → Member u (units_in q) → Member (unit_width t.units u) (widths_once [] t.units)
+      by None h u k = absurd (member-none u k)
+      by (Some d) h u k = unit-wide u (reg-units d (h d refl) u k)

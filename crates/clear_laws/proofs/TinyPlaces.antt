@@ -254,7 +254,7 @@ module _ (s : Spilling) (g : Function) (c : ℕ) (p : List Instr) (h : HasTinies
         pub wide : range_widths t g n ≡ map (width s) (own_lanes s o.index)
         pub further : length f.classes ≤ n
 
-      widths-by : (n : ℕ) (d : Option ClassId) → class_of g n ≡ d → d ≡ operand_class t f q o → c ≤ n → HasWidths n
+      pub widths-by : (n : ℕ) (d : Option ClassId) → class_of g n ≡ d → d ≡ operand_class t f q o → c ≤ n → HasWidths n
       widths-by n d a e low =
           let w = class-own in
           let is : class_of g n ≡ Some w.class = a ∙ (e ∙ w.is) in
