@@ -28,3 +28,5 @@ pub mod CountedItems
 pub mod LiveWidths
 pub mod SeatedPairs
 pub mod SeatedLoads
+pub mod WayLoads
+pub mod UndefPlaces
