@@ -30,3 +30,4 @@ pub mod SeatedPairs
 pub mod SeatedLoads
 pub mod WayLoads
 pub mod UndefPlaces
+pub mod DefinitionTinies

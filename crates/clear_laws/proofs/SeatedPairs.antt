@@ -138,7 +138,7 @@ module _ (s : Spilling) (c : ℕ) (p : List Instr) (h : HasTinies s (spilled s) 
 
         used : (own : Own k q o) → o.def ≡ false → (x : Option ℕ) → option_and_then tied_number q ≡ x → Seat k q o (seated s z i k q o)
         used own d (Some j) e =
-            let w = tied-to s g c p h i mi k q o own d j e in
+            let w = tied-to s g c p h i mi k q o own j e in
             let y = tiny-at s g c p h i mi j w.role w.operand w.is w.def in
             let has = y.2.has in
             tiny y.0 own (record { class = has.class; is = has.is; known = has.known; wide = has.wide ∙ ap (λ x. map (width s) (own_lanes s x)) w.index; further = has.further })

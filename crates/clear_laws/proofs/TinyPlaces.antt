@@ -414,8 +414,8 @@ module _ (s : Spilling) (g : Function) (c : ℕ) (p : List Instr) (h : HasTinies
         pub index : operand.index ≡ o.index
         pub pair : Member (pair_with j operand o) (tied_pairs t i)
 
-      pub tied-to : o.def ≡ false → (j : ℕ) → option_and_then tied_number q ≡ Some j → TiedTo j
-      tied-to used j ties =
+      pub tied-to : (j : ℕ) → option_and_then tied_number q ≡ Some j → TiedTo j
+      tied-to j ties =
           let r = role-effect in
           let shaped = h.shaped i mi in
           let fits = fit-operands t f i r.effect r.known r.rolled shaped.operands in
