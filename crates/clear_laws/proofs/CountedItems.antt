@@ -1,6 +1,6 @@
 -- What counted instructions write: lanes of their explicit definitions, and units.
-use Rattle.std.proofs.Common.{◌≡◌, ◌⊎◌, inl, inr, ◌∷◌, ◌++◌, ◌∙◌, ◌+◌, ◌&&◌, ◌||◌, not, ℕ, suc, Bool, true, false, cond, List, length, map, refl, sym, ap, subst, []}
-use Rattle.std.specs.Prelude.{filter, flat_map, option_map}
+use Rattle.std.proofs.Common.{◌≡◌, ◌∷◌, ◌++◌, ◌∙◌, ◌+◌, not, ℕ, suc, Bool, true, false, cond, List, length, map, refl, sym, ap, subst, []}
+use Rattle.std.specs.Prelude.{filter}
 use Rattle.std.specs.List.{list_any}
 use Rattle.target_base.specs.declared.types.Effect.{Effect}
 use Rattle.target_base.specs.declared.types.Effect.TheVariants as effects
@@ -11,11 +11,11 @@ use Rattle.target_base.specs.declared.types.Target.{Target}
 use Rattle.target_base.specs.declared.types.Unit.{Unit as UnitNumber}
 use Rattle.target_base.specs.Registers.{units_of}
 use Rattle.meaning.specs.Lanes.{Writes, filled, same_lane}
-use Rattle.meaning.specs.Live.{Among as Member, here as first, there as later, is_slot}
+use Rattle.meaning.specs.Live.{Among as Member, here as first, there as later}
 use Rattle.meaning.specs.declared.types.Fill.{Fill}
 use Rattle.meaning.specs.declared.types.Fill.TheVariants.{Computed, Moved}
 use Rattle.meaning.specs.declared.types.Lane.{Lane}
-use Rattle.meaning.specs.declared.types.Lane.TheVariants.{SlotLane, UnitLane, VirtualLane}
+use Rattle.meaning.specs.declared.types.Lane.TheVariants.{UnitLane}
 use Rattle.meaning.specs.declared.types.Source.TheVariants.{FromLane, Undef}
 use Rattle.meaning.specs.declared.types.Write.{Write}
 use Rattle.laws.proofs.Quiet.{same-refl, same-true}
@@ -26,7 +26,7 @@ use Rattle.mir_func.specs.declared.func.Operand.{Operand}
 use Rattle.mir_func.specs.declared.func.Instr.{Instr}
 use Rattle.mir_func.specs.Value.{Function}
 use Rattle.mir_func.specs.Binding.{Definition, definitions, implicit_registers, implicit_roles, roles_of}
-use Rattle.mir_meaning.specs.Items.{all_lanes, answered, clobbered, computed, defined_lanes, further_writes, implicit_definitions, implicit_writes, is_flags, kept, opaque_clobbers, preserves, result_writes, results, undefined, unreserved}
+use Rattle.mir_meaning.specs.Items.{all_lanes, answered, clobbered, computed, defined_lanes, further_writes, implicit_definitions, implicit_writes, is_flags, opaque_clobbers, preserves, result_writes, results, undefined, unreserved}
 use Rattle.mir_meaning.specs.Registers.{is_reserved, located_lanes, numbers, operand_lanes, undefined_lanes}
 use Rattle.mir_meaning.specs.Renaming.{IsFixed}
 use Rattle.instr_effects.proofs.Members.{either-elim, filter-of, flat-of, left-in, map-of, member-elim, member-none, right-in}

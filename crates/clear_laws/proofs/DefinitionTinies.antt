@@ -1,13 +1,11 @@
 -- Tinies of definitions of the range: they are stored where a lane is live behind, and loaded for uses that are tied to them.
-use Rattle.std.proofs.Common.{◌≡◌, ◌<◌, ◌≤◌, ◌⊎◌, inl, inr, ◌+◌, ◌∷◌, ◌++◌, ◌∙◌, ◌&&◌, not, ℕ, suc, Bool, true, false, cond, List, Option, Some, None, flat_map, length, map, refl, sym, ap, subst, arith, eqb-true, []}
-use Rattle.std.proofs.lemmas.List.{length-map}
-use Rattle.std.specs.Prelude.{filter, filter_map, nat_eq, option_and_then}
+use Rattle.std.proofs.Common.{◌≡◌, ◌⊎◌, inl, inr, ◌+◌, ◌∷◌, ◌++◌, ◌∙◌, ◌&&◌, ℕ, Bool, true, false, cond, List, Option, Some, None, length, map, refl, sym, ap, subst, arith, []}
+use Rattle.std.specs.Prelude.{filter_map}
 use Rattle.target_base.specs.declared.types.Role.{Role}
 use Rattle.target_base.specs.declared.types.Target.{Target}
-use Rattle.target_base.proofs.Tests.{first_of_both, second_of_both}
 use Rattle.meaning.specs.Code.{Code, Item, Silent}
 use Rattle.meaning.specs.Lanes.{Writes, filled}
-use Rattle.meaning.specs.Live.{Among as Member, here as first, LiveAfter, writes_of}
+use Rattle.meaning.specs.Live.{Among as Member, here as first, LiveAfter}
 use Rattle.meaning.specs.declared.types.Fill.TheVariants.{Moved}
 use Rattle.meaning.specs.declared.types.Lane.{Lane}
 use Rattle.meaning.specs.declared.types.Lane.TheVariants.{SlotLane, VirtualLane}
@@ -20,7 +18,7 @@ use Rattle.mir_func.specs.declared.func.Operand.TheVariants as operands
 use Rattle.mir_func.specs.declared.func.Instr.{Instr}
 use Rattle.mir_func.specs.declared.func.Block.{Block}
 use Rattle.mir_func.specs.Value.{Function}
-use Rattle.mir_func.specs.Binding.{Bound, operand_class}
+use Rattle.mir_func.specs.Binding.{operand_class}
 use Rattle.mir_meaning.specs.Codes.{item_of}
 use Rattle.mir_meaning.specs.Items.{at_all_widths, moved, undefined}
 use Rattle.mir_meaning.specs.Points.{AtFirst}
@@ -44,7 +42,7 @@ use Rattle.spill_laws.proofs.Standing.{unwritten as not-wrote}
 use Rattle.spill_laws.proofs.TinyMoves.{tiny_moves}
 use Rattle.spill_laws.proofs.TinySeats.{low-number, place_seats}
 use Rattle.clear_laws.proofs.PlaceBounds.{Wrote}
-use Rattle.clear_laws.proofs.SilentLists.{all-widths-in, moved-out, undefined-fill, undefined-in}
+use Rattle.clear_laws.proofs.SilentLists.{all-widths-in, moved-out, undefined-in}
 use Rattle.clear_laws.proofs.SpillPoints.{is-wide}
 use Rattle.clear_laws.proofs.TinyPlaces.{HasWidths, IsOwn, widths-by}
 

@@ -1,26 +1,22 @@
 -- Constants that aren't needed any more and IMPLICIT_DEFs whose lanes aren't live: nothing stands in their place.
-use Rattle.std.proofs.Common.{◌≡◌, ◌≤◌, ◌⊎◌, inl, inr, ◌∷◌, ◌∙◌, ℕ, Bool, true, false, List, Some, length, refl, sym, ap, subst, []}
-use Rattle.target_base.specs.declared.types.Target.{Target}
-use Rattle.target_base.specs.Rules.{is_phi}
-use Rattle.meaning.specs.Code.{Code, Item, Silent}
+use Rattle.std.proofs.Common.{◌≡◌, ◌⊎◌, inl, inr, ◌∷◌, ◌∙◌, ℕ, true, false, refl, sym, subst, []}
+use Rattle.meaning.specs.Code.{Code, Silent}
 use Rattle.meaning.specs.Lanes.{Writes, filled}
 use Rattle.meaning.specs.Live.{Among as Member, LiveAfter, Writing, after_next}
 use Rattle.meaning.specs.declared.types.Fill.TheVariants.{Moved}
 use Rattle.meaning.specs.declared.types.Lane.{Lane}
-use Rattle.meaning.specs.declared.types.Lane.TheVariants.{SlotLane, UnitLane, VirtualLane}
+use Rattle.meaning.specs.declared.types.Lane.TheVariants.{SlotLane, VirtualLane}
 use Rattle.meaning.specs.declared.types.Source.TheVariants.{FromLane}
 use Rattle.meaning.specs.declared.types.Write.{Write}
-use Rattle.mir_func.specs.declared.func.Instr.{Instr}
 use Rattle.mir_func.specs.Value.{Function}
 use Rattle.mir_meaning.specs.Points.{AtFirst}
 use Rattle.mir_meaning.specs.Registers.{is_reserved}
 use Rattle.lowering_laws.proofs.Traced.{is_lane_of}
 use Rattle.spiller.specs.Setting.{Spilling}
-use Rattle.spiller.specs.Spilled.{spilled}
 use Rattle.spill_laws.specs.Standing.{IsGone, IsSetting, IsSite, IsStored, code_before}
 use Rattle.spill_laws.proofs.Standing.{brought-here, lane-own}
 use Rattle.clear_laws.proofs.PlaceBounds.{unwritten, wrote-or-not}
-use Rattle.clear_laws.proofs.SilentForms.{IsFine, KeptHere, LiveHere, MayHere, gone-may, not-fine}
+use Rattle.clear_laws.proofs.SilentForms.{KeptHere, LiveHere, MayHere, gone-may, not-fine}
 
 module _ (s : Spilling) (d : ℕ) (ws : Writes) (p : Code) (site : IsSite s d (Silent [] ws) p) (only : (w : Write) → Member w ws → is_lane_of s.range w.lane ≡ true) where
   else-free : (a : Lane) → ((k : ℕ) → a ≡ VirtualLane s.range k → ⊥) → filled ws a ≡ Moved (FromLane a)

@@ -31,3 +31,5 @@ pub mod SeatedLoads
 pub mod WayLoads
 pub mod UndefPlaces
 pub mod DefinitionTinies
+pub mod TiedLoads
+pub mod KnownReadings

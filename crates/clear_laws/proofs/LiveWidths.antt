@@ -1,22 +1,20 @@
 -- Lanes of slots that are live have widths at which stores write: what reads them is a reload of a register's lanes.
-use Rattle.std.proofs.Common.{◌≡◌, ◌<◌, ◌⊎◌, inl, inr, ◌∷◌, ◌++◌, ◌∙◌, ◌&&◌, ℕ, zero, suc, Bool, true, false, cond, List, Option, Some, None, length, map, refl, sym, ap, subst, arith, []}
+use Rattle.std.proofs.Common.{◌≡◌, ◌<◌, ◌⊎◌, inl, inr, ◌∷◌, ◌∙◌, ℕ, zero, suc, Bool, true, false, cond, List, Option, Some, None, length, refl, sym, ap, subst, arith, []}
 use Rattle.std.specs.Prelude.{nat_eq, slice_index}
 use Rattle.target_base.specs.declared.types.ClassId.{ClassId}
 use Rattle.target_base.specs.declared.types.IndexId.{IndexId}
 use Rattle.target_base.specs.declared.types.Target.{Target}
-use Rattle.target_base.specs.declared.types.Unit.{Unit as UnitNumber}
-use Rattle.target_base.specs.Registers.{lanes_of, units_of, widths_of_some}
-use Rattle.target_base.specs.Storage.{unit_width}
+use Rattle.target_base.specs.Registers.{lanes_of, widths_of_some}
 use Rattle.meaning.specs.Code.{BlockEnd, BlockStart, Code, Counted, Edge, Item, Silent, found}
-use Rattle.meaning.specs.Lanes.{Reads, Writes, filled}
+use Rattle.meaning.specs.Lanes.{filled}
 use Rattle.meaning.specs.Live.{Among as Member, here as first, there as later, Live, exits_of, is_slot, kept, leap, next, phi, read, reads_of, store, writes_of}
 use Rattle.meaning.specs.declared.types.Fill.TheVariants.{Moved}
 use Rattle.meaning.specs.declared.types.Lane.{Lane}
-use Rattle.meaning.specs.declared.types.Lane.TheVariants.{SlotLane, UnitLane, VirtualLane}
+use Rattle.meaning.specs.declared.types.Lane.TheVariants.{SlotLane}
 use Rattle.meaning.specs.declared.types.Source.{Source}
 use Rattle.meaning.specs.declared.types.Source.TheVariants.{FromLane}
 use Rattle.meaning.specs.declared.types.Write.{Write}
-use Rattle.laws.proofs.Flow.{filled-from, lane-inj}
+use Rattle.laws.proofs.Flow.{filled-from}
 use Rattle.mir_func.specs.declared.func.Loc.{Loc}
 use Rattle.mir_func.specs.declared.func.Loc.TheVariants.{Fixed, Virtual}
 use Rattle.mir_func.specs.declared.func.RegOp.{RegOp}
@@ -24,7 +22,7 @@ use Rattle.mir_func.specs.Value.{Function}
 use Rattle.mir_func.specs.Binding.{class_of}
 use Rattle.mir_meaning.specs.Items.{widths_once}
 use Rattle.mir_meaning.specs.Registers.{is_reserved, located_widths, operand_widths, range_widths}
-use Rattle.instr_effects.proofs.Members.{map-of, member-elim, member-none}
+use Rattle.instr_effects.proofs.Members.{map-of, member-none}
 use Rattle.live_laws.specs.Effects.Shaped.{AreClasses}
 use Rattle.split_laws.proofs.Suits.{IsNamed}
 use Rattle.clear_laws.proofs.PlaceBounds.{bare-phis}

@@ -1,7 +1,6 @@
 -- Copies within the range, and stores and reloads of it: lanes go from slot to slot through a further register, or nothing stands there.
-use Rattle.std.proofs.Common.{◌≡◌, ◌<◌, ◌≤◌, ◌⊎◌, inl, inr, ◌∷◌, ◌++◌, ◌∙◌, ◌&&◌, ℕ, Bool, true, false, cond, List, Option, Some, None, length, map, refl, sym, ap, subst, arith, []}
+use Rattle.std.proofs.Common.{◌≡◌, ◌≤◌, ◌⊎◌, inl, inr, ◌∷◌, ◌∙◌, ℕ, Bool, true, false, cond, List, Option, Some, None, length, map, refl, sym, ap, subst, arith, []}
 use Rattle.std.proofs.lemmas.List.{length-map}
-use Rattle.target_base.specs.declared.types.ClassId.{ClassId}
 use Rattle.target_base.specs.declared.types.Effect.TheVariants as effects
 use Rattle.target_base.specs.declared.types.IndexId.{IndexId}
 use Rattle.target_base.specs.declared.types.Target.{Target}
@@ -9,15 +8,13 @@ use Rattle.target_base.specs.Registers.{widths_of_some}
 use Rattle.target_base.specs.Rules.{is_phi}
 use Rattle.meaning.specs.Code.{Code, Item, Silent}
 use Rattle.meaning.specs.Lanes.{Writes, filled}
-use Rattle.meaning.specs.Live.{Among as Member, here as first, there as later, KeptAfter, Writing, after_next, is_slot, next}
+use Rattle.meaning.specs.Live.{Among as Member, here as first, there as later, Writing, after_next, is_slot, next}
 use Rattle.meaning.specs.declared.types.Fill.TheVariants.{Moved}
 use Rattle.meaning.specs.declared.types.Lane.{Lane}
-use Rattle.meaning.specs.declared.types.Lane.TheVariants.{SlotLane, UnitLane, VirtualLane}
-use Rattle.meaning.specs.declared.types.Source.{Source}
+use Rattle.meaning.specs.declared.types.Lane.TheVariants.{SlotLane, VirtualLane}
 use Rattle.meaning.specs.declared.types.Source.TheVariants.{FromLane}
 use Rattle.mir_func.specs.declared.func.Loc.TheVariants.{Virtual}
 use Rattle.mir_func.specs.declared.func.RegOp.{RegOp}
-use Rattle.mir_func.specs.declared.func.Operand.{Operand}
 use Rattle.mir_func.specs.declared.func.Operand.TheVariants as operands
 use Rattle.mir_func.specs.declared.func.Instr.{Instr}
 use Rattle.mir_func.specs.declared.func.Block.{Block}
@@ -25,12 +22,10 @@ use Rattle.mir_func.specs.Value.{Function}
 use Rattle.mir_func.specs.Binding.{class_of, effect_of, is_early_clobber, passes, registers, roles_of}
 use Rattle.mir_meaning.specs.Codes.{item_of}
 use Rattle.mir_meaning.specs.Items.{moved}
-use Rattle.mir_meaning.specs.Points.{point_item}
-use Rattle.mir_meaning.specs.Registers.{is_reserved, located_lanes, located_widths, numbers, operand_widths}
-use Rattle.instr_effects.proofs.Members.{map-of, member-none}
+use Rattle.mir_meaning.specs.Registers.{is_reserved, located_lanes, located_widths, numbers}
+use Rattle.instr_effects.proofs.Members.{map-of}
 use Rattle.live_laws.proofs.Effects.Shapes.{class-there, index-there}
-use Rattle.lowering_laws.proofs.Silently.{lanes-count}
-use Rattle.lowering_laws.proofs.Traced.{filled-free, is_one, is_written, lanes_by}
+use Rattle.lowering_laws.proofs.Traced.{filled-free, is_one, lanes_by}
 use Rattle.spiller.specs.Reaching.{Reads}
 use Rattle.spiller.specs.Rematerialised.{Never, copy_reading, copy_wish, if_serves, if_whole, reaching, repeatable_class, repeated_for, serves}
 use Rattle.spiller.specs.Setting.{Spilling, in_own_slot, is_own, moving_class, own_lanes, plain_definition, plain_use, reload, store}
@@ -38,7 +33,7 @@ use Rattle.spiller.specs.Spilled.{in_place_of, spilled}
 use Rattle.split_laws.proofs.Splitting.{as-item}
 use Rattle.spill_laws.specs.Seats.{source_at}
 use Rattle.spill_laws.specs.Standing.{IsAt, IsSetting, IsSite, IsStored, code_before, slot_lane}
-use Rattle.spill_laws.proofs.Chains.{Pair, pair-at, self-source, tiny_lanes}
+use Rattle.spill_laws.proofs.Chains.{pair-at, self-source, tiny_lanes}
 use Rattle.spill_laws.proofs.CopyPlaces.{class-d, from-item, known-reading, wide}
 use Rattle.spill_laws.proofs.Reached.{reading-stored}
 use Rattle.spill_laws.proofs.SlotPlaces.{home, width}

@@ -1,34 +1,34 @@
 -- Lanes of one slot that go to lanes of another through a further register, in place of instructions that name the range.
-use Rattle.std.proofs.Common.{◌≡◌, ◌≤◌, ◌⊎◌, inl, inr, ◌∷◌, ◌++◌, ◌∙◌, ◌||◌, ℕ, Bool, true, false, List, length, map, refl, sym, ap, subst, append-nil, []}
+use Rattle.std.proofs.Common.{◌≡◌, ◌≤◌, ◌⊎◌, inl, inr, ◌∷◌, ◌++◌, ◌∙◌, ℕ, Bool, true, false, List, length, map, refl, sym, ap, subst, []}
 use Rattle.std.proofs.lemmas.List.{length-map}
 use Rattle.target_base.specs.declared.types.Target.{Target}
 use Rattle.meaning.specs.Code.{Code, Silent}
 use Rattle.meaning.specs.Lanes.{Writes, filled, through, settled}
-use Rattle.meaning.specs.Live.{Among as Member, KeptAfter, Writing, after_next, is_slot, next, store}
+use Rattle.meaning.specs.Live.{Among as Member, Writing, after_next, is_slot, next, store}
 use Rattle.meaning.specs.declared.types.Fill.TheVariants.{Moved}
 use Rattle.meaning.specs.declared.types.Lane.{Lane}
-use Rattle.meaning.specs.declared.types.Lane.TheVariants.{SlotLane, UnitLane, VirtualLane}
+use Rattle.meaning.specs.declared.types.Lane.TheVariants.{SlotLane, VirtualLane}
 use Rattle.meaning.specs.declared.types.Source.{Source}
 use Rattle.meaning.specs.declared.types.Source.TheVariants.{FromLane, Undef}
 use Rattle.mir_func.specs.Value.{Function}
 use Rattle.mir_meaning.specs.Items.{at_all_widths, moved, undefined}
-use Rattle.mir_meaning.specs.Registers.{is_reserved, numbers}
+use Rattle.mir_meaning.specs.Registers.{numbers}
 use Rattle.instr_effects.proofs.Members.{either-elim, left-in, map-of, right-in}
 use Rattle.lowering_laws.proofs.Traced.{filled-free, filled-left, filled-right, is_one, is_written, lanes_by, written-append}
 use Rattle.spiller.specs.Setting.{Spilling}
 use Rattle.spiller.specs.Spilled.{spilled}
 use Rattle.spill_laws.specs.Seats.{source_at}
-use Rattle.spill_laws.specs.Standing.{IsSite, IsStored, code_before, slot_lane}
+use Rattle.spill_laws.specs.Standing.{IsSite, IsStored, slot_lane}
 use Rattle.spill_laws.proofs.Chains.{Linked, both, count-lanes, linked, map-long, none, passed-source, tiny_lanes}
 use Rattle.spill_laws.proofs.SlotPlaces.{home, width}
-use Rattle.spill_laws.proofs.SlotWrites.{early-through, moved-lane, moved-written, not-written, of-one, one-of, range-given, range-written, slot-lane-of, slot_by, store_writes, stored-filled, undefined-lane, undefined-written, write-of, written-left, written-right}
+use Rattle.spill_laws.proofs.SlotWrites.{early-through, moved-lane, moved-written, not-written, of-one, one-of, range-written, slot-lane-of, slot_by, store_writes, stored-filled, undefined-lane, undefined-written, write-of, written-left, written-right}
 use Rattle.spill_laws.proofs.SpillItems.{numbers-long}
 use Rattle.spill_laws.proofs.Standing.{unwritten as not-wrote}
 use Rattle.clear_laws.proofs.PlaceBounds.{Wrote, as-itself, as-range, slot-same, unwritten, wrote-or-not}
 use Rattle.clear_laws.proofs.Passed.{IsPassed}
 use Rattle.clear_laws.proofs.Replaced.{Told-of}
 use Rattle.clear_laws.proofs.SilentForms.{IsFine, KeptHere, LiveHere, MayHere, from-own, not-fine, range-number}
-use Rattle.clear_laws.proofs.SilentLists.{all-widths-in, all-widths-of, moved-out, undefined-fill, undefined-in}
+use Rattle.clear_laws.proofs.SilentLists.{all-widths-in, all-widths-of, moved-out, undefined-in}
 use Rattle.clear_laws.proofs.SpillPoints.{goes-on, is-stored, is-wide}
 use Rattle.clear_laws.proofs.SplitPoints.{free}
 

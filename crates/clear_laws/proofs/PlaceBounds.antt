@@ -29,8 +29,8 @@ wrote-or-not (w ∷ ws) a = go (same_lane w.lane a) refl (wrote-or-not ws a)
     go false e (inl z) = inl (z.0, later z.1, z.2)
     go false e (inr none) =
         inr (λ z. member-elim z.0 w ws
-            (λ q. absurd (let h : same_lane w.lane a ≡ true = ap (λ b. same_lane b a) (sym (ap (λ (y : Write). y.lane) q) ∙ z.2) ∙ same-refl a in cc))
-            (λ k. none (z.0, k, z.2)) z.1)
+        (λ q. absurd (let h : same_lane w.lane a ≡ true = ap (λ b. same_lane b a) (sym (ap (λ (y : Write). y.lane) q) ∙ z.2) ∙ same-refl a in cc))
+        (λ k. none (z.0, k, z.2)) z.1)
 
 -- a lane that no write is of stays
 pub unwritten : (ws : Writes) (a : Lane) → ((w : Write) × Member w ws × (w.lane ≡ a) → ⊥) → filled ws a ≡ Moved (FromLane a)

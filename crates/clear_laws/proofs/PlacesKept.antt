@@ -6,7 +6,6 @@ use Rattle.meaning.specs.Code.{BlockEnd, BlockStart, Code, Edge, Item, found}
 use Rattle.meaning.specs.Lanes.{Writes}
 use Rattle.meaning.specs.Live.{Among as Member, Live, LiveAfter, OccupiedAfter, OccupiedBefore, Writing, WritingEarly}
 use Rattle.meaning.specs.declared.types.Lane.{Lane}
-use Rattle.meaning.specs.declared.types.Lane.TheVariants.{SlotLane, VirtualLane}
 use Rattle.mir_func.specs.declared.func.Edge.{Edge as Successor}
 use Rattle.mir_func.specs.declared.func.Instr.{Instr}
 use Rattle.mir_func.specs.declared.func.Block.{Block}
@@ -19,7 +18,7 @@ use Rattle.live_laws.proofs.Effects.Blocks.{items-past}
 use Rattle.split_laws.proofs.Splitting.{map-append, way-bare}
 use Rattle.clear_laws.specs.Spills.{HasEarlyReload}
 use Rattle.clear_laws.proofs.Bounds.{After, IsBounded, Laid, Makes, Through, after-bounded, bounded, feeds, joins, keeps, leads, nowhere, place, reads, stores}
-use Rattle.clear_laws.proofs.PlaceBounds.{GoesOn, KeptLane, May, StaysBeside, Was, as-itself, as-range, as-slot, is-further, stays-bounded, untold, was-more}
+use Rattle.clear_laws.proofs.PlaceBounds.{GoesOn, KeptLane, May, Was, as-itself, as-range, as-slot, is-further, stays-bounded, untold, was-more}
 use Rattle.clear_laws.proofs.SplitPoints.{free}
 use Rattle.clear_laws.proofs.Places.{Place, code-behind, code-here, place-of}
 

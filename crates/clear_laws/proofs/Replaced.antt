@@ -2,16 +2,13 @@
 use Rattle.std.proofs.Common.{◌≡◌, ◌⊎◌, inl, inr, ◌++◌, ◌∙◌, Bool, true, false, ℕ, List, [], ◌∷◌, length, map, sym, ap, subst}
 use Rattle.target_base.specs.declared.types.Target.{Target}
 use Rattle.meaning.specs.Code.{Code, Item}
-use Rattle.meaning.specs.Lanes.{filled}
-use Rattle.meaning.specs.Live.{Among as Member, Live, LiveAfter, OccupiedAfter, OccupiedBefore, Writing, WritingEarly, after_next, in_order}
+use Rattle.meaning.specs.Live.{Live, LiveAfter, OccupiedAfter, OccupiedBefore, Writing, WritingEarly, after_next, in_order}
 use Rattle.meaning.specs.declared.types.Lane.{Lane}
-use Rattle.laws.proofs.Flow.{lane-inj}
 use Rattle.mir_func.specs.declared.func.Instr.{Instr}
 use Rattle.mir_func.specs.declared.func.Block.{Block}
 use Rattle.mir_func.specs.Value.{Function}
 use Rattle.mir_meaning.specs.Points.{AtFirst, Entry, Exit, OccupiedAt, from_instr, point_item}
-use Rattle.instr_effects.proofs.Members.{member-none}
-use Rattle.clear_laws.proofs.Bounds.{After, IsBounded, Through, along, at-phi, in-order}
+use Rattle.clear_laws.proofs.Bounds.{After, IsBounded, Through}
 use Rattle.clear_laws.proofs.PlaceBounds.{GoesOn, IsHeld, KeptLane, Plain, StaysBeside, as-itself, stays-after, stays-bounded}
 use Rattle.clear_laws.proofs.PlacesKept.{C, D, MayBe, PlaceKept, R, Told, WasSo, may-so, so-free, so-more}
 use Rattle.clear_laws.specs.Spills.{HasEarlyReload}

@@ -9,7 +9,6 @@ use Rattle.meaning.specs.declared.types.Lane.{Lane}
 use Rattle.meaning.specs.declared.types.Lane.TheVariants.{SlotLane, VirtualLane}
 use Rattle.meaning.specs.declared.types.Source.{Source}
 use Rattle.meaning.specs.declared.types.Source.TheVariants.{FromLane}
-use Rattle.meaning.specs.declared.types.Write.{Write}
 use Rattle.laws.proofs.Flow.{lane-inj}
 use Rattle.mir_func.specs.Value.{Function}
 use Rattle.instr_effects.proofs.Members.{member-elim, member-none}

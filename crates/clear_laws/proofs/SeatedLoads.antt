@@ -1,34 +1,23 @@
 -- What is loaded to tinies before a place, and what is stored of them behind it.
-use Rattle.std.proofs.Common.{◌≡◌, ◌<◌, ◌≤◌, ◌⊎◌, inl, inr, ◌+◌, ◌∷◌, ◌++◌, ◌∙◌, ◌&&◌, not, ℕ, suc, Bool, true, false, cond, List, Option, Some, None, flat_map, length, map, refl, sym, ap, subst, arith, eqb-true, eq-eqb, []}
+use Rattle.std.proofs.Common.{◌≡◌, ◌⊎◌, inl, inr, ◌∷◌, ◌∙◌, ℕ, Bool, true, false, List, length, map, refl, sym, arith, []}
 use Rattle.std.proofs.lemmas.List.{length-map}
-use Rattle.std.specs.Prelude.{filter, nat_eq}
-use Rattle.std.specs.List.{list_any}
-use Rattle.target_base.specs.declared.types.Effect.{Effect}
-use Rattle.target_base.specs.declared.types.Effect.TheVariants as effects
-use Rattle.target_base.specs.declared.types.IndexId.{IndexId}
 use Rattle.target_base.specs.declared.types.Target.{Target}
-use Rattle.meaning.specs.Code.{Item, Silent}
+use Rattle.meaning.specs.Code.{Silent}
 use Rattle.meaning.specs.Lanes.{Writes, filled}
 use Rattle.meaning.specs.Live.{Among as Member, here as first, there as later, writes_of}
 use Rattle.meaning.specs.declared.types.Fill.TheVariants.{Moved}
 use Rattle.meaning.specs.declared.types.Lane.{Lane}
-use Rattle.meaning.specs.declared.types.Lane.TheVariants.{SlotLane, VirtualLane}
-use Rattle.meaning.specs.declared.types.Source.{Source}
+use Rattle.meaning.specs.declared.types.Lane.TheVariants.{VirtualLane}
 use Rattle.meaning.specs.declared.types.Source.TheVariants.{FromLane}
-use Rattle.mir_func.specs.declared.func.Loc.TheVariants.{Virtual}
-use Rattle.mir_func.specs.declared.func.Operand.{Operand}
 use Rattle.mir_func.specs.declared.func.Instr.{Instr}
 use Rattle.mir_func.specs.declared.func.Block.{Block}
 use Rattle.mir_func.specs.Value.{Function}
 use Rattle.mir_meaning.specs.Codes.{item_of}
-use Rattle.mir_meaning.specs.Items.{moved}
-use Rattle.mir_meaning.specs.Registers.{located_lanes, numbers, range_widths}
-use Rattle.instr_effects.proofs.Members.{map-in, map-of, member-elim, member-none}
+use Rattle.mir_meaning.specs.Registers.{numbers}
+use Rattle.instr_effects.proofs.Members.{map-in, map-of}
 use Rattle.laws.proofs.Flow.{lane-inj}
 use Rattle.lowering_laws.proofs.Traced.{filled-free, is_written, lanes_by}
-use Rattle.spiller.specs.Setting.{Spilling, own_lanes}
-use Rattle.spill_laws.specs.Seats.{Load, Save, load_writes, save_writes}
-use Rattle.spill_laws.proofs.SlotPlaces.{width}
+use Rattle.spill_laws.specs.Seats.{Load, load_writes}
 use Rattle.spill_laws.proofs.SlotWrites.{moved-lane, moved-written, write-of}
 use Rattle.spill_laws.proofs.SpillItems.{numbers-long}
 use Rattle.spill_laws.proofs.Standing.{unwritten as not-wrote}

@@ -1,14 +1,11 @@
 -- A counted instruction with tinies in place of the range: it reads tinies that were loaded, and writes tinies, in place of the range's lanes.
-use Rattle.std.proofs.Common.{◌≡◌, ◌<◌, ◌≤◌, ◌⊎◌, inl, inr, ◌+◌, ◌∷◌, ◌++◌, ◌∙◌, ◌&&◌, not, ℕ, suc, Bool, true, false, cond, List, Option, Some, None, length, map, refl, sym, ap, subst, arith, []}
+use Rattle.std.proofs.Common.{◌≡◌, ◌≤◌, ◌⊎◌, inl, inr, ◌∷◌, ◌∙◌, ◌&&◌, not, ℕ, suc, Bool, true, false, cond, List, Option, Some, None, length, map, refl, sym, ap, subst, arith, []}
 use Rattle.std.proofs.lemmas.List.{length-map}
-use Rattle.std.specs.Prelude.{is_some, option_and_then, option_map}
-use Rattle.std.specs.List.{list_any}
+use Rattle.std.specs.Prelude.{option_and_then}
 use Rattle.target_base.specs.declared.types.Effect.{Effect}
 use Rattle.target_base.specs.declared.types.Role.{Role}
 use Rattle.target_base.specs.declared.types.Target.{Target}
-use Rattle.target_base.specs.Roles.{is_silent}
-use Rattle.target_base.proofs.Tests.{first_of_both, second_of_both}
-use Rattle.meaning.specs.Code.{Counted, Item, Silent}
+use Rattle.target_base.proofs.Tests.{first_of_both}
 use Rattle.meaning.specs.Lanes.{Reads, Writes, filled}
 use Rattle.meaning.specs.Live.{Among as Member, here as first, there as later, is_slot}
 use Rattle.meaning.specs.Relations.{AlikeOperands, AlikeReads, Rel}
@@ -25,23 +22,21 @@ use Rattle.mir_func.specs.declared.func.RegOp.{RegOp}
 use Rattle.mir_func.specs.declared.func.Operand.{Operand}
 use Rattle.mir_func.specs.declared.func.Operand.TheVariants as operands
 use Rattle.mir_func.specs.declared.func.Instr.{Instr}
-use Rattle.mir_func.specs.declared.func.Block.{Block}
 use Rattle.mir_func.specs.Value.{Function}
-use Rattle.mir_func.specs.Binding.{Bound, Definition, as_register, definition_in, definitions, effect_of, explicit_bound, explicit_operands, explicit_roles, implicit_registers, is_definition, is_early, is_early_clobber, is_terminator, numbered, passes, registers, roles_of, takes_many, tied_number}
-use Rattle.mir_meaning.specs.Codes.{item_of, target_of, way, ways_out}
-use Rattle.mir_meaning.specs.Items.{counted_writes, further_writes, rest_of, results, silent_reads, silent_writes, values}
+use Rattle.mir_func.specs.Binding.{Bound, Definition, definition_in, definitions, explicit_bound, explicit_operands, explicit_roles, implicit_registers, is_definition, is_early, numbered, passes, registers, roles_of, takes_many, tied_number}
+use Rattle.mir_meaning.specs.Items.{counted_writes, further_writes, results, values}
 use Rattle.mir_meaning.specs.Registers.{located_lanes, numbers, operand_lanes, operand_widths, range_widths, undefined_lanes, use_sources, whole_lanes}
 use Rattle.mir_meaning.specs.Renaming.{IsFixed}
-use Rattle.instr_effects.proofs.Members.{either-elim, filter-of, left-in, map-in, map-of, member-elim, member-none, right-in}
+use Rattle.instr_effects.proofs.Members.{either-elim, left-in, map-in, map-of, member-elim, member-none, right-in}
 use Rattle.lowering_laws.specs.Form.{is_undef_definition}
 use Rattle.lowering_laws.proofs.Places.{InPlace, Replaces, further-same, reads-alike}
 use Rattle.lowering_laws.proofs.RulesStay.{lanes, same-register, widths}
-use Rattle.lowering_laws.proofs.Seated.{bound-operand, told-in, told-of}
+use Rattle.lowering_laws.proofs.Seated.{told-in, told-of}
 use Rattle.lowering_laws.proofs.Silently.{lanes-count}
 use Rattle.live_laws.proofs.Effects.Moving.{some-same}
 use Rattle.live_laws.proofs.Effects.Shapes.{class-there}
 use Rattle.spiller.specs.Setting.{Spilling, is_own, own_lanes}
-use Rattle.spiller.specs.Spilled.{Seats, as_tiny, numbered_operands, seated, seated_operand, seats_from, spilled, tiny_defined, tiny_of, tiny_read, with_tinies}
+use Rattle.spiller.specs.Spilled.{Seats, as_tiny, numbered_operands, seated, seated_operand, seats_from, spilled, tiny_defined, tiny_of, tiny_read}
 use Rattle.spiller.specs.Rematerialised.{ways_read}
 use Rattle.mir_meaning.specs.Places.{Variable}
 use Rattle.spill_laws.specs.Laws.{HasTinies}
@@ -51,14 +46,13 @@ use Rattle.spill_laws.proofs.SlotPlaces.{width}
 use Rattle.spill_laws.proofs.SpillItems.{lane-slotless, other-beside, own-lanes-are, own-widths-are}
 use Rattle.spill_laws.proofs.TinyApart.{none-before}
 use Rattle.spill_laws.proofs.TinyRules.{last, operand-there, own-explicit}
-use Rattle.spill_laws.proofs.TinySeats.{place_seats}
 use Rattle.spill_laws.proofs.Touched.{UndefsFixed}
 use Rattle.spill_laws.proofs.Turned.{after, bound-after, explicit-after, explicit-number, others-stay, seat, turned}
 use Rattle.clear_laws.proofs.CountedItems.{FromDefinition, filled-wrote, further-fits, results-in, results-of}
 use Rattle.clear_laws.proofs.PlaceBounds.{Wrote, unwritten, wrote-or-not}
 use Rattle.clear_laws.proofs.Seated.{IsFurther}
 use Rattle.clear_laws.proofs.SilentForms.{IsFine, beside-fine, not-fine}
-use Rattle.clear_laws.proofs.TinyPlaces.{DefinedTiny, HasWidths, IsOwn, TiedTo, WayTiny, explicit-own, numbered-in, tied-to, tiny-at, undef-tied, way-at}
+use Rattle.clear_laws.proofs.TinyPlaces.{DefinedTiny, HasWidths, IsOwn, TiedTo, explicit-own, numbered-in, tied-to, tiny-at, undef-tied, way-at}
 use Rattle.lowering_laws.proofs.Seated.{register-in}
 
 -- lists of sources side by side
@@ -302,8 +296,7 @@ module _ (s : Spilling) (c : ℕ) (p : List Instr) (h : HasTinies s (spilled s) 
             let same = same-register (seated s z i k q o) d'.1 w.0 in
             let there = in-numbered k q (operands.Reg o) n in
             let st = seat-at k q o there in
-            let is : is_definition o ≡ true = sym (same-kind k q o (seated s z i k q o) (register-at k q o there) st) ∙ (ap is_definition same ∙ w.1) in
-            (
+            let is : is_definition o ≡ true = sym (same-kind k q o (seated s z i k q o) (register-at k q o there) st) ∙ (ap is_definition same ∙ w.1) in (
               (passes is_early q, o),
               told-in definition_in (passes is_early q, o) (q, operands.Reg o) (explicit_bound es (explicit_operands os)) (numbered-of 0 (explicit_bound es (explicit_operands os)) (k, (q, operands.Reg o)) n) (λ j. cond (is j) (Some (passes is_early q, o)) None),
               record { early = w.2; k = k; q = q; among = there; is = is; seat = subst (Seat k q o) same st },
@@ -324,8 +317,7 @@ module _ (s : Spilling) (c : ℕ) (p : List Instr) (h : HasTinies s (spilled s) 
         let there = in-numbered y.0 w.0.0 (operands.Reg d.1) n in
         let st = seat-at y.0 w.0.0 d.1 there in
         let o' = seated s z i y.0 w.0.0 d.1 in
-        let is : is_definition o' ≡ true = same-kind y.0 w.0.0 d.1 o' (register-at y.0 w.0.0 d.1 there) st ∙ told.1 in
-        (
+        let is : is_definition o' ≡ true = same-kind y.0 w.0.0 d.1 o' (register-at y.0 w.0.0 d.1 there) st ∙ told.1 in (
           (passes is_early w.0.0, o'),
           told-in definition_in (passes is_early w.0.0, o') (w.0.0, operands.Reg o') (explicit_bound es (explicit_operands now-operands))
               (subst (Member (w.0.0, operands.Reg o')) (sym bound-now) (map-in (seat s z i) (y.0, (w.0.0, operands.Reg d.1)) (numbered 0 (explicit_bound es (explicit_operands os))) n))

@@ -1,5 +1,5 @@
 -- An instruction with tinies in place of the range, behind loads and before stores: other ranges and units at its points.
-use Rattle.std.proofs.Common.{◌≡◌, ◌⊎◌, inl, inr, ◌++◌, ◌∙◌, Bool, true, false, ℕ, List, [], ◌∷◌, length, map, sym, ap, subst}
+use Rattle.std.proofs.Common.{◌≡◌, ◌⊎◌, inl, inr, ◌++◌, ◌∙◌, Bool, false, ℕ, List, [], ◌∷◌, length, map, sym, ap, subst}
 use Rattle.target_base.specs.declared.types.Target.{Target}
 use Rattle.meaning.specs.Code.{Code, Item, Silent, found}
 use Rattle.meaning.specs.Lanes.{Writes, filled}

@@ -1,8 +1,8 @@
 -- Stores to the range's slot, and reloads from it, in place of instructions that move lanes of the range.
-use Rattle.std.proofs.Common.{◌≡◌, ◌<◌, ◌≤◌, ◌⊎◌, inl, inr, ◌∷◌, ◌++◌, ◌∙◌, ℕ, Bool, true, false, List, length, map, refl, sym, ap, subst, append-nil, eq-eqb, []}
+use Rattle.std.proofs.Common.{◌≡◌, ◌≤◌, ◌⊎◌, inl, inr, ◌∷◌, ◌++◌, ◌∙◌, ℕ, Bool, true, false, List, length, map, refl, sym, ap, subst, append-nil, eq-eqb, []}
 use Rattle.std.proofs.lemmas.Bool.{ltb-true}
 use Rattle.std.proofs.lemmas.List.{length-map}
-use Rattle.std.specs.Prelude.{nat_eq, nat_lt}
+use Rattle.std.specs.Prelude.{nat_eq}
 use Rattle.target_base.specs.declared.types.Target.{Target}
 use Rattle.meaning.specs.Code.{Code, Silent}
 use Rattle.meaning.specs.Lanes.{Writes, filled}
@@ -13,11 +13,10 @@ use Rattle.meaning.specs.declared.types.Lane.TheVariants.{SlotLane, UnitLane, Vi
 use Rattle.meaning.specs.declared.types.Source.{Source}
 use Rattle.meaning.specs.declared.types.Source.TheVariants.{FromLane, Undef}
 use Rattle.meaning.specs.declared.types.Write.{Write}
-use Rattle.laws.proofs.Flow.{lane-inj}
 use Rattle.mir_func.specs.Value.{Function}
 use Rattle.mir_meaning.specs.Items.{at_all_widths, moved, undefined}
 use Rattle.mir_meaning.specs.Registers.{is_reserved}
-use Rattle.instr_effects.proofs.Members.{either-elim, map-in, map-of, member-none}
+use Rattle.instr_effects.proofs.Members.{either-elim, map-of}
 use Rattle.lowering_laws.proofs.Traced.{filled-free, filled-right, is_lane_of, is_one, is_written, lanes_by}
 use Rattle.spiller.specs.Setting.{Spilling}
 use Rattle.spiller.specs.Spilled.{spilled}

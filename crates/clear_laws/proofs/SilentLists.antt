@@ -14,7 +14,7 @@ use Rattle.target_base.specs.Rules.{is_reg_desc}
 use Rattle.target_base.specs.Storage.{class_units, unit_width, units_in, width_in, widths}
 use Rattle.target_base.proofs.Sound.{regs_sound}
 use Rattle.target_base.proofs.Tests.{first_of_both, second_of_both}
-use Rattle.meaning.specs.Lanes.{Writes, filled, same_lane}
+use Rattle.meaning.specs.Lanes.{filled, same_lane}
 use Rattle.meaning.specs.Live.{Among as Member, here as first, there as later}
 use Rattle.meaning.specs.declared.types.Fill.TheVariants.{Moved}
 use Rattle.meaning.specs.declared.types.Lane.{Lane}

@@ -1,26 +1,22 @@
 -- Copies, stores, reloads and IMPLICIT_DEFs that name the range: what becomes of them keeps what is live and occupied.
-use Rattle.std.proofs.Common.{◌≡◌, ◌<◌, ◌≤◌, ◌⊎◌, inl, inr, ◌∷◌, ◌++◌, ◌∙◌, ◌&&◌, not, ℕ, Bool, true, false, cond, List, Option, Some, None, length, map, refl, sym, ap, subst, arith, append-nil, []}
+use Rattle.std.proofs.Common.{◌≡◌, ◌≤◌, ◌⊎◌, inl, inr, ◌∷◌, ◌++◌, ◌∙◌, ◌&&◌, not, ℕ, Bool, true, false, cond, List, Option, Some, None, length, map, refl, sym, ap, subst, arith, append-nil, []}
 use Rattle.std.proofs.lemmas.List.{length-map}
-use Rattle.std.specs.Prelude.{nat_eq}
 use Rattle.std.specs.List.{list_any}
-use Rattle.target_base.specs.declared.types.ClassId.{ClassId}
 use Rattle.target_base.specs.declared.types.Effect.TheVariants as effects
 use Rattle.target_base.specs.declared.types.IndexId.{IndexId}
 use Rattle.target_base.specs.declared.types.Target.{Target}
-use Rattle.target_base.specs.Registers.{IsClass, widths_of}
+use Rattle.target_base.specs.Registers.{widths_of}
 use Rattle.target_base.specs.Rules.{is_copy, is_phi}
-use Rattle.target_base.specs.Storage.{same_numbers}
 use Rattle.target_base.proofs.Tests.{first_of_both, second_of_both}
 use Rattle.meaning.specs.Code.{Code, Item, Silent}
 use Rattle.meaning.specs.Lanes.{Writes, filled}
-use Rattle.meaning.specs.Live.{Among as Member, here as first, there as later, KeptAfter, Writing, after_next, is_slot, next}
+use Rattle.meaning.specs.Live.{Among as Member, here as first, there as later, KeptAfter, Writing, is_slot}
 use Rattle.meaning.specs.declared.types.Fill.TheVariants.{Moved}
 use Rattle.meaning.specs.declared.types.Lane.{Lane}
-use Rattle.meaning.specs.declared.types.Lane.TheVariants.{SlotLane, UnitLane, VirtualLane}
+use Rattle.meaning.specs.declared.types.Lane.TheVariants.{VirtualLane}
 use Rattle.meaning.specs.declared.types.Source.{Source}
 use Rattle.meaning.specs.declared.types.Source.TheVariants.{FromLane, Undef}
 use Rattle.mir_func.specs.declared.func.RegOp.{RegOp}
-use Rattle.mir_func.specs.declared.func.Operand.{Operand}
 use Rattle.mir_func.specs.declared.func.Operand.TheVariants as operands
 use Rattle.mir_func.specs.declared.func.Instr.{Instr}
 use Rattle.mir_func.specs.declared.func.Block.{Block}
@@ -28,18 +24,17 @@ use Rattle.mir_func.specs.Value.{Function}
 use Rattle.mir_func.specs.Binding.{effect_of, is_early_clobber, is_definition, is_use, is_virtual, passes, registers, roles_of}
 use Rattle.mir_meaning.specs.Codes.{item_of}
 use Rattle.mir_meaning.specs.Items.{copied, moved, undefined}
-use Rattle.mir_meaning.specs.Points.{AtFirst, from_instr, point_item, points_of}
-use Rattle.mir_meaning.specs.Registers.{is_reserved, located_lanes, located_widths, operand_widths, undefined_lanes, use_sources, whole_lanes}
+use Rattle.mir_meaning.specs.Registers.{is_reserved, located_lanes, located_widths, operand_widths, undefined_lanes, whole_lanes}
 use Rattle.mir_meaning.specs.Rules.{copy_fits, has_class, has_home, same_widths, widths_fit}
 use Rattle.instr_effects.proofs.Members.{map-of, member-elim, member-none}
 use Rattle.live_laws.proofs.Effects.Shapes.{class-there, index-there, widths-of}
 use Rattle.live_laws.proofs.Touch.Roles.{met}
 use Rattle.lowering_laws.proofs.RulesStay.{lanes, widths}
 use Rattle.lowering_laws.proofs.Silently.{lanes-count}
-use Rattle.lowering_laws.proofs.Traced.{is_one, is_written, lanes_by}
+use Rattle.lowering_laws.proofs.Traced.{lanes_by}
 use Rattle.lowering_laws.specs.Form.{is_undef_definition, is_undef_use}
 use Rattle.spiller.specs.Reaching.{Reads}
-use Rattle.spiller.specs.Rematerialised.{Reading, copy_reading, copy_wish, repeated, repeated_for}
+use Rattle.spiller.specs.Rematerialised.{copy_reading, copy_wish, repeated, repeated_for}
 use Rattle.spiller.specs.Setting.{Spilling, class_beside, in_own_slot, is_own, own_lanes, plain_definition, plain_use, reload, store}
 use Rattle.spiller.specs.Spilled.{in_place_of, spilled}
 use Rattle.split_laws.proofs.Splitting.{as-item}
@@ -51,7 +46,7 @@ use Rattle.spill_laws.proofs.Joined.{ids_change_nothing}
 use Rattle.spill_laws.proofs.Reached.{reading-stored}
 use Rattle.spill_laws.proofs.RepeatPlaces.{gives, gives-constant, gives-long, repeating-item, wholly}
 use Rattle.spill_laws.proofs.SlotPlaces.{home, width}
-use Rattle.spill_laws.proofs.SlotWrites.{source-among, write-of, of-one, one-of, store_writes}
+use Rattle.spill_laws.proofs.SlotWrites.{source-among, one-of, store_writes}
 use Rattle.spill_laws.proofs.SpillItems.{OwnMove, item-known, other-beside, own-at, own-lanes-are, own-move, own-widths-are, reload-effect, reload-item, store-effect, store-item, unslotted}
 use Rattle.spill_laws.proofs.TinyApart.{none-before}
 use Rattle.spill_laws.proofs.Touched.{low-copies}
@@ -281,4 +276,4 @@ module _ (s : Spilling) (z : IsSetting s (spilled s)) (b c : Block) (i : Instr) 
             second =
                 same-id t g c n (repeated x (plain_definition d.loc d.index))
                 ∙ (repeating-item s g z (copy_reading s i d o) x some c d.loc d.index wide-all
-                ∙ ((λ j. Silent [] (moved (is_early_clobber (roles_of t x)) (lanes t f g z.keeps d.loc d.index has-class-d j) (map (constant-for x some) (own_lanes s (sym index j))))) ))
+                ∙ ((λ j. Silent [] (moved (is_early_clobber (roles_of t x)) (lanes t f g z.keeps d.loc d.index has-class-d j) (map (constant-for x some) (own_lanes s (sym index j)))))))

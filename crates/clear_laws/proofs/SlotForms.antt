@@ -16,7 +16,7 @@ use Rattle.mir_func.specs.Value.{Function}
 use Rattle.instr_effects.proofs.Members.{member-none}
 use Rattle.clear_laws.specs.Spills.{HasEarlyReload}
 use Rattle.clear_laws.proofs.Bounds.{Makes, along, at-phi, feeds, in-order, joins, keeps, leads, reads, stores}
-use Rattle.clear_laws.proofs.PlaceBounds.{GoesOn, Wrote, as-itself, as-range, as-slot, unwritten, untold}
+use Rattle.clear_laws.proofs.PlaceBounds.{GoesOn, as-itself, as-range, as-slot, unwritten, untold}
 use Rattle.clear_laws.proofs.Replaced.{Before, Behind, F, G, Held, IsKept, IsPlain, May, Replaces, Told-of, X, behind-told}
 
 -- a lane is one of the slot's, or isn't

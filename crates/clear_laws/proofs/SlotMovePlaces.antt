@@ -1,21 +1,18 @@
 -- Stores of the range to a slot, and reloads of it: lanes go from slot to slot through a further register, or nothing stands there.
-use Rattle.std.proofs.Common.{◌≡◌, ◌<◌, ◌≤◌, ◌⊎◌, inl, inr, ◌∷◌, ◌++◌, ◌∙◌, ◌&&◌, ◌||◌, not, ℕ, Bool, true, false, cond, List, Option, Some, None, flat_map, length, map, refl, sym, ap, subst, arith, append-nil, eqb-true, []}
+use Rattle.std.proofs.Common.{◌≡◌, ◌≤◌, ◌⊎◌, inl, inr, ◌∷◌, ◌++◌, ◌∙◌, ◌||◌, not, ℕ, Bool, true, false, cond, List, Some, None, flat_map, length, map, refl, sym, ap, subst, arith, append-nil, eqb-true, []}
 use Rattle.std.proofs.lemmas.List.{length-map}
-use Rattle.std.specs.Prelude.{◌==◌, nat_eq}
-use Rattle.target_base.specs.declared.types.ClassId.{ClassId}
+use Rattle.std.specs.Prelude.{◌==◌}
 use Rattle.target_base.specs.declared.types.Effect.TheVariants as effects
-use Rattle.target_base.specs.declared.types.IndexId.{IndexId}
 use Rattle.target_base.specs.declared.types.Target.{Target}
 use Rattle.target_base.specs.Registers.{lanes_of, widths_of_some}
 use Rattle.target_base.specs.Rules.{is_phi}
-use Rattle.target_base.specs.Storage.{same_numbers}
-use Rattle.target_base.proofs.Tests.{first_of_both, second_of_both}
-use Rattle.meaning.specs.Code.{Code, Item, Silent}
+use Rattle.target_base.proofs.Tests.{second_of_both}
+use Rattle.meaning.specs.Code.{Code, Silent}
 use Rattle.meaning.specs.Lanes.{Writes, filled}
 use Rattle.meaning.specs.Live.{Among as Member, here as first, there as later, Writing, after_next, is_slot, next, store as live-stored}
 use Rattle.meaning.specs.declared.types.Fill.TheVariants.{Moved}
 use Rattle.meaning.specs.declared.types.Lane.{Lane}
-use Rattle.meaning.specs.declared.types.Lane.TheVariants.{SlotLane, UnitLane, VirtualLane}
+use Rattle.meaning.specs.declared.types.Lane.TheVariants.{SlotLane, VirtualLane}
 use Rattle.meaning.specs.declared.types.Source.{Source}
 use Rattle.meaning.specs.declared.types.Source.TheVariants.{FromLane, Undef}
 use Rattle.mir_func.specs.declared.func.Loc.TheVariants.{Virtual}
@@ -28,27 +25,26 @@ use Rattle.mir_func.specs.Value.{Function}
 use Rattle.mir_func.specs.Binding.{class_of, effect_of, is_early_clobber, passes, registers, roles_of}
 use Rattle.mir_meaning.specs.Codes.{item_of}
 use Rattle.mir_meaning.specs.Items.{at_all_widths, moved, reloaded, spilled as store_given, undefined}
-use Rattle.mir_meaning.specs.Points.{point_item}
 use Rattle.mir_meaning.specs.Registers.{is_reserved, located_lanes, located_widths, numbers, operand_widths, slot_lane_numbers, slot_lanes, undefined_lanes, whole_lanes}
 use Rattle.mir_meaning.specs.Rules.{has_lanes, lanes_fit}
 use Rattle.instr_effects.proofs.Members.{either-elim, flat-in, map-of, member-elim, member-none}
 use Rattle.live_laws.proofs.Effects.Shapes.{class-there, index-there, lanes-there}
 use Rattle.live_laws.proofs.Touch.Roles.{met}
-use Rattle.lowering_laws.proofs.Traced.{filled-free, filled-left, filled-right, is_one, is_written, lanes_by}
+use Rattle.lowering_laws.proofs.Traced.{is_one, lanes_by}
 use Rattle.lowering_laws.specs.Form.{is_undef_definition}
 use Rattle.spiller.specs.Reaching.{Reads}
 use Rattle.spiller.specs.Rematerialised.{Never, all_readings, effect_readings, if_serves, place_readings, places_of, reaching, reading_of, repeated_for}
 use Rattle.spiller.specs.Setting.{Spilling, in_own_slot, is_own, moving_class, own_lanes, plain_definition, plain_use, reload, store}
-use Rattle.spiller.specs.Spilled.{in_place_of, is_own_part, spilled}
+use Rattle.spiller.specs.Spilled.{in_place_of, spilled}
 use Rattle.split_laws.proofs.Splitting.{as-item}
 use Rattle.spill_laws.specs.Seats.{source_at}
-use Rattle.spill_laws.specs.Standing.{IsAt, IsSetting, IsSite, IsStored, code_before, slot_lane}
+use Rattle.spill_laws.specs.Standing.{IsAt, IsSetting, IsSite, IsStored, code_before}
 use Rattle.spill_laws.proofs.Chains.{self-source, tiny_lanes}
 use Rattle.spill_laws.proofs.CopyPlaces.{map-map, none-of}
 use Rattle.spill_laws.proofs.Reached.{reading-stored}
 use Rattle.spill_laws.proofs.SlotPlaces.{home, width}
 use Rattle.spill_laws.proofs.SlotWrites.{moved-lane, one-of, range-given, slot-lane-of, slot_by, source-among, store_writes, stored-filled, undefined-lane, undefined-written, write-of, written-right}
-use Rattle.spill_laws.proofs.SpillItems.{OwnMove, homes-are, item-known, numbers-long, own-lanes-are, own-move, own-widths-are, reload-effect, reload-item, same-list, store-effect, store-item}
+use Rattle.spill_laws.proofs.SpillItems.{OwnMove, homes-are, item-known, numbers-long, own-lanes-are, own-move, own-widths-are, reload-effect, reload-item, store-effect, store-item}
 use Rattle.spill_laws.proofs.TinyApart.{none-before}
 use Rattle.clear_laws.proofs.PlaceBounds.{unwritten, wrote-or-not}
 use Rattle.clear_laws.proofs.Passed.{passed-kept}

@@ -1,16 +1,16 @@
 -- Copies, stores, reloads and IMPLICIT_DEFs that don't name the range stay as they are.
-use Rattle.std.proofs.Common.{◌≡◌, ◌⊎◌, inl, inr, ◌∷◌, ◌++◌, ◌∙◌, ◌&&◌, ℕ, Bool, true, false, cond, List, Option, Some, None, length, map, refl, sym, ap, subst, []}
+use Rattle.std.proofs.Common.{◌≡◌, inl, inr, ◌∷◌, ◌++◌, ◌∙◌, ◌&&◌, ℕ, Bool, true, false, cond, List, Some, None, length, map, refl, sym, ap, subst, []}
 use Rattle.std.specs.Prelude.{option_map}
 use Rattle.target_base.specs.declared.types.Effect.{Effect}
 use Rattle.target_base.specs.declared.types.Effect.TheVariants as effects
 use Rattle.target_base.specs.declared.types.Target.{Target}
 use Rattle.target_base.specs.Roles.{is_silent}
-use Rattle.meaning.specs.Code.{Code, Counted, Edge, Item, Silent}
-use Rattle.meaning.specs.Lanes.{Reads, Writes, filled}
-use Rattle.meaning.specs.Live.{Among as Member, Writing, exits_of, is_slot, reads_of, writes_of}
+use Rattle.meaning.specs.Code.{Code, Counted, Item, Silent}
+use Rattle.meaning.specs.Lanes.{Writes, filled}
+use Rattle.meaning.specs.Live.{Among as Member, exits_of, is_slot, writes_of}
 use Rattle.meaning.specs.declared.types.Fill.TheVariants.{Moved}
 use Rattle.meaning.specs.declared.types.Lane.{Lane}
-use Rattle.meaning.specs.declared.types.Lane.TheVariants.{SlotLane, UnitLane, VirtualLane}
+use Rattle.meaning.specs.declared.types.Lane.TheVariants.{SlotLane}
 use Rattle.meaning.specs.declared.types.Source.{Source}
 use Rattle.meaning.specs.declared.types.Source.TheVariants.{FromLane, Undef}
 use Rattle.meaning.specs.declared.types.Write.{Write}
@@ -25,8 +25,8 @@ use Rattle.mir_func.specs.Value.{Function}
 use Rattle.mir_func.specs.Binding.{does, effect_of, is_early_clobber, is_terminator, puts_together, roles_of}
 use Rattle.mir_meaning.specs.Codes.{item_of, target_of, way, ways_out}
 use Rattle.mir_meaning.specs.Items.{at_all_widths, copied, counted_writes, defined, defined_undef, lanes_beside, moved, reloaded, rest_of, silent_reads, silent_writes, spilled as store_given, undefined, values, widths_once}
-use Rattle.mir_meaning.specs.Registers.{located_lanes, operand_lanes, operand_widths, slot_lane_numbers, undefined_lanes, use_sources, whole_lanes}
-use Rattle.instr_effects.proofs.Members.{either-elim, in-either, map-of, member-none}
+use Rattle.mir_meaning.specs.Registers.{operand_lanes, operand_widths, slot_lane_numbers, undefined_lanes, use_sources, whole_lanes}
+use Rattle.instr_effects.proofs.Members.{either-elim, map-of, member-none}
 use Rattle.lowering_laws.proofs.Traced.{filled-left, filled-right, is_written}
 use Rattle.spiller.specs.Setting.{Spilling}
 use Rattle.spiller.specs.Spilled.{spilled}
@@ -37,7 +37,7 @@ use Rattle.spill_laws.proofs.Standing.{unwritten as not-wrote}
 use Rattle.clear_laws.proofs.PlaceBounds.{PlainLane, StaysBeside, Wrote, slot-same}
 use Rattle.clear_laws.proofs.PlainItems.{Strange, strange-read, strange-write}
 use Rattle.clear_laws.proofs.PlacesKept.{C, D, R}
-use Rattle.clear_laws.proofs.SilentLists.{all-widths-in, all-widths-of, moved-out, undefined-fill, undefined-in}
+use Rattle.clear_laws.proofs.SilentLists.{all-widths-in, all-widths-of, moved-out, undefined-in}
 use Rattle.clear_laws.proofs.SlotMovePlaces.{slots-of}
 use Rattle.clear_laws.proofs.SpillPoints.{is-stored, is-wide}
 use Rattle.lowering_laws.proofs.Classes.{AreNamed}

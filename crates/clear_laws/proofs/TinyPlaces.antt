@@ -1,6 +1,6 @@
 -- Each operand of the range at a place has a tiny, with the widths of its lanes: that of its definition, or that of its way of reading.
-use Rattle.std.proofs.Common.{◌≡◌, ◌<◌, ◌≤◌, ◌⊎◌, inl, inr, ◌+◌, ◌∷◌, ◌++◌, ◌∙◌, ◌&&◌, ◌||◌, not, ℕ, suc, zero, Bool, true, false, cond, List, Option, Some, None, flat_map, length, map, refl, sym, ap, subst, arith, eqb-true, eq-eqb, []}
-use Rattle.std.specs.Prelude.{filter, filter_map, find, is_none, is_some, nat_eq, option_and_then, option_map, slice_get}
+use Rattle.std.proofs.Common.{◌≡◌, ◌≤◌, ◌⊎◌, inl, inr, ◌+◌, ◌∷◌, ◌∙◌, ◌&&◌, ◌||◌, not, ℕ, suc, zero, Bool, true, false, cond, List, Option, Some, None, flat_map, length, map, refl, sym, ap, subst, arith, eqb-true, eq-eqb, []}
+use Rattle.std.specs.Prelude.{filter_map, find, is_none, nat_eq, option_and_then, option_map, slice_get}
 use Rattle.std.specs.List.{list_all, list_any}
 use Rattle.target_base.specs.declared.types.ClassId.{ClassId}
 use Rattle.target_base.specs.declared.types.Effect.{Effect}
@@ -12,39 +12,34 @@ use Rattle.target_base.specs.Registers.{IsClass, move_class, widths_of, widths_o
 use Rattle.target_base.specs.Roles.{is_any, is_definition as is_definition_role, is_implicit, is_tied}
 use Rattle.target_base.proofs.Tests.{first_of_both, second_of_both}
 use Rattle.meaning.specs.Live.{Among as Member, here as first, there as later}
-use Rattle.mir_func.specs.declared.func.Loc.{Loc}
-use Rattle.mir_func.specs.declared.func.Loc.TheVariants.{Fixed, Virtual}
+use Rattle.mir_func.specs.declared.func.Loc.TheVariants.{Virtual}
 use Rattle.mir_func.specs.declared.func.RegOp.{RegOp}
 use Rattle.mir_func.specs.declared.func.Operand.{Operand}
 use Rattle.mir_func.specs.declared.func.Operand.TheVariants as operands
 use Rattle.mir_func.specs.declared.func.Instr.{Instr}
 use Rattle.mir_func.specs.Value.{Function}
-use Rattle.mir_func.specs.Binding.{Bound, any_class, as_register, asked_class, bound, class_of, does, effect_of, explicit_bound, explicit_operands, explicit_roles, implicit_bound, implicit_registers, implicit_roles, is_early, is_implicit_operand, is_virtual, moving_class as operand_moving, numbered, operand_class, passes, register_at, registers, roles_of, same_index, same_loc, takes_many, tied_number, tied_pair, tied_pairs}
-use Rattle.mir_meaning.specs.Places.{Defining, Kind, Using, Variable, each_once, has_tied_use, is_defining, operand_variable, operand_variables, register_variable, same_class, same_use, variable}
-use Rattle.mir_meaning.specs.Points.{is_range}
-use Rattle.mir_meaning.specs.Registers.{operand_widths, range_widths}
+use Rattle.mir_func.specs.Binding.{Bound, any_class, as_register, asked_class, bound, class_of, explicit_bound, explicit_operands, explicit_roles, implicit_bound, implicit_registers, implicit_roles, is_early, is_virtual, moving_class as operand_moving, numbered, operand_class, passes, register_at, registers, roles_of, same_index, same_loc, takes_many, tied_number, tied_pair, tied_pairs}
+use Rattle.mir_meaning.specs.Places.{Defining, Using, Variable, each_once, has_tied_use, is_defining, operand_variable, operand_variables, register_variable, same_class, same_use, variable}
+use Rattle.mir_meaning.specs.Registers.{range_widths}
 use Rattle.mir_meaning.specs.Rules.{explicit_fit, fits_at, implicit_last, in_operand_class, is_free_undef, is_opaque}
 use Rattle.two_address.specs.Classes.{seated as with_roles}
 use Rattle.instr_effects.proofs.Members.{filter-in, filter-of, flat-in, flat-of, left-in, member-elim, member-none}
-use Rattle.live_laws.specs.Effects.Shaped.{AreClasses, IsShaped}
 use Rattle.live_laws.proofs.Effects.Lists.{all-of, any-in}
 use Rattle.live_laws.proofs.Effects.Moving.{some-same}
 use Rattle.live_laws.proofs.Effects.Shapes.{class-there, index-there, lanes-there}
-use Rattle.live_laws.proofs.Touch.Roles.{has_roles}
-use Rattle.lowering_laws.specs.Form.{is_lowered, shares_register}
+use Rattle.lowering_laws.specs.Form.{shares_register}
 use Rattle.lowering_laws.proofs.Counted.{operand-class}
 use Rattle.lowering_laws.proofs.Rolled.{Leads, defined-by, definition-explicit, explicit-front, first as leads-first, fit-operands, fit-roles, front-role, later as leads-later, role-leads, tied-role}
 use Rattle.lowering_laws.proofs.RulesStay.{same-register}
-use Rattle.lowering_laws.proofs.Seated.{bound-operand, bound-role, pair-of, pair_with, register-in, register-there, role-tied, told-in, told-of}
+use Rattle.lowering_laws.proofs.Seated.{bound-role, pair-of, pair_with, register-in, role-tied, told-in, told-of}
 use Rattle.lowering_laws.proofs.Widths.{bound-class}
 use Rattle.spiller.specs.Rematerialised.{own_variables, ways_read}
-use Rattle.spiller.specs.Setting.{Spilling, is_own, moving_class, own_class, own_lanes}
-use Rattle.spiller.specs.Spilled.{OwnDefinition, Seats, definitions_in, numbered_operands, own_definition, seats_from, tiny_defined, tiny_of, tiny_read, tiny_used}
+use Rattle.spiller.specs.Setting.{Spilling, is_own, own_lanes}
+use Rattle.spiller.specs.Spilled.{OwnDefinition, Seats, definitions_in, numbered_operands, own_definition, tiny_defined, tiny_read}
 use Rattle.spill_laws.specs.Laws.{HasTinies}
 use Rattle.spill_laws.proofs.Beside.{definition-tiny, way-tiny}
-use Rattle.spill_laws.proofs.Copies.{range-is}
 use Rattle.spill_laws.proofs.Ranges.{numbered-of}
-use Rattle.spill_laws.proofs.Seated.{among-explicit, fits-role, not-implicit, seat-of}
+use Rattle.spill_laws.proofs.Seated.{among-explicit, seat-of}
 use Rattle.spill_laws.proofs.SlotPlaces.{width}
 use Rattle.spill_laws.proofs.SpillItems.{OwnMove, own-at, own-move, own-widths-are}
 use Rattle.spill_laws.proofs.TinyRules.{last, operand-there, own-explicit}
@@ -310,8 +305,7 @@ module _ (s : Spilling) (g : Function) (c : ℕ) (p : List Instr) (h : HasTinies
           let id = eqb-true w.0.1.by.id i.id (first_of_both (nat_eq w.0.1.by.id i.id) (nat_eq w.0.1.number k) w.3) in
           let number = eqb-true w.0.1.number k (second_of_both (nat_eq w.0.1.by.id i.id) (nat_eq w.0.1.number k) w.3) in
           let is = definition-is w.0.1 (numbered-of (c + ways) (definitions_in s p) w.0 w.2) id number in
-          let low = low-number (c + ways) (definitions_in s p) w.0 w.2 in
-          (
+          let low = low-number (c + ways) (definitions_in s p) w.0 w.2 in (
             w.0.0,
             ap (option_map (λ (x : ℕ × OwnDefinition). x.0)) w.1,
             record {
@@ -367,8 +361,7 @@ module _ (s : Spilling) (g : Function) (c : ℕ) (p : List Instr) (h : HasTinies
           let y = numbered-in c (ways_read s p) u.0 read in
           let w = find-some (λ (x : ℕ × Variable). same_use v x.1) z.ways (y.0, u.0) y.1 u.2 in
           let again = use-parts w.0.1 w.3 in
-          let low = low-number c (ways_read s p) w.0 w.2 in
-          (
+          let low = low-number c (ways_read s p) w.0 w.2 in (
             w.0.0,
             ap (option_map (λ (x : ℕ × Variable). x.0)) w.1,
             record {
@@ -397,8 +390,7 @@ module _ (s : Spilling) (g : Function) (c : ℕ) (p : List Instr) (h : HasTinies
           use-parts : (u : Variable) → same_use (variable Using s.range o.index (operand_class s.target s.func q o)) u ≡ true → (not (is_defining u.kind) ≡ true) × (u.range ≡ s.range) × (u.index ≡ o.index) × (u.class ≡ operand_class s.target s.func q o)
           use-parts u e =
               let a = first_of_both _ (same_class (operand_class t f q o) u.class) e in
-              let b = first_of_both _ (same_index o.index u.index) a in
-              (
+              let b = first_of_both _ (same_index o.index u.index) a in (
                 first_of_both (not (is_defining u.kind)) (nat_eq s.range u.range) b,
                 sym (eqb-true s.range u.range (second_of_both (not (is_defining u.kind)) (nat_eq s.range u.range) b)),
                 sym (same-index-is o.index u.index (second_of_both _ (same_index o.index u.index) a)),

@@ -1,5 +1,5 @@
 -- IMPLICIT_DEFs of the range: a store of an `undef` register stands in their place, or nothing.
-use Rattle.std.proofs.Common.{◌≡◌, ◌≤◌, ◌∷◌, ◌++◌, ◌∙◌, ◌&&◌, ℕ, Bool, true, false, cond, List, Option, Some, None, length, map, refl, sym, ap, subst, arith, append-nil, eq-eqb, []}
+use Rattle.std.proofs.Common.{◌≡◌, ◌≤◌, ◌∷◌, ◌++◌, ◌∙◌, ℕ, Bool, true, false, cond, List, Option, Some, None, length, map, refl, sym, ap, subst, arith, append-nil, eq-eqb, []}
 use Rattle.std.proofs.lemmas.List.{length-map}
 use Rattle.std.specs.Prelude.{is_some, option_and_then, slice_index}
 use Rattle.target_base.specs.declared.types.ClassId.{ClassId}
@@ -9,9 +9,9 @@ use Rattle.target_base.specs.declared.types.Target.{Target}
 use Rattle.target_base.specs.Registers.{IsClass, fits, lanes_of, part_of, widths_of_some}
 use Rattle.target_base.specs.Rules.{is_phi}
 use Rattle.target_base.proofs.Tests.{first_of_both}
-use Rattle.meaning.specs.Code.{Code, Item, Silent}
+use Rattle.meaning.specs.Code.{Code, Silent}
 use Rattle.meaning.specs.Lanes.{Writes}
-use Rattle.meaning.specs.Live.{Among as Member, here as first, Writing, is_slot}
+use Rattle.meaning.specs.Live.{Among as Member, here as first}
 use Rattle.meaning.specs.declared.types.Fill.TheVariants.{Moved}
 use Rattle.meaning.specs.declared.types.Lane.{Lane}
 use Rattle.meaning.specs.declared.types.Lane.TheVariants.{VirtualLane}
@@ -19,7 +19,6 @@ use Rattle.meaning.specs.declared.types.Source.{Source}
 use Rattle.meaning.specs.declared.types.Source.TheVariants.{FromLane, Undef}
 use Rattle.meaning.specs.declared.types.Write.{Write}
 use Rattle.mir_func.specs.declared.func.RegOp.{RegOp}
-use Rattle.mir_func.specs.declared.func.Operand.{Operand}
 use Rattle.mir_func.specs.declared.func.Operand.TheVariants as operands
 use Rattle.mir_func.specs.declared.func.Instr.{Instr}
 use Rattle.mir_func.specs.declared.func.Block.{Block}
@@ -30,32 +29,27 @@ use Rattle.mir_meaning.specs.Items.{defined_undef, moved, undefined}
 use Rattle.mir_meaning.specs.Places.{domain}
 use Rattle.mir_meaning.specs.Registers.{located_lanes, operand_widths, range_widths, undefined_lanes, use_sources, whole_lanes}
 use Rattle.mir_meaning.specs.Rules.{has_class, implicit_def_fits, index_fits}
-use Rattle.instr_effects.proofs.Members.{map-of, member-elim, member-none}
+use Rattle.instr_effects.proofs.Members.{map-of}
 use Rattle.live_laws.proofs.Effects.Shapes.{class-there, index-there}
 use Rattle.live_laws.proofs.Touch.Roles.{met}
 use Rattle.lowering_laws.proofs.Silently.{lanes-count}
-use Rattle.lowering_laws.proofs.Traced.{is_lane_of, is_one, lanes_by}
+use Rattle.lowering_laws.proofs.Traced.{is_lane_of, lanes_by}
 use Rattle.lowering_laws.proofs.Widths.{class-alike, lying-widths, through_index}
 use Rattle.lowering_laws.specs.Form.{is_undef_definition}
 use Rattle.spiller.specs.Setting.{Spilling, first_of, in_own_slot, is_live_behind, is_own, own_class, own_lanes, part_class, store, undef_use}
 use Rattle.spiller.specs.Spilled.{in_place_of, spilled}
-use Rattle.spill_laws.specs.Seats.{source_at}
-use Rattle.spill_laws.specs.Standing.{IsAt, IsBeside, IsSetting, IsSite}
+use Rattle.spill_laws.specs.Standing.{IsAt, IsSetting, IsSite}
 use Rattle.spill_laws.proofs.Classes.{part-class as part-of-class}
 use Rattle.spill_laws.proofs.Copies.{unreserved-there}
 use Rattle.spill_laws.proofs.CopyPlaces.{none-of}
 use Rattle.spill_laws.proofs.SlotPlaces.{width}
-use Rattle.spill_laws.proofs.SlotWrites.{moved-lane, of-one, source-among, store_writes}
+use Rattle.spill_laws.proofs.SlotWrites.{moved-lane, source-among, store_writes}
 use Rattle.spill_laws.proofs.SpillItems.{indexed, item-known, own-at, own-lanes-are, store-effect, store-item}
 use Rattle.spill_laws.proofs.TinyApart.{none-before}
 use Rattle.clear_laws.proofs.GoneForms.{dropped-goes}
 use Rattle.clear_laws.proofs.MovePlaces.{goes-kept}
 use Rattle.clear_laws.proofs.SilentForms.{range-number, storing-replaces}
 use Rattle.clear_laws.proofs.SilentPlaces.{KeptAs, as-one}
-
-
-
-
 
 undefined-moved : (v : ℕ) (ks : List ℕ) → undefined false (lanes_by v ks) ≡ moved false (lanes_by v ks) (map (λ k. Undef) ks)
 undefined-moved v [] = refl
@@ -118,8 +112,8 @@ module _ (s : Spilling) (z : IsSetting s (spilled s)) (b c : Block) (i : Instr) 
   undefined-dropped dead =
       goes-kept s z b c i p at phi (Silent [] blank-writes) blank-item
       (dropped-goes s i.id blank-writes p site (λ w m. let y = lane-number w m in ap (is_lane_of s.range) y.2 ∙ eq-eqb s.range s.range refl) g z (λ k w. (let y = lane-number w.0 w.1 in
-          let same : y.0 ≡ k = range-number s.range y.0 k (sym y.2 ∙ w.2) in
-          subst (λ n. s.facts.live_behind i.id n ≡ false) same (none-of (s.facts.live_behind i.id) y.0 ks dead y.1))))
+      let same : y.0 ≡ k = range-number s.range y.0 k (sym y.2 ∙ w.2) in
+      subst (λ n. s.facts.live_behind i.id n ≡ false) same (none-of (s.facts.live_behind i.id) y.0 ks dead y.1))))
 
   -- the class of the part, whose registers have its widths
   record PartWide : Type 0 where

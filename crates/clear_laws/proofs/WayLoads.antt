@@ -1,19 +1,16 @@
 -- The loads of ways of reading give their tinies what the slot holds of lanes that are read.
-use Rattle.std.proofs.Common.{◌≡◌, ◌<◌, ◌≤◌, ◌⊎◌, inl, inr, ◌+◌, ◌∷◌, ◌++◌, ◌∙◌, ◌&&◌, ◌||◌, not, ℕ, suc, Bool, true, false, cond, List, Option, Some, None, flat_map, length, map, refl, sym, ap, subst, arith, eqb-true, eq-eqb, []}
+use Rattle.std.proofs.Common.{◌≡◌, ◌⊎◌, inl, inr, ◌∷◌, ◌∙◌, ◌||◌, not, ℕ, Bool, true, false, cond, List, Option, Some, None, flat_map, length, map, refl, sym, ap, subst, eqb-true, eq-eqb, []}
 use Rattle.std.proofs.lemmas.List.{length-map}
-use Rattle.std.specs.Prelude.{filter, filter_map, nat_eq, option_and_then}
-use Rattle.std.specs.List.{list_any}
-use Rattle.target_base.specs.declared.types.Effect.{Effect}
+use Rattle.std.specs.Prelude.{nat_eq}
 use Rattle.target_base.specs.declared.types.Role.{Role}
 use Rattle.target_base.specs.declared.types.Target.{Target}
 use Rattle.target_base.specs.Roles.{is_tied}
-use Rattle.meaning.specs.Code.{Code, Item, Silent}
-use Rattle.meaning.specs.Lanes.{Writes, filled}
-use Rattle.meaning.specs.Live.{Among as Member, read, reads_of, writes_of}
+use Rattle.meaning.specs.Code.{Code, Item}
+use Rattle.meaning.specs.Lanes.{filled}
+use Rattle.meaning.specs.Live.{Among as Member, writes_of}
 use Rattle.meaning.specs.declared.types.Fill.TheVariants.{Moved}
 use Rattle.meaning.specs.declared.types.Lane.{Lane}
-use Rattle.meaning.specs.declared.types.Lane.TheVariants.{SlotLane, VirtualLane}
-use Rattle.meaning.specs.declared.types.Source.{Source}
+use Rattle.meaning.specs.declared.types.Lane.TheVariants.{VirtualLane}
 use Rattle.meaning.specs.declared.types.Source.TheVariants.{FromLane}
 use Rattle.mir_func.specs.declared.func.Loc.{Loc}
 use Rattle.mir_func.specs.declared.func.Loc.TheVariants.{Fixed, Virtual}
@@ -23,9 +20,9 @@ use Rattle.mir_func.specs.declared.func.Operand.TheVariants as operands
 use Rattle.mir_func.specs.declared.func.Instr.{Instr}
 use Rattle.mir_func.specs.declared.func.Block.{Block}
 use Rattle.mir_func.specs.Value.{Function}
-use Rattle.mir_func.specs.Binding.{Bound, bound, is_early, numbered, operand_class, passes, tied_number}
+use Rattle.mir_func.specs.Binding.{Bound, bound, is_early, numbered, operand_class, passes}
 use Rattle.mir_meaning.specs.Codes.{item_of}
-use Rattle.mir_meaning.specs.Places.{Defining, Using, Variable, each_once, has_tied_use, is_defining, operand_variable, operand_variables, register_variable, same_use, variable}
+use Rattle.mir_meaning.specs.Places.{Defining, Using, Variable, each_once, has_tied_use, is_defining, operand_variable, operand_variables, register_variable, variable}
 use Rattle.mir_meaning.specs.Points.{is_range}
 use Rattle.mir_meaning.specs.Registers.{is_reserved, located_lanes, numbers, range_widths}
 use Rattle.instr_effects.proofs.Members.{filter-of, flat-of, map-of}
@@ -34,13 +31,13 @@ use Rattle.lowering_laws.proofs.Seated.{told-of}
 use Rattle.lowering_laws.proofs.Traced.{lanes_by}
 use Rattle.spiller.specs.Rematerialised.{all_readings, own_variables, way_reading, ways_read}
 use Rattle.spiller.specs.Setting.{Spilling, is_own, own_lanes}
-use Rattle.spiller.specs.Spilled.{given, numbered_operands, spilled}
+use Rattle.spiller.specs.Spilled.{given, spilled}
 use Rattle.spill_laws.specs.Laws.{HasTinies}
-use Rattle.spill_laws.specs.Seats.{GivesLoad, Load, load_writes}
+use Rattle.spill_laws.specs.Seats.{GivesLoad, load_writes}
 use Rattle.spill_laws.specs.Standing.{IsConstant, IsSetting, IsStored, OwnStands, code_before, code_from, slot_lane}
 use Rattle.spiller.specs.Reaching.{Reads}
 use Rattle.spill_laws.proofs.Beside.{way-tiny}
-use Rattle.spill_laws.proofs.Ranges.{numbered-of, once-of}
+use Rattle.spill_laws.proofs.Ranges.{once-of}
 use Rattle.spill_laws.proofs.SlotPlaces.{width}
 use Rattle.spill_laws.proofs.TinyRules.{own-number}
 use Rattle.spill_laws.proofs.TinySeats.{low-number, place_seats}
@@ -48,7 +45,6 @@ use Rattle.spill_laws.proofs.WayLoads.{ways_load}
 use Rattle.clear_laws.proofs.PlaceBounds.{Wrote}
 use Rattle.clear_laws.proofs.Seated.{IsFurther}
 use Rattle.clear_laws.proofs.SeatedLoads.{load-all, load-given, load-lane}
-use Rattle.clear_laws.proofs.SeatedPairs.{AllLoaded}
 use Rattle.clear_laws.proofs.TinyPlaces.{HasWidths, IsOwn, widths-by}
 
 module _ (s : Spilling) (c : ℕ) (p : List Instr) (h : HasTinies s (spilled s) c p) where
