@@ -1,5 +1,5 @@
 -- Readings by operands at a place are among all readings of the range.
-use Rattle.std.proofs.Common.{◌≡◌, ◌∷◌, ◌++◌, Bool, true, false, List, Option, Some, None, flat_map, map, refl, sym, subst, []}
+use Rattle.std.proofs.Common.{◌≡◌, ◌∷◌, true, List, Option, Some, flat_map, map, refl, sym, subst, []}
 use Rattle.std.specs.List.{list_any}
 use Rattle.target_base.specs.declared.types.Effect.{Effect}
 use Rattle.target_base.specs.declared.types.Effect.TheVariants as effects

@@ -21,7 +21,7 @@ use Rattle.spill_laws.specs.Refined.{SlotApart}
 use Rattle.spill_laws.specs.Standing.{IsStored, OwnStands, slot_lane}
 use Rattle.spill_laws.proofs.InForm.{spill_keeps_lowered}
 use Rattle.spill_laws.proofs.Standing.{own-back, own-from}
-use Rattle.clear_laws.specs.Apart.{IsBeside, KeepsPoints}
+use Rattle.clear_laws.specs.Apart.{IsBeside}
 use Rattle.clear_laws.specs.Spills.{HasEarlyReload, SpillKeepsApart, SpillKeepsPoints, SpillKeepsSlots, WasLane}
 use Rattle.clear_laws.proofs.PlaceBounds.{GoesOn, Was, as-itself, as-range, as-slot, is-further, slot-same, untold}
 use Rattle.clear_laws.proofs.PlacesKept.{C, D, R}
