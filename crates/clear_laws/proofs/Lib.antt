@@ -33,3 +33,8 @@ pub mod UndefPlaces
 pub mod DefinitionTinies
 pub mod TiedLoads
 pub mod KnownReadings
+pub mod TinyItems
+pub mod TinyLoads
+pub mod TinySaves
+pub mod CountedSeats
+pub mod CountedKept

@@ -61,6 +61,7 @@ module _ (s : Spilling) (c : ℕ) (p : List Instr) (h : HasTinies s (spilled s) 
   pub record ReadBy (v : Variable) : Type 0 where
     pub instr : Instr
     pub inside : Member instr p
+    pub among : Member v (own_variables s instr)
     pub k : ℕ
     pub q : Option Role
     pub operand : RegOp
@@ -87,16 +88,17 @@ module _ (s : Spilling) (c : ℕ) (p : List Instr) (h : HasTinies s (spilled s) 
       let b = flat-of (own_variables s) v p (once-of [] (flat_map (own_variables s) p) v a.0) in
       let d = filter-of (λ (x : Variable). nat_eq x.range s.range) v (operand_variables t f b.0) b.2 in
       let w = told-of (λ (x : ℕ × Bound). operand_variable t f (has_tied_use t b.0 x.0) x.1) v (numbered 0 (bound t b.0)) d.0 in
-      go b.0 b.1 w.0.0 w.0.1.0 w.0.1.1 w.1 w.2 a.1 (eqb-true v.range s.range d.1)
+      go b.0 b.1 b.2 w.0.0 w.0.1.0 w.0.1.1 w.1 w.2 a.1 (eqb-true v.range s.range d.1)
     where
-      go : (i : Instr) (mi : Member i p) (k : ℕ) (q : Option Role) (x : Operand) → Member (k, (q, x)) (numbered 0 (bound t i)) → operand_variable t f (has_tied_use t i k) (q, x) ≡ Some v → not (is_defining v.kind) ≡ true → v.range ≡ s.range → ReadBy v
-      go i mi k q (operands.Reg o) n e kind range =
+      go : (i : Instr) (mi : Member i p) → Member v (own_variables s i) → (k : ℕ) (q : Option Role) (x : Operand) → Member (k, (q, x)) (numbered 0 (bound t i)) → operand_variable t f (has_tied_use t i k) (q, x) ≡ Some v → not (is_defining v.kind) ≡ true → v.range ≡ s.range → ReadBy v
+      go i mi own-v k q (operands.Reg o) n e kind range =
           let y = variable-of (has_tied_use t i k) q o o.loc v e kind in
           let w : y.0 ≡ s.range = sym (ap (λ (x : Variable). x.range) y.5) ∙ range in
           let own : is_own s o ≡ true = ap (is_range s.range) (y.1 ∙ ap Virtual w) ∙ eq-eqb s.range s.range refl in
           record {
             instr = i;
             inside = mi;
+            among = own-v;
             k = k;
             q = q;
             operand = o;
@@ -106,7 +108,7 @@ module _ (s : Spilling) (c : ℕ) (p : List Instr) (h : HasTinies s (spilled s) 
             untied = y.4;
             is = y.5 ∙ ap (λ w. variable Using w o.index (operand_class t f q o)) w;
           }
-      go i mi k q x n e kind range = absurd (cc)
+      go i mi own-v k q x n e kind range = absurd (cc)
 
   module _ (z : IsSetting s (spilled s)) (d : Block) (known : (v : Variable) → Member v (ways_read s p) → Member (way_reading s p v) (all_readings s)) where
     -- the tiny of a way of reading has its widths, and its load
